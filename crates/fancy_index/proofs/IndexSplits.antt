@@ -9,7 +9,7 @@ use Rattle.shape_strides.specs.Addresses.{natural}
 use Rattle.shape_strides.specs.Indexes.{indexes, IsIndex}
 use Rattle.shape_strides.specs.Layouts.{address, offsets}
 use Rattle.shape_strides.specs.IndexLaws.{length-indexes, get_or-indexes, index_at, same_on_indexes}
-use Rattle.fancy_index.specs.inside.Kept.{moved_offset, shifted, shifted_all, moved_all}
+use Rattle.fancy_index.specs.inside.Moved.{moved_offset, shifted, shifted_all, moved_all}
 use Rattle.elem_descr.specs.ListLaws.{flat_map_same, flat_map-flat_map, map-flat_map}
 
 -- ---- what holds of each index

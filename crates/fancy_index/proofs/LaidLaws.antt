@@ -23,7 +23,7 @@ use Rattle.fancy_index.specs.declared.parts.IndexPart.{IndexPart}
 use Rattle.fancy_index.specs.Parts.{Part, other_axes, side_by_side, axes_before, points_place, leads}
 use Rattle.fancy_index.specs.Indexed.{all_axes, leads_through}
 use Rattle.fancy_index.specs.Plans.{Planned, IsPlanOf}
-use Rattle.fancy_index.specs.inside.Kept.{moved_offset, moved_all, IsMoved, IsStart, AreStarts}
+use Rattle.fancy_index.specs.inside.Moved.{moved_offset, moved_all, IsMoved, IsStart, AreStarts}
 use Rattle.fancy_index.specs.inside.PartLists.{shown_part, AreParts, IsReady, IsReadyAt, first_at, first_offset, rest_picks, IsRest}
 use Rattle.fancy_index.proofs.CutLaws.{IsIndex-whole, some-behind, address-both}
 use Rattle.fancy_index.proofs.IndexSplits.{all_indexes, all_offsets, moved-joined, IsIndex-cut}

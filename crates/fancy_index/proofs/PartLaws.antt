@@ -2,8 +2,7 @@
 use Rattle.std.proofs.Common.{◌≡◌, ◌⊎◌, inl, inr, Ok, Err, is_ok, ℕ, ℤ, ◌+◌, ◌-◌, ◌<◌, ◌≤◌, Bool, true, false, ◌&&◌, pos, List, [], ◌∷◌, ◌++◌, map, length, get_or, take, drop, slice_range, refl, sym, ap, subst, ◌∙◌, arith, length-drop, length-take-le, append_assoc, append-nil}
 use Rattle.std.specs.List.{list_all, flat_map}
 use Rattle.std.proofs.lemmas.Bool.{and_parts, false≢true}
-use Rattle.std.proofs.lemmas.List.{drop-drop, drop_more, drop_all, map-append}
-use Rattle.std.proofs.lemmas.List.Folds.{drop_split}
+use Rattle.std.proofs.lemmas.List.{take-append-drop, map-append}
 use Rattle.elem_descr.specs.declared.refusal.Refusal.{Refusal}
 use Rattle.elem_descr.specs.declared.refusal.Refusal.TheVariants.{OutOfMemory}
 use Rattle.elem_descr.specs.Refusals.{check}
@@ -20,6 +19,7 @@ use Rattle.fancy_index.specs.declared.parts.IndexPart.{IndexPart}
 use Rattle.fancy_index.specs.declared.parts.IndexPart.TheVariants.{Axis as AxisPart, Points as PointsPart, Between as BetweenPart}
 use Rattle.fancy_index.specs.IndexArrays.{IndexArray, is_index, item_axes, array_axes_taken, array_axes_width, placed_arrays, left_over, covers, cover, is_within, are_within}
 use Rattle.fancy_index.specs.Parts.{Part, Axis, Between, wholes, parts_of, parts}
+use Rattle.fancy_index.specs.inside.Lists.{IsNext}
 use Rattle.fancy_index.specs.inside.PointLists.{place_of, IsPart}
 use Rattle.fancy_index.proofs.PointLaws.{integer-part}
 use Rattle.fancy_index.specs.inside.PartLists.{IsChecked, shown_part, AreParts, AddsParts}
@@ -84,130 +84,99 @@ between_wholes old mid new axes is adds = record {
 
 -- ---- items over axes
 
-module _ (f : IndexItem ℕ → IndexItem IndexArray) (shape : List ℕ) (items : List (IndexItem ℕ)) where
-  abbrev item : ℕ → IndexItem IndexArray
-  item k = f (get_or items k (Integer (pos 0)))
+-- the next item takes no more axes than there are, and leaves those of the items behind it
+pub width-within : (n : ℕ) (item : IndexItem IndexArray) (later : List (IndexItem IndexArray)) → item_axes item + array_axes_taken later ≤ n → array_axes_width n item later + array_axes_taken later ≤ n
+width-within n (Integer at) later enough = enough
+width-within n (Slice start stop step) later enough = enough
+width-within n Ellipsis later enough = omega arith
+width-within n NewItem later enough = enough
+width-within n (Array array) later enough = enough
 
-  abbrev left : ℕ → List (IndexItem IndexArray)
-  left k = map f (drop k items)
+pub is-next : (shape : List ℕ) (item : IndexItem IndexArray) (later : List (IndexItem IndexArray)) (n : ℕ) → n ≡ array_axes_width (length shape) item later → n ≤ length shape → IsNext shape (item ∷ later) item (take n shape) (drop n shape) later
+is-next shape item later n is within = record {
+  list = refl;
+  cut = sym (take-append-drop n shape);
+  many = λ basic. length-take-le n shape within ∙ is ∙ sized (length shape) item basic;
+  placed = λ i. record { item = item; axes = take (sym is i) shape } ∷ placed_arrays (drop (sym is i) shape) later;
+  over = λ i. left_over (drop (sym is i) shape) later;
+}
+  where
+    sized : (n : ℕ) (x : IndexItem IndexArray) → is_ellipsis x ≡ false → array_axes_width n x later ≡ item_axes x
+    sized n (Integer at) basic = refl
+    sized n (Slice start stop step) basic = refl
+    sized n Ellipsis basic = absurd (false≢true (sym basic))
+    sized n NewItem basic = refl
+    sized n (Array array) basic = refl
 
-  left_more : (k : ℕ) → k < length items → left k ≡ item k ∷ left (k + 1)
-  left_more k low = ap (map f) (drop_more items k (Integer (pos 0)) low)
+-- the parts so far, with what is left
+pub record HaveParts (shape : List ℕ) (items : List (IndexItem IndexArray)) (done : List IndexPart) (axes : List ℕ) (left : List (IndexItem IndexArray)) : Type 0 where
+  pub checked : IsChecked axes left
+  pub in_range : are_within axes left ≡ are_within shape items
+  pub are : (more : List IndexPart) → AreParts axes more → AreParts shape (done ++ more)
+  pub show : map shown_part done ++ parts axes left ≡ parts shape items
 
-  -- where the axes of an item end
-  pub record EndsAt (k axis end : ℕ) : Type 0 where
-    pub low : k < length items
-    pub from : axis ≤ end
-    pub within : end ≤ length shape
-    pub enough : array_axes_taken (left (k + 1)) ≤ length shape - end
-    pub is : end ≡ axis + array_axes_width (length shape - axis) (item k) (left (k + 1))
+-- before the first item
+pub parts_begin : (shape : List ℕ) (items : List (IndexItem IndexArray)) → IsChecked shape items → HaveParts shape items [] shape items
+parts_begin shape items checked = record { checked = checked; in_range = refl; are = λ more are. are; show = refl }
 
-  size : (k axis end : ℕ) → EndsAt k axis end → array_axes_width (length (drop axis shape)) (item k) (left (k + 1)) ≡ end - axis
-  size k axis end ends = ap (λ n. array_axes_width n (item k) (left (k + 1))) (length-drop axis shape) ∙ omega (arith, ends.is)
+-- the next item comes to parts
+pub record CanPart (item : IndexItem IndexArray) (axes : List ℕ) : Type 0 where
+  pub index : is_index item ≡ true
+  pub covers : covers axes item ≡ true
+  pub step : has_step item ≡ true
 
-  on : (k axis end : ℕ) → EndsAt k axis end → drop (end - axis) (drop axis shape) ≡ drop end shape
-  on k axis end ends = drop-drop (end - axis) axis shape ∙ ap (λ m. drop m shape) (omega (arith, ends.from))
-
-  placed_more : (k axis end : ℕ) → EndsAt k axis end → placed_arrays (drop axis shape) (left k) ≡ record { item = item k; axes = slice_range shape axis end } ∷ placed_arrays (drop end shape) (left (k + 1))
-  placed_more k axis end ends =
-      ap (placed_arrays (drop axis shape)) (left_more k ends.low)
-      ∙ ap (λ n. record { item = item k; axes = take n (drop axis shape) } ∷ placed_arrays (drop n (drop axis shape)) (left (k + 1))) (size k axis end ends)
-      ∙ ap (λ s. record { item = item k; axes = slice_range shape axis end } ∷ placed_arrays s (left (k + 1))) (on k axis end ends)
-
-  left_over_more : (k axis end : ℕ) → EndsAt k axis end → left_over (drop axis shape) (left k) ≡ left_over (drop end shape) (left (k + 1))
-  left_over_more k axis end ends =
-      ap (left_over (drop axis shape)) (left_more k ends.low)
-      ∙ ap (λ n. left_over (drop n (drop axis shape)) (left (k + 1))) (size k axis end ends)
-      ∙ ap (λ s. left_over s (left (k + 1))) (on k axis end ends)
-
-  parts_more : (k axis end : ℕ) → EndsAt k axis end → parts (drop axis shape) (left k) ≡ parts_of (slice_range shape axis end) (item k) ++ parts (drop end shape) (left (k + 1))
-  parts_more k axis end ends =
-      let first = parts_of (slice_range shape axis end) (item k) in
-      let later = flat_map (λ p. parts_of p.axes p.item) (placed_arrays (drop end shape) (left (k + 1))) in
-      (λ i. flat_map (λ p. parts_of p.axes p.item) (placed_more k axis end ends i) ++ wholes (left_over_more k axis end ends i))
-      ∙ append_assoc first later (wholes (left_over (drop end shape) (left (k + 1))))
-
-  -- before item k
-  pub record HaveParts (done : List IndexPart) (k axis : ℕ) : Type 0 where
-    pub within : axis ≤ length shape
-    pub checked : IsChecked (drop axis shape) (left k)
-    pub in_range : are_within (drop axis shape) (left k) ≡ are_within shape (map f items)
-    pub are : (more : List IndexPart) → AreParts (drop axis shape) more → AreParts shape (done ++ more)
-    pub show : map shown_part done ++ parts (drop axis shape) (left k) ≡ parts shape (map f items)
-
-  -- the item at k comes to parts
-  pub record CanPart (k axis end : ℕ) : Type 0 where
-    pub index : is_index (item k) ≡ true
-    pub axes : is_ellipsis (item k) ≡ false → length (slice_range shape axis end) ≡ item_axes (item k)
-    pub covers : covers (slice_range shape axis end) (item k) ≡ true
-    pub step : has_step (item k) ≡ true
-
+module _ (shape axes axes' taken : List ℕ) (items left left' : List (IndexItem IndexArray)) (item : IndexItem IndexArray) (done : List IndexPart) (next : IsNext axes left item taken axes' left') (have : HaveParts shape items done axes left) where
   -- what holds of all that is left holds of the next, and of all after it
-  parted : (p : IndexItem IndexArray → Bool) (k : ℕ) → k < length items → list_all p (left k) ≡ true → (p (item k) ≡ true) × (list_all p (left (k + 1)) ≡ true)
-  parted p k low all = and_parts (p (item k)) (list_all p (left (k + 1))) (sym (ap (list_all p) (left_more k low)) ∙ all)
+  parted : (p : IndexItem IndexArray → Bool) → list_all p left ≡ true → (p item ≡ true) × (list_all p left' ≡ true)
+  parted p all = and_parts (p item) (list_all p left') (sym (ap (list_all p) next.list) ∙ all)
 
-  covered : (k axis end : ℕ) → EndsAt k axis end → cover (drop axis shape) (left k) ≡ true → (covers (slice_range shape axis end) (item k) ≡ true) × (cover (drop end shape) (left (k + 1)) ≡ true)
-  covered k axis end ends all =
-      and_parts (covers (slice_range shape axis end) (item k)) (cover (drop end shape) (left (k + 1))) (sym (ap (list_all (λ p. covers p.axes p.item)) (placed_more k axis end ends)) ∙ all)
+  covered : (covers taken item ≡ true) × (cover axes' left' ≡ true)
+  covered = and_parts (covers taken item) (cover axes' left') (sym (ap (list_all (λ p. covers p.axes p.item)) next.placed) ∙ have.checked.covers)
 
-  within_more : (k axis end : ℕ) → EndsAt k axis end → are_within (drop axis shape) (left k) ≡ (is_within (slice_range shape axis end) (item k) && are_within (drop end shape) (left (k + 1)))
-  within_more k axis end ends = ap (list_all (λ p. is_within p.axes p.item)) (placed_more k axis end ends)
+  within_more : are_within axes left ≡ (is_within taken item && are_within axes' left')
+  within_more = ap (list_all (λ p. is_within p.axes p.item)) next.placed
 
-  -- a number of an item is refused
-  pub part_refused : (done : List IndexPart) (k axis end : ℕ) → EndsAt k axis end → HaveParts done k axis → is_within (slice_range shape axis end) (item k) ≡ false → are_within shape (map f items) ≡ false
-  part_refused done k axis end ends have out = sym have.in_range ∙ within_more k axis end ends ∙ ap (λ b. b && are_within (drop end shape) (left (k + 1))) out
-
-  pub can_part : (done : List IndexPart) (k axis end : ℕ) → EndsAt k axis end → HaveParts done k axis → CanPart k axis end
-  can_part done k axis end ends have = record {
-    index = (parted is_index k ends.low have.checked.index).0;
-    axes = λ basic. sized (length shape - axis) (item k) (left (k + 1)) basic (omega (arith, ends.is, length-take-le (end - axis) (drop axis shape) (omega (arith, length-drop axis shape, ends.within))));
-    covers = (covered k axis end ends have.checked.covers).0;
-    step = (parted has_step k ends.low have.checked.steps).0;
+  pub can_part : CanPart item taken
+  can_part = record {
+    index = (parted is_index have.checked.index).0;
+    covers = covered.0;
+    step = (parted has_step have.checked.steps).0;
   }
-    where
-      sized : (n : ℕ) (x : IndexItem IndexArray) (later : List (IndexItem IndexArray)) → is_ellipsis x ≡ false → length (slice_range shape axis end) ≡ array_axes_width n x later → length (slice_range shape axis end) ≡ item_axes x
-      sized n (Integer at) later basic is = is
-      sized n (Slice start stop step) later basic is = is
-      sized n Ellipsis later basic is = absurd (false≢true (sym basic))
-      sized n NewItem later basic is = is
-      sized n (Array array) later basic is = is
 
-  pub parts_on : (done new : List IndexPart) (k axis end : ℕ) → EndsAt k axis end → HaveParts done k axis → is_within (slice_range shape axis end) (item k) ≡ true → AddsParts done new (slice_range shape axis end) (parts_of (slice_range shape axis end) (item k)) → HaveParts new (k + 1) end
-  parts_on done new k axis end ends have here adds =
-      let axes = slice_range shape axis end in
-      let later = parts (drop end shape) (left (k + 1)) in
+  -- a number of it is refused
+  pub part_refused : is_within taken item ≡ false → are_within shape items ≡ false
+  part_refused out = sym have.in_range ∙ within_more ∙ ap (λ b. b && are_within axes' left') out
+
+  pub parts_on : (new : List IndexPart) → array_axes_taken left' ≤ length axes' → is_within taken item ≡ true → AddsParts done new taken (parts_of taken item) → HaveParts shape items new axes' left'
+  parts_on new enough here adds =
+      let later = flat_map (λ p. parts_of p.axes p.item) (placed_arrays axes' left') in
       record {
-        within = ends.within;
         checked = record {
-          index = (parted is_index k ends.low have.checked.index).1;
-          enough = omega (arith, ends.enough, length-drop end shape);
-          covers = (covered k axis end ends have.checked.covers).1;
-          steps = (parted has_step k ends.low have.checked.steps).1;
+          index = (parted is_index have.checked.index).1;
+          enough = enough;
+          covers = covered.1;
+          steps = (parted has_step have.checked.steps).1;
         };
-        in_range = sym (within_more k axis end ends ∙ ap (λ b. b && are_within (drop end shape) (left (k + 1))) here) ∙ have.in_range;
+        in_range = sym (within_more ∙ ap (λ b. b && are_within axes' left') here) ∙ have.in_range;
         are = λ more are-more.
-            let these : AreParts (drop axis shape) (adds.added ++ more) = rw (drop_split shape axis end ends.from) (AreParts-append axes (drop end shape) adds.added more adds.are are-more) in
-            rw (adds.after, append_assoc done adds.added more) (have.are (adds.added ++ more) these);
+            rw (adds.after, append_assoc done adds.added more) (have.are (adds.added ++ more) (subst (λ (s : List ℕ). AreParts s (adds.added ++ more)) (sym next.cut) (AreParts-append taken axes' adds.added more adds.are are-more)));
         show =
-            ap (λ l. map shown_part l ++ later) adds.after
-            ∙ ap (λ l. l ++ later) (map-append shown_part done adds.added)
-            ∙ ap (λ l. (map shown_part done ++ l) ++ later) adds.show
-            ∙ append_assoc (map shown_part done) (parts_of axes (item k)) later
-            ∙ ap (λ l. map shown_part done ++ l) (sym (parts_more k axis end ends))
+            ap (λ l. map shown_part l ++ parts axes' left') adds.after
+            ∙ ap (λ l. l ++ parts axes' left') (map-append shown_part done adds.added)
+            ∙ ap (λ l. (map shown_part done ++ l) ++ parts axes' left') adds.show
+            ∙ append_assoc (map shown_part done) (parts_of taken item) (parts axes' left')
+            ∙ ap (λ l. map shown_part done ++ l) (sym (append_assoc (parts_of taken item) later (wholes (left_over axes' left'))))
+            ∙ sym (λ i. map shown_part done ++ (flat_map (λ p. parts_of p.axes p.item) (next.placed i) ++ wholes (next.over i)))
             ∙ have.show;
       }
 
-  -- before the first item
-  pub parts_begin : IsChecked shape (map f items) → HaveParts [] 0 0
-  parts_begin checked = record { within = omega arith; checked = checked; in_range = refl; are = λ more are. are; show = refl }
-
-  -- after the last item
-  pub parts_all : (done new : List IndexPart) (k axis : ℕ) → length items ≤ k → HaveParts done k axis → AddsParts done new (drop axis shape) (wholes (drop axis shape)) → (are_within shape (map f items) ≡ true) × AreParts shape new × (map shown_part new ≡ parts shape (map f items))
-  parts_all done new k axis over have adds = (
-    sym have.in_range ∙ ap (are_within (drop axis shape)) (ap (map f) (drop_all k items over)),
-    subst (AreParts shape) (sym adds.after) (have.are adds.added adds.are),
-    ap (map shown_part) adds.after ∙ map-append shown_part done adds.added ∙ ap (λ l. map shown_part done ++ l) (adds.show ∙ sym (ap (λ l. parts (drop axis shape) (map f l)) (drop_all k items over))) ∙ have.show,
-  )
+-- after the last item
+pub parts_all : (shape axes : List ℕ) (items left : List (IndexItem IndexArray)) (done new : List IndexPart) → left ≡ [] → HaveParts shape items done axes left → AddsParts done new axes (wholes axes) → (are_within shape items ≡ true) × AreParts shape new × (map shown_part new ≡ parts shape items)
+parts_all shape axes items left done new none have adds = (
+  sym have.in_range ∙ ap (are_within axes) none,
+  subst (AreParts shape) (sym adds.after) (have.are adds.added adds.are),
+  ap (map shown_part) adds.after ∙ map-append shown_part done adds.added ∙ ap (λ l. map shown_part done ++ l) (adds.show ∙ sym (ap (parts axes) none)) ∙ have.show,
+)
 
 -- ---- what a test says
 

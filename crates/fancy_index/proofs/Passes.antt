@@ -15,7 +15,7 @@ use Rattle.overlap_copy.specs.Joined.{joined_at}
 use Rattle.overlap_copy.specs.RunLaws.{All-back, All-front, assigned-append}
 use lib.IntN.{pos}
 use Rattle.fancy_index.specs.Plans.{put_each}
-use Rattle.fancy_index.specs.inside.Kept.{moved_offset, shifted_all, moved_all, IsMoved}
+use Rattle.fancy_index.specs.inside.Moved.{moved_offset, shifted_all, moved_all, IsMoved}
 use Rattle.fancy_index.specs.inside.Packed.{packed}
 use Rattle.overlap_copy.specs.PackedLaws.{length-row as length-packed, row-split as packed-append}
 use Rattle.fancy_index.specs.PlanLaws.{put_each-append}
@@ -245,9 +245,9 @@ pub split-shifts : (base : ℕ) (inner : List ℕ) (place : ℕ) (shifts : List 
 split-shifts base inner place shifts k start low is =
     ap (λ l. shifted_all base l inner place) (drop_more shifts k 0 low) ∙ ap (λ s. map (moved_offset base s) inner ++ shifted_all base (drop (k + 1) shifts) inner place) (sym is)
 
-pub split-places : (base : ℕ) (inner shifts left left' : List ℕ) (place : ℕ) → left ≡ place ∷ left' →
-    moved_all base left shifts inner ≡ shifted_all base shifts inner place ++ moved_all base left' shifts inner
-split-places base inner shifts left left' place walked = ap (λ l. moved_all base l shifts inner) walked
+pub split-places : (base : ℕ) (inner shifts left left' row : List ℕ) (place : ℕ) → left ≡ place ∷ left' → row ≡ shifted_all base shifts inner place →
+    moved_all base left shifts inner ≡ row ++ moved_all base left' shifts inner
+split-places base inner shifts left left' row place walked is = ap (λ l. moved_all base l shifts inner) walked ∙ ap (λ r. r ++ moved_all base left' shifts inner) (sym is)
 
 -- ---- items that are copied from a layout, one by one
 

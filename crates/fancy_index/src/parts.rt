@@ -2,18 +2,18 @@
 ghost use Rattle.std.specs.Prelude.{◌≡◌, ◌≤◌, ◌∷◌, length, map, true, false, All, IfOk, OnOk};
 ghost use Rattle.elem_descr.specs.declared.refusal.Refusal.TheVariants.{IndexOutOfRange};
 ghost use Rattle.elem_descr.specs.Refusals.{Gives, check};
-ghost use Rattle.shape_strides.specs.Limits.{max_axes, max_items};
+ghost use Rattle.shape_strides.specs.Limits.{max_items};
 ghost use Rattle.shape_strides.specs.IndexItems.{is_ellipsis};
 ghost use Rattle.view_ops.specs.Basics.{has_step};
 ghost use Rattle.fancy_index.specs.IndexArrays.{is_index, item_axes, covers, is_within, are_within};
 ghost use Rattle.fancy_index.specs.Parts.{Between, wholes, parts_of, parts};
-ghost use Rattle.fancy_index.specs.Sources.{LiesInBlock, IsNamed, index_items};
 ghost use Rattle.fancy_index.specs.inside.Items.{index_item_of, ItemsLieInBlock};
+ghost use Rattle.fancy_index.specs.inside.Lists.{items_left};
 ghost use Rattle.fancy_index.specs.inside.PartLists.{IsChecked, shown_part, AreParts, AddsParts};
 
-use crate::checks::axes_end;
+use crate::lists::Left;
 use crate::points::{PointList, array_points, integer_point};
-use crate::source::{Indices, resolved};
+use crate::source::Indices;
 use elem_descr::Refusal;
 use shape_strides::IndexItem;
 use std::alloc::{AllocError, Global};
@@ -78,34 +78,19 @@ fn push_parts(
     }
 }
 
-/// The parts that the items come to over the axes of a shape, or the refusal of a number.
-pub(crate) fn parts_of(
-    alloc: Global,
-    lengths: &[usize],
-    items: &[IndexItem<usize>],
-    arrays: &[Indices<'_>],
-) -> Result<Vec<IndexPart>, Refusal>
-    requires named { All (IsNamed (length arrays.now)) items.now }
-    requires lie { All LiesInBlock arrays.now }
-    requires rank { length lengths.now ≤ max_axes }
-    requires small { All (λ n. n ≤ max_items) lengths.now }
-    requires checked { IsChecked lengths.now (index_items arrays.now items.now) }
-    ensures within { Gives (λ _. tt) result (check (are_within lengths.now (index_items arrays.now items.now)) IndexOutOfRange) }
-    ensures are { IfOk result (λ v. AreParts lengths.now v.items) }
-    ensures shown { IfOk result (λ v. map shown_part v.items ≡ parts lengths.now (index_items arrays.now items.now)) }
+/// The parts that the items come to over the axes, or the refusal of a number.
+pub(crate) fn parts_of(alloc: Global, left: Left<'_>) -> Result<Vec<IndexPart>, Refusal>
+    requires small { All (λ n. n ≤ max_items) left.axes.now }
+    requires checked { IsChecked left.axes.now (items_left left) }
+    ensures within { Gives (λ _. tt) result (check (are_within left.entry.axes.now (items_left left.entry)) IndexOutOfRange) }
+    ensures are { IfOk result (λ v. AreParts left.entry.axes.now v.items) }
+    ensures shown { IfOk result (λ v. map shown_part v.items ≡ parts left.entry.axes.now (items_left left.entry)) }
 {
     let mut parts = Vec::new(alloc);
-    let mut axis = 0;
-    for k in 0..items.len() {
-        let end = axes_end(lengths.len(), axis, items, arrays, k);
-        push_parts(
-            alloc,
-            &mut parts,
-            &lengths[axis..end],
-            resolved(&items[k], arrays),
-        )?;
-        axis = end;
+    let mut left = left;
+    while let Some((item, axes)) = left.next() {
+        push_parts(alloc, &mut parts, axes, item)?;
     }
-    push_wholes(&mut parts, &lengths[axis..])?;
+    push_wholes(&mut parts, left.axes)?;
     Ok(parts)
 }

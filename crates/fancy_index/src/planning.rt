@@ -115,7 +115,7 @@ pub fn plan(
     ensures { GivesPlan layout.now result (indexed layout.now.shape (index_items arrays.now items.now)) }
 {
     let lengths = layout.shape.as_slice();
-    check(lengths, items, arrays)?;
-    let mut parts = parts_of(alloc, lengths, items, arrays)?;
+    let left = check(lengths, items, arrays)?;
+    let mut parts = parts_of(alloc, left)?;
     plan_of_parts(alloc, layout, parts.as_mut_slice())
 }

@@ -10,10 +10,12 @@ ghost use Rattle.shape_strides.specs.Layouts.{offsets, multiples};
 ghost use Rattle.overlap_copy.specs.Assignments.{items_at, assigned};
 ghost use Rattle.overlap_copy.specs.Blocks.{offsets_in};
 ghost use Rattle.fancy_index.specs.Plans.{put_each};
-ghost use Rattle.fancy_index.specs.inside.Kept.{moved_offset, moved_all, offsets_from, IsMoved, AreStarts};
+ghost use Rattle.fancy_index.specs.inside.Moved.{moved_all, AreStarts};
+ghost use Rattle.fancy_index.specs.inside.Kept.{offsets_from};
 
 use crate::fill::fill;
 use crate::gather::push_all;
+use crate::rows::{PlanAxes, moved};
 use crate::scatter::scatter;
 use elem_descr::{Descr, Refusal};
 use overlap_copy::Owned;
@@ -21,25 +23,6 @@ use raw_block::{BlockBuilder, RawBlock};
 use shape_strides::{Layout, MAX_BYTES, MemoryOrder, Shape, Walk};
 use std::alloc::{AllocError, Global};
 use std::marker::Model;
-
-/// The axes of a plan. Both layouts begin where the first item would lie with all arrays 0.
-#[derive(Drop)]
-pub struct PlanAxes {
-    /// The axes before those of the arrays.
-    outer: Layout,
-    /// For each item of the broadcast arrays, where the first of the result's items with it lies.
-    shifts: Vec<u32>,
-    /// The axes after those of the arrays.
-    inner: Layout,
-}
-
-/// The items of the inner axes from a place of the outer ones on, once for each shift.
-#[derive(Clone, Copy)]
-pub(crate) struct Shifted<'a> {
-    pub shifts: &'a [u32],
-    pub inner: &'a Layout,
-    pub place: usize,
-}
 
 /// Where in a buffer the items are that an index list with arrays takes, seen as a shape with the
 /// offsets of its items in C order. It holds one number for each item of the broadcast arrays, and
@@ -61,16 +44,6 @@ impl Model for Plan {
     ghost view = { λ p. record { shape = p.shape; offsets = offsets_from p.axes.value } };
 
     ghost invariant = { IsPlan };
-}
-
-/// An offset, where what began at `base` begins at `start`.
-pub(crate) fn moved(base: usize, start: usize, offset: usize) -> usize
-    requires base { base ≤ max_bytes }
-    requires moved { IsMoved base start offset }
-    ensures value { result ≡ moved_offset base start offset }
-    ensures bound { result < max_bytes }
-{
-    start + offset - base
 }
 
 /// Where the item at a rank is, along the outer axes, the shifts and the inner axes.
@@ -97,18 +70,17 @@ fn spot_at(rank: usize, shifts: usize, inner: usize) -> Spot
     }
 }
 
-/// The offset at a rank of all items of the inner axes, from each place of the outer axes that is
-/// shifted by each shift.
-fn offset_in(outer: &Layout, shifts: &[u32], inner: &Layout, rank: usize) -> usize
-    requires rank { rank < length (moved_all inner.now.offset (offsets outer.now) shifts.now (offsets inner.now)) }
-    requires small { inner.now.offset ≤ max_bytes }
-    requires starts { All (AreStarts inner.now.offset (offsets inner.now) shifts.now) (offsets outer.now) }
-    ensures { result ≡ slice_index (moved_all inner.now.offset (offsets outer.now) shifts.now (offsets inner.now)) rank }
+/// The offset at a rank of all items to which the axes of a plan lead.
+fn offset_in(axes: &PlanAxes, rank: usize) -> usize
+    requires { rank < length (offsets_from axes.now) }
+    ensures { result ≡ slice_index (offsets_from axes.now) rank }
 {
-    let at = spot_at(rank, shifts.len(), inner.shape.items());
-    let place = outer.at_rank(at.place);
-    let start = moved(inner.offset, place, shifts[at.shift] as usize);
-    moved(inner.offset, start, inner.at_rank(at.item))
+    let shifts = axes.shifts.as_slice();
+    let base = axes.inner.offset;
+    let at = spot_at(rank, shifts.len(), axes.inner.shape.items());
+    let place = axes.outer.at_rank(at.place);
+    let start = moved(base, place, shifts[at.shift] as usize);
+    moved(base, start, axes.inner.at_rank(at.item))
 }
 
 fn is_step(step: isize, width: usize) -> bool
@@ -156,9 +128,7 @@ impl Plan {
     }
 
     fn axes(&self) -> &PlanAxes
-        ensures offsets { offsets_from result.now ≡ self.now.offsets }
-        ensures small { result.now.inner.offset ≤ max_bytes }
-        ensures starts { All (AreStarts result.now.inner.offset (offsets result.now.inner) result.now.shifts.items) (offsets result.now.outer) }
+        ensures { offsets_from result.now ≡ self.now.offsets }
     {
         &self.axes
     }
@@ -184,8 +154,7 @@ impl Plan {
         requires { rank < length self.now.offsets }
         ensures { result ≡ slice_index self.now.offsets rank }
     {
-        let axes = self.axes();
-        offset_in(&axes.outer, axes.shifts.as_slice(), &axes.inner, rank)
+        offset_in(self.axes(), rank)
     }
 
     /// The items of `width` bytes at the offsets, one after another in a block of their own.
@@ -203,9 +172,7 @@ impl Plan {
         let bytes = self.shape.items().saturating_mul(width);
         let items = BlockBuilder::try_new(alloc, bytes)?;
         let _filled = items.filled();
-        let axes = self.axes();
-        let shifts = axes.shifts.as_slice();
-        let items = push_all(items, block, &axes.outer, shifts, &axes.inner, width);
+        let items = push_all(items, block, self.axes(), width);
         Ok(items.finish())
     }
 
@@ -243,9 +210,7 @@ impl Plan {
         ensures written { block.new ≡ assigned self.now.offsets (multiples width (length self.now.offsets)) width items.now block.old }
         ensures len { length block.new ≡ length block.old }
     {
-        let axes = self.axes();
-        let shifts = axes.shifts.as_slice();
-        scatter(block, &axes.outer, shifts, &axes.inner, items, width);
+        scatter(block, self.axes(), items, width);
     }
 
     /// Copies the items of `width` bytes of a layout in another block, as many, to the offsets, strictly
@@ -275,8 +240,6 @@ impl Plan {
         ensures written { block.new ≡ put_each self.now.offsets item.now block.old }
         ensures len { length block.new ≡ length block.old }
     {
-        let axes = self.axes();
-        let shifts = axes.shifts.as_slice();
-        fill(block, &axes.outer, shifts, &axes.inner, item);
+        fill(block, self.axes(), item);
     }
 }

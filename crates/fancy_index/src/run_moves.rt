@@ -5,9 +5,9 @@ ghost use Rattle.shape_strides.specs.Addresses.{LieWithin};
 ghost use Rattle.shape_strides.specs.Limits.{max_bytes};
 ghost use Rattle.shape_strides.specs.Runs.{run_offsets};
 ghost use Rattle.fancy_index.specs.Plans.{put_each};
-ghost use Rattle.fancy_index.specs.inside.Kept.{moved_offset, IsMoved};
+ghost use Rattle.fancy_index.specs.inside.Moved.{moved_offset, IsMoved};
 
-use crate::plans::moved;
+use crate::rows::moved;
 use raw_block::RawBlock;
 use shape_strides::Run;
 

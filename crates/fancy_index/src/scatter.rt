@@ -1,41 +1,36 @@
 //! Items that lie one after another, copied to where a plan leads, strictly one after the other.
-ghost use Rattle.std.specs.Prelude.{◌≡◌, ◌+◌, ◌*◌, ◌≤◌, length, map, All};
-ghost use Rattle.shape_strides.specs.Limits.{max_bytes};
-ghost use Rattle.shape_strides.specs.Layouts.{offsets};
+ghost use Rattle.std.specs.Prelude.{◌≡◌, ◌+◌, ◌*◌, ◌≤◌, length, All};
 ghost use Rattle.overlap_copy.specs.Assignments.{assigned};
-ghost use Rattle.fancy_index.specs.inside.Kept.{moved_offset, moved_all, IsMoved, AreStarts};
+ghost use Rattle.fancy_index.specs.inside.Kept.{offsets_from};
 ghost use Rattle.fancy_index.specs.inside.Packed.{packed};
-ghost use Rattle.fancy_index.specs.inside.Shifts.{shifted_offsets, CanShift};
+ghost use Rattle.fancy_index.specs.inside.Shifts.{moved_offsets, shifted_offsets};
 
-use crate::plans::{Shifted, moved};
+use crate::rows::{MovedLayout, PlanAxes, Shifted, moved};
 use crate::run_moves::moved_run;
 use crate::singles::scatter_singles;
 use overlap_copy::{copy_run, packed_run};
 use raw_block::RawBlock;
-use shape_strides::{Layout, Runs, Walk};
+use shape_strides::{Runs, Walk};
 
-/// Copies items of `width` bytes that lie one after another from `at` on to those of a layout, where
-/// what began at its offset begins at `start`. The result is where they end.
+/// Copies items of `width` bytes that lie one after another from `at` on to those of a layout that is
+/// moved. The result is where they end.
 fn scatter_from(
     block: &mut RawBlock,
-    inner: &Layout,
-    start: usize,
+    target: MovedLayout<'_>,
     items: &RawBlock,
     at: usize,
     width: usize,
 ) -> usize
-    requires base { inner.now.offset ≤ max_bytes }
-    requires moved { All (IsMoved inner.now.offset start) (offsets inner.now) }
-    requires inside { All (λ offset. offset + width ≤ length block.old) (map (moved_offset inner.now.offset start) (offsets inner.now)) }
-    requires room { at + length (map (moved_offset inner.now.offset start) (offsets inner.now)) * width ≤ length items.now }
-    ensures written { let to = map (moved_offset inner.now.offset start) (offsets inner.now) in block.new ≡ assigned to (packed at width (length to)) width items.now block.old }
+    requires inside { All (λ offset. offset + width ≤ length block.old) (moved_offsets target) }
+    requires room { at + length (moved_offsets target) * width ≤ length items.now }
+    ensures written { let to = moved_offsets target.entry in block.new ≡ assigned to (packed at width (length to)) width items.now block.old }
     ensures len { length block.new ≡ length block.old }
-    ensures end { result ≡ at + length (map (moved_offset inner.now.offset start) (offsets inner.now)) * width }
+    ensures end { result ≡ at + length (moved_offsets target.entry) * width }
 {
     let len = items.len();
     let mut at = at;
-    for run in Runs::new(inner) {
-        let to = moved_run(run, inner.offset, start);
+    for run in Runs::new(target.layout) {
+        let to = moved_run(run, target.layout.offset, target.start);
         copy_run(
             block,
             to,
@@ -56,7 +51,6 @@ fn scatter_runs(
     at: usize,
     width: usize,
 ) -> usize
-    requires can { CanShift rows }
     requires inside { All (λ offset. offset + width ≤ length block.old) (shifted_offsets rows) }
     requires room { at + length (shifted_offsets rows) * width ≤ length items.now }
     ensures written { let to = shifted_offsets rows.entry in block.new ≡ assigned to (packed at width (length to)) width items.now block.old }
@@ -67,7 +61,11 @@ fn scatter_runs(
     let mut at = at;
     for shift in rows.shifts {
         let start = moved(inner.offset, rows.place, *shift as usize);
-        at = scatter_from(block, inner, start, items, at, width);
+        let target = MovedLayout {
+            layout: inner,
+            start,
+        };
+        at = scatter_from(block, target, items, at, width);
     }
     at
 }
@@ -80,7 +78,6 @@ fn scatter_shifts(
     at: usize,
     width: usize,
 ) -> usize
-    requires can { CanShift rows }
     requires inside { All (λ offset. offset + width ≤ length block.old) (shifted_offsets rows) }
     requires room { at + length (shifted_offsets rows) * width ≤ length items.now }
     ensures written { let to = shifted_offsets rows.entry in block.new ≡ assigned to (packed at width (length to)) width items.now block.old }
@@ -94,28 +91,14 @@ fn scatter_shifts(
 }
 
 /// The same from each place of the outer axes, from the items' start on.
-pub(crate) fn scatter(
-    block: &mut RawBlock,
-    outer: &Layout,
-    shifts: &[u32],
-    inner: &Layout,
-    items: &RawBlock,
-    width: usize,
-)
-    requires base { inner.now.offset ≤ max_bytes }
-    requires starts { All (AreStarts inner.now.offset (offsets inner.now) shifts.now) (offsets outer.now) }
-    requires inside { All (λ offset. offset + width ≤ length block.old) (moved_all inner.now.offset (offsets outer.now) shifts.now (offsets inner.now)) }
-    requires room { length (moved_all inner.now.offset (offsets outer.now) shifts.now (offsets inner.now)) * width ≤ length items.now }
-    ensures written { let to = moved_all inner.now.offset (offsets outer.now) shifts.now (offsets inner.now) in block.new ≡ assigned to (packed 0 width (length to)) width items.now block.old }
+pub(crate) fn scatter(block: &mut RawBlock, axes: &PlanAxes, items: &RawBlock, width: usize)
+    requires inside { All (λ offset. offset + width ≤ length block.old) (offsets_from axes.now) }
+    requires room { length (offsets_from axes.now) * width ≤ length items.now }
+    ensures written { let to = offsets_from axes.now in block.new ≡ assigned to (packed 0 width (length to)) width items.now block.old }
     ensures len { length block.new ≡ length block.old }
 {
     let mut at = 0;
-    for place in Walk::new(outer) {
-        let rows = Shifted {
-            shifts,
-            inner,
-            place,
-        };
-        at = scatter_shifts(block, rows, items, at, width);
+    for place in Walk::new(&axes.outer) {
+        at = scatter_shifts(block, axes.rows(place), items, at, width);
     }
 }

@@ -5,9 +5,9 @@ ghost use Rattle.overlap_copy.specs.Assignments.{assigned};
 ghost use Rattle.overlap_copy.specs.Joined.{joined_at};
 ghost use Rattle.fancy_index.specs.Plans.{put_each};
 ghost use Rattle.fancy_index.specs.inside.Packed.{packed};
-ghost use Rattle.fancy_index.specs.inside.Shifts.{first_offsets, CanShift};
+ghost use Rattle.fancy_index.specs.inside.Shifts.{first_offsets};
 
-use crate::plans::{Shifted, moved};
+use crate::rows::{Shifted, moved};
 use raw_block::{BlockBuilder, RawBlock};
 
 /// The `N` bytes from `at` on, loaded at once.
@@ -67,7 +67,6 @@ fn push_each<const N: usize>(
     rows: Shifted<'_>,
 ) -> BlockBuilder
     requires few { N ≤ 16 }
-    requires can { CanShift rows }
     requires inside { All (λ offset. offset + N ≤ length block.now) (first_offsets rows) }
     requires room { length (first_offsets rows) * N ≤ items.1 }
     ensures bytes { result.0 ≡ items.0 ++ joined_at (first_offsets rows.entry) N block.now }
@@ -85,7 +84,6 @@ fn push_each<const N: usize>(
 
 /// The same of `width` bytes.
 fn push_any(items: BlockBuilder, block: &RawBlock, rows: Shifted<'_>, width: usize) -> BlockBuilder
-    requires can { CanShift rows }
     requires inside { All (λ offset. offset + width ≤ length block.now) (first_offsets rows) }
     requires room { length (first_offsets rows) * width ≤ items.1 }
     ensures bytes { result.0 ≡ items.0 ++ joined_at (first_offsets rows.entry) width block.now }
@@ -108,7 +106,6 @@ pub(crate) fn push_singles(
     rows: Shifted<'_>,
     width: usize,
 ) -> BlockBuilder
-    requires can { CanShift rows }
     requires inside { All (λ offset. offset + width ≤ length block.now) (first_offsets rows) }
     requires room { length (first_offsets rows) * width ≤ items.1 }
     ensures bytes { result.0 ≡ items.0 ++ joined_at (first_offsets rows.entry) width block.now }
@@ -135,7 +132,6 @@ fn scatter_each(
     at: usize,
     width: usize,
 ) -> usize
-    requires can { CanShift rows }
     requires inside { All (λ offset. offset + width ≤ length block.old) (first_offsets rows) }
     requires room { at + length rows.shifts.now * width ≤ length items.now }
     ensures written { block.new ≡ assigned (first_offsets rows.entry) (packed at width (length rows.entry.shifts.now)) width items.now block.old }
@@ -160,7 +156,6 @@ pub(crate) fn scatter_singles(
     at: usize,
     width: usize,
 ) -> usize
-    requires can { CanShift rows }
     requires inside { All (λ offset. offset + width ≤ length block.old) (first_offsets rows) }
     requires room { at + length rows.shifts.now * width ≤ length items.now }
     ensures written { block.new ≡ assigned (first_offsets rows.entry) (packed at width (length rows.entry.shifts.now)) width items.now block.old }
@@ -180,8 +175,7 @@ pub(crate) fn scatter_singles(
 /// length is known, each is stored at once.
 #[inline(always)]
 fn fill_each(block: &mut RawBlock, rows: Shifted<'_>, item: &[u8])
-    requires can { CanShift rows }
-    requires inside { All (λ offset. offset + length item.now ≤ length block.old) (first_offsets rows) }
+    requires { All (λ offset. offset + length item.now ≤ length block.old) (first_offsets rows) }
     ensures written { block.new ≡ put_each (first_offsets rows.entry) item.now block.old }
     ensures len { length block.new ≡ length block.old }
 {
@@ -192,8 +186,7 @@ fn fill_each(block: &mut RawBlock, rows: Shifted<'_>, item: &[u8])
 
 /// The same, with a loop of its own for each usual length.
 pub(crate) fn fill_singles(block: &mut RawBlock, rows: Shifted<'_>, item: &[u8])
-    requires can { CanShift rows }
-    requires inside { All (λ offset. offset + length item.now ≤ length block.old) (first_offsets rows) }
+    requires { All (λ offset. offset + length item.now ≤ length block.old) (first_offsets rows) }
     ensures written { block.new ≡ put_each (first_offsets rows.entry) item.now block.old }
     ensures len { length block.new ≡ length block.old }
 {

@@ -1,9 +1,12 @@
 -- Items of an index list with their arrays.
+use Rattle.std.specs.Prelude.{ℕ, List, All}
+use Rattle.std.specs.Coded.{Unit-prop, le_prop}
+use Rattle.std.proofs.Props.{props}
 use Rattle.shape_strides.specs.declared.index_item.IndexItem.{IndexItem}
 use Rattle.shape_strides.specs.declared.index_item.IndexItem.TheVariants.{Integer, Slice, Ellipsis, NewAxis, Array}
 use Rattle.fancy_index.specs.declared.source.Indices.{Indices}
 use Rattle.fancy_index.specs.IndexArrays.{IndexArray}
-use Rattle.fancy_index.specs.Sources.{index_array_of, LiesInBlock}
+use Rattle.fancy_index.specs.Sources.{index_array_of, LiesInBlock, IsNamed}
 
 -- an item with its array, by the items of the array
 abbrev pub index_item_of : IndexItem Indices → IndexItem IndexArray
@@ -17,3 +20,14 @@ index_item_of (Array a) = Array (index_array_of a)
 abbrev pub ItemsLieInBlock : IndexItem Indices → Type 0
 ItemsLieInBlock (Array a) = LiesInBlock a
 ItemsLieInBlock _ = Unit {0}
+
+-- that items name arrays holds in one way
+IsNamed-prop : (n : ℕ) (item : IndexItem ℕ) → IsProp (IsNamed n item)
+IsNamed-prop n (Integer at) = Unit-prop
+IsNamed-prop n (Slice start stop step) = Unit-prop
+IsNamed-prop n Ellipsis = Unit-prop
+IsNamed-prop n NewAxis = Unit-prop
+IsNamed-prop n (Array k) = le_prop
+
+pub AreNamed-prop : (n : ℕ) (items : List (IndexItem ℕ)) → IsProp (All (IsNamed n) items)
+AreNamed-prop n items = hlevel (IsNamed-prop, props)

@@ -21,7 +21,7 @@ returns-then-not-have_steps-clause-err c =
 
 pub returns-clause-ok : goal.returns-clause-ok
 returns-clause-ok c =
-    let test : nat_le (array_axes_taken (index_items c.args.arrays.now c.args.items.now)) (length c.args.lengths.now) ≡ true = sym c.if-not-have_axes.ensures in
+    let test : nat_le (array_axes_taken (index_items c.args.arrays.now c.args.items.now)) (length c.args.axes.now) ≡ true = sym c.if-not-have_axes.ensures in
     record {
       index = sym c.if-not-are_indexes.ensures;
       enough = grind (arith, nat_tests);

@@ -1,11 +1,10 @@
-use Rattle.std.proofs.Common.{◌≡◌, ◌-◌, ◌≤◌, length, drop}
-use Rattle.fancy_index.specs.IndexArrays.{array_axes_taken, cover}
-use Rattle.fancy_index.specs.Sources.{index_items}
+use Rattle.std.proofs.Common.{◌≡◌, length}
+use Rattle.fancy_index.specs.IndexArrays.{cover}
+use Rattle.fancy_index.specs.inside.Lists.{items_left}
 use Rattle.fancy_index.proofs.checks.cover.Given as goal
 
-abbrev pub invariant-loop-k : goal.invariant-loop-k
-invariant-loop-k l = record {
-  within : l.axis ≤ length l.lengths;
-  enough : array_axes_taken (index_items l.arrays (drop l.k l.items)) ≤ length l.lengths - l.axis;
-  left : cover (drop l.axis l.lengths) (index_items l.arrays (drop l.k l.items)) ≡ cover l.lengths (index_items l.arrays l.items);
-}
+abbrev pub invariant-loop-item : goal.invariant-loop-item
+invariant-loop-item l = cover l.left.axes.now (items_left l.left) ≡ cover l.fn.left.axes.now (items_left l.fn.left)
+
+abbrev pub decreases-loop-item : goal.decreases-loop-item
+decreases-loop-item l = length l.left.list.items.now

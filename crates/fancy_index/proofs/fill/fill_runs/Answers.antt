@@ -1,11 +1,11 @@
 use Rattle.std.proofs.Common.{◌∙◌, ◌+◌, map, drop}
 use Rattle.shape_strides.specs.Layouts.{offsets}
-use Rattle.fancy_index.specs.inside.Kept.{moved_offset, shifted_all}
+use Rattle.fancy_index.specs.inside.Moved.{moved_offset, shifted_all}
 use Rattle.fancy_index.proofs.Passes.{fill_front, filled_front, split-shifts}
 use Rattle.fancy_index.proofs.fill.fill_runs.Goals as goal
 
-pub fill_from-requires-clause-inside : goal.fill_from-requires-clause-inside
-fill_from-requires-clause-inside c =
+pub fill_from-requires : goal.fill_from-requires
+fill_from-requires c =
     let base = c.args.rows.inner.now.offset in
     let inner = offsets c.args.rows.inner.now in
     let split = split-shifts base inner c.args.rows.place c.args.rows.shifts.now c.loop-shift.shift-index c.moved-start.result c.loop-shift-test.true c.moved-start.ensures.value in

@@ -1,7 +1,7 @@
 use Rattle.std.proofs.Common.{◌≡◌, length, drop}
 use Rattle.shape_strides.specs.Layouts.{offsets}
 use Rattle.fancy_index.specs.Plans.{put_each}
-use Rattle.fancy_index.specs.inside.Kept.{shifted_all}
+use Rattle.fancy_index.specs.inside.Moved.{shifted_all}
 use Rattle.fancy_index.proofs.Passes.{Filling}
 use Rattle.fancy_index.proofs.fill.fill_runs.Given as goal
 

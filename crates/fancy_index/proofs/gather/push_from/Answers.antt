@@ -6,14 +6,14 @@ use Rattle.raw_block.specs.Bytes.{place, item_at, joined, EachWithin}
 use Rattle.shape_strides.specs.Runs.{run_offsets}
 use Rattle.overlap_copy.specs.Joined.{joined_at}
 use Rattle.overlap_copy.specs.JoinedLaws.{joined-offsets}
-use Rattle.fancy_index.specs.inside.Kept.{moved_offset}
+use Rattle.fancy_index.specs.inside.Moved.{moved_offset}
 use Rattle.fancy_index.proofs.Passes.{RunsLeft, next_run, later_runs, push_run, pushed_run, pushed_all}
 use Rattle.fancy_index.proofs.gather.push_from.Goals as goal
 
 pub moved_run-from-requires-clause-moved : goal.moved_run-from-requires-clause-moved
 moved_run-from-requires-clause-moved c =
-    let base = c.args.inner.now.offset in
-    (next_run base c.args.start c.in-Some.run' c.next.new.self (subst (RunsLeft base c.args.start) c.in-Some.ensures.steps c.loop-run.invariant.left)).moved
+    let base = c.args.source.layout.now.offset in
+    (next_run base c.args.source.start c.in-Some.run' c.next.new.self (subst (RunsLeft base c.args.source.start) c.in-Some.ensures.steps c.loop-run.invariant.left)).moved
 
 pub push_strided-requires-clause-room : goal.push_strided-requires-clause-room
 push_strided-requires-clause-room c =
@@ -29,7 +29,7 @@ push_strided-requires-clause-source c =
 
 pub loop-run-preserved : goal.loop-run-preserved
 loop-run-preserved c =
-    let base = c.args.inner.now.offset in
+    let base = c.args.source.layout.now.offset in
     let width = c.args.width in
     let block = c.args.block.now in
     let run = c.in-Some.run' in
@@ -38,17 +38,17 @@ loop-run-preserved c =
     let can = push_run _ _ _ _ _ _ _ _ _ _ steps c.loop-run.invariant.pass in
     let fits : SFits w64 from.step = search rules in
     let before = c.loop-run.items.0 in
-    let pushed : c.push_strided.new.self.0 ≡ before ++ joined_at (map (moved_offset base c.args.start) (run_offsets run)) width block =
+    let pushed : c.push_strided.new.self.0 ≡ before ++ joined_at (map (moved_offset base c.args.source.start) (run_offsets run)) width block =
     c.push_strided.ensures.bytes
     ∙ (λ i. before ++ joined (λ k. item_at (place from.offset (to_z-of_z w64 from.step fits i) k) width block) from.count)
     ∙ ap (λ l. before ++ l) (joined-offsets (length block) width from block (c.moved_run-from.ensures.within (length block) width can.inside))
     ∙ ap (λ l. before ++ joined_at l width block) c.moved_run-from.ensures.offsets in
     record {
-      left = later_runs base c.args.start run c.next.new.self (subst (RunsLeft base c.args.start) steps c.loop-run.invariant.left);
-      pass = pushed_run _ base c.args.start width run _ _ block _ _ _ steps pushed (ap (λ n. n * width + c.push_strided.new.self.1) (sym c.moved_run-from.ensures.count) ∙ c.push_strided.ensures.left) c.loop-run.invariant.pass;
+      left = later_runs base c.args.source.start run c.next.new.self (subst (RunsLeft base c.args.source.start) steps c.loop-run.invariant.left);
+      pass = pushed_run _ base c.args.source.start width run _ _ block _ _ _ steps pushed (ap (λ n. n * width + c.push_strided.new.self.1) (sym c.moved_run-from.ensures.count) ∙ c.push_strided.ensures.left) c.loop-run.invariant.pass;
     }
 
 pub returns : goal.returns
 returns c =
-    let done = pushed_all _ _ _ _ _ _ (ap (λ l. map (moved_offset c.args.inner.now.offset c.args.start) (flat_map run_offsets l)) c.in-None.ensures.steps.0) c.loop-run.invariant.pass in
+    let done = pushed_all _ _ _ _ _ _ (ap (λ l. map (moved_offset c.args.source.layout.now.offset c.args.source.start) (flat_map run_offsets l)) c.in-None.ensures.steps.0) c.loop-run.invariant.pass in
     record { bytes = done.0; left = done.1 }

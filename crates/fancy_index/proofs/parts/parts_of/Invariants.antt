@@ -1,8 +1,14 @@
-use Rattle.std.proofs.Common.{map}
-use Rattle.fancy_index.specs.IndexArrays.{with_array}
-use Rattle.fancy_index.specs.Sources.{index_array_of}
+use Rattle.std.proofs.Common.{◌≤◌, length, All}
+use Rattle.shape_strides.specs.Limits.{max_items}
+use Rattle.fancy_index.specs.inside.Lists.{items_left}
 use Rattle.fancy_index.proofs.PartLaws.{HaveParts}
 use Rattle.fancy_index.proofs.parts.parts_of.Given as goal
 
-abbrev pub invariant-loop-k : goal.invariant-loop-k
-invariant-loop-k l = HaveParts (with_array (map index_array_of l.arrays)) l.lengths l.items l.parts.items l.k l.axis
+abbrev pub invariant-loop-item : goal.invariant-loop-item
+invariant-loop-item l = record {
+  small : All (λ n. n ≤ max_items) l.left.axes.now;
+  have : HaveParts l.fn.left.axes.now (items_left l.fn.left) l.parts.items l.left.axes.now (items_left l.left);
+}
+
+abbrev pub decreases-loop-item : goal.decreases-loop-item
+decreases-loop-item l = length l.left.list.items.now

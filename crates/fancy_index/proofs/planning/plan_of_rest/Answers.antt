@@ -2,7 +2,7 @@ use Rattle.std.proofs.Common.{◌<◌, ◌/◌, ℕ, List, map, length, take, dr
 use Rattle.shape_strides.specs.Indexes.{count}
 use Rattle.shape_strides.specs.Layouts.{offsets}
 use Rattle.fancy_index.specs.Parts.{other_axes}
-use Rattle.fancy_index.specs.inside.Kept.{moved_all, AreStarts}
+use Rattle.fancy_index.specs.inside.Moved.{moved_all, AreStarts}
 use Rattle.fancy_index.specs.inside.PartLists.{shown_part}
 use Rattle.fancy_index.proofs.LaidLaws.{IsLaid, some_others, points_many, first-in, starts, is-plan, count-is, small-offset}
 use Rattle.fancy_index.proofs.planning.plan_of_rest.Goals as goal

@@ -1,6 +1,11 @@
 use Rattle.std.proofs.Common.{length, subst, ◌∙◌, arith}
-use Rattle.fancy_index.proofs.Passes.{RunsLeft, later_runs, scatter_run, scattered_run}
+use Rattle.fancy_index.proofs.Passes.{RunsLeft, next_run, later_runs, scatter_run, scattered_run}
 use Rattle.fancy_index.proofs.scatter.scatter_from.Goals as goal
+
+pub moved_run-to-requires-clause-moved : goal.moved_run-to-requires-clause-moved
+moved_run-to-requires-clause-moved c =
+    let base = c.args.target.layout.now.offset in
+    (next_run base c.args.target.start c.in-Some.run' c.next.new.self (subst (RunsLeft base c.args.target.start) c.in-Some.ensures.steps c.loop-run.invariant.left)).moved
 
 pub packed_run-requires-clause-within : goal.packed_run-requires-clause-within
 packed_run-requires-clause-within c =
@@ -24,10 +29,10 @@ overflow_add-at c =
 
 pub loop-run-preserved : goal.loop-run-preserved
 loop-run-preserved c =
-    let base = c.args.inner.now.offset in
+    let base = c.args.target.layout.now.offset in
     let steps = c.in-Some.ensures.steps in
     record {
-      left = later_runs base c.args.start c.in-Some.run' c.next.new.self (subst (RunsLeft base c.args.start) steps c.loop-run.invariant.left);
-      pass = scattered_run base c.args.start c.loop-run.at c.args.width _ c.in-Some.run' c.moved_run-to.result c.packed_run.result _ _ _ _ _ _ steps c.moved_run-to.ensures.offsets c.packed_run.ensures.run c.copy_run.ensures.written c.copy_run.ensures.len c.loop-run.invariant.pass;
+      left = later_runs base c.args.target.start c.in-Some.run' c.next.new.self (subst (RunsLeft base c.args.target.start) steps c.loop-run.invariant.left);
+      pass = scattered_run base c.args.target.start c.loop-run.at c.args.width _ c.in-Some.run' c.moved_run-to.result c.packed_run.result _ _ _ _ _ _ steps c.moved_run-to.ensures.offsets c.packed_run.ensures.run c.copy_run.ensures.written c.copy_run.ensures.len c.loop-run.invariant.pass;
       len = c.copy_run.ensures.len ∙ c.loop-run.invariant.len;
     }

@@ -1,0 +1,18 @@
+-- Index lists, item by item.
+use Rattle.std.specs.Prelude.{◌≡◌, ℕ, false, List, ◌∷◌, ◌++◌, length}
+use Rattle.shape_strides.specs.declared.index_item.IndexItem.{IndexItem}
+use Rattle.shape_strides.specs.IndexItems.{is_ellipsis}
+use Rattle.fancy_index.specs.IndexArrays.{IndexArray, item_axes, placed_arrays, left_over}
+use Rattle.fancy_index.specs.Sources.{index_items}
+use Rattle.fancy_index.specs.declared.lists.Left.{Left}
+
+abbrev pub items_left : Left → List (IndexItem IndexArray)
+items_left left = index_items left.list.arrays.now left.list.items.now
+
+-- an item of a list takes these axes of a shape, and others are left to the items behind it
+pub record IsNext (shape : List ℕ) (items : List (IndexItem IndexArray)) (item : IndexItem IndexArray) (axes shape' : List ℕ) (items' : List (IndexItem IndexArray)) : Type 0 where
+  pub list : items ≡ item ∷ items'
+  pub cut : shape ≡ axes ++ shape'
+  pub many : is_ellipsis item ≡ false → length axes ≡ item_axes item
+  pub placed : placed_arrays shape items ≡ record { item = item; axes = axes } ∷ placed_arrays shape' items'
+  pub over : left_over shape items ≡ left_over shape' items'

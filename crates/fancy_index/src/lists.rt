@@ -1,0 +1,90 @@
+//! Index lists, item by item, and the axes that the items take.
+ghost use Rattle.std.specs.Prelude.{◌≡◌, ◌+◌, ◌<◌, ◌≤◌, ◌^◌, [], length, All, IfSome, None};
+ghost use Rattle.shape_strides.specs.Limits.{max_axes};
+ghost use Rattle.fancy_index.specs.IndexArrays.{item_axes, array_axes_taken, array_axes_width};
+ghost use Rattle.fancy_index.specs.Sources.{LiesInBlock, IsNamed, index_items};
+ghost use Rattle.fancy_index.specs.inside.Items.{index_item_of, ItemsLieInBlock, AreNamed-prop};
+
+use crate::kind::Kind;
+use crate::source::{Indices, kind, resolved};
+use shape_strides::IndexItem;
+
+/// The items of an index list, and the arrays that they name.
+#[derive(Clone, Copy, Drop)]
+pub(crate) struct IndexList<'a> {
+    pub items: &'a [IndexItem<usize>],
+    pub arrays: &'a [Indices<'a>],
+    pub ghost named: { All (IsNamed (length arrays.now)) items.now } by { AreNamed-prop (length arrays.now) items.now },
+    pub ghost lie: { All LiesInBlock arrays.now },
+}
+
+/// The items of an index list that are left, and the axes that are left to them.
+#[derive(Clone, Copy, Drop)]
+pub(crate) struct Left<'a> {
+    pub axes: &'a [usize],
+    pub list: IndexList<'a>,
+    pub ghost rank: { length axes.now ≤ max_axes },
+    pub ghost enough: { array_axes_taken (index_items list.arrays.now list.items.now) ≤ length axes.now },
+}
+
+/// How many axes an item takes, beside those of `...`.
+pub(crate) fn axes_of(item: IndexItem<Indices<'_>>) -> usize
+    ensures value { result ≡ item_axes (index_item_of item.entry) }
+    ensures few { result ≤ max_axes }
+{
+    match item {
+        IndexItem::Ellipsis | IndexItem::NewAxis => 0,
+        IndexItem::Array(array) => match kind(array) {
+            Kind::Mask => array.layout.shape.rank(),
+            _ => 1,
+        },
+        _ => 1,
+    }
+}
+
+/// How many axes the items take, beside those of `...`.
+fn taken(list: IndexList<'_>) -> usize
+    requires few { array_axes_taken (index_items list.arrays.now list.items.now) ≤ max_axes }
+    ensures { result ≡ array_axes_taken (index_items list.entry.arrays.now list.entry.items.now) }
+{
+    let mut axes = 0;
+    for item in list.items {
+        axes += axes_of(resolved(item, list.arrays));
+    }
+    axes
+}
+
+/// How many of the axes that are left an item takes: `...` takes all but those of the items after it.
+fn width(left: usize, item: IndexItem<Indices<'_>>, later: IndexList<'_>) -> usize
+    requires few { left ≤ max_axes }
+    requires enough { item_axes (index_item_of item) + array_axes_taken (index_items later.arrays.now later.items.now) ≤ left }
+    ensures { result ≡ array_axes_width left (index_item_of item.entry) (index_items later.entry.arrays.now later.entry.items.now) }
+{
+    match item {
+        IndexItem::Ellipsis => left - taken(later),
+        _ => axes_of(item),
+    }
+}
+
+impl<'a> Left<'a> {
+    ghost use Rattle.fancy_index.specs.inside.Lists.{items_left, IsNext};
+
+    /// The next item, with the axes that it takes.
+    pub(crate) fn next(&mut self) -> Option<(IndexItem<Indices<'a>>, &'a [usize])>
+        ensures next { IfSome result (λ next. IsNext self.old.axes.now (items_left self.old) (index_item_of next.0) next.1.now self.new.axes.now (items_left self.new)) }
+        ensures lies { IfSome result (λ next. ItemsLieInBlock next.0) }
+        ensures fewer { IfSome result (λ _. length self.new.list.items.now < length self.old.list.items.now) }
+        ensures none { result ≡ None → items_left self.old ≡ [] }
+        ensures same { result ≡ None → self.new.axes.now ≡ self.old.axes.now }
+    {
+        let [item, items @ ..] = self.list.items else {
+            return None;
+        };
+        let arrays = self.list.arrays;
+        let item = resolved(item, arrays);
+        let list = IndexList { items, arrays };
+        let (taken, axes) = self.axes.split_at(width(self.axes.len(), item, list));
+        *self = Left { axes, list };
+        Some((item, taken))
+    }
+}
