@@ -1,34 +1,13 @@
 -- Items in a block of bytes, one after another.
-use Rattle.std.proofs.Common.{◌≡◌, ◌≤◌, ◌<◌, ◌+◌, ◌*◌, ℕ, zero, suc, List, [], ◌∷◌, ◌++◌, length, take, drop, map, refl, sym, ap, ◌∙◌, Some, slice_get, slice_set, append_assoc, arith, length-take, length-drop}
+use Rattle.std.proofs.Common.{◌≡◌, ◌≤◌, ◌<◌, ◌+◌, ◌*◌, ℕ, zero, suc, List, ◌∷◌, ◌++◌, length, take, drop, map, refl, sym, ap, ◌∙◌, Some, slice_get, slice_set, append_assoc, arith, length-take, length-drop}
 use Rattle.std.proofs.Math.Nat.{mul-suc, suc-mul, mul-le-mul_left}
-use Rattle.std.proofs.Math.Seq.{take-add, drop-append_seam}
-use Rattle.std.proofs.lemmas.List.{map-set}
+use Rattle.std.proofs.Math.Seq.{take-add}
+use Rattle.std.proofs.lemmas.List.{map-set, drop-drop, drop_at}
 use Rattle.elem_descr.specs.declared.descr.Descr.{Descr}
 use Rattle.elem_descr.specs.Items.{item_size, decode_item}
 use Rattle.raw_block.specs.Bytes.{put}
 use Rattle.elem_descr.specs.Blocks.{blocks, items_in, item_from}
 use Rattle.elem_descr.specs.ListLaws.{take_front}
-
-drop_front : (width : ℕ) (front back : List ℕ) → length front ≡ width → drop width (front ++ back) ≡ back
-drop_front width front back is = ap (λ n. drop n (front ++ back)) (sym is) ∙ drop-append_seam front back
-
-pub drop-drop : (n m : ℕ) (xs : List ℕ) → drop (n + m) xs ≡ drop m (drop n xs)
-drop-drop zero m xs = ap (λ k. drop k xs) (omega arith)
-drop-drop (suc n) m [] = ap (λ k. drop k none) same ∙ empty m
-  where
-    none : List ℕ
-    none = []
-
-    same : suc n + m ≡ suc (n + m)
-    same = omega arith
-
-    empty : (m : ℕ) → none ≡ drop m none
-    empty zero = refl
-    empty (suc m) = refl
-drop-drop (suc n) m (x ∷ xs) = ap (λ k. drop k (x ∷ xs)) same ∙ drop-drop n m xs
-  where
-    same : suc n + m ≡ suc (n + m)
-    same = omega arith
 
 pub put-add : (width at : ℕ) (item bytes : List ℕ) → put (width + at) item bytes ≡ take width bytes ++ put at item (drop width bytes)
 put-add width at item bytes =
@@ -38,7 +17,7 @@ put-add width at item bytes =
     ∙ append_assoc (take width bytes) (take at (drop width bytes) ++ item) (drop (at + length item) (drop width bytes))
   where
     later : drop ((width + at) + length item) bytes ≡ drop (at + length item) (drop width bytes)
-    later = ap (λ n. drop n bytes) (omega arith) ∙ drop-drop width (at + length item) bytes
+    later = ap (λ n. drop n bytes) (omega arith) ∙ sym (drop-drop (at + length item) width bytes)
 
 -- one item of a block is put
 blocks-put : (width n place at : ℕ) (item bytes : List ℕ) → place < n → at ≡ width * place → length item ≡ width → n * width ≤ length bytes →
@@ -48,19 +27,15 @@ blocks-put width (suc n) zero at item bytes within is whole fits =
     let none : at ≡ 0 = omega arith in
     let there : put at item bytes ≡ item ++ drop width bytes = ap (λ k. take k bytes ++ item ++ drop (k + length item) bytes) none ∙ ap (λ k. item ++ drop k bytes) (omega arith) in
     ap (blocks width (suc n)) there
-    ∙ λ i. take_front width item (drop width bytes) whole i ∷ blocks width n (drop_front width item (drop width bytes) whole i)
+    ∙ λ i. take_front width item (drop width bytes) whole i ∷ blocks width n (drop_at item (drop width bytes) width whole i)
 blocks-put width (suc n) (suc place) at item bytes within is whole fits =
     let more : at ≡ width + width * place = is ∙ mul-suc width place ∙ omega arith in
     let enough : n * width + width ≤ length bytes = omega (arith, suc-mul n width) in
     let front : length (take width bytes) ≡ width = omega (arith, length-take width bytes) in
     ap (λ k. blocks width (suc n) (put k item bytes)) more
     ∙ ap (blocks width (suc n)) (put-add width (width * place) item bytes)
-    ∙ (λ i. take_front width (take width bytes) (put (width * place) item (drop width bytes)) front i ∷ blocks width n (drop_front width (take width bytes) (put (width * place) item (drop width bytes)) front i))
+    ∙ (λ i. take_front width (take width bytes) (put (width * place) item (drop width bytes)) front i ∷ blocks width n (drop_at (take width bytes) (put (width * place) item (drop width bytes)) width front i))
     ∙ ap (λ later. take width bytes ∷ later) (blocks-put width n place (width * place) item (drop width bytes) (omega arith) refl whole (omega (arith, length-drop width bytes)))
-
-length-blocks : (width n : ℕ) (bytes : List ℕ) → length (blocks width n bytes) ≡ n
-length-blocks width zero bytes = refl
-length-blocks width (suc n) bytes = ap suc (length-blocks width n (drop width bytes))
 
 pub length-items_in : (descr : Descr) (n : ℕ) (bytes : List ℕ) → length (items_in descr n bytes) ≡ n
 length-items_in descr zero bytes = refl
@@ -73,7 +48,7 @@ item-at descr (suc n) zero bytes h =
     let none : 0 ≡ item_size descr * 0 = omega arith in ap (λ at. Some (item_from descr bytes at)) none
 item-at descr (suc n) (suc place) bytes h =
     item-at descr n place (drop (item_size descr) bytes) (omega arith)
-    ∙ ap (λ rest. Some (decode_item descr (take (item_size descr) rest))) (sym (drop-drop (item_size descr) (item_size descr * place) bytes) ∙ ap (λ at. drop at bytes) (omega (arith, mul-suc (item_size descr) place)))
+    ∙ ap (λ rest. Some (decode_item descr (take (item_size descr) rest))) (drop-drop (item_size descr * place) (item_size descr) bytes ∙ ap (λ at. drop at bytes) (omega (arith, mul-suc (item_size descr) place)))
 
 -- an item's last byte
 pub item-inside : (width n place : ℕ) → place < n → width * place + width ≤ n * width

@@ -1,6 +1,6 @@
 -- The fields of a record: where their bytes and leaves are among those of the record.
 use Rattle.std.proofs.Common.{◌≡◌, ◌+◌, ◌<◌, ◌≤◌, ℕ, zero, suc, List, [], ◌∷◌, ◌++◌, length, take, map, get_or, refl, sym, ap, subst, ◌∙◌, append_assoc, arith, length-append}
-use Rattle.std.proofs.lemmas.List.{map-append, length-map}
+use Rattle.std.proofs.lemmas.List.{append-nil, map-append, length-map}
 use Rattle.elem_descr.specs.declared.descr.Descr.{Descr}
 use Rattle.elem_descr.specs.declared.descr.Descr.TheVariants.{Scalar as ScalarDescr, Record as RecordDescr}
 use Rattle.elem_descr.specs.declared.descr.Field.{Field}
@@ -47,15 +47,11 @@ pub split-whole : (descr : Descr) → Split (leaves_of descr) 0 0 descr (item_si
 split-whole descr = record {
   front = [];
   back = [];
-  all = sym (nothing (map (moved_leaf 0) (leaves_of descr)) ∙ moved-none (leaves_of descr));
+  all = sym (append-nil (map (moved_leaf 0) (leaves_of descr)) ∙ moved-none (leaves_of descr));
   before = omega arith;
   after = omega arith;
   counted = refl;
 }
-  where
-    nothing : (leaves : List Leaf) → leaves ++ [] ≡ leaves
-    nothing [] = refl
-    nothing (leaf ∷ leaves) = ap (λ rest. leaf ∷ rest) (nothing leaves)
 
 -- a part of a part
 pub split-within : (leaves : List Leaf) (from at : ℕ) (whole : Descr) (bytes before start first : ℕ) (descr : Descr) →

@@ -1,7 +1,7 @@
 -- Parts of an item: where their bytes lie, and what is read and written there.
-use Rattle.std.proofs.Common.{◌≡◌, ◌+◌, ◌-◌, ◌<◌, ◌≤◌, ℕ, zero, suc, List, [], ◌∷◌, ◌++◌, length, take, drop, map, refl, sym, ap, ◌∙◌, append_assoc, arith, length-take, length-append}
+use Rattle.std.proofs.Common.{◌≡◌, ◌+◌, ◌-◌, ◌<◌, ◌≤◌, ℕ, List, [], ◌∷◌, ◌++◌, length, take, drop, map, refl, sym, ap, ◌∙◌, append_assoc, arith, length-take, length-append}
 use Rattle.std.proofs.Math.Seq.{take-append_seam}
-use Rattle.std.proofs.lemmas.List.{map-append, length-map, take-append-le, drop-append-le, take-append-drop, drop-take, take_at, drop_at}
+use Rattle.std.proofs.lemmas.List.{take-take, drop-drop, map-append, length-map, take-append-le, drop-append-le, take-append-drop, drop-take, take_at, drop_at}
 use Rattle.elem_descr.specs.declared.descr.Descr.{Descr}
 use Rattle.elem_descr.specs.declared.leaf.Leaf.{Leaf}
 use Rattle.elem_descr.specs.Blocks.{item_from}
@@ -12,16 +12,9 @@ use Rattle.elem_descr.specs.ItemLaws.{AreInOrder-within, leaf_value}
 use Rattle.raw_block.specs.Bytes.{put}
 use Rattle.name_store.specs.Parts.{IsPathOf, descr_at, start_at, first_at, span_at, part_at, with_part}
 use Rattle.name_store.specs.Places.{IsElementType}
-use Rattle.name_store.proofs.BlockLaws.{drop-drop}
 use Rattle.name_store.proofs.FieldSplits.{Split, split-whole, split-within, records_deep, type-some, type-in_order, type-leaves, type-shallow, fields-deep, field-deep, field-legal, field-split}
 
 -- ---- bytes of a part
-
-take-take : (n m : ℕ) (xs : List ℕ) → n ≤ m → take n (take m xs) ≡ take n xs
-take-take zero m xs less = refl
-take-take (suc n) zero xs less = absurd (omega arith)
-take-take (suc n) (suc m) [] less = refl
-take-take (suc n) (suc m) (x ∷ xs) less = ap (λ rest. x ∷ rest) (take-take n m xs (omega arith))
 
 -- bytes in the front of a list
 take-within : (at width len : ℕ) (xs : List ℕ) → at + width ≤ len → take width (drop at (take len xs)) ≡ take width (drop at xs)
@@ -41,9 +34,9 @@ taken-before at width to item xs before within =
 dropped-after : (at to : ℕ) (item xs : List ℕ) → to + length item ≤ at → to ≤ length xs → drop at (put to item xs) ≡ drop at xs
 dropped-after at to item xs after within =
     ap (λ n. drop n (put to item xs)) more
-    ∙ drop-drop (to + length item) rest (put to item xs)
+    ∙ sym (drop-drop rest (to + length item) (put to item xs))
     ∙ ap (drop rest) (drop_at (take to xs ++ item) (drop (to + length item) xs) (to + length item) front)
-    ∙ sym (drop-drop (to + length item) rest xs)
+    ∙ drop-drop rest (to + length item) xs
     ∙ ap (λ n. drop n xs) (sym more)
   where
     rest : ℕ
@@ -82,7 +75,7 @@ values-moved start width from bytes part (leaf ∷ leaves) order is =
   where
     there : take (size leaf.scalar) (drop (start + leaf.at) bytes) ≡ take (size leaf.scalar) (drop leaf.at part)
     there =
-        ap (take (size leaf.scalar)) (drop-drop start leaf.at bytes)
+        ap (take (size leaf.scalar)) (sym (drop-drop leaf.at start bytes))
         ∙ sym (take-within leaf.at (size leaf.scalar) width (drop start bytes) (AreInOrder-within (leaf.at + size leaf.scalar) leaves width order.2))
         ∙ ap (λ bytes. take (size leaf.scalar) (drop leaf.at bytes)) is
 
@@ -178,7 +171,7 @@ module _ (descr : Descr) (legal : IsElementType descr) (path : List ℕ) (there 
       same : take (item_size own) (drop start bytes) ≡ take (item_size own) (drop (at + start) block)
       same =
           take-within start (item_size own) (item_size descr) (drop at block) part-within
-          ∙ ap (take (item_size own)) (sym (drop-drop at start block))
+          ∙ ap (take (item_size own)) (drop-drop start at block)
 
   -- what is read where the bytes of a part are put
   pub part-put : (part bytes : List ℕ) → length part ≡ item_size own → length bytes ≡ item_size descr →

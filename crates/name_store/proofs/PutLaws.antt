@@ -1,6 +1,7 @@
 -- Parts of items in a block: read, and put.
 use Rattle.std.proofs.Common.{◌≡◌, ◌+◌, ◌*◌, ◌<◌, ◌≤◌, ℕ, List, [], ◌∷◌, ◌++◌, length, take, drop, map, refl, sym, ap, ◌∙◌, unwrap_or, slice_set, append_assoc, arith, length-take, length-drop}
 use Rattle.std.specs.List.{AllByRecursion}
+use Rattle.std.proofs.lemmas.List.{drop-drop}
 use Rattle.elem_descr.specs.declared.descr.Descr.{Descr}
 use Rattle.elem_descr.specs.Blocks.{items_in, item_from}
 use Rattle.elem_descr.specs.Items.{item_size, decode_item}
@@ -10,7 +11,7 @@ use Rattle.name_store.specs.Arrays.{placed_item, write}
 use Rattle.name_store.specs.Parts.{IsPathOf, descr_at, start_at, span_at, part_at, with_part}
 use Rattle.name_store.specs.Places.{IsElementType}
 use Rattle.raw_block.specs.BytesLaws.{length-put}
-use Rattle.name_store.proofs.BlockLaws.{drop-drop, put-add, put-item, item-at, item-inside}
+use Rattle.name_store.proofs.BlockLaws.{put-add, put-item, item-at, item-inside}
 use Rattle.name_store.proofs.PartLaws.{put-front, part-within, part-read, part-put}
 use Rattle.shape_strides.specs.Layouts.{offsets_of}
 
@@ -20,7 +21,7 @@ put-part : (width at start : ℕ) (part block : List ℕ) → start + length par
 put-part width at start part block fits within =
     put-add at start part block
     ∙ ap (λ back. take at block ++ back) (put-front start width part (drop at block) fits (omega (arith, length-drop at block)))
-    ∙ ap (λ back. take at block ++ (put start part (take width (drop at block)) ++ back)) (sym (drop-drop at width block) ∙ ap (λ n. drop (at + n) block) (sym (whole-item width at start part block fits within)))
+    ∙ ap (λ back. take at block ++ (put start part (take width (drop at block)) ++ back)) (drop-drop width at block ∙ ap (λ n. drop (at + n) block) (sym (whole-item width at start part block fits within)))
     ∙ sym (append_assoc (take at block) (put start part (take width (drop at block))) (drop (at + length (put start part (take width (drop at block)))) block))
   where
     whole-item : (width at start : ℕ) (part block : List ℕ) → start + length part ≤ width → at + width ≤ length block → length (put start part (take width (drop at block))) ≡ width

@@ -1,8 +1,9 @@
 -- Items that are put in a slot that was lent.
-use Rattle.std.proofs.Common.{◌≡◌, ◌≢◌, ◌+◌, ◌≤◌, ◌<◌, ℕ, zero, suc, true, false, List, [], ◌∷◌, length, refl, sym, ap, subst, ◌∙◌, cond, Option, Some, Result, Ok, Err, IfOk, IfErr, nat_eq, slice_set, All}
+use Rattle.std.proofs.Common.{◌≡◌, ◌≢◌, ◌+◌, ◌≤◌, ◌<◌, ℕ, zero, suc, true, false, List, [], ◌∷◌, length, refl, sym, ap, subst, ◌∙◌, cond, Option, Some, nat_eq, slice_set, All}
 use Rattle.std.specs.List.{AllByRecursion}
 use Rattle.std.specs.Option.{option_map}
 use Rattle.std.proofs.lemmas.Bool.{eqb-true, ne_eqb}
+use Rattle.std.proofs.lemmas.Option.{same_Some}
 use Rattle.shape_strides.specs.Layouts.{offsets, Fits}
 use Rattle.shape_strides.specs.LayoutLaws.{offsets_within}
 use Rattle.overlap_copy.specs.declared.owned.Owned.{Owned}
@@ -22,13 +23,10 @@ use Rattle.name_store.proofs.LaidLaws.{offsets-within}
 use Rattle.name_store.proofs.SlotLaws.{slot_at-set, slot_at-within}
 use Rattle.name_store.proofs.SourceLaws.{all-replicated, items-whole}
 
-pub some-same : {A : Type 0} (x y : A) → Some x ≡ Some y → x ≡ y
-some-same x y h = cc
-
 pub lent-new : (slots : List (Option Slot)) (number : ℕ) (was now old : Slot) (bytes : Slot → List ℕ) → number < length slots → slot_at slots number ≡ Some was → now.descr ≡ was.descr → now.items ≡ was.items → now.users ≡ was.users → now.block ≡ bytes was → slot_at slots number ≡ Some old →
     HasNew slots number old (bytes old) (slice_set slots number (Some now))
 lent-new slots number was now old bytes inside there descr items users block is =
-    let same : was ≡ old = some-same was old (sym there ∙ is) in record {
+    let same : was ≡ old = same_Some was old (sym there ∙ is) in record {
       new = now;
       rewritten = record { descr = descr ∙ ap (λ (s : Slot). s.descr) same; items = items ∙ ap (λ (s : Slot). s.items) same; block = block ∙ ap bytes same; users = users ∙ ap (λ (s : Slot). s.users) same };
       set = λ other. slot_at-set slots number (Some now) other inside;
@@ -65,14 +63,6 @@ kept-same slots number s after there new q = (
   new-users slots number s s.block after there new q,
 )
 
-pub ok-so : {A E P Q : Type 0} (r : Result A E) → (P → Q) → IfOk r (λ _. P) → IfOk r (λ _. Q)
-ok-so (Ok a) f h = f h
-ok-so (Err e) f h = h
-
-pub err-so : {A E P Q : Type 0} (r : Result A E) → (P → Q) → IfErr r (λ _. P) → IfErr r (λ _. Q)
-err-so (Ok a) f h = h
-err-so (Err e) f h = f h
-
 -- each item has as many bytes as it must
 pub parts-whole : (slots : List (Option Slot)) (width n : ℕ) (source : Source) → AreItems slots width n source → AllByRecursion (λ part. length part ≡ width) (parts_of slots width n source)
 parts-whole slots width n (One item) are = all-replicated (λ part. length part ≡ width) n item.items are
@@ -89,7 +79,7 @@ module _ (slots : List (Option Slot)) (home : Home) (target : Target) (source : 
 
   module _ (s : Slot) (there : slot_at slots home.number ≡ Some s) where
     pub can-slot : can.slot ≡ s
-    can-slot = some-same can.slot s (sym can.there ∙ there)
+    can-slot = same_Some can.slot s (sym can.there ∙ there)
 
     pub can-inside : All (λ offset. offset + home.width ≤ length s.block) (target_offsets target)
     can-inside = subst (λ (x : Slot). All (λ offset. offset + home.width ≤ length x.block) (target_offsets target)) can-slot can.inside

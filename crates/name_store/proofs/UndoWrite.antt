@@ -1,13 +1,13 @@
 -- A write is undone.
-use Rattle.std.proofs.Common.{◌≡◌, ◌<◌, ℕ, true, false, List, [], ◌∷◌, ◌++◌, length, map, refl, sym, ap, ◌∙◌, cond, Option, Some, None, is_some, nat_eq, arith}
+use Rattle.std.proofs.Common.{◌≡◌, ◌<◌, ℕ, true, false, List, [], ◌∷◌, ◌++◌, length, refl, sym, ap, ◌∙◌, cond, Option, Some, None, is_some, nat_eq, arith}
 use Rattle.std.specs.List.{AllByRecursion}
 use Rattle.std.specs.Option.{option_map}
 use Rattle.std.proofs.lemmas.Bool.{eqb-true}
 use Rattle.circular_buffer.specs.Buffer.{Buffer as Ring, buffer}
 use Rattle.name_store.specs.Invariants.{IsSound, LiesAt, GoBackAt, users_at}
-use Rattle.name_store.specs.Kept.{with_old, Names}
+use Rattle.name_store.specs.Kept.{with_old}
 use Rattle.name_store.specs.Targets.{target_offsets}
-use Rattle.name_store.specs.View.{named_array, slot_at}
+use Rattle.name_store.specs.View.{slot_at}
 use Rattle.name_store.specs.declared.change.Change.{Change}
 use Rattle.name_store.specs.declared.change.Change.TheVariants.{Write}
 use Rattle.name_store.specs.declared.entry.Entry.{Entry}
@@ -32,9 +32,6 @@ goes-there target items (Some s) goes = refl
 module _ (es : List (Key × Entry)) (slots : Slots) (ring : Ring Change) (spare : ℕ) (number : ℕ) (target : Target) (items : OldItems) (sound : IsSound es slots (buffer (ring.items ++ Write number target items ∷ []) ring.capacity) spare) where
   abbrev wrote : Change
   wrote = Write number target items
-
-  abbrev names : Names
-  names = map named_array es
 
   abbrev back : Slot → List ℕ
   back old = with_old (target_offsets target) items old.block

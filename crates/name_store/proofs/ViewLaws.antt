@@ -21,7 +21,7 @@ use Rattle.name_store.specs.ArrayLaws.{places-offsets}
 use Rattle.name_store.proofs.LaidLaws.{laid-same, places-within}
 use Rattle.name_store.proofs.PartLaws.{part-some, part-within}
 use Rattle.name_store.proofs.PutLaws.{items-read}
-use Rattle.name_store.proofs.SlotLaws.{get-buffers, get-used, slot_at-within}
+use Rattle.name_store.proofs.SlotLaws.{get-buffers, get-used}
 use Rattle.name_store.proofs.PastLaws.{Slots}
 
 module _ (es : List (Key × Entry)) (slots : Slots) (number : ℕ) (path : List ℕ) (layout : Layout) (writable : Bool) (array : Array) (view : IsViewIn (present es slots) number path layout writable array) where
@@ -42,9 +42,6 @@ module _ (es : List (Key × Entry)) (slots : Slots) (number : ℕ) (path : List 
       occupied : (o : Option Slot) → slot_at slots number ≡ o → is_some o ≡ true → (s : Slot) × (slot_at slots number ≡ Some s)
       occupied None was there = let no : ⊥ = cc in absurd no
       occupied (Some s) was there = (s, was)
-
-  pub view-within : number < length slots
-  view-within = slot_at-within slots number view-slot.0 view-slot.1
 
   pub view-occupied : is_some (slot_at slots number) ≡ true
   view-occupied = ap is_some view-slot.1

@@ -9,10 +9,9 @@ use Rattle.circular_buffer.specs.Buffer.{Buffer as Ring, buffer, keep_last}
 use Rattle.elem_descr.specs.declared.descr.Descr.{Descr}
 use Rattle.elem_descr.specs.Items.{item_size}
 use Rattle.elem_descr.specs.Values.{LeafValue}
-use Rattle.shape_strides.specs.declared.layout.Layout.{Layout}
 use Rattle.overlap_copy.specs.Assignments.{items_at, with_items}
 use Rattle.name_store.specs.States.{State, Array}
-use Rattle.name_store.specs.Arrays.{is_in_use, keeping, find_array, descr_of}
+use Rattle.name_store.specs.Arrays.{is_in_use, keeping, descr_of}
 use Rattle.name_store.specs.Calls.{AnswersWrite, CountsWrite}
 use Rattle.name_store.specs.Invariants.{Holds, IsSound, LiesAt, GoBackAt, GoBack, IsUndoable, users_at, users_in, pins, all_pins}
 use Rattle.name_store.specs.Kept.{with_old, Names, past_names, past_buffers, kept_states, patch_size}
@@ -75,10 +74,6 @@ module _ (es : List (Key × Entry)) (slots : Slots) (ring : Ring Change) where
     may_write = may-now aim.array target aim.may_write;
     supplies = supplies-now (descr_of now aim.array) (length (target_offsets target)) source aim.items aim.supplies;
   }
-
-  pub needs-shallow : (name : List ℕ) (target : Target) (source : Source) → NeedsNoMemory whole name target source → ring.capacity ≡ 0
-  needs-shallow name (View to) source needs-none = needs-none.0
-  needs-shallow name (Plan plan) source needs-none = needs-none.0
 
   pub needs-now : (name : List ℕ) (target : Target) (source : Source) → NeedsNoMemory whole name target source → NeedsNoMemory now name target source
   needs-now name (View to) (One bytes) needs-none = (refl, needs-none.1)

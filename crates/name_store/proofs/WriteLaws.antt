@@ -7,17 +7,17 @@ use Rattle.std.specs.Map.{lookup}
 use Rattle.std.specs.Option.{option_map}
 use Rattle.std.proofs.lemmas.Bool.{eqb-true}
 use Rattle.std.proofs.lemmas.List.Elements.{All-contains, All-head, All-tail, All-from_recursion}
-use Rattle.elem_descr.specs.Blocks.{items_in, item_from}
+use Rattle.std.proofs.lemmas.Option.{same_Some}
+use Rattle.elem_descr.specs.Blocks.{items_in}
 use Rattle.elem_descr.specs.Items.{item_size, decode_item}
 use Rattle.shape_strides.specs.declared.layout.Layout.{Layout}
 use Rattle.shape_strides.specs.Layouts.{offsets, Fits, offsets_of}
 use Rattle.overlap_copy.specs.Assignments.{with_items}
 use Rattle.overlap_copy.specs.Blocks.{places_of}
-use Rattle.name_store.specs.ArrayLaws.{places-offsets}
 use Rattle.name_store.specs.States.{State, Array, Buffer}
-use Rattle.name_store.specs.Arrays.{find_array, buffer_of, descr_of, span_of, addresses, read, placed_item, write, written, is_in_use, is_bound}
+use Rattle.name_store.specs.Arrays.{find_array, buffer_of, descr_of, span_of, addresses, write, written, is_in_use, is_bound}
 use Rattle.name_store.specs.Invariants.{Holds, LiesAt, LiesIn}
-use Rattle.name_store.specs.Parts.{descr_at, start_at, span_at, part_at}
+use Rattle.name_store.specs.Parts.{descr_at, start_at, span_at}
 use Rattle.name_store.specs.Targets.{target_offsets, FitsBuffer, LeadsTo}
 use Rattle.name_store.specs.inside.Homes.{IsHome, HasNew}
 use Rattle.name_store.specs.View.{array_at, named_array, buffer_in, slot_at, present}
@@ -26,10 +26,9 @@ use Rattle.name_store.specs.declared.entry.Key.{Key}
 use Rattle.name_store.specs.declared.slot.Slot.{Slot}
 use Rattle.name_store.specs.declared.target.Target.{Target}
 use Rattle.name_store.proofs.BlockLaws.{length-items_in}
-use Rattle.name_store.proofs.PartLaws.{part-some, part-within}
+use Rattle.name_store.proofs.PartLaws.{part-some}
 use Rattle.name_store.proofs.LaidLaws.{laid-same, places-within}
-use Rattle.name_store.proofs.PutLaws.{items-read, with_items-items}
-pub use Rattle.name_store.proofs.RewriteLaws.{some-same}
+use Rattle.name_store.proofs.PutLaws.{with_items-items}
 use Rattle.name_store.proofs.NameLaws.{TestsName, all-both, found-used}
 use Rattle.name_store.proofs.SlotLaws.{get-buffers, tests_agree}
 use Rattle.name_store.proofs.StateLaws.{none-found}
@@ -69,7 +68,7 @@ module _ (es : List (Key × Entry)) (slots : Slots) (name : List ℕ) (number wi
   -- the name's array
   module _ (array : Array) (found : find_array (map named_array es) name ≡ Some array) where
     same : array ≡ array_at e
-    same = some-same array (array_at e) (sym found ∙ home.found)
+    same = same_Some array (array_at e) (sym found ∙ home.found)
 
     buffer : buffer_of state array ≡ buffer_in s
     buffer = ap (buffer_of state) same ∙ buffer-found es slots e s (found-used (map named_array es) name (array_at e) home.found) there

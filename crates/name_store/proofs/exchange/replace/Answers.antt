@@ -1,12 +1,13 @@
 use Rattle.std.proofs.Common.{refl, sym, ap, subst, ◌∙◌, length, List, Option, arith}
 use Rattle.std.specs.Option.{option_copied_mut}
+use Rattle.std.proofs.lemmas.Option.{same_Some}
 use Rattle.overlap_copy.specs.Assignments.{with_items}
 use Rattle.name_store.specs.Targets.{target_offsets}
 use Rattle.name_store.specs.declared.slot.Slot.{Slot}
 use Rattle.name_store.specs.inside.Exchanges.{IsPacked}
 use Rattle.name_store.specs.inside.Puts.{parts_of}
 use Rattle.name_store.proofs.ExchangeLaws.{replaced, replaced-old}
-use Rattle.name_store.proofs.RewriteLaws.{can-within, lent-new, some-same}
+use Rattle.name_store.proofs.RewriteLaws.{can-within, lent-new}
 use Rattle.name_store.proofs.exchange.replace.Goals.{in-Some, in_default}
 use Rattle.name_store.proofs.exchange.replace.Goals as goal
 
@@ -36,7 +37,7 @@ returns-clause-old c s is =
       | in-Some w ↦
           let was = sym c.slot_mut.ensures.value ∙ ap option_copied_mut w.in-Some.is in
           replaced-old c.args.slots.now.items c.args.home c.args.target.now c.args.source c.requires.can s is (c.requires.all s is) _ refl
-          (w.block-is ∙ w.swap.ensures.y_after ∙ ap (λ (x : Slot). x.block) (some-same w.in-Some.slot.now s (sym was ∙ is)))
+          (w.block-is ∙ w.swap.ensures.y_after ∙ ap (λ (x : Slot). x.block) (same_Some w.in-Some.slot.now s (sym was ∙ is)))
       | in_default w ↦
           let was = sym c.slot_mut.ensures.value ∙ ap option_copied_mut w.in_default.is in
           let no : ⊥ = cc in absurd no

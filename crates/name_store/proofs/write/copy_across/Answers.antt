@@ -1,4 +1,5 @@
 use Rattle.std.proofs.Common.{◌≡◌, ◌+◌, ◌≤◌, refl, ap, sym, ◌∙◌, is_some, subst, All, length, arith}
+use Rattle.std.proofs.lemmas.Option.{same_Some}
 use Rattle.shape_strides.specs.Layouts.{offsets}
 use Rattle.shape_strides.specs.LayoutLaws.{offsets_within}
 use Rattle.overlap_copy.specs.Assignments.{items_at, with_items}
@@ -9,7 +10,7 @@ use Rattle.name_store.specs.inside.Puts.{block_in}
 use Rattle.name_store.specs.declared.target.Source.TheVariants.{Buffer}
 use Rattle.name_store.specs.declared.slot.Slot.{Slot}
 use Rattle.name_store.proofs.SlotLaws.{slot_at-get_or, slot_at-within}
-use Rattle.name_store.proofs.RewriteLaws.{can-inside, can-within, lent-new, set-twice, set-other, some-same}
+use Rattle.name_store.proofs.RewriteLaws.{can-inside, can-within, lent-new, set-twice, set-other}
 use Rattle.name_store.proofs.write.copy_across.Goals as goal
 
 pub index_mut-requires : goal.index_mut-requires
@@ -33,7 +34,7 @@ copy_to-requires-clause-inside c =
 pub copy_to-requires-clause-from : goal.copy_to-requires-clause-from
 copy_to-requires-clause-from c =
     let there = sym (set-other c.args.slots.now.items c.args.home.number _ c.args.number (can-within c.args.slots.now.items c.args.home c.args.target.now (Buffer c.args.number c.args.from.now) c.requires.can) c.requires.apart) ∙ ap (λ slots. slot_at slots c.args.number) (sym c.as_slice.ensures.value) ∙ c.slot_of-other.ensures in
-    let same : c.requires.can.are.0 ≡ c.slot_of-other.result.now = some-same _ _ (sym c.requires.can.are.1 ∙ there) in
+    let same : c.requires.can.are.0 ≡ c.slot_of-other.result.now = same_Some _ _ (sym c.requires.can.are.1 ∙ there) in
     subst (λ (s : Slot). All (λ offset. offset + c.args.home.width ≤ length s.block) (offsets c.args.from.now)) same (offsets_within c.args.from.now (length c.requires.can.are.0.block) c.args.home.width c.requires.can.are.2)
 
 pub returns-in-Some : goal.returns-in-Some

@@ -1,4 +1,5 @@
 use Rattle.std.proofs.Common.{◌∙◌, ap, sym, subst, refl, true}
+use Rattle.std.proofs.lemmas.Option.{same_Some}
 use Rattle.elem_descr.specs.Items.{item_size}
 use Rattle.name_store.specs.View.{present}
 use Rattle.name_store.specs.Views.{MayBind}
@@ -8,7 +9,6 @@ use Rattle.name_store.specs.declared.slot.Slot.{Slot}
 use Rattle.name_store.specs.inside.Rebinds.{Lodges}
 use Rattle.name_store.proofs.BindLaws.{fresh-lodges, view-lodges, tried-kept, holds-kept}
 use Rattle.name_store.proofs.Needs.{there-used}
-use Rattle.name_store.proofs.RewriteLaws.{some-same}
 use Rattle.name_store.proofs.ViewLaws.{view-slot, view-occupied}
 use Rattle.name_store.proofs.table.Table.lodge.Goals as goal
 
@@ -26,7 +26,7 @@ pub returns-in-View-clause-lodges : goal.returns-in-View-clause-lodges
 returns-in-View-clause-lodges c =
     let may = subst (MayBind (present c.args.self.now.names.entries c.args.self.now.slots.cells.items)) c.in-View.is c.requires.may in
     let there = view-slot c.args.self.now.names.entries c.args.self.now.slots.cells.items _ _ _ _ may.0 may.1 in
-    let item = c.size-item-in-View.ensures.value ∙ ap (λ (x : Slot). item_size x.descr) (some-same _ _ (sym c.slot.ensures ∙ there.1)) in
+    let item = c.size-item-in-View.ensures.value ∙ ap (λ (x : Slot). item_size x.descr) (same_Some _ _ (sym c.slot.ensures ∙ there.1)) in
     let v : Entry = record { number = c.in-View.number; path = c.in-View.path; layout = c.in-View.layout; item = c.size-item-in-View.result; writable = c.in-View.writable } in
     subst (λ (b : Bound). Lodges c.args.self.now.names.entries c.args.self.now.slots.cells.items b v c.share.new.self.cells.items) (sym c.in-View.is)
     (view-lodges c.args.self.now.names.entries c.args.self.now.slots.cells.items _ _ _ _ may.0 may.1 v there.0 there.1 refl refl item refl refl c.share.new.self.cells.items c.share.ensures.stays c.share.ensures.users)

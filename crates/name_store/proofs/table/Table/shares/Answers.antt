@@ -1,6 +1,7 @@
 use Rattle.std.proofs.Common.{◌≡◌, ◌&&◌, Bool, true, false, refl, sym, ap, subst, ◌∙◌, is_some, inl, inr}
 use Rattle.std.proofs.lemmas.Result.{err_from_is_err_and}
 use Rattle.std.specs.Option.{option_copied}
+use Rattle.std.proofs.lemmas.Option.{same_Some}
 use Rattle.elem_descr.specs.Items.{item_size}
 use Rattle.shape_strides.specs.Limits.{max_bytes}
 use Rattle.shape_strides.specs.Layouts.{offsets, Fits}
@@ -8,7 +9,6 @@ use Rattle.overlap_copy.specs.Overlaps.{have_common_byte}
 use Rattle.name_store.specs.States.{Array}
 use Rattle.name_store.specs.View.{array_at, slot_at}
 use Rattle.name_store.proofs.StateLaws.{bound-found, found-slot, none-found}
-use Rattle.name_store.proofs.RewriteLaws.{some-same}
 use Rattle.name_store.proofs.ShareLaws.{entry-fits, entry-path, shares-apart, shares-one}
 use Rattle.name_store.proofs.table.Table.shares.Goals as goal
 
@@ -96,4 +96,4 @@ pub returns-in_err-has_common-clause-no_memory : goal.returns-in_err-has_common-
 returns-in_err-has_common-clause-no_memory c two =
     let left = bound-found _ c.args.self.now.slots.cells.items c.args.self.now.holds _ c.args.left.now.bytes.items (λ _. refl) c.in-Some.first.now (sym c.get.ensures.value ∙ ap option_copied c.in-Some.is) in
     let right = bound-found _ c.args.self.now.slots.cells.items c.args.self.now.holds _ c.args.right.now.bytes.items (λ _. refl) c.in-Some-get.second.now (sym c.get-2.ensures.value ∙ ap option_copied c.in-Some-get.is) in
-    absurd (two.two (ap (λ (a : Array). a.buffer) (some-same _ _ (sym two.left_is ∙ left)) ∙ c.if-first-second.false ∙ ap (λ (a : Array). a.buffer) (some-same _ _ (sym right ∙ two.right_is))))
+    absurd (two.two (ap (λ (a : Array). a.buffer) (same_Some _ _ (sym two.left_is ∙ left)) ∙ c.if-first-second.false ∙ ap (λ (a : Array). a.buffer) (same_Some _ _ (sym right ∙ two.right_is))))
