@@ -106,9 +106,6 @@ moving_on to to' from from' width old block block' whole even apart moved long m
           (Each-back (λ offset. item_at offset width block ≡ item_at offset width old) from from' m.kept));
     }
 
-pub moving_over : (to from : List ℕ) (width : ℕ) (old block whole : List ℕ) → to ≡ [] → IsMoving to from width old block whole → block ≡ whole
-moving_over to from width old block whole none m = ap (λ l. assigned l from width old block) (sym none) ∙ m.rest
-
 -- ---- one run
 
 -- what moves by index is assigned

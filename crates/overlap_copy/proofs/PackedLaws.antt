@@ -21,15 +21,6 @@ row-within len at width n ends = record {
       (omega (arith, ints), omega (arith, ints, most, suc-mul k width));
 }
 
-pub row-nested : (len at width n : ℕ) → at + n * width ≤ len → IsNested (row_offsets at width n) width
-row-nested len at width n ends = record {
-  apart = λ j k before below.
-      let within = row-within len at width n ends in
-      let low : k < n = omega (arith, below, length-row at width n) in
-      let gap : suc j * width ≤ k * width = mul-le-mul_right width before in
-      omega (arith, gap, suc-mul j width, place-at len width (packed_run at width n) j within (omega (arith, before, low)), place-at len width (packed_run at width n) k within low);
-}
-
 -- the items of a run, and of those after it
 pub parts : (left left' : List Run) (run : Run) (width : ℕ) → left ≡ run ∷ left' → length (all_offsets left) * width ≡ run.count * width + length (all_offsets left') * width
 parts left left' run width walked =

@@ -172,8 +172,5 @@ line_step run line = step_within run.offset max_bytes (run.step *ℤ pos 1) run.
 
 -- ---- what a test leaves
 
-pub up_from : (a b : ℕ) (t : Bool) → (IsTrue t → a ≤ b) × (a ≤ b → IsTrue t) → t ≡ true → a ≤ b
-up_from a b t both is = both.0 is
-
 pub down_from : (a b : ℕ) (t : Bool) → (IsTrue t → a ≤ b) × (a ≤ b → IsTrue t) → t ≡ false → b ≤ a
 down_from a b t both is = elim (cases_lt b a) [ inl below ↦ omega (arith, below) | inr low ↦ absurd (both_ways t is (both.1 low)) ]
