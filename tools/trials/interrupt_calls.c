@@ -1,7 +1,6 @@
 /* Calls before the C library's that fail so many times by EINTR before each that does something: INTERRUPT_TIMES says how many. Where
    INTERRUPT_AGAIN is set reads alone fail, by EAGAIN. */
 #define _GNU_SOURCE
-#include <dlfcn.h>
 #include <errno.h>
 #include <fcntl.h>
 #include <stdlib.h>
@@ -9,7 +8,7 @@
 #include <sys/syscall.h>
 #include <unistd.h>
 
-enum { READ, WRITE, RENAME, SYNC, LOOK, LINK_LOOK, OPEN_LOOK, EXTENDED_LOOK, KINDS };
+enum { READ, WRITE, RENAME, SYNC, LOOK, KINDS };
 static long left[KINDS];
 
 /* Whether this call is one to fail. */
@@ -38,21 +37,18 @@ ssize_t write(int file, const void *bytes, size_t size)
     return is_interrupted(WRITE) ? -1 : syscall(SYS_write, file, bytes, size);
 }
 
-#define INTERRUPTED(kind, name, parameters, arguments)              \
-    int name parameters                                             \
-    {                                                               \
-        int(*next) parameters = dlsym(RTLD_NEXT, #name);            \
-        return is_interrupted(kind) ? -1 : next arguments;          \
-    }
+int rename(const char *from, const char *to)
+{
+    return is_interrupted(RENAME) ? -1 : syscall(SYS_renameat2, AT_FDCWD, from, AT_FDCWD, to, 0);
+}
 
-INTERRUPTED(RENAME, rename, (const char *from, const char *to), (from, to))
-INTERRUPTED(SYNC, fsync, (int file), (file))
-INTERRUPTED(LOOK, stat64, (const char *path, struct stat64 *found), (path, found))
-INTERRUPTED(LINK_LOOK, lstat64, (const char *path, struct stat64 *found), (path, found))
-INTERRUPTED(OPEN_LOOK, fstat64, (int file, struct stat64 *found), (file, found))
+int fsync(int file)
+{
+    return is_interrupted(SYNC) ? -1 : syscall(SYS_fsync, file);
+}
 
 /* Looks by a path; one at an open file goes through, as no system interrupts it. */
 int statx(int folder, const char *path, int flags, unsigned mask, struct statx *found)
 {
-    return is_interrupted(EXTENDED_LOOK) ? -1 : syscall(SYS_statx, folder, path, flags, mask, found);
+    return is_interrupted(LOOK) ? -1 : syscall(SYS_statx, folder, path, flags, mask, found);
 }

@@ -12,7 +12,6 @@
 extern void *__libc_malloc(size_t);
 extern void *__libc_calloc(size_t, size_t);
 extern void *__libc_realloc(void *, size_t);
-extern void *__libc_memalign(size_t, size_t);
 
 static uint64_t nowhere[2];
 static uint64_t *told;
@@ -60,32 +59,4 @@ void *calloc(size_t count, size_t size)
 void *realloc(void *block, size_t size)
 {
     return is_refused() ? NULL : __libc_realloc(block, size);
-}
-
-void *reallocarray(void *block, size_t count, size_t size)
-{
-    if (size != 0 && count > SIZE_MAX / size) {
-        errno = ENOMEM;
-        return NULL;
-    }
-    return realloc(block, count * size);
-}
-
-void *memalign(size_t alignment, size_t size)
-{
-    return is_refused() ? NULL : __libc_memalign(alignment, size);
-}
-
-void *aligned_alloc(size_t alignment, size_t size)
-{
-    return memalign(alignment, size);
-}
-
-int posix_memalign(void **block, size_t alignment, size_t size)
-{
-    void *found = memalign(alignment, size);
-    if (found == NULL)
-        return ENOMEM;
-    *block = found;
-    return 0;
 }
