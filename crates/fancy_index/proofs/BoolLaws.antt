@@ -9,7 +9,7 @@ use Rattle.elem_descr.specs.declared.descr.Descr.TheVariants.{Scalar as ScalarDe
 use Rattle.elem_descr.specs.declared.scalar.Scalar.TheVariants.{Bool as BoolScalar}
 use Rattle.fancy_index.specs.Sources.{number_from}
 use Rattle.fancy_index.specs.inside.Bools.{bool_number}
-use Rattle.fancy_index.specs.inside.Packed.{packed}
+use Rattle.overlap_copy.specs.Packed.{row_offsets as packed}
 use Rattle.overlap_copy.specs.PackedLaws.{length-row as length-packed}
 use Rattle.fancy_index.proofs.RunLaws.{packed-entry}
 
@@ -54,11 +54,3 @@ bools-are descr block at n offsets bytes is lie room cut =
 
 -- ---- the ranks
 
-pub is-true : (byte : ℕ) → byte ≢ 0 → int_eq (bool_number byte) (pos 0) ≡ false
-is-true zero some = absurd (some refl)
-is-true (suc byte) some =
-    let other : nat_eq (suc byte) 0 ≡ false = ne_eqb (suc byte) 0 some in
-    rw other refl
-
-pub is-false : (byte : ℕ) → byte ≡ 0 → int_eq (bool_number byte) (pos 0) ≡ true
-is-false byte none = ap (λ b. int_eq (bool_number b) (pos 0)) none

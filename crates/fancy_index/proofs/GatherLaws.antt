@@ -6,7 +6,7 @@ use Rattle.shape_strides.specs.declared.runs.Run.{Run}
 use Rattle.shape_strides.specs.Runs.{run_offsets}
 use Rattle.shape_strides.specs.Layouts.{multiples}
 use Rattle.shape_strides.specs.WalkLaws.{length-run_offsets}
-use Rattle.fancy_index.specs.inside.Packed.{packed}
+use Rattle.overlap_copy.specs.Packed.{row_offsets as packed}
 use Rattle.overlap_copy.specs.PackedLaws.{row-split as packed-append, row-multiples}
 
 pub packed-suc : (at width n : ℕ) → packed at width (suc n) ≡ at ∷ packed (at + width) width n

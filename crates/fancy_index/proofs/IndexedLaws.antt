@@ -1,6 +1,7 @@
 -- Which answer each check of an index list gives.
-use Rattle.std.proofs.Common.{◌≡◌, ◌⊎◌, inl, inr, Err, ℕ, ◌≤◌, nat_le, true, false, ◌&&◌, List, [], ◌∷◌, map, length, refl, ap, ◌∙◌, arith}
+use Rattle.std.proofs.Common.{◌≡◌, ◌⊎◌, inl, inr, Err, ℕ, ◌<◌, ◌≤◌, nat_le, true, false, ◌&&◌, List, [], ◌∷◌, map, length, refl, ap, ◌∙◌, arith}
 use Rattle.std.specs.List.{list_all}
+use Rattle.std.proofs.lemmas.Bool.{le-leb}
 use Rattle.std.proofs.lemmas.Bool.Decides.{nat_tests}
 use Rattle.elem_descr.specs.declared.refusal.Refusal.{Refusal}
 use Rattle.elem_descr.specs.declared.refusal.Refusal.TheVariants.{OutOfMemory, NotAnIndexType, TooManyIndices, MaskLengths, ZeroStep, IndexOutOfRange}
@@ -17,25 +18,27 @@ pub refused-kind : (shape : List ℕ) (items : List (IndexItem IndexArray)) → 
 unfolding indexed
 refused-kind shape items none = rw none
 
-pub refused-many : (shape : List ℕ) (items : List (IndexItem IndexArray)) → list_all is_index items ≡ true → nat_le (array_axes_taken items) (length shape) ≡ false → indexed shape items ≡ Err TooManyIndices
+pub refused-many : (shape : List ℕ) (items : List (IndexItem IndexArray)) → list_all is_index items ≡ true → length shape < array_axes_taken items → indexed shape items ≡ Err TooManyIndices
 unfolding indexed
-refused-many shape items index many = rw (index, many)
+refused-many shape items index many =
+    let test : nat_le (array_axes_taken items) (length shape) ≡ false = grind (arith, nat_tests) in
+    rw (index, test)
 
-pub refused-lengths : (shape : List ℕ) (items : List (IndexItem IndexArray)) → list_all is_index items ≡ true → nat_le (array_axes_taken items) (length shape) ≡ true → cover shape items ≡ false → indexed shape items ≡ Err MaskLengths
-unfolding indexed
-refused-lengths shape items index enough other = rw (index, enough, other)
+few : (shape : List ℕ) (items : List (IndexItem IndexArray)) → array_axes_taken items ≤ length shape → nat_le (array_axes_taken items) (length shape) ≡ true
+few shape items enough = le-leb (array_axes_taken items) (length shape) enough
 
-pub refused-step : (shape : List ℕ) (items : List (IndexItem IndexArray)) → list_all is_index items ≡ true → nat_le (array_axes_taken items) (length shape) ≡ true → cover shape items ≡ true → list_all has_step items ≡ false → indexed shape items ≡ Err ZeroStep
+pub refused-lengths : (shape : List ℕ) (items : List (IndexItem IndexArray)) → list_all is_index items ≡ true → array_axes_taken items ≤ length shape → cover shape items ≡ false → indexed shape items ≡ Err MaskLengths
 unfolding indexed
-refused-step shape items index enough covers none = rw (index, enough, covers, none)
+refused-lengths shape items index enough other = rw (index, few shape items enough, other)
+
+pub refused-step : (shape : List ℕ) (items : List (IndexItem IndexArray)) → list_all is_index items ≡ true → array_axes_taken items ≤ length shape → cover shape items ≡ true → list_all has_step items ≡ false → indexed shape items ≡ Err ZeroStep
+unfolding indexed
+refused-step shape items index enough covers none = rw (index, few shape items enough, covers, none)
 
 -- where nothing is refused before its numbers
 pub indexed-parts : (shape : List ℕ) (items : List (IndexItem IndexArray)) → IsChecked shape items → indexed shape items ≡ (check (are_within shape items) IndexOutOfRange >>= λ _. parts_view (parts shape items))
 unfolding indexed
-indexed-parts shape items c =
-    let few : array_axes_taken items ≤ length shape = c.enough in
-    let test : nat_le (array_axes_taken items) (length shape) ≡ true = grind (arith, nat_tests) in
-    rw (c.index, test, c.covers, c.steps)
+indexed-parts shape items c = rw (c.index, few shape items c.enough, c.covers, c.steps)
 
 -- where a number is refused
 pub refused-range : (shape : List ℕ) (items : List (IndexItem IndexArray)) (e : Refusal) → IsChecked shape items → (e ≡ OutOfMemory) ⊎ (check (are_within shape items) IndexOutOfRange ≡ Err e) → (e ≡ OutOfMemory) ⊎ (indexed shape items ≡ Err e)

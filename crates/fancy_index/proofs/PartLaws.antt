@@ -50,12 +50,6 @@ AreParts-axis (n ∷ m ∷ axes) (AlongAxis run) are = absurd are.1
 
 -- ---- what is added
 
-pub adds_nothing : (old : List IndexPart) → AddsParts old old [] []
-adds_nothing old = record { added = []; after = sym (append-nil old); are = tt; show = refl }
-
-pub adds_axis : (old new : List IndexPart) (axes : List ℕ) (pick : AxisPick) (parts : List Part) → ArePicks axes (pick ∷ []) → parts ≡ Axis (pick_shown pick) ∷ [] → new ≡ old ++ AxisPart pick ∷ [] → AddsParts old new axes parts
-adds_axis old new axes pick parts are is after = record { added = AxisPart pick ∷ []; after = after; are = AreParts-axis axes pick are; show = sym is }
-
 pub adds_points : (old new : List IndexPart) (axes : List ℕ) (p : PointList) (parts : List Part) → IsPart axes p parts → new ≡ old ++ PointsPart p ∷ [] → AddsParts old new axes parts
 adds_points old new axes p parts is after = record {
   added = PointsPart p ∷ [];
@@ -71,15 +65,6 @@ whole_more old new axes n pick within is adds = record {
   after = ap (λ l. l ++ AxisPart pick ∷ []) adds.after ∙ append_assoc old adds.added (AxisPart pick ∷ []);
   are = AreParts-append axes (n ∷ []) adds.added (AxisPart pick ∷ []) adds.are (AreParts-axis (n ∷ []) pick within);
   show = map-append shown_part adds.added (AxisPart pick ∷ []) ∙ ap (λ l. l ++ Axis (pick_shown pick) ∷ []) adds.show ∙ ap (λ p. wholes axes ++ Axis p ∷ []) is ∙ sym (map-append (λ n. Axis (whole n)) axes (n ∷ []));
-}
-
--- what stands between, and whole axes after it
-pub between_wholes : (old mid new : List IndexPart) (axes : List ℕ) → mid ≡ old ++ BetweenPart ∷ [] → AddsParts mid new axes (wholes axes) → AddsParts old new axes (Between ∷ wholes axes)
-between_wholes old mid new axes is adds = record {
-  added = BetweenPart ∷ adds.added;
-  after = adds.after ∙ ap (λ l. l ++ adds.added) is ∙ append_assoc old (BetweenPart ∷ []) adds.added;
-  are = adds.are;
-  show = ap (λ l. Between ∷ l) adds.show;
 }
 
 -- ---- items over axes

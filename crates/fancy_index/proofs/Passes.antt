@@ -16,7 +16,7 @@ use Rattle.overlap_copy.specs.RunLaws.{All-back, All-front, assigned-append}
 use lib.IntN.{pos}
 use Rattle.fancy_index.specs.Plans.{put_each}
 use Rattle.fancy_index.specs.inside.Moved.{moved_offset, shifted_all, moved_all, IsMoved}
-use Rattle.fancy_index.specs.inside.Packed.{packed}
+use Rattle.overlap_copy.specs.Packed.{row_offsets as packed}
 use Rattle.overlap_copy.specs.PackedLaws.{length-row as length-packed, row-split as packed-append}
 use Rattle.fancy_index.specs.PlanLaws.{put_each-append}
 
@@ -64,10 +64,6 @@ pub record Scattering (left : List ℕ) (at width end : ℕ) (items block whole 
   pub inside : All (λ offset. offset + width ≤ length block) left
   pub ends : at + length left * width ≡ end
   pub room : end ≤ length items
-
-pub scattering : (left : List ℕ) (at width : ℕ) (items block : List ℕ) → All (λ offset. offset + width ≤ length block) left → at + length left * width ≤ length items →
-    Scattering left at width (at + length left * width) items block (assigned left (packed at width (length left)) width items block)
-scattering left at width items block inside room = record { rest = refl; inside = inside; ends = refl; room = room }
 
 -- what comes next may be scattered
 pub record CanScatter (left : List ℕ) (at width : ℕ) (items block : List ℕ) : Type 0 where

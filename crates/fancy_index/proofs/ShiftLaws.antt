@@ -32,9 +32,6 @@ pub record IsRanked (shape index : List ℕ) (so_far axis : ℕ) : Type 0 where
   pub later : IsIndex (drop axis shape) (drop axis index)
   pub is : so_far * count (drop axis shape) + rank (drop axis shape) (drop axis index) ≡ rank shape index
 
-pub ranked_none : (shape index : List ℕ) → IsIndex shape index → IsRanked shape index 0 0
-ranked_none shape index in' = record { later = in'; is = omega arith }
-
 regroup : (r n c k t : ℕ) → (r * n + k) * c + t ≡ r * (n * c) + (k * c + t)
 regroup r n c k t =
     let one : (r * n + k) * c ≡ r * n * c + k * c = add-mul (r * n) k c in
@@ -57,11 +54,6 @@ pub ranked_small : (shape index : List ℕ) (so_far axis : ℕ) → IsIndex shap
 ranked_small shape index so_far axis in' ranked =
     let some : 1 ≤ count (drop axis shape) = omega (arith, rank-lt (drop axis shape) (drop axis index) ranked.later) in
     omega (arith, rank-lt shape index in', ranked.is, mul-le-mul_left so_far some, mul-one so_far)
-
-pub ranked_all : (shape index : List ℕ) (so_far axis : ℕ) → length shape ≤ axis → IsRanked shape index so_far axis → so_far ≡ rank shape index
-ranked_all shape index so_far axis over ranked =
-    let none : drop axis shape ≡ [] = drop_all axis shape over in
-    omega (arith, rw none at ranked.is)
 
 -- ---- points
 

@@ -8,7 +8,7 @@ use Rattle.shape_strides.specs.Layouts.{offsets}
 use Rattle.shape_strides.specs.LayoutLaws.{length-offsets, entry-first}
 use Rattle.overlap_copy.specs.Assignments.{assigned}
 use Rattle.fancy_index.specs.inside.Moved.{moved_offset, shifted_all, IsMoved, IsStart}
-use Rattle.fancy_index.specs.inside.Packed.{packed}
+use Rattle.overlap_copy.specs.Packed.{row_offsets as packed}
 use Rattle.fancy_index.proofs.GatherLaws.{packed-suc}
 use Rattle.fancy_index.proofs.Passes.{CanScatter, Scattering, Pushing, Filling, scatter_front, scattered_front, push_front, pushed_front, fill_front, filled_front}
 
@@ -34,9 +34,6 @@ shifted-single l shifts place one = ap (λ o. shifted_all l.offset shifts o plac
 
 pub many-single : (l : Layout) (shifts : List ℕ) (place : ℕ) → count l.shape ≡ 1 → length (shifted_all l.offset shifts (offsets l) place) ≡ length shifts
 many-single l shifts place one = ap length (shifted-single l shifts place one) ∙ length-map shifts (moved_offset l.offset place)
-
-pub starts-single : (base : ℕ) (inner : List ℕ) (shifts : List ℕ) (place : ℕ) → All (IsStart base inner place) shifts → All (IsMoved base place) shifts
-starts-single base inner shifts place starts = λ k d below. (starts k d below).start
 
 -- ---- shift after shift
 

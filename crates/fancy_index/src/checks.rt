@@ -10,7 +10,7 @@ ghost use Rattle.fancy_index.specs.inside.Lists.{items_left};
 ghost use Rattle.fancy_index.specs.inside.PartLists.{IsChecked};
 
 use crate::kind::Kind;
-use crate::lists::{IndexList, Left, axes_of};
+use crate::lists::{IndexList, Left, axes_beside};
 use crate::source::{Indices, kind, resolved};
 use elem_descr::Refusal;
 use shape_strides::IndexItem;
@@ -33,21 +33,6 @@ fn are_indexes(list: IndexList<'_>) -> bool
         if !is_index(resolved(item, list.arrays)) {
             return false;
         }
-    }
-    true
-}
-
-/// Whether the items take no more axes than there are.
-fn have_axes(list: IndexList<'_>, rank: usize) -> bool
-    ensures { result ≡ nat_le (array_axes_taken (index_items list.entry.arrays.now list.entry.items.now)) rank }
-{
-    let mut left = rank;
-    for item in list.items {
-        let axes = axes_of(resolved(item, list.arrays));
-        if left < axes {
-            return false;
-        }
-        left -= axes;
     }
     true
 }
@@ -85,7 +70,6 @@ pub(crate) fn check<'a>(
 ) -> Result<Left<'a>, Refusal>
     requires named { All (IsNamed (length arrays.now)) items.now }
     requires lie { All LiesInBlock arrays.now }
-    requires rank { length axes.now ≤ max_axes }
     ensures axes { IfOk result (λ left. left.axes.now ≡ axes.now) }
     ensures items { IfOk result (λ left. items_left left ≡ index_items arrays.now items.now) }
     ensures ok { IfOk result (λ left. IsChecked left.axes.now (items_left left)) }
@@ -95,9 +79,9 @@ pub(crate) fn check<'a>(
     if !are_indexes(list) {
         return Err(Refusal::NotAnIndexType);
     }
-    if !have_axes(list, axes.len()) {
+    let Some(_) = axes_beside(list, axes.len()) else {
         return Err(Refusal::TooManyIndices);
-    }
+    };
     let left = Left { axes, list };
     if !cover(left) {
         return Err(Refusal::MaskLengths);

@@ -1,5 +1,5 @@
 //! Index lists, item by item, and the axes that the items take.
-ghost use Rattle.std.specs.Prelude.{◌≡◌, ◌+◌, ◌<◌, ◌≤◌, ◌^◌, [], length, All, IfSome, None};
+ghost use Rattle.std.specs.Prelude.{◌≡◌, ◌+◌, ◌<◌, ◌≤◌, [], length, All, IfSome, None};
 ghost use Rattle.shape_strides.specs.Limits.{max_axes};
 ghost use Rattle.fancy_index.specs.IndexArrays.{item_axes, array_axes_taken, array_axes_width};
 ghost use Rattle.fancy_index.specs.Sources.{LiesInBlock, IsNamed, index_items};
@@ -23,12 +23,11 @@ pub(crate) struct IndexList<'a> {
 pub(crate) struct Left<'a> {
     pub axes: &'a [usize],
     pub list: IndexList<'a>,
-    pub ghost rank: { length axes.now ≤ max_axes },
     pub ghost enough: { array_axes_taken (index_items list.arrays.now list.items.now) ≤ length axes.now },
 }
 
 /// How many axes an item takes, beside those of `...`.
-pub(crate) fn axes_of(item: IndexItem<Indices<'_>>) -> usize
+fn axes_of(item: IndexItem<Indices<'_>>) -> usize
     ensures value { result ≡ item_axes (index_item_of item.entry) }
     ensures few { result ≤ max_axes }
 {
@@ -42,26 +41,29 @@ pub(crate) fn axes_of(item: IndexItem<Indices<'_>>) -> usize
     }
 }
 
-/// How many axes the items take, beside those of `...`.
-fn taken(list: IndexList<'_>) -> usize
-    requires few { array_axes_taken (index_items list.arrays.now list.items.now) ≤ max_axes }
-    ensures { result ≡ array_axes_taken (index_items list.entry.arrays.now list.entry.items.now) }
+/// How many of so many axes the items leave to `...`, unless they take more.
+pub(crate) fn axes_beside(list: IndexList<'_>, axes: usize) -> Option<usize>
+    ensures some { IfSome result (λ left. left + array_axes_taken (index_items list.entry.arrays.now list.entry.items.now) ≡ axes) }
+    ensures none { result ≡ None → axes < array_axes_taken (index_items list.entry.arrays.now list.entry.items.now) }
 {
-    let mut axes = 0;
+    let mut left = axes;
     for item in list.items {
-        axes += axes_of(resolved(item, list.arrays));
+        let taken = axes_of(resolved(item, list.arrays));
+        if left < taken {
+            return None;
+        }
+        left -= taken;
     }
-    axes
+    Some(left)
 }
 
-/// How many of the axes that are left an item takes: `...` takes all but those of the items after it.
+/// How many of the axes that are left an item takes: `...` takes those beside the items after it.
 fn width(left: usize, item: IndexItem<Indices<'_>>, later: IndexList<'_>) -> usize
-    requires few { left ≤ max_axes }
-    requires enough { item_axes (index_item_of item) + array_axes_taken (index_items later.arrays.now later.items.now) ≤ left }
+    requires { item_axes (index_item_of item) + array_axes_taken (index_items later.arrays.now later.items.now) ≤ left }
     ensures { result ≡ array_axes_width left (index_item_of item.entry) (index_items later.entry.arrays.now later.entry.items.now) }
 {
     match item {
-        IndexItem::Ellipsis => left - taken(later),
+        IndexItem::Ellipsis => axes_beside(later, left).unwrap_or(0),
         _ => axes_of(item),
     }
 }

@@ -5,7 +5,7 @@ ghost use Rattle.shape_strides.specs.Indexes.{count};
 ghost use Rattle.fancy_index.specs.Indexed.{all_axes, leads_through, parts_view, indexed};
 ghost use Rattle.fancy_index.specs.Sources.{LiesInBlock, IsNamed, index_items};
 ghost use Rattle.fancy_index.specs.Plans.{IsPlanOf, GivesPlan};
-ghost use Rattle.fancy_index.specs.inside.PartLists.{shown_part, AreParts, IsReady, IsRest};
+ghost use Rattle.fancy_index.specs.inside.PartLists.{shown_part, AreParts, IsReady};
 
 use crate::axes::shape_of_all;
 use crate::checks::check;
@@ -31,33 +31,6 @@ fn plan_of_none(alloc: Global, shape: Shape) -> Result<Plan, AllocError>
     Plan::try_new(alloc, shape, outer, Vec::new(alloc), inner)
 }
 
-/// The plan of a shape with items, by the layout of what is picked where all points are 0.
-fn plan_of_rest(
-    alloc: Global,
-    layout: &Layout,
-    parts: &mut [IndexPart],
-    points: &[usize],
-    shape: Shape,
-    rest: &Layout,
-) -> Result<Plan, Refusal>
-    requires are { AreParts layout.now.shape parts.old }
-    requires ready { All (IsReady points.now) parts.old }
-    requires shape { shape ≡ all_axes points.now (map shown_part parts.old) }
-    requires some { 0 < count shape }
-    requires rest { IsRest layout.now parts.old rest.now }
-    ensures ok { IfOk result (λ plan. IsPlanOf layout.now plan (record { shape = all_axes points.now (map shown_part parts.old); leads = leads_through (length points.now) (map shown_part parts.old) })) }
-    ensures err { IfErr result (λ refusal. refusal ≡ OutOfMemory) }
-{
-    let _lengths = shape.as_slice();
-    let many = shape.items() / rest.shape.items();
-    let place = points_place(parts);
-    let outer = front(alloc, rest, place)?;
-    let inner = back(alloc, rest, place)?;
-    let shifts = shifts(alloc, layout, parts, points, many)?;
-    let plan = Plan::try_new(alloc, shape, outer, shifts, inner)?;
-    Ok(plan)
-}
-
 /// The plan of a shape with items.
 fn plan_of_some(
     alloc: Global,
@@ -75,7 +48,12 @@ fn plan_of_some(
 {
     let _lengths = shape.as_slice();
     let rest = rest(alloc, layout, parts)?;
-    plan_of_rest(alloc, layout, parts, points, shape, &rest)
+    let many = shape.items() / rest.shape.items();
+    let place = points_place(parts);
+    let outer = front(alloc, &rest, place)?;
+    let inner = back(alloc, &rest, place)?;
+    let shifts = shifts(alloc, layout, parts, points, many)?;
+    Ok(Plan::try_new(alloc, shape, outer, shifts, inner)?)
 }
 
 /// The plan of what parts show, or its refusal.

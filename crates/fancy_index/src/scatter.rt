@@ -2,7 +2,7 @@
 ghost use Rattle.std.specs.Prelude.{◌≡◌, ◌+◌, ◌*◌, ◌≤◌, length, All};
 ghost use Rattle.overlap_copy.specs.Assignments.{assigned};
 ghost use Rattle.fancy_index.specs.inside.Kept.{offsets_from};
-ghost use Rattle.fancy_index.specs.inside.Packed.{packed};
+ghost use Rattle.overlap_copy.specs.Packed.{row_offsets as packed};
 ghost use Rattle.fancy_index.specs.inside.Shifts.{moved_offsets, shifted_offsets};
 
 use crate::rows::{MovedLayout, PlanAxes, Shifted, moved};

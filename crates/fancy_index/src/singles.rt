@@ -4,7 +4,7 @@ ghost use Rattle.raw_block.specs.Bytes.{item_at, put};
 ghost use Rattle.overlap_copy.specs.Assignments.{assigned};
 ghost use Rattle.overlap_copy.specs.Joined.{joined_at};
 ghost use Rattle.fancy_index.specs.Plans.{put_each};
-ghost use Rattle.fancy_index.specs.inside.Packed.{packed};
+ghost use Rattle.overlap_copy.specs.Packed.{row_offsets as packed};
 ghost use Rattle.fancy_index.specs.inside.Shifts.{first_offsets};
 
 use crate::rows::{Shifted, moved};

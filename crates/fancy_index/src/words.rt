@@ -231,44 +231,7 @@ fn is_native(reading: Reading, width: usize, run: Run) -> bool
     }
 }
 
-/// The places of `n` that integers of four bytes name, or the refusal of one that names none: native ones
-/// that lie one right after another are read as numbers.
-fn places_of_four(
-    alloc: Global,
-    reading: Reading,
-    items: Spread<'_>,
-    n: usize,
-) -> Result<Vec<u32>, Refusal>
-    requires small { n ≤ max_items }
-    requires spread { IsSpread 4 items }
-    ensures { Gives (λ v. v.items) result (named_places n (spread_numbers reading 4 items.entry)) }
-{
-    let run = items.run;
-    if is_native(reading, 4, run) {
-        return int_places(alloc, items.block.run_i32(run.offset, run.count), n);
-    }
-    places_in::<4>(alloc, reading, items, n)
-}
-
-/// The same of eight.
-fn places_of_eight(
-    alloc: Global,
-    reading: Reading,
-    items: Spread<'_>,
-    n: usize,
-) -> Result<Vec<u32>, Refusal>
-    requires small { n ≤ max_items }
-    requires spread { IsSpread 8 items }
-    ensures { Gives (λ v. v.items) result (named_places n (spread_numbers reading 8 items.entry)) }
-{
-    let run = items.run;
-    if is_native(reading, 8, run) {
-        return long_places(alloc, items.block.run_i64(run.offset, run.count), n);
-    }
-    places_in::<8>(alloc, reading, items, n)
-}
-
-/// The same of the numbers of an array, whatever their type.
+/// The places of `n` that the numbers of an array name, whatever their type, or the refusal of one that names none.
 fn places_each(alloc: Global, array: Indices<'_>, n: usize) -> Result<Vec<u32>, Refusal>
     requires small { n ≤ max_items }
     requires kind { kind (index_array_of array) ≢ NoIndex }
@@ -285,7 +248,8 @@ fn places_each(alloc: Global, array: Indices<'_>, n: usize) -> Result<Vec<u32>, 
     Ok(places)
 }
 
-/// The same, where integers at equal steps need no walk.
+/// The same, where integers at equal steps need no walk, and native ones that lie one right after another
+/// are read as numbers.
 pub(crate) fn places(alloc: Global, array: Indices<'_>, n: usize) -> Result<Vec<u32>, Refusal>
     requires small { n ≤ max_items }
     requires kind { kind (index_array_of array) ≢ NoIndex }
@@ -298,11 +262,14 @@ pub(crate) fn places(alloc: Global, array: Indices<'_>, n: usize) -> Result<Vec<
     let Some(items) = spread_of(array) else {
         return places_each(alloc, array, n);
     };
-    match width {
-        1 => places_in::<1>(alloc, reading, items, n),
-        2 => places_in::<2>(alloc, reading, items, n),
-        4 => places_of_four(alloc, reading, items, n),
-        8 => places_of_eight(alloc, reading, items, n),
+    let run = items.run;
+    match (width, is_native(reading, width, run)) {
+        (4, true) => int_places(alloc, items.block.run_i32(run.offset, run.count), n),
+        (8, true) => long_places(alloc, items.block.run_i64(run.offset, run.count), n),
+        (1, _) => places_in::<1>(alloc, reading, items, n),
+        (2, _) => places_in::<2>(alloc, reading, items, n),
+        (4, _) => places_in::<4>(alloc, reading, items, n),
+        (8, _) => places_in::<8>(alloc, reading, items, n),
         _ => places_each(alloc, array, n),
     }
 }

@@ -8,7 +8,7 @@ use Rattle.elem_descr.specs.Items.{item_size}
 use Rattle.raw_block.specs.Bytes.{item_at}
 use Rattle.shape_strides.specs.Layouts.{offsets}
 use Rattle.shape_strides.specs.Runs.{run_offsets}
-use Rattle.fancy_index.specs.inside.Packed.{packed}
+use Rattle.overlap_copy.specs.Packed.{row_offsets as packed}
 use Rattle.fancy_index.proofs.BoolLaws.{bools-end, bools-are}
 use Rattle.fancy_index.proofs.bools.bools_of.Goals as goal
 

@@ -1,7 +1,7 @@
 use Rattle.std.proofs.Common.{◌≡◌, ◌+◌, ◌*◌, ◌≤◌, ℕ, List, length, All, sym, ap, subst, ◌∙◌, arith}
 use Rattle.overlap_copy.specs.Assignments.{assigned}
 use Rattle.shape_strides.specs.Indexes.{count}
-use Rattle.fancy_index.specs.inside.Packed.{packed}
+use Rattle.overlap_copy.specs.Packed.{row_offsets as packed}
 use Rattle.fancy_index.proofs.SingleLaws.{shifted-single, many-single}
 use Rattle.fancy_index.proofs.scatter.scatter_shifts.Goals as goal
 
