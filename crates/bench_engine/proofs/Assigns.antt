@@ -23,7 +23,7 @@ use Rattle.name_store.specs.Shown.{Shows}
 use Rattle.name_store.specs.declared.array_ref.ArrayRef.{ArrayRef}
 use Rattle.bench_engine.specs.Machine.{viewed}
 use Rattle.bench_engine.specs.inside.Assigns.{LiesIn}
-use Rattle.bench_engine.proofs.Views.{offsets-view}
+use Rattle.name_store.specs.ArrayLaws.{offsets-at}
 
 -- an array that is shown is a part of itself
 pub lies-whole : (s : State) (a : Array) (r : ArrayRef) → Shows s a r → LiesIn s a a r.layout.now
@@ -45,7 +45,7 @@ lies-viewed s a part old new view lies is = record {
   part_is = λ i. viewed (lies.part_is i) view;
   shape_is = is.shape;
   offsets_are = is.places ∙ (λ j. view_through (lies.offsets_are j) (lies.shape_is j) view.shape view.leads)
-      ∙ offsets-view (item_size (buffer_of s a).descr) (start_at (buffer_of s a).descr a.path) lies.places lies.shape view.shape view.leads inside;
+      ∙ offsets-at (item_size (buffer_of s a).descr) (start_at (buffer_of s a).descr a.path) lies.places lies.shape view.leads (indexes view.shape) inside;
   among = All-map (Contains a.places) (λ index. slice_index lies.places (rank lies.shape (view.leads index))) (indexes view.shape)
       (λ k d below. lies.among (rank lies.shape (view.leads (get_or (indexes view.shape) k d))) 0 (inside k d below));
   fits = is.fits _ _ lies.fits;

@@ -80,12 +80,6 @@ module _ (s : State) (name : List ℕ) (c : Computation) where
     unfolding computing
     compute-done new room good choice = carried-so choice s name c ∙ rw (all, room, good) refl
 
-pub of-array : {X : Type 0} (s : State) (name : List ℕ) (a : Array) (f : Array → Result X Refusal) → find_array s.names name ≡ Some a → array_of s name >>= f ≡ f a
-of-array s name a f is = rw is refl
-
-pub bound-both : (s : State) (first second : List (List ℕ)) (a b : Bool) → list_all (is_bound s) first ≡ a → list_all (is_bound s) second ≡ b → list_all (is_bound s) (first ++ second) ≡ (a && b)
-bound-both s first second a b left right = list_all-append (is_bound s) first second ∙ λ i. left i && right i
-
 -- ---- operands
 
 module _ (s : State) (operand : Operand) (a : Array) (found : find_array s.names operand.name ≡ Some a) where

@@ -13,7 +13,7 @@ use Rattle.bench_engine.specs.Runs.{Run, BreaksOff, output, reply_line, accepted
 use Rattle.npy_files.specs.Stores.{StoreState}
 use Rattle.bench_engine.specs.Worlds.{world}
 use Rattle.bench_engine.specs.inside.Sessions.{HoldsPiece, HoldsBytes, Fed, HasTold, Told, ToldInPart, AnswersHeld}
-use Rattle.bench_engine.proofs.Known.{appends_then, appends_none}
+use Rattle.bench_engine.proofs.Known.{appends_then}
 use Rattle.bench_engine.proofs.Lines.{whole_lines-piece, whole_lines-split, unended-newline, unended-piece, lines-last}
 
 count_by-append : (p : Reply → Bool) (xs ys : List Reply) → count_by p (xs ++ ys) ≡ count_by p xs + count_by p ys
@@ -48,13 +48,6 @@ module _ {World : Type 0} (Answer : World → List ℕ → World → List Reply 
       (run.0, run.1, run.2 ++ more, ap (λ r. r ++ more) run.3 ∙ append_assoc run.1 run.2 more, run.4, run_more run.0 mid new ls line run.2 more run.5 answered)
 
   module _ (start : World) (before : Option (List ℕ)) where
-    -- no byte has come
-    pub fed-new : (to : World) (s : Session) → to ≡ start → HoldsPiece s.line [] → s.accepted ≡ 0 → s.refused ≡ 0 → Fed Answer start to before before [] s
-    fed-new to s at_start empty accepted refused = record {
-      told = record { replies = []; run = (refl, at_start); sent = appends_none before; accepted = accepted; refused = refused };
-      held = empty;
-    }
-
     -- a piece in which no newline stands is held
     pub fed-piece : (to : World) (written : Option (List ℕ)) (read piece : List ℕ) (old new : Session) → ended_lines piece ≡ [] → new.accepted ≡ old.accepted → new.refused ≡ old.refused →
         ((held : List ℕ) → HoldsPiece old.line held → HoldsPiece new.line (held ++ piece)) → Fed Answer start to before written read old → Fed Answer start to before written (read ++ piece) new

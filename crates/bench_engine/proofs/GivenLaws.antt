@@ -132,10 +132,6 @@ module _ (s : State) (operand : Operand) (descr : Descr) (shape : List ℕ) (b :
       argument_items s (argument.Operand operand) descr shape ≡ Ok (map (cast_item (descr_of s b) descr) (read s (viewed (viewed b view) wide)))
   items-done view wide good fits can = rw (found, source-done view wide good fits) (cast-done (viewed (viewed b view) wide) can)
 
-  pub none-taken : (r : ArrayRef) (plain : Bool) (e : Refusal) → GivesTaken s b r plain (Err e) (taken s b index) → GivesItems s descr (count shape) (Err e) (argument_items s (argument.Operand operand) descr shape)
-  none-taken r plain e (inl lacks) = inl lacks
-  none-taken r plain e (inr bad) = inr (items-bad e bad)
-
   -- the items of what is taken, which stand in a block
   module _ (view : View) (good : taken s b index ≡ Ok view) (x : Items) (stands : StandsFor s (viewed b view) x) where
     part : Array

@@ -1,9 +1,9 @@
 -- Index lists whose names stand for arrays.
-use Rattle.std.proofs.Common.{◌≡◌, ◌⊎◌, ◌<◌, ◌≤◌, ◌+◌, ◌*◌, ◌&&◌, ℕ, zero, suc, true, false, nat_le, List, [], ◌∷◌, ◌++◌, length, map, take, get_or, slice_index, Some, refl, sym, ap, ◌∙◌, subst, All, Result, Ok, Err, inl, inr, arith}
+use Rattle.std.proofs.Common.{◌≡◌, ◌⊎◌, ◌<◌, ◌≤◌, ◌+◌, ◌*◌, ◌&&◌, ℕ, zero, suc, true, false, nat_le, List, [], ◌∷◌, ◌++◌, length, map, take, get_or, slice_index, Some, refl, sym, ap, ◌∙◌, subst, All, Result, Ok, Err, inl, inr, arith, length-append}
 use Rattle.std.specs.List.{Contains, list_all}
 use Rattle.std.proofs.lemmas.Bool.{le-leb, lt-leb, and_parts}
-use Rattle.std.proofs.lemmas.List.{take_more, length-map}
-use Rattle.std.proofs.lemmas.List.Elements.{All-map, All-append, Contains-get_or}
+use Rattle.std.proofs.lemmas.List.{take_more, length-map, map-append, get_or_append_left, map_push}
+use Rattle.std.proofs.lemmas.List.Elements.{All-map, All-append, Contains-get_or, All-push}
 use Rattle.std.proofs.lemmas.List.Folds.{list_all-append}
 use Rattle.std.proofs.lemmas.Simd.{map-map}
 use Rattle.std.proofs.Math.Bool.{and-false}
@@ -32,7 +32,8 @@ use Rattle.name_store.specs.Shown.{Shows}
 use Rattle.name_store.specs.declared.array_ref.ArrayRef.{ArrayRef}
 use Rattle.bench_engine.specs.IndexLists.{names_in_item, names_in_index, by_items, array_by_items, gathered}
 use Rattle.bench_engine.specs.Machine.{viewed}
-use Rattle.bench_engine.proofs.Views.{offsets-view}
+use Rattle.name_store.specs.ArrayLaws.{offsets-at}
+use Rattle.bench_engine.proofs.Makes.{passed}
 
 -- ---- names that are bound
 
@@ -72,23 +73,6 @@ pub next-array : (arrays : List Indices) (x : Indices) → get_or (map index_arr
 next-array [] x = refl
 next-array (a ∷ arrays) x = next-array arrays x
 
--- one more array lies in its block
-pub all-lie : (arrays : List Indices) (x : Indices) → All LiesInBlock arrays → LiesInBlock x → All LiesInBlock (arrays ++ x ∷ [])
-all-lie arrays x lie lies = All-append LiesInBlock arrays (x ∷ []) lie (λ k d below. one k d below)
-  where
-    one : (k : ℕ) (d : Indices) → k < 1 → LiesInBlock (get_or (x ∷ []) k d)
-    one zero d below = lies
-    one (suc k) d below = absurd (omega (arith, below))
-
-get_or-more : {A : Type 0} (xs more : List A) (k : ℕ) (d : A) → k < length xs → get_or (xs ++ more) k d ≡ get_or xs k d
-get_or-more [] more k d below = absurd (omega arith)
-get_or-more (x ∷ xs) more zero d below = refl
-get_or-more (x ∷ xs) more (suc k) d below = get_or-more xs more k d (omega arith)
-
-map-more : {A B : Type 0} (f : A → B) (xs more : List A) → map f (xs ++ more) ≡ map f xs ++ map f more
-map-more f [] more = refl
-map-more f (x ∷ xs) more = ap (λ l. f x ∷ l) (map-more f xs more)
-
 -- an item names the same array where more stand behind
 with-more : (arrays more : List Indices) (item : IndexItem ℕ) → IsNamed (length arrays) item → with_array (map index_array_of (arrays ++ more)) item ≡ with_array (map index_array_of arrays) item
 with-more arrays more (Integer at) named = refl
@@ -96,22 +80,18 @@ with-more arrays more (Slice start stop step) named = refl
 with-more arrays more Ellipsis named = refl
 with-more arrays more NewAxis named = refl
 with-more arrays more (ArrayItem k) named =
-    ap ArrayItem (ap (λ l. get_or l k no_array) (map-more index_array_of arrays more) ∙ get_or-more (map index_array_of arrays) (map index_array_of more) k no_array (subst (λ n. k < n) (sym (length-map arrays index_array_of)) named))
+    ap ArrayItem (ap (λ l. get_or l k no_array) (map-append index_array_of arrays more) ∙ get_or_append_left (map index_array_of arrays) (map index_array_of more) no_array k (subst (λ n. k < n) (sym (length-map arrays index_array_of)) named))
 
 pub all-with-more : (arrays more : List Indices) (items : List (IndexItem ℕ)) → All (IsNamed (length arrays)) items → with_arrays (map index_array_of (arrays ++ more)) items ≡ with_arrays (map index_array_of arrays) items
 all-with-more arrays more [] named = refl
 all-with-more arrays more (item ∷ items) named = λ i. with-more arrays more item (named 0 item (omega arith)) i ∷ all-with-more arrays more items (λ k d below. named (suc k) d (omega (arith, below))) i
-
-length-more : (arrays more : List Indices) → length arrays ≤ length (arrays ++ more)
-length-more [] more = omega arith
-length-more (a ∷ arrays) more = let rest = length-more arrays more in omega (arith, rest)
 
 named-more : (arrays more : List Indices) (item : IndexItem ℕ) → IsNamed (length arrays) item → IsNamed (length (arrays ++ more)) item
 named-more arrays more (Integer at) named = tt
 named-more arrays more (Slice start stop step) named = tt
 named-more arrays more Ellipsis named = tt
 named-more arrays more NewAxis named = tt
-named-more arrays more (ArrayItem k) named = omega (arith, named, length-more arrays more)
+named-more arrays more (ArrayItem k) named = omega (arith, named, length-append arrays more)
 
 pub all-named-more : (arrays more : List Indices) (items : List (IndexItem ℕ)) → All (IsNamed (length arrays)) items → All (IsNamed (length (arrays ++ more))) items
 all-named-more arrays more items named = λ k d below. named-more arrays more (get_or items k d) (named k d below)
@@ -121,19 +101,15 @@ pub item-added : (s : State) (arrays more now : List Indices) (items pushed : Li
     All (IsNamed (length arrays)) items → with_arrays (map index_array_of arrays) items ≡ map (array_by_items s) (take k index) → with_array (map index_array_of now) item ≡ array_by_items s (get_or index k d) → with_arrays (map index_array_of now) pushed ≡ map (array_by_items s) (take (k + 1) index)
 item-added s arrays more now items pushed index k item d grown put below named before is =
     (λ i. with_arrays (map index_array_of now) (put i))
-    ∙ map-more (with_array (map index_array_of now)) items (item ∷ [])
+    ∙ map_push (with_array (map index_array_of now)) items item
     ∙ (λ i. ((λ j. with_arrays (map index_array_of (grown j)) items) ∙ all-with-more arrays more items named ∙ before) i ++ is i ∷ [])
-    ∙ sym (map-more (array_by_items s) (take k index) (get_or index k d ∷ []))
+    ∙ sym (map_push (array_by_items s) (take k index) (get_or index k d))
     ∙ ap (map (array_by_items s)) (sym (take_more index k d below))
 
 pub names-added : (arrays more now : List Indices) (items pushed : List (IndexItem ℕ)) (item : IndexItem ℕ) → now ≡ arrays ++ more → pushed ≡ items ++ item ∷ [] → All (IsNamed (length arrays)) items → IsNamed (length now) item → All (IsNamed (length now)) pushed
 names-added arrays more now items pushed item grown put named is =
     subst (All (IsNamed (length now))) (sym put)
-    (All-append (IsNamed (length now)) items (item ∷ []) (subst (λ (l : List Indices). All (IsNamed (length l)) items) (sym grown) (all-named-more arrays more items named)) (λ k d below. one k d below))
-  where
-    one : (k : ℕ) (d : IndexItem ℕ) → k < 1 → IsNamed (length now) (get_or (item ∷ []) k d)
-    one zero d below = is
-    one (suc k) d below = absurd (omega (arith, below))
+    (All-push (IsNamed (length now)) items item (subst (λ (l : List Indices). All (IsNamed (length l)) items) (sym grown) (all-named-more arrays more items named)) is)
 
 -- the names in each item are bound
 pub each-bound : (s : State) (index : List (IndexItem (List ℕ))) (k : ℕ) (d : IndexItem (List ℕ)) → list_all (is_bound s) (names_in_index index) ≡ true → k < length index → list_all (is_bound s) (names_in_item (get_or index k d)) ≡ true
@@ -166,7 +142,7 @@ module _ (s : State) (a : Array) (r : ArrayRef) (shows : Shows s a r) (plan : Pl
   pub plan-addresses : plan.offsets ≡ addresses s (viewed a view)
   plan-addresses =
       is.places ∙ (λ j. view_through (shows.view.laid.places j) (shows.view.laid.shape j) view.shape view.leads)
-      ∙ offsets-view (item_size (buffer_of s a).descr) (start_at (buffer_of s a).descr a.path) a.places a.shape view.shape view.leads inside
+      ∙ offsets-at (item_size (buffer_of s a).descr) (start_at (buffer_of s a).descr a.path) a.places a.shape view.leads (indexes view.shape) inside
 
   pub plan-among : All (Contains a.places) (viewed a view).places
   plan-among = All-map (Contains a.places) (λ index. slice_index a.places (rank a.shape (view.leads index))) (indexes view.shape)
@@ -180,10 +156,6 @@ module _ (s : State) (a : Array) (r : ArrayRef) (shows : Shows s a r) (plan : Pl
 pub given-plan : (layout : Layout) (plan : Planned) (there : Result View Refusal) → GivesPlan layout (Ok plan) there → (view : View) × (there ≡ Ok view) × IsPlanOf layout plan view
 given-plan layout plan (Ok view) is = (view, refl, is)
 given-plan layout plan (Err e) is = absurd is
-
-pub given-no_plan : (layout : Layout) (e : Refusal) (there : Result View Refusal) → GivesPlan layout (Err e) there → (e ≡ OutOfMemory) ⊎ (there ≡ Err e)
-given-no_plan layout e (Ok view) is = is
-given-no_plan layout e (Err e') is = is
 
 pub gathered-bad : (s : State) (a : Array) (index : List (IndexItem (List ℕ))) (e : Refusal) → indexed a.shape (map (array_by_items s) index) ≡ Err e → gathered s a index ≡ Err e
 unfolding gathered
@@ -210,14 +182,7 @@ module _ (s : State) (a : Array) (r : ArrayRef) (shows : Shows s a r) (index : L
       subst (GivesPlan r.layout.now (Ok plan)) (sym (gathered-done s a index given.0 (there-is given.1) (le-leb (count given.0.shape * item_size (descr_of s a)) max_bytes small))) given.2
 
   pub refuses : (e : Refusal) → GivesPlan r.layout.now (Err e) (indexed r.layout.now.shape items) → GivesPlan r.layout.now (Err e) (gathered s a index)
-  refuses e gives =
-      elim (given-no_plan r.layout.now e (indexed r.layout.now.shape items) gives) as (λ _. GivesPlan r.layout.now (Err e) (gathered s a index)) [
-        | inl lacks ↦ no_plan (gathered s a index) (inl lacks)
-        | inr bad ↦ no_plan (gathered s a index) (inr (gathered-bad s a index e (there-is bad)))
-      ]
-    where
-      no_plan : (there : Result View Refusal) → (e ≡ OutOfMemory) ⊎ (there ≡ Err e) → GivesPlan r.layout.now (Err e) there
-      no_plan there is = is
+  refuses e gives = passed (indexed r.layout.now.shape items) (gathered s a index) e (λ bad. gathered-bad s a index e (there-is bad)) gives
 
   pub too-large : (plan : Planned) → GivesPlan r.layout.now (Ok plan) (indexed r.layout.now.shape items) → max_bytes < length plan.offsets * item_size r.descr.now → gathered s a index ≡ Err TooLarge
   too-large plan gives many =

@@ -4,19 +4,11 @@ use Rattle.std.proofs.lemmas.List.{append-nil, take-append-drop}
 use Rattle.std.proofs.Math.Seq.{take-append_seam}
 use Rattle.std.specs.Io.KnownBytes.{Appends, Consumes, Keeps, IsAtEnd}
 
-pub appends_none : (a : Option (List ℕ)) → Appends a a []
-appends_none None = tt
-appends_none (Some xs) = sym (append-nil xs)
-
 pub appends_then : (a b c : Option (List ℕ)) (x y : List ℕ) → Appends a b x → Appends b c y → Appends a c (x ++ y)
 appends_then None b c x y p q = tt
 appends_then (Some xs) None c x y p q = absurd p
 appends_then (Some xs) (Some ys) None x y p q = absurd q
 appends_then (Some xs) (Some ys) (Some zs) x y p q = q ∙ ap (λ t. t ++ y) p ∙ append_assoc xs x y
-
-pub consumes_none : (a : Option (List ℕ)) → Consumes a a []
-consumes_none None = tt
-consumes_none (Some xs) = refl
 
 pub consumes_then : (a b c : Option (List ℕ)) (x y : List ℕ) → Consumes a b x → Consumes b c y → Consumes a c (x ++ y)
 consumes_then None b c x y p q = tt
@@ -39,10 +31,6 @@ consumes_kept (Some xs) (Some ys) (Some zs) x p q = p ∙ ap (λ t. x ++ t) (sym
 
 pub consumes_nothing : (a b c : Option (List ℕ)) (x xs : List ℕ) (n : ℕ) → n ≡ 0 → Consumes a b x → Consumes b c (take n xs) → Consumes a c x
 consumes_nothing a b c x xs n none p q = subst (Consumes a c) (ap (λ k. x ++ take k xs) none ∙ append-nil x) (consumes_then a b c x (take n xs) p q)
-
--- the first bytes of a buffer that was read into
-pub first_bytes : (xs ys zs : List ℕ) (n size : ℕ) → length xs ≡ size → zs ≡ take size (xs ++ ys) → take n zs ≡ take n xs
-first_bytes xs ys zs n size same is = ap (take n) (is ∙ ap (λ k. take k (xs ++ ys)) (sym same) ∙ take-append_seam xs ys)
 
 -- all that was known has been read
 pub all_read : (xs : List ℕ) (b : Option (List ℕ)) (x : List ℕ) → Consumes (Some xs) b x → IsAtEnd b → x ≡ xs

@@ -13,9 +13,3 @@ pub listed-next : (names : List (List ℕ × Array)) (k : ℕ) (name : List ℕ)
 listed-next [] k name is = cc
 listed-next (entry ∷ names) zero name is = let same : entry.0 ≡ name = cc in ap (λ n. (codes " " ++ n) ++ listed names) same
 listed-next (entry ∷ names) (suc k) name is = listed-next names k name is
-
-pub listed-all : (names : List (List ℕ × Array)) (k : ℕ) → length names ≤ k → listed (drop k names) ≡ []
-listed-all [] zero h = refl
-listed-all [] (suc k) h = refl
-listed-all (entry ∷ names) zero h = absurd (omega arith)
-listed-all (entry ∷ names) (suc k) h = listed-all names k (omega arith)

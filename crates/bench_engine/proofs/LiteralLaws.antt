@@ -45,7 +45,7 @@ use Rattle.bench_engine.proofs.Copies.{made-held}
 use Rattle.bench_engine.proofs.LegalLaws.{legal-common}
 use Rattle.bench_engine.proofs.OperandLaws.{one-stands}
 use Rattle.bench_engine.proofs.StretchLaws.{none-fits}
-use Rattle.bench_engine.proofs.WorkLaws.{worked-done}
+use Rattle.bench_engine.proofs.WorkLaws.{same_refusal, worked-done}
 
 -- ---- a comparison with the value of a literal
 
@@ -154,10 +154,7 @@ module _ (c : Comparison) (v : OperandValues) (x : Items) (sv : Stands v x) (leg
   by-scalar (Ok o) (Err e) is gives order items = absurd (false≢true (ap is_ok gives))
   by-scalar (Err e) from is (inl lacks) order items = inl lacks
   by-scalar (Err e) (Err e') is (inr bad) order items =
-      inr (ap (operation_with (Compare c) v) (compared-bad v.descr l e' (ap scalar_of sv.descr ∙ is)) ∙ again bad)
-    where
-      again : ◌≡◌ {A = Result (Descr × List ℕ) Refusal} (Err e') (Err e) → ◌≡◌ {A = Result Contents Refusal} (Err e') (Err e)
-      again h = ap (λ (r : Result (Descr × List ℕ) Refusal). elim r as (λ _. Result Contents Refusal) [ Ok p ↦ Err e' | Err e ↦ Err e ]) h
+      inr (ap (operation_with (Compare c) v) (compared-bad v.descr l e' (ap scalar_of sv.descr ∙ is)) ∙ same_refusal e' e bad)
   by-scalar (Ok o) (Ok s) is gives order items = by-test (is_castable s l) refl gives
     where
       by-test : (b : Bool) → is_castable s l ≡ b → ◌≡◌ {A = Result (Descr × List ℕ) Refusal} (check b NotForThisKind >>= (λ _. Ok (ScalarDescr BoolScalar, x.layout.now.shape))) (Ok (o.descr, o.layout.shape)) → operation_with (Compare c) v (compared_literal v.descr (literal.Scalar l)) ≡ Ok (held o)
@@ -170,10 +167,7 @@ module _ (c : Comparison) (v : OperandValues) (x : Items) (sv : Stands v x) (leg
       by-test : (b : Bool) → is_castable s l ≡ b → ◌≡◌ {A = Result (Descr × List ℕ) Refusal} (check b NotForThisKind >>= (λ _. Ok (ScalarDescr BoolScalar, x.layout.now.shape))) (Err e) → (e ≡ OutOfMemory) ⊎ (operation_with (Compare c) v (compared_literal v.descr (literal.Scalar l)) ≡ Err e)
       by-test true can found = absurd (false≢true (sym (ap is_ok found)))
       by-test false none found =
-          inr (ap (operation_with (Compare c) v) (compared-none v.descr l s (ap scalar_of sv.descr ∙ is) none) ∙ again found)
-        where
-          again : ◌≡◌ {A = Result (Descr × List ℕ) Refusal} (Err NotForThisKind) (Err e) → ◌≡◌ {A = Result Contents Refusal} (Err NotForThisKind) (Err e)
-          again h = ap (λ (r : Result (Descr × List ℕ) Refusal). elim r as (λ _. Result Contents Refusal) [ Ok p ↦ Err NotForThisKind | Err e ↦ Err e ]) h
+          inr (ap (operation_with (Compare c) v) (compared-none v.descr l s (ap scalar_of sv.descr ∙ is) none) ∙ same_refusal NotForThisKind e found)
 
   pub literal-gives : (result : Result Owned Refusal) → Gives {Y = Descr × List ℕ} (λ o. (o.descr, o.layout.shape)) result there → IfOk result IsInCOrder →
       IfOk result (λ o. map (item_from o.descr o.block) (offsets o.layout) ≡ map (λ offset. compared_item c (item_from x.descr.now x.block.now offset) one) (offsets x.layout.now)) → Gives held result (operation_with (Compare c) v (compared_literal v.descr (literal.Scalar l)))

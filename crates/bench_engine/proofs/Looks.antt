@@ -16,9 +16,6 @@ use Rattle.bench_engine.specs.Machine.{print_outcome, format_outcome, accepted_w
 pub unchanged : (xs : List ℕ) → StartsWith xs xs
 unchanged xs = take_all (length xs) xs (omega arith)
 
-pub same_start : (xs ys : List ℕ) → xs ≡ ys → StartsWith xs ys
-same_start xs ys same = subst (λ (l : List ℕ). StartsWith l ys) (sym same) (unchanged ys)
-
 -- a name is bound, or not
 pub not_found : (s : State) (found : Option Array) → Finds s found None → found ≡ None
 not_found s None h = refl

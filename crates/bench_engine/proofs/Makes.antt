@@ -28,25 +28,13 @@ use Rattle.literal_items.specs.RangeItems.{range_length, range_items}
 use Rattle.bench_engine.specs.Contents.{new_contents, array_type, zeros_contents, full_contents, array_contents, arange_contents, integer_scalar, range_scalar}
 use Rattle.bench_engine.specs.inside.OwnContents.{held, IsInCOrder}
 use Rattle.bench_engine.proofs.Stored.{divided}
+use Rattle.bench_engine.proofs.StretchLaws.{map-replicate}
 use Rattle.bench_engine.proofs.Zeros.{items_in-zeros}
-
--- a slice that was written to, back in its place
-pub refilled : (new old : List ℕ) (len : ℕ) → length new ≡ len → take len (new ++ drop (length new) old) ≡ new
-refilled new old len whole = ap (λ n. take n (new ++ drop (length new) old)) (sym whole) ∙ take-append_seam new (drop (length new) old)
 
 -- a refusal that is passed on
 pub passed : {X Y : Type 0} (x : Result X Refusal) (y : Result Y Refusal) (e : Refusal) → (x ≡ Err e → y ≡ Err e) → (e ≡ OutOfMemory) ⊎ (x ≡ Err e) → (e ≡ OutOfMemory) ⊎ (y ≡ Err e)
 passed x y e on (inl lacks) = inl lacks
 passed x y e on (inr is) = inr (on is)
-
--- the element type and the shape
-pub type-descr : (descr lengths : List ℕ) (e : Refusal) → descriptor descr ≡ Err e → array_type descr lengths ≡ Err e
-unfolding array_type
-type-descr descr lengths e bad = rw bad refl
-
-pub type-shape : (text lengths : List ℕ) (descr : Descr) (e : Refusal) → descriptor text ≡ Ok descr → shape_of lengths ≡ Err e → array_type text lengths ≡ Err e
-unfolding array_type
-type-shape text lengths descr e good bad = rw (good, bad) refl
 
 pub type-large : (text lengths : List ℕ) (descr : Descr) (shape : List ℕ) → descriptor text ≡ Ok descr → shape_of lengths ≡ Ok shape → max_bytes < count shape * item_size descr → array_type text lengths ≡ Err TooLarge
 unfolding array_type
@@ -71,11 +59,6 @@ held-is o descr shape bytes items typed shaped filled is order = λ i. record {
 pub in-order : (o : Owned) (descr : Descr) (shape : List ℕ) → o.descr ≡ descr → o.layout.shape ≡ shape → offsets o.layout ≡ offsets_in C (item_size descr) shape → IsInCOrder o
 in-order o descr shape typed shaped laid = laid ∙ λ i. offsets_in C (item_size (sym typed i)) (sym shaped i)
 
--- zeros
-pub zeros-type : (text lengths : List ℕ) (e : Refusal) → array_type text lengths ≡ Err e → zeros_contents text lengths ≡ Err e
-unfolding zeros_contents
-zeros-type text lengths e bad = rw bad refl
-
 zeros-done : (text lengths : List ℕ) (descr : Descr) (shape : List ℕ) (o : Owned) → array_type text lengths ≡ Ok (descr, shape) → o.descr ≡ descr → o.layout.shape ≡ shape → o.block ≡ replicate (count shape * item_size descr) 0 → offsets o.layout ≡ offsets_in C (item_size descr) shape →
     zeros_contents text lengths ≡ Ok (held o)
 unfolding zeros_contents
@@ -89,19 +72,6 @@ zeros-made text lengths descr shape (Ok o) good small typed shaped filled laid r
 zeros-made text lengths descr shape (Err e) good small typed shaped filled laid refused =
     inl (refused ∙ ap (λ yes. if yes then OutOfMemory else TooLarge) (le-leb (count shape * item_size descr) max_bytes small))
 
--- full
-pub full-type : (text lengths : List ℕ) (literal : Literal) (e : Refusal) → array_type text lengths ≡ Err e → full_contents text lengths literal ≡ Err e
-unfolding full_contents
-full-type text lengths literal e bad = rw bad refl
-
-pub full-literal : (text lengths : List ℕ) (literal : Literal) (descr : Descr) (shape : List ℕ) (e : Refusal) → array_type text lengths ≡ Ok (descr, shape) → item_value descr literal ≡ Err e → full_contents text lengths literal ≡ Err e
-unfolding full_contents
-full-literal text lengths literal descr shape e good bad = rw (good, bad) refl
-
-each-copy : (descr : Descr) (item : List ℕ) (n : ℕ) → map (decode_item descr) (replicate n item) ≡ replicate n (decode_item descr item)
-each-copy descr item zero = refl
-each-copy descr item (suc n) = ap (λ items. decode_item descr item ∷ items) (each-copy descr item n)
-
 pub full-done : (text lengths : List ℕ) (literal : Literal) (descr : Descr) (shape item bytes : List ℕ) (o : Owned) → array_type text lengths ≡ Ok (descr, shape) → item_value descr literal ≡ Ok (decode_item descr item) →
     length item ≡ item_size descr → blocks (length item) (count shape) bytes ≡ replicate (count shape) item → o.descr ≡ descr → o.layout.shape ≡ shape → o.block ≡ bytes → offsets o.layout ≡ offsets_in C (item_size descr) shape → full_contents text lengths literal ≡ Ok (held o)
 unfolding full_contents
@@ -109,31 +79,17 @@ full-done text lengths literal descr shape item bytes o good value whole copies 
     rw (good, value) (ap Ok (held-is o descr shape bytes (replicate (count shape) (decode_item descr item)) typed shaped filled items (in-order o descr shape typed shaped laid)))
   where
     items : replicate (count shape) (decode_item descr item) ≡ items_in descr (count shape) bytes
-    items = sym (each-copy descr item (count shape)) ∙ ap (map (decode_item descr)) (sym copies) ∙ ap (λ n. map (decode_item descr) (blocks n (count shape) bytes)) whole
-
--- array
-pub array-type : (text lengths : List ℕ) (literals : List Literal) (e : Refusal) → array_type text lengths ≡ Err e → array_contents text lengths literals ≡ Err e
-unfolding array_contents
-array-type text lengths literals e bad = rw bad refl
+    items = sym (map-replicate (decode_item descr) (count shape) item) ∙ ap (map (decode_item descr)) (sym copies) ∙ ap (λ n. map (decode_item descr) (blocks n (count shape) bytes)) whole
 
 pub array-number : (text lengths : List ℕ) (literals : List Literal) (descr : Descr) (shape : List ℕ) → array_type text lengths ≡ Ok (descr, shape) → length literals ≢ count shape → array_contents text lengths literals ≡ Err NumberOfValues
 unfolding array_contents
 array-number text lengths literals descr shape good other = rw (good, ne_eqb (length literals) (count shape) other) refl
-
-pub array-values : (text lengths : List ℕ) (literals : List Literal) (descr : Descr) (shape : List ℕ) (e : Refusal) → array_type text lengths ≡ Ok (descr, shape) → length literals ≡ count shape → item_values descr literals ≡ Err e → array_contents text lengths literals ≡ Err e
-unfolding array_contents
-array-values text lengths literals descr shape e good many bad = rw (good, eq-eqb (length literals) (count shape) many, bad) refl
 
 pub array-done : (text lengths : List ℕ) (literals : List Literal) (descr : Descr) (shape bytes : List ℕ) (o : Owned) → array_type text lengths ≡ Ok (descr, shape) → length literals ≡ count shape →
     item_values descr literals ≡ Ok (map (decode_item descr) (blocks (item_size descr) (length literals) bytes)) → o.descr ≡ descr → o.layout.shape ≡ shape → o.block ≡ bytes → offsets o.layout ≡ offsets_in C (item_size descr) shape → array_contents text lengths literals ≡ Ok (held o)
 unfolding array_contents
 array-done text lengths literals descr shape bytes o good many values typed shaped filled laid =
     rw (good, eq-eqb (length literals) (count shape) many, values) (ap Ok (held-is o descr shape bytes _ typed shaped filled (ap (λ n. items_in descr n bytes) many) (in-order o descr shape typed shaped laid)))
-
--- arange
-pub integer-descr : (text : List ℕ) (e : Refusal) → descriptor text ≡ Err e → range_scalar text ≡ Err e
-unfolding range_scalar
-integer-descr text e bad = rw bad refl
 
 integer-is : (text : List ℕ) (descr : Descr) (scalar : Result Scalar Refusal) → descriptor text ≡ Ok descr → integer_scalar descr ≡ scalar → range_scalar text ≡ scalar
 unfolding range_scalar
@@ -142,18 +98,6 @@ integer-is text descr scalar good kind = rw good kind
 pub integer-given : (text : List ℕ) (descr : Descr) (scalar : Result Scalar Refusal) → descriptor text ≡ Ok descr → Answers (λ s. s) scalar (integer_scalar descr) → Gives (λ s. s) scalar (range_scalar text)
 integer-given text descr (Ok scalar) good is = integer-is text descr (Ok scalar) good is
 integer-given text descr (Err e) good is = inr (integer-is text descr (Err e) good is)
-
-pub arange-type : (text : List ℕ) (start stop step : ℤ) (e : Refusal) → range_scalar text ≡ Err e → arange_contents text start stop step ≡ Err e
-unfolding arange_contents
-arange-type text start stop step e bad = rw bad refl
-
-pub arange-length : (text : List ℕ) (start stop step : ℤ) (scalar : Scalar) (e : Refusal) → range_scalar text ≡ Ok scalar → range_length start stop step ≡ Err e → arange_contents text start stop step ≡ Err e
-unfolding arange_contents range_items
-arange-length text start stop step scalar e kind bad = rw (kind, bad) refl
-
-pub arange-range : (text : List ℕ) (start stop step : ℤ) (scalar : Scalar) (e : Refusal) → range_scalar text ≡ Ok scalar → range_items scalar start stop step ≡ Err e → arange_contents text start stop step ≡ Err e
-unfolding arange_contents
-arange-range text start stop step scalar e kind bad = rw (kind, bad) refl
 
 -- a shape of one axis
 one_axis : (n : ℕ) → n ≤ max_items → shape_of (n ∷ []) ≡ Ok (n ∷ [])

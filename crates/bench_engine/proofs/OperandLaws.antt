@@ -1,5 +1,6 @@
 -- Operands: parts of arrays, and single items.
-use Rattle.std.proofs.Common.{◌≡◌, ◌+◌, ◌≤◌, ℕ, List, [], ◌∷◌, length, map, All, sym, ap, ◌∙◌, subst}
+use Rattle.std.proofs.Common.{◌≡◌, ◌+◌, ◌≤◌, ℕ, List, [], ◌∷◌, length, map, All, Result, Ok, Err, refl, sym, ap, ◌∙◌, subst}
+use Rattle.elem_descr.specs.declared.refusal.Refusal.{Refusal}
 use Rattle.elem_descr.specs.declared.descr.Descr.{Descr}
 use Rattle.elem_descr.specs.Blocks.{item_from}
 use Rattle.elem_descr.specs.Items.{item_size}
@@ -18,9 +19,10 @@ use Rattle.name_store.specs.Arrays.{buffer_of, span_of, placed_item}
 use Rattle.name_store.specs.Parts.{part_at}
 use Rattle.name_store.specs.Shown.{Shows}
 use Rattle.name_store.specs.declared.array_ref.ArrayRef.{ArrayRef}
+use Rattle.bench_engine.specs.declared.operand.Part.{Part}
 use Rattle.bench_engine.specs.Machine.{OperandValues, operand_values, one_item, viewed}
 use Rattle.bench_engine.specs.inside.Assigns.{Holds}
-use Rattle.bench_engine.specs.inside.Operands.{StandsFor, Stands, OwnStands}
+use Rattle.bench_engine.specs.inside.Operands.{StandsFor, IsPart, GivesPart, Stands, OwnStands}
 use Rattle.bench_engine.proofs.Assigns.{all-viewed, lies-whole, lies-viewed}
 use Rattle.bench_engine.proofs.Sets.{read-part}
 use Rattle.bench_engine.proofs.StretchLaws.{stretched-same, one-stretched, map-replicate}
@@ -35,7 +37,6 @@ view-stands s a r layout view x shows is block laid typed = record {
   descr = shows.descr ∙ sym typed;
   shape = sym is.shape ∙ ap (λ (l : Layout). l.shape) (sym laid);
   items = read-part s a (viewed a view) r layout shows (lies-viewed s a a r.layout.now layout view (lies-whole s a r shows) is) ∙ λ i. map (item_from (sym typed i) (sym block i)) (offsets (sym laid i));
-  inside = x.inside;
 }
 
 pub own-inside : (o : Owned) → All (λ offset. offset + item_size o.descr ≤ length o.block) (offsets o.layout)
@@ -46,10 +47,11 @@ copy-stands s part o x holds block laid typed = record {
   descr = sym holds.descr ∙ sym typed;
   shape = sym holds.shape ∙ ap (λ (l : Layout). l.shape) (sym laid);
   items = sym holds.items ∙ λ i. map (item_from (sym typed i) (sym block i)) (offsets (sym laid i));
-  inside = subst (λ (l : Layout). All (λ offset. offset + item_size x.descr.now ≤ length x.block.now) (offsets l)) (sym laid)
-      (subst (λ (b : List ℕ). All (λ offset. offset + item_size x.descr.now ≤ length b) (offsets o.layout)) (sym block)
-      (subst (λ (d : Descr). All (λ offset. offset + item_size d ≤ length o.block) (offsets o.layout)) (sym typed) (own-inside o)));
 }
+
+pub given-part : (s : State) (p : Part) (there : Result Array Refusal) → GivesPart s (Ok p) there → (part : Array) × (there ≡ Ok part) × IsPart s part p
+given-part s p (Ok part) is = (part, refl, is)
+given-part s p (Err refusal) is = absurd is
 
 -- ---- stretched
 

@@ -29,21 +29,11 @@ use Rattle.bench_engine.proofs.GivenLaws.{given-taken}
 use Rattle.bench_engine.proofs.Views.{viewed-part}
 
 module _ (s : State) (a : Array) (r : ArrayRef) (index : List (IndexItem (List ℕ))) where
-  part-bad : (e : Refusal) → taken s a index ≡ Err e → part_seen s a index ≡ Err e
-  part-bad e bad = rw bad refl
-
   part-viewed : (view : View) → taken s a index ≡ Ok view → list_all is_basic index ≡ true → part_seen s a index ≡ Ok (a_view (viewed a view))
   part-viewed view good plain = rw (good, plain) refl
 
   part-copied : (view : View) → taken s a index ≡ Ok view → list_all is_basic index ≡ false → part_seen s a index ≡ Ok (a_copy (new_contents (descr_of s a) view.shape (read s (viewed a view))))
   part-copied view good arrays = rw (good, arrays) refl
-
-  pub indexed-refused : (e : Refusal) → GivesTaken s a r (list_all is_basic index) (Err e) (taken s a index) → (e ≡ OutOfMemory) ⊎ (part_seen s a index ≡ Err e)
-  indexed-refused e gives =
-      elim gives as (λ _. (e ≡ OutOfMemory) ⊎ (part_seen s a index ≡ Err e)) [
-        | inl lacks ↦ inl lacks
-        | inr bad ↦ inr (part-bad e bad)
-      ]
 
   pub indexed-seen : (x : Viewed) → Shows s a r → GivesTaken s a r (list_all is_basic index) (Ok x.bound) (taken s a index) → x.descr ≡ r.descr → GivesSeen s (Ok x) (part_seen s a index)
   indexed-seen x shows gives descr =

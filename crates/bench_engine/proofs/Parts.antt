@@ -27,18 +27,6 @@ use Rattle.bench_engine.specs.Machine.{a_view, seen}
 abbrev pub part_of : Array → ℕ → Array
 part_of a k = record a { path = a.path ++ k ∷ [] }
 
--- the items of an array that is shown lie within the limit of a buffer
-pub shown-fits : (s : State) (base : Array) (r : ArrayRef) → Shows s base r → Fits r.layout.now max_bytes (item_size r.descr.now)
-shown-fits s base r shows =
-    let fits : Fits r.layout.now (length r.block.now) (item_size r.descr.now) = subst (λ (n : ℕ). Fits r.layout.now n (item_size r.descr.now)) (sym shows.whole)
-    (subst (λ (d : Descr). Fits r.layout.now (length (buffer_of s base).items * item_size (buffer_of s base).descr) (item_size d)) shows.descr shows.view.laid.fits) in
-    record {
-      from_zero = fits.from_zero;
-      within = λ index is.
-          let end : (address r.layout.now index +ℤ pos (item_size r.descr.now)) ≤ℤ pos (length r.block.now) = fits.within index is in
-          omega (arith, ints, shows.small);
-    }
-
 -- the offsets of a part of what has these offsets
 further : (item start at : ℕ) (places : List ℕ) → map (λ offset. offset + at) (offsets_of item start places) ≡ offsets_of item (start + at) places
 further item start at [] = refl

@@ -11,7 +11,7 @@ use Rattle.elem_descr.specs.declared.descr.Descr.{Descr}
 use Rattle.elem_descr.specs.Refusals.{Gives, ◌>>=◌}
 use Rattle.elem_descr.specs.Blocks.{item_from}
 use Rattle.elem_descr.specs.Values.{LeafValue}
-use Rattle.elem_descr.specs.RefusalLaws.{check_test}
+use Rattle.elem_descr.specs.RefusalLaws.{check_test, bind_ok}
 use Rattle.shape_strides.specs.declared.memory_order.MemoryOrder.TheVariants.{C}
 use Rattle.shape_strides.specs.Indexes.{count, indexes, rank, IsIndex}
 use Rattle.shape_strides.specs.IndexLaws.{rank-lt, same_on_indexes}
@@ -70,15 +70,11 @@ lists-same f g shape (Some a) xs ys is whole same =
 
 -- ---- the axis is one of the array's
 
-then-ok : {X Y : Type 0} (r : Result X Refusal) (f : X → Result Y Refusal) (y : Y) → r >>= f ≡ Ok y → (x : X) × (f x ≡ Ok y)
-then-ok (Ok x) f y is = (x, is)
-then-ok (Err e) f y is = absurd (false≢true (ap is_ok is))
-
 axis-passed : (reduction : Red) (descr : Descr) (shape : List ℕ) (named : Option ℤ) (keep : Bool) (there : reductions.ReducedType) → reductions.reduced_type reduction descr shape named keep ≡ Ok there → is_axis (length shape) named ≡ true
 unfolding reductions.reduced_type
 axis-passed reduction descr shape named keep there is =
-    let rest = then-ok (number_scalar descr) _ there is in
-    check_test (is_axis (length shape) named) BadAxis _ there rest.1
+    let rest = bind_ok (number_scalar descr) _ there is in
+    check_test (is_axis (length shape) named) BadAxis _ there rest.2
 
 is-axis : (rank : ℕ) (named : Option ℤ) → is_axis rank named ≡ true → IsAxisOf rank (named_axis rank named)
 is-axis rank None is = tt

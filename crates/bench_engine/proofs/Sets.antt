@@ -23,10 +23,6 @@ use Rattle.bench_engine.proofs.Nested.{nested-fits}
 
 -- ---- parts
 
--- the element type of a part is that of the array
-pub part-descr : (s : State) (a part : Array) (r : ArrayRef) (layout : Layout) → Shows s a r → LiesIn s a part layout → descr_of s part ≡ r.descr.now
-part-descr s a part r layout shows lies = ap (descr_of s) lies.part_is ∙ shows.descr
-
 -- ---- what is read of a part
 
 same-each : {A B : Type 0} (f g : A → B) (xs : List A) → map f xs ≡ map g xs → All (λ x. f x ≡ g x) xs

@@ -36,25 +36,10 @@ use Rattle.name_store.specs.declared.bound.Bound.TheVariants as bound
 use Rattle.bench_engine.specs.inside.Assigns.{GivesTaken, LiesIn, IsAimed, GivesAim, GivesTarget}
 use Rattle.bench_engine.specs.inside.OwnContents.{IsInCOrder}
 use Rattle.bench_engine.proofs.Assigns.{lies-whole, lies-viewed}
-use Rattle.bench_engine.proofs.IndexLaws.{given-plan, given-no_plan, plan-counted, plan-inside, plan-addresses, plan-among}
+use Rattle.bench_engine.proofs.IndexLaws.{given-plan, plan-counted, plan-inside, plan-addresses, plan-among}
+use Rattle.bench_engine.proofs.Makes.{passed}
 use Rattle.bench_engine.proofs.Sets.{items-at, target-few}
-use Rattle.bench_engine.proofs.Views.{given-view, given-refusal}
-
--- the items of a block are decoded from their bytes
-pub items-from : (d : Descr) (block os : List ℕ) → map (decode_item d) (items_at os (item_size d) block) ≡ map (item_from d block) os
-items-from d block os = map-map (decode_item d) (λ offset. item_at offset (item_size d) block) os
-
--- what is gathered one after another are the items of the block at the offsets
-pub gathered-items : (d : Descr) (block : List ℕ) (plan : Planned) (items : List ℕ) {E : Type 0} (result : Result Owned E) (width : ℕ) → width ≡ item_size d → length plan.offsets ≡ count plan.shape → items_at (multiples width (length plan.offsets)) width items ≡ items_at plan.offsets width block →
-    IfOk result (λ o. o.descr ≡ d) → IfOk result (λ o. offsets o.layout ≡ offsets_in C (item_size d) plan.shape) → IfOk result (λ o. o.block ≡ items) → IfOk result (λ o. map (item_from o.descr o.block) (offsets o.layout) ≡ map (item_from d block) plan.offsets)
-gathered-items d block plan items (Err e) width sized counted same typed laid is = tt
-gathered-items d block plan items (Ok o) width sized counted same typed laid is =
-    (λ i. map (item_from (typed i) (is i)) (laid i))
-    ∙ sym (items-from d items (multiples (item_size d) (count plan.shape)))
-    ∙ (λ i. map (decode_item d) (items_at (multiples (sym sized i) (sym counted i)) (sym sized i) items))
-    ∙ ap (map (decode_item d)) same
-    ∙ (λ i. map (decode_item d) (items_at plan.offsets (sized i) block))
-    ∙ items-from d block plan.offsets
+use Rattle.bench_engine.proofs.Views.{given-view}
 
 pub taken-plain : (s : State) (a : Array) (index : List (IndexItem (List ℕ))) → list_all is_basic index ≡ true → taken s a index ≡ basic a.shape index
 taken-plain s a index plain = rw plain refl
@@ -68,31 +53,12 @@ module _ (s : State) (a : Array) (r : ArrayRef) (shows : Shows s a r) (index : L
       let view = given-view r.layout.now l (basic r.layout.now.shape index) gives in
       (view.0, taken-plain s a index plain ∙ (λ i. basic (sym shows.view.laid.shape i) index) ∙ view.1, view.2)
 
-  pub plain-refused : (e : Refusal) → list_all is_basic index ≡ true → GivesView r.layout.now (Err e) (basic r.layout.now.shape index) → (e ≡ OutOfMemory) ⊎ (taken s a index ≡ Err e)
-  plain-refused e plain gives =
-      elim (given-refusal r.layout.now e (basic r.layout.now.shape index) gives) as (λ _. (e ≡ OutOfMemory) ⊎ (taken s a index ≡ Err e)) [
-        | inl lacks ↦ inl lacks
-        | inr bad ↦ inr (taken-plain s a index plain ∙ (λ i. basic (sym shows.view.laid.shape i) index) ∙ bad)
-      ]
-
   plan-view : (plan : Planned) → list_all is_basic index ≡ false → GivesPlan r.layout.now (Ok plan) (gathered s a index) → (view : View) × (taken s a index ≡ Ok view) × IsPlanOf r.layout.now plan view
   plan-view plan arrays gives =
       let view = given-plan r.layout.now plan (gathered s a index) gives in
       (view.0, taken-arrays s a index arrays ∙ view.1, view.2)
 
-  pub plan-refused : (e : Refusal) → list_all is_basic index ≡ false → GivesPlan r.layout.now (Err e) (gathered s a index) → (e ≡ OutOfMemory) ⊎ (taken s a index ≡ Err e)
-  plan-refused e arrays gives =
-      elim (given-no_plan r.layout.now e (gathered s a index) gives) as (λ _. (e ≡ OutOfMemory) ⊎ (taken s a index ≡ Err e)) [
-        | inl lacks ↦ inl lacks
-        | inr bad ↦ inr (taken-arrays s a index arrays ∙ bad)
-      ]
-
   -- ---- read
-
-  pub takes-view : (l : Layout) → list_all is_basic index ≡ true → GivesView r.layout.now (Ok l) (basic r.layout.now.shape index) → KeepsNested r.layout.now l → GivesTaken s a r (list_all is_basic index) (Ok (bound.View r.number r.path.now l r.writable)) (taken s a index)
-  takes-view l plain gives kept =
-      let view = plain-view l plain gives in
-      subst (GivesTaken s a r (list_all is_basic index) (Ok (bound.View r.number r.path.now l r.writable))) (sym view.1) (plain, refl, refl, refl, view.2, kept)
 
   pub plan-read : (plan : Planned) (view : View) → IsPlanOf r.layout.now plan view → map (item_from r.descr.now r.block.now) plan.offsets ≡ read s (viewed a view)
   plan-read plan view is =
@@ -159,9 +125,6 @@ module _ (s : State) (a : Array) (r : ArrayRef) (shows : Shows s a r) (index : L
   given-aim t (Ok view) is = (view, refl, is)
   given-aim t (Err e) is = absurd is
 
-  pub given-no_aim : (e : Refusal) (there : Result View Refusal) → GivesAim s a r (Err e) there → (e ≡ OutOfMemory) ⊎ (there ≡ Err e)
-  given-no_aim e there is = is
-
   target-bad : (e : Refusal) → taken s a index ≡ Err e → target_part s a index ≡ Err e
   unfolding target_part
   target-bad e bad = rw bad refl
@@ -175,11 +138,7 @@ module _ (s : State) (a : Array) (r : ArrayRef) (shows : Shows s a r) (index : L
   target-done view good free = rw (good, free) refl
 
   pub refused-target : (e : Refusal) → GivesAim s a r (Err e) (taken s a index) → (e ≡ OutOfMemory) ⊎ (target_part s a index ≡ Err e)
-  refused-target e gives =
-      elim (given-no_aim e (taken s a index) gives) as (λ _. (e ≡ OutOfMemory) ⊎ (target_part s a index ≡ Err e)) [
-        | inl lacks ↦ inl lacks
-        | inr bad ↦ inr (target-bad e bad)
-      ]
+  refused-target e gives = passed (taken s a index) (target_part s a index) e (target-bad e) gives
 
   pub fixed-target : (t : Target) → GivesAim s a r (Ok t) (taken s a index) → r.writable ≡ false → target_part s a index ≡ Err ReadOnly
   fixed-target t gives fixed =

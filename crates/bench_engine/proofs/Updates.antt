@@ -9,7 +9,7 @@ use Rattle.elem_descr.specs.declared.descr.Descr.TheVariants.{Scalar as ScalarDe
 use Rattle.elem_descr.specs.declared.scalar.Scalar.{Scalar}
 use Rattle.elem_descr.specs.declared.scalar.Scalar.TheVariants.{Bool as BoolScalar, Byte, Int, Bytes}
 use Rattle.elem_descr.specs.Refusals.{◌>>=◌}
-use Rattle.elem_descr.specs.RefusalLaws.{same_answer}
+use Rattle.elem_descr.specs.RefusalLaws.{same_answer, bind_ok}
 use Rattle.elem_descr.specs.Blocks.{item_from}
 use Rattle.elem_descr.specs.Items.{item_size, leaves_of}
 use Rattle.elem_descr.specs.Values.{LeafValue}
@@ -38,7 +38,7 @@ use Rattle.bench_engine.proofs.LegalLaws.{legal-common}
 use Rattle.bench_engine.proofs.LiteralLaws.{literal-axes}
 use Rattle.bench_engine.proofs.Stored.{items-from}
 use Rattle.bench_engine.proofs.StretchLaws.{common-onto, none-fits, stretched-can}
-use Rattle.bench_engine.proofs.WorkLaws.{worked-bad, worked-done}
+use Rattle.bench_engine.proofs.WorkLaws.{same_refusal, worked-bad, worked-done}
 
 -- ---- the exits
 
@@ -70,15 +70,11 @@ module _ (op : Operation) (d : Descr) (v w : OperandValues) where
 
 -- ---- what is worked has the old shape
 
-then-parts : {X Y : Type 0} (r : Result X Refusal) (f : X → Result Y Refusal) (y : Y) → r >>= f ≡ Ok y → (x : X) × (r ≡ Ok x) × (f x ≡ Ok y)
-then-parts (Ok x) f y is = (x, refl, is)
-then-parts (Err e) f y is = absurd (false≢true (ap is_ok is))
-
 worked-parts : (op : Operation) (v w : OperandValues) (new : Contents) → operation_on op v w ≡ Ok new → (s : Scalar) × (operation_scalar op v.descr w.descr ≡ Ok s) × (new.buffer.descr ≡ ScalarDescr s) × (common_shape (v.shape ∷ w.shape ∷ []) ≡ Ok new.shape)
 unfolding operation_on
 worked-parts op v w new is =
-    let typed = then-parts (operation_scalar op v.descr w.descr) _ new is in
-    let shaped = then-parts (common_shape (v.shape ∷ w.shape ∷ [])) _ new typed.2 in
+    let typed = bind_ok (operation_scalar op v.descr w.descr) _ new is in
+    let shaped = bind_ok (common_shape (v.shape ∷ w.shape ∷ [])) _ new typed.2 in
     let done = same_answer _ new shaped.2 in
     (typed.0, typed.1, sym (ap (λ (c : Contents). c.buffer.descr) done), shaped.1 ∙ ap Ok (ap (λ (c : Contents). c.shape) done))
 
@@ -99,10 +95,7 @@ worked-type op v w e common is = by-type (operation_scalar op v.descr w.descr) r
   where
     by-type : (r : Result Scalar Refusal) → operation_scalar op v.descr w.descr ≡ r → r ≡ Err e
     by-type (Ok s) typed = absurd (false≢true (sym (ap is_ok is) ∙ ap is_ok (worked-done op v w s v.shape typed common)))
-    by-type (Err e') bad = again (sym (worked-bad op v w e' bad) ∙ is)
-      where
-        again : ◌≡◌ {A = Result Contents Refusal} (Err e') (Err e) → ◌≡◌ {A = Result Scalar Refusal} (Err e') (Err e)
-        again h = ap (λ (r : Result Contents Refusal). elim r as (λ _. Result Scalar Refusal) [ Ok x ↦ Err e' | Err e ↦ Err e ]) h
+    by-type (Err e') bad = same_refusal e' e (sym (worked-bad op v w e' bad) ∙ is)
 
 -- ---- numbers that may be written are cast
 
@@ -164,7 +157,7 @@ literal-can op v w l is =
 pub literal-parts : (op : Operation) (d : Descr) (v : OperandValues) (l : Literal) (new : Owned) → v.descr ≡ d → operation_with op v (literal_values op v.descr l) ≡ Ok (held new) →
     (w : OperandValues) × (s : Scalar) × (literal_values op d l ≡ Ok w) × (operation_on op v w ≡ Ok (held new)) × (stretched w.shape v.shape ≡ Ok (record { shape = v.shape; leads = broadcast_index w.shape })) × (new.layout.shape ≡ v.shape) × (operation_scalar op d w.descr ≡ Ok s) × (new.descr ≡ ScalarDescr s)
 literal-parts op d v l new same is =
-    let there = then-parts (literal_values op v.descr l) (operation_on op v) (held new) is in
+    let there = bind_ok (literal_values op v.descr l) (operation_on op v) (held new) is in
     let can = literal-can op v there.0 l there.1 in
     let parts = worked-parts op v there.0 (held new) there.2 in (
       there.0,
@@ -181,11 +174,8 @@ pub literal-refused : (op : Operation) (d : Descr) (v : OperandValues) (l : Lite
 literal-refused op d v l e legal same is =
     sym (ap (λ (d : Descr). changed_with op d v (literal_values op d l)) same) ∙ by-literal (literal_values op v.descr l) refl is
   where
-    again : {X Y : Type 0} (e' : Refusal) → ◌≡◌ {A = Result X Refusal} (Err e') (Err e) → ◌≡◌ {A = Result Y Refusal} (Err e') (Err e)
-    again {X} {Y} e' h = ap (λ (r : Result X Refusal). elim r as (λ _. Result Y Refusal) [ Ok x ↦ Err e' | Err e ↦ Err e ]) h
-
     by-literal : (r : Result OperandValues Refusal) → literal_values op v.descr l ≡ r → operation_with op v r ≡ Err e → changed_with op v.descr v (literal_values op v.descr l) ≡ Err e
-    by-literal (Err e') there bad = ap (changed_with op v.descr v) there ∙ again e' bad
+    by-literal (Err e') there bad = ap (changed_with op v.descr v) there ∙ same_refusal e' e bad
     by-literal (Ok w) there bad =
         ap (changed_with op v.descr v) there
         ∙ changed-type op v.descr v w e (worked-type op v w e (legal-common v.shape w.shape legal (literal-can op v w l there)) bad)

@@ -32,47 +32,20 @@ use Rattle.bench_engine.specs.declared.replies.Origin.TheVariants as origin
 use Rattle.bench_engine.specs.Replies.{bound_text}
 use Rattle.bench_engine.specs.Machine.{Choice, Outcome, ViewOrCopy, a_view, a_copy, viewed, bound_seen, accepted_with}
 use Rattle.bench_engine.proofs.Creates.{starts, fresh-answers}
+use Rattle.bench_engine.proofs.Assigns.{lies-whole, lies-viewed}
 use Rattle.bench_engine.proofs.Steps.{spare}
-
--- a view of the offsets of some places has the offsets of the view of the places
-pub offsets-view : (item start : ℕ) (places shape new : List ℕ) (leads : List ℕ → List ℕ) → All (λ i. rank shape (leads i) < length places) (indexes new) →
-    view_through (offsets_of item start places) shape new leads ≡ offsets_of item start (view_through places shape new leads)
-offsets-view item start places shape new leads inside = offsets-at item start places shape leads (indexes new) inside
-
--- each index of a view leads to a place of the array
-inside-view : (s : State) (base : Array) (r : ArrayRef) (view : View) (new : Layout) → Shows s base r → IsViewOf r.layout.now new view → All (λ index. rank base.shape (view.leads index) < length base.places) (indexes view.shape)
-inside-view s base r view new shows is = λ k d below.
-    let index : List ℕ = get_or (indexes view.shape) k d in
-    let here : rank r.layout.now.shape (view.leads index) < length (offsets r.layout.now) = is.inside k d below in
-    let there : rank base.shape (view.leads index) < length (offsets r.layout.now) = subst (λ (l : List ℕ). rank l (view.leads index) < length (offsets r.layout.now)) shows.view.laid.shape here in
-    subst (λ (n : ℕ). rank base.shape (view.leads index) < n) counted there
-  where
-    counted : length (offsets r.layout.now) ≡ length base.places
-    counted = ap length shows.view.laid.places ∙ length-map base.places (λ place. item_size (buffer_of s base).descr * place + start_at (buffer_of s base).descr base.path)
-
-places-view : (s : State) (base : Array) (r : ArrayRef) (view : View) (new : Layout) → Shows s base r → IsViewOf r.layout.now new view → offsets new ≡ addresses s (viewed base view)
-places-view s base r view new shows is =
-    is.places
-    ∙ (λ j. view_through (shows.view.laid.places j) (shows.view.laid.shape j) view.shape view.leads)
-    ∙ offsets-view (item_size (buffer_of s base).descr) (start_at (buffer_of s base).descr base.path) base.places base.shape view.shape view.leads (inside-view s base r view new shows is)
-
--- the places of a view are places of the array
-among-view : (s : State) (base : Array) (r : ArrayRef) (view : View) (new : Layout) → Shows s base r → IsViewOf r.layout.now new view → All (Contains base.places) (viewed base view).places
-among-view s base r view new shows is =
-    All-map (Contains base.places) (λ index. slice_index base.places (rank base.shape (view.leads index))) (indexes view.shape)
-    (λ k d below. Contains-get_or base.places (rank base.shape (view.leads (get_or (indexes view.shape) k d))) 0 (inside-view s base r view new shows is k d below))
 
 -- the view lies in the array's buffer; it may be written where the array may and its items lie apart
 seen : (s : State) (base : Array) (r : ArrayRef) (view : View) (new : Layout) (writable : Bool) → Shows s base r → IsViewOf r.layout.now new view → (IsTrue writable → IsTrue base.writable × KeepsNested r.layout.now new) →
     IsViewIn s r.number r.path.now new writable (record (viewed base view) { writable = writable })
-seen s base r view new writable shows is free = record {
+seen s base r view new writable shows is free = let lies = lies-viewed s base base r.layout.now new view (lies-whole s base r shows) is in record {
   number_is = shows.view.number_is;
   path_is = shows.view.path_is;
   there = shows.view.there;
   laid = record {
     part = shows.view.laid.part;
     shape = is.shape;
-    places = places-view s base r view new shows is;
+    places = lies.offsets_are ∙ ap (λ (a : Array). addresses s (record base { places = a.places })) (sym lies.part_is);
     writable_is = refl;
     fits = is.fits _ _ shows.view.laid.fits;
     nested = λ yes. (free yes).1 _ (shows.view.laid.nested (shows.view.laid.writable_is ∙ (free yes).0));
@@ -85,20 +58,6 @@ pub viewed-part : (s : State) (base : Array) (r : ArrayRef) (writable : Bool) (t
 viewed-part s base r writable (Err e) x layout shows is descr given free = absurd given
 viewed-part s base r writable (Ok view) x layout shows is descr given free =
     (subst (λ (b : Bound). IsOf s b (a_view (record (viewed base view) { writable = writable }))) (sym is) (seen s base r view layout writable shows given free), shows.descr ∙ ap (λ (d : Bor Descr). d.now) (sym descr))
-
--- items of an array, to be written
-pub leads : (s : State) (name : List ℕ) (base : Array) (r : ArrayRef) (view : View) (new : Layout) → find_array s.names name ≡ Some base → Shows s base r → r.writable ≡ true → IsViewOf r.layout.now new view →
-    LeadsTo s name (target.View new) base (viewed base view).places
-leads s name base r view new found shows free is = record {
-  found = found;
-  writable = sym shows.view.laid.writable_is ∙ free;
-  offsets_are = places-view s base r view new shows is;
-  among = among-view s base r view new shows is;
-}
-
--- they lie in the array's buffer, apart
-pub may-write : (s : State) (base : Array) (r : ArrayRef) (view : View) (new : Layout) → Shows s base r → r.writable ≡ true → IsViewOf r.layout.now new view → KeepsNested r.layout.now new → MayWrite s base (target.View new)
-may-write s base r view new shows free is kept = (is.fits _ _ shows.view.laid.fits, kept _ (shows.view.laid.nested free))
 
 -- the name is bound to the view, or refused as out of memory
 bound-answers : (s new : State) (name : List ℕ) (may : Bool) (outcome : Choice → Outcome) (number : ℕ) (path : List ℕ) (layout : Layout) (writable : Bool) (array : Array) (result : Result (Unit {0}) Refusal) (text before after : List ℕ) → may ≡ true →
@@ -141,16 +100,7 @@ pub given-view : (old new : Layout) (there : Result View Refusal) → GivesView 
 given-view old new (Ok view) is = (view, refl, is)
 given-view old new (Err e) is = absurd is
 
-pub given-refusal : (old : Layout) (e : Refusal) (there : Result View Refusal) → GivesView old (Err e) there → (e ≡ OutOfMemory) ⊎ (there ≡ Err e)
-given-refusal old e (Ok view) is = is
-given-refusal old e (Err e') is = is
-
 -- what lacks memory, or is refused
 pub refused-or : {X : Type 0} (may : Bool) (outcome : Choice → Outcome) (e : Refusal) (there : Result X Refusal) → may ≡ true → (e ≡ OutOfMemory) ⊎ (there ≡ Err e) → (there ≡ Err e → (choice : Choice) → outcome choice ≡ Err e) → IsRefused may outcome e
 refused-or may outcome e there can (inl lacks) bad = inl (lacks, can)
 refused-or may outcome e there can (inr is) bad = inr (bad is)
-
--- a view that is refused
-pub view-refused : (may : Bool) (outcome : Choice → Outcome) (old : Layout) (e : Refusal) (there : Result View Refusal) → may ≡ true → GivesView old (Err e) there →
-    (there ≡ Err e → (choice : Choice) → outcome choice ≡ Err e) → IsRefused may outcome e
-view-refused may outcome old e there can given bad = refused-or may outcome e there can (given-refusal old e there given) bad

@@ -7,6 +7,7 @@ use Rattle.elem_descr.specs.declared.descr.Descr.{Descr}
 use Rattle.elem_descr.specs.declared.descr.Descr.TheVariants.{Scalar as ScalarDescr}
 use Rattle.elem_descr.specs.declared.scalar.Scalar.{Scalar}
 use Rattle.elem_descr.specs.Refusals.{Gives, ◌>>=◌}
+use Rattle.elem_descr.specs.RefusalLaws.{same_answer, bind_same}
 use Rattle.elem_descr.specs.Items.{item_size}
 use Rattle.elem_descr.specs.Blocks.{item_from}
 use Rattle.shape_strides.specs.declared.memory_order.MemoryOrder.TheVariants.{C}
@@ -36,23 +37,23 @@ chained : {X Y Z : Type 0} (x : Result X Refusal) (f : X → Result Y Refusal) (
 chained (Ok a) f g = refl
 chained (Err e) f g = refl
 
-each-chained : {X Y : Type 0} (x : Result X Refusal) (f g : X → Result Y Refusal) → ((a : X) → f a ≡ g a) → x >>= f ≡ x >>= g
-each-chained (Ok a) f g same = same a
-each-chained (Err e) f g same = refl
+-- a refusal is one of answers of any type
+pub same_refusal : {X Y : Type 0} (e e' : Refusal) → ◌≡◌ {A = Result X Refusal} (Err e) (Err e') → ◌≡◌ {A = Result Y Refusal} (Err e) (Err e')
+same_refusal e e' same = let is : e ≡ e' = cc in ap Err is
 
 binary-is : (op : BinOp) (d d' : Descr) (t u : List ℕ) → binary_result op d t d' u ≡ typed_in (operation_scalar (Binary op) d d') (common_shape (t ∷ u ∷ []))
 unfolding binary_result operation_scalar
 binary-is op d d' t u = sym (
     chained (scalar_of d) (λ from. scalar_of d' >>= (λ other. promote op from other)) (λ s. common_shape (t ∷ u ∷ []) >>= (λ l. Ok (ScalarDescr s, l)))
-    ∙ each-chained (scalar_of d) (λ from. (scalar_of d' >>= (λ other. promote op from other)) >>= (λ s. common_shape (t ∷ u ∷ []) >>= (λ l. Ok (ScalarDescr s, l)))) (λ from. scalar_of d' >>= (λ other. promote op from other >>= (λ s. common_shape (t ∷ u ∷ []) >>= (λ l. Ok (ScalarDescr s, l)))))
-    (λ from. chained (scalar_of d') (λ other. promote op from other) (λ s. common_shape (t ∷ u ∷ []) >>= (λ l. Ok (ScalarDescr s, l)))))
+    ∙ bind_same (scalar_of d) (λ from. (scalar_of d' >>= (λ other. promote op from other)) >>= (λ s. common_shape (t ∷ u ∷ []) >>= (λ l. Ok (ScalarDescr s, l)))) (λ from. scalar_of d' >>= (λ other. promote op from other >>= (λ s. common_shape (t ∷ u ∷ []) >>= (λ l. Ok (ScalarDescr s, l)))))
+    (λ from _. chained (scalar_of d') (λ other. promote op from other) (λ s. common_shape (t ∷ u ∷ []) >>= (λ l. Ok (ScalarDescr s, l)))))
 
 compared-is : (c : Comparison) (d d' : Descr) (t u : List ℕ) → compared_result d t d' u ≡ typed_in (operation_scalar (Compare c) d d') (common_shape (t ∷ u ∷ []))
 unfolding compared_result operation_scalar
 compared-is c d d' t u = sym (
     chained (scalar_of d) (λ from. scalar_of d' >>= (λ other. compared_type from other)) (λ s. common_shape (t ∷ u ∷ []) >>= (λ l. Ok (ScalarDescr s, l)))
-    ∙ each-chained (scalar_of d) (λ from. (scalar_of d' >>= (λ other. compared_type from other)) >>= (λ s. common_shape (t ∷ u ∷ []) >>= (λ l. Ok (ScalarDescr s, l)))) (λ from. scalar_of d' >>= (λ other. compared_type from other >>= (λ s. common_shape (t ∷ u ∷ []) >>= (λ l. Ok (ScalarDescr s, l)))))
-    (λ from. chained (scalar_of d') (λ other. compared_type from other) (λ s. common_shape (t ∷ u ∷ []) >>= (λ l. Ok (ScalarDescr s, l)))))
+    ∙ bind_same (scalar_of d) (λ from. (scalar_of d' >>= (λ other. compared_type from other)) >>= (λ s. common_shape (t ∷ u ∷ []) >>= (λ l. Ok (ScalarDescr s, l)))) (λ from. scalar_of d' >>= (λ other. compared_type from other >>= (λ s. common_shape (t ∷ u ∷ []) >>= (λ l. Ok (ScalarDescr s, l)))))
+    (λ from _. chained (scalar_of d') (λ other. compared_type from other) (λ s. common_shape (t ∷ u ∷ []) >>= (λ l. Ok (ScalarDescr s, l)))))
 
 -- ---- what is worked
 
@@ -72,25 +73,16 @@ worked-done op v w s shape good there = rw (good, there) refl
 -- a type and a shape that come to something
 typed-both : (scalar : Result Scalar Refusal) (shape : Result (List ℕ) Refusal) (d : Descr) (l : List ℕ) → typed_in scalar shape ≡ Ok (d, l) → (s : Scalar) × (scalar ≡ Ok s) × (shape ≡ Ok l) × (d ≡ ScalarDescr s)
 typed-both (Ok s) (Ok m) d l is =
-    let both : (ScalarDescr s, m) ≡ (d, l) = same is in
+    let both : (ScalarDescr s, m) ≡ (d, l) = same_answer (ScalarDescr s, m) (d, l) is in
     (s, refl, ap (λ (p : Descr × List ℕ). Ok p.1) both, sym (ap (λ (p : Descr × List ℕ). p.0) both))
-  where
-    same : {p q : Descr × List ℕ} → ◌≡◌ {A = Result (Descr × List ℕ) Refusal} (Ok p) (Ok q) → p ≡ q
-    same {p} {q} h = ap (λ (r : Result (Descr × List ℕ) Refusal). elim r [ Ok x ↦ x | Err e ↦ p ]) h
 typed-both (Ok s) (Err e) d l is = absurd (false≢true (ap is_ok is))
 typed-both (Err e) shape d l is = absurd (false≢true (ap is_ok is))
 
 -- or to a refusal
 typed-neither : (scalar : Result Scalar Refusal) (shape : Result (List ℕ) Refusal) (e : Refusal) → typed_in scalar shape ≡ Err e → (scalar ≡ Err e) ⊎ ((s : Scalar) × (scalar ≡ Ok s) × (shape ≡ Err e))
 typed-neither (Ok s) (Ok m) e is = absurd (false≢true (sym (ap is_ok is)))
-typed-neither (Ok s) (Err e') e is = inr (s, refl, same is)
-  where
-    same : ◌≡◌ {A = Result (Descr × List ℕ) Refusal} (Err e') (Err e) → ◌≡◌ {A = Result (List ℕ) Refusal} (Err e') (Err e)
-    same h = ap (λ (r : Result (Descr × List ℕ) Refusal). elim r as (λ _. Result (List ℕ) Refusal) [ Ok x ↦ Ok x.1 | Err e ↦ Err e ]) h
-typed-neither (Err e') shape e is = inl (same is)
-  where
-    same : ◌≡◌ {A = Result (Descr × List ℕ) Refusal} (Err e') (Err e) → ◌≡◌ {A = Result Scalar Refusal} (Err e') (Err e)
-    same h = ap (λ (r : Result (Descr × List ℕ) Refusal). elim r as (λ _. Result Scalar Refusal) [ Ok x ↦ Err e' | Err e ↦ Err e ]) h
+typed-neither (Ok s) (Err e') e is = inr (s, refl, same_refusal e' e is)
+typed-neither (Err e') shape e is = inl (same_refusal e' e is)
 
 -- the two shapes stretch to what they have in common
 fits-common : (t u common : List ℕ) → common_shape (t ∷ u ∷ []) ≡ Ok common → (can_stretch t common ≡ true) × (can_stretch u common ≡ true)

@@ -53,16 +53,10 @@ module _ (s : State) (name : List ℕ) (a part : Array) (r : ArrayRef) (shows : 
     descr = ap (descr_of s) is.part_is ∙ shows.descr ∙ sym typed;
     shape = ap (λ (a : Array). a.shape) is.part_is ∙ ap (λ (l : Layout). l.shape) (sym laid);
     items = read-part s a part r layout shows (lies layout is) ∙ λ i. map (item_from (sym typed i) (sym block i)) (offsets (sym laid i));
-    inside = subst (λ (l : Layout). All (λ offset. offset + item_size x.descr.now ≤ length x.block.now) (offsets l)) (sym laid)
-        (subst (λ (b : List ℕ). All (λ offset. offset + item_size x.descr.now ≤ length b) (offsets layout)) (sym block)
-        (subst (λ (d : Descr). All (λ offset. offset + item_size d ≤ length r.block.now) (offsets layout)) (sym typed) (part-inside s a part r layout shows (lies layout is))));
   }
 
   pub view-inside : (layout : Layout) → IsTarget s name a part (target.View layout) → All (λ offset. offset + item_size r.descr.now ≤ length r.block.now) (offsets layout)
   view-inside layout is = part-inside s a part r layout shows (lies layout is)
-
-  pub view-few : (layout : Layout) → IsTarget s name a part (target.View layout) → count layout.shape * item_size r.descr.now ≤ max_bytes
-  view-few layout is = subst (λ n. n ≤ max_bytes) (λ i. is.counted i * item_size (shows.descr i)) is.few
 
   -- ---- a plan
 
@@ -71,20 +65,11 @@ module _ (s : State) (name : List ℕ) (a part : Array) (r : ArrayRef) (shows : 
       let P = λ (offset : ℕ). offset + item_size r.descr.now ≤ length r.block.now in
       subst (All P) (sym is.leads.offsets_are) (some-inside P (item_size (buffer_of s a).descr) (start_at (buffer_of s a).descr a.path) a.places is.places (subst (All P) shows.view.laid.places shows.inside) is.leads.among)
 
-  pub plan-few : (plan : Planned) → IsTarget s name a part (target.Plan plan) → count plan.shape * item_size r.descr.now ≤ max_bytes
-  plan-few plan is = subst (λ n. n ≤ max_bytes) (λ i. is.counted i * item_size (shows.descr i)) is.few
-
-  pub plan-lacks : (plan : Planned) (e : Refusal) → IsTarget s name a part (target.Plan plan) → e ≡ (if nat_le (count plan.shape * item_size r.descr.now) max_bytes then OutOfMemory else TooLarge) → e ≡ OutOfMemory
-  plan-lacks plan e is refused =
-      let small = le-leb (count plan.shape * item_size r.descr.now) max_bytes (plan-few plan is) in
-      refused ∙ ap (λ b. if b then OutOfMemory else TooLarge) small
-
   pub old-plan : (plan : Planned) (o : Owned) (x : Items) → IsTarget s name a part (target.Plan plan) → o.descr ≡ r.descr.now → o.layout.shape ≡ plan.shape → map (item_from r.descr.now o.block) (offsets o.layout) ≡ map (item_from r.descr.now r.block.now) plan.offsets →
-      x.block.now ≡ o.block → x.layout.now ≡ o.layout → x.descr.now ≡ o.descr → All (λ offset. offset + item_size x.descr.now ≤ length x.block.now) (offsets x.layout.now) → StandsFor s part x
-  old-plan plan o x is typed-o shaped items block laid typed inside = record {
+      x.block.now ≡ o.block → x.layout.now ≡ o.layout → x.descr.now ≡ o.descr → StandsFor s part x
+  old-plan plan o x is typed-o shaped items block laid typed = record {
     descr = ap (descr_of s) is.part_is ∙ shows.descr ∙ sym (typed ∙ typed-o);
     shape = ap (λ (a : Array). a.shape) is.part_is ∙ sym shaped ∙ ap (λ (l : Layout). l.shape) (sym laid);
     items = ap (read s) is.part_is ∙ items-at s a r is.places shows is.leads.among ∙ ap (map (item_from r.descr.now r.block.now)) (sym is.leads.offsets_are) ∙ sym items
         ∙ λ i. map (item_from (sym (typed ∙ typed-o) i) (sym block i)) (offsets (sym laid i));
-    inside = inside;
   }

@@ -8,7 +8,7 @@ ghost use Rattle.bench_engine.specs.IndexLists.{names_in_index, taken};
 ghost use Rattle.bench_engine.specs.Machine.{target_part};
 ghost use Rattle.bench_engine.specs.inside.Assigns.{GivesTarget, GivesAim};
 
-use crate::index::{are_plain, named_items, planned};
+use crate::index::planned;
 use elem_descr::Refusal;
 use name_store::{ArrayRef, Bench, Target};
 use script_lang::Name;
@@ -25,8 +25,8 @@ fn named_target(
     requires bound { list_all (is_bound bench.now.state) (names_in_index index.now) ≡ true }
     ensures { (a : Array) → Shows bench.now.state a array.now → GivesAim bench.now.state a array.now result (taken bench.now.state a index.now) }
 {
-    if are_plain(index) {
-        return Ok(Target::View(named_items(alloc, array.layout, index)?));
+    if view_ops::are_basic(index) {
+        return Ok(Target::View(view_ops::basic(alloc, array.layout, index)?));
     }
     Ok(Target::Plan(planned(alloc, bench, array, index)?))
 }

@@ -11,10 +11,10 @@ ghost use Rattle.bench_engine.specs.inside.Computed.{computed_contents};
 ghost use Rattle.bench_engine.specs.inside.OwnContents.{held};
 ghost use Rattle.bench_engine.specs.inside.Parts.{IsShown, Copies, Casts};
 
-use crate::operand::{items_taken, operand_items};
+use crate::operand::{items_of_view, operand_part};
 use crate::work::work_argument;
 use elem_descr::{Refusal, descr_read};
-use elementwise::{Items, apply1};
+use elementwise::apply1;
 use machine_numbers::{Red, UnOp};
 use name_store::{ArrayRef, Bench};
 use overlap_copy::Owned;
@@ -36,11 +36,7 @@ fn converted(alloc: Global, array: &ArrayRef<'_>, descr: &Text) -> Result<Owned,
     ensures { Casts descr.now array.now result }
 {
     let descr = descr_read(alloc, descr.as_slice())?;
-    let items = Items {
-        block: array.block,
-        layout: array.layout,
-        descr: array.descr,
-    };
+    let items = items_of_view(array, array.layout);
     elementwise::cast(alloc, items, &descr)
 }
 
@@ -56,10 +52,8 @@ fn combined(
     requires right { list_all (is_bound bench.now.state) (names_in_argument right.now) ≡ true }
     ensures { Gives held result (operation_contents bench.now.state operation left.now right.now) }
 {
-    let array = bench.get(&left.name).unwrap();
-    let taken = operand_items(alloc, bench, &array, &left.index)?;
-    let items = items_taken(&array, &taken);
-    work_argument(alloc, bench, operation, items, right)
+    let left = operand_part(alloc, bench, left)?;
+    work_argument(alloc, bench, operation, left.items(), right)
 }
 
 /// What an operation gives on an operand.
@@ -72,9 +66,8 @@ fn transformed(
     requires bound { list_all (is_bound bench.now.state) (names_in_operand operand.now) ≡ true }
     ensures { Gives held result (transformed bench.now.state operation operand.now) }
 {
-    let array = bench.get(&operand.name).unwrap();
-    let taken = operand_items(alloc, bench, &array, &operand.index)?;
-    apply1(alloc, operation, items_taken(&array, &taken))
+    let part = operand_part(alloc, bench, operand)?;
+    apply1(alloc, operation, part.items())
 }
 
 /// What a reduction gives on an array.
@@ -89,11 +82,7 @@ fn reduced(
     ensures { (s : State) (source : List ℕ) (a : Array) → find_array s.names source ≡ Some a → Shows s a array.now
         → Gives held result (reduced_contents s reduction source axis keep) }
 {
-    let items = Items {
-        block: array.block,
-        layout: array.layout,
-        descr: array.descr,
-    };
+    let items = items_of_view(array, array.layout);
     reductions::reduce(alloc, reduction, items, axis, keep)
 }
 

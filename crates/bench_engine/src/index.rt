@@ -2,10 +2,7 @@
 ghost use Rattle.std.specs.Prelude.{◌≡◌, ◌≤◌, ◌*◌, true, length, map, All, IfOk};
 ghost use Rattle.std.specs.List.{list_all};
 ghost use Rattle.elem_descr.specs.Items.{item_size};
-ghost use Rattle.shape_strides.specs.IndexItems.{is_basic};
 ghost use Rattle.shape_strides.specs.Limits.{max_bytes};
-ghost use Rattle.view_ops.specs.Basics.{basic};
-ghost use Rattle.view_ops.specs.Views.{GivesView, KeepsNested};
 ghost use Rattle.fancy_index.specs.IndexArrays.{with_array, with_arrays};
 ghost use Rattle.fancy_index.specs.Plans.{GivesPlan};
 ghost use Rattle.fancy_index.specs.Sources.{index_array_of, LiesInBlock, IsNamed};
@@ -19,15 +16,8 @@ use elem_descr::Refusal;
 use fancy_index::{Indices, Plan, plan};
 use name_store::{ArrayRef, Bench};
 use script_lang::Name;
-use shape_strides::{IndexItem, Layout, MAX_BYTES};
+use shape_strides::{IndexItem, MAX_BYTES};
 use std::alloc::{AllocError, Global};
-
-/// Whether no item of an index list names an array.
-pub fn are_plain(index: &[IndexItem<Name>]) -> bool
-    ensures { result ≡ list_all is_basic index.now }
-{
-    view_ops::are_basic(index)
-}
 
 /// Whether the name in an item is bound.
 fn is_bound(bench: &Bench, item: &IndexItem<Name>) -> bool
@@ -49,19 +39,6 @@ pub fn are_bound(bench: &Bench, index: &[IndexItem<Name>]) -> bool
         }
     }
     true
-}
-
-/// The view of a layout that an index list names.
-pub fn named_items(
-    alloc: Global,
-    layout: &Layout,
-    index: &[IndexItem<Name>],
-) -> Result<Layout, Refusal>
-    requires { list_all is_basic index.now ≡ true }
-    ensures view { GivesView layout.now result (basic layout.now.shape index.now) }
-    ensures nested { IfOk result (KeepsNested layout.now) }
-{
-    view_ops::basic(alloc, layout, index)
 }
 
 /// An item with a number in the place of its name: that of the name's array, which comes after the

@@ -1,18 +1,17 @@
 //! Operands: parts of the arrays of names.
-ghost use Rattle.std.specs.Prelude.{◌≡◌, ◌≤◌, ◌+◌, ◌∷◌, [], ℕ, Bool, List, true, length, unwrap_or, All};
+ghost use Rattle.std.specs.Prelude.{◌≡◌, ◌≤◌, ◌+◌, ◌∷◌, [], true, length, unwrap_or, All};
 ghost use Rattle.std.specs.List.{list_all};
 ghost use Rattle.elem_descr.specs.Items.{item_size};
 ghost use Rattle.shape_strides.specs.IndexItems.{is_basic};
 ghost use Rattle.shape_strides.specs.Layouts.{offsets};
 ghost use Rattle.shape_strides.specs.declared.index_item.IndexItem.TheVariants.{Ellipsis};
-ghost use Rattle.view_ops.specs.Views.{View};
 ghost use Rattle.name_store.specs.Arrays.{is_bound};
 ghost use Rattle.name_store.specs.Shown.{Shows};
 ghost use Rattle.name_store.specs.States.{State, Array};
 ghost use Rattle.bench_engine.specs.IndexLists.{names_in_index, taken};
-ghost use Rattle.bench_engine.specs.Machine.{viewed, names_in_operand, names_in_argument};
-ghost use Rattle.bench_engine.specs.inside.Assigns.{IsTaken, GivesTaken};
-ghost use Rattle.bench_engine.specs.inside.Operands.{StandsFor};
+ghost use Rattle.bench_engine.specs.Machine.{operand_part, names_in_operand, names_in_argument};
+ghost use Rattle.bench_engine.specs.inside.Assigns.{GivesTaken};
+ghost use Rattle.bench_engine.specs.inside.Operands.{StandsFor, IsPart, GivesPart};
 
 use crate::index::are_bound;
 use crate::taken::take;
@@ -78,14 +77,36 @@ pub fn items_of_view<'a>(array: &'a ArrayRef<'_>, view: &'a Layout) -> Items<'a>
     }
 }
 
-/// The items that are taken of an array.
-pub fn items_taken<'a>(array: &'a ArrayRef<'_>, taken: &'a Bound) -> Items<'a>
-    requires { (s : State) × (a : Array) × (plain : Bool) × (view : View) × Shows s a array.now × IsTaken s a array.now plain taken.now view }
-    ensures { (s : State) (a : Array) (plain : Bool) (view : View) → Shows s a array.now → IsTaken s a array.now plain taken.now view
-        → StandsFor s (viewed a view) result }
-{
-    match taken {
-        Bound::View { layout, .. } => items_of_view(array, layout),
-        Bound::Fresh(copy) => copy.items(),
+/// The part of an array that an operand is: a view, or a copy.
+#[derive(Drop)]
+pub struct Part<'a> {
+    pub array: ArrayRef<'a>,
+    pub taken: Bound,
+}
+
+impl Part<'_> {
+    /// The items of the part.
+    pub fn items(&self) -> Items<'_>
+        requires { (s : State) × (part : Array) × IsPart s part self.now }
+        ensures { (s : State) (part : Array) → IsPart s part self.now → StandsFor s part result }
+    {
+        match &self.taken {
+            Bound::View { layout, .. } => items_of_view(&self.array, layout),
+            Bound::Fresh(copy) => copy.items(),
+        }
     }
+}
+
+/// The part that an operand is of the array of its name.
+pub fn operand_part<'a>(
+    alloc: Global,
+    bench: &'a Bench,
+    operand: &Operand,
+) -> Result<Part<'a>, Refusal>
+    requires { list_all (is_bound bench.now.state) (names_in_operand operand.now) ≡ true }
+    ensures { GivesPart bench.now.state result (operand_part bench.now.state operand.now) }
+{
+    let array = bench.get(&operand.name).unwrap();
+    let taken = operand_items(alloc, bench, &array, &operand.index)?;
+    Ok(Part { array, taken })
 }

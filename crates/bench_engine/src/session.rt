@@ -124,9 +124,7 @@ impl Session {
         self.line.hold(rest);
         Ok(())
     }
-}
 
-impl Session {
     /// An empty bench that keeps so many earlier states, and no byte yet. All room that a run needs for
     /// itself is taken here.
     pub fn new(alloc: Global, depth: usize) -> Result<Session, AllocError>

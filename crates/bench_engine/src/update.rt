@@ -13,10 +13,10 @@ ghost use Rattle.name_store.specs.Shown.{Shows};
 ghost use Rattle.name_store.specs.States.{Array};
 ghost use Rattle.bench_engine.specs.Machine.{OperandValues, argument_values, literal_values, updated_items, changed_with, updated, names_in_argument};
 ghost use Rattle.bench_engine.specs.inside.Assigns.{IsTarget};
-ghost use Rattle.bench_engine.specs.inside.Operands.{LieInside, Stands, GivesChanged};
+ghost use Rattle.bench_engine.specs.inside.Operands.{Stands, GivesChanged};
 
-use crate::operand::{items_taken, operand_items};
-use crate::work::{items_of, result_scalar, work, work_literal};
+use crate::operand::{items_of_view, operand_part};
+use crate::work::{result_scalar, work, work_literal};
 use elem_descr::{Descr, Refusal};
 use elementwise::{Items, keeps_items, same_kind, scalar_of};
 use name_store::{ArrayRef, Bench, Target};
@@ -34,12 +34,7 @@ fn as_old(alloc: Global, new: Owned, descr: &Descr) -> Result<Owned, Refusal>
     if keeps_items(&new.block, &new.descr, descr) {
         return Ok(new);
     }
-    let items = Items {
-        block: &new.block,
-        layout: &new.layout,
-        descr: &new.descr,
-    };
-    elementwise::cast(alloc, items, descr)
+    elementwise::cast(alloc, new.items(), descr)
 }
 
 /// Items, changed by an operation with other items, which are stretched to their shape.
@@ -50,8 +45,6 @@ fn changed_by_items(
     items: Items<'_>,
 ) -> Result<Owned, Refusal>
     requires few { count old.layout.now.shape * item_size old.descr.now ≤ max_bytes }
-    requires inside { LieInside old }
-    requires also { LieInside items }
     ensures { (v w : OperandValues) → Stands v old.entry → Stands w items.entry
         → GivesChanged old.entry.descr.now (count v.shape) result (updated_items operation old.entry.descr.now v w) }
 {
@@ -70,7 +63,6 @@ fn changed_by_literal(
     literal: &Literal,
 ) -> Result<Owned, Refusal>
     requires few { count old.layout.now.shape * item_size old.descr.now ≤ max_bytes }
-    requires inside { LieInside old }
     ensures { (v : OperandValues) → Stands v old.entry → GivesChanged old.entry.descr.now (count v.shape) result
         (changed_with operation old.entry.descr.now v (literal_values operation old.entry.descr.now literal.now)) }
 {
@@ -92,13 +84,11 @@ fn changed_by_operand(
 ) -> Result<Owned, Refusal>
     requires bound { list_all (is_bound bench.now.state) (names_in_argument (argument.Operand operand.now)) ≡ true }
     requires few { count old.layout.now.shape * item_size old.descr.now ≤ max_bytes }
-    requires inside { LieInside old }
     ensures { (v : OperandValues) → Stands v old.entry → GivesChanged old.entry.descr.now (count v.shape) result
         (changed_with operation old.entry.descr.now v (argument_values bench.now.state operation old.entry.descr.now (argument.Operand operand.now))) }
 {
-    let array = bench.get(&operand.name).unwrap();
-    let taken = operand_items(alloc, bench, &array, &operand.index)?;
-    changed_by_items(alloc, operation, old, items_taken(&array, &taken))
+    let part = operand_part(alloc, bench, operand)?;
+    changed_by_items(alloc, operation, old, part.items())
 }
 
 /// Items, changed by an operation with an argument.
@@ -111,7 +101,6 @@ fn changed(
 ) -> Result<Owned, Refusal>
     requires bound { list_all (is_bound bench.now.state) (names_in_argument value.now) ≡ true }
     requires few { count old.layout.now.shape * item_size old.descr.now ≤ max_bytes }
-    requires inside { LieInside old }
     ensures { (v : OperandValues) → Stands v old.entry → GivesChanged old.entry.descr.now (count v.shape) result
         (changed_with operation old.entry.descr.now v (argument_values bench.now.state operation old.entry.descr.now value.now)) }
 {
@@ -143,16 +132,12 @@ pub fn updated(
 {
     match target {
         Target::View(layout) => {
-            let old = Items {
-                block: array.block,
-                layout,
-                descr: array.descr,
-            };
+            let old = items_of_view(array, layout);
             changed(alloc, bench, change.operation, old, change.value)
         }
         Target::Plan(plan) => {
             let old = plan.gather_owned(alloc, array.block, array.descr)?;
-            changed(alloc, bench, change.operation, items_of(&old), change.value)
+            changed(alloc, bench, change.operation, old.items(), change.value)
         }
     }
 }

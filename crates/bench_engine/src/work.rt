@@ -20,7 +20,7 @@ ghost use Rattle.bench_engine.specs.inside.OwnContents.{held, IsInCOrder};
 
 use crate::contents::filled;
 use crate::item::item_of;
-use crate::operand::{items_taken, operand_items};
+use crate::operand::operand_part;
 use elem_descr::{Descr, Refusal, Scalar};
 use elementwise::{
     Items, apply2, compare, compare_bytes, compare_integer, compared_type, literal_type, promote,
@@ -32,16 +32,6 @@ use overlap_copy::Owned;
 use script_lang::{Argument, Literal, Operand, Operation, ScalarLiteral};
 use shape_strides::{MemoryOrder, Shape};
 use std::alloc::Global;
-
-/// The items of a block of its own.
-pub fn items_of(owned: &Owned) -> Items<'_>
-    ensures block { result.block.now ≡ owned.now.block }
-    ensures layout { result.layout.now ≡ owned.now.layout }
-    ensures descr { result.descr.now ≡ owned.now.descr }
-    ensures inside { All (λ offset. offset + item_size result.descr.now ≤ length result.block.now) (offsets result.layout.now) }
-{
-    owned.items()
-}
 
 /// The type of what an operation gives on items of two types.
 pub fn result_scalar(operation: Operation, left: &Descr, right: &Descr) -> Result<Scalar, Refusal>
@@ -62,8 +52,6 @@ pub fn work(
     left: Items<'_>,
     right: Items<'_>,
 ) -> Result<Owned, Refusal>
-    requires left { All (λ offset. offset + item_size left.descr.now ≤ length left.block.now) (offsets left.layout.now) }
-    requires right { All (λ offset. offset + item_size right.descr.now ≤ length right.block.now) (offsets right.layout.now) }
     ensures gives { (v w : OperandValues) → Stands v left.entry → Stands w right.entry → Gives held result (operation_on operation v w) }
     ensures order { IfOk result IsInCOrder }
 {
@@ -107,13 +95,6 @@ fn literal_scalar(beside: &Scalar, literal: &Literal) -> Result<Scalar, Refusal>
     }
 }
 
-/// The type of what an operation gives on items of a scalar and a literal of another.
-fn promoted(op: BinOp, beside: &Scalar, scalar: &Scalar) -> Result<Scalar, Refusal>
-    ensures { Answers (λ s. s) result (promote op beside.now scalar.now) }
-{
-    promote(op, *beside, *scalar)
-}
-
 /// The item that a literal is beside items of an element type.
 fn worked_literal(
     alloc: Global,
@@ -125,48 +106,15 @@ fn worked_literal(
 {
     let beside = scalar_of(descr)?;
     let scalar = literal_scalar(&beside, literal)?;
-    promoted(op, &beside, &scalar)?;
+    promote(op, beside, scalar)?;
     single(alloc, &scalar, literal)
 }
 
 /// The number that a bool is.
-fn number_of(value: &bool) -> i128
-    ensures { result ≡ literal_number (Boolean value.now) }
+fn number_of(value: bool) -> i128
+    ensures { result ≡ literal_number (Boolean value) }
 {
-    if *value { 1 } else { 0 }
-}
-
-/// A comparison of items with a number.
-fn compare_number(
-    alloc: Global,
-    comparison: Comparison,
-    operand: Items<'_>,
-    number: &i128,
-) -> Result<Owned, Refusal>
-    requires inside { All (λ offset. offset + item_size operand.descr.now ≤ length operand.block.now) (offsets operand.layout.now) }
-    ensures gives { Gives (λ o. (o.descr, o.layout.shape)) result (integer_compared_result operand.entry.descr.now operand.entry.layout.now.shape) }
-    ensures order { IfOk result IsInCOrder }
-    ensures items { IfOk result (λ o. map (item_from o.descr o.block) (offsets o.layout)
-        ≡ map (λ offset. compared_item comparison (item_from operand.entry.descr.now operand.entry.block.now offset) (leaf.number number.now ∷ [])) (offsets operand.entry.layout.now)) }
-{
-    compare_integer(alloc, comparison, operand, *number)
-}
-
-/// A comparison of items with a bool.
-fn compare_bool(
-    alloc: Global,
-    comparison: Comparison,
-    operand: Items<'_>,
-    value: &bool,
-) -> Result<Owned, Refusal>
-    requires inside { All (λ offset. offset + item_size operand.descr.now ≤ length operand.block.now) (offsets operand.layout.now) }
-    ensures gives { Gives (λ o. (o.descr, o.layout.shape)) result (integer_compared_result operand.entry.descr.now operand.entry.layout.now.shape) }
-    ensures order { IfOk result IsInCOrder }
-    ensures items { IfOk result (λ o. map (item_from o.descr o.block) (offsets o.layout)
-        ≡ map (λ offset. compared_item comparison (item_from operand.entry.descr.now operand.entry.block.now offset) (literal_value (Boolean value.now) ∷ [])) (offsets operand.entry.layout.now)) }
-{
-    let number = number_of(value);
-    compare_integer(alloc, comparison, operand, number)
+    if value { 1 } else { 0 }
 }
 
 /// A comparison of items with a literal, by value.
@@ -176,7 +124,6 @@ fn compare_literal(
     left: Items<'_>,
     literal: &Literal,
 ) -> Result<Owned, Refusal>
-    requires left { All (λ offset. offset + item_size left.descr.now ≤ length left.block.now) (offsets left.layout.now) }
     ensures gives { (v : OperandValues) → Stands v left.entry → Gives held result (operation_with (operation.Compare comparison) v (compared_literal v.descr literal.now)) }
     ensures order { IfOk result IsInCOrder }
 {
@@ -186,8 +133,13 @@ fn compare_literal(
     // What is known of a shape comes with this call.
     let _lengths = left.layout.shape.as_slice();
     match literal {
-        ScalarLiteral::Integer(value) => compare_number(alloc, comparison, left, value),
-        ScalarLiteral::Boolean(value) => compare_bool(alloc, comparison, left, value),
+        ScalarLiteral::Integer(value) => compare_integer(alloc, comparison, left, *value),
+        ScalarLiteral::Boolean(value) => compare_integer(
+            alloc,
+            comparison,
+            left,
+            number_of(*value),
+        ),
         ScalarLiteral::Bytes(bytes) => compare_bytes(alloc, comparison, left, bytes.as_slice()),
     }
 }
@@ -199,14 +151,13 @@ pub fn work_literal(
     left: Items<'_>,
     literal: &Literal,
 ) -> Result<Owned, Refusal>
-    requires left { All (λ offset. offset + item_size left.descr.now ≤ length left.block.now) (offsets left.layout.now) }
     ensures gives { (v : OperandValues) → Stands v left.entry → Gives held result (operation_with operation v (literal_values operation v.descr literal.now)) }
     ensures order { IfOk result IsInCOrder }
 {
     match operation {
         Operation::Binary(op) => {
             let item = worked_literal(alloc, op, left.descr, literal)?;
-            apply2(alloc, op, left, items_of(&item))
+            apply2(alloc, op, left, item.items())
         }
         Operation::Compare(comparison) => compare_literal(alloc, comparison, left, literal),
     }
@@ -223,12 +174,10 @@ fn work_operand(
     operand: &Operand,
 ) -> Result<Owned, Refusal>
     requires bound { list_all (is_bound bench.now.state) (names_in_argument (argument.Operand operand.now)) ≡ true }
-    requires left { All (λ offset. offset + item_size left.descr.now ≤ length left.block.now) (offsets left.layout.now) }
     ensures { (v : OperandValues) → Stands v left.entry → Gives held result (operation_with operation v (argument_values bench.now.state operation v.descr (argument.Operand operand.now))) }
 {
-    let array = bench.get(&operand.name).unwrap();
-    let taken = operand_items(alloc, bench, &array, &operand.index)?;
-    work(alloc, operation, left, items_taken(&array, &taken))
+    let right = operand_part(alloc, bench, operand)?;
+    work(alloc, operation, left, right.items())
 }
 
 /// What an operation gives on items and an argument.
@@ -240,7 +189,6 @@ pub fn work_argument(
     right: &Argument,
 ) -> Result<Owned, Refusal>
     requires bound { list_all (is_bound bench.now.state) (names_in_argument right.now) ≡ true }
-    requires left { All (λ offset. offset + item_size left.descr.now ≤ length left.block.now) (offsets left.layout.now) }
     ensures { (v : OperandValues) → Stands v left.entry → Gives held result (operation_with operation v (argument_values bench.now.state operation v.descr right.now)) }
 {
     match right {

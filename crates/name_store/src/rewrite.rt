@@ -4,12 +4,11 @@ ghost use Rattle.std.specs.Prelude.{◌≡◌, ◌+◌, ◌≤◌, length, All, 
 ghost use Rattle.std.specs.List.{flat_map};
 ghost use Rattle.raw_block.specs.Bytes.{EachWithin};
 ghost use Rattle.shape_strides.specs.Limits.{max_bytes};
-ghost use Rattle.shape_strides.specs.Indexes.{count};
-ghost use Rattle.shape_strides.specs.Layouts.{offsets, Fits, IsNested};
+ghost use Rattle.shape_strides.specs.Layouts.{offsets, Fits};
 ghost use Rattle.shape_strides.specs.Runs.{run_offsets};
 ghost use Rattle.overlap_copy.specs.Assignments.{assigned};
 ghost use Rattle.fancy_index.specs.Plans.{put_each};
-ghost use Rattle.name_store.specs.Memory.{AreShifted, MoveInPlace};
+ghost use Rattle.name_store.specs.Memory.{AreShifted};
 ghost use Rattle.name_store.specs.Targets.{target_offsets};
 ghost use Rattle.name_store.specs.inside.Puts.{MayPut, InPlace};
 
@@ -80,33 +79,6 @@ fn are_shifted(to: &Layout, from: &Layout, width: usize) -> bool
     have_same_strides(to, from) && to.is_stacked(width)
 }
 
-/// The items of a layout become those of another in the same block as they were before. All memory
-/// is asked for before the first change.
-fn assign_within(
-    alloc: Global,
-    block: &mut RawBlock,
-    to: &Layout,
-    from: &Layout,
-    width: usize,
-) -> Result<(), AllocError>
-    requires small { length block.old ≤ max_bytes }
-    requires item { 1 ≤ width }
-    requires to { Fits to.now (length block.old) width }
-    requires from { Fits from.now (length block.old) width }
-    requires nested { IsNested (offsets to.now) width }
-    requires count { count to.now.shape ≡ count from.now.shape }
-    ensures written { IfOk result (λ _. block.new ≡ assigned (offsets to.now) (offsets from.now) width block.old block.old) }
-    ensures kept { IfErr result (λ _. block.new ≡ block.old) }
-    ensures len { length block.new ≡ length block.old }
-    ensures in_place { MoveInPlace to.now from.now width → IsOk result }
-{
-    if are_shifted(to, from, width) {
-        assign_shifted(block, to, from, width);
-        return Ok(());
-    }
-    assign(alloc, block, to, from, width)
-}
-
 /// The items of a target become those of a layout in the same block as they were before. All memory
 /// is asked for before the first change.
 pub(crate) fn move_to(
@@ -127,7 +99,13 @@ pub(crate) fn move_to(
     ensures in_place { InPlace target.now from.now width → IsOk result }
 {
     match target {
-        Target::View(to) => assign_within(alloc, block, to, from, width),
+        Target::View(to) => {
+            if are_shifted(to, from, width) {
+                assign_shifted(block, to, from, width);
+                return Ok(());
+            }
+            assign(alloc, block, to, from, width)
+        }
         Target::Plan(plan) => {
             let items = gather(alloc, block, from, width)?;
             plan.scatter(block, &items, width);

@@ -1,20 +1,18 @@
-use Rattle.std.proofs.Common.{◌≡◌, ◌⊎◌, ap, sym, ◌∙◌, inl, inr, Err}
+use Rattle.std.proofs.Common.{ap, sym, ◌∙◌}
 use Rattle.std.proofs.lemmas.Result.{err_from_is_err_and}
-use Rattle.elem_descr.specs.declared.refusal.Refusal.TheVariants.{OutOfMemory}
 use Rattle.elem_descr.specs.DescrTexts.{descriptor}
-use Rattle.bench_engine.specs.Machine.{cast_contents}
 use Rattle.bench_engine.proofs.Casts.{cast-gives, contents-bad}
+use Rattle.bench_engine.proofs.Makes.{passed}
 use Rattle.bench_engine.proofs.computed.converted.Goals as goal
 
 pub returns-in_err-descr : goal.returns-in_err-descr
 returns-in_err-descr c s a shows =
     let p = err_from_is_err_and c.from_residual.result c.from_residual.ensures.1 in
-    rw (p.1, p.2) (elim c.in_err-descr.ensures as (λ _. (c.in_err-descr.field-0.0 ≡ OutOfMemory) ⊎ (cast_contents s a c.args.descr.now ≡ Err c.in_err-descr.field-0.0)) [
-      | inl lacks ↦ inl lacks
-      | inr bad ↦ inr (contents-bad s a c.args.descr.now c.in_err-descr.field-0.0 (ap descriptor (sym c.as_slice.ensures) ∙ bad))
-    ])
+    rw (p.1, p.2) (passed (descriptor c.as_slice.result.now) _ _ (λ bad. contents-bad s a c.args.descr.now _ (ap descriptor (sym c.as_slice.ensures) ∙ bad)) c.in_err-descr.ensures)
 
 pub returns : goal.returns
 returns c s a shows =
     let e = c.cast.ensures in
-    cast-gives s a c.args.array.now c.args.descr.now c.in_ok-descr.descr c.cast.result shows (ap descriptor (sym c.as_slice.ensures) ∙ c.in_ok-descr.ensures) e.descr e.shape e.order e.items e.can e.within e.refused
+    let i = c.items_of_view-items.ensures in
+    cast-gives s a c.args.array.now c.args.descr.now c.in_ok-descr.descr c.cast.result shows (ap descriptor (sym c.as_slice.ensures) ∙ c.in_ok-descr.ensures) e.descr (rw i.layout at e.shape) (rw i.layout at e.order) (rw (i.block, i.layout, i.descr) at e.items)
+    (rw i.descr at e.can) (rw i.layout at e.within) (rw (i.layout, i.descr) at e.refused)

@@ -1,33 +1,24 @@
-use Rattle.std.proofs.Common.{◌∷◌, [], unwrap_or}
-use Rattle.std.specs.List.{list_all}
 use Rattle.std.proofs.lemmas.Result.{err_from_is_err_and}
-use Rattle.shape_strides.specs.IndexItems.{is_basic}
-use Rattle.shape_strides.specs.declared.index_item.IndexItem.TheVariants.{Ellipsis}
-use Rattle.name_store.specs.ArrayLaws.{found-array}
-use Rattle.bench_engine.specs.IndexLists.{taken}
-use Rattle.bench_engine.proofs.Computes.{part-bad, part-done, transformed-bad, transformed-gives}
-use Rattle.bench_engine.proofs.GivenLaws.{given-taken}
+use Rattle.bench_engine.specs.Machine.{operand_part}
+use Rattle.bench_engine.proofs.Computes.{transformed-bad, transformed-gives}
 use Rattle.bench_engine.proofs.Makes.{passed}
+use Rattle.bench_engine.proofs.OperandLaws.{given-part}
 use Rattle.bench_engine.proofs.computed.transformed.Goals as goal
 
-pub returns-in_err-taken : goal.returns-in_err-taken
-returns-in_err-taken c =
+pub returns-in_err-part : goal.returns-in_err-part
+returns-in_err-part c =
     let s = c.args.bench.now.state in
-    let it = found-array s _ c.unwrap-array.result (rw c.unwrap-array.ensures at c.get.ensures) in
     let p = err_from_is_err_and c.from_residual.result c.from_residual.ensures.1 in
-    rw (p.1, p.2) (passed (taken s it.0 (unwrap_or c.args.operand.now.index (Ellipsis ∷ []))) _ _ (λ bad. transformed-bad s c.args.operation c.args.operand.now _ (part-bad s c.args.operand.now it.0 it.1 _ bad)) (c.in_err-taken.ensures it.0 it.2))
+    rw (p.1, p.2) (passed (operand_part s c.args.operand.now) _ _ (transformed-bad s c.args.operation c.args.operand.now _) c.in_err-part.ensures)
 
-pub items_taken-requires : goal.items_taken-requires
-items_taken-requires c =
-    let s = c.args.bench.now.state in
-    let it = found-array s _ c.unwrap-array.result (rw c.unwrap-array.ensures at c.get.ensures) in
-    let is = given-taken s it.0 c.unwrap-array.result (list_all is_basic (unwrap_or c.args.operand.now.index (Ellipsis ∷ []))) c.in_ok-taken.taken (taken s it.0 (unwrap_or c.args.operand.now.index (Ellipsis ∷ []))) (c.in_ok-taken.ensures it.0 it.2) in
-    (s, it.0, _, is.0, it.2, is.2)
+pub items-requires : goal.items-requires
+items-requires c =
+    let is = given-part c.args.bench.now.state c.in_ok-part.part (operand_part c.args.bench.now.state c.args.operand.now) c.in_ok-part.ensures in
+    (c.args.bench.now.state, is.0, is.2)
 
 pub returns : goal.returns
 returns c =
     let s = c.args.bench.now.state in
-    let it = found-array s _ c.unwrap-array.result (rw c.unwrap-array.ensures at c.get.ensures) in
-    let is = given-taken s it.0 c.unwrap-array.result (list_all is_basic (unwrap_or c.args.operand.now.index (Ellipsis ∷ []))) c.in_ok-taken.taken (taken s it.0 (unwrap_or c.args.operand.now.index (Ellipsis ∷ []))) (c.in_ok-taken.ensures it.0 it.2) in
+    let is = given-part s c.in_ok-part.part (operand_part s c.args.operand.now) c.in_ok-part.ensures in
     let e = c.apply1.ensures in
-    transformed-gives s c.args.operation c.args.operand.now _ c.items_taken.result c.apply1.result (part-done s c.args.operand.now it.0 it.1 is.0 is.1) (c.items_taken.ensures s it.0 _ is.0 it.2 is.2) e.gives e.order e.items
+    transformed-gives s c.args.operation c.args.operand.now is.0 c.items.result c.apply1.result is.1 (c.items.ensures s is.0 is.2) e.gives e.order e.items

@@ -1,21 +1,23 @@
-use Rattle.std.proofs.Common.{◌≡◌, ◌*◌, ◌∙◌, [], ◌∷◌, sym, inl, inr, arith, ap}
+use Rattle.std.proofs.Common.{◌≡◌, ◌*◌, ◌∙◌, [], ◌∷◌, sym, inl, inr, arith, ap, refl}
 use Rattle.std.proofs.lemmas.Result.{err_from_is_err_and}
 use Rattle.elem_descr.specs.Encoding.{size}
 use Rattle.shape_strides.specs.Indexes.{count}
 use Rattle.literal_items.specs.RangeItems.{range_items}
-use Rattle.bench_engine.specs.Contents.{range_scalar}
-use Rattle.bench_engine.proofs.Makes.{passed, range-shape, range-shape-refused, arange-type, arange-length, arange-range, arange-done, in-order}
+use Rattle.bench_engine.specs.Contents.{range_scalar, arange_contents}
+use Rattle.bench_engine.proofs.Makes.{passed, range-shape, range-shape-refused, arange-done, in-order}
 use Rattle.bench_engine.proofs.contents.arange.Goals as goal
 
 pub returns-in_err-scalar : goal.returns-in_err-scalar
+unfolding arange_contents
 returns-in_err-scalar c =
     let p = err_from_is_err_and c.from_residual.result c.from_residual.ensures.1 in
-    rw (p.1, p.2) (passed (range_scalar c.args.descr.now) _ _ (arange-type _ _ _ _ _) c.in_err-scalar.ensures.value)
+    rw (p.1, p.2) (passed (range_scalar c.args.descr.now) _ _ (λ bad. rw bad refl) c.in_err-scalar.ensures.value)
 
 pub returns-in_err-len : goal.returns-in_err-len
+unfolding arange_contents range_items
 returns-in_err-len c =
     let p = err_from_is_err_and c.from_residual-in_err-len.result c.from_residual-in_err-len.ensures.1 in
-    rw (p.1, p.2) (inr (arange-length _ _ _ _ _ _ c.in_ok-scalar.ensures.value (sym c.in_err-len.ensures.value)))
+    rw (p.1, p.2) (inr (rw (c.in_ok-scalar.ensures.value, sym c.in_err-len.ensures.value) refl))
 
 pub returns-in_err-shape : goal.returns-in_err-shape
 returns-in_err-shape c =
@@ -23,9 +25,10 @@ returns-in_err-shape c =
     rw p.1 (inl (p.2 ∙ range-shape-refused c.in_ok-len.len _ c.in_ok-len.ensures.few c.in_err-shape.ensures))
 
 pub returns-in_err-block : goal.returns-in_err-block
+unfolding arange_contents
 returns-in_err-block c =
     let p = err_from_is_err_and c.from_residual-in_err-block.result c.from_residual-in_err-block.ensures.1 in
-    rw (p.1, p.2) (passed (range_items c.in_ok-scalar.scalar c.args.start.now c.args.stop.now c.args.step.now) _ _ (arange-range _ _ _ _ _ _ c.in_ok-scalar.ensures.value) c.in_err-block.ensures.items)
+    rw (p.1, p.2) (passed (range_items c.in_ok-scalar.scalar c.args.start.now c.args.stop.now c.args.step.now) _ _ (λ bad. rw (c.in_ok-scalar.ensures.value, bad) refl) c.in_err-block.ensures.items)
 
 pub over-requires-clause-whole : goal.over-requires-clause-whole
 over-requires-clause-whole c =

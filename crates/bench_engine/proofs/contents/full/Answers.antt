@@ -1,21 +1,23 @@
-use Rattle.std.proofs.Common.{◌≡◌, ◌∙◌, ap, sym, subst, length, replicate, Ok, arith}
+use Rattle.std.proofs.Common.{◌≡◌, ◌∙◌, ap, sym, subst, length, replicate, Ok, arith, refl}
 use Rattle.std.proofs.lemmas.Result.{err_from_is_err_and}
 use Rattle.elem_descr.specs.Items.{item_size, decode_item}
 use Rattle.elem_descr.specs.Blocks.{blocks}
 use Rattle.literal_items.specs.LiteralItems.{item_value}
-use Rattle.bench_engine.specs.Contents.{array_type}
-use Rattle.bench_engine.proofs.Makes.{passed, full-type, full-literal, full-done}
+use Rattle.bench_engine.specs.Contents.{array_type, full_contents}
+use Rattle.bench_engine.proofs.Makes.{passed, full-done}
 use Rattle.bench_engine.proofs.contents.full.Goals as goal
 
 pub returns-in_err-descr : goal.returns-in_err-descr
+unfolding full_contents
 returns-in_err-descr c =
     let p = err_from_is_err_and c.from_residual.result c.from_residual.ensures.1 in
-    rw (p.1, p.2) (passed (array_type c.args.descr.now c.args.lengths.now) _ _ (full-type _ _ _ _) c.in_err-descr.ensures.value)
+    rw (p.1, p.2) (passed (array_type c.args.descr.now c.args.lengths.now) _ _ (λ bad. rw bad refl) c.in_err-descr.ensures.value)
 
 pub returns-in_err-item : goal.returns-in_err-item
+unfolding full_contents
 returns-in_err-item c =
     let p = err_from_is_err_and c.from_residual-in_err-item.result c.from_residual-in_err-item.ensures.1 in
-    rw (p.1, p.2) (passed (item_value c.in_ok-descr.descr c.args.literal.now) _ _ (full-literal _ _ _ _ _ _ c.in_ok-descr.ensures.value) c.in_err-item.ensures.value)
+    rw (p.1, p.2) (passed (item_value c.in_ok-descr.descr c.args.literal.now) _ _ (λ bad. rw (c.in_ok-descr.ensures.value, bad) refl) c.in_err-item.ensures.value)
 
 pub returns : goal.returns
 returns c =

@@ -6,15 +6,17 @@ use Rattle.shape_strides.specs.IndexItems.{is_basic}
 use Rattle.shape_strides.specs.declared.index_item.IndexItem.TheVariants.{Ellipsis}
 use Rattle.bench_engine.specs.IndexLists.{taken}
 use Rattle.bench_engine.specs.inside.Assigns.{Fitted}
-use Rattle.bench_engine.proofs.GivenLaws.{none-taken, taken-view, taken-copy, view-given, copy-given}
+use Rattle.bench_engine.proofs.GivenLaws.{items-bad, taken-view, taken-copy, view-given, copy-given}
+use Rattle.bench_engine.proofs.Makes.{passed}
 use Rattle.bench_engine.proofs.OperandLaws.{view-within}
 use Rattle.bench_engine.proofs.given.given_operand.Goals as goal
 
 pub returns-in_err-number : goal.returns-in_err-number
 returns-in_err-number c =
-    let it = found-array c.args.bench.now.state _ c.unwrap-array.result (rw c.unwrap-array.ensures at c.get.ensures) in
+    let s = c.args.bench.now.state in
+    let it = found-array s _ c.unwrap-array.result (rw c.unwrap-array.ensures at c.get.ensures) in
     let p = err_from_is_err_and c.from_residual.result c.from_residual.ensures.1 in
-    rw (p.1, p.2) (none-taken c.args.bench.now.state c.args.operand.now c.args.descr.now c.args.shape.now it.0 it.1 c.unwrap-array.result (list_all is_basic (unwrap_or c.args.operand.now.index (Ellipsis ∷ []))) _ (c.in_err-number.ensures it.0 it.2))
+    rw (p.1, p.2) (passed (taken s it.0 (unwrap_or c.args.operand.now.index (Ellipsis ∷ []))) _ _ (items-bad s c.args.operand.now c.args.descr.now c.args.shape.now it.0 it.1 _) (c.in_err-number.ensures it.0 it.2))
 
 pub items_of_view-items-requires : goal.items_of_view-items-requires
 items_of_view-items-requires c =

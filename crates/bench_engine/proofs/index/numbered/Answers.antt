@@ -1,11 +1,12 @@
 use Rattle.std.proofs.Common.{◌≡◌, ap, sym, refl, ◌∙◌, map, get_or, length, arith}
 use Rattle.shape_strides.specs.declared.index_item.IndexItem.TheVariants.{Array as ArrayItem}
 use Rattle.fancy_index.specs.IndexArrays.{no_array}
-use Rattle.fancy_index.specs.Sources.{index_array_of}
+use Rattle.fancy_index.specs.Sources.{index_array_of, LiesInBlock}
 use Rattle.fancy_index.specs.declared.source.Indices.{Indices}
 use Rattle.name_store.specs.ArrayLaws.{found-array}
 use Rattle.bench_engine.specs.IndexLists.{by_items}
-use Rattle.bench_engine.proofs.IndexLaws.{next-array, array-is, all-lie}
+use Rattle.bench_engine.proofs.IndexLaws.{next-array, array-is}
+use Rattle.std.proofs.lemmas.List.Elements.{All-push}
 use Rattle.bench_engine.proofs.index.numbered.Goals as goal
 
 pub returns-in_ok-push-in-Array-clause-item : goal.returns-in_ok-push-in-Array-clause-item
@@ -23,4 +24,4 @@ returns-in_ok-push-in-Array-clause-item c =
 pub returns-in_ok-push-in-Array-clause-lie : goal.returns-in_ok-push-in-Array-clause-lie
 returns-in_ok-push-in-Array-clause-lie c =
     let it = found-array c.args.bench.now.state _ c.unwrap-array.result (rw c.unwrap-array.ensures at c.get.ensures) in
-    rw c.in_ok-push-in-Array.ensures.items (all-lie c.args.arrays.now.items _ c.requires.lie it.2.inside)
+    rw c.in_ok-push-in-Array.ensures.items (All-push LiesInBlock c.args.arrays.now.items _ c.requires.lie it.2.inside)

@@ -18,10 +18,8 @@ returns-then-keeps_items c =
           ∙ sym (map-map (cast_item o.descr c.args.descr.now) (item_from o.descr o.block) (offsets o.layout)),
     )
 
-pub invariant_of-items : goal.invariant_of-items
-invariant_of-items c = record { inside = own-inside c.args.new }
-
 pub returns : goal.returns
 returns c =
     let e = c.cast.ensures in
-    cast-changed c.args.new c.args.descr.now c.cast.result c.requires.can c.requires.few e.descr e.shape e.items e.refused
+    let i = c.items.ensures in
+    cast-changed c.args.new c.args.descr.now c.cast.result c.requires.can c.requires.few e.descr (rw i.layout at e.shape) (rw (i.block, i.layout, i.descr) at e.items) (rw (i.layout, i.descr) at e.refused)

@@ -11,7 +11,7 @@ use Rattle.elementwise.specs.ResultLaws.{is_scalar}
 use Rattle.bench_engine.specs.Machine.{operation_scalar, operation_on}
 use Rattle.bench_engine.proofs.Makes.{passed}
 use Rattle.bench_engine.proofs.Updates.{changed-type, changed-record, changed-kind, changed-apart, changed-worked, changed-done, changed-gives, worked-descr, worked-shape, view-can, kind-casts, own_values, stands-own}
-use Rattle.bench_engine.proofs.Views.{given-view, given-refusal}
+use Rattle.bench_engine.proofs.Views.{given-view}
 use Rattle.bench_engine.proofs.update.changed_by_items.Goals as goal
 
 pub returns-in_err-scalar : goal.returns-in_err-scalar
@@ -34,7 +34,7 @@ returns-in_err-stretch c v w sv sw =
     let p = err_from_is_err_and c.from_residual-in_err-stretch.result c.from_residual-in_err-stretch.ensures.1 in
     let there = stretched c.args.items.layout.now.shape c.args.old.layout.now.shape in
     rw (p.1, p.2) (passed there _ _ (λ bad. changed-apart c.args.operation c.args.old.descr.now v w _ _ _ (ap (operation_scalar c.args.operation c.args.old.descr.now) sw.descr ∙ c.in_ok-scalar.ensures) c.in_ok-scalar_of.ensures c.in_ok-same_kind.ensures
-    ((λ i. stretched (sw.shape i) (sv.shape i)) ∙ bad)) (given-refusal c.args.items.layout.now _ there c.in_err-stretch.ensures))
+    ((λ i. stretched (sw.shape i) (sv.shape i)) ∙ bad)) c.in_err-stretch.ensures)
 
 pub returns-in_err-new : goal.returns-in_err-new
 returns-in_err-new c v w sv sw =

@@ -1,49 +1,29 @@
-use Rattle.std.proofs.Common.{sym, ap, subst, ◌∷◌, [], unwrap_or, Ok, Result}
-use Rattle.std.specs.List.{list_all}
+use Rattle.std.proofs.Common.{sym, ap, subst, Ok, Result}
 use Rattle.std.proofs.lemmas.Result.{err_from_is_err_and}
 use Rattle.elem_descr.specs.declared.refusal.Refusal.{Refusal}
 use Rattle.elem_descr.specs.Refusals.{◌>>=◌}
-use Rattle.shape_strides.specs.IndexItems.{is_basic}
 use Rattle.shape_strides.specs.Indexes.{count}
-use Rattle.shape_strides.specs.declared.index_item.IndexItem.TheVariants.{Ellipsis}
-use Rattle.name_store.specs.ArrayLaws.{found-array}
 use Rattle.name_store.specs.States.{Array}
-use Rattle.bench_engine.specs.IndexLists.{taken}
-use Rattle.bench_engine.specs.Machine.{operand_values, viewed, changed_with}
+use Rattle.bench_engine.specs.Machine.{operand_part, operand_values, changed_with}
 use Rattle.bench_engine.specs.inside.Operands.{GivesChanged}
-use Rattle.bench_engine.proofs.Computes.{part-bad, part-done}
-use Rattle.bench_engine.proofs.GivenLaws.{given-taken}
 use Rattle.bench_engine.proofs.Makes.{passed}
-use Rattle.bench_engine.proofs.OperandLaws.{all-stand}
+use Rattle.bench_engine.proofs.OperandLaws.{all-stand, given-part}
 use Rattle.bench_engine.proofs.update.changed_by_operand.Goals as goal
 
-pub returns-in_err-taken : goal.returns-in_err-taken
-returns-in_err-taken c v stands =
+pub returns-in_err-part : goal.returns-in_err-part
+returns-in_err-part c v stands =
     let s = c.args.bench.now.state in
-    let it = found-array s _ c.unwrap-array.result (rw c.unwrap-array.ensures at c.get.ensures) in
     let p = err_from_is_err_and c.from_residual.result c.from_residual.ensures.1 in
-    rw (p.1, p.2) (passed (taken s it.0 (unwrap_or c.args.operand.now.index (Ellipsis ∷ []))) _ _
-    (λ bad. ap (λ (r : Result Array Refusal). changed_with c.args.operation c.args.old.descr.now v (r >>= (λ part. Ok (operand_values s part)))) (part-bad s c.args.operand.now it.0 it.1 _ bad)) (c.in_err-taken.ensures it.0 it.2))
+    rw (p.1, p.2) (passed (operand_part s c.args.operand.now) _ _ (ap (λ (r : Result Array Refusal). changed_with c.args.operation c.args.old.descr.now v (r >>= (λ part. Ok (operand_values s part))))) c.in_err-part.ensures)
 
-pub items_taken-requires : goal.items_taken-requires
-items_taken-requires c =
-    let s = c.args.bench.now.state in
-    let it = found-array s _ c.unwrap-array.result (rw c.unwrap-array.ensures at c.get.ensures) in
-    let is = given-taken s it.0 c.unwrap-array.result (list_all is_basic (unwrap_or c.args.operand.now.index (Ellipsis ∷ []))) c.in_ok-taken.taken (taken s it.0 (unwrap_or c.args.operand.now.index (Ellipsis ∷ []))) (c.in_ok-taken.ensures it.0 it.2) in
-    (s, it.0, _, is.0, it.2, is.2)
-
-pub changed_by_items-requires-clause-also : goal.changed_by_items-requires-clause-also
-changed_by_items-requires-clause-also c =
-    let s = c.args.bench.now.state in
-    let it = found-array s _ c.unwrap-array.result (rw c.unwrap-array.ensures at c.get.ensures) in
-    let is = given-taken s it.0 c.unwrap-array.result (list_all is_basic (unwrap_or c.args.operand.now.index (Ellipsis ∷ []))) c.in_ok-taken.taken (taken s it.0 (unwrap_or c.args.operand.now.index (Ellipsis ∷ []))) (c.in_ok-taken.ensures it.0 it.2) in
-    (c.items_taken.ensures s it.0 _ is.0 it.2 is.2).inside
+pub items-requires : goal.items-requires
+items-requires c =
+    let is = given-part c.args.bench.now.state c.in_ok-part.part (operand_part c.args.bench.now.state c.args.operand.now) c.in_ok-part.ensures in
+    (c.args.bench.now.state, is.0, is.2)
 
 pub returns : goal.returns
 returns c v stands =
     let s = c.args.bench.now.state in
-    let it = found-array s _ c.unwrap-array.result (rw c.unwrap-array.ensures at c.get.ensures) in
-    let is = given-taken s it.0 c.unwrap-array.result (list_all is_basic (unwrap_or c.args.operand.now.index (Ellipsis ∷ []))) c.in_ok-taken.taken (taken s it.0 (unwrap_or c.args.operand.now.index (Ellipsis ∷ []))) (c.in_ok-taken.ensures it.0 it.2) in
-    let other = c.items_taken.ensures s it.0 _ is.0 it.2 is.2 in
-    subst (GivesChanged c.args.old.descr.now (count v.shape) c.changed_by_items.result) (sym (ap (λ (r : Result Array Refusal). changed_with c.args.operation c.args.old.descr.now v (r >>= (λ part. Ok (operand_values s part)))) (part-done s c.args.operand.now it.0 it.1 is.0 is.1)))
-    (c.changed_by_items.ensures v (operand_values s (viewed it.0 is.0)) stands (all-stand s (viewed it.0 is.0) _ other))
+    let is = given-part s c.in_ok-part.part (operand_part s c.args.operand.now) c.in_ok-part.ensures in
+    subst (GivesChanged c.args.old.descr.now (count v.shape) c.changed_by_items.result) (sym (ap (λ (r : Result Array Refusal). changed_with c.args.operation c.args.old.descr.now v (r >>= (λ part. Ok (operand_values s part)))) is.1))
+    (c.changed_by_items.ensures v (operand_values s is.0) stands (all-stand s is.0 _ (c.items.ensures s is.0 is.2)))

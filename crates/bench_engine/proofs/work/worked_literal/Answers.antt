@@ -13,12 +13,12 @@ returns-in_err-scalar c =
     let p = err_from_is_err_and c.from_residual-in_err-scalar.result c.from_residual-in_err-scalar.ensures.1 in
     rw (p.1, p.2) (inr (literal-other c.args.op c.args.descr.now c.args.literal.now _ _ c.in_ok-beside.ensures c.in_err-scalar.ensures))
 
-pub returns-in_err-promoted : goal.returns-in_err-promoted
-returns-in_err-promoted c =
-    let p = err_from_is_err_and c.from_residual-in_err-promoted.result c.from_residual-in_err-promoted.ensures.1 in
-    rw (p.1, p.2) (inr (literal-type c.args.op c.args.descr.now c.args.literal.now _ _ _ c.in_ok-beside.ensures c.in_ok-scalar.ensures c.in_err-promoted.ensures))
+pub returns-in_err-promote : goal.returns-in_err-promote
+returns-in_err-promote c =
+    let p = err_from_is_err_and c.from_residual-in_err-promote.result c.from_residual-in_err-promote.ensures.1 in
+    rw (p.1, p.2) (inr (literal-type c.args.op c.args.descr.now c.args.literal.now _ _ _ c.in_ok-beside.ensures c.in_ok-scalar.ensures c.in_err-promote.ensures))
 
 pub returns : goal.returns
 returns c =
     let e = c.single.ensures in
-    single-gives c.args.op c.args.descr.now c.args.literal.now _ _ _ c.single.result c.in_ok-beside.ensures c.in_ok-scalar.ensures c.in_ok-promoted.ensures e.descr e.shape e.offsets e.item
+    single-gives c.args.op c.args.descr.now c.args.literal.now _ _ _ c.single.result c.in_ok-beside.ensures c.in_ok-scalar.ensures c.in_ok-promote.ensures e.descr e.shape e.offsets e.item
