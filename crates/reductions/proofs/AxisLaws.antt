@@ -30,11 +30,6 @@ use Rattle.reductions.specs.inside.Numbers.{lines}
 
 -- ---- one number taken out, and put in
 
-pub put_back : (xs : List ℕ) (a v : ℕ) → a < length xs → insert (remove xs a) a v ≡ slice_set xs a v
-put_back [] a v low = absurd (omega (arith, low))
-put_back (x ∷ xs) zero v low = refl
-put_back (x ∷ xs) (suc a) v low = ap (λ l. x ∷ l) (put_back xs a v (omega (arith, low)))
-
 pub length-remove : {X : Type 0} (xs : List X) (a : ℕ) → a < length xs → suc (length (remove xs a)) ≡ length xs
 length-remove [] a low = absurd (omega (arith, low))
 length-remove (x ∷ xs) zero low = refl
