@@ -1,6 +1,6 @@
 -- Lists along an axis, and the items where they begin.
 use Rattle.std.proofs.Common.{◌≡◌, ◌+◌, ◌*◌, ◌<◌, ◌≤◌, ℕ, zero, suc, ℤ, pos, ◌+ℤ◌, ◌*ℤ◌, true, Some, List, [], ◌∷◌, map, replicate, length, get_or, All, refl, sym, ap, subst, ◌∙◌, arith, mul_comm, mul_assoc, mul-zero, mul-le-mul_right, nat_le, false, inl, inr, Ok, Err}
-use Rattle.std.specs.Prelude.{◌≤ℤ◌, slice_set, Result, is_ok}
+use Rattle.std.specs.Prelude.{◌≤ℤ◌, Result, is_ok}
 use Rattle.std.specs.List.{insert, remove, range_with_len, list_all}
 use Rattle.std.proofs.lemmas.Bool.{le-leb}
 use Rattle.std.proofs.lemmas.Int.{ints}

@@ -28,7 +28,6 @@ use Rattle.shape_strides.specs.Layouts.{offsets, multiples}
 use Rattle.shape_strides.specs.LayoutLaws.{offsets-none}
 use Rattle.shape_strides.specs.Shapes.{shape_of}
 use Rattle.machine_numbers.specs.declared.operators.Red.{Red}
-use Rattle.machine_numbers.specs.declared.operators.Red.TheVariants.{Sum, Product, Minimum, Maximum, Any, All, ArgMin, ArgMax}
 use Rattle.reductions.specs.inside.FoldLaws.{wide_size, little_size}
 use Rattle.reductions.specs.Lists.{lists, reduced_shape, list_length, named_axis, is_axis, IsAxisOf}
 use Rattle.reductions.specs.Outcomes.{has_empty_list, number_scalar, reduced_type, ReducedType}

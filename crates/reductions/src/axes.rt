@@ -44,7 +44,11 @@ pub(crate) fn named_axis(rank: usize, axis: Option<i128>) -> Result<Option<usize
 }
 
 /// The numbers of axes without that of one axis.
-fn without<T: Copy + Default>(alloc: Global, numbers: &[T], axis: usize) -> Result<SmallVec<T, 8>, AllocError>
+fn without<T: Copy + Default>(
+    alloc: Global,
+    numbers: &[T],
+    axis: usize,
+) -> Result<SmallVec<T, 8>, AllocError>
     requires { axis < length numbers.now }
     ensures { IfOk result (λ v. v.items ≡ remove numbers.now axis) }
 {

@@ -1,5 +1,5 @@
 -- Lines along an axis, and the rows across them.
-use Rattle.std.specs.Prelude.{◌≡◌, ◌<◌, ℕ, ℤ, List, length, slice_index_or}
+use Rattle.std.specs.Prelude.{◌<◌, ℕ, ℤ, List, length, slice_index_or}
 use Rattle.elem_descr.specs.declared.scalar.Scalar.{Scalar}
 use Rattle.raw_block.specs.Bytes.{place}
 use Rattle.machine_numbers.specs.declared.sides.Side.{Side}

@@ -1,10 +1,10 @@
-use Rattle.std.proofs.Common.{◌≡◌, ◌<◌, ◌^◌, length, ap, subst, ◌∙◌, arith}
+use Rattle.std.proofs.Common.{◌<◌, ◌^◌, length, subst, arith}
 use Rattle.elem_descr.specs.declared.scalar.Order.TheVariants.{Little}
 use Rattle.elem_descr.specs.Encoding.{encode}
 use Rattle.elem_descr.specs.Values.{number}
 use Rattle.shape_strides.specs.Runs.{run_offsets}
 use Rattle.reductions.specs.inside.Lines.{line_run}
-use Rattle.reductions.specs.inside.Numbers.{numbers_at, numbers_of, lines, IsStored, AddsReduced}
+use Rattle.reductions.specs.inside.Numbers.{numbers_at, lines, IsStored, AddsReduced}
 use Rattle.reductions.proofs.LineLaws.{front, length-numbers}
 use Rattle.reductions.proofs.AddedLaws.{adds_none, line_added, has_room}
 use Rattle.reductions.proofs.fills.push_lines.Goals as goal

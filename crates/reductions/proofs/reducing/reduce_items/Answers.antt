@@ -9,7 +9,7 @@ use Rattle.elem_descr.specs.Refusals.{Gives}
 use Rattle.shape_strides.specs.Indexes.{count}
 use Rattle.shape_strides.specs.Limits.{max_items}
 use Rattle.shape_strides.specs.Layouts.{offsets, multiples}
-use Rattle.reductions.specs.Lists.{named_axis, is_axis, lists, IsAxisOf}
+use Rattle.reductions.specs.Lists.{named_axis, is_axis, lists}
 use Rattle.reductions.specs.Outcomes.{reduced_type, outcome_of}
 use Rattle.reductions.specs.Reductions.{result_scalar, reduced_items}
 use Rattle.reductions.specs.inside.Axes.{shape_after}
