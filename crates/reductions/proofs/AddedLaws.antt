@@ -14,7 +14,7 @@ use Rattle.shape_strides.specs.Runs.{run_along, run_offsets}
 use Rattle.shape_strides.specs.WalkLaws.{length-run_offsets}
 use Rattle.overlap_copy.specs.RunLaws.{run_offsets-more}
 use Rattle.machine_numbers.specs.declared.operators.Red.{Red}
-use Rattle.reductions.specs.declared.sources.Lines.{Lines}
+use Rattle.reductions.specs.declared.lines.Lines.{Lines}
 use Rattle.reductions.specs.inside.Numbers.{numbers_at, lines, IsReduced, AreReduced, AddsReduced, IsPushed}
 use Rattle.reductions.specs.inside.Lines.{line_run}
 use Rattle.reductions.proofs.LineLaws.{front, fewer_within}

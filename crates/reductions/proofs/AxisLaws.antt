@@ -1,6 +1,6 @@
 -- Lists along an axis, and the items where they begin.
 use Rattle.std.proofs.Common.{◌≡◌, ◌+◌, ◌*◌, ◌<◌, ◌≤◌, ℕ, zero, suc, ℤ, pos, ◌+ℤ◌, ◌*ℤ◌, true, Some, List, [], ◌∷◌, map, replicate, length, get_or, All, refl, sym, ap, subst, ◌∙◌, arith, mul_comm, mul_assoc, mul-zero, mul-le-mul_right, nat_le, false, inl, inr, Ok, Err}
-use Rattle.std.specs.Prelude.{◌≤ℤ◌, slice_set, Result, is_ok}
+use Rattle.std.specs.Prelude.{◌≤ℤ◌, Result, is_ok}
 use Rattle.std.specs.List.{insert, remove, range_with_len, list_all}
 use Rattle.std.proofs.lemmas.Bool.{le-leb}
 use Rattle.std.proofs.lemmas.Int.{ints}
@@ -29,11 +29,6 @@ use Rattle.reductions.specs.Lists.{lists}
 use Rattle.reductions.specs.inside.Numbers.{lines}
 
 -- ---- one number taken out, and put in
-
-pub put_back : (xs : List ℕ) (a v : ℕ) → a < length xs → insert (remove xs a) a v ≡ slice_set xs a v
-put_back [] a v low = absurd (omega (arith, low))
-put_back (x ∷ xs) zero v low = refl
-put_back (x ∷ xs) (suc a) v low = ap (λ l. x ∷ l) (put_back xs a v (omega (arith, low)))
 
 pub length-remove : {X : Type 0} (xs : List X) (a : ℕ) → a < length xs → suc (length (remove xs a)) ≡ length xs
 length-remove [] a low = absurd (omega (arith, low))

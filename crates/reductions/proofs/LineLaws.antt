@@ -1,9 +1,8 @@
 -- Runs that a reduction goes over, item by item.
-use Rattle.std.proofs.Common.{◌≡◌, ◌+◌, ◌-◌, ◌≤◌, ◌<◌, ℕ, zero, suc, List, [], ◌∷◌, ◌++◌, map, length, refl, sym, ap, subst, ◌∙◌, arith, add-one, append_assoc, drop, get_or}
+use Rattle.std.proofs.Common.{◌≡◌, ◌+◌, ◌-◌, ◌≤◌, ◌<◌, ℕ, suc, List, [], ◌∷◌, ◌++◌, map, length, refl, sym, ap, subst, ◌∙◌, arith, add-one, append_assoc, drop, get_or}
 use Rattle.std.specs.Prelude.{ℤ, pos, ◌+ℤ◌, ◌*ℤ◌, ◌≤ℤ◌, nat_abs}
-use Rattle.std.proofs.lemmas.Int.{ints}
 use Rattle.std.proofs.lemmas.List.{map-append, length-map}
-use Rattle.std.proofs.Math.IntN.{zero-*ℤ, suc_ℤ-*ℤ, *ℤ_comm, +ℤ_idr}
+use Rattle.std.proofs.Math.IntN.{zero-*ℤ, *ℤ_comm, +ℤ_idr}
 use Rattle.elem_descr.specs.declared.scalar.Scalar.{Scalar}
 use Rattle.elem_descr.specs.Encoding.{size, decode, number_of}
 use Rattle.machine_numbers.specs.declared.sides.Side.{Side}
@@ -78,15 +77,6 @@ one_more Holds scalar s k before v low is held =
 abbrev pub part : ℕ → ℕ → Run → Run
 part m n run = record { offset = place run.offset run.step m; count = n; step = run.step }
 
-steps-add : (s : ℤ) (m k : ℕ) → pos m *ℤ s +ℤ pos k *ℤ s ≡ pos (m + k) *ℤ s
-steps-add s m zero = let none : m + zero ≡ m = omega arith in ap (λ z. pos m *ℤ s +ℤ z) (zero-*ℤ s) ∙ +ℤ_idr (pos m *ℤ s) ∙ ap (λ n. pos n *ℤ s) (sym none)
-steps-add s m (suc k) =
-    let more : m + suc k ≡ suc (m + k) = omega arith in
-    let whole : pos (m + suc k) *ℤ s ≡ pos (m + k) *ℤ s +ℤ s = ap (λ n. pos n *ℤ s) more ∙ suc_ℤ-*ℤ (pos (m + k)) s in
-    let last : pos (suc k) *ℤ s ≡ pos k *ℤ s +ℤ s = suc_ℤ-*ℤ (pos k) s in
-    let rest = steps-add s m k in
-    omega (arith, ints, whole, last, rest)
-
 pub part_within : (len width : ℕ) (run : Run) (m n : ℕ) → m < run.count → m + n ≤ run.count → EachWithin len run.offset run.step width run.count → EachWithin len (place run.offset run.step m) run.step width n
 part_within len width run m n low few within = record {
   each = λ k under.
@@ -136,8 +126,8 @@ found_in scalar bytes len width run k v low within none same =
 -- ---- one after another
 
 -- what takes in the numbers that are left holds all of them
-abbrev pub TakesOn : {Held : Type 0} → (Held → ℤ → List ℤ → Type 0) → Held → Held → ℕ → List ℤ → List ℤ → Type 0
-TakesOn {Held} holds start held seen left all = (end : Held) → TakesIn holds held seen left end → (first : ℤ) → holds start first [] → holds end first all
+abbrev pub TakesOn : {Held : Type 0} → (Held → ℤ → List ℤ → Type 0) → Held → ℕ → List ℤ → ℤ → List ℤ → Type 0
+TakesOn {Held} holds held seen left first all = (end : Held) → TakesIn holds held seen left end → holds end first all
 
 -- a list with items begins with the first one
 pub headed : (xs : List ℕ) → 0 < length xs → xs ≡ get_or xs 0 0 ∷ drop 1 xs

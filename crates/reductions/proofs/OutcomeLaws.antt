@@ -1,5 +1,5 @@
 -- What is refused, and what a result is.
-use Rattle.std.proofs.Common.{◌≡◌, ◌*◌, ◌<◌, ◌≤◌, ℕ, zero, suc, ℤ, true, false, Bool, Option, Some, None, List, [], ◌∷◌, map, drop, length, get_or, Ok, Err, refl, sym, ap, ◌∙◌, arith, mul_comm, one-mul}
+use Rattle.std.proofs.Common.{◌≡◌, ◌*◌, ◌<◌, ◌≤◌, ℕ, zero, suc, ℤ, true, false, Bool, Option, Some, None, List, [], ◌∷◌, map, drop, length, get_or, Ok, Err, refl, sym, ap, subst, ◌∙◌, arith, mul_comm, one-mul}
 use Rattle.std.proofs.lemmas.Bool.{ne_eqb}
 use Rattle.std.specs.Prelude.{nat_eq, Result, ◌&&◌, not, ◌==◌, slice_set, is_ok}
 use Rattle.std.specs.List.{range_with_len, insert, remove, flat_map}
@@ -28,9 +28,7 @@ use Rattle.shape_strides.specs.Layouts.{offsets, multiples}
 use Rattle.shape_strides.specs.LayoutLaws.{offsets-none}
 use Rattle.shape_strides.specs.Shapes.{shape_of}
 use Rattle.machine_numbers.specs.declared.operators.Red.{Red}
-use Rattle.machine_numbers.specs.declared.operators.Red.TheVariants.{Sum, Product, Minimum, Maximum, Any, All, ArgMin, ArgMax}
-use Rattle.reductions.specs.inside.Extremes.{place_size}
-use Rattle.reductions.specs.inside.FoldLaws.{total_size, little_size}
+use Rattle.reductions.specs.inside.FoldLaws.{wide_size, little_size}
 use Rattle.reductions.specs.Lists.{lists, reduced_shape, list_length, named_axis, is_axis, IsAxisOf}
 use Rattle.reductions.specs.Outcomes.{has_empty_list, number_scalar, reduced_type, ReducedType}
 use Rattle.reductions.specs.Reductions.{result_scalar, needs_items, reduced, reduced_item, reduced_items, item_number}
@@ -58,7 +56,7 @@ count-kept [] a low = absurd (omega (arith, low))
 count-kept (n ∷ shape) zero low = one-mul (count shape)
 count-kept (n ∷ shape) (suc a) low = ap (λ c. n * c) (count-kept shape a (omega (arith, low)))
 
-pub length-lists : (shape : List ℕ) (axis : Option ℕ) (keep : Bool) (items : List ℕ) → IsAxisOf (length shape) axis → length (lists shape axis items) ≡ count (reduced_shape shape axis keep)
+length-lists : (shape : List ℕ) (axis : Option ℕ) (keep : Bool) (items : List ℕ) → IsAxisOf (length shape) axis → length (lists shape axis items) ≡ count (reduced_shape shape axis keep)
 length-lists shape None true items is = sym (count-ones shape)
 length-lists shape None false items is = refl
 length-lists shape (Some a) keep items is =
@@ -95,6 +93,11 @@ pub shape_is : (reduction : Red) (shape : List ℕ) (axis : Option ℕ) (keep : 
 unfolding shape_after
 shape_is reduction shape axis keep result found =
     shape_of-same (reduced_shape shape axis keep) result (check_passed (not (needs_items reduction && has_empty_list shape axis (reduced_shape shape axis keep))) EmptyReduction (shape_of (reduced_shape shape axis keep)) result found)
+
+-- as many lists as items of the result
+pub many_lists : (reduction : Red) (shape : List ℕ) (axis : Option ℕ) (keep : Bool) (result items : List ℕ) (rank : ℕ) → rank ≡ length shape → IsAxisOf rank axis → shape_after reduction shape axis keep ≡ Ok result → count result ≡ length (lists shape axis items)
+many_lists reduction shape axis keep result items rank all is found =
+    ap count (sym (shape_is reduction shape axis keep result found)) ∙ sym (length-lists shape axis keep items (subst (λ n. IsAxisOf n axis) all is))
 
 -- ---- the outcome
 
@@ -185,11 +188,4 @@ bytes_are reduction scalar to block out ls n is many are =
 -- ---- how many bytes
 
 pub result_size-le : (reduction : Red) (scalar : Scalar) → IsNumber scalar → size (result_scalar reduction scalar) ≤ 8
-result_size-le Sum scalar is = omega (arith, total_size false scalar)
-result_size-le Product scalar is = omega (arith, total_size true scalar)
-result_size-le Minimum scalar is = omega (arith, little_size scalar, number_size scalar is)
-result_size-le Maximum scalar is = omega (arith, little_size scalar, number_size scalar is)
-result_size-le Any scalar is = omega arith
-result_size-le All scalar is = omega arith
-result_size-le ArgMin scalar is = omega (arith, place_size false scalar)
-result_size-le ArgMax scalar is = omega (arith, place_size true scalar)
+result_size-le reduction scalar is = grind (arith, wide_size scalar, little_size scalar, number_size scalar is)

@@ -5,7 +5,7 @@ use Rattle.std.proofs.lemmas.Int.{ints}
 use Rattle.raw_block.specs.Bytes.{position, place, EachWithin}
 use Rattle.raw_block.specs.BytesLaws.{not_negative}
 use Rattle.shape_strides.specs.declared.runs.Run.{Run}
-use Rattle.reductions.specs.declared.sources.Lines.{Lines}
+use Rattle.reductions.specs.declared.lines.Lines.{Lines}
 use Rattle.elem_descr.specs.declared.scalar.Scalar.{Scalar}
 use Rattle.elem_descr.specs.Encoding.{size}
 use Rattle.machine_numbers.specs.declared.sides.Side.{Side}

@@ -1,17 +1,35 @@
-//! The axis that a reduction goes along, the shape of its result, and where its lists begin.
-ghost use Rattle.std.specs.Prelude.{◌≡◌, ◌+◌, ◌<◌, ◌≤◌, true, false, map, length, slice_index, IfOk, IfErr};
+//! The axis that a reduction goes along, the shape of its result, where its lists begin, and what is refused.
+ghost use Rattle.std.specs.Prelude.{◌≡◌, ◌<◌, ◌≤◌, ◌&&◌, ◌==◌, not, true, false, length, slice_index, IfOk, IfErr, Ok, Err};
 ghost use Rattle.std.specs.List.{remove};
+ghost use Rattle.elem_descr.specs.declared.descr.Descr.TheVariants.{Scalar as ScalarDescr};
 ghost use Rattle.elem_descr.specs.declared.refusal.Refusal.TheVariants.{BadAxis, OutOfMemory};
+ghost use Rattle.elem_descr.specs.Encoding.{IsNumber};
+ghost use Rattle.elem_descr.specs.Refusals.{Gives};
 ghost use Rattle.shape_strides.specs.Indexes.{count};
-ghost use Rattle.shape_strides.specs.Limits.{max_axes};
 ghost use Rattle.reductions.specs.Lists.{named_axis, is_axis, reduced_shape, list_length, IsAxisOf};
-ghost use Rattle.reductions.specs.inside.Axes.{AreStarts, IsUnlessMemory};
+ghost use Rattle.reductions.specs.Outcomes.{number_scalar, has_empty_list};
+ghost use Rattle.reductions.specs.Reductions.{needs_items};
+ghost use Rattle.reductions.specs.inside.Axes.{shape_after, AreStarts, IsUnlessMemory};
 
-use elem_descr::Refusal;
+use crate::kinds::needs_items;
+use elem_descr::{Descr, Refusal, Scalar};
+use machine_numbers::Red;
 use shape_strides::{Layout, Shape, Strides};
 use smallvec::SmallVec;
 use std::alloc::{AllocError, Global};
 use view_ops::{from_front, is_place};
+
+/// The scalar of items that are numbers.
+pub(crate) fn number_scalar(descr: &Descr) -> Result<Scalar, Refusal>
+    ensures ok { IfOk result (λ scalar. (number_scalar descr.now ≡ Ok scalar) × IsNumber scalar × (descr.now ≡ ScalarDescr scalar)) }
+    ensures err { IfErr result (λ refusal. number_scalar descr.now ≡ Err refusal) }
+{
+    match descr {
+        Descr::Scalar(Scalar::Bytes(_)) => Err(Refusal::NotForThisKind),
+        Descr::Scalar(scalar) => Ok(*scalar),
+        Descr::Record(_) => Err(Refusal::NotForThisKind),
+    }
+}
 
 /// The axis that is named, as counted from the front.
 pub(crate) fn named_axis(rank: usize, axis: Option<i128>) -> Result<Option<usize>, Refusal>
@@ -25,8 +43,22 @@ pub(crate) fn named_axis(rank: usize, axis: Option<i128>) -> Result<Option<usize
     Ok(Some(from_front(rank, axis) as usize))
 }
 
+/// The numbers of axes without that of one axis.
+fn without<T: Copy + Default>(
+    alloc: Global,
+    numbers: &[T],
+    axis: usize,
+) -> Result<SmallVec<T, 8>, AllocError>
+    requires { axis < length numbers.now }
+    ensures { IfOk result (λ v. v.items ≡ remove numbers.now axis) }
+{
+    let mut others = SmallVec::from_slice(alloc, numbers)?;
+    others.remove(axis);
+    Ok(others)
+}
+
 /// The lengths of the axes of the result: without an axis, or with a 1 in its place.
-pub(crate) fn reduced_lengths(
+fn reduced_lengths(
     alloc: Global,
     lengths: &[usize],
     axis: Option<usize>,
@@ -35,20 +67,19 @@ pub(crate) fn reduced_lengths(
     requires { IsAxisOf (length lengths.now) axis }
     ensures { IfOk result (λ v. v.items ≡ reduced_shape lengths.now axis keep) }
 {
-    let Some(axis) = axis else {
-        if !keep {
-            return Ok(SmallVec::new(alloc));
+    match axis {
+        None if keep => {
+            let ones = SmallVec::from_elem(alloc, 1, lengths.len())?;
+            Ok(ones)
         }
-        let ones = SmallVec::from_elem(alloc, 1, lengths.len())?;
-        return Ok(ones);
-    };
-    let mut others = SmallVec::from_slice(alloc, lengths)?;
-    others.remove(axis);
-    if !keep {
-        return Ok(others);
+        None => Ok(SmallVec::new(alloc)),
+        Some(axis) if keep => {
+            let mut kept = SmallVec::from_slice(alloc, lengths)?;
+            kept.as_mut_slice()[axis] = 1;
+            Ok(kept)
+        }
+        Some(axis) => without(alloc, lengths, axis),
     }
-    others.insert(axis, 1)?;
-    Ok(others)
 }
 
 /// How many items each list has.
@@ -62,25 +93,52 @@ pub(crate) fn list_length(shape: &Shape, axis: Option<usize>) -> usize
     }
 }
 
+/// Whether there are items along axes of these lengths.
+fn have_items(lengths: &[usize]) -> bool
+    ensures { result ≡ not (count lengths.now == 0) }
+{
+    for len in lengths {
+        if *len == 0 {
+            return false;
+        }
+    }
+    true
+}
+
+/// Whether some item of the result would be made of no items, though a reduction needs some.
+fn lacks_items(reduction: Red, shape: &Shape, axis: Option<usize>, lengths: &[usize]) -> bool
+    requires { IsAxisOf (length shape.now) axis }
+    ensures { result ≡ (needs_items reduction && has_empty_list shape.now axis lengths.now) }
+{
+    needs_items(reduction) && list_length(shape, axis) == 0 && have_items(lengths)
+}
+
+/// The shape of the result.
+pub(crate) fn shape_after(
+    alloc: Global,
+    reduction: Red,
+    shape: &Shape,
+    axis: Option<usize>,
+    keep: bool,
+) -> Result<Shape, Refusal>
+    requires { IsAxisOf (length shape.now) axis }
+    ensures { Gives (λ s. s) result (shape_after reduction shape.now axis keep) }
+{
+    let lengths = reduced_lengths(alloc, shape.as_slice(), axis, keep)?;
+    if lacks_items(reduction, shape, axis, lengths.as_slice()) {
+        return Err(Refusal::EmptyReduction);
+    }
+    Shape::try_new(alloc, lengths.as_slice())
+}
+
 /// A shape without an axis of 1 item or more.
 fn shape_without(alloc: Global, shape: &Shape, axis: usize) -> Result<Shape, Refusal>
     requires axis { axis < length shape.now }
     requires some { 1 ≤ slice_index shape.now axis }
     ensures { IsUnlessMemory (remove shape.now axis) result }
 {
-    let mut lengths = SmallVec::<usize, 8>::from_slice(alloc, shape.as_slice())?;
-    lengths.remove(axis);
+    let lengths = without(alloc, shape.as_slice(), axis)?;
     Shape::try_new(alloc, lengths.as_slice())
-}
-
-/// The strides without the one of an axis.
-fn strides_without(alloc: Global, strides: &[isize], axis: usize) -> Result<Strides, AllocError>
-    requires { axis < length strides.now }
-    ensures { IfOk result (λ s. s ≡ remove strides.now axis) }
-{
-    let mut others = SmallVec::<isize, 8>::from_slice(alloc, strides)?;
-    others.remove(axis);
-    Strides::from_slice(alloc, others.as_slice())
 }
 
 /// The items where the lists along an axis begin: those at 0 on it.
@@ -91,7 +149,8 @@ pub(crate) fn starts_of(alloc: Global, layout: &Layout, axis: usize) -> Result<L
     ensures err { IfErr result (λ refusal. refusal ≡ OutOfMemory) }
 {
     let shape = shape_without(alloc, &layout.shape, axis)?;
-    let strides = strides_without(alloc, layout.strides.as_slice(), axis)?;
+    let steps = without(alloc, layout.strides.as_slice(), axis)?;
+    let strides = Strides::from_slice(alloc, steps.as_slice())?;
     Ok(Layout {
         shape,
         strides,

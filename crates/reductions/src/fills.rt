@@ -1,18 +1,17 @@
-//! What comes of all items of a layout, and of the lines along an axis from each of them on.
-ghost use Rattle.std.specs.Prelude.{◌≡◌, ◌+◌, ◌*◌, ◌^◌, ◌<◌, ◌≤◌, ℤ, [], ◌∷◌, length, All, IfOk, OnOk, Some};
-ghost use Rattle.std.specs.List.{flat_map};
-ghost use Rattle.raw_block.specs.Bytes.{EachWithin};
+//! What comes of all items of a layout, and of the lines along an axis from each of them on, one line after
+//! another, or all at once, row by row.
+ghost use Rattle.std.specs.Prelude.{◌≡◌, ◌+◌, ◌*◌, ◌<◌, ◌≤◌, [], ◌∷◌, length, IfOk, OnOk, Some};
+ghost use Rattle.elem_descr.specs.declared.scalar.Order.TheVariants.{Little};
+ghost use Rattle.machine_numbers.specs.Sides.{number_of_side};
 ghost use Rattle.shape_strides.specs.Indexes.{count};
 ghost use Rattle.shape_strides.specs.Layouts.{offsets};
 ghost use Rattle.shape_strides.specs.Runs.{run_offsets};
-ghost use Rattle.reductions.specs.inside.Numbers.{number_at, numbers_at, lines, lists_from, AreReduced, AddsReduced, HaveItems};
+ghost use Rattle.reductions.specs.inside.Numbers.{number_at, numbers_at, lines, lists_from, TakesIn, IsPushed, AreReduced, AddsReduced, HaveItems};
+ghost use Rattle.reductions.specs.inside.Lines.{all_lines, line_run, AreHeld, EachOf, EachPair};
 
 use crate::folds::Fold;
-use crate::lines::fold_run;
-use crate::results::push_total;
-use crate::rows::push_lines;
-use crate::sources::{Lines, Lists};
-use machine_numbers::{Number, Ordered, Side};
+use crate::lines::{Lines, Lists, fold_line, fold_run};
+use machine_numbers::{LowFirst, Number, Ordered, Side};
 use raw_block::{BlockBuilder, RawBlock};
 use shape_strides::{Runs, StridedAxis};
 use std::alloc::{AllocError, Global};
@@ -25,30 +24,6 @@ fn number_at<S: Number, O: Ordered>(bytes: &[u8], at: usize) -> S
     S::read::<O>(&bytes[at..at + S::WIDTH])
 }
 
-/// Goes over the numbers of runs.
-fn fold_runs<S: Number, O: Ordered, F: Fold<S>>(
-    held: F::Held,
-    bytes: &[u8],
-    runs: Runs<'_>,
-) -> F::Held
-    requires few { length (flat_map run_offsets runs) < 2 ^ 63 }
-    requires within { All (λ run. EachWithin (length bytes.now) run.offset run.step S.WIDTH run.count) runs }
-    ensures { (first : ℤ) → F.holds held first [] → F.holds result first (numbers_at (S.scalar O.order) bytes.now (flat_map run_offsets runs.entry)) }
-{
-    let mut held = held;
-    let mut seen = 0;
-    for run in runs {
-        let side = Side {
-            bytes,
-            run,
-            width: S::WIDTH,
-        };
-        held = fold_run::<S, O, F>(held, seen, side);
-        seen += run.count;
-    }
-    held
-}
-
 /// What comes of all items of a layout.
 fn fold_all<S: Number, O: Ordered, F: Fold<S>>(lists: Lists<'_>) -> F::Total
     requires width { lists.width ≡ S.WIDTH }
@@ -56,9 +31,127 @@ fn fold_all<S: Number, O: Ordered, F: Fold<S>>(lists: Lists<'_>) -> F::Total
     ensures { F.Total.value result ≡ F.meaning (numbers_at (S.scalar O.order) lists.entry.bytes.now (offsets lists.entry.starts.now)) }
 {
     let _items = lists.starts.shape.items();
-    let first = number_at::<S, O>(lists.bytes, lists.starts.offset);
-    let held = fold_runs::<S, O, F>(F::start(first), lists.bytes, Runs::new(lists.starts));
+    let mut held = F::start(number_at::<S, O>(lists.bytes, lists.starts.offset));
+    let mut seen = 0;
+    for run in Runs::new(lists.starts) {
+        let side = Side {
+            bytes: lists.bytes,
+            run,
+            width: S::WIDTH,
+        };
+        held = fold_run::<S, O, F>(held, seen, side);
+        seen += run.count;
+    }
     F::finish(held)
+}
+
+/// What is held of each line before its numbers.
+fn begin<S: Number, O: Ordered, F: Fold<S>>(
+    alloc: Global,
+    firsts: Side<'_>,
+) -> Result<Vec<F::Held>, AllocError>
+    requires { firsts.width ≡ S.WIDTH }
+    ensures len { IfOk result (λ v. length v.items ≡ firsts.entry.run.count) }
+    ensures held { IfOk result (λ v. EachOf firsts.entry.run.count v.items (λ j one. F.holds one (number_of_side (S.scalar O.order) firsts.entry j) [])) }
+{
+    let mut held = Vec::with_capacity(alloc, firsts.run.count)?;
+    for j in 0..firsts.run.count {
+        held.push_reserved(F::start(firsts.number::<S, O>(j)));
+    }
+    Ok(held)
+}
+
+/// Takes each number of a row, which has `seen` before it on its line, into what is held of the line.
+#[inline(always)]
+fn take_each<S: Number, O: Ordered, F: Fold<S>>(held: &mut [F::Held], row: Side<'_>, seen: usize)
+    requires width { row.width ≡ S.WIDTH }
+    requires even { length held.old ≡ row.run.count }
+    ensures len { length held.new ≡ length held.old }
+    ensures held { EachPair row.entry.run.count held.old held.new (λ j one after. TakesIn F.holds one seen (number_of_side (S.scalar O.order) row.entry j ∷ []) after) }
+{
+    for j in 0..row.run.count {
+        held[j] = F::step(held[j], row.number::<S, O>(j), seen);
+    }
+}
+
+/// The same, with a loop of its own for numbers that lie one right after the other.
+fn take_row<S: Number, O: Ordered, F: Fold<S>>(held: &mut [F::Held], row: Side<'_>, seen: usize)
+    requires width { row.width ≡ S.WIDTH }
+    requires even { length held.old ≡ row.run.count }
+    ensures len { length held.new ≡ length held.old }
+    ensures held { EachPair row.entry.run.count held.old held.new (λ j one after. TakesIn F.holds one seen (number_of_side (S.scalar O.order) row.entry j ∷ []) after) }
+{
+    if row.run.step == S::WIDTH as isize {
+        return take_each::<S, O, F>(held, row.with_step(S::WIDTH as isize), seen);
+    }
+    take_each::<S, O, F>(held, row, seen);
+}
+
+/// What is held of each line after all its numbers, where it is taken row by row; else nothing.
+fn held_by_rows<S: Number, O: Ordered, F: Fold<S>>(
+    alloc: Global,
+    lines: Lines<'_>,
+) -> Result<Vec<F::Held>, AllocError>
+    requires width { lines.starts.width ≡ S.WIDTH }
+    requires some { 1 ≤ lines.axis.len }
+    ensures { IfOk result (λ v. AreHeld F.holds (S.scalar O.order) lines.entry lines.entry.axis.len v.items) }
+{
+    if !lines.goes_by_rows() {
+        return Ok(Vec::new(alloc));
+    }
+    let mut held = begin::<S, O, F>(alloc, lines.row(0))?;
+    for k in 0..lines.axis.len {
+        take_row::<S, O, F>(&mut held, lines.row(k), k);
+    }
+    Ok(held)
+}
+
+/// What comes of the `j`-th line, by what is held of it, if anything is.
+fn line_total<S: Number, O: Ordered, F: Fold<S>>(
+    held: &[F::Held],
+    lines: Lines<'_>,
+    j: usize,
+) -> F::Total
+    requires width { lines.starts.width ≡ S.WIDTH }
+    requires some { 1 ≤ lines.axis.len }
+    requires line { j < lines.starts.run.count }
+    requires held { AreHeld F.holds (S.scalar O.order) lines lines.axis.len held.now }
+    ensures { F.Total.value result ≡ F.meaning (numbers_at (S.scalar O.order) lines.entry.starts.bytes.now (run_offsets (line_run lines.entry j))) }
+{
+    if j < held.len() {
+        return F::finish(held[j]);
+    }
+    fold_line::<S, O, F>(lines.line(j))
+}
+
+/// Pushes a number, the lowest byte first.
+#[inline(always)]
+fn push_total<T: Number>(block: &mut BlockBuilder, total: T)
+    requires { T.WIDTH ≤ block.old.1 }
+    ensures { IsPushed (T.scalar Little) T.WIDTH (T.value total) block.old block.new }
+{
+    // What is pushed is read back as the number: so much is told of what is written.
+    let mut item = [0; 8];
+    total.write::<LowFirst>(&mut item[..T::WIDTH]);
+    total.push::<LowFirst>(block);
+}
+
+/// Pushes what comes of each line.
+fn push_lines<S: Number, O: Ordered, F: Fold<S>>(
+    alloc: Global,
+    block: &mut BlockBuilder,
+    lines: Lines<'_>,
+) -> Result<(), AllocError>
+    requires width { lines.starts.width ≡ S.WIDTH }
+    requires some { 1 ≤ lines.axis.len }
+    requires room { lines.starts.run.count * F.Total.WIDTH ≤ block.old.1 }
+    ensures { OnOk result (AddsReduced F.reduction (S.scalar O.order) lines.entry.starts.bytes.now F.Total.WIDTH (all_lines lines.entry) block.old block.new) }
+{
+    let held = held_by_rows::<S, O, F>(alloc, lines)?;
+    for j in 0..lines.starts.run.count {
+        push_total(block, line_total::<S, O, F>(held.as_slice(), lines, j));
+    }
+    Ok(())
 }
 
 /// Pushes what comes of the lines along an axis from the items of a layout on.

@@ -1,19 +1,19 @@
 //! All that goes by the word of a reduction: the type of its result, whether it needs items, what it makes of
 //! none, and which loop does it.
 ghost use Rattle.std.specs.Prelude.{◌≡◌, ◌*◌, ◌<◌, ◌≤◌, ℕ, [], true, length, IfOk};
+ghost use Rattle.elem_descr.specs.declared.scalar.Order.TheVariants.{Little};
 ghost use Rattle.elem_descr.specs.Encoding.{size};
 ghost use Rattle.raw_block.specs.Bytes.{item_at};
 ghost use Rattle.shape_strides.specs.Limits.{max_items};
 ghost use Rattle.reductions.specs.Reductions.{wide, result_scalar, needs_items};
-ghost use Rattle.reductions.specs.inside.Numbers.{IsReduced, AreReduced, lists_from, HaveItems};
+ghost use Rattle.reductions.specs.inside.Numbers.{IsStored, IsReduced, AreReduced, lists_from, HaveItems};
 
 use crate::fills::reduced;
 use crate::folds::{Best, PlaceOf, Truth, Wrapping};
-use crate::results::repeated;
-use crate::sources::Lists;
+use crate::lines::Lists;
 use elem_descr::{Order, Scalar, Width};
-use machine_numbers::{Number, NumberTask, Ordered, Red, little};
-use raw_block::RawBlock;
+use machine_numbers::{LowFirst, Number, NumberTask, Ordered, Red, little};
+use raw_block::{BlockBuilder, RawBlock};
 use std::alloc::{AllocError, Global};
 
 /// An integer of 64 bits, with a sign unless the items are integers without one.
@@ -58,6 +58,19 @@ pub(crate) fn needs_items(reduction: Red) -> bool
     }
 }
 
+/// A block of one number, `count` times.
+fn repeated<T: Number>(alloc: Global, total: T, count: usize) -> Result<RawBlock, AllocError>
+    requires { count ≤ max_items }
+    ensures items { IfOk result (λ b. (k : ℕ) → k < count → IsStored (T.scalar Little) (T.value total) (item_at (k * T.WIDTH) T.WIDTH b)) }
+    ensures len { IfOk result (λ b. length b ≡ count * T.WIDTH) }
+{
+    let mut item = [0; 8];
+    total.write::<LowFirst>(&mut item[..T::WIDTH]);
+    let mut block = BlockBuilder::try_new(alloc, count * T::WIDTH)?;
+    block.push_repeated(&item[..T::WIDTH], count);
+    Ok(block.finish())
+}
+
 /// A block of what a reduction makes of no items, `count` times, where it is one of no items.
 pub(crate) fn empty_block(
     alloc: Global,
@@ -81,6 +94,7 @@ pub(crate) fn empty_block(
 }
 
 /// A reduction of lists, whose results lie one after another in a block.
+#[derive(Drop)]
 pub(crate) struct Reducing<'a> {
     pub(crate) alloc: Global,
     pub(crate) reduction: Red,
@@ -95,12 +109,8 @@ impl<'a> NumberTask for Reducing<'a> {
     ghost Gives = { λ t scalar old new block. IfOk block (AreReduced t.reduction scalar t.lists.bytes.now (size (result_scalar t.reduction scalar)) (lists_from t.lists.starts.now t.lists.axis)) };
 
     fn run<N: Number, O: Ordered>(self, bytes: &mut [u8]) -> Result<RawBlock, AllocError> {
-        let Reducing {
-            alloc,
-            reduction,
-            lists,
-        } = self;
-        match reduction {
+        let (alloc, lists) = (self.alloc, self.lists);
+        match self.reduction {
             Red::Sum => reduced::<N, O, Wrapping<false>>(alloc, lists),
             Red::Product => reduced::<N, O, Wrapping<true>>(alloc, lists),
             Red::Minimum => reduced::<N, O, Best<false>>(alloc, lists),

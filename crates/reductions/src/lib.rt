@@ -7,10 +7,6 @@ mod fills;
 mod folds;
 mod kinds;
 mod lines;
-mod outcomes;
 mod reducing;
-mod results;
-mod rows;
-mod sources;
 
 pub use reducing::reduce;

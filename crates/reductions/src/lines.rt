@@ -1,12 +1,117 @@
-//! Items along a line, and what comes of them.
-ghost use Rattle.std.specs.Prelude.{◌≡◌, ◌+◌, ◌^◌, ◌<◌, ◌≤◌};
-ghost use Rattle.raw_block.specs.Bytes.{place};
+//! Numbers that are reduced, the lists and lines that they make, and what comes of a line.
+ghost use Rattle.std.specs.Prelude.{◌≡◌, ◌+◌, ◌^◌, ◌<◌, ◌≤◌, ℕ, length, All, IsTrue};
+ghost use Rattle.elem_descr.specs.Encoding.{size};
+ghost use Rattle.raw_block.specs.Bytes.{place, EachWithin};
+ghost use Rattle.shape_strides.specs.Layouts.{offsets};
 ghost use Rattle.reductions.specs.Reductions.{first_place};
-ghost use Rattle.reductions.specs.inside.Numbers.{numbers_of, TakesIn, IsPart};
+ghost use Rattle.reductions.specs.inside.Numbers.{numbers_of, TakesIn, IsPart, AreAlong};
 
 use crate::folds::Fold;
+use elem_descr::Scalar;
 use machine_numbers::{Number, Ordered, Side, place};
-use shape_strides::Run;
+use shape_strides::{Layout, Run, StridedAxis};
+
+/// The numbers of a layout, which are reduced along an axis, or all of them.
+#[derive(Clone, Copy, Drop)]
+pub(crate) struct Source<'a> {
+    pub(crate) bytes: &'a [u8],
+    pub(crate) layout: &'a Layout,
+    pub(crate) scalar: &'a Scalar,
+    pub(crate) axis: Option<usize>,
+    pub(crate) ghost inside: { All (λ offset. offset + size scalar.now ≤ length bytes.now) (offsets layout.now) },
+}
+
+/// The lists of items, of `width` bytes, that are reduced: all items of a layout, or those along an axis
+/// from each of them on.
+#[derive(Clone, Copy, Drop)]
+pub(crate) struct Lists<'a> {
+    pub(crate) bytes: &'a [u8],
+    pub(crate) width: usize,
+    pub(crate) starts: &'a Layout,
+    pub(crate) axis: Option<StridedAxis>,
+    pub(crate) ghost inside: { All (λ offset. offset + width ≤ length bytes.now) (offsets starts.now) },
+}
+
+/// Lines along an axis, one from each of some items on.
+#[derive(Clone, Copy, Drop)]
+pub(crate) struct Lines<'a> {
+    pub(crate) starts: Side<'a>,
+    pub(crate) axis: StridedAxis,
+    pub(crate) ghost few: { axis.len < 2 ^ 63 },
+    pub(crate) ghost within: { (j : ℕ) → j < starts.run.count → EachWithin (length starts.bytes.now) (place starts.run.offset starts.run.step j) axis.stride starts.width axis.len },
+}
+
+/// As many steps as long as those of a run.
+#[inline(always)]
+fn axis_of(run: Run, len: usize) -> StridedAxis
+    ensures { result ≡ record { len = len; stride = run.step } }
+{
+    StridedAxis {
+        len,
+        stride: run.step,
+    }
+}
+
+/// The items that an axis leads to from an offset on, among the bytes of a side and as wide as its items.
+#[inline(always)]
+fn items_along<'a>(side: Side<'a>, offset: usize, axis: StridedAxis) -> Side<'a>
+    requires few { axis.len < 2 ^ 63 }
+    requires within { EachWithin (length side.bytes.now) offset axis.stride side.width axis.len }
+    ensures { AreAlong side.entry offset axis result }
+{
+    Side {
+        bytes: side.bytes,
+        run: Run {
+            offset,
+            count: axis.len,
+            step: axis.stride,
+        },
+        width: side.width,
+    }
+}
+
+/// Some of the items, from one of them on.
+#[inline(always)]
+pub(crate) fn part<'a>(side: Side<'a>, from: usize, count: usize) -> Side<'a>
+    requires from { from < side.run.count }
+    requires fits { from + count ≤ side.run.count }
+    ensures { IsPart from count side.entry result }
+{
+    items_along(side, place(side.run, from), axis_of(side.run, count))
+}
+
+impl<'a> Lines<'a> {
+    ghost use Rattle.reductions.specs.inside.Lines.{IsLine, IsRow};
+
+    /// The line from the `j`-th item on.
+    #[inline(always)]
+    pub(crate) fn line(self, j: usize) -> Side<'a>
+        requires { j < self.starts.run.count }
+        ensures { IsLine self.entry j result }
+    {
+        items_along(self.starts, place(self.starts.run, j), self.axis)
+    }
+
+    /// The `k`-th item of each line.
+    #[inline(always)]
+    pub(crate) fn row(self, k: usize) -> Side<'a>
+        requires k { k < self.axis.len }
+        requires some { 1 ≤ self.starts.run.count }
+        ensures { IsRow self.entry k result }
+    {
+        let starts = self.starts.run;
+        let offset = place(self.line(0).run, k);
+        items_along(self.starts, offset, axis_of(starts, starts.count))
+    }
+
+    /// Whether rows lie closer together than the items of a line.
+    pub(crate) fn goes_by_rows(self) -> bool
+        ensures { IsTrue result → 1 ≤ self.entry.starts.run.count }
+    {
+        let rows = self.starts.run;
+        rows.count > 3 && rows.step.unsigned_abs() < self.axis.stride.unsigned_abs()
+    }
+}
 
 /// Goes over numbers one by one. They have `seen` before them.
 #[inline(always)]
@@ -40,32 +145,6 @@ pub(crate) fn place_of<S: Number, O: Ordered>(number: S, side: Side<'_>) -> usiz
         }
     }
     side.run.count
-}
-
-/// So many items at the same steps, from another offset on.
-#[inline(always)]
-pub(crate) fn moved(run: Run, offset: usize, count: usize) -> Run
-    ensures { result ≡ record { offset = offset; count = count; step = run.step } }
-{
-    Run {
-        offset,
-        count,
-        step: run.step,
-    }
-}
-
-/// Some of the items, from one of them on.
-#[inline(always)]
-pub(crate) fn part<'a>(side: Side<'a>, from: usize, count: usize) -> Side<'a>
-    requires from { from < side.run.count }
-    requires fits { from + count ≤ side.run.count }
-    ensures { IsPart from count side.entry result }
-{
-    Side {
-        bytes: side.bytes,
-        run: moved(side.run, place(side.run, from), count),
-        width: side.width,
-    }
 }
 
 /// Goes over numbers, with a loop of its own for those that lie one right after the other. They have

@@ -1,9 +1,9 @@
 //! Reductions of the items of an array.
-ghost use Rattle.std.specs.Prelude.{◌≡◌, ◌+◌, ◌*◌, ◌<◌, ◌≤◌, true, pos, Some, None, length, map, slice_index, slice_index_or, IfOk, IfErr};
+ghost use Rattle.std.specs.Prelude.{All, ◌≡◌, ◌+◌, ◌*◌, ◌<◌, ◌≤◌, true, pos, Some, None, length, map, slice_index, slice_index_or, IfOk, IfErr};
 ghost use Rattle.std.specs.List.{flat_map};
 ghost use Rattle.elem_descr.specs.declared.refusal.Refusal.TheVariants.{OutOfMemory};
 ghost use Rattle.elem_descr.specs.Blocks.{item_from};
-ghost use Rattle.elem_descr.specs.Encoding.{IsNumber};
+ghost use Rattle.elem_descr.specs.Encoding.{IsNumber, size};
 ghost use Rattle.elem_descr.specs.Items.{item_size, encode_item};
 ghost use Rattle.elem_descr.specs.Refusals.{Gives};
 ghost use Rattle.shape_strides.specs.declared.memory_order.MemoryOrder.TheVariants.{C};
@@ -15,12 +15,12 @@ ghost use Rattle.overlap_copy.specs.ItemLists.{owned_items};
 ghost use Rattle.reductions.specs.Lists.{named_axis, list_length, lists, IsAxisOf};
 ghost use Rattle.reductions.specs.Outcomes.{reduced_type, outcome_of};
 ghost use Rattle.reductions.specs.Reductions.{needs_items, reduced_items};
+ghost use Rattle.reductions.specs.inside.Numbers.{lists_from, HaveItems};
 ghost use Rattle.reductions.specs.inside.Sources.{lists_of, AreResults};
 
-use crate::axes::{list_length, named_axis, starts_of};
+use crate::axes::{list_length, named_axis, number_scalar, shape_after, starts_of};
 use crate::kinds::{Reducing, empty_block, result_scalar};
-use crate::outcomes::{number_scalar, shape_after};
-use crate::sources::{Lists, Source};
+use crate::lines::{Lists, Source};
 use elem_descr::{Descr, Refusal};
 use machine_numbers::{Red, on_number};
 use overlap_copy::{Items, Owned, copy, goes_by_columns};
@@ -40,47 +40,25 @@ fn axis_at(layout: &Layout, axis: usize) -> StridedAxis
     }
 }
 
-/// A block of what comes of the lists along an axis.
-fn reduced_along(
+/// A block of what comes of the lists that begin at these items.
+fn reduced_from(
     alloc: Global,
     reduction: Red,
     source: Source<'_>,
-    axis: usize,
-) -> Result<RawBlock, Refusal>
+    starts: &Layout,
+    axis: Option<StridedAxis>,
+) -> Result<RawBlock, AllocError>
     requires number { IsNumber source.scalar.now }
-    requires axis { (source.axis ≡ Some axis) × (axis < length source.layout.now.shape) }
-    requires some { 1 ≤ slice_index source.layout.now.shape axis }
-    ensures items { IfOk result (AreResults reduction source.entry) }
-    ensures err { IfErr result (λ refusal. refusal ≡ OutOfMemory) }
-{
-    let starts = starts_of(alloc, source.layout, axis)?;
-    let lists = Lists {
-        bytes: source.bytes,
-        width: source.scalar.size(),
-        starts: &starts,
-        axis: Some(axis_at(source.layout, axis)),
-    };
-    let task = Reducing {
-        alloc,
-        reduction,
-        lists,
-    };
-    let block = on_number(source.scalar, task, &mut [])?;
-    Ok(block)
-}
-
-/// A block of what comes of all items, of which there are some.
-fn reduced_whole(alloc: Global, reduction: Red, source: Source<'_>) -> Result<RawBlock, AllocError>
-    requires number { IsNumber source.scalar.now }
-    requires axis { source.axis ≡ None }
-    requires some { 0 < count source.layout.now.shape }
+    requires inside { All (λ offset. offset + size source.scalar.now ≤ length source.bytes.now) (offsets starts.now) }
+    requires items { HaveItems (length source.bytes.now) (size source.scalar.now) starts.now axis }
+    requires lists { lists_of source ≡ lists_from starts.now axis }
     ensures { IfOk result (AreResults reduction source.entry) }
 {
     let lists = Lists {
         bytes: source.bytes,
         width: source.scalar.size(),
-        starts: source.layout,
-        axis: None,
+        starts,
+        axis,
     };
     let task = Reducing {
         alloc,
@@ -109,11 +87,12 @@ fn reduced_block(
         let block = empty_block(alloc, reduction, source.scalar, items)?;
         return Ok(block);
     }
-    if let Some(axis) = source.axis {
-        return reduced_along(alloc, reduction, source, axis);
-    }
-    let block = reduced_whole(alloc, reduction, source)?;
-    Ok(block)
+    let Some(axis) = source.axis else {
+        return Ok(reduced_from(alloc, reduction, source, source.layout, None)?);
+    };
+    let starts = starts_of(alloc, source.layout, axis)?;
+    let along = axis_at(source.layout, axis);
+    Ok(reduced_from(alloc, reduction, source, &starts, Some(along))?)
 }
 
 /// The same as `reduce`, however the items lie.

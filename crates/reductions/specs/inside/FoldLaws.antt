@@ -59,7 +59,7 @@ wrapped (Byte signed) bytes z is = wide_total signed bytes (low_bits 8 z) (low_b
 wrapped (Int signed width order) bytes z is = wide_total signed bytes (low_bits 8 z) (low_bits-lt 8 z) is
 wrapped (Bytes n) bytes z is = wide_total true bytes (low_bits 8 z) (low_bits-lt 8 z) is
 
-wide_size : (scalar : Scalar) → size (wide scalar) ≡ 8
+pub wide_size : (scalar : Scalar) → size (wide scalar) ≡ 8
 wide_size BoolScalar = refl
 wide_size (Byte signed) = refl
 wide_size (Int signed width order) = refl

@@ -76,10 +76,6 @@ absent-next v z xs none other = omega (arith, comes v xs (z ∷ []) none, past v
 
 -- ---- some numbers more
 
-abbrev head_or : ℤ → List ℤ → ℤ
-head_or d [] = d
-head_or d (x ∷ xs) = x
-
 -- one of which is better
 taken : (pick : ℤ → ℤ → ℤ) (best z : ℤ) (place : ℕ) (first : ℤ) (seen more : List ℤ) → HasFound pick best place first seen → z ≡ fold pick best more →
     All (λ x. x ≡ z → ⊥) seen → first_place z more < length more → HasFound pick z (length seen + first_place z more) first (seen ++ more)

@@ -1,26 +1,23 @@
 -- Lines along an axis, and the rows across them.
-use Rattle.std.specs.Prelude.{◌≡◌, ◌<◌, ℕ, ℤ, List, length, slice_index_or}
+use Rattle.std.specs.Prelude.{◌<◌, ℕ, ℤ, List, length, slice_index_or}
 use Rattle.elem_descr.specs.declared.scalar.Scalar.{Scalar}
 use Rattle.raw_block.specs.Bytes.{place}
 use Rattle.machine_numbers.specs.declared.sides.Side.{Side}
 use Rattle.shape_strides.specs.declared.runs.Run.{Run}
 use Rattle.shape_strides.specs.Runs.{run_along, run_offsets}
-use Rattle.reductions.specs.declared.sources.Lines.{Lines}
-use Rattle.reductions.specs.inside.Numbers.{number_at, numbers_at, lines}
+use Rattle.reductions.specs.declared.lines.Lines.{Lines}
+use Rattle.reductions.specs.inside.Numbers.{number_at, numbers_at, lines, AreAlong}
 
 -- the line from the j-th item on
 abbrev pub line_run : Lines → ℕ → Run
 line_run l j = run_along l.axis (place l.starts.run.offset l.starts.run.step j)
 
 abbrev pub IsLine : Lines → ℕ → Side → Type 0
-IsLine l j s = (s.bytes.now ≡ l.starts.bytes.now) × (s.width ≡ l.starts.width) × (s.run ≡ line_run l j)
+IsLine l j line = AreAlong l.starts (place l.starts.run.offset l.starts.run.step j) l.axis line
 
 -- the k-th item of each line
-abbrev pub row_run : Lines → ℕ → Run
-row_run l k = record { offset = place l.starts.run.offset l.axis.stride k; count = l.starts.run.count; step = l.starts.run.step }
-
 abbrev pub IsRow : Lines → ℕ → Side → Type 0
-IsRow l k s = (s.bytes.now ≡ l.starts.bytes.now) × (s.width ≡ l.starts.width) × (s.run ≡ row_run l k)
+IsRow l k row = AreAlong l.starts (place l.starts.run.offset l.axis.stride k) (record { len = l.starts.run.count; stride = l.starts.run.step }) row
 
 -- the offsets of all lines
 abbrev pub all_lines : Lines → List (List ℕ)
@@ -40,7 +37,6 @@ EachOf {X} n xs P = (j : ℕ) (d : X) → j < n → P j (slice_index_or xs j d)
 abbrev pub EachPair : {X : Type 0} → ℕ → List X → List X → (ℕ → X → X → Type 0) → Type 0
 EachPair {X} n xs ys P = (j : ℕ) (d : X) → j < n → P j (slice_index_or xs j d) (slice_index_or ys j d)
 
--- of each line this is held after its first k numbers
-pub record AreHeld {Held : Type 0} (holds : Held → ℤ → List ℤ → Type 0) (scalar : Scalar) (l : Lines) (k : ℕ) (held : List Held) : Type 0 where
-  pub len : length held ≡ l.starts.run.count
-  pub each : EachOf l.starts.run.count held (λ j one. holds one (line_first scalar l j) (line_front scalar l k j))
+-- of each line that has something held of it, this is held after its first k numbers
+abbrev pub AreHeld : {Held : Type 0} → (Held → ℤ → List ℤ → Type 0) → Scalar → Lines → ℕ → List Held → Type 0
+AreHeld holds scalar l k held = EachOf (length held) held (λ j one. holds one (line_first scalar l j) (line_front scalar l k j))

@@ -33,9 +33,13 @@ IsReduced reduction scalar numbers bytes = IsStored (result_scalar reduction sca
 abbrev pub numbers_of : Scalar → Side → List ℤ
 numbers_of scalar s = numbers_at scalar s.bytes.now (run_offsets s.run)
 
+-- the items that an axis leads to from an offset on, among the bytes of a side and as wide as its items
+abbrev pub AreAlong : Side → ℕ → StridedAxis → Side → Type 0
+AreAlong s offset axis items = (items.bytes.now ≡ s.bytes.now) × (items.width ≡ s.width) × (items.run ≡ run_along axis offset)
+
 -- n items of a side from the m-th one on
 abbrev pub IsPart : ℕ → ℕ → Side → Side → Type 0
-IsPart m n s part = (part.bytes.now ≡ s.bytes.now) × (part.width ≡ s.width) × (part.run ≡ record { offset = place s.run.offset s.run.step m; count = n; step = s.run.step })
+IsPart m n s part = AreAlong s (place s.run.offset s.run.step m) (record { len = n; stride = s.run.step }) part
 
 -- what is held takes in numbers that have `seen` before them
 abbrev pub TakesIn : {Held : Type 0} → (Held → ℤ → List ℤ → Type 0) → Held → ℕ → List ℤ → Held → Type 0

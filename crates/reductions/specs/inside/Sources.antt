@@ -6,7 +6,7 @@ use Rattle.machine_numbers.specs.declared.operators.Red.{Red}
 use Rattle.reductions.specs.Lists.{lists}
 use Rattle.reductions.specs.Reductions.{result_scalar}
 use Rattle.reductions.specs.inside.Numbers.{AreReduced}
-use Rattle.reductions.specs.declared.sources.Source.{Source}
+use Rattle.reductions.specs.declared.lines.Source.{Source}
 
 -- where the numbers of each list lie
 abbrev pub lists_of : Source → List (List ℕ)

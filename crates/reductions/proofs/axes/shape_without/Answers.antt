@@ -10,7 +10,7 @@ returns c =
     let shape = c.args.shape.now in
     let axis = c.args.axis in
     let limits = c.as_slice.ensures in
-    let left = c.as_slice-2.ensures ∙ c.remove.ensures.items ∙ ap (λ lengths. remove lengths axis) (c.in_ok-lengths.ensures.ok ∙ limits.value) in
+    let left = c.as_slice-2.ensures ∙ c.in_ok-lengths.ensures ∙ ap (λ lengths. remove lengths axis) limits.value in
     is_unless_memory (remove shape axis) c.try_new.result
     (shape-without shape axis c.requires.axis c.requires.some limits.rank limits.lengths limits.items)
     (subst (λ (lengths : List ℕ). Gives (λ s. s) c.try_new.result (shape_of lengths)) left c.try_new.ensures)

@@ -1,45 +1,90 @@
-use Rattle.std.proofs.Common.{◌≡◌, ◌+◌, ◌≤◌, ℤ, List, ◌∷◌, All, length, drop, sym, ap, subst, ◌∙◌, arith}
-use Rattle.std.specs.List.{flat_map}
+use Rattle.std.proofs.Common.{◌≡◌, ◌+◌, ◌≤◌, ℤ, List, [], ◌∷◌, ◌++◌, All, length, drop, refl, sym, ap, subst, ◌∙◌, arith, append_assoc, append-nil, length-append}
+use Rattle.std.proofs.lemmas.List.{map-append}
+use Rattle.std.proofs.lemmas.List.Elements.{All-head, All-rest}
 use Rattle.raw_block.specs.Bytes.{EachWithin}
 use Rattle.overlap_copy.specs.RunLaws.{runs-within}
-use Rattle.shape_strides.specs.Indexes.{count}
 use Rattle.shape_strides.specs.Limits.{max_bytes}
 use Rattle.shape_strides.specs.Layouts.{offsets}
 use Rattle.shape_strides.specs.LayoutLaws.{length-offsets, entry-first}
+use Rattle.shape_strides.specs.RunPairs.{all_offsets}
 use Rattle.shape_strides.specs.Runs.{run_offsets, runs}
+use Rattle.shape_strides.specs.WalkLaws.{length-first}
 use Rattle.reductions.specs.inside.Numbers.{number_at, numbers_at}
-use Rattle.reductions.proofs.LineLaws.{headed}
+use Rattle.reductions.proofs.LineLaws.{headed, length-numbers}
 use Rattle.reductions.proofs.fills.fold_all.Goals as goal
 
-pub number_at-first-requires : goal.number_at-first-requires
-number_at-first-requires g c =
+pub number_at-requires : goal.number_at-requires
+number_at-requires g c =
     let l = c.args.lists.starts.now in
     let first = c.args.lists.inside 0 0 (omega (arith, length-offsets l, c.requires.some)) in
     omega (arith, first, entry-first l c.requires.some, c.requires.width)
 
-pub fold_runs-held-requires-clause-few : goal.fold_runs-held-requires-clause-few
-fold_runs-held-requires-clause-few g c =
-    let all : length (flat_map run_offsets c.new.result) ≡ count c.args.lists.starts.now.shape = ap (λ rs. length (flat_map run_offsets rs)) c.new.ensures.runs ∙ ap length c.new.ensures.offsets ∙ length-offsets c.args.lists.starts.now in
-    omega (arith, all, c.items-items.ensures.value, c.items-items.ensures.limit)
-
-pub fold_runs-held-requires-clause-within : goal.fold_runs-held-requires-clause-within
-fold_runs-held-requires-clause-within g c =
-    let l = c.args.lists.starts.now in
-    let len = length c.args.lists.bytes.now in
+pub loop-run-init : goal.loop-run-init
+loop-run-init g c =
+    let s = c.args.lists in
+    let l = s.starts.now in
+    let len = length s.bytes.now in
     let width = g.S.Number.WIDTH in
-    let ends = subst (All (λ offset. offset + width ≤ len)) (sym c.new.ensures.offsets) (subst (λ w. All (λ offset. offset + w ≤ len) (offsets l)) c.requires.width c.args.lists.inside) in
-    subst (All (λ run. EachWithin len run.offset run.step width run.count)) (sym c.new.ensures.runs) (runs-within len width (λ run. run) (runs l) (c.new.ensures.lie max_bytes 1 l.within_limit) ends)
+    let scalar = g.S.Number.scalar g.O.Ordered.order in
+    let ens = c.new-run-items.ensures in
+    let are = c.into_iter-run-iterator.ensures.into_iter_gives ∙ ens.runs in
+    let all : all_offsets c.into_iter-run-iterator.result ≡ offsets l = ap all_offsets are ∙ ens.offsets in
+    let ends = subst (All (λ offset. offset + width ≤ len)) (sym ens.offsets) (subst (λ w. All (λ offset. offset + w ≤ len) (offsets l)) c.requires.width s.inside) in
+    record {
+      counted = omega (arith, ap length all, length-offsets l);
+      within = subst (All (λ run. EachWithin len run.offset run.step width run.count)) (sym are) (runs-within len width (λ run. run) (runs l) (ens.lie max_bytes 1 l.within_limit) ends);
+      takes = λ end takes.
+          subst (λ os. g.F.Fold.holds end (number_at scalar s.bytes.now l.offset) (numbers_at scalar s.bytes.now os)) all
+          (takes (number_at scalar s.bytes.now l.offset) [] refl (subst (λ z. g.F.Fold.holds c.start-held.result z []) c.number_at.ensures c.start-held.ensures));
+    }
+
+pub invariant_of-side : goal.invariant_of-side
+invariant_of-side g c =
+    let len = length c.args.lists.bytes.now in
+    let run = c.in-Some.run' in
+    let steps = c.in-Some.ensures.steps in
+    let limit = c.items-items.ensures in
+    record {
+      few = omega (arith, c.loop-run.invariant.counted, ap (λ rs. length (all_offsets rs)) steps, length-first run c.next.new.self, limit.value, limit.limit);
+      within = subst (λ w. EachWithin len run.offset run.step w run.count) (sym c.WIDTH.ensures)
+          (All-head (λ r. EachWithin len r.offset r.step g.S.Number.WIDTH r.count) run c.next.new.self (subst (All (λ r. EachWithin len r.offset r.step g.S.Number.WIDTH r.count)) steps c.loop-run.invariant.within));
+    }
+
+pub fold_run-held-requires-clause-few : goal.fold_run-held-requires-clause-few
+fold_run-held-requires-clause-few g c =
+    omega (arith, c.loop-run.invariant.counted, ap (λ rs. length (all_offsets rs)) c.in-Some.ensures.steps, length-first c.in-Some.run' c.next.new.self, c.items-items.ensures.value, c.items-items.ensures.limit)
+
+pub overflow_add-seen : goal.overflow_add-seen
+overflow_add-seen g c =
+    record { fits = omega (arith, c.loop-run.invariant.counted, ap (λ rs. length (all_offsets rs)) c.in-Some.ensures.steps, length-first c.in-Some.run' c.next.new.self, c.items-items.ensures.value, c.items-items.ensures.limit) }
+
+pub loop-run-preserved : goal.loop-run-preserved
+loop-run-preserved g c =
+    let scalar = g.S.Number.scalar g.O.Ordered.order in
+    let bytes = c.args.lists.bytes.now in
+    let run = c.in-Some.run' in
+    let next = c.next.new.self in
+    let steps = c.in-Some.ensures.steps in
+    let inv = c.loop-run.invariant in
+    let here = numbers_at scalar bytes (run_offsets run) in
+    let both = ap (λ rs. numbers_at scalar bytes (all_offsets rs)) steps ∙ map-append (number_at scalar bytes) (run_offsets run) (all_offsets next) in
+    record {
+      counted = omega (arith, inv.counted, ap (λ rs. length (all_offsets rs)) steps, length-first run next);
+      within = All-rest (λ r. EachWithin (length bytes) r.offset r.step g.S.Number.WIDTH r.count) _ _ _ steps inv.within;
+      takes = λ end more. inv.takes end (λ first before seen held.
+          subst (g.F.Fold.holds end first) (append_assoc before here (numbers_at scalar bytes (all_offsets next)) ∙ ap (λ numbers. before ++ numbers) (sym both))
+          (more first (before ++ here) (omega (arith, seen, length-append before here, length-numbers scalar bytes run)) (c.fold_run-held.ensures first before seen held)));
+    }
 
 pub returns : goal.returns
 returns g c =
     let scalar = g.S.Number.scalar g.O.Ordered.order in
     let bytes = c.args.lists.bytes.now in
     let l = c.args.lists.starts.now in
-    let first = g.S.Number.value c.number_at-first.result in
+    let first = number_at scalar bytes l.offset in
     let rest = numbers_at scalar bytes (drop 1 (offsets l)) in
     let all : numbers_at scalar bytes (offsets l) ≡ first ∷ rest =
-    ap (numbers_at scalar bytes) (headed (offsets l) (omega (arith, length-offsets l, c.requires.some)))
-    ∙ ap (λ z. z ∷ rest) (ap (number_at scalar bytes) (entry-first l c.requires.some) ∙ sym c.number_at-first.ensures) in
-    let gone : flat_map run_offsets c.new.result ≡ offsets l = ap (flat_map run_offsets) c.new.ensures.runs ∙ c.new.ensures.offsets in
-    c.finish.ensures first rest (subst (λ (numbers : List ℤ). g.F.Fold.holds c.fold_runs-held.result first numbers) (ap (numbers_at scalar bytes) gone ∙ all) (c.fold_runs-held.ensures first c.start.ensures))
-    ∙ ap g.F.Fold.meaning (sym all)
+    ap (numbers_at scalar bytes) (headed (offsets l) (omega (arith, length-offsets l, c.requires.some))) ∙ ap (λ o. number_at scalar bytes o ∷ rest) (entry-first l c.requires.some) in
+    let held = c.loop-run.invariant.takes c.loop-run.held (λ first' before seen so_far.
+    subst (g.F.Fold.holds c.loop-run.held first') (sym (append-nil before) ∙ ap (λ rs. before ++ numbers_at scalar bytes (all_offsets rs)) (sym c.in-None.ensures.steps.0)) so_far) in
+    c.finish.ensures first rest (subst (λ (numbers : List ℤ). g.F.Fold.holds c.loop-run.held first numbers) all held) ∙ ap g.F.Fold.meaning (sym all)

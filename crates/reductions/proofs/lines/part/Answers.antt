@@ -1,16 +1,17 @@
-use Rattle.std.proofs.Common.{◌≡◌, refl, ap, subst, length, sym, ◌∙◌, arith}
+use Rattle.std.proofs.Common.{subst, length, sym, ap, ◌∙◌, arith}
 use Rattle.raw_block.specs.Bytes.{EachWithin}
-use Rattle.reductions.proofs.LineLaws.{part, part_within}
+use Rattle.shape_strides.specs.Runs.{run_along}
+use Rattle.reductions.proofs.LineLaws.{part_within}
 use Rattle.reductions.proofs.lines.part.Goals as goal
 
-pub invariant_of-result : goal.invariant_of-result
-invariant_of-result c =
+pub items_along-requires-clause-few : goal.items_along-requires-clause-few
+items_along-requires-clause-few c = omega (arith, ap (λ axis. axis.len) c.axis_of.ensures, c.args.side.few, c.requires.fits)
+
+pub items_along-requires-clause-within : goal.items_along-requires-clause-within
+items_along-requires-clause-within c =
     let s = c.args.side in
-    let is : c.moved.result ≡ part c.args.from c.args.count s.run = c.moved.ensures ∙ λ i. record { offset = c.place.ensures i; count = c.args.count; step = s.run.step } in
-    record {
-      few = omega (arith, ap (λ r. r.count) is, s.few, c.requires.fits);
-      within = subst (λ r. EachWithin (length s.bytes.now) r.offset r.step s.width r.count) (sym is) (part_within (length s.bytes.now) s.width s.run c.args.from c.args.count c.requires.from c.requires.fits s.within);
-    }
+    subst (λ axis. EachWithin (length s.bytes.now) c.place.result axis.stride s.width axis.len) (sym c.axis_of.ensures)
+    (subst (λ o. EachWithin (length s.bytes.now) o s.run.step s.width c.args.count) (sym c.place.ensures) (part_within (length s.bytes.now) s.width s.run c.args.from c.args.count c.requires.from c.requires.fits s.within))
 
 pub returns : goal.returns
-returns c = (refl, refl, c.moved.ensures ∙ λ i. record { offset = c.place.ensures i; count = c.args.count; step = c.args.side.run.step })
+returns c = let is = c.items_along.ensures in (is.0, is.1, is.2 ∙ λ i. run_along (c.axis_of.ensures i) (c.place.ensures i))

@@ -9,12 +9,12 @@ use Rattle.elem_descr.specs.Refusals.{Gives}
 use Rattle.shape_strides.specs.Indexes.{count}
 use Rattle.shape_strides.specs.Limits.{max_items}
 use Rattle.shape_strides.specs.Layouts.{offsets, multiples}
-use Rattle.reductions.specs.Lists.{named_axis, is_axis, lists, IsAxisOf}
+use Rattle.reductions.specs.Lists.{named_axis, is_axis, lists}
 use Rattle.reductions.specs.Outcomes.{reduced_type, outcome_of}
 use Rattle.reductions.specs.Reductions.{result_scalar, reduced_items}
 use Rattle.reductions.specs.inside.Axes.{shape_after}
 use Rattle.reductions.specs.inside.Numbers.{AreReduced}
-use Rattle.reductions.proofs.OutcomeLaws.{outcome_kind, outcome_axis, outcome_shape, outcome_ok, shape_is, length-lists, some_after, items_are, bytes_are, result_size-le}
+use Rattle.reductions.proofs.OutcomeLaws.{outcome_kind, outcome_axis, outcome_shape, outcome_ok, shape_is, many_lists, some_after, items_are, bytes_are, result_size-le}
 use Rattle.reductions.proofs.reducing.reduce_items.Goals as goal
 
 pub returns-in_err-scalar-clause-array : goal.returns-in_err-scalar-clause-array
@@ -53,11 +53,7 @@ invariant_of-source c = record {
 
 pub reduced_block-requires-clause-items : goal.reduced_block-requires-clause-items
 reduced_block-requires-clause-items c =
-    let shape = c.args.items.layout.now.shape in
-    let is = subst (λ n. IsAxisOf n c.in_ok-axis.axis) c.rank.ensures.value c.in_ok-axis.ensures.ok.2 in
-    c.items.ensures.value
-    ∙ ap count (sym (shape_is c.args.reduction shape c.in_ok-axis.axis c.args.keep c.in_ok-shape.shape c.in_ok-shape.ensures))
-    ∙ sym (length-lists shape c.in_ok-axis.axis c.args.keep (offsets c.args.items.layout.now) is)
+    c.items.ensures.value ∙ many_lists c.args.reduction c.args.items.layout.now.shape c.in_ok-axis.axis c.args.keep c.in_ok-shape.shape (offsets c.args.items.layout.now) c.rank.result c.rank.ensures.value c.in_ok-axis.ensures.ok.2 c.in_ok-shape.ensures
 
 pub reduced_block-requires-clause-some : goal.reduced_block-requires-clause-some
 reduced_block-requires-clause-some c needs none =
@@ -68,12 +64,7 @@ reduced_block-requires-clause-some c needs none =
 
 pub over-requires-clause-whole : goal.over-requires-clause-whole
 over-requires-clause-whole c =
-    let shape = c.args.items.layout.now.shape in
-    let is = subst (λ n. IsAxisOf n c.in_ok-axis.axis) c.rank.ensures.value c.in_ok-axis.ensures.ok.2 in
-    let ls = lists shape c.in_ok-axis.axis (offsets c.args.items.layout.now) in
-    let many : count c.in_ok-shape.shape ≡ length ls =
-    ap count (sym (shape_is c.args.reduction shape c.in_ok-axis.axis c.args.keep c.in_ok-shape.shape c.in_ok-shape.ensures))
-    ∙ sym (length-lists shape c.in_ok-axis.axis c.args.keep (offsets c.args.items.layout.now) is) in
+    let many = many_lists c.args.reduction c.args.items.layout.now.shape c.in_ok-axis.axis c.args.keep c.in_ok-shape.shape (offsets c.args.items.layout.now) c.rank.result c.rank.ensures.value c.in_ok-axis.ensures.ok.2 c.in_ok-shape.ensures in
     c.in_ok-out.ensures.items.len ∙ (λ i. sym many i * size (sym c.result_scalar.ensures i))
 
 pub over-requires-clause-small : goal.over-requires-clause-small
@@ -86,11 +77,9 @@ over-requires-clause-small c =
 pub returns-clause-array : goal.returns-clause-array
 returns-clause-array c =
     let shape = c.args.items.layout.now.shape in
-    let found = c.in_ok-axis.ensures.ok in
-    let named = ap (λ n. named_axis n c.args.axis) (sym c.rank.ensures.value) ∙ sym found.1 in
     let typed = c.in_ok-owned.ensures.descr ∙ ap ScalarDescr c.result_scalar.ensures in
-    outcome_ok c.args.reduction c.args.items.descr.now shape c.args.axis c.args.keep c.in_ok-scalar.scalar c.in_ok-shape.shape c.in_ok-scalar.ensures.ok.0 (ap (λ n. is_axis n c.args.axis) (sym c.rank.ensures.value) ∙ found.0)
-    (ap (λ axis. shape_after c.args.reduction shape axis c.args.keep) named ∙ c.in_ok-shape.ensures)
+    outcome_ok c.args.reduction c.args.items.descr.now shape c.args.axis c.args.keep c.in_ok-scalar.scalar c.in_ok-shape.shape c.in_ok-scalar.ensures.ok.0 (ap (λ n. is_axis n c.args.axis) (sym c.rank.ensures.value) ∙ c.in_ok-axis.ensures.ok.0)
+    (ap (λ axis. shape_after c.args.reduction shape axis c.args.keep) (ap (λ n. named_axis n c.args.axis) (sym c.rank.ensures.value) ∙ sym c.in_ok-axis.ensures.ok.1) ∙ c.in_ok-shape.ensures)
     ∙ (λ i. Ok (record { descr = sym typed i; shape = sym c.in_ok-owned.ensures.shape i }))
 
 pub returns-clause-items : goal.returns-clause-items
@@ -98,15 +87,11 @@ returns-clause-items c =
     let shape = c.args.items.layout.now.shape in
     let scalar = c.in_ok-scalar.scalar in
     let to = result_scalar c.args.reduction scalar in
-    let found = c.in_ok-axis.ensures.ok in
-    let named = ap (λ n. named_axis n c.args.axis) (sym c.rank.ensures.value) ∙ sym found.1 in
+    let named = ap (λ n. named_axis n c.args.axis) (sym c.rank.ensures.value) ∙ sym c.in_ok-axis.ensures.ok.1 in
     let typed = c.in_ok-owned.ensures.descr ∙ ap ScalarDescr c.result_scalar.ensures in
     let placed : offsets c.in_ok-owned.owned.layout ≡ multiples (size to) (count c.in_ok-shape.shape) = c.in_ok-owned.ensures.order ∙ ap (λ s. multiples (size s) (count c.in_ok-shape.shape)) c.result_scalar.ensures in
-    let is = subst (λ n. IsAxisOf n c.in_ok-axis.axis) c.rank.ensures.value found.2 in
     let ls = lists shape c.in_ok-axis.axis (offsets c.args.items.layout.now) in
-    let many : count c.in_ok-shape.shape ≡ length ls =
-    ap count (sym (shape_is c.args.reduction shape c.in_ok-axis.axis c.args.keep c.in_ok-shape.shape c.in_ok-shape.ensures))
-    ∙ sym (length-lists shape c.in_ok-axis.axis c.args.keep (offsets c.args.items.layout.now) is) in
+    let many = many_lists c.args.reduction shape c.in_ok-axis.axis c.args.keep c.in_ok-shape.shape (offsets c.args.items.layout.now) c.rank.result c.rank.ensures.value c.in_ok-axis.ensures.ok.2 c.in_ok-shape.ensures in
     (λ i. map (item_from (typed i) (c.in_ok-owned.ensures.block i)) (placed i))
     ∙ items_are c.args.reduction scalar to c.args.items.block.now c.in_ok-out.out ls (count c.in_ok-shape.shape) refl many (subst (λ b. AreReduced c.args.reduction scalar b (size to) ls c.in_ok-out.out) c.bytes.ensures c.in_ok-out.ensures.items)
     ∙ (λ i. reduced_items c.args.reduction (sym typed i) (sym c.in_ok-scalar.ensures.ok.2 i) c.args.items.block.now (lists shape (sym named i) (offsets c.args.items.layout.now)))
@@ -116,14 +101,10 @@ returns-clause-bytes c =
     let shape = c.args.items.layout.now.shape in
     let scalar = c.in_ok-scalar.scalar in
     let to = result_scalar c.args.reduction scalar in
-    let found = c.in_ok-axis.ensures.ok in
-    let named = ap (λ n. named_axis n c.args.axis) (sym c.rank.ensures.value) ∙ sym found.1 in
+    let named = ap (λ n. named_axis n c.args.axis) (sym c.rank.ensures.value) ∙ sym c.in_ok-axis.ensures.ok.1 in
     let typed = c.in_ok-owned.ensures.descr ∙ ap ScalarDescr c.result_scalar.ensures in
-    let is = subst (λ n. IsAxisOf n c.in_ok-axis.axis) c.rank.ensures.value found.2 in
     let ls = lists shape c.in_ok-axis.axis (offsets c.args.items.layout.now) in
-    let many : count c.in_ok-shape.shape ≡ length ls =
-    ap count (sym (shape_is c.args.reduction shape c.in_ok-axis.axis c.args.keep c.in_ok-shape.shape c.in_ok-shape.ensures))
-    ∙ sym (length-lists shape c.in_ok-axis.axis c.args.keep (offsets c.args.items.layout.now) is) in
+    let many = many_lists c.args.reduction shape c.in_ok-axis.axis c.args.keep c.in_ok-shape.shape (offsets c.args.items.layout.now) c.rank.result c.rank.ensures.value c.in_ok-axis.ensures.ok.2 c.in_ok-shape.ensures in
     let are = subst (λ b. AreReduced c.args.reduction scalar b (size to) ls c.in_ok-out.out) c.bytes.ensures c.in_ok-out.ensures.items in
     c.in_ok-owned.ensures.block
     ∙ bytes_are c.args.reduction scalar to c.args.items.block.now c.in_ok-out.out ls (count c.in_ok-shape.shape) refl many are

@@ -1,8 +1,12 @@
-use Rattle.std.proofs.Common.{◌*◌, sym, ap, subst, ◌∙◌, arith}
+use Rattle.std.proofs.Common.{◌*◌, ◌≤◌, Some, length, sym, ap, subst, ◌∙◌, arith}
+use Rattle.std.specs.Prelude.{slice_index}
 use Rattle.elem_descr.specs.Encoding.{size}
 use Rattle.raw_block.specs.Bytes.{item_at}
+use Rattle.shape_strides.specs.Layouts.{offsets}
+use Rattle.reductions.specs.Lists.{lists, list_length, IsAxisOf}
 use Rattle.reductions.specs.Reductions.{result_scalar}
-use Rattle.reductions.specs.inside.Numbers.{numbers_at, IsReduced}
+use Rattle.reductions.specs.inside.Numbers.{numbers_at, lines, IsReduced, HaveItems}
+use Rattle.reductions.proofs.AxisLaws.{lists_are, within_lines, starts_within}
 use Rattle.reductions.proofs.OutcomeLaws.{no_items}
 use Rattle.reductions.proofs.reducing.reduced_block.Goals as goal
 
@@ -17,3 +21,32 @@ returns-then-list_length-eq0-clause-items c =
           (sym (no_items c.args.source.layout.now c.args.source.axis k (sym c.list_length.ensures ∙ c.if-list_length-eq0.true) low))
           (c.in_ok-block.ensures.items k (omega (arith, low, c.requires.items)));
     }
+
+pub reduced_from-requires-2-clause-inside : goal.reduced_from-requires-2-clause-inside
+reduced_from-requires-2-clause-inside c =
+    let s = c.args.source in
+    let low = subst (IsAxisOf (length s.layout.now.shape)) c.in-Some.is c.requires.axis in
+    let some : 1 ≤ slice_index s.layout.now.shape c.in-Some.axis = omega (arith, c.if-list_length-eq0.false, c.list_length.ensures ∙ ap (list_length s.layout.now.shape) c.in-Some.is) in
+    starts_within s.layout.now c.in-Some.axis c.in_ok-starts.starts low c.in_ok-starts.ensures.starts (length s.bytes.now) (size s.scalar.now) some s.inside
+
+pub reduced_from-requires-2-clause-items : goal.reduced_from-requires-2-clause-items
+reduced_from-requires-2-clause-items c =
+    let s = c.args.source in
+    let low = subst (IsAxisOf (length s.layout.now.shape)) c.in-Some.is c.requires.axis in
+    let some : 1 ≤ slice_index s.layout.now.shape c.in-Some.axis = omega (arith, c.if-list_length-eq0.false, c.list_length.ensures ∙ ap (list_length s.layout.now.shape) c.in-Some.is) in
+    let starts = c.in_ok-starts.starts in
+    let len = length s.bytes.now in
+    let width = size s.scalar.now in
+    subst (λ axis. HaveItems len width starts (Some axis)) (sym c.axis_at-along.ensures.value) (
+      some,
+      omega (arith, c.axis_at-along.ensures.limit, ap (λ axis. axis.len) c.axis_at-along.ensures.value),
+      within_lines s.layout.now c.in-Some.axis starts low c.in_ok-starts.ensures.starts len width s.inside,
+    )
+
+pub reduced_from-requires-2-clause-lists : goal.reduced_from-requires-2-clause-lists
+reduced_from-requires-2-clause-lists c =
+    let s = c.args.source in
+    let l = s.layout.now in
+    let low = subst (IsAxisOf (length s.layout.now.shape)) c.in-Some.is c.requires.axis in
+    let starts = c.in_ok-starts.starts in
+    ap (λ axis. lists l.shape axis (offsets l)) c.in-Some.is ∙ lists_are l c.in-Some.axis starts low c.in_ok-starts.ensures.starts ∙ ap (λ axis. lines axis (offsets starts)) (sym c.axis_at-along.ensures.value)

@@ -1,0 +1,13 @@
+use Rattle.std.proofs.Common.{◌≡◌, ◌≤◌, [], length}
+use Rattle.std.specs.Prelude.{vec_capacity}
+use Rattle.machine_numbers.specs.Sides.{number_of_side}
+use Rattle.reductions.specs.inside.Lines.{EachOf}
+use Rattle.reductions.proofs.fills.begin.Given as goal
+
+-- so many lines are begun
+abbrev pub invariant-loop-j : goal.invariant-loop-j
+invariant-loop-j g l = record {
+  len : length l.held.items ≡ l.j;
+  room : l.firsts.run.count ≤ vec_capacity l.held;
+  held : EachOf l.j l.held.items (λ j one. g.F.Fold.holds one (number_of_side (g.S.Number.scalar g.O.Ordered.order) l.firsts j) []);
+}

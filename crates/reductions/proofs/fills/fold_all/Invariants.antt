@@ -1,0 +1,20 @@
+use Rattle.std.proofs.Common.{◌≡◌, ◌+◌, All, length}
+use Rattle.raw_block.specs.Bytes.{EachWithin}
+use Rattle.shape_strides.specs.Indexes.{count}
+use Rattle.shape_strides.specs.Layouts.{offsets}
+use Rattle.shape_strides.specs.RunPairs.{all_offsets}
+use Rattle.reductions.specs.inside.Numbers.{number_at, numbers_at}
+use Rattle.reductions.proofs.LineLaws.{TakesOn}
+use Rattle.reductions.proofs.fills.fold_all.Given as goal
+
+-- what takes in the runs that are left takes in the whole
+abbrev pub invariant-loop-run : goal.invariant-loop-run
+invariant-loop-run g l =
+    let s = l.fn.lists in
+    let scalar = g.S.Number.scalar g.O.Ordered.order in
+    let numbers = numbers_at scalar s.bytes.now in
+    record {
+      counted : l.seen + length (all_offsets l.run-iterator) ≡ count s.starts.now.shape;
+      within : All (λ run. EachWithin (length s.bytes.now) run.offset run.step g.S.Number.WIDTH run.count) l.run-iterator;
+      takes : TakesOn g.F.Fold.holds l.held l.seen (numbers (all_offsets l.run-iterator)) (number_at scalar s.bytes.now s.starts.now.offset) (numbers (offsets s.starts.now));
+    }

@@ -1,0 +1,13 @@
+use Rattle.std.proofs.Common.{◌≡◌, ◌≤◌, [], ◌∷◌, length}
+use Rattle.machine_numbers.specs.Sides.{number_of_side}
+use Rattle.reductions.specs.inside.Lines.{EachPair}
+use Rattle.reductions.specs.inside.Numbers.{TakesIn}
+use Rattle.reductions.proofs.fills.take_each.Given as goal
+
+-- the numbers so far are taken in
+abbrev pub invariant-loop-j : goal.invariant-loop-j
+invariant-loop-j g l = record {
+  len : length l.held ≡ length l.initial.held;
+  done : EachPair l.j l.initial.held l.held (λ j one after. TakesIn g.F.Fold.holds one l.seen (number_of_side (g.S.Number.scalar g.O.Ordered.order) l.row j ∷ []) after);
+  later : EachPair (length l.initial.held) l.held l.initial.held (λ j now one. l.j ≤ j → now ≡ one);
+}

@@ -1,7 +1,0 @@
-use Rattle.std.proofs.Common.{◌≡◌, drop}
-use Rattle.shape_strides.specs.Indexes.{count}
-use Rattle.reductions.proofs.outcomes.have_items.Given as goal
-
--- no length so far is 0
-abbrev pub invariant-loop-len : goal.invariant-loop-len
-invariant-loop-len l = count l.lengths ≡ 0 → count (drop l.len-index l.lengths) ≡ 0

@@ -1,8 +1,0 @@
-use Rattle.shape_strides.specs.Runs.{run_offsets}
-use Rattle.reductions.specs.inside.Numbers.{lines, AddsReduced}
-use Rattle.reductions.proofs.LineLaws.{front}
-use Rattle.reductions.proofs.rows.push_by_lines.Given as goal
-
--- the lines so far are reduced
-abbrev pub invariant-loop-j : goal.invariant-loop-j
-invariant-loop-j g l = AddsReduced g.F.Fold.reduction (g.S.Number.scalar g.O.Ordered.order) l.lines.starts.bytes.now g.F.Total.Number.WIDTH (lines l.lines.axis (run_offsets (front l.j l.lines.starts.run))) l.initial.block l.block
