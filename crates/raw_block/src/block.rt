@@ -231,8 +231,8 @@ impl RawBlock {
         ensures swapped { self.new ≡ swapped a a_step b b_step width n self.old }
         ensures len { length self.new ≡ length self.old }
     {
-        let others = Items::new(b, b_step, width, n);
-        strided::swap(self.bytes_mut(), Steps::new(a, a_step), others);
+        let (a, b) = (Steps::new(a, a_step), Steps::new(b, b_step));
+        strided::swap(self.bytes_mut(), a, b, width, n);
     }
 }
 
