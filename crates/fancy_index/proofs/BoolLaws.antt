@@ -5,7 +5,7 @@ use Rattle.elem_descr.specs.declared.descr.Descr.{Descr}
 use Rattle.elem_descr.specs.declared.descr.Descr.TheVariants.{Scalar as ScalarDescr}
 use Rattle.elem_descr.specs.declared.scalar.Scalar.TheVariants.{Bool as BoolScalar}
 use Rattle.fancy_index.specs.Sources.{number_from}
-use Rattle.fancy_index.specs.inside.Bools.{bool_number}
+use Rattle.fancy_index.specs.inside.Words.{bool_number}
 use Rattle.overlap_copy.specs.Packed.{row_offsets as packed}
 use Rattle.overlap_copy.specs.PackedLaws.{length-row as length-packed}
 use Rattle.fancy_index.proofs.RunLaws.{packed-entry}
