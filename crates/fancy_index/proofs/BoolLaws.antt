@@ -1,14 +1,11 @@
 -- Bools that lie one right after another.
-use Rattle.std.proofs.Common.{◌≡◌, ◌≢◌, ℕ, zero, suc, ◌+◌, ◌-◌, ◌*◌, ◌<◌, ◌≤◌, false, true, nat_eq, List, [], ◌∷◌, map, length, get_or, take, drop, All, refl, sym, ap, ◌∙◌, arith, length-drop, length-take-le}
-use Rattle.std.specs.Ordering.{int_eq}
+use Rattle.std.proofs.Common.{◌≡◌, ℕ, zero, suc, ◌+◌, ◌-◌, ◌*◌, ◌<◌, ◌≤◌, List, [], ◌∷◌, map, length, get_or, take, drop, All, refl, sym, ap, ◌∙◌, arith, length-drop, length-take-le}
 use Rattle.std.proofs.lemmas.List.{same_lists, get_or-map, length-map, get_or-drop}
-use Rattle.std.proofs.lemmas.Bool.{ne_eqb}
-use lib.IntN.{pos}
 use Rattle.elem_descr.specs.declared.descr.Descr.{Descr}
 use Rattle.elem_descr.specs.declared.descr.Descr.TheVariants.{Scalar as ScalarDescr}
 use Rattle.elem_descr.specs.declared.scalar.Scalar.TheVariants.{Bool as BoolScalar}
 use Rattle.fancy_index.specs.Sources.{number_from}
-use Rattle.fancy_index.specs.inside.Bools.{bool_number}
+use Rattle.fancy_index.specs.inside.Words.{bool_number}
 use Rattle.overlap_copy.specs.Packed.{row_offsets as packed}
 use Rattle.overlap_copy.specs.PackedLaws.{length-row as length-packed}
 use Rattle.fancy_index.proofs.RunLaws.{packed-entry}
@@ -53,4 +50,3 @@ bools-are descr block at n offsets bytes is lie room cut =
     taken (suc m) (x ∷ xs) (suc k) low = taken m xs k (omega arith)
 
 -- ---- the ranks
-

@@ -1,14 +1,12 @@
 -- The parts that items come to, item by item.
-use Rattle.std.proofs.Common.{◌≡◌, ◌⊎◌, inl, inr, Ok, Err, is_ok, ℕ, ℤ, ◌+◌, ◌-◌, ◌<◌, ◌≤◌, Bool, true, false, ◌&&◌, pos, List, [], ◌∷◌, ◌++◌, map, length, get_or, take, drop, slice_range, refl, sym, ap, subst, ◌∙◌, arith, length-drop, length-take-le, append_assoc, append-nil}
+use Rattle.std.proofs.Common.{◌≡◌, Ok, is_ok, ℕ, ℤ, ◌≤◌, Bool, true, false, ◌&&◌, List, [], ◌∷◌, ◌++◌, map, length, get_or, refl, sym, ap, subst, ◌∙◌, arith, append_assoc, append-nil}
 use Rattle.std.specs.List.{list_all, flat_map}
 use Rattle.std.proofs.lemmas.Bool.{and_parts, false≢true}
-use Rattle.std.proofs.lemmas.List.{take-append-drop, map-append}
+use Rattle.std.proofs.lemmas.List.{map-append}
 use Rattle.elem_descr.specs.declared.refusal.Refusal.{Refusal}
-use Rattle.elem_descr.specs.declared.refusal.Refusal.TheVariants.{OutOfMemory}
 use Rattle.elem_descr.specs.Refusals.{check}
 use Rattle.shape_strides.specs.declared.index_item.IndexItem.{IndexItem}
-use Rattle.shape_strides.specs.declared.index_item.IndexItem.TheVariants.{Integer, Slice, Ellipsis, NewAxis as NewItem, Array}
-use Rattle.shape_strides.specs.IndexItems.{is_ellipsis}
+use Rattle.shape_strides.specs.declared.index_item.IndexItem.TheVariants.{Integer}
 use Rattle.view_ops.specs.declared.pick.AxisPick.{AxisPick}
 use Rattle.view_ops.specs.declared.pick.AxisPick.TheVariants.{At as AtAxis, Along as AlongAxis, New as NewAxis}
 use Rattle.view_ops.specs.Slices.{is_place}
@@ -17,8 +15,8 @@ use Rattle.view_ops.specs.Picks.{pick_shown, ArePicks}
 use Rattle.fancy_index.specs.declared.points.PointList.{PointList}
 use Rattle.fancy_index.specs.declared.parts.IndexPart.{IndexPart}
 use Rattle.fancy_index.specs.declared.parts.IndexPart.TheVariants.{Axis as AxisPart, Points as PointsPart, Between as BetweenPart}
-use Rattle.fancy_index.specs.IndexArrays.{IndexArray, is_index, item_axes, array_axes_taken, array_axes_width, placed_arrays, left_over, covers, cover, is_within, are_within}
-use Rattle.fancy_index.specs.Parts.{Part, Axis, Between, wholes, parts_of, parts}
+use Rattle.fancy_index.specs.IndexArrays.{IndexArray, is_index, array_axes_taken, placed_arrays, left_over, covers, cover, is_within, are_within}
+use Rattle.fancy_index.specs.Parts.{Part, Axis, wholes, parts_of, parts}
 use Rattle.fancy_index.specs.inside.Lists.{IsNext}
 use Rattle.fancy_index.specs.inside.PointLists.{place_of, IsPart}
 use Rattle.fancy_index.proofs.PointLaws.{integer-part}
@@ -69,46 +67,12 @@ whole_more old new axes n pick within is adds = record {
 
 -- ---- items over axes
 
--- the next item takes no more axes than there are, and leaves those of the items behind it
-pub width-within : (n : ℕ) (item : IndexItem IndexArray) (later : List (IndexItem IndexArray)) → item_axes item + array_axes_taken later ≤ n → array_axes_width n item later + array_axes_taken later ≤ n
-width-within n (Integer at) later enough = enough
-width-within n (Slice start stop step) later enough = enough
-width-within n Ellipsis later enough = omega arith
-width-within n NewItem later enough = enough
-width-within n (Array array) later enough = enough
-
-pub is-next : (shape : List ℕ) (item : IndexItem IndexArray) (later : List (IndexItem IndexArray)) (n : ℕ) → n ≡ array_axes_width (length shape) item later → n ≤ length shape → IsNext shape (item ∷ later) item (take n shape) (drop n shape) later
-is-next shape item later n is within = record {
-  list = refl;
-  cut = sym (take-append-drop n shape);
-  many = λ basic. length-take-le n shape within ∙ is ∙ sized (length shape) item basic;
-  placed = λ i. record { item = item; axes = take (sym is i) shape } ∷ placed_arrays (drop (sym is i) shape) later;
-  over = λ i. left_over (drop (sym is i) shape) later;
-}
-  where
-    sized : (n : ℕ) (x : IndexItem IndexArray) → is_ellipsis x ≡ false → array_axes_width n x later ≡ item_axes x
-    sized n (Integer at) basic = refl
-    sized n (Slice start stop step) basic = refl
-    sized n Ellipsis basic = absurd (false≢true (sym basic))
-    sized n NewItem basic = refl
-    sized n (Array array) basic = refl
-
 -- the parts so far, with what is left
 pub record HaveParts (shape : List ℕ) (items : List (IndexItem IndexArray)) (done : List IndexPart) (axes : List ℕ) (left : List (IndexItem IndexArray)) : Type 0 where
   pub checked : IsChecked axes left
   pub in_range : are_within axes left ≡ are_within shape items
   pub are : (more : List IndexPart) → AreParts axes more → AreParts shape (done ++ more)
   pub show : map shown_part done ++ parts axes left ≡ parts shape items
-
--- before the first item
-pub parts_begin : (shape : List ℕ) (items : List (IndexItem IndexArray)) → IsChecked shape items → HaveParts shape items [] shape items
-parts_begin shape items checked = record { checked = checked; in_range = refl; are = λ more are. are; show = refl }
-
--- the next item comes to parts
-pub record CanPart (item : IndexItem IndexArray) (axes : List ℕ) : Type 0 where
-  pub index : is_index item ≡ true
-  pub covers : covers axes item ≡ true
-  pub step : has_step item ≡ true
 
 module _ (shape axes axes' taken : List ℕ) (items left left' : List (IndexItem IndexArray)) (item : IndexItem IndexArray) (done : List IndexPart) (next : IsNext axes left item taken axes' left') (have : HaveParts shape items done axes left) where
   -- what holds of all that is left holds of the next, and of all after it
@@ -120,17 +84,6 @@ module _ (shape axes axes' taken : List ℕ) (items left left' : List (IndexItem
 
   within_more : are_within axes left ≡ (is_within taken item && are_within axes' left')
   within_more = ap (list_all (λ p. is_within p.axes p.item)) next.placed
-
-  pub can_part : CanPart item taken
-  can_part = record {
-    index = (parted is_index have.checked.index).0;
-    covers = covered.0;
-    step = (parted has_step have.checked.steps).0;
-  }
-
-  -- a number of it is refused
-  pub part_refused : is_within taken item ≡ false → are_within shape items ≡ false
-  part_refused out = sym have.in_range ∙ within_more ∙ ap (λ b. b && are_within axes' left') out
 
   pub parts_on : (new : List IndexPart) → array_axes_taken left' ≤ length axes' → is_within taken item ≡ true → AddsParts done new taken (parts_of taken item) → HaveParts shape items new axes' left'
   parts_on new enough here adds =
@@ -155,25 +108,11 @@ module _ (shape axes axes' taken : List ℕ) (items left left' : List (IndexItem
             ∙ have.show;
       }
 
--- after the last item
-pub parts_all : (shape axes : List ℕ) (items left : List (IndexItem IndexArray)) (done new : List IndexPart) → left ≡ [] → HaveParts shape items done axes left → AddsParts done new axes (wholes axes) → (are_within shape items ≡ true) × AreParts shape new × (map shown_part new ≡ parts shape items)
-parts_all shape axes items left done new none have adds = (
-  sym have.in_range ∙ ap (are_within axes) none,
-  subst (AreParts shape) (sym adds.after) (have.are adds.added adds.are),
-  ap (map shown_part) adds.after ∙ map-append shown_part done adds.added ∙ ap (λ l. map shown_part done ++ l) (adds.show ∙ sym (ap (parts axes) none)) ∙ have.show,
-)
-
 -- ---- what a test says
 
 pub passed : (test : Bool) (refusal : Refusal) → check test refusal ≡ Ok tt → test ≡ true
 passed true refusal is = refl
 passed false refusal is = absurd (false≢true (ap is_ok is))
-
--- a refusal of one test is that of another
-pub refused_as : (test test' : Bool) (refusal e : Refusal) → (test ≡ false → test' ≡ false) → (e ≡ OutOfMemory) ⊎ (check test refusal ≡ Err e) → (e ≡ OutOfMemory) ⊎ (check test' refusal ≡ Err e)
-refused_as test test' refusal e then (inl none) = inl none
-refused_as true test' refusal e then (inr is) = absurd (false≢true (sym (ap is_ok is)))
-refused_as false test' refusal e then (inr is) = inr (ap (λ t. check t refusal) (then refl) ∙ is)
 
 -- ---- one item
 

@@ -1,6 +1,6 @@
 -- Points of an index of the common lengths, and the first item with each.
 use Rattle.std.proofs.Common.{◌≡◌, ℕ, zero, suc, ◌+◌, ◌-◌, ◌*◌, ◌<◌, ◌≤◌, ◌==◌, if◌then◌else◌, List, [], ◌∷◌, ◌++◌, map, length, get_or, take, drop, All, refl, sym, ap, subst, ◌∙◌, arith, add-mul, mul_assoc, mul-le-mul_left, mul-one, length-drop}
-use Rattle.std.proofs.lemmas.List.{drop_more, drop_all, take_more, map-append, get_or-drop, get_or_default}
+use Rattle.std.proofs.lemmas.List.{drop_more, take_more, map-append, get_or-drop, get_or_default}
 use Rattle.shape_strides.specs.declared.layout.Layout.{Layout}
 use Rattle.shape_strides.specs.Indexes.{count, indexes, rank, IsIndex}
 use Rattle.shape_strides.specs.IndexLaws.{length-index, length-indexes, rank-lt, get_or-indexes, index_at}

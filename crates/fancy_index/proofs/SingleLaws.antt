@@ -1,5 +1,5 @@
 -- Single items that are gathered, scattered and filled.
-use Rattle.std.proofs.Common.{◌≡◌, ℕ, ◌+◌, ◌-◌, ◌<◌, ◌≤◌, List, [], ◌∷◌, ◌++◌, map, length, get_or, drop, All, refl, sym, ap, ◌∙◌, arith, append-nil}
+use Rattle.std.proofs.Common.{◌≡◌, ℕ, ◌+◌, ◌-◌, ◌<◌, ◌≤◌, List, [], ◌∷◌, ◌++◌, map, length, get_or, drop, refl, sym, ap, ◌∙◌, arith, append-nil}
 use Rattle.std.proofs.lemmas.List.{drop_more, length-map}
 use Rattle.raw_block.specs.Bytes.{put, item_at}
 use Rattle.shape_strides.specs.declared.layout.Layout.{Layout}
@@ -7,7 +7,7 @@ use Rattle.shape_strides.specs.Indexes.{count}
 use Rattle.shape_strides.specs.Layouts.{offsets}
 use Rattle.shape_strides.specs.LayoutLaws.{length-offsets, entry-first}
 use Rattle.overlap_copy.specs.Assignments.{assigned}
-use Rattle.fancy_index.specs.inside.Moved.{moved_offset, shifted_all, IsMoved, IsStart}
+use Rattle.fancy_index.specs.inside.Moved.{moved_offset, shifted_all}
 use Rattle.overlap_copy.specs.Packed.{row_offsets as packed}
 use Rattle.fancy_index.proofs.GatherLaws.{packed-suc}
 use Rattle.fancy_index.proofs.Passes.{CanScatter, Scattering, Pushing, Filling, scatter_front, scattered_front, push_front, pushed_front, fill_front, filled_front}

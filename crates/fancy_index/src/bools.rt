@@ -4,7 +4,7 @@ ghost use Rattle.elem_descr.specs.declared.descr.Descr.TheVariants.{Scalar as Sc
 ghost use Rattle.elem_descr.specs.declared.scalar.Scalar.TheVariants.{Bool as BoolScalar};
 ghost use Rattle.shape_strides.specs.Limits.{max_items};
 ghost use Rattle.fancy_index.specs.Sources.{index_array_of, LiesInBlock};
-ghost use Rattle.fancy_index.specs.inside.Bools.{bool_number};
+ghost use Rattle.fancy_index.specs.inside.Words.{bool_number};
 ghost use Rattle.fancy_index.specs.inside.PointLists.{true_ranks};
 
 use crate::singles::bytes_at;

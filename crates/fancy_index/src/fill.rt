@@ -1,8 +1,7 @@
 //! One item, written to where a plan leads.
 ghost use Rattle.std.specs.Prelude.{◌≡◌, ◌+◌, ◌≤◌, length, All};
 ghost use Rattle.fancy_index.specs.Plans.{put_each};
-ghost use Rattle.fancy_index.specs.inside.Kept.{offsets_from};
-ghost use Rattle.fancy_index.specs.inside.Shifts.{moved_offsets, shifted_offsets};
+ghost use Rattle.fancy_index.specs.inside.Kept.{offsets_from, moved_offsets, shifted_offsets};
 
 use crate::rows::{MovedLayout, PlanAxes, Shifted, moved};
 use crate::run_moves::{fill_run, moved_run};

@@ -39,11 +39,13 @@ impl Model for Plan {
 
     ghost Value = { Planned };
 
-    ghost use Rattle.fancy_index.specs.inside.Kept.{offsets_from, IsPlan};
+    ghost use Rattle.std.specs.Prelude.{◌≡◌, length};
+    ghost use Rattle.shape_strides.specs.Indexes.{count};
+    ghost use Rattle.fancy_index.specs.inside.Kept.{offsets_from};
 
     ghost view = { λ p. record { shape = p.shape; offsets = offsets_from p.axes.value } };
 
-    ghost invariant = { IsPlan };
+    ghost invariant = { λ p. length (offsets_from p.axes.value) ≡ count p.shape };
 }
 
 /// Where the item at a rank is, along the outer axes, the shifts and the inner axes.

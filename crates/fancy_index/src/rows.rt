@@ -50,7 +50,7 @@ pub(crate) fn moved(base: usize, start: usize, offset: usize) -> usize
 
 impl PlanAxes {
     ghost use Rattle.fancy_index.specs.inside.Moved.{shifted_all};
-    ghost use Rattle.fancy_index.specs.inside.Shifts.{shifted_offsets};
+    ghost use Rattle.fancy_index.specs.inside.Kept.{shifted_offsets};
 
     /// The items from a place of the outer axes on.
     pub(crate) fn rows(&self, place: usize) -> Shifted<'_>

@@ -1,9 +1,8 @@
 //! Items that lie one after another, copied to where a plan leads, strictly one after the other.
 ghost use Rattle.std.specs.Prelude.{◌≡◌, ◌+◌, ◌*◌, ◌≤◌, length, All};
 ghost use Rattle.overlap_copy.specs.Assignments.{assigned};
-ghost use Rattle.fancy_index.specs.inside.Kept.{offsets_from};
+ghost use Rattle.fancy_index.specs.inside.Kept.{offsets_from, moved_offsets, shifted_offsets};
 ghost use Rattle.overlap_copy.specs.Packed.{row_offsets as packed};
-ghost use Rattle.fancy_index.specs.inside.Shifts.{moved_offsets, shifted_offsets};
 
 use crate::rows::{MovedLayout, PlanAxes, Shifted, moved};
 use crate::run_moves::moved_run;

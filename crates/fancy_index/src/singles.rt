@@ -5,7 +5,7 @@ ghost use Rattle.overlap_copy.specs.Assignments.{assigned};
 ghost use Rattle.overlap_copy.specs.Joined.{joined_at};
 ghost use Rattle.fancy_index.specs.Plans.{put_each};
 ghost use Rattle.overlap_copy.specs.Packed.{row_offsets as packed};
-ghost use Rattle.fancy_index.specs.inside.Shifts.{first_offsets};
+ghost use Rattle.fancy_index.specs.inside.Kept.{first_offsets};
 
 use crate::rows::{Shifted, moved};
 use raw_block::{BlockBuilder, RawBlock};

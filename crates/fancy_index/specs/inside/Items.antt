@@ -23,11 +23,8 @@ ItemsLieInBlock _ = Unit {0}
 
 -- that items name arrays holds in one way
 IsNamed-prop : (n : ℕ) (item : IndexItem ℕ) → IsProp (IsNamed n item)
-IsNamed-prop n (Integer at) = Unit-prop
-IsNamed-prop n (Slice start stop step) = Unit-prop
-IsNamed-prop n Ellipsis = Unit-prop
-IsNamed-prop n NewAxis = Unit-prop
 IsNamed-prop n (Array k) = le_prop
+IsNamed-prop n _ = Unit-prop
 
 pub AreNamed-prop : (n : ℕ) (items : List (IndexItem ℕ)) → IsProp (All (IsNamed n) items)
 AreNamed-prop n items = hlevel (IsNamed-prop, props)

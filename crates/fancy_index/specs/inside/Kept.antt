@@ -1,14 +1,20 @@
--- A plan as it is kept: where its axes lead, and what holds of its fields.
-use Rattle.std.specs.Prelude.{◌≡◌, List, ℕ, length}
-use Rattle.shape_strides.specs.Indexes.{count}
+-- Where the items lie to which the axes of a plan lead.
+use Rattle.std.specs.Prelude.{ℕ, List, map}
 use Rattle.shape_strides.specs.Layouts.{offsets}
-use Rattle.fancy_index.specs.declared.plans.Plan.TheInside.{Inside}
+use Rattle.fancy_index.specs.declared.rows.MovedLayout.{MovedLayout}
 use Rattle.fancy_index.specs.declared.rows.PlanAxes.{PlanAxes}
-use Rattle.fancy_index.specs.inside.Moved.{moved_all}
+use Rattle.fancy_index.specs.declared.rows.Shifted.{Shifted}
+use Rattle.fancy_index.specs.inside.Moved.{moved_offset, shifted_all, moved_all}
 
--- the offsets of the items that the axes of a plan lead to
+abbrev pub moved_offsets : MovedLayout → List ℕ
+moved_offsets moved = map (moved_offset moved.layout.now.offset moved.start) (offsets moved.layout.now)
+
+-- where the first of the inner items lies with each shift, and where all lie
+abbrev pub first_offsets : Shifted → List ℕ
+first_offsets rows = map (moved_offset rows.inner.now.offset rows.place) rows.shifts.now
+
+abbrev pub shifted_offsets : Shifted → List ℕ
+shifted_offsets rows = shifted_all rows.inner.now.offset rows.shifts.now (offsets rows.inner.now) rows.place
+
 abbrev pub offsets_from : PlanAxes → List ℕ
 offsets_from axes = moved_all axes.inner.offset (offsets axes.outer) axes.shifts.items (offsets axes.inner)
-
-abbrev pub IsPlan : Inside → Type 0
-IsPlan p = length (offsets_from p.axes.value) ≡ count p.shape

@@ -3,7 +3,7 @@ use Rattle.std.specs.Prelude.{◌≡◌, ℕ, ◌+◌, ◌<◌, ◌≤◌, Bool,
 use Rattle.std.specs.List.{list_all}
 use Rattle.elem_descr.specs.declared.descr.Descr.{Descr}
 use Rattle.elem_descr.specs.declared.scalar.Order.TheVariants.{Little}
-use Rattle.elem_descr.specs.Encoding.{integer, number_in}
+use Rattle.elem_descr.specs.Encoding.{integer, number_in, truth}
 use Rattle.elem_descr.specs.Items.{item_size}
 use Rattle.raw_block.specs.Bytes.{item_at}
 use Rattle.shape_strides.specs.Addresses.{LieWithin}
@@ -15,6 +15,10 @@ use Rattle.fancy_index.specs.Sources.{number_from}
 use Rattle.fancy_index.specs.declared.words.Reading.{Reading}
 use Rattle.fancy_index.specs.declared.words.Spread.{Spread}
 use Rattle.fancy_index.specs.inside.PointLists.{place_of}
+
+-- the number of the bool in a byte
+abbrev pub bool_number : ℕ → ℤ
+bool_number byte = pos (truth byte)
 
 -- the integer in so many bytes
 abbrev pub word : Reading → ℕ → List ℕ → ℤ

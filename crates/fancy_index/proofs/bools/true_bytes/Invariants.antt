@@ -1,5 +1,5 @@
 use Rattle.std.proofs.Common.{◌≡◌, ◌++◌, map, drop}
-use Rattle.fancy_index.specs.inside.Bools.{bool_number}
+use Rattle.fancy_index.specs.inside.Words.{bool_number}
 use Rattle.fancy_index.specs.inside.PointLists.{true_ranks}
 use Rattle.fancy_index.proofs.bools.true_bytes.Given as goal
 

@@ -1,6 +1,6 @@
 use Rattle.std.proofs.Common.{◌≡◌, length}
 use Rattle.fancy_index.specs.Plans.{put_each}
-use Rattle.fancy_index.specs.inside.Shifts.{moved_offsets}
+use Rattle.fancy_index.specs.inside.Kept.{moved_offsets}
 use Rattle.fancy_index.proofs.Passes.{RunsLeft, Filling, moved_runs}
 use Rattle.fancy_index.proofs.fill.fill_from.Given as goal
 

@@ -1,4 +1,4 @@
-use Rattle.fancy_index.specs.inside.Shifts.{moved_offsets}
+use Rattle.fancy_index.specs.inside.Kept.{moved_offsets}
 use Rattle.fancy_index.proofs.Passes.{RunsLeft, Pushing, moved_runs}
 use Rattle.fancy_index.proofs.gather.push_from.Given as goal
 

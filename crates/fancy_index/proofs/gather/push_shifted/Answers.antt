@@ -1,6 +1,6 @@
 use Rattle.std.proofs.Common.{◌≡◌, ◌+◌, ◌*◌, ◌++◌, ◌≤◌, ℕ, List, length, All, sym, ap, subst, ◌∙◌, arith}
 use Rattle.overlap_copy.specs.Joined.{joined_at}
-use Rattle.fancy_index.specs.inside.Shifts.{first_offsets, shifted_offsets}
+use Rattle.fancy_index.specs.inside.Kept.{first_offsets, shifted_offsets}
 use Rattle.fancy_index.proofs.SingleLaws.{shifted-single}
 use Rattle.fancy_index.proofs.gather.push_shifted.Goals as goal
 use Rattle.fancy_index.proofs.gather.push_shifted.Goals.{Then-items-eq1}

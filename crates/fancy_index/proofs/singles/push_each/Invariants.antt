@@ -1,6 +1,6 @@
 use Rattle.std.proofs.Common.{map, drop}
 use Rattle.fancy_index.specs.inside.Moved.{moved_offset}
-use Rattle.fancy_index.specs.inside.Shifts.{first_offsets}
+use Rattle.fancy_index.specs.inside.Kept.{first_offsets}
 use Rattle.fancy_index.proofs.Passes.{Pushing}
 use Rattle.fancy_index.proofs.singles.push_each.Given as goal
 

@@ -22,7 +22,7 @@ returns-in-4-true c =
     let native = subst (λ w. IsNative c.in-Some.reading w items.run) c.in-4-true.is-0 (c.in-4-true.ensures refl) in
     let words = subst (λ w. AreWords c.in-Some.reading w c.args.array.descr.now) c.in-4-true.is-0 c.in-Some.ensures in
     let same = native-numbers c.in-Some.reading 4 items c.run_i32.result (spread 4 (goal.at.returns-in-4-true c).In-Some-spread_of c.in-4-true.is-0) native c.run_i32.ensures.len c.run_i32.ensures.numbers
-        ∙ words-are c.in-Some.reading 4 _ items _ _ words c.in-Some-spread_of.ensures.block c.in-Some-spread_of.ensures.offsets in
+    ∙ words-are c.in-Some.reading 4 _ items _ _ words c.in-Some-spread_of.ensures.block c.in-Some-spread_of.ensures.offsets in
     subst (λ numbers. Gives (λ v. v.items) c.int_places.result (named_places c.args.n numbers)) same c.int_places.ensures
 
 pub returns-in-8-true : goal.returns-in-8-true
@@ -31,5 +31,5 @@ returns-in-8-true c =
     let native = subst (λ w. IsNative c.in-Some.reading w items.run) c.in-8-true.is-0 (c.in-8-true.ensures refl) in
     let words = subst (λ w. AreWords c.in-Some.reading w c.args.array.descr.now) c.in-8-true.is-0 c.in-Some.ensures in
     let same = native-numbers c.in-Some.reading 8 items c.run_i64.result (spread 8 (goal.at.returns-in-8-true c).In-Some-spread_of c.in-8-true.is-0) native c.run_i64.ensures.len c.run_i64.ensures.numbers
-        ∙ words-are c.in-Some.reading 8 _ items _ _ words c.in-Some-spread_of.ensures.block c.in-Some-spread_of.ensures.offsets in
+    ∙ words-are c.in-Some.reading 8 _ items _ _ words c.in-Some-spread_of.ensures.block c.in-Some-spread_of.ensures.offsets in
     subst (λ numbers. Gives (λ v. v.items) c.long_places.result (named_places c.args.n numbers)) same c.long_places.ensures
