@@ -28,11 +28,11 @@ use Rattle.bench_engine.proofs.Copies.{made-held}
 
 -- ---- what is made
 
-cast-none : (s : State) (a : Array) (descr : Descr) → can_cast (descr_of s a) descr ≡ false → cast_items s a descr ≡ Err NoSuchCast
+pub cast-none : (s : State) (a : Array) (descr : Descr) → can_cast (descr_of s a) descr ≡ false → cast_items s a descr ≡ Err NoSuchCast
 unfolding cast_items
 cast-none s a descr none = rw none refl
 
-cast-some : (s : State) (a : Array) (descr : Descr) → can_cast (descr_of s a) descr ≡ true → cast_items s a descr ≡ Ok (map (cast_item (descr_of s a) descr) (read s a))
+pub cast-some : (s : State) (a : Array) (descr : Descr) → can_cast (descr_of s a) descr ≡ true → cast_items s a descr ≡ Ok (map (cast_item (descr_of s a) descr) (read s a))
 unfolding cast_items
 cast-some s a descr can = rw can refl
 

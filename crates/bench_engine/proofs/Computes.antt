@@ -1,7 +1,6 @@
 -- A name bound to what is computed of other arrays.
-use Rattle.std.proofs.Common.{◌≡◌, ◌&&◌, ℕ, Bool, true, false, Some, None, unwrap_or, List, [], ◌∷◌, ◌++◌, map, IfOk, Option, Result, Ok, Err, refl, sym, ap, ◌∙◌, inl, inr}
+use Rattle.std.proofs.Common.{◌≡◌, ℕ, true, false, Some, None, unwrap_or, List, [], ◌∷◌, map, IfOk, Option, Result, Ok, Err, refl, sym, ap, ◌∙◌, inl, inr}
 use Rattle.std.specs.List.{list_all}
-use Rattle.std.proofs.lemmas.List.Folds.{list_all-append}
 use Rattle.std.proofs.lemmas.Simd.{map-map}
 use Rattle.elem_descr.specs.declared.refusal.Refusal.{Refusal}
 use Rattle.elem_descr.specs.declared.refusal.Refusal.TheVariants.{UnknownName, TooManyNames}
@@ -28,7 +27,7 @@ use Rattle.name_store.specs.States.{State, Array}
 use Rattle.name_store.specs.Arrays.{find_array, is_bound, has_room_for, descr_of, read}
 use Rattle.bench_engine.specs.Contents.{Contents, new_contents}
 use Rattle.bench_engine.specs.IndexLists.{taken}
-use Rattle.bench_engine.specs.Machine.{Choice, Outcome, array_of, bound_in_value, bind_outcome, bound_new, copy_outcome, cast_outcome, operand_values, viewed, operand_part, argument_values, operation_with, operation_contents, transformed, creation_outcome, computed_outcome}
+use Rattle.bench_engine.specs.Machine.{Choice, Outcome, bound_in_value, bind_outcome, bound_new, copy_outcome, cast_outcome, operand_values, viewed, operand_part, argument_values, operation_with, operation_contents, transformed, creation_outcome, computed_outcome}
 use Rattle.bench_engine.specs.inside.Computed.{computed_contents, origin_of}
 use Rattle.bench_engine.specs.inside.Operands.{StandsFor}
 use Rattle.bench_engine.specs.inside.OwnContents.{held, IsInCOrder}

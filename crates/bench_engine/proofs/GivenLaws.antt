@@ -39,6 +39,7 @@ use Rattle.bench_engine.specs.inside.Assigns.{Holds, IsTaken, GivesTaken, Stretc
 use Rattle.bench_engine.specs.inside.Operands.{StandsFor}
 use Rattle.bench_engine.proofs.Assigns.{all-viewed, lies-whole, lies-viewed, stretched-shape}
 use Rattle.bench_engine.proofs.OperandLaws.{copy-stands, view-stands}
+use Rattle.bench_engine.proofs.Casts.{cast-none, cast-some}
 use Rattle.bench_engine.proofs.Views.{given-view}
 
 pub stretches : (view wide : Layout) (shape : List ℕ) → GivesView view (Ok wide) (stretched_into view.shape shape) → Stretches view shape wide
@@ -117,20 +118,12 @@ module _ (s : State) (operand : Operand) (descr : Descr) (shape : List ℕ) (b :
   items-narrow : (view : View) (e : Refusal) → taken s b index ≡ Ok view → stretched_into view.shape shape ≡ Err e → argument_items s (argument.Operand operand) descr shape ≡ Err e
   items-narrow view e good narrow = rw (found, source-narrow view e good narrow) refl
 
-  cast-none : (part : Array) → can_cast (descr_of s part) descr ≡ false → cast_items s part descr ≡ Err NoSuchCast
-  unfolding cast_items
-  cast-none part none = rw none refl
-
-  cast-done : (part : Array) → can_cast (descr_of s part) descr ≡ true → cast_items s part descr ≡ Ok (map (cast_item (descr_of s part) descr) (read s part))
-  unfolding cast_items
-  cast-done part can = rw can refl
-
   items-uncast : (view wide : View) → taken s b index ≡ Ok view → stretched_into view.shape shape ≡ Ok wide → can_cast (descr_of s b) descr ≡ false → argument_items s (argument.Operand operand) descr shape ≡ Err NoSuchCast
-  items-uncast view wide good fits none = rw (found, source-done view wide good fits) (cast-none (viewed (viewed b view) wide) none)
+  items-uncast view wide good fits none = rw (found, source-done view wide good fits) (cast-none s (viewed (viewed b view) wide) descr none)
 
   items-done : (view wide : View) → taken s b index ≡ Ok view → stretched_into view.shape shape ≡ Ok wide → can_cast (descr_of s b) descr ≡ true →
       argument_items s (argument.Operand operand) descr shape ≡ Ok (map (cast_item (descr_of s b) descr) (read s (viewed (viewed b view) wide)))
-  items-done view wide good fits can = rw (found, source-done view wide good fits) (cast-done (viewed (viewed b view) wide) can)
+  items-done view wide good fits can = rw (found, source-done view wide good fits) (cast-some s (viewed (viewed b view) wide) descr can)
 
   -- the items of what is taken, which stand in a block
   module _ (view : View) (good : taken s b index ≡ Ok view) (x : Items) (stands : StandsFor s (viewed b view) x) where

@@ -1,14 +1,14 @@
 -- Index lists whose names stand for arrays.
-use Rattle.std.proofs.Common.{◌≡◌, ◌⊎◌, ◌<◌, ◌≤◌, ◌+◌, ◌*◌, ◌&&◌, ℕ, zero, suc, true, false, nat_le, List, [], ◌∷◌, ◌++◌, length, map, take, get_or, slice_index, Some, refl, sym, ap, ◌∙◌, subst, All, Result, Ok, Err, inl, inr, arith, length-append}
+use Rattle.std.proofs.Common.{◌≡◌, ◌<◌, ◌≤◌, ◌+◌, ◌*◌, ◌&&◌, ℕ, zero, suc, true, false, nat_le, List, [], ◌∷◌, ◌++◌, length, map, take, get_or, slice_index, Some, refl, sym, ap, ◌∙◌, subst, All, Result, Ok, Err, arith, length-append}
 use Rattle.std.specs.List.{Contains, list_all}
 use Rattle.std.proofs.lemmas.Bool.{le-leb, lt-leb, and_parts}
 use Rattle.std.proofs.lemmas.List.{take_more, length-map, map-append, get_or_append_left, map_push}
-use Rattle.std.proofs.lemmas.List.Elements.{All-map, All-append, Contains-get_or, All-push}
+use Rattle.std.proofs.lemmas.List.Elements.{All-map, Contains-get_or, All-push}
 use Rattle.std.proofs.lemmas.List.Folds.{list_all-append}
 use Rattle.std.proofs.lemmas.Simd.{map-map}
 use Rattle.std.proofs.Math.Bool.{and-false}
 use Rattle.elem_descr.specs.declared.refusal.Refusal.{Refusal}
-use Rattle.elem_descr.specs.declared.refusal.Refusal.TheVariants.{OutOfMemory, TooLarge}
+use Rattle.elem_descr.specs.declared.refusal.Refusal.TheVariants.{TooLarge}
 use Rattle.elem_descr.specs.Blocks.{item_from}
 use Rattle.elem_descr.specs.Items.{item_size}
 use Rattle.shape_strides.specs.declared.index_item.IndexItem.{IndexItem}
@@ -23,7 +23,7 @@ use Rattle.view_ops.specs.Views.{View, view_through}
 use Rattle.fancy_index.specs.IndexArrays.{IndexArray, no_array, with_array, with_arrays}
 use Rattle.fancy_index.specs.Indexed.{indexed}
 use Rattle.fancy_index.specs.Plans.{Planned, IsPlanOf, GivesPlan}
-use Rattle.fancy_index.specs.Sources.{index_array_of, first_number, LiesInBlock, IsNamed}
+use Rattle.fancy_index.specs.Sources.{index_array_of, first_number, IsNamed}
 use Rattle.fancy_index.specs.declared.source.Indices.{Indices}
 use Rattle.name_store.specs.States.{State, Array}
 use Rattle.name_store.specs.Arrays.{is_bound, buffer_of, descr_of, addresses, read}

@@ -37,7 +37,6 @@ use Rattle.script_lang.specs.declared.literal.ScalarLiteral.{ScalarLiteral}
 use Rattle.script_lang.specs.declared.literal.ScalarLiteral.TheVariants.{Integer, Boolean, Bytes}
 use Rattle.script_lang.specs.declared.literal.Literal.{Literal}
 use Rattle.script_lang.specs.declared.literal.Literal.TheVariants as literal
-use Rattle.bench_engine.specs.Contents.{Contents}
 use Rattle.bench_engine.specs.Machine.{OperandValues, one_item, literal_value, literal_scalar, operand_of_literal, compared_literal, literal_values, operation_scalar, operation_with}
 use Rattle.bench_engine.specs.inside.Operands.{Stands, OwnStands, GivesStanding}
 use Rattle.bench_engine.specs.inside.OwnContents.{held, IsInCOrder}

@@ -1,5 +1,5 @@
 -- Names that are looked up, and what is answered of their arrays.
-use Rattle.std.proofs.Common.{◌≡◌, ℕ, true, List, length, refl, sym, ap, ◌∙◌, subst, take_all, Option, Some, None, Err, is_some, arith}
+use Rattle.std.proofs.Common.{◌≡◌, ℕ, true, List, length, refl, sym, ap, ◌∙◌, take_all, Option, Some, None, Err, is_some, arith}
 use Rattle.std.specs.Io.{StartsWith}
 use Rattle.elem_descr.specs.declared.refusal.Refusal.TheVariants.{UnknownName}
 use Rattle.elem_descr.specs.declared.descr.Descr.{Descr}

@@ -1,8 +1,7 @@
 -- What the commands that make an array put into it, by the ways in which they end.
-use Rattle.std.proofs.Common.{◌≡◌, ◌≢◌, ◌≤◌, ◌<◌, ◌*◌, ℕ, zero, suc, ℤ, List, [], ◌∷◌, ◌++◌, length, take, drop, map, replicate, refl, sym, ap, ◌∙◌, Result, Ok, Err, IfOk, IfErr, nat_le, if◌then◌else◌, ◌⊎◌, inl, inr, arith}
+use Rattle.std.proofs.Common.{◌≡◌, ◌≢◌, ◌≤◌, ◌<◌, ◌*◌, ℕ, zero, suc, ℤ, List, [], ◌∷◌, length, drop, map, replicate, refl, sym, ap, ◌∙◌, Result, Ok, Err, IfOk, IfErr, nat_le, if◌then◌else◌, ◌⊎◌, inl, inr, arith}
 use Rattle.std.proofs.lemmas.Bool.{le-leb, lt-leb, ne_eqb, eq-eqb}
 use Rattle.std.proofs.lemmas.List.{length-map}
-use Rattle.std.proofs.Math.Seq.{take-append_seam}
 use Rattle.elem_descr.specs.declared.refusal.Refusal.{Refusal}
 use Rattle.elem_descr.specs.declared.refusal.Refusal.TheVariants.{OutOfMemory, TooLarge, NumberOfValues}
 use Rattle.elem_descr.specs.declared.scalar.Scalar.{Scalar}
@@ -24,7 +23,7 @@ use Rattle.shape_strides.specs.Shapes.{shape_of}
 use Rattle.script_lang.specs.declared.literal.Literal.{Literal}
 use Rattle.overlap_copy.specs.declared.owned.Owned.{Owned}
 use Rattle.literal_items.specs.LiteralItems.{item_value, item_values}
-use Rattle.literal_items.specs.RangeItems.{range_length, range_items}
+use Rattle.literal_items.specs.RangeItems.{range_items}
 use Rattle.bench_engine.specs.Contents.{new_contents, array_type, zeros_contents, full_contents, array_contents, arange_contents, integer_scalar, range_scalar}
 use Rattle.bench_engine.specs.inside.OwnContents.{held, IsInCOrder}
 use Rattle.bench_engine.proofs.Stored.{divided}

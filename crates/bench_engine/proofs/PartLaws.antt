@@ -1,8 +1,6 @@
 -- What an index list shows of an array.
-use Rattle.std.proofs.Common.{◌≡◌, ◌⊎◌, true, false, ℕ, List, refl, sym, ap, ◌∙◌, subst, Bor, Ok, Err, inl, inr}
+use Rattle.std.proofs.Common.{◌≡◌, true, false, ℕ, List, refl, sym, ap, ◌∙◌, subst, Bor, Ok}
 use Rattle.std.specs.List.{list_all}
-use Rattle.elem_descr.specs.declared.refusal.Refusal.{Refusal}
-use Rattle.elem_descr.specs.declared.refusal.Refusal.TheVariants.{OutOfMemory}
 use Rattle.shape_strides.specs.declared.index_item.IndexItem.{IndexItem}
 use Rattle.shape_strides.specs.declared.memory_order.MemoryOrder.TheVariants.{C}
 use Rattle.shape_strides.specs.IndexItems.{is_basic}

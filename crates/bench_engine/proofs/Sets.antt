@@ -13,7 +13,7 @@ use Rattle.shape_strides.specs.Limits.{max_bytes}
 use Rattle.shape_strides.specs.Layouts.{offsets, IsNested, offsets_of}
 use Rattle.shape_strides.specs.LayoutLaws.{length-offsets, offsets_within}
 use Rattle.name_store.specs.States.{State, Array}
-use Rattle.name_store.specs.Arrays.{buffer_of, descr_of, read}
+use Rattle.name_store.specs.Arrays.{buffer_of, read}
 use Rattle.name_store.specs.Parts.{start_at, part_at}
 use Rattle.name_store.specs.Arrays.{span_of, placed_item}
 use Rattle.name_store.specs.Shown.{Shows}

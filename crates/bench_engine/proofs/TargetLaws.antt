@@ -1,27 +1,22 @@
 -- What an index list takes of an array, to be read or to be written.
-use Rattle.std.proofs.Common.{Some, get_or, slice_index, ◌≡◌, ◌⊎◌, ◌≤◌, ◌+◌, ◌*◌, ℕ, true, false, List, length, map, refl, sym, ap, ◌∙◌, subst, All, Result, Ok, Err, IfOk, inl, inr}
+use Rattle.std.proofs.Common.{Some, get_or, slice_index, ◌≡◌, ◌⊎◌, ◌≤◌, ◌+◌, ◌*◌, ℕ, true, false, List, length, map, refl, sym, ap, ◌∙◌, subst, All, Result, Ok, Err}
 use Rattle.std.specs.List.{list_all}
 use Rattle.std.proofs.lemmas.List.Elements.{All-map}
-use Rattle.std.proofs.lemmas.Simd.{map-map}
 use Rattle.elem_descr.specs.declared.refusal.Refusal.{Refusal}
 use Rattle.elem_descr.specs.declared.refusal.Refusal.TheVariants.{OutOfMemory, ReadOnly}
 use Rattle.elem_descr.specs.declared.descr.Descr.{Descr}
 use Rattle.elem_descr.specs.Blocks.{item_from}
-use Rattle.elem_descr.specs.Items.{item_size, decode_item}
-use Rattle.raw_block.specs.Bytes.{item_at}
+use Rattle.elem_descr.specs.Items.{item_size}
 use Rattle.shape_strides.specs.declared.index_item.IndexItem.{IndexItem}
 use Rattle.shape_strides.specs.declared.layout.Layout.{Layout}
 use Rattle.shape_strides.specs.IndexItems.{is_basic}
 use Rattle.shape_strides.specs.Indexes.{count, indexes, rank}
 use Rattle.shape_strides.specs.LayoutLaws.{length-offsets}
-use Rattle.shape_strides.specs.declared.memory_order.MemoryOrder.TheVariants.{C}
-use Rattle.shape_strides.specs.Layouts.{offsets, multiples, IsNested}
-use Rattle.overlap_copy.specs.Blocks.{offsets_in}
+use Rattle.shape_strides.specs.Layouts.{offsets, IsNested}
 use Rattle.shape_strides.specs.Limits.{max_bytes}
 use Rattle.view_ops.specs.Views.{View, view_through, IsViewOf, GivesView, KeepsNested}
 use Rattle.view_ops.specs.Basics.{basic}
 use Rattle.overlap_copy.specs.declared.owned.Owned.{Owned}
-use Rattle.overlap_copy.specs.Assignments.{items_at}
 use Rattle.fancy_index.specs.Plans.{Planned, IsPlanOf, GivesPlan}
 use Rattle.name_store.specs.States.{State, Array}
 use Rattle.name_store.specs.Arrays.{find_array, descr_of, read}

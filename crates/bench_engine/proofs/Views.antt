@@ -1,29 +1,19 @@
 -- Views of arrays: places for offsets, and names that are bound to them.
-use Rattle.std.proofs.Common.{◌≡◌, ◌⊎◌, ◌<◌, ◌+◌, ◌*◌, ℕ, Bool, true, false, List, ◌++◌, length, refl, sym, ap, ◌∙◌, subst, get_or, Some, Result, Ok, Err, inl, inr, slice_index, All, Bor, IsTrue}
-use Rattle.std.specs.List.{Contains}
-use Rattle.std.proofs.lemmas.List.{length-map}
-use Rattle.std.proofs.lemmas.List.Elements.{All-map, Contains-get_or}
+use Rattle.std.proofs.Common.{◌≡◌, ◌⊎◌, ℕ, Bool, true, false, List, ◌++◌, refl, sym, ap, ◌∙◌, subst, Result, Ok, Err, inl, inr, Bor, IsTrue}
 use Rattle.elem_descr.specs.declared.refusal.Refusal.{Refusal}
 use Rattle.elem_descr.specs.declared.refusal.Refusal.TheVariants.{OutOfMemory}
 use Rattle.elem_descr.specs.Refusals.{◌>>=◌}
 use Rattle.elem_descr.specs.declared.descr.Descr.{Descr}
-use Rattle.elem_descr.specs.Items.{item_size}
 use Rattle.shape_strides.specs.declared.layout.Layout.{Layout}
-use Rattle.shape_strides.specs.Indexes.{indexes, rank}
-use Rattle.shape_strides.specs.Layouts.{offsets, offsets_of}
-use Rattle.view_ops.specs.Views.{View, view_through, IsViewOf, GivesView, KeepsNested}
+use Rattle.view_ops.specs.Views.{View, IsViewOf, GivesView, KeepsNested}
 use Rattle.name_store.specs.States.{State, Array}
-use Rattle.name_store.specs.Arrays.{find_array, has_room_for, bound_to, bound_view, buffer_of, addresses}
+use Rattle.name_store.specs.Arrays.{has_room_for, bound_to, bound_view, addresses}
 use Rattle.name_store.specs.Calls.{AnswersBind}
 use Rattle.name_store.specs.Views.{IsViewIn, MayBind}
-use Rattle.name_store.specs.Parts.{start_at}
 use Rattle.name_store.specs.Shown.{Shows}
-use Rattle.name_store.specs.Targets.{LeadsTo, MayWrite}
 use Rattle.name_store.specs.declared.bound.Bound.{Bound}
 use Rattle.name_store.specs.declared.bound.Bound.TheVariants as bound
-use Rattle.name_store.specs.declared.target.Target.TheVariants as target
 use Rattle.name_store.specs.declared.array_ref.ArrayRef.{ArrayRef}
-use Rattle.name_store.specs.ArrayLaws.{offsets-at}
 use Rattle.bench_engine.specs.declared.part.Viewed.{Viewed}
 use Rattle.bench_engine.specs.inside.Parts.{IsOf, GivesSeen, descr_seen, shape_of_bound, origin_of_bound}
 use Rattle.bench_engine.specs.Contents.{array_over}

@@ -1,4 +1,4 @@
-use Rattle.std.proofs.Common.{refl, subst, ◌∙◌}
+use Rattle.std.proofs.Common.{subst, ◌∙◌}
 use Rattle.name_store.specs.declared.target.Target.{Target}
 use Rattle.elem_descr.specs.declared.descr.Descr.{Descr}
 use Rattle.shape_strides.specs.Indexes.{count}
