@@ -34,14 +34,6 @@ pub printed-more : (lengths list : List ℕ) (k items : ℕ) → k < length leng
 printed-more lengths list k items below l =
     ap (λ s. printed_strides s list) (drop_more lengths k 0 below) ∙ ap (λ c. printed_stride (get_or lengths k 0) c list ∷ printed_strides (drop (k + 1) lengths) list) (sym l.is)
 
--- index 1 of an axis of 2 items or more
-pub unit-below : (lengths : List ℕ) (k items total : ℕ) → Later lengths k items → items ≤ total → 2 ≤ get_or lengths k 0 → items / get_or lengths k 0 < total
-unit-below lengths k items total l low long =
-    let c = count (drop (k + 1) lengths) in
-    let grown : 2 * c ≤ get_or lengths k 0 * c = mul-le-mul_right c long in
-    let some : 0 < c = omega (arith, l.some, l.is) in
-    omega (arith, l.is, l.whole)
-
 pub later-below : (lengths : List ℕ) (k items total : ℕ) → Later lengths k items → items ≤ total → items / get_or lengths k 0 ≤ total
 later-below lengths k items total l low =
     let c = count (drop (k + 1) lengths) in

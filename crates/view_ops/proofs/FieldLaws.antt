@@ -8,7 +8,7 @@ use Rattle.elem_descr.specs.declared.descr.Field.{Field}
 use Rattle.elem_descr.specs.Items.{item_size, field_at}
 use Rattle.shape_strides.specs.declared.layout.Layout.{Layout}
 use Rattle.shape_strides.specs.Indexes.{count, rank, IsIndex}
-use Rattle.shape_strides.specs.Addresses.{natural, LieWithin}
+use Rattle.shape_strides.specs.Addresses.{natural}
 use Rattle.shape_strides.specs.Layouts.{address, offsets, Fits, distance, IsNested}
 use Rattle.shape_strides.specs.IndexLaws.{index_at}
 use Rattle.shape_strides.specs.LayoutLaws.{length-offsets, get_or-offsets}
@@ -54,13 +54,6 @@ further_within z len item by size few high = omega (arith, ints)
 
 further_low : (z : ℤ) (by : ℕ) → pos 0 ≤ℤ z → pos 0 ≤ℤ (z +ℤ pos by)
 further_low z by low = omega (arith, ints)
-
--- the numbers that are moved lie within what held by and a part of each item
-pub lie_moved : (old : Layout) (by len item size : ℕ) → by + size ≤ item → Fits old len item → LieWithin old.shape old.strides (old.offset + by) len size
-lie_moved old by len item size few fits = record {
-  from_zero = λ index in'. let low = fits.from_zero index in' in omega (arith, ints);
-  within = λ index in'. let high = fits.within index in' in omega (arith, ints);
-}
 
 moved-fits : (old new : Layout) (by len item size : ℕ) → IsMoved old new by → by + size ≤ item → Fits old len item → Fits new len size
 moved-fits old new by len item size moved few fits = record {
