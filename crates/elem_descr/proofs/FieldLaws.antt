@@ -13,7 +13,7 @@ use Rattle.elem_descr.specs.Descriptors.{IsLegal, InOrder, fields_of, listed, be
 use Rattle.elem_descr.specs.inside.Records.{IsRecord}
 use Rattle.elem_descr.specs.Items.{item_size, leaves_of, leaves_from, leaves_in, fields, no_field, field_at, no_leaf, moved_leaf, LeavesInOrder, AreInOrder}
 use Rattle.elem_descr.specs.ItemLaws.{entry_within, leaf_within, leaves_in_order, length-leaves_from, leaf_count-before, leaves_from-before}
-use Rattle.elem_descr.specs.DescriptorLaws.{field_within, rest_at, listed-fields_of, some_leaves}
+use Rattle.elem_descr.specs.DescriptorLaws.{field_within, listed-fields_of, some_leaves}
 
 -- a field begins no earlier than where those before it end
 begins_after : (from : ℕ) (leaves : List Leaf) (bytes k : ℕ) (d : Leaf) → AreInOrder from leaves bytes → k < length leaves → from ≤ (get_or leaves k d).at

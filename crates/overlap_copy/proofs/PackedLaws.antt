@@ -1,14 +1,13 @@
 -- Laws of items that lie one after another.
-use Rattle.std.proofs.Common.{◌≡◌, ◌+◌, ◌*◌, ◌<◌, ◌≤◌, ℕ, suc, pos, List, ◌∷◌, ◌++◌, length, sym, ap, ◌∙◌, arith, suc-mul, add-mul, mul-le-mul_right, append_assoc}
+use Rattle.std.proofs.Common.{◌≡◌, ◌+◌, ◌*◌, ◌≤◌, ℕ, suc, pos, List, ◌∷◌, ◌++◌, length, sym, ap, ◌∙◌, arith, suc-mul, add-mul, mul-le-mul_right, append_assoc}
 use Rattle.std.proofs.lemmas.Int.{ints}
 use Rattle.std.proofs.lemmas.Grind.{flat_map-append}
 use Rattle.raw_block.specs.Bytes.{item_at, EachWithin}
 use Rattle.shape_strides.specs.declared.runs.Run.{Run}
-use Rattle.shape_strides.specs.Layouts.{IsNested}
 use Rattle.shape_strides.specs.Runs.{run_offsets}
 use Rattle.shape_strides.specs.WalkLaws.{length-run_offsets, length-first}
 use Rattle.shape_strides.specs.RunPairs.{all_offsets}
-use Rattle.overlap_copy.specs.RunLaws.{place-at, assigned-append}
+use Rattle.overlap_copy.specs.RunLaws.{assigned-append}
 use Rattle.overlap_copy.specs.Assignments.{assigned}
 use Rattle.overlap_copy.specs.Packed.{packed_run, row_offsets}
 use Rattle.overlap_copy.specs.Joined.{joined_at}

@@ -1,5 +1,5 @@
 -- Laws of runs within a block, from the first item to the last and back.
-use Rattle.std.proofs.Common.{◌≡◌, ◌+◌, ◌-◌, ◌*◌, ◌<◌, ◌≤◌, inl, inr, ℕ, zero, suc, ℤ, pos, negsuc, ◌+ℤ◌, ◌*ℤ◌, ◌≤ℤ◌, ◌<ℤ◌, Bool, true, false, IsTrue, List, [], ◌∷◌, length, refl, sym, ap, subst, ◌∙◌, arith, mul-le-mul_right, suc-mul, mul-add}
+use Rattle.std.proofs.Common.{◌≡◌, ◌+◌, ◌-◌, ◌*◌, ◌<◌, ◌≤◌, inl, inr, ℕ, zero, suc, ℤ, pos, negsuc, ◌+ℤ◌, ◌*ℤ◌, ◌≤ℤ◌, ◌<ℤ◌, Bool, false, IsTrue, List, [], ◌∷◌, length, refl, sym, ap, subst, ◌∙◌, arith, mul-le-mul_right, suc-mul, mul-add}
 use Rattle.std.specs.Prelude.{neg_ℤ, nat_abs}
 use Rattle.std.proofs.Math.IntN.{*ℤ_comm, *ℤ-zero, *ℤ-one, pos-*ℤ-negsuc, negsuc-*ℤ-pos}
 use Rattle.std.proofs.lemmas.Bool.{cases_lt, both_ways}
