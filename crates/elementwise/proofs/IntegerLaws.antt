@@ -210,9 +210,3 @@ module _ (d : Descr) (shape : List ℕ) where
   pub one_given : (a : Scalar) → scalar_of d ≡ Ok a → is_text a ≡ false → integer_compared_result d shape ≡ Ok (ScalarDescr BoolScalar, shape)
   unfolding integer_compared_result
   one_given a is text = rw (is, text) refl
-
-pub is-number_scalar : (s : Scalar) → is_text s ≡ false → IsNumber s
-is-number_scalar BoolScalar is = tt
-is-number_scalar (Byte signed) is = tt
-is-number_scalar (Int signed width order) is = tt
-is-number_scalar (Bytes n) is = absurd (false≢true (sym is))
