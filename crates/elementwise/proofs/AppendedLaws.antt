@@ -43,7 +43,7 @@ put-rows w (item ∷ items) (suc n) xs zs many wide room =
 pub rows-read : (w : ℕ) (items : List (List ℕ)) → AreWide w items → items_at (row_offsets 0 w (length items)) w (concat items) ≡ items
 rows-read w items wide =
     let n = length items in
-    let zeros = replicate (n * w) 0 in
+    let zeros : List ℕ = replicate (n * w) 0 in
     let room : length zeros ≡ n * w = length-replicate (n * w) 0 in
     ap (items_at (row_offsets 0 w n) w) (sym (put-rows w items n [] zeros refl wide room))
     ∙ landed w (row_offsets 0 w n) items zeros (length-row 0 w n) (rows-in w n (length zeros) (omega (arith, room)) 0 w (omega arith)) (All-from_recursion (λ item. length item ≡ w) items wide) (rows-lie w n (length zeros) (omega (arith, room)) 0 w (omega arith))

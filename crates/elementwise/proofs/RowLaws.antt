@@ -2,7 +2,6 @@
 use Rattle.std.proofs.Common.{◌≡◌, ◌+◌, ◌-◌, ◌*◌, ◌<◌, ◌≤◌, ◌⊎◌, inl, inr, ℕ, suc, pos, List, [], ◌∷◌, map, length, get_or, All, refl, sym, ap, subst, ◌∙◌, arith, suc-mul, mul-le-mul_right}
 use Rattle.std.proofs.lemmas.Bool.{cases_lt}
 use Rattle.std.proofs.lemmas.List.Elements.{All-rest, All-head, All-from_get_or}
-use Rattle.std.specs.Prelude.{ℤ}
 use Rattle.std.proofs.lemmas.Int.{ints}
 use Rattle.raw_block.specs.Bytes.{put, item_at, place, EachWithin}
 use Rattle.raw_block.specs.BytesLaws.{length-put, item_at-put_same, item_at-put_apart}
@@ -46,14 +45,6 @@ module _ (width : ℕ) where
   -- bytes as long hold the items that are left
   still-in : (at : ℕ) (ats item bytes : List ℕ) → All (IsIn bytes) (at ∷ ats) → IsWide item → All (IsIn (put at item bytes)) ats
   still-in at ats item bytes in_bytes long = subst (λ n. All (λ o. o + width ≤ n) ats) (sym (put-length at item bytes (All-head (IsIn bytes) at ats in_bytes) long)) (All-rest (IsIn bytes) at ats (at ∷ ats) refl in_bytes)
-
-  pub length-with_items : (ats : List ℕ) (items : List (List ℕ)) (bytes : List ℕ) → All (IsIn bytes) ats → All IsWide items → length (with_items ats items bytes) ≡ length bytes
-  length-with_items [] items bytes in_bytes long = refl
-  length-with_items (at ∷ ats) [] bytes in_bytes long = refl
-  length-with_items (at ∷ ats) (item ∷ items) bytes in_bytes long =
-      let wide = All-head IsWide item items long in
-      length-with_items ats items (put at item bytes) (still-in at ats item bytes in_bytes wide) (All-rest IsWide item items (item ∷ items) refl long)
-      ∙ put-length at item bytes (All-head (IsIn bytes) at ats in_bytes) wide
 
   pub kept : (place wide : ℕ) (ats : List ℕ) (items : List (List ℕ)) (bytes : List ℕ) → place + wide ≤ length bytes → All (IsIn bytes) ats → All IsWide items → All (λ at. AreBeside place wide at width) ats → item_at place wide (with_items ats items bytes) ≡ item_at place wide bytes
   kept place wide [] items bytes there in_bytes long beside = refl
