@@ -1,24 +1,27 @@
 -- Items that are appended to bytes, part by part.
-use Rattle.std.proofs.Common.{subst, ◌≡◌, ◌+◌, ◌*◌, ℕ, zero, suc, List, [], ◌∷◌, ◌++◌, length, drop, refl, sym, ap, ◌∙◌, arith, append_assoc, length-append, length-drop, suc-mul, add-mul}
+use Rattle.std.proofs.Common.{subst, ◌≡◌, ◌+◌, ◌*◌, ℕ, zero, suc, List, [], ◌∷◌, ◌++◌, length, drop, replicate, refl, sym, ap, ◌∙◌, arith, append_assoc, length-append, length-drop, suc-mul, add-mul}
 use Rattle.std.specs.List.{concat, AllByRecursion as Each}
 use Rattle.std.proofs.Math.Seq.{take-append_seam, drop-append-add}
 use Rattle.std.proofs.lemmas.List.Folds.{concat-append}
-use Rattle.std.proofs.lemmas.List.{nil_from_length}
+use Rattle.std.proofs.lemmas.List.{nil_from_length, length-replicate}
+use Rattle.std.proofs.lemmas.List.Elements.{All-from_recursion}
 use Rattle.raw_block.specs.Bytes.{place, put, item_at, joined, EachWithin}
 use Rattle.shape_strides.specs.declared.runs.Run.{Run}
 use Rattle.shape_strides.specs.declared.run_pairs.RunPair.{RunPair}
 use Rattle.shape_strides.specs.Runs.{run_offsets}
 use Rattle.shape_strides.specs.WalkLaws.{length-run_offsets}
 use Rattle.elementwise.specs.Results.{pairwise}
-use Rattle.elementwise.specs.inside.Passes.{put_all}
+use Rattle.overlap_copy.specs.Assignments.{items_at, with_items}
 use Rattle.elementwise.specs.inside.PairPasses.{pair_from}
 use Rattle.elementwise.proofs.PairLaws.{pairwise-append, joined_pairs, firsts, seconds}
-use Rattle.overlap_copy.specs.PackedLaws.{row-split}
+use Rattle.elementwise.proofs.RowLaws.{landed, rows-in, rows-lie}
+use Rattle.elementwise.proofs.TurnedLaws.{AreWide}
+use Rattle.overlap_copy.specs.PackedLaws.{length-row, row-split}
 use Rattle.overlap_copy.specs.Packed.{row_offsets}
 
 -- ---- items put over bytes that are behind others
 
-pub put-rows : (w : ℕ) (items : List (List ℕ)) (n : ℕ) (xs zs : List ℕ) → length items ≡ n → Each (λ item. length item ≡ w) items → length zs ≡ n * w → put_all (row_offsets (length xs) w n) items (xs ++ zs) ≡ xs ++ concat items
+pub put-rows : (w : ℕ) (items : List (List ℕ)) (n : ℕ) (xs zs : List ℕ) → length items ≡ n → Each (λ item. length item ≡ w) items → length zs ≡ n * w → with_items (row_offsets (length xs) w n) items (xs ++ zs) ≡ xs ++ concat items
 put-rows w [] zero xs zs many wide room = ap (λ l. xs ++ l) (nil_from_length zs (omega (arith, room)))
 put-rows w [] (suc n) xs zs many wide room = absurd (omega (arith, many))
 put-rows w (item ∷ items) zero xs zs many wide room = absurd (omega (arith, many))
@@ -31,10 +34,19 @@ put-rows w (item ∷ items) (suc n) xs zs many wide room =
     let next : at + 1 * w ≡ length (xs ++ item) = omega (arith, long) in
     let rows : row_offsets at w (suc n) ≡ at ∷ row_offsets (length (xs ++ item)) w n = ap (row_offsets at w) more ∙ row-split at w 1 n ∙ (λ i. first i ∷ row_offsets (next i) w n) in
     let here : put at item (xs ++ zs) ≡ xs ++ item ++ rest = (λ i. take-append_seam xs zs i ++ item ++ drop-append-add xs zs (wide.0 i) i) in
-    (λ i. put_all (rows i) (item ∷ items) (xs ++ zs))
-    ∙ ap (put_all (row_offsets (length (xs ++ item)) w n) items) here
+    (λ i. with_items (rows i) (item ∷ items) (xs ++ zs))
+    ∙ ap (with_items (row_offsets (length (xs ++ item)) w n) items) here
     ∙ put-rows w items n (xs ++ item) rest (omega (arith, many)) wide.1 (omega (arith, length-drop w zs, room, suc-mul n w))
     ∙ append_assoc xs item (concat items)
+
+-- items of one width that are joined are read back
+pub rows-read : (w : ℕ) (items : List (List ℕ)) → AreWide w items → items_at (row_offsets 0 w (length items)) w (concat items) ≡ items
+rows-read w items wide =
+    let n = length items in
+    let zeros : List ℕ = replicate (n * w) 0 in
+    let room : length zeros ≡ n * w = length-replicate (n * w) 0 in
+    ap (items_at (row_offsets 0 w n) w) (sym (put-rows w items n [] zeros refl wide room))
+    ∙ landed w (row_offsets 0 w n) items zeros (length-row 0 w n) (rows-in w n (length zeros) (omega (arith, room)) 0 w (omega arith)) (All-from_recursion (λ item. length item ≡ w) items wide) (rows-lie w n (length zeros) (omega (arith, room)) 0 w (omega arith))
 
 -- ---- what is made of two runs, or of pairs of them
 

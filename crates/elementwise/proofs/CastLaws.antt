@@ -16,7 +16,8 @@ use Rattle.elem_descr.specs.Blocks.{item_from}
 use Rattle.raw_block.specs.Bytes.{item_at}
 use Rattle.shape_strides.specs.Layouts.{multiples}
 use Rattle.elementwise.specs.Casts.{can_cast, can_cast_scalar, can_cast_fields, cast_value, cast_values, cast_item}
-use Rattle.elementwise.specs.inside.Passes.{put_all, leaf_from}
+use Rattle.overlap_copy.specs.Assignments.{with_items}
+use Rattle.elementwise.specs.inside.LeafCasts.{leaf_from}
 use Rattle.elementwise.specs.inside.LeafCasts.{source, HasSource, IsLeafCast}
 use Rattle.elementwise.proofs.RowLaws.{row-entry, AreBeside, landed, kept, row-in, rows-in, rows-lie, rows-beside}
 use Rattle.elementwise.proofs.LeafLaws.{length-leaf_cast, cast_read_back}
@@ -115,12 +116,12 @@ cast_item-at (RecordDescr from) (RecordDescr to) other o k d can low =
 
 -- one leaf of one item
 leaf_value-at : (from to : Descr) (other offsets bytes : List ℕ) (j k : ℕ) → j < length offsets → IsLeafCast from to other offsets bytes k →
-    item_at ((leaf_at to k).at + j * item_size to) (size (leaf_at to k).scalar) bytes ≡ leaf_from (source from k) (leaf_at to k) other (get_or offsets j 0)
+    item_at ((leaf_at to k).at + j * item_size to) (size (leaf_at to k).scalar) bytes ≡ leaf_from (source from k) (leaf_at to k).scalar other (get_or offsets j 0)
 leaf_value-at from to other offsets bytes j k low is =
     let leaf = leaf_at to k in
     let rows = row_offsets leaf.at (item_size to) (length offsets) in
     let read = λ (o : ℕ). item_at o (size leaf.scalar) bytes in
-    let make = leaf_from (source from k) leaf other in
+    let make = leaf_from (source from k) leaf.scalar other in
     ap read (sym (row-entry leaf.at (item_size to) (length offsets) j low))
     ∙ sym (get_or-map read rows j 0 [] (omega (arith, low, length-row leaf.at (item_size to) (length offsets))))
     ∙ ap (λ items. get_or items j []) is.written
@@ -177,28 +178,28 @@ all_items from to other offsets bytes n many can cast within within' =
 -- ---- leaf after leaf
 
 -- the bytes of each are as many
-pub each-wide : (from to : Descr) (other offsets : List ℕ) (k : ℕ) → All (λ item. length item ≡ size (leaf_at to k).scalar) (map (leaf_from (source from k) (leaf_at to k) other) offsets)
+pub each-wide : (from to : Descr) (other offsets : List ℕ) (k : ℕ) → All (λ item. length item ≡ size (leaf_at to k).scalar) (map (leaf_from (source from k) (leaf_at to k).scalar other) offsets)
 each-wide from to other offsets k =
-    let make = leaf_from (source from k) (leaf_at to k) other in
+    let make = leaf_from (source from k) (leaf_at to k).scalar other in
     All-from_get_or (λ item. length item ≡ size (leaf_at to k).scalar) (map make offsets) [] (λ j inside.
     let low : j < length offsets = omega (arith, inside, length-map offsets make) in
     ap length (get_or-map make offsets j 0 [] low) ∙ length-leaf_cast (source from k).scalar (leaf_at to k).scalar _)
 
 -- a leaf is cast
 pub leaf-done : (from to : Descr) (other offsets bytes bytes' : List ℕ) (k : ℕ) → length offsets * item_size to ≤ length bytes → (leaf_at to k).at + size (leaf_at to k).scalar ≤ item_size to →
-    bytes' ≡ put_all (row_offsets (leaf_at to k).at (item_size to) (length offsets)) (map (leaf_from (source from k) (leaf_at to k) other) offsets) bytes → IsLeafCast from to other offsets bytes' k
+    bytes' ≡ with_items (row_offsets (leaf_at to k).at (item_size to) (length offsets)) (map (leaf_from (source from k) (leaf_at to k).scalar other) offsets) bytes → IsLeafCast from to other offsets bytes' k
 leaf-done from to other offsets bytes bytes' k room fits wrote =
     let leaf = leaf_at to k in
     let n = length offsets in
     let rows = row_offsets leaf.at (item_size to) n in
-    let make = leaf_from (source from k) leaf other in
+    let make = leaf_from (source from k) leaf.scalar other in
     let even : length rows ≡ length (map make offsets) = length-row leaf.at (item_size to) n ∙ sym (length-map offsets make) in
     record { written = ap (λ all. map (λ o. item_at o (size leaf.scalar) all) rows) wrote ∙ landed (size leaf.scalar) rows (map make offsets) bytes even (rows-in (item_size to) n (length bytes) room leaf.at (size leaf.scalar) fits) (each-wide from to other offsets k) (rows-lie (item_size to) n (length bytes) room leaf.at (size leaf.scalar) fits) }
 
 -- what lies beside it in an item stays
 pub row-kept : (to : Descr) (n at width k : ℕ) (items : List (List ℕ)) (bytes : List ℕ) → n * item_size to ≤ length bytes → at + width ≤ item_size to → (leaf_at to k).at + size (leaf_at to k).scalar ≤ item_size to →
     AreBeside at width (leaf_at to k).at (size (leaf_at to k).scalar) → All (λ item. length item ≡ size (leaf_at to k).scalar) items → (j : ℕ) → j < n →
-    item_at (at + j * item_size to) width (put_all (row_offsets (leaf_at to k).at (item_size to) n) items bytes) ≡ item_at (at + j * item_size to) width bytes
+    item_at (at + j * item_size to) width (with_items (row_offsets (leaf_at to k).at (item_size to) n) items bytes) ≡ item_at (at + j * item_size to) width bytes
 row-kept to n at width k items bytes room fits fits' beside wide j low =
     let next = leaf_at to k in
     let item = item_size to in
@@ -209,14 +210,14 @@ row-kept to n at width k items bytes room fits fits' beside wide j low =
 
 -- so do those that were cast
 leaf-kept : (from to : Descr) (other offsets bytes bytes' : List ℕ) (i k : ℕ) → length offsets * item_size to ≤ length bytes → (leaf_at to i).at + size (leaf_at to i).scalar ≤ (leaf_at to k).at → (leaf_at to k).at + size (leaf_at to k).scalar ≤ item_size to →
-    bytes' ≡ put_all (row_offsets (leaf_at to k).at (item_size to) (length offsets)) (map (leaf_from (source from k) (leaf_at to k) other) offsets) bytes → IsLeafCast from to other offsets bytes i → IsLeafCast from to other offsets bytes' i
+    bytes' ≡ with_items (row_offsets (leaf_at to k).at (item_size to) (length offsets)) (map (leaf_from (source from k) (leaf_at to k).scalar other) offsets) bytes → IsLeafCast from to other offsets bytes i → IsLeafCast from to other offsets bytes' i
 leaf-kept from to other offsets bytes bytes' i k room before fits wrote is =
     let leaf = leaf_at to i in
     let n = length offsets in
     let rows = row_offsets leaf.at (item_size to) n in
-    let items = map (leaf_from (source from k) (leaf_at to k) other) offsets in
+    let items = map (leaf_from (source from k) (leaf_at to k).scalar other) offsets in
     let read = λ (all : List ℕ) (o : ℕ). item_at o (size leaf.scalar) all in
-    let new = put_all (row_offsets (leaf_at to k).at (item_size to) n) items bytes in
+    let new = with_items (row_offsets (leaf_at to k).at (item_size to) n) items bytes in
     let long = length-map rows (read new) in
     let same : map (read new) rows ≡ map (read bytes) rows = same_lists (map (read new) rows) (map (read bytes) rows) (long ∙ sym (length-map rows (read bytes))) (λ j d inside.
     let low : j < length rows = omega (arith, inside, long) in
@@ -227,14 +228,8 @@ leaf-kept from to other offsets bytes bytes' i k room before fits wrote is =
     ∙ sym (get_or-map (read bytes) rows j 0 d low ∙ ap (read bytes) (row-entry leaf.at (item_size to) n j near))) in
     record { written = ap (λ all. map (read all) rows) wrote ∙ same ∙ is.written }
 
--- a turn, as the code has it
-pub turn-wrote : (from to : Descr) (other offsets all bytes bytes' : List ℕ) (k item : ℕ) (leaf from_leaf : Leaf) → leaf ≡ leaf_at to k → from_leaf ≡ source from k → item ≡ item_size to → all ≡ offsets →
-    bytes' ≡ put_all (row_offsets leaf.at item (length all)) (map (leaf_from from_leaf leaf other) all) bytes → bytes' ≡ put_all (row_offsets (leaf_at to k).at (item_size to) (length offsets)) (map (leaf_from (source from k) (leaf_at to k) other) offsets) bytes
-turn-wrote from to other offsets all bytes bytes' k item leaf from_leaf is there sized are wrote =
-    wrote ∙ (λ i. put_all (row_offsets (is i).at (sized i) (length (are i))) (map (leaf_from (there i) (is i) other) (are i)) bytes)
-
 pub turn-done : (from to : Descr) (other offsets bytes bytes' : List ℕ) (k : ℕ) → k < length (leaves_of to) → length offsets * item_size to ≤ length bytes → LeavesInOrder to →
-    bytes' ≡ put_all (row_offsets (leaf_at to k).at (item_size to) (length offsets)) (map (leaf_from (source from k) (leaf_at to k) other) offsets) bytes → ((i : ℕ) → i < k → IsLeafCast from to other offsets bytes i) → (i : ℕ) → i < k + 1 → IsLeafCast from to other offsets bytes' i
+    bytes' ≡ with_items (row_offsets (leaf_at to k).at (item_size to) (length offsets)) (map (leaf_from (source from k) (leaf_at to k).scalar other) offsets) bytes → ((i : ℕ) → i < k → IsLeafCast from to other offsets bytes i) → (i : ℕ) → i < k + 1 → IsLeafCast from to other offsets bytes' i
 turn-done from to other offsets bytes bytes' k low room apart wrote done i below = elim (cases_lt i k) [
   | inl before ↦ leaf-kept from to other offsets bytes bytes' i k room (apart.apart i k before low) (apart.within k low) wrote (done i before)
   | inr from_k ↦ subst (IsLeafCast from to other offsets bytes') (let is : k ≡ i = omega (arith, from_k, below) in is) (leaf-done from to other offsets bytes bytes' k room (apart.within k low) wrote)

@@ -12,7 +12,8 @@ use Rattle.elem_descr.specs.Blocks.{item_from}
 use Rattle.raw_block.specs.Bytes.{item_at, joined}
 use Rattle.raw_block.specs.JoinedLaws.{all_joined, joined_list}
 use Rattle.elementwise.specs.Casts.{can_cast, cast_item}
-use Rattle.elementwise.specs.inside.Passes.{put_all, leaf_from}
+use Rattle.overlap_copy.specs.Assignments.{with_items}
+use Rattle.elementwise.specs.inside.LeafCasts.{leaf_from}
 use Rattle.elementwise.specs.inside.LeafCasts.{source, IsLeafCast}
 use Rattle.elementwise.proofs.RowLaws.{AreBeside}
 use Rattle.elementwise.proofs.CastLaws.{row-kept, each-wide, length-cast_item, leaf-encoded}
@@ -95,7 +96,7 @@ all-zeros to n bytes room are = record {
 
 -- so they do once a leaf is cast
 pub zeros-stay : (from to : Descr) (other offsets bytes bytes' : List ℕ) (k : ℕ) → k < length (leaves_of to) → length offsets * item_size to ≤ length bytes → LeavesInOrder to →
-    bytes' ≡ put_all (row_offsets (leaf_at to k).at (item_size to) (length offsets)) (map (leaf_from (source from k) (leaf_at to k) other) offsets) bytes → HaveZeros to (length offsets) bytes → HaveZeros to (length offsets) bytes'
+    bytes' ≡ with_items (row_offsets (leaf_at to k).at (item_size to) (length offsets)) (map (leaf_from (source from k) (leaf_at to k).scalar other) offsets) bytes → HaveZeros to (length offsets) bytes → HaveZeros to (length offsets) bytes'
 zeros-stay from to other offsets bytes bytes' k low room apart wrote have = record {
   zeros = λ at width fits gap j inside.
       ap (item_at (at + j * item_size to) width) wrote

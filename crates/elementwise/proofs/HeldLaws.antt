@@ -1,5 +1,5 @@
 -- Numbers that are compared as those of a larger scalar, which holds them.
-use Rattle.std.proofs.Common.{◌≡◌, inl, inr, ℕ, zero, suc, true, false, Bool, cond, List, [], ◌∷◌, map, take, drop, refl, sym, ap, subst, ◌∙◌, arith}
+use Rattle.std.proofs.Common.{◌≡◌, inl, inr, ℕ, zero, suc, true, false, Bool, cond, List, [], ◌∷◌, map, take, drop, refl, sym, ap, ◌∙◌, arith}
 use Rattle.std.specs.Prelude.{ℤ, pos}
 use Rattle.std.proofs.lemmas.Int.{ints}
 use Rattle.elem_descr.specs.declared.scalar.Order.TheVariants.{Little}
@@ -25,7 +25,6 @@ use Rattle.machine_numbers.specs.Kinds.{is_signed, is_text, little}
 use Rattle.elementwise.specs.Comparisons.{compared}
 use Rattle.elementwise.specs.Results.{value_in, compared_item, stretched_items, pairwise}
 use Rattle.elementwise.specs.inside.PairPasses.{compared_value, Holds, AreHeld}
-use Rattle.elementwise.specs.inside.PairLaws.{number-little}
 use Rattle.elementwise.proofs.LeafLaws.{cast_number}
 use Rattle.elementwise.proofs.PairLaws.{pairwise-map}
 
@@ -42,37 +41,12 @@ value-of (Byte signed) bytes are is = integer-fits signed 1 (number_in Little 1 
 value-of (Int signed width order) bytes are is = integer-fits signed (width_size width) (number_in order (width_size width) bytes) (some_bytes width) (number-lt order (width_size width) bytes are)
 value-of (Bytes n) bytes are never = absurd never
 
--- in little-endian order there are the same, and integers of eight bytes hold those of their sign
-pub holds-little : (s : Scalar) → IsNumber s → Holds s (little s)
-holds-little BoolScalar is z fits = fits
-holds-little (Byte signed) is z fits = fits
-holds-little (Int signed width order) is z fits = fits
-holds-little (Bytes n) never z fits = absurd never
-
 -- a byte order makes no difference
 pub little-little : (s : Scalar) → little (little s) ≡ little s
 little-little BoolScalar = refl
 little-little (Byte signed) = refl
 little-little (Int signed width order) = refl
 little-little (Bytes n) = refl
-
-number-of-little : (s : Scalar) → IsNumber (little s) → IsNumber s
-number-of-little BoolScalar is = tt
-number-of-little (Byte signed) is = tt
-number-of-little (Int signed width order) is = tt
-number-of-little (Bytes n) never = never
-
-pub number-alike : (read s : Scalar) → little read ≡ little s → IsNumber s → IsNumber read
-number-alike read s same is = number-of-little read (subst IsNumber (sym same) (number-little s is))
-
-holds-order : (from read : Scalar) → Holds from (little read) → Holds from read
-holds-order from BoolScalar holds z fits = holds z fits
-holds-order from (Byte signed) holds z fits = holds z fits
-holds-order from (Int signed width order) holds z fits = holds z fits
-holds-order from (Bytes n) holds z fits = holds z fits
-
-pub holds-read : (from read s : Scalar) → little read ≡ s → Holds from s → Holds from read
-holds-read from read s same holds = holds-order from read (subst (Holds from) (sym same) holds)
 
 widened-byte : (signed : Bool) (z : ℤ) → FitsBytes signed 1 z → FitsBytes signed 8 z
 widened-byte false z fits = (fits.0, omega (arith, ints, fits.1))

@@ -3,7 +3,6 @@ use Rattle.std.proofs.Common.{◌≡◌, ◌*◌, ◌-◌, ◌^◌, ◌≤◌, �
 use Rattle.std.specs.Prelude.{ℤ, pos, negsuc, neg_ℤ, ◌≤ℤ◌, ◌<ℤ◌, int_lt, not, ◌==◌, ◌&&◌, ◌||◌}
 use Rattle.std.proofs.lemmas.Int.{ints}
 use Rattle.std.proofs.lemmas.Nat.{pow_pos}
-use Rattle.std.proofs.lemmas.Bool.{false≢true}
 use Rattle.std.proofs.lemmas.List.{take_all, length-replicate, get_or-replicate, take-replicate, drop-replicate}
 use Rattle.std.proofs.lemmas.List.FromFn.{fill_by_all}
 use Rattle.std.specs.List.{range_with_len, flat_map}
@@ -210,9 +209,3 @@ module _ (d : Descr) (shape : List ℕ) where
   pub one_given : (a : Scalar) → scalar_of d ≡ Ok a → is_text a ≡ false → integer_compared_result d shape ≡ Ok (ScalarDescr BoolScalar, shape)
   unfolding integer_compared_result
   one_given a is text = rw (is, text) refl
-
-pub is-number_scalar : (s : Scalar) → is_text s ≡ false → IsNumber s
-is-number_scalar BoolScalar is = tt
-is-number_scalar (Byte signed) is = tt
-is-number_scalar (Int signed width order) is = tt
-is-number_scalar (Bytes n) is = absurd (false≢true (sym is))

@@ -7,13 +7,13 @@ use Rattle.elem_descr.specs.declared.scalar.Width.{Width}
 use Rattle.elem_descr.specs.declared.scalar.Scalar.{Scalar}
 use Rattle.elem_descr.specs.declared.scalar.Scalar.TheVariants.{Bool as BoolScalar, Byte, Int, Bytes}
 use Rattle.elem_descr.specs.Values.{LeafValue, number, text}
-use Rattle.elem_descr.specs.Encoding.{IsNumber, size, padded, width_size, wrap, number_of, text_of, decode, encode}
+use Rattle.elem_descr.specs.Encoding.{IsNumber, size, width_size, wrap, number_of, text_of, decode, encode}
 use Rattle.elem_descr.specs.EncodingLaws.{decode_encode}
 use Rattle.elem_descr.specs.NumberLaws.{encode_wrap}
 use Rattle.elem_descr.specs.ByteLaws.{length-encode}
 use Rattle.elementwise.specs.Casts.{cast_value}
-use Rattle.elementwise.proofs.NulLaws.{text_encoded, text_read_back}
-use Rattle.elementwise.specs.inside.Passes.{leaf_cast}
+use Rattle.elementwise.proofs.NulLaws.{text_read_back}
+use Rattle.elementwise.specs.inside.LeafCasts.{leaf_cast}
 
 -- a value as a number
 pub cast_number : (to : Scalar) (value : LeafValue) → IsNumber to → cast_value to value ≡ number (wrap to (number_of value))
@@ -21,13 +21,6 @@ cast_number BoolScalar value is = refl
 cast_number (Byte signed) value is = refl
 cast_number (Int signed width order) value is = refl
 cast_number (Bytes n) value never = absurd never
-
-pub converted : (from to : Scalar) (item new : List ℕ) (read written : ℤ) → IsNumber to → decode from item ≡ number read → written ≡ wrap to read → new ≡ encode to (number written) → new ≡ leaf_cast from to item
-converted from to item new read written is reads wraps writes =
-    writes
-    ∙ ap (λ z. encode to (number z)) wraps
-    ∙ ap (λ value. encode to (number (wrap to (number_of value)))) (sym reads)
-    ∙ ap (encode to) (sym (cast_number to (decode from item) is))
 
 -- ---- a sign makes no difference to the bytes
 
@@ -40,28 +33,12 @@ byte_alike from signed item = encode_wrap false Little 1 (read_as from item) ∙
 pub int_alike : (from : Scalar) (signed : Bool) (width : Width) (order : Order) (item : List ℕ) → leaf_cast from (Int false width order) item ≡ leaf_cast from (Int signed width order) item
 int_alike from signed width order item = encode_wrap false order (width_size width) (read_as from item) ∙ sym (encode_wrap signed order (width_size width) (read_as from item))
 
-pub to_byte : (from to : Scalar) (signed : Bool) → to ≡ Byte signed → leaf_cast from (Byte false) ≡ leaf_cast from to
-to_byte from to signed is = (λ i item. byte_alike from signed item i) ∙ ap (leaf_cast from) (sym is)
-
-pub to_int : (from to : Scalar) (signed : Bool) (width width' : Width) (order order' : Order) → to ≡ Int signed width order → width ≡ width' → order ≡ order' → leaf_cast from (Int false width' order') ≡ leaf_cast from to
-to_int from to signed width width' order order' is wide ordered =
-    (λ i item. int_alike from signed width' order' item i)
-    ∙ ap (leaf_cast from) ((λ i. Int signed (sym wide i) (sym ordered i)) ∙ sym is)
-
--- ---- byte strings
-
-pub to_text : (from to : Scalar) (m n : ℕ) → from ≡ Bytes m → to ≡ Bytes n → (width : ℕ) → width ≡ n → padded width ≡ leaf_cast from to
-to_text from to m n is there width wide = ap padded wide ∙ (λ i bytes. text_encoded n bytes i) ∙ (λ i. leaf_cast (sym is i) (sym there i))
-
-pub text_size : (from : Scalar) (m : ℕ) → from ≡ Bytes m → (width : ℕ) → width ≡ m → width ≡ size from
-text_size from m is width wide = wide ∙ ap size (sym is)
-
 -- ---- read again
 
 pub length-leaf_cast : (from to : Scalar) (item : List ℕ) → length (leaf_cast from to item) ≡ size to
 length-leaf_cast from to item = length-encode to (cast_value to (decode from item))
 
-read_back : (to : Scalar) (value : LeafValue) → decode to (encode to (cast_value to value)) ≡ cast_value to value
+pub read_back : (to : Scalar) (value : LeafValue) → decode to (encode to (cast_value to value)) ≡ cast_value to value
 read_back BoolScalar value = decode_encode BoolScalar (number_of value) tt
 read_back (Byte signed) value = decode_encode (Byte signed) (number_of value) tt
 read_back (Int signed width order) value = decode_encode (Int signed width order) (number_of value) tt

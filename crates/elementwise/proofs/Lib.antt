@@ -1,10 +1,11 @@
 pub mod FieldLaws
 pub mod NulLaws
 pub mod LeafLaws
-pub mod PassLaws
 pub mod RowLaws
 pub mod CastLaws
 pub mod EncodedLaws
+pub mod WorkLaws
+pub mod ColumnLaws
 pub mod AlikeLaws
 pub mod PairLaws
 pub mod AppendedLaws

@@ -1,5 +1,5 @@
 -- Byte strings with NULs behind them, cut and filled up again.
-use Rattle.std.proofs.Common.{◌≡◌, ◌+◌, ◌-◌, ◌≤◌, inl, inr, ℕ, List, ◌++◌, length, take, replicate, sym, ap, ◌∙◌, arith, append_assoc, length-take, length-append}
+use Rattle.std.proofs.Common.{◌≡◌, ◌+◌, ◌-◌, ◌≤◌, inl, inr, ℕ, List, ◌++◌, length, take, min, replicate, sym, ap, ◌∙◌, arith, append_assoc, length-take, length-append}
 use Rattle.std.proofs.lemmas.Bool.{cases_lt}
 use Rattle.std.proofs.Math.Seq.{take-append_seam}
 use Rattle.std.proofs.lemmas.List.{append-nil, length-replicate, take_all, take-take, take-append-le, replicate-append-replicate}
@@ -60,6 +60,13 @@ padded-take n bytes =
 -- the bytes of a byte string that is cut
 pub text_encoded : (n : ℕ) (bytes : List ℕ) → padded n bytes ≡ padded n (without_nuls (take n (without_nuls bytes)))
 text_encoded n bytes = sym (padded-without n (take n (without_nuls bytes)) ∙ padded-take n (without_nuls bytes) ∙ padded-without n bytes)
+
+-- as they are pushed: what is kept of them, and NULs
+pub text_pushed : (n kept : ℕ) (bytes : List ℕ) → kept ≡ min (length bytes) n → take kept bytes ++ replicate (n - kept) 0 ≡ padded n (without_nuls (take n (without_nuls bytes)))
+text_pushed n kept bytes is = elim (cases_lt n (length bytes)) [
+  | inl below ↦ (λ i. take (let same : kept ≡ n = omega (arith, is, below) in same i) bytes ++ replicate (let rest : n - kept ≡ n - length bytes = omega (arith, is, below) in rest i) 0) ∙ text_encoded n bytes
+  | inr above ↦ let same : kept ≡ length bytes = omega (arith, is, above) in (λ i. (take_all kept bytes (omega (arith, same)) ∙ sym (take_all n bytes above)) i ++ replicate (n - same i) 0) ∙ text_encoded n bytes
+]
 
 -- and what they are read as
 pub text_read_back : (n : ℕ) (bytes : List ℕ) → length bytes ≤ n → without_nuls (padded n (without_nuls bytes)) ≡ without_nuls bytes

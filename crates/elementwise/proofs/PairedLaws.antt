@@ -1,9 +1,8 @@
 -- What is made of the items of two layouts, item by item.
-use Rattle.std.proofs.Common.{◌≡◌, ◌*◌, ◌≤◌, ℕ, List, [], ◌∷◌, ◌++◌, map, length, drop, replicate, refl, sym, ap, ◌∙◌, arith}
+use Rattle.std.proofs.Common.{◌≡◌, ◌*◌, ℕ, List, [], ◌∷◌, ◌++◌, map, length, drop, refl, sym, ap, ◌∙◌, arith}
 use Rattle.std.specs.List.{concat, flat_map, AllByRecursion as Each}
-use Rattle.std.proofs.lemmas.List.{length-replicate, take-take}
+use Rattle.std.proofs.lemmas.List.{take-take}
 use Rattle.std.proofs.lemmas.Simd.{map-map}
-use Rattle.std.proofs.lemmas.List.Elements.{All-from_recursion}
 use Rattle.elem_descr.specs.declared.descr.Descr.TheVariants.{Scalar as ScalarDescr}
 use Rattle.elem_descr.specs.declared.scalar.Scalar.{Scalar}
 use Rattle.elem_descr.specs.Values.{LeafValue}
@@ -15,7 +14,6 @@ use Rattle.shape_strides.specs.Layouts.{offsets, multiples}
 use Rattle.elem_descr.specs.Items.{item_size, encode_item}
 use Rattle.elem_descr.specs.ByteLaws.{length-encode, one-encoded}
 use Rattle.elementwise.specs.Results.{pairwise, value_in}
-use Rattle.elementwise.specs.inside.Passes.{put_all}
 use Rattle.shape_strides.specs.LayoutLaws.{length-offsets}
 use Rattle.overlap_copy.specs.ItemLists.{items}
 use Rattle.overlap_copy.specs.declared.owned.Owned.{Owned}
@@ -24,47 +22,23 @@ use Rattle.elementwise.specs.declared.rows.Operands.{Operands}
 use Rattle.elementwise.specs.inside.Made.{IsMade}
 use Rattle.elementwise.specs.inside.Operands.{pairs_of, made_of_all}
 use Rattle.elementwise.specs.inside.Works.{left_of, right_of, target_of, gives, pair_made, CanPair}
-use Rattle.elementwise.specs.inside.WorkLaws.{pair_reads_back}
+use Rattle.elementwise.proofs.WorkLaws.{pair_reads_back}
 use Rattle.elementwise.specs.inside.PairPasses.{value_pair, pair_from}
 use Rattle.elementwise.proofs.MadeLaws.{over-made}
-use Rattle.elementwise.proofs.AppendedLaws.{put-rows}
-use Rattle.elementwise.proofs.RowLaws.{length-put_all, landed, rows-in, rows-lie}
+use Rattle.elementwise.proofs.AppendedLaws.{rows-read}
+use Rattle.elementwise.proofs.TurnedLaws.{length-concat}
 use Rattle.elementwise.proofs.PairLaws.{length-pairwise, map-pairwise, pairwise-map}
-use Rattle.overlap_copy.specs.PackedLaws.{length-row, row-multiples}
+use Rattle.overlap_copy.specs.PackedLaws.{row-multiples}
 use Rattle.overlap_copy.specs.Packed.{row_offsets}
 
 -- the item of a scalar is its value
-scalar-item : (scalar : Scalar) (bytes : List ℕ) (o : ℕ) → item_from (ScalarDescr scalar) bytes o ≡ decode scalar (item_at o (size scalar) bytes) ∷ []
+pub scalar-item : (scalar : Scalar) (bytes : List ℕ) (o : ℕ) → item_from (ScalarDescr scalar) bytes o ≡ decode scalar (item_at o (size scalar) bytes) ∷ []
 scalar-item scalar bytes o = ap (λ b. decode scalar b ∷ []) (take-take (size scalar) (size scalar) (drop o bytes) (omega arith))
 
 pub each-wide : (left right to : Scalar) (gives : LeafValue → LeafValue → LeafValue) (w w' : ℕ) (a b xs ys : List ℕ) → Each (λ item. length item ≡ size to) (pairwise (pair_from (value_pair left right to gives) w w' a b) xs ys)
 each-wide left right to gives w w' a b [] ys = tt
 each-wide left right to gives w w' a b (x ∷ xs) [] = tt
 each-wide left right to gives w w' a b (x ∷ xs) (y ∷ ys) = (length-encode to (gives (decode left (item_at x w a)) (decode right (item_at y w' b))), each-wide left right to gives w w' a b xs ys)
-
-all_made : (left right to : Scalar) (gives : LeafValue → LeafValue → LeafValue) (a b xs ys bytes bytes' : List ℕ) (n m : ℕ) → length xs ≡ n → length ys ≡ n → m ≡ n → n * size to ≤ length bytes →
-    ((x y : LeafValue) → decode to (encode to (gives x y)) ≡ gives x y) →
-    bytes' ≡ put_all (row_offsets 0 (size to) m) (pairwise (pair_from (value_pair left right to gives) (size left) (size right) a b) xs ys) bytes →
-    map (item_from (ScalarDescr to) bytes') (multiples (size to) n) ≡ pairwise (λ x y. gives (value_in x) (value_in y) ∷ []) (map (item_from (ScalarDescr left) a) xs) (map (item_from (ScalarDescr right) b) ys)
-all_made left right to gives a b xs ys bytes bytes' n m many many' counted room back wrote =
-    let wide = size to in
-    let make = pair_from (value_pair left right to gives) (size left) (size right) a b in
-    let rows = row_offsets 0 wide n in
-    let even : length rows ≡ length (pairwise make xs ys) = length-row 0 wide n ∙ sym (length-pairwise make xs ys (many ∙ sym many') ∙ many) in
-    let read = λ (o : ℕ). item_at o wide bytes' in
-    let value = λ (item : List ℕ). decode to item ∷ [] in
-    let written : bytes' ≡ put_all rows (pairwise make xs ys) bytes = wrote ∙ ap (λ k. put_all (row_offsets 0 wide k) (pairwise make xs ys) bytes) counted in
-    let there : map read rows ≡ pairwise make xs ys =
-    ap (λ all. map (λ o. item_at o wide all) rows) written
-    ∙ landed wide rows (pairwise make xs ys) bytes even (rows-in wide n (length bytes) room 0 wide (omega arith)) (All-from_recursion (λ item. length item ≡ wide) (pairwise make xs ys) (each-wide left right to gives (size left) (size right) a b xs ys)) (rows-lie wide n (length bytes) room 0 wide (omega arith)) in
-    ap (map (item_from (ScalarDescr to) bytes')) (sym (row-multiples wide n))
-    ∙ (λ i. map (λ o. scalar-item to bytes' o i) rows)
-    ∙ sym (map-map value read rows)
-    ∙ ap (map value) there
-    ∙ map-pairwise value make xs ys
-    ∙ (λ i. pairwise (λ o o'. back (decode left (item_at o (size left) a)) (decode right (item_at o' (size right) b)) i ∷ []) xs ys)
-    ∙ sym (pairwise-map (λ x y. gives (value_in x) (value_in y) ∷ []) (item_from (ScalarDescr left) a) (item_from (ScalarDescr right) b) xs ys
-    ∙ λ i. pairwise (λ o o'. gives (value_in (scalar-item left a o i)) (value_in (scalar-item right b o' i)) ∷ []) xs ys)
 
 -- their bytes are the items as they are encoded
 pairs-encoded : (left right to : Scalar) (gives : LeafValue → LeafValue → LeafValue) (a b xs ys : List ℕ) →
@@ -77,7 +51,7 @@ pairs-encoded left right to gives a b (x ∷ xs) (y ∷ ys) =
     ∙ λ i. encode_item (ScalarDescr to) (gives (value_in (sym (scalar-item left a x) i)) (value_in (sym (scalar-item right b y) i)) ∷ []) in
     λ i. here i ++ pairs-encoded left right to gives a b xs ys i
 
--- the same where nothing else is there, and how long that is
+-- how long that is, and the items that are read there
 all_appended : (left right to : Scalar) (gives : LeafValue → LeafValue → LeafValue) (a b xs ys bytes : List ℕ) (n : ℕ) → length xs ≡ n → length ys ≡ n →
     ((x y : LeafValue) → decode to (encode to (gives x y)) ≡ gives x y) →
     bytes ≡ concat (pairwise (pair_from (value_pair left right to gives) (size left) (size right) a b) xs ys) →
@@ -85,14 +59,23 @@ all_appended : (left right to : Scalar) (gives : LeafValue → LeafValue → Lea
     × (map (item_from (ScalarDescr to) bytes) (multiples (size to) n) ≡ pairwise (λ x y. gives (value_in x) (value_in y) ∷ []) (map (item_from (ScalarDescr left) a) xs) (map (item_from (ScalarDescr right) b) ys))
     × (bytes ≡ flat_map (encode_item (ScalarDescr to)) (pairwise (λ x y. gives (value_in x) (value_in y) ∷ []) (map (item_from (ScalarDescr left) a) xs) (map (item_from (ScalarDescr right) b) ys)))
 all_appended left right to gives a b xs ys bytes n many many' back wrote =
-    let wide = size to in
-    let items = pairwise (pair_from (value_pair left right to gives) (size left) (size right) a b) xs ys in
-    let zeros = replicate (n * wide) 0 in
-    let room : length zeros ≡ n * wide = length-replicate (n * wide) 0 in
+    let w = size to in
+    let make = pair_from (value_pair left right to gives) (size left) (size right) a b in
     let each = each-wide left right to gives (size left) (size right) a b xs ys in
-    let over : put_all (row_offsets 0 wide n) items zeros ≡ concat items = put-rows wide items n [] zeros (length-pairwise (pair_from (value_pair left right to gives) (size left) (size right) a b) xs ys (many ∙ sym many') ∙ many) each room in (
-      ap length (wrote ∙ sym over) ∙ length-put_all wide (row_offsets 0 wide n) items zeros (rows-in wide n (length zeros) (omega (arith, room)) 0 wide (omega arith)) (All-from_recursion (λ item. length item ≡ wide) items each) ∙ room,
-      all_made left right to gives a b xs ys zeros bytes n n many many' refl (omega (arith, room)) back (wrote ∙ sym over),
+    let counted : length (pairwise make xs ys) ≡ n = length-pairwise make xs ys (many ∙ sym many') ∙ many in
+    let rows = row_offsets 0 w n in
+    let read = λ (o : ℕ). item_at o w bytes in
+    let value = λ (item : List ℕ). decode to item ∷ [] in
+    let there : map read rows ≡ pairwise make xs ys = (λ i. map (λ o. item_at o w (wrote i)) (row_offsets 0 w (sym counted i))) ∙ rows-read w (pairwise make xs ys) each in (
+      ap length wrote ∙ length-concat w (pairwise make xs ys) each ∙ ap (λ k. k * w) counted,
+      ap (map (item_from (ScalarDescr to) bytes)) (sym (row-multiples w n))
+          ∙ (λ i. map (λ o. scalar-item to bytes o i) rows)
+          ∙ sym (map-map value read rows)
+          ∙ ap (map value) there
+          ∙ map-pairwise value make xs ys
+          ∙ (λ i. pairwise (λ o o'. back (decode left (item_at o (size left) a)) (decode right (item_at o' (size right) b)) i ∷ []) xs ys)
+          ∙ sym (pairwise-map (λ x y. gives (value_in x) (value_in y) ∷ []) (item_from (ScalarDescr left) a) (item_from (ScalarDescr right) b) xs ys
+          ∙ λ i. pairwise (λ o o'. gives (value_in (scalar-item left a o i)) (value_in (scalar-item right b o' i)) ∷ []) xs ys),
       wrote ∙ pairs-encoded left right to gives a b xs ys,
     )
 

@@ -1,7 +1,7 @@
 -- What is promoted, and what results there are.
-use Rattle.std.proofs.Common.{◌≡◌, ◌*◌, ℕ, max, nat_le, Bool, true, false, cond, Result, Ok, Err, List, [], ◌∷◌, refl, sym, subst, ◌∙◌}
+use Rattle.std.proofs.Common.{◌≡◌, ◌*◌, ℕ, max, nat_le, Bool, true, false, cond, Result, Ok, Err, List, [], ◌∷◌, refl, sym, subst, ◌∙◌, arith}
 use Rattle.std.specs.Prelude.{not, ◌&&◌, ◌||◌, ◌==◌}
-use Rattle.std.proofs.lemmas.Bool.{false≢true, and_parts, not-true}
+use Rattle.std.proofs.lemmas.Bool.{false≢true, not-true}
 use Rattle.elem_descr.specs.declared.refusal.Refusal.{Refusal}
 use Rattle.elem_descr.specs.declared.refusal.Refusal.TheVariants.{NotForThisKind, NeedsFloats}
 use Rattle.elem_descr.specs.declared.scalar.Order.TheVariants.{Little}
@@ -16,7 +16,6 @@ use Rattle.elem_descr.specs.Encoding.{IsNumber, size}
 use Rattle.broadcasting.specs.Broadcasts.{common_shape}
 use Rattle.machine_numbers.specs.declared.operators.BinOp.{BinOp}
 use Rattle.machine_numbers.specs.declared.operators.UnOp.{UnOp}
-use Rattle.machine_numbers.specs.declared.operators.UnOp.TheVariants.{Negate, Invert}
 use Rattle.elementwise.specs.Casts.{can_cast}
 use Rattle.machine_numbers.specs.Kinds.{is_bool, is_text, is_signed, little}
 use Rattle.elementwise.specs.Promotion.{integer_type, mixed_type, common_integers, common_type, is_division, promote, promote_one}
@@ -148,8 +147,7 @@ module _ (op : BinOp) (l : Descr) (shape : List ℕ) (r : Descr) (other : List �
 -- ---- of one operand
 
 serves-number : (op : UnOp) (s : Scalar) → serves_one op s ≡ true → is_text s ≡ false
-serves-number Negate s is = not-true (is_text s) (and_parts (not (is_text s)) (not (is_bool s)) is).0
-serves-number Invert s is = not-true (is_text s) is
+serves-number op s is = grind (arith, is)
 
 pub promoted_one : (op : UnOp) (a s : Scalar) → promote_one op a ≡ Ok s → IsNative s × (is_text a ≡ false)
 unfolding promote_one

@@ -1,21 +1,29 @@
 -- Items that are put at equal steps: they are read where they were put, and what lies apart from them is as before.
-use Rattle.std.proofs.Common.{◌≡◌, ◌+◌, ◌*◌, ◌<◌, ◌≤◌, ◌⊎◌, inl, inr, ℕ, suc, pos, List, [], ◌∷◌, map, length, get_or, All, refl, sym, ap, subst, ◌∙◌, arith, suc-mul, mul-le-mul_right}
+use Rattle.std.proofs.Common.{◌≡◌, ◌+◌, ◌-◌, ◌*◌, ◌<◌, ◌≤◌, ◌⊎◌, inl, inr, ℕ, suc, pos, List, [], ◌∷◌, map, length, get_or, All, refl, sym, ap, subst, ◌∙◌, arith, suc-mul, mul-le-mul_right}
 use Rattle.std.proofs.lemmas.Bool.{cases_lt}
 use Rattle.std.proofs.lemmas.List.Elements.{All-rest, All-head, All-from_get_or}
-use Rattle.raw_block.specs.Bytes.{put, item_at, place}
+use Rattle.std.proofs.lemmas.Int.{ints}
+use Rattle.raw_block.specs.Bytes.{put, item_at, place, EachWithin}
 use Rattle.raw_block.specs.BytesLaws.{length-put, item_at-put_same, item_at-put_apart}
 use Rattle.shape_strides.specs.declared.runs.Run.{Run}
 use Rattle.overlap_copy.specs.RunLaws.{place-at}
 use Rattle.overlap_copy.specs.PackedLaws.{length-row}
 use Rattle.overlap_copy.specs.Packed.{row_offsets}
-use Rattle.elementwise.specs.inside.Passes.{put_all}
-use Rattle.elementwise.proofs.PassLaws.{row-within}
+use Rattle.overlap_copy.specs.Assignments.{with_items}
+
+-- rows of items
+pub row-within : (len at item width n : ℕ) → width ≤ item → at + n * item ≤ len + item - width → EachWithin len at (pos item) width n
+row-within len at item width n fits ends = record {
+  each = λ k low.
+      let most : suc k * item ≤ n * item = mul-le-mul_right item low in
+      (omega (arith, ints), omega (arith, ints, most, suc-mul k item));
+}
 
 -- where the k-th item begins
 pub row-entry : (at item n k : ℕ) → k < n → get_or (row_offsets at item n) k 0 ≡ at + k * item
 row-entry at item n k low =
     let row : Run = record { offset = at; count = n; step = pos item } in
-    place-at (at + n * item) 0 row k (row-within (at + n * item) at item 0 n (omega (arith, low)) (omega arith) (omega arith)) low
+    place-at (at + n * item) 0 row k (row-within (at + n * item) at item 0 n (omega arith) (omega arith)) low
 
 -- two ranges of bytes that lie apart
 abbrev pub AreBeside : ℕ → ℕ → ℕ → ℕ → Type 0
@@ -38,15 +46,7 @@ module _ (width : ℕ) where
   still-in : (at : ℕ) (ats item bytes : List ℕ) → All (IsIn bytes) (at ∷ ats) → IsWide item → All (IsIn (put at item bytes)) ats
   still-in at ats item bytes in_bytes long = subst (λ n. All (λ o. o + width ≤ n) ats) (sym (put-length at item bytes (All-head (IsIn bytes) at ats in_bytes) long)) (All-rest (IsIn bytes) at ats (at ∷ ats) refl in_bytes)
 
-  pub length-put_all : (ats : List ℕ) (items : List (List ℕ)) (bytes : List ℕ) → All (IsIn bytes) ats → All IsWide items → length (put_all ats items bytes) ≡ length bytes
-  length-put_all [] items bytes in_bytes long = refl
-  length-put_all (at ∷ ats) [] bytes in_bytes long = refl
-  length-put_all (at ∷ ats) (item ∷ items) bytes in_bytes long =
-      let wide = All-head IsWide item items long in
-      length-put_all ats items (put at item bytes) (still-in at ats item bytes in_bytes wide) (All-rest IsWide item items (item ∷ items) refl long)
-      ∙ put-length at item bytes (All-head (IsIn bytes) at ats in_bytes) wide
-
-  pub kept : (place wide : ℕ) (ats : List ℕ) (items : List (List ℕ)) (bytes : List ℕ) → place + wide ≤ length bytes → All (IsIn bytes) ats → All IsWide items → All (λ at. AreBeside place wide at width) ats → item_at place wide (put_all ats items bytes) ≡ item_at place wide bytes
+  pub kept : (place wide : ℕ) (ats : List ℕ) (items : List (List ℕ)) (bytes : List ℕ) → place + wide ≤ length bytes → All (IsIn bytes) ats → All IsWide items → All (λ at. AreBeside place wide at width) ats → item_at place wide (with_items ats items bytes) ≡ item_at place wide bytes
   kept place wide [] items bytes there in_bytes long beside = refl
   kept place wide (at ∷ ats) [] bytes there in_bytes long beside = refl
   kept place wide (at ∷ ats) (item ∷ items) bytes there in_bytes long beside =
@@ -60,7 +60,7 @@ module _ (width : ℕ) where
   abbrev pub LieBeside : List ℕ → Type 0
   LieBeside ats = (j k : ℕ) → j < k → k < length ats → AreBeside (get_or ats j 0) width (get_or ats k 0) width
 
-  pub landed : (ats : List ℕ) (items : List (List ℕ)) (bytes : List ℕ) → length ats ≡ length items → All (IsIn bytes) ats → All IsWide items → LieBeside ats → map (λ o. item_at o width (put_all ats items bytes)) ats ≡ items
+  pub landed : (ats : List ℕ) (items : List (List ℕ)) (bytes : List ℕ) → length ats ≡ length items → All (IsIn bytes) ats → All IsWide items → LieBeside ats → map (λ o. item_at o width (with_items ats items bytes)) ats ≡ items
   landed [] [] bytes even in_bytes long beside = refl
   landed [] (item ∷ items) bytes even in_bytes long beside = absurd (omega (arith, even))
   landed (at ∷ ats) [] bytes even in_bytes long beside = absurd (omega (arith, even))

@@ -15,7 +15,7 @@ use Rattle.machine_numbers.specs.declared.operators.BinOp.{BinOp}
 use Rattle.machine_numbers.specs.declared.operators.BinOp.TheVariants.{Add, Subtract, Multiply, FloorDivide, Modulo, And, Or, Xor, ShiftLeft, ShiftRight, Divide}
 use Rattle.machine_numbers.specs.Kinds.{is_bool}
 use Rattle.elementwise.specs.Operations.{exact, binary, of_bits}
-use Rattle.elementwise.specs.inside.PairLaws.{small_width}
+use Rattle.elementwise.proofs.WorkLaws.{small_width}
 use Rattle.machine_numbers.specs.Bits.{AreBits}
 
 -- bits are those of the number that they are

@@ -1,12 +1,9 @@
 pub mod FieldCasts
-pub mod Passes
 pub mod LeafCasts
 pub mod PairPasses
-pub mod PairLaws
 pub mod Shrunk
 pub mod Sides
 pub mod Operands
 pub mod Held
 pub mod Works
 pub mod Made
-pub mod WorkLaws

@@ -1,31 +1,31 @@
 //! Casts: the items of an array as items of another element type.
-ghost use Rattle.std.specs.Prelude.{◌≡◌, ◌+◌, ◌*◌, ◌<◌, ◌≤◌, ℕ, true, length, map, replicate, nat_le, if◌then◌else◌, All, IfOk, IfErr};
-ghost use Rattle.std.specs.List.{flat_map};
+ghost use Rattle.std.specs.Prelude.{◌≡◌, ◌+◌, ◌*◌, ◌<◌, ◌≤◌, ℕ, true, length, map, nat_le, if◌then◌else◌, IfOk, IfErr};
+ghost use Rattle.std.specs.List.{concat, flat_map};
 ghost use Rattle.elem_descr.specs.declared.refusal.Refusal.TheVariants.{OutOfMemory, TooLarge, NoSuchCast};
 ghost use Rattle.elem_descr.specs.declared.descr.Descr.TheVariants.{Scalar as ScalarDescr};
-ghost use Rattle.elem_descr.specs.Encoding.{IsNumber, size};
+ghost use Rattle.elem_descr.specs.Encoding.{size};
 ghost use Rattle.elem_descr.specs.Items.{item_size, leaves_of, leaf_at, encode_item};
 ghost use Rattle.elem_descr.specs.Blocks.{item_from};
 ghost use Rattle.shape_strides.specs.declared.memory_order.MemoryOrder.TheVariants.{C};
 ghost use Rattle.shape_strides.specs.Limits.{max_bytes};
 ghost use Rattle.shape_strides.specs.Indexes.{count};
 ghost use Rattle.shape_strides.specs.Layouts.{offsets, multiples};
+ghost use Rattle.overlap_copy.specs.Assignments.{with_items};
 ghost use Rattle.overlap_copy.specs.Blocks.{offsets_in};
 ghost use Rattle.overlap_copy.specs.ItemLists.{owned_items};
-ghost use Rattle.elementwise.specs.Casts.{can_cast, cast_item};
-ghost use Rattle.elementwise.specs.inside.LeafCasts.{source, HasSource};
+ghost use Rattle.overlap_copy.specs.Packed.{row_offsets};
+ghost use Rattle.elementwise.specs.Casts.{can_cast_scalar, can_cast, cast_item};
+ghost use Rattle.elementwise.specs.inside.LeafCasts.{leaf_from, source, HasSource};
 ghost use Rattle.elementwise.specs.inside.Made.{IsMade};
 
 use crate::castable::can_cast;
 use crate::made::made;
 use crate::pairing::{Pairing, Work};
 use crate::rows::Operands;
-use crate::runs_of_leaves::{LeafCast, cast_leaf};
 use elem_descr::{Descr, Leaf, Refusal, Scalar};
-use machine_numbers::is_text;
-use overlap_copy::{Items, Owned};
+use overlap_copy::{Items, Owned, copy_run};
 use raw_block::RawBlock;
-use shape_strides::{MAX_BYTES, MemoryOrder, Runs};
+use shape_strides::{Layout, MAX_BYTES, MemoryOrder, Run, Shape, Strides};
 use std::alloc::{AllocError, Global};
 
 /// The leaf with a number.
@@ -45,54 +45,130 @@ fn source_of(descr: &Descr, k: usize) -> Leaf
     ensures within { result.at + size result.scalar ≤ item_size descr.now }
 {
     match descr {
-        Descr::Scalar(scalar) => Leaf {
-            scalar: *scalar,
-            at: 0,
-        },
+        Descr::Scalar(_) => leaf_of(descr, 0),
         Descr::Record(_) => leaf_of(descr, k),
     }
 }
 
-/// Casts items, leaf by leaf, to items that just fill the bytes, which are zeros.
-fn cast_all(bytes: &mut [u8], to: &Descr, from: Items<'_>)
-    requires can { can_cast from.descr.now to.now ≡ true }
-    requires room { length bytes.old ≡ count from.layout.now.shape * item_size to.now }
-    requires zeros { bytes.old ≡ replicate (length bytes.old) 0 }
-    ensures items { map (item_from to.now bytes.new) (multiples (item_size to.now) (count from.entry.layout.now.shape))
-        ≡ map (λ offset. cast_item from.entry.descr.now to.now (item_from from.entry.descr.now from.entry.block.now offset)) (offsets from.entry.layout.now) }
-    ensures encoded { bytes.new ≡ flat_map (encode_item to.now) (map (λ offset. cast_item from.entry.descr.now to.now (item_from from.entry.descr.now from.entry.block.now offset)) (offsets from.entry.layout.now)) }
-    ensures len { length bytes.new ≡ length bytes.old }
+/// Numbers or byte strings as those of another scalar, each pushed once.
+pub(crate) fn cast_scalars(
+    alloc: Global,
+    from: Items<'_>,
+    scalar: &Scalar,
+    to: &Scalar,
+) -> Result<Owned, Refusal>
+    requires from { from.descr.now ≡ ScalarDescr scalar.now }
+    requires can { can_cast_scalar scalar.now to.now ≡ true }
+    requires few { count from.layout.now.shape * size to.now ≤ max_bytes }
+    ensures made { IfOk result (IsMade (ScalarDescr to.now) from.entry.layout.now.shape (map (λ offset. cast_item from.entry.descr.now (ScalarDescr to.now) (item_from from.entry.descr.now from.entry.block.now offset)) (offsets from.entry.layout.now))) }
+    ensures refused { IfErr result (λ refusal. refusal ≡ OutOfMemory) }
 {
-    let item = to.size();
-    let _from_item = from.descr.size();
-    let other = from.block.bytes();
-    for k in 0..to.leaf_count() {
-        let leaf = leaf_of(to, k);
-        let from_leaf = source_of(from.descr, k);
-        let leaves = LeafCast {
-            from: from_leaf,
-            to: leaf,
-        };
-        cast_leaf(&leaves, bytes, item, other, Runs::new(from.layout));
+    let operands = Operands {
+        left: from,
+        right: from,
+    };
+    match (scalar, to) {
+        (Scalar::Bytes(width), Scalar::Bytes(target)) => {
+            let pairing = Pairing::Cut {
+                width: *width,
+                target: *target,
+            };
+            made(alloc, &pairing, operands)
+        }
+        _ => {
+            let pairing = Pairing::Alike {
+                work: Work::Cast(*to),
+                scalar: *scalar,
+            };
+            made(alloc, &pairing, operands)
+        }
     }
 }
 
-/// A block of `len` bytes that items, cast, just fill.
-fn cast_block(
+/// The layout with each address so many bytes further on. Beyond the limit of a buffer there is none.
+fn moved(alloc: Global, layout: &Layout, by: usize) -> Result<Layout, AllocError>
+    requires { by ≤ 65536 }
+    ensures shape { IfOk result (λ l. l.shape ≡ layout.now.shape) }
+    ensures offsets { IfOk result (λ l. offsets l ≡ map (λ offset. offset + by) (offsets layout.now)) }
+{
+    let shape = Shape::try_copy(alloc, &layout.shape)?;
+    let strides = Strides::from_slice(alloc, layout.strides.as_slice())?;
+    let Some(moved) = Layout::new(shape, strides, layout.offset + by) else {
+        return Err(AllocError);
+    };
+    Ok(moved)
+}
+
+/// A leaf of all items as one of another scalar, in a block of its own.
+fn cast_column(alloc: Global, from: Items<'_>, leaf: Leaf, to: &Scalar) -> Result<Owned, Refusal>
+    requires can { can_cast_scalar leaf.scalar to.now ≡ true }
+    requires within { leaf.at + size leaf.scalar ≤ item_size from.descr.now }
+    requires few { count from.layout.now.shape * size to.now ≤ max_bytes }
+    ensures bytes { IfOk result (λ o. o.block ≡ concat (map (leaf_from leaf to.now from.entry.block.now) (offsets from.entry.layout.now))) }
+    ensures refused { IfErr result (λ refusal. refusal ≡ OutOfMemory) }
+{
+    let _item = from.descr.size();
+    let layout = moved(alloc, from.layout, leaf.at)?;
+    let descr = Descr::Scalar(leaf.scalar);
+    let column = Items {
+        block: from.block,
+        layout: &layout,
+        descr: &descr,
+    };
+    cast_scalars(alloc, column, &leaf.scalar, to)
+}
+
+/// Casts a leaf of all items, and puts it where it lies in items that just fill a block.
+fn cast_leaf(
     alloc: Global,
-    len: usize,
+    block: &mut RawBlock,
     to: &Descr,
+    k: usize,
     from: Items<'_>,
-) -> Result<RawBlock, AllocError>
+) -> Result<(), Refusal>
     requires can { can_cast from.descr.now to.now ≡ true }
-    requires room { len ≡ count from.layout.now.shape * item_size to.now }
-    ensures len { IfOk result (λ cast. length cast ≡ len) }
+    requires k { k < length (leaves_of to.now) }
+    requires room { length block.old ≡ count from.layout.now.shape * item_size to.now }
+    requires few { length block.old ≤ max_bytes }
+    ensures written { IfOk result (λ _. block.new ≡ with_items (row_offsets (leaf_at to.now k).at (item_size to.now) (length (offsets from.entry.layout.now)))
+        (map (leaf_from (source from.entry.descr.now k) (leaf_at to.now k).scalar from.entry.block.now) (offsets from.entry.layout.now)) block.old) }
+    ensures len { length block.new ≡ length block.old }
+    ensures refused { IfErr result (λ refusal. refusal ≡ OutOfMemory) }
+{
+    let leaf = leaf_of(to, k);
+    let source = source_of(from.descr, k);
+    let column = cast_column(alloc, from, source, &leaf.scalar)?;
+    let count = from.layout.shape.items();
+    let width = leaf.scalar.size();
+    let rows = Run {
+        offset: leaf.at,
+        count,
+        step: to.size() as isize,
+    };
+    let packed = Run {
+        offset: 0,
+        count,
+        step: width as isize,
+    };
+    copy_run(block, rows, &column.block, packed, width);
+    Ok(())
+}
+
+/// A block that items, cast leaf by leaf, just fill.
+fn cast_block(alloc: Global, from: Items<'_>, to: &Descr) -> Result<RawBlock, Refusal>
+    requires can { can_cast from.descr.now to.now ≡ true }
+    requires few { count from.layout.now.shape * item_size to.now ≤ max_bytes }
+    ensures len { IfOk result (λ cast. length cast ≡ count from.entry.layout.now.shape * item_size to.now) }
     ensures items { IfOk result (λ cast. map (item_from to.now cast) (multiples (item_size to.now) (count from.entry.layout.now.shape))
         ≡ map (λ offset. cast_item from.entry.descr.now to.now (item_from from.entry.descr.now from.entry.block.now offset)) (offsets from.entry.layout.now)) }
     ensures encoded { IfOk result (λ cast. cast ≡ flat_map (encode_item to.now) (map (λ offset. cast_item from.entry.descr.now to.now (item_from from.entry.descr.now from.entry.block.now offset)) (offsets from.entry.layout.now))) }
+    ensures refused { IfErr result (λ refusal. refusal ≡ OutOfMemory) }
 {
-    let mut cast = RawBlock::try_zeroed(alloc, len)?;
-    cast_all(cast.bytes_mut(), to, from);
+    let _from_item = from.descr.size();
+    let mut cast = RawBlock::try_zeroed(alloc, from.layout.shape.items() * to.size())?;
+    for k in 0..to.leaf_count() {
+        cast_leaf(alloc, &mut cast, to, k, from)?;
+    }
     Ok(cast)
 }
 
@@ -103,37 +179,10 @@ fn cast_records(alloc: Global, from: Items<'_>, to: &Descr) -> Result<Owned, Ref
     ensures made { IfOk result (IsMade to.now from.entry.layout.now.shape (map (λ offset. cast_item from.entry.descr.now to.now (item_from from.entry.descr.now from.entry.block.now offset)) (offsets from.entry.layout.now))) }
     ensures refused { IfErr result (λ refusal. refusal ≡ OutOfMemory) }
 {
-    let shape = &from.layout.shape;
-    let len = shape.items() * to.size();
+    let cast = cast_block(alloc, from, to)?;
     let descr = Descr::try_copy(alloc, to)?;
-    let cast = cast_block(alloc, len, to, from)?;
-    let owned = Owned::over(alloc, descr, shape, MemoryOrder::C, cast)?;
+    let owned = Owned::over(alloc, descr, &from.layout.shape, MemoryOrder::C, cast)?;
     Ok(owned)
-}
-
-/// Numbers as those of another scalar, each pushed once.
-pub(crate) fn cast_numbers(
-    alloc: Global,
-    from: Items<'_>,
-    scalar: &Scalar,
-    to: &Scalar,
-) -> Result<Owned, Refusal>
-    requires from { from.descr.now ≡ ScalarDescr scalar.now }
-    requires number { IsNumber scalar.now }
-    requires to { IsNumber to.now }
-    requires few { count from.layout.now.shape * size to.now ≤ max_bytes }
-    ensures made { IfOk result (IsMade (ScalarDescr to.now) from.entry.layout.now.shape (map (λ offset. cast_item from.entry.descr.now (ScalarDescr to.now) (item_from from.entry.descr.now from.entry.block.now offset)) (offsets from.entry.layout.now))) }
-    ensures refused { IfErr result (λ refusal. refusal ≡ OutOfMemory) }
-{
-    let pairing = Pairing::Alike {
-        work: Work::Cast(*to),
-        scalar: *scalar,
-    };
-    let operands = Operands {
-        left: from,
-        right: from,
-    };
-    made(alloc, &pairing, operands)
 }
 
 /// Items as items to which they can be cast.
@@ -145,10 +194,7 @@ fn cast_items(alloc: Global, from: Items<'_>, to: &Descr) -> Result<Owned, Refus
 {
     match (from.descr, to) {
         (Descr::Scalar(scalar), Descr::Scalar(target)) => {
-            if is_text(scalar) {
-                return cast_records(alloc, from, to);
-            }
-            cast_numbers(alloc, from, scalar, target)
+            cast_scalars(alloc, from, scalar, target)
         }
         _ => cast_records(alloc, from, to),
     }

@@ -34,25 +34,16 @@ pub(crate) fn note_bytes(block: &RawBlock)
     let _len = bytes.len();
 }
 
-/// A little-endian scalar, in the byte order of an element type that is the same but for it.
-fn in_order_of(scalar: &Scalar, descr: &Descr) -> Scalar
-    requires { little scalar.now ≡ scalar.now }
-    ensures { little result ≡ scalar.now }
-{
-    match descr {
-        Descr::Scalar(from) if little(from) == *scalar => *from,
-        _ => *scalar,
-    }
-}
-
 /// The scalar as which two operands are read: a little-endian one, or the same in the byte order of the
 /// larger operand, so that this one is read where it stands.
 pub(crate) fn read_as(scalar: &Scalar, left: Items<'_>, right: Items<'_>) -> Scalar
     requires { little scalar.now ≡ scalar.now }
     ensures { little result ≡ scalar.now }
 {
-    if left.layout.shape.items() < right.layout.shape.items() {
-        return in_order_of(scalar, right.descr);
+    let is_right = left.layout.shape.items() < right.layout.shape.items();
+    let larger = if is_right { right } else { left };
+    match larger.descr {
+        Descr::Scalar(from) if little(from) == *scalar => *from,
+        _ => *scalar,
     }
-    in_order_of(scalar, left.descr)
 }

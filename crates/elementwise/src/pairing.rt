@@ -8,7 +8,7 @@ use crate::comparing::compare;
 use crate::operations::Working;
 use crate::promotion::eight_bytes;
 use crate::rows::Operands;
-use crate::text_pairs::{ComparingTexts, ComparingWith};
+use crate::text_pairs::{ComparingTexts, ComparingWith, Cutting};
 use elem_descr::{BytesLen, Scalar};
 use machine_numbers::{BinOp, Comparison, LowFirst, UnOp, is_bool, little, on_number};
 use raw_block::BlockBuilder;
@@ -47,6 +47,11 @@ pub(crate) enum Pairing<'a> {
         width: BytesLen,
         other: &'a [u8],
     },
+    /// The first of two byte strings, cut or filled up with NULs.
+    Cut {
+        width: BytesLen,
+        target: BytesLen,
+    },
 }
 
 impl<'a> Pairing<'a> {
@@ -60,7 +65,7 @@ impl<'a> Pairing<'a> {
             Pairing::Alike { scalar, .. } => *scalar,
             Pairing::Signs { left_signed, .. } => eight_bytes(*left_signed),
             Pairing::Texts(texts) => Scalar::Bytes(texts.width),
-            Pairing::With { width, .. } => Scalar::Bytes(*width),
+            Pairing::With { width, .. } | Pairing::Cut { width, .. } => Scalar::Bytes(*width),
         }
     }
 
@@ -72,7 +77,7 @@ impl<'a> Pairing<'a> {
             Pairing::Alike { scalar, .. } => *scalar,
             Pairing::Signs { left_signed, .. } => eight_bytes(!*left_signed),
             Pairing::Texts(texts) => Scalar::Bytes(texts.other_width),
-            Pairing::With { width, .. } => Scalar::Bytes(*width),
+            Pairing::With { width, .. } | Pairing::Cut { width, .. } => Scalar::Bytes(*width),
         }
     }
 
@@ -86,6 +91,7 @@ impl<'a> Pairing<'a> {
                 Work::Compare(_) => Scalar::Bool,
                 Work::Cast(to) => *to,
             },
+            Pairing::Cut { target, .. } => Scalar::Bytes(*target),
             _ => Scalar::Bool,
         }
     }
@@ -125,6 +131,10 @@ impl<'a> Pairing<'a> {
             } => {
                 let comparison = *comparison;
                 operands.push_all(&ComparingWith { comparison, other }, block)
+            }
+            Pairing::Cut { target, .. } => {
+                let width = target.get();
+                operands.push_all(&Cutting { width }, block)
             }
         }
     }

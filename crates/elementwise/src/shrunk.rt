@@ -8,7 +8,7 @@ ghost use Rattle.elementwise.specs.Results.{stretched_items};
 ghost use Rattle.elementwise.specs.inside.Shrunk.{IsShrunk};
 ghost use Rattle.elementwise.specs.inside.Made.{IsMade};
 
-use crate::casts::cast_numbers;
+use crate::casts::cast_scalars;
 use crate::typed::stretched_to;
 use broadcasting::{shrink, shrunk_shape};
 use elem_descr::{Refusal, Scalar};
@@ -65,5 +65,5 @@ pub(crate) fn spread(alloc: Global, made: &Owned, shape: &Shape) -> Result<Owned
         layout: &wide,
         descr: items.descr,
     };
-    cast_numbers(alloc, bools, &Scalar::Bool, &Scalar::Bool)
+    cast_scalars(alloc, bools, &Scalar::Bool, &Scalar::Bool)
 }

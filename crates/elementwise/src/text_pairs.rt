@@ -1,7 +1,8 @@
-//! Comparisons of byte strings, row by row.
+//! Comparisons and casts of byte strings, row by row.
+ghost use Rattle.std.specs.Prelude.{◌≤◌, take};
 ghost use Rattle.elem_descr.specs.declared.scalar.Scalar.TheVariants.{Bool as BoolScalar};
 ghost use Rattle.elem_descr.specs.Values.{text};
-ghost use Rattle.elem_descr.specs.Encoding.{encode, without_nuls};
+ghost use Rattle.elem_descr.specs.Encoding.{padded, encode, without_nuls};
 ghost use Rattle.elementwise.specs.inside.PairPasses.{text_pair, truth_value};
 ghost use Rattle.std.proofs.Common.{arith};
 
@@ -25,6 +26,13 @@ pub(crate) struct ComparingTexts {
 pub(crate) struct ComparingWith<'a> {
     pub(crate) comparison: Comparison,
     pub(crate) other: &'a [u8],
+}
+
+/// Byte strings that are cut to this length, or filled up with NULs.
+#[derive(Clone, Copy, Drop)]
+pub(crate) struct Cutting {
+    pub(crate) width: usize,
+    pub(crate) ghost some: { 1 ≤ width },
 }
 
 impl Pass for ComparingTexts {
@@ -64,6 +72,27 @@ impl<'a> Pass for ComparingWith<'a> {
                 self.other,
             );
             says.push::<LowFirst>(&mut block);
+        }
+        block
+    }
+}
+
+impl Pass for Cutting {
+    ghost makes = { λ t x _. padded t.width (without_nuls (take t.width (without_nuls x))) };
+
+    ghost Reads = { λ _ _ _. Unit {0} };
+
+    ghost width = { λ t. t.width };
+
+    ghost not_empty = { λ t. t.some };
+
+    fn push_row(&self, block: BlockBuilder, pairs: Pairs<'_, '_>) -> BlockBuilder {
+        let mut block = block;
+        for k in 0..pairs.left.run.count {
+            let item = pairs.left.item(k);
+            let kept = item.len().min(self.width);
+            block.push_bytes(&item[..kept]);
+            block.push_zeros(self.width - kept);
         }
         block
     }

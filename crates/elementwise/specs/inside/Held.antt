@@ -5,8 +5,8 @@ use Rattle.elem_descr.specs.Values.{LeafValue}
 use Rattle.overlap_copy.specs.ItemLists.{items, owned_items}
 use Rattle.overlap_copy.specs.declared.items.Items.{Items}
 use Rattle.elementwise.specs.Results.{stretched_items}
-use Rattle.elementwise.specs.declared.held.Held.{Held}
-use Rattle.elementwise.specs.declared.held.Held.TheVariants.{Kept, Made}
+use Rattle.elementwise.specs.declared.typed.Held.{Held}
+use Rattle.elementwise.specs.declared.typed.Held.TheVariants.{Kept, Made}
 
 abbrev pub held_items : Held → List (List LeafValue)
 held_items (Kept i) = items i

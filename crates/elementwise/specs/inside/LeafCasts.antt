@@ -1,13 +1,22 @@
 -- The leaves of items that are cast, one by one.
-use Rattle.std.specs.Prelude.{◌≡◌, ℕ, ◌<◌, List, length, map}
+use Rattle.std.specs.Prelude.{◌≡◌, ℕ, ◌+◌, ◌<◌, List, length, map}
 use Rattle.elem_descr.specs.declared.descr.Descr.{Descr}
 use Rattle.elem_descr.specs.declared.descr.Descr.TheVariants.{Scalar as ScalarDescr, Record as RecordDescr}
 use Rattle.elem_descr.specs.declared.leaf.Leaf.{Leaf}
-use Rattle.elem_descr.specs.Encoding.{size}
+use Rattle.elem_descr.specs.declared.scalar.Scalar.{Scalar}
+use Rattle.elem_descr.specs.Encoding.{size, decode, encode}
 use Rattle.elem_descr.specs.Items.{item_size, leaves_of, leaf_at}
 use Rattle.raw_block.specs.Bytes.{item_at}
-use Rattle.elementwise.specs.inside.Passes.{leaf_from}
+use Rattle.elementwise.specs.Casts.{cast_value}
 use Rattle.overlap_copy.specs.Packed.{row_offsets}
+
+-- the bytes of a value of one scalar as those of another
+abbrev pub leaf_cast : Scalar → Scalar → List ℕ → List ℕ
+leaf_cast from to bytes = encode to (cast_value to (decode from bytes))
+
+-- the bytes of a leaf of the item at an offset, as those of a scalar
+abbrev pub leaf_from : Leaf → Scalar → List ℕ → ℕ → List ℕ
+leaf_from leaf to other offset = leaf_cast leaf.scalar to (item_at (offset + leaf.at) (size leaf.scalar) other)
 
 -- the leaf that is cast to the k-th one: a scalar is each time the same
 abbrev pub source : Descr → ℕ → Leaf
@@ -21,4 +30,4 @@ HasSource (RecordDescr structure) k = k < length (leaves_of (RecordDescr structu
 
 -- the k-th leaf of all items is cast from the items at these offsets
 pub record IsLeafCast (from to : Descr) (other offsets bytes : List ℕ) (k : ℕ) : Type 0 where
-  pub written : map (λ o. item_at o (size (leaf_at to k).scalar) bytes) (row_offsets (leaf_at to k).at (item_size to) (length offsets)) ≡ map (leaf_from (source from k) (leaf_at to k) other) offsets
+  pub written : map (λ o. item_at o (size (leaf_at to k).scalar) bytes) (row_offsets (leaf_at to k).at (item_size to) (length offsets)) ≡ map (leaf_from (source from k) (leaf_at to k).scalar other) offsets

@@ -7,7 +7,7 @@ use Rattle.shape_strides.specs.Layouts.{offsets}
 use Rattle.broadcasting.specs.BroadcastLaws.{can-itself}
 use Rattle.machine_numbers.specs.Kinds.{little}
 use Rattle.elementwise.specs.Results.{unary_item}
-use Rattle.elementwise.specs.inside.PairLaws.{number_small}
+use Rattle.elementwise.proofs.WorkLaws.{number_small}
 use Rattle.elementwise.proofs.MadeLaws.{made-gives, made-order, made-items, made-encoded}
 use Rattle.elementwise.proofs.PromotedLaws.{promoted_one, native-little, number-read, can-number, operand_refused, kind_refused, one_given}
 use Rattle.elementwise.proofs.AppliedLaws.{changed}

@@ -4,7 +4,7 @@ use Rattle.elem_descr.specs.declared.descr.Descr.TheVariants.{Scalar as ScalarDe
 use Rattle.elem_descr.specs.NumberLaws.{number_size}
 use Rattle.machine_numbers.specs.Kinds.{little}
 use Rattle.elementwise.specs.Results.{pairwise, binary_item, stretched_items}
-use Rattle.elementwise.specs.inside.PairLaws.{number_small}
+use Rattle.elementwise.proofs.WorkLaws.{number_small}
 use Rattle.elementwise.proofs.MadeLaws.{made-gives, made-order, made-items, made-encoded}
 use Rattle.elementwise.proofs.PromotedLaws.{promoted, native-little, number-read, can-number, left_refused, right_refused, promotion_refused, shapes_refused, all_given}
 use Rattle.elementwise.proofs.AppliedLaws.{combined}

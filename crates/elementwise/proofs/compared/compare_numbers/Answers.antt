@@ -8,7 +8,7 @@ use Rattle.elementwise.specs.Casts.{cast_item}
 use Rattle.elementwise.specs.Results.{pairwise, value_in}
 use Rattle.elementwise.specs.inside.Held.{stretched}
 use Rattle.elementwise.specs.inside.Made.{IsMade}
-use Rattle.elementwise.specs.inside.PairLaws.{bool_small}
+use Rattle.elementwise.proofs.WorkLaws.{bool_small}
 use Rattle.elementwise.specs.inside.Works.{left_of, right_of, gives}
 use Rattle.elementwise.proofs.PromotedLaws.{can-number}
 use Rattle.elementwise.proofs.HeldLaws.{number-no_text, compared_all}

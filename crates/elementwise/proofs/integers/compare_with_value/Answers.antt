@@ -7,7 +7,7 @@ use Rattle.elem_descr.specs.Encoding.{IsNumber, wrap}
 use Rattle.elem_descr.specs.Values.{number}
 use Rattle.broadcasting.specs.BroadcastLaws.{can-itself}
 use Rattle.machine_numbers.specs.Kinds.{little}
-use Rattle.elementwise.specs.inside.PairLaws.{number-little}
+use Rattle.elementwise.proofs.WorkLaws.{number-little}
 use Rattle.elementwise.proofs.ComparedLaws.{comparable_scalars, comparable_numbers}
 use Rattle.elementwise.proofs.MadeLaws.{made-as}
 use Rattle.elementwise.proofs.IntegerLaws.{one-stretches, all_held}

@@ -16,19 +16,19 @@ stretched_to-requires c = (λ i. can_stretch (c.items-items-2.ensures.layout i).
 pub invariant_of-bools : goal.invariant_of-bools
 invariant_of-bools c = let x = c.items-items-2.result in record { inside = c.in_ok-wide.ensures.stretched.inside (length x.block.now) (item_size x.descr.now) x.inside }
 
-pub cast_numbers-requires-clause-from : goal.cast_numbers-requires-clause-from
-cast_numbers-requires-clause-from c = c.items-items-2.ensures.descr ∙ c.requires.bools
+pub cast_scalars-requires-clause-from : goal.cast_scalars-requires-clause-from
+cast_scalars-requires-clause-from c = c.items-items-2.ensures.descr ∙ c.requires.bools
 
-pub cast_numbers-requires-clause-few : goal.cast_numbers-requires-clause-few
-cast_numbers-requires-clause-few c = omega (arith, ap count c.in_ok-wide.ensures.stretched.shape_is, c.items-items.ensures.value, c.items-items.ensures.limit)
+pub cast_scalars-requires-clause-few : goal.cast_scalars-requires-clause-few
+cast_scalars-requires-clause-few c = omega (arith, ap count c.in_ok-wide.ensures.stretched.shape_is, c.items-items.ensures.value, c.items-items.ensures.limit)
 
 pub returns-clause-made : goal.returns-clause-made
 returns-clause-made c =
     let x = c.items-items-2.result in
     let e = c.items-items-2.ensures in
     let wide = c.in_ok-wide.ensures.stretched in
-    made-in (ScalarDescr BoolScalar) c.in_ok-wide.wide.shape c.args.shape.now _ _ c.cast_numbers.result wide.shape_is
+    made-in (ScalarDescr BoolScalar) c.in_ok-wide.wide.shape c.args.shape.now _ _ c.cast_scalars.result wide.shape_is
     (bools_again x.descr.now x.block.now _ (e.descr ∙ c.requires.bools)
     ∙ ap (map (item_from x.descr.now x.block.now)) wide.places
     ∙ λ i. stretched_items (e.descr i) (e.block i) (e.layout i) c.args.shape.now)
-    c.cast_numbers.ensures.made
+    c.cast_scalars.ensures.made

@@ -4,7 +4,7 @@ use Rattle.elem_descr.specs.Blocks.{item_from}
 use Rattle.shape_strides.specs.Layouts.{offsets}
 use Rattle.elementwise.specs.Casts.{cast_item}
 use Rattle.elementwise.proofs.TypedLaws.{kept}
-use Rattle.elementwise.proofs.held.Held.of.Goals as goal
+use Rattle.elementwise.proofs.typed.Held.of.Goals as goal
 
 pub returns-then-keeps_items-clause-items : goal.returns-then-keeps_items-clause-items
 returns-then-keeps_items-clause-items c =

@@ -1,23 +1,25 @@
--- What is made of two values is read back.
+-- Numbers that work gives: how many bytes they have, and that they are read back.
 use Rattle.std.proofs.Common.{◌≡◌, ◌≤◌, true, false, cond, refl, arith}
-use Rattle.std.specs.Prelude.{pos, int_lt}
+use Rattle.std.specs.Prelude.{ℤ, pos, int_lt}
 use Rattle.elem_descr.specs.declared.scalar.Width.{Width}
 use Rattle.elem_descr.specs.declared.scalar.Width.TheVariants.{Two, Four, Eight}
 use Rattle.elem_descr.specs.declared.scalar.Scalar.{Scalar}
 use Rattle.elem_descr.specs.declared.scalar.Scalar.TheVariants.{Bool as BoolScalar, Byte, Int, Bytes}
-use Rattle.elem_descr.specs.Values.{LeafValue, number}
+use Rattle.elem_descr.specs.Values.{LeafValue, number, text}
 use Rattle.elem_descr.specs.Encoding.{IsNumber, size, width_size, number_of, decode, encode}
+use Rattle.elem_descr.specs.EncodingLaws.{decode_encode}
 use Rattle.elem_descr.specs.NumberLaws.{number_size}
 use Rattle.machine_numbers.specs.declared.operators.Comparison.{Comparison}
-use Rattle.elementwise.specs.Comparisons.{says, compared}
 use Rattle.machine_numbers.specs.Kinds.{little}
-use Rattle.elementwise.specs.inside.PairPasses.{IsNative, compared_value, truth_value}
-
-pub native_number : (scalar : Scalar) → IsNative scalar → IsNumber scalar
-native_number BoolScalar native = tt
-native_number (Byte signed) native = tt
-native_number (Int signed width order) native = tt
-native_number (Bytes n) never = never
+use Rattle.elementwise.specs.Comparisons.{says, compared}
+use Rattle.elementwise.specs.Operations.{exact, exact_one}
+use Rattle.elementwise.specs.inside.PairPasses.{compared_value, truth_value}
+use Rattle.elementwise.specs.inside.Works.{target, meaning, IsWork, target_of, gives, CanPair}
+use Rattle.elementwise.specs.declared.pairing.Work.{Work}
+use Rattle.elementwise.specs.declared.pairing.Pairing.{Pairing}
+use Rattle.elementwise.specs.declared.pairing.Pairing.TheVariants.{Alike, Signs, Texts, With, Cut}
+use Rattle.elementwise.specs.declared.pairing.Work.TheVariants.{Combine, Change, Compare, Cast}
+use Rattle.elementwise.proofs.LeafLaws.{read_back}
 
 pub number-little : (scalar : Scalar) → IsNumber scalar → IsNumber (little scalar)
 number-little BoolScalar is = tt
@@ -43,3 +45,16 @@ compared_reads_back comparison x y =
 pub truth_reads_back : (comparison : Comparison) (x y : LeafValue) → decode BoolScalar (encode BoolScalar (truth_value comparison x y)) ≡ truth_value comparison x y
 truth_reads_back comparison x y =
     elim (compared comparison x y) as (λ t. decode BoolScalar (encode BoolScalar (number (cond t (pos 1) (pos 0)))) ≡ number (cond t (pos 1) (pos 0))) [ true ↦ refl | false ↦ refl ]
+
+pub work_reads_back : (work : Work) (s : Scalar) (a b : ℤ) → IsNumber s → IsWork work → decode (target work s) (encode (target work s) (number (meaning work s a b))) ≡ number (meaning work s a b)
+work_reads_back (Combine op) s a b is can = decode_encode (little s) (exact op (little s) a b) (number-little s is)
+work_reads_back (Change op) s a b is can = decode_encode (little s) (exact_one op (little s) b) (number-little s is)
+work_reads_back (Compare comparison) s a b is can = compared_reads_back comparison (number a) (number b)
+work_reads_back (Cast to) s a b is can = decode_encode to a can
+
+pub pair_reads_back : (p : Pairing) (x y : LeafValue) → CanPair p → decode (target_of p) (encode (target_of p) (gives p x y)) ≡ gives p x y
+pair_reads_back (Alike work scalar) x y can = work_reads_back work scalar (number_of x) (number_of y) can.0 can.1
+pair_reads_back (Signs comparison left_signed) x y can = compared_reads_back comparison x y
+pair_reads_back (Texts texts) x y can = truth_reads_back texts.comparison x y
+pair_reads_back (With comparison width other) x y can = truth_reads_back comparison x (text other.now)
+pair_reads_back (Cut width target) x y can = read_back (Bytes target) x
