@@ -36,10 +36,6 @@ pub cast-some : (s : State) (a : Array) (descr : Descr) → can_cast (descr_of s
 unfolding cast_items
 cast-some s a descr can = rw can refl
 
-pub contents-bad : (s : State) (a : Array) (text : List ℕ) (e : Refusal) → descriptor text ≡ Err e → cast_contents s a text ≡ Err e
-unfolding cast_contents
-contents-bad s a text e bad = rw bad refl
-
 contents-none : (s : State) (a : Array) (text : List ℕ) (descr : Descr) (e : Refusal) → descriptor text ≡ Ok descr → cast_items s a descr ≡ Err e → cast_contents s a text ≡ Err e
 unfolding cast_contents
 contents-none s a text descr e good bad = rw (good, bad) refl

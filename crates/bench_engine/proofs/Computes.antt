@@ -95,19 +95,11 @@ module _ (s : State) (operand : Operand) (a : Array) (found : find_array s.names
 
 -- ---- two operands
 
-pub combined-bad : (s : State) (op : Operation) (left : Operand) (right : Argument) (e : Refusal) → operand_part s left ≡ Err e → operation_contents s op left right ≡ Err e
-unfolding operation_contents
-combined-bad s op left right e bad = rw bad refl
-
 pub combined-part : (s : State) (op : Operation) (left : Operand) (right : Argument) (part : Array) → operand_part s left ≡ Ok part → operation_contents s op left right ≡ operation_with op (operand_values s part) (argument_values s op (descr_of s part) right)
 unfolding operation_contents
 combined-part s op left right part good = rw good refl
 
 -- ---- one operand
-
-pub transformed-bad : (s : State) (op : UnOp) (operand : Operand) (e : Refusal) → operand_part s operand ≡ Err e → transformed s op operand ≡ Err e
-unfolding transformed
-transformed-bad s op operand e bad = rw bad refl
 
 transformed-other : (s : State) (op : UnOp) (operand : Operand) (part : Array) (e : Refusal) → operand_part s operand ≡ Ok part → unary_result op (descr_of s part) part.shape ≡ Err e → transformed s op operand ≡ Err e
 unfolding transformed

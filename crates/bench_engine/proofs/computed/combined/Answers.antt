@@ -1,18 +1,19 @@
-use Rattle.std.proofs.Common.{sym, subst}
+use Rattle.std.proofs.Common.{refl, sym, subst}
 use Rattle.std.proofs.lemmas.Result.{err_from_is_err_and}
 use Rattle.elem_descr.specs.Refusals.{Gives}
-use Rattle.bench_engine.specs.Machine.{operand_part, operand_values}
+use Rattle.bench_engine.specs.Machine.{operand_part, operand_values, operation_contents}
 use Rattle.bench_engine.specs.inside.OwnContents.{held}
-use Rattle.bench_engine.proofs.Computes.{combined-bad, combined-part}
+use Rattle.bench_engine.proofs.Computes.{combined-part}
 use Rattle.bench_engine.proofs.Makes.{passed}
 use Rattle.bench_engine.proofs.OperandLaws.{all-stand, given-part}
 use Rattle.bench_engine.proofs.computed.combined.Goals as goal
 
 pub returns-in_err-left : goal.returns-in_err-left
+unfolding operation_contents
 returns-in_err-left c =
     let s = c.args.bench.now.state in
     let p = err_from_is_err_and c.from_residual.result c.from_residual.ensures.1 in
-    rw (p.1, p.2) (passed (operand_part s c.args.left.now) _ _ (combined-bad s c.args.operation c.args.left.now c.args.right.now _) c.in_err-left.ensures)
+    rw (p.1, p.2) (passed (operand_part s c.args.left.now) _ _ (λ bad. rw bad refl) c.in_err-left.ensures)
 
 pub items-requires : goal.items-requires
 items-requires c =

@@ -1,14 +1,16 @@
-use Rattle.std.proofs.Common.{ap, sym, ◌∙◌}
+use Rattle.std.proofs.Common.{ap, refl, sym, ◌∙◌}
 use Rattle.std.proofs.lemmas.Result.{err_from_is_err_and}
 use Rattle.elem_descr.specs.DescrTexts.{descriptor}
-use Rattle.bench_engine.proofs.Casts.{cast-gives, contents-bad}
+use Rattle.bench_engine.proofs.Casts.{cast-gives}
 use Rattle.bench_engine.proofs.Makes.{passed}
+use Rattle.bench_engine.specs.Machine.{cast_contents}
 use Rattle.bench_engine.proofs.computed.converted.Goals as goal
 
 pub returns-in_err-descr : goal.returns-in_err-descr
+unfolding cast_contents
 returns-in_err-descr c s a shows =
     let p = err_from_is_err_and c.from_residual.result c.from_residual.ensures.1 in
-    rw (p.1, p.2) (passed (descriptor c.as_slice.result.now) _ _ (λ bad. contents-bad s a c.args.descr.now _ (ap descriptor (sym c.as_slice.ensures) ∙ bad)) c.in_err-descr.ensures)
+    rw (p.1, p.2) (passed (descriptor c.as_slice.result.now) _ _ (λ bad. rw (ap descriptor (sym c.as_slice.ensures) ∙ bad) refl) c.in_err-descr.ensures)
 
 pub returns : goal.returns
 returns c s a shows =

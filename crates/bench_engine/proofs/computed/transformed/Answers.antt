@@ -1,15 +1,17 @@
+use Rattle.std.proofs.Common.{refl}
 use Rattle.std.proofs.lemmas.Result.{err_from_is_err_and}
-use Rattle.bench_engine.specs.Machine.{operand_part}
-use Rattle.bench_engine.proofs.Computes.{transformed-bad, transformed-gives}
+use Rattle.bench_engine.specs.Machine.{operand_part, transformed}
+use Rattle.bench_engine.proofs.Computes.{transformed-gives}
 use Rattle.bench_engine.proofs.Makes.{passed}
 use Rattle.bench_engine.proofs.OperandLaws.{given-part}
 use Rattle.bench_engine.proofs.computed.transformed.Goals as goal
 
 pub returns-in_err-part : goal.returns-in_err-part
+unfolding transformed
 returns-in_err-part c =
     let s = c.args.bench.now.state in
     let p = err_from_is_err_and c.from_residual.result c.from_residual.ensures.1 in
-    rw (p.1, p.2) (passed (operand_part s c.args.operand.now) _ _ (transformed-bad s c.args.operation c.args.operand.now _) c.in_err-part.ensures)
+    rw (p.1, p.2) (passed (operand_part s c.args.operand.now) _ _ (λ bad. rw bad refl) c.in_err-part.ensures)
 
 pub items-requires : goal.items-requires
 items-requires c =
