@@ -1,6 +1,6 @@
 -- Single items that are gathered, scattered and filled.
 use Rattle.std.proofs.Common.{◌≡◌, ℕ, ◌+◌, ◌-◌, ◌<◌, ◌≤◌, List, [], ◌∷◌, ◌++◌, map, length, get_or, drop, refl, sym, ap, ◌∙◌, arith, append-nil}
-use Rattle.std.proofs.lemmas.List.{drop_more, length-map}
+use Rattle.std.proofs.lemmas.List.{drop_more}
 use Rattle.raw_block.specs.Bytes.{put, item_at}
 use Rattle.shape_strides.specs.declared.layout.Layout.{Layout}
 use Rattle.shape_strides.specs.Indexes.{count}
@@ -31,9 +31,6 @@ alone base place (shift ∷ shifts) =
 -- where the one item of a layout lies from a place on that is shifted by each shift
 pub shifted-single : (l : Layout) (shifts : List ℕ) (place : ℕ) → count l.shape ≡ 1 → shifted_all l.offset shifts (offsets l) place ≡ map (moved_offset l.offset place) shifts
 shifted-single l shifts place one = ap (λ o. shifted_all l.offset shifts o place) (only-offset l one) ∙ alone l.offset place shifts
-
-pub many-single : (l : Layout) (shifts : List ℕ) (place : ℕ) → count l.shape ≡ 1 → length (shifted_all l.offset shifts (offsets l) place) ≡ length shifts
-many-single l shifts place one = ap length (shifted-single l shifts place one) ∙ length-map shifts (moved_offset l.offset place)
 
 -- ---- shift after shift
 

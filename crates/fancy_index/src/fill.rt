@@ -44,7 +44,7 @@ fn fill_shifts(block: &mut RawBlock, rows: Shifted<'_>, item: &[u8])
     ensures written { block.new ≡ put_each (shifted_offsets rows.entry) item.now block.old }
     ensures len { length block.new ≡ length block.old }
 {
-    if rows.inner.shape.items() == 1 {
+    if rows.is_single() {
         fill_singles(block, rows, item);
         return;
     }

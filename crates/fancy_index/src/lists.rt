@@ -1,9 +1,9 @@
 //! Index lists, item by item, and the axes that the items take.
 ghost use Rattle.std.specs.Prelude.{◌≡◌, ◌+◌, ◌<◌, ◌≤◌, [], length, All, IfSome, None};
-ghost use Rattle.shape_strides.specs.Limits.{max_axes};
+ghost use Rattle.std.proofs.Props.{props};
 ghost use Rattle.fancy_index.specs.IndexArrays.{item_axes, array_axes_taken, array_axes_width};
 ghost use Rattle.fancy_index.specs.Sources.{LiesInBlock, IsNamed, index_items};
-ghost use Rattle.fancy_index.specs.inside.Items.{index_item_of, ItemsLieInBlock, AreNamed-prop};
+ghost use Rattle.fancy_index.specs.inside.Items.{index_item_of, ItemsLieInBlock, IsNamed-prop};
 
 use crate::kind::Kind;
 use crate::source::{Indices, kind, resolved};
@@ -14,7 +14,7 @@ use shape_strides::IndexItem;
 pub(crate) struct IndexList<'a> {
     pub items: &'a [IndexItem<usize>],
     pub arrays: &'a [Indices<'a>],
-    pub ghost named: { All (IsNamed (length arrays.now)) items.now } by { AreNamed-prop (length arrays.now) items.now },
+    pub ghost named: { All (IsNamed (length arrays.now)) items.now } by { Prim.hlevel (IsNamed-prop, props) },
     pub ghost lie: { All LiesInBlock arrays.now },
 }
 
@@ -28,8 +28,7 @@ pub(crate) struct Left<'a> {
 
 /// How many axes an item takes, beside those of `...`.
 fn axes_of(item: IndexItem<Indices<'_>>) -> usize
-    ensures value { result ≡ item_axes (index_item_of item.entry) }
-    ensures few { result ≤ max_axes }
+    ensures { result ≡ item_axes (index_item_of item.entry) }
 {
     match item {
         IndexItem::Ellipsis | IndexItem::NewAxis => 0,

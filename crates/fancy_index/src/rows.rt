@@ -64,3 +64,15 @@ impl PlanAxes {
         }
     }
 }
+
+impl<'a> Shifted<'a> {
+    ghost use Rattle.std.specs.Prelude.{IsTrue};
+    ghost use Rattle.fancy_index.specs.inside.Kept.{first_offsets, shifted_offsets};
+
+    /// Whether the inner axes have one item.
+    pub(crate) fn is_single(self) -> bool
+        ensures { IsTrue result → shifted_offsets self.entry ≡ first_offsets self.entry }
+    {
+        self.inner.shape.items() == 1
+    }
+}

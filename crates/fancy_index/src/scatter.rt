@@ -83,7 +83,7 @@ fn scatter_shifts(
     ensures len { length block.new ≡ length block.old }
     ensures end { result ≡ at + length (shifted_offsets rows.entry) * width }
 {
-    if rows.inner.shape.items() == 1 {
+    if rows.is_single() {
         return scatter_singles(block, rows, items, at, width);
     }
     scatter_runs(block, rows, items, at, width)

@@ -1,7 +1,6 @@
 -- Items of an index list with their arrays.
-use Rattle.std.specs.Prelude.{ℕ, List, All}
+use Rattle.std.specs.Prelude.{ℕ}
 use Rattle.std.specs.Coded.{Unit-prop, le_prop}
-use Rattle.std.proofs.Props.{props}
 use Rattle.shape_strides.specs.declared.index_item.IndexItem.{IndexItem}
 use Rattle.shape_strides.specs.declared.index_item.IndexItem.TheVariants.{Integer, Slice, Ellipsis, NewAxis, Array}
 use Rattle.fancy_index.specs.declared.source.Indices.{Indices}
@@ -21,10 +20,7 @@ abbrev pub ItemsLieInBlock : IndexItem Indices → Type 0
 ItemsLieInBlock (Array a) = LiesInBlock a
 ItemsLieInBlock _ = Unit {0}
 
--- that items name arrays holds in one way
-IsNamed-prop : (n : ℕ) (item : IndexItem ℕ) → IsProp (IsNamed n item)
+-- that an item names an array holds in one way
+pub IsNamed-prop : (n : ℕ) (item : IndexItem ℕ) → IsProp (IsNamed n item)
 IsNamed-prop n (Array k) = le_prop
 IsNamed-prop n _ = Unit-prop
-
-pub AreNamed-prop : (n : ℕ) (items : List (IndexItem ℕ)) → IsProp (All (IsNamed n) items)
-AreNamed-prop n items = hlevel (IsNamed-prop, props)
