@@ -5,7 +5,7 @@ use Rattle.std.proofs.Math.ListN.{drop_of_length-le}
 use Rattle.std.proofs.lemmas.Bool.{false_from_ne_true, and_left}
 use Rattle.std.proofs.lemmas.List.{drop_more}
 use Rattle.elem_descr.specs.declared.refusal.Refusal.TheVariants.{ShapesDoNotBroadcast}
-use Rattle.broadcasting.specs.Broadcasts.{aligned, go_together, common_length, all_go_together, common_lengths, common_of_two, stretches, all_stretch, can_stretch}
+use Rattle.broadcasting.specs.Broadcasts.{aligned, go_together, all_go_together, common_lengths, common_of_two, can_stretch}
 use Rattle.broadcasting.specs.FitLaws.{length-aligned, common-none, common-some, few-axes}
 use Rattle.broadcasting.specs.inside.Stretches.{kept_stride, kept_strides}
 
@@ -13,9 +13,6 @@ use Rattle.broadcasting.specs.inside.Stretches.{kept_stride, kept_strides}
 
 pub together-drop : (left right : List ℕ) (k : ℕ) → k < length left → k < length right → all_go_together (drop k left) (drop k right) ≡ go_together (get_or left k 0) (get_or right k 0) && all_go_together (drop (k + 1) left) (drop (k + 1) right)
 together-drop left right k in-left in-right = rw (drop_more left k 0 in-left, drop_more right k 0 in-right) refl
-
-pub common-drop : (left right : List ℕ) (k : ℕ) → k < length left → k < length right → common_lengths (drop k left) (drop k right) ≡ common_length (get_or left k 0) (get_or right k 0) ∷ common_lengths (drop (k + 1) left) (drop (k + 1) right)
-common-drop left right k in-left in-right = rw (drop_more left k 0 in-left, drop_more right k 0 in-right) refl
 
 -- the shapes do not go together at this axis
 pub refused-at : (left right : List ℕ) (rank axis first second : ℕ) (together : Bool) → rank ≡ max (length left) (length right) → axis < rank → first ≡ get_or (aligned rank left) axis 0 → second ≡ get_or (aligned rank right) axis 0 → together ≡ go_together first second → together ≡ false → all_go_together (drop axis (aligned rank left)) (drop axis (aligned rank right)) ≡ all_go_together (aligned rank left) (aligned rank right) → common_of_two left right ≡ Err ShapesDoNotBroadcast
@@ -37,9 +34,6 @@ found-all left right rank axis lengths is past together are =
     common-some left right rank is all ∙ ap Ok (sym found)
 
 -- ---- stretching
-
-pub stretch-drop : (shape target : List ℕ) (k : ℕ) → k < length shape → k < length target → all_stretch (drop k shape) (drop k target) ≡ stretches (get_or shape k 0) (get_or target k 0) && all_stretch (drop (k + 1) shape) (drop (k + 1) target)
-stretch-drop shape target k in-shape in-target = rw (drop_more shape k 0 in-shape, drop_more target k 0 in-target) refl
 
 pub too-many-axes : (shape target : List ℕ) → length target < length shape → can_stretch shape target ≡ false
 too-many-axes shape target many = false_from_ne_true (can_stretch shape target) (λ can. omega (arith, few-axes shape target can))

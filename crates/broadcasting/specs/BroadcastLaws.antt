@@ -50,18 +50,6 @@ pub broadcast_index-itself : (shape index : List ℕ) → IsIndex shape index �
 broadcast_index-itself shape index in' =
     ap (λ n. within_axes shape (drop (n - length shape) index)) (length-index shape index in') ∙ ap (λ k. within_axes shape (drop k index)) (none-beyond shape) ∙ within-itself shape index in'
 
-pub stretched-itself : (shape : List ℕ) → stretched shape shape ≡ Ok (record { shape = shape; leads = broadcast_index shape })
-unfolding stretched
-stretched-itself shape = rw (can-itself shape)
-
-into-none : (shape target : List ℕ) (k : ℕ) → k ≡ axes_beyond (length target) shape → k ≡ 0 → stretched_into shape target ≡ stretched shape target >>= (λ view. Ok (record { shape = target; leads = λ index. view.leads index }))
-unfolding stretched_into
-into-none shape target k is none = rw (sym is ∙ none)
-
-pub into-itself : (shape : List ℕ) → stretched_into shape shape ≡ Ok (record { shape = shape; leads = broadcast_index shape })
-into-itself shape =
-    into-none shape shape (length shape - length shape) refl (none-beyond shape) ∙ ap (λ r. r >>= (λ view. Ok (record { shape = shape; leads = λ index. view.leads index }))) (stretched-itself shape)
-
 -- ---- where an index of a larger shape leads
 
 number-within : (m n k : ℕ) → stretches m n ≡ true → k < n → (if m == 1 then 0 else k) < m

@@ -2,7 +2,6 @@
 use Rattle.std.proofs.Common.{◌≡◌, ℕ, zero, suc, ◌+◌, ◌-◌, ◌<◌, ◌≤◌, ◌==◌, min, ℤ, pos, ◌+ℤ◌, ◌*ℤ◌, List, [], ◌∷◌, ◌++◌, Option, Some, None, All, map, length, inl, inr, refl, sym, ◌∙◌, ap, subst, arith, append_assoc, length-append}
 use Rattle.std.specs.List.{flat_map, AllByRecursion as Each}
 use Rattle.std.proofs.lemmas.Bool.{cases_lt, cond_both, cond-true, eq-eqb, eqb-true, eqb-false}
-use Rattle.std.proofs.lemmas.Int.{ints}
 use Rattle.std.proofs.lemmas.List.{map-append}
 use Rattle.std.proofs.lemmas.List.Elements.{All-from_recursion}
 use Rattle.elem_descr.specs.Steps.{numbers_from}
@@ -10,7 +9,7 @@ use Rattle.shape_strides.specs.declared.layout.Layout.{Layout}
 use Rattle.shape_strides.specs.declared.joined.StridedAxis.{StridedAxis}
 use Rattle.shape_strides.specs.declared.runs.Run.{Run}
 use Rattle.shape_strides.specs.declared.run_pairs.RunPair.{RunPair}
-use Rattle.shape_strides.specs.Limits.{max_bytes, max_items}
+use Rattle.shape_strides.specs.Limits.{max_items}
 use Rattle.shape_strides.specs.Indexes.{count}
 use Rattle.shape_strides.specs.Addresses.{natural}
 use Rattle.shape_strides.specs.Layouts.{offsets}
@@ -115,13 +114,6 @@ after-range run n low other whole =
     first : (m : ℕ) → 1 ≤ m → Each IsInBytes (numbers_from (pos run.offset +ℤ run.step *ℤ pos n) run.step m) → IsInBytes (pos run.offset +ℤ run.step *ℤ pos n)
     first zero some each = absurd (omega arith)
     first (suc m) some each = (subst (Each IsInBytes) (numbers-suc (pos run.offset +ℤ run.step *ℤ pos n) run.step m) each).0
-
-pub start-range : (run : Run) → IsWhole run → run.offset ≤ max_bytes
-start-range run whole = first run.count whole.some whole.lies
-  where
-    first : (m : ℕ) → 1 ≤ m → Each IsInBytes (numbers_from (pos run.offset) run.step m) → run.offset ≤ max_bytes
-    first zero some each = absurd (omega arith)
-    first (suc m) some each = let here = (subst (Each IsInBytes) (numbers-suc (pos run.offset) run.step m) each).0 in let high = here.1 in omega (arith, ints)
 
 -- ---- one pair of a walk
 

@@ -1,5 +1,5 @@
 -- Laws of layouts whose items are one run.
-use Rattle.std.proofs.Common.{◌≡◌, ℕ, zero, suc, ◌+◌, ◌-◌, ◌*◌, ◌<◌, ◌≤◌, ◌==◌, ℤ, pos, List, [], ◌∷◌, All, length, get_or, drop, refl, sym, ◌∙◌, ap, subst, arith, mul-le-mul_right}
+use Rattle.std.proofs.Common.{◌≡◌, ℕ, zero, suc, ◌+◌, ◌-◌, ◌*◌, ◌<◌, ◌≤◌, ◌==◌, ℤ, pos, List, [], ◌∷◌, All, length, get_or, drop, refl, sym, ◌∙◌, ap, subst, arith}
 use Rattle.std.proofs.lemmas.Bool.{cond_both, cond-false, ne_eqb}
 use Rattle.std.proofs.lemmas.List.{append-nil}
 use Rattle.std.specs.List.{flat_map}
@@ -52,19 +52,6 @@ no_run l step some two by = at (all_joined (strided_axes l.strides l.shape)) ref
 
 -- ---- an axis before those that are joined to one
 
-pub joined_before : (strides : List ℤ) (lengths : List ℕ) (k : ℕ) (along : StridedAxis) → length strides ≡ length lengths → 0 < k → k ≤ length lengths → AreJoinedFrom strides lengths k along → join_outside (record { len = get_or lengths (k - 1) 0; stride = get_or strides (k - 1) (pos 0) }) (if_long along) ≡ all_joined (strided_axes (drop (k - 1) strides) (drop (k - 1) lengths))
-joined_before strides lengths zero along same some most from = absurd (omega arith)
-joined_before strides lengths (suc j) along same some most from =
-    let before : suc j - 1 ≡ j = omega arith in
-    rw before (ap (join_outside (record { len = get_or lengths j 0; stride = get_or strides j (pos 0) })) from.are ∙ sym (later strides lengths j same (omega (arith, most))))
-  where
-    later : (strides : List ℤ) (lengths : List ℕ) (j : ℕ) → length strides ≡ length lengths → j < length lengths → all_joined (strided_axes (drop j strides) (drop j lengths)) ≡ join_outside (record { len = get_or lengths j 0; stride = get_or strides j (pos 0) }) (all_joined (strided_axes (drop (suc j) strides) (drop (suc j) lengths)))
-    later [] [] j same below = absurd (omega arith)
-    later [] (n ∷ lengths) j same below = absurd (omega (arith, same))
-    later (s ∷ strides) [] j same below = absurd (omega (arith, same))
-    later (s ∷ strides) (n ∷ lengths) zero same below = refl
-    later (s ∷ strides) (n ∷ lengths) (suc j) same below = later strides lengths j (omega (arith, same)) (omega (arith, below))
-
 -- where there are items, an axis and those joined behind it have some, and no more than there are
 pub joined_items : (strides : List ℤ) (lengths : List ℕ) (k : ℕ) (along : StridedAxis) → 0 < k → k ≤ length lengths → AreJoinedFrom strides lengths k along → 0 < count lengths → count lengths ≤ max_items → (1 ≤ get_or lengths (k - 1) 0) × (1 ≤ along.len) × (get_or lengths (k - 1) 0 * along.len ≤ max_items) × (get_or lengths (k - 1) 0 * along.len ≡ count (drop (k - 1) lengths))
 joined_items strides lengths k along some most from items few =
@@ -74,32 +61,6 @@ joined_items strides lengths k along some most from items few =
     let whole : count (drop (k - 1) lengths) ≡ get_or lengths (k - 1) 0 * along.len = count-drop lengths (k - 1) (omega arith) ∙ ap (λ j. get_or lengths (k - 1) 0 * count (drop j lengths)) next ∙ ap (λ n. get_or lengths (k - 1) 0 * n) (sym from.items) in
     let both = factors_pos (get_or lengths (k - 1) 0) along.len (omega (arith, whole, before.0)) in
     (both.0, both.1, omega (arith, whole, before.1, few), sym whole)
-
--- one axis more is joined, or it is not
-pub joined_more : (strides : List ℤ) (lengths : List ℕ) (k : ℕ) (along one : StridedAxis) → length strides ≡ length lengths → 0 < k → k ≤ length lengths → AreJoinedFrom strides lengths k along → 0 < count lengths → count lengths ≤ max_items → join_outside (record { len = get_or lengths (k - 1) 0; stride = get_or strides (k - 1) (pos 0) }) (if_long along) ≡ if_long one → one.len ≡ get_or lengths (k - 1) 0 * along.len → (one.len ≡ 1 → one.stride ≡ along.stride) → AreJoinedFrom strides lengths (k - 1) one
-joined_more strides lengths k along one same some most from items few is long single =
-    let sizes = joined_items strides lengths k along some most from items few in
-    record {
-      are = sym is ∙ joined_before strides lengths k along same some most from;
-      items = long ∙ sizes.3;
-      single = λ alone. single alone ∙ from.single (factor (get_or lengths (k - 1) 0) along.len sizes.0 sizes.1 (sym long ∙ alone));
-    }
-  where
-    factor : (a b : ℕ) → 1 ≤ a → 1 ≤ b → a * b ≡ 1 → b ≡ 1
-    factor (suc a) b low low' is = let grown : 1 * b ≤ suc a * b = mul-le-mul_right b low in omega (arith, is)
-    factor zero b low low' is = absurd (omega arith)
-
-pub last_apart : (strides : List ℤ) (lengths : List ℕ) (k : ℕ) (along : StridedAxis) → length strides ≡ length lengths → 0 < k → k ≤ length lengths → AreJoinedFrom strides lengths k along → 2 ≤ get_or lengths (k - 1) 0 → join_outside (record { len = get_or lengths (k - 1) 0; stride = get_or strides (k - 1) (pos 0) }) (if_long along) ≡ record { len = get_or lengths (k - 1) 0; stride = get_or strides (k - 1) (pos 0) } ∷ along ∷ [] → IsLastRun strides lengths k along
-last_apart strides lengths k along same some most from long two = record {
-  within = most;
-  inside = from;
-  long = λ _. long;
-  apart = λ _. sym (joined_before strides lengths k along same some most from) ∙ two;
-}
-
-pub last_whole : (strides : List ℤ) (lengths : List ℕ) (k : ℕ) (along : StridedAxis) → k ≤ 0 → AreJoinedFrom strides lengths k along → IsLastRun strides lengths 0 along
-last_whole strides lengths zero along none from = record { within = omega arith; inside = from; long = λ some. absurd (omega arith); apart = λ some. absurd (omega arith) }
-last_whole strides lengths (suc k) along none from = absurd (omega arith)
 
 -- where an axis is left outside, the layout is no run
 pub outside_no_run : (l : Layout) (outside : ℕ) (along : StridedAxis) (step : ℤ) → 0 < count l.shape → IsLastRun l.strides l.shape outside along → 0 < outside → GoesBy step (offsets l) → ⊥

@@ -14,7 +14,7 @@ use Rattle.shape_strides.specs.inside.Starts.{lengths_of}
 use Rattle.shape_strides.specs.CountLaws.{factors_pos}
 use Rattle.elem_descr.specs.StepLaws.{numbers-suc, numbers-split}
 use Rattle.elem_descr.specs.ListLaws.{flat_map_same, flat_map-flat_map, first_is}
-use Rattle.shape_strides.proofs.JoinedLaws.{flat_map-id, addresses, addresses-joined}
+use Rattle.shape_strides.proofs.JoinedLaws.{flat_map-id, addresses}
 
 -- ---- axes as they stand joined
 
@@ -229,11 +229,6 @@ are_joined [] some = tt
 are_joined (axis ∷ axes) some =
     let both = factors_pos axis.len (count (lengths_of axes)) some in
     are_joined_onto axis (all_joined axes) both.0 (are_joined axes both.1)
-
--- axes that lead to the same addresses are the same when they are joined
-pub joined_same : (at : ℤ) (xs ys : List StridedAxis) → 0 < count (lengths_of xs) → 0 < count (lengths_of ys) → addresses at xs ≡ addresses at ys → all_joined xs ≡ all_joined ys
-joined_same at xs ys some-x some-y same =
-    joined_unique at (all_joined xs) (all_joined ys) (are_joined xs some-x) (are_joined ys some-y) (addresses-joined at xs ∙ same ∙ sym (addresses-joined at ys))
 
 -- where the axes lead first
 pub addresses-first : (at : ℤ) (axes : List StridedAxis) → AreJoined axes → (rest : List ℤ) × (addresses at axes ≡ at ∷ rest)
