@@ -34,7 +34,7 @@ use Rattle.name_store.specs.declared.bound.Bound.TheVariants as bound
 use Rattle.name_store.specs.declared.target.Source.{Source}
 use Rattle.name_store.specs.declared.target.Source.TheVariants as source
 use Rattle.bench_engine.specs.IndexLists.{taken}
-use Rattle.bench_engine.specs.Machine.{viewed, source_part, argument_items, cast_items}
+use Rattle.bench_engine.specs.Machine.{viewed, source_part, argument_items}
 use Rattle.bench_engine.specs.inside.Assigns.{Holds, IsTaken, GivesTaken, Stretches, Fitted, cast_from, GivesItems}
 use Rattle.bench_engine.specs.inside.Operands.{StandsFor}
 use Rattle.bench_engine.proofs.Assigns.{all-viewed, lies-whole, lies-viewed, stretched-shape}
