@@ -1,2 +1,0 @@
-pub mod PartLaws
-pub mod ShownViewLaws

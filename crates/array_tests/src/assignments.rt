@@ -2,32 +2,30 @@
 ghost use Rattle.std.specs.Prelude.{◌≡◌, length};
 
 use crate::check::{check, check_bytes};
-use crate::made::{Numbers, are_shifted, layout_of};
+use crate::made::{Numbers, are_shifted, digits, layout_of};
 use overlap_copy::{assign, assign_shifted, gather, may_overlap};
 use raw_block::RawBlock;
 use shape_strides::Layout;
 use std::alloc::Global;
 use std::process::Abort;
 
+/// The block has these bytes, each a digit of base 16.
+fn has_digits(rt: &impl Abort, alloc: Global, block: &RawBlock, wanted: &str) {
+    let wanted = digits(rt, alloc, wanted);
+    check_bytes(rt, block.bytes(), wanted.as_slice());
+}
+
 /// Items to write, items to read, and what becomes of the bytes 0 to 5.
-const ROWS: &[(Numbers, Numbers, &[u8])] = &[
-    ((&[5], &[1], 1), (&[5], &[1], 0), &[0, 0, 1, 2, 3, 4]),
-    ((&[5], &[1], 0), (&[5], &[1], 1), &[1, 2, 3, 4, 5, 5]),
-    ((&[5], &[-1], 5), (&[5], &[-1], 4), &[0, 0, 1, 2, 3, 4]),
-    ((&[3], &[2], 0), (&[3], &[2], 1), &[1, 1, 3, 3, 5, 5]),
-    ((&[3], &[2], 0), (&[3], &[-2], 5), &[5, 1, 3, 3, 1, 5]),
-    ((&[6], &[1], 0), (&[6], &[-1], 5), &[5, 4, 3, 2, 1, 0]),
-    (
-        (&[2, 2], &[2, 1], 0),
-        (&[2, 2], &[1, 2], 0),
-        &[0, 2, 1, 3, 4, 5],
-    ),
-    (
-        (&[2, 3], &[3, 1], 0),
-        (&[2, 3], &[0, 1], 3),
-        &[3, 4, 5, 3, 4, 5],
-    ),
-    ((&[3], &[1], 0), (&[3], &[0], 5), &[5, 5, 5, 3, 4, 5]),
+const ROWS: &[(Numbers, Numbers, &str)] = &[
+    ((&[5], &[1], 1), (&[5], &[1], 0), "001234"),
+    ((&[5], &[1], 0), (&[5], &[1], 1), "123455"),
+    ((&[5], &[-1], 5), (&[5], &[-1], 4), "001234"),
+    ((&[3], &[2], 0), (&[3], &[2], 1), "113355"),
+    ((&[3], &[2], 0), (&[3], &[-2], 5), "513315"),
+    ((&[6], &[1], 0), (&[6], &[-1], 5), "543210"),
+    ((&[2, 2], &[2, 1], 0), (&[2, 2], &[1, 2], 0), "021345"),
+    ((&[2, 3], &[3, 1], 0), (&[2, 3], &[0, 1], 3), "345345"),
+    ((&[3], &[1], 0), (&[3], &[0], 5), "555345"),
 ];
 
 /// The block's bytes once the items of one layout have become those of another.
@@ -48,13 +46,13 @@ fn items_become_others_of_their_block(rt: HostRuntime) {
         let to = layout_of(&rt, rt.alloc(), *to);
         let from = layout_of(&rt, rt.alloc(), *from);
         let block = assigned(&rt, rt.alloc(), &to, &from);
-        check_bytes(&rt, block.bytes(), wanted);
+        has_digits(&rt, rt.alloc(), &block, wanted);
     }
 }
 
 /// Items to write and items to read, of which none has a byte in common with the others, and what
 /// becomes of the bytes 0 to 15.
-const APART: &[(Numbers, Numbers, &[u8])] = &[
+const APART: &[(Numbers, Numbers, &str)] = &[
     (
         (
             &[2, 1, 1, 1, 2, 1, 1, 1, 2],
@@ -66,7 +64,7 @@ const APART: &[(Numbers, Numbers, &[u8])] = &[
             &[2, 5, 5, 5, 4, 5, 5, 5, 8],
             1,
         ),
-        &[1, 1, 9, 3, 5, 5, 13, 7, 3, 9, 11, 11, 7, 13, 15, 15],
+        "119355d739bb7dff",
     ),
     (
         (
@@ -79,13 +77,9 @@ const APART: &[(Numbers, Numbers, &[u8])] = &[
             &[-1, 5, 5, 5, 2, 5, 5, 5, 4],
             9,
         ),
-        &[9, 13, 11, 15, 8, 12, 10, 14, 8, 9, 10, 11, 12, 13, 14, 15],
+        "9dbf8cae89abcdef",
     ),
-    (
-        (&[4], &[4], 1),
-        (&[4], &[-4], 14),
-        &[0, 14, 2, 3, 4, 10, 6, 7, 8, 6, 10, 11, 12, 2, 14, 15],
-    ),
+    ((&[4], &[4], 1), (&[4], &[-4], 14), "0e234a6786abc2ef"),
 ];
 
 /// A block with the bytes 0 to 15.
@@ -118,83 +112,29 @@ fn items_that_are_apart_are_assigned_without_memory(rt: HostRuntime) {
         let to = layout_of(&rt, rt.alloc(), *to);
         let from = layout_of(&rt, rt.alloc(), *from);
         let block = assigned_apart(&rt, rt.alloc(), &to, &from);
-        check_bytes(&rt, block.bytes(), wanted);
+        has_digits(&rt, rt.alloc(), &block, wanted);
     }
 }
 
 /// The lengths and strides of two layouts, where the one to write begins and the one to read, and
 /// what becomes of the bytes 0 to 15.
-const SHIFTS: &[(&[usize], &[isize], usize, usize, &[u8])] = &[
-    (
-        &[3, 3],
-        &[4, 1],
-        5,
-        0,
-        &[0, 1, 2, 3, 4, 0, 1, 2, 8, 4, 5, 6, 12, 8, 9, 10],
-    ),
-    (
-        &[3, 4],
-        &[-4, 1],
-        8,
-        12,
-        &[4, 5, 6, 7, 8, 9, 10, 11, 12, 13, 14, 15, 12, 13, 14, 15],
-    ),
-    (
-        &[3, 4],
-        &[-4, 1],
-        12,
-        8,
-        &[0, 1, 2, 3, 0, 1, 2, 3, 4, 5, 6, 7, 8, 9, 10, 11],
-    ),
-    (
-        &[3, 3],
-        &[1, 4],
-        0,
-        5,
-        &[5, 6, 7, 3, 9, 10, 11, 7, 13, 14, 15, 11, 12, 13, 14, 15],
-    ),
-    (
-        &[3, 3],
-        &[-4, -1],
-        15,
-        10,
-        &[0, 1, 2, 3, 4, 0, 1, 2, 8, 4, 5, 6, 12, 8, 9, 10],
-    ),
-    (
-        &[2, 3],
-        &[8, 2],
-        2,
-        0,
-        &[0, 1, 0, 3, 2, 5, 4, 7, 8, 9, 8, 11, 10, 13, 12, 15],
-    ),
+const SHIFTS: &[(&[usize], &[isize], usize, usize, &str)] = &[
+    (&[3, 3], &[4, 1], 5, 0, "012340128456c89a"),
+    (&[3, 4], &[-4, 1], 8, 12, "456789abcdefcdef"),
+    (&[3, 4], &[-4, 1], 12, 8, "01230123456789ab"),
+    (&[3, 3], &[1, 4], 0, 5, "56739ab7defbcdef"),
+    (&[3, 3], &[-4, -1], 15, 10, "012340128456c89a"),
+    (&[2, 3], &[8, 2], 2, 0, "01032547898badcf"),
     (
         &[2, 1, 1, 1, 2, 1, 1, 1, 2],
         &[1, 99, -99, 0, 4, 7, 7, 7, 8],
         1,
         0,
-        &[0, 0, 1, 3, 4, 4, 5, 7, 8, 8, 9, 11, 12, 12, 13, 15],
+        "00134457889bccdf",
     ),
-    (
-        &[15],
-        &[1],
-        1,
-        0,
-        &[0, 0, 1, 2, 3, 4, 5, 6, 7, 8, 9, 10, 11, 12, 13, 14],
-    ),
-    (
-        &[],
-        &[],
-        3,
-        9,
-        &[0, 1, 2, 9, 4, 5, 6, 7, 8, 9, 10, 11, 12, 13, 14, 15],
-    ),
-    (
-        &[0, 4],
-        &[4, 1],
-        9,
-        0,
-        &[0, 1, 2, 3, 4, 5, 6, 7, 8, 9, 10, 11, 12, 13, 14, 15],
-    ),
+    (&[15], &[1], 1, 0, "00123456789abcde"),
+    (&[], &[], 3, 9, "0129456789abcdef"),
+    (&[0, 4], &[4, 1], 9, 0, "0123456789abcdef"),
 ];
 
 /// The block's bytes once the items of one layout have become those of another, some bytes further
@@ -213,16 +153,16 @@ fn items_become_those_further_on_or_back(rt: HostRuntime) {
         let to = layout_of(&rt, rt.alloc(), (*lengths, *strides, *to));
         let from = layout_of(&rt, rt.alloc(), (*lengths, *strides, *from));
         let block = shifted(&rt, rt.alloc(), &to, &from);
-        check_bytes(&rt, block.bytes(), wanted);
+        has_digits(&rt, rt.alloc(), &block, wanted);
     }
 }
 
 /// Items of the bytes 0 to 15, and their bytes one after another.
-const GATHERED: &[(Numbers, &[u8])] = &[
-    ((&[2, 3], &[3, 1], 4), &[4, 5, 6, 7, 8, 9]),
-    ((&[2, 2], &[-8, 3], 9), &[9, 12, 1, 4]),
-    ((&[], &[], 15), &[15]),
-    ((&[0, 4], &[4, 1], 9), &[]),
+const GATHERED: &[(Numbers, &str)] = &[
+    ((&[2, 3], &[3, 1], 4), "456789"),
+    ((&[2, 2], &[-8, 3], 9), "9c14"),
+    ((&[], &[], 15), "f"),
+    ((&[0, 4], &[4, 1], 9), ""),
 ];
 
 fn gathered(rt: &impl Abort, alloc: Global, from: &Layout) -> RawBlock {
@@ -235,6 +175,6 @@ fn items_are_gathered_one_after_another(rt: HostRuntime) {
     for (from, wanted) in GATHERED {
         let from = layout_of(&rt, rt.alloc(), *from);
         let items = gathered(&rt, rt.alloc(), &from);
-        check_bytes(&rt, items.bytes(), wanted);
+        has_digits(&rt, rt.alloc(), &items, wanted);
     }
 }

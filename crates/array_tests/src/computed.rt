@@ -1,30 +1,76 @@
-//! Operations, comparisons and reductions, as NumPy has them.
+//! Operations, comparisons and reductions of arrays, as NumPy has them. A row is a word of the language, what it is
+//! given and what it gives, an array or a refusal. An array is its element type, its lengths, and its bytes in base 16.
 ghost use Rattle.std.specs.Prelude.{◌+◌, ◌≤◌, length, All};
 ghost use Rattle.elem_descr.specs.Items.{item_size};
 ghost use Rattle.shape_strides.specs.Layouts.{offsets};
 
+use crate::basic_indexes::{axes, bound, number};
 use crate::check::{check, check_bytes};
-use crate::made::array_of;
+use crate::made::{array_of, hex, part};
 use broadcasting::stretch;
 use elem_descr::{Refusal, descr_read};
 use elementwise::{Items, apply1, apply2, compare, compare_bytes, compare_integer, scalar_of};
 use machine_numbers::{BinOp, Comparison, Red, UnOp};
 use overlap_copy::Owned;
 use reductions::reduce;
-use shape_strides::Shape;
+use shape_strides::{Layout, Shape};
 use std::alloc::Global;
 use std::process::Abort;
 
-/// An array in C order: its element type, its lengths and its bytes.
-type Given = (&'static str, &'static [usize], &'static [u8]);
+const BINARIES: &[(&str, BinOp)] = &[
+    ("add", BinOp::Add),
+    ("sub", BinOp::Subtract),
+    ("mul", BinOp::Multiply),
+    ("fdiv", BinOp::FloorDivide),
+    ("mod", BinOp::Modulo),
+    ("and", BinOp::And),
+    ("or", BinOp::Or),
+    ("xor", BinOp::Xor),
+    ("shl", BinOp::ShiftLeft),
+    ("shr", BinOp::ShiftRight),
+    ("div", BinOp::Divide),
+];
 
-/// What a call gives: an array, or the refusal.
-type Wanted = Result<Given, Refusal>;
+const UNARIES: &[(&str, UnOp)] = &[("neg", UnOp::Negate), ("not", UnOp::Invert)];
 
-fn given(rt: &impl Abort, alloc: Global, array: Given) -> Owned {
-    let (descr, lengths, bytes) = array;
+const COMPARISONS: &[(&str, Comparison)] = &[
+    ("eq", Comparison::Equal),
+    ("ne", Comparison::NotEqual),
+    ("lt", Comparison::Less),
+    ("le", Comparison::LessOrEqual),
+    ("gt", Comparison::Greater),
+    ("ge", Comparison::GreaterOrEqual),
+];
+
+const REDUCTIONS: &[(&str, Red)] = &[
+    ("sum", Red::Sum),
+    ("prod", Red::Product),
+    ("min", Red::Minimum),
+    ("max", Red::Maximum),
+    ("any", Red::Any),
+    ("all", Red::All),
+    ("argmin", Red::ArgMin),
+    ("argmax", Red::ArgMax),
+];
+
+/// What stands beside a word.
+fn named<T: Copy>(rt: &impl Abort, table: &[(&str, T)], word: &str) -> T {
+    let mut found = None;
+    for (name, value) in table {
+        if *name == word {
+            found = Some(*value);
+        }
+    }
+    found.expect(rt, "an unknown word")
+}
+
+fn array(rt: &impl Abort, alloc: Global, text: &str) -> Owned {
+    let (front, bytes) = text.split_once(" =").expect(rt, "no array");
+    let (descr, lengths) = front.split_once(' ').unwrap_or((front, ""));
     let descr = descr_read(alloc, descr.as_bytes()).expect(rt, "no element type");
-    array_of(rt, alloc, descr, lengths, bytes)
+    let lengths = axes(rt, alloc, lengths);
+    let bytes = hex(rt, alloc, bytes.trim());
+    array_of(rt, alloc, descr, lengths.as_slice(), bytes.as_slice())
 }
 
 fn items(owned: &Owned) -> Items<'_>
@@ -33,9 +79,8 @@ fn items(owned: &Owned) -> Items<'_>
     owned.items()
 }
 
-/// The array has this element type, these lengths and these bytes.
-fn is_array(rt: &impl Abort, alloc: Global, made: &Owned, wanted: Given) {
-    let wanted = given(rt, alloc, wanted);
+fn is_array(rt: &impl Abort, alloc: Global, made: &Owned, wanted: &str) {
+    let wanted = array(rt, alloc, wanted);
     let scalar = scalar_of(&made.descr).expect(rt, "a record");
     let wanted_scalar = scalar_of(&wanted.descr).expect(rt, "a record");
     check(rt, scalar == wanted_scalar, "the element type");
@@ -44,473 +89,249 @@ fn is_array(rt: &impl Abort, alloc: Global, made: &Owned, wanted: Given) {
     check_bytes(rt, made.block.bytes(), wanted.block.bytes());
 }
 
-/// This was given.
-fn gives(rt: &impl Abort, alloc: Global, made: &Result<Owned, Refusal>, wanted: Wanted) {
-    match (made, wanted) {
-        (Ok(made), Ok(wanted)) => is_array(rt, alloc, made, wanted),
-        (Err(refusal), Err(wanted)) => check(rt, *refusal == wanted, "the refusal"),
-        _ => check(rt, false, "given or refused"),
+/// This array was given, or this refusal.
+fn gives(rt: &impl Abort, alloc: Global, made: &Result<Owned, Refusal>, wanted: &str) {
+    match made {
+        Ok(made) => is_array(rt, alloc, made, wanted),
+        Err(refusal) => check(rt, refusal.reply() == wanted, "the refusal"),
     }
 }
 
 /// Sums that wrap, quotients and rests of numbers below 0 and by 0, shifts of all bits, two kinds, two
 /// orders of bytes, and two shapes.
-const BINARY: &[(BinOp, Given, Given, Wanted)] = &[
-    (
-        BinOp::Add,
-        ("|u1", &[2], b"\xfa\x05"),
-        ("|u1", &[2], b"\x0a\x05"),
-        Ok(("|u1", &[2], b"\x04\x0a")),
-    ),
-    (
-        BinOp::Add,
-        ("<i2", &[2, 1], b"\x01\x00\x02\x00"),
-        ("|i1", &[3], b"\x0a\x14\x1e"),
-        Ok((
-            "<i2",
-            &[2, 3],
-            b"\x0b\x00\x15\x00\x1f\x00\x0c\x00\x16\x00\x20\x00",
-        )),
-    ),
-    (
-        BinOp::Subtract,
-        ("<i2", &[2], b"\x2c\x01\xff\xff"),
-        ("|u1", &[2], b"\x01\xff"),
-        Ok(("<i2", &[2], b"\x2b\x01\x00\xff")),
-    ),
-    (
-        BinOp::Multiply,
-        (">i4", &[1], b"\x00\x01\x86\xa0"),
-        ("|i1", &[], b"\xfd"),
-        Ok(("<i4", &[1], b"\x20\x6c\xfb\xff")),
-    ),
-    (
-        BinOp::FloorDivide,
-        ("|i1", &[3], b"\xf9\x07\x05"),
-        ("|i1", &[3], b"\x02\xfe\x00"),
-        Ok(("|i1", &[3], b"\xfc\xfc\x00")),
-    ),
-    (
-        BinOp::Modulo,
-        ("|i1", &[3], b"\xf9\x07\x05"),
-        ("|i1", &[3], b"\x02\xfe\x00"),
-        Ok(("|i1", &[3], b"\x01\xff\x00")),
-    ),
-    (
-        BinOp::And,
-        ("|b1", &[3], b"\x01\x01\x00"),
-        ("|b1", &[3], b"\x01\x00\x00"),
-        Ok(("|b1", &[3], b"\x01\x00\x00")),
-    ),
-    (
-        BinOp::Or,
-        ("|u1", &[1], b"\x0f"),
-        ("|u1", &[1], b"\x30"),
-        Ok(("|u1", &[1], b"\x3f")),
-    ),
-    (
-        BinOp::Xor,
-        ("|i1", &[2], b"\xff\x05"),
-        ("|u1", &[2], b"\x01\x01"),
-        Ok(("<i2", &[2], b"\xfe\xff\x04\x00")),
-    ),
-    (
-        BinOp::ShiftLeft,
-        ("|u1", &[3], b"\x01\x03\x01"),
-        ("|u1", &[3], b"\x07\x07\x08"),
-        Ok(("|u1", &[3], b"\x80\x80\x00")),
-    ),
-    (
-        BinOp::ShiftRight,
-        ("|i1", &[3], b"\x80\x7f\x80"),
-        ("|i1", &[3], b"\x03\x01\x08"),
-        Ok(("|i1", &[3], b"\xf0\x3f\xff")),
-    ),
-    (
-        BinOp::Divide,
-        ("|i1", &[1], b"\x06"),
-        ("|i1", &[1], b"\x03"),
-        Err(Refusal::NeedsFloats),
-    ),
-    (
-        BinOp::Add,
-        ("|S1", &[1], b"a"),
-        ("|S1", &[1], b"b"),
-        Err(Refusal::NotForThisKind),
-    ),
-    (
-        BinOp::Add,
-        ("|u1", &[2], b"\x01\x02"),
-        ("|u1", &[3], b"\x01\x02\x03"),
-        Err(Refusal::ShapesDoNotBroadcast),
-    ),
+const BINARY: &[&str] = &[
+    "add; |u1 2 = fa05; |u1 2 = 0a05; |u1 2 = 040a",
+    "add; <i2 2 1 = 01000200; |i1 3 = 0a141e; <i2 2 3 = 0b0015001f000c0016002000",
+    "sub; <i2 2 = 2c01ffff; |u1 2 = 01ff; <i2 2 = 2b0100ff",
+    "mul; >i4 1 = 000186a0; |i1 = fd; <i4 1 = 206cfbff",
+    "fdiv; |i1 3 = f90705; |i1 3 = 02fe00; |i1 3 = fcfc00",
+    "mod; |i1 3 = f90705; |i1 3 = 02fe00; |i1 3 = 01ff00",
+    "and; |b1 3 = 010100; |b1 3 = 010000; |b1 3 = 010000",
+    "or; |u1 1 = 0f; |u1 1 = 30; |u1 1 = 3f",
+    "xor; |i1 2 = ff05; |u1 2 = 0101; <i2 2 = feff0400",
+    "shl; |u1 3 = 010301; |u1 3 = 070708; |u1 3 = 808000",
+    "shr; |i1 3 = 807f80; |i1 3 = 030108; |i1 3 = f03fff",
+    "div; |i1 1 = 06; |i1 1 = 03; no E21 needs floats",
+    "add; |S1 1 = 61; |S1 1 = 62; no E22 not for this kind",
+    "add; |u1 2 = 0102; |u1 3 = 010203; no E16 shapes do not broadcast",
 ];
+
+fn operation(rt: &impl Abort, alloc: Global, row: &str) {
+    let (word, rest) = part(rt, row);
+    let (left, rest) = part(rt, rest);
+    let (right, wanted) = part(rt, rest);
+    let left = array(rt, alloc, left);
+    let right = array(rt, alloc, right);
+    let operation = named(rt, BINARIES, word);
+    let made = apply2(alloc, operation, items(&left), items(&right));
+    gives(rt, alloc, &made, wanted);
+}
 
 #[test]
 fn operations(rt: HostRuntime) {
-    for (operation, left, right, wanted) in BINARY {
-        let left = given(&rt, rt.alloc(), *left);
-        let right = given(&rt, rt.alloc(), *right);
-        let made = apply2(rt.alloc(), *operation, items(&left), items(&right));
-        gives(&rt, rt.alloc(), &made, *wanted);
+    for row in BINARY {
+        operation(&rt, rt.alloc(), row);
     }
 }
 
 /// The lowest number has no negative, bools are inverted as such, and bytes get in order.
-const UNARY: &[(UnOp, Given, Wanted)] = &[
-    (
-        UnOp::Negate,
-        ("|i1", &[2], b"\x80\x05"),
-        Ok(("|i1", &[2], b"\x80\xfb")),
-    ),
-    (
-        UnOp::Invert,
-        ("|b1", &[2], b"\x01\x00"),
-        Ok(("|b1", &[2], b"\x00\x01")),
-    ),
-    (
-        UnOp::Invert,
-        (">u2", &[1, 2], b"\x00\x00\x00\xff"),
-        Ok(("<u2", &[1, 2], b"\xff\xff\x00\xff")),
-    ),
-    (
-        UnOp::Negate,
-        ("|b1", &[1], b"\x01"),
-        Err(Refusal::NotForThisKind),
-    ),
+const UNARY: &[&str] = &[
+    "neg; |i1 2 = 8005; |i1 2 = 80fb",
+    "not; |b1 2 = 0100; |b1 2 = 0001",
+    "not; >u2 1 2 = 000000ff; <u2 1 2 = ffff00ff",
+    "neg; |b1 1 = 01; no E22 not for this kind",
 ];
+
+fn operation_of_one(rt: &impl Abort, alloc: Global, row: &str) {
+    let (word, rest) = part(rt, row);
+    let (operand, wanted) = part(rt, rest);
+    let operand = array(rt, alloc, operand);
+    let made = apply1(alloc, named(rt, UNARIES, word), items(&operand));
+    gives(rt, alloc, &made, wanted);
+}
 
 #[test]
 fn operations_of_one(rt: HostRuntime) {
-    for (operation, operand, wanted) in UNARY {
-        let operand = given(&rt, rt.alloc(), *operand);
-        let made = apply1(rt.alloc(), *operation, items(&operand));
-        gives(&rt, rt.alloc(), &made, *wanted);
+    for row in UNARY {
+        operation_of_one(&rt, rt.alloc(), row);
     }
 }
 
-/// -1 and 5, 2^64 - 1 and 5.
-const SIGNED: Given = (
-    "<i8",
-    &[2],
-    b"\xff\xff\xff\xff\xff\xff\xff\xff\x05\x00\x00\x00\x00\x00\x00\x00",
-);
-
-const UNSIGNED: Given = (
-    "<u8",
-    &[2],
-    b"\xff\xff\xff\xff\xff\xff\xff\xff\x05\x00\x00\x00\x00\x00\x00\x00",
-);
-
 /// Numbers by value, whatever their kinds; byte strings without their NULs at the end, by bytes without
 /// sign, and the shorter one first.
-const COMPARED: &[(Comparison, Given, Given, Wanted)] = &[
-    (
-        Comparison::Less,
-        SIGNED,
-        UNSIGNED,
-        Ok(("|b1", &[2], b"\x01\x00")),
-    ),
-    (
-        Comparison::Equal,
-        UNSIGNED,
-        SIGNED,
-        Ok(("|b1", &[2], b"\x00\x01")),
-    ),
-    (
-        Comparison::NotEqual,
-        ("|b1", &[2], b"\x01\x00"),
-        (">i2", &[2], b"\x00\x01\x01\x00"),
-        Ok(("|b1", &[2], b"\x00\x01")),
-    ),
-    (
-        Comparison::GreaterOrEqual,
-        ("|u1", &[2, 1], b"\x01\x03"),
-        ("|u1", &[3], b"\x00\x02\x03"),
-        Ok(("|b1", &[2, 3], b"\x01\x00\x00\x01\x01\x01")),
-    ),
-    (
-        Comparison::Equal,
-        ("|S4", &[2], b"ab\x00\x00abc\x00"),
-        ("|S2", &[2], b"abab"),
-        Ok(("|b1", &[2], b"\x01\x00")),
-    ),
-    (
-        Comparison::Less,
-        ("|S2", &[3], b"a\x00ab\x7f\x00"),
-        ("|S3", &[3], b"ab\x00a\x00\x00\xff\x00\x00"),
-        Ok(("|b1", &[3], b"\x01\x00\x01")),
-    ),
-    (
-        Comparison::Greater,
-        ("|S3", &[], b"a\x00b"),
-        ("|S1", &[1], b"a"),
-        Ok(("|b1", &[1], b"\x01")),
-    ),
-    (
-        Comparison::LessOrEqual,
-        ("|S1", &[2], b"ab"),
-        ("|S1", &[], b"a"),
-        Ok(("|b1", &[2], b"\x01\x00")),
-    ),
-    (
-        Comparison::Equal,
-        ("|u1", &[1], b"a"),
-        ("|S1", &[1], b"a"),
-        Err(Refusal::NotForThisKind),
-    ),
-    (
-        Comparison::Equal,
-        ("|S1", &[2], b"ab"),
-        ("|S1", &[3], b"abc"),
-        Err(Refusal::ShapesDoNotBroadcast),
-    ),
+const COMPARED: &[&str] = &[
+    "lt; <i8 2 = ffffffffffffffff0500000000000000; <u8 2 = ffffffffffffffff0500000000000000; |b1 2 = 0100",
+    "eq; <u8 2 = ffffffffffffffff0500000000000000; <i8 2 = ffffffffffffffff0500000000000000; |b1 2 = 0001",
+    "ne; |b1 2 = 0100; >i2 2 = 00010100; |b1 2 = 0001",
+    "ge; |u1 2 1 = 0103; |u1 3 = 000203; |b1 2 3 = 010000010101",
+    "eq; |S4 2 = 6162000061626300; |S2 2 = 61626162; |b1 2 = 0100",
+    "lt; |S2 3 = 610061627f00; |S3 3 = 616200610000ff0000; |b1 3 = 010001",
+    "gt; |S3 = 610062; |S1 1 = 61; |b1 1 = 01",
+    "le; |S1 2 = 6162; |S1 = 61; |b1 2 = 0100",
+    "eq; |u1 1 = 61; |S1 1 = 61; no E22 not for this kind",
+    "eq; |S1 2 = 6162; |S1 3 = 616263; no E16 shapes do not broadcast",
 ];
+
+fn comparison(rt: &impl Abort, alloc: Global, row: &str) {
+    let (word, rest) = part(rt, row);
+    let (left, rest) = part(rt, rest);
+    let (right, wanted) = part(rt, rest);
+    let left = array(rt, alloc, left);
+    let right = array(rt, alloc, right);
+    let comparison = named(rt, COMPARISONS, word);
+    let made = compare(alloc, comparison, items(&left), items(&right));
+    gives(rt, alloc, &made, wanted);
+}
 
 #[test]
 fn comparisons(rt: HostRuntime) {
-    for (comparison, left, right, wanted) in COMPARED {
-        let left = given(&rt, rt.alloc(), *left);
-        let right = given(&rt, rt.alloc(), *right);
-        let made = compare(rt.alloc(), *comparison, items(&left), items(&right));
-        gives(&rt, rt.alloc(), &made, *wanted);
+    for row in COMPARED {
+        comparison(&rt, rt.alloc(), row);
     }
 }
 
 /// Arrays that are stretched to a shape first, with NULs behind byte strings of other lengths.
-const STRETCHED: &[(Comparison, Given, &[usize], Given, Wanted)] = &[
-    (
-        Comparison::Equal,
-        ("|S4", &[1], b"ab\x00\x00"),
-        &[2, 3],
-        ("|S3", &[3], b"ab\x00abca\x00\x00"),
-        Ok(("|b1", &[2, 3], b"\x01\x00\x00\x01\x00\x00")),
-    ),
-    (
-        Comparison::Less,
-        (
-            "|S20",
-            &[],
-            b"abcdefgh\x00\x00\x00\x00\x00\x00\x00\x00\x00\x00\x00\x00",
-        ),
-        &[2, 1],
-        ("|S9", &[3], b"abcdefgh\x00abcdefgi\x00abcdefghz"),
-        Ok(("|b1", &[2, 3], b"\x00\x01\x01\x00\x01\x01")),
-    ),
-    (
-        Comparison::GreaterOrEqual,
-        ("<i2", &[2, 1], b"\x05\x00\xfb\xff"),
-        &[2, 3],
-        ("|u1", &[1, 1], b"\x05"),
-        Ok(("|b1", &[2, 3], b"\x01\x01\x01\x00\x00\x00")),
-    ),
+const STRETCHED: &[&str] = &[
+    "eq; |S4 1 = 61620000; 2 3; |S3 3 = 616200616263610000; |b1 2 3 = 010000010000",
+    "lt; |S20 = 6162636465666768000000000000000000000000; 2 1; |S9 3 = 61626364656667680061626364656667690061626364656667687a; |b1 2 3 = 000101000101",
+    "ge; <i2 2 1 = 0500fbff; 2 3; |u1 1 1 = 05; |b1 2 3 = 010101000000",
 ];
+
+/// The layout of an array in a larger shape, whose items lie in its block.
+fn stretched(rt: &impl Abort, alloc: Global, owned: &Owned, lengths: &str) -> Layout
+    ensures { All (λ offset. offset + item_size owned.now.descr ≤ length owned.now.block) (offsets result) }
+{
+    let lengths = axes(rt, alloc, lengths);
+    let shape = Shape::try_new(alloc, lengths.as_slice()).expect(rt, "no shape");
+    let wide = stretch(alloc, &owned.layout, &shape).expect(rt, "not stretched");
+    check(
+        rt,
+        wide.fits(owned.block.len(), owned.descr.size()),
+        "inside",
+    );
+    wide
+}
+
+fn stretched_items<'a>(owned: &'a Owned, layout: &'a Layout) -> Items<'a>
+    requires { All (λ offset. offset + item_size owned.now.descr ≤ length owned.now.block) (offsets layout.now) }
+    ensures { All (λ offset. offset + item_size result.descr.now ≤ length result.block.now) (offsets result.layout.now) }
+{
+    Items {
+        block: &owned.block,
+        layout,
+        descr: &owned.descr,
+    }
+}
+
+fn stretched_comparison(rt: &impl Abort, alloc: Global, row: &str) {
+    let (word, rest) = part(rt, row);
+    let (left, rest) = part(rt, rest);
+    let (lengths, rest) = part(rt, rest);
+    let (right, wanted) = part(rt, rest);
+    let left = array(rt, alloc, left);
+    let right = array(rt, alloc, right);
+    let wide = stretched(rt, alloc, &left, lengths);
+    let comparison = named(rt, COMPARISONS, word);
+    let made = compare(
+        alloc,
+        comparison,
+        stretched_items(&left, &wide),
+        items(&right),
+    );
+    gives(rt, alloc, &made, wanted);
+}
 
 #[test]
 fn comparisons_of_stretched_arrays(rt: HostRuntime) {
-    for (comparison, left, lengths, right, wanted) in STRETCHED {
-        let left = given(&rt, rt.alloc(), *left);
-        let right = given(&rt, rt.alloc(), *right);
-        let shape = Shape::try_new(rt.alloc(), *lengths).expect(&rt, "no shape");
-        let wide = stretch(rt.alloc(), &left.layout, &shape).expect(&rt, "not stretched");
-        check(
-            &rt,
-            wide.fits(left.block.len(), left.descr.size()),
-            "inside",
-        );
-        let operand = Items {
-            block: &left.block,
-            layout: &wide,
-            descr: &left.descr,
-        };
-        let made = compare(rt.alloc(), *comparison, operand, items(&right));
-        gives(&rt, rt.alloc(), &made, *wanted);
+    for row in STRETCHED {
+        stretched_comparison(&rt, rt.alloc(), row);
     }
 }
 
 /// Comparisons of byte strings, in an array and stretched from it, with bytes that NULs end.
 #[test]
 fn comparisons_with_bytes(rt: HostRuntime) {
-    let texts = given(&rt, rt.alloc(), ("|S3", &[2, 1], b"ab\x00abc"));
+    let texts = array(&rt, rt.alloc(), "|S3 2 1 = 616200616263");
     let made = compare_bytes(rt.alloc(), Comparison::Equal, items(&texts), b"ab\x00\x00");
-    gives(&rt, rt.alloc(), &made, Ok(("|b1", &[2, 1], b"\x01\x00")));
-    let shape = Shape::try_new(rt.alloc(), &[2, 2]).expect(&rt, "no shape");
-    let wide = stretch(rt.alloc(), &texts.layout, &shape).expect(&rt, "not stretched");
-    check(
-        &rt,
-        wide.fits(texts.block.len(), texts.descr.size()),
-        "inside",
-    );
-    let operand = Items {
-        block: &texts.block,
-        layout: &wide,
-        descr: &texts.descr,
-    };
+    gives(&rt, rt.alloc(), &made, "|b1 2 1 = 0100");
+    let wide = stretched(&rt, rt.alloc(), &texts, "2 2");
+    let operand = stretched_items(&texts, &wide);
     let made = compare_bytes(rt.alloc(), Comparison::Greater, operand, b"ab");
-    gives(
-        &rt,
-        rt.alloc(),
-        &made,
-        Ok(("|b1", &[2, 2], b"\x00\x00\x01\x01")),
-    );
+    gives(&rt, rt.alloc(), &made, "|b1 2 2 = 00000101");
 }
 
 /// Integers that the type has, and others just beyond it and far from it.
-const COMPARED_INTEGERS: &[(Comparison, Given, i128, Wanted)] = &[
-    (
-        Comparison::Equal,
-        ("|u1", &[2], b"\x00\xff"),
-        255,
-        Ok(("|b1", &[2], b"\x00\x01")),
-    ),
-    (
-        Comparison::GreaterOrEqual,
-        (">i2", &[1, 3], b"\xff\xff\x01\x2c\xff\xfe"),
-        -1,
-        Ok(("|b1", &[1, 3], b"\x01\x01\x00")),
-    ),
-    (
-        Comparison::NotEqual,
-        ("|b1", &[2], b"\x01\x00"),
-        1,
-        Ok(("|b1", &[2], b"\x00\x01")),
-    ),
-    (
-        Comparison::Less,
-        ("|i1", &[2], b"\x80\x7f"),
-        128,
-        Ok(("|b1", &[2], b"\x01\x01")),
-    ),
-    (
-        Comparison::LessOrEqual,
-        UNSIGNED,
-        -1,
-        Ok(("|b1", &[2], b"\x00\x00")),
-    ),
-    (
-        Comparison::Less,
-        SIGNED,
-        123_456_789_012_345_678_901_234_567_890,
-        Ok(("|b1", &[2], b"\x01\x01")),
-    ),
-    (
-        Comparison::Greater,
-        UNSIGNED,
-        -123_456_789_012_345_678_901_234_567_890,
-        Ok(("|b1", &[2], b"\x01\x01")),
-    ),
-    (
-        Comparison::Equal,
-        ("|S1", &[1], b"1"),
-        1,
-        Err(Refusal::NotForThisKind),
-    ),
+const COMPARED_INTEGERS: &[&str] = &[
+    "eq; |u1 2 = 00ff; 255; |b1 2 = 0001",
+    "ge; >i2 1 3 = ffff012cfffe; -1; |b1 1 3 = 010100",
+    "ne; |b1 2 = 0100; 1; |b1 2 = 0001",
+    "lt; |i1 2 = 807f; 128; |b1 2 = 0101",
+    "le; <u8 2 = ffffffffffffffff0500000000000000; -1; |b1 2 = 0000",
+    "lt; <i8 2 = ffffffffffffffff0500000000000000; 123456789012345678901234567890; |b1 2 = 0101",
+    "gt; <u8 2 = ffffffffffffffff0500000000000000; -123456789012345678901234567890; |b1 2 = 0101",
+    "eq; |S1 1 = 31; 1; no E22 not for this kind",
 ];
+
+fn comparison_with_integer(rt: &impl Abort, alloc: Global, row: &str) {
+    let (word, rest) = part(rt, row);
+    let (operand, rest) = part(rt, rest);
+    let (integer, wanted) = part(rt, rest);
+    let operand = array(rt, alloc, operand);
+    let comparison = named(rt, COMPARISONS, word);
+    let made = compare_integer(alloc, comparison, items(&operand), number(rt, integer));
+    gives(rt, alloc, &made, wanted);
+}
 
 #[test]
 fn comparisons_with_integers(rt: HostRuntime) {
-    for (comparison, operand, integer, wanted) in COMPARED_INTEGERS {
-        let operand = given(&rt, rt.alloc(), *operand);
-        let made = compare_integer(rt.alloc(), *comparison, items(&operand), *integer);
-        gives(&rt, rt.alloc(), &made, *wanted);
+    for row in COMPARED_INTEGERS {
+        comparison_with_integer(&rt, rt.alloc(), row);
     }
 }
 
-/// 1, -2, 3 and 4, 5, -6.
-const GRID: Given = ("|i1", &[2, 3], b"\x01\xfe\x03\x04\x05\xfa");
-
 /// Each word, of all items and along an axis.
-const REDUCED: &[(Red, Given, Option<i128>, bool, Wanted)] = &[
-    (
-        Red::Sum,
-        ("|u1", &[2], b"\xc8\x64"),
-        None,
-        false,
-        Ok(("<u8", &[], b"\x2c\x01\x00\x00\x00\x00\x00\x00")),
-    ),
-    (
-        Red::Sum,
-        GRID,
-        Some(1),
-        true,
-        Ok((
-            "<i8",
-            &[2, 1],
-            b"\x02\x00\x00\x00\x00\x00\x00\x00\x03\x00\x00\x00\x00\x00\x00\x00",
-        )),
-    ),
-    (
-        Red::Product,
-        GRID,
-        None,
-        false,
-        Ok(("<i8", &[], b"\xd0\x02\x00\x00\x00\x00\x00\x00")),
-    ),
-    (
-        Red::Minimum,
-        GRID,
-        None,
-        true,
-        Ok(("|i1", &[1, 1], b"\xfa")),
-    ),
-    (
-        Red::Maximum,
-        GRID,
-        Some(-2),
-        false,
-        Ok(("|i1", &[3], b"\x04\x05\x03")),
-    ),
-    (
-        Red::Any,
-        ("<u2", &[2, 2], b"\x00\x00\x00\x01\x00\x00\x00\x00"),
-        Some(1),
-        false,
-        Ok(("|b1", &[2], b"\x01\x00")),
-    ),
-    (Red::All, GRID, None, false, Ok(("|b1", &[], b"\x01"))),
-    (
-        Red::ArgMin,
-        GRID,
-        None,
-        false,
-        Ok(("<i8", &[], b"\x05\x00\x00\x00\x00\x00\x00\x00")),
-    ),
-    (
-        Red::ArgMax,
-        GRID,
-        None,
-        false,
-        Ok(("<i8", &[], b"\x04\x00\x00\x00\x00\x00\x00\x00")),
-    ),
-    (
-        Red::Sum,
-        ("|S1", &[1], b"a"),
-        None,
-        false,
-        Err(Refusal::NotForThisKind),
-    ),
-    (
-        Red::Maximum,
-        ("|i1", &[0], b""),
-        None,
-        false,
-        Err(Refusal::EmptyReduction),
-    ),
+const REDUCED: &[&str] = &[
+    "sum; |u1 2 = c864; ; <u8 = 2c01000000000000",
+    "sum; |i1 2 3 = 01fe030405fa; 1 keep; <i8 2 1 = 02000000000000000300000000000000",
+    "prod; |i1 2 3 = 01fe030405fa; ; <i8 = d002000000000000",
+    "min; |i1 2 3 = 01fe030405fa; keep; |i1 1 1 = fa",
+    "max; |i1 2 3 = 01fe030405fa; -2; |i1 3 = 040503",
+    "any; <u2 2 2 = 0000000100000000; 1; |b1 2 = 0100",
+    "all; |i1 2 3 = 01fe030405fa; ; |b1 = 01",
+    "argmin; |i1 2 3 = 01fe030405fa; ; <i8 = 0500000000000000",
+    "argmax; |i1 2 3 = 01fe030405fa; ; <i8 = 0400000000000000",
+    "sum; |S1 1 = 61; ; no E22 not for this kind",
+    "max; |i1 0 =; ; no E25 empty reduction",
 ];
+
+fn reduction(rt: &impl Abort, alloc: Global, row: &str) {
+    let (word, rest) = part(rt, row);
+    let (operand, rest) = part(rt, rest);
+    let (axis, wanted) = part(rt, rest);
+    let operand = array(rt, alloc, operand);
+    let keep = axis.ends_with("keep");
+    let axis = bound(rt, axis.trim_end_matches("keep").trim());
+    let made = reduce(
+        alloc,
+        named(rt, REDUCTIONS, word),
+        operand.items(),
+        axis,
+        keep,
+    );
+    gives(rt, alloc, &made, wanted);
+}
 
 #[test]
 fn reductions_of_arrays(rt: HostRuntime) {
-    for (reduction, array, axis, keep, wanted) in REDUCED {
-        let owned = given(&rt, rt.alloc(), *array);
-        let made = reduce(rt.alloc(), *reduction, owned.items(), *axis, *keep);
-        gives(&rt, rt.alloc(), &made, *wanted);
+    for row in REDUCED {
+        reduction(&rt, rt.alloc(), row);
     }
 }
 
 /// The first of two greatest numbers and of two least ones, behind many others.
-const PLACES: &[(Red, &[u8])] = &[
-    (Red::ArgMax, b"\x2c\x01\x00\x00\x00\x00\x00\x00"),
-    (Red::ArgMin, b"\x90\x01\x00\x00\x00\x00\x00\x00"),
+const PLACES: &[(Red, &str)] = &[
+    (Red::ArgMax, "<i8 = 2c01000000000000"),
+    (Red::ArgMin, "<i8 = 9001000000000000"),
 ];
 
 #[test]
@@ -524,6 +345,6 @@ fn places_behind_many(rt: HostRuntime) {
     let owned = array_of(&rt, rt.alloc(), descr, &[700], &bytes);
     for (reduction, place) in PLACES {
         let made = reduce(rt.alloc(), *reduction, owned.items(), None, false);
-        gives(&rt, rt.alloc(), &made, Ok(("<i8", &[], *place)));
+        gives(&rt, rt.alloc(), &made, place);
     }
 }

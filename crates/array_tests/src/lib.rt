@@ -25,8 +25,6 @@ mod layouts;
 #[cfg(test)]
 mod made;
 #[cfg(test)]
-mod names;
-#[cfg(test)]
 mod reshapes;
 #[cfg(test)]
 mod runs;
@@ -35,12 +33,6 @@ mod shapes;
 #[cfg(test)]
 mod slices;
 #[cfg(test)]
-mod sources;
-#[cfg(test)]
-mod table;
-#[cfg(test)]
 mod transposes;
-#[cfg(test)]
-mod undo;
 #[cfg(test)]
 mod walks;

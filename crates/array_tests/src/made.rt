@@ -1,5 +1,5 @@
 //! Layouts and arrays for tests.
-ghost use Rattle.std.specs.Prelude.{◌≡◌, IsTrue};
+ghost use Rattle.std.specs.Prelude.{◌≡◌, ◌<◌, IsTrue};
 ghost use Rattle.name_store.specs.Memory.{AreShifted};
 
 use crate::check::check;
@@ -12,6 +12,45 @@ use std::process::Abort;
 
 /// An array: its lengths, its strides and the offset of its first item.
 pub(crate) type Numbers = (&'static [usize], &'static [isize], usize);
+
+/// The part of a row in front of the next semicolon, and what stands behind it.
+pub(crate) fn part<'a>(rt: &impl Abort, row: &'a str) -> (&'a str, &'a str) {
+    row.split_once("; ").expect(rt, "a part is missing")
+}
+
+/// The number that a digit of base 16 is.
+fn digit(rt: &impl Abort, byte: u8) -> u8
+    ensures { result < 16 }
+{
+    match byte {
+        b'0'..=b'9' => byte - b'0',
+        b'a'..=b'f' => byte - b'a' + 10,
+        _ => {
+            check(rt, false, "no digit");
+            0
+        }
+    }
+}
+
+/// A byte for each digit of base 16.
+pub(crate) fn digits(rt: &impl Abort, alloc: Global, text: &str) -> Vec<u8> {
+    let mut bytes = Vec::new(alloc);
+    for byte in text.as_bytes() {
+        bytes.push(digit(rt, *byte)).expect(rt, "no memory");
+    }
+    bytes
+}
+
+/// A byte for each two digits of base 16.
+pub(crate) fn hex(rt: &impl Abort, alloc: Global, text: &str) -> Vec<u8> {
+    let mut bytes = Vec::new(alloc);
+    for pair in text.as_bytes().chunks_exact(2) {
+        check(rt, pair.len() == 2, "two digits");
+        let byte = digit(rt, pair[0]) * 16 + digit(rt, pair[1]);
+        bytes.push(byte).expect(rt, "no memory");
+    }
+    bytes
+}
 
 /// The layout with these numbers, if there is one.
 pub(crate) fn layout_if(rt: &impl Abort, alloc: Global, numbers: Numbers) -> Option<Layout> {

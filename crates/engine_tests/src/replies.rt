@@ -43,25 +43,28 @@ fn long_lines_are_refused(rt: HostRuntime) -> Result<(), Fail> {
     Ok(())
 }
 
-/// Binds `n0`, `n1`, .., 1,024 names, then one more, and then one that is bound. A field of an unknown
-/// name is told before the names that are too many, and these before a field that is none.
+/// Binds `n0`, `n1`, .., 1,024 names, to one array, then one more, and then one that is bound. A field of
+/// an unknown name is told before the names that are too many, and these before a field that is none. The
+/// array outlives its first name, whose place another takes.
 fn names_script(alloc: Global) -> Result<String, AllocError> {
-    let mut script = String::new(alloc);
-    for n in 0..1024u32 {
-        write!(script, "n{n} = zeros <i4 (1)\n")?;
+    let mut script = String::from_str(alloc, "n0 = zeros <i4 (1)\n")?;
+    for n in 1..1024u32 {
+        write!(script, "n{n} = n0\n")?;
     }
     script.push_str("more = zeros <i4 (1)\nn5 = zeros <i4 (2)\n")?;
     script.push_str("more = field q \"x\"\nmore = field n5 \"x\"\nn5 = field n5 \"x\"\n")?;
+    script.push_str("set n1023[0] = 7\ndel n0\nmore = n1\nprint more\none = n1\n")?;
     Ok(script)
 }
 
 fn names_replies(alloc: Global) -> Result<String, AllocError> {
-    let mut replies = String::new(alloc);
-    for n in 0..1024u32 {
-        write!(replies, "ok n{n} <i4 (1,) new\n")?;
+    let mut replies = String::from_str(alloc, "ok n0 <i4 (1,) new\n")?;
+    for n in 1..1024u32 {
+        write!(replies, "ok n{n} <i4 (1,) view\n")?;
     }
     replies.push_str("no E07 too many names\nok n5 <i4 (2,) new\n")?;
     replies.push_str("no E06 unknown name\nno E07 too many names\nno E19 no such field\n")?;
+    replies.push_str("ok set 1\nok del n0\nok more <i4 (1,) view\n[7]\nno E07 too many names\n")?;
     Ok(replies)
 }
 
