@@ -1,7 +1,7 @@
 -- One leaf of all items, moved to where it begins, cast, and put where it lies.
-use Rattle.std.proofs.Common.{◌≡◌, ◌+◌, ◌*◌, ◌<◌, ◌≤◌, ℕ, ℤ, pos, negsuc, ◌+ℤ◌, ◌≤ℤ◌, Option, Some, IfSome, List, [], ◌∷◌, ◌++◌, map, length, refl, sym, ap, subst, ◌∙◌, inl, inr, arith}
+use Rattle.std.proofs.Common.{◌≡◌, ◌+◌, ◌*◌, ◌<◌, ℕ, ℤ, pos, ◌+ℤ◌, ◌≤ℤ◌, Option, Some, None, IfSome, IfOk, List, [], ◌∷◌, ◌++◌, map, length, refl, sym, ap, ◌∙◌, arith}
 use Rattle.std.specs.List.{concat, flat_map}
-use Rattle.std.proofs.lemmas.Bool.{cases_lt}
+use Rattle.std.specs.Option.{ok_or}
 use Rattle.std.proofs.lemmas.Int.{ints}
 use Rattle.std.proofs.lemmas.List.{length-map}
 use Rattle.std.proofs.lemmas.Simd.{map-map}
@@ -17,9 +17,8 @@ use Rattle.shape_strides.specs.declared.layout.Layout.{Layout}
 use Rattle.shape_strides.specs.Addresses.{natural, address_at}
 use Rattle.shape_strides.specs.Indexes.{count, indexes}
 use Rattle.shape_strides.specs.IndexLaws.{rank-lt, same_on_indexes}
-use Rattle.shape_strides.specs.Limits.{max_bytes}
 use Rattle.shape_strides.specs.Layouts.{address, offsets}
-use Rattle.shape_strides.specs.LayoutLaws.{length-offsets, entry-first, offsets_within}
+use Rattle.shape_strides.specs.LayoutLaws.{pos-natural}
 use Rattle.overlap_copy.specs.Assignments.{items_at, with_items, assigned}
 use Rattle.shape_strides.specs.Runs.{run_offsets}
 use Rattle.overlap_copy.specs.Packed.{row_offsets}
@@ -32,16 +31,6 @@ use Rattle.elementwise.proofs.TurnedLaws.{AreWide, length-concat}
 
 -- ---- layouts that begin further on
 
-pub offset-within : (l : Layout) → l.offset ≤ max_bytes
-offset-within l = elim (cases_lt 0 (count l.shape)) [
-  | inl some ↦ omega (arith, entry-first l some, offsets_within l max_bytes 1 l.within_limit 0 0 (omega (arith, some, length-offsets l)))
-  | inr above ↦ omega (arith, (l.zero_if_empty (omega (arith, above))).0)
-]
-
-further : (z : ℤ) (by : ℕ) → pos 0 ≤ℤ z → natural (z +ℤ pos by) ≡ natural z + by
-further (pos n) by low = refl
-further (negsuc n) by low = absurd (omega (arith, ints, low))
-
 pub offsets-moved : (l m : Layout) (by : ℕ) → m.shape ≡ l.shape → (0 < count l.shape → m.strides ≡ l.strides) → (0 < count l.shape → m.offset ≡ l.offset + by) → offsets m ≡ map (λ offset. offset + by) (offsets l)
 unfolding offsets
 offsets-moved l m by shape strides offset =
@@ -49,19 +38,17 @@ offsets-moved l m by shape strides offset =
     ∙ same_on_indexes l.shape (λ index. natural (address m index)) (λ index. natural (address l index) + by) (λ index inside.
     let some : 0 < count l.shape = omega (arith, rank-lt l.shape index inside) in
     let sum : address_at l.strides (l.offset + by) index ≡ address l index +ℤ pos by = omega (arith, ints) in
-    (λ i. natural (address_at (strides some i) (offset some i) index)) ∙ ap natural sum ∙ further (address l index) by (l.within_limit.from_zero index inside))
+    let low : pos 0 ≤ℤ address l index = l.within_limit.from_zero index inside in
+    let further : natural (address l index +ℤ pos by) ≡ natural (address l index) + by = omega (arith, ints, pos-natural (address l index) low, pos-natural (address l index +ℤ pos by) (omega (arith, ints, low))) in
+    (λ i. natural (address_at (strides some i) (offset some i) index)) ∙ ap natural sum ∙ further)
     ∙ sym (map-map (λ offset. offset + by) (λ index. natural (address l index)) (indexes l.shape))
 
-pub found-moved : (found : Option Layout) (l m : Layout) (by : ℕ) (shape : List ℕ) (strides : List ℤ) → found ≡ Some m → shape ≡ l.shape → strides ≡ l.strides →
-    IfSome found (λ n. n.shape ≡ shape) → IfSome found (λ n. 0 < count shape → n.strides ≡ strides) → IfSome found (λ n. 0 < count shape → n.offset ≡ l.offset + by) → (m.shape ≡ l.shape) × (offsets m ≡ map (λ offset. offset + by) (offsets l))
-found-moved found l m by shape strides is same same' has-shape has-strides has-offset =
-    let shape-is = subst (λ (o : Option Layout). IfSome o (λ n. n.shape ≡ shape)) is has-shape ∙ same in
-    let some = λ (low : 0 < count l.shape). (let there : 0 < count shape = omega (arith, low, ap count same) in there) in (
-      shape-is,
-      offsets-moved l m by shape-is
-          (λ low. subst (λ (o : Option Layout). IfSome o (λ n. 0 < count shape → n.strides ≡ strides)) is has-strides (some low) ∙ same')
-          (λ low. subst (λ (o : Option Layout). IfSome o (λ n. 0 < count shape → n.offset ≡ l.offset + by)) is has-offset (some low)),
-    )
+pub found-moved : {E : Type 0} (found : Option Layout) (err : E) (l : Layout) (by offset : ℕ) (shape : List ℕ) (strides : List ℤ) → offset ≡ l.offset + by → shape ≡ l.shape → strides ≡ l.strides →
+    IfSome found (λ n. n.shape ≡ shape) → IfSome found (λ n. 0 < count shape → n.strides ≡ strides) → IfSome found (λ n. 0 < count shape → n.offset ≡ offset) → IfOk (ok_or found err) (λ m. offsets m ≡ map (λ o. o + by) (offsets l))
+found-moved None err l by offset shape strides sum same same' has-shape has-strides has-offset = tt
+found-moved (Some m) err l by offset shape strides sum same same' has-shape has-strides has-offset =
+    let some = λ (low : 0 < count l.shape). (let there : 0 < count shape = omega (arith, low, ap count same) in there) in
+    offsets-moved l m by (has-shape ∙ same) (λ low. has-strides (some low) ∙ same') (λ low. has-offset (some low) ∙ sum)
 
 -- ---- a leaf in a block of its own
 

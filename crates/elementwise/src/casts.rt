@@ -87,16 +87,15 @@ pub(crate) fn cast_scalars(
 
 /// The layout with each address so many bytes further on. Beyond the limit of a buffer there is none.
 fn moved(alloc: Global, layout: &Layout, by: usize) -> Result<Layout, AllocError>
-    requires { by ≤ 65536 }
     ensures shape { IfOk result (λ l. l.shape ≡ layout.now.shape) }
     ensures offsets { IfOk result (λ l. offsets l ≡ map (λ offset. offset + by) (offsets layout.now)) }
 {
-    let shape = Shape::try_copy(alloc, &layout.shape)?;
-    let strides = Strides::from_slice(alloc, layout.strides.as_slice())?;
-    let Some(moved) = Layout::new(shape, strides, layout.offset + by) else {
+    let Some(offset) = layout.offset.checked_add(by) else {
         return Err(AllocError);
     };
-    Ok(moved)
+    let shape = Shape::try_copy(alloc, &layout.shape)?;
+    let strides = Strides::from_slice(alloc, layout.strides.as_slice())?;
+    Layout::new(shape, strides, offset).ok_or(AllocError)
 }
 
 /// A leaf of all items as one of another scalar, in a block of its own.
