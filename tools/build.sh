@@ -203,7 +203,7 @@ while IFS=: read -r lines code crate below; do eval "below_$crate=\$below code_$
 $plan
 PLAN
 echo "bench: proving and building $total crates, up to $cores at a time; from nothing this takes some 40 minutes on 4 quiet cores, and 10 GB of disk" >&2
-[ -d crates/elem_descr/out ] || echo "bench: sooner, but not proved: (cd crates/bench_main && rt try <SCRIPT) in some 4 minutes; what it saves is gone" >&2
+[ -d crates/elem_descr/out ] || echo "bench: sooner, but not proved: (cd crates/bench_main && rt try <SCRIPT) in some 2 minutes; what it saves is gone" >&2
 trap 'stop_all; echo "bench: not built: interrupted" >&2; exit 3' INT TERM HUP
 start_some
 tell "$number of $total crates done; proving $(shown)"
