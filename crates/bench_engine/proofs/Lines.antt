@@ -44,7 +44,7 @@ onto_none : (b : ℕ) (pieces : List (List ℕ)) → onto_first_piece b pieces �
 onto_none b [] none = refl
 onto_none b (piece ∷ pieces) none = cc
 
-unended-whole : (piece : List ℕ) → ended_lines piece ≡ [] → unended piece ≡ piece
+pub unended-whole : (piece : List ℕ) → ended_lines piece ≡ [] → unended piece ≡ piece
 unended-whole [] none = refl
 unended-whole (b ∷ piece) none =
     elim (nat_eq b 10) as (λ t. cond t ([] ∷ ended_lines piece) (onto_first_piece b (ended_lines piece)) ≡ [] → cond t (unended piece) (before_rest b (ended_lines piece) (unended piece)) ≡ b ∷ piece) [
@@ -135,3 +135,50 @@ lines-front bytes more =
     let front = ended-front bytes more in
     let last = map trimmed (if_any (unended (bytes ++ more))) in
     (map trimmed front.0 ++ last, ap (λ pieces. map trimmed pieces ++ last) front.1 ∙ ap (λ l. l ++ last) (map-append trimmed (ended_lines bytes) front.0) ∙ append_assoc (whole_lines bytes) (map trimmed front.0) last)
+
+-- bytes in two parts: what the first leaves unended goes on in the second
+pub ended-append : (bytes more : List ℕ) → ended_lines (bytes ++ more) ≡ ended_lines bytes ++ ended_lines (unended bytes ++ more)
+ended-append [] more = refl
+ended-append (b ∷ bytes) more =
+    elim (nat_eq b 10) as (λ t. nat_eq b 10 ≡ t → cond t ([] ∷ ended_lines (bytes ++ more)) (onto_first_piece b (ended_lines (bytes ++ more)))
+    ≡ cond t ([] ∷ ended_lines bytes) (onto_first_piece b (ended_lines bytes)) ++ ended_lines (cond t (unended bytes) (before_rest b (ended_lines bytes) (unended bytes)) ++ more)) [
+      | true ↦ λ _. ap (λ p. [] ∷ p) (ended-append bytes more)
+      | false ↦ λ other. ap (onto_first_piece b) (ended-append bytes more) ∙ onto-append b other (ended_lines bytes) (unended bytes) more
+    ] refl
+  where
+    onto-append : (b : ℕ) → nat_eq b 10 ≡ false → (pieces : List (List ℕ)) (rest more : List ℕ) → onto_first_piece b (pieces ++ ended_lines (rest ++ more)) ≡ onto_first_piece b pieces ++ ended_lines (before_rest b pieces rest ++ more)
+    onto-append b other [] rest more = rw other refl
+    onto-append b other (piece ∷ pieces) rest more = refl
+
+pub unended-append : (bytes more : List ℕ) → unended (bytes ++ more) ≡ unended (unended bytes ++ more)
+unended-append [] more = refl
+unended-append (b ∷ bytes) more =
+    elim (nat_eq b 10) as (λ t. nat_eq b 10 ≡ t → cond t (unended (bytes ++ more)) (before_rest b (ended_lines (bytes ++ more)) (unended (bytes ++ more)))
+    ≡ unended (cond t (unended bytes) (before_rest b (ended_lines bytes) (unended bytes)) ++ more)) [
+      | true ↦ λ _. unended-append bytes more
+      | false ↦ λ other. rw (ended-append bytes more, unended-append bytes more) (rest-append b other (ended_lines bytes) (unended bytes) more)
+    ] refl
+  where
+    rest-append : (b : ℕ) → nat_eq b 10 ≡ false → (pieces : List (List ℕ)) (rest more : List ℕ) → before_rest b (pieces ++ ended_lines (rest ++ more)) (unended (rest ++ more)) ≡ unended (before_rest b pieces rest ++ more)
+    rest-append b other [] rest more = rw other refl
+    rest-append b other (piece ∷ pieces) rest more = refl
+
+-- no newline is left in what follows the last one
+pub ended-unended : (bytes : List ℕ) → ended_lines (unended bytes) ≡ []
+ended-unended [] = refl
+ended-unended (b ∷ bytes) =
+    elim (nat_eq b 10) as (λ t. nat_eq b 10 ≡ t → ended_lines (cond t (unended bytes) (before_rest b (ended_lines bytes) (unended bytes))) ≡ []) [
+      | true ↦ λ _. ended-unended bytes
+      | false ↦ λ other. in_rest b other (ended_lines bytes) (unended bytes) (ended-unended bytes)
+    ] refl
+  where
+    in_rest : (b : ℕ) → nat_eq b 10 ≡ false → (pieces : List (List ℕ)) (rest : List ℕ) → ended_lines rest ≡ [] → ended_lines (before_rest b pieces rest) ≡ []
+    in_rest b other [] rest none = rw (other, none) refl
+    in_rest b other (piece ∷ pieces) rest none = none
+
+pub whole_lines-append : (bytes more : List ℕ) → whole_lines (bytes ++ more) ≡ whole_lines bytes ++ whole_lines (unended bytes ++ more)
+whole_lines-append bytes more = ap (map trimmed) (ended-append bytes more) ∙ map-append trimmed (ended_lines bytes) (ended_lines (unended bytes ++ more))
+
+-- the last line goes on from what is unended
+pub lines-unended : (bytes : List ℕ) → lines bytes ≡ whole_lines bytes ++ lines (unended bytes)
+lines-unended bytes = rw (ended-unended bytes, unended-whole (unended bytes) (ended-unended bytes)) refl

@@ -5,7 +5,7 @@ use Rattle.std.proofs.lemmas.Bool.{lt-ltb, le-ltb}
 use Rattle.bench_engine.specs.Lines.{trimmed}
 use Rattle.bench_engine.specs.Meanings.{too_long, says, meaning_of, limit}
 use Rattle.script_lang.specs.Lines.{line_of}
-use Rattle.bench_engine.specs.inside.Sessions.{HoldsBytes}
+use Rattle.bench_engine.specs.Sessions.{HoldsBytes}
 
 length-trimmed : (piece : List ℕ) → length piece ≤ length (trimmed piece) + 1
 length-trimmed piece = elim (ends_with nat_eq piece (13 ∷ [])) as (λ t. length piece ≤ length (cond t (take (length piece - 1) piece) piece) + 1) [ true ↦ omega (arith, length-take (length piece - 1) piece) | false ↦ omega arith ]

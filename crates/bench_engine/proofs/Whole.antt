@@ -1,12 +1,12 @@
 -- What a session comes to outside of the run.
-use Rattle.std.proofs.Common.{◌≡◌, ◌⊎◌, inl, inr, ◌++◌, ap, ◌∙◌, append_assoc, ℕ, List, Option, Some, None, Err, subst, IfSome, IsErrOf}
+use Rattle.std.proofs.Common.{◌≡◌, ◌⊎◌, inl, inr, ◌++◌, ap, ◌∙◌, append_assoc, zero-add, ℕ, List, Option, Some, None, Err, subst, IfSome, IsErrOf}
 use Rattle.bench_engine.specs.declared.session.Session.{Session}
 use Rattle.bench_engine.specs.declared.session.Summary.{Summary}
-use Rattle.bench_engine.specs.inside.Sessions.{Ended}
+use Rattle.bench_engine.specs.inside.Sessions.{Ended, Reading}
 use Rattle.bench_engine.specs.declared.runner.RunFault.{RunFault}
 use Rattle.npy_files.specs.Stores.{StoreState}
 use Rattle.bench_engine.specs.Worlds.{World}
-use Rattle.bench_engine.specs.Outside.{Outside, first_world, AnswersScript, AnswersInPart, AnswersSome, AnswersFirstLines}
+use Rattle.bench_engine.specs.Outside.{Outside, first_world, AnswersScript, AnswersWholeLines, AnswersInPart, AnswersSome, AnswersFirstLines}
 use Rattle.std.specs.Io.KnownBytes.{Consumes, IsAtEnd}
 use Rattle.bench_engine.specs.Lines.{lines, whole_lines}
 use Rattle.bench_engine.proofs.Lines.{lines-front}
@@ -26,8 +26,8 @@ answers-script depth before after session summary end bench accepted refused = r
   known = known before.unread after.unread end.input end.read end.ended;
   run = rw bench end.told.run;
   sent = end.told.sent;
-  accepted = accepted ∙ end.told.accepted;
-  refused = refused ∙ end.told.refused;
+  accepted = accepted ∙ end.told.accepted ∙ zero-add _;
+  refused = refused ∙ end.told.refused ∙ zero-add _;
 }
 
 -- some first ones of these lines are some first ones of more
@@ -67,3 +67,14 @@ first-lines depth before after input read some = record {
 -- a fault that is passed on
 pub passed-on : {T U : Type 0} (e f : RunFault) → IsErrOf {T = T} (Err e) f → IsErrOf {T = U} (Err e) f
 passed-on e f is = let same : e ≡ f = cc in ap Err same
+
+-- before a read all whole lines are answered
+pub whole-lines : (depth : ℕ) (before after : Outside) (session : Session) → Reading depth before after session → AnswersWholeLines depth before after
+whole-lines depth before after session reading = record {
+  input = reading.input;
+  replies = reading.fed.told.replies;
+  state = session.bench.state;
+  read = reading.read;
+  run = reading.fed.told.run;
+  sent = reading.fed.told.sent;
+}

@@ -8,6 +8,7 @@ pub mod Outside
 pub mod Replies
 pub mod Runs
 pub mod Saves
+pub mod Sessions
 pub mod StoreFaults
 pub mod Worlds
 pub mod inside

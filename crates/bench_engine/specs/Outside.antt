@@ -47,6 +47,13 @@ pub record AnswersWholeLines (depth : ℕ) (before after : Outside) : Type 0 whe
   pub run : Run AnswersLine (first_world depth before) (whole_lines input) replies (world state after.store)
   pub sent : Appends before.written after.written (output replies)
 
+-- It may be read where no read has failed and the lines that newlines have ended so far are answered, with all replies
+-- written.
+abbrev pub ReadsInTime : {S : Type 0} → (S → Option (List ℕ)) → (S → ℕ) → (S → Option (List ℕ) → Type 0) → ℕ → S → Outside → Type 0
+ReadsInTime {S} remaining failures MayRead depth source before =
+    (now : S) (written : Option (List ℕ)) (store : StoreState) → failures now ≡ failures source
+    → AnswersWholeLines depth before (outside (remaining now) written store) → MayRead now written
+
 -- Some first ones of these lines are answered, and the files are as they leave them, but a last part, not empty, of the last
 -- reply has not gone out.
 abbrev pub AnswersInPart : List (List ℕ) → World → StoreState → Option (List ℕ) → Option (List ℕ) → Type 0

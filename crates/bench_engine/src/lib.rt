@@ -37,5 +37,6 @@ mod work;
 
 pub use engine::execute;
 pub use runner::{RunFault, run};
-pub use session::Summary;
+pub use send::WriteFault;
+pub use session::{Session, Summary};
 pub use source::ScriptSource;

@@ -3,7 +3,7 @@ ghost use Rattle.std.specs.Prelude.{◌≡◌, ◌++◌, [], List, ℕ, IfOk, fa
 ghost use Rattle.bench_engine.specs.Lines.{trimmed};
 ghost use Rattle.bench_engine.specs.Meanings.{meaning_of};
 ghost use Rattle.bench_engine.specs.inside.ReadLines.{meaning_of_read};
-ghost use Rattle.bench_engine.specs.inside.Sessions.{HoldsPiece, HasLineRoom};
+ghost use Rattle.bench_engine.specs.Sessions.{HoldsPiece, HasLineRoom};
 
 use std::alloc::{AllocError, Global};
 

@@ -1,7 +1,8 @@
 //! A whole run: from what is read to what is written.
-ghost use Rattle.std.specs.Prelude.{◌≡◌, ◌≤◌, ◌<◌, ◌+◌, ◌^◌, ℕ, length, IfOk, IsErrOf};
-ghost use Rattle.bench_engine.specs.Outside.{Outside, outside, AnswersScript, AnswersWholeLines, AnswersFirstLines};
-ghost use Rattle.bench_engine.specs.inside.Sessions.{HasRoom, Reading, Turned};
+ghost use Rattle.std.specs.Prelude.{◌≡◌, ◌≤◌, ◌<◌, ◌+◌, ◌*◌, ◌^◌, ℕ, length, IfOk, OnOk, IsErrOf};
+ghost use Rattle.bench_engine.specs.Outside.{Outside, outside, AnswersScript, AnswersWholeLines, AnswersFirstLines, ReadsInTime};
+ghost use Rattle.bench_engine.specs.Sessions.{HasRoom};
+ghost use Rattle.bench_engine.specs.inside.Sessions.{Reading, Turned};
 ghost use Rattle.bench_engine.specs.declared.runner.RunFault.TheVariants.{Write, Memory};
 
 use crate::send::WriteFault;
@@ -53,11 +54,14 @@ fn take_turn<S: ScriptSource, W: Write, N: NpyStore>(
     chunk: &mut [u8],
 ) -> Result<bool, RunFault>
     requires some { 0 < length chunk.old }
+    requires size { length chunk.old ≤ 65538 }
+    requires may { S.MayRead source.old (W.contents writer.old) }
     requires room { HasRoom session.old }
     requires few { session.old.accepted + session.old.refused + length chunk.old < 2 ^ 50 }
     ensures room { HasRoom session.new }
     ensures few { session.new.accepted + session.new.refused ≤ session.old.accepted + session.old.refused + length chunk.old }
     ensures counted { S.reads source.new ≤ S.reads source.old + 1 }
+    ensures well { OnOk result (S.failures source.new ≡ S.failures source.old) }
     ensures ok { IfOk result (λ ended. (depth : ℕ) (before : Outside) →
         Reading depth before (outside (S.remaining source.old) (W.contents writer.old) (N.shelf store.old)) session.old →
         Turned ended depth before (outside (S.remaining source.new) (W.contents writer.new) (N.shelf store.new)) session.new) }
@@ -69,7 +73,7 @@ fn take_turn<S: ScriptSource, W: Write, N: NpyStore>(
         AnswersFirstLines depth before (outside (S.remaining source.new) (W.contents writer.new) (N.shelf store.new)) }
     ensures memory { ¬ IsErrOf result RunFault.Memory }
 {
-    let count = source.read_some(chunk).ok_or(RunFault::Read)?;
+    let count = source.read_some(&*writer, chunk).ok_or(RunFault::Read)?;
     if count == 0 {
         session.end(writer, store)?;
         return Ok(true);
@@ -98,6 +102,9 @@ pub fn run_within<S: ScriptSource, W: Write, N: NpyStore>(
     requires reads { limits.reads ≤ 2 ^ 32 }
     requires some { 1 ≤ limits.size }
     requires size { limits.size ≤ 65538 }
+    // The source is read only where all lines so far are answered.
+    requires in_time { ReadsInTime S.remaining S.failures S.MayRead limits.depth source.old
+        (outside (S.remaining source.old) (W.contents writer.old) (N.shelf store.old)) }
     // Each line was answered by a step of the machine, up to the end of what there was to read.
     ensures script { IfOk result (AnswersScript limits.depth
         (outside (S.remaining source.old) (W.contents writer.old) (N.shelf store.old))
@@ -113,8 +120,11 @@ pub fn run_within<S: ScriptSource, W: Write, N: NpyStore>(
     // No memory was found to begin with: nothing was read, written or stored.
     ensures no_memory { IsErrOf result RunFault.Memory →
         (source.new ≡ source.old) × (writer.new ≡ writer.old) × (store.new ≡ store.old) }
+    // No read has failed.
+    ensures reads_well { OnOk result (S.failures source.new ≡ S.failures source.old) }
     // So many reads are made at most.
     ensures reads { S.reads source.new ≤ S.reads source.old + limits.reads }
+    ensures counts { IfOk result (λ summary. summary.accepted + summary.refused ≤ 65538 * limits.reads) }
 {
     let mut session = Session::new(alloc, limits.depth)?;
     let mut chunk = vec![in alloc; 0u8; limits.size]?;
@@ -140,7 +150,11 @@ pub fn run<S: ScriptSource, W: Write, N: NpyStore>(
     store: &mut N,
     depth: usize,
 ) -> Result<Summary, RunFault>
-    requires { depth ≤ 64 }
+    requires depth { depth ≤ 64 }
+    // It is read only where the lines that newlines have ended so far are answered and all replies are written, and no
+    // read has failed: what asks for that may be read so.
+    requires in_time { ReadsInTime S.remaining S.failures S.MayRead depth source.old
+        (outside (S.remaining source.old) (W.contents writer.old) (N.shelf store.old)) }
     // Each line was answered by a step of the machine, up to the end of what there was to read.
     ensures script { IfOk result (AnswersScript depth
         (outside (S.remaining source.old) (W.contents writer.old) (N.shelf store.old))
@@ -156,8 +170,11 @@ pub fn run<S: ScriptSource, W: Write, N: NpyStore>(
     // No memory was found to begin with: nothing was read, written or stored.
     ensures no_memory { IsErrOf result RunFault.Memory →
         (source.new ≡ source.old) × (writer.new ≡ writer.old) × (store.new ≡ store.old) }
+    // No read has failed.
+    ensures reads_well { OnOk result (S.failures source.new ≡ S.failures source.old) }
     // So many reads are made at most.
     ensures reads { S.reads source.new ≤ S.reads source.old + 2 ^ 32 }
+    ensures counts { IfOk result (λ summary. summary.accepted + summary.refused < 2 ^ 49) }
 {
     let limits = Limits {
         depth,

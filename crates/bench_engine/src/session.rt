@@ -4,7 +4,8 @@ ghost use Rattle.std.specs.List.{position};
 ghost use Rattle.bench_engine.specs.Outside.{AnswersInPart};
 ghost use Rattle.bench_engine.specs.Lines.{ended_lines, lines, whole_lines};
 ghost use Rattle.bench_engine.specs.Meanings.{AnswersLine};
-ghost use Rattle.bench_engine.specs.inside.Sessions.{HoldsPiece, HasRoom, FedMachine, Told, ToldInPart, AnswersHeld, HasTold, IsNew};
+ghost use Rattle.bench_engine.specs.Sessions.{HoldsPiece, HasRoom, FedMachine, Feeds, HasTold, IsNew};
+ghost use Rattle.bench_engine.specs.inside.Sessions.{Told, ToldInPart, AnswersHeld};
 ghost use Rattle.bench_engine.specs.Worlds.{World, world};
 
 use crate::engine::{MAX_REFUSAL_LEN, answer};
@@ -24,7 +25,8 @@ pub struct Summary {
     pub bench: Bench,
 }
 
-/// The line that is being read, and what the lines before it came to.
+/// The line that is being read, and what the lines before it came to. Bytes are fed to it as they come, and `end` tells it
+/// that none come any more.
 #[derive(Drop)]
 pub struct Session {
     bench: Bench,
@@ -87,18 +89,19 @@ impl Session {
         requires one { ended_lines piece.now ≡ [] }
         ensures room { HasRoom self.new }
         ensures few { self.new.accepted + self.new.refused ≤ self.old.accepted + self.old.refused + 1 }
-        ensures ok { OnOk result ((first : World) (before : Option (List ℕ)) (read : List ℕ) →
-            FedMachine first (N.shelf store.old) before (W.contents writer.old) read self.old →
-            FedMachine first (N.shelf store.new) before (W.contents writer.new) (read ++ piece.now ++ 10 ∷ []) self.new) }
-        ensures err { OnErr result ((first : World) (before : Option (List ℕ)) (read more : List ℕ) →
-            FedMachine first (N.shelf store.old) before (W.contents writer.old) read self.old →
+        ensures ok { OnOk result ((first : World) (before : Option (List ℕ)) (read : List ℕ) (accepted refused : ℕ) →
+            FedMachine first (N.shelf store.old) before (W.contents writer.old) read accepted refused self.old →
+            FedMachine first (N.shelf store.new) before (W.contents writer.new) (read ++ piece.now ++ 10 ∷ []) accepted refused self.new) }
+        ensures err { OnErr result ((first : World) (before : Option (List ℕ)) (read more : List ℕ) (accepted refused : ℕ) →
+            FedMachine first (N.shelf store.old) before (W.contents writer.old) read accepted refused self.old →
             AnswersInPart (whole_lines (read ++ piece.now ++ 10 ∷ more)) first (N.shelf store.new) before (W.contents writer.new)) }
     {
         self.line.hold(piece);
         self.finish_line(writer, store)
     }
 
-    /// Takes the next bytes that were read.
+    /// Takes the next bytes that were read. After `Ok` each line that newlines have ended so far is answered, and its
+    /// reply is written.
     pub fn feed<W: Write, N: NpyStore>(
         &mut self,
         writer: &mut W,
@@ -109,12 +112,11 @@ impl Session {
         requires few { self.old.accepted + self.old.refused + length bytes.now < 2 ^ 50 }
         ensures room { HasRoom self.new }
         ensures few { self.new.accepted + self.new.refused ≤ self.old.accepted + self.old.refused + length bytes.now }
-        ensures ok { OnOk result ((first : World) (before : Option (List ℕ)) (read : List ℕ) →
-            FedMachine first (N.shelf store.old) before (W.contents writer.old) read self.old →
-            FedMachine first (N.shelf store.new) before (W.contents writer.new) (read ++ bytes.now) self.new) }
-        ensures err { OnErr result ((first : World) (before : Option (List ℕ)) (read : List ℕ) →
-            FedMachine first (N.shelf store.old) before (W.contents writer.old) read self.old →
-            AnswersInPart (whole_lines (read ++ bytes.now)) first (N.shelf store.new) before (W.contents writer.new)) }
+        // What is held of a line is whole, or is only known to be too long.
+        ensures told { OnOk result ((held : List ℕ) → ended_lines held ≡ [] → HoldsPiece self.old.line held →
+            Feeds (N.shelf store.old) (N.shelf store.new) (W.contents writer.old) (W.contents writer.new) held bytes.now self.old self.new) }
+        ensures told_in_part { OnErr result ((held : List ℕ) → ended_lines held ≡ [] → HoldsPiece self.old.line held →
+            AnswersInPart (whole_lines (held ++ bytes.now)) (world self.old.bench.state (N.shelf store.old)) (N.shelf store.new) (W.contents writer.old) (W.contents writer.new)) }
     {
         let mut rest = bytes;
         while let Some(end) = newline(rest) {
@@ -152,12 +154,12 @@ impl Session {
         requires few { self.old.accepted + self.old.refused < 2 ^ 50 }
         ensures room { HasRoom self.new }
         ensures few { self.new.accepted + self.new.refused ≤ self.old.accepted + self.old.refused + 1 }
-        ensures ok { OnOk result ((first : World) (before : Option (List ℕ)) (read : List ℕ) →
-            FedMachine first (N.shelf store.old) before (W.contents writer.old) read self.old →
-            HasTold AnswersLine first (world self.new.bench.state (N.shelf store.new)) before (W.contents writer.new) (lines read) self.new) }
-        ensures err { OnErr result ((first : World) (before : Option (List ℕ)) (read : List ℕ) →
-            FedMachine first (N.shelf store.old) before (W.contents writer.old) read self.old →
-            AnswersInPart (lines read) first (N.shelf store.new) before (W.contents writer.new)) }
+        // The next line has not begun.
+        ensures next { HoldsPiece self.new.line [] }
+        ensures told { OnOk result ((held : List ℕ) → ended_lines held ≡ [] → HoldsPiece self.old.line held →
+            HasTold AnswersLine (world self.old.bench.state (N.shelf store.old)) (world self.new.bench.state (N.shelf store.new)) (W.contents writer.old) (W.contents writer.new) (lines held) self.old.accepted self.old.refused self.new) }
+        ensures told_in_part { OnErr result ((held : List ℕ) → ended_lines held ≡ [] → HoldsPiece self.old.line held →
+            AnswersInPart (lines held) (world self.old.bench.state (N.shelf store.old)) (N.shelf store.new) (W.contents writer.old) (W.contents writer.new)) }
     {
         if self.line.is_empty() {
             return Ok(());

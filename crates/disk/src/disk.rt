@@ -2,9 +2,9 @@
 ghost use Rattle.std.specs.Prelude.{◌≡◌, ◌≢◌, ◌<◌, ◌≤◌, ◌++◌, ℕ, Bool, List, [], length, take, IsTrue, IfOk, OnOk, IsErrOf};
 ghost use Rattle.std.specs.FinMap.{get};
 ghost use Rattle.disk.specs.Files.{Files, Same, SameBut};
-ghost use Rattle.disk.specs.Crashes.{History, Leaves};
+ghost use Rattle.disk.specs.Crashes.{History, MayLeave, Leaves};
 ghost use Rattle.disk.specs.declared.disk.DiskFault.TheVariants.{Failed, Memory};
-ghost use Rattle.disk.specs.Calls.{HasCause, IsThere, Appends, SameButBoth, Replaces, HasNames};
+ghost use Rattle.disk.specs.Calls.{HasCause, IsThere, Appends, SameButBoth, Replaces, HasNames, StayAll, StayOthers};
 
 use std::alloc::{AllocError, AllocFailed};
 use thiserror::Error;
@@ -60,12 +60,18 @@ pub trait Disk {
     /// Its bytes that are still to be read.
     ghost rest_of: { Self.File → List ℕ };
 
+    /// An open file is the one under the name under which it was opened, and only by itself was something written to it
+    /// since. Of one that is not nothing is promised: it ends with `create`, `rename` and `remove` of its name, and
+    /// where another appends there.
+    ghost IsCurrent: { Self → Self.File → Type 0 };
+
     /// Whether a file stands under a name. What is no plain file, as a folder or a pipe, is a failure; a
     /// link is what it leads to.
     fn has_file(&mut self, name: &[u8]) -> Result<bool, DiskFault>
         ensures found { IsTrue honest → IfOk result (λ found. IsThere found (get (files self.old) name.now)) }
         ensures files { IsTrue honest → files self.new ≡ files self.old }
         ensures crash { IsTrue honest → Leaves Same (history self.old) (history self.new) }
+        ensures current { IsTrue honest → StayAll (IsCurrent self.old) (IsCurrent self.new) }
         ensures cause { HasCause Failed (failures self.old) (failures self.new) result };
 
     /// Opens a file to be read, and tells how many bytes it has.
@@ -74,15 +80,22 @@ pub trait Disk {
         ensures told { IsTrue honest → IfOk result (λ opened. opened.1 ≡ length (rest_of opened.0)) }
         ensures files { IsTrue honest → files self.new ≡ files self.old }
         ensures crash { IsTrue honest → Leaves Same (history self.old) (history self.new) }
+        ensures opened { IsTrue honest → IfOk result (λ opened. IsCurrent self.new opened.0) }
+        ensures name { IsTrue honest → IfOk result (λ opened. name_of opened.0 ≡ name.now) }
+        ensures current { IsTrue honest → StayAll (IsCurrent self.old) (IsCurrent self.new) }
         ensures cause { HasCause Failed (failures self.old) (failures self.new) result };
 
     /// Reads what comes next. No byte is read at the end of the file alone.
     fn read(&mut self, file: &mut Self::File, piece: &mut [u8]) -> Result<usize, DiskFault>
+        requires { IsTrue honest → IsCurrent self.old file.old }
         ensures count { IfOk result (λ count. count ≤ length piece.old) }
         ensures read { IsTrue honest → IfOk result (λ count. rest_of file.old ≡ take count piece.new ++ rest_of file.new) }
         ensures end { IsTrue honest → IfOk result (λ count. count ≡ 0 → 0 < length piece.old → rest_of file.old ≡ []) }
         ensures files { IsTrue honest → files self.new ≡ files self.old }
         ensures crash { IsTrue honest → Leaves Same (history self.old) (history self.new) }
+        ensures own { IsTrue honest → IsCurrent self.new file.new }
+        ensures name { IsTrue honest → name_of file.new ≡ name_of file.old }
+        ensures current { IsTrue honest → StayAll (IsCurrent self.old) (IsCurrent self.new) }
         ensures cause { HasCause Failed (failures self.old) (failures self.new) result };
 
     /// Makes an empty file that is to take the place of another, and gives it the mode of that. What a
@@ -94,21 +107,28 @@ pub trait Disk {
         ensures name { IsTrue honest → IfOk result (λ file. name_of file ≡ name.now) }
         ensures others { IsTrue honest → SameBut name.now (files self.old) (files self.new) }
         ensures crash { IsTrue honest → Leaves (SameBut name.now) (history self.old) (history self.new) }
+        ensures opened { IsTrue honest → IfOk result (λ file. IsCurrent self.new file) }
+        ensures current { IsTrue honest → StayOthers name_of name.now (IsCurrent self.old) (IsCurrent self.new) }
         ensures cause { HasCause Failed (failures self.old) (failures self.new) result };
 
     /// Writes behind what a file has. Until it is synced, a crash may leave anything under its name.
     fn append(&mut self, file: &mut Self::File, bytes: &[u8]) -> Result<(), DiskFault>
+        requires { IsTrue honest → IsCurrent self.old file.old }
         ensures appended { IsTrue honest → OnOk result (Appends bytes.now (get (files self.old) (name_of file.old)) (get (files self.new) (name_of file.old))) }
         ensures name { IsTrue honest → name_of file.new ≡ name_of file.old }
         ensures others { IsTrue honest → SameBut (name_of file.old) (files self.old) (files self.new) }
         ensures crash { IsTrue honest → Leaves (SameBut (name_of file.old)) (history self.old) (history self.new) }
+        ensures own { IsTrue honest → IsCurrent self.new file.new }
+        ensures current { IsTrue honest → StayOthers name_of (name_of file.old) (IsCurrent self.old) (IsCurrent self.new) }
         ensures cause { HasCause Failed (failures self.old) (failures self.new) result };
 
     /// Brings the bytes of a file to the disk.
     fn sync(&mut self, file: &Self::File) -> Result<(), DiskFault>
+        requires { IsTrue honest → IsCurrent self.old file.now }
         ensures synced { IsTrue honest → OnOk result (Synced self.new (name_of file.now)) }
         ensures files { IsTrue honest → files self.new ≡ files self.old }
         ensures crash { IsTrue honest → Leaves Same (history self.old) (history self.new) }
+        ensures current { IsTrue honest → StayAll (IsCurrent self.old) (IsCurrent self.new) }
         ensures cause { HasCause Failed (failures self.old) (failures self.new) result };
 
     /// Gives a file another name, in place of the file that had it. A crash leaves under that name the
@@ -121,6 +141,7 @@ pub trait Disk {
         ensures whole { IsTrue honest → Synced self.old from.now → Leaves (Replaces from.now to.now (get (files self.old) from.now)) (history self.old) (history self.new) }
         ensures crash { IsTrue honest → Leaves (SameButBoth from.now to.now) (history self.old) (history self.new) }
         ensures memory { IsTrue honest → IsErrOf result Memory → files self.new ≡ files self.old }
+        ensures current { IsTrue honest → (other : Self.File) → name_of other ≢ from.now → name_of other ≢ to.now → IsCurrent self.old other → IsCurrent self.new other }
         ensures cause { HasCause Failed (failures self.old) (failures self.new) result };
 
     /// Takes the file with this name away, if there is one.
@@ -128,6 +149,7 @@ pub trait Disk {
         ensures removed { IsTrue honest → OnOk result (get (files self.new) name.now ≡ None) }
         ensures others { IsTrue honest → SameBut name.now (files self.old) (files self.new) }
         ensures crash { IsTrue honest → Leaves (SameBut name.now) (history self.old) (history self.new) }
+        ensures current { IsTrue honest → StayOthers name_of name.now (IsCurrent self.old) (IsCurrent self.new) }
         ensures cause { HasCause Failed (failures self.old) (failures self.new) result };
 
     /// Brings the names to the disk: new ones, changed ones and those that are gone.
@@ -136,5 +158,10 @@ pub trait Disk {
         ensures names { IsTrue honest → OnOk result (HasNames (history self.new) (Synced self.old) (files self.old)) }
         ensures files { IsTrue honest → files self.new ≡ files self.old }
         ensures crash { IsTrue honest → Leaves Same (history self.old) (history self.new) }
+        ensures current { IsTrue honest → StayAll (IsCurrent self.old) (IsCurrent self.new) }
         ensures cause { HasCause Failed (failures self.old) (failures self.new) result };
+
+    /// What a read finds may be left: no honest disk has an empty history. Since what has been stays, each call goes
+    /// on from the history before it.
+    ghost stays: { (disk : Self) → IsTrue honest → MayLeave (history disk) (files disk) };
 }

@@ -102,6 +102,10 @@ impl<'a, R: Files<File = File>> Disk for HostDisk<'a, R> {
 
     ghost rest_of = { λ file. [] };
 
+    ghost IsCurrent = { λ disk file. ⊥ };
+
+    ghost stays = { λ disk honest. tt };
+
     fn has_file(&mut self, name: &[u8]) -> Result<bool, DiskFault> {
         let path = self.path(name)?;
         let answer = is_there(self.rt, path.as_path());

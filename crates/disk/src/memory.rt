@@ -1,13 +1,16 @@
 //! A disk in memory.
-ghost use Rattle.std.specs.Prelude.{◌≡◌, ◌≢◌, ◌++◌, ◌<◌, ◌≤◌, [], true, length, take, drop, IfOk, OnOk, OnErr};
+ghost use Rattle.std.specs.Prelude.{◌≡◌, ◌≢◌, true, drop, IfOk, OnOk, OnErr};
 ghost use Rattle.std.specs.FinMap.{empty, get};
 ghost use Rattle.disk.specs.declared.disk.DiskFault.TheVariants.{Failed};
 ghost use Rattle.disk.specs.Files.{SameBut};
 ghost use Rattle.disk.specs.Crashes.{Leaves};
-ghost use Rattle.disk.specs.Calls.{HasCause, HasRisen, Replaces};
+ghost use Rattle.disk.specs.Calls.{HasCause, Replaces};
 ghost use Rattle.disk.specs.Changes.{after, bytes_of_change, history_of, IsFound};
+ghost use Rattle.disk.specs.ChangeLaws.{latest};
 
 use crate::disk::{Disk, DiskFault};
+use crate::failing::Failing;
+use crate::mem_file::MemFile;
 use std::alloc::{AllocError, Global};
 
 /// A file that has got these bytes, or that is gone.
@@ -17,23 +20,13 @@ pub struct Change {
     bytes: Option<Vec<u8>>,
 }
 
-/// A file in memory that is open.
-#[derive(Drop)]
-pub struct MemFile {
-    name: Vec<u8>,
-    bytes: Vec<u8>,
-    at: usize,
-}
-
 /// A disk that keeps its files in memory, as a list of their changes, the newest first. It is honest, and
 /// each change lasts at once. One call can be made to fail, or all calls from one on, as after a crash.
 #[derive(Drop)]
 pub struct MemDisk {
     alloc: Global,
     changes: Vec<Change>,
-    calls_left: Option<usize>,
-    crashes: bool,
-    failures: u64,
+    failing: Failing,
 }
 
 impl Change {
@@ -99,33 +92,6 @@ fn shift(
     Ok(())
 }
 
-impl MemFile {
-    fn new(alloc: Global, name: &[u8]) -> Result<MemFile, AllocError>
-        ensures { IfOk result (λ file. file.name.items ≡ name.now) }
-    {
-        Ok(MemFile {
-            name: Vec::from_slice(alloc, name)?,
-            bytes: Vec::new(alloc),
-            at: 0,
-        })
-    }
-
-    /// Moves the next bytes to a piece, as many as it has room for.
-    fn take(&mut self, piece: &mut [u8]) -> usize
-        ensures count { result ≤ length piece.old }
-        ensures taken { drop self.old.at self.old.bytes.items ≡ take result piece.new ++ drop self.new.at self.new.bytes.items }
-        ensures end { result ≡ 0 → 0 < length piece.old → drop self.old.at self.old.bytes.items ≡ [] }
-        ensures name { self.new.name ≡ self.old.name }
-    {
-        let at = self.at.min(self.bytes.len());
-        let rest = &self.bytes[at..];
-        let count = piece.len().min(rest.len());
-        piece[..count].copy_from_slice(&rest[..count]);
-        self.at = at + count;
-        count
-    }
-}
-
 impl MemDisk {
     /// A disk without files, no call of which fails.
     pub fn new(alloc: Global) -> MemDisk
@@ -135,9 +101,7 @@ impl MemDisk {
         MemDisk {
             alloc,
             changes: Vec::new(alloc),
-            calls_left: None,
-            crashes: false,
-            failures: 0,
+            failing: Failing::never(),
         }
     }
 
@@ -146,8 +110,7 @@ impl MemDisk {
         ensures files { ⟦<MemDisk as Disk>⟧.files self.new ≡ ⟦<MemDisk as Disk>⟧.files self.old }
         ensures failures { ⟦<MemDisk as Disk>⟧.failures self.new ≡ ⟦<MemDisk as Disk>⟧.failures self.old }
     {
-        self.calls_left = Some(call);
-        self.crashes = crashes;
+        self.failing.fail_at(call, crashes);
     }
 
     /// The disk works again.
@@ -155,48 +118,16 @@ impl MemDisk {
         ensures files { ⟦<MemDisk as Disk>⟧.files self.new ≡ ⟦<MemDisk as Disk>⟧.files self.old }
         ensures failures { ⟦<MemDisk as Disk>⟧.failures self.new ≡ ⟦<MemDisk as Disk>⟧.failures self.old }
     {
-        self.calls_left = None;
-    }
-
-    /// Counts a failure.
-    fn failed(&mut self) -> DiskFault
-        ensures fault { result ≡ Failed }
-        ensures changes { self.new.changes.items ≡ self.old.changes.items }
-        ensures counted { HasRisen self.old.failures self.new.failures }
-        ensures kept { self.old.failures ≤ self.new.failures }
-    {
-        self.failures = self.failures.saturating_add(1);
-        DiskFault::Failed
-    }
-
-    /// Counts a call, and fails where it is the one to fail.
-    fn count_call(&mut self) -> Result<(), DiskFault>
-        ensures changes { self.new.changes.items ≡ self.old.changes.items }
-        ensures cause { HasCause Failed self.old.failures self.new.failures result }
-        ensures fault { OnErr result (result ≡ Err Failed) }
-    {
-        match self.calls_left {
-            None => Ok(()),
-            Some(0) => {
-                if !self.crashes {
-                    self.calls_left = None;
-                }
-                Err(self.failed())
-            }
-            Some(calls) => {
-                self.calls_left = Some(calls - 1);
-                Ok(())
-            }
-        }
+        self.failing.restart();
     }
 
     /// Counts a call, and finds the bytes of the file with this name.
     fn look(&mut self, name: &[u8]) -> Result<Option<Vec<u8>>, DiskFault>
         ensures changes { self.new.changes.items ≡ self.old.changes.items }
-        ensures cause { HasCause Failed self.old.failures self.new.failures result }
+        ensures cause { HasCause Failed self.old.failing.failures self.new.failing.failures result }
         ensures found { IfOk result (IsFound (get (after self.old.changes.items) name.now)) }
     {
-        self.count_call()?;
+        self.failing.count_call()?;
         Ok(contents(self.alloc, &self.changes, name)?)
     }
 }
@@ -212,11 +143,15 @@ impl Disk for MemDisk {
 
     ghost Synced = { λ disk name. Unit {0} };
 
-    ghost failures = { λ disk. disk.failures };
+    ghost failures = { λ disk. disk.failing.failures };
 
     ghost name_of = { λ file. file.name.items };
 
     ghost rest_of = { λ file. drop file.at file.bytes.items };
+
+    ghost IsCurrent = { λ disk file. Unit {0} };
+
+    ghost stays = { λ disk honest. latest disk.changes.items };
 
     fn has_file(&mut self, name: &[u8]) -> Result<bool, DiskFault> {
         Ok(self.look(name)?.is_some())
@@ -224,7 +159,7 @@ impl Disk for MemDisk {
 
     fn open(&mut self, name: &[u8]) -> Result<(MemFile, u64), DiskFault> {
         let Some(bytes) = self.look(name)? else {
-            return Err(self.failed());
+            return Err(self.failing.failed());
         };
         let name = Vec::from_slice(self.alloc, name)?;
         let len = bytes.len() as u64;
@@ -232,12 +167,12 @@ impl Disk for MemDisk {
     }
 
     fn read(&mut self, file: &mut MemFile, piece: &mut [u8]) -> Result<usize, DiskFault> {
-        self.count_call()?;
+        self.failing.count_call()?;
         Ok(file.take(piece))
     }
 
     fn create(&mut self, name: &[u8], _place: &[u8]) -> Result<MemFile, DiskFault> {
-        self.count_call()?;
+        self.failing.count_call()?;
         let file = MemFile::new(self.alloc, name)?;
         let bytes = Vec::new(self.alloc);
         bind(self.alloc, &mut self.changes, name, Some(bytes))?;
@@ -246,19 +181,19 @@ impl Disk for MemDisk {
 
     fn append(&mut self, file: &mut MemFile, bytes: &[u8]) -> Result<(), DiskFault> {
         let Some(mut all) = self.look(&file.name)? else {
-            return Err(self.failed());
+            return Err(self.failing.failed());
         };
         all.extend_from_slice(bytes)?;
         Ok(bind(self.alloc, &mut self.changes, &file.name, Some(all))?)
     }
 
     fn sync(&mut self, _file: &MemFile) -> Result<(), DiskFault> {
-        self.count_call()
+        self.failing.count_call()
     }
 
     fn rename(&mut self, from: &[u8], to: &[u8]) -> Result<(), DiskFault> {
         let Some(bytes) = self.look(from)? else {
-            return Err(self.failed());
+            return Err(self.failing.failed());
         };
         Ok(shift(self.alloc, &mut self.changes, from, to, bytes)?)
     }
@@ -271,6 +206,6 @@ impl Disk for MemDisk {
     }
 
     fn sync_names(&mut self) -> Result<(), DiskFault> {
-        self.count_call()
+        self.failing.count_call()
     }
 }

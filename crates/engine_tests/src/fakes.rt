@@ -69,7 +69,11 @@ impl<'a> ScriptSource for Counted<'a> {
 
     ghost reads = { λ counted. counted.reads };
 
-    fn read_some(&mut self, chunk: &mut [u8]) -> Option<usize> {
+    ghost failures = { λ _. 0 };
+
+    ghost MayRead = { λ _ _. Unit {0} };
+
+    fn read_some<W: Write>(&mut self, _writer: &W, chunk: &mut [u8]) -> Option<usize> {
         self.reads = self.reads.checked_add(1)?;
         self.rest.read(chunk).ok()
     }

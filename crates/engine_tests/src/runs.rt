@@ -1,8 +1,10 @@
 //! What a run came to, in a few numbers.
+ghost use Rattle.std.specs.Prelude.{List, ℕ, Option};
+
 use bench_engine::{RunFault, ScriptSource, run};
 use npy_files::MemStore;
 use std::alloc::Global;
-use std::io::Write;
+use std::io::{Read, Write};
 use std::process::Abort;
 
 /// The most bytes of a file.
@@ -21,14 +23,17 @@ pub fn counts<S: ScriptSource, W: Write>(
     source: &mut S,
     writer: &mut W,
     depth: usize,
-) -> Result<(u64, u64), RunFault> {
+) -> Result<(u64, u64), RunFault>
+    // It may be read at any time.
+    requires { (now : S) (written : Option (List ℕ)) → S.MayRead now written }
+{
     let mut store = MemStore::new(alloc, FILE_LIMIT);
     let summary = run(alloc, source, writer, &mut store, depth.min(MAX_DEPTH))?;
     Ok((summary.accepted, summary.refused))
 }
 
 /// Runs a script, in which so many earlier states are kept, and compares what it replies.
-pub fn check_row<S: ScriptSource>(
+pub fn check_row<S: Read>(
     rt: &impl Abort,
     alloc: Global,
     source: &mut S,
@@ -42,7 +47,7 @@ pub fn check_row<S: ScriptSource>(
 }
 
 /// Runs a script and compares what it replies, and why it stops.
-pub fn check_fault<S: ScriptSource>(
+pub fn check_fault<S: Read>(
     rt: &impl Abort,
     alloc: Global,
     source: &mut S,

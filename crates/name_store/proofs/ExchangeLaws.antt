@@ -82,13 +82,19 @@ repeated-packed item block n is = record {
 }
 
 -- the items of an array that lie one after another
+own-whole : (o : Owned) (width : ℕ) → item_size o.descr ≡ width → length o.block ≡ length (offsets o.layout) * width
+own-whole o width size = o.fills_block.fills ∙ λ i. sym (length-offsets o.layout) i * size i
+
+pub own-offsets : (o : Owned) (width : ℕ) → item_size o.descr ≡ width → is_c_contiguous width (offsets o.layout) ≡ true → offsets o.layout ≡ multiples width (length (offsets o.layout))
+own-offsets o width size test =
+    let inside = offsets-within o.layout (length o.block) width (subst (Fits o.layout (length o.block)) size o.fills_block.fits) in
+    c-packed width (offsets o.layout) test (subst (λ n. AllByRecursion (λ a. a + width ≤ n) (offsets o.layout)) (own-whole o width size) inside)
+
 pub own-packed : (o : Owned) (width : ℕ) → item_size o.descr ≡ width → is_c_contiguous width (offsets o.layout) ≡ true → IsPacked (length (offsets o.layout)) width (items_at (offsets o.layout) width o.block) o.block
-own-packed o width size test =
-    let whole : length o.block ≡ length (offsets o.layout) * width = o.fills_block.fills ∙ λ i. sym (length-offsets o.layout) i * size i in
-    let inside = offsets-within o.layout (length o.block) width (subst (Fits o.layout (length o.block)) size o.fills_block.fits) in record {
-      long = whole;
-      items = ap (λ os. items_at os width o.block) (sym (c-packed width (offsets o.layout) test (subst (λ n. AllByRecursion (λ a. a + width ≤ n) (offsets o.layout)) whole inside)));
-    }
+own-packed o width size test = record {
+  long = own-whole o width size;
+  items = ap (λ os. items_at os width o.block) (sym (own-offsets o width size test));
+}
 
 module _ (slots : List (Option Slot)) (home : Home) (target : Target) (source : Source) (can : CanPut slots home target source) (s : Slot) (there : slot_at slots home.number ≡ Some s) (all : AreAll home.width s.block (target_offsets target)) where
   abbrev os : List ℕ

@@ -31,3 +31,4 @@ pub mod UndoRebinding
 pub mod UndoUnbinding
 pub mod UndoWrite
 mod Vectors
+pub mod NearLaws

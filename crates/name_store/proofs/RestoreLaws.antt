@@ -1,7 +1,11 @@
 -- Old items go back: the bytes are as they were, however the items lie.
-use Rattle.std.proofs.Common.{◌≡◌, ◌+◌, ◌-◌, ◌<◌, ◌≤◌, ℕ, List, [], ◌∷◌, length, drop, refl, sym, ap, subst, ◌∙◌, get_or, arith, ◌⊎◌, inl, inr}
+use Rattle.std.proofs.Common.{◌≡◌, ◌+◌, ◌-◌, ◌<◌, ◌≤◌, ℕ, zero, suc, List, [], ◌∷◌, length, drop, refl, sym, ap, subst, ◌∙◌, get_or, arith, ◌⊎◌, inl, inr}
 use Rattle.std.specs.List.{AllByRecursion}
 use Rattle.std.proofs.lemmas.List.{get_or-take, get_or-drop, ext_get_or}
+use Rattle.std.specs.List.Sorted.{IsPermutation}
+use Rattle.std.proofs.lemmas.List.{get_or_default}
+use Rattle.std.proofs.lemmas.List.Elements.{Contains-get_or}
+use Rattle.std.proofs.lemmas.List.Sorted.{Contains-permutation}
 use Rattle.std.proofs.lemmas.Bool.{cases_lt}
 use Rattle.raw_block.specs.Bytes.{put, item_at}
 use Rattle.raw_block.specs.BytesLaws.{length-put, length-item_at, get_or-put_before, get_or-put_after, item_at-put_same}
@@ -80,5 +84,32 @@ put-back width (o ∷ os) old new long inside same =
       ]
     ])
 
-pub restores : (width : ℕ) (os : List ℕ) (parts : List (List ℕ)) (old : List ℕ) → AllByRecursion (λ part. length part ≡ width) parts → AllByRecursion (λ o. o + width ≤ length old) os → with_items os (items_at os width old) (with_items os parts old) ≡ old
-restores width os parts old whole inside = put-back width os old (with_items os parts old) (length-with width os parts old whole inside) inside (with-else width os parts old whole inside)
+-- ---- in another order
+
+within-at : (width : ℕ) (os : List ℕ) (k : ℕ) → Within width os k → (j : ℕ) × (j < length os) × (get_or os j 0 ≤ k) × (k < get_or os j 0 + width)
+within-at width [] k within = absurd within
+within-at width (o ∷ os) k within = elim within [
+  | inl here ↦ (0, omega arith, here.0, here.1)
+  | inr later ↦ let found = within-at width os k later in (suc found.0, omega (arith, found.1), found.2, found.3)
+]
+
+at-within : (width : ℕ) (os : List ℕ) (j k : ℕ) → j < length os → get_or os j 0 ≤ k → k < get_or os j 0 + width → Within width os k
+at-within width [] j k below from to = absurd (omega arith)
+at-within width (o ∷ os) zero k below from to = inl (from, to)
+at-within width (o ∷ os) (suc j) k below from to = inr (at-within width os j k (omega arith) from to)
+
+within-moved : (width : ℕ) (os os' : List ℕ) (k : ℕ) → IsPermutation os os' → Within width os k → Within width os' k
+within-moved width os os' k moved within =
+    let found = within-at width os k within in
+    let o = get_or os found.0 0 in
+    let there = Contains-permutation os os' o moved (Contains-get_or os found.0 0 found.1) in
+    let is : get_or os' there.0 0 ≡ o = get_or_default os' there.0 0 o there.1 ∙ there.2 in
+    at-within width os' there.0 k there.1 (omega (arith, is, found.2)) (omega (arith, is, found.3))
+
+pub restores-moved : (width : ℕ) (os os' : List ℕ) (parts : List (List ℕ)) (old : List ℕ) → IsPermutation os os' → AllByRecursion (λ part. length part ≡ width) parts → AllByRecursion (λ o. o + width ≤ length old) os → AllByRecursion (λ o. o + width ≤ length old) os' →
+    with_items os' (items_at os' width old) (with_items os parts old) ≡ old
+restores-moved width os os' parts old moved whole inside inside' =
+    put-back width os' old (with_items os parts old) (length-with width os parts old whole inside) inside' (λ k. elim (with-else width os parts old whole inside k) [
+      | inl within ↦ inl (within-moved width os os' k moved within)
+      | inr same ↦ inr same
+    ])

@@ -1,5 +1,7 @@
 -- Items are written, and the old ones are kept.
 use Rattle.std.proofs.Common.{◌≡◌, ◌+◌, ◌*◌, ◌≤◌, ℕ, true, false, List, [], ◌∷◌, ◌++◌, length, map, min, refl, sym, ap, subst, ◌∙◌, cond, Option, Some, None, Result, Ok, Err, IfOk, IfErr, nat_eq, All, arith, ◌⊎◌, inl, inr}
+use Rattle.std.specs.List.Sorted.{IsPermutation}
+use Rattle.std.proofs.lemmas.List.Sorted.{All-permutation, length_permutation}
 use Rattle.std.specs.List.{AllByRecursion}
 use Rattle.std.specs.Option.{option_map}
 use Rattle.std.proofs.lemmas.Bool.{eqb-true}
@@ -39,7 +41,7 @@ use Rattle.name_store.proofs.KeepLaws.{keep-sound, keep-state, patches-push}
 use Rattle.name_store.proofs.NameLaws.{all-both, found-used, nat_itself}
 use Rattle.name_store.proofs.Needs.{is_needed, made-held, kept-counted}
 use Rattle.name_store.proofs.PastLaws.{Restored, alike-shape, past-alike, content_before, shape, SameShape, lies-shaped, same-buffers, undoable-still, Slots}
-use Rattle.name_store.proofs.RestoreLaws.{restores}
+use Rattle.name_store.proofs.RestoreLaws.{restores-moved}
 use Rattle.name_store.proofs.RewriteLaws.{can-inside, new-users}
 use Rattle.name_store.proofs.StateLaws.{Freed}
 use Rattle.name_store.proofs.WriteLaws.{size-is, written-holds}
@@ -210,25 +212,28 @@ module _ (es : List (Key × Entry)) (slots : Slots) (ring : Ring Change) (spare 
     none-counts shallow = λ array found.
         ap (map patch_size) (none-items ring.capacity ring.items sound.short shallow) ∙ sym (none-last ring.capacity (map patch_size ring.items ++ n * item_size (descr_of (present es slots) array) ∷ []) shallow)
 
-    -- the old items are kept
-    module _ (items : OldItems) (olds : AreOldAt slots (record { number = number; width = width }) target items) where
+    -- the old items are kept, those of the target's places in any order
+    module _ (aside : Target) (moved : IsPermutation (target_offsets target) (target_offsets aside)) (items : OldItems) (olds : AreOldAt slots (record { number = number; width = width }) aside items) where
       abbrev os : List ℕ
-      os = target_offsets target
+      os = target_offsets aside
 
       old : AreOld width s.block os items
       old = olds s home.there
 
       abbrev c : Change
-      c = Write number target items
+      c = Write number aside items
+
+      all-within : All (λ o. o + width ≤ length s.block) (target_offsets target)
+      all-within = can-inside slots (record { number = number; width = width }) target source put-can s home.there
 
       within : AllByRecursion (λ o. o + width ≤ length s.block) os
-      within = recursion_from_All (λ o. o + width ≤ length s.block) os (can-inside slots (record { number = number; width = width }) target source put-can s home.there)
+      within = recursion_from_All (λ o. o + width ≤ length s.block) os (All-permutation (λ o. o + width ≤ length s.block) (target_offsets target) os moved all-within)
 
       bytes-back : with_old os items s'.block ≡ s.block
       bytes-back =
           ap (λ parts. with_items os parts s'.block) old.bytes
           ∙ (λ i. with_items os (items_at os width s.block) (new.rewritten.block i))
-          ∙ restores width os parts s.block whole' within
+          ∙ restores-moved width (target_offsets target) os parts s.block moved whole' (recursion_from_All (λ o. o + width ≤ length s.block) (target_offsets target) all-within) within
 
       restored : (q : ℕ) → is_needed names ring.items q ≡ true → Restored c q (slot_at after q) (slot_at slots q)
       restored q _ =
@@ -244,7 +249,7 @@ module _ (es : List (Key × Entry)) (slots : Slots) (ring : Ring Change) (spare 
           elsewhere None e = refl
           elsewhere (Some x) e = ap (λ t. Some (x.descr, x.items, cond t (with_old os items x.block) x.block)) e
 
-      goes : GoBack target items s'
+      goes : GoBack aside items s'
       goes = record {
         inside = subst (λ n. All (λ o. o + items.width ≤ n) os) (s.is_whole.whole ∙ λ i. sym new.rewritten.items i * item_size (sym new.rewritten.descr i))
             (subst (λ n. All (λ o. o + n ≤ length s.block) os) (sym old.size) (All-from_recursion (λ o. o + width ≤ length s.block) os within));
@@ -254,7 +259,7 @@ module _ (es : List (Key × Entry)) (slots : Slots) (ring : Ring Change) (spare 
       own' : IsUndoable c names after
       own' = (
         ap (is_in_use names) home.number_is ∙ found-used names name (array_at home.entry) home.found,
-        subst (GoBackAt target items) (sym (new.set number ∙ ap (λ t. cond t (Some s') (slot_at slots number)) (nat_itself number))) goes,
+        subst (GoBackAt aside items) (sym (new.set number ∙ ap (λ t. cond t (Some s') (slot_at slots number)) (nat_itself number))) goes,
       )
 
       -- what was written is held by a name
@@ -287,7 +292,7 @@ module _ (es : List (Key × Entry)) (slots : Slots) (ring : Ring Change) (spare 
         pub write-counts : CountsWrite (bench_value es slots ring) name target (Ok n) (bench_value es last ring')
         write-counts = λ array found.
             patches-push ring ring' c ring-is
-            ∙ ap (λ bytes. keep_last ring.capacity (map patch_size ring.items ++ bytes ∷ [])) (old.whole ∙ ap (λ size. n * size) (old.size ∙ sym (size-is es slots name number width home array found)))
+            ∙ ap (λ bytes. keep_last ring.capacity (map patch_size ring.items ++ bytes ∷ [])) (old.whole ∙ (λ i. length_permutation (target_offsets target) os moved i * (old.size ∙ sym (size-is es slots name number width home array found)) i))
 
 -- Whether items were put or not, names' arrays lie in their slots, and as many hold each.
 module _ (es : List (Key × Entry)) (slots : Slots) (ring : Ring Change) (spare : ℕ) (sound : IsSound es slots ring spare) (name : List ℕ) (number width : ℕ) (home : IsHome es slots name number width) (target : Target) (source : Source)

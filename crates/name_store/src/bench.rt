@@ -125,11 +125,11 @@ impl Bench {
             return Ok(count);
         }
         make_room(&mut self.table.names, &self.history, 0)?;
-        let items = write_over(alloc, &mut self.table.slots.cells, home, &target, source)?;
+        let written = write_over(alloc, &mut self.table.slots.cells, home, target, source)?;
         let change = Change::Write {
             number: home.number,
-            target,
-            items,
+            target: written.target,
+            items: written.items,
         };
         keep(&mut self.table.slots, &mut self.history, change);
         Ok(count)

@@ -8,6 +8,8 @@ ghost use Rattle.overlap_copy.specs.Assignments.{items_at};
 ghost use Rattle.name_store.specs.Targets.{target_offsets};
 ghost use Rattle.name_store.specs.View.{slot_at};
 ghost use Rattle.name_store.specs.declared.slot.Slot.{Slot};
+ghost use Rattle.name_store.specs.declared.target.Source.TheVariants.{Block};
+ghost use Rattle.name_store.specs.declared.target.Target.TheVariants.{View};
 ghost use Rattle.name_store.specs.inside.Exchanges.{AreAll, IsPacked, are_packed};
 ghost use Rattle.name_store.specs.inside.OldItems.{AreOldAt};
 ghost use Rattle.name_store.specs.inside.Puts.{AreItems, CanPut, Puts, parts_of};
@@ -17,8 +19,9 @@ use crate::slot::Slot;
 use crate::slots::{slot_mut, slot_of};
 use crate::table::Home;
 use crate::target::{Source, Target};
-use overlap_copy::{Owned, gather};
+use overlap_copy::{Owned, exchange, gather};
 use raw_block::{BlockBuilder, RawBlock};
+use shape_strides::Layout;
 use std::alloc::{AllocError, Global};
 use std::mem::swap;
 
@@ -116,4 +119,33 @@ pub(crate) fn replace(
         block,
         width: home.width,
     })
+}
+
+/// Exchanges the items of a view with those of a block of its own, which lie one after another, and hands
+/// out the block with the old ones. It takes no memory that may lack.
+pub(crate) fn trade(
+    alloc: Global,
+    slots: &mut Vec<Option<Slot>>,
+    home: Home,
+    to: &Layout,
+    owned: Owned,
+) -> OldItems
+    requires can { CanPut slots.old.items home (View to.now) (Block owned) }
+    requires packed { IsTrue (is_c_contiguous home.width (offsets owned.layout)) }
+    ensures written { Puts slots.old.items home (View to.now) (Block owned) slots.new.items }
+    ensures old { AreOldAt slots.old.items home (View to.now) result }
+{
+    let Owned {
+        block,
+        descr: _,
+        layout,
+    } = owned;
+    let mut block = block;
+    if let Some(slot) = slot_mut(slots, home.number) {
+        exchange(alloc, &mut slot.block, to, &mut block, &layout, home.width);
+    }
+    OldItems {
+        block,
+        width: home.width,
+    }
 }

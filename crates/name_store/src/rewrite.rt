@@ -13,7 +13,7 @@ ghost use Rattle.name_store.specs.Targets.{target_offsets};
 ghost use Rattle.name_store.specs.inside.Puts.{MayPut, InPlace};
 
 use crate::target::Target;
-use overlap_copy::{assign, assign_from, assign_shifted, gather};
+use overlap_copy::{assign, assign_from, assign_shifted, gather, in_any_order};
 use raw_block::RawBlock;
 use shape_strides::{Layout, Runs};
 use std::alloc::{AllocError, Global};
@@ -29,20 +29,42 @@ fn fill_runs(block: &mut RawBlock, runs: Runs<'_>, item: &[u8])
     }
 }
 
+/// Writes the bytes of an item at the offsets of a layout, one after the other.
+fn fill_each(block: &mut RawBlock, layout: &Layout, item: &[u8])
+    requires { All (λ offset. offset + length item.now ≤ length block.old) (offsets layout.now) }
+    ensures bytes { block.new ≡ put_each (offsets layout.now) item.now block.old }
+    ensures len { length block.new ≡ length block.old }
+{
+    fill_runs(block, Runs::new(layout), item);
+}
+
+/// The same, but that they are gone over as they lie in memory where they are apart.
+fn fill_layout(alloc: Global, block: &mut RawBlock, layout: &Layout, item: &[u8])
+    requires { All (λ offset. offset + length item.now ≤ length block.old) (offsets layout.now) }
+    ensures bytes { block.new ≡ put_each (offsets layout.now) item.now block.old }
+    ensures len { length block.new ≡ length block.old }
+{
+    match in_any_order(alloc, layout, layout, item.len()) {
+        Some(pair) => fill_each(block, &pair.target, item),
+        None => fill_each(block, layout, item),
+    }
+}
+
 /// Writes the bytes of an item at the offsets of a target.
-pub(crate) fn fill(block: &mut RawBlock, target: &Target, item: &[u8])
+pub(crate) fn fill(alloc: Global, block: &mut RawBlock, target: &Target, item: &[u8])
     requires { All (λ offset. offset + length item.now ≤ length block.old) (target_offsets target.now) }
     ensures bytes { block.new ≡ put_each (target_offsets target.now) item.now block.old }
     ensures len { length block.new ≡ length block.old }
 {
     match target {
-        Target::View(layout) => fill_runs(block, Runs::new(layout), item),
+        Target::View(layout) => fill_layout(alloc, block, layout, item),
         Target::Plan(plan) => plan.fill(block, item),
     }
 }
 
 /// Copies the items of a layout in another block to the offsets of a target, strictly in their order.
 pub(crate) fn copy_to(
+    alloc: Global,
     block: &mut RawBlock,
     target: &Target,
     other: &RawBlock,
@@ -56,7 +78,7 @@ pub(crate) fn copy_to(
     ensures len { length block.new ≡ length block.old }
 {
     match target {
-        Target::View(to) => assign_from(block, to, other, from, width),
+        Target::View(to) => assign_from(alloc, block, to, other, from, width),
         Target::Plan(plan) => plan.assign(block, other, from, width),
     }
 }

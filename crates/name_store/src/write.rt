@@ -15,22 +15,35 @@ use shape_strides::Layout;
 use std::alloc::{AllocError, Global};
 
 /// Writes one item.
-fn write_one(slots: &mut Vec<Option<Slot>>, home: Home, target: &Target, item: &Vec<u8>)
+fn write_one(
+    alloc: Global,
+    slots: &mut Vec<Option<Slot>>,
+    home: Home,
+    target: &Target,
+    item: &Vec<u8>,
+)
     requires { CanPut slots.old.items home target.now (One item.now) }
     ensures { Puts slots.old.items home target.now (One item.now) slots.new.items }
 {
     if let Some(slot) = slot_mut(slots, home.number) {
-        fill(&mut slot.block, target, item.as_slice());
+        fill(alloc, &mut slot.block, target, item.as_slice());
     }
 }
 
 /// Copies the items of a block.
-fn copy_block(slots: &mut Vec<Option<Slot>>, home: Home, target: &Target, owned: &Owned)
+fn copy_block(
+    alloc: Global,
+    slots: &mut Vec<Option<Slot>>,
+    home: Home,
+    target: &Target,
+    owned: &Owned,
+)
     requires { CanPut slots.old.items home target.now (Block owned.now) }
     ensures { Puts slots.old.items home target.now (Block owned.now) slots.new.items }
 {
     if let Some(slot) = slot_mut(slots, home.number) {
         copy_to(
+            alloc,
             &mut slot.block,
             target,
             &owned.block,
@@ -42,6 +55,7 @@ fn copy_block(slots: &mut Vec<Option<Slot>>, home: Home, target: &Target, owned:
 
 /// Copies items of another buffer, which is lent while the first is taken out.
 fn copy_across(
+    alloc: Global,
     slots: &mut Vec<Option<Slot>>,
     home: Home,
     target: &Target,
@@ -54,7 +68,14 @@ fn copy_across(
 {
     if let Some(mut slot) = slots[home.number].take() {
         let other = slot_of(slots.as_slice(), number);
-        copy_to(&mut slot.block, target, &other.block, from, home.width);
+        copy_to(
+            alloc,
+            &mut slot.block,
+            target,
+            &other.block,
+            from,
+            home.width,
+        );
         slots[home.number] = Some(slot);
     }
 }
@@ -94,14 +115,14 @@ pub(crate) fn copy_items(
     ensures no_memory { NeedsNone home target.now source.now → IsOk result }
 {
     match source {
-        Source::One(item) => write_one(slots, home, target, item),
-        Source::Block(owned) => copy_block(slots, home, target, owned),
+        Source::One(item) => write_one(alloc, slots, home, target, item),
+        Source::Block(owned) => copy_block(alloc, slots, home, target, owned),
         Source::Buffer(number, from) => {
             let number = *number as usize;
             if number == home.number {
                 return copy_within(alloc, slots, home, target, from);
             }
-            copy_across(slots, home, target, number, from);
+            copy_across(alloc, slots, home, target, number, from);
         }
     }
     Ok(())

@@ -83,9 +83,18 @@ impl<D: Disk, C: Cutter> FolderStore<D, C> {
     {
         self.disk
     }
+}
 
-    /// Reads as `read_parts` does. No crash leaves anything but what it might have left before.
-    pub fn read_file(&mut self, alloc: Global, name: &[u8]) -> Result<Option<FileParts>, StoreFault>
+impl<D: Disk, C: Cutter> NpyStore for FolderStore<D, C> {
+    ghost shelf = { λ s. folder_shelf (D.files s.disk) s.faults s.limit D.honest };
+
+    fn limit(&self) -> usize {
+        self.limit
+    }
+
+    /// A fault of the device was one of the disk, and no crash leaves anything but what it might have left
+    /// before.
+    fn read_parts(&mut self, alloc: Global, name: &[u8]) -> Result<Option<FileParts>, StoreFault>
         ensures same { IsSameStore (⟦<FolderStore<D, C> as NpyStore>⟧.shelf self.old) (⟦<FolderStore<D, C> as NpyStore>⟧.shelf self.new) }
         ensures files { (⟦<FolderStore<D, C> as NpyStore>⟧.shelf self.new).files ≡ (⟦<FolderStore<D, C> as NpyStore>⟧.shelf self.old).files }
         ensures cause { FaultHasCause (⟦<FolderStore<D, C> as NpyStore>⟧.shelf self.old) (⟦<FolderStore<D, C> as NpyStore>⟧.shelf self.new) result }
@@ -105,10 +114,10 @@ impl<D: Disk, C: Cutter> FolderStore<D, C> {
         }
     }
 
-    /// Writes as `write_parts` does. A crash at any moment leaves under each name of a user what a crash
-    /// before might have left, or for this one name the new bytes, whole. After `Ok` it leaves the new
-    /// bytes.
-    pub fn write_file(
+    /// A fault of the device was one of the disk, but for a name of no file in it. A crash at any moment leaves
+    /// under each name of a user what a crash before might have left, or for this one name the new bytes, whole.
+    /// After `Ok` it leaves the new bytes.
+    fn write_parts(
         &mut self,
         alloc: Global,
         name: &[u8],
@@ -121,12 +130,13 @@ impl<D: Disk, C: Cutter> FolderStore<D, C> {
         ensures written { IsTrue D.honest → IsWritten (⟦<FolderStore<D, C> as NpyStore>⟧.shelf self.old) name.now (front.now ++ items.now) result (⟦<FolderStore<D, C> as NpyStore>⟧.shelf self.new).files }
         ensures crash { IsTrue D.honest → Leaves (OldOrNew name.now (front.now ++ items.now)) (D.history self.old.disk) (D.history self.new.disk) }
         ensures lasting { IsTrue D.honest → OnOk result (calls.AlwaysHas (D.history self.new.disk) name.now (Some (front.now ++ items.now))) }
-        ensures disk { IsTrue D.honest → IsTrue (names.is_user_name name.now) → calls.HasCause Device (D.failures self.old.disk) (D.failures self.new.disk) result }
+        ensures disk { IsTrue (names.is_user_name name.now) → calls.HasCause Device (D.failures self.old.disk) (D.failures self.new.disk) result }
     {
         if is_longer(front.len(), items.len(), self.limit) {
             return Err(StoreFault::TooLong);
         }
-        if !is_user_name(name) {
+        let is_user = is_user_name(name);
+        if !is_user {
             self.faults = counted(self.faults, StoreFault::Device);
             return Err(StoreFault::Device);
         }
@@ -137,27 +147,5 @@ impl<D: Disk, C: Cutter> FolderStore<D, C> {
                 Err(fault)
             }
         }
-    }
-}
-
-impl<D: Disk, C: Cutter> NpyStore for FolderStore<D, C> {
-    ghost shelf = { λ s. folder_shelf (D.files s.disk) s.faults s.limit D.honest };
-
-    fn limit(&self) -> usize {
-        self.limit
-    }
-
-    fn read_parts(&mut self, alloc: Global, name: &[u8]) -> Result<Option<FileParts>, StoreFault> {
-        self.read_file(alloc, name)
-    }
-
-    fn write_parts(
-        &mut self,
-        alloc: Global,
-        name: &[u8],
-        front: &[u8],
-        items: &[u8],
-    ) -> Result<(), StoreFault> {
-        self.write_file(alloc, name, front, items)
     }
 }

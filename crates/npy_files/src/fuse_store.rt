@@ -1,5 +1,8 @@
 //! A store whose device fails once.
-ghost use Rattle.std.specs.Prelude.{◌≡◌};
+ghost use Rattle.std.specs.Prelude.{◌≡◌, ◌++◌, true};
+ghost use Rattle.std.specs.FinMap.{get};
+ghost use Rattle.npy_files.specs.Stores.{IsSameStore, FaultHasCause, IsRead, IsKept, IsWritten};
+ghost use Rattle.npy_files.specs.declared.store.StoreFault.TheVariants.{Device};
 ghost use Rattle.npy_files.specs.inside.Shelves.{answer_by, calls_after};
 
 use crate::mem_store::MemStore;
@@ -21,7 +24,8 @@ impl FuseStore {
     /// A store without files, of which the call with this number fails, reads and writes counted
     /// together from 0.
     pub fn new(alloc: Global, limit: usize, failing: usize) -> FuseStore
-        ensures { ⟦<FuseStore as NpyStore>⟧.shelf result ≡ empty_shelf limit }
+        ensures shelf { ⟦<FuseStore as NpyStore>⟧.shelf result ≡ empty_shelf limit }
+        ensures fuse { result.calls_left ≡ Some failing }
     {
         FuseStore {
             store: MemStore::new(alloc, limit),
@@ -58,7 +62,14 @@ impl NpyStore for FuseStore {
         self.store.limit()
     }
 
-    fn read_parts(&mut self, alloc: Global, name: &[u8]) -> Result<Option<FileParts>, StoreFault> {
+    fn read_parts(&mut self, alloc: Global, name: &[u8]) -> Result<Option<FileParts>, StoreFault>
+        ensures same { IsSameStore (⟦<FuseStore as NpyStore>⟧.shelf self.old) (⟦<FuseStore as NpyStore>⟧.shelf self.new) }
+        ensures files { (⟦<FuseStore as NpyStore>⟧.shelf self.new).files ≡ (⟦<FuseStore as NpyStore>⟧.shelf self.old).files }
+        ensures cause { FaultHasCause (⟦<FuseStore as NpyStore>⟧.shelf self.old) (⟦<FuseStore as NpyStore>⟧.shelf self.new) result }
+        ensures found { (⟦<FuseStore as NpyStore>⟧.shelf self.old).honest ≡ true → IsRead (λ parts. parts.front.items ++ parts.block) (⟦<FuseStore as NpyStore>⟧.shelf self.old).limit (get (⟦<FuseStore as NpyStore>⟧.shelf self.old).files name.now) result }
+        ensures counted { self.new.calls_left ≡ calls_after self.old.calls_left }
+        ensures fused { self.old.calls_left ≡ Some 0 → result ≡ Err Device }
+    {
         self.count_call()?;
         self.store.read_parts(alloc, name)
     }
@@ -69,7 +80,14 @@ impl NpyStore for FuseStore {
         name: &[u8],
         front: &[u8],
         items: &[u8],
-    ) -> Result<(), StoreFault> {
+    ) -> Result<(), StoreFault>
+        ensures same { IsSameStore (⟦<FuseStore as NpyStore>⟧.shelf self.old) (⟦<FuseStore as NpyStore>⟧.shelf self.new) }
+        ensures cause { FaultHasCause (⟦<FuseStore as NpyStore>⟧.shelf self.old) (⟦<FuseStore as NpyStore>⟧.shelf self.new) result }
+        ensures kept { IsKept name.now result (⟦<FuseStore as NpyStore>⟧.shelf self.old).files (⟦<FuseStore as NpyStore>⟧.shelf self.new).files }
+        ensures written { (⟦<FuseStore as NpyStore>⟧.shelf self.old).honest ≡ true → IsWritten (⟦<FuseStore as NpyStore>⟧.shelf self.old) name.now (front.now ++ items.now) result (⟦<FuseStore as NpyStore>⟧.shelf self.new).files }
+        ensures counted { self.new.calls_left ≡ calls_after self.old.calls_left }
+        ensures fused { self.old.calls_left ≡ Some 0 → result ≡ Err Device }
+    {
         self.count_call()?;
         self.store.write_parts(alloc, name, front, items)
     }

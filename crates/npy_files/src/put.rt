@@ -15,6 +15,7 @@ fn fill<D: Disk>(
     front: &[u8],
     items: &[u8],
 ) -> Result<(), DiskFault>
+    requires { IsTrue D.honest → D.IsCurrent disk.old file.old }
     ensures filled { IsTrue D.honest → OnOk result (Appends (front.now ++ items.now) (get (D.files disk.old) (D.name_of file.old)) (get (D.files disk.new) (D.name_of file.old))) }
     ensures synced { IsTrue D.honest → OnOk result (D.Synced disk.new (D.name_of file.old)) }
     ensures others { IsTrue D.honest → SameBut (D.name_of file.old) (D.files disk.old) (D.files disk.new) }

@@ -25,12 +25,14 @@ fn fill<D: Disk>(
     bytes: &mut [u8],
     start: usize,
 ) -> Result<(), StoreFault>
+    requires current { IsTrue D.honest → D.IsCurrent disk.old file.old }
     requires start { start ≤ length bytes.old }
     requires told { IsTrue D.honest → length bytes.old ≤ start + length (D.rest_of file.old) }
     ensures read { IsTrue D.honest → OnOk result (take start bytes.old ++ D.rest_of file.old ≡ bytes.new ++ D.rest_of file.new) }
     ensures long { ¬ IsErrOf result TooLong }
     ensures files { IsTrue D.honest → D.files disk.new ≡ D.files disk.old }
     ensures crash { IsTrue D.honest → Leaves Same (D.history disk.old) (D.history disk.new) }
+    ensures current { IsTrue D.honest → D.IsCurrent disk.new file.new }
     ensures cause { IsTrue D.honest → HasCause Device (D.failures disk.old) (D.failures disk.new) result }
 {
     let mut at = start;
@@ -51,6 +53,7 @@ fn fill_piece<D: Disk>(
     block: &mut BlockBuilder,
     count: usize,
 ) -> Result<(), StoreFault>
+    requires current { IsTrue D.honest → D.IsCurrent disk.old file.old }
     requires room { count ≤ block.old.1 }
     requires told { IsTrue D.honest → count ≤ length (D.rest_of file.old) }
     ensures read { IsTrue D.honest → OnOk result (block.old.0 ++ D.rest_of file.old ≡ block.new.0 ++ D.rest_of file.new) }
@@ -59,6 +62,7 @@ fn fill_piece<D: Disk>(
     ensures long { ¬ IsErrOf result TooLong }
     ensures files { IsTrue D.honest → D.files disk.new ≡ D.files disk.old }
     ensures crash { IsTrue D.honest → Leaves Same (D.history disk.old) (D.history disk.new) }
+    ensures current { IsTrue D.honest → D.IsCurrent disk.new file.new }
     ensures cause { IsTrue D.honest → HasCause Device (D.failures disk.old) (D.failures disk.new) result }
 {
     let start = block.filled();
@@ -74,6 +78,7 @@ fn fill_rest<D: Disk>(
     block: &mut BlockBuilder,
     len: usize,
 ) -> Result<(), StoreFault>
+    requires current { IsTrue D.honest → D.IsCurrent disk.old file.old }
     requires len { length block.old.0 + block.old.1 ≡ len }
     requires told { IsTrue D.honest → length block.old.0 + length (D.rest_of file.old) ≡ len }
     ensures read { IsTrue D.honest → OnOk result (block.old.0 ++ D.rest_of file.old ≡ block.new.0 ++ D.rest_of file.new) }
@@ -82,6 +87,7 @@ fn fill_rest<D: Disk>(
     ensures long { ¬ IsErrOf result TooLong }
     ensures files { IsTrue D.honest → D.files disk.new ≡ D.files disk.old }
     ensures crash { IsTrue D.honest → Leaves Same (D.history disk.old) (D.history disk.new) }
+    ensures current { IsTrue D.honest → D.IsCurrent disk.new file.new }
     ensures cause { IsTrue D.honest → HasCause Device (D.failures disk.old) (D.failures disk.new) result }
 {
     while block.filled() < len {
@@ -93,6 +99,7 @@ fn fill_rest<D: Disk>(
 
 /// A file that goes on is a fault: it has grown since its length was told.
 fn expect_end<D: Disk>(disk: &mut D, file: &mut D::File) -> Result<(), StoreFault>
+    requires current { IsTrue D.honest → D.IsCurrent disk.old file.old }
     requires told { IsTrue D.honest → length (D.rest_of file.old) ≡ 0 }
     ensures long { ¬ IsErrOf result TooLong }
     ensures files { IsTrue D.honest → D.files disk.new ≡ D.files disk.old }
@@ -113,6 +120,7 @@ fn read_block<D: Disk>(
     begin: &[u8],
     len: usize,
 ) -> Result<RawBlock, StoreFault>
+    requires current { IsTrue D.honest → D.IsCurrent disk.old file.old }
     requires len { length begin.now ≤ len }
     requires told { IsTrue D.honest → length begin.now + length (D.rest_of file.old) ≡ len }
     ensures read { IsTrue D.honest → IfOk result (λ block. block ≡ begin.now ++ D.rest_of file.old) }
@@ -135,12 +143,14 @@ fn read_first<D: Disk>(
     file: &mut D::File,
     len: usize,
 ) -> Result<Vec<u8>, StoreFault>
+    requires current { IsTrue D.honest → D.IsCurrent disk.old file.old }
     requires told { IsTrue D.honest → length (D.rest_of file.old) ≡ len }
     ensures read { IsTrue D.honest → IfOk result (λ first. D.rest_of file.old ≡ first.items ++ D.rest_of file.new) }
     ensures few { IfOk result (λ first. length first.items ≤ len) }
     ensures long { ¬ IsErrOf result TooLong }
     ensures files { IsTrue D.honest → D.files disk.new ≡ D.files disk.old }
     ensures crash { IsTrue D.honest → Leaves Same (D.history disk.old) (D.history disk.new) }
+    ensures current { IsTrue D.honest → D.IsCurrent disk.new file.new }
     ensures cause { IsTrue D.honest → HasCause Device (D.failures disk.old) (D.failures disk.new) result }
 {
     let mut first = Vec::new(alloc);
@@ -157,6 +167,7 @@ fn read_cut<D: Disk, C: Cutter>(
     file: &mut D::File,
     len: usize,
 ) -> Result<FileParts, StoreFault>
+    requires current { IsTrue D.honest → D.IsCurrent disk.old file.old }
     requires told { IsTrue D.honest → length (D.rest_of file.old) ≡ len }
     ensures read { IsTrue D.honest → IfOk result (λ parts. parts.front.items ++ parts.block ≡ D.rest_of file.old) }
     ensures long { ¬ IsErrOf result TooLong }

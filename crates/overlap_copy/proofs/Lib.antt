@@ -19,3 +19,4 @@ pub mod ShiftLaws
 pub mod SwapLaws
 pub mod TurnLaws
 pub mod WholeLaws
+pub mod TradeLaws

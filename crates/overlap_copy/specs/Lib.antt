@@ -10,3 +10,4 @@ pub mod Joined
 pub mod JoinedLaws
 pub mod PackedLaws
 pub mod FortranLaws
+pub mod OrderLaws

@@ -1,8 +1,10 @@
 //! Assignment: the items of a layout become those of another.
-ghost use Rattle.std.specs.Prelude.{◌≡◌, ◌+◌, ◌≤◌, ℤ, length, reverse, false, All, IfOk, IfErr, IsOk, IsTrue};
+ghost use Rattle.std.specs.Prelude.{◌≡◌, ◌+◌, ◌≤◌, ℤ, length, reverse, false, All, IfOk, IfErr, IfSome, IsOk, IsTrue};
+ghost use Rattle.std.specs.List.Sorted.{IsPermutation};
 ghost use Rattle.shape_strides.specs.Limits.{max_bytes};
 ghost use Rattle.shape_strides.specs.Indexes.{count};
 ghost use Rattle.shape_strides.specs.Layouts.{offsets, Fits, IsNested};
+ghost use Rattle.shape_strides.specs.ItemPairs.{item_pairs};
 ghost use Rattle.overlap_copy.specs.Apart.{AreApart};
 ghost use Rattle.overlap_copy.specs.Assignments.{assigned, IsRun};
 ghost use Rattle.overlap_copy.specs.Overlaps.{have_common_byte};
@@ -12,12 +14,12 @@ use crate::packed::{gather, scatter};
 use crate::run_copies::{copy_pairs, move_pairs};
 use crate::run_moves::{is_same_line, move_run, turn_run, turned};
 use raw_block::RawBlock;
-use shape_strides::{Layout, RunPairs};
+use shape_strides::{Layout, LayoutPair, RunPairs, in_memory_order};
 use std::alloc::{AllocError, Global};
 
 /// Copies the items of `width` bytes of the layout `src` in `other` to those of the layout `dst`,
-/// as many, each in C order. Takes no memory.
-pub fn assign_from(block: &mut RawBlock, dst: &Layout, other: &RawBlock, src: &Layout, width: usize)
+/// as many, pair by pair in C order.
+fn assign_pairs(block: &mut RawBlock, dst: &Layout, other: &RawBlock, src: &Layout, width: usize)
     requires dst { All (λ offset. offset + width ≤ length block.old) (offsets dst.now) }
     requires src { All (λ offset. offset + width ≤ length other.now) (offsets src.now) }
     requires count { count dst.now.shape ≡ count src.now.shape }
@@ -25,6 +27,42 @@ pub fn assign_from(block: &mut RawBlock, dst: &Layout, other: &RawBlock, src: &L
     ensures len { length block.new ≡ length block.old }
 {
     copy_pairs(block, RunPairs::new(dst, src), other, width);
+}
+
+/// The same pairs of items in the order of the target's in memory, where that is another order, and
+/// the target's places are apart, so that it does not matter.
+pub fn in_any_order(alloc: Global, dst: &Layout, src: &Layout, width: usize) -> Option<LayoutPair>
+    ensures pairs { IfSome result (λ pair. IsPermutation (item_pairs dst.now src.now) (item_pairs pair.target pair.source)) }
+    ensures nested { IfSome result (λ _. IsNested (offsets dst.now) width) }
+{
+    let pair = in_memory_order(alloc, dst, src)?;
+    if width == 0 || !dst.is_stacked(width) {
+        return None;
+    }
+    Some(pair)
+}
+
+/// Copies the items of `width` bytes of the layout `src` in `other` to those of the layout `dst`,
+/// as many, each in C order. Where the places of `dst` are apart they are gone over as they lie in
+/// memory, which is the same.
+pub fn assign_from(
+    alloc: Global,
+    block: &mut RawBlock,
+    dst: &Layout,
+    other: &RawBlock,
+    src: &Layout,
+    width: usize,
+)
+    requires dst { All (λ offset. offset + width ≤ length block.old) (offsets dst.now) }
+    requires src { All (λ offset. offset + width ≤ length other.now) (offsets src.now) }
+    requires count { count dst.now.shape ≡ count src.now.shape }
+    ensures written { block.new ≡ assigned (offsets dst.now) (offsets src.now) width other.now block.old }
+    ensures len { length block.new ≡ length block.old }
+{
+    match in_any_order(alloc, dst, src, width) {
+        Some(pair) => assign_pairs(block, &pair.target, other, &pair.source, width),
+        None => assign_pairs(block, dst, other, src, width),
+    }
 }
 
 /// The same within one block, where no item of one layout has a byte in common with one of the

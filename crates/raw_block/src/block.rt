@@ -2,7 +2,7 @@
 ghost use Rattle.std.specs.Prelude.{◌≡◌, ℕ, pos, ◌+◌, ◌*◌, ◌/◌, ◌^◌, ◌<◌, ◌≤◌, List, length, replicate, slice_index_or, IfOk};
 ghost use Rattle.std.specs.Borrow.{sem};
 ghost use Rattle.std.specs.List.{refill};
-ghost use Rattle.raw_block.specs.Bytes.{item_at, put, little_number, little_bytes, EachWithin, copied, copied_within, filled, swapped};
+ghost use Rattle.raw_block.specs.Bytes.{item_at, put, little_number, little_bytes, EachWithin, copied, copied_within, filled, swapped, traded};
 ghost use Rattle.raw_block.specs.NumberRuns.{signed_number};
 ghost use Rattle.raw_block.specs.inside.Sizes.{IsSizeFor};
 
@@ -233,6 +233,26 @@ impl RawBlock {
     {
         let (a, b) = (Steps::new(a, a_step), Steps::new(b, b_step));
         strided::swap(self.bytes_mut(), a, b, width, n);
+    }
+
+    /// Exchanges `n` items of `width` bytes with as many of `other`, one pair after the other.
+    pub fn trade_strided(
+        &mut self,
+        a: usize,
+        a_step: isize,
+        other: &mut RawBlock,
+        b: usize,
+        b_step: isize,
+        width: usize,
+        n: usize,
+    )
+        requires a { EachWithin (length self.old) a a_step width n }
+        requires b { EachWithin (length other.old) b b_step width n }
+        ensures traded { (self.new, other.new) ≡ traded a a_step b b_step width n self.old other.old }
+        ensures len { (length self.new ≡ length self.old) × (length other.new ≡ length other.old) }
+    {
+        let (a, b) = (Steps::new(a, a_step), Steps::new(b, b_step));
+        strided::trade(self.bytes_mut(), a, other.bytes_mut(), b, width, n);
     }
 }
 

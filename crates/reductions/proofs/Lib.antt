@@ -5,3 +5,4 @@ pub mod OutcomeLaws
 pub mod RowLaws
 pub mod AddedLaws
 pub mod HeldLaws
+pub mod OrderLaws

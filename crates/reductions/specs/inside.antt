@@ -5,3 +5,4 @@ pub mod FoundLaws
 pub mod Axes
 pub mod Sources
 pub mod Lines
+pub mod Orders

@@ -6,6 +6,7 @@ ghost use Rattle.elem_descr.specs.Encoding.{size};
 ghost use Rattle.raw_block.specs.Bytes.{item_at};
 ghost use Rattle.shape_strides.specs.Limits.{max_items};
 ghost use Rattle.reductions.specs.Reductions.{wide, result_scalar, needs_items};
+ghost use Rattle.reductions.specs.inside.Orders.{hangs_on_order};
 ghost use Rattle.reductions.specs.inside.Numbers.{IsStored, IsReduced, AreReduced, lists_from, HaveItems};
 
 use crate::fills::reduced;
@@ -56,6 +57,13 @@ pub(crate) fn needs_items(reduction: Red) -> bool
         Red::Minimum | Red::Maximum | Red::ArgMin | Red::ArgMax => true,
         _ => false,
     }
+}
+
+/// Whether what it makes hangs on the order of the numbers.
+pub(crate) fn hangs_on_order(reduction: Red) -> bool
+    ensures { result ≡ hangs_on_order reduction }
+{
+    matches!(reduction, Red::ArgMin | Red::ArgMax)
 }
 
 /// A block of one number, `count` times.

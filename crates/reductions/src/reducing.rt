@@ -1,6 +1,7 @@
 //! Reductions of the items of an array.
-ghost use Rattle.std.specs.Prelude.{All, ◌≡◌, ◌+◌, ◌*◌, ◌<◌, ◌≤◌, true, pos, Some, None, length, map, slice_index, slice_index_or, IfOk, IfErr};
+ghost use Rattle.std.specs.Prelude.{All, ◌≡◌, ◌+◌, ◌*◌, ◌<◌, ◌≤◌, true, false, pos, Some, None, length, map, slice_index, slice_index_or, IfOk, IfErr};
 ghost use Rattle.std.specs.List.{flat_map};
+ghost use Rattle.std.specs.List.Sorted.{IsPermutation};
 ghost use Rattle.elem_descr.specs.declared.refusal.Refusal.TheVariants.{OutOfMemory};
 ghost use Rattle.elem_descr.specs.Blocks.{item_from};
 ghost use Rattle.elem_descr.specs.Encoding.{IsNumber, size};
@@ -16,16 +17,17 @@ ghost use Rattle.reductions.specs.Lists.{named_axis, list_length, lists, IsAxisO
 ghost use Rattle.reductions.specs.Outcomes.{reduced_type, outcome_of};
 ghost use Rattle.reductions.specs.Reductions.{needs_items, reduced_items};
 ghost use Rattle.reductions.specs.inside.Numbers.{lists_from, HaveItems};
+ghost use Rattle.reductions.specs.inside.Orders.{hangs_on_order};
 ghost use Rattle.reductions.specs.inside.Sources.{lists_of, AreResults};
 
 use crate::axes::{list_length, named_axis, number_scalar, shape_after, starts_of};
-use crate::kinds::{Reducing, empty_block, result_scalar};
+use crate::kinds::{Reducing, empty_block, hangs_on_order, result_scalar};
 use crate::lines::{Lists, Source};
 use elem_descr::{Descr, Refusal};
 use machine_numbers::{Red, on_number};
 use overlap_copy::{Items, Owned, copy, goes_by_columns};
 use raw_block::RawBlock;
-use shape_strides::{Layout, MemoryOrder, StridedAxis};
+use shape_strides::{Layout, MemoryOrder, StridedAxis, in_memory_order, lies_in_c_order};
 use std::alloc::{AllocError, Global};
 
 /// The axis with a number.
@@ -68,6 +70,46 @@ fn reduced_from(
     on_number(source.scalar, task, &mut [])
 }
 
+/// A block of what comes of all items, which are gone over in the order of another layout of them.
+fn reduced_near(
+    alloc: Global,
+    reduction: Red,
+    source: Source<'_>,
+    near: &Layout,
+) -> Result<RawBlock, AllocError>
+    requires number { IsNumber source.scalar.now }
+    requires all { source.axis ≡ None }
+    requires some { 0 < count source.layout.now.shape }
+    requires free { hangs_on_order reduction ≡ false }
+    requires same { IsPermutation (offsets source.layout.now) (offsets near.now) }
+    ensures { IfOk result (AreResults reduction source.entry) }
+{
+    let source = Source {
+        bytes: source.bytes,
+        layout: near,
+        scalar: source.scalar,
+        axis: None,
+    };
+    reduced_from(alloc, reduction, source, near, None)
+}
+
+/// A block of what comes of all items, which are gone over as they lie in memory where their order does
+/// not matter.
+fn reduced_all(alloc: Global, reduction: Red, source: Source<'_>) -> Result<RawBlock, AllocError>
+    requires number { IsNumber source.scalar.now }
+    requires all { source.axis ≡ None }
+    requires some { 0 < count source.layout.now.shape }
+    ensures { IfOk result (AreResults reduction source.entry) }
+{
+    if hangs_on_order(reduction) {
+        return reduced_from(alloc, reduction, source, source.layout, None);
+    }
+    match in_memory_order(alloc, source.layout, source.layout) {
+        Some(pair) => reduced_near(alloc, reduction, source, &pair.target),
+        None => reduced_from(alloc, reduction, source, source.layout, None),
+    }
+}
+
 /// A block of what comes of each of so many lists.
 fn reduced_block(
     alloc: Global,
@@ -88,7 +130,7 @@ fn reduced_block(
         return Ok(block);
     }
     let Some(axis) = source.axis else {
-        return Ok(reduced_from(alloc, reduction, source, source.layout, None)?);
+        return Ok(reduced_all(alloc, reduction, source)?);
     };
     let starts = starts_of(alloc, source.layout, axis)?;
     let along = axis_at(source.layout, axis);
@@ -124,6 +166,11 @@ fn reduce_items(
     Ok(owned)
 }
 
+/// Whether all items are gone over as they lie in memory, and in another order than C order.
+fn goes_by_memory(reduction: Red, layout: &Layout, axis: Option<i128>) -> bool {
+    axis.is_none() && !hangs_on_order(reduction) && !lies_in_c_order(layout)
+}
+
 /// Items reduced along an axis, where a negative number counts from the end, or all of
 /// them where no axis is named, in a block of their own in C order. The axes that go have length 1 in the
 /// result if they are to be kept. Refused are, in this order, items that are no numbers as
@@ -142,7 +189,11 @@ pub fn reduce(
         ≡ reduced_items reduction o.descr items.entry.descr.now items.entry.block.now (lists items.entry.layout.now.shape (named_axis (length items.entry.layout.now.shape) axis) (offsets items.entry.layout.now))) }
     ensures bytes { IfOk result (λ o. o.block ≡ flat_map (encode_item o.descr) (owned_items o)) }
 {
-    if axis.is_some() || items.descr.size() > 8 || !goes_by_columns(items.layout) {
+    if axis.is_some()
+        || items.descr.size() > 8
+        || goes_by_memory(reduction, items.layout, axis)
+        || !goes_by_columns(items.layout)
+    {
         return reduce_items(alloc, reduction, items, axis, keep);
     }
     let near = copy(

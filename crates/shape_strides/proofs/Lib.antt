@@ -26,3 +26,5 @@ mod JoinedVectors
 mod ContiguityVectors
 pub mod SingleLaws
 pub mod LastRunLaws
+pub mod AxisMoves
+pub mod MovedLayouts

@@ -24,3 +24,4 @@ pub mod WalkLaws
 pub mod ReverseLaws
 pub mod PermutationLaws
 pub mod Reaches
+pub mod ItemPairs

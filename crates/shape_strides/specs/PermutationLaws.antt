@@ -81,7 +81,7 @@ zero-count [] k below is = absurd (omega arith)
 zero-count (n ∷ ms) zero below is = ap (λ m. m * count ms) is ∙ zero-mul (count ms)
 zero-count (n ∷ ms) (suc k) below is = ap (λ m. n * m) (zero-count ms k (omega arith) is) ∙ mul-zero n
 
-count-permutation : (ms ns : List ℕ) → IsPermutation ms ns → count ns ≡ count ms
+pub count-permutation : (ms ns : List ℕ) → IsPermutation ms ns → count ns ≡ count ms
 count-permutation ms ns same = elim (cases_lt 0 (count ms)) [
   | inl some ↦ IsPermutation-keeps ms (λ l. count l ≡ count ms) refl (λ l i j below below' is. count-swap l i j (omega (arith, is)) below below' ∙ is) ns same
   | inr above ↦

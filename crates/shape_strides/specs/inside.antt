@@ -5,3 +5,4 @@ pub mod Alike
 pub mod Single
 pub mod LastRuns
 pub mod Orders
+pub mod AxisMoves

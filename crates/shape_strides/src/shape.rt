@@ -1,5 +1,5 @@
 //! Shapes: the lengths of an array's axes.
-ghost use Rattle.std.specs.Prelude.{◌≡◌, ◌+◌, ◌≤◌, min, length, reverse, nat_le, IsTrue, All, IfOk, Some};
+ghost use Rattle.std.specs.Prelude.{◌≡◌, ◌+◌, ◌<◌, ◌≤◌, min, length, reverse, swap, nat_le, IsTrue, All, IfOk, Some};
 ghost use Rattle.std.specs.List.{list_all};
 ghost use Rattle.elem_descr.specs.Refusals.{Gives};
 ghost use Rattle.shape_strides.specs.Limits.{max_axes, max_items};
@@ -120,6 +120,16 @@ impl Shape {
     {
         let mut shape = self;
         shape.axes.as_mut_slice().reverse();
+        shape
+    }
+
+    /// The same axes, one and the next in each other's place.
+    pub(crate) fn swapped(self, axis: usize) -> Shape
+        requires { axis + 1 < length self }
+        ensures { result ≡ swap self axis (axis + 1) }
+    {
+        let mut shape = self;
+        shape.axes.as_mut_slice().swap(axis, axis + 1);
         shape
     }
 }

@@ -1,5 +1,5 @@
 //! Strides: how many bytes each axis steps over.
-ghost use Rattle.std.specs.Prelude.{◌≡◌, [], ◌∷◌, ◌++◌, pos, map, reverse, IfOk, OnOk, OnErr, Some};
+ghost use Rattle.std.specs.Prelude.{◌≡◌, ◌≢◌, [], ◌∷◌, ◌++◌, ◌+◌, ◌^◌, ◌<◌, pos, neg_ℤ, map, reverse, length, swap, slice_set, slice_index_or, IfOk, OnOk, OnErr, Some};
 ghost use Rattle.shape_strides.specs.Contiguity.{strides_text};
 
 use smallvec::SmallVec;
@@ -61,6 +61,28 @@ impl Strides {
     {
         let mut strides = self;
         strides.steps.as_mut_slice().reverse();
+        strides
+    }
+
+    /// The same strides, one and the next in each other's place.
+    pub(crate) fn swapped(self, axis: usize) -> Strides
+        requires { axis + 1 < length self }
+        ensures { result ≡ swap self axis (axis + 1) }
+    {
+        let mut strides = self;
+        strides.steps.as_mut_slice().swap(axis, axis + 1);
+        strides
+    }
+
+    /// The same strides, but for one that goes the other way.
+    pub(crate) fn opposed(self, axis: usize) -> Strides
+        requires axis { axis < length self }
+        requires short { slice_index_or self axis (pos 0) ≢ neg_ℤ (pos (2 ^ 63)) }
+        ensures { result ≡ slice_set self axis (neg_ℤ (slice_index_or self axis (pos 0))) }
+    {
+        let mut strides = self;
+        let steps = strides.steps.as_mut_slice();
+        steps[axis] = -steps[axis];
         strides
     }
 

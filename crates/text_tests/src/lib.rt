@@ -2,6 +2,8 @@
 #![tactic(auto)]
 
 #[cfg(test)]
+mod cached_disks;
+#[cfg(test)]
 mod check;
 #[cfg(test)]
 mod descriptors;

@@ -1,6 +1,6 @@
-use Rattle.std.proofs.Common.{arith}
+use Rattle.std.proofs.Common.{arith, ◌∙◌}
 use Rattle.std.proofs.lemmas.Result.{err_from_is_err_and}
-use Rattle.bench_engine.proofs.Whole.{answers-script, passed-on}
+use Rattle.bench_engine.proofs.Whole.{answers-script, passed-on, whole-lines}
 use Rattle.bench_engine.proofs.runner.run_within.Goals as goal
 
 pub returns-in_err-take_turn-clause-read_failed : goal.returns-in_err-take_turn-clause-read_failed
@@ -24,5 +24,9 @@ loop-turn-preserved g c = record {
   few = omega (arith, c.take_turn.ensures.few, c.as_mut_slice.ensures.len);
   chunk = c.loop-turn.invariant.chunk;
   counted = omega (arith, c.take_turn.ensures.counted, c.loop-turn.invariant.counted);
+  well = c.in_ok-take_turn.ensures.well ∙ c.loop-turn.invariant.well;
   fed = rw c.if-branch.false at (c.in_ok-take_turn.ensures.ok _ _ c.loop-turn.invariant.fed);
 }
+
+pub take_turn-requires-clause-may : goal.take_turn-requires-clause-may
+take_turn-requires-clause-may g c = c.requires.in_time c.loop-turn.source _ (g.N.NpyStore.shelf c.loop-turn.store) c.loop-turn.invariant.well (whole-lines _ _ _ _ c.loop-turn.invariant.fed)

@@ -1,6 +1,7 @@
 use Rattle.std.proofs.Common.{◌≡◌, ◌≤◌, ◌+◌, ◌*◌, vec_len}
 use Rattle.bench_engine.specs.Outside.{outside}
-use Rattle.bench_engine.specs.inside.Sessions.{HasRoom, Reading}
+use Rattle.bench_engine.specs.Sessions.{HasRoom}
+use Rattle.bench_engine.specs.inside.Sessions.{Reading}
 use Rattle.bench_engine.proofs.runner.run_within.Given as goal
 
 -- what was read so far is fed to the session
@@ -10,6 +11,7 @@ invariant-loop-turn g l = record {
   few : l.session.accepted + l.session.refused ≤ 65538 * l.turn;
   chunk : vec_len l.chunk ≡ l.fn.limits.size;
   counted : g.S.ScriptSource.reads l.source ≤ g.S.ScriptSource.reads l.fn.source + l.turn;
+  well : g.S.ScriptSource.failures l.source ≡ g.S.ScriptSource.failures l.fn.source;
   fed : Reading l.fn.limits.depth
       (outside (g.S.ScriptSource.remaining l.fn.source) (g.W.Write.contents l.fn.writer) (g.N.NpyStore.shelf l.fn.store))
       (outside (g.S.ScriptSource.remaining l.source) (g.W.Write.contents l.writer) (g.N.NpyStore.shelf l.store))

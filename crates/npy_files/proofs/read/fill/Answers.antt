@@ -5,7 +5,7 @@ use Rattle.npy_files.proofs.Pieces.{put_length, rest_length, read_on}
 use Rattle.npy_files.proofs.read.fill.Goals as goal
 
 pub loop-at-init : goal.loop-at-init
-loop-at-init g c = record { read = λ honest. refl; told = c.requires.told; files = λ honest. refl; crash = λ honest. unmoved _; within = c.requires.start; kept = omega arith }
+loop-at-init g c = record { read = λ honest. refl; told = c.requires.told; files = λ honest. refl; crash = λ honest. unmoved _; current = c.requires.current; within = c.requires.start; kept = omega arith }
 
 pub returns-in_err-count-clause-crash : goal.returns-in_err-count-clause-crash
 returns-in_err-count-clause-crash g c = λ honest. both_same _ _ _ (c.loop-at.invariant.crash honest) (c.read.ensures.crash honest)
@@ -28,6 +28,7 @@ loop-at-preserved g c =
           omega (arith, size, left, before);
       files = λ honest. c.read.ensures.files honest ∙ c.loop-at.invariant.files honest;
       crash = λ honest. both_same _ _ _ (c.loop-at.invariant.crash honest) (c.read.ensures.crash honest);
+      current = λ honest. c.read.ensures.own honest;
       within = grind (arith, common_steps);
       kept = omega (arith, c.loop-at.invariant.kept, c.read.ensures.cause.kept);
     }

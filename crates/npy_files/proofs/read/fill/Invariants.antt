@@ -9,6 +9,7 @@ invariant-loop-at g l = record {
   told : IsTrue g.D.Disk.honest → length l.bytes ≤ l.at + length (g.D.Disk.rest_of l.file);
   files : IsTrue g.D.Disk.honest → g.D.Disk.files l.disk ≡ g.D.Disk.files l.fn.disk;
   crash : IsTrue g.D.Disk.honest → Leaves Same (g.D.Disk.history l.fn.disk) (g.D.Disk.history l.disk);
+  current : IsTrue g.D.Disk.honest → g.D.Disk.IsCurrent l.disk l.file;
   within : l.at ≤ length l.bytes;
   kept : g.D.Disk.failures l.fn.disk ≤ g.D.Disk.failures l.disk;
 }

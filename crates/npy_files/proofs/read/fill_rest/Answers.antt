@@ -3,7 +3,7 @@ use Rattle.disk.specs.CrashLaws.{both_same, unmoved}
 use Rattle.npy_files.proofs.read.fill_rest.Goals as goal
 
 pub loop-block-init : goal.loop-block-init
-loop-block-init g c = record { read = λ honest. refl; told = c.requires.told; files = λ honest. refl; crash = λ honest. unmoved _; room = c.requires.len; kept = λ honest. omega arith }
+loop-block-init g c = record { read = λ honest. refl; told = c.requires.told; files = λ honest. refl; crash = λ honest. unmoved _; current = c.requires.current; room = c.requires.len; kept = λ honest. omega arith }
 
 pub loop-block-preserved : goal.loop-block-preserved
 loop-block-preserved g c = record {
@@ -14,6 +14,7 @@ loop-block-preserved g c = record {
       omega (arith, joined, before, length-append c.loop-block.block.0 (g.D.Disk.rest_of c.loop-block.file), length-append c.fill_piece.new.block.0 (g.D.Disk.rest_of c.fill_piece.new.file));
   files = λ honest. c.fill_piece.ensures.files honest ∙ c.loop-block.invariant.files honest;
   crash = λ honest. both_same _ _ _ (c.loop-block.invariant.crash honest) (c.fill_piece.ensures.crash honest);
+  current = λ honest. c.fill_piece.ensures.current honest;
   room = omega (arith, c.fill_piece.ensures.filled, c.fill_piece.ensures.left, c.loop-block.invariant.room);
   kept = λ honest.
       let before = c.loop-block.invariant.kept honest in

@@ -9,6 +9,7 @@ invariant-loop-block g l = record {
   told : IsTrue g.D.Disk.honest → length l.block.0 + length (g.D.Disk.rest_of l.file) ≡ l.len;
   files : IsTrue g.D.Disk.honest → g.D.Disk.files l.disk ≡ g.D.Disk.files l.fn.disk;
   crash : IsTrue g.D.Disk.honest → Leaves Same (g.D.Disk.history l.fn.disk) (g.D.Disk.history l.disk);
+  current : IsTrue g.D.Disk.honest → g.D.Disk.IsCurrent l.disk l.file;
   room : length l.block.0 + l.block.1 ≡ l.len;
   kept : IsTrue g.D.Disk.honest → g.D.Disk.failures l.fn.disk ≤ g.D.Disk.failures l.disk;
 }

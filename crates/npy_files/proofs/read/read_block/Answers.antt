@@ -8,6 +8,7 @@ returns-in_err-block-clause-crash g c = λ honest. unmoved _
 
 pub expect_end-requires : goal.expect_end-requires
 expect_end-requires g c = record {
+  current = λ honest. c.fill_rest.ensures.current honest;
   told = λ honest.
       let rest = g.D.Disk.rest_of c.args.file.now in
       let pushed : c.push_bytes.new.self.0 ≡ c.args.begin.now = c.push_bytes.ensures.bytes ∙ ap (λ (b : List ℕ × ℕ). b.0 ++ c.args.begin.now) c.in_ok-block.ensures in

@@ -1,12 +1,23 @@
-use Rattle.std.proofs.Common.{length}
-use Rattle.shape_strides.specs.Limits.{max_bytes}
-use Rattle.overlap_copy.specs.RunLaws.{walked-within}
+use Rattle.std.proofs.Common.{◌+◌, ◌≤◌, length, ◌∙◌}
+use Rattle.shape_strides.specs.Layouts.{offsets}
+use Rattle.overlap_copy.specs.OrderLaws.{even, pair_even, All-firsts, All-seconds, assigned-reordered}
 use Rattle.overlap_copy.proofs.assignment.assign_from.Goals as goal
 
-pub copy_pairs-requires-clause-to : goal.copy_pairs-requires-clause-to
-copy_pairs-requires-clause-to c =
-    walked-within (length c.args.block.now) c.args.width (λ pair. pair.first) _ _ _ c.new.ensures.pairs (c.new.ensures.first_lie max_bytes 1 c.args.dst.now.within_limit) c.new.ensures.first c.requires.dst
+pub assign_pairs-requires-clause-dst : goal.assign_pairs-requires-clause-dst
+assign_pairs-requires-clause-dst c =
+    let pair = c.in-Some.pair in
+    All-firsts (λ o. o + c.args.width ≤ length c.args.block.now) (offsets c.args.dst.now) (offsets c.args.src.now) (offsets pair.target) (offsets pair.source)
+    (even c.args.dst.now c.args.src.now c.requires.count) (pair_even pair) c.in-Some.ensures.pairs c.requires.dst
 
-pub copy_pairs-requires-clause-from : goal.copy_pairs-requires-clause-from
-copy_pairs-requires-clause-from c =
-    walked-within (length c.args.other.now) c.args.width (λ pair. pair.second) _ _ _ c.new.ensures.pairs (c.new.ensures.second_lie max_bytes 1 c.args.src.now.within_limit) c.new.ensures.second c.requires.src
+pub assign_pairs-requires-clause-src : goal.assign_pairs-requires-clause-src
+assign_pairs-requires-clause-src c =
+    let pair = c.in-Some.pair in
+    All-seconds (λ o. o + c.args.width ≤ length c.args.other.now) (offsets c.args.dst.now) (offsets c.args.src.now) (offsets pair.target) (offsets pair.source)
+    (even c.args.dst.now c.args.src.now c.requires.count) (pair_even pair) c.in-Some.ensures.pairs c.requires.src
+
+pub returns-in-Some-clause-written : goal.returns-in-Some-clause-written
+returns-in-Some-clause-written c =
+    let pair = c.in-Some.pair in
+    c.assign_pairs.ensures.written
+    ∙ assigned-reordered c.args.width (offsets c.args.dst.now) (offsets c.args.src.now) (offsets pair.target) (offsets pair.source) c.args.other.now c.args.block.now
+    (even c.args.dst.now c.args.src.now c.requires.count) c.in-Some.ensures.nested c.requires.dst c.requires.src c.in-Some.ensures.pairs

@@ -22,15 +22,15 @@ returns-then-list_length-eq0-clause-items c =
           (c.in_ok-block.ensures.items k (omega (arith, low, c.requires.items)));
     }
 
-pub reduced_from-requires-2-clause-inside : goal.reduced_from-requires-2-clause-inside
-reduced_from-requires-2-clause-inside c =
+pub reduced_from-requires-clause-inside : goal.reduced_from-requires-clause-inside
+reduced_from-requires-clause-inside c =
     let s = c.args.source in
     let low = subst (IsAxisOf (length s.layout.now.shape)) c.in-Some.is c.requires.axis in
     let some : 1 ≤ slice_index s.layout.now.shape c.in-Some.axis = omega (arith, c.if-list_length-eq0.false, c.list_length.ensures ∙ ap (list_length s.layout.now.shape) c.in-Some.is) in
     starts_within s.layout.now c.in-Some.axis c.in_ok-starts.starts low c.in_ok-starts.ensures.starts (length s.bytes.now) (size s.scalar.now) some s.inside
 
-pub reduced_from-requires-2-clause-items : goal.reduced_from-requires-2-clause-items
-reduced_from-requires-2-clause-items c =
+pub reduced_from-requires-clause-items : goal.reduced_from-requires-clause-items
+reduced_from-requires-clause-items c =
     let s = c.args.source in
     let low = subst (IsAxisOf (length s.layout.now.shape)) c.in-Some.is c.requires.axis in
     let some : 1 ≤ slice_index s.layout.now.shape c.in-Some.axis = omega (arith, c.if-list_length-eq0.false, c.list_length.ensures ∙ ap (list_length s.layout.now.shape) c.in-Some.is) in
@@ -43,8 +43,8 @@ reduced_from-requires-2-clause-items c =
       within_lines s.layout.now c.in-Some.axis starts low c.in_ok-starts.ensures.starts len width s.inside,
     )
 
-pub reduced_from-requires-2-clause-lists : goal.reduced_from-requires-2-clause-lists
-reduced_from-requires-2-clause-lists c =
+pub reduced_from-requires-clause-lists : goal.reduced_from-requires-clause-lists
+reduced_from-requires-clause-lists c =
     let s = c.args.source in
     let l = s.layout.now in
     let low = subst (IsAxisOf (length s.layout.now.shape)) c.in-Some.is c.requires.axis in

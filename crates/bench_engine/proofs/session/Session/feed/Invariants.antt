@@ -1,6 +1,6 @@
-use Rattle.std.proofs.Common.{◌≡◌, ◌≤◌, ◌+◌, ◌++◌, List, ℕ, Option, length}
-use Rattle.bench_engine.specs.Worlds.{World}
-use Rattle.bench_engine.specs.inside.Sessions.{HasRoom, FedMachine}
+use Rattle.std.proofs.Common.{◌≡◌, ◌≤◌, ◌+◌, ◌++◌, List, [], ℕ, length}
+use Rattle.bench_engine.specs.Lines.{ended_lines}
+use Rattle.bench_engine.specs.Sessions.{HasRoom, HoldsPiece, Feeds}
 use Rattle.bench_engine.proofs.session.Session.feed.Given as goal
 
 -- some first bytes are taken, up to a newline
@@ -9,8 +9,8 @@ invariant-loop-end g l = record {
   room : HasRoom l.self;
   few : l.self.accepted + l.self.refused + length l.rest ≤ l.fn.self.accepted + l.fn.self.refused + length l.bytes;
   fed : (taken : List ℕ) × (l.bytes ≡ taken ++ l.rest)
-      × ((first : World) (before : Option (List ℕ)) (read : List ℕ) → FedMachine first (g.N.NpyStore.shelf l.fn.store) before (g.W.Write.contents l.fn.writer) read l.fn.self →
-      FedMachine first (g.N.NpyStore.shelf l.store) before (g.W.Write.contents l.writer) (read ++ taken) l.self);
+      × ((held : List ℕ) → ended_lines held ≡ [] → HoldsPiece l.fn.self.line held →
+      Feeds (g.N.NpyStore.shelf l.fn.store) (g.N.NpyStore.shelf l.store) (g.W.Write.contents l.fn.writer) (g.W.Write.contents l.writer) held taken l.fn.self l.self);
 }
 
 abbrev pub decreases-loop-end : goal.decreases-loop-end

@@ -7,17 +7,17 @@ use Rattle.bench_engine.proofs.session.Session.take_line.Goals as goal
 pub returns-clause-ok : goal.returns-clause-ok
 returns-clause-ok g c =
     on_ok_weaker c.finish_line.result
-    (λ line first before read fed.
-    fed-newline AnswersLine first before _ _ _ _ (read ++ c.args.piece.now) _ _ c.finish_line.ensures.next line
-    (fed-piece AnswersLine first before _ _ read c.args.piece.now c.args.self.now _ c.requires.one refl refl c.hold.ensures.held fed))
+    (λ line first before read accepted refused fed.
+    fed-newline AnswersLine first before accepted refused _ _ _ _ (read ++ c.args.piece.now) _ _ c.finish_line.ensures.next line
+    (fed-piece AnswersLine first before accepted refused _ _ read c.args.piece.now c.args.self.now _ c.requires.one refl refl c.hold.ensures.held fed))
     c.finish_line.ensures.ok
 
 pub returns-clause-err : goal.returns-clause-err
 returns-clause-err g c =
     on_err_weaker c.finish_line.result
-    (λ part first before read more fed. (
+    (λ part first before read more accepted refused fed. (
       _,
-      cut-newline AnswersLine first before _ _ _ _ (read ++ c.args.piece.now) more _ part
-          (fed-piece AnswersLine first before _ _ read c.args.piece.now c.args.self.now _ c.requires.one refl refl c.hold.ensures.held fed),
+      cut-newline AnswersLine first before accepted refused _ _ _ _ (read ++ c.args.piece.now) more _ part
+          (fed-piece AnswersLine first before accepted refused _ _ read c.args.piece.now c.args.self.now _ c.requires.one refl refl c.hold.ensures.held fed),
     ))
     c.finish_line.ensures.err

@@ -27,7 +27,7 @@ kept c =
     let home = subst (λ (n : List ℕ). IsHome c.self.inside.table.names.entries c.self.inside.table.slots.cells.items n c.home-home.result.number c.home-home.result.width) c.of.ensures c.home-home.ensures in
     let aim = subst (λ (v : BenchValue). IsAim v.state c.args.name.now c.args.target c.args.source) (sym c.self.view_is) c.requires.aim in
     same-sound c.self.inside.table.names.entries c.make_room.new.names.entries c.keep.new.slots.cells.items c.keep.new.history (spare c.make_room.new.names) (spare c.make_room.new.names) c.in_ok-make_room.ensures.entries (omega arith)
-    (write-sound c.self.inside.table.names.entries c.self.inside.table.slots.cells.items c.self.inside.history _ c.self.invariant c.args.name.now c.home-home.result.number c.home-home.result.width home c.args.target c.args.source aim c.write_over.new.slots.items c.in_ok-items.ensures.written c.in_ok-items.items c.in_ok-items.ensures.old
+    (write-sound c.self.inside.table.names.entries c.self.inside.table.slots.cells.items c.self.inside.history _ c.self.invariant c.args.name.now c.home-home.result.number c.home-home.result.width home c.args.target c.args.source aim c.write_over.new.slots.items c.in_ok-written.ensures.written c.in_ok-written.written.target c.in_ok-written.ensures.moved c.in_ok-written.written.items c.in_ok-written.ensures.old
     c.keep.new.history c.keep.new.slots.cells.items (spare c.make_room.new.names) c.keep.ensures.history c.keep.ensures.freed c.keep.ensures.users (omega (arith, c.in_ok-make_room.ensures.room)))
 
 pub write_items-requires : goal.write_items-requires
@@ -61,23 +61,23 @@ write_over-requires c =
     let h = aimed (goal.at.write_over-requires c).After-home-home in
     put-can c.self.inside.table.names.entries c.self.inside.table.slots.cells.items c.self.inside.history _ c.self.invariant c.args.name.now c.home-home.result.number c.home-home.result.width h.0 c.args.target c.args.source h.1
 
-pub invariant_of-self-in_err-items : goal.invariant_of-self-in_err-items
-invariant_of-self-in_err-items c =
+pub invariant_of-self-in_err-written : goal.invariant_of-self-in_err-written
+invariant_of-self-in_err-written c =
     same-sound c.self.inside.table.names.entries c.make_room.new.names.entries c.write_over.new.slots.items c.self.inside.history _ (spare c.make_room.new.names) c.in_ok-make_room.ensures.entries c.in_ok-make_room.ensures.kept
-    (same-still c.self.inside.table.names.entries c.self.inside.table.slots.cells.items c.write_over.new.slots.items c.self.inside.history _ c.in_err-items.ensures.kept c.self.invariant)
+    (same-still c.self.inside.table.names.entries c.self.inside.table.slots.cells.items c.write_over.new.slots.items c.self.inside.history _ c.in_err-written.ensures.kept c.self.invariant)
 
-pub returns-in_err-items-clause-answers : goal.returns-in_err-items-clause-answers
-returns-in_err-items-clause-answers c =
-    let p = err_from_is_err_and c.from_residual-in_err-items.result c.from_residual-in_err-items.ensures.1 in
+pub returns-in_err-written-clause-answers : goal.returns-in_err-written-clause-answers
+returns-in_err-written-clause-answers c =
+    let p = err_from_is_err_and c.from_residual-in_err-written.result c.from_residual-in_err-written.ensures.1 in
     rw (p.1, p.2, ← c.self.view_is) (
-      ap (λ (ns : List (Key × Entry)). state_of ns c.write_over.new.slots.items c.self.inside.history) c.in_ok-make_room.ensures.entries ∙ same-state c.self.inside.table.names.entries c.self.inside.table.slots.cells.items c.write_over.new.slots.items c.self.inside.history c.in_err-items.ensures.kept,
+      ap (λ (ns : List (Key × Entry)). state_of ns c.write_over.new.slots.items c.self.inside.history) c.in_ok-make_room.ensures.entries ∙ same-state c.self.inside.table.names.entries c.self.inside.table.slots.cells.items c.write_over.new.slots.items c.self.inside.history c.in_err-written.ensures.kept,
       refl,
     )
 
 pub keep-requires-clause-held : goal.keep-requires-clause-held
 keep-requires-clause-held c =
     let h = aimed (goal.at.keep-requires-clause-held c).After-home-home in
-    write-held c.self.inside.table.names.entries c.self.inside.table.slots.cells.items c.self.inside.history _ c.self.invariant c.args.name.now c.home-home.result.number c.home-home.result.width h.0 c.args.target c.args.source h.1 c.write_over.new.slots.items c.in_ok-items.ensures.written c.in_ok-items.items c.in_ok-items.ensures.old
+    write-held c.self.inside.table.names.entries c.self.inside.table.slots.cells.items c.self.inside.history _ c.self.invariant c.args.name.now c.home-home.result.number c.home-home.result.width h.0 c.args.target c.args.source h.1 c.write_over.new.slots.items c.in_ok-written.ensures.written c.in_ok-written.written.target c.in_ok-written.ensures.moved c.in_ok-written.written.items c.in_ok-written.ensures.old
 
 pub invariant_of-self-2 : goal.invariant_of-self-2
 invariant_of-self-2 c = kept (goal.at.invariant_of-self-2 c).After-keep
@@ -88,7 +88,7 @@ invariant_of-self-inside-4 c = record { holds = (kept (goal.at.invariant_of-self
 pub returns-clause-answers : goal.returns-clause-answers
 returns-clause-answers c =
     let h = aimed (goal.at.returns-clause-answers c).After-home-home in
-    rw (← c.self.view_is, c.count-count.ensures, c.in_ok-make_room.ensures.entries) (write-answers c.self.inside.table.names.entries c.self.inside.table.slots.cells.items c.self.inside.history _ c.self.invariant c.args.name.now c.home-home.result.number c.home-home.result.width h.0 c.args.target c.args.source h.1 c.write_over.new.slots.items c.in_ok-items.ensures.written c.in_ok-items.items c.in_ok-items.ensures.old
+    rw (← c.self.view_is, c.count-count.ensures, c.in_ok-make_room.ensures.entries) (write-answers c.self.inside.table.names.entries c.self.inside.table.slots.cells.items c.self.inside.history _ c.self.invariant c.args.name.now c.home-home.result.number c.home-home.result.width h.0 c.args.target c.args.source h.1 c.write_over.new.slots.items c.in_ok-written.ensures.written c.in_ok-written.written.target c.in_ok-written.ensures.moved c.in_ok-written.written.items c.in_ok-written.ensures.old
     c.keep.new.history c.keep.new.slots.cells.items (spare c.make_room.new.names) c.keep.ensures.history c.keep.ensures.freed c.keep.ensures.users (omega (arith, c.in_ok-make_room.ensures.room)))
 
 pub invariant_of-self-inside : goal.invariant_of-self-inside
@@ -117,14 +117,14 @@ returns-then-capacity-eq0-clause-patches c =
     let h = aimed (goal.at.returns-then-capacity-eq0-clause-patches c).After-home-home in
     rw (← c.self.view_is) (none-counts c.self.inside.table.names.entries c.self.inside.table.slots.cells.items c.self.inside.history _ c.self.invariant c.args.name.now c.home-home.result.number c.home-home.result.width h.0 c.args.target c.args.source h.1 c.write_items.new.slots.items c.in_ok-write_items.ensures.written (omega (arith, c.capacity.ensures.capacity, c.if-capacity-eq0.true)))
 
-pub returns-in_err-items-clause-patches : goal.returns-in_err-items-clause-patches
-returns-in_err-items-clause-patches c = λ array found.
-    let p = err_from_is_err_and c.from_residual-in_err-items.result c.from_residual-in_err-items.ensures.1 in
+pub returns-in_err-written-clause-patches : goal.returns-in_err-written-clause-patches
+returns-in_err-written-clause-patches c = λ array found.
+    let p = err_from_is_err_and c.from_residual-in_err-written.result c.from_residual-in_err-written.ensures.1 in
     rw (p.1, ← c.self.view_is) (ap (λ (ns : List (Key × Entry)). bench_value ns c.write_over.new.slots.items c.self.inside.history) c.in_ok-make_room.ensures.entries
-    ∙ same-value c.self.inside.table.names.entries c.self.inside.table.slots.cells.items c.write_over.new.slots.items c.self.inside.history c.in_err-items.ensures.kept)
+    ∙ same-value c.self.inside.table.names.entries c.self.inside.table.slots.cells.items c.write_over.new.slots.items c.self.inside.history c.in_err-written.ensures.kept)
 
 pub returns-clause-patches : goal.returns-clause-patches
 returns-clause-patches c =
     let h = aimed (goal.at.returns-clause-patches c).After-home-home in
-    rw (← c.self.view_is) (write-counts c.self.inside.table.names.entries c.self.inside.table.slots.cells.items c.self.inside.history _ c.self.invariant c.args.name.now c.home-home.result.number c.home-home.result.width h.0 c.args.target c.args.source h.1 c.write_over.new.slots.items c.in_ok-items.ensures.written c.in_ok-items.items c.in_ok-items.ensures.old
+    rw (← c.self.view_is) (write-counts c.self.inside.table.names.entries c.self.inside.table.slots.cells.items c.self.inside.history _ c.self.invariant c.args.name.now c.home-home.result.number c.home-home.result.width h.0 c.args.target c.args.source h.1 c.write_over.new.slots.items c.in_ok-written.ensures.written c.in_ok-written.written.target c.in_ok-written.ensures.moved c.in_ok-written.written.items c.in_ok-written.ensures.old
     c.keep.new.history c.keep.new.slots.cells.items (spare c.make_room.new.names) c.keep.ensures.history c.keep.ensures.freed c.keep.ensures.users (omega (arith, c.in_ok-make_room.ensures.room)))

@@ -1,0 +1,12 @@
+use Rattle.std.proofs.Common.{List, IsTrue, refl, rules, subst}
+use Rattle.disk.specs.declared.cached.Event.{Event}
+use Rattle.disk.specs.Changes.{bytes_of_change}
+use Rattle.disk.specs.Cached.{MayStand}
+use Rattle.disk.proofs.Events.{may_be_left}
+use Rattle.disk.proofs.cached.CachedMemDisk.crash.Goals as goal
+
+pub returns-clause-may : goal.returns-clause-may
+returns-clause-may c =
+    let yes : IsTrue c.may_stand.result = search rules in
+    let may = subst (λ (l : List Event). MayStand l c.args.name.now (bytes_of_change c.args.left)) c.deref.ensures.value (c.may_stand.ensures.0 yes) in
+    (λ told. may_be_left c.args.self.now.events.items c.args.name.now (bytes_of_change c.args.left) may, λ some. refl)

@@ -1,0 +1,10 @@
+use Rattle.std.proofs.Common.{◌≡◌, length}
+use Rattle.std.specs.FinMap.{get}
+use Rattle.disk.specs.Cached.{found}
+use Rattle.disk.proofs.cached.contents.Given as goal
+
+abbrev pub invariant-loop-rest : goal.invariant-loop-rest
+invariant-loop-rest l = get (found l.rest) l.name ≡ get (found l.events) l.name
+
+abbrev pub decreases-loop-rest : goal.decreases-loop-rest
+decreases-loop-rest l = length l.rest

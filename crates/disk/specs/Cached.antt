@@ -1,0 +1,41 @@
+-- What a disk with a cache finds, and what a crash leaves of it.
+use Rattle.std.specs.Prelude.{◌≡◌, ◌⊎◌, ◌-◌, ◌||◌, ℕ, Bool, true, List, [], ◌∷◌, length, drop, Option, None, MatchBool, cond}
+use Rattle.std.specs.Str.{bytes_eq}
+use Rattle.std.specs.FinMap.{empty, get}
+use Rattle.disk.specs.declared.cached.Event.{Event}
+use Rattle.disk.specs.declared.cached.Event.TheVariants.{Changed, FileSynced, NamesSynced, Restarted}
+use Rattle.disk.specs.Files.{Files}
+use Rattle.disk.specs.Crashes.{History}
+use Rattle.disk.specs.Changes.{bytes_of_change, bound}
+
+-- the files as a read finds them, after these events, of which the newest comes first
+abbrev pub found : List Event → Files
+found [] = empty
+found (Changed name bytes is_whole ∷ older) = bound name.items (bytes_of_change bytes) (found older)
+found (FileSynced name ∷ older) = found older
+found (NamesSynced ∷ older) = found older
+found (Restarted ∷ older) = found older
+
+-- The bytes of the file with this name are on the disk. The name need not be.
+abbrev pub is_synced : List Event → List ℕ → Bool
+is_synced [] name = true
+is_synced (Changed other bytes is_whole ∷ older) name = cond (bytes_eq name other.items) is_whole (is_synced older name)
+is_synced (FileSynced other ∷ older) name = bytes_eq name other.items || is_synced older name
+is_synced (NamesSynced ∷ older) name = is_synced older name
+is_synced (Restarted ∷ older) name = true
+
+-- What a crash may leave under a name: of a change what was there or what came, whole, and of bytes that are not
+-- synced anything. What is synced when the names are is there, as a read finds it.
+abbrev pub MayStand : List Event → List ℕ → Option (List ℕ) → Type 0
+MayStand [] name left = left ≡ None
+MayStand (Changed other bytes is_whole ∷ older) name left = MatchBool (bytes_eq name other.items) (MatchBool is_whole (MayStand older name left ⊎ (left ≡ bytes_of_change bytes)) (Unit {0})) (MayStand older name left)
+MayStand (FileSynced other ∷ older) name left = MayStand older name left
+MayStand (NamesSynced ∷ older) name left = MatchBool (is_synced older name) (left ≡ get (found older) name) (MayStand older name left)
+MayStand (Restarted ∷ older) name left = left ≡ get (found older) name
+
+-- the files that a crash may leave
+abbrev pub MayStay : List Event → Files → Type 0
+MayStay events left = (name : List ℕ) → MayStand events name (get left name)
+
+abbrev pub cached_history : List Event → History
+cached_history events = record { now = length events; at = λ t files. MayStay (drop (length events - t) events) files }

@@ -1,0 +1,379 @@
+//! A disk in memory with a cache, which loses in a crash what was not brought to the disk.
+ghost use Rattle.std.specs.Prelude.{◌≡◌, ◌≢◌, ◌↔◌, ◌∷◌, true, drop, IsTrue, IfOk, OnOk, OnErr};
+ghost use Rattle.std.specs.FinMap.{empty, get};
+ghost use Rattle.disk.specs.declared.disk.DiskFault.TheVariants.{Failed};
+ghost use Rattle.disk.specs.Files.{Files, Same, SameBut};
+ghost use Rattle.disk.specs.Crashes.{MayLeave, Leaves};
+ghost use Rattle.disk.specs.Calls.{HasCause, SameButBoth, Replaces};
+ghost use Rattle.disk.specs.Changes.{bytes_of_change, IsFound};
+ghost use Rattle.disk.specs.Cached.{found, is_synced, MayStand, cached_history};
+ghost use Rattle.disk.specs.CachedLaws.{found_may_stay};
+
+use crate::disk::{Disk, DiskFault};
+use crate::failing::Failing;
+use crate::mem_file::MemFile;
+use std::alloc::{AllocError, Global};
+
+/// What a call has done to a disk with a cache.
+#[derive(Drop)]
+pub enum Event {
+    /// A name has got these bytes, or none. If they are whole, a crash leaves them or what was there, and
+    /// else anything.
+    Changed {
+        name: Vec<u8>,
+        bytes: Option<Vec<u8>>,
+        is_whole: bool,
+    },
+    /// The bytes of a file were brought to the disk.
+    FileSynced {
+        name: Vec<u8>,
+    },
+    /// The names were brought to the disk.
+    NamesSynced,
+    /// All was on the disk when it was started again.
+    Restarted,
+}
+
+/// A disk in memory with a cache, as a list of what its calls did, the newest first. It is honest. A crash may lose
+/// what was written of a file that was not synced, and leave any part of it or other bytes, and may lose each
+/// change of a name that was not synced. One call can be made to fail, or all calls from one on.
+#[derive(Drop)]
+pub struct CachedMemDisk {
+    alloc: Global,
+    events: Vec<Event>,
+    failing: Failing,
+}
+
+/// The bytes of the file with this name, as a read finds them.
+fn contents(alloc: Global, events: &[Event], name: &[u8]) -> Result<Option<Vec<u8>>, AllocError>
+    ensures { IfOk result (IsFound (get (found events.now) name.now)) }
+{
+    let mut rest = events;
+    while let [event, older @ ..] = rest {
+        match event {
+            Event::Changed {
+                name: other,
+                bytes,
+                ..
+            } => {
+                if name == other.as_slice() {
+                    match bytes {
+                        Some(bytes) => return Ok(Some(bytes.to_vec(alloc)?)),
+                        None => return Ok(None),
+                    }
+                }
+            }
+            Event::FileSynced { .. } | Event::NamesSynced | Event::Restarted => {}
+        }
+        rest = older;
+    }
+    Ok(None)
+}
+
+/// Whether the bytes of the file with this name are on the disk.
+fn are_bytes_synced(events: &[Event], name: &[u8]) -> bool
+    ensures { result ≡ is_synced events.now name.now }
+{
+    let mut rest = events;
+    while let [event, older @ ..] = rest {
+        match event {
+            Event::Changed {
+                name: other,
+                is_whole,
+                ..
+            } => {
+                if name == other.as_slice() {
+                    return *is_whole;
+                }
+            }
+            Event::FileSynced { name: other } => {
+                if name == other.as_slice() {
+                    return true;
+                }
+            }
+            Event::NamesSynced => {}
+            Event::Restarted => return true,
+        }
+        rest = older;
+    }
+    true
+}
+
+/// Whether two files have the same bytes, or neither is there.
+fn is_same(left: &Option<Vec<u8>>, right: &Option<Vec<u8>>) -> bool
+    ensures { IsTrue result ↔ (bytes_of_change left.now ≡ bytes_of_change right.now) }
+{
+    match (left, right) {
+        (Some(left), Some(right)) => left.as_slice() == right.as_slice(),
+        (None, None) => true,
+        (None, Some(_)) | (Some(_), None) => false,
+    }
+}
+
+/// Whether a read finds this under a name.
+fn is_found(events: &[Event], name: &[u8], left: &Option<Vec<u8>>) -> bool
+    ensures { IsTrue result ↔ (bytes_of_change left.now ≡ get (found events.now) name.now) }
+{
+    let mut rest = events;
+    while let [event, older @ ..] = rest {
+        match event {
+            Event::Changed {
+                name: other,
+                bytes,
+                ..
+            } => {
+                if name == other.as_slice() {
+                    return is_same(left, bytes);
+                }
+            }
+            Event::FileSynced { .. } | Event::NamesSynced | Event::Restarted => {}
+        }
+        rest = older;
+    }
+    left.is_none()
+}
+
+/// Whether a crash may leave this under a name.
+fn may_stand(events: &[Event], name: &[u8], left: &Option<Vec<u8>>) -> bool
+    ensures { IsTrue result ↔ MayStand events.now name.now (bytes_of_change left.now) }
+{
+    let mut rest = events;
+    while let [event, older @ ..] = rest {
+        match event {
+            Event::Changed {
+                name: other,
+                bytes,
+                is_whole,
+            } => {
+                if name == other.as_slice() {
+                    if !*is_whole {
+                        return true;
+                    }
+                    if is_same(left, bytes) {
+                        return true;
+                    }
+                }
+            }
+            Event::FileSynced { .. } => {}
+            Event::NamesSynced => {
+                if are_bytes_synced(older, name) {
+                    return is_found(older, name, left);
+                }
+            }
+            Event::Restarted => return is_found(older, name, left),
+        }
+        rest = older;
+    }
+    left.is_none()
+}
+
+/// Adds what has happened.
+fn add(events: &mut Vec<Event>, event: Event) -> Result<(), AllocError>
+    ensures ok { OnOk result (events.new.items ≡ event ∷ events.old.items) }
+    ensures err { OnErr result (events.new.items ≡ events.old.items) }
+{
+    events.insert(0, event)?;
+    Ok(())
+}
+
+/// Gives a name these bytes, or none.
+fn change(
+    alloc: Global,
+    events: &mut Vec<Event>,
+    name: &[u8],
+    bytes: Option<Vec<u8>>,
+    is_whole: bool,
+) -> Result<(), AllocError>
+    ensures bound { OnOk result (get (found events.new.items) name.now ≡ bytes_of_change bytes) }
+    ensures others { SameBut name.now (found events.old.items) (found events.new.items) }
+    ensures crash { Leaves (SameBut name.now) (cached_history events.old.items) (cached_history events.new.items) }
+{
+    let name = Vec::from_slice(alloc, name)?;
+    add(
+        events,
+        Event::Changed {
+            name,
+            bytes,
+            is_whole,
+        },
+    )?;
+    Ok(())
+}
+
+/// Gives one name these bytes, which are whole or not, and the other none.
+fn shift(
+    alloc: Global,
+    events: &mut Vec<Event>,
+    from: &[u8],
+    to: &[u8],
+    bytes: Vec<u8>,
+    is_whole: bool,
+) -> Result<(), AllocError>
+    requires { to.now ≢ from.now }
+    ensures given { OnOk result (get (found events.new.items) to.now ≡ Some bytes.items) }
+    ensures synced { OnOk result (is_synced events.new.items to.now ≡ is_whole) }
+    ensures others { Replaces from.now to.now (Some bytes.items) (found events.old.items) (found events.new.items) }
+    ensures whole { is_whole ≡ true → Leaves (Replaces from.now to.now (Some bytes.items)) (cached_history events.old.items) (cached_history events.new.items) }
+    ensures crash { Leaves (SameButBoth from.now to.now) (cached_history events.old.items) (cached_history events.new.items) }
+    ensures err { OnErr result (events.new.items ≡ events.old.items) }
+{
+    let to = Vec::from_slice(alloc, to)?;
+    let from = Vec::from_slice(alloc, from)?;
+    let arrived = Event::Changed {
+        name: to,
+        bytes: Some(bytes),
+        is_whole,
+    };
+    let gone = Event::Changed {
+        name: from,
+        bytes: None,
+        is_whole: true,
+    };
+    events.reserve(2)?;
+    events.insert(0, arrived)?;
+    events.insert(0, gone)?;
+    Ok(())
+}
+
+impl CachedMemDisk {
+    /// A disk without files, no call of which fails.
+    pub fn new(alloc: Global) -> CachedMemDisk
+        ensures files { ⟦<CachedMemDisk as Disk>⟧.files result ≡ empty }
+        ensures failures { ⟦<CachedMemDisk as Disk>⟧.failures result ≡ 0 }
+    {
+        CachedMemDisk {
+            alloc,
+            events: Vec::new(alloc),
+            failing: Failing::never(),
+        }
+    }
+
+    /// From now on the call with this number fails, counted from 0, or all from that one on.
+    pub fn fail_at(&mut self, call: usize, crashes: bool)
+        ensures files { ⟦<CachedMemDisk as Disk>⟧.files self.new ≡ ⟦<CachedMemDisk as Disk>⟧.files self.old }
+        ensures failures { ⟦<CachedMemDisk as Disk>⟧.failures self.new ≡ ⟦<CachedMemDisk as Disk>⟧.failures self.old }
+    {
+        self.failing.fail_at(call, crashes);
+    }
+
+    /// A crash leaves this under a name, if it may, and answers whether it may. Under a name for which this is not
+    /// called it leaves what a read found. Then the disk is to be started again.
+    pub fn crash(&mut self, name: &[u8], left: Option<Vec<u8>>) -> Result<bool, AllocError>
+        ensures may { IfOk result (λ may. IsTrue may ↔ ((files : Files) × MayLeave (⟦<CachedMemDisk as Disk>⟧.history self.old) files × (get files name.now ≡ bytes_of_change left))) }
+        ensures left { result ≡ Ok true → get (⟦<CachedMemDisk as Disk>⟧.files self.new) name.now ≡ bytes_of_change left }
+        ensures others { SameBut name.now (⟦<CachedMemDisk as Disk>⟧.files self.old) (⟦<CachedMemDisk as Disk>⟧.files self.new) }
+    {
+        if !may_stand(&self.events, name, &left) {
+            return Ok(false);
+        }
+        change(self.alloc, &mut self.events, name, left, true)?;
+        Ok(true)
+    }
+
+    /// The disk works again, and has what a read finds.
+    pub fn restart(&mut self) -> Result<(), AllocError>
+        ensures files { ⟦<CachedMemDisk as Disk>⟧.files self.new ≡ ⟦<CachedMemDisk as Disk>⟧.files self.old }
+        ensures kept { OnOk result ((files : Files) → MayLeave (⟦<CachedMemDisk as Disk>⟧.history self.new) files → Same (⟦<CachedMemDisk as Disk>⟧.files self.old) files) }
+        ensures failures { ⟦<CachedMemDisk as Disk>⟧.failures self.new ≡ ⟦<CachedMemDisk as Disk>⟧.failures self.old }
+    {
+        add(&mut self.events, Event::Restarted)?;
+        self.failing.restart();
+        Ok(())
+    }
+
+    /// Counts a call, and finds the bytes of the file with this name.
+    fn look(&mut self, name: &[u8]) -> Result<Option<Vec<u8>>, DiskFault>
+        ensures events { self.new.events.items ≡ self.old.events.items }
+        ensures cause { HasCause Failed self.old.failing.failures self.new.failing.failures result }
+        ensures found { IfOk result (IsFound (get (found self.old.events.items) name.now)) }
+    {
+        self.failing.count_call()?;
+        Ok(contents(self.alloc, &self.events, name)?)
+    }
+}
+
+impl Disk for CachedMemDisk {
+    type File = MemFile;
+
+    ghost honest = { true };
+
+    ghost files = { λ disk. found disk.events.items };
+
+    ghost history = { λ disk. cached_history disk.events.items };
+
+    ghost Synced = { λ disk name. IsTrue (is_synced disk.events.items name) };
+
+    ghost failures = { λ disk. disk.failing.failures };
+
+    ghost name_of = { λ file. file.name.items };
+
+    ghost rest_of = { λ file. drop file.at file.bytes.items };
+
+    ghost IsCurrent = { λ disk file. Unit {0} };
+
+    ghost stays = { λ disk honest. found_may_stay disk.events.items };
+
+    fn has_file(&mut self, name: &[u8]) -> Result<bool, DiskFault> {
+        Ok(self.look(name)?.is_some())
+    }
+
+    fn open(&mut self, name: &[u8]) -> Result<(MemFile, u64), DiskFault> {
+        let Some(bytes) = self.look(name)? else {
+            return Err(self.failing.failed());
+        };
+        let name = Vec::from_slice(self.alloc, name)?;
+        let len = bytes.len() as u64;
+        Ok((MemFile { name, bytes, at: 0 }, len))
+    }
+
+    fn read(&mut self, file: &mut MemFile, piece: &mut [u8]) -> Result<usize, DiskFault> {
+        self.failing.count_call()?;
+        Ok(file.take(piece))
+    }
+
+    fn create(&mut self, name: &[u8], _place: &[u8]) -> Result<MemFile, DiskFault> {
+        self.failing.count_call()?;
+        let file = MemFile::new(self.alloc, name)?;
+        let bytes = Vec::new(self.alloc);
+        change(self.alloc, &mut self.events, name, Some(bytes), false)?;
+        Ok(file)
+    }
+
+    fn append(&mut self, file: &mut MemFile, bytes: &[u8]) -> Result<(), DiskFault> {
+        let Some(mut all) = self.look(&file.name)? else {
+            return Err(self.failing.failed());
+        };
+        all.extend_from_slice(bytes)?;
+        Ok(change(self.alloc, &mut self.events, &file.name, Some(all), false)?)
+    }
+
+    fn sync(&mut self, file: &MemFile) -> Result<(), DiskFault> {
+        self.failing.count_call()?;
+        let name = Vec::from_slice(self.alloc, &file.name)?;
+        Ok(add(&mut self.events, Event::FileSynced { name })?)
+    }
+
+    fn rename(&mut self, from: &[u8], to: &[u8]) -> Result<(), DiskFault> {
+        let Some(bytes) = self.look(from)? else {
+            return Err(self.failing.failed());
+        };
+        let is_whole = are_bytes_synced(&self.events, from);
+        Ok(shift(self.alloc, &mut self.events, from, to, bytes, is_whole)?)
+    }
+
+    fn remove(&mut self, name: &[u8]) -> Result<(), DiskFault> {
+        if self.look(name)?.is_none() {
+            return Ok(());
+        }
+        Ok(change(self.alloc, &mut self.events, name, None, true)?)
+    }
+
+    // That no memory is found for it is told as a failure, since this call has no other.
+    fn sync_names(&mut self) -> Result<(), DiskFault> {
+        self.failing.count_call()?;
+        match add(&mut self.events, Event::NamesSynced) {
+            Ok(()) => Ok(()),
+            Err(_) => Err(self.failing.failed()),
+        }
+    }
+}

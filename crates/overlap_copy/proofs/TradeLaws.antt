@@ -1,0 +1,112 @@
+-- Items of two blocks that are exchanged: each block has then those that the other one had.
+use Rattle.std.proofs.Common.{◌≡◌, ◌+◌, ◌<◌, ◌≤◌, ◌⊎◌, inl, inr, ℕ, zero, suc, ℤ, List, [], ◌∷◌, ◌++◌, length, get_or, All, refl, sym, ap, subst, ◌∙◌, arith}
+use Rattle.std.proofs.lemmas.Bool.{cases_lt}
+use Rattle.std.proofs.lemmas.List.{same_lists, length-map, get_or-map}
+use Rattle.std.proofs.lemmas.List.Elements.{All-head, All-tail}
+use Rattle.raw_block.specs.Bytes.{put, item_at, place, EachWithin, traded}
+use Rattle.raw_block.specs.BytesLaws.{length-item_at, length-put, item_at-put_apart, fewer}
+use Rattle.shape_strides.specs.declared.runs.Run.{Run}
+use Rattle.shape_strides.specs.declared.run_pairs.RunPair.{RunPair}
+use Rattle.shape_strides.specs.Layouts.{IsNested, distance}
+use Rattle.shape_strides.specs.Runs.{run_offsets}
+use Rattle.shape_strides.specs.WalkLaws.{length-run_offsets}
+use Rattle.overlap_copy.specs.RunLaws.{run_offsets-more}
+use Rattle.overlap_copy.specs.Assignments.{items_at, with_items, assigned}
+use Rattle.overlap_copy.specs.inside.Trades.{traded_at}
+use Rattle.overlap_copy.proofs.MoveLaws.{assigned_is}
+use Rattle.overlap_copy.proofs.RunCopies.{firsts, seconds}
+
+abbrev Both : Type 0
+Both = List ℕ × List ℕ
+
+pub traded-append : (to from to' from' : List ℕ) (width : ℕ) (both : Both) → length to ≡ length from → traded_at (to ++ to') (from ++ from') width both ≡ traded_at to' from' width (traded_at to from width both)
+traded-append [] [] to' from' width both even = refl
+traded-append [] (offset ∷ from) to' from' width both even = absurd (omega (arith, even))
+traded-append (at ∷ to) [] to' from' width both even = absurd (omega (arith, even))
+traded-append (at ∷ to) (offset ∷ from) to' from' width both even =
+    traded-append to from to' from' width (put at (item_at offset width both.1) both.0, put offset (item_at at width both.0) both.1) (omega (arith, even))
+
+-- ---- at equal steps
+
+traded-run : (len other_len a : ℕ) (a_step : ℤ) (b : ℕ) (b_step : ℤ) (width n : ℕ) (block other : List ℕ) → EachWithin len a a_step width n → EachWithin other_len b b_step width n →
+    traded a a_step b b_step width n block other ≡ traded_at (run_offsets (record { offset = a; count = n; step = a_step })) (run_offsets (record { offset = b; count = n; step = b_step })) width (block, other)
+traded-run len other_len a a_step b b_step width zero block other to from = refl
+traded-run len other_len a a_step b b_step width (suc n) block other to from =
+    let here : Run = record { offset = a; count = n; step = a_step } in
+    let there : Run = record { offset = b; count = n; step = b_step } in
+    let last = place a a_step n in
+    let last' = place b b_step n in
+    let next : Both → Both = λ now. (put last (item_at last' width now.1) now.0, put last' (item_at last width now.0) now.1) in
+    ap next (traded-run len other_len a a_step b b_step width n block other (fewer len a a_step width n to) (fewer other_len b b_step width n from))
+    ∙ sym (traded-append (run_offsets here) (run_offsets there) (last ∷ []) (last' ∷ []) width (block, other) (length-run_offsets here ∙ sym (length-run_offsets there)))
+    ∙ λ i. traded_at (sym (run_offsets-more len a a_step width n to) i) (sym (run_offsets-more other_len b b_step width n from) i) width (block, other)
+
+pub traded-even : (to from : Run) (width : ℕ) (block other : List ℕ) → to.count ≡ from.count → EachWithin (length block) to.offset to.step width to.count → EachWithin (length other) from.offset from.step width from.count →
+    traded to.offset to.step from.offset from.step width to.count block other ≡ traded_at (run_offsets to) (run_offsets from) width (block, other)
+traded-even to from width block other even lies lies' =
+    traded-run (length block) (length other) to.offset to.step from.offset from.step width to.count block other lies (subst (EachWithin (length other) from.offset from.step width) (sym even) lies')
+    ∙ ap (λ n. traded_at (run_offsets to) (run_offsets (record { offset = from.offset; count = n; step = from.step })) width (block, other)) even
+
+-- ---- pair after pair
+
+pub traded-pair : (left left' : List RunPair) (pair : RunPair) (width : ℕ) (now now' whole : Both) → left ≡ pair ∷ left' → pair.first.count ≡ pair.second.count →
+    now' ≡ traded_at (run_offsets pair.first) (run_offsets pair.second) width now → traded_at (firsts left) (seconds left) width now ≡ whole → traded_at (firsts left') (seconds left') width now' ≡ whole
+traded-pair left left' pair width now now' whole walked even is so_far =
+    ap (traded_at (firsts left') (seconds left') width) is
+    ∙ sym (traded-append (run_offsets pair.first) (run_offsets pair.second) (firsts left') (seconds left') width now (length-run_offsets pair.first ∙ even ∙ sym (length-run_offsets pair.second)))
+    ∙ (λ i. traded_at (firsts (sym walked i)) (seconds (sym walked i)) width now)
+    ∙ so_far
+
+-- ---- where the places lie apart
+
+-- items that lie apart from one that is put are as they were
+kept_items : (width at : ℕ) (item : List ℕ) (places block : List ℕ) → length item ≡ width → at + width ≤ length block → All (λ o. o + width ≤ length block) places → ((k : ℕ) → k < length places → width ≤ distance at (get_or places k 0)) →
+    items_at places width (put at item block) ≡ items_at places width block
+kept_items width at item [] block long inside within apart = refl
+kept_items width at item (o ∷ places) block long inside within apart =
+    let far = apart 0 (omega arith) in
+    let sides : o + width ≤ at ⊎ at + length item ≤ o = elim (cases_lt o at) [
+      | inl before ↦ inl (omega (arith, before, far))
+      | inr above ↦ inr (omega (arith, above, far, long))
+    ] in
+    let same = item_at-put_apart at item block o width (omega (arith, inside, long)) (All-head (λ o. o + width ≤ length block) o places within) sides in
+    let later = kept_items width at item places block long inside (All-tail (λ o. o + width ≤ length block) o places within) (λ k below. apart (suc k) (omega (arith, below))) in
+    λ i. same i ∷ later i
+
+pub traded-apart : (width : ℕ) (to from block other : List ℕ) → length from ≡ length to → IsNested to width → IsNested from width → All (λ o. o + width ≤ length block) to → All (λ o. o + width ≤ length other) from →
+    traded_at to from width (block, other) ≡ (assigned to from width other block, assigned from to width block other)
+traded-apart width [] [] block other even nested nested' in_to in_from = refl
+traded-apart width [] (offset ∷ from) block other even nested nested' in_to in_from = absurd (omega (arith, even))
+traded-apart width (at ∷ to) [] block other even nested nested' in_to in_from = absurd (omega (arith, even))
+traded-apart width (at ∷ to) (offset ∷ from) block other even nested nested' in_to in_from =
+    let ends = λ (o : ℕ). o + width ≤ length block in
+    let ends' = λ (o : ℕ). o + width ≤ length other in
+    let here = All-head ends at to in_to in
+    let there = All-head ends' offset from in_from in
+    let item = item_at offset width other in
+    let item' = item_at at width block in
+    let long = length-item_at offset width other there in
+    let long' = length-item_at at width block here in
+    let x = put at item block in
+    let y = put offset item' other in
+    let same = length-put at item block (omega (arith, here, long)) in
+    let same' = length-put offset item' other (omega (arith, there, long')) in
+    let kept : items_at from width y ≡ items_at from width other = kept_items width offset item' from other long' there (All-tail ends' offset from in_from) (λ k below. nested'.apart 0 (suc k) (omega arith) (omega (arith, below))) in
+    let kept' : items_at to width x ≡ items_at to width block = kept_items width at item to block long here (All-tail ends at to in_to) (λ k below. nested.apart 0 (suc k) (omega arith) (omega (arith, below))) in
+    traded-apart width to from x y (omega (arith, even)) (later at to nested) (later offset from nested')
+    (subst (λ n. All (λ o. o + width ≤ n) to) (sym same) (All-tail ends at to in_to)) (subst (λ n. All (λ o. o + width ≤ n) from) (sym same') (All-tail ends' offset from in_from))
+    ∙ (λ i. (with_items to (kept i) x, with_items from (kept' i) y))
+  where
+    later : (p : ℕ) (ps : List ℕ) → IsNested (p ∷ ps) width → IsNested ps width
+    later p ps nested = record { apart = λ j k before below. nested.apart (suc j) (suc k) (omega (arith, before)) (omega (arith, below)) }
+
+-- the items are then read where they were put
+pub items-assigned : (width : ℕ) (to from other block : List ℕ) → length from ≡ length to → IsNested to width → All (λ o. o + width ≤ length block) to → All (λ o. o + width ≤ length other) from →
+    items_at to width (assigned to from width other block) ≡ items_at from width other
+items-assigned width to from other block even nested in_to in_from =
+    let new = assigned to from width other block in
+    let is = assigned_is width other to from block (sym even) in_to in_from nested in
+    let long = length-map to (λ o. item_at o width new) in
+    same_lists (items_at to width new) (items_at from width other) (long ∙ sym even ∙ sym (length-map from (λ o. item_at o width other))) (λ k d below.
+    let low : k < length to = omega (arith, below, long) in
+    get_or-map (λ o. item_at o width new) to k 0 d low ∙ is.items k low ∙ sym (get_or-map (λ o. item_at o width other) from k 0 d (omega (arith, low, even))))

@@ -1,0 +1,16 @@
+use Rattle.std.proofs.Common.{◌≡◌, length, All}
+use Rattle.raw_block.specs.Bytes.{EachWithin}
+use Rattle.overlap_copy.specs.inside.Trades.{traded_at}
+use Rattle.overlap_copy.proofs.RunCopies.{firsts, seconds}
+use Rattle.overlap_copy.proofs.exchanges.trade_pairs.Given as goal
+
+-- the pairs that are left lead to what all of them do
+abbrev pub invariant-loop-pair : goal.invariant-loop-pair
+invariant-loop-pair l = record {
+  rest : traded_at (firsts l.pair-iterator) (seconds l.pair-iterator) l.width (l.block, l.other) ≡ traded_at (firsts l.fn.pairs) (seconds l.fn.pairs) l.width (l.fn.block, l.fn.other);
+  len : length l.block ≡ length l.fn.block;
+  other_len : length l.other ≡ length l.fn.other;
+  counts : All (λ pair. pair.first.count ≡ pair.second.count) l.pair-iterator;
+  to : All (λ pair. EachWithin (length l.fn.block) pair.first.offset pair.first.step l.width pair.first.count) l.pair-iterator;
+  from : All (λ pair. EachWithin (length l.fn.other) pair.second.offset pair.second.step l.width pair.second.count) l.pair-iterator;
+}

@@ -1,0 +1,8 @@
+-- Items of two blocks that are exchanged.
+use Rattle.std.specs.Prelude.{ℕ, List, ◌∷◌}
+use Rattle.raw_block.specs.Bytes.{put, item_at}
+
+-- a block and another one, with the items at these offsets of either in each other's place, one pair after the other
+abbrev pub traded_at : List ℕ → List ℕ → ℕ → List ℕ × List ℕ → List ℕ × List ℕ
+traded_at (at ∷ to) (offset ∷ from) width both = traded_at to from width (put at (item_at offset width both.1) both.0, put offset (item_at at width both.0) both.1)
+traded_at _ _ width both = both

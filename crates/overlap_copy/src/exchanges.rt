@@ -1,0 +1,97 @@
+//! Items of two blocks that are exchanged, in one pass.
+ghost use Rattle.std.specs.Prelude.{◌≡◌, ◌+◌, ◌≤◌, length, All};
+ghost use Rattle.std.specs.List.{flat_map};
+ghost use Rattle.raw_block.specs.Bytes.{EachWithin};
+ghost use Rattle.shape_strides.specs.Indexes.{count};
+ghost use Rattle.shape_strides.specs.Layouts.{offsets, IsNested};
+ghost use Rattle.shape_strides.specs.Runs.{run_offsets};
+ghost use Rattle.overlap_copy.specs.Assignments.{assigned, items_at};
+ghost use Rattle.overlap_copy.specs.inside.Trades.{traded_at};
+
+use raw_block::RawBlock;
+use shape_strides::{Layout, Run, RunPairs, in_memory_order};
+use std::alloc::Global;
+
+/// Exchanges the items of `width` bytes of a run with those of a run of `other`, as many.
+fn trade_run(block: &mut RawBlock, to: Run, other: &mut RawBlock, from: Run, width: usize)
+    requires count { to.count ≡ from.count }
+    requires to { EachWithin (length block.old) to.offset to.step width to.count }
+    requires from { EachWithin (length other.old) from.offset from.step width from.count }
+    ensures traded { (block.new, other.new) ≡ traded_at (run_offsets to) (run_offsets from) width (block.old, other.old) }
+    ensures len { length block.new ≡ length block.old }
+    ensures other_len { length other.new ≡ length other.old }
+{
+    block.trade_strided(
+        to.offset,
+        to.step,
+        other,
+        from.offset,
+        from.step,
+        width,
+        to.count,
+    );
+}
+
+/// The same pair by pair, the first run of each with the second one, of `other`.
+fn trade_pairs(block: &mut RawBlock, pairs: RunPairs<'_>, other: &mut RawBlock, width: usize)
+    requires counts { All (λ pair. pair.first.count ≡ pair.second.count) pairs }
+    requires to { All (λ pair. EachWithin (length block.old) pair.first.offset pair.first.step width pair.first.count) pairs }
+    requires from { All (λ pair. EachWithin (length other.old) pair.second.offset pair.second.step width pair.second.count) pairs }
+    ensures traded { (block.new, other.new) ≡ traded_at (flat_map (λ pair. run_offsets pair.first) pairs.entry)
+        (flat_map (λ pair. run_offsets pair.second) pairs.entry) width (block.old, other.old) }
+    ensures len { length block.new ≡ length block.old }
+    ensures other_len { length other.new ≡ length other.old }
+{
+    for pair in pairs {
+        trade_run(block, pair.first, other, pair.second, width);
+    }
+}
+
+/// Exchanges the items of `width` bytes of the layout `dst` with those of the layout `src` in `other`,
+/// as many, pair by pair in C order.
+fn exchange_pairs(
+    block: &mut RawBlock,
+    dst: &Layout,
+    other: &mut RawBlock,
+    src: &Layout,
+    width: usize,
+)
+    requires dst { All (λ offset. offset + width ≤ length block.old) (offsets dst.now) }
+    requires src { All (λ offset. offset + width ≤ length other.old) (offsets src.now) }
+    requires count { count dst.now.shape ≡ count src.now.shape }
+    requires nested { IsNested (offsets dst.now) width }
+    requires other_nested { IsNested (offsets src.now) width }
+    ensures written { block.new ≡ assigned (offsets dst.now) (offsets src.now) width other.old block.old }
+    ensures old { other.new ≡ assigned (offsets src.now) (offsets dst.now) width block.old other.old }
+    ensures len { length block.new ≡ length block.old }
+    ensures other_len { length other.new ≡ length other.old }
+{
+    trade_pairs(block, RunPairs::new(dst, src), other, width);
+}
+
+/// Exchanges the items of `width` bytes of the layout `dst` with those of the layout `src` in `other`,
+/// as many, each in C order: the items of either are then those that the other one had. They are gone
+/// over as those of `dst` lie in memory, which is the same.
+pub fn exchange(
+    alloc: Global,
+    block: &mut RawBlock,
+    dst: &Layout,
+    other: &mut RawBlock,
+    src: &Layout,
+    width: usize,
+)
+    requires dst { All (λ offset. offset + width ≤ length block.old) (offsets dst.now) }
+    requires src { All (λ offset. offset + width ≤ length other.old) (offsets src.now) }
+    requires count { count dst.now.shape ≡ count src.now.shape }
+    requires nested { IsNested (offsets dst.now) width }
+    requires other_nested { IsNested (offsets src.now) width }
+    ensures written { block.new ≡ assigned (offsets dst.now) (offsets src.now) width other.old block.old }
+    ensures old { items_at (offsets src.now) width other.new ≡ items_at (offsets dst.now) width block.old }
+    ensures len { length block.new ≡ length block.old }
+    ensures other_len { length other.new ≡ length other.old }
+{
+    match in_memory_order(alloc, dst, src) {
+        Some(pair) => exchange_pairs(block, &pair.target, other, &pair.source, width),
+        None => exchange_pairs(block, dst, other, src, width),
+    }
+}

@@ -1,0 +1,10 @@
+use Rattle.std.proofs.Common.{refl}
+use Rattle.shape_strides.specs.Layouts.{offsets}
+use Rattle.overlap_copy.specs.OrderLaws.{pair_even, firsts-reordered}
+use Rattle.reductions.proofs.reducing.reduced_all.Goals as goal
+
+pub reduced_near-requires-clause-same : goal.reduced_near-requires-clause-same
+reduced_near-requires-clause-same c =
+    let os = offsets c.args.source.layout.now in
+    let pair = c.in-Some.pair in
+    firsts-reordered os os (offsets pair.target) (offsets pair.source) refl (pair_even pair) c.in-Some.ensures.pairs

@@ -1,0 +1,36 @@
+use Rattle.std.proofs.Common.{◌+◌, ◌≤◌, [], ◌∷◌, ℕ, List, Ok, Err, length, sym, ap, subst, arith, ◌≡◌}
+use Rattle.std.specs.Prelude.{IfOk, Result}
+use Rattle.std.specs.List.Sorted.{IsPermutation}
+use Rattle.std.proofs.lemmas.List.Sorted.{All-permutation, length_permutation}
+use Rattle.elem_descr.specs.Encoding.{size}
+use Rattle.shape_strides.specs.LayoutLaws.{length-offsets}
+use Rattle.shape_strides.specs.Layouts.{offsets}
+use Rattle.reductions.specs.Lists.{lists}
+use Rattle.reductions.specs.Reductions.{result_scalar}
+use Rattle.reductions.specs.inside.Numbers.{AreReduced}
+use Rattle.reductions.proofs.OrderLaws.{results-reordered}
+use Rattle.reductions.proofs.reducing.reduced_near.Goals as goal
+
+pub invariant_of-source : goal.invariant_of-source
+invariant_of-source c =
+    let s = c.args.source in
+    record { inside = All-permutation (λ offset. offset + size s.scalar.now ≤ length s.bytes.now) (offsets s.layout.now) (offsets c.args.near.now) c.requires.same s.inside }
+
+pub reduced_from-requires-clause-items : goal.reduced_from-requires-clause-items
+reduced_from-requires-clause-items c =
+    omega (arith, c.requires.some, length_permutation (offsets c.args.source.layout.now) (offsets c.args.near.now) c.requires.same, length-offsets c.args.source.layout.now, length-offsets c.args.near.now)
+
+if_ok : {A E : Type 0} (P Q : A → Type 0) → ((a : A) → P a → Q a) → (r : Result A E) → IfOk r P → IfOk r Q
+if_ok P Q then (Ok a) holds = then a holds
+if_ok P Q then (Err e) holds = tt
+
+pub returns : goal.returns
+returns c =
+    let s = c.args.source in
+    let width = size (result_scalar c.args.reduction s.scalar.now) in
+    let os = offsets s.layout.now in
+    let os' = offsets c.args.near.now in
+    if_ok (AreReduced c.args.reduction s.scalar.now s.bytes.now width (os' ∷ [])) (AreReduced c.args.reduction s.scalar.now s.bytes.now width (lists s.layout.now.shape s.axis os))
+    (λ out are. subst (λ axis. AreReduced c.args.reduction s.scalar.now s.bytes.now width (lists s.layout.now.shape axis os) out) (sym c.requires.all)
+    (results-reordered c.args.reduction s.scalar.now s.bytes.now os os' out width c.requires.free c.requires.same are))
+    c.reduced_from.result c.reduced_from.ensures

@@ -1,0 +1,9 @@
+-- Whether what a reduction makes hangs on the order of the numbers.
+use Rattle.std.specs.Prelude.{Bool, true, false}
+use Rattle.machine_numbers.specs.declared.operators.Red.{Red}
+use Rattle.machine_numbers.specs.declared.operators.Red.TheVariants.{ArgMin, ArgMax}
+
+abbrev pub hangs_on_order : Red → Bool
+hangs_on_order ArgMin = true
+hangs_on_order ArgMax = true
+hangs_on_order _ = false
