@@ -17,8 +17,8 @@ use std::alloc::{AllocError, Global};
 /// What a call has done to a disk with a cache.
 #[derive(Drop)]
 pub enum Event {
-    /// A name has got these bytes, or none. If they are whole, a crash leaves them or what was there, and
-    /// else anything.
+    /// A name has got these bytes, or none. If they are whole, a crash leaves them or what was there before,
+    /// otherwise anything.
     Changed {
         name: Vec<u8>,
         bytes: Option<Vec<u8>>,
@@ -30,13 +30,13 @@ pub enum Event {
     },
     /// The names were brought to the disk.
     NamesSynced,
-    /// All was on the disk when it was started again.
+    /// The disk was started again; all that a read found then was on it.
     Restarted,
 }
 
-/// A disk in memory with a cache, as a list of what its calls did, the newest first. It is honest. A crash may lose
-/// what was written of a file that was not synced, and leave any part of it or other bytes, and may lose each
-/// change of a name that was not synced. One call can be made to fail, or all calls from one on.
+/// A disk in memory with a cache, as a list of what its calls did, the newest first. It is honest. Of a file that was
+/// not synced a crash may leave any bytes or none, and each change of a name that was not synced may be lost. One
+/// call can be made to fail, or all calls from one on.
 #[derive(Drop)]
 pub struct CachedMemDisk {
     alloc: Global,
@@ -256,8 +256,8 @@ impl CachedMemDisk {
         self.failing.fail_at(call, crashes);
     }
 
-    /// A crash leaves this under a name, if it may, and answers whether it may. Under a name for which this is not
-    /// called it leaves what a read found. Then the disk is to be started again.
+    /// Has a crash leave this under a name, and answers whether a crash may leave it; if not, nothing changes. Under
+    /// a name for which this is not called the crash leaves what a read found. `restart` comes next.
     pub fn crash(&mut self, name: &[u8], left: Option<Vec<u8>>) -> Result<bool, AllocError>
         ensures may { IfOk result (λ may. IsTrue may ↔ ((files : Files) × MayLeave (⟦<CachedMemDisk as Disk>⟧.history self.old) files × (get files name.now ≡ bytes_of_change left))) }
         ensures left { result ≡ Ok true → get (⟦<CachedMemDisk as Disk>⟧.files self.new) name.now ≡ bytes_of_change left }

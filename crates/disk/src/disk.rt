@@ -60,9 +60,9 @@ pub trait Disk {
     /// Its bytes that are still to be read.
     ghost rest_of: { Self.File → List ℕ };
 
-    /// An open file is the one under the name under which it was opened, and only by itself was something written to it
-    /// since. Of one that is not nothing is promised: it ends with `create`, `rename` and `remove` of its name, and
-    /// where another appends there.
+    /// An open file still stands under the name under which it was opened, and nothing was written to it since but
+    /// through itself. This ends with a `create`, a `rename` or a `remove` of its name and with an `append` to another
+    /// open file of that name; afterwards `read`, `append` and `sync` may not be called with it.
     ghost IsCurrent: { Self → Self.File → Type 0 };
 
     /// Whether a file stands under a name. What is no plain file, as a folder or a pipe, is a failure; a
@@ -161,7 +161,7 @@ pub trait Disk {
         ensures current { IsTrue honest → StayAll (IsCurrent self.old) (IsCurrent self.new) }
         ensures cause { HasCause Failed (failures self.old) (failures self.new) result };
 
-    /// What a read finds may be left: no honest disk has an empty history. Since what has been stays, each call goes
-    /// on from the history before it.
+    /// A crash may leave what a read finds, so no honest disk has an empty history. Since no call changes the moments
+    /// before it, each call also continues the history that it found.
     ghost stays: { (disk : Self) → IsTrue honest → MayLeave (history disk) (files disk) };
 }

@@ -15,8 +15,15 @@ use std::io::Write;
 use std::path::{Path, PathBuf};
 use std::rt::Files;
 
-/// A folder of the operating system, reached through a runtime. It passes the calls on, and no contract
-/// tells what they do, so that it isn't honest.
+/// A folder of the operating system, reached through a runtime.
+///
+/// It passes each call on to the system. No contract of the library says what a file then holds, so this disk is
+/// not honest, and nothing that `Disk` says of files and crashes is proved of it. That is trusted instead: its nine
+/// calls do what `Disk` says, as long as nobody else writes in the folder and its file system can sync a folder.
+/// Where the file system cannot, `sync_names` answers `Ok` although the names may not last: a crash soon afterwards
+/// may bring the old file back.
+///
+/// Proved of it is that each failure is counted.
 #[derive(Drop)]
 pub struct HostDisk<'a, R: Files<File = File>> {
     rt: &'a R,
