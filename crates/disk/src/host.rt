@@ -23,7 +23,7 @@ use std::rt::Files;
 /// Where the file system cannot, `sync_names` answers `Ok` although the names may not last: a crash soon afterwards
 /// may bring the old file back.
 ///
-/// Proved of it is that each failure is counted.
+/// Proved of it is that each failure is counted, and `host_errors` which errors of the system are no failure.
 #[derive(Drop)]
 pub struct HostDisk<'a, R: Files<File = File>> {
     rt: &'a R,
@@ -48,8 +48,9 @@ fn path_in(alloc: Global, dir: &str, name: &[u8]) -> Result<Option<PathBuf>, All
 }
 
 impl<'a, R: Files<File = File>> HostDisk<'a, R> {
-    /// The folder with this path. It isn't looked at.
+    /// The folder with this path; an empty path is the folder that the process is in. It isn't looked at.
     pub fn try_new(rt: &'a R, alloc: Global, dir: &str) -> Result<HostDisk<'a, R>, AllocError> {
+        let dir = if dir.is_empty() { "." } else { dir };
         let dir = String::from_str(alloc, dir)?;
         Ok(HostDisk {
             rt,

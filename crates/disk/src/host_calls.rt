@@ -1,7 +1,8 @@
 //! The calls of the operating system that a folder needs, each tried again where a signal interrupts it.
-ghost use Rattle.std.specs.Prelude.{◌≡◌, ◌≤◌, length, IfOk};
+ghost use Rattle.std.specs.Prelude.{◌≡◌, ◌≤◌, length, IfOk, IfErr};
 
-use std::fs::{File, Metadata, OpenFile, OpenOptions, TryLockError};
+use crate::host_errors::{found, gone, where_supported};
+use std::fs::{File, Metadata, OpenFile, OpenOptions, Permissions};
 use std::io::{ErrorKind, Read};
 use std::os::unix::fs::{MetadataExt, OpenOptionsExt, PermissionsExt};
 use std::path::Path;
@@ -27,15 +28,6 @@ fn uninterrupted<T: Drop, F: Fn() -> io::Result<T> + Drop>(call: F) -> io::Resul
     Err(io::Error::from(ErrorKind::Interrupted))
 }
 
-/// What is found at a path, or `None` where there is nothing.
-fn found(answer: io::Result<Metadata>) -> io::Result<Option<Metadata>> {
-    match answer {
-        Ok(found) => Ok(Some(found)),
-        Err(error) if error.kind() == ErrorKind::NotFound => Ok(None),
-        Err(error) => Err(error),
-    }
-}
-
 /// What a path leads to, behind links too.
 fn look_through<R: Files>(rt: &R, path: Path) -> io::Result<Option<Metadata>> {
     found(uninterrupted(|| fs::metadata(rt, path)))
@@ -57,6 +49,12 @@ pub(crate) fn is_there<R: Files>(rt: &R, path: Path) -> io::Result<bool> {
 
 fn open<R: Files>(rt: &R, path: Path) -> io::Result<R::File> {
     uninterrupted(|| fs::open(rt, path))
+}
+
+fn open_to_write<R: Files>(rt: &R, path: Path) -> io::Result<R::File> {
+    let mut options = OpenOptions::new();
+    options.write(true);
+    uninterrupted(|| options.open(rt, path))
 }
 
 fn metadata_of<F: OpenFile>(file: &F) -> io::Result<Metadata> {
@@ -89,10 +87,7 @@ pub(crate) fn read_some<F: Read>(file: &mut F, piece: &mut [u8]) -> io::Result<u
 
 /// Removes what lies at a path, a link and not what it leads to.
 pub(crate) fn remove_file<R: Files>(rt: &R, path: Path) -> io::Result<()> {
-    match uninterrupted(|| fs::remove_file(rt, path)) {
-        Err(error) if error.kind() == ErrorKind::NotFound => Ok(()),
-        answer => answer,
-    }
+    gone(uninterrupted(|| fs::remove_file(rt, path)))
 }
 
 pub(crate) fn rename_file<R: Files>(rt: &R, from: Path, to: Path) -> io::Result<()> {
@@ -104,49 +99,63 @@ pub(crate) fn sync_file<F: OpenFile>(file: &F) -> io::Result<()> {
     uninterrupted(|| file.sync_all())
 }
 
-/// Brings the names in a folder to the disk, where the folder can be opened and its file system can do
-/// that.
+/// Brings the names in an open folder to the disk, where its file system can do that.
+fn sync_opened<F: OpenFile + Drop>(folder: io::Result<F>) -> io::Result<()>
+    ensures unopened { IfErr folder (λ error. result ≡ Err error) }
+{
+    where_supported(sync_file(&folder?))
+}
+
+/// Brings the names in a folder to the disk, where its file system can do that. If the folder cannot be opened, that
+/// is a failure, also where its mode forbids it: the names may not last then.
 pub(crate) fn sync_folder<R: Files>(rt: &R, dir: Path) -> io::Result<()> {
-    let Ok(folder) = open(rt, dir) else {
-        return Ok(());
-    };
-    match sync_file(&folder) {
-        Err(error) if error.kind() == ErrorKind::InvalidInput => Ok(()),
-        Err(error) if error.kind() == ErrorKind::Unsupported => Ok(()),
-        answer => answer,
-    }
+    sync_opened(open(rt, dir))
+}
+
+/// Whether two looks have seen the same file.
+fn is_same(one: &Metadata, other: &Metadata) -> bool {
+    one.ino() == other.ino() && one.dev() == other.dev()
 }
 
 /// Whether an open file is the one that lies at a path.
 fn lies_at<R: Files<File = File>>(rt: &R, file: &File, path: Path) -> io::Result<bool> {
-    let Some(there) = look_at(rt, path)? else {
-        return Ok(false);
-    };
-    let own = metadata_of(file)?;
-    Ok(own.ino() == there.ino() && own.dev() == there.dev())
+    match look_at(rt, path)? {
+        Some(there) => Ok(is_same(&metadata_of(file)?, &there)),
+        None => Ok(false),
+    }
 }
 
 /// Takes the lock of an open file. Where another program has it, that is a failure; where the file system
 /// has no locks, it is as if no other program had it.
 fn lock(file: &File) -> io::Result<()> {
-    for _ in 0..u64::MAX {
-        match file.try_lock() {
-            Err(TryLockError::WouldBlock) => return Err(io::Error::from(ErrorKind::ResourceBusy)),
-            Err(TryLockError::Error(error)) if error.kind() == ErrorKind::Interrupted => {}
-            _ => return Ok(()),
-        }
+    where_supported(uninterrupted(|| Ok(file.try_lock()?)))
+}
+
+/// Opens a file that was left. It is opened for writing, without which an NFS client gives no lock (flock(2)). Where
+/// its mode forbids that, its owner gives it another one for as long as the opening takes: a program that still
+/// writes it finds the mode that it has chosen.
+fn open_leftover<R: Files<File = File>>(rt: &R, path: Path, left: &Metadata) -> io::Result<File> {
+    match open_to_write(rt, path) {
+        Err(error) if error.kind() == ErrorKind::PermissionDenied => {}
+        answer => return answer,
     }
-    Err(io::Error::from(ErrorKind::Interrupted))
+    uninterrupted(|| fs::set_permissions(rt, path, Permissions::from_mode(PRIVATE_MODE)))?;
+    let file = open_to_write(rt, path)?;
+    if is_same(&metadata_of(&file)?, left) {
+        uninterrupted(|| file.set_permissions(left.permissions()))?;
+    }
+    Ok(file)
 }
 
 /// Removes a file that a program left which has ended: whoever writes one holds its lock.
 fn remove_leftover<R: Files<File = File>>(rt: &R, path: Path) -> io::Result<()> {
-    match look_at(rt, path)? {
-        None => return Ok(()),
-        Some(found) if !found.is_file() => return remove_file(rt, path),
-        Some(_) => {}
+    let Some(left) = look_at(rt, path)? else {
+        return Ok(());
+    };
+    if !left.is_file() {
+        return remove_file(rt, path);
     }
-    let file = open(rt, path)?;
+    let file = open_leftover(rt, path, &left)?;
     lock(&file)?;
     if lies_at(rt, &file, path)? {
         return remove_file(rt, path);
@@ -168,6 +177,14 @@ fn claim_file<R: Files<File = File>>(rt: &R, path: Path, mode: u32) -> io::Resul
     Ok(file)
 }
 
+/// Gives a new file the mode of the one whose place it is to take.
+fn take_mode(file: &File, old: &Metadata) -> io::Result<()> {
+    if metadata_of(file)?.mode() == old.mode() {
+        return Ok(());
+    }
+    uninterrupted(|| file.set_permissions(old.permissions()))
+}
+
 /// Makes a new file that is to take the place of another, and gives it the mode of that. What is no plain
 /// file, as a folder or a link, is not replaced.
 pub(crate) fn create_file<R: Files<File = File>>(
@@ -182,8 +199,11 @@ pub(crate) fn create_file<R: Files<File = File>>(
         return Err(io::Error::from(ErrorKind::InvalidInput));
     }
     let file = claim_file(rt, path, PRIVATE_MODE)?;
-    if metadata_of(&file)?.mode() != old.mode() {
-        uninterrupted(|| file.set_permissions(old.permissions()))?;
+    match take_mode(&file, &old) {
+        Ok(()) => Ok(file),
+        Err(error) => {
+            let _ = remove_file(rt, path);
+            Err(error)
+        }
     }
-    Ok(file)
 }

@@ -6,6 +6,7 @@ mod disk;
 mod failing;
 mod host;
 mod host_calls;
+mod host_errors;
 mod mem_file;
 mod memory;
 
