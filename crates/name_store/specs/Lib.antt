@@ -15,4 +15,3 @@ pub mod Memory
 pub mod View
 pub mod Views
 pub mod inside
-pub mod WriteOrderLaws

@@ -9,7 +9,11 @@ use Rattle.shape_strides.specs.declared.runs.Run.{Run}
 use Rattle.shape_strides.specs.declared.run_pairs.RunPair.{RunPair}
 use Rattle.shape_strides.specs.Runs.{run_offsets}
 use Rattle.shape_strides.specs.WalkLaws.{length-run_offsets}
-use Rattle.overlap_copy.specs.RunLaws.{run_offsets-more, run-ends, assigned-append}
+use Rattle.shape_strides.specs.declared.layout.Layout.{Layout}
+use Rattle.shape_strides.specs.Indexes.{count}
+use Rattle.shape_strides.specs.Layouts.{offsets}
+use Rattle.shape_strides.specs.LayoutLaws.{length-offsets}
+use Rattle.overlap_copy.specs.RunLaws.{BeginsWithin, run-within, run_offsets-more, run-ends, assigned-append}
 use Rattle.overlap_copy.specs.Assignments.{assigned}
 
 -- ---- at equal steps
@@ -32,6 +36,16 @@ pub copied-even : (to from : Run) (width : ℕ) (other block : List ℕ) → to.
 copied-even to from width other block even lies lies' =
     copied-run (length block) (length other) to.offset to.step from.offset from.step width to.count other block lies (subst (EachWithin (length other) from.offset from.step width) (sym even) lies')
     ∙ ap (λ n. assigned (run_offsets to) (run_offsets (record { offset = from.offset; count = n; step = from.step })) width other block) even
+
+-- ---- layouts that are runs
+
+-- those of as many items are runs of as many
+pub as_many : (first second : Layout) (pair : RunPair) → count first.shape ≡ count second.shape → run_offsets pair.first ≡ offsets first → run_offsets pair.second ≡ offsets second → pair.first.count ≡ pair.second.count
+as_many first second pair same is is' =
+    sym (length-run_offsets pair.first) ∙ ap length is ∙ length-offsets first ∙ same ∙ sym (length-offsets second) ∙ ap length (sym is') ∙ length-run_offsets pair.second
+
+pub one-within : (len width : ℕ) (run : Run) (os : List ℕ) → BeginsWithin run → run_offsets run ≡ os → All (λ offset. offset + width ≤ len) os → EachWithin len run.offset run.step width run.count
+one-within len width run os begins is ends = run-within len width run begins (subst (All (λ offset. offset + width ≤ len)) (sym is) ends)
 
 -- ---- pair after pair
 

@@ -4,6 +4,7 @@
 --     length-run_offsets           a run has as many offsets as items
 --     place-at, run-ends           where an item lies; each ends within the bytes
 --     lie-within                   a run that lies within some bytes
+--     run-within                   a run whose items begin within the limit and end within the bytes
 --     All-front, All-back          what holds of all holds of the first, and of those after them
 --     runs-within, walked-within   runs whose offsets lie within some bytes, with the items there
 use Rattle.std.proofs.Common.{◌≡◌, ℕ, zero, suc, ◌+◌, ◌-◌, ◌<◌, ◌≤◌, List, [], ◌∷◌, ◌++◌, All, map, length, get_or, refl, sym, ap, subst, ◌∙◌, arith, length-append}
@@ -106,8 +107,12 @@ above : (z : ℤ) (width len : ℕ) → pos 0 ≤ℤ z → natural z + width ≤
 above (pos n) width len low high = omega (arith, ints)
 above (negsuc n) width len low high = absurd (omega (arith, ints))
 
--- a run whose items begin within the limit and end within the bytes
-run-within : (len width : ℕ) (run : Run) → LieWithin (run.count ∷ []) (run.step ∷ []) run.offset max_bytes 1 → All (λ offset. offset + width ≤ len) (run_offsets run) → EachWithin len run.offset run.step width run.count
+-- a run whose items begin within the limit
+abbrev pub BeginsWithin : Run → Type 0
+BeginsWithin run = LieWithin (run.count ∷ []) (run.step ∷ []) run.offset max_bytes 1
+
+-- and end within the bytes
+pub run-within : (len width : ℕ) (run : Run) → BeginsWithin run → All (λ offset. offset + width ≤ len) (run_offsets run) → EachWithin len run.offset run.step width run.count
 run-within len width run lies ends = record {
   each = λ k low.
       let z = pos run.offset +ℤ run.step *ℤ pos k in

@@ -11,14 +11,28 @@ ghost use Rattle.overlap_copy.specs.Overlaps.{have_common_byte};
 
 use crate::apart::may_overlap;
 use crate::packed::{gather, scatter};
-use crate::run_copies::{copy_pairs, move_pairs};
+use crate::run_copies::{as_runs, copy_pairs, copy_run, move_pairs};
 use crate::run_moves::{is_same_line, move_run, turn_run, turned};
 use raw_block::RawBlock;
-use shape_strides::{Layout, LayoutPair, RunPairs, in_memory_order};
+use shape_strides::{Layout, LayoutPair, RunPairs, in_memory_order, lies_in_c_order};
 use std::alloc::{AllocError, Global};
 
 /// Copies the items of `width` bytes of the layout `src` in `other` to those of the layout `dst`,
 /// as many, pair by pair in C order.
+fn assign_in_order(block: &mut RawBlock, dst: &Layout, other: &RawBlock, src: &Layout, width: usize)
+    requires dst { All (λ offset. offset + width ≤ length block.old) (offsets dst.now) }
+    requires src { All (λ offset. offset + width ≤ length other.now) (offsets src.now) }
+    requires count { count dst.now.shape ≡ count src.now.shape }
+    ensures written { block.new ≡ assigned (offsets dst.now) (offsets src.now) width other.now block.old }
+    ensures len { length block.new ≡ length block.old }
+{
+    match as_runs(dst, src) {
+        Some(pair) => copy_run(block, pair.first, other, pair.second, width),
+        None => assign_pairs(block, dst, other, src, width),
+    }
+}
+
+/// The same where one of them is more than one run.
 fn assign_pairs(block: &mut RawBlock, dst: &Layout, other: &RawBlock, src: &Layout, width: usize)
     requires dst { All (λ offset. offset + width ≤ length block.old) (offsets dst.now) }
     requires src { All (λ offset. offset + width ≤ length other.now) (offsets src.now) }
@@ -59,9 +73,13 @@ pub fn assign_from(
     ensures written { block.new ≡ assigned (offsets dst.now) (offsets src.now) width other.now block.old }
     ensures len { length block.new ≡ length block.old }
 {
+    if lies_in_c_order(dst) {
+        assign_in_order(block, dst, other, src, width);
+        return;
+    }
     match in_any_order(alloc, dst, src, width) {
-        Some(pair) => assign_pairs(block, &pair.target, other, &pair.source, width),
-        None => assign_pairs(block, dst, other, src, width),
+        Some(pair) => assign_in_order(block, &pair.target, other, &pair.source, width),
+        None => assign_in_order(block, dst, other, src, width),
     }
 }
 

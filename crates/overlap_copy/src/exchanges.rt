@@ -8,8 +8,9 @@ ghost use Rattle.shape_strides.specs.Runs.{run_offsets};
 ghost use Rattle.overlap_copy.specs.Assignments.{assigned, items_at};
 ghost use Rattle.overlap_copy.specs.inside.Trades.{traded_at};
 
+use crate::run_copies::as_runs;
 use raw_block::RawBlock;
-use shape_strides::{Layout, Run, RunPairs, in_memory_order};
+use shape_strides::{Layout, Run, RunPairs, in_memory_order, lies_in_c_order};
 use std::alloc::Global;
 
 /// Exchanges the items of `width` bytes of a run with those of a run of `other`, as many.
@@ -66,7 +67,10 @@ fn exchange_pairs(
     ensures len { length block.new ≡ length block.old }
     ensures other_len { length other.new ≡ length other.old }
 {
-    trade_pairs(block, RunPairs::new(dst, src), other, width);
+    match as_runs(dst, src) {
+        Some(pair) => trade_run(block, pair.first, other, pair.second, width),
+        None => trade_pairs(block, RunPairs::new(dst, src), other, width),
+    }
 }
 
 /// Exchanges the items of `width` bytes of the layout `dst` with those of the layout `src` in `other`,
@@ -90,6 +94,10 @@ pub fn exchange(
     ensures len { length block.new ≡ length block.old }
     ensures other_len { length other.new ≡ length other.old }
 {
+    if lies_in_c_order(dst) {
+        exchange_pairs(block, dst, other, src, width);
+        return;
+    }
     match in_memory_order(alloc, dst, src) {
         Some(pair) => exchange_pairs(block, &pair.target, other, &pair.source, width),
         None => exchange_pairs(block, dst, other, src, width),

@@ -1,14 +1,27 @@
 //! Items of runs that are copied, run by run.
-ghost use Rattle.std.specs.Prelude.{◌≡◌, ◌*◌, ◌≤◌, length, All};
+ghost use Rattle.std.specs.Prelude.{◌≡◌, ◌*◌, ◌≤◌, length, All, IfSome};
 ghost use Rattle.std.specs.List.{flat_map};
 ghost use Rattle.raw_block.specs.Bytes.{EachWithin};
-ghost use Rattle.shape_strides.specs.Layouts.{IsNested};
+ghost use Rattle.shape_strides.specs.Layouts.{offsets, IsNested};
 ghost use Rattle.shape_strides.specs.Runs.{run_offsets};
 ghost use Rattle.overlap_copy.specs.Assignments.{assigned};
+ghost use Rattle.overlap_copy.specs.RunLaws.{BeginsWithin};
 ghost use Rattle.overlap_copy.specs.inside.Moves.{LieApart};
 
 use raw_block::RawBlock;
-use shape_strides::{Run, RunPairs};
+use shape_strides::{Layout, Run, RunPair, RunPairs};
+
+/// The runs that the items of two layouts are, where each of them is one.
+pub(crate) fn as_runs(first: &Layout, second: &Layout) -> Option<RunPair>
+    ensures first { IfSome result (λ pair. run_offsets pair.first ≡ offsets first.now) }
+    ensures second { IfSome result (λ pair. run_offsets pair.second ≡ offsets second.now) }
+    ensures first_lies { IfSome result (λ pair. BeginsWithin pair.first) }
+    ensures second_lies { IfSome result (λ pair. BeginsWithin pair.second) }
+{
+    let first = first.as_one_run()?;
+    let second = second.as_one_run()?;
+    Some(RunPair { first, second })
+}
 
 /// Copies the items of `width` bytes of a run of `other` to those of a run of the block, as many.
 pub fn copy_run(block: &mut RawBlock, to: Run, other: &RawBlock, from: Run, width: usize)

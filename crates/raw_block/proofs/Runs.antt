@@ -1,12 +1,12 @@
 -- Items that lie one right after the other: their bytes are written as one.
-use Rattle.std.proofs.Common.{◌≡◌, ℕ, zero, suc, ◌+◌, ◌-◌, ◌*◌, ◌<◌, ◌≤◌, List, [], ◌∷◌, ◌++◌, length, take, drop, get_or, refl, sym, ap, ◌∙◌, subst, arith, append_assoc, length-append, length-take, drop-cons}
+use Rattle.std.proofs.Common.{◌≡◌, ℕ, zero, suc, ◌+◌, ◌-◌, ◌*◌, ◌<◌, ◌≤◌, List, [], ◌∷◌, ◌++◌, length, take, drop, get_or, inr, refl, sym, ap, ◌∙◌, subst, arith, append_assoc, length-append, length-take, drop-cons}
 use Rattle.std.proofs.Math.Nat.{suc-mul, mul-suc, mul-zero, mul-le-mul_left}
 use Rattle.std.proofs.Math.Seq.{take-add, drop-append-add}
 use Rattle.std.proofs.lemmas.List.{take-append-drop, take_at, drop-drop, drop-take, take-take, drop_all}
 use Rattle.std.specs.Simd.{first_chunks}
 use lib.IntN.{ℤ, pos}
-use Rattle.raw_block.specs.Bytes.{place, EachWithin, put, item_at, copied, filled}
-use Rattle.raw_block.specs.BytesLaws.{place_within, length-item_at, item_of_chunks}
+use Rattle.raw_block.specs.Bytes.{place, EachWithin, put, item_at, copied, filled, traded}
+use Rattle.raw_block.specs.BytesLaws.{place_within, length-item_at, item_at-put_apart, item_of_chunks}
 
 -- all of the items lie within
 pub run_within : (len at : ℕ) (step : ℤ) (width n : ℕ) → 0 < n → step ≡ pos width → EachWithin len at step width n → at + n * width ≤ len
@@ -52,6 +52,31 @@ copied-run dst other src width (suc n) bytes to from =
     let m = n * width in let more : suc n * width ≡ m + width = suc-mul n width ∙ omega arith in
     ap (put (dst + m) (item_at (src + m) width other)) (copied-run dst other src width n bytes (omega (arith, more)) (omega (arith, more)))
     ∙ put_next dst src m width other bytes (omega (arith, more)) (omega (arith, more)) ∙ ap (λ k. put dst (item_at src k other) bytes) (sym more)
+
+abbrev both : List ℕ → List ℕ → List ℕ × List ℕ
+both xs ys = (xs, ys)
+
+-- items of two lists that are exchanged are one stretch of each
+module _ (a b width : ℕ) where
+  -- the next item is as it was before those that lie below it were written
+  next_kept : (at m : ℕ) (item bytes : List ℕ) → length item ≡ m → at + m + width ≤ length bytes → item_at (at + m) width (put at item bytes) ≡ item_at (at + m) width bytes
+  next_kept at m item bytes long le = item_at-put_apart at item bytes (at + m) width (omega (arith, long)) le (inr (omega (arith, long)))
+
+  pub traded-run : (n : ℕ) (bytes other : List ℕ) → a + n * width ≤ length bytes → b + n * width ≤ length other
+      → ◌≡◌ {A = List ℕ × List ℕ} (traded a (pos width) b (pos width) width n bytes other) (put a (item_at b (n * width) other) bytes, put b (item_at a (n * width) bytes) other)
+  traded-run zero bytes other to from =
+      let none : 0 ≡ 0 * width = omega arith in
+      (λ i. (sym (put-nothing a bytes) i, sym (put-nothing b other) i)) ∙ (λ i. (put a (item_at b (none i) other) bytes, put b (item_at a (none i) bytes) other))
+  traded-run (suc n) bytes other to from =
+      let m = n * width in let more : suc n * width ≡ m + width = suc-mul n width ∙ omega arith in
+      let xs = item_at b m other in let ys = item_at a m bytes in
+      let in_a : a + m + width ≤ length bytes = omega (arith, more) in let in_b : b + m + width ≤ length other = omega (arith, more) in
+      let far = next_kept b m ys other (length-item_at a m bytes (omega (arith, in_a))) in_b in
+      let near = next_kept a m xs bytes (length-item_at b m other (omega (arith, in_b))) in_a in
+      ap (λ (now : List ℕ × List ℕ). both (put (a + m) (item_at (b + m) width now.1) now.0) (put (b + m) (item_at (a + m) width now.0) now.1)) (traded-run n bytes other (omega (arith, in_a)) (omega (arith, in_b)))
+      ∙ (λ i. (put (a + m) (far i) (put a xs bytes), put (b + m) (near i) (put b ys other)))
+      ∙ (λ i. (put_next a b m width other bytes in_a in_b i, put_next b a m width bytes other in_b in_a i))
+      ∙ (λ i. (put a (item_at b (sym more i) other) bytes, put b (item_at a (sym more i) bytes) other))
 
 -- eight bytes, one by one
 front : {rest : List ℕ} (item : List ℕ) (k : ℕ) → k < length item → rest ≡ drop (suc k) item → get_or item k 0 ∷ rest ≡ drop k item

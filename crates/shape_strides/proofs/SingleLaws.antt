@@ -1,6 +1,6 @@
 -- Laws of layouts whose items are one run.
-use Rattle.std.proofs.Common.{◌≡◌, ℕ, zero, suc, ◌+◌, ◌-◌, ◌*◌, ◌<◌, ◌≤◌, ◌==◌, ℤ, pos, List, [], ◌∷◌, All, length, get_or, drop, refl, sym, ◌∙◌, ap, subst, arith}
-use Rattle.std.proofs.lemmas.Bool.{cond_both, cond-false, ne_eqb}
+use Rattle.std.proofs.Common.{◌≡◌, ℕ, zero, suc, ◌+◌, ◌-◌, ◌*◌, ◌<◌, ◌≤◌, ◌==◌, inl, inr, ℤ, pos, List, [], ◌∷◌, All, length, get_or, drop, refl, sym, ◌∙◌, ap, subst, arith}
+use Rattle.std.proofs.lemmas.Bool.{cases_lt, cond_both, cond-true, cond-false, eq-eqb, ne_eqb}
 use Rattle.std.proofs.lemmas.List.{append-nil}
 use Rattle.std.specs.List.{flat_map}
 use Rattle.shape_strides.specs.declared.layout.Layout.{Layout}
@@ -72,15 +72,26 @@ outside_no_run l outside along step items last some by =
 pub is_axis : (l : Layout) (along : StridedAxis) → 2 ≤ count l.shape → AreJoinedFrom l.strides l.shape 0 along → all_joined (strided_axes l.strides l.shape) ≡ along ∷ []
 is_axis l along two from = sym from.are ∙ long_axis along (omega (arith, two, from.items))
 
-pub is_run : (l : Layout) (along : StridedAxis) → 2 ≤ count l.shape → AreJoinedFrom l.strides l.shape 0 along → runs l ≡ run_along along l.offset ∷ []
-is_run l along two from = runs-some l (omega (arith, two)) ∙ ap (runs_from (pos l.offset)) (is_axis l along two from)
+-- one item is a run without a step
+one_item : (l : Layout) (along : StridedAxis) → 1 ≤ count l.shape → along.len ≡ 1 → AreJoinedFrom l.strides l.shape 0 along → runs l ≡ run_along along l.offset ∷ []
+one_item l along some one from =
+    let none : all_joined (strided_axes l.strides l.shape) ≡ [] = sym from.are ∙ cond-true (along.len == 1) [] (along ∷ []) (eq-eqb along.len 1 one) in
+    runs-some l some
+    ∙ ap (runs_from (pos l.offset)) none
+    ∙ (λ i. record { offset = l.offset; count = sym one i; step = sym (from.single one) i } ∷ [])
 
-pub run_is_all : (l : Layout) (along : StridedAxis) → 2 ≤ count l.shape → AreJoinedFrom l.strides l.shape 0 along → run_offsets (run_along along l.offset) ≡ offsets l
-run_is_all l along two from = sym (append-nil (run_offsets (run_along along l.offset))) ∙ ap (flat_map run_offsets) (sym (is_run l along two from)) ∙ runs-offsets l
+pub is_run : (l : Layout) (along : StridedAxis) → 1 ≤ count l.shape → AreJoinedFrom l.strides l.shape 0 along → runs l ≡ run_along along l.offset ∷ []
+is_run l along some from = elim (cases_lt along.len 2) [
+  | inl one ↦ one_item l along some (omega (arith, one, some, from.items)) from
+  | inr two ↦ runs-some l some ∙ ap (runs_from (pos l.offset)) (is_axis l along (omega (arith, two, from.items)) from)
+]
 
-pub run_fits : (l : Layout) (along : StridedAxis) → 2 ≤ count l.shape → AreJoinedFrom l.strides l.shape 0 along → (len item : ℕ) → Fits l len item → LieWithin (along.len ∷ []) (along.stride ∷ []) l.offset len item
-run_fits l along two from len item fits =
-    subst (λ all. All (λ run. LieWithin (run.count ∷ []) (run.step ∷ []) run.offset len item) all) (is_run l along two from) (runs-lie l len item fits) 0 (run_along along l.offset) (omega arith)
+pub run_is_all : (l : Layout) (along : StridedAxis) → 1 ≤ count l.shape → AreJoinedFrom l.strides l.shape 0 along → run_offsets (run_along along l.offset) ≡ offsets l
+run_is_all l along some from = sym (append-nil (run_offsets (run_along along l.offset))) ∙ ap (flat_map run_offsets) (sym (is_run l along some from)) ∙ runs-offsets l
+
+pub run_fits : (l : Layout) (along : StridedAxis) → 1 ≤ count l.shape → AreJoinedFrom l.strides l.shape 0 along → (len item : ℕ) → Fits l len item → LieWithin (along.len ∷ []) (along.stride ∷ []) l.offset len item
+run_fits l along some from len item fits =
+    subst (λ all. All (λ run. LieWithin (run.count ∷ []) (run.step ∷ []) run.offset len item) all) (is_run l along some from) (runs-lie l len item fits) 0 (run_along along l.offset) (omega arith)
 
 pub run_steps : (l : Layout) (along : StridedAxis) → 2 ≤ count l.shape → AreJoinedFrom l.strides l.shape 0 along → (step : ℤ) → GoesBy step (offsets l) → along.stride ≡ step
 run_steps l along two from step by = run_goes l step along (omega (arith, two, from.items)) (is_axis l along two from) by

@@ -71,8 +71,27 @@ pub(crate) fn last_run(lengths: &[usize], strides: &[isize]) -> LastRun
 }
 
 impl Layout {
-    /// The run that the items are: two or more, each of them one step after the one before it. It
+    /// The run that the items are: one or more, each of them one step after the one before it. It
     /// takes no memory.
+    pub fn as_one_run(&self) -> Option<Run>
+        ensures items { IfSome result (λ run. run_offsets run ≡ offsets self.now) }
+        ensures lie { (len item : ℕ) → Fits self.now len item → IfSome result (λ run. LieWithin (run.count ∷ []) (run.step ∷ []) run.offset len item) }
+    {
+        if self.shape.items() == 0 {
+            return None;
+        }
+        let run = last_run(self.shape.as_slice(), self.strides.as_slice());
+        if run.outside > 0 {
+            return None;
+        }
+        Some(Run {
+            offset: self.offset,
+            count: run.along.len,
+            step: run.along.stride,
+        })
+    }
+
+    /// The same of two items or more.
     pub fn as_run(&self) -> Option<Run>
         ensures items { IfSome result (λ run. run_offsets run ≡ offsets self.now) }
         ensures two { IfSome result (λ run. 2 ≤ run.count) }

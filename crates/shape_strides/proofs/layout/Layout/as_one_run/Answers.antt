@@ -1,0 +1,24 @@
+use Rattle.std.proofs.Common.{rules, ◌∷◌, [], w64, sym, ap, subst, ◌∙◌, arith}
+use Rattle.std.proofs.lemmas.Int.{to_z-of_z}
+use mir.Val.{SFits}
+use Rattle.shape_strides.specs.Addresses.{LieWithin}
+use Rattle.shape_strides.specs.Runs.{run_offsets}
+use Rattle.shape_strides.proofs.SingleLaws.{last_of, whole_run, run_is_all, run_fits}
+use Rattle.shape_strides.proofs.layout.Layout.as_one_run.Goals as goal
+
+pub returns-clause-items : goal.returns-clause-items
+returns-clause-items c =
+    let l = c.args.self.now in
+    let run = c.last_run-run.result in
+    let fits : SFits w64 run.along.stride = search rules in
+    let from = whole_run l run.outside run.along c.if-run-gt0.false (last_of l _ _ run.outside run.along c.as_slice-2.ensures c.as_slice.ensures.value c.last_run-run.ensures) in
+    ap (λ step. run_offsets (record { offset = l.offset; count = run.along.len; step = step })) (to_z-of_z w64 run.along.stride fits)
+    ∙ run_is_all l run.along (omega (arith, c.items.ensures.value, c.if-items-eq0.false)) from
+
+pub returns-clause-lie : goal.returns-clause-lie
+returns-clause-lie c = λ len item fit.
+    let l = c.args.self.now in
+    let run = c.last_run-run.result in
+    let fits : SFits w64 run.along.stride = search rules in
+    let from = whole_run l run.outside run.along c.if-run-gt0.false (last_of l _ _ run.outside run.along c.as_slice-2.ensures c.as_slice.ensures.value c.last_run-run.ensures) in
+    subst (λ step. LieWithin (run.along.len ∷ []) (step ∷ []) l.offset len item) (sym (to_z-of_z w64 run.along.stride fits)) (run_fits l run.along (omega (arith, c.items.ensures.value, c.if-items-eq0.false)) from len item fit)
