@@ -9,6 +9,7 @@ import io
 import os
 import pathlib
 import re
+import shutil
 import subprocess
 import sys
 import time
@@ -62,6 +63,10 @@ def run_tests(words, counts, is_gate):
 
 def prove(counts):
     """Has the toolchain's gate prove all, and then compares dist/ with what it built."""
+    if shutil.which("rt") is None:
+        print("bench: the gate needs rt, the command of the toolchain")
+        counts.failed += 1
+        return
     with subprocess.Popen(["rt", "ci"], cwd=TOP, stdout=subprocess.PIPE, stderr=subprocess.STDOUT, text=True, errors="replace") as ci:
         last = ""
         for line in ci.stdout:
@@ -70,7 +75,7 @@ def prove(counts):
     passed, failed = map(int, re.findall(r"\d+", last)[:2]) if last else (0, 1)
     counts.passed += passed
     counts.failed += failed or bool(ci.returncode)
-    is_dist = subprocess.run([TOOLS / "make/dist.py", "--check"]).returncode == 0
+    is_dist = subprocess.run([sys.executable, TOOLS / "make/dist.py", "--check"]).returncode == 0
     counts.passed += is_dist
     counts.failed += not is_dist
 
@@ -80,6 +85,7 @@ def main(words):
         os.environ.pop(name, None)
     counts, is_gate = Counts(), "--gate" in words
     if is_gate:
+        os.environ["BENCH_GATE"] = "yes"
         prove(counts)
     run_tests([word for word in words if word != "--gate"], counts, is_gate)
     print(counts.told())
