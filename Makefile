@@ -1,43 +1,78 @@
-# make                builds the program; the first time this proves all of its crates
-# make install        puts it in its places below PREFIX, with its launcher, pages, completions and companion
+# make test           two minutes, without the toolchain: examples, rows of commands with their replies, launcher, companion, pictures
+# make                proves the crates and builds the program of them, with the toolchain: what changed, and what stands on it
+# make install        puts the program in its places below PREFIX, with its launcher, pages, completions and companion: what `make`
+#                     built here, else the one in dist/. It may be moved. DESTDIR is put before PREFIX while files are copied
 # make uninstall      takes them away again
+# make package        out/bench-VERSION-x86_64-linux.tar.gz, which runs where it is unpacked
+# make static         out/bench-x86_64-linux-static, of what `make` built, for systems without glibc 2.34; needs gcc and its libc.a
 # make pictures       draws the pictures of the docs from scripts in examples/
 # make words          writes the words of docs/LANGUAGE.md into help, manual page and syntax files
-# make check          the gate: every proof from nothing, and the tests of the tools
-#
-# DESTDIR is put before PREFIX while files are copied, for packages.
+# make dist           writes dist/ anew, from what `make` built
+# make check          the gate: every proof from nothing, dist/, and `make test`
 PREFIX = /usr/local
 DESTDIR =
 to = $(DESTDIR)$(PREFIX)
+program = $(firstword $(wildcard crates/bench_main/out/bench_main dist/bench-x86_64-linux))
+package = bench-$(shell sed -n '/^## /{s/## \([0-9.]*\).*/\1/p;q;}' CHANGELOG.md)-x86_64-linux
+crates := $(shell sed -n 's/^\([a-z_]*\):.*/\1/p' crates.txt)
+uses = $(filter $(crates),$(shell sed -n 's/^$1://p' crates.txt))
+# (asked once, and only where something is built)
+kit = $(eval kit := $(shell rt version))$(kit)
+export BENCH_BEGAN = $(eval BENCH_BEGAN := $(shell date +%s))$(BENCH_BEGAN)
 
-all:
-	@./bench --build
+# As many crates at a time as there are cores, and memory: 4 GB for each. -j says otherwise.
+MAKEFLAGS += -j$(shell awk -v cores="$$(nproc)" '/^MemAvailable:/ { n = int($$2 / 4000000) } END { print n < 1 ? 1 : n < cores ? n : cores }' /proc/meminfo)
 
-# The launcher of what is installed is the end of the launcher here, and never builds.
-install: all
-	@sh tools/make/places.sh | while read -r file place mode; do \
-	    mkdir -p "$(to)/$${place%/*}" && cp "$$file" "$(to)/$$place" && chmod "$$mode" "$(to)/$$place" || exit 1; \
+all: prove-bench_main
+
+define rule
+prove-$1: $(addprefix prove-,$(call uses,$1))
+	@exec python3 tools/make/prove.py $1 "$$(kit)"
+endef
+$(foreach crate,$(crates),$(eval $(call rule,$(crate))))
+
+# What goes where below PREFIX, as FILE:PLACE.
+runs = bench:bin/bench companion/bench-tool:bin/bench-tool $(program):libexec/bench/bench_main
+below = $(foreach file,$(shell find $1 -name __pycache__ -prune -o -type f -print),$(file):$2$(file:$1%=%))
+reads = man/bench.1:share/man/man1/bench.1 man/bench-tool.1:share/man/man1/bench-tool.1 \
+	$(foreach tool,bench bench-tool,completions/$(tool).bash:share/bash-completion/completions/$(tool) completions/_$(tool):share/zsh/site-functions/_$(tool)) \
+	$(call below,editors/vim,share/vim/vimfiles) $(call below,editors,share/bench/editors) \
+	$(call below,companion/bench_tool,lib/bench-tool/bench_tool) docs/LANGUAGE.md:lib/bench-tool/LANGUAGE.md \
+	$(foreach file,$(wildcard README.md CHANGELOG.md LICENSE* docs/*.md docs/pictures/* examples/*),$(file):share/doc/bench/$(file))
+
+install:
+	@for pair in 755 $(runs) 644 $(reads); do \
+	    case $$pair in *:*) install -D -m $$mode "$${pair%%:*}" "$(to)/$${pair#*:}" || exit 1 ;; *) mode=$$pair ;; esac; \
 	done
-	@mkdir -p "$(to)/bin"
-	@{ echo '#!/bin/sh'; echo "program='$(PREFIX)/libexec/bench/bench_main'"; sed -n '/^# How the program starts/,$$p' bench; } >"$(to)/bin/bench"
-	@chmod 755 "$(to)/bin/bench"
 	@echo "bench: installed below $(to)"
 
 uninstall:
-	@sh tools/make/places.sh | while read -r file place mode; do rm -f "$(to)/$$place"; done
-	@rm -f "$(to)/bin/bench" "$(to)/libexec/bench/bench_main"
-	@for place in libexec/bench lib/bench-tool share/bench share/doc/bench; do \
-	    if [ -d "$(to)/$$place" ]; then find "$(to)/$$place" -name __pycache__ -prune -exec rm -rf {} + ; \
-	    find "$(to)/$$place" -depth -type d -exec rmdir {} + 2>/dev/null || true; fi; \
-	done
+	@for pair in $(runs) $(reads); do rm -f "$(to)/$${pair#*:}"; done
+	@rm -rf "$(to)/libexec/bench" "$(to)/lib/bench-tool" "$(to)/share/bench" "$(to)/share/doc/bench"
 
-pictures: all
-	@sh tools/make/pictures.sh
+package:
+	@rm -rf out/package && $(MAKE) -s install DESTDIR=out/package/ PREFIX=$(package) >/dev/null
+	@tar -C out/package -czf out/$(package).tar.gz $(package) && rm -rf out/package && echo "bench: out/$(package).tar.gz"
+
+static:
+	@kit=$$(dirname "$$(readlink -f "$$(command -v rt)")")/../c && \
+	gcc -static -s -o out/bench-x86_64-linux-static crates/bench_main/out/bench_main.o "$$kit/libos_c.a" "$$kit/liblibc_c.a"
+
+pictures:
+	@for drawn in mirrored:4 views:5 broadcast:4 reshape:5 overlap:3; do \
+	    companion/bench-tool draw examples/$${drawn%:*}.bench --line $${drawn#*:} --svg -o $(or $(FOLDER),docs/pictures)/$${drawn%:*}.svg || exit 1; \
+	done
 
 words:
 	@tools/make/words.py
 
-check:
-	@sh tools/check.sh
+dist:
+	@tools/make/dist.py
 
-.PHONY: all install uninstall pictures words check
+test:
+	@tools/test.py
+
+check:
+	@tools/test.py --gate
+
+.PHONY: all install uninstall package static pictures words dist test check $(addprefix prove-,$(crates))

@@ -301,7 +301,7 @@ class Pictures(unittest.TestCase):
 
     def test_pictures_of_the_docs(self):
         with tempfile.TemporaryDirectory() as folder:
-            subprocess.run([str(TOP / "tools/make/pictures.sh"), folder], check=True, env=environment(), timeout=120)
+            subprocess.run(["make", "-s", "-C", str(TOP), "pictures", f"FOLDER={folder}"], check=True, env=environment(), timeout=120)
             made = {path.name: path.read_text() for path in pathlib.Path(folder).iterdir()}
         self.assertEqual(made, {path.name: path.read_text() for path in (TOP / "docs/pictures").iterdir()}, "make pictures draws them anew")
 

@@ -97,7 +97,7 @@ class Devices(InFolder):
         """Standard output that is full, closed or limited, of help too."""
         self.tried("outputs")
 
-    @unittest.skipUnless(shutil.which("prlimit"), "left out: there is no prlimit")
+    @unittest.skipUnless(shutil.which("prlimit"), "there is no prlimit")
     def test_limits_of_files(self):
         """A file that may not grow is a fault of the store, and leaves nothing."""
         self.tried("limited_files")
@@ -106,7 +106,7 @@ class Devices(InFolder):
         """Two programs that save one name."""
         self.tried("writers")
 
-    @unittest.skipUnless(shutil.which("cc"), "left out: there is no C compiler")
+    @unittest.skipUnless(shutil.which("cc"), "there is no C compiler")
     def test_interrupted(self):
         """Calls that a signal interrupts."""
         self.tried("interrupted")

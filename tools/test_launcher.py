@@ -1,210 +1,322 @@
-"""Tests of the launcher, of what builds the program, of `make` and of the help, with a toolchain that only pretends."""
+"""Tests of the launcher, of `make`, and of dist/, with a toolchain and a program that only pretend."""
 import os
 import pathlib
 import re
 import resource
 import shutil
+import signal
 import subprocess
 import tempfile
+import time
 import unittest
 
-TOP = pathlib.Path(__file__).resolve().parent.parent
-PROGRAM = pathlib.Path("crates/bench_main/out/bench_main")
-BUILT = TOP / PROGRAM
+from trials.companion_trials import PROGRAM, TOP, needs_program
+
+BUILT = "crates/bench_main/out/bench_main"
 SIZE = "536870912"
 SAYS = """#!/bin/sh
-# A program that says how it was started.
+# A program that says how it was started, and which it is. GLIBC_2.34
+PATH=$PATH:/usr/bin:/bin
 echo "words: $*"
 echo "tunables: $GLIBC_TUNABLES"
 sed -n 's/^SigIgn:.*\\(....\\)\\(....\\)$/ignored: \\1/p' /proc/$$/status
+echo "program: $0"
 """
 RT = """#!/bin/sh
 # Pretends to prove a crate, where those that it uses are built.
+[ "$1" = version ] && { echo "${RT_KIT-a kit}"; exit; }
 crate=${PWD##*/}
 echo "start $crate" >>"$RT_TRACE"
 for used in $(sed -n "s/^$crate: *//p" ../../crates.txt); do
     if [ -d "../$used" ] && ! [ -f "../$used/out/rlib/stamp" ]; then echo "error: $used is not built"; exit 1; fi
 done
 echo "so far: 1 of 2 functions"
+mkdir -p out/incremental
 [ "$crate" = "$RT_SLEEPS" ] && sleep 60
 [ "$crate" = "$RT_FAILS" ] && { echo "error: no proof"; exit 1; }
 mkdir -p out/rlib && echo "$crate" >out/rlib/stamp
 [ "$1" = run ] && cp "$RT_PROGRAM" out/bench_main
 echo "end $crate" >>"$RT_TRACE"
 """
+CRATES = "elem_descr: itoa\nfancy_index: byteorder elem_descr raw_block\nraw_block:\nbench_engine: fancy_index\nhost_process: clap\nbench_main: bench_engine host_process\narray_tests: fancy_index\n"
+STRIP = """#!/bin/sh
+[ "$1" = -o ] && cp "$3" "$2"
+"""
 
 
-def listed():
-    """The crates that the program needs, each with those that it uses."""
-    rows = re.findall(r"^(\w+):(.*)$", (TOP / "crates.txt").read_text(), re.M)
-    uses = {name: [used for used in words.split() if used in dict(rows)] for name, words in rows}
-    needed = ["bench_main"]
-    for name in needed:
-        needed += [used for used in uses[name] if used not in needed]
-    return {name: uses[name] for name in needed}
+class InTree(unittest.TestCase):
+    """Tests over a tree with sources of no account, where all that is built or proved is pretended."""
 
-
-class Launcher(unittest.TestCase):
     def setUp(self):
         self.folder = pathlib.Path(tempfile.mkdtemp())
         self.addCleanup(shutil.rmtree, self.folder)
         self.tree = self.folder / "a tree"
-        for name in ("bench", "Makefile", "crates.txt", "tools/build.sh", "tools/make/places.sh", "docs/help.txt", "docs/LANGUAGE.md"):
-            (self.tree / name).parent.mkdir(parents=True, exist_ok=True)
-            shutil.copy(TOP / name, self.tree / name)
-        for crate in listed():
-            for part in ("src", "specs", "proofs"):
-                (self.tree / "crates" / crate / part).mkdir(parents=True)
-            (self.tree / "crates" / crate / "src" / "lib.rt").write_text("//! Nothing.\n")
-        (self.folder / "bin").mkdir()
-        for name, text in (("bin/rt", RT), ("program", SAYS)):
-            (self.folder / name).write_text(text)
-            (self.folder / name).chmod(0o755)
+        for name in ("bench", "Makefile", "CHANGELOG.md", "README.md", "tools/make", "docs", "companion", "completions", "man", "editors", "examples"):
+            self.copy(TOP / name, self.tree / name)
+        self.put(self.tree / "crates.txt", CRATES)
+        self.uses = dict(re.findall(r"(\w+):(.*)\n", CRATES))
+        del self.uses["array_tests"]
+        for crate in self.uses:
+            self.put(self.tree / "crates" / crate / "src/lib.rt", "//! Nothing.\n")
+        for name, text in (("kit/bin/rt", RT), ("program", SAYS), ("kit/toolchain/bin/clang", STRIP)):
+            self.put(self.folder / name, text)
         self.trace = self.folder / "trace"
         self.trace.write_text("")
-        self.env = {**os.environ, "PATH": f"{self.folder / 'bin'}:{os.environ['PATH']}", "RT_TRACE": str(self.trace), "RT_PROGRAM": str(self.folder / "program")}
-        for name in ("GLIBC_TUNABLES", "BENCH_NO_BUILD", "BENCH_JOBS", "MAKEFLAGS", "MAKELEVEL"):
-            self.env.pop(name, None)
+        self.env = {**os.environ, "PATH": f"{self.folder / 'kit/bin'}:{os.environ['PATH']}", "RT_TRACE": str(self.trace), "RT_PROGRAM": str(self.folder / "program")}
+        self.env.pop("GLIBC_TUNABLES", None)
+
+    def copy(self, old, new):
+        new.parent.mkdir(parents=True, exist_ok=True)
+        if old.is_dir():
+            shutil.copytree(old, new, ignore=shutil.ignore_patterns("__pycache__"))
+        else:
+            shutil.copy2(old, new)
+
+    def put(self, path, text):
+        path.parent.mkdir(parents=True, exist_ok=True)
+        path.write_text(text)
+        path.chmod(0o755)
 
     def run_in(self, words, where=None, **env):
-        return subprocess.run(words, cwd=where or self.tree, env={**self.env, **env}, stdin=subprocess.DEVNULL, capture_output=True, text=True, timeout=60)
-
-    def put_program(self):
-        (self.tree / PROGRAM).parent.mkdir(parents=True)
-        shutil.copy(self.folder / "program", self.tree / PROGRAM)
+        return subprocess.run(words, cwd=where or self.tree, env={**self.env, **env}, stdin=subprocess.DEVNULL, capture_output=True, text=True, timeout=600)
 
     def told(self, ran):
         self.assertEqual((ran.returncode, ran.stderr), (0, ""))
         return ran.stdout.splitlines()
 
+    def started(self):
+        """The crates that were begun since the last call, in that order."""
+        lines = self.trace.read_text().splitlines()
+        self.trace.write_text("")
+        return [line.split()[1] for line in lines if line.startswith("start")]
+
+
+class Launcher(InTree):
+    def setUp(self):
+        super().setUp()
+        self.put(self.tree / "dist/bench-x86_64-linux", SAYS)
+
     def test_becomes_the_program(self):
-        self.put_program()
         for words in ([], ["--dir", "a b"]):
             said = self.told(self.run_in([str(self.tree / "bench"), *words], where="/"))
             self.assertEqual(said[0], "words: " + " ".join(words))
             self.assertIn(f"mmap_threshold={SIZE}", said[1])
             self.assertTrue(int(said[2].split()[1], 16) >> (25 - 1 - 16) & 1, "a file's limit still ends the program")
-        self.assertEqual(self.trace.read_text(), "")
+            self.assertIn("dist/bench-x86_64-linux", said[3])
+        self.assertEqual(self.started(), [])
+
+    def test_what_make_built_comes_first(self):
+        self.put(self.tree / BUILT, SAYS)
+        self.assertIn("bench_main", self.told(self.run_in(["./bench"]))[3])
 
     def test_a_link_leads_to_it(self):
-        self.put_program()
         (self.folder / "link").symlink_to(self.tree / "bench")
         self.assertEqual(self.told(self.run_in([str(self.folder / "link"), "x"], where="/"))[0], "words: x")
         self.assertEqual(self.told(self.run_in(["sh", "bench", "x"]))[0], "words: x")
 
+    @needs_program
+    def test_folders_of_any_name(self):
+        """The program is started by its name alone, since its words must be UTF-8."""
+        for name in (b"\xff", b"a:b", b" $x'"):
+            tree = os.path.join(os.fsencode(self.folder), name)
+            os.makedirs(os.path.join(tree, b"dist"))
+            shutil.copy(TOP / "bench", os.path.join(tree, b"bench"))
+            os.symlink(PROGRAM, os.path.join(tree, b"dist/bench-x86_64-linux"))
+            ran = subprocess.run([os.path.join(tree, b"bench")], input=b"names\n", capture_output=True)
+            self.assertEqual((ran.returncode, ran.stdout, ran.stderr), (0, b"names\n", b""), name)
+
     def test_tunables_that_are_set_stay(self):
-        self.put_program()
         self.assertEqual(self.told(self.run_in(["./bench"], GLIBC_TUNABLES="glibc.malloc.arena_max=1"))[1], "tunables: glibc.malloc.arena_max=1")
 
     def test_limits_of_memory(self):
         """Where the address space has a limit memory is given back, and a small stack is want of memory."""
-        self.put_program()
         for limits, tunables in (("-v 8000000", ""), ("-s 512", None), ("-s 4096", None)):
             said = self.told(self.run_in(["sh", "-c", f"ulimit {limits}; exec ./bench"]))[1]
             self.assertEqual("mmap_threshold" in said, tunables is None)
         ran = self.run_in(["sh", "-c", "ulimit -s 256; exec ./bench"])
         self.assertEqual((ran.returncode, ran.stdout, ran.stderr), (3, "", "bench: out of memory\n"))
 
-    def test_help_needs_no_program(self):
-        ran = self.run_in(["./bench", "--help"])
-        self.assertEqual((ran.returncode, ran.stdout), (0, (TOP / "docs/help.txt").read_text()))
+    @unittest.skipUnless(shutil.which("prlimit"), "there is no prlimit")
+    def test_a_stack_above_the_shells_numbers(self):
+        ran = self.run_in(["prlimit", "--stack=9300000000000000000:unlimited", "./bench"])
+        if "permitted" in ran.stderr:
+            self.skipTest("limits cannot be raised here")
+        self.assertEqual(self.told(ran)[0], "words: ")
 
-    def test_building_can_be_refused(self):
-        ran = self.run_in(["./bench"], BENCH_NO_BUILD="1")
-        self.assertEqual((ran.returncode, ran.stdout, ran.stderr), (3, "", "bench: not built\n"))
+    @needs_program
+    def test_little_memory_for_data(self):
+        """By where the system puts the program's blocks it runs, or says why not."""
+        for _ in range(10):
+            ran = subprocess.run(["sh", "-c", f"ulimit -d 1500; exec '{TOP}/bench'"], input=b"names\n", capture_output=True)
+            self.assertIn((ran.returncode, ran.stdout, ran.stderr), [(0, b"names\n", b""), (3, b"", b"bench: out of memory\n")])
 
-    def test_builds_each_crate_after_those_that_it_uses(self):
-        for jobs in ("1", "3", "8"):
-            self.trace.write_text("")
-            shutil.rmtree(self.tree / "crates/bench_main/out", ignore_errors=True)
-            ran = self.run_in(["./bench", "x"], BENCH_JOBS=jobs)
-            self.assertEqual((ran.returncode, ran.stdout.splitlines()[0]), (0, "words: x"), ran.stderr)
-            done, running, most = [], set(), 0
-            for line in self.trace.read_text().splitlines():
-                event, crate = line.split()
-                if event == "start":
-                    self.assertTrue(set(listed()[crate]) <= set(done), crate)
-                    running.add(crate)
-                else:
-                    running.remove(crate)
-                    done.append(crate)
-                most = max(most, len(running))
-            self.assertEqual(sorted(done), sorted(listed()))
-            self.assertLessEqual(most, int(jobs))
-            self.assertEqual([crate for crate in listed() if not (self.tree / "crates" / crate / "out/rlib/stamp").is_file()], [])
-            self.assertFalse((self.tree / "out/build").exists())
+    def test_no_proc(self):
+        ran = self.run_in(["unshare", "-m", "sh", "-c", "umount -l /proc && exec ./bench x"]) if shutil.which("unshare") else None
+        if ran is None or re.search("unshare|umount", ran.stderr):
+            self.skipTest("/proc cannot be taken away here")
+        self.assertEqual(ran.stdout.splitlines()[0], "words: x")
 
-    def test_asks_for_newer_sources_only_when_told_to_build(self):
-        self.assertEqual(self.run_in(["./bench", "--build"]).returncode, 0)
-        self.trace.write_text("")
-        self.assertEqual(self.run_in(["./bench", "--build"]).stderr, "bench: no source is newer than the program\n")
-        later = (self.tree / PROGRAM).stat().st_mtime + 5
-        os.utime(self.tree / "crates/view_ops/src/lib.rt", (later, later))
+    def test_no_program(self):
+        shutil.rmtree(self.tree / "dist")
+        ran = self.run_in(["./bench"])
+        self.assertEqual((ran.returncode, ran.stdout, ran.stderr), (3, "", "bench: no program in .: `make` builds it\n"))
+
+    def test_another_machine(self):
+        """Where the loader of glibc for x86-64 is not, the program is tried, and what it needs is told if it does not run."""
+        launcher = self.tree / "bench"
+        launcher.write_text(launcher.read_text().replace("/lib64/ld-linux-x86-64.so.2", "/nowhere"))
         self.assertEqual(self.told(self.run_in(["./bench", "x"]))[0], "words: x")
-        self.assertEqual(self.trace.read_text(), "")
-        self.assertEqual(self.run_in(["./bench", "--build"]).returncode, 0)
-        self.assertIn("end bench_main", self.trace.read_text())
+        self.put(self.tree / "dist/bench-x86_64-linux", "#!/bin/sh\nexit 127\n")
+        for uname in ("Linux x86_64", "Linux aarch64"):
+            self.put(self.folder / "kit/bin/uname", f"#!/bin/sh\necho '{uname}'\n")
+            ran = self.run_in(["./bench"])
+            self.assertEqual((ran.returncode, ran.stdout), (3, ""))
+            self.assertIn("needs Linux on x86-64", ran.stderr)
+
+
+@unittest.skipUnless(shutil.which("make"), "there is no make")
+class Makes(InTree):
+    def make(self, *words, **env):
+        ran = self.run_in(["make", *words], **env)
+        self.assertEqual(ran.returncode, 0, ran.stderr)
+        return ran
+
+    def test_each_crate_after_those_that_it_uses(self):
+        self.make("-j3")
+        done, running, most = [], set(), 0
+        for line in self.trace.read_text().splitlines():
+            event, crate = line.split()
+            if event == "start":
+                self.assertTrue(set(self.uses[crate].split()) & {*self.uses} <= {*done}, crate)
+                running.add(crate)
+            else:
+                running.remove(crate)
+                done.append(crate)
+            most = max(most, len(running))
+        self.assertEqual(sorted(done), sorted(self.uses))
+        self.assertIn(most, (2, 3))
+        self.assertEqual(list((self.tree / "out/build").glob("*/")), [])
+        self.assertEqual(self.told(self.run_in(["./bench", "x"]))[0], "words: x")
+
+    def test_sums_and_not_times_say_what_is_built(self):
+        self.make()
+        self.assertEqual(len(self.started()), len(self.uses))
+        for path in self.tree.rglob("*.rt"):
+            os.utime(path)
+        other = self.folder / "another"
+        shutil.copytree(self.tree, other)
+        self.make()
+        self.assertEqual(self.run_in(["make"], where=other).returncode, 0)
+        self.assertEqual(self.started(), [])
+        (self.tree / "crates/fancy_index/src/lib.rt").write_text("//! Something.\n")
+        self.make()
+        self.assertEqual(self.started(), ["fancy_index", "bench_engine", "bench_main"])
+        self.make(RT_KIT="another kit")
+        self.assertEqual(len(self.started()), len(self.uses))
 
     def test_a_crate_that_is_not_proved(self):
-        ran = self.run_in(["./bench"], RT_FAILS="script_lang")
-        self.assertEqual((ran.returncode, ran.stdout), (3, ""))
-        self.assertIn("error: no proof", ran.stderr)
-        self.assertIn("bench: script_lang was not proved", ran.stderr)
+        ran = self.run_in(["make"], RT_FAILS="fancy_index")
+        self.assertEqual(ran.returncode, 2)
+        self.assertIn("bench: not built: fancy_index was not proved\nerror: no proof\n", ran.stderr)
         self.assertTrue((self.tree / "crates/elem_descr/out/rlib/stamp").is_file())
-        self.assertEqual(self.run_in(["./bench"]).returncode, 0)
+        self.assertNotIn("bench_engine", self.started())
+        self.make()
+        self.assertNotIn("elem_descr", self.started())
 
     def test_a_build_that_is_cut_off(self):
-        started = subprocess.Popen(["./bench"], cwd=self.tree, env={**self.env, "RT_SLEEPS": "raw_block"}, stdin=subprocess.DEVNULL, stderr=subprocess.PIPE, text=True)
-        process = self.tree / "out/build/process"
-        while "start raw_block" not in self.trace.read_text():
-            self.assertIsNone(started.poll())
-        second = self.run_in(["sh", "tools/build.sh"])
-        self.assertEqual((second.returncode, second.stderr), (3, f"bench: not built: process {process.read_text().strip()} is building it\n"))
-        os.kill(int(process.read_text()), 15)
-        self.assertIn("bench: not built: interrupted", started.communicate(timeout=20)[1])
-        self.assertEqual(started.returncode, 3)
-        self.assertFalse(process.exists())
-        self.assertEqual(self.run_in(["./bench"]).returncode, 0)
+        for number in (signal.SIGINT, signal.SIGTERM):
+            self.trace.write_text("")
+            started = subprocess.Popen(["make"], cwd=self.tree, env={**self.env, "RT_SLEEPS": "raw_block"}, stdin=subprocess.DEVNULL, stderr=subprocess.PIPE, text=True, start_new_session=True)
+            while "start raw_block" not in self.trace.read_text():
+                self.assertIsNone(started.poll())
+                time.sleep(0.01)
+            second = self.run_in(["make", "prove-raw_block"])
+            self.assertRegex(second.stderr, r"bench: not built: process \d+ is proving raw_block")
+            os.killpg(started.pid, number) if number == signal.SIGINT else started.terminate()
+            self.assertIn("bench: not built: interrupted", started.communicate(timeout=100)[1])
+            self.assertEqual(list((self.tree / "out/build").glob("*/")), [])
+            self.assertTrue((self.tree / "crates/raw_block/out/incremental").is_dir())
+        self.make()
 
     def test_no_toolchain(self):
-        (self.folder / "bin/rt").unlink()
-        ran = self.run_in(["./bench"], PATH="/usr/bin:/bin")
-        self.assertEqual((ran.returncode, ran.stderr), (3, "bench: not built: building needs the command rt of the toolchain\n"))
+        (self.folder / "kit/bin/rt").unlink()
+        ran = self.run_in(["make"], PATH="/usr/bin:/bin")
+        self.assertEqual(ran.returncode, 2)
+        self.assertIn("bench: not built: building needs the command rt of the toolchain\n", ran.stderr)
 
-    @unittest.skipUnless(shutil.which("make"), "no make")
-    def test_make_installs_what_runs_without_the_tree(self):
-        place = self.folder / "in place"
-        ran = self.run_in(["make", "-s", "install", f"PREFIX={place}"])
-        self.assertEqual(ran.returncode, 0, ran.stderr)
-        self.tree.rename(self.folder / "moved")
-        said = self.told(self.run_in([str(place / "bin/bench"), "x"], where="/", BENCH_NO_BUILD="1"))
+    def test_installed_it_can_be_moved(self):
+        """What dist/ has is installed where nothing is built, without the toolchain."""
+        self.put(self.tree / "dist/bench-x86_64-linux", SAYS)
+        first, second = self.folder / "in place", self.folder / "moved"
+        self.make("-s", "install", f"PREFIX={first}")
+        self.tree.rename(self.folder / "away")
+        first.rename(second)
+        said = self.told(self.run_in([str(second / "bin/bench"), "x"], where="/"))
         self.assertEqual(said[0], "words: x")
         self.assertIn(f"mmap_threshold={SIZE}", said[1])
-        self.assertTrue(int(said[2].split()[1], 16) >> (25 - 1 - 16) & 1)
-        self.assertEqual(self.run_in(["make", "-s", "uninstall", f"PREFIX={place}"], where=self.folder / "moved").returncode, 0)
-        self.assertEqual([path for path in place.rglob("*") if path.is_file()], [])
+        docs = second / "share/doc/bench"
+        for page in docs.rglob("*.md"):
+            for name in re.findall(r"\]\(([^)#:]+)\)", page.read_text()):
+                self.assertTrue((page.parent / name).is_file() or page.name == "CHANGELOG.md", (page, name))
+        self.assertEqual(self.run_in(["make", "-s", "uninstall", f"PREFIX={second}"], where=self.folder / "away").returncode, 0)
+        self.assertEqual([path for path in second.rglob("*") if path.is_file()], [])
+        self.assertEqual(self.started(), [])
 
-    @unittest.skipUnless(shutil.which("make"), "no make")
-    def test_make_builds_and_stages(self):
-        self.assertEqual(self.run_in(["make"]).returncode, 0)
-        self.assertEqual(self.run_in(["make", "-s", "install", f"DESTDIR={self.folder / 'stage'}", "PREFIX=/usr"]).returncode, 0)
-        text = (self.folder / "stage/usr/bin/bench").read_text()
-        self.assertIn("program='/usr/libexec/bench/bench_main'\n", text)
+    def test_stages(self):
+        self.put(self.tree / BUILT, SAYS)
+        self.make("-s", "install", f"DESTDIR={self.folder / 'stage'}", "PREFIX=/usr")
         self.assertTrue((self.folder / "stage/usr/libexec/bench/bench_main").is_file())
+
+    @needs_program
+    def test_a_package_runs_where_it_is_unpacked(self):
+        (self.tree / "dist").mkdir()
+        shutil.copy(PROGRAM, self.tree / "dist/bench-x86_64-linux")
+        self.make("-s", "package")
+        made = list((self.tree / "out").glob("bench-*-x86_64-linux.tar.gz"))
+        self.assertEqual(len(made), 1)
+        shutil.unpack_archive(made[0], self.folder / "unpacked")
+        top = self.folder / "unpacked" / made[0].name.removesuffix(".tar.gz")
+        script = top / "share/doc/bench/examples/mirrored.bench"
+        for words in ([top / "bin/bench", script], [top / "bin/bench-tool", "run", script]):
+            ran = self.run_in(words, where="/")
+            self.assertEqual((ran.stdout, ran.stderr), (script.with_suffix(".out").read_text(), ""))
+
+    def test_dist(self):
+        """dist/ is written from what was built of the sources as they are, and else refused, as is another one by the gate."""
+        self.assertEqual(self.run_in(["make", "-s", "dist"]).returncode, 2)
+        self.make()
+        self.make("dist")
+        check, dist = ["tools/make/dist.py", "--check"], self.tree / "dist/bench-x86_64-linux"
+        self.assertEqual(self.told(self.run_in(check)), ["bench: dist/ is what these sources give"])
+        self.assertEqual(dist.read_text(), SAYS)
+        self.assertIn("glibc 2.34", (self.tree / "dist/SUMS").read_text())
+        dist.write_text(SAYS.replace("words", "wards"))
+        self.assertEqual(self.run_in(check).stdout, "bench: dist/bench-x86_64-linux has not the sum that dist/SUMS tells\n")
+        self.make("dist")
+        other = self.run_in(check, RT_KIT="another kit")
+        self.assertEqual((other.returncode, other.stdout.splitlines()[0]), (0, "bench: dist/ was built by a kit, and another kit is here: the programs are not compared"))
+        self.put(self.tree / BUILT, SAYS + "# other\n")
+        self.assertEqual(self.run_in(check).stdout, "bench: dist/ is not what these sources and this toolchain give\n")
+        self.put(self.tree / BUILT, SAYS)
+        (self.tree / "crates/elem_descr/src/lib.rt").write_text("//! Nothing!\n")
+        ran = self.run_in(check)
+        self.assertEqual((ran.returncode, ran.stdout.splitlines()[0]), (1, "bench: dist/SUMS is not of these sources: run `make`, then `make dist`"))
+        ran = self.run_in(["make", "-s", "dist"])
+        self.assertEqual(ran.returncode, 2)
+        self.assertIn("bench: the program is not what `make` builds of these sources: run `make`\n", ran.stderr)
 
 
 class Texts(unittest.TestCase):
-    @unittest.skipUnless(BUILT.is_file(), "the program is not built")
+    @needs_program
     def test_the_help_is_the_programs(self):
-        said = subprocess.run([BUILT, "--help"], capture_output=True, text=True).stdout
+        said = subprocess.run([PROGRAM, "--help"], capture_output=True, text=True).stdout
         self.assertEqual((TOP / "docs/help.txt").read_text(), said)
 
-    @unittest.skipUnless((TOP / "man/bench.1").is_file(), "no manual page")
     def test_the_page_has_the_version_of_the_changelog(self):
         version = re.search(r"^## (\d[\w.]*)", (TOP / "CHANGELOG.md").read_text(), re.M)[1]
         self.assertIn(version, (TOP / "man/bench.1").read_text())
 
-    @unittest.skipUnless(BUILT.is_file(), "the program is not built")
+    @needs_program
     def test_an_empty_script_costs_a_shell_at_most(self):
         """The mean of runs, in processor time: three milliseconds more than the program at the most."""
         def mean(program):
@@ -213,7 +325,7 @@ class Texts(unittest.TestCase):
                 subprocess.run([program], stdin=subprocess.DEVNULL, check=True, close_fds=False)
             after = resource.getrusage(resource.RUSAGE_CHILDREN)
             return (after.ru_utime + after.ru_stime - before.ru_utime - before.ru_stime) / 100
-        self.assertLessEqual(mean(TOP / "bench") - mean(BUILT), 0.003)
+        self.assertLessEqual(mean(TOP / "bench") - mean(PROGRAM), 0.003)
 
 
 if __name__ == "__main__":

@@ -115,7 +115,7 @@ class Words(unittest.TestCase):
 
     def test_manual_pages(self):
         if shutil.which("groff") is None:
-            self.skipTest("left out: groff is not installed")
+            self.skipTest("there is no groff")
         for name in ("man/bench.1", "man/bench-tool.1"):
             done = subprocess.run(["groff", "-man", "-Tutf8", "-ww", "-z", TOP / name], capture_output=True, text=True)
             self.assertEqual((done.stderr, done.returncode), ("", 0))
@@ -130,6 +130,7 @@ class Words(unittest.TestCase):
                 missing = [word for word in words if word not in text and (word != "--help" or name.startswith("comp"))]
                 self.assertEqual(missing, [], (name, command))
 
+    @unittest.skipUnless(shutil.which("bash"), "there is no Bash")
     def test_bash(self):
         ask = 'COMP_WORDS=(%s); COMP_CWORD=$((${#COMP_WORDS[@]} - 1)); %s; printf "%%s\\n" "${COMPREPLY[@]}"'
         for words, function, wanted in [
@@ -143,14 +144,14 @@ class Words(unittest.TestCase):
 
     def test_zsh(self):
         if shutil.which("zsh") is None:
-            self.skipTest("left out: zsh is not installed")
+            self.skipTest("there is no zsh")
         for name in ("_bench", "_bench-tool"):
             done = subprocess.run(["zsh", "-n", TOP / "completions" / name], capture_output=True, text=True)
             self.assertEqual((done.stderr, done.returncode), ("", 0))
 
     def test_vim(self):
         if shutil.which("vim") is None:
-            self.skipTest("left out: Vim is not installed")
+            self.skipTest("there is no Vim")
         with tempfile.TemporaryDirectory() as folder:
             with open(f"{folder}/a.bench", "w") as sample:
                 sample.write(SAMPLE)
@@ -162,7 +163,7 @@ class Words(unittest.TestCase):
             with open(f"{folder}/told") as told:
                 names = told.read().split()
         if not names:
-            self.skipTest("left out: this Vim has no syntax")
+            self.skipTest("this Vim has no syntax")
         self.assertEqual(names, [name for _, _, name, _ in NAMED])
 
     def test_text_mate(self):

@@ -99,7 +99,7 @@ def items_of(text: str) -> tuple[Any, ...]:
 def find_program() -> str:
     """The path of the program: BENCH, else the one of the repository or the installed one."""
     top = Path(__file__).resolve().parents[2]
-    places = map(str, (top / "crates/bench_main/out/bench_main", top.parent / "bin/bench", "bench"))
+    places = map(str, (top / "bench", top.parent / "bin/bench", "bench"))
     found = os.environ.get("BENCH") or next(filter(None, map(shutil.which, places)), None)
     if not found:
         raise ProgramMissing("there is no program: BENCH names none, and none is installed or built")

@@ -54,4 +54,5 @@ def texts():
 
 if __name__ == "__main__":
     for path, text in texts().items():
-        (TOP / path).write_text(text)
+        if (TOP / path).read_text() != text:
+            (TOP / path).write_text(text)

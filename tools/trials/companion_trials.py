@@ -8,11 +8,11 @@ import unittest
 TOP = pathlib.Path(__file__).resolve().parents[2]
 COMPANION = TOP / "companion"
 TOOL = COMPANION / "bench-tool"
-BUILT = TOP / "crates/bench_main/out/bench_main"
+BUILT = next((path for path in (TOP / "crates/bench_main/out/bench_main", TOP / "dist/bench-x86_64-linux") if os.access(path, os.X_OK)), "none")
 sys.path[:0] = [str(COMPANION), str(TOP / "tools/trials")]
 
 PROGRAM = os.environ.get("BENCH") or str(BUILT)
-needs_program = unittest.skipUnless(os.access(PROGRAM, os.X_OK), "left out: the program is not built, and BENCH names none")
+needs_program = unittest.skipUnless(os.access(PROGRAM, os.X_OK), "no program: none is built or in dist/, and BENCH names none")
 
 
 def share(few, all_):

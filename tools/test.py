@@ -1,0 +1,96 @@
+#!/usr/bin/env python3
+"""Runs the tests of everything but the proofs: tools/test.py [WORD ..] runs those whose names have one of the words, or all.
+
+Two minutes on two cores, and no toolchain. What is left out is told with its reason. The last line is `N passed, M failed, K skipped`.
+With --gate `rt ci` comes first, which proves all from nothing, then dist/ is compared with the program that it built, and no test
+may be left out for want of the program."""
+import concurrent.futures
+import io
+import os
+import pathlib
+import re
+import shutil
+import subprocess
+import sys
+import time
+import unittest
+
+TOOLS = pathlib.Path(__file__).resolve().parent
+TOP = TOOLS.parent
+sys.path.insert(0, str(TOOLS))
+
+
+class Counts:
+    def __init__(self):
+        self.passed, self.failed, self.left_out = 0, 0, {}
+
+    def told(self):
+        return f"{self.passed} passed, {self.failed} failed, {sum(self.left_out.values())} skipped"
+
+
+def names_of(suite):
+    """The names of the tests of a suite; of a module that cannot be read, the text of its fault."""
+    for test in suite:
+        if isinstance(test, unittest.TestSuite):
+            yield from names_of(test)
+        else:
+            yield test.id()
+
+
+def run_test(name):
+    """Runs a test: its name, what it says of failures, why it is left out, and its seconds."""
+    began, said = time.monotonic(), io.StringIO()
+    result = unittest.TextTestRunner(said, verbosity=0).run(unittest.defaultTestLoader.loadTestsFromName(name))
+    return name, "" if result.wasSuccessful() else said.getvalue(), [why for _, why in result.skipped], time.monotonic() - began
+
+
+def run_tests(words, counts, is_gate):
+    """Runs the tests, on all cores, and tells those that failed, and those that were left out."""
+    names = [name for name in names_of(unittest.defaultTestLoader.discover(str(TOOLS), "test_*.py")) if not words or any(word in name for word in words)]
+    with concurrent.futures.ProcessPoolExecutor() as pool:
+        for name, fault, reasons, _ in pool.map(run_test, names):
+            if fault or is_gate and any("no program" in why for why in reasons):
+                print(f"FAILED: {name}\n{fault or reasons}", flush=True)
+                counts.failed += 1
+            elif reasons:
+                for why in set(reasons):
+                    counts.left_out[why] = counts.left_out.get(why, 0) + 1
+            else:
+                counts.passed += 1
+    for why, count in sorted(counts.left_out.items()):
+        print(f"skipped: {count}, {why}")
+
+
+def prove(counts):
+    """Has the toolchain's gate prove all, and then compares dist/ with what it built."""
+    if shutil.which("rt") is None:
+        print("bench: the gate needs rt, the command of the toolchain")
+        counts.failed += 1
+        return
+    with subprocess.Popen(["rt", "ci"], cwd=TOP, stdout=subprocess.PIPE, stderr=subprocess.STDOUT, text=True, errors="replace") as ci:
+        last = ""
+        for line in ci.stdout:
+            print(line, end="", flush=True)
+            last = line if re.match(r"\d+ passed, \d+ failed", line) else last
+    passed, failed = map(int, re.findall(r"\d+", last)[:2]) if last else (0, 1)
+    counts.passed += passed
+    counts.failed += failed or bool(ci.returncode)
+    is_dist = subprocess.run([sys.executable, TOOLS / "make/dist.py", "--check"]).returncode == 0
+    counts.passed += is_dist
+    counts.failed += not is_dist
+
+
+def main(words):
+    for name in ("MAKEFLAGS", "MFLAGS", "MAKELEVEL"):
+        os.environ.pop(name, None)
+    counts, is_gate = Counts(), "--gate" in words
+    if is_gate:
+        os.environ["BENCH_GATE"] = "yes"
+        prove(counts)
+    run_tests([word for word in words if word != "--gate"], counts, is_gate)
+    print(counts.told())
+    return 1 if counts.failed else 0
+
+
+if __name__ == "__main__":
+    sys.exit(main(sys.argv[1:]))

@@ -1,0 +1,58 @@
+"""A fresh copy of the tree, as a newcomer has it: no toolchain, no compiler, no NumPy, and only the tools that are named here."""
+import os
+import pathlib
+import shutil
+import subprocess
+import tempfile
+import time
+import unittest
+
+from trials.companion_trials import TOP
+
+NAMED = "sh make python3 awk basename cat chmod cp date dirname echo env find gzip head install ln mkdir mv nproc readlink rm sed sleep sort tail tar test true uname".split()
+
+
+@unittest.skipUnless(os.environ.get("BENCH_GATE"), "the gate alone runs all tests a second time, in a fresh copy of the tree")
+class Fresh(unittest.TestCase):
+    def setUp(self):
+        folder = tempfile.TemporaryDirectory()
+        self.addCleanup(folder.cleanup)
+        self.tree, tools = pathlib.Path(folder.name, "tree"), pathlib.Path(folder.name, "bin")
+        shutil.copytree(TOP, self.tree, ignore=shutil.ignore_patterns(".git", "out", "__pycache__"))
+        tools.mkdir()
+        for name in NAMED:
+            # (where python3 is a script that looks for one, the one that it found)
+            found = os.path.realpath("/proc/self/exe") if name == "python3" else shutil.which(name)
+            if found:
+                (tools / name).symlink_to(found)
+        self.env = {"PATH": str(tools), "HOME": folder.name, "LANG": "C.UTF-8"}
+
+    def ran(self, *words):
+        began = time.monotonic()
+        done = subprocess.run(words, cwd=self.tree, env=self.env, stdin=subprocess.DEVNULL, capture_output=True, text=True)
+        return done, time.monotonic() - began
+
+    def test_the_first_reply(self):
+        done, seconds = self.ran("./bench", "examples/mirrored.bench")
+        self.assertEqual((done.returncode, done.stderr, done.stdout), (0, "", (TOP / "examples/mirrored.out").read_text()))
+        self.assertLess(seconds, 1)
+
+    def test_make_test(self):
+        done, _ = self.ran("make", "test")
+        self.assertEqual((done.returncode, done.stderr), (0, ""), done.stdout[-4000:])
+        self.assertRegex(done.stdout.splitlines()[-1], r"^\d+ passed, 0 failed, \d+ skipped$")
+        self.assertNotIn("no program", done.stdout)
+
+    def test_nothing_is_changed(self):
+        """`make words` and `make pictures` leave every file as it is, and its time."""
+        before = {path: (path.read_bytes(), path.stat().st_mtime_ns) for path in self.tree.rglob("*") if path.is_file()}
+        for what in ("words", "pictures"):
+            self.assertEqual(self.ran("make", "-s", what)[0].returncode, 0)
+        after = {path: path.read_bytes() for path in self.tree.rglob("*") if path.is_file() and "__pycache__" not in path.parts}
+        self.assertEqual(after, {path: text for path, (text, _) in before.items()})
+        changed = [path for path, (_, when) in before.items() if path.stat().st_mtime_ns != when and path.suffix != ".svg"]
+        self.assertEqual(changed, [])
+
+
+if __name__ == "__main__":
+    unittest.main()
