@@ -2,3 +2,4 @@
 from .session import Array, BenchError, ProgramEnded, ProgramMissing, Refused, Reply, Session
 
 __all__ = ["Array", "BenchError", "ProgramEnded", "ProgramMissing", "Refused", "Reply", "Session"]
+__version__ = "1.0"

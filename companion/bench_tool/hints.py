@@ -1,150 +1,347 @@
-"""What may be meant by a line that is refused: a table of what newcomers write, with what to write, and what is bound.
+"""What is said of a refused line: the place where it stops being a command, what to write instead, the numbers behind a code.
 
-There is no grammar here: a row of the table is one way of writing, told by a pattern, and a test tries each row's example
-and what is to be written in its place against the program.
+What is to be written is tried first, in a second session with arrays like those that the line names, and is said only where
+it is accepted there.
 """
 import difflib
 import os
 import re
-from typing import Callable, NamedTuple
+import tempfile
+import threading
+import time
+from contextlib import ExitStack, suppress
+from math import prod
+from typing import Callable, Iterable, Optional
 
 from . import language
-from .session import BenchError, Reply, Session
+from .grammar import Reading, reserved
+from .session import Array, BenchError, Reply, Session, literal
+from .terminal import printable
+from .translate import FLOATS, KINDS, translated
 
-NAME = r"([A-Za-z_]\w*)"
-SPAN = r"(\[.*\])"
-LITERAL = r"([-+]?\d+|True|False|b'[^']*')"
-SIGNS = {
-    "+": "add", "-": "sub", "*": "mul", "//": "fdiv", "%": "mod", "&": "and", "|": "or", "^": "xor", "<<": "shl", ">>": "shr",
-    "==": "eq", "!=": "ne", "<=": "le", ">=": "ge", "<": "lt", ">": "gt",
-}
-SIGN = r"(//|<<|>>|[=!<>]=|[-+*%&|^<>])"
-CHANGE = r"(//|<<|>>|[-+*%&|^])="
-FOLDS = "(" + "|".join(language.operations()["RED"]) + ")"
-TWO = "(" + "|".join(SIGNS.values()) + ")"
-TYPES = {kind: ("|" if kind[1] == "1" else "<") + kind for kind in ("i1", "i2", "i4", "i8", "u1", "u2", "u4", "u8")}
-TYPES.update({f"{'u' * (kind[0] == 'u')}int{8 * int(kind[1])}": text for kind, text in list(TYPES.items())})
-TYPES.update({"int": "<i8", "bool": "|b1", "bytes": "|S8", "str": "|S8"})
-TYPE = r"(?:np\.)?(" + "|".join(TYPES) + ")"
+SECONDS = 0.05  # for one hint
+LONGEST = 400  # letters of a line of which more is said than its code
+MOST_ITEMS = 2000  # of an array that is tried with its own items
+WORD = re.compile(r"(?<![\w'\"])[A-Za-z_]\w*", re.ASCII)
+BOUNDS = {f"{mark}{sign}{size}": (-(1 << 8 * size - 1) * (sign == "i"), (1 << 8 * size - (sign == "i")) - 1)
+          for mark in "<>|" for sign in "iu" for size in (1, 2, 4, 8)}
+Known = dict[str, Array]
 
 
-class Known:
-    """What a row may ask of the session: a name that is free, and the type of a name."""
+class Hints(ExitStack):
+    """What is said of the refused lines of a session."""
 
-    def __init__(self, session: Session):
-        self.session, self.names = session, session.names()
+    def __init__(self, session: Session, seconds: float = SECONDS):
+        super().__init__()
+        self.session, self.seconds = session, seconds
+        self._folder = self.enter_context(tempfile.TemporaryDirectory())
+        self._end = 0.0
+        self._spare = self._start()
 
-    def free(self) -> str:
-        return next(name for name in ("t", *(f"t{k}" for k in range(2000))) if name not in self.names)
+    def _start(self) -> Session:
+        """A second session; its start is not waited for."""
+        spare = Session(self.session.program, 64, self._folder, wait=False)
+        self.callback(spare.close)
+        self.callback(spare.kill)
+        return spare
 
-    def type_of(self, name: str) -> str:
-        return self.session.array(name, items=False).type if name in self.names else "<i8"
+    def meant(self, line: str, reply: Reply) -> list[str]:
+        """What is said of a refused line, in a few lines. It takes no longer than `seconds`, and no fault comes of it."""
+        self._end = time.monotonic() + self.seconds
+        try:
+            said = self._said(line, reply)
+        except (BenchError, OSError, ValueError, LookupError, RecursionError):
+            said = []
+        return said or [language.codes()[reply.code][1]] * (reply.code in language.codes() and reply.code != "E03")
 
-
-class Row(NamedTuple):
-    """An example, the pattern of all like it, and what to write: commands, or a sentence behind `#`. There `\\1` is a group, `@t` a
-    free name, `@D(name)` its type, `@T(kind)` a type, `@O(sign)` a verb, `@C(..)` numbers with blanks, `@N(..)` their count."""
-
-    example: str
-    pattern: str
-    write: str
-
-
-def filled(row: Row, found: re.Match[str], known: Known) -> str:
-    """What the row says of a line that is like it."""
-    means: dict[str, Callable[[str], str]] = {
-        "D": known.type_of, "T": TYPES.__getitem__, "O": SIGNS.__getitem__,
-        "C": lambda text: " ".join(text.replace(",", " ").split()), "N": lambda text: str(len(text.replace(",", " ").split())),
-    }
-    text = found.expand(row.write).replace("@t", known.free())
-    return re.sub(r"@([DTOCN])\(([^)]*)\)", lambda part: means[part[1]](part[2]), text)
-
-
-# In the examples a is <i4 (6), m is <i4 (2,3), r is a record with the field x, and i is <i4 (2).
-ROWS = tuple(Row(*row) for row in (
-    ("print a # the items", r"([^#]*[^#\s])\s*#.*", r"# a comment has a line of its own" "\n" r"\1"),
-    ("print(a)", rf"(print|info|format|del)\s*\({NAME}\)", r"\1 \2"),
-    ("print a[0]", rf"(print|info|format)\s*\(?{NAME}\s*{SPAN}\)?", r"@t = \2\3" "\n" r"\1 @t"),
-    ("save a f.npy", rf"save {NAME} '?([\w.-]+)'?", r'save \1 "\2"'),
-    ("x = load 'a.npy'", rf"{NAME}\s*=\s*load\s*\(?'?([\w.-]+)'?\)?", r'\1 = load "\2"'),
-    ('load "a.npy"', r'load "([\w.-]+)"', r'x = load "\1"'),
-    ("x = field r x", rf"{NAME}\s*=\s*field {NAME} '?(\w+)'?", r'\1 = field \2 "\3"'),
-    ("x = r['x']", rf"{NAME}\s*=\s*{NAME}\[['\"](\w+)['\"]\]", r'\1 = field \2 "\3"'),
-    ("a[0] += 1", rf"(?:set |upd )?{NAME}\s*{SPAN}\s*{CHANGE}\s*(.+)", r"upd \1\2 @O(\3) \4"),
-    ("a += 1", rf"(?:set |upd )?{NAME}\s*{CHANGE}\s*(.+)", r"upd \1[...] @O(\2) \3"),
-    ("upd a add 1", rf"upd {NAME} {TWO} (.+)", r"upd \1[...] \2 \3"),
-    ("set a = 5", rf"set {NAME}\s*=\s*(.+)", r"set \1[...] = \2"),
-    ("set a [0] = 5", rf"set {NAME}\s+{SPAN}\s*=\s*(.+)", r"set \1\2 = \3"),
-    ("set m[0][0] = 5", rf"(?:set )?{NAME}\[([^][]*)\]\[([^][]*)\]\s*=\s*(.+)", r"@t = \1[\2]" "\n" r"set @t[\3] = \4"),
-    ("a[0] = 5", rf"{NAME}\s*{SPAN}\s*=\s*([^=\s].*)", r"set \1\2 = \3"),
-    ("set a[:] = add a 1", rf"set {NAME}{SPAN}\s*=\s*([a-z]+ .+)", r"@t = \3" "\n" r"set \1\2 = @t"),
-    ("x = m[0][1]", rf"{NAME}\s*=\s*{NAME}\[([^][]*)\]\[([^][]*)\]", r"@t = \2[\3]" "\n" r"\1 = @t[\4]"),
-    ("x = sum a[0]", rf"{NAME}\s*=\s*{FOLDS} {NAME}\s*{SPAN}(.*)", r"@t = \3\4" "\n" r"\1 = \2 @t\5"),
-    ("x = sum m axis=0", rf"{NAME}\s*=\s*{FOLDS} {NAME},?\s*axis\s*=\s*(-?\d+)", r"\1 = \2 \3 \4"),
-    ("x = sum(m)", rf"{NAME}\s*=\s*(?:np\.)?{FOLDS}\({NAME}\)", r"\1 = \2 \3"),
-    ("x = add 5 a", rf"{NAME}\s*=\s*(add|mul|and|or|xor|eq|ne) {LITERAL} {NAME}", r"\1 = \2 \4 \3"),
-    ("x = sub 5 a", rf"{NAME}\s*=\s*{TWO} {LITERAL} {NAME}", r"@t = full @D(\4) () \3" "\n" r"\1 = \2 @t \4"),
-    ("x = a + 1", rf"{NAME}\s*=\s*{NAME}\s*{SIGN}\s*(\S+)", r"\1 = @O(\3) \2 \4"),
-    ("x = -a", rf"{NAME}\s*=\s*-\s*{NAME}", r"\1 = neg \2"),
-    ("a + 1", rf"{NAME}\s*{SIGN}\s*(\S+)", r"@t = @O(\2) \1 \3" "\n" r"print @t"),
-    ("x = a.T", rf"{NAME}\s*=\s*{NAME}\.(?:T|transpose\(\))", r"\1 = transpose \2"),
-    ("x = copy a", rf"{NAME}\s*=\s*copy {NAME}", r"\1 = copy \2 C"),
-    ("x = a.astype(int32)", rf"{NAME}\s*=\s*{NAME}\.astype\({TYPE}\)", r"\1 = cast \2 @T(\3)"),
-    ("x = a.reshape(2, 3)", rf"{NAME}\s*=\s*{NAME}\.reshape\(+([^()]*)\)+", r"\1 = reshape \2 (\3)"),
-    ("x = reshape a 2,3", rf"{NAME}\s*=\s*((?:reshape|broadcast|zeros) [^][\s]+) (-?\d+(?:[ ,]+-?\d+)*)", r"\1 = \2 (\3)"),
-    ("x = reshape a[1:5] (2,2)", rf"{NAME}\s*=\s*(reshape|broadcast|transpose|copy|cast) {NAME}{SPAN}(.*)",
-        r"@t = \3\4" "\n" r"\1 = \2 @t\5"),
-    ("x = zeros (2,3)", rf"{NAME}\s*=\s*(?:np\.)?zeros\s*\(?(\([^()]*\))\)?", r"\1 = zeros <i8 \2"),
-    ("x = arange 5", rf"{NAME}\s*=\s*(?:np\.)?arange\s*\(?(\d+)\)?", r"\1 = arange <i8 0 \2 1"),
-    ("x = arange <i4 0 5", rf"{NAME}\s*=\s*arange (\S+) (-?\d+)[ ,]+(-?\d+)", r"\1 = arange \2 \3 \4 1"),
-    ("x = array <i4 (3) 1,2,3", rf"{NAME}\s*=\s*array (\S+) (\([^()]*\)) ?\[?([-\d, ]+)\]?", r"\1 = array \2 \3 @C(\4)"),
-    ("x = array <i4 1 2 3", rf"{NAME}\s*=\s*array (\S+) \[?([-\d][-\d, ]*)\]?", r"\1 = array \2 (@N(\3)) @C(\3)"),
-    ("x = [1, 2, 3]", rf"{NAME}\s*=\s*(?:np\.array\()?\[([-\d, ]+)\]\)?", r"\1 = array <i8 (@N(\2)) @C(\2)"),
-    ("x = array |S2 (1) \"ab\"", r"(.*(?:array|full|set) .*)\"([^\"\\]*)\"", r"\1b'\2'"),
-    ("x = array |S2 (1) 'ab'", r"(.*[ (,])'([^'\\]*)'(.*)", r"\1b'\2'\3"),
-    ("x = 5", rf"{NAME}\s*=\s*(-?\d+)", r"\1 = full <i8 () \2"),
-    ("a.shape", rf"{NAME}\.(?:shape|strides|flags|ndim|size)", r"info \1"),
-    ("a", NAME, r"print \1"),
-    ("a[0]", rf"{NAME}\s*{SPAN}", r"@t = \1\2" "\n" r"print @t"),
-    ("print = a", rf"{NAME}\s*=.*", r"# `help` lists the commands, whose words are no names"),
-))
-
-
-def written(line: str, known: Known) -> str:
-    """What to write in the place of a line that is no command; nothing where no row is like it."""
-    found = ((row, re.fullmatch(row.pattern, line.strip())) for row in ROWS)
-    return next((filled(row, match, known) for row, match in found if match), "")
-
-
-def meant(session: Session, line: str, reply: Reply, folder: str = ".") -> list[str]:
-    """What may be meant by a refused line, in a few lines; what the code says, and what is bound."""
-    try:
-        known = Known(session)
+    def _said(self, line: str, reply: Reply) -> list[str]:
+        if reply.code == "E01":
+            return ["the line has more than 65,536 bytes"]
+        if reply.code == "E02":
+            return self._of_byte(line)
+        if len(line) > LONGEST:
+            return []
+        names = self.session.names()
+        words = [word for word in dict.fromkeys(WORD.findall(line)) if word in set(names)][:12]
+        known = {word: self.session.array(word, items=False) for word in words}
         if reply.code == "E03":
-            told = written(line, known).splitlines()
-            return [text if text.startswith("#") else f"write: {text}" for text in told]
-        told = [language.codes().get(reply.code, ("", ""))[1], _of_code(known, line, reply.code, folder)]
-        return list(filter(None, told))
-    except (BenchError, OSError):
+            return self._of_syntax(line, names, known)
+        found = Numbers(self, line, known).said(reply.code)
+        return found if found else self._of_names(line, reply.code, names)
+
+    def _of_byte(self, line: str) -> list[str]:
+        at = next(k for k, letter in enumerate(line) if not (letter == "\t" or " " <= letter <= "~"))
+        if line.startswith(("\ufeff", "\xef\xbb\xbf", "\udcef\udcbb\udcbf")):
+            return ["the file begins with a byte order mark: save it without one"]
+        return [f"`{printable(line[at])}` in column {at + 1}: a line has letters, digits and signs of ASCII; in b'..' write \\xhh"]
+
+    def _of_syntax(self, line: str, names: list[str], known: Known) -> list[str]:
+        """What to write in the place of a line that is no command, else where it stops being one."""
+        bare = re.fullmatch(r"([^#'\"]*[^#\s'\"])\s*#.*", line)
+        offered = translated(bare[1] if bare else line, known, self.session.fields) or ([bare[1]] if bare else [])
+        said = ["a comment has a line of its own"] * bool(bare)
+        if offered and offered[0].startswith("# "):
+            said.append(offered[0][2:])
+        elif offered and not re.fullmatch(r"(exit|quit|help)(\(\))?", line.strip()):
+            with suppress(BenchError):  # there was no time to try them
+                refused = next((pair for pair in zip(offered, self.tried(offered, known)) if not pair[1].accepted), None)
+                if refused is None:
+                    return said + [f"write: {text}" for text in offered]
+                if refused[1].code not in ("E03", "E34") and len(offered) > 1:
+                    said.append(f"`{refused[0]}` is then {refused[1].code} {refused[1].meaning}")
+        reading = Reading(line, names)
+        near = self._near_verb(line[reading.stop()[0]:])
+        return [*said, *reading.place(), *near] if reading.wanted else said
+
+    def _near_verb(self, behind: str) -> list[str]:
+        found = re.match(r"[a-z_]{3,}", behind)
+        near = difflib.get_close_matches(found[0], sorted(reserved()), 2, 0.75) if found and found[0] not in reserved() else []
+        return [f"near it: {' '.join(near)}"] * bool(near)
+
+    def _of_names(self, line: str, code: str, names: list[str]) -> list[str]:
+        """What is said of a name, a type or a file that is not known."""
+        if code in ("E04", "E05"):
+            types = [part.text for part in Reading(line).parts if part.piece == "D"]
+            said = [f"{KINDS[word]} is written for {word}" for word in types if word in KINDS]
+            return said or (["there are no floats"] if types and FLOATS.match(types[0]) else [])
+        if code == "E06":
+            word = next(word for word in WORD.findall(re.sub(r'^\s*\w+\s*=|"[^"]*"', "", line)) if word not in names and word not in reserved())
+            near = self._near(word, names)
+            bound = f"bound: {' '.join(names[:10])}{' ..' * (len(names) > 10)}" if names else "no name is bound yet"
+            return [f"{word} is not bound", f"near it: {near}" if near else bound]
+        if code == "E34":
+            folder = self.session.dir
+            if not os.path.isdir(folder):
+                return [f"there is no folder {printable(folder)}"]
+            with os.scandir(folder) as entries:
+                near = self._near(line.split('"')[1], (entry.name for entry in entries))
+            return [f"near it: {printable(near)}" if near else f"looked for in {printable(os.path.abspath(folder))}"]
         return []
 
+    def _near(self, word: str, among: Iterable[str]) -> str:
+        """The nearest of some words, as far as there is time to look."""
+        best, found = 0.7, ""
+        matcher = difflib.SequenceMatcher(b=word)
+        until = min(self._end, time.monotonic() + self.seconds / 2)
+        for other in among:
+            if time.monotonic() > until:
+                break
+            matcher.set_seq1(other)
+            if matcher.real_quick_ratio() >= best and matcher.quick_ratio() >= best and (ratio := matcher.ratio()) >= best:
+                best, found = ratio, other
+        return found
 
-def _of_code(known: Known, line: str, code: str, folder: str) -> str:
-    words = re.findall(r"[A-Za-z_]\w*", line)
-    bound = [word for word in dict.fromkeys(words) if word in known.names]
-    if code in ("E04", "E05"):
-        return "; ".join(f"write: {TYPES[word]} for {word}" for word in words if word in TYPES)
-    if code == "E06":
-        unknown = set(words).difference(bound, language.verbs(True), language.verbs(False))
-        near = [name for word in unknown for name in difflib.get_close_matches(word, known.names)]
-        return f"near it: {' '.join(near)}" if near else f"bound: {' '.join(known.names[:10]) or 'nothing yet'}"
-    if code == "E34":
-        near = difflib.get_close_matches(line.split('"')[1], os.listdir(folder))
-        return f"near it: {' '.join(near)}" if near else f"looked for in {os.path.abspath(folder)}"
-    if code == "E19":
-        return "; ".join(f"{name} has {' '.join(known.session.fields(name)) or 'no fields'}" for name in bound)
-    if code == "E20":
-        return "write: copy X C, and set in the copy"
-    shown = [known.session.array(name, items=False) for name in bound]
-    return "; ".join(f"{array.name} is {array.type} {array.shape}" for array in shown)
+    def tried(self, lines: list[str], known: Known, shown: Optional[Callable[[Session], None]] = None) -> list[Reply]:
+        """The replies to lines in a session with arrays like these; `BenchError` where there is no time for it."""
+        alarm = threading.Timer(max(0.001, self._end - time.monotonic()), self._spare.kill)
+        alarm.start()
+        try:
+            accepted = 0
+            for text in [text for array in known.values() for text in self._like(array)]:
+                accepted += self._spare.send(text).accepted
+            replies = []
+            for text in lines:
+                self._link(text)
+                replies.append(self._spare.send(text))
+            changed = sum(reply.text.startswith("ok ") and not reply.text.startswith("ok save") for reply in replies)
+            if shown and all(reply.accepted for reply in replies):
+                shown(self._spare)
+            for _ in range(accepted + changed):
+                self._spare.send("undo")
+            return replies
+        except BenchError:
+            self._spare.kill()
+            self._spare = self._start()
+            raise
+        finally:
+            alarm.cancel()
 
+    def _like(self, array: Array) -> list[str]:
+        """The lines that bind a name to an array like one of the session: of its type and shape, and with its items where these are few."""
+        shape = f"({','.join(map(str, array.shape))})"
+        made = f"{array.name} = zeros {array.type} {shape}"
+        if prod(array.shape) <= MOST_ITEMS:
+            items = self.session.array(array.name).items
+            text = " ".join([f"{array.name} = array {array.type} {shape}", *map(literal, items)])
+            made = text if len(text) <= 65_536 else made
+        return [made] + [f"{array.name} = broadcast {array.name} {shape}"] * (not array.writable)
+
+    def _link(self, line: str) -> None:
+        """Makes the file that a line loads one of the spare folder."""
+        if found := re.search(r'= load "([\w.-]+)"', line):
+            path = os.path.join(os.path.abspath(self.session.dir), found[1])
+            with suppress(FileExistsError):
+                if os.path.lexists(path):
+                    os.symlink(path, os.path.join(self._folder, found[1]))
+
+
+def axes(count: int) -> str:
+    return "1 axis" if count == 1 else f"{count or 'no'} axes"
+
+
+def items(count: int) -> str:
+    return "1 item" if count == 1 else f"{count} items"
+
+
+class Numbers:
+    """The numbers behind the refusal of a line that is a command."""
+
+    def __init__(self, hints: Hints, line: str, known: Known):
+        self.hints, self.known = hints, known
+        self.parts = Reading(line).parts
+        self.text = {part.piece: part.text for part in self.parts}
+        self.operands = [part.text for part in self.parts if part.piece in ("X[ix]", "Y[ix]", "Y[iy]", "Y[?]", "Y", "Z") and WORD.match(part.text)
+                         and part.text not in ("True", "False") and not part.text.startswith("b'")]
+
+    def said(self, code: str) -> list[str]:
+        reader: Callable[[], str] = getattr(self, f"_{code.lower()}", lambda: "")
+        try:
+            told = reader()
+        except (LookupError, TypeError, StopIteration):
+            told = ""
+        return [told] if told else []
+
+    def array(self, operand: str) -> Array:
+        """An operand as an array, with its index, as a session with such arrays knows it."""
+        name = operand.partition("[")[0].strip()
+        if "[" not in operand:
+            return self.known[name]
+        found: list[Array] = []
+        free = "t" if "t" not in self.known else "t_"
+        self.hints.tried([f"{free} = {operand}"], self.known, lambda spare: found.append(spare.array(free, items=False)))
+        return found[0]
+
+    def short(self, array: Array) -> str:
+        return f"{array.name} is {array.type} {array.shape}"
+
+    def entries(self) -> tuple[Array, list[str]]:
+        """The operand whose index is refused, and the entries of that."""
+        for operand in self.operands:
+            name, _, index = operand.partition("[")
+            if index:
+                with suppress(LookupError):
+                    self.array(operand)
+                    continue
+                return self.known[name], [entry.strip() for entry in index.rstrip("] \t").split(",")]
+        raise LookupError
+
+    def index_arrays(self) -> list[tuple[Array, int]]:
+        """The arrays of the index that is refused, each with the axis that it begins at."""
+        array, entries = self.entries()
+        found, axis = [], 0
+        taken = [len(self.known[entry].shape) if entry in self.known and self.known[entry].type == "|b1" else int(entry not in ("None", "..."))
+                 for entry in entries]
+        for k, entry in enumerate(entries):
+            if entry in self.known:
+                found.append((self.known[entry], axis))
+            axis = len(array.shape) - sum(taken[k + 1:]) if entry == "..." else axis + taken[k]
+        return found
+
+    def _e10(self) -> str:
+        array, entries = self.entries()
+        count = sum(entry not in ("None", "...") for entry in entries)
+        return f"{self.short(array)}: {axes(len(array.shape))}, and the index has {count}"
+
+    def _e11(self) -> str:
+        array, entries = self.entries()
+        axis = 0
+        for k, entry in enumerate(entries):
+            if entry == "...":
+                axis = len(array.shape) - sum(later not in ("None", "...") for later in entries[k + 1:])
+            elif entry in self.known and self.known[entry].type != "|b1":
+                values = self.hints.session.array(entry).items
+                outside = next((value for value in values if not -array.shape[axis] <= value < array.shape[axis]), None)
+                if outside is not None:
+                    return self.range(array, axis, f"{entry} has {outside}")
+            elif re.fullmatch(r"[+-]?\d+", entry) and not -array.shape[axis] <= int(entry) < array.shape[axis]:
+                return self.range(array, axis, entry)
+            axis += entry not in ("None", "...")
+        return ""
+
+    def range(self, array: Array, axis: int, outside: str) -> str:
+        length = array.shape[axis]
+        within = f"{-length} to {length - 1} are within" if length else "it has no item"
+        return f"axis {axis} of {array.name} has length {length}: {outside} is outside, {within}" if " has " not in outside else \
+            f"axis {axis} of {array.name} has length {length}, and {outside}: {within}"
+
+    def _e13(self) -> str:
+        array, _ = self.entries()
+        for mask, axis in self.index_arrays():
+            if mask.type == "|b1" and mask.shape != (lengths := array.shape[axis:axis + len(mask.shape)]):
+                return f"the mask {mask.name} has shape {mask.shape}, and it stands for axes of {array.name} of lengths {lengths}"
+        return ""
+
+    def _e14(self) -> str:
+        return next(f"{self.short(array)}: an index array has integers or bools" for array, _ in self.index_arrays() if array.type[1] not in "iub")
+
+    def _e15(self) -> str:
+        shapes = [f"{array.name} has shape {array.shape}" for array, _ in self.index_arrays()]
+        return f"{', '.join(shapes)}: these do not broadcast together"
+
+    def _e16(self) -> str:
+        if "S" in self.text:
+            array, wanted = self.known[self.text["Y"]], tuple(map(int, re.findall(r"\d+", self.text["S"])))
+            return self.apart(array.shape, wanted, f"{self.short(array)}", str(wanted), False)
+        one, other = (self.array(operand) for operand in self.operands)
+        if "X[ix]" in self.text:
+            return self.apart(other.shape, one.shape, f"{self.operands[1]} has shape {other.shape}", f"{self.operands[0]} has {one.shape}", False)
+        return self.apart(one.shape, other.shape, f"{self.operands[0]} has shape {one.shape}", f"{self.operands[1]} has {other.shape}", True)
+
+    def apart(self, one: tuple[int, ...], other: tuple[int, ...], first: str, second: str, is_either: bool) -> str:
+        """Where two shapes, lined up at the last axis, do not fit."""
+        for k, (a, b) in enumerate(zip(reversed(one), reversed(other)), 1):
+            if a != b and a != 1 and not (is_either and b == 1):
+                return f"{first}, and {second}: at axis -{k} the lengths are {a} and {b}"
+        return f"{first}, and {second}: that has fewer axes"
+
+    def _e17(self) -> str:
+        array = self.known[self.text["Y"]]
+        last = len(array.shape) - 1
+        return f"{self.short(array)}: " + (f"its axes are 0 to {last}" if last > 0 else "its only axis is 0" if last == 0 else "it has no axes")
+
+    def _e18(self) -> str:
+        array, lengths = self.known[self.text["Y"]], list(map(int, re.findall(r"[+-]?\d+", self.text["S-"])))
+        count, known = prod(array.shape), prod(length for length in lengths if length != -1)
+        begin = f"{self.short(array)}: {items(count)}, and "
+        if any(length < -1 for length in lengths) or lengths.count(-1) > 1:
+            return "a length is 0 or more; one may be -1, for what is left"
+        if -1 not in lengths:
+            return f"{begin}{self.text['S-']} has {known}"
+        return begin + (f"{known} does not divide that" if known else "beside a length of 0 there is no -1")
+
+    def _e19(self) -> str:
+        array = self.known[self.text["Y"]]
+        fields = self.hints.session.fields(array.name)
+        return f"{array.name} has the field{'s' * (len(fields) > 1)} {' '.join(fields)}" if fields else f"{self.short(array)}, which has no fields"
+
+    def _e20(self) -> str:
+        name = self.operands[0].partition("[")[0]
+        return f"{name} was made by `broadcast`, or from such an array: set in what that was made from, or in a copy, `X = copy {name} C`"
+
+    def _e21(self) -> str:
+        return "`fdiv` divides and rounds down" if self.text.get("OP") == "div" else " and ".join(
+            f"{operand} is {self.array(operand).type}" for operand in self.operands) + ": no integer type holds both"
+
+    def _e22(self) -> str:
+        kinds = [f"{operand} is {self.array(operand).type}" for operand in self.operands]
+        return f"{', '.join(kinds)}: `{self.text.get('OP') or self.text.get('UN') or self.text.get('RED')}` is not for these" if kinds else ""
+
+    def _e23(self) -> str:
+        kind = self.text.get("D") or self.array(self.operands[0]).type
+        name = self.operands[0].partition("[")[0] + " is " if self.operands else ""
+        low, high = BOUNDS[kind if kind[0] in "<>|" else ("|" if kind[1:] == "1" else "<") + kind]
+        return f"{name}{kind}, which holds {low} to {high}"
+
+    def _e24(self) -> str:
+        array = self.array(self.operands[0])
+        return f"{self.operands[0].partition('[')[0]} is {array.type}: the result is of a kind above it, in the order bool, unsigned, signed"
+
+    def _e32(self) -> str:
+        shape = tuple(map(int, re.findall(r"\d+", self.text["S"])))
+        values = len(re.findall(r"b'[^']*'|\((?:[^()]|\([^()]*\))*\)|[^\s()]+", self.text["L.."]))
+        return f"the shape {self.text['S']} has {items(prod(shape))}, and {values} {'literal stands' if values == 1 else 'literals stand'} there"
+
+    def _e33(self) -> str:
+        target = self.text.get("D") or self.array(self.operands[0]).type
+        given = self.text.get("L") or self.text.get("Z") or (self.array(self.operands[1]).type if len(self.operands) > 1 else "")
+        return f"{given} does not become {target}" if given and "L.." not in self.text else f"the items are {target}"

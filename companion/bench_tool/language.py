@@ -1,5 +1,6 @@
 """What docs/LANGUAGE.md says of commands and codes: the words of `help`, of Tab and of refusals, read off its tables."""
 import re
+import textwrap
 from functools import lru_cache
 from pathlib import Path
 from typing import NamedTuple
@@ -12,6 +13,18 @@ GROUPS = {
     "type": "E04 E05 E09", "shape": "E08 E09", "index": "E10 E12 E11 E08 E14 E13 E15",
     "file": "E28 E29 E30 E31 E04 E05 E08 E09",
 }
+# Words, and lines that run as they stand.
+EXAMPLES = [
+    ("zeros", "x = zeros <i4 (2,3)"), ("full", "x = full |u1 (4) 255"), ("arange", "x = arange <i4 0 6 1"), ("array", "x = array <i4 (2,2) 1 2 3 4"),
+    ("field", "r = array T{<i:x:<h:y:} (2) (1,2) (3,4)\nx = field r \"y\""), ("transpose", "m = zeros <i4 (2,3)\nx = transpose m"),
+    ("reshape", "a = arange <i4 0 6 1\nx = reshape a (2,-1)"), ("broadcast", "a = arange <i4 0 3 1\nx = broadcast a (2,3)"),
+    ("copy", "m = zeros <i4 (2,3)\nx = copy m F"), ("cast", "a = arange <i4 0 6 1\nx = cast a |u1"),
+    ("add sub mul fdiv mod and or xor shl shr eq ne lt le gt ge", "a = arange <i4 0 6 1\nx = OP a 2"),
+    ("neg not", "a = arange <i4 0 6 1\nx = UN a"), ("sum prod min max any all argmin argmax", "m = full <i4 (2,3) 1\nx = RED m\nx = RED m 0 keep"),
+    ("save load", "a = arange <i4 0 6 1\nsave a \"a.npy\"\nx = load \"a.npy\""), ("set", "a = arange <i4 0 6 1\nset a[1:] = a[:-1]\nset a[0] = 9"),
+    ("upd", "a = arange <i4 0 6 1\nupd a[:] add 1"), ("del undo names", "a = arange <i4 0 6 1\ndel a\nundo\nnames"),
+    ("print info format", "a = arange <i4 0 6 1\nprint a\ninfo a\nformat a"), ("shares", "a = arange <i4 0 6 1\nb = a[::2]\nshares a b"),
+]
 
 
 class Command(NamedTuple):
@@ -78,16 +91,30 @@ def verbs(behind: bool) -> list[str]:
     return sorted({word for first in firsts for word in operations().get(first, [first]) if word[0].islower()})
 
 
-def help_text(word: str = "") -> str:
-    """All forms; of one command its form, what it does, its reply and its refusals; of a code when it comes; or a section."""
+def plain(markdown: str) -> str:
+    """A section of the page without Markdown's marks: no fences, no pictures, tables as columns."""
+    lines = [line for line in markdown.splitlines() if not re.match(r"```|!\[|\|[-|]+$", line)]
+    made = []
+    for line in lines:
+        cells = [cell.strip() for cell in re.split(r"(?<!\\)\|", line)[1:-1]] if line.startswith("|") else []
+        made.append(f"{cells[0]:44} {' '.join(cells[1:])}" if cells else line)
+    return re.sub(r"\n{3,}", "\n\n", re.sub(r"\[([^]]*)\]\([^)]*\)", r"\1", "\n".join(made).replace("\\|", "|").replace("`", "").replace("**", "")))
+
+
+def help_text(word: str = "", columns: int = 0) -> str:
+    """All forms; of one command its form, what it does, its reply, its refusals and an example; of a code when it comes; or a section."""
     if word in codes():
         return f"  {word} {codes()[word][0]}: {codes()[word][1]}"
     if word:
         found = [command.told() for command in commands() if word in command.words() or word in command.forms]
-        sections = [part.rstrip() for part in text().split("\n## ") if word in part.partition("\n")[0].lower().split()]
+        example = next((lines for words, lines in EXAMPLES if word in words.split()), "").replace(" UN ", f" {word} ").replace(" OP ", f" {word} ")
+        found += [f"      for example:\n{textwrap.indent(example.replace(' RED ', f' {word} '), ' ' * 10)}"] * bool(found and example)
+        sections = [plain(part.rstrip()) for part in text().split("\n## ") if word in part.partition("\n")[0].lower().split()]
         return "\n".join(found or sections) or f"  there is no command {word}; help alone lists them"
     width = max(len(form) for command in commands() for form in command.forms)
     shown = [f"  {form:{width}}  {command.what or command.reply}" for command in commands() for form in command.forms]
     shown += [f"  {key} is one of {' '.join(words)}" for key, words in operations().items()]
-    shown += ["help COMMAND tells the refusals too, help E11 when that code comes; help types, help shapes, help indexes and"]
-    return "\n".join([*shown, "help limits tell what these are; quit ends"])
+    shown += ["  help COMMAND shows an example and the refusals, help E11 says when that code comes; help types, help shapes,",
+              "  help indexes and help limits say what these are"]
+    indent = " " * (width + 4)
+    return "\n".join(line for each in shown for line in (textwrap.wrap(each, columns, subsequent_indent=indent) if columns > width + 30 else [each]))

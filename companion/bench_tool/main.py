@@ -1,11 +1,13 @@
 """The words of bench-tool."""
 import argparse
 import os
+import signal
 import sys
 from typing import Any, Callable, Optional, Sequence
 
-from . import page, runs, shell, show
-from .session import BenchError
+from . import __version__, page, runs, shell, show
+from .session import BenchError, ProgramEnded
+from .terminal import open_streams, printable, say
 
 
 def depth(text: str) -> int:
@@ -17,11 +19,12 @@ def depth(text: str) -> int:
 
 def parser() -> argparse.ArgumentParser:
     common, script = (argparse.ArgumentParser(add_help=False) for _ in range(2))
-    common.add_argument("--undo", type=depth, default=16, metavar="N", help="how many changes undo can take back, 0 to 64 (16)")
-    common.add_argument("--dir", default=".", help="the folder of the files that load and save name")
+    common.add_argument("--undo", type=depth, default=16, metavar="N", help="how many changes undo can take back, 0 to 64 (default: 16)")
+    common.add_argument("--dir", default=".", help="the folder for load and save (default: the current folder)")
     script.add_argument("script", metavar="SCRIPT", help="the script; - is standard input")
     made = argparse.ArgumentParser(prog="bench-tool", description="The companion of bench, a workbench for strided arrays.")
-    commands = made.add_subparsers(metavar="COMMAND", required=True)
+    made.add_argument("--version", action="version", version=f"bench-tool {__version__}")
+    commands = made.add_subparsers(metavar="COMMAND")
 
     def command(name: str, call: Callable[[argparse.Namespace], int], help: str, *parents: Any) -> argparse.ArgumentParser:
         added = commands.add_parser(name, parents=[*parents], help=help)
@@ -29,33 +32,50 @@ def parser() -> argparse.ArgumentParser:
         return added
 
     command("shell", shell.shell, "a prompt with history, Tab and help", common)
-    run = command("run", runs.run, "a script, with the place of each refusal", script, common)
+    run = command("run", runs.run, "runs a script and says where each line is refused", script, common)
     run.add_argument("--stop", action="store_true", help="end at the first refusal")
-    run.add_argument("--summary", action="store_true", help="tell how many lines were accepted and refused")
-    run.add_argument("--time", action="store_true", help="tell how long each line took")
-    shown = command("show", show.show, "what the program says of an NPY file")
+    run.add_argument("--summary", action="store_true", help="say how many lines were accepted and refused")
+    run.add_argument("--time", action="store_true", help="say how long each line took")
+    shown = command("show", show.show, "shows an NPY file: its header and its items")
     shown.add_argument("file", metavar="FILE.npy")
-    shown.add_argument("--all", action="store_true", help="all items, not as many as a screen has")
-    draw = command("draw", page.draw, "pictures of memory, line by line, as a page or as SVG", script, common)
-    draw.add_argument("-o", dest="output", metavar="PAGE.html", help="the file to write, else standard output")
-    draw.add_argument("--line", type=int, metavar="N", help="the line with which the page begins, or of which the picture is")
+    shown.add_argument("--all", action="store_true", help="all items, not only what fits the window")
+    draw = command("draw", page.draw, "draws memory line by line, as a page or as SVG", script, common)
+    draw.add_argument("-o", dest="output", metavar="PAGE.html", help="the file to write (default: standard output)")
+    draw.add_argument("--line", type=int, metavar="N", help="the line that the page opens with, or that is drawn as SVG")
     draw.add_argument("--svg", action="store_true", help="one picture, of line N")
     return made
 
 
+def ended(number: int, _: Any) -> None:
+    """A signal ends what runs, and the programs below it."""
+    sys.exit(128 + number)
+
+
 def main(arguments: Optional[Sequence[str]] = None) -> int:
+    open_streams()
+    for number in (signal.SIGTERM, signal.SIGHUP):
+        if signal.getsignal(number) == signal.SIG_DFL:
+            signal.signal(number, ended)
     words = parser().parse_args(arguments)
+    if "call" not in words:
+        parser().print_help(sys.stderr)
+        return 2
     try:
         status = int(words.call(words))
         sys.stdout.flush()
         return status
+    except ProgramEnded as fault:
+        if words.call is not runs.run or fault.status != 3:  # else it has said itself why
+            say(f"bench-tool: {printable(str(fault))}")
+        return 3
     except BenchError as fault:
-        print(f"bench-tool: {fault}", file=sys.stderr)
+        say(f"bench-tool: {printable(str(fault))}")
         return 3
     except KeyboardInterrupt:
         return 130
     except OSError as fault:
         # Nothing that is left may be written at the end.
         os.dup2(os.open(os.devnull, os.O_WRONLY), 1)
-        print("bench: write fault" if words.call is runs.run else f"bench-tool: {fault}", file=sys.stderr)
+        said = f"{fault.strerror}: {os.fsdecode(fault.filename)}" if fault.filename else str(fault)
+        say("bench: write fault" if words.call is runs.run else f"bench-tool: {printable(said)}")
         return 3

@@ -1,66 +1,81 @@
 """`run SCRIPT`: the replies and the status of the program, and each refusal with its place on standard error."""
 import argparse
 import collections
+import os
 import sys
 import time
 from typing import BinaryIO
 
-from . import hints
-from .session import ProgramEnded, Reply, Session
+from .hints import Hints
+from .session import Reply, Session
+from .terminal import lines_of, printable, say
 
 SHOWN = 200
+MOST_NOTES = 100  # refused lines of which more is said than code and place
 
 
 def shown(line: bytes) -> str:
-    """A line as a message has it: of printable characters, and not too long."""
-    text = line.decode("utf-8", "backslashreplace").strip()
-    cut = "".join(letter if letter.isprintable() else repr(letter)[1:-1] for letter in text[:SHOWN])
-    return cut + ".." * (len(text) > SHOWN)
+    """A line as a message has it."""
+    return printable(line.decode("utf-8", "backslashreplace").strip(), SHOWN)
 
 
-def tell(text: str) -> None:
-    print(text, file=sys.stderr, flush=True)
+def refusal(hints: Hints, place: str, line: bytes, reply: Reply, is_noted: bool) -> None:
+    """Says which line is refused, and what may be meant."""
+    say(f"{place} {reply.code} {reply.meaning}: {shown(line)}")
+    for text in hints.meant(line.decode("utf-8", "surrogateescape"), reply) if is_noted else []:
+        say(f"{place} note: {text}")
 
 
-def refusal(session: Session, place: str, line: bytes, reply: Reply) -> None:
-    """Tells a refused line, and what to write in its place."""
-    tell(f"{place} {reply.code} {reply.meaning}: {shown(line)}")
-    if reply.code == "E03" and len(line) <= SHOWN:
-        for text in hints.meant(session, line.decode("latin-1"), reply):
-            tell(f"{place} note: {text}")
-
-
-def lines(script: BinaryIO, session: Session, words: argparse.Namespace) -> int:
+def lines(script: BinaryIO, session: Session, words: argparse.Namespace, hints: Hints) -> int:
     """Runs all lines, or with --stop those until one is refused; answers the status."""
-    begun, codes = time.perf_counter(), collections.Counter[str]()
-    for number, line in enumerate(script, 1):
+    begun, codes, name = time.perf_counter(), collections.Counter[str](), printable(words.script)
+    for number, line in enumerate(read(script), 1):
         sent = time.perf_counter()
-        reply = session.send(line.removesuffix(b"\n"), sys.stdout.buffer.write)
+        reply = session.send(line, sys.stdout.buffer.write)
         sys.stdout.buffer.flush()
         took = time.perf_counter() - sent
         codes[reply.code] += bool(reply.text)
         if reply.text and words.time:
-            tell(f"{took * 1e3:10.3f} ms  {number:5}  {shown(line)}")
+            say(f"{took * 1e3:10.3f} ms  {number:5}  {shown(line)}")
         if not reply.accepted:
-            refusal(session, f"{words.script}:{number}:", line, reply)
+            refused = codes.total() - codes[""] if hasattr(codes, "total") else sum(codes.values()) - codes[""]
+            refusal(hints, f"{name}:{number}:", line, reply, refused <= MOST_NOTES)
             if words.stop:
                 break
     accepted = codes.pop("", 0)
     if words.summary:
         told = "".join(f", {count} {code}" for code, count in sorted(codes.items()))
-        tell(f"{words.script}: {accepted} accepted, {sum(codes.values())} refused{told}; {time.perf_counter() - begun:.3f} s")
+        say(f"{name}: {accepted} accepted, {sum(codes.values())} refused{told}; {time.perf_counter() - begun:.3f} s")
     return 1 if codes else 0
 
 
+class ReadFault(Exception):
+    """The script cannot be read further."""
+
+
+def read(script: BinaryIO):  # type: ignore[no-untyped-def]
+    """The lines of a script."""
+    try:
+        yield from lines_of(script)
+    except OSError as fault:
+        raise ReadFault from fault
+
+
 def run(words: argparse.Namespace) -> int:
+    name = printable(words.script)
+    if not os.path.isdir(words.dir):
+        say(f"bench-tool: there is no folder {printable(words.dir)}")
     try:
         script = sys.stdin.buffer if words.script == "-" else open(words.script, "rb")
-    except OSError as fault:
-        # The program's own words, and its status.
-        tell(f"bench: {'read fault' if isinstance(fault, IsADirectoryError) else 'no script'}")
+    except FileNotFoundError:
+        say(f"bench-tool: there is no script {name}")
         return 3
-    with script, Session(undo=words.undo, dir=words.dir) as session:
+    except OSError as fault:
+        say(f"bench-tool: {name} cannot be read: {'it is a folder' if isinstance(fault, IsADirectoryError) else fault.strerror}")
+        return 3
+    with script, Session(undo=words.undo, dir=words.dir) as session, Hints(session, 0.5) as hints:
         try:
-            return lines(script, session, words)
-        except ProgramEnded as ended:
-            return max(3, ended.status)
+            return lines(script, session, words, hints)
+        except ReadFault as fault:
+            say(f"bench: read fault: {name}: {fault.__cause__}")
+            return 3

@@ -9,6 +9,7 @@ from __future__ import annotations
 import os
 import re
 import shutil
+import signal
 import subprocess
 from ast import literal_eval
 from contextlib import AbstractContextManager, suppress
@@ -44,7 +45,8 @@ class ProgramEnded(BenchError):
     """The program is not there any more; `status` is what it ended with."""
 
     def __init__(self, program: str, status: int):
-        super().__init__(f"{program} has ended, with status {status}")
+        how = f"was killed: {signal.strsignal(-status) or -status}" if status < 0 else f"has ended, with status {status}"
+        super().__init__(f"{program} {how}")
         self.status = status
 
 
@@ -96,8 +98,17 @@ def items_of(text: str) -> tuple[Any, ...]:
     return literal_eval(f"({''.join(token + ',' * (token != '(') for token in TOKEN.findall(text))})")
 
 
+def literal(item: Any) -> str:
+    """An item as the program prints it; `?` where it is not known."""
+    if isinstance(item, tuple):
+        return f"({', '.join(map(literal, item))}{',' * (len(item) == 1)})"
+    if isinstance(item, bytes):
+        return "b'" + "".join(chr(b) if 32 <= b < 127 and b not in b"'\\" else f"\\x{b:02x}" for b in item) + "'"
+    return "?" if item is None else str(item)
+
+
 def find_program() -> str:
-    """The path of the program: BENCH, else the one of the repository or the installed one."""
+    """What starts the program: BENCH, or the launcher of the repository, or the one that is installed."""
     top = Path(__file__).resolve().parents[2]
     places = map(str, (top / "bench", top.parent / "bin/bench", "bench"))
     found = os.environ.get("BENCH") or next(filter(None, map(shutil.which, places)), None)
@@ -109,21 +120,22 @@ def find_program() -> str:
 class Session(AbstractContextManager["Session"]):
     """The program with its names and undos, from its start to `close`.
 
-    An exception in the midst of a reply ends the session, since the rest would be taken for the next reply. The program
-    gets no Ctrl-C of the terminal.
+    An exception in the middle of a reply kills the program, since the rest would be taken for the next reply. The program
+    gets no Ctrl-C of the terminal, and no signal where a file may not grow.
     """
 
-    def __init__(self, program: Optional[Named] = None, undo: int = 16, dir: Named = "."):
-        self.program = find_program() if program is None else os.fspath(program)
+    def __init__(self, program: Optional[Named] = None, undo: int = 16, dir: Named = ".", wait: bool = True):
+        self.program, self.dir = find_program() if program is None else os.fspath(program), os.fspath(dir)
         words, pipe = [self.program, "--undo", str(undo), f"--dir={os.fspath(dir)}"], subprocess.PIPE
         self._status: Optional[int] = None
         try:
-            self._process = subprocess.Popen(words, stdin=pipe, stdout=pipe, start_new_session=True)
+            self._process = subprocess.Popen(words, stdin=pipe, stdout=pipe, start_new_session=True, restore_signals=False)
         except OSError as fault:
             raise ProgramMissing(f"{self.program} cannot be started: {fault.strerror}") from None
         assert self._process.stdin is not None and self._process.stdout is not None
         self._to, self._from = self._process.stdin, self._process.stdout
-        self.send("")
+        if wait:
+            self.send("")
 
     def send(self, line: Line, take: Optional[Callable[[bytes], Any]] = None) -> Reply:
         """The reply to one line. With `take` the reply is handed over in parts as they come, each line of it with its
@@ -143,6 +155,7 @@ class Session(AbstractContextManager["Session"]):
                 if take is not None:
                     take(part)
         except BaseException:
+            self.kill()
             self.close()
             raise
         text = begin.decode("ascii", "replace").removesuffix("\n")
@@ -182,6 +195,10 @@ class Session(AbstractContextManager["Session"]):
                 found.append(field)
         return found
 
+    def kill(self) -> None:
+        """Ends the program at once, also from another thread; who waits for its reply gets `ProgramEnded`."""
+        self._process.kill()
+
     def close(self) -> int:
         """Ends the program, and answers the status that it ended with. A second call does nothing more."""
         if self._status is None:
@@ -191,7 +208,9 @@ class Session(AbstractContextManager["Session"]):
             self._status = self._process.wait()
         return self._status
 
-    def __exit__(self, *_: object) -> None:
+    def __exit__(self, kind: object, *_: object) -> None:
+        if kind is not None:
+            self.kill()
         self.close()
 
     def _parts(self) -> Iterator[bytes]:

@@ -10,10 +10,11 @@ from collections import deque
 from contextlib import ExitStack
 from dataclasses import dataclass, field
 from functools import cached_property
+from itertools import product
 from math import prod
 from typing import Any, Iterator, Mapping, NamedTuple, Optional
 
-from .session import Array, BenchError, Named, Reply, Session
+from .session import Array, BenchError, Named, Reply, Session, literal
 
 MOST_CELLS = 256
 MOST_UNDO = 56  # of the 64 states that the second session keeps, the others are for what is tried
@@ -22,7 +23,11 @@ AT_ONCE = 1 << 16  # bytes of items that are printed in one go
 WORD = re.compile(r"[A-Za-z_]\w*")
 ODD = re.compile(r"[^\t -~]")
 BOUND = re.compile(r"ok (\w+) .* (new|view|copy)(?: rest \d+)?")
+SIZES = {"?": 1, "b": 1, "h": 2, "i": 4, "q": 8}
+MEMBER = re.compile(r"(T\{)|(?:(\})|[<>]?(\d*)([?bBhHiIqQsx]))(?::([^:]*):)?")
 BITS: dict[type, tuple[Any, Any]] = {int: (0, 1), bool: (False, True), bytes: (b"0", b"1")}
+BIT = {0: 0, 1: 1, b"0": 0, b"1": 1}
+SOURCE = re.compile(r"(\s*set\s[^=]*=\s*)([A-Za-z_]\w*)(\[.*|)\s*", re.ASCII)  # `set X[ix] = Y[iy]`, around its Y
 
 Values = Mapping[int, Any]
 Place = NamedTuple("Place", [("buffer", int), ("byte", int)])  # where a value begins
@@ -53,6 +58,26 @@ class Kind:
     def item(self, values: Values, at: int) -> Any:
         """The item whose values stand at a byte; None for each that is not known."""
         return tuple(kind.item(values, at + offset) for offset, _, kind in self.fields) if self.fields else values.get(at)
+
+
+def kind_of(text: str) -> Kind:
+    """A type as replies have it: a type string, or the format text of a record, in which every byte has its member."""
+    if not text.startswith("T{"):
+        return Kind(text, int(text[2:]), ())
+    # Of each record that is open: where its text begins, its fields, and its bytes so far; the first holds the whole.
+    begins, fields, sizes = [0], [list[tuple[int, str, Kind]]()], [0]
+    for found in MEMBER.finditer(text):
+        opened, closed, count, letter, name = found.groups()
+        if opened:
+            begins, fields, sizes = [*begins, found.start()], [*fields, []], [*sizes, 0]
+        elif letter == "x":
+            sizes[-1] += int(count or 1)
+        else:
+            kind = Kind(text[begins.pop():found.start() + 1], sizes.pop(), tuple(fields.pop())) if closed else \
+                Kind(letter, int(count or 1) if letter == "s" else SIZES[letter.lower()], ())
+            fields[-1].append((sizes[-1], name or "", kind))
+            sizes[-1] += kind.size
+    return fields[0][0][2]
 
 
 @dataclass(frozen=True)
@@ -149,15 +174,6 @@ def ends(count: int, most: int) -> list[int]:
     return list(range(count)) if count <= most else [*range(most // 2), *range(count - most // 2, count)]
 
 
-def literal(item: Any) -> str:
-    """An item as the program prints it; `?` where it is not known."""
-    if isinstance(item, tuple):
-        return f"({', '.join(map(literal, item))}{',' * (len(item) == 1)})"
-    if isinstance(item, bytes):
-        return "b'" + "".join(chr(b) if 32 <= b < 127 and b not in b"'\\" else f"\\x{b:02x}" for b in item) + "'"
-    return "?" if item is None else str(item)
-
-
 class Trace(ExitStack):
     """A script that is run line by line, until it is closed."""
 
@@ -209,37 +225,25 @@ class Trace(ExitStack):
         """A name was bound: to a view in the buffer of the first name behind it, or to an array in a buffer of its own."""
         [(name, how)] = BOUND.findall(reply.text)
         array = self._second.array(name, items=False)
-        bound = Bound(array, self.state.names[behind[0]].buffer if how == "view" else self._made + 1, self._kind(array.type, name))
+        if array.type not in self._kinds:
+            self._kinds[array.type] = kind_of(array.type)
+        kind = self._kinds[array.type]
+        bound = Bound(array, self.state.names[behind[0]].buffer if how == "view" else self._made + 1, kind)
         self._made = max(self._made, bound.buffer)
         buffer = self.state.buffers.get(bound.buffer) or Buffer(bound.kind, prod(array.shape))
         read = self._read(buffer, {name: bound}, buffer.values)
         buffer = Buffer(buffer.kind, buffer.count, {**buffer.values, **read}) if read else buffer
         return {**self.state.names, name: bound}, {**self.state.buffers, bound.buffer: buffer}
 
-    def _kind(self, text: str, name: str) -> Kind:
-        """An element type, which is learnt from an array of two items and from its fields."""
-        if text not in self._kinds:
-            self._second.ask(f"{name} = zeros {text} (2)")
-            size = self._second.array(name, items=False).strides[0]
-            fields = []
-            for word in self._second.fields(name):
-                self._second.ask(f'{name} = field {name} "{word}"')
-                part = self._second.array(name, items=False)
-                fields.append((part.at, word, part.type))
-                self._undo(1)
-            self._undo(1)
-            self._kinds[text] = Kind(text, size, tuple((at, word, self._kind(type_, name)) for at, word, type_ in sorted(fields)))
-        return self._kinds[text]
-
     def _written(self, line: bytes, reply: Reply, touched: list[int]) -> tuple[dict[int, Buffer], dict[Place, Place]]:
         """Items were written, in the buffer of one of the names that the line has; where those came from that it moved."""
         old, moved = self.state.buffers, {}
         fresh = {number: self._reread(number) for number in touched}
         changed = {number: buffer for number, buffer in fresh.items() if buffer.values != old[number].values}
-        if changed and reply.text.startswith("ok set "):
+        source = SOURCE.fullmatch(line.removesuffix(b"\r").decode("latin-1"))
+        if changed and source and source[2] in self.state.names:
             self._undo(1)
-            for source in touched:
-                moved.update(self._moved(line, source, list(changed)))
+            moved = self._moved(f"{source[1]}{self._free}{source[3]}", source[2], list(changed))
             self._again(line, reply)
         return {**old, **changed}, moved
 
@@ -277,31 +281,29 @@ class Trace(ExitStack):
         self._undo(len(tried))
         return list(items) if is_long else [items[number] for number in numbers]
 
-    def _moved(self, line: bytes, source: int, changed: list[int]) -> dict[Place, Place]:
-        """Where a line put what stood in a buffer. It is run on items that tell their places, by one bit after another of a number,
-        and then by the first bit turned over: so a value that stays the same is not one that moved."""
-        buffer = self.state.buffers[source]
-        starts = buffer.starts()
-        seen = [pair for pair in self.state.inside(source).items() if pair[1].array.writable and pair[1].count]
-        if not seen or buffer.count > len(starts):
+    def _moved(self, line: str, name: str, changed: list[int]) -> dict[Place, Place]:
+        """Where a line puts what an array has. It is run with a copy in the place of that array, whose items tell their places, by one
+        bit after another of a number, and then by the first bit turned over: so a value that stays the same is not one that moved.
+        An index that lies in the same buffer stays what it is."""
+        bound = self.state.names[name]
+        buffer, array = self.state.buffers[bound.buffer], bound.array
+        if not bound.count or prod(array.shape) > 4 * MOST_CELLS or buffer.count > len(buffer.starts()):
             return {}
-        name, bound = max(seen, key=lambda pair: pair[1].count)
-        items = list(bound.numbers(starts, buffer.kind.size))
-        places = [at + leaf.at for at in items for leaf in bound.kind.leaves]
+        order = [array.at + sum(map(int.__mul__, index, array.strides)) for index in product(*map(range, array.shape))]
+        places = [at + leaf.at for at in dict.fromkeys(order) for leaf in bound.kind.leaves]
         rows = [[k >> power & 1 for k in range(len(places))] for power in range(len(places).bit_length())]
         rows.append([1 - bit for bit in rows[0]])
         coded = [{place: BITS[type(buffer.values[place])][bit] for place, bit in zip(places, row)} for row in rows]
-        told = {tuple(code[place] for code in coded): Place(source, place) for place in places}
-        left = [self._tried(line, name, [bound.kind.item(code, at) for at in items], changed) for code in coded]
-        origins = {at: told.get(tuple(values.get(at) for values in left), at) for at in (left[0] if all(left) else ())}
-        return {at: origin for at, origin in origins.items() if at != origin}
+        told = {tuple(row[k] for row in rows): Place(bound.buffer, place) for k, place in enumerate(places)}
+        left = [self._tried(line, array, [bound.kind.item(code, at) for at in order], changed) for code in coded]
+        codes = {at: tuple(BIT.get(values.get(at)) for values in left) for at in (left[0] if all(left) else ())}
+        return {at: told[code] for at, code in codes.items() if code in told and told[code] != at}
 
-    def _tried(self, line: bytes, name: str, items: list[Any], changed: list[int]) -> dict[Place, Any]:
-        """What a line leaves in some buffers where an array had these items before it; nothing where it is refused then."""
-        array = self.state.names[name].array
+    def _tried(self, line: str, array: Array, items: list[Any], changed: list[int]) -> dict[Place, Any]:
+        """What a line leaves in some buffers where its source has these items; nothing where it is refused then."""
         new = f"{self._free} = array {array.type} ({','.join(map(str, array.shape))}) {' '.join(map(literal, items))}"
-        tried = sum(self._second.send(sent).accepted for sent in (new, f"set {name}[...] = {self._free}", line))
-        fresh = {number: self._reread(number).values for number in changed if tried == 3}
+        tried = sum(self._second.send(sent).accepted for sent in (new, line))
+        fresh = {number: self._reread(number).values for number in changed if tried == 2}
         left = {Place(number, at): value for number, values in fresh.items() for at, value in values.items()}
         self._undo(tried)
         return left

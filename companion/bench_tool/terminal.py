@@ -1,0 +1,98 @@
+"""Texts for people: printable, on streams that may be closed, full or of any encoding, and cut to the window."""
+import io
+import os
+import sys
+from collections import deque
+from contextlib import suppress
+from typing import BinaryIO, Iterator
+
+LONGEST = 65_536  # bytes of a line that the program takes
+RED, BLUE = "31", "34"
+
+
+def printable(text: str, most: int = 0) -> str:
+    """A text without control characters and without bytes that are no text; cut to `most` letters."""
+    cut = text[:most] if most else text
+    return "".join(letter if letter.isprintable() else repr(letter)[1:-1] for letter in cut) + ".." * (len(cut) < len(text))
+
+
+def say(text: str) -> None:
+    """Writes to standard error, where that can be written."""
+    with suppress(OSError, ValueError):
+        print(text, file=sys.stderr, flush=True)
+
+
+def open_streams() -> None:
+    """What is closed of the standard streams becomes the null device, and no encoding refuses a text."""
+    for number in range(3):
+        try:
+            os.fstat(number)
+        except OSError:
+            os.open(os.devnull, os.O_RDWR)  # takes the lowest number that is free, which is this one
+    sys.stdin, sys.stdout, sys.stderr = (
+        stream or open(number, mode, closefd=False)
+        for number, (stream, mode) in enumerate([(sys.stdin, "r"), (sys.stdout, "w"), (sys.stderr, "w")]))
+    for stream, errors in ((sys.stdin, "surrogateescape"), (sys.stdout, "backslashreplace"), (sys.stderr, "backslashreplace")):
+        if isinstance(stream, io.TextIOWrapper):
+            stream.reconfigure(errors=errors)
+
+
+def lines_of(script: BinaryIO) -> Iterator[bytes]:
+    """The lines of a script without their newlines. Of one that is too long only so much is kept that it still is too long."""
+    while line := script.readline(LONGEST + 3):
+        rest = line
+        while not rest.endswith(b"\n") and (rest := script.readline(1 << 20)):
+            pass
+        yield line.removesuffix(b"\n")
+
+
+def painted(text: str, colour: str) -> str:
+    """A text in a colour, where the terminal has colours and its user wants them."""
+    plain = not sys.stdout.isatty() or os.environ.get("TERM", "dumb") == "dumb" or os.environ.get("NO_COLOR")
+    return text if plain else f"\x1b[{colour}m{text}\x1b[0m"
+
+
+class Window:
+    """What a window has room for of a printed array that comes in parts: its first and last lines, each cut in its middle."""
+
+    def __init__(self, rows: int, columns: int):
+        self.rows, self.columns = max(3, rows), max(20, columns)
+        self.is_cut, self._count = False, 0
+        self._first: list[str] = []
+        self._last: deque[str] = deque(maxlen=self.rows - self.rows // 2 - 1)
+        self._begin, self._end, self._length = b"", b"", 0  # of the line that is coming
+
+    def take(self, part: bytes) -> None:
+        *ended, rest = part.split(b"\n")
+        if len(ended) > 4 * self.rows:  # those in between are only counted
+            skipped = len(ended) - 4 * self.rows
+            self._count += skipped
+            del ended[2 * self.rows:2 * self.rows + skipped]
+        for piece in ended:
+            self._more(piece)
+            self._line()
+        self._more(rest)
+
+    def _more(self, piece: bytes) -> None:
+        self._begin += piece[:max(0, self.columns + 1 - len(self._begin))]
+        self._end = (self._end[-self.columns:] + piece)[-self.columns:]
+        self._length += len(piece)
+
+    def _line(self) -> None:
+        text = self._begin.decode("ascii", "replace")
+        if self._length > self.columns:
+            half = (self.columns - 5) // 2
+            begin, end = text[:half], self._end.decode("ascii", "replace")[-half:]
+            text = f"{begin.rpartition(' ')[0] or begin} ... {end.partition(' ')[2] or end}"
+            self.is_cut = True
+        self._count += 1
+        (self._first if len(self._first) < self.rows else self._last).append(text)
+        self._begin, self._end, self._length = b"", b"", 0
+
+    def lines(self) -> list[str]:
+        """The lines that are shown."""
+        if self._count <= self.rows:
+            return self._first
+        self.is_cut = True
+        begin, end = self.rows // 2, self.rows - self.rows // 2 - 1
+        return [*self._first[:begin], f"... {self._count - self.rows + 1} lines ...", *[*self._first, *self._last][-end:]]
