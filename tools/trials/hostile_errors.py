@@ -116,7 +116,7 @@ class Strace:
 
     def failing(self, script, folder, _calls, at, error):
         call, number = self.numbers[at]
-        return self.traced(script, folder, "-e", f"trace={call}", "-e", f"inject={call}:error={errno.errorcode[error]}:when={number}")
+        return self.traced(script, folder, "-e", f"trace={call}", "-e", f"inject={call}:error={error}:when={number}")
 
 
 def one_call(part, runs, folder, scenario, calls, at, error):
