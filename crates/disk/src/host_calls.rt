@@ -131,11 +131,19 @@ fn lock(file: &File) -> io::Result<()> {
     where_supported(uninterrupted(|| Ok(file.try_lock()?)))
 }
 
-/// Opens a file that was left. It is opened for writing, without which an NFS client gives no lock (flock(2)). Where
-/// its mode forbids that, its owner gives it another one for as long as the opening takes: a program that still
-/// writes it finds the mode that it has chosen.
-fn open_leftover<R: Files<File = File>>(rt: &R, path: Path, left: &Metadata) -> io::Result<File> {
+/// Opens a file for writing, or for reading where its mode forbids that. An NFS client gives no lock for a file that is
+/// only read (flock(2)).
+fn open_for_lock<R: Files>(rt: &R, path: Path) -> io::Result<R::File> {
     match open_to_write(rt, path) {
+        Err(error) if error.kind() == ErrorKind::PermissionDenied => open(rt, path),
+        answer => answer,
+    }
+}
+
+/// Opens a file that was left. Where its mode allows its owner neither to write nor to read it, the owner gives it
+/// another mode for as long as the opening takes, since a program may still be writing it.
+fn open_leftover<R: Files<File = File>>(rt: &R, path: Path, left: &Metadata) -> io::Result<File> {
+    match open_for_lock(rt, path) {
         Err(error) if error.kind() == ErrorKind::PermissionDenied => {}
         answer => return answer,
     }

@@ -24,7 +24,7 @@ fn is_unsupported(error: &Error) -> bool
     kind == ErrorKind::InvalidInput || kind == ErrorKind::Unsupported
 }
 
-/// Makes of an answer that the file system has no such call that the call went well.
+/// Passes over an error that says that the file system has no such call.
 pub(crate) fn where_supported(answer: io::Result<()>) -> io::Result<()>
     ensures passed { OnOk result (IfErr answer (λ error. IsUnsupported (error_kind error))) }
     ensures failed { IfErr answer (λ error. ¬ IsUnsupported (error_kind error) → result ≡ Err error) }
@@ -47,7 +47,7 @@ pub(crate) fn found(answer: io::Result<Metadata>) -> io::Result<Option<Metadata>
     }
 }
 
-/// Makes of an answer that nothing is there to be removed (`ENOENT`) that it is gone.
+/// Passes over an error that says that what was to be removed is not there (`ENOENT`).
 pub(crate) fn gone(answer: io::Result<()>) -> io::Result<()>
     ensures passed { OnOk result (IfErr answer (λ error. error_kind error ≡ ErrorKind.NotFound)) }
     ensures failed { IfErr answer (λ error. error_kind error ≢ ErrorKind.NotFound → result ≡ Err error) }

@@ -1,0 +1,180 @@
+"""What a save does to the disk, and what it says where that fails. No contract reaches the system's calls, so these tests look at them: at what is
+read back, and at the calls themselves, below `trials/fail_calls.c`, which also fails them."""
+import fcntl
+import os
+import resource
+import shutil
+import stat
+import subprocess
+import unittest
+
+from trials.companion_trials import PROGRAM, InFolder, needs_program, share
+import hostile_errors
+from hostile_errors import FOLDER, HIDDEN, NAME, NEW, SAVE, Call
+
+FAULT = "no E27 store fault"
+SAVED = "ok save 131"
+NOBODY = 65534
+has_compiler = shutil.which("cc") is not None
+needs_compiler = unittest.skipUnless(has_compiler, "left out: there is no C compiler")
+
+
+class Folder(InFolder):
+    """A program that any user may run, and a folder for its files."""
+
+    def setUp(self):
+        super().setUp()
+        self.folder.chmod(0o755)
+        self.program = shutil.copy(PROGRAM, self.folder / "bench")
+        os.chmod(self.program, 0o755)
+        self.dir = self.folder / "files"
+        self.dir.mkdir()
+
+    def replies(self, script, **more):
+        ran = subprocess.run([self.program, "--dir", self.dir], input=script.encode(), capture_output=True, timeout=120, **more)
+        return ran.stdout.decode().splitlines()
+
+    def names(self):
+        return sorted(os.listdir(self.dir))
+
+
+@needs_program
+class Bytes(Folder):
+    def test_what_is_saved_lies_in_the_file(self):
+        """A save that wrote no bytes, or gave them no name, would fail here."""
+        for old in (None, b"", b"another file", NEW + b"longer"):
+            if old is not None:
+                (self.dir / NAME).write_bytes(old)
+            self.assertEqual(self.replies(SAVE)[-1], SAVED)
+            self.assertEqual((self.dir / NAME).read_bytes(), NEW)
+            self.assertEqual(self.names(), [NAME])
+
+    def test_each_of_some_saves_is_read_back(self):
+        for size in (0, 1, 65_536, 100_003):
+            items = bytes(k % 251 for k in range(size))
+            script = f'a = arange <i4 0 {size} 1\nb = mod a 251\nc = cast b |u1\nsave c "{size}.npy"\n'
+            self.assertEqual(self.replies(script)[-1], f"ok save {size + 128}")
+            self.assertEqual((self.dir / f"{size}.npy").read_bytes()[128:], items)
+
+
+@needs_program
+@unittest.skipUnless(has_compiler or shutil.which("strace"), "left out: there is neither a C compiler nor strace")
+class Calls(Folder):
+    def setUp(self):
+        super().setUp()
+        means = hostile_errors.Shim if has_compiler else hostile_errors.Strace
+        self.runs = means(self.program, self.folder)
+
+    def comes_in_order(self, calls, *wanted):
+        """These calls are among the others, each behind the one before it."""
+        rest = iter(calls)
+        for call in wanted:
+            self.assertIn(call, rest, f"of {calls}")
+
+    def test_a_save_syncs_what_it_promises(self):
+        """The bytes reach the disk before the file has its name, and the name before the reply."""
+        for _ in ("a new file", "over a file"):
+            reply, calls = self.runs.run(SAVE, self.dir)
+            self.assertEqual(reply, SAVED)
+            of_the_part = [Call(kind, HIDDEN) for kind in ("open", "lock", "write", "sync", "rename")]
+            self.comes_in_order(calls, *of_the_part, Call("open", FOLDER), Call("sync", FOLDER))
+            self.assertNotIn(Call("write", HIDDEN), calls[calls.index(Call("sync", HIDDEN)) :])
+
+    @needs_compiler
+    def test_the_folder_of_an_empty_word_is_synced_too(self):
+        env = {**os.environ, "LD_PRELOAD": str(self.runs.library), "STORE_FOLDER": ".", "STORE_LOG": str(self.runs.log)}
+        ran = subprocess.run([self.program, "--dir", ""], input=SAVE.encode(), capture_output=True, cwd=self.dir, env=env, timeout=60)
+        self.assertEqual(ran.stdout.decode().splitlines()[-1], SAVED)
+        self.assertEqual(self.runs.log.read_text().splitlines()[-2:], ["open .", "sync ."])
+
+    def test_each_call_that_fails(self):
+        """Each call on a file or the folder fails with each of some errors: the answers are those of docs/DECISIONS.md."""
+        part = hostile_errors.Part()
+        hostile_errors.each_call(part, self.runs, self.folder / "tried", share(hostile_errors.FEW[:6], hostile_errors.FEW))
+        self.assertEqual(part.faults, [])
+        self.assertGreater(part.counts["trials"], 500)
+
+
+@needs_program
+class Folders(Folder):
+    def save_from_file(self, **more):
+        """The reply to a save of a script that is a file, so that the program holds five files when it syncs the folder."""
+        script = self.folder / "save.bench"
+        script.write_text(SAVE)
+        ran = subprocess.run([self.program, "--dir", self.dir, script], stdin=subprocess.DEVNULL, capture_output=True, timeout=60, **more)
+        return ran.stdout.decode().splitlines()[-1]
+
+    def test_a_folder_that_no_handle_is_left_for(self):
+        """With five files at a time the folder cannot be opened: the file has its name, and nobody says that it lasts."""
+        for most, reply in ((5, FAULT), (6, SAVED)):
+            self.assertEqual(self.save_from_file(preexec_fn=lambda: resource.setrlimit(resource.RLIMIT_NOFILE, (most, most))), reply)
+            self.assertEqual((self.dir / NAME).read_bytes(), NEW)
+            self.assertEqual(self.names(), [NAME])
+
+    @unittest.skipUnless(os.getuid() == 0, "left out: it wants root's rights")
+    def test_a_folder_that_may_not_be_read(self):
+        """It cannot be opened to be synced."""
+        os.chown(self.dir, NOBODY, NOBODY)
+        self.dir.chmod(0o300)
+        self.assertEqual(self.replies(SAVE, user=NOBODY, group=NOBODY, extra_groups=[])[-1], FAULT)
+        self.assertEqual((self.dir / NAME).read_bytes(), NEW)
+
+
+@needs_program
+class Leftovers(Folder):
+    """What a killed save left, of a mode that its owner may not open it with."""
+
+    MODES = (0o600, 0o400, 0o200, 0o000, 0o044)
+
+    def setUp(self):
+        super().setUp()
+        self.who = {}
+        if os.getuid() == 0:
+            self.who = {"user": NOBODY, "group": NOBODY, "extra_groups": []}
+            os.chown(self.dir, NOBODY, NOBODY)
+
+    def put(self, name, content, mode):
+        path = self.dir / name
+        path.write_bytes(content)
+        path.chmod(mode)
+        if self.who:
+            os.chown(path, NOBODY, NOBODY)
+        return path
+
+    def mode(self, name):
+        return stat.S_IMODE(os.lstat(self.dir / name).st_mode)
+
+    def test_the_next_save_removes_it(self):
+        for mode in self.MODES:
+            self.put(NAME, b"old", mode)
+            self.put(HIDDEN, b"left", mode)
+            self.assertEqual(self.replies(SAVE + 'save a "a.npy"\n', **self.who)[1:], [SAVED, SAVED], oct(mode))
+            self.assertEqual((self.names(), self.mode(NAME)), ([NAME], mode))
+            (self.dir / NAME).unlink()
+
+    def test_one_that_a_program_still_writes_stays(self):
+        for mode in self.MODES:
+            part = self.put(HIDDEN, b"another's", 0o600)
+            with open(part, "rb+") as held:
+                part.chmod(mode)
+                fcntl.flock(held, fcntl.LOCK_EX)
+                self.assertEqual(self.replies(SAVE, **self.who)[-1], FAULT, oct(mode))
+                self.assertEqual((self.names(), self.mode(HIDDEN), held.read()), ([HIDDEN], mode, b"another's"))
+            self.assertEqual(self.replies(SAVE, **self.who)[-1], SAVED, oct(mode))
+            self.assertEqual(self.names(), [NAME])
+            (self.dir / NAME).unlink()
+
+    @unittest.skipUnless(shutil.which("strace"), "left out: there is no strace")
+    def test_a_save_that_is_killed_over_a_file_that_may_not_be_read(self):
+        for mode in (0o200, 0o000):
+            self.put(NAME, b"old", mode)
+            self.folder.chmod(0o777)
+            killed = ["strace", "-qq", "-o", "/dev/null", "-e", "inject=fsync:signal=SIGKILL:when=1", self.program, "--dir", self.dir]
+            subprocess.run(killed, input=SAVE.encode(), capture_output=True, timeout=60, **self.who)
+            self.assertEqual((self.names(), self.mode(HIDDEN)), ([HIDDEN, NAME], mode))
+            self.assertEqual(self.replies(SAVE, **self.who)[-1], SAVED)
+            self.assertEqual((self.names(), self.mode(NAME)), ([NAME], mode))
+
+
+if __name__ == "__main__":
+    unittest.main()
