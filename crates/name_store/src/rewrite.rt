@@ -15,7 +15,7 @@ ghost use Rattle.name_store.specs.inside.Puts.{MayPut, InPlace};
 use crate::target::Target;
 use overlap_copy::{assign, assign_from, assign_shifted, gather, in_any_order};
 use raw_block::RawBlock;
-use shape_strides::{Layout, Runs};
+use shape_strides::{Layout, Runs, lies_in_c_order};
 use std::alloc::{AllocError, Global};
 
 /// Writes the bytes of an item at the offsets of runs.
@@ -35,7 +35,10 @@ fn fill_each(block: &mut RawBlock, layout: &Layout, item: &[u8])
     ensures bytes { block.new ≡ put_each (offsets layout.now) item.now block.old }
     ensures len { length block.new ≡ length block.old }
 {
-    fill_runs(block, Runs::new(layout), item);
+    match layout.as_one_run() {
+        Some(run) => block.fill_strided(run.offset, run.step, item, run.count),
+        None => fill_runs(block, Runs::new(layout), item),
+    }
 }
 
 /// The same, but that they are gone over as they lie in memory where they are apart.
@@ -44,6 +47,10 @@ fn fill_layout(alloc: Global, block: &mut RawBlock, layout: &Layout, item: &[u8]
     ensures bytes { block.new ≡ put_each (offsets layout.now) item.now block.old }
     ensures len { length block.new ≡ length block.old }
 {
+    if lies_in_c_order(layout) {
+        fill_each(block, layout, item);
+        return;
+    }
     match in_any_order(alloc, layout, layout, item.len()) {
         Some(pair) => fill_each(block, &pair.target, item),
         None => fill_each(block, layout, item),

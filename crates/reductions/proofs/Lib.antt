@@ -3,6 +3,7 @@ pub mod LineLaws
 pub mod AxisLaws
 pub mod OutcomeLaws
 pub mod RowLaws
+pub mod SoughtLaws
 pub mod AddedLaws
 pub mod HeldLaws
 pub mod OrderLaws

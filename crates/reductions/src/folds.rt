@@ -8,7 +8,7 @@ ghost use Rattle.machine_numbers.specs.declared.operators.Red.{Red};
 ghost use Rattle.reductions.specs.Reductions.{first_place, result_scalar};
 ghost use Rattle.reductions.specs.inside.Numbers.{numbers_of, TakesIn, IsStored, IsReduced};
 ghost use Rattle.reductions.specs.inside.FoldLaws.{total_of, total, total_is, total_size, truth_of, truth, truth_is, truth_size, is_true_bits};
-ghost use Rattle.reductions.specs.inside.FoundLaws.{HasFound, better_next, better_stays};
+ghost use Rattle.reductions.specs.inside.FoundLaws.{HasFound, HasSought, better_next, better_stays};
 ghost use Rattle.reductions.specs.inside.Extremes.{reduction_of, places_of, is_better, better, best_of, best_from, best_is, best_size, place_is, place_size, better_kept, better_left};
 
 use crate::lines::{fold_each, part, place_of};
@@ -174,26 +174,33 @@ pub(crate) struct Found<S> {
     place: usize,
 }
 
-/// The numbers that are gone over at once, first for the best of them and then for its place.
+/// The numbers that are gone over at once for the best of them. The last block with a better one is
+/// searched for its place.
 const BLOCK: usize = 1024;
 
-/// Goes over the numbers of a block, which have `seen` before them.
+/// The best number so far, and how many numbers stand before the block in which it came.
+#[derive(Clone, Copy)]
+struct Sought<S> {
+    best: S,
+    before: usize,
+}
+
+/// Goes over the numbers of a block, before which stand so many.
 #[inline(always)]
-fn find_in<S: Number, O: Ordered, const GREATEST: bool>(
-    held: Found<S>,
-    seen: usize,
+fn seek_in<S: Number, O: Ordered, const GREATEST: bool>(
+    held: Sought<S>,
+    before: usize,
     block: Side<'_>,
-) -> Found<S>
+) -> Sought<S>
     requires width { block.width ≡ S.WIDTH }
-    requires few { seen + block.run.count < 2 ^ 63 }
-    ensures { TakesIn (λ found first numbers. HasFound (better GREATEST) (S.value found.best) found.place first numbers) held seen (numbers_of (S.scalar O.order) block.entry) result }
+    requires few { block.run.count < 2 ^ 63 }
+    ensures { HasSought GREATEST (numbers_of (S.scalar O.order) block.entry) (S.value held.best) held.before before (S.value result.best) result.before }
 {
     let best = fold_each::<S, O, Best<GREATEST>>(held.best, 0, block);
     if !is_better::<S, GREATEST>(best, held.best) {
         return held;
     }
-    let place = seen + place_of::<S, O>(best, block);
-    Found { best, place }
+    Sought { best, before }
 }
 
 /// The place of the best number.
@@ -229,14 +236,24 @@ impl<S: Number, const GREATEST: bool> Fold<S> for PlaceOf<GREATEST> {
     }
 
     fn fold_near<O: Ordered>(held: Found<S>, seen: usize, near: Side<'_>) -> Option<Found<S>> {
-        let mut held = held;
+        let all = near.run.count;
+        let mut sought = Sought {
+            best: held.best,
+            before: all,
+        };
         let mut done = 0;
-        while done < near.run.count {
-            let block = part(near, done, BLOCK.min(near.run.count - done));
-            held = find_in::<S, O, GREATEST>(held, seen + done, block);
+        while done < all {
+            let block = part(near, done, BLOCK.min(all - done));
+            sought = seek_in::<S, O, GREATEST>(sought, done, block);
             done += block.run.count;
         }
-        Some(held)
+        let Sought { best, before } = sought;
+        if before == all {
+            return Some(held);
+        }
+        let block = part(near, before, BLOCK.min(all - before));
+        let place = seen + before + place_of::<S, O>(best, block);
+        Some(Found { best, place })
     }
 
     fn finish(held: Found<S>) -> u64 {

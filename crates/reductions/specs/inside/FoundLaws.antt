@@ -1,5 +1,5 @@
 -- The place of the least or of the greatest of some numbers, as it is found block by block.
-use Rattle.std.proofs.Common.{◌≡◌, ◌+◌, ◌<◌, ℕ, zero, suc, ℤ, true, false, Bool, List, [], ◌∷◌, ◌++◌, All, length, get_or, inl, inr, refl, sym, ap, subst, ◌∙◌, arith, length-append}
+use Rattle.std.proofs.Common.{◌≡◌, ◌+◌, ◌<◌, ℕ, zero, suc, ℤ, true, false, Bool, List, [], ◌∷◌, ◌++◌, All, length, get_or, ◌⊎◌, inl, inr, refl, sym, ap, subst, ◌∙◌, arith, length-append}
 use Rattle.std.specs.Cmp.{signed_Decides}
 use Rattle.std.specs.Int.{int_min, int_max}
 use Rattle.std.specs.List.{fold}
@@ -18,6 +18,12 @@ pub record HasFound (pick : ℤ → ℤ → ℤ) (best : ℤ) (place : ℕ) (fir
   pub none : seen ≡ [] → place ≡ 0
   pub place_is : (rest : List ℤ) → seen ≡ first ∷ rest → place ≡ first_place best seen
   pub low : 0 < length seen → place < length seen
+
+-- the best number after some more, and how many stand before the block in which it came: as before where none of them is better, else those numbers
+abbrev pub HasSought : Bool → List ℤ → ℤ → ℕ → ℕ → ℤ → ℕ → Type 0
+HasSought greatest numbers best before at best' before' =
+    let z = fold (better greatest) best numbers in
+    ((is_better greatest z best ≡ false) × (best' ≡ best) × (before' ≡ before)) ⊎ ((is_better greatest z best ≡ true) × (best' ≡ z) × (before' ≡ at))
 
 -- ---- places
 
@@ -77,10 +83,10 @@ absent-next v z xs none other = omega (arith, comes v xs (z ∷ []) none, past v
 -- ---- some numbers more
 
 -- one of which is better
-taken : (pick : ℤ → ℤ → ℤ) (best z : ℤ) (place : ℕ) (first : ℤ) (seen more : List ℤ) → HasFound pick best place first seen → z ≡ fold pick best more →
+taken : (pick : ℤ → ℤ → ℤ) (best z first : ℤ) (seen more : List ℤ) → best ≡ fold pick first seen → z ≡ fold pick best more →
     All (λ x. x ≡ z → ⊥) seen → first_place z more < length more → HasFound pick z (length seen + first_place z more) first (seen ++ more)
-taken pick best z place first seen more so_far is other among = record {
-  best_is = is ∙ ap (λ b. fold pick b more) so_far.best_is ∙ sym (fold-append pick first seen more);
+taken pick best z first seen more so_far is other among = record {
+  best_is = is ∙ ap (λ b. fold pick b more) so_far ∙ sym (fold-append pick first seen more);
   none = λ none. absurd (omega (arith, ap length none, length-append seen more, among));
   place_is = λ rest _. sym (comes z seen more (absent z seen other));
   low = λ some. omega (arith, length-append seen more, among);
@@ -106,40 +112,38 @@ passed pick best place first (x ∷ seen) more so_far is = record {
 
 -- ---- the least, and the greatest
 
-pub better_taken : (greatest : Bool) (best z : ℤ) (place : ℕ) (first : ℤ) (seen more : List ℤ) → HasFound (better greatest) best place first seen → z ≡ fold (better greatest) best more → is_better greatest z best ≡ true →
+pub better_taken : (greatest : Bool) (best z first : ℤ) (seen more : List ℤ) → best ≡ fold (better greatest) first seen → z ≡ fold (better greatest) best more → is_better greatest z best ≡ true →
     HasFound (better greatest) z (length seen + first_place z more) first (seen ++ more)
-better_taken false best z place first seen more so_far is less =
-    let bounds = fold-int_min_bounds first seen best so_far.best_is in
-    taken int_min best z place first seen more so_far is (λ k d below same. let low = bounds.1 k d below in omega (arith, ints))
+better_taken false best z first seen more so_far is less =
+    let bounds = fold-int_min_bounds first seen best so_far in
+    taken int_min best z first seen more so_far is (λ k d below same. let low = bounds.1 k d below in omega (arith, ints))
     (elim (fold-int_min_reached best more z is) as (λ _. first_place z more < length more) [
       | inl same ↦ absurd (omega (arith, ints))
       | inr there ↦ present z more there.0 there.1 there.2
     ])
-better_taken true best z place first seen more so_far is greater =
-    let bounds = fold-int_max_bounds first seen best so_far.best_is in
-    taken int_max best z place first seen more so_far is (λ k d below same. let high = bounds.1 k d below in omega (arith, ints))
+better_taken true best z first seen more so_far is greater =
+    let bounds = fold-int_max_bounds first seen best so_far in
+    taken int_max best z first seen more so_far is (λ k d below same. let high = bounds.1 k d below in omega (arith, ints))
     (elim (fold-int_max_reached best more z is) as (λ _. first_place z more < length more) [
       | inl same ↦ absurd (omega (arith, ints))
       | inr there ↦ present z more there.0 there.1 there.2
     ])
 
+-- where none is better the best one stays
+pub better_same : (greatest : Bool) (best z : ℤ) (more : List ℤ) → z ≡ fold (better greatest) best more → is_better greatest z best ≡ false → best ≡ z
+better_same false best z more is worse = let low = (fold-int_min_bounds best more z is).0 in omega (arith, ints)
+better_same true best z more is worse = let high = (fold-int_max_bounds best more z is).0 in omega (arith, ints)
+
 pub better_passed : (greatest : Bool) (best z : ℤ) (place : ℕ) (first : ℤ) (seen more : List ℤ) → HasFound (better greatest) best place first seen → z ≡ fold (better greatest) best more → is_better greatest z best ≡ false →
     HasFound (better greatest) best place first (seen ++ more)
-better_passed false best z place first seen more so_far is more_is =
-    let low = (fold-int_min_bounds best more z is).0 in
-    let same : best ≡ z = omega (arith, ints) in
-    passed int_min best place first seen more so_far (same ∙ is)
-better_passed true best z place first seen more so_far is more_is =
-    let high = (fold-int_max_bounds best more z is).0 in
-    let same : best ≡ z = omega (arith, ints) in
-    passed int_max best place first seen more so_far (same ∙ is)
+better_passed greatest best z place first seen more so_far is worse = passed (better greatest) best place first seen more so_far (better_same greatest best z more is worse ∙ is)
 
 -- ---- one number more
 
 pub better_next : (greatest : Bool) (best z : ℤ) (place at : ℕ) (first : ℤ) (seen : List ℤ) → HasFound (better greatest) best place first seen → at ≡ length seen → is_better greatest z best ≡ true → HasFound (better greatest) z at first (seen ++ z ∷ [])
 better_next greatest best z place at first seen so_far there is =
     let last : length seen + first_place z (z ∷ []) ≡ at = omega (arith, there, here z []) in
-    subst (λ n. HasFound (better greatest) z n first (seen ++ z ∷ [])) last (better_taken greatest best z place first seen (z ∷ []) so_far (better-one greatest best z is) is)
+    subst (λ n. HasFound (better greatest) z n first (seen ++ z ∷ [])) last (better_taken greatest best z first seen (z ∷ []) so_far.best_is (better-one greatest best z is) is)
 
 pub better_stays : (greatest : Bool) (best z : ℤ) (place : ℕ) (first : ℤ) (seen : List ℤ) → HasFound (better greatest) best place first seen → is_better greatest z best ≡ false → HasFound (better greatest) best place first (seen ++ z ∷ [])
 better_stays greatest best z place first seen so_far worse = passed (better greatest) best place first seen (z ∷ []) so_far (better-none greatest best z worse)

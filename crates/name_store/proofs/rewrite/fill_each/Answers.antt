@@ -1,9 +1,36 @@
-use Rattle.std.proofs.Common.{◌+◌, ◌≤◌, sym, subst, All, length}
-use Rattle.raw_block.specs.Bytes.{EachWithin}
+use Rattle.std.proofs.Common.{rules, ◌+◌, ◌≤◌, sym, ap, subst, ◌∙◌, All, length, w64}
+use Rattle.std.proofs.lemmas.Int.{to_z-of_z}
+use mir.Val.{SFits}
+use Rattle.raw_block.specs.Bytes.{EachWithin, filled}
 use Rattle.shape_strides.specs.Limits.{max_bytes}
 use Rattle.shape_strides.specs.Runs.{runs}
-use Rattle.overlap_copy.specs.RunLaws.{runs-within}
+use Rattle.overlap_copy.specs.RunLaws.{run-within, runs-within}
+use Rattle.fancy_index.specs.Plans.{put_each}
+use Rattle.fancy_index.specs.PlanLaws.{filled-run}
 use Rattle.name_store.proofs.rewrite.fill_each.Goals as goal
+use Rattle.name_store.proofs.rewrite.fill_each.Goals.{In-Some}
+
+run_lies : (c : In-Some) → EachWithin (length c.args.block.now) c.in-Some.run'.offset c.in-Some.run'.step (length c.args.item.now) c.in-Some.run'.count
+run_lies c =
+    run-within (length c.args.block.now) (length c.args.item.now) c.in-Some.run' (c.in-Some.ensures.lie max_bytes 1 c.args.layout.now.within_limit)
+    (subst (All (λ offset. offset + length c.args.item.now ≤ length c.args.block.now)) (sym c.in-Some.ensures.items) c.requires)
+
+pub fill_strided-requires : goal.fill_strided-requires
+fill_strided-requires c =
+    let run = c.in-Some.run' in
+    let fits : SFits w64 run.step = search rules in
+    subst (λ step. EachWithin (length c.args.block.now) run.offset step (length c.args.item.now) run.count) (sym (to_z-of_z w64 run.step fits)) (run_lies (goal.at.fill_strided-requires c).In-Some)
+
+pub returns-in-Some-clause-bytes : goal.returns-in-Some-clause-bytes
+returns-in-Some-clause-bytes c =
+    let run = c.in-Some.run' in
+    let item = c.args.item.now in
+    let block = c.args.block.now in
+    let fits : SFits w64 run.step = search rules in
+    c.fill_strided.ensures.filled
+    ∙ ap (λ step. filled run.offset step item run.count block) (to_z-of_z w64 run.step fits)
+    ∙ filled-run (length block) run.offset run.step item run.count block (run_lies (goal.at.returns-in-Some-clause-bytes c).In-Some)
+    ∙ ap (λ os. put_each os item block) c.in-Some.ensures.items
 
 pub fill_runs-requires : goal.fill_runs-requires
 fill_runs-requires c =

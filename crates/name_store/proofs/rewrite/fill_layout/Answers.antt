@@ -4,8 +4,8 @@ use Rattle.overlap_copy.specs.OrderLaws.{pair_even, All-firsts, firsts-reordered
 use Rattle.name_store.proofs.SourceLaws.{put_each-items}
 use Rattle.name_store.proofs.rewrite.fill_layout.Goals as goal
 
-pub fill_each-requires : goal.fill_each-requires
-fill_each-requires c =
+pub fill_each-requires-in-Some : goal.fill_each-requires-in-Some
+fill_each-requires-in-Some c =
     let os = offsets c.args.layout.now in
     let pair = c.in-Some.pair in
     All-firsts (λ o. o + length c.args.item.now ≤ length c.args.block.now) os os (offsets pair.target) (offsets pair.source) refl (pair_even pair) c.in-Some.ensures.pairs c.requires
@@ -16,7 +16,7 @@ returns-in-Some-clause-bytes c =
     let pair = c.in-Some.pair in
     let item = c.args.item.now in
     let block = c.args.block.now in
-    c.fill_each.ensures.bytes
+    c.fill_each-in-Some.ensures.bytes
     ∙ put_each-items (offsets pair.target) item block
     ∙ filled-reordered os (offsets pair.target) item block c.in-Some.ensures.nested c.requires (firsts-reordered os os (offsets pair.target) (offsets pair.source) refl (pair_even pair) c.in-Some.ensures.pairs)
     ∙ sym (put_each-items os item block)

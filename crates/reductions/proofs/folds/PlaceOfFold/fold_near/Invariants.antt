@@ -1,17 +1,18 @@
-use Rattle.std.proofs.Common.{◌-◌, ◌≤◌}
+use Rattle.std.proofs.Common.{◌≡◌, ◌-◌, ◌≤◌, ◌<◌, ◌⊎◌}
 use Rattle.std.specs.Prelude.{nat_eq, not}
 use Rattle.shape_strides.specs.Runs.{run_offsets}
 use Rattle.reductions.specs.inside.Numbers.{numbers_at, TakesIn}
 use Rattle.reductions.specs.inside.FoundLaws.{HasFound}
 use Rattle.reductions.specs.inside.Extremes.{better}
 use Rattle.reductions.proofs.LineLaws.{front}
+use Rattle.reductions.proofs.SoughtLaws.{AreSought}
 use Rattle.reductions.proofs.folds.PlaceOfFold.fold_near.Given as goal
 
--- the numbers so far are taken in
+-- the numbers so far are gone over
 abbrev pub invariant-loop-done : goal.invariant-loop-done
 invariant-loop-done g l = record {
   fits : l.done ≤ l.near.run.count;
-  held : TakesIn (λ found first numbers. HasFound (better (not (nat_eq g.row.GREATEST 0))) (g.S.Number.value found.best) found.place first numbers) l.initial.held l.seen (numbers_at (g.S.Number.scalar g.O.Ordered.order) l.near.bytes.now (run_offsets (front l.done l.near.run))) l.held;
+  sought : AreSought (not (nat_eq g.row.GREATEST 0)) (g.S.Number.scalar g.O.Ordered.order) l.near l.seen (g.S.Number.value l.initial.held.best) l.initial.held.place l.done (g.S.Number.value l.sought.best) l.sought.before;
 }
 
 abbrev pub decreases-loop-done : goal.decreases-loop-done
