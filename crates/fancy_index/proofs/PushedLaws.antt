@@ -1,5 +1,5 @@
 -- Places that are added to a list, number by number and run by run.
-use Rattle.std.proofs.Common.{◌≡◌, ◌⊎◌, inl, inr, ℕ, ◌+◌, ◌<◌, ◌≤◌, Bool, true, false, cond, ◌&&◌, Some, None, Ok, Err, is_ok, IfErr, List, [], ◌∷◌, ◌++◌, map, length, get_or, drop, refl, sym, ap, subst, ◌∙◌, arith, append_assoc}
+use Rattle.std.proofs.Common.{◌≡◌, ◌⊎◌, inl, inr, ℕ, ◌+◌, ◌<◌, ◌≤◌, Bool, true, false, ◌&&◌, Some, None, Ok, Err, is_ok, IfErr, List, [], ◌∷◌, ◌++◌, map, length, get_or, drop, refl, sym, ap, subst, ◌∙◌, append_assoc}
 use Rattle.std.specs.List.{list_all, flat_map}
 use Rattle.std.proofs.lemmas.Bool.{false≢true}
 use Rattle.std.proofs.lemmas.List.{drop_more, drop_all, append-nil, map-append}
@@ -13,7 +13,7 @@ use Rattle.shape_strides.specs.Runs.{run_offsets}
 use Rattle.view_ops.specs.Slices.{is_place}
 use Rattle.fancy_index.specs.inside.PointLists.{place_of, named_place, named_places}
 use Rattle.fancy_index.specs.inside.Words.{ArePushed}
-use Rattle.fancy_index.proofs.WordLaws.{is_named, names_none, all_named, one_names_none}
+use Rattle.fancy_index.proofs.WordLaws.{is_named, names_none, one_names_none}
 
 pub none_pushed : (n : ℕ) (numbers : List ℤ) (before : List ℕ) → ArePushed n numbers numbers before before
 none_pushed n numbers before = record { within = refl; added = refl }

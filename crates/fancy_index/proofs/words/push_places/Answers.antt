@@ -1,4 +1,4 @@
-use Rattle.std.proofs.Common.{◌≡◌, ℕ, List, length, get_or, ap, sym, ◌∙◌, inr, arith}
+use Rattle.std.proofs.Common.{◌≡◌, ℕ, List, get_or, ap, sym, ◌∙◌, inr, arith}
 use lib.IntN.{pos}
 use Rattle.fancy_index.specs.inside.Words.{word, spread_numbers}
 use Rattle.fancy_index.specs.inside.PointLists.{named_place}
