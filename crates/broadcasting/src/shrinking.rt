@@ -8,7 +8,7 @@ use shape_strides::{Layout, Shape, Strides};
 use smallvec::SmallVec;
 use std::alloc::{AllocError, Global};
 
-/// Whether items repeat along an axis.
+/// Whether items repeat along an axis. A hint: either answer is right.
 pub fn repeats(layout: &Layout) -> bool {
     let lengths = layout.shape.as_slice();
     let strides = layout.strides.as_slice();

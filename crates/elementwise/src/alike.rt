@@ -39,9 +39,10 @@ pub fn are_alike(a: &Descr, b: &Descr) -> bool
     true
 }
 
-/// Whether a cast leaves the items of a block as they are, byte for byte.
+/// Whether a cast leaves the items of a block as they are, byte for byte: whether they lie alike.
 pub fn keeps_items(block: &RawBlock, from: &Descr, to: &Descr) -> bool
     ensures alike { IsTrue result → AreAlike from.now to.now }
+    ensures known { AreAlike from.now to.now → IsTrue result }
     ensures items { IsTrue result → (offset : ℕ) → offset + item_size from.now ≤ length block.now
         → cast_item from.now to.now (item_from from.now block.now offset) ≡ item_from to.now block.now offset }
 {

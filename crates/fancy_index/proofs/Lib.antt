@@ -7,6 +7,7 @@ pub mod SingleLaws
 pub mod SourceLaws
 pub mod NumberLoops
 pub mod WordLaws
+pub mod PushedLaws
 pub mod BoolLaws
 pub mod PointLaws
 pub mod PartLaws

@@ -1,7 +1,9 @@
 //! Integers at equal steps, read where they stand, and the places that they name.
-ghost use Rattle.std.specs.Prelude.{◌≡◌, ◌≢◌, ◌≤◌, ◌<◌, pos, map, length, slice_index, IfSome, IsTrue};
+ghost use Rattle.std.specs.Prelude.{◌≡◌, ◌≢◌, ◌≤◌, ◌<◌, ◌++◌, pos, map, length, slice_index, IfSome, IsTrue, OnOk};
+ghost use Rattle.std.specs.List.{list_all};
+ghost use Rattle.elem_descr.specs.declared.refusal.Refusal.TheVariants.{IndexOutOfRange};
 ghost use Rattle.elem_descr.specs.Items.{item_size};
-ghost use Rattle.elem_descr.specs.Refusals.{Gives};
+ghost use Rattle.elem_descr.specs.Refusals.{Gives, check};
 ghost use Rattle.raw_block.specs.Bytes.{item_at};
 ghost use Rattle.shape_strides.specs.Layouts.{offsets};
 ghost use Rattle.shape_strides.specs.Limits.{max_items};
@@ -18,7 +20,7 @@ use crate::source::{Indices, number_at};
 use byteorder::{BigEndian, ByteOrder, LittleEndian};
 use elem_descr::{Descr, Order, Refusal, Scalar};
 use raw_block::{RawBlock, RunI32, RunI64};
-use shape_strides::{Run, Walk};
+use shape_strides::{Run, Runs, Walk};
 use std::alloc::Global;
 use view_ops::{from_front, is_place};
 
@@ -231,7 +233,7 @@ fn is_native(reading: Reading, width: usize, run: Run) -> bool
     }
 }
 
-/// The places of `n` that the numbers of an array name, whatever their type, or the refusal of one that names none.
+/// The places of `n` that the numbers of an array name, one by one, or the refusal of one that names none.
 fn places_each(alloc: Global, array: Indices<'_>, n: usize) -> Result<Vec<u32>, Refusal>
     requires small { n ≤ max_items }
     requires kind { kind (index_array_of array) ≢ NoIndex }
@@ -248,8 +250,77 @@ fn places_each(alloc: Global, array: Indices<'_>, n: usize) -> Result<Vec<u32>, 
     Ok(places)
 }
 
-/// The same, where integers at equal steps need no walk, and native ones that lie one right after another
-/// are read as numbers.
+/// Adds the places of `n` that integers name, or refuses one that names none.
+fn push_places<const N: usize>(
+    places: &mut Vec<u32>,
+    reading: Reading,
+    items: Spread<'_>,
+    n: usize,
+) -> Result<(), Refusal>
+    requires some { 1 ≤ N }
+    requires few { N ≤ 8 }
+    requires small { n ≤ max_items }
+    requires spread { IsSpread N items }
+    ensures within { Gives (λ _. tt) result (check (list_all (is_place n) (spread_numbers reading N items.entry)) IndexOutOfRange) }
+    ensures added { OnOk result (places.new.items ≡ places.old.items ++ map (place_of n) (spread_numbers reading N items.entry)) }
+{
+    for k in 0..items.run.count {
+        let Some(place) = word_place::<N>(reading, &item_after::<N>(items, k), n) else {
+            return Err(Refusal::IndexOutOfRange);
+        };
+        places.push(place)?;
+    }
+    Ok(())
+}
+
+/// The places of `n` that the integers of an array name, read run by run, or the refusal of one that names
+/// none.
+fn places_by_runs<const N: usize>(
+    alloc: Global,
+    reading: Reading,
+    array: Indices<'_>,
+    n: usize,
+) -> Result<Vec<u32>, Refusal>
+    requires some { 1 ≤ N }
+    requires few { N ≤ 8 }
+    requires small { n ≤ max_items }
+    requires words { AreWords reading N array.descr.now }
+    requires lies { LiesInBlock array }
+    ensures { Gives (λ v. v.items) result (named_places n (index_array_of array.entry).numbers) }
+{
+    let block = array.block;
+    let mut places = Vec::with_capacity(alloc, array.layout.shape.items())?;
+    for run in Runs::new(array.layout) {
+        push_places::<N>(&mut places, reading, Spread { block, run }, n)?;
+    }
+    Ok(places)
+}
+
+/// The same of integers in so many bytes.
+fn places_apart(
+    alloc: Global,
+    reading: Reading,
+    width: usize,
+    array: Indices<'_>,
+    n: usize,
+) -> Result<Vec<u32>, Refusal>
+    requires small { n ≤ max_items }
+    requires kind { kind (index_array_of array) ≢ NoIndex }
+    requires words { AreWords reading width array.descr.now }
+    requires lies { LiesInBlock array }
+    ensures { Gives (λ v. v.items) result (named_places n (index_array_of array.entry).numbers) }
+{
+    match width {
+        1 => places_by_runs::<1>(alloc, reading, array, n),
+        2 => places_by_runs::<2>(alloc, reading, array, n),
+        4 => places_by_runs::<4>(alloc, reading, array, n),
+        8 => places_by_runs::<8>(alloc, reading, array, n),
+        _ => places_each(alloc, array, n),
+    }
+}
+
+/// The places of `n` that the numbers of an array name, whatever their type and wherever they lie, or the
+/// refusal of one that names none. Native integers that lie one right after another are read as numbers.
 pub(crate) fn places(alloc: Global, array: Indices<'_>, n: usize) -> Result<Vec<u32>, Refusal>
     requires small { n ≤ max_items }
     requires kind { kind (index_array_of array) ≢ NoIndex }
@@ -260,7 +331,7 @@ pub(crate) fn places(alloc: Global, array: Indices<'_>, n: usize) -> Result<Vec<
         return places_each(alloc, array, n);
     };
     let Some(items) = spread_of(array) else {
-        return places_each(alloc, array, n);
+        return places_apart(alloc, reading, width, array, n);
     };
     let run = items.run;
     match (width, is_native(reading, width, run)) {

@@ -84,7 +84,7 @@ pub(crate) fn split_header(file: &[u8]) -> Result<(&[u8], &[u8]), Refusal>
 }
 
 /// How many bytes of a file stand before its items, where the file's header ends within these first ones,
-/// and else 0.
+/// and else 0. A hint: a file reads the same whatever the answer is.
 pub fn front_len(first: &[u8]) -> usize
     ensures { result ≤ length first.now }
 {

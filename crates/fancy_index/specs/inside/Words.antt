@@ -1,5 +1,5 @@
 -- Integers by the bytes that they stand in.
-use Rattle.std.specs.Prelude.{◌≡◌, ℕ, ◌+◌, ◌<◌, ◌≤◌, Bool, true, ◌&&◌, ℤ, pos, List, [], ◌∷◌, map, length, get_or, drop, All}
+use Rattle.std.specs.Prelude.{◌≡◌, ℕ, ◌+◌, ◌<◌, ◌≤◌, Bool, true, ◌&&◌, ℤ, pos, List, [], ◌∷◌, ◌++◌, map, length, get_or, drop, All}
 use Rattle.std.specs.List.{list_all}
 use Rattle.elem_descr.specs.declared.descr.Descr.{Descr}
 use Rattle.elem_descr.specs.declared.scalar.Order.TheVariants.{Little}
@@ -52,3 +52,8 @@ pub record ArePlacesTo (n k : ℕ) (are : Bool) (numbers : List ℤ) (places : L
   pub many : length places ≡ length numbers
   pub done : (j : ℕ) → j < k → get_or places j 0 ≡ place_of n (get_or numbers j (pos 0))
   pub left : (are && list_all (is_place n) (drop k numbers)) ≡ list_all (is_place n) numbers
+
+-- the places that numbers name were added to others, but for the numbers that are left
+pub record ArePushed (n : ℕ) (left numbers : List ℤ) (before places : List ℕ) : Type 0 where
+  pub within : list_all (is_place n) left ≡ list_all (is_place n) numbers
+  pub added : places ++ map (place_of n) left ≡ before ++ map (place_of n) numbers
