@@ -1,11 +1,11 @@
 -- Laws of printed text: blocks, what joins them, and what stays in front.
 use Rattle.std.proofs.Common.{◌≡◌, ℕ, zero, suc, ◌+◌, ◌-◌, ◌*◌, ◌<◌, ◌≤◌, List, ◌∷◌, ◌++◌, codes, map, length, take, drop, get_or, refl, sym, ◌∙◌, ap, arith, add-one, suc-mul, zero-mul, append_assoc}
-use Rattle.std.proofs.lemmas.List.{take_at, take-take, take-map, drop-map, drop-drop, drop-take, length-drop, drop_more}
+use Rattle.std.proofs.lemmas.List.{append-nil, take_at, drop_at, take-take, take-map, drop-map, drop-drop, drop-take, length-drop, drop_more}
 use Rattle.std.specs.Io.{StartsWith}
 use Rattle.shape_strides.specs.Indexes.{count}
 use Rattle.array_print.specs.Printed.{join_texts, block_text, separator}
 use Rattle.elem_descr.specs.Blocks.{blocks}
-use Rattle.array_print.specs.inside.Shown.{lead}
+use Rattle.array_print.specs.inside.Shown.{lead, repeated}
 use Rattle.array_print.specs.StartLaws.{StartsWith-trans}
 
 -- ---- a list that begins with another
@@ -84,12 +84,6 @@ opened-more f axes axis k offsets walk old out led out' pushed walked leads bloc
     ∙ regroup old (codes "[") so_far (lead k sep) next
     ∙ ap (λ l. old ++ (codes "[" ++ l)) (sym more)
 
--- the walk after one block more
-pub walked-more : (c k : ℕ) (offsets walk walk' : List ℕ) → walk ≡ drop (k * c) offsets → walk' ≡ drop c walk → walk' ≡ drop ((k + 1) * c) offsets
-walked-more c k offsets walk walk' before step =
-    let size : k * c + c ≡ (k + 1) * c = grind arith in
-    step ∙ ap (λ l. drop c l) before ∙ drop-drop c (k * c) offsets ∙ ap (λ m. drop m offsets) size
-
 -- all blocks of an axis, and its brackets
 pub opened-all : (f : ℕ → List ℕ) (axes : List ℕ) (axis k : ℕ) (offsets old out out' : List ℕ) → axis < length axes → k ≡ get_or axes axis 0 → out ≡ old ++ opened f axes axis k offsets → out' ≡ out ++ codes "]" → out' ≡ old ++ block_text axis (drop axis axes) (map f (take (count (drop axis axes)) offsets))
 opened-all f axes axis k offsets old out out' below all pushed closed =
@@ -104,3 +98,38 @@ opened-all f axes axis k offsets old out out' below all pushed closed =
     ∙ ap (λ i. old ++ (codes "[" ++ body (blocks c n (map f offsets)) i ++ codes "]")) inner
     ∙ ap (λ bs. old ++ (codes "[" ++ body bs (length rest) ++ codes "]")) (sym (blocks-map-take f c n offsets))
     ∙ ap (λ s. old ++ block_text axis s (map f (take (count s) offsets))) (sym (drop_more axes axis 0 below))
+
+-- ---- blocks that are all the same
+
+-- the first, and copies of it
+joined-same : (sep : List ℕ) (text : List (List ℕ) → List ℕ) (f : ℕ → List ℕ) (c m : ℕ) (xs one : List ℕ) → ((j : ℕ) → j < suc m → text (map f (take c (drop (j * c) xs))) ≡ one) → join_texts sep (map text (blocks c (suc m) (map f xs))) ≡ one ++ repeated (sep ++ one) m
+joined-same sep text f c zero xs one same = joined-map-more sep text f c zero xs ∙ same zero (omega arith) ∙ sym (append-nil one)
+joined-same sep text f c (suc m) xs one same =
+    joined-map-more sep text f c (suc m) xs
+    ∙ ap (λ l. l ++ sep ++ text (map f (take c (drop (suc m * c) xs)))) (joined-same sep text f c m xs one (λ j low. same j (omega arith)))
+    ∙ ap (λ l. (one ++ repeated (sep ++ one) m) ++ sep ++ l) (same (suc m) (omega arith))
+    ∙ append_assoc (one ++ repeated (sep ++ one) m) sep one
+    ∙ append_assoc one (repeated (sep ++ one) m) (sep ++ one)
+
+-- the whole axis, of which one block is made
+pub opened-again : (f : ℕ → List ℕ) (axes : List ℕ) (axis first times inner : ℕ) (offsets old o1 o2 o3 o4 one : List ℕ) → axis < length axes → times + 1 ≡ get_or axes axis 0 → inner ≡ length axes - axis - 1 →
+    ((j : ℕ) → j < get_or axes axis 0 → block_text (axis + 1) (drop (axis + 1) axes) (map f (take (count (drop (axis + 1) axes)) (drop (j * count (drop (axis + 1) axes)) offsets))) ≡ one) →
+    first ≡ length o1 → o1 ≡ old ++ codes "[" → o2 ≡ o1 ++ one → o3 ≡ o2 ++ repeated (separator axis inner ++ drop first o2) times → o4 ≡ o3 ++ codes "]" →
+    o4 ≡ old ++ block_text axis (drop axis axes) (map f (take (count (drop axis axes)) offsets))
+opened-again f axes axis first times inner offsets old o1 o2 o3 o4 one below all inside same length-is opens made again closes =
+    let sep = separator axis (length axes - axis - 1) in
+    let c = count (drop (axis + 1) axes) in
+    let text = block_text (axis + 1) (drop (axis + 1) axes) in
+    let n : times + 1 ≡ suc times = omega arith in
+    let left : drop first o2 ≡ one = ap (drop first) made ∙ ap (λ m. drop m (o1 ++ one)) length-is ∙ drop_at o1 one (length o1) refl in
+    let joined : join_texts sep (map text (blocks c (times + 1) (map f offsets))) ≡ one ++ repeated (sep ++ one) times =
+    ap (λ m. join_texts sep (map text (blocks c m (map f offsets)))) n ∙ joined-same sep text f c times offsets one (λ j low. same j (omega (arith, all))) in
+    let pushed : o3 ≡ old ++ opened f axes axis (times + 1) offsets =
+    again
+    ∙ ap (λ m. o2 ++ repeated (separator axis m ++ drop first o2) times) inside
+    ∙ ap (λ l. o2 ++ repeated (sep ++ l) times) left
+    ∙ ap (λ l. l ++ repeated (sep ++ one) times) (made ∙ ap (λ l. l ++ one) opens)
+    ∙ ap (λ l. l ++ repeated (sep ++ one) times) (append_assoc old (codes "[") one)
+    ∙ append_assoc old (codes "[" ++ one) (repeated (sep ++ one) times)
+    ∙ ap (λ l. old ++ (codes "[" ++ l)) (sym joined) in
+    opened-all f axes axis (times + 1) offsets old o3 o4 below all pushed closes

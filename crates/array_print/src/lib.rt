@@ -3,6 +3,7 @@
 
 mod padding;
 mod printer;
+mod steps;
 mod values;
 mod widths;
 

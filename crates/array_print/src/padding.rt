@@ -1,8 +1,8 @@
 //! Blanks, separators, and texts that are padded to a width.
-ghost use Rattle.std.specs.Prelude.{◌≡◌, ◌+◌, ◌≤◌, ◌++◌, codes, replicate, vec_capacity, OnOk};
+ghost use Rattle.std.specs.Prelude.{◌≡◌, ◌+◌, ◌≤◌, ◌++◌, codes, length, drop, replicate, vec_capacity, OnOk};
 ghost use Rattle.std.specs.Io.{StartsWith};
 ghost use Rattle.array_print.specs.Printed.{separator, right_justified, record_end};
-ghost use Rattle.array_print.specs.inside.Shown.{lead};
+ghost use Rattle.array_print.specs.inside.Shown.{lead, repeated};
 
 use std::alloc::AllocError;
 
@@ -49,6 +49,35 @@ fn push_separator(out: &mut Vec<u8>, brackets: usize, inner: usize) -> Result<()
     }
     push_repeated(out, b'\n', inner)?;
     push_repeated(out, b' ', brackets + 1)
+}
+
+/// Appends the text from `start` on so many times more, each time behind what stands between two
+/// blocks. Memory for all of it is asked for first.
+pub fn push_again(
+    out: &mut Vec<u8>,
+    start: usize,
+    times: usize,
+    brackets: usize,
+    inner: usize,
+) -> Result<(), AllocError>
+    requires start { start ≤ length out.old.items }
+    requires brackets { brackets ≤ 64 }
+    ensures ok { OnOk result (out.new.items
+        ≡ out.old.items ++ repeated (separator brackets inner ++ drop start out.old.items) times) }
+    ensures kept { StartsWith out.new.items out.old.items }
+    ensures room { vec_capacity out.old ≤ vec_capacity out.new }
+{
+    if times == 0 {
+        return Ok(());
+    }
+    let mut again = Vec::new(*out.allocator());
+    push_separator(&mut again, brackets, inner)?;
+    again.extend_from_slice(&out.as_slice()[start..])?;
+    out.reserve(again.len().saturating_mul(times))?;
+    for _i in 0..times {
+        out.extend_from_slice(again.as_slice())?;
+    }
+    Ok(())
 }
 
 /// Appends a text, padded on the left to a width.

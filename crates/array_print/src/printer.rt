@@ -1,18 +1,19 @@
 //! The text of an array: items in nested brackets, each value padded to the width of its leaf.
-ghost use Rattle.std.specs.Prelude.{◌≡◌, ◌+◌, ◌^◌, ◌≤◌, ◌<◌, ◌++◌, [], codes, get_or, length, map, take, drop, slice_index, vec_capacity, All, IfOk, OnOk, OnErr};
+ghost use Rattle.std.specs.Prelude.{◌≡◌, ◌+◌, ◌^◌, ◌≤◌, ◌<◌, ◌++◌, [], codes, get_or, length, map, drop, vec_capacity, All, IfOk, OnOk, OnErr};
 ghost use Rattle.std.specs.Io.{StartsWith};
 ghost use Rattle.elem_descr.specs.Descriptors.{listed, leaf_count};
 ghost use Rattle.elem_descr.specs.Items.{item_size, leaves_of};
-ghost use Rattle.shape_strides.specs.Indexes.{count};
-ghost use Rattle.shape_strides.specs.Layouts.{offsets, Fits};
+ghost use Rattle.shape_strides.specs.Layouts.{offsets};
 ghost use Rattle.array_print.specs.Printed.{array_text, block_text, in_parentheses, field_texts, structure_text, items_from};
 ghost use Rattle.array_print.specs.inside.Shown.{AreWidths, texts_at, shown};
+ghost use Rattle.array_print.specs.inside.Parts.{IsPart, part_offsets};
 
-use crate::padding::{push_comma, push_lead, push_record_end};
+use crate::padding::{push_again, push_comma, push_lead, push_record_end};
+use crate::steps::{repeats, step_along};
 use crate::values::push_value;
 use crate::widths::widths_of;
 use elem_descr::{Descr, Field};
-use shape_strides::{Layout, Walk};
+use shape_strides::Layout;
 use std::alloc::{AllocError, Global};
 
 /// Items of one descriptor in a block of bytes, and the widths to which the texts of their values
@@ -119,53 +120,47 @@ fn push_item(out: &mut Vec<u8>, items: &Items<'_>, offset: usize) -> Result<(), 
     Ok(())
 }
 
-/// Appends the text of the next item of a walk.
-fn push_next(out: &mut Vec<u8>, walk: &mut Walk<'_>, items: &Items<'_>) -> Result<(), AllocError>
-    requires widths { AreWidths (leaves_of items.now.descr.now) items.now.widths.now }
-    requires some { 1 ≤ length walk.old }
-    requires inside { All (λ offset. offset + item_size items.now.descr.now ≤ length items.now.block.now) walk.old }
-    ensures ok { OnOk result (out.new.items ≡ out.old.items
-        ++ shown items.now.descr.now items.now.widths.now items.now.block.now (slice_index walk.old 0)) }
-    ensures rest { OnOk result (walk.new ≡ drop 1 walk.old) }
-    ensures kept { StartsWith out.new.items out.old.items }
-    ensures room { vec_capacity out.old ≤ vec_capacity out.new }
-{
-    match walk.next() {
-        Some(offset) => push_item(out, items, offset),
-        None => Ok(()),
-    }
-}
-
-/// Appends the text of the next block of a walk. Its axes are those from `axis` on, and as many
-/// brackets are open before its own as there are axes before them.
+/// Appends the text of a block of items: those that the axes from `axis` on lead to, from an offset
+/// on. As many brackets are open before its own as there are axes before it. Blocks along an axis of
+/// stride 0 are the same: one is made, and its text is copied.
 fn push_block(
     out: &mut Vec<u8>,
-    walk: &mut Walk<'_>,
     items: &Items<'_>,
-    axes: &[usize],
+    layout: &Layout,
     axis: usize,
+    offset: usize,
 ) -> Result<(), AllocError>
     requires widths { AreWidths (leaves_of items.now.descr.now) items.now.widths.now }
-    requires axis { axis ≤ length axes.now }
-    requires axes { length axes.now ≤ 64 }
-    requires enough { count (drop axis axes.now) ≤ length walk.old }
-    requires inside { All (λ offset. offset + item_size items.now.descr.now ≤ length items.now.block.now) walk.old }
-    ensures ok { OnOk result (out.new.items ≡ out.old.items ++ block_text axis (drop axis axes.now)
-        (map (shown items.now.descr.now items.now.widths.now items.now.block.now) (take (count (drop axis axes.now)) walk.old))) }
-    ensures rest { OnOk result (walk.new ≡ drop (count (drop axis axes.now)) walk.old) }
+    requires part { IsPart layout.now axis offset (length items.now.block.now) (item_size items.now.descr.now) }
+    ensures ok { OnOk result (out.new.items ≡ out.old.items ++ block_text axis (drop axis layout.now.shape)
+        (map (shown items.now.descr.now items.now.widths.now items.now.block.now) (part_offsets layout.now axis offset))) }
     ensures kept { StartsWith out.new.items out.old.items }
     ensures room { vec_capacity out.old ≤ vec_capacity out.new }
 {
-    if axis == axes.len() {
-        return push_next(out, walk, items);
+    let lengths = layout.shape.as_slice();
+    if axis == lengths.len() {
+        return push_item(out, items, offset);
     }
+    let strides = layout.strides.as_slice();
+    let inner = lengths.len() - axis - 1;
     out.push(b'[')?;
-    for k in 0..axes[axis] {
-        push_lead(out, k, axis, axes.len() - axis - 1)?;
-        push_block(out, walk, items, axes, axis + 1)?;
+    if repeats(strides, axis) {
+        let first = out.len();
+        push_block(out, items, layout, axis + 1, offset)?;
+        push_again(out, first, lengths[axis] - 1, axis, inner)?;
+        return Ok(out.push(b']')?);
     }
-    out.push(b']')?;
-    Ok(())
+    for k in 0..lengths[axis] {
+        push_lead(out, k, axis, inner)?;
+        push_block(
+            out,
+            items,
+            layout,
+            axis + 1,
+            step_along(offset, strides, axis, k),
+        )?;
+    }
+    Ok(out.push(b']')?)
 }
 
 /// Appends the text of an array whose items lie at the layout's offsets in a block. Where memory
@@ -193,8 +188,7 @@ pub fn print_into(
         widths: widths.as_slice(),
     };
     let before = out.len();
-    let mut walk = Walk::new(layout);
-    let printed = push_block(out, &mut walk, &items, layout.shape.as_slice(), 0);
+    let printed = push_block(out, &items, layout, 0, layout.offset);
     if printed.is_err() {
         out.truncate(before);
     }

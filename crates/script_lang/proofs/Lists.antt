@@ -21,18 +21,18 @@ more_in_front : {A : Type 0} (read : List A) (x : A) (rest : Option (List A × L
 more_in_front read x None = refl
 more_in_front read x (Some r) = ap (λ xs. Some (xs, r.1)) (sym (append_assoc read (x ∷ []) r.0))
 
--- more than 8 entries, where 8 are read and one more comes
+-- more than one entry, where one is read and one more comes
 abbrev pub Long : {A : Type 0} → Option (List A × List ℕ) → Type 0
-Long list = IfSome list (λ r. IsTrue (nat_lt 8 (length r.0)))
+Long list = IfSome list (λ r. IsTrue (nat_lt 1 (length r.0)))
 
-long_in_front : {A : Type 0} (read : List A) (x : A) (rest : Option (List A × List ℕ)) → 8 ≤ length read → Long (in_front read (option_and_then (λ others. Some (x ∷ others.0, others.1)) rest))
+long_in_front : {A : Type 0} (read : List A) (x : A) (rest : Option (List A × List ℕ)) → 1 ≤ length read → Long (in_front read (option_and_then (λ others. Some (x ∷ others.0, others.1)) rest))
 long_in_front read x None full = tt
-long_in_front read x (Some r) full = lt-ltb 8 (length (read ++ x ∷ r.0)) (omega (arith, length-append read (x ∷ r.0)))
+long_in_front read x (Some r) full = lt-ltb 1 (length (read ++ x ∷ r.0)) (omega (arith, length-append read (x ∷ r.0)))
 
--- 8 entries are held where one more takes memory that there is not
-pub full_from_failed : {A : Type 0} (read : List A) → (length read < 8 → false ≡ true) → 8 ≤ length read
+-- an entry is held where one more takes memory that there is not
+pub full_from_failed : {A : Type 0} (read : List A) → (length read < 1 → false ≡ true) → 1 ≤ length read
 full_from_failed read room =
-    elim (cases_lt (length read) 8) [ inl few ↦ absurd (false≢true (room few)) | inr many ↦ many ]
+    elim (cases_lt (length read) 1) [ inl few ↦ absurd (false≢true (room few)) | inr many ↦ many ]
 
 -- what may take memory whatever it is
 pub any_list : {A : Type 0} (o : Option A) → IfSome o (λ x. IsTrue true)
@@ -78,7 +78,7 @@ module _ {A : Type 0} (item_at : List ℕ → Option (A × List ℕ)) (shorter :
   unfolding one_or_more entry_first
   items_no_item none = items_turn ∙ rw none refl
 
-  pub items_long : (x : A) (after : List ℕ) → item_at rest ≡ Some (x, after) → 8 ≤ length read → Long whole
+  pub items_long : (x : A) (after : List ℕ) → item_at rest ≡ Some (x, after) → 1 ≤ length read → Long whole
   unfolding one_or_more entry_first
   items_long x after first full = rw (items_turn, first) (long_in_front read x _ full)
 

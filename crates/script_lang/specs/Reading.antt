@@ -20,7 +20,7 @@ use Rattle.script_lang.specs.declared.command.Value.TheVariants.{Make, View, Com
 use Rattle.script_lang.specs.declared.command.Command.TheVariants.{Bind, Set, Update}
 use Rattle.script_lang.specs.Lines.{Line, silent, bad_byte, misspelt, asks}
 
--- What is held in memory of its own: bytes and record literals, an index of more than 8 items.
+-- What is held in memory of its own: bytes and record literals, an index of more than one item.
 abbrev pub scalar_room : ScalarLiteral → Bool
 scalar_room (Bytes text) = true
 scalar_room _ = false
@@ -30,7 +30,7 @@ literal_room (Scalar scalar) = scalar_room scalar
 literal_room (Record inner) = true
 
 abbrev pub index_room : List (IndexItem (List ℕ)) → Bool
-index_room index = nat_lt 8 (length index)
+index_room index = nat_lt 1 (length index)
 
 abbrev pub optional_index_room : Option (List (IndexItem (List ℕ))) → Bool
 optional_index_room None = false
@@ -43,7 +43,7 @@ abbrev pub argument_room : Argument → Bool
 argument_room (argument.Operand operand) = operand_room operand
 argument_room (argument.Literal literal) = literal_room literal
 
--- with axes, a shape, the name of a field, or an index of more than 8 items
+-- with axes, a shape, the name of a field, or an index of more than one item
 abbrev pub viewing_room : Viewing → Bool
 viewing_room Whole = false
 viewing_room (Indexed index) = index_room index

@@ -8,7 +8,7 @@ use shape_strides::IndexItem;
 
 /// The items between the brackets: at least one, `...` at most once. Integers have up to 30 digits,
 /// and arrays go by their names.
-pub type Index = ShortList<IndexItem<Name>, 8>;
+pub type Index = ShortList<IndexItem<Name>, 1>;
 
 /// How many items are `...`.
 pub fn ellipses(index: &Index) -> usize

@@ -79,7 +79,7 @@ pub fn whole_axis(n: usize) -> AxisPick
     })
 }
 
-fn push_whole(picks: &mut SmallVec<AxisPick, 8>, axes: &[usize]) -> Result<(), AllocError>
+fn push_whole(picks: &mut SmallVec<AxisPick, 4>, axes: &[usize]) -> Result<(), AllocError>
     ensures { OnOk result (AddsPicks picks.old.items picks.new.items axes.now (map whole axes.now)) }
 {
     for n in axes {
@@ -89,7 +89,7 @@ fn push_whole(picks: &mut SmallVec<AxisPick, 8>, axes: &[usize]) -> Result<(), A
 }
 
 fn push_picks<A>(
-    picks: &mut SmallVec<AxisPick, 8>,
+    picks: &mut SmallVec<AxisPick, 4>,
     axes: &[usize],
     item: &IndexItem<A>,
 ) -> Result<(), Refusal>
@@ -116,7 +116,7 @@ pub(crate) fn picks_of<A>(
     alloc: Global,
     lengths: &[usize],
     items: &[IndexItem<A>],
-) -> Result<SmallVec<AxisPick, 8>, Refusal>
+) -> Result<SmallVec<AxisPick, 4>, Refusal>
     requires taken { axes_taken items.now ≤ length lengths.now }
     requires basic { list_all is_basic items.now ≡ true }
     requires steps { list_all has_step items.now ≡ true }

@@ -1,5 +1,5 @@
 -- How parts of an array's text come from its block of bytes.
-use Rattle.std.specs.Prelude.{◌≡◌, ℕ, zero, suc, List, [], map, take, drop}
+use Rattle.std.specs.Prelude.{◌≡◌, ℕ, zero, suc, List, [], ◌++◌, map, take, drop}
 use Rattle.std.specs.Fmt.{signed_decimal}
 use Rattle.std.specs.List.{AllZip}
 use Rattle.elem_descr.specs.declared.scalar.Scalar.{Scalar}
@@ -38,6 +38,11 @@ shown descr widths block offset = item_text descr widths (item_from descr block 
 abbrev pub lead : ℕ → List ℕ → List ℕ
 lead zero separator = []
 lead (suc k) separator = separator
+
+-- a text so many times
+abbrev pub repeated : List ℕ → ℕ → List ℕ
+repeated text zero = []
+repeated text (suc n) = repeated text n ++ text
 
 -- the widths of the leaves of items that begin at these offsets, in an array with axes
 abbrev pub widths_at : Descr → List ℕ → List ℕ → List ℕ

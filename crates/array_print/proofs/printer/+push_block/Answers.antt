@@ -1,24 +1,112 @@
-use Rattle.std.proofs.Common.{arith}
-use Rattle.array_print.specs.inside.Shown.{shown}
+use Rattle.std.proofs.Common.{◌≡◌, ◌+◌, ◌*◌, ◌-◌, ◌<◌, ◌++◌, pos, ◌+ℤ◌, ◌*ℤ◌, ◌≤ℤ◌, get_or, length, map, drop, refl, sym, ap, subst, ◌∙◌, arith}
+use Rattle.std.proofs.lemmas.List.{take_all}
+use Rattle.shape_strides.specs.Indexes.{count}
+use Rattle.shape_strides.specs.Limits.{max_bytes}
+use Rattle.array_print.specs.Printed.{block_text, separator}
 use Rattle.array_print.specs.StartLaws.{StartsWith-trans}
-use Rattle.array_print.proofs.PrintLaws.{StartsWith-along, opened-more, opened-all, walked-more}
+use Rattle.array_print.specs.inside.Parts.{part_offsets}
+use Rattle.array_print.specs.inside.Shown.{shown, lead}
+use Rattle.array_print.proofs.PrintLaws.{StartsWith-along, opened-more, opened-all, opened-again}
+use Rattle.array_print.proofs.PartLaws.{at-first, stays, part-some, part-step, part-start, part-inner, part-block, length-part, part-item-inside}
 use Rattle.array_print.proofs.printer.+push_block.Goals as goal
 
-pub returns-in_err-push_lead-clause-kept : goal.returns-in_err-push_lead-clause-kept
-returns-in_err-push_lead-clause-kept t c =
-    StartsWith-along _ _ _ _ c.loop-k.invariant.pushed c.push_lead.ensures.kept
+pub push_item-requires-clause-inside : goal.push_item-requires-clause-inside
+push_item-requires-clause-inside t c =
+    part-item-inside c.args.layout.now c.args.axis c.args.offset _ _ (omega (arith, c.if-axis-lengths.true, ap length c.as_slice-lengths.ensures.value)) c.requires.part
+
+pub push_block-requires : goal.push_block-requires
+push_block-requires t c =
+    let l = c.args.layout.now in
+    let below : c.args.axis < length l.shape = omega (arith, c.if-axis-lengths.false, ap length c.as_slice-lengths.ensures.value, c.requires.part.axes) in
+    let some = part-some l c.args.axis c.args.offset _ _ below c.requires.part in
+    (omega (arith, c.decreases, below), (c.requires.widths, part-inner l c.args.axis c.args.offset _ _ below c.requires.part 0 c.args.offset some.0 (at-first (get_or l.strides c.args.axis (pos 0)) c.args.offset)))
 
 pub returns-in_err-push_block-clause-kept : goal.returns-in_err-push_block-clause-kept
-returns-in_err-push_block-clause-kept t c =
-    StartsWith-along _ _ _ _ c.loop-k.invariant.pushed (StartsWith-trans _ _ _ c.push_block.ensures.kept c.push_lead.ensures.kept)
+returns-in_err-push_block-clause-kept t c = StartsWith-along _ _ _ _ c.in_ok-push.ensures.items c.push_block.ensures.kept
+
+pub returns-in_err-push_again-clause-kept : goal.returns-in_err-push_again-clause-kept
+returns-in_err-push_again-clause-kept t c =
+    StartsWith-along _ _ _ _ c.in_ok-push.ensures.items (StartsWith-trans _ _ _ c.push_again.ensures.kept c.push_block.ensures.kept)
+
+pub returns-in_err-push_block-2-clause-kept : goal.returns-in_err-push_block-2-clause-kept
+returns-in_err-push_block-2-clause-kept t c =
+    StartsWith-along _ _ _ _ c.loop-k.invariant.pushed (StartsWith-trans _ _ _ c.push_block-in-loop-k.ensures.kept c.push_lead.ensures.kept)
+
+pub returns-then-repeats-clause-ok : goal.returns-then-repeats-clause-ok
+returns-then-repeats-clause-ok t c =
+    let l = c.args.layout.now in
+    let start = c.args.offset in
+    let f = shown c.args.items.now.descr.now c.args.items.now.widths.now c.args.items.now.block.now in
+    let text = block_text (c.args.axis + 1) (drop (c.args.axis + 1) l.shape) in
+    let offsets = part_offsets l c.args.axis start in
+    let lens = ap length c.as_slice-lengths.ensures.value in
+    let below : c.args.axis < length l.shape = omega (arith, c.if-axis-lengths.false, lens, c.requires.part.axes) in
+    let some = part-some l c.args.axis start _ _ below c.requires.part in
+    let length-is : get_or c.as_slice-lengths.result.now c.args.axis 0 ≡ get_or l.shape c.args.axis 0 = ap (λ s. get_or s c.args.axis 0) c.as_slice-lengths.ensures.value in
+    let times = get_or c.as_slice-lengths.result.now c.args.axis 0 - 1 in
+    let times-is : times + 1 ≡ get_or l.shape c.args.axis 0 = omega (arith, length-is, some.0) in
+    let inner = length c.as_slice-lengths.result.now - c.args.axis - 1 in
+    let inner-is : inner ≡ length l.shape - c.args.axis - 1 = ap (λ m. m - c.args.axis - 1) lens in
+    let first-is : c.len-first.result ≡ length c.push.new.self.items = omega (arith, c.len-first.ensures, c.push.new.self.ok) in
+    let none : get_or l.strides c.args.axis (pos 0) ≡ pos 0 = ap (λ s. get_or s c.args.axis (pos 0)) (sym c.as_slice-strides.ensures) ∙ c.repeats.ensures.0 c.if-repeats.true in
+    opened-again f l.shape c.args.axis c.len-first.result times inner offsets c.args.out.now.items _ _ _ _ (text (map f (part_offsets l (c.args.axis + 1) start))) below times-is inner-is
+    (λ j low. ap (λ os. text (map f os)) (part-block l c.args.axis start _ _ below c.requires.part j start low (stays _ start j none)))
+    first-is c.in_ok-push.ensures.items c.in_ok-push_block.ensures.ok c.in_ok-push_again.ensures.ok c.in_ok-push-2.ensures.items
+    ∙ ap (λ os. c.args.out.now.items ++ block_text c.args.axis (drop c.args.axis l.shape) (map f os)) (take_all (count (drop c.args.axis l.shape)) offsets (omega (arith, length-part l c.args.axis start)))
+
+pub step_along-requires-clause-start : goal.step_along-requires-clause-start
+step_along-requires-clause-start t c =
+    let l = c.args.layout.now in
+    let below : c.args.axis < length l.shape = omega (arith, c.if-axis-lengths.false, ap length c.as_slice-lengths.ensures.value, c.requires.part.axes) in
+    part-start l c.args.axis c.args.offset _ _ below c.requires.part
+
+pub step_along-requires-clause-low : goal.step_along-requires-clause-low
+step_along-requires-clause-low t c =
+    let l = c.args.layout.now in
+    let below : c.args.axis < length l.shape = omega (arith, c.if-axis-lengths.false, ap length c.as_slice-lengths.ensures.value, c.requires.part.axes) in
+    let low : c.loop-k.k < get_or l.shape c.args.axis 0 = omega (arith, c.loop-k-test.true, c.loop-k.auto.k-end, ap (λ s. get_or s c.args.axis 0) c.as_slice-lengths.ensures.value) in
+    subst (λ strides. pos 0 ≤ℤ (pos c.args.offset +ℤ get_or strides c.args.axis (pos 0) *ℤ pos c.loop-k.k)) (sym c.as_slice-strides.ensures) (part-step l c.args.axis c.args.offset _ _ below c.requires.part c.loop-k.k low).0
+
+pub step_along-requires-clause-high : goal.step_along-requires-clause-high
+step_along-requires-clause-high t c =
+    let l = c.args.layout.now in
+    let below : c.args.axis < length l.shape = omega (arith, c.if-axis-lengths.false, ap length c.as_slice-lengths.ensures.value, c.requires.part.axes) in
+    let low : c.loop-k.k < get_or l.shape c.args.axis 0 = omega (arith, c.loop-k-test.true, c.loop-k.auto.k-end, ap (λ s. get_or s c.args.axis 0) c.as_slice-lengths.ensures.value) in
+    subst (λ strides. (pos c.args.offset +ℤ get_or strides c.args.axis (pos 0) *ℤ pos c.loop-k.k) ≤ℤ pos max_bytes) (sym c.as_slice-strides.ensures) (part-step l c.args.axis c.args.offset _ _ below c.requires.part c.loop-k.k low).1
+
+pub push_block-requires-in-loop-k : goal.push_block-requires-in-loop-k
+push_block-requires-in-loop-k t c =
+    let l = c.args.layout.now in
+    let below : c.args.axis < length l.shape = omega (arith, c.if-axis-lengths.false, ap length c.as_slice-lengths.ensures.value, c.requires.part.axes) in
+    let low : c.loop-k.k < get_or l.shape c.args.axis 0 = omega (arith, c.loop-k-test.true, c.loop-k.auto.k-end, ap (λ s. get_or s c.args.axis 0) c.as_slice-lengths.ensures.value) in
+    let is : pos c.step_along.result ≡ pos c.args.offset +ℤ get_or l.strides c.args.axis (pos 0) *ℤ pos c.loop-k.k = c.step_along.ensures ∙ ap (λ s. pos c.args.offset +ℤ get_or s c.args.axis (pos 0) *ℤ pos c.loop-k.k) c.as_slice-strides.ensures in
+    (omega (arith, c.decreases, below), (c.requires.widths, part-inner l c.args.axis c.args.offset _ _ below c.requires.part c.loop-k.k c.step_along.result low is))
 
 pub loop-k-preserved : goal.loop-k-preserved
-loop-k-preserved t c = record {
-  pushed = opened-more (shown c.args.items.now.descr.now c.args.items.now.widths.now c.args.items.now.block.now) c.args.axes.now c.args.axis c.loop-k.k c.args.walk.now c.loop-k.walk _ _ _ _ c.loop-k.invariant.pushed c.loop-k.invariant.walked c.in_ok-push_lead.ensures.ok c.in_ok-push_block.ensures.ok;
-  walked = walked-more _ c.loop-k.k c.args.walk.now c.loop-k.walk _ c.loop-k.invariant.walked c.in_ok-push_block.ensures.rest;
-  room = omega arith;
-}
+loop-k-preserved t c =
+    let l = c.args.layout.now in
+    let f = shown c.args.items.now.descr.now c.args.items.now.widths.now c.args.items.now.block.now in
+    let k = c.loop-k.k in
+    let inner = count (drop (c.args.axis + 1) l.shape) in
+    let text = block_text (c.args.axis + 1) (drop (c.args.axis + 1) l.shape) in
+    let offsets = part_offsets l c.args.axis c.args.offset in
+    let lens = ap length c.as_slice-lengths.ensures.value in
+    let below : c.args.axis < length l.shape = omega (arith, c.if-axis-lengths.false, lens, c.requires.part.axes) in
+    let low : k < get_or l.shape c.args.axis 0 = omega (arith, c.loop-k-test.true, c.loop-k.auto.k-end, ap (λ s. get_or s c.args.axis 0) c.as_slice-lengths.ensures.value) in
+    let is : pos c.step_along.result ≡ pos c.args.offset +ℤ get_or l.strides c.args.axis (pos 0) *ℤ pos k = c.step_along.ensures ∙ ap (λ s. pos c.args.offset +ℤ get_or s c.args.axis (pos 0) *ℤ pos k) c.as_slice-strides.ensures in
+    record {
+      pushed = opened-more f l.shape c.args.axis k offsets (drop (k * inner) offsets) c.args.out.now.items c.loop-k.out.items c.push_lead.new.out.items c.push_block-in-loop-k.new.out.items c.loop-k.invariant.pushed refl
+          (c.in_ok-push_lead.ensures.ok ∙ ap (λ m. c.loop-k.out.items ++ lead k (separator c.args.axis (m - c.args.axis - 1))) lens)
+          (c.in_ok-push_block-2.ensures.ok ∙ ap (λ os. c.push_lead.new.out.items ++ text (map f os)) (sym (part-block l c.args.axis c.args.offset _ _ below c.requires.part k c.step_along.result low is)));
+      room = omega arith;
+    }
 
 pub returns-clause-ok : goal.returns-clause-ok
 returns-clause-ok t c =
-    opened-all (shown c.args.items.now.descr.now c.args.items.now.widths.now c.args.items.now.block.now) c.args.axes.now c.args.axis c.loop-k.k c.args.walk.now _ _ _ (omega arith) (omega arith) c.loop-k.invariant.pushed c.in_ok-push-2.ensures.items
+    let l = c.args.layout.now in
+    let f = shown c.args.items.now.descr.now c.args.items.now.widths.now c.args.items.now.block.now in
+    let offsets = part_offsets l c.args.axis c.args.offset in
+    let below : c.args.axis < length l.shape = omega (arith, c.if-axis-lengths.false, ap length c.as_slice-lengths.ensures.value, c.requires.part.axes) in
+    let all : c.loop-k.k ≡ get_or l.shape c.args.axis 0 = omega (arith, c.loop-k-test.false, c.loop-k.auto.k-end, ap (λ s. get_or s c.args.axis 0) c.as_slice-lengths.ensures.value) in
+    opened-all f l.shape c.args.axis c.loop-k.k offsets c.args.out.now.items _ _ below all c.loop-k.invariant.pushed c.in_ok-push-3.ensures.items
+    ∙ ap (λ os. c.args.out.now.items ++ block_text c.args.axis (drop c.args.axis l.shape) (map f os)) (take_all (count (drop c.args.axis l.shape)) offsets (omega (arith, length-part l c.args.axis c.args.offset)))

@@ -1,16 +1,15 @@
-use Rattle.std.proofs.Common.{◌≡◌, ◌+◌, ◌-◌, ◌*◌, ◌≤◌, ◌++◌, length, drop, vec_capacity}
-use Rattle.shape_strides.specs.Indexes.{count}
+use Rattle.std.proofs.Common.{◌≡◌, ◌-◌, ◌≤◌, ◌++◌, length, vec_capacity}
 use Rattle.array_print.specs.inside.Shown.{shown}
+use Rattle.array_print.specs.inside.Parts.{part_offsets}
 use Rattle.array_print.proofs.PrintLaws.{opened}
 use Rattle.array_print.proofs.printer.+push_block.Given as goal
 
 -- the blocks so far stand behind their bracket
 abbrev pub invariant-loop-k : goal.invariant-loop-k
 invariant-loop-k l = record {
-  pushed : l.out.items ≡ l.fn.out.items ++ opened (shown l.items.descr.now l.items.widths.now l.items.block.now) l.axes l.axis l.k l.fn.walk;
-  walked : l.walk ≡ drop (l.k * count (drop (l.axis + 1) l.axes)) l.fn.walk;
+  pushed : l.out.items ≡ l.fn.out.items ++ opened (shown l.items.descr.now l.items.widths.now l.items.block.now) l.layout.shape l.axis l.k (part_offsets l.layout l.axis l.offset);
   room : vec_capacity l.fn.out ≤ vec_capacity l.out;
 }
 
 abbrev pub decreases-push_block : goal.decreases-push_block
-decreases-push_block l = length l.axes.now - l.axis
+decreases-push_block l = length l.layout.now.shape - l.axis

@@ -12,7 +12,7 @@ returns-in_default c = inl (refl, items_no_item index_item_at index_item_shorter
 pub returns-in_err-push : goal.returns-in_err-push
 returns-in_err-push c =
     let error = err_from_is_err_and c.from_residual.result c.from_residual.ensures.1 in
-    let full : 8 ≤ length c.loop-entry.index = full_from_failed c.loop-entry.index c.in_err-push.ensures.succeeds in
+    let full : 1 ≤ length c.loop-entry.index = full_from_failed c.loop-entry.index c.in_err-push.ensures.succeeds in
     rw (error.1, error.2) (inr (refl, items_long index_item_at index_item_shorter 93 _ _ _ c.loop-entry.invariant _ _ c.in-Some.ensures full))
 
 pub returns-in-Some-symbol : goal.returns-in-Some-symbol

@@ -1,0 +1,18 @@
+-- Parts of an array: the items that some of its axes lead to.
+use Rattle.std.specs.Prelude.{ℕ, ◌<◌, ◌≤◌, List, length, drop}
+use Rattle.shape_strides.specs.declared.layout.Layout.{Layout}
+use Rattle.shape_strides.specs.Indexes.{count}
+use Rattle.shape_strides.specs.Addresses.{LieWithin}
+use Rattle.shape_strides.specs.Limits.{max_bytes}
+use Rattle.shape_strides.specs.Walks.{offsets_at}
+
+-- the offsets that the axes from one on lead to, from a first one on
+abbrev pub part_offsets : Layout → ℕ → ℕ → List ℕ
+part_offsets l axis start = offsets_at (drop axis l.shape) (drop axis l.strides) start
+
+-- there are such axes and such items, and each, of so many bytes, lies in so many bytes
+pub record IsPart (l : Layout) (axis start len item : ℕ) : Type 0 where
+  pub axes : axis ≤ length l.shape
+  pub some : 0 < count (drop axis l.shape)
+  pub small : LieWithin (drop axis l.shape) (drop axis l.strides) start max_bytes 1
+  pub inside : LieWithin (drop axis l.shape) (drop axis l.strides) start len item
