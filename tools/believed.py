@@ -9,8 +9,8 @@
     tools/believed.py --twice    statements that are proved twice, definitions that stand twice, and public words of specs/
                                  with two meanings
 
-It reads the texts alone: the clauses of `run`, what the definitions that they cite cite in turn, and for a type that
-contracts see as a value (`impl Model`) what its view cites.
+It reads the texts alone: the clauses of `run`, what the definitions that they cite cite in turn, for a type that
+contracts see as a value (`impl Model`) what its view cites, and for any other the types of its fields.
 """
 import collections
 import pathlib
@@ -22,6 +22,15 @@ LIST = TOP / "docs/believed.txt"
 # A verdict carries its proof, so that its type says all, whatever the test is that finds it.
 VERDICT = re.compile(r"→ \w+OrNot\b")
 WORD = re.compile(r"[^\s(){}\[\],;]+")
+
+
+def types(text):
+    """The types that a .rt file imports: the crate where each stands, by its name; `crate` where it is the file's own."""
+    found = {}
+    for path, group, name in re.findall(r"(?m)^use (\w+)(?:::\w+)*::(?:\{([^}]*)\}|(\w+));", text):
+        for item in (group or name).split(","):
+            found[item.strip()] = path
+    return found
 
 
 def uses(text):
@@ -38,7 +47,7 @@ def uses(text):
 
 class Repository:
     def __init__(self):
-        self.files, self.models = {}, {}
+        self.files, self.models, self.fields = {}, {}, {}
         for crate in (TOP / "crates").iterdir():
             for file in sorted(crate.glob("specs/**/*.antt")):
                 text = file.read_text()
@@ -49,6 +58,8 @@ class Repository:
                 for name, body in re.findall(r"impl(?:<[^>]*>)? Model for (\w+)[^{]*\{(.*?)\n\}", text, re.S):
                     view = re.findall(r"ghost view = \{(.*?)\};", body, re.S)
                     self.models[crate.name, name] = (" ".join(view), *uses(text))
+                for name, body in re.findall(r"(?m)^(?:pub )?(?:struct|enum) (\w+)([^{;]*(?:\{[^}]*\}|;))", text):
+                    self.fields[crate.name, name] = (body, types(text))
 
     def cited(self, text, local, names, modules):
         """The definitions, and the types with a view, that a text cites."""
@@ -68,6 +79,15 @@ class Repository:
                 here.add(target)
         return here
 
+    def fields_of(self, crate, name):
+        """The types in the fields of a type that has no view."""
+        body, imported = self.fields.get((crate, name), ("", {}))
+        for word in set(re.findall(r"\b[A-Z]\w*", re.sub(r"//.*", "", body))):
+            there = imported.get(word, "crate")
+            where = crate if there == "crate" else there
+            if (where, word) in self.fields:
+                yield f"{where}.specs.declared.{word}", word
+
     def reached(self, todo):
         done = set()
         while todo:
@@ -80,6 +100,8 @@ class Repository:
                 if (declared[1], name) in self.models:
                     text, names, modules = self.models[declared[1], name]
                     todo |= {it for it in self.cited(text, {}, names, modules) if it[0]}
+                else:
+                    todo |= set(self.fields_of(declared[1], name))
             elif module in self.files and name in self.files[module][1]:
                 done.add((module, name))
                 _, local, names, modules = self.files[module]
