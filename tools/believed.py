@@ -3,7 +3,8 @@
 
     tools/believed.py            the definitions, by crate and file
     tools/believed.py --write    writes that list to docs/believed.txt
-    tools/believed.py --check    says where that file is not up to date, and which files of it no table of docs/DEFINITIONS.md names
+    tools/believed.py --check    says where that file is not up to date, which files docs/DEFINITIONS.md does not name, and whether it
+                                 counts what is reached
     tools/believed.py --inside   the definitions that no public contract reaches, and so only provers use, which do not stand in
                                  specs/inside/; and those there that one does reach
     tools/believed.py --twice    statements that are proved twice, definitions that stand twice, and public words of specs/
@@ -268,6 +269,28 @@ def unlisted(found):
         yield from (f"{file}: the list has {name}, which is not reached" for name in old if name not in new)
         if f"`{file.partition('/specs/')[2]}`" not in page or f"`{file.partition('/')[0]}`" not in page:
             yield f"{file}: no table of DEFINITIONS.md names it"
+    for file in unnamed(page):
+        if file not in here:
+            yield f"{file}: DEFINITIONS.md does not name it"
+    if counted(found) not in page:
+        yield f"DEFINITIONS.md should say that the headline reaches {counted(found)}"
+
+
+def unnamed(page):
+    """The files of specs/ that are for readers, but for laws, that a page does not name."""
+    for file in sorted((TOP / "crates").glob("*/specs/**/*.antt")):
+        crate, name = file.relative_to(TOP / "crates").parts[0], "/".join(file.relative_to(TOP / "crates").parts[2:])
+        is_for_readers = not name.startswith("inside") and name != "Lib.antt" and not name.endswith("Laws.antt")
+        if is_for_readers and not re.search(rf"`{crate}`[^\n]*`{re.escape(name)}`|## [^\n]*`{crate}`(?:(?!\n## ).|\n(?!## ))*`{re.escape(name)}`", page):
+            yield f"{crate}/specs/{name}"
+
+
+def counted(found):
+    """How many definitions the headline reaches, and how many lines they have."""
+    repository = Repository()
+    wholes = {file.relative_to(TOP / "crates"): local for file, local, _, _ in repository.files.values()}
+    lines = sum(len(re.sub(r"(?m)^--.*\n?", "", wholes[file][name]).strip().splitlines()) for file, names in found.items() for name in names)
+    return f"{sum(map(len, found.values())):,} definitions, {lines:,} lines"
 
 
 def main():
@@ -284,7 +307,7 @@ def main():
         print("\n".join(faults), end="\n" * bool(faults))
         return 1 if faults else 0
     else:
-        print(f"{listed(found)}{sum(map(len, found.values()))} definitions")
+        print(f"{listed(found)}{counted(found)}")
     return 0
 
 
