@@ -3,14 +3,15 @@
 
     tools/believed.py            the definitions, by crate and file
     tools/believed.py --write    writes that list to docs/believed.txt
-    tools/believed.py --check    says where that file is not up to date, and which files of it no table of docs/DEFINITIONS.md names
+    tools/believed.py --check    says where that file is not up to date, which files docs/DEFINITIONS.md does not name, and whether it
+                                 counts what is reached
     tools/believed.py --inside   the definitions that no public contract reaches, and so only provers use, which do not stand in
                                  specs/inside/; and those there that one does reach
     tools/believed.py --twice    statements that are proved twice, definitions that stand twice, and public words of specs/
                                  with two meanings
 
-It reads the texts alone: the clauses of `run`, what the definitions that they cite cite in turn, and for a type that
-contracts see as a value (`impl Model`) what its view cites.
+It reads the texts alone: the clauses of `run`, what the definitions that they cite cite in turn, for a type that
+contracts see as a value (`impl Model`) what its view cites, and for any other the types of its fields.
 """
 import collections
 import pathlib
@@ -22,6 +23,15 @@ LIST = TOP / "docs/believed.txt"
 # A verdict carries its proof, so that its type says all, whatever the test is that finds it.
 VERDICT = re.compile(r"→ \w+OrNot\b")
 WORD = re.compile(r"[^\s(){}\[\],;]+")
+
+
+def types(text):
+    """The types that a .rt file imports: the crate where each stands, by its name; `crate` where it is the file's own."""
+    found = {}
+    for path, group, name in re.findall(r"(?m)^use (\w+)(?:::\w+)*::(?:\{([^}]*)\}|(\w+));", text):
+        for item in (group or name).split(","):
+            found[item.strip()] = path
+    return found
 
 
 def uses(text):
@@ -38,7 +48,7 @@ def uses(text):
 
 class Repository:
     def __init__(self):
-        self.files, self.models = {}, {}
+        self.files, self.models, self.fields = {}, {}, {}
         for crate in (TOP / "crates").iterdir():
             for file in sorted(crate.glob("specs/**/*.antt")):
                 text = file.read_text()
@@ -49,6 +59,8 @@ class Repository:
                 for name, body in re.findall(r"impl(?:<[^>]*>)? Model for (\w+)[^{]*\{(.*?)\n\}", text, re.S):
                     view = re.findall(r"ghost view = \{(.*?)\};", body, re.S)
                     self.models[crate.name, name] = (" ".join(view), *uses(text))
+                for name, body in re.findall(r"(?m)^(?:pub )?(?:struct|enum) (\w+)([^{;]*(?:\{[^}]*\}|;))", text):
+                    self.fields[crate.name, name] = (body, types(text))
 
     def cited(self, text, local, names, modules):
         """The definitions, and the types with a view, that a text cites."""
@@ -68,6 +80,15 @@ class Repository:
                 here.add(target)
         return here
 
+    def fields_of(self, crate, name):
+        """The types in the fields of a type that has no view."""
+        body, imported = self.fields.get((crate, name), ("", {}))
+        for word in set(re.findall(r"\b[A-Z]\w*", re.sub(r"//.*", "", body))):
+            there = imported.get(word, "crate")
+            where = crate if there == "crate" else there
+            if (where, word) in self.fields:
+                yield f"{where}.specs.declared.{word}", word
+
     def reached(self, todo):
         done = set()
         while todo:
@@ -80,6 +101,8 @@ class Repository:
                 if (declared[1], name) in self.models:
                     text, names, modules = self.models[declared[1], name]
                     todo |= {it for it in self.cited(text, {}, names, modules) if it[0]}
+                else:
+                    todo |= set(self.fields_of(declared[1], name))
             elif module in self.files and name in self.files[module][1]:
                 done.add((module, name))
                 _, local, names, modules = self.files[module]
@@ -246,6 +269,28 @@ def unlisted(found):
         yield from (f"{file}: the list has {name}, which is not reached" for name in old if name not in new)
         if f"`{file.partition('/specs/')[2]}`" not in page or f"`{file.partition('/')[0]}`" not in page:
             yield f"{file}: no table of DEFINITIONS.md names it"
+    for file in unnamed(page):
+        if file not in here:
+            yield f"{file}: DEFINITIONS.md does not name it"
+    if counted(found) not in page:
+        yield f"DEFINITIONS.md should say that the headline reaches {counted(found)}"
+
+
+def unnamed(page):
+    """The files of specs/ that are for readers, but for laws, that a page does not name."""
+    for file in sorted((TOP / "crates").glob("*/specs/**/*.antt")):
+        crate, name = file.relative_to(TOP / "crates").parts[0], "/".join(file.relative_to(TOP / "crates").parts[2:])
+        is_for_readers = not name.startswith("inside") and name != "Lib.antt" and not name.endswith("Laws.antt")
+        if is_for_readers and not re.search(rf"`{crate}`[^\n]*`{re.escape(name)}`|## [^\n]*`{crate}`(?:(?!\n## ).|\n(?!## ))*`{re.escape(name)}`", page):
+            yield f"{crate}/specs/{name}"
+
+
+def counted(found):
+    """How many definitions the headline reaches, and how many lines they have."""
+    repository = Repository()
+    wholes = {file.relative_to(TOP / "crates"): local for file, local, _, _ in repository.files.values()}
+    lines = sum(len(re.sub(r"(?m)^--.*\n?", "", wholes[file][name]).strip().splitlines()) for file, names in found.items() for name in names)
+    return f"{sum(map(len, found.values())):,} definitions, {lines:,} lines"
 
 
 def main():
@@ -262,7 +307,7 @@ def main():
         print("\n".join(faults), end="\n" * bool(faults))
         return 1 if faults else 0
     else:
-        print(f"{listed(found)}{sum(map(len, found.values()))} definitions")
+        print(f"{listed(found)}{counted(found)}")
     return 0
 
 

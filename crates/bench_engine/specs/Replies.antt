@@ -1,5 +1,5 @@
 -- The texts of replies.
-use Rattle.std.specs.Prelude.{ℕ, Bool, false, if◌then◌else◌, List, ◌++◌, codes, decimal}
+use Rattle.std.specs.Prelude.{◌≡◌, ℕ, Bool, false, if◌then◌else◌, List, [], ◌∷◌, ◌++◌, Option, Some, None, codes, decimal}
 use Rattle.std.specs.List.{flat_map}
 use Rattle.elem_descr.specs.declared.refusal.Refusal.{Refusal}
 use Rattle.elem_descr.specs.declared.descr.Descr.{Descr}
@@ -22,6 +22,11 @@ pub record Reply : Type 0 where
 -- the reply to what is refused
 abbrev pub refusal : Refusal → Reply
 refusal r = record { text = refusal_text r; accepted = false }
+
+-- at most one reply, which stands in out, and whether it accepts
+abbrev pub Tells : List Reply → Option Bool → List ℕ → Type 0
+Tells replies None out = (replies ≡ []) × (out ≡ [])
+Tells replies (Some accepted) out = (reply : Reply) × (replies ≡ reply ∷ []) × (reply.accepted ≡ accepted) × (out ≡ reply.text)
 
 -- an element type: a scalar as its type string, a record as its format text
 abbrev pub descr_text : Descr → List ℕ

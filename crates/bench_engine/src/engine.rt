@@ -4,10 +4,10 @@ ghost use Rattle.std.specs.List.{list_all};
 ghost use Rattle.name_store.specs.Arrays.{is_bound};
 ghost use Rattle.bench_engine.specs.inside.Contract.{CarriesOut, Carried};
 ghost use Rattle.bench_engine.specs.Machine.{question_outcome, bound_in_question};
-ghost use Rattle.bench_engine.specs.Replies.{Reply};
-ghost use Rattle.bench_engine.specs.Meanings.{MayAnswerBind, MayAnswer, Answered};
+ghost use Rattle.bench_engine.specs.Replies.{Reply, Tells};
+ghost use Rattle.bench_engine.specs.Meanings.{MayAnswerBind, MayAnswer, Answered, AnswersLine};
 ghost use Rattle.bench_engine.specs.Worlds.{world};
-ghost use Rattle.bench_engine.specs.inside.ReadLines.{ReadsAs, Tells, meaning_of_read};
+ghost use Rattle.bench_engine.specs.inside.ReadLines.{ReadsAs, meaning_of_read};
 
 use crate::compute::compute;
 use crate::create::make;
@@ -152,8 +152,8 @@ fn read_line(alloc: Global, line: Line<'_>) -> Result<Option<Command>, Refusal>
     parse(alloc, bytes)
 }
 
-/// Answers a line: whether its command was accepted, or nothing where it asks for nothing.
-pub fn answer<N: NpyStore>(
+/// Answers a line as it was read: whether its command was accepted, or nothing where it asks for nothing.
+pub fn answer_read<N: NpyStore>(
     bench: &mut Bench,
     store: &mut N,
     line: Line<'_>,
@@ -177,4 +177,22 @@ pub fn answer<N: NpyStore>(
             Some(false)
         }
     }
+}
+
+/// Answers one line, given without its newline: whether its command was accepted, or nothing where the line asks for
+/// nothing. `out`, which has room for `MAX_REFUSAL_LEN` bytes, holds the reply afterwards, without a newline. What is refused,
+/// also for want of memory, changes nothing, but for a store that failed in the midst of a `save`.
+pub fn answer<N: NpyStore>(
+    bench: &mut Bench,
+    store: &mut N,
+    line: &[u8],
+    out: &mut Vec<u8>,
+) -> Option<bool>
+    requires room { 64 ≤ vec_capacity out.old }
+    ensures answered { (replies : List Reply) × Tells replies result out.new.items
+        × AnswersLine (world bench.old.state (N.shelf store.old)) line.now (world bench.new.state (N.shelf store.new)) replies }
+    ensures room { vec_capacity out.old ≤ vec_capacity out.new }
+{
+    out.clear();
+    answer_read(bench, store, Line::Held(line), out)
 }

@@ -35,7 +35,7 @@ mod update;
 mod view;
 mod work;
 
-pub use engine::execute;
+pub use engine::{MAX_REFUSAL_LEN, answer, execute};
 pub use runner::{RunFault, run};
 pub use send::WriteFault;
 pub use session::{Session, Summary};

@@ -8,7 +8,7 @@ ghost use Rattle.bench_engine.specs.Sessions.{HoldsPiece, HasRoom, FedMachine, F
 ghost use Rattle.bench_engine.specs.inside.Sessions.{Told, ToldInPart, AnswersHeld};
 ghost use Rattle.bench_engine.specs.Worlds.{World, world};
 
-use crate::engine::{MAX_REFUSAL_LEN, answer};
+use crate::engine::{MAX_REFUSAL_LEN, answer_read};
 use crate::line::HeldLine;
 use crate::send::{WriteFault, send_line};
 use name_store::Bench;
@@ -47,7 +47,7 @@ impl Session {
         ensures answered { AnswersHeld (N.shelf store.old) (N.shelf store.new) self.old self.new result }
     {
         self.out.clear();
-        let answered = answer(&mut self.bench, store, self.line.line(), &mut self.out);
+        let answered = answer_read(&mut self.bench, store, self.line.line(), &mut self.out);
         self.line.clear();
         match answered {
             Some(true) => self.accepted += 1,

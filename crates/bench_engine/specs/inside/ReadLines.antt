@@ -1,12 +1,11 @@
--- What a line means once it is read, and what an answer to it tells.
-use Rattle.std.specs.Prelude.{◌≡◌, ℕ, Bool, IsErrOf, Option, Some, None, Result, List, [], ◌∷◌}
+-- What a line means once it is read.
+use Rattle.std.specs.Prelude.{IsErrOf, Option, Result}
 use Rattle.elem_descr.specs.declared.refusal.Refusal.{Refusal}
 use Rattle.elem_descr.specs.declared.refusal.Refusal.TheVariants.{LineTooLong}
 use Rattle.script_lang.specs.declared.command.Command.{Command}
 use Rattle.script_lang.specs.Reading.{Says}
 use Rattle.bench_engine.specs.declared.line.Line.{Line as ReadLine}
 use Rattle.bench_engine.specs.declared.line.Line.TheVariants.{Held, TooLong}
-use Rattle.bench_engine.specs.Replies.{Reply}
 use Rattle.bench_engine.specs.Meanings.{Meaning, too_long, says, meaning_of}
 
 -- what a line as it was read means
@@ -18,8 +17,3 @@ meaning_of_read TooLong = too_long
 abbrev pub ReadsAs : Result (Option Command) Refusal → Meaning → Type 0
 ReadsAs result too_long = IsErrOf result LineTooLong
 ReadsAs result (says line) = Says result line
-
--- at most one reply, which stands in out
-abbrev pub Tells : List Reply → Option Bool → List ℕ → Type 0
-Tells replies None out = (replies ≡ []) × (out ≡ [])
-Tells replies (Some accepted) out = (reply : Reply) × (replies ≡ reply ∷ []) × (reply.accepted ≡ accepted) × (out ≡ reply.text)

@@ -2,13 +2,12 @@
 use Rattle.std.specs.Prelude.{◌≡◌, ◌<◌, ◌+◌, ℕ, Bool, true, false, List, [], ◌∷◌, ◌++◌, length, Option}
 use Rattle.std.specs.Io.KnownBytes.{Appends, Consumes, IsAtEnd}
 use Rattle.bench_engine.specs.declared.session.Session.{Session}
-use Rattle.bench_engine.specs.Replies.{Reply}
+use Rattle.bench_engine.specs.Replies.{Reply, Tells}
 use Rattle.bench_engine.specs.Lines.{lines, trimmed}
 use Rattle.bench_engine.specs.Meanings.{AnswersLine}
 use Rattle.npy_files.specs.Stores.{StoreState}
 use Rattle.bench_engine.specs.Worlds.{world}
 use Rattle.bench_engine.specs.Outside.{Outside, first_world}
-use Rattle.bench_engine.specs.inside.ReadLines.{Tells}
 use Rattle.bench_engine.specs.Sessions.{HoldsPiece, HasTold, FedMachine}
 use Rattle.bench_engine.specs.Runs.{output, reply_line, accepted_count, refused_count}
 

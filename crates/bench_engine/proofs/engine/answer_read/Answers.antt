@@ -3,7 +3,7 @@ use Rattle.std.proofs.lemmas.Grind.{common_steps}
 use Rattle.bench_engine.specs.Replies.{refusal}
 use Rattle.elem_descr.specs.RefusalTexts.{refusal_text}
 use Rattle.bench_engine.proofs.Steps.{answered, silent_line, refused_line}
-use Rattle.bench_engine.proofs.engine.answer.Goals as goal
+use Rattle.bench_engine.proofs.engine.answer_read.Goals as goal
 
 pub returns-in-Ok-None-clause-answered : goal.returns-in-Ok-None-clause-answered
 returns-in-Ok-None-clause-answered g c = ([], (refl, c.requires.empty), silent_line _ _ (rw c.in-Ok-None.field-0-is at c.in-Ok-None.ensures))
