@@ -1,7 +1,7 @@
 -- Reductions that make the same of numbers in any order.
-use Rattle.std.proofs.Common.{◌≡◌, cond, ◌*◌, ◌<◌, ◌≤◌, ℕ, zero, suc, ℤ, pos, negsuc, ◌+ℤ◌, ◌*ℤ◌, Bool, true, false, not, ◌&&◌, ◌||◌, List, [], ◌∷◌, map, length, get_or, set, refl, sym, ap, subst, ◌∙◌, arith}
+use Rattle.std.proofs.Common.{◌≡◌, cond, ◌*◌, ◌<◌, ℕ, zero, suc, ℤ, pos, negsuc, ◌+ℤ◌, ◌*ℤ◌, Bool, true, false, not, ◌&&◌, ◌||◌, List, [], ◌∷◌, length, get_or, set, refl, sym, ap, subst, ◌∙◌, arith}
 use Rattle.std.specs.Int.{int_min, int_max}
-use Rattle.std.specs.List.{fold, swap, list_any, list_all}
+use Rattle.std.specs.List.{fold, list_any, list_all}
 use Rattle.std.specs.List.Sorted.{IsPermutation}
 use Rattle.std.proofs.Math.IntN.{neg_ℤ, *ℤ_comm, zero-*ℤ, negsuc-*ℤ-pos, negsuc-*ℤ-negsuc, pos-*ℤ-negsuc, neg_ℤ-neg_ℤ}
 use Rattle.std.proofs.lemmas.Int.{ints, clamps}

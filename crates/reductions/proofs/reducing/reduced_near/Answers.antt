@@ -1,6 +1,5 @@
-use Rattle.std.proofs.Common.{◌+◌, ◌≤◌, [], ◌∷◌, ℕ, List, Ok, Err, length, sym, ap, subst, arith, ◌≡◌}
+use Rattle.std.proofs.Common.{◌+◌, ◌≤◌, [], ◌∷◌, Ok, Err, length, sym, subst, arith}
 use Rattle.std.specs.Prelude.{IfOk, Result}
-use Rattle.std.specs.List.Sorted.{IsPermutation}
 use Rattle.std.proofs.lemmas.List.Sorted.{All-permutation, length_permutation}
 use Rattle.elem_descr.specs.Encoding.{size}
 use Rattle.shape_strides.specs.LayoutLaws.{length-offsets}

@@ -1,10 +1,5 @@
-use Rattle.std.proofs.Common.{◌≡◌, ◌-◌, ◌≤◌, ◌<◌, ◌⊎◌}
+use Rattle.std.proofs.Common.{◌-◌, ◌≤◌}
 use Rattle.std.specs.Prelude.{nat_eq, not}
-use Rattle.shape_strides.specs.Runs.{run_offsets}
-use Rattle.reductions.specs.inside.Numbers.{numbers_at, TakesIn}
-use Rattle.reductions.specs.inside.FoundLaws.{HasFound}
-use Rattle.reductions.specs.inside.Extremes.{better}
-use Rattle.reductions.proofs.LineLaws.{front}
 use Rattle.reductions.proofs.SoughtLaws.{AreSought}
 use Rattle.reductions.proofs.folds.PlaceOfFold.fold_near.Given as goal
 
