@@ -13,6 +13,7 @@ use Rattle.shape_strides.specs.CountLaws.{factors_pos, mul-step}
 use Rattle.shape_strides.specs.LayoutLaws.{length-offsets, pos-offset}
 use Rattle.shape_strides.specs.Layouts.{offsets, Fits}
 use Rattle.shape_strides.specs.Limits.{max_bytes}
+use Rattle.shape_strides.specs.PlaceLaws.{fits-offsets}
 use Rattle.shape_strides.specs.Walks.{offsets_at}
 use Rattle.array_print.specs.inside.Parts.{IsPart, part_offsets}
 
@@ -63,9 +64,6 @@ inner-block n shape s strides start k next below is =
     ∙ ap natural (inner-address s strides start k next (get_or (indexes shape) j []) is)
     ∙ sym (get_or-map (λ index. natural (address_at strides next index)) (indexes shape) j [] d inside))
 
-less-by-one : (z : ℤ) (m : ℕ) → (z +ℤ pos 1) ≤ℤ pos m → z ≤ℤ pos m
-less-by-one z m below = omega (arith, ints, below)
-
 -- no step leads nowhere
 pub at-first : (s : ℤ) (start : ℕ) → pos start ≡ pos start +ℤ s *ℤ pos 0
 at-first s start = sym (ap (λ z. pos start +ℤ z) (*ℤ-zero s) ∙ +ℤ_idr (pos start))
@@ -90,7 +88,7 @@ module _ (l : Layout) (axis start len item : ℕ) (below : axis < length l.shape
   pub part-step : (k : ℕ) → k < (get_or l.shape axis 0) → (pos 0 ≤ℤ (pos start +ℤ (get_or l.strides axis (pos 0)) *ℤ pos k)) × ((pos start +ℤ (get_or l.strides axis (pos 0)) *ℤ pos k) ≤ℤ pos max_bytes)
   part-step k low =
       let both = step-lies (get_or l.shape axis 0) (drop (axis + 1) l.shape) (get_or l.strides axis (pos 0)) (drop (axis + 1) l.strides) start k max_bytes 1 low part-some.1 (lie max_bytes 1 is_part.small) in
-      (both.0, less-by-one (pos start +ℤ (get_or l.strides axis (pos 0)) *ℤ pos k) max_bytes both.1)
+      (both.0, omega (arith, ints, both.1))
 
   pub part-start : start ≤ max_bytes
   part-start =
@@ -129,20 +127,12 @@ part-item-inside l axis start len item all is_part =
     omega (arith, ints)
 
 -- the whole
-fits : (l : Layout) (len item : ℕ) → All (λ offset. offset + item ≤ len) (offsets l) → Fits l len item
-fits l len item inside = record {
-  from_zero = l.within_limit.from_zero;
-  within = λ index in'.
-      let ends : get_or (offsets l) (rank l.shape index) 0 + item ≤ len = inside (rank l.shape index) 0 (omega (arith, rank-lt l.shape index in', length-offsets l)) in
-      subst (λ z. (z +ℤ pos item) ≤ℤ pos len) (pos-offset l index 0 in') (omega (arith, ints, ends));
-}
-
 pub whole-part : (l : Layout) (len item : ℕ) → 0 < count l.shape → All (λ offset. offset + item ≤ len) (offsets l) → IsPart l 0 l.offset len item
 whole-part l len item some inside = record {
   axes = omega arith;
   some = some;
   small = l.within_limit;
-  inside = fits l len item inside;
+  inside = fits-offsets l len item inside;
 }
 
 pub whole-offsets : (l : Layout) → part_offsets l 0 l.offset ≡ offsets l

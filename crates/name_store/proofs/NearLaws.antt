@@ -10,20 +10,12 @@ use Rattle.shape_strides.specs.IndexLaws.{rank-lt}
 use Rattle.shape_strides.specs.ItemPairs.{item_pairs}
 use Rattle.shape_strides.specs.LayoutLaws.{length-offsets, offsets_within, pos-offset}
 use Rattle.shape_strides.specs.Layouts.{offsets, Fits}
+use Rattle.shape_strides.specs.PlaceLaws.{fits-offsets}
 use Rattle.overlap_copy.specs.OrderLaws.{pair_even, firsts-reordered, nested-reordered, filled-reordered}
 use Rattle.fancy_index.specs.Plans.{put_each}
 use Rattle.name_store.specs.declared.target.Target.TheVariants.{View}
 use Rattle.name_store.specs.inside.Puts.{MayPut}
 use Rattle.name_store.proofs.SourceLaws.{put_each-items}
-
-fits-from_offsets : (l : Layout) (len item : ℕ) → All (λ o. o + item ≤ len) (offsets l) → Fits l len item
-fits-from_offsets l len item ends = record {
-  from_zero = l.within_limit.from_zero;
-  within = λ index in'.
-      let here = ends (rank l.shape index) 0 (omega (arith, length-offsets l, rank-lt l.shape index in')) in
-      let most : (pos (get_or (offsets l) (rank l.shape index) 0) +ℤ pos item) ≤ℤ pos len = omega (arith, ints, here) in
-      subst (λ z. (z +ℤ pos item) ≤ℤ pos len) (pos-offset l index 0 in') most;
-}
 
 module _ (l : Layout) (pair : LayoutPair) (same : IsPermutation (item_pairs l l) (item_pairs pair.target pair.source)) where
   pub near-moved : IsPermutation (offsets l) (offsets pair.target)
@@ -31,7 +23,7 @@ module _ (l : Layout) (pair : LayoutPair) (same : IsPermutation (item_pairs l l)
 
   pub near-may : (len width : ℕ) → MayPut (View l) len width → MayPut (View pair.target) len width
   near-may len width may = (
-    fits-from_offsets pair.target len width (All-permutation (λ o. o + width ≤ len) (offsets l) (offsets pair.target) near-moved (offsets_within l len width may.0)),
+    fits-offsets pair.target len width (All-permutation (λ o. o + width ≤ len) (offsets l) (offsets pair.target) near-moved (offsets_within l len width may.0)),
     nested-reordered width (offsets l) (offsets pair.target) near-moved may.1,
   )
 

@@ -6,11 +6,12 @@ use Rattle.std.specs.Cmp.Lexicographic.{slice_cmp, nat_list_cmp_total, texts_tie
 use Rattle.std.specs.FinMap.{get, find, get-from_entries}
 use Rattle.std.specs.declared.cmp.Ordering.{Ordering}
 use Rattle.std.specs.declared.cmp.Ordering.TheVariants.{Less, Equal, Greater}
-use Rattle.std.proofs.lemmas.Bool.{true≢false}
+use Rattle.std.proofs.lemmas.Bool.{true≢false, false_from_ne_true}
 use Rattle.std.proofs.lemmas.Option.{slice_get_within}
 use Rattle.std.proofs.lemmas.Slice.Eq.{bytes_eq-Decides}
 use Rattle.npy_files.specs.declared.mem_store.StoredFile.{StoredFile}
-use Rattle.npy_files.specs.Stores.{is_before, IsFirstAfter, IsNextName}
+use Rattle.npy_files.specs.Stores.{comes_before, IsFirstAfter, IsNextName}
+use Rattle.npy_files.proofs.StoreLaws.{tied_same}
 use Rattle.npy_files.specs.inside.Shelves.{named_bytes, files_of, IsNamed, IsFirstOf}
 
 -- ---- the order of names
@@ -20,16 +21,12 @@ is-Less Less e = refl
 is-Less Equal e = absurd (true≢false (sym e))
 is-Less Greater e = absurd (true≢false (sym e))
 
-unless : (b : Bool) → (b ≡ true → ⊥) → b ≡ false
-unless true never = absurd (never refl)
-unless false never = refl
-
-chained : (a b c : List ℕ) → is_before a b ≡ true → is_before b c ≡ true → is_before a c ≡ true
+chained : (a b c : List ℕ) → comes_before a b ≡ true → comes_before b c ≡ true → comes_before a c ≡ true
 chained a b c ab bc = ap is_lt (nat_list_cmp_total.trans a b c (is-Less (slice_cmp nat_cmp a b) ab) (is-Less (slice_cmp nat_cmp b c) bc))
 
-not_itself : (a : List ℕ) → is_before a a ≡ false
+not_itself : (a : List ℕ) → comes_before a a ≡ false
 not_itself a =
-    unless (is_before a a) (λ before.
+    false_from_ne_true (comes_before a a) (λ before.
     let e = is-Less (slice_cmp nat_cmp a a) before in
     true≢false (sym before ∙ ap is_lt (nat_list_cmp_total.antisymm a a) ∙ ap (λ o. is_lt (ordering_reverse o)) e))
 
@@ -51,10 +48,10 @@ module _ (files : List StoredFile) (after : List ℕ) (count : ℕ) (name : List
   named place other e p = same_name files count other name (subst (λ (k : ℕ). IsNamed files k other) e p) is
 
   -- the name at the next place does not come after the other one
-  pub passed : is_before after name ≡ false → (best : Option ℕ) → IsFirstOf files after count best → IsFirstOf files after (count + 1) best
+  pub passed : comes_before after name ≡ false → (best : Option ℕ) → IsFirstOf files after count best → IsFirstOf files after (count + 1) best
   passed not None old = λ place other l p.
       elim (earlier_or_last place count l) [
-        | inl e ↦ ap (is_before after) (named place other e p) ∙ not
+        | inl e ↦ ap (comes_before after) (named place other e p) ∙ not
         | inr below ↦ old place other below p
       ]
   passed not (Some best) old = (
@@ -63,14 +60,14 @@ module _ (files : List StoredFile) (after : List ℕ) (count : ℕ) (name : List
     old.2,
     λ place other l p later.
         elim (earlier_or_last place count l) [
-          | inl e ↦ absurd (true≢false (sym later ∙ ap (is_before after) (named place other e p) ∙ not))
+          | inl e ↦ absurd (true≢false (sym later ∙ ap (comes_before after) (named place other e p) ∙ not))
           | inr below ↦ old.3 place other below p later
         ],
   )
 
   -- what tells whether the name comes before the best so far
   abbrev pub Tells : Option ℕ → Bool → Type 0
-  Tells best answer = MatchOption best (answer ≡ true) (λ place. (first : List ℕ) → IsNamed files place first → answer ≡ is_before name first)
+  Tells best answer = MatchOption best (answer ≡ true) (λ place. (first : List ℕ) → IsNamed files place first → answer ≡ comes_before name first)
 
   -- the name comes after the other one, and the best so far before the name
   pub kept : (best : Option ℕ) (answer : Bool) → answer ≡ false → Tells best answer → IsFirstOf files after count best → IsFirstOf files after (count + 1) best
@@ -81,20 +78,20 @@ module _ (files : List StoredFile) (after : List ℕ) (count : ℕ) (name : List
     old.2,
     λ place other l p later.
         elim (earlier_or_last place count l) [
-          | inl e ↦ ap (λ (a : List ℕ). is_before a old.0) (named place other e p) ∙ sym (tells old.0 old.1) ∙ not
+          | inl e ↦ ap (λ (a : List ℕ). comes_before a old.0) (named place other e p) ∙ sym (tells old.0 old.1) ∙ not
           | inr below ↦ old.3 place other below p later
         ],
   )
 
   -- it is the first so far
-  pub taken : is_before after name ≡ true → (best : Option ℕ) (answer : Bool) → answer ≡ true → Tells best answer → IsFirstOf files after count best → IsFirstOf files after (count + 1) (Some count)
+  pub taken : comes_before after name ≡ true → (best : Option ℕ) (answer : Bool) → answer ≡ true → Tells best answer → IsFirstOf files after count best → IsFirstOf files after (count + 1) (Some count)
   taken after_it None answer so tells old = (
     name,
     is,
     after_it,
     λ place other l p later.
         elim (earlier_or_last place count l) [
-          | inl e ↦ ap (λ (a : List ℕ). is_before a name) (named place other e p) ∙ not_itself name
+          | inl e ↦ ap (λ (a : List ℕ). comes_before a name) (named place other e p) ∙ not_itself name
           | inr below ↦ absurd (true≢false (sym later ∙ old place other below p))
         ],
   )
@@ -104,8 +101,8 @@ module _ (files : List StoredFile) (after : List ℕ) (count : ℕ) (name : List
     after_it,
     λ place other l p later.
         elim (earlier_or_last place count l) [
-          | inl e ↦ ap (λ (a : List ℕ). is_before a name) (named place other e p) ∙ not_itself name
-          | inr below ↦ unless (is_before other name) (λ before.
+          | inl e ↦ ap (λ (a : List ℕ). comes_before a name) (named place other e p) ∙ not_itself name
+          | inr below ↦ false_from_ne_true (comes_before other name) (λ before.
               true≢false (sym (chained other name old.0 before (sym (tells old.0 old.1) ∙ so)) ∙ old.3 place other below p later))
         ],
   )
@@ -132,16 +129,13 @@ listed (f ∷ files) zero name is =
 listed (f ∷ files) (suc place) name is =
     found_at (eq_by_cmp (slice_cmp nat_cmp) name f.name.items) (Some f.bytes.items) (find (slice_cmp nat_cmp) name (map named_bytes files)) refl (listed files place name is)
 
-same_by_ties : (a b : List ℕ) → eq_by_cmp (slice_cmp nat_cmp) a b ≡ true → a ≡ b
-same_by_ties a b e = (bytes_eq-Decides a b).0 (texts_ties a b ∙ e)
-
 -- and what is found is a file of the list
 named_there : (files : List StoredFile) (name : List ℕ) → IsSome (find (slice_cmp nat_cmp) name (map named_bytes files)) → (place : ℕ) × IsNamed files place name
 named_there [] name = λ is. absurd (true≢false (sym is))
 named_there (f ∷ files) name =
     let rest = find (slice_cmp nat_cmp) name (map named_bytes files) in
     elim (eq_by_cmp (slice_cmp nat_cmp) name f.name.items) as (λ b. eq_by_cmp (slice_cmp nat_cmp) name f.name.items ≡ b → IsSome (cond b (Some f.bytes.items) rest) → (place : ℕ) × IsNamed (f ∷ files) place name) [
-      | true ↦ λ e is. (0, (f, refl, sym (same_by_ties name f.name.items e)))
+      | true ↦ λ e is. (0, (f, refl, sym (tied_same name f.name.items e)))
       | false ↦ λ e is. let there = named_there files name is in (suc there.0, there.1)
     ] refl
 
@@ -154,10 +148,10 @@ next files after place name is best =
     let same = same_name files place best.0 name best.1 is in
     record {
       there = subst IsSome (sym (get-from_entries nat_list_cmp_total (map named_bytes files) name)) (listed files place name is);
-      later = ap (is_before after) (sym same) ∙ best.2;
+      later = ap (comes_before after) (sym same) ∙ best.2;
       first = λ other there later.
           let at = named_there files other (subst IsSome (get-from_entries nat_list_cmp_total (map named_bytes files) other) there) in
-          ap (is_before other) (sym same) ∙ best.3 at.0 other (below_length files at.0 other at.1) at.1 later;
+          ap (comes_before other) (sym same) ∙ best.3 at.0 other (below_length files at.0 other at.1) at.1 later;
     }
 
 pub no_next : (files : List StoredFile) (after : List ℕ) → IsFirstOf files after (length files) None → IsNextName (files_of files) after None

@@ -71,8 +71,8 @@ swapped true true x y z apart = absurd (apart refl refl)
 swapped true false x y z apart = refl
 swapped false b x y z apart = refl
 
-tied : (a b : List ℕ) → eq_by_cmp (slice_cmp nat_cmp) a b ≡ true → a ≡ b
-tied a b e = (bytes_eq-Decides a b).0 (texts_ties a b ∙ e)
+pub tied_same : (a b : List ℕ) → eq_by_cmp (slice_cmp nat_cmp) a b ≡ true → a ≡ b
+tied_same a b e = (bytes_eq-Decides a b).0 (texts_ties a b ∙ e)
 
 -- what is found by any name, once the first file of a name has other bytes
 find-put : (q r : List ℕ) (files : List StoredFile) (k : ℕ) (none new : StoredFile) → IsFirst q files k none → new.name ≡ (get_or files k none).name → find (slice_cmp nat_cmp) r (map named_bytes (slice_set files k new)) ≡ cond (eq_by_cmp (slice_cmp nat_cmp) r q) (Some new.bytes.items) (find (slice_cmp nat_cmp) r (map named_bytes files))
@@ -89,7 +89,7 @@ find-put q r (f ∷ files) (suc k) none new is same =
     let others = find (slice_cmp nat_cmp) r (map named_bytes files) in
     ap (cond (eq_by_cmp (slice_cmp nat_cmp) r f.name.items) (Some f.bytes.items)) rest
     ∙ swapped (eq_by_cmp (slice_cmp nat_cmp) r f.name.items) (eq_by_cmp (slice_cmp nat_cmp) r q) (Some f.bytes.items) (Some new.bytes.items) others
-    (λ a b. let one : q ≡ f.name.items = sym (tied r q b) ∙ tied r f.name.items a in
+    (λ a b. let one : q ≡ f.name.items = sym (tied_same r q b) ∙ tied_same r f.name.items a in
     true≢false (sym ((bytes_eq-Decides q f.name.items).1 one) ∙ is.before 0 (omega arith)))
 
 pub exact : IsAntisymmetric (slice_cmp nat_cmp)

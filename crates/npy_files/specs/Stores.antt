@@ -60,16 +60,16 @@ IsWritten old name bytes (Err Device) files = (other : List ℕ) → other ≢ n
 IsWritten old name bytes (Err Memory) files = files ≡ old.files
 
 -- one name comes before another, in the order of their bytes
-abbrev pub is_before : List ℕ → List ℕ → Bool
-is_before name other = is_lt (slice_cmp nat_cmp name other)
+abbrev pub comes_before : List ℕ → List ℕ → Bool
+comes_before name other = is_lt (slice_cmp nat_cmp name other)
 
 -- Of the files' names that come after another one, this is the first.
 pub record IsFirstAfter (files : Files) (after name : List ℕ) : Type 0 where
   pub there : IsSome (get files name)
-  pub later : is_before after name ≡ true
-  pub first : (other : List ℕ) → IsSome (get files other) → is_before after other ≡ true → is_before other name ≡ false
+  pub later : comes_before after name ≡ true
+  pub first : (other : List ℕ) → IsSome (get files other) → comes_before after other ≡ true → comes_before other name ≡ false
 
 -- the first of the files' names that come after this one, or none
 abbrev pub IsNextName : Files → List ℕ → Option (List ℕ) → Type 0
-IsNextName files after None = (name : List ℕ) → IsSome (get files name) → is_before after name ≡ false
+IsNextName files after None = (name : List ℕ) → IsSome (get files name) → comes_before after name ≡ false
 IsNextName files after (Some name) = IsFirstAfter files after name

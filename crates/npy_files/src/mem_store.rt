@@ -1,6 +1,6 @@
 //! A store in memory.
 ghost use Rattle.std.specs.Prelude.{◌≡◌, ◌<◌, ℕ, List, true, length, position, IfSome, MatchOption};
-ghost use Rattle.npy_files.specs.Stores.{is_before};
+ghost use Rattle.npy_files.specs.Stores.{comes_before};
 ghost use Rattle.npy_files.specs.inside.Shelves.{is_called, IsNamed, IsFirstOf};
 
 use crate::store::{NpyStore, StoreFault, is_longer};
@@ -29,8 +29,8 @@ fn place_of(files: &[StoredFile], name: &[u8]) -> Option<usize>
 }
 
 /// Whether one name comes before another, in the order of their bytes.
-fn is_before(name: &[u8], other: &[u8]) -> bool
-    ensures { result ≡ is_before name.now other.now }
+fn comes_before(name: &[u8], other: &[u8]) -> bool
+    ensures { result ≡ comes_before name.now other.now }
 {
     name.cmp(&other).is_lt()
 }
@@ -38,11 +38,11 @@ fn is_before(name: &[u8], other: &[u8]) -> bool
 /// Whether a name comes before that of the file at the best place so far, if there is one.
 fn comes_first(files: &[StoredFile], best: Option<usize>, name: &[u8]) -> bool
     requires { IfSome best (λ place. place < length files.now) }
-    ensures { MatchOption best (result ≡ true) (λ place. (first : List ℕ) → IsNamed files.now place first → result ≡ is_before name.now first) }
+    ensures { MatchOption best (result ≡ true) (λ place. (first : List ℕ) → IsNamed files.now place first → result ≡ comes_before name.now first) }
 {
     match best {
         None => true,
-        Some(place) => is_before(name, files[place].name.as_slice()),
+        Some(place) => comes_before(name, files[place].name.as_slice()),
     }
 }
 
@@ -54,7 +54,7 @@ fn place_after(files: &[StoredFile], after: &[u8]) -> Option<usize>
     let mut best = None;
     for place in 0..files.len() {
         let name = files[place].name.as_slice();
-        if is_before(after, name) && comes_first(files, best, name) {
+        if comes_before(after, name) && comes_first(files, best, name) {
             best = Some(place);
         }
     }

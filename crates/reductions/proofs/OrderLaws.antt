@@ -14,6 +14,7 @@ use Rattle.elem_descr.specs.Encoding.{wrap}
 use Rattle.machine_numbers.specs.declared.operators.Red.{Red}
 use Rattle.machine_numbers.specs.declared.operators.Red.TheVariants.{Sum, Product, Minimum, Maximum, Any, All as AllOf, ArgMin, ArgMax}
 use Rattle.raw_block.specs.Bytes.{item_at}
+use Rattle.reductions.proofs.RowLaws.{swapped}
 use Rattle.reductions.specs.inside.Numbers.{AreReduced, IsReduced, IsStored, number_at, numbers_at}
 use Rattle.reductions.specs.Reductions.{reduced, result_scalar, least, greatest, is_true}
 use Rattle.reductions.specs.inside.Orders.{hangs_on_order}
@@ -68,9 +69,6 @@ module _ (op : ℤ → ℤ → ℤ) (turns : (z x y : ℤ) → op (op z x) y ≡
         ∙ ap (λ z. fold op z xs) same_x
 
 -- ---- each reduction
-
-sum_turns : (z x y : ℤ) → (z +ℤ x) +ℤ y ≡ (z +ℤ y) +ℤ x
-sum_turns z x y = omega (arith, ints)
 
 neg-left : (a b : ℤ) → neg_ℤ a *ℤ b ≡ neg_ℤ (a *ℤ b)
 neg-left (pos zero) b = zero-*ℤ b ∙ ap neg_ℤ (sym (zero-*ℤ b))
@@ -153,7 +151,7 @@ all_is p (x ∷ l) = ap (λ b. p x && b) (all_is p l) ∙ turned (p x) (list_any
     turned false b = refl
 
 pub reduced-reordered : (reduction : Red) (scalar : Scalar) (xs ys : List ℤ) → hangs_on_order reduction ≡ false → IsPermutation xs ys → reduced reduction scalar ys ≡ reduced reduction scalar xs
-reduced-reordered Sum scalar xs ys free same = ap (wrap scalar) (fold-reordered (λ sum value. sum +ℤ value) sum_turns (pos 0) xs ys same)
+reduced-reordered Sum scalar xs ys free same = ap (wrap scalar) (fold-reordered (λ sum value. sum +ℤ value) swapped (pos 0) xs ys same)
 reduced-reordered Product scalar xs ys free same = ap (wrap scalar) (fold-reordered (λ product value. product *ℤ value) product_turns (pos 1) xs ys same)
 reduced-reordered Minimum scalar xs ys free same = least-reordered xs ys same
 reduced-reordered Maximum scalar xs ys free same = greatest-reordered xs ys same

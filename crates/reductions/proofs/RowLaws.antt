@@ -14,7 +14,7 @@ use Rattle.reductions.specs.inside.Lines.{IsRow, line_run}
 use Rattle.reductions.specs.inside.Numbers.{number_at}
 use Rattle.reductions.proofs.LineLaws.{at_first, side_number}
 
-swapped : (x y z : ℤ) → (x +ℤ y) +ℤ z ≡ (x +ℤ z) +ℤ y
+pub swapped : (x y z : ℤ) → (x +ℤ y) +ℤ z ≡ (x +ℤ z) +ℤ y
 swapped x y z = omega (arith, ints)
 
 -- in either order

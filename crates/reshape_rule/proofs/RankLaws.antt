@@ -40,9 +40,6 @@ later-below lengths k items total l low =
     let grown : 1 * c ≤ get_or lengths k 0 * c = mul-le-mul_right c l.len in
     omega (arith, l.is, l.whole)
 
-pub first_low : (l : Layout) → 0 < count l.shape → l.offset < max_bytes
-first_low l some = omega (arith, entry-first l some, offsets_within l max_bytes 1 l.within_limit 0 0 (omega (arith, length-offsets l)))
-
 pub stride-long : (len place first at : ℕ) (list : List ℕ) → 2 ≤ len → get_or list 0 0 ≡ first → at ≡ get_or list place 0 → pos at -ℤ pos first ≡ printed_stride len place list
 stride-long len place first at list long is entry =
     let test : nat_le 2 len ≡ true = grind (arith, nat_tests) in

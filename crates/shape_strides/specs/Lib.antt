@@ -18,6 +18,7 @@ pub mod CountLaws
 pub mod IndexLaws
 pub mod AxisLaws
 pub mod LayoutLaws
+pub mod PlaceLaws
 pub mod ContiguityLaws
 pub mod ShapeLaws
 pub mod WalkLaws

@@ -7,7 +7,7 @@ use Rattle.npy_files.specs.declared.store.StoreFault.{StoreFault}
 use Rattle.npy_files.specs.declared.store.StoreFault.TheVariants.{Device, TooLong, Memory}
 use Rattle.disk.specs.Files.{Files}
 use Rattle.disk.specs.Calls.{last_count}
-use Rattle.npy_files.specs.Stores.{StoreState, is_before}
+use Rattle.npy_files.specs.Stores.{StoreState, comes_before}
 
 abbrev pub named_bytes : StoredFile → List ℕ × List ℕ
 named_bytes file = (file.name.items, file.bytes.items)
@@ -30,10 +30,10 @@ IsNamed files place name = (file : StoredFile) × (slice_get files place ≡ Som
 
 -- Of the first files of a list, so many, the one at this place has the first name after another one.
 abbrev pub IsFirstOf : List StoredFile → List ℕ → ℕ → Option ℕ → Type 0
-IsFirstOf files after count None = (place : ℕ) (name : List ℕ) → place < count → IsNamed files place name → is_before after name ≡ false
+IsFirstOf files after count None = (place : ℕ) (name : List ℕ) → place < count → IsNamed files place name → comes_before after name ≡ false
 IsFirstOf files after count (Some best) =
-    (name : List ℕ) × IsNamed files best name × (is_before after name ≡ true)
-    × ((place : ℕ) (other : List ℕ) → place < count → IsNamed files place other → is_before after other ≡ true → is_before other name ≡ false)
+    (name : List ℕ) × IsNamed files best name × (comes_before after name ≡ true)
+    × ((place : ℕ) (other : List ℕ) → place < count → IsNamed files place other → comes_before after other ≡ true → comes_before other name ≡ false)
 
 -- how often a device has failed that fails once, after so many calls
 abbrev pub failures_of : Option ℕ → ℕ
