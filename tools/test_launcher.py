@@ -194,7 +194,7 @@ class Makes(InTree):
                 done.append(crate)
             most = max(most, len(running))
         self.assertEqual(sorted(done), sorted(self.uses))
-        self.assertIn(most, (2, 3))
+        self.assertLessEqual(most, 3)
         self.assertEqual(list((self.tree / "out/build").glob("*/")), [])
         self.assertEqual(self.told(self.run_in(["./bench", "x"]))[0], "words: x")
 
