@@ -58,6 +58,7 @@ package:
 	@tar -C out/package -czf out/$(package).tar.gz $(package) && rm -rf out/package && echo "bench: out/$(package).tar.gz"
 
 static:
+	@[ -f crates/bench_main/out/bench_main.o ] || { echo "bench: this links what \`make\` built" >&2; exit 3; }
 	@kit=$$(dirname "$$(readlink -f "$$(command -v rt)")")/../c && mkdir -p out && \
 	gcc -static -s -o out/bench-x86_64-linux-static crates/bench_main/out/bench_main.o "$$kit/libos_c.a" "$$kit/liblibc_c.a"
 
