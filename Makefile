@@ -23,7 +23,8 @@ export BENCH_BEGAN = $(eval BENCH_BEGAN := $(shell date +%s))$(BENCH_BEGAN)
 # As many crates at a time as there are cores, and memory: 4 GB for each. -j says otherwise.
 MAKEFLAGS += -j$(shell awk -v cores="$$(nproc)" '/^MemAvailable:/ { n = int($$2 / 4000000) } END { print n < 1 ? 1 : n < cores ? n : cores }' /proc/meminfo)
 
-all: prove-bench_main
+# (first what takes longest, with the crates below it)
+all: prove-script_lang prove-fancy_index prove-bench_main
 	@echo "bench: the program is what these sources give"
 
 define rule
