@@ -23,7 +23,9 @@ export BENCH_BEGAN = $(eval BENCH_BEGAN := $(shell date +%s))$(BENCH_BEGAN)
 # As many crates at a time as there are cores, and memory: 4 GB for each. -j says otherwise.
 MAKEFLAGS += -j$(shell awk -v cores="$$(nproc)" '/^MemAvailable:/ { n = int($$2 / 4000000) } END { print n < 1 ? 1 : n < cores ? n : cores }' /proc/meminfo)
 
-all: prove-bench_main
+# (first what takes longest, with the crates below it)
+all: prove-script_lang prove-fancy_index prove-bench_main
+	@echo "bench: the program is what these sources give"
 
 define rule
 prove-$1: $(addprefix prove-,$(call uses,$1))
@@ -41,12 +43,14 @@ reads = man/bench.1:share/man/man1/bench.1 man/bench-tool.1:share/man/man1/bench
 	$(foreach file,$(wildcard README.md CHANGELOG.md LICENSE* docs/*.md docs/pictures/* examples/*),$(file):share/doc/bench/$(file))
 
 install:
+	@[ -n "$(program)" ] || { echo "bench: no program: \`make\` builds it" >&2; exit 3; }
 	@for pair in 755 $(runs) 644 $(reads); do \
 	    case $$pair in *:*) install -D -m $$mode "$${pair%%:*}" "$(to)/$${pair#*:}" || exit 1 ;; *) mode=$$pair ;; esac; \
 	done
 	@echo "bench: installed below $(to)"
 
 uninstall:
+	@[ -n "$(program)" ] || { echo "bench: no program: \`make\` builds it" >&2; exit 3; }
 	@for pair in $(runs) $(reads); do rm -f "$(to)/$${pair#*:}"; done
 	@rm -rf "$(to)/libexec/bench" "$(to)/lib/bench-tool" "$(to)/share/bench" "$(to)/share/doc/bench"
 
@@ -55,7 +59,8 @@ package:
 	@tar -C out/package -czf out/$(package).tar.gz $(package) && rm -rf out/package && echo "bench: out/$(package).tar.gz"
 
 static:
-	@kit=$$(dirname "$$(readlink -f "$$(command -v rt)")")/../c && \
+	@[ -f crates/bench_main/out/bench_main.o ] || { echo "bench: this links what \`make\` built" >&2; exit 3; }
+	@kit=$$(dirname "$$(readlink -f "$$(command -v rt)")")/../c && mkdir -p out && \
 	gcc -static -s -o out/bench-x86_64-linux-static crates/bench_main/out/bench_main.o "$$kit/libos_c.a" "$$kit/liblibc_c.a"
 
 pictures:

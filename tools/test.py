@@ -29,12 +29,12 @@ class Counts:
 
 
 def names_of(suite):
-    """The names of the tests of a suite; of a module that cannot be read, the text of its fault."""
+    """The names of the tests of a suite, and of the modules that cannot be read."""
     for test in suite:
         if isinstance(test, unittest.TestSuite):
             yield from names_of(test)
         else:
-            yield test.id()
+            yield test.id().replace("unittest.loader._FailedTest.", "")
 
 
 def run_test(name):

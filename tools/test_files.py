@@ -93,6 +93,7 @@ class Devices(InFolder):
         self.assertEqual(trials.part.faults, [])
         self.assertGreater(trials.part.counts["trials"], 0)
 
+    @unittest.skipUnless(shutil.which("prlimit"), "there is no prlimit")
     def test_outputs(self):
         """Standard output that is full, closed or limited, of help too."""
         self.tried("outputs")
@@ -111,6 +112,7 @@ class Devices(InFolder):
         """Calls that a signal interrupts."""
         self.tried("interrupted")
 
+    @unittest.skipUnless(shutil.which("setpriv"), "there is no setpriv")
     def test_words_and_scripts(self):
         self.tried("words", "scripts")
 

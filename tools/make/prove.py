@@ -154,6 +154,8 @@ def main(name, kit):
         print(f"bench: not built: {str(why) or 'interrupted'}", file=sys.stderr)
         return 3
     tell(name, is_done=True)
+    if name == "bench_main" and sys.stderr.isatty():
+        print(file=sys.stderr)
     return 0
 
 
