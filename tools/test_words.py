@@ -73,7 +73,7 @@ class Words(unittest.TestCase):
 
     def test_depth(self):
         """How many changes `undo` takes back, at most and where it is not said."""
-        source = read("crates/bench_main/src/command_line.rt")
+        source = read("crates/host_process/src/command_line.rt")
         self.assertIn("range(0..=64)", source)
         self.assertRegex(source, r"const DEPTH: u8 = 16;")
         pages = ["README.md", "docs/LANGUAGE.md", "docs/help.txt", "man/bench.1", "companion/bench_tool/main.py"]

@@ -8,7 +8,7 @@ TOP = pathlib.Path(__file__).resolve().parents[2]
 sys.path.insert(0, str(TOP / "companion"))
 from bench_tool import language
 
-HELP, SOURCE = "docs/help.txt", "crates/bench_main/src/command_line.rt"
+HELP, SOURCE = "docs/help.txt", "crates/host_process/src/command_line.rt"
 LISTS = re.compile(r"((OP is one of|the comparisons|UN (?:is )?one of|RED (?:is )?one of)\s+(?:\.B )?)[a-z ]+")
 VIM, TEXT_MATE = "editors/vim/syntax/bench.vim", "editors/bench.tmLanguage.json"
 

@@ -1,3 +1,1 @@
-pub mod Depths
-pub mod Faults
 pub mod Outcomes

@@ -3,24 +3,17 @@
 
 ghost use Rattle.std.specs.Prelude.{◌≤◌};
 
-mod command_line;
-mod retrying;
-mod stack;
 mod status;
-mod words;
 
 use bench_engine::{RunFault, Summary, run};
-use command_line::given_options;
+use host_process::{Options, OptionsFault, Retrying, given_options, has_stack};
 use npy_files::DirStore;
-use retrying::Retrying;
-use stack::has_stack;
 use status::{FAULT, NO_MEMORY, NO_SCRIPT, WRITE_FAULT, outcome};
 use std::fs::File;
 use std::io::Read;
 use std::process::ExitCode;
 use std::rt::Files;
 use std::{fs, io};
-use words::{Options, OptionsFault};
 
 /// Says a text on standard error, and answers the status.
 fn stop(rt: &impl Eprint, status: u8, text: &str) -> ExitCode {

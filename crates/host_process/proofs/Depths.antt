@@ -21,7 +21,7 @@ use Rattle.clap.specs.declared.parser.matches.ArgMatches.{ArgMatches}
 use Rattle.clap.specs.declared.parser.matches.MatchedArg.{MatchedArg}
 use Rattle.clap.proofs.CallerLemmas.{added_plain, entry_by_id, same_rules_by_id}
 use Rattle.clap.proofs.CallerReads.{signed_reads}
-use Rattle.bench_main.specs.inside.Depths.{IsDepth, IsNamed, TakesDepth}
+use Rattle.host_process.specs.inside.Depths.{IsDepth, IsNamed, TakesDepth}
 
 -- this text is that of a number in the range
 abbrev pub IsSmall : List ℕ → Type 0

@@ -1,7 +1,7 @@
 //! The words of the command line.
 ghost use Rattle.std.specs.Prelude.{◌≤◌, codes, IfOk, IfErr};
-ghost use Rattle.bench_main.specs.inside.Depths.{IsDepth, IsNamed, TakesDepth};
-ghost use Rattle.bench_main.specs.inside.Faults.{IsToldApart};
+ghost use Rattle.host_process.specs.inside.Depths.{IsDepth, IsNamed, TakesDepth};
+ghost use Rattle.host_process.specs.Faults.{IsToldApart};
 
 use crate::words::{Options, OptionsFault};
 use clap::error::ErrorKind;

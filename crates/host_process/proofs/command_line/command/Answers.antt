@@ -1,8 +1,8 @@
 use Rattle.std.proofs.Common.{rules}
 use Rattle.std.proofs.lemmas.Result.{IfOk-weaker}
-use Rattle.bench_main.specs.inside.Depths.{TakesDepth}
-use Rattle.bench_main.proofs.Depths.{takes_depth}
-use Rattle.bench_main.proofs.command_line.command.Goals as goal
+use Rattle.host_process.specs.inside.Depths.{TakesDepth}
+use Rattle.host_process.proofs.Depths.{takes_depth}
+use Rattle.host_process.proofs.command_line.command.Goals as goal
 
 pub returns : goal.returns
 returns c = IfOk-weaker c.arg-3.result _ TakesDepth

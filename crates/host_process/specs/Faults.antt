@@ -2,8 +2,8 @@
 use Rattle.std.specs.Prelude.{◌≢◌}
 use Rattle.clap.specs.declared.error.kind.ErrorKind.TheVariants.{OutOfMemory}
 use Rattle.clap.specs.Words.{kind_of}
-use Rattle.bench_main.specs.declared.words.OptionsFault.{OptionsFault}
-use Rattle.bench_main.specs.declared.words.OptionsFault.TheVariants.{Words, Memory}
+use Rattle.host_process.specs.declared.words.OptionsFault.{OptionsFault}
+use Rattle.host_process.specs.declared.words.OptionsFault.TheVariants.{Words, Memory}
 
 -- out of memory is told as such, and never as bad words
 abbrev pub IsToldApart : OptionsFault → Type 0

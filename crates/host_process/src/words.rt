@@ -1,6 +1,6 @@
 //! What the words of the command line ask for.
 ghost use Rattle.std.specs.Prelude.{◌≡◌};
-ghost use Rattle.bench_main.specs.declared.words.OptionsFault.TheVariants.{Memory};
+ghost use Rattle.host_process.specs.declared.words.OptionsFault.TheVariants.{Memory};
 
 use clap::Error;
 use std::alloc::AllocError;
