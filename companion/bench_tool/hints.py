@@ -31,9 +31,9 @@ Known = dict[str, Array]
 class Hints(ExitStack):
     """What is said of the refused lines of a session."""
 
-    def __init__(self, session: Session, seconds: float = SECONDS):
+    def __init__(self, session: Session, seconds: float = 0):
         super().__init__()
-        self.session, self.seconds = session, seconds
+        self.session, self.seconds = session, seconds or float(os.environ.get("BENCH_HINT_SECONDS", SECONDS))
         self._folder = self.enter_context(tempfile.TemporaryDirectory())
         self._end = 0.0
         self._spare = self._start()
