@@ -153,8 +153,8 @@ def picture(lines: Sequence[bytes], words: argparse.Namespace) -> str:
     """One picture, of the line that is chosen."""
     if not 1 <= (words.line or 0) <= len(lines):
         raise BenchError(f"--svg needs --line, 1 to {len(lines)}")
-    last = traced(lines[:words.line], words)[-1]
-    hues = hues_of([last])
+    moments = traced(lines[:words.line], words)
+    last, hues = moments[-1], hues_of(moments)
     buffers = [Drawn(last, number, hues, MOST_CELLS) for number in sorted({*last.before.buffers, *last.after.buffers})]
     return svg(last, [table for each in buffers for table in each.tables()], said(last, buffers))
 

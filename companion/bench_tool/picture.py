@@ -185,10 +185,11 @@ def hues_of(moments: Iterable[Moment]) -> dict[tuple[str, int], int]:
     """A colour for each name in a buffer: one that no other name has there, as long as there are enough."""
     hues: dict[tuple[str, int], int] = {}
     for moment in moments:
-        new = [(name, bound.buffer) for name, bound in moment.after.names.items() if (name, bound.buffer) not in hues] if moment.touched else []
-        for name, number in new:
-            taken = {hues.get((other, number)) for other in moment.after.inside(number)}
-            hues[name, number] = next((hue for hue in range(HUES) if hue not in taken), len(hues) % HUES)
+        for state in (moment.before, moment.after) if moment.touched or not hues else ():
+            for name, bound in state.names.items():
+                if (name, bound.buffer) not in hues:
+                    taken = {hues.get((other, bound.buffer)) for other in state.inside(bound.buffer)}
+                    hues[name, bound.buffer] = next((hue for hue in range(HUES) if hue not in taken), len(hues) % HUES)
     return hues
 
 
