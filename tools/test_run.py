@@ -1,12 +1,16 @@
 """`bench-tool run`: what the program says and leaves, and each refusal at its line."""
+import os
 import pathlib
 import random
 import re
+import shutil
+import signal
 import subprocess
 import tempfile
+import time
 import unittest
 
-from trials.companion_trials import PROGRAM, TOOL, InFolder, environment, needs_program, numpy_or_none, share
+from trials.companion_trials import PROGRAM, TOOL, TOP, InFolder, environment, needs_program, numpy_or_none, share
 import hostile_runs
 import hostile_scripts as scripts
 
@@ -29,6 +33,19 @@ def refusals(lines, output):
     asked = [number for number, line in enumerate(lines, 1) if not scripts.is_silent(line)]
     assert len(begins) == len(asked), (len(begins), len(asked))
     return [(number, begin[3:6], begin[7:]) for number, begin in zip(asked, begins) if begin.startswith("no E")]
+
+
+def alive(process):
+    """Whether a process is there and has not ended."""
+    try:
+        return pathlib.Path(f"/proc/{process}/stat").read_text().rpartition(")")[2].split()[0] != "Z"
+    except FileNotFoundError:
+        return False
+
+
+def heard():
+    """Ctrl-C is heard, also where a gate that runs behind a shell's & has it ignored."""
+    signal.signal(signal.SIGINT, signal.default_int_handler)
 
 
 @needs_program
@@ -86,10 +103,15 @@ class Runs(InFolder):
                 self.assertEqual(tool[::2], program[::2])
 
     def test_what_cannot_be_run(self):
-        for path in (str(self.folder / "nowhere"), str(self.folder)):
+        """The status is the program's; the words say what it is."""
+        for path, said in ((self.folder / "nowhere", "there is no script"), (self.folder, "it is a folder"), ("/proc/self/mem", "read fault")):
             with self.subTest(path):
-                program, tool = self.both(path)
-                self.assertEqual(tool, program)
+                program, tool = self.both(str(path))
+                self.assertEqual(tool[::2], program[::2])
+                self.assertIn(said, tool[1].decode())
+        output, told, status = self.tool("names", "--dir", str(self.folder / "nowhere"))
+        self.assertEqual((output, status), ("names\n", 0))
+        self.assertIn("there is no folder", told)
 
     def test_replies_that_are_not_taken(self):
         path = self.written("names\nnames\n")
@@ -104,7 +126,8 @@ class Runs(InFolder):
         output, told, status = self.tool(text)
         self.assertEqual(output, "ok b <i4 (2,) new\nno E11 index out of range\nno E03 syntax\n")
         self.assertEqual(told.splitlines(), [
-            "SCRIPT:4: E11 index out of range: c = b[2]", "SCRIPT:5: E03 syntax: print b[0]",
+            "SCRIPT:4: E11 index out of range: c = b[2]", "SCRIPT:4: note: axis 0 of b has length 2: 2 is outside, -2 to 1 are within",
+            "SCRIPT:5: E03 syntax: print b[0]",
             "SCRIPT:5: note: write: t = b[0]", "SCRIPT:5: note: write: print t",
         ])
         self.assertEqual(status, 1)
@@ -114,7 +137,7 @@ class Runs(InFolder):
         lines = 'x = zeros <i4 (2)\nx = load "b.npy"\nsave x "a.npy"\n'
         output, told, status = self.tool(lines, "--stop", f"--dir={self.folder}")
         self.assertEqual((output.splitlines()[1:], status), (["no E34 no such file"], 1))
-        self.assertEqual(told, 'SCRIPT:2: E34 no such file: x = load "b.npy"\n')
+        self.assertEqual(told.splitlines()[0], 'SCRIPT:2: E34 no such file: x = load "b.npy"')
         self.assertFalse((self.folder / "a.npy").exists())
 
     def test_summary_and_time(self):
@@ -128,7 +151,109 @@ class Runs(InFolder):
     def test_standard_input(self):
         done = subprocess.run([TOOL, "run", "-"], input=b"names\nprint a", capture_output=True, env=environment())
         self.assertEqual((done.stdout, done.returncode), (b"names\nno E06 unknown name\n", 1))
-        self.assertEqual(done.stderr, b"-:2: E06 unknown name: print a\n")
+        self.assertEqual(done.stderr, b"-:2: E06 unknown name: print a\n-:2: note: a is not bound\n-:2: note: no name is bound yet\n")
+
+    def test_numbers(self):
+        """A refused line has the shapes and numbers behind its code."""
+        before = "a = arange <i4 0 6 1\nm = reshape a (2,3)\nk = full ? (4) True\ni = zeros <i8 (2)\nj = zeros <i8 (3)\n"
+        for line, said in [
+            ("x = m[0,5]", "axis 1 of m has length 3: 5 is outside, -3 to 2 are within"), ("x = add a m", "at axis -1 the lengths are 6 and 3"),
+            ("x = reshape a (4,2)", "a is <i4 (6,): 6 items, and (4,2) has 8"),
+            ("x = a[k]", "the mask k has shape (4,), and it stands for axes of a of lengths (6,)"),
+            ("x = m[i,j]", "i has shape (2,), j has shape (3,): these do not broadcast together"),
+            ("x = broadcast a (3)", "a is <i4 (6,), and (3,): at axis -1 the lengths are 6 and 3"),
+            ("set m[0] = a", "a has shape (6,), and m[0] has (3,): at axis -1 the lengths are 6 and 3"),
+        ]:
+            with self.subTest(line):
+                self.assertIn(said, self.tool(before + line)[1])
+
+    def test_place_where_a_line_stops(self):
+        _, told, _ = self.tool("a = zeros <i4 (3\n")
+        self.assertEqual(told.splitlines()[1:], ["SCRIPT:1: note: a = zeros <i4 (3", "SCRIPT:1: note:                 ^ `,` or `)`"])
+
+    def test_standard_error_that_cannot_be_written(self):
+        """The script is carried out to its end, and the status says what happened."""
+        path = self.written('a = zeros |u1 (3)\n' + 'b = zeros f8 (3)\n' * 200 + 'save a "end.npy"\nnames\n')
+        for behind in ("2>/dev/null", "2>/dev/full", "2>&-", "2>&1 >/dev/null | head -1"):
+            with self.subTest(behind):
+                command = f"{{ {TOOL} run --dir {self.folder} {path}; echo $? >{self.folder}/status; }} {behind}"
+                subprocess.run(["bash", "-c", command], capture_output=True, env=environment(), timeout=60)
+                self.assertEqual((self.folder / "status").read_text(), "1\n")
+                (self.folder / "end.npy").unlink()
+
+    def test_closed_streams(self):
+        path = self.written("a = zeros <i4 (3)\n")
+        for words, wanted in (("run - <&-", 0), (f"run {path} >&-", 0), ("shell <&-", 0), ("draw - <&-", 0), (f"draw {path} >&-", 0), (f"run {path} <&- >&- 2>&-", 0)):
+            with self.subTest(words):
+                done = subprocess.run(["bash", "-c", f"{TOOL} {words}"], capture_output=True, env=environment(), timeout=60)
+                self.assertEqual((done.returncode, done.stderr), (wanted, b""))
+
+    def test_a_file_that_may_not_grow(self):
+        """Where no more may be written, a save is refused, and what comes behind it runs."""
+        path = self.written('a = zeros |u1 (100000)\nsave a "big.npy"\nnames\n')
+        done = subprocess.run(["bash", "-c", f"ulimit -f 8; {TOOL} run --dir {self.folder} {path}"], capture_output=True, env=environment(), timeout=60)
+        self.assertEqual((done.stdout, done.returncode), (b"ok a |u1 (100000,) new\nno E27 store fault\nnames a\n", 1))
+
+    def test_launcher(self):
+        """In a tree the program is started by its launcher, and below a prefix by the one that is installed."""
+        tree = self.folder / "tree"
+        shutil.copytree(TOP / "companion", tree / "companion", ignore=shutil.ignore_patterns("__pycache__"))
+        (tree / "docs").mkdir()
+        shutil.copy(TOP / "docs/LANGUAGE.md", tree / "docs")
+        (tree / "crates/bench_main/out").mkdir(parents=True)
+        for name, text in (("crates/bench_main/out/bench_main", "exit 9"), ("bench", f"exec {PROGRAM} \"$@\"")):
+            (tree / name).write_text(f"#!/bin/sh\n{text}\n")
+            (tree / name).chmod(0o755)
+        settings = {name: value for name, value in os.environ.items() if name != "BENCH"}
+        done = subprocess.run([tree / "companion/bench-tool", "run", "-"], input=b"names", capture_output=True, env=settings, timeout=60)
+        self.assertEqual((done.stdout, done.stderr, done.returncode), (b"names\n", b"", 0))
+
+    def test_signals(self):
+        """Ctrl-C and SIGTERM end `run`, `draw` and the program at once; a program that is killed is reported."""
+        slow = self.written("c = full |S65536 (1) b'a'\nc = broadcast c (16777216)\nprint c\n")
+        for word in ("run", "draw"):
+            for sent, status in ((signal.SIGINT, 130), (signal.SIGTERM, 143)):
+                with self.subTest(word, sent=sent):
+                    tool, programs = self.begun(word, slow)
+                    tool.send_signal(sent)
+                    self.assertEqual(tool.wait(timeout=20), status)
+                    self.assertEqual(list(filter(alive, programs)), [])
+        tool, programs = self.begun("run", slow)
+        os.kill(programs[0], signal.SIGKILL)
+        self.assertIn(b"was killed", tool.communicate(timeout=20)[1])
+        self.assertEqual(tool.returncode, 3)
+
+    def begun(self, word, path):
+        """A tool that works on a script, and the programs below it."""
+        tool = subprocess.Popen([TOOL, word, path], stdout=subprocess.DEVNULL, stderr=subprocess.PIPE, env=environment(), preexec_fn=heard)
+        self.addCleanup(tool.stderr.close)
+        for _ in range(600):
+            found = subprocess.run(["ps", "-o", "pid=,time=", "--ppid", str(tool.pid)], capture_output=True, text=True).stdout.split()
+            if len(found) >= 2 and found[1] > "00:00:00":
+                return tool, list(map(int, found[::2]))
+            time.sleep(0.05)
+        raise AssertionError("no program works")
+
+    def test_a_line_of_300_mb(self):
+        """Its memory is constant, and so is what is said of it."""
+        path = self.folder / "long.bench"
+        with open(path, "wb") as file:
+            for _ in range(300):
+                file.write(b"a" * 1_000_000)
+            file.write(b"\nnames\n")
+        tool = subprocess.Popen([TOOL, "run", path], stdout=subprocess.PIPE, stderr=subprocess.DEVNULL, env=environment())
+        with tool.stdout:
+            self.assertEqual(tool.stdout.read(), b"no E01 line too long\nnames\n")
+        _, status, used = os.wait4(tool.pid, 0)
+        self.assertEqual(os.waitstatus_to_exitcode(status), 1)
+        self.assertLess(used.ru_maxrss, 250_000)  # kilobytes
+
+    def test_names_are_printable(self):
+        path = self.folder / "e\x1b[31mv"
+        path.write_bytes(b"bogus\n")
+        told = subprocess.run([TOOL, "run", path], capture_output=True, env=environment()).stderr
+        self.assertNotIn(b"\x1b", told)
+        self.assertIn(b"e\\x1b[31mv:1: E03 syntax: bogus\n", told)
 
     def test_words(self):
         for words in (["run"], ["run", "a", "b"], ["run", "--undo", "65", "a"], ["none"], []):

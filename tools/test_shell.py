@@ -1,6 +1,7 @@
 """`bench-tool shell` in a pseudo-terminal: prompt, history, Tab, help, Ctrl-C, Ctrl-D, long lines."""
 import os
 import pty
+import random
 import re
 import select
 import signal
@@ -8,9 +9,10 @@ import subprocess
 import threading
 import time
 import unittest
+import unittest.mock
 
-from trials.companion_trials import TOOL, TOP, InFolder, environment, needs_program
-from bench_tool.shell import PROMPT
+from trials.companion_trials import TOOL, TOP, InFolder, environment, needs_program, share
+from bench_tool.shell import PROMPT, history
 
 UP, TAB, CTRL_C, CTRL_D, ENTER = b"\x1b[A", b"\t", b"\x03", b"\x04", b"\r"
 AT_PROMPT = b"\n" + PROMPT.encode()
@@ -19,12 +21,12 @@ AT_PROMPT = b"\n" + PROMPT.encode()
 class Terminal:
     """A shell in a terminal of its own."""
 
-    def __init__(self, folder, *words):
+    def __init__(self, folder, *words, more=None):
         self.pid, self.terminal = pty.fork()
         if self.pid == 0:
             os.chdir(folder)
             signal.signal(signal.SIGINT, signal.SIG_DFL)  # a gate that runs behind a shell's & has it ignored
-            settings = environment(TERM="xterm", INPUTRC="/dev/null", BENCH_HISTORY=str(folder / "history"))
+            settings = environment(**{"TERM": "xterm", "INPUTRC": "/dev/null", "NO_COLOR": "1", "BENCH_HISTORY": str(folder / "history"), **(more or {})})
             os.execve(TOOL, [str(TOOL), "shell", *words], settings)
         self.status = None
 
@@ -76,8 +78,8 @@ class Terminal:
 
 @needs_program
 class Shells(InFolder):
-    def shell(self, *words):
-        terminal = Terminal(self.folder, *words)
+    def shell(self, *words, more=None):
+        terminal = Terminal(self.folder, *words, more=more)
         self.addCleanup(terminal.close)
         self.assertIn("help", terminal.until(AT_PROMPT))
         return terminal
@@ -96,11 +98,12 @@ class Shells(InFolder):
         shell = self.shell()
         shell.line(b"first = arange <i4 0 4 1")
         self.assertEqual(shell.line(b"print first[0]"), "no E03 syntax\n    write: t = first[0]\n    write: print t\n")
-        self.assertEqual(shell.line(b"print frst"), "no E06 unknown name\n    a name is not bound\n    near it: first\n")
-        self.assertEqual(shell.line(b"t = first[4]"), "no E11 index out of range\n    an integer is outside its axis\n    first is <i4 (4,)\n")
-        self.assertIn("<i4 for int32", shell.line(b"t = zeros int32 (2)"))
+        self.assertEqual(shell.line(b"print frst"), "no E06 unknown name\n    frst is not bound\n    near it: first\n")
+        self.assertEqual(shell.line(b"t = first[4]"), "no E11 index out of range\n    axis 0 of first has length 4: 4 is outside, -4 to 3 are within\n")
+        self.assertEqual(shell.line(b"t = zeros <i4 (4"), "no E03 syntax\n    t = zeros <i4 (4\n                    ^ `,` or `)`\n")
+        self.assertIn("<i4 is written for int32", shell.line(b"t = zeros int32 (2)"))
         shell.line(b"r = zeros T{b:x:T{b:y:}:s:} (1)")
-        self.assertIn("r has x s", shell.line(b'f = field r "z"'))
+        self.assertIn("r has the fields x s", shell.line(b'f = field r "z"'))
         shell.line(b'save r "some.npy"')
         self.assertIn("near it: some.npy", shell.line(b'f = load "sme.npy"'))
 
@@ -137,6 +140,11 @@ class Shells(InFolder):
             (b'save image "image.npy"', 'save image "image.npy"'),
             (b'x = load "im' + TAB, 'x = load "image.npy"'),
             (b"help resh" + TAB, "help reshape"),
+            (b"n = zeros |S" + TAB + b" (2)", "n = zeros |S8 (2)"),
+            (b"upd image[0] fd" + TAB + b"1", "upd image[0] fdiv 1"),
+            (b"n = zeros ima" + TAB, "n = zeros ima"),
+            (b"n = image[ima" + TAB + b"]", "n = image[image]"),
+            (b"n = copy image C" + TAB, "n = copy image C"),
         ]:
             with self.subTest(shown):
                 shell.type(keys + ENTER)
@@ -153,8 +161,8 @@ class Shells(InFolder):
     def test_ctrl_c_in_a_long_print(self):
         shell = self.shell()
         shell.line(b"a = zeros |u1 (200,1000)")
-        shell.type(b"print a" + ENTER)
-        shell.until(b"print a\n")
+        shell.type(b".all a" + ENTER)
+        shell.until(b".all a\n")
         select.select([shell.terminal], [], [], 60)
         shell.type(CTRL_C)
         shown = shell.until(AT_PROMPT)
@@ -167,7 +175,101 @@ class Shells(InFolder):
         self.assertEqual(shell.line(b"#".ljust(65536, b"x"))[-20:], "")
         command = b"a = zeros |u1 (2)"
         self.assertTrue(shell.line(command.replace(b" (", b" " * (65536 - len(command)) + b" (")).endswith("ok a |u1 (2,) new\n"))
-        self.assertTrue(shell.line(b"#".ljust(65537, b"x")).endswith("no E01 line too long\n    a line has more than 65,536 bytes\n"))
+        self.assertTrue(shell.line(b"#".ljust(65537, b"x")).endswith("no E01 line too long\n    the line has more than 65,536 bytes\n"))
+
+    def test_ctrl_c_in_a_long_line(self):
+        """Its work is stopped, and the names are those of the lines before it."""
+        shell = self.shell()
+        for line in (b"c = full |S65536 (1) b'a'", b"c = broadcast c (16777216)", b"d = zeros <i4 (2)", b"set d[0] = 1", b"set d[0] = 2", b"undo"):
+            shell.line(line)
+        shell.type(b"print c" + ENTER)
+        shell.until(b"print c\n")
+        time.sleep(0.3)
+        shell.type(CTRL_C)
+        self.assertIn("the lines before it are run again", shell.until(AT_PROMPT))
+        self.assertEqual(shell.line(b"print d"), "[1 0]\n")
+        self.assertEqual(shell.line(b"undo"), "ok undo\n    (took back: set d[0] = 1)\n")
+
+    def test_ctrl_c_many_times(self):
+        shell, rng = self.shell(), random.Random(1)
+        shell.line(b"keep = zeros <i4 (1)")
+        for _ in range(share(25, 500)):
+            os.write(shell.terminal, rng.choice([b"", b"names\n", b"help\n", b'x = load "zz.npy"\n']) + CTRL_C)
+            time.sleep(rng.choice([0, 0.0003, 0.001, 0.003]))
+            os.write(shell.terminal, CTRL_C)
+            time.sleep(rng.choice([0, 0.003, 0.02]))
+        time.sleep(0.5)
+        shell.type(b"\x15print keep" + ENTER)
+        self.assertIn("[0]", shell.until(b"[0]\n" + PROMPT.encode()))
+
+    def test_pasted_lines(self):
+        """Several lines at once, as a terminal pastes them, and a newline within a line: each is a line."""
+        shell = self.shell(more={"TERM": "xterm-256color"})
+        shell.type(b"\x1b[200~a = zeros <i4 (2)\rprint a\r\x1b[201~" + ENTER)
+        self.assertIn("ok a <i4 (2,) new\n[0 0]\n", shell.until(AT_PROMPT))
+        shell.type(b"names\x16\x0a" + ENTER)
+        self.assertIn("names a\n", shell.until(AT_PROMPT))
+        self.assertEqual(shell.line(b"names"), "names a\n")
+
+    def test_ends(self):
+        for word in (b"exit", b"quit", b"exit()", b"quit()", b".exit"):
+            shell = self.shell()
+            shell.end(word + ENTER)
+            self.assertEqual(shell.status, 0)
+
+    def test_what_a_prompt_has(self):
+        shell = self.shell()
+        shell.line(b"a = arange <i4 0 6 1")
+        self.assertEqual(shell.line(b"a"), "[0 1 2 3 4 5]\n")
+        shell.line(b"m = reshape a (2,3)")
+        shell.line(b"help = zeros <i4 (2)")
+        self.assertEqual(shell.line(b"print help"), "[0 0]\n")
+        self.assertEqual(shell.line(b".names"), "    a     <i4 (6,)  shares with m\n    m     <i4 (2, 3)  shares with a\n    help  <i4 (2,)\n")
+        self.assertEqual(shell.line(b"undo"), "ok undo\n    (took back: help = zeros <i4 (2))\n")
+        self.assertIn("6 lines are in s.bench", shell.line(b".save s.bench"))
+        self.assertEqual((self.folder / "s.bench").read_text(),
+                         "a = arange <i4 0 6 1\nprint a\nm = reshape a (2,3)\nhelp = zeros <i4 (2)\nprint help\nnames\nundo\n".replace("names\n", ""))
+        (self.folder / "t.bench").write_text("print m\nprint a[0]\n")
+        self.assertEqual(shell.line(b".read t.bench"), "[[0 1 2]\n [3 4 5]]\nno E03 syntax\n    t.bench:2: write: t = a[0]\n    t.bench:2: write: print t\n")
+        self.assertIn("No such file", shell.line(b".read nowhere"))
+        self.assertIn("there is no .nothing", shell.line(b".nothing"))
+        shell.line(b".time")
+        self.assertRegex(shell.line(b"names"), r"^names a m\n    \d+\.\d{3} ms\n$")
+        self.assertIn("page.html", shell.line(b".draw page.html"))
+        self.assertIn("reshape a", (self.folder / "page.html").read_text())
+
+    def test_long_prints(self):
+        """They are cut to the window as NumPy cuts them, and are there whole."""
+        shell = self.shell()
+        shell.line(b"a = arange <i4 0 100000 1")
+        self.assertRegex(shell.line(b"print a"), r"^\[    0     1 .* \.\.\. .* 99999\]\n    \(cut to the window; \.all a prints it whole\)\n$")
+        shell.line(b"m = reshape a (1000,100)")
+        self.assertIn("\n... ", shell.line(b"m"))
+        self.assertGreater(len(shell.line(b".all m")), 600000)
+
+    def test_texts_of_all_kinds(self):
+        """Bytes that are no text end no shell, in whatever encoding; file names come printable."""
+        odd = os.path.join(os.fsencode(self.folder), b"b\033]0;title\007a\377X.npy")
+        open(odd, "wb").close()
+        script = os.path.join(os.fsencode(self.folder), b"c\377.bench")
+        with open(script, "wb") as file:
+            file.write(b"names\n")
+        for encoding in ("utf-8:strict", "ascii:strict", "latin-1:strict"):
+            settings = environment(PYTHONIOENCODING=encoding, PYTHONUTF8="0")
+            lines = b'a = zeros <i4 (2)\n\377\n\303\251 = 1\nx = load "b0titleaX.npy"\nprint \360\n.read c\377.bench\n.read \377\nnames\n'
+            with self.subTest(encoding):
+                done = subprocess.run([TOOL, "shell"], input=lines, capture_output=True, env=settings, cwd=self.folder)
+                self.assertEqual((done.stdout.splitlines()[-1], done.stderr, done.returncode), (b"names a", b"", 0))
+                self.assertNotIn(b"\033", done.stdout)
+                for words in (["run", script], ["draw", script]):
+                    done = subprocess.run([TOOL, *words], capture_output=True, env=settings, cwd=self.folder)
+                    self.assertEqual((done.stderr, done.returncode), (b"", 0))
+
+    def test_no_home(self):
+        with unittest.mock.patch.dict(os.environ, clear=True), unittest.mock.patch("pathlib.Path.home", side_effect=RuntimeError):
+            self.assertEqual(history(), os.devnull)
+            os.environ["BENCH_HISTORY"] = ""
+            self.assertEqual(history(), os.devnull)
 
     def test_words(self):
         shell = self.shell("--undo", "0", "--dir", str(self.folder))

@@ -7,14 +7,9 @@ import tempfile
 import unittest
 
 from trials.companion_trials import PROGRAM, TOP, needs_program
-from bench_tool import Session, hints, language, main
+from bench_tool import Session, language, main
 from make import words
 
-NAMES = """a = arange <i4 0 6 1
-m = reshape a (2,3)
-r = zeros T{<i:x:h:y:} (3)
-i = array <i4 (2) 0 1
-save a "a.npy\""""
 SAMPLE = "# none\nx = reshape a (2,-1)\nset a[0] = b'\\x00'\nr = zeros T{<i:x:T{b:y:}:s:} (2)\nsave a \"f\"\nm = array <i4 (2) True -1\n"
 # Of each line of the sample: a text in it, and how Vim and TextMate name it.
 NAMED = [
@@ -179,40 +174,6 @@ class Words(unittest.TestCase):
         """Each law and each definition stands once, and the list of what `run` reaches is as they are."""
         for option in ("--twice", "--check"):
             self.assertEqual(subprocess.run([TOP / "tools/believed.py", option], capture_output=True, text=True).stdout, "")
-
-
-@needs_program
-class Hints(unittest.TestCase):
-    def test_each_row(self):
-        """The example of each row is refused as no command, no row before is like it, and what is told in its place is accepted."""
-        for row in hints.ROWS:
-            with self.subTest(row.example), tempfile.TemporaryDirectory() as folder, Session(PROGRAM, dir=folder) as bench:
-                self.assertTrue(all(reply.accepted for reply in bench.run(NAMES)))
-                self.assertEqual(bench.send(row.example).code, "E03")
-                self.assertIs(next(other for other in hints.ROWS if re.fullmatch(other.pattern, row.example)), row)
-                told = hints.written(row.example, hints.Known(bench))
-                self.assertTrue(told)
-                self.assertEqual([reply.text for reply in bench.run(told) if not reply.accepted], [])
-
-    def test_what_is_asked_of_them(self):
-        """What newcomers were seen to write."""
-        with tempfile.TemporaryDirectory() as folder, Session(PROGRAM, dir=folder) as bench:
-            bench.run(NAMES)
-            for line, told in [
-                ("print a[0]", "t = a[0]\nprint t"), ("a[0] = 5", "set a[0] = 5"), ("x = sum a[0]", "t = a[0]\nx = sum t"),
-                ("x = sub 5 a", "t = full <i4 () 5\nx = sub t a"), ("set a = 5", "set a[...] = 5"), ("set a [0] = 5", "set a[0] = 5"),
-                ("x = array <i4 (3) 1,2,3", "x = array <i4 (3) 1 2 3"), ("info a # ?", "# a comment has a line of its own\ninfo a"),
-                ("x = load 'a.npy'", 'x = load "a.npy"'), ("nothing like it !", ""),
-            ]:
-                self.assertEqual(hints.written(line, hints.Known(bench)), told)
-
-    def test_no_state_is_changed(self):
-        """What is asked for a refused line changes nothing: the undos stay as they are."""
-        with Session(PROGRAM) as bench:
-            bench.run("a = zeros <i4 (2)\nset a[0] = 1")
-            for line in ("print a[0]", "x = a[5]", "x = b", 'x = load "q"', 'x = field a "q"', "x = zeros int32 (2)", "\xe9"):
-                self.assertIsInstance(hints.meant(bench, line, bench.send(line)), list)
-            self.assertEqual([reply.text for reply in bench.run("undo\nprint a\nundo\nundo")], ["ok undo", "[0 0]", "ok undo", "no E26 nothing to undo"])
 
 
 if __name__ == "__main__":

@@ -14,6 +14,7 @@ PIECE = re.compile(r'[XY]\[i[xy]\]|L\.\.|"f"|\(axes\)|\[\w+\]|=|\w+')
 LITERAL = "a literal, as 1, True or b'x'"
 VERB, COMMAND, END = "an array, or a word such as zeros, add or sum", "a command, or a name and `=`", "the end of the line"
 TYPE, OPERATION, ARRAY = "a type, as <i4", "an operation, as add", "the name of an array"
+PIECES = (VERB, TYPE, OPERATION, ARRAY, "a shape, as (2,3)", "`=`", "`C` or `F`", END, "an axis", "keep", f"{ARRAY} or {LITERAL}")
 # The word of a form, a piece of it, and what that piece is there.
 SPECIAL = [("OP", "Y", "Y[?]"), ("UN", "Y", "Y[?]"), ("reshape", "S", "S-"), ("field", '"f"', '"field"')]
 # Of each piece of a form what it may be, for an example.
@@ -52,11 +53,13 @@ class Reading:
         self.line, self.names = line, names
         self.far, self.wanted = 0, dict[str, list[str]]()
         self._behind: list[str] = []
+        self._binds = False
         found = filter(None, map(self._form, forms()))
         self.parts: list[Part] = next(found, [])
 
     def _form(self, form: list[str]) -> list[Part]:
         at, parts = 0, []
+        self._binds = form[1:2] == ["="]
         for k, piece in enumerate(form):
             self._behind = form[k:]
             begin = self._skip(at)
@@ -198,10 +201,10 @@ class Reading:
 
     def _piece(self, piece: str, at: int, k: int) -> Optional[int]:
         """Where a piece of a form ends that begins at a place."""
-        is_new = piece == "X" and self._behind[1:2] == ["="]
+        is_first = k == 2 and self._binds  # behind `X =`
         readers: dict[str, Callable[[], Optional[int]]] = {
-            "=": lambda: self._mark("=", at), "X": lambda: self._name(at, COMMAND if is_new else ARRAY), "D": lambda: self._type(at),
-            "Y": lambda: self._name(at, VERB if k == 2 else ARRAY), "L": lambda: self._literal(at), "L..": lambda: self._literals(at),
+            "=": lambda: self._mark("=", at), "X": lambda: self._name(at, COMMAND if k == 0 else ARRAY), "D": lambda: self._type(at),
+            "Y": lambda: self._name(at, VERB if is_first else ARRAY), "L": lambda: self._literal(at), "L..": lambda: self._literals(at),
             "S": lambda: self._shape(at, ""), "S-": lambda: self._shape(at, "+-"), "(axes)": lambda: self._shape(at, "+-"),
             "[axis]": lambda: self._integer(at, "an axis"), "[keep]": lambda: self._word(at, "keep", "keep".__eq__),
             "Y[?]": lambda: self._operand(at), "Z": lambda: self._argument(at), '"f"': lambda: self._quoted(at, True), '"field"': lambda: self._quoted(at, False),
@@ -211,10 +214,10 @@ class Reading:
         if piece in ("a", "b", "s"):
             return self._integer(at, {"a": "the first integer", "b": "the end, an integer", "s": "the step, an integer"}[piece])
         if piece[1:2] == "[":
-            end = self._name(at, VERB if k == 2 else ARRAY)
+            end = self._name(at, VERB if is_first else ARRAY)
             return None if end is None else self._index(end)
         words = language.operations().get(piece, [piece])
-        what = COMMAND if k == 0 else "`C` or `F`" if piece in "CF" else OPERATION if self.line.lstrip(" \t").startswith("upd") else VERB
+        what = COMMAND if k == 0 else "`C` or `F`" if piece in "CF" else VERB if is_first else OPERATION
         return self._word(at, what, words.__contains__)
 
     def _argument(self, at: int) -> Optional[int]:
@@ -229,6 +232,10 @@ class Reading:
         if first in reserved() and self.far == self._skip(0):
             told = f"a name; `{first}` is a word of the language" if behind == "=" else f"a name and `=`, before `{first}`"
             return self._skip(0), told
+        if len(first) > 32 and behind == "=":
+            return self._skip(0), "a name of at most 32 letters"
+        if self.far == self._skip(0) + len(first) and "a blank" in self.wanted:
+            return self.far, "`=`"
         if list(self.wanted) == ["`=`"] and not re.match("set|upd", first) and re.match("[\\w\"']|$", behind):
             return self._skip(0), COMMAND
         wanted = [what for what in self.wanted if what != "`[`" or END not in self.wanted]
@@ -241,7 +248,9 @@ class Reading:
         cut = self.line[begin:begin + 70].rstrip()
         return [cut, " " * min(far - begin, len(cut) + 1) + "^ " + wanted]
 
-    def completions(self) -> list[str]:
-        """For each thing that may stand where the line stops, the line with that and all that then is missing."""
+    def completions(self) -> list[tuple[str, str]]:
+        """For each thing that a form has as a piece of its own, and that may stand where the line stops, the line with that and all that
+        then is missing."""
         begin = self.line[:self.far]
-        return [" ".join([begin, *(SAMPLES.get(piece, piece) for piece in behind)]) for behind in self.wanted.values()]
+        return [(what, " ".join([begin, *(SAMPLES.get(piece, piece) for piece in behind)]).replace(" [", "["))
+                for what, behind in self.wanted.items() if what in PIECES]

@@ -31,9 +31,9 @@ Known = dict[str, Array]
 class Hints(ExitStack):
     """What is said of the refused lines of a session."""
 
-    def __init__(self, session: Session, seconds: float = SECONDS):
+    def __init__(self, session: Session, seconds: float = 0):
         super().__init__()
-        self.session, self.seconds = session, seconds
+        self.session, self.seconds = session, seconds or float(os.environ.get("BENCH_HINT_SECONDS", SECONDS))
         self._folder = self.enter_context(tempfile.TemporaryDirectory())
         self._end = 0.0
         self._spare = self._start()
@@ -94,7 +94,7 @@ class Hints(ExitStack):
         return [*said, *reading.place(), *near] if reading.wanted else said
 
     def _near_verb(self, behind: str) -> list[str]:
-        found = re.match(r"[a-z_]{3,}", behind)
+        found = re.match(r"[a-z_]{4,}", behind)
         near = difflib.get_close_matches(found[0], sorted(reserved()), 2, 0.75) if found and found[0] not in reserved() else []
         return [f"near it: {' '.join(near)}"] * bool(near)
 
@@ -103,7 +103,9 @@ class Hints(ExitStack):
         if code in ("E04", "E05"):
             types = [part.text for part in Reading(line).parts if part.piece == "D"]
             said = [f"{KINDS[word]} is written for {word}" for word in types if word in KINDS]
-            return said or (["there are no floats"] if types and FLOATS.match(types[0]) else [])
+            if types and FLOATS.match(types[0]):
+                return ["there are no floats"]
+            return said or [f"{printable(types[0], 60)} is no type, as <i4, |u1, |b1, |S5 or T{{<i:x:<h:y:}} are"] * (code == "E04" and bool(types))
         if code == "E06":
             word = next(word for word in WORD.findall(re.sub(r'^\s*\w+\s*=|"[^"]*"', "", line)) if word not in names and word not in reserved())
             near = self._near(word, names)
@@ -133,6 +135,8 @@ class Hints(ExitStack):
 
     def tried(self, lines: list[str], known: Known, shown: Optional[Callable[[Session], None]] = None) -> list[Reply]:
         """The replies to lines in a session with arrays like these; `BenchError` where there is no time for it."""
+        for name in os.listdir(self._folder):  # what an earlier trial saved or loaded
+            os.unlink(os.path.join(self._folder, name))
         alarm = threading.Timer(max(0.001, self._end - time.monotonic()), self._spare.kill)
         alarm.start()
         try:
@@ -237,6 +241,12 @@ class Numbers:
             axis = len(array.shape) - sum(taken[k + 1:]) if entry == "..." else axis + taken[k]
         return found
 
+    def _e09(self) -> str:
+        lengths = list(map(int, re.findall(r"\d+", self.text.get("S") or self.text["S-"])))
+        if max(lengths) > 1 << 24:
+            return f"{max(lengths)} is above 16777216, the greatest length of an axis"
+        return f"{prod(lengths)} items are more than 16777216" if prod(lengths) > 1 << 24 else f"{prod(lengths)} items of that type are more than 268435456 bytes"
+
     def _e10(self) -> str:
         array, entries = self.entries()
         count = sum(entry not in ("None", "...") for entry in entries)
@@ -328,9 +338,9 @@ class Numbers:
 
     def _e23(self) -> str:
         kind = self.text.get("D") or self.array(self.operands[0]).type
-        name = self.operands[0].partition("[")[0] + " is " if self.operands else ""
         low, high = BOUNDS[kind if kind[0] in "<>|" else ("|" if kind[1:] == "1" else "<") + kind]
-        return f"{name}{kind}, which holds {low} to {high}"
+        is_of = f"{self.operands[0].partition('[')[0]} is {kind}, which" if self.operands else kind
+        return f"{is_of} holds {low} to {high}"
 
     def _e24(self) -> str:
         array = self.array(self.operands[0])
@@ -343,5 +353,7 @@ class Numbers:
 
     def _e33(self) -> str:
         target = self.text.get("D") or self.array(self.operands[0]).type
+        if "Y" in self.text and "D" in self.text:
+            return f"{self.short(self.known[self.text['Y']])}: such items do not become {target}"
         given = self.text.get("L") or self.text.get("Z") or (self.array(self.operands[1]).type if len(self.operands) > 1 else "")
         return f"{given} does not become {target}" if given and "L.." not in self.text else f"the items are {target}"

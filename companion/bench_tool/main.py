@@ -66,10 +66,10 @@ def main(arguments: Optional[Sequence[str]] = None) -> int:
         return status
     except ProgramEnded as fault:
         if words.call is not runs.run or fault.status != 3:  # else it has said itself why
-            say(f"bench-tool: {printable(str(fault))}")
+            say(f"bench-tool: {printable(str(fault), 500)}")
         return 3
     except BenchError as fault:
-        say(f"bench-tool: {printable(str(fault))}")
+        say(f"bench-tool: {printable(str(fault), 500)}")
         return 3
     except KeyboardInterrupt:
         return 130

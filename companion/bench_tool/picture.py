@@ -2,12 +2,14 @@
 from math import prod
 from typing import Callable, Iterable, Mapping, NamedTuple, Optional, Sequence
 
-from .trace import Bound, Moment, Values, literal
+from .session import literal
+from .trace import Bound, Grid, Moment, Values
 
 LONGEST = 40  # letters of a value
 SHORT = 160  # letters of a type
 SAID = 6  # changes that are told in words
-HUES = 8  # colours of names
+HUES = 12  # colours of names
+MOST_NAMES, MOST_GRIDS = 12, 4  # that are drawn of a buffer
 
 
 class Box(NamedTuple):
@@ -57,24 +59,35 @@ def left_out(count: int) -> str:
     return f"; {count} items in between are not drawn" if count else ""
 
 
+def more(names: Sequence[str]) -> str:
+    """The names that are not drawn."""
+    shown = " ".join(names[:20]) + " .." * (len(names) > 20)
+    return f"; {len(names)} more names see it: {shown}" if names else ""
+
+
 class Drawn:
     """A buffer before and after a line, as it is drawn."""
 
-    def __init__(self, moment: Moment, number: int, hues: Mapping[str, int], most: int):
+    def __init__(self, moment: Moment, number: int, hues: Mapping[tuple[str, int], int], most: int):
         self.number, self.hues, self.most = number, hues, most
         old, new = moment.before.buffers.get(number), moment.after.buffers.get(number)
         buffer = new or old
         assert buffer is not None
         self.kind, self.count, self.size, self.values = buffer.kind, buffer.count, buffer.kind.size, buffer.values
-        self.old: Values = old.values if old and new else {}
+        self.starts = buffer.starts(most)
+        self.leaves = self.kind.leaves[:max(1, 4 * most // max(1, len(self.starts)))]
+        self.old: Values = old.values if old and new and old is not new else {}
         self.changed = dict.fromkeys(at for at in self.old if at in self.values and self.old[at] != self.values[at])
         self.moved = {at.byte: source for at, source in moment.moved.items() if at.buffer == number}
         before, after = moment.before.inside(number), moment.after.inside(number)
         came = "comes back" if moment.reply.text == "ok undo" else "appears"
         self.state = came if not old else "goes" if not new else "changes" if self.changed else ""
-        self.names = [(name, bound, "goes") for name, bound in before.items() if after.get(name) != bound]
-        self.names += [(name, bound, "" if before.get(name) == bound else came) for name, bound in after.items()]
-        self.starts = buffer.starts(most)
+        names = [(name, bound, "goes") for name, bound in before.items() if after.get(name) is not bound]
+        names += [(name, bound, "" if before.get(name) is bound else came) for name, bound in after.items()]
+        said = moment.words
+        names.sort(key=lambda each: (not each[2], each[0] not in said)) if len(names) > MOST_NAMES else None
+        self.names, self.asked = names[:MOST_NAMES], {name for name, _, state in names if name in said and not state}
+        self.folded = [name for name, _, _ in names[MOST_NAMES:]]
         half = len(self.starts) // 2 if self.count > len(self.starts) else self.count
         self.column = {start: k + (k >= half) for k, start in enumerate(self.starts)}
         self.gap = [Box("…", half, 1, "gap")] if half < self.count else []
@@ -94,11 +107,12 @@ class Drawn:
 
     def row(self, label: str, look: str, text: Callable[[int, str], str]) -> Row:
         """The values of the cells, and the bytes between them; of each the text for its byte and field."""
-        boxes, leaves = list(self.gap), self.kind.leaves
+        boxes, leaves = list(self.gap), self.leaves
         ends = [(leaf.at + leaf.size) for leaf in leaves]
         pads = [(end, at - end) for end, at in zip([0, *ends], [*(leaf.at for leaf in leaves), self.size]) if at > end]
+        rest = "…" if len(leaves) < len(self.kind.leaves) else ""
         for start in self.starts:
-            boxes += [self.box("", start + at, size, "pad") for at, size in pads]
+            boxes += [self.box(rest * (at + size == self.size), start + at, size, "pad") for at, size in pads]
             for at, size, field in leaves:
                 look_of = "x" * (look != "field" and start + at in self.changed)
                 boxes.append(self.box(text(start + at, field), start + at, size, look_of))
@@ -112,7 +126,8 @@ class Drawn:
             boxes.append(self.box(f"{number}×{times}" if times > 1 else str(number), byte, bound.kind.size, look))
         told = f"{name} {state}".rstrip() + f": {cut(array.type, SHORT)} {array.shape}, strides {array.strides}, at {array.at}"
         told += ", read-only" * (not array.writable) + f", {times} indexes to each item" * (times > 1)
-        return Row(name, f"name h{self.hues[name]} {state.partition(' ')[0]}".rstrip(), boxes, told)
+        look = state.partition(" ")[0] or "asked" * (name in self.asked)
+        return Row(name, f"name h{self.hues[name, self.number]} {look}".rstrip(), boxes, told)
 
     def strip(self) -> Table:
         """The cells of the buffer, and under them those of each name."""
@@ -123,29 +138,32 @@ class Drawn:
             rows.append(self.row("before", "old", lambda at, field: cut(literal(self.old.get(at)))))
         rows.append(self.row("value", "now", lambda at, field: cut(literal(self.values.get(at)))))
         rows += [self.name_row(*each) for each in self.names]
-        half = {leaf.at: leaf.size / 2 for leaf in self.kind.leaves}
+        half = {leaf.at: leaf.size / 2 for leaf in self.leaves}
         pairs = [(source.byte, at) for at, source in self.moved.items() if source.buffer == self.number]
-        places = [[self.place(byte + half[byte % self.size]) for byte in pair] for pair in pairs]
+        places = [[self.place(byte + half.get(byte % self.size, 0)) for byte in pair] for pair in pairs]
         moves = [(source, at) for source, at in places if source is not None and at is not None]
         caption = f"Buffer {self.number} {self.state}".rstrip() + f": {self.count} items of {cut(self.kind.text, SHORT)}"
+        hidden = len(self.kind.leaves) - len(self.leaves)
         caption += f", {self.count * self.size} bytes{left_out(self.count - len(self.column))}"
+        caption += f"; the last {hidden} values of each item are not drawn" * bool(hidden) + more(self.folded)
         return Table(caption, len(self.column) + len(self.gap), rows, moves)
 
-    def grid(self, name: str, bound: Bound) -> Table:
-        """The items of an array of two axes in rows and columns, one that has changed as `1→2`."""
-        rows, columns, places = bound.grid(max(2, int(self.most ** 0.5)))
+    def grid(self, name: str, bound: Bound, grid: Grid) -> Table:
+        """Items in rows and columns, one that has changed as `1→2`."""
         was = {**self.values, **self.old}
-        made = [Row("", "place", [Box(str(column), k) for k, column in enumerate(columns)])]
-        for row, line in zip(rows, places):
+        made = [Row("", "place", [Box(str(column), k) for k, column in enumerate(grid.columns)])]
+        for row, line in zip(grid.rows, grid.places):
             texts = [[cut(literal(bound.kind.item(values, at))) for values in (was, self.values)] for at in line]
             looks = ["x" * self.has_changed(bound, at) for at in line]
             boxes = [Box("→".join(pair) if look else pair[1], k, 1, look) for k, (pair, look) in enumerate(zip(texts, looks))]
-            made.append(Row(str(row), f"grid h{self.hues[name]}", boxes))
-        caption = f"{name} in rows and columns{left_out(prod(bound.array.shape) - len(rows) * len(columns))}"
-        return Table(caption, len(columns), made)
+            made.append(Row(str(row), f"grid h{self.hues[name, self.number]}", boxes))
+        hidden = prod(bound.array.shape[-2:]) - len(grid.rows) * len(grid.columns)
+        return Table(f"{name}{grid.part} in rows and columns{left_out(hidden)}", len(grid.columns), made)
 
     def tables(self) -> list[Table]:
-        return [self.strip(), *(self.grid(name, bound) for name, bound, state in self.names if state != "goes" and bound.grid()[0])]
+        side = max(2, int(self.most ** 0.5))
+        shown = [(name, bound) for name, bound, state in self.names if state != "goes" and bound.grids(side) and len(bound.kind.leaves) <= 16]
+        return [self.strip(), *(self.grid(name, bound, grid) for name, bound in shown[:MOST_GRIDS] for grid in bound.grids(side))]
 
     def said(self) -> str:
         """What the line did to the buffer, in words."""
@@ -163,9 +181,16 @@ class Drawn:
         return " ".join(told)
 
 
-def hues_of(moments: Iterable[Moment]) -> dict[str, int]:
-    """A colour for each name."""
-    return {name: k % HUES for k, name in enumerate(dict.fromkeys(name for moment in moments for name in moment.after.names))}
+def hues_of(moments: Iterable[Moment]) -> dict[tuple[str, int], int]:
+    """A colour for each name in a buffer: one that no other name has there, as long as there are enough."""
+    hues: dict[tuple[str, int], int] = {}
+    for moment in moments:
+        for state in (moment.before, moment.after) if moment.touched or not hues else ():
+            for name, bound in state.names.items():
+                if (name, bound.buffer) not in hues:
+                    taken = {hues.get((other, bound.buffer)) for other in state.inside(bound.buffer)}
+                    hues[name, bound.buffer] = next((hue for hue in range(HUES) if hue not in taken), len(hues) % HUES)
+    return hues
 
 
 def said(moment: Moment, buffers: Iterable[Drawn]) -> str:

@@ -73,7 +73,7 @@ def run(words: argparse.Namespace) -> int:
     except OSError as fault:
         say(f"bench-tool: {name} cannot be read: {'it is a folder' if isinstance(fault, IsADirectoryError) else fault.strerror}")
         return 3
-    with script, Session(undo=words.undo, dir=words.dir) as session, Hints(session, 0.5) as hints:
+    with script, Session(undo=words.undo, dir=words.dir) as session, Hints(session) as hints:
         try:
             return lines(script, session, words, hints)
         except ReadFault as fault:

@@ -70,19 +70,25 @@ class Shell(cmd.Cmd):
             self.interrupted.daemon = True
             self.interrupted.start()
 
+    def calm(self) -> None:
+        """Forgets a Ctrl-C of before."""
+        if self.interrupted:
+            self.interrupted.cancel()
+        self.interrupted = None
+
     def preloop(self) -> None:
+        self.calm()
         if readline and self.is_terminal:
             readline.set_completer_delims(" \t=[](),:\"")
         self.is_reading = True
 
     def precmd(self, line: str) -> str:
         self.is_reading = False
+        self.calm()
         return line
 
     def postcmd(self, stop: bool, line: str) -> bool:
-        if self.interrupted:
-            self.interrupted.cancel()
-            self.interrupted = None
+        self.calm()
         self.is_reading = not stop
         return stop
 
@@ -121,31 +127,29 @@ class Shell(cmd.Cmd):
             print(f"    {printable(str(fault))}")
         return False
 
-    def answer(self, line: str, place: str = "") -> None:
-        """Sends a line; writes its reply as it comes, and what is said of a refused one."""
-        window = Window(*self.room()) if self.is_terminal and line.split()[:1] == ["print"] else None
-        begin = bytearray()
+    def answer(self, line: str, place: str = "", is_whole: bool = False) -> None:
+        """Sends a line; writes its reply as it comes, a printed array cut to the window, and what is said of a refused line."""
+        window = Window(*self.room()) if self.is_terminal and not is_whole and line.split()[:1] == ["print"] else None
 
         def write(part: bytes) -> None:
             if self.interrupted is None and window:
                 window.take(part)
             elif self.interrupted is None:
-                begin.extend(part[:max(0, 10 - len(begin))])
-                sys.stdout.buffer.write(painted(part.decode(), RED).encode() if part.startswith(b"no E") and self.is_terminal else part)
+                sys.stdout.buffer.write(painted(part.decode(), RED).encode() if part.startswith(b"no E") else part)
                 sys.stdout.buffer.flush()
 
-        reply = self.session.send(line.encode("utf-8", "surrogateescape") if line.isprintable() or True else line, write)
-        if window and self.interrupted is None:
-            shown = "\n".join(window.lines())
-            print(shown if reply.accepted else painted(shown, RED))
-            if window.is_cut:
-                print(painted(f"    (cut to the window; .all {line.split()[1]} prints it whole)", BLUE))
+        sys.stdout.flush()
+        reply = self.session.send(line.encode("utf-8", "surrogateescape"), write)
         if self.interrupted is not None:
             print("\n    (the rest of the reply is dropped)")
-        elif not reply.accepted:
+        elif window:
+            print(painted("\n".join(window.lines()), "" if reply.accepted else RED))
+            if window.is_cut:
+                print(painted(f"    (cut to the window; .all {line.split()[1]} prints it whole)", BLUE))
+        if not reply.accepted and self.interrupted is None:
             for text in self.hints.meant(line, reply):
                 print(painted(f"    {place}{text}", BLUE))
-        elif reply.text:
+        elif reply.text and reply.accepted:
             self.note(line, reply.text)
 
     def note(self, line: str, reply: str) -> None:
@@ -158,24 +162,24 @@ class Shell(cmd.Cmd):
 
     def again(self) -> None:
         """A new program, in which the lines that were accepted so far are run again; Ctrl-C ends that too, and then no name is left."""
-        print(painted(f"\n    (the line is stopped; its program too, so the {len(self.log)} lines before it are run again: Ctrl-C gives them up)", BLUE))
-        self.close()
-        self.session = Session(undo=self.words.undo, dir=self.words.dir)
-        self.hints = Hints(self.session)
-        if self.interrupted:
-            self.interrupted.cancel()
-        self.interrupted = None
+        print(painted("\n    (the line is stopped, and its program: the lines before it are run again; Ctrl-C gives them up)", BLUE), flush=True)
+        self.renew()
         for line in self.log:
             if not re.match(r"\s*(save|print|info|format|names|shares)\b", line) and not self.session.send(line).accepted:
                 print(painted(f"    (refused now: {printable(line, 200)})", BLUE))
             if self.interrupted:
                 self.log.clear()
                 self.changes.clear()
-                self.close()
-                self.session = Session(undo=self.words.undo, dir=self.words.dir)
-                self.hints = Hints(self.session)
+                self.renew()
                 print(painted("    (given up: no name is bound)", BLUE))
                 return
+
+    def renew(self) -> None:
+        """A new program, in which no name is bound."""
+        self.close()
+        self.session = Session(undo=self.words.undo, dir=self.words.dir)
+        self.hints = Hints(self.session)
+        self.calm()
 
     def room(self) -> tuple[int, int]:
         size = shutil.get_terminal_size()
@@ -210,7 +214,7 @@ class Shell(cmd.Cmd):
             print(f"    {array.name:{width}}  {printable(array.type, 60)} {array.shape}{behind}{'' if array.writable else '  read-only'}")
 
     def dot_all(self, name: str) -> None:
-        self.session.send(f"print {name}", lambda part: self.interrupted or sys.stdout.buffer.write(part))
+        self.answer(f"print {name}", is_whole=True)
 
     def dot_time(self, _: str) -> None:
         self.is_timed = not self.is_timed
@@ -239,24 +243,31 @@ class Shell(cmd.Cmd):
             return sorted(entry.name for entry in os.scandir(self.words.dir) if entry.is_file() and entry.name[0] not in ".-")
         if said == ["help"]:
             return sorted({*language.verbs(False), *language.verbs(True), *language.codes()})
-        names, reading = self.session.names(), Reading(before + "\x7f")  # a byte that may stand nowhere
+        names, reading = self.session.names(), Reading(before)
         of = language.operations()
         words = {COMMAND: [*(f"{verb} " for verb in sorted(["help", "quit", *language.verbs(False)])), *names],
                  VERB: [*(f"{verb} " for verb in language.verbs(True)), *names], ARRAY: names, f"{ARRAY} or {LITERAL}": names, TYPE: TYPES,
                  OPERATION: [f"{verb} " for verb in of["OP"]], "`C` or `F`": ["C", "F"], "keep": ["keep"]}
         inside = names if "[" in before and before.rfind("[") > before.rfind("]") else []
-        return [*dict.fromkeys([word for what in reading.wanted for word in words.get(what, [])] + inside)]
+        wanted = reading.wanted if reading.far >= len(before.rstrip()) else []
+        return [*dict.fromkeys([word for what in wanted for word in words.get(what, [])] + inside)]
+
+
+def history() -> str:
+    """The file of the lines of earlier shells: BENCH_HISTORY, where an empty one means none, else in the user's state."""
+    if "BENCH_HISTORY" in os.environ:
+        return os.environ["BENCH_HISTORY"] or os.devnull
+    with suppress(RuntimeError):  # there is no home
+        return str(Path(os.environ.get("XDG_STATE_HOME") or Path.home() / ".local/state", "bench/history"))
+    return os.devnull
 
 
 def edited(prompt: Shell) -> None:
-    """Editing, Tab, and the history of earlier shells: BENCH_HISTORY, where an empty one means none, else in the user's state."""
-    path = Path(os.devnull)
-    with suppress(RuntimeError):  # there is no home
-        state = os.environ.get("XDG_STATE_HOME") or ("BENCH_HISTORY" not in os.environ and Path.home() / ".local/state") or ""
-        path = Path(os.environ.get("BENCH_HISTORY", Path(state, "bench/history")) or os.devnull)
+    """Editing, Tab, and the lines of earlier shells."""
+    path = history()
     readline.set_history_length(2000)
     with suppress(OSError):
-        path.parent.mkdir(parents=True, exist_ok=True)
+        os.makedirs(os.path.dirname(path), exist_ok=True)
         readline.read_history_file(path)
     try:
         looped(prompt)

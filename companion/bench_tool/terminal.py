@@ -48,7 +48,7 @@ def lines_of(script: BinaryIO) -> Iterator[bytes]:
 
 def painted(text: str, colour: str) -> str:
     """A text in a colour, where the terminal has colours and its user wants them."""
-    plain = not sys.stdout.isatty() or os.environ.get("TERM", "dumb") == "dumb" or os.environ.get("NO_COLOR")
+    plain = not colour or not sys.stdout.isatty() or os.environ.get("TERM", "dumb") == "dumb" or os.environ.get("NO_COLOR")
     return text if plain else f"\x1b[{colour}m{text}\x1b[0m"
 
 

@@ -8,7 +8,7 @@ from __future__ import annotations
 import re
 from collections import deque
 from contextlib import ExitStack
-from dataclasses import dataclass, field
+from dataclasses import dataclass, field, replace
 from functools import cached_property
 from itertools import product
 from math import prod
@@ -17,8 +17,10 @@ from typing import Any, Iterator, Mapping, NamedTuple, Optional
 from .session import Array, BenchError, Named, Reply, Session, literal
 
 MOST_CELLS = 256
+MOST_REPLY = 1000  # letters of a reply that are kept
 MOST_UNDO = 56  # of the 64 states that the second session keeps, the others are for what is tried
 SIDE = 16  # rows, and columns, of a grid
+SLICES = 4  # of an array of three axes
 AT_ONCE = 1 << 16  # bytes of items that are printed in one go
 WORD = re.compile(r"[A-Za-z_]\w*")
 ODD = re.compile(r"[^\t -~]")
@@ -31,6 +33,7 @@ SOURCE = re.compile(r"(\s*set\s[^=]*=\s*)([A-Za-z_]\w*)(\[.*|)\s*", re.ASCII)  #
 
 Values = Mapping[int, Any]
 Place = NamedTuple("Place", [("buffer", int), ("byte", int)])  # where a value begins
+Grid = NamedTuple("Grid", [("part", str), ("rows", list[int]), ("columns", list[int]), ("places", list[list[int]])])  # `part` is its index
 Leaf = NamedTuple("Leaf", [("at", int), ("size", int), ("field", str)])  # a value of an item: its bytes, and which field it is
 
 
@@ -110,19 +113,29 @@ class Bound:
             number += weight * (step if stride > 0 else length - 1 - step)
         return None if rest or not self.count else number
 
-    def numbers(self, starts: list[int], size: int) -> dict[int, int]:
-        """Of the items in those of `size` bytes that begin at `starts`: the byte and the number, in order."""
-        places = [start + self.array.at % size for start in starts]
-        found = [(number, byte) for byte in places if (number := self.number(byte)) is not None]
-        return {byte: number for number, byte in sorted(found)}
+    @cached_property
+    def _found(self) -> dict[int, dict[int, int]]:
+        """What `numbers` has found, by how many items were asked for."""
+        return {}
 
-    def grid(self, side: int = SIDE) -> tuple[list[int], list[int], list[list[int]]]:
-        """The rows and columns of an array of two axes that are drawn, and at which bytes their items begin."""
-        if len(self.array.shape) != 2 or not self.count:
-            return [], [], []
-        rows, columns = (ends(length, side) for length in self.array.shape)
-        (down, right), at = self.array.strides, self.array.at
-        return rows, columns, [[at + row * down + column * right for column in columns] for row in rows]
+    def numbers(self, starts: list[int], size: int) -> dict[int, int]:
+        """Of the items in those of `size` bytes of its buffer that begin at `starts`: the byte and the number, in order."""
+        if len(starts) not in self._found:
+            places = [start + self.array.at % size for start in starts]
+            found = [(number, byte) for byte in places if (number := self.number(byte)) is not None]
+            self._found[len(starts)] = {byte: number for number, byte in sorted(found)}
+        return self._found[len(starts)]
+
+    def grids(self, side: int = SIDE) -> list[Grid]:
+        """The items of an array of two axes in rows and columns, as far as they are drawn; of three axes those of its first slices."""
+        shape, strides = self.array.shape, self.array.strides
+        if len(shape) not in (2, 3) or not self.count:
+            return []
+        rows, columns = (ends(length, side) for length in shape[-2:])
+        slices = ends(shape[0], SLICES) if len(shape) == 3 else [None]
+        begins = [(f"[{k}]" if k is not None else "", self.array.at + (k or 0) * strides[0] * (k is not None)) for k in slices]
+        return [Grid(part, rows, columns, [[at + row * strides[-2] + column * strides[-1] for column in columns] for row in rows])
+                for part, at in begins]
 
 
 @dataclass(frozen=True)
@@ -161,7 +174,12 @@ class Moment:
     after: State
     moved: Mapping[Place, Place]
 
-    @property
+    @cached_property
+    def words(self) -> set[str]:
+        """The names that the line says."""
+        return {word for word in WORD.findall(self.line[:10_000]) if word in self.before.names or word in self.after.names}
+
+    @cached_property
     def touched(self) -> set[int]:
         """The buffers that differ, and those in which names came or went."""
         both = ((self.before, self.after), (self.after, self.before))
@@ -193,7 +211,9 @@ class Trace(ExitStack):
     def step(self, line: bytes) -> Moment:
         """Runs a line, and tells what it did."""
         self._lines += 1
-        reply, text = self._script.send(line), ODD.sub("\ufffd", line.removesuffix(b"\r").decode("latin-1"))
+        begin, text = bytearray(), ODD.sub("\ufffd", line.removesuffix(b"\r").decode("latin-1"))
+        reply = self._script.send(line, lambda part: begin.extend(part if (begin or part)[:3] == b"ok " else part[:max(0, MOST_REPLY + 2 - len(begin))]))
+        reply = replace(reply, text=begin.decode("ascii", "replace").removesuffix("\n"))
         before, moved = self.state, {}
         names, buffers = before.names, before.buffers
         words = [word for word in WORD.findall(text) if word in names]
@@ -214,8 +234,8 @@ class Trace(ExitStack):
         return Moment(self._lines, text, reply, before, self.state, moved)
 
     def _again(self, line: bytes, reply: Reply) -> None:
-        if (answer := self._second.send(line)) != reply:
-            raise BenchError(f"the program answered {reply.text!r}, and then {answer.text!r}")
+        if (answer := self._second.send(line)).text != reply.text:
+            raise BenchError(f"the program answered {reply.text[:200]!r}, and then {answer.text[:200]!r}")
 
     def _undo(self, times: int) -> None:
         for _ in range(times):
@@ -257,8 +277,11 @@ class Trace(ExitStack):
     def _read(self, buffer: Buffer, names: Mapping[str, Bound], known: Values) -> dict[int, Any]:
         """The values that are drawn and not known, read through the names that see them, the longest arrays first."""
         read: dict[int, Any] = {}
+        starts = buffer.starts()
         for name, bound in sorted(names.items(), key=lambda pair: -pair[1].count):
-            wanted = dict.fromkeys([*bound.numbers(buffer.starts(), buffer.kind.size), *(at for row in bound.grid()[2] for at in row)])
+            if buffer.count == len(starts) and len(known.keys() | read.keys()) == buffer.count * len(buffer.kind.leaves):
+                break  # all is read
+            wanted = dict.fromkeys([*bound.numbers(starts, buffer.kind.size), *(at for grid in bound.grids() for row in grid.places for at in row)])
             leaves = [leaf.at for leaf in bound.kind.leaves]
             new = [at for at in wanted if any(at + leaf not in known and at + leaf not in read for leaf in leaves)]
             for at, item in zip(new, self._items(name, bound, new) if new else ()):
@@ -287,7 +310,7 @@ class Trace(ExitStack):
         An index that lies in the same buffer stays what it is."""
         bound = self.state.names[name]
         buffer, array = self.state.buffers[bound.buffer], bound.array
-        if not bound.count or prod(array.shape) > 4 * MOST_CELLS or buffer.count > len(buffer.starts()):
+        if not bound.count or prod(array.shape) * len(bound.kind.leaves) > 4 * MOST_CELLS or buffer.count > len(buffer.starts()):
             return {}
         order = [array.at + sum(map(int.__mul__, index, array.strides)) for index in product(*map(range, array.shape))]
         places = [at + leaf.at for at in dict.fromkeys(order) for leaf in bound.kind.leaves]

@@ -43,6 +43,14 @@ def split(text: str) -> list[str]:
     return re.findall(r"""(?:[^\s,()\[\]"']|"[^"]*"?|'[^']*'?|\((?:[^()]|\([^()]*\))*\)?|\[(?:[^\[\]]|\[[^\[\]]*\])*\]?|[)\]])+""", text)
 
 
+def member(kind: str) -> str:
+    """A type string as it stands in a record."""
+    if kind[1] in "bS":
+        return "?" if kind[1] == "b" else f"{kind[2:]}s"
+    letter = {"1": "b", "2": "h", "4": "i", "8": "q"}[kind[2]]
+    return kind[0].strip("|") + (letter.upper() if kind[1] == "u" else letter)
+
+
 def flat(node: Any) -> list[Any]:
     return [inner for each in node for inner in flat(each)] if isinstance(node, list) else [node]
 
@@ -116,7 +124,7 @@ class Translation:
             return default
         if isinstance(node, ast.List):
             fields = [self.constant(field) for field in node.elts]
-            return "T{" + "".join(f"{self.type(ast.Constant(kind)).lstrip('|')}:{name}:" for name, kind in fields) + "}"
+            return "T{" + "".join(f"{member(self.type(ast.Constant(kind)))}:{name}:" for name, kind in fields) + "}"
         word = node.attr if isinstance(node, ast.Attribute) else node.id if isinstance(node, ast.Name) else str(self.constant(node))
         if FLOATS.match(word):
             self.refuse(NO_FLOATS)
@@ -188,7 +196,7 @@ class Translation:
             return self._two("mul", node.left, node.left)
         if isinstance(node.op, ast.Div):
             self.refuse("there are no floats: `//` is fdiv, which rounds down")
-        return self._two(SIGNS.get(type(node.op)) or self.refuse(), node.left, node.right)
+        return self._two(SIGNS.get(type(node.op)) or self.refuse("there is no power and no `@`"), node.left, node.right)
 
     def _compare(self, node: ast.Compare) -> str:
         if len(node.ops) > 1:
@@ -280,7 +288,7 @@ class Translation:
             return self.name(base)
         if word == "view":
             self.refuse("there is no view under another type; `cast` makes an array with the same values")
-        several: Callable[..., str] = getattr(self, f"several_{word}", lambda *_: self.refuse())
+        several: Callable[..., str] = getattr(self, f"several_{word}", lambda *_: self.refuse(f"there is no `{word}`"))
         return several(*given)
 
     def several_where(self, mask: ast.expr, yes: ast.expr, no: ast.expr) -> str:

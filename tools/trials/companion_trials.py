@@ -21,8 +21,8 @@ def share(few, all_):
 
 
 def environment(**more):
-    """The environment of a companion that is run."""
-    return {**os.environ, "BENCH": PROGRAM, **more}
+    """The environment of a companion that is run, with time for its hints on a loaded machine."""
+    return {**os.environ, "BENCH": PROGRAM, "BENCH_HINT_SECONDS": "30", **more}
 
 
 def numpy_or_none():
