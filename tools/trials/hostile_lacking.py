@@ -10,7 +10,7 @@ E40 = LACK.encode() + b"\n"
 STOPPED = Ran(3, b"", b"bench: out of memory\n")
 NEVER = (b"no E01 ", b"no E02 ", b"no E06 ", b"no E26 ")
 # A list of more items than these takes memory as the line is read, before a name is looked up.
-IN_PLACE = 8
+IN_PLACE = 1
 
 
 class Lacking:

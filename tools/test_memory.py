@@ -1,0 +1,49 @@
+"""Each request for memory that a script makes is refused in turn, one in each run. The line that lacks it is answered `no E40 out of memory`,
+and everything else, replies and files, is as in a run without that line.
+
+This needs a C compiler, for the `malloc` that refuses. `tools/try hostile memory` does the same with random scripts."""
+import pathlib
+import re
+import shutil
+import tempfile
+import unittest
+
+from trials.companion_trials import PROGRAM, needs_program
+import hostile_memory
+from hostile_runs import Part, Runner
+from hostile_scripts import own_scripts
+
+# A script that makes more requests than these is tried with as many of them, evenly spread.
+MOST_REQUESTS = 150
+COMMANDS = set("""zeros full arange array field transpose reshape broadcast copy cast load set upd save del undo names print info format shares
+add neg sum""".split())
+
+
+@needs_program
+@unittest.skipUnless(shutil.which("cc"), "there is no C compiler")
+class RefusedMemory(unittest.TestCase):
+    @classmethod
+    def setUpClass(cls):
+        cls.folder = pathlib.Path(tempfile.mkdtemp())
+        cls.addClassCleanup(shutil.rmtree, cls.folder)
+        cls.library = hostile_memory.built_library(cls.folder)
+
+    def test_each_request_of_each_script(self):
+        part = Part()
+        for script in own_scripts():
+            with Runner(PROGRAM) as runner:
+                trial = hostile_memory.Refusing(runner, part, script.asking(), self.library)
+                step = -(-trial.made // MOST_REQUESTS)
+                for request in range(1, trial.made + 1, step):
+                    trial.refuse(request)
+        self.assertEqual(part.faults, [])
+        self.assertGreater(part.counts["with E40"], 1000, part.counts)
+
+    def test_the_scripts_reach_every_command(self):
+        verb = re.compile(rb"(?:\w+ = )?([a-z]+)\b")
+        reached = {found[1].decode() for script in own_scripts() for line in script.lines if (found := verb.match(line))}
+        self.assertLessEqual(COMMANDS, reached)
+
+
+if __name__ == "__main__":
+    unittest.main()
