@@ -4,14 +4,13 @@ use Rattle.std.proofs.lemmas.Int.{ints}
 use Rattle.std.proofs.lemmas.List.{length-map, length-take, length-drop, get_or-map, get_or-take, get_or-drop, same_lists, drop_more, drop_all}
 use lib.IntN.{+ℤ_assoc, +ℤ_idr, *ℤ-zero}
 use Rattle.shape_strides.specs.declared.layout.Layout.{Layout}
-use Rattle.shape_strides.specs.Indexes.{count, indexes, rank}
+use Rattle.shape_strides.specs.Indexes.{count, indexes}
 use Rattle.shape_strides.specs.AxisIndexes.{zero_filled}
 use Rattle.shape_strides.specs.AxisLaws.{dot-zeros, IsIndex-first}
 use Rattle.shape_strides.specs.Addresses.{dot, natural, address_at, LieWithin}
-use Rattle.shape_strides.specs.IndexLaws.{length-indexes, get_or-blocks, rank-lt}
+use Rattle.shape_strides.specs.IndexLaws.{length-indexes, get_or-blocks}
 use Rattle.shape_strides.specs.CountLaws.{factors_pos, mul-step}
-use Rattle.shape_strides.specs.LayoutLaws.{length-offsets, pos-offset}
-use Rattle.shape_strides.specs.Layouts.{offsets, Fits}
+use Rattle.shape_strides.specs.Layouts.{offsets}
 use Rattle.shape_strides.specs.Limits.{max_bytes}
 use Rattle.shape_strides.specs.PlaceLaws.{fits-offsets}
 use Rattle.shape_strides.specs.Walks.{offsets_at}

@@ -1,5 +1,5 @@
 -- Numbers that are counted by their lowest 64 bits, and read from their bytes again.
-use Rattle.std.proofs.Common.{◌≡◌, ℕ, zero, suc, ◌+◌, ◌*◌, ◌%◌, ◌^◌, ◌<◌, ◌≤◌, inl, inr, Bool, true, false, List, [], ◌∷◌, ◌++◌, length, take, map, refl, sym, ap, ◌∙◌, subst, arith, ℤ, pos, ◌+ℤ◌, ◌*ℤ◌, append-nil}
+use Rattle.std.proofs.Common.{◌≡◌, ℕ, zero, suc, ◌+◌, ◌*◌, ◌%◌, ◌^◌, ◌<◌, inl, inr, Bool, true, false, List, [], ◌∷◌, ◌++◌, length, take, map, refl, sym, ap, ◌∙◌, arith, ℤ, pos, ◌+ℤ◌, ◌*ℤ◌, append-nil}
 use Rattle.std.specs.Int.{w64, cast_signed, cast_unsigned, int_wrap}
 use Rattle.std.specs.List.{list_all, range_with_len}
 use Rattle.std.proofs.lemmas.Int.{ints, wrapping_add-bits, int_wrap-add_left, int_wrap-add_right, of_z-to_z}
@@ -11,8 +11,8 @@ use Rattle.std.proofs.Math.Nat.{mod-lt}
 use Rattle.elem_descr.specs.declared.scalar.Scalar.{Scalar}
 use Rattle.elem_descr.specs.declared.scalar.Scalar.TheVariants.{Bool as BoolScalar, Byte, Int as IntScalar, Bytes as BytesScalar}
 use Rattle.elem_descr.specs.declared.descr.Descr.TheVariants.{Scalar as ScalarDescr}
-use Rattle.elem_descr.specs.Values.{LeafValue, number}
-use Rattle.elem_descr.specs.Encoding.{IsNumber, IsValueOf, FitsBytes, is_value, size, width_size, integer, low_bits, wrap, decode, encode}
+use Rattle.elem_descr.specs.Values.{number}
+use Rattle.elem_descr.specs.Encoding.{IsNumber, IsValueOf, FitsBytes, is_value, size, integer, low_bits, decode, encode}
 use Rattle.elem_descr.specs.EncodingLaws.{low_bits-lt, decode_encode}
 use Rattle.elem_descr.specs.WrapLaws.{integer-low_bits, int_wrap-low_bits}
 use Rattle.elem_descr.specs.Items.{decode_item}

@@ -1,15 +1,12 @@
 -- Targets whose places stand in another order.
-use Rattle.std.proofs.Common.{◌≡◌, ◌+◌, ◌≤◌, ℕ, List, length, get_or, pos, ◌+ℤ◌, ◌≤ℤ◌, All, refl, sym, subst, ◌∙◌, arith}
+use Rattle.std.proofs.Common.{◌≡◌, ◌+◌, ◌≤◌, ℕ, List, length, refl, sym, subst, ◌∙◌}
 use Rattle.std.specs.List.Sorted.{IsPermutation}
-use Rattle.std.proofs.lemmas.Int.{ints}
 use Rattle.std.proofs.lemmas.List.Sorted.{All-permutation}
 use Rattle.shape_strides.specs.declared.layout.Layout.{Layout}
 use Rattle.shape_strides.specs.declared.layout_pair.LayoutPair.{LayoutPair}
-use Rattle.shape_strides.specs.Indexes.{rank}
-use Rattle.shape_strides.specs.IndexLaws.{rank-lt}
 use Rattle.shape_strides.specs.ItemPairs.{item_pairs}
-use Rattle.shape_strides.specs.LayoutLaws.{length-offsets, offsets_within, pos-offset}
-use Rattle.shape_strides.specs.Layouts.{offsets, Fits}
+use Rattle.shape_strides.specs.LayoutLaws.{offsets_within}
+use Rattle.shape_strides.specs.Layouts.{offsets}
 use Rattle.shape_strides.specs.PlaceLaws.{fits-offsets}
 use Rattle.overlap_copy.specs.OrderLaws.{pair_even, firsts-reordered, nested-reordered, filled-reordered}
 use Rattle.fancy_index.specs.Plans.{put_each}

@@ -3,12 +3,9 @@ use Rattle.std.proofs.Common.{◌≡◌, ℕ, ◌+◌, ◌*◌, ◌/◌, ◌<◌
 use Rattle.std.proofs.lemmas.Bool.{cond-true}
 use Rattle.std.proofs.lemmas.Bool.Decides.{nat_tests}
 use Rattle.std.proofs.lemmas.List.{drop_more, append_assoc}
-use Rattle.shape_strides.specs.declared.layout.Layout.{Layout}
-use Rattle.shape_strides.specs.Limits.{max_bytes}
 use Rattle.shape_strides.specs.Indexes.{count}
 use Rattle.shape_strides.specs.Contiguity.{printed_stride, printed_strides}
 use Rattle.shape_strides.specs.CountLaws.{count-drop, factors_pos}
-use Rattle.shape_strides.specs.LayoutLaws.{length-offsets, offsets_within, entry-first}
 
 -- the items of the axes after one
 pub record Later (lengths : List ℕ) (k items : ℕ) : Type 0 where

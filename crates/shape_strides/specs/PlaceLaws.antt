@@ -1,5 +1,5 @@
 -- What the places of items say of their layout.
-use Rattle.std.proofs.Common.{◌≡◌, ◌+◌, ◌<◌, ◌≤◌, ℕ, get_or, pos, ◌+ℤ◌, ◌≤ℤ◌, All, subst, arith}
+use Rattle.std.proofs.Common.{◌+◌, ◌<◌, ◌≤◌, ℕ, get_or, pos, ◌+ℤ◌, ◌≤ℤ◌, All, subst, arith}
 use Rattle.std.proofs.lemmas.Int.{ints}
 use Rattle.shape_strides.specs.declared.layout.Layout.{Layout}
 use Rattle.shape_strides.specs.Indexes.{count, rank}

@@ -1,4 +1,4 @@
-use Rattle.std.proofs.Common.{◌≡◌, ◌*◌, ◌++◌, ℤ, true, List, [], ◌∷◌, ℕ, length, map, sym, ap, ◌∙◌, inr, arith}
+use Rattle.std.proofs.Common.{◌≡◌, ◌*◌, ◌++◌, true, [], ◌∷◌, length, map, sym, ap, ◌∙◌, inr}
 use Rattle.std.specs.List.{list_all}
 use Rattle.std.proofs.lemmas.Result.{err_from_is_err_and}
 use Rattle.elem_descr.specs.declared.descr.Descr.TheVariants.{Scalar as ScalarDescr}
@@ -7,7 +7,6 @@ use Rattle.elem_descr.specs.Encoding.{is_value, size}
 use Rattle.elem_descr.specs.Blocks.{items_in}
 use Rattle.elem_descr.specs.Steps.{numbers_from}
 use Rattle.raw_block.specs.Bytes.{joined}
-use Rattle.literal_items.specs.RangeItems.{range_numbers, range_count}
 use Rattle.literal_items.specs.inside.Numbered.{numbered}
 use Rattle.literal_items.proofs.Counted.{numbers_read, length-numbered}
 use Rattle.literal_items.proofs.Stepping.{range_items-refused, range_items-beyond, range_items-ok}

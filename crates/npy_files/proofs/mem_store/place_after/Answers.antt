@@ -1,4 +1,4 @@
-use Rattle.std.proofs.Common.{◌≡◌, ◌+◌, length, refl, sym, ap, ◌∙◌, subst, arith, Some, None, IfSome, ◌<◌}
+use Rattle.std.proofs.Common.{◌≡◌, ◌+◌, length, sym, ap, ◌∙◌, subst, arith, Some, IfSome, ◌<◌}
 use Rattle.std.proofs.lemmas.Option.{slice_get-get_or}
 use Rattle.npy_files.specs.inside.Shelves.{IsNamed, IsFirstOf}
 use Rattle.npy_files.proofs.NextNames.{passed, kept, taken}

@@ -1,4 +1,4 @@
-use Rattle.std.proofs.Common.{◌≡◌, ◌<◌, sym, ap, ◌∙◌, subst, List, Some, None, length}
+use Rattle.std.proofs.Common.{◌<◌, sym, ap, ◌∙◌, subst, List, Some, None, length}
 use Rattle.std.proofs.lemmas.Option.{slice_get-get_or}
 use Rattle.npy_files.specs.declared.mem_store.StoredFile.{StoredFile}
 use Rattle.npy_files.specs.inside.Shelves.{IsFirstOf}
