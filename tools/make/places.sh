@@ -25,5 +25,8 @@ one companion/bench-tool bin/bench-tool 755
 all_below companion/bench_tool lib/bench-tool/bench_tool
 one docs/LANGUAGE.md lib/bench-tool/LANGUAGE.md 644
 one docs/LANGUAGE.md share/doc/bench/LANGUAGE.md 644
+one docs/COMPANION.md share/doc/bench/COMPANION.md 644
+one docs/FROM-NUMPY.md share/doc/bench/FROM-NUMPY.md 644
+all_below docs/pictures share/doc/bench/pictures
 one CHANGELOG.md share/doc/bench/CHANGELOG.md 644
 all_below examples share/doc/bench/examples
