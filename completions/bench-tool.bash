@@ -3,7 +3,7 @@ _bench_tool() {
     local word=${COMP_WORDS[COMP_CWORD]} before=${COMP_WORDS[COMP_CWORD-1]} command=${COMP_WORDS[1]} words pattern
     COMPREPLY=()
     if [ "$COMP_CWORD" -eq 1 ]; then
-        mapfile -t COMPREPLY < <(compgen -W "shell run show draw --help" -- "$word")
+        mapfile -t COMPREPLY < <(compgen -W "shell run show draw --help --version" -- "$word")
         return
     fi
     case $command in

@@ -126,7 +126,7 @@ class FromNumPy(unittest.TestCase):
                 self.assertEqual(self.refused(code, cell).text, f"no {code} {language.codes()[code][0]}")
 
     def test_open_or_wrong(self):
-        for cell, ours, theirs, _ in rows("Where NumPy leaves it open, or is wrong"):
+        for cell, ours, theirs, _ in rows("Where NumPy's result is undefined, or wrong"):
             lines = lines_of(cell)
             with self.subTest(lines):
                 bench = self.session()

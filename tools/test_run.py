@@ -245,7 +245,8 @@ class Runs(InFolder):
         with tool.stdout:
             self.assertEqual(tool.stdout.read(), b"no E01 line too long\nnames\n")
         _, status, used = os.wait4(tool.pid, 0)
-        self.assertEqual(os.waitstatus_to_exitcode(status), 1)
+        tool.returncode = os.waitstatus_to_exitcode(status)
+        self.assertEqual(tool.returncode, 1)
         self.assertLess(used.ru_maxrss, 250_000)  # kilobytes
 
     def test_names_are_printable(self):

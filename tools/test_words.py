@@ -105,7 +105,7 @@ class Words(unittest.TestCase):
             self.assertIn("replies", told)
         for code in language.codes():
             self.assertIn(code, language.help_text(code))
-        for word, said in [("types", "type string of NumPy"), ("shapes", "between parentheses"), ("indexes", "a slice `a:b:c`"), ("limits", "65,536")]:
+        for word, said in [("types", "type string of NumPy"), ("shapes", "between parentheses"), ("indexes", "a slice a:b:c"), ("limits", "65,536")]:
             self.assertIn(said, language.help_text(word))
 
     def test_manual_pages(self):

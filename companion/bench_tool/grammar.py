@@ -73,13 +73,14 @@ class Reading:
         self._behind = []
         return parts if self._skip(at) == len(self.line) or self._want(at, END) else []
 
-    def _want(self, at: int, what: str) -> None:
-        """Notes that something is missing at a place."""
+    def _want(self, at: int, what: str) -> Optional[int]:
+        """Notes that something is missing at a place, where nothing ends therefore."""
         at = self._skip(at)
         if at > self.far:
             self.far, self.wanted = at, {}
         if at == self.far:
             self.wanted.setdefault(what, self._behind)
+        return None
 
     def _skip(self, at: int) -> int:
         while at < len(self.line) and self.line[at] in " \t":

@@ -115,9 +115,10 @@ def page(title: str, moments: Sequence[Moment], line: int = 0) -> str:
 
 def traced(lines: Iterable[bytes], words: argparse.Namespace) -> list[Moment]:
     """What the lines of a script do, of the last of them."""
-    kept = list(lines)
+    kept, moments = list(lines), deque[Moment](maxlen=MOST_LINES)
     with Trace(undo=words.undo, dir=words.dir, script=b"\n".join(kept)) as trace:
-        return list(deque((trace.step(line) for line in kept), MOST_LINES))
+        moments.extend(trace.step(line) for line in kept)
+    return list(moments)
 
 
 def drawn(title: str, lines: Sequence[bytes], words: argparse.Namespace) -> str:

@@ -142,7 +142,7 @@ class Drawn:
         pairs = [(source.byte, at) for at, source in self.moved.items() if source.buffer == self.number]
         places = [[self.place(byte + half.get(byte % self.size, 0)) for byte in pair] for pair in pairs]
         moves = [(source, at) for source, at in places if source is not None and at is not None]
-        caption = f"Buffer {self.number} {self.state}".rstrip() + f": {self.count} items of {cut(self.kind.text, SHORT)}"
+        caption = f"Buffer {self.number} {self.state}".rstrip() + f": {self.count} item{'s' * (self.count != 1)} of {cut(self.kind.text, SHORT)}"
         hidden = len(self.kind.leaves) - len(self.leaves)
         caption += f", {self.count * self.size} bytes{left_out(self.count - len(self.column))}"
         caption += f"; the last {hidden} values of each item are not drawn" * bool(hidden) + more(self.folded)

@@ -4,7 +4,7 @@ import collections
 import os
 import sys
 import time
-from typing import BinaryIO
+from typing import BinaryIO, Iterator
 
 from .hints import Hints
 from .session import Reply, Session
@@ -38,7 +38,7 @@ def lines(script: BinaryIO, session: Session, words: argparse.Namespace, hints: 
         if reply.text and words.time:
             say(f"{took * 1e3:10.3f} ms  {number:5}  {shown(line)}")
         if not reply.accepted:
-            refused = codes.total() - codes[""] if hasattr(codes, "total") else sum(codes.values()) - codes[""]
+            refused = sum(codes.values()) - codes[""]
             refusal(hints, f"{name}:{number}:", line, reply, refused <= MOST_NOTES)
             if words.stop:
                 break
@@ -53,7 +53,7 @@ class ReadFault(Exception):
     """The script cannot be read further."""
 
 
-def read(script: BinaryIO):  # type: ignore[no-untyped-def]
+def read(script: BinaryIO) -> Iterator[bytes]:
     """The lines of a script."""
     try:
         yield from lines_of(script)
@@ -73,9 +73,10 @@ def run(words: argparse.Namespace) -> int:
     except OSError as fault:
         say(f"bench-tool: {name} cannot be read: {'it is a folder' if isinstance(fault, IsADirectoryError) else fault.strerror}")
         return 3
+    status = 3
     with script, Session(undo=words.undo, dir=words.dir) as session, Hints(session) as hints:
         try:
-            return lines(script, session, words, hints)
+            status = lines(script, session, words, hints)
         except ReadFault as fault:
             say(f"bench: read fault: {name}: {fault.__cause__}")
-            return 3
+    return status

@@ -6,6 +6,7 @@
 """
 from __future__ import annotations
 
+import io
 import os
 import re
 import shutil
@@ -95,7 +96,8 @@ def items_of(text: str) -> tuple[Any, ...]:
     """The items of a printed array, in C order: integers, bools, bytes, and tuples for records."""
     if "'" not in text and "(" not in text and "e" not in text:
         return tuple(map(int, text.replace("[", " ").replace("]", " ").split()))
-    return literal_eval(f"({''.join(token + ',' * (token != '(') for token in TOKEN.findall(text))})")
+    found: tuple[Any, ...] = literal_eval(f"({''.join(token + ',' * (token != '(') for token in TOKEN.findall(text))})")
+    return found
 
 
 def literal(item: Any) -> str:
@@ -132,7 +134,7 @@ class Session(AbstractContextManager["Session"]):
             self._process = subprocess.Popen(words, stdin=pipe, stdout=pipe, start_new_session=True, restore_signals=False)
         except OSError as fault:
             raise ProgramMissing(f"{self.program} cannot be started: {fault.strerror}") from None
-        assert self._process.stdin is not None and self._process.stdout is not None
+        assert self._process.stdin is not None and isinstance(self._process.stdout, io.BufferedReader)
         self._to, self._from = self._process.stdin, self._process.stdout
         if wait:
             self.send("")
@@ -160,7 +162,7 @@ class Session(AbstractContextManager["Session"]):
             raise
         text = begin.decode("ascii", "replace").removesuffix("\n")
         refused = REFUSAL.fullmatch(text)
-        return Reply(refused is None, *(refused.groups() if refused else ("", "")), text)
+        return Reply(refused is None, refused[1] if refused else "", refused[2] if refused else "", text)
 
     def run(self, lines: Union[str, Iterable[Line]]) -> list[Reply]:
         """The replies to several lines, one for each."""

@@ -132,8 +132,8 @@ class Bound:
         if len(shape) not in (2, 3) or not self.count:
             return []
         rows, columns = (ends(length, side) for length in shape[-2:])
-        slices = ends(shape[0], SLICES) if len(shape) == 3 else [None]
-        begins = [(f"[{k}]" if k is not None else "", self.array.at + (k or 0) * strides[0] * (k is not None)) for k in slices]
+        slices = [(f"[{k}]", k * strides[0]) for k in ends(shape[0], SLICES)] if len(shape) == 3 else [("", 0)]
+        begins = [(part, self.array.at + step) for part, step in slices]
         return [Grid(part, rows, columns, [[at + row * strides[-2] + column * strides[-1] for column in columns] for row in rows])
                 for part, at in begins]
 
@@ -214,7 +214,7 @@ class Trace(ExitStack):
         begin, text = bytearray(), ODD.sub("\ufffd", line.removesuffix(b"\r").decode("latin-1"))
         reply = self._script.send(line, lambda part: begin.extend(part if (begin or part)[:3] == b"ok " else part[:max(0, MOST_REPLY + 2 - len(begin))]))
         reply = replace(reply, text=begin.decode("ascii", "replace").removesuffix("\n"))
-        before, moved = self.state, {}
+        before, moved = self.state, dict[Place, Place]()
         names, buffers = before.names, before.buffers
         words = [word for word in WORD.findall(text) if word in names]
         verb, *rest = reply.text.split()[1:] if reply.text.startswith("ok ") else ["save"]
@@ -317,7 +317,7 @@ class Trace(ExitStack):
         rows = [[k >> power & 1 for k in range(len(places))] for power in range(len(places).bit_length())]
         rows.append([1 - bit for bit in rows[0]])
         coded = [{place: BITS[type(buffer.values[place])][bit] for place, bit in zip(places, row)} for row in rows]
-        told = {tuple(row[k] for row in rows): Place(bound.buffer, place) for k, place in enumerate(places)}
+        told: dict[tuple[Any, ...], Place] = {tuple(row[k] for row in rows): Place(bound.buffer, place) for k, place in enumerate(places)}
         left = [self._tried(line, array, [bound.kind.item(code, at) for at in order], changed) for code in coded]
         codes = {at: tuple(BIT.get(values.get(at)) for values in left) for at in (left[0] if all(left) else ())}
         return {at: told[code] for at, code in codes.items() if code in told and told[code] != at}

@@ -95,7 +95,7 @@ class Translation:
     def constant(self, node: ast.AST) -> Any:
         """The value of what is written out."""
         try:
-            found = ast.literal_eval(node)  # type: ignore[arg-type]
+            found = ast.literal_eval(node)
         except (ValueError, TypeError, SyntaxError, MemoryError, RecursionError):
             return self.refuse()
         values = flat(found) if isinstance(found, list) else [found]
