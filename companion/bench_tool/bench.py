@@ -222,7 +222,7 @@ class Session(session.Session):
             assert isinstance(self.files._place, Path)
             with open(self.files._place / EXCHANGE, "wb") as file:
                 file.write(front)
-                file.write(numpy.lib.stride_tricks.as_strided(items, (items.size,), (items.itemsize,)).data if items.size else b"")
+                file.write(items.ravel("K").view(numpy.uint8).data)
         elif self._inside.put(EXCHANGE.encode(), front, items.ctypes.data, items.nbytes) == library.TOO_LONG:
             raise ValueError("an array has at most 2^28 bytes")
         try:
