@@ -1,3 +1,4 @@
+mod NextNames
 mod StoreLaws
 mod UserNames
 mod UserFiles

@@ -1,5 +1,7 @@
 -- What a store of files is, and what its calls answer.
-use Rattle.std.specs.Prelude.{◌≡◌, ◌≢◌, ◌⊎◌, ◌<◌, ◌≤◌, ℕ, Bool, true, List, length, Option, Some, None, Result, Ok, Err}
+use Rattle.std.specs.Prelude.{◌≡◌, ◌≢◌, ◌⊎◌, ◌<◌, ◌≤◌, ℕ, Bool, true, false, List, length, Option, Some, None, IsSome, Result, Ok, Err}
+use Rattle.std.specs.Ordering.{nat_cmp, is_lt}
+use Rattle.std.specs.Cmp.Lexicographic.{slice_cmp}
 use Rattle.std.specs.FinMap.{empty, get, insert}
 use Rattle.disk.specs.Files.{Files, SameBut}
 use Rattle.disk.specs.Calls.{last_count}
@@ -56,3 +58,18 @@ IsWritten old name bytes (Ok _) files = (files ≡ insert old.files name bytes) 
 IsWritten old name bytes (Err TooLong) files = (files ≡ old.files) × (old.limit < length bytes)
 IsWritten old name bytes (Err Device) files = (other : List ℕ) → other ≢ name → get files other ≡ get old.files other
 IsWritten old name bytes (Err Memory) files = files ≡ old.files
+
+-- one name comes before another, in the order of their bytes
+abbrev pub is_before : List ℕ → List ℕ → Bool
+is_before name other = is_lt (slice_cmp nat_cmp name other)
+
+-- Of the files' names that come after another one, this is the first.
+pub record IsFirstAfter (files : Files) (after name : List ℕ) : Type 0 where
+  pub there : IsSome (get files name)
+  pub later : is_before after name ≡ true
+  pub first : (other : List ℕ) → IsSome (get files other) → is_before after other ≡ true → is_before other name ≡ false
+
+-- the first of the files' names that come after this one, or none
+abbrev pub IsNextName : Files → List ℕ → Option (List ℕ) → Type 0
+IsNextName files after None = (name : List ℕ) → IsSome (get files name) → is_before after name ≡ false
+IsNextName files after (Some name) = IsFirstAfter files after name

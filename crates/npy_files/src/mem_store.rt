@@ -1,6 +1,7 @@
 //! A store in memory.
-ghost use Rattle.std.specs.Prelude.{◌≡◌, ◌<◌, length, position, IfSome};
-ghost use Rattle.npy_files.specs.inside.Shelves.{is_called};
+ghost use Rattle.std.specs.Prelude.{◌≡◌, ◌<◌, ℕ, List, true, length, position, IfSome, MatchOption};
+ghost use Rattle.npy_files.specs.Stores.{is_before};
+ghost use Rattle.npy_files.specs.inside.Shelves.{is_called, IsNamed, IsFirstOf};
 
 use crate::store::{NpyStore, StoreFault, is_longer};
 use npy_format::FileParts;
@@ -27,8 +28,43 @@ fn place_of(files: &[StoredFile], name: &[u8]) -> Option<usize>
     files.iter().position(|file| name == file.name.as_slice())
 }
 
+/// Whether one name comes before another, in the order of their bytes.
+fn is_before(name: &[u8], other: &[u8]) -> bool
+    ensures { result ≡ is_before name.now other.now }
+{
+    name.cmp(&other).is_lt()
+}
+
+/// Whether a name comes before that of the file at the best place so far, if there is one.
+fn comes_first(files: &[StoredFile], best: Option<usize>, name: &[u8]) -> bool
+    requires { IfSome best (λ place. place < length files.now) }
+    ensures { MatchOption best (result ≡ true) (λ place. (first : List ℕ) → IsNamed files.now place first → result ≡ is_before name.now first) }
+{
+    match best {
+        None => true,
+        Some(place) => is_before(name, files[place].name.as_slice()),
+    }
+}
+
+/// The place of the file whose name is the first after this one.
+fn place_after(files: &[StoredFile], after: &[u8]) -> Option<usize>
+    ensures first { IsFirstOf files.now after.now (length files.now) result }
+    ensures below { IfSome result (λ place. place < length files.now) }
+{
+    let mut best = None;
+    for place in 0..files.len() {
+        let name = files[place].name.as_slice();
+        if is_before(after, name) && comes_first(files, best, name) {
+            best = Some(place);
+        }
+    }
+    best
+}
+
 impl MemStore {
-    ghost use Rattle.npy_files.specs.Stores.{empty_shelf};
+    ghost use Rattle.std.specs.Prelude.{Some, None};
+    ghost use Rattle.std.specs.FinMap.{get};
+    ghost use Rattle.npy_files.specs.Stores.{empty_shelf, IsNextName};
 
     /// A store without files, none of which may have more bytes than the limit.
     pub fn new(alloc: Global, limit: usize) -> MemStore
@@ -38,6 +74,27 @@ impl MemStore {
             files: Vec::new(alloc),
             limit,
         }
+    }
+
+    /// The bytes of the file with this name, or `None` where there is no such file.
+    pub fn bytes_of(&self, name: &[u8]) -> Option<&[u8]>
+        ensures { MatchOption result
+            (get (⟦<MemStore as NpyStore>⟧.shelf self.now).files name.now ≡ None)
+            (λ bytes. get (⟦<MemStore as NpyStore>⟧.shelf self.now).files name.now ≡ Some bytes.now) }
+    {
+        let place = place_of(self.files.as_slice(), name)?;
+        Some(self.files[place].bytes.as_slice())
+    }
+
+    /// The first of the files' names that come after this one, in the order of their bytes. All names come
+    /// after the empty one, so that each call with the name before gives them one by one.
+    pub fn next_name(&self, after: &[u8]) -> Option<&[u8]>
+        ensures { MatchOption result
+            (IsNextName (⟦<MemStore as NpyStore>⟧.shelf self.now).files after.now None)
+            (λ name. IsNextName (⟦<MemStore as NpyStore>⟧.shelf self.now).files after.now (Some name.now)) }
+    {
+        let place = place_after(self.files.as_slice(), after)?;
+        Some(self.files[place].name.as_slice())
     }
 }
 

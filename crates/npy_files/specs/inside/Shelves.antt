@@ -1,5 +1,5 @@
 -- What the stores hold.
-use Rattle.std.specs.Prelude.{◌≡◌, ◌⊎◌, ◌<◌, ◌≤◌, ℕ, zero, suc, Bool, true, List, map, Option, Some, None, Result, Ok, Err}
+use Rattle.std.specs.Prelude.{◌≡◌, ◌⊎◌, ◌<◌, ◌≤◌, ℕ, zero, suc, Bool, true, false, List, map, slice_get, Option, Some, None, Result, Ok, Err}
 use Rattle.std.specs.FinMap.{from_entries}
 use Rattle.std.specs.Str.{bytes_eq}
 use Rattle.npy_files.specs.declared.mem_store.StoredFile.{StoredFile}
@@ -7,7 +7,7 @@ use Rattle.npy_files.specs.declared.store.StoreFault.{StoreFault}
 use Rattle.npy_files.specs.declared.store.StoreFault.TheVariants.{Device, TooLong, Memory}
 use Rattle.disk.specs.Files.{Files}
 use Rattle.disk.specs.Calls.{last_count}
-use Rattle.npy_files.specs.Stores.{StoreState}
+use Rattle.npy_files.specs.Stores.{StoreState, is_before}
 
 abbrev pub named_bytes : StoredFile → List ℕ × List ℕ
 named_bytes file = (file.name.items, file.bytes.items)
@@ -23,6 +23,17 @@ files_of files = from_entries (map named_bytes files)
 -- files in memory, whose device fails only where it is made to
 abbrev pub shelf_of : List StoredFile → ℕ → ℕ → StoreState
 shelf_of files limit failures = record { files = files_of files; failures = failures; limit = limit; honest = true }
+
+-- the file at this place of a list has this name
+abbrev pub IsNamed : List StoredFile → ℕ → List ℕ → Type 0
+IsNamed files place name = (file : StoredFile) × (slice_get files place ≡ Some file) × (file.name.items ≡ name)
+
+-- Of the first files of a list, so many, the one at this place has the first name after another one.
+abbrev pub IsFirstOf : List StoredFile → List ℕ → ℕ → Option ℕ → Type 0
+IsFirstOf files after count None = (place : ℕ) (name : List ℕ) → place < count → IsNamed files place name → is_before after name ≡ false
+IsFirstOf files after count (Some best) =
+    (name : List ℕ) × IsNamed files best name × (is_before after name ≡ true)
+    × ((place : ℕ) (other : List ℕ) → place < count → IsNamed files place other → is_before after other ≡ true → is_before other name ≡ false)
 
 -- how often a device has failed that fails once, after so many calls
 abbrev pub failures_of : Option ℕ → ℕ

@@ -1,0 +1,166 @@
+-- The first name after another one, as a list of files is gone through.
+use Rattle.std.proofs.Common.{◌≡◌, ◌<◌, ◌≤◌, ◌+◌, ℕ, zero, suc, Bool, true, false, List, [], ◌∷◌, map, length, refl, sym, ap, subst, ◌∙◌, cond, Option, Some, None, IsSome, MatchOption, IfSome, slice_get, arith, ◌⊎◌, inl, inr, is_some}
+use Rattle.std.proofs.Math.Nat.{eq-or-lt_of_le}
+use Rattle.std.specs.Ordering.{nat_cmp, is_lt, eq_by_cmp, ordering_reverse}
+use Rattle.std.specs.Cmp.Lexicographic.{slice_cmp, nat_list_cmp_total, texts_ties}
+use Rattle.std.specs.FinMap.{get, find, get-from_entries}
+use Rattle.std.specs.declared.cmp.Ordering.{Ordering}
+use Rattle.std.specs.declared.cmp.Ordering.TheVariants.{Less, Equal, Greater}
+use Rattle.std.proofs.lemmas.Bool.{true≢false}
+use Rattle.std.proofs.lemmas.Option.{slice_get_within}
+use Rattle.std.proofs.lemmas.Slice.Eq.{bytes_eq-Decides}
+use Rattle.npy_files.specs.declared.mem_store.StoredFile.{StoredFile}
+use Rattle.npy_files.specs.Stores.{is_before, IsFirstAfter, IsNextName}
+use Rattle.npy_files.specs.inside.Shelves.{named_bytes, files_of, IsNamed, IsFirstOf}
+
+-- ---- the order of names
+
+is-Less : (o : Ordering) → is_lt o ≡ true → o ≡ Less
+is-Less Less e = refl
+is-Less Equal e = absurd (true≢false (sym e))
+is-Less Greater e = absurd (true≢false (sym e))
+
+unless : (b : Bool) → (b ≡ true → ⊥) → b ≡ false
+unless true never = absurd (never refl)
+unless false never = refl
+
+chained : (a b c : List ℕ) → is_before a b ≡ true → is_before b c ≡ true → is_before a c ≡ true
+chained a b c ab bc = ap is_lt (nat_list_cmp_total.trans a b c (is-Less (slice_cmp nat_cmp a b) ab) (is-Less (slice_cmp nat_cmp b c) bc))
+
+not_itself : (a : List ℕ) → is_before a a ≡ false
+not_itself a =
+    unless (is_before a a) (λ before.
+    let e = is-Less (slice_cmp nat_cmp a a) before in
+    true≢false (sym before ∙ ap is_lt (nat_list_cmp_total.antisymm a a) ∙ ap (λ o. is_lt (ordering_reverse o)) e))
+
+-- ---- one place more
+
+file_or : StoredFile → Option StoredFile → StoredFile
+file_or file None = file
+file_or file (Some other) = other
+
+same_name : (files : List StoredFile) (place : ℕ) (a b : List ℕ) → IsNamed files place a → IsNamed files place b → a ≡ b
+unfolding file_or
+same_name files place a b p q = sym p.2 ∙ ap (λ (o : Option StoredFile). (file_or p.0 o).name.items) (sym p.1 ∙ q.1) ∙ q.2
+
+earlier_or_last : (place count : ℕ) → place < count + 1 → (place ≡ count) ⊎ (place < count)
+earlier_or_last place count l = eq-or-lt_of_le (let le : place ≤ count = omega arith in le)
+
+module _ (files : List StoredFile) (after : List ℕ) (count : ℕ) (name : List ℕ) (is : IsNamed files count name) where
+  named : (place : ℕ) (other : List ℕ) → place ≡ count → IsNamed files place other → other ≡ name
+  named place other e p = same_name files count other name (subst (λ (k : ℕ). IsNamed files k other) e p) is
+
+  -- the name at the next place does not come after the other one
+  pub passed : is_before after name ≡ false → (best : Option ℕ) → IsFirstOf files after count best → IsFirstOf files after (count + 1) best
+  passed not None old = λ place other l p.
+      elim (earlier_or_last place count l) [
+        | inl e ↦ ap (is_before after) (named place other e p) ∙ not
+        | inr below ↦ old place other below p
+      ]
+  passed not (Some best) old = (
+    old.0,
+    old.1,
+    old.2,
+    λ place other l p later.
+        elim (earlier_or_last place count l) [
+          | inl e ↦ absurd (true≢false (sym later ∙ ap (is_before after) (named place other e p) ∙ not))
+          | inr below ↦ old.3 place other below p later
+        ],
+  )
+
+  -- what tells whether the name comes before the best so far
+  abbrev pub Tells : Option ℕ → Bool → Type 0
+  Tells best answer = MatchOption best (answer ≡ true) (λ place. (first : List ℕ) → IsNamed files place first → answer ≡ is_before name first)
+
+  -- the name comes after the other one, and the best so far before the name
+  pub kept : (best : Option ℕ) (answer : Bool) → answer ≡ false → Tells best answer → IsFirstOf files after count best → IsFirstOf files after (count + 1) best
+  kept None answer not tells old = absurd (true≢false (sym tells ∙ not))
+  kept (Some best) answer not tells old = (
+    old.0,
+    old.1,
+    old.2,
+    λ place other l p later.
+        elim (earlier_or_last place count l) [
+          | inl e ↦ ap (λ (a : List ℕ). is_before a old.0) (named place other e p) ∙ sym (tells old.0 old.1) ∙ not
+          | inr below ↦ old.3 place other below p later
+        ],
+  )
+
+  -- it is the first so far
+  pub taken : is_before after name ≡ true → (best : Option ℕ) (answer : Bool) → answer ≡ true → Tells best answer → IsFirstOf files after count best → IsFirstOf files after (count + 1) (Some count)
+  taken after_it None answer so tells old = (
+    name,
+    is,
+    after_it,
+    λ place other l p later.
+        elim (earlier_or_last place count l) [
+          | inl e ↦ ap (λ (a : List ℕ). is_before a name) (named place other e p) ∙ not_itself name
+          | inr below ↦ absurd (true≢false (sym later ∙ old place other below p))
+        ],
+  )
+  taken after_it (Some best) answer so tells old = (
+    name,
+    is,
+    after_it,
+    λ place other l p later.
+        elim (earlier_or_last place count l) [
+          | inl e ↦ ap (λ (a : List ℕ). is_before a name) (named place other e p) ∙ not_itself name
+          | inr below ↦ unless (is_before other name) (λ before.
+              true≢false (sym (chained other name old.0 before (sym (tells old.0 old.1) ∙ so)) ∙ old.3 place other below p later))
+        ],
+  )
+
+-- ---- the names of the map
+
+tied : (a b : List ℕ) → a ≡ b → eq_by_cmp (slice_cmp nat_cmp) a b ≡ true
+tied a b e = sym (texts_ties a b) ∙ (bytes_eq-Decides a b).1 e
+
+found_at : {X : Type 0} (b : Bool) (x y : Option X) → IsSome x → IsSome y → IsSome (cond b x y)
+found_at true x y p q = p
+found_at false x y p q = q
+
+first_found : {X : Type 0} (b : Bool) (x : X) (y : Option X) → b ≡ true → IsSome (cond b (Some x) y)
+first_found true x y e = refl
+first_found false x y e = absurd (true≢false (sym e))
+
+-- each file of a list is found by its name
+listed : (files : List StoredFile) (place : ℕ) (name : List ℕ) → IsNamed files place name → IsSome (find (slice_cmp nat_cmp) name (map named_bytes files))
+listed [] place name is = absurd (true≢false (sym (ap is_some is.1)))
+listed (f ∷ files) zero name is =
+    first_found (eq_by_cmp (slice_cmp nat_cmp) name f.name.items) f.bytes.items (find (slice_cmp nat_cmp) name (map named_bytes files))
+    (tied name f.name.items (same_name (f ∷ files) 0 name f.name.items is (f, refl, refl)))
+listed (f ∷ files) (suc place) name is =
+    found_at (eq_by_cmp (slice_cmp nat_cmp) name f.name.items) (Some f.bytes.items) (find (slice_cmp nat_cmp) name (map named_bytes files)) refl (listed files place name is)
+
+same_by_ties : (a b : List ℕ) → eq_by_cmp (slice_cmp nat_cmp) a b ≡ true → a ≡ b
+same_by_ties a b e = (bytes_eq-Decides a b).0 (texts_ties a b ∙ e)
+
+-- and what is found is a file of the list
+named_there : (files : List StoredFile) (name : List ℕ) → IsSome (find (slice_cmp nat_cmp) name (map named_bytes files)) → (place : ℕ) × IsNamed files place name
+named_there [] name = λ is. absurd (true≢false (sym is))
+named_there (f ∷ files) name =
+    let rest = find (slice_cmp nat_cmp) name (map named_bytes files) in
+    elim (eq_by_cmp (slice_cmp nat_cmp) name f.name.items) as (λ b. eq_by_cmp (slice_cmp nat_cmp) name f.name.items ≡ b → IsSome (cond b (Some f.bytes.items) rest) → (place : ℕ) × IsNamed (f ∷ files) place name) [
+      | true ↦ λ e is. (0, (f, refl, sym (same_by_ties name f.name.items e)))
+      | false ↦ λ e is. let there = named_there files name is in (suc there.0, there.1)
+    ] refl
+
+below_length : (files : List StoredFile) (place : ℕ) (name : List ℕ) → IsNamed files place name → place < length files
+below_length files place name is = slice_get_within files place is.0 is.1
+
+-- the best of all is the first name of the map
+pub next : (files : List StoredFile) (after : List ℕ) (place : ℕ) (name : List ℕ) → IsNamed files place name → IsFirstOf files after (length files) (Some place) → IsFirstAfter (files_of files) after name
+next files after place name is best =
+    let same = same_name files place best.0 name best.1 is in
+    record {
+      there = subst IsSome (sym (get-from_entries nat_list_cmp_total (map named_bytes files) name)) (listed files place name is);
+      later = ap (is_before after) (sym same) ∙ best.2;
+      first = λ other there later.
+          let at = named_there files other (subst IsSome (get-from_entries nat_list_cmp_total (map named_bytes files) other) there) in
+          ap (is_before other) (sym same) ∙ best.3 at.0 other (below_length files at.0 other at.1) at.1 later;
+    }
+
+pub no_next : (files : List StoredFile) (after : List ℕ) → IsFirstOf files after (length files) None → IsNextName (files_of files) after None
+no_next files after best = λ name there.
+    let at = named_there files name (subst IsSome (get-from_entries nat_list_cmp_total (map named_bytes files) name) there) in
+    best at.0 name (below_length files at.0 name at.1) at.1
