@@ -6,7 +6,7 @@ from pathlib import Path
 from typing import NamedTuple
 
 HERE = Path(__file__).resolve()
-PLACES = (HERE.parents[1] / "LANGUAGE.md", HERE.parents[2] / "docs/LANGUAGE.md")
+PLACES = (HERE.with_name("LANGUAGE.md"), HERE.parents[1] / "LANGUAGE.md", HERE.parents[2] / "docs/LANGUAGE.md")
 LISTS = re.compile(r"(?:OP is one of|the comparisons|UN one of|RED one of)\s+`([^`]*)`")
 # What the words of the column of refusals stand for.
 GROUPS = {

@@ -52,11 +52,11 @@ class ProgramEnded(BenchError):
 
 
 class Refused(BenchError):
-    """A question was refused that wanted an answer."""
+    """A line was refused that was to be accepted: the line, the code and the text of its reply."""
 
     def __init__(self, line: str, reply: Reply):
         super().__init__(f"{reply.text}: {line}")
-        self.reply = reply
+        self.line, self.code, self.text, self.reply = line, reply.code, reply.text, reply
 
 
 @dataclass(frozen=True)
