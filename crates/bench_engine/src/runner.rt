@@ -11,15 +11,19 @@ use crate::source::ScriptSource;
 use npy_files::NpyStore;
 use std::alloc::{AllocError, Global};
 use std::io::Write;
+use thiserror::Error;
 
 /// Why a run stops before the end.
-#[derive(Clone, Copy, Debug, PartialEq, Eq)]
+#[derive(Clone, Copy, Debug, PartialEq, Eq, Error)]
 pub enum RunFault {
     /// A read failed, or too many were made.
+    #[error("read fault")]
     Read,
     /// A write failed or took nothing.
+    #[error("write fault")]
     Write,
     /// No memory was found to begin with.
+    #[error("out of memory")]
     Memory,
 }
 
