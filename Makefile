@@ -38,9 +38,9 @@ runs = bench:bin/bench companion/bench-tool:bin/bench-tool $(program):libexec/be
 below = $(foreach file,$(shell find $1 -name __pycache__ -prune -o -type f -print),$(file):$2$(file:$1%=%))
 reads = man/bench.1:share/man/man1/bench.1 man/bench-tool.1:share/man/man1/bench-tool.1 \
 	$(foreach tool,bench bench-tool,completions/$(tool).bash:share/bash-completion/completions/$(tool) completions/_$(tool):share/zsh/site-functions/_$(tool)) \
-	$(call below,editors/vim,share/vim/vimfiles) $(call below,editors,share/bench/editors) \
+	$(call below,editors/vim,share/vim/vimfiles) $(call below,editors,share/bench/editors) $(call below,examples,share/doc/bench/examples) \
 	$(call below,companion/bench_tool,lib/bench-tool/bench_tool) docs/LANGUAGE.md:lib/bench-tool/LANGUAGE.md \
-	$(foreach file,$(wildcard README.md CHANGELOG.md LICENSE* docs/*.md docs/pictures/* examples/*),$(file):share/doc/bench/$(file))
+	$(foreach file,$(wildcard README.md CHANGELOG.md LICENSE* docs/*.md docs/pictures/*),$(file):share/doc/bench/$(file))
 
 install:
 	@[ -n "$(program)" ] || { echo "bench: no program: \`make\` builds it" >&2; exit 3; }
