@@ -30,7 +30,12 @@ fn read_line(alloc: Global, line: &[u8]) -> Result<Option<Command>, Refusal>
 }
 
 /// Answers a line: whether its command was accepted, or nothing where it asks for nothing.
-pub fn answer(bench: &mut Bench, store: &mut MemStore, line: &[u8], out: &mut Vec<u8>) -> Option<bool>
+pub fn answer(
+    bench: &mut Bench,
+    store: &mut MemStore,
+    line: &[u8],
+    out: &mut Vec<u8>,
+) -> Option<bool>
     requires room { vec_len out.old + 64 ≤ vec_capacity out.old }
     ensures answered { (replies : List Reply) × Appended replies result out.old.items out.new.items
         × AnswersLine (world bench.old.state (⟦<MemStore as NpyStore>⟧.shelf store.old)) line.now (world bench.new.state (⟦<MemStore as NpyStore>⟧.shelf store.new)) replies }

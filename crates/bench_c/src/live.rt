@@ -4,9 +4,9 @@ ghost use Rattle.std.specs.FinMap.{get};
 ghost use Rattle.npy_files.specs.Stores.{IsNextName};
 ghost use Rattle.bench_c.specs.Lives.{world_of, IsNew, Answers, Puts, Gives, GivesIfAny};
 
+use crate::answering::{MAX_REFUSAL_LEN, answer};
 use crate::copying::{copy_if_any, copy_out};
 use crate::status::Status;
-use crate::answering::{MAX_REFUSAL_LEN, answer};
 use name_store::Bench;
 use npy_files::{MAX_FILE, MemStore, NpyStore, StoreFault};
 use std::alloc::{AllocError, Global};

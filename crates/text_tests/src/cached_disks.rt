@@ -41,8 +41,8 @@ fn folder_left(
     file: usize,
     hidden: usize,
 ) -> Result<Option<CachedFolder>, AllocError> {
-    let is_left =
-        disk.crash(b"a", choice(alloc, file)?)? && disk.crash(b".a.part", choice(alloc, hidden)?)?;
+    let is_left = disk.crash(b"a", choice(alloc, file)?)?
+        && disk.crash(b".a.part", choice(alloc, hidden)?)?;
     if !is_left {
         return Ok(None);
     }
@@ -76,9 +76,14 @@ fn a_crash_at_each_call_leaves_a_whole_file(rt: HostRuntime) -> Result<(), Fail>
                     continue;
                 };
                 let saves = saves_in(rt.alloc(), &mut folder)?;
-                assert!(rt; saves == accepted || saves == accepted.saturating_add(1), "at {call}: {file}, {hidden}");
+                assert!(rt;
+                    saves == accepted || saves == accepted.saturating_add(1),
+                    "at {call}: {file}, {hidden}"
+                );
                 folder.write(rt.alloc(), b"a", b"new")?;
-                let is_new = folder.read(rt.alloc(), b"a")?.is_some_and(|found| found.as_slice() == b"new".as_slice());
+                let is_new = folder
+                    .read(rt.alloc(), b"a")?
+                    .is_some_and(|found| found.as_slice() == b"new".as_slice());
                 let is_hidden = folder.into_disk().has_file(b".a.part")?;
                 assert!(rt; is_new && !is_hidden, "then, at {call}: {file}, {hidden}");
                 left = left.saturating_add(1);
