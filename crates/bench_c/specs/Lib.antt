@@ -1,5 +1,0 @@
-pub mod Appended
-pub mod Calls
-pub mod Held
-pub mod Lives
-pub mod Statuses
