@@ -210,7 +210,7 @@ class Runs(InFolder):
 
     def test_signals(self):
         """Ctrl-C and SIGTERM end `run`, `draw` and the program at once; a program that is killed is reported."""
-        slow = self.written("c = full |S65536 (1) b'a'\nc = broadcast c (16777216)\nprint c\n")
+        slow = self.written("a = arange <i8 0 4000000 1\n" + "x = mod a a\n" * 1000)
         for word in ("run", "draw"):
             for sent, status in ((signal.SIGINT, 130), (signal.SIGTERM, 143)):
                 with self.subTest(word, sent=sent):
