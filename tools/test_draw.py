@@ -288,6 +288,7 @@ class Pictures(unittest.TestCase):
         """The page of some lines."""
         return pages.drawn("made <&>.bench", lines, self.words(**words))
 
+    @unittest.skipUnless(shutil.which("bash"), "there is no Bash")
     def test_command(self):
         """`bench-tool draw` writes a page or a picture to its output or to a file: whole, or what was there stays."""
         lines = [b"a = arange <i4 0 4 1", b"set a[1:] = a[:-1]"]

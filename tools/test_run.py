@@ -171,6 +171,7 @@ class Runs(InFolder):
         _, told, _ = self.tool("a = zeros <i4 (3\n")
         self.assertEqual(told.splitlines()[1:], ["SCRIPT:1: note: a = zeros <i4 (3", "SCRIPT:1: note:                 ^ `,` or `)`"])
 
+    @unittest.skipUnless(shutil.which("bash"), "there is no Bash")
     def test_standard_error_that_cannot_be_written(self):
         """The script is carried out to its end, and the status says what happened."""
         path = self.written('a = zeros |u1 (3)\n' + 'b = zeros f8 (3)\n' * 200 + 'save a "end.npy"\nnames\n')
@@ -181,6 +182,7 @@ class Runs(InFolder):
                 self.assertEqual((self.folder / "status").read_text(), "1\n")
                 (self.folder / "end.npy").unlink()
 
+    @unittest.skipUnless(shutil.which("bash"), "there is no Bash")
     def test_closed_streams(self):
         path = self.written("a = zeros <i4 (3)\n")
         for words, wanted in (("run - <&-", 0), (f"run {path} >&-", 0), ("shell <&-", 0), ("draw - <&-", 0), (f"draw {path} >&-", 0), (f"run {path} <&- >&- 2>&-", 0)):
@@ -188,6 +190,7 @@ class Runs(InFolder):
                 done = subprocess.run(["bash", "-c", f"{TOOL} {words}"], capture_output=True, env=environment(), timeout=60)
                 self.assertEqual((done.returncode, done.stderr), (wanted, b""))
 
+    @unittest.skipUnless(shutil.which("bash"), "there is no Bash")
     def test_a_file_that_may_not_grow(self):
         """Where no more may be written, a save is refused, and what comes behind it runs."""
         path = self.written('a = zeros |u1 (100000)\nsave a "big.npy"\nnames\n')
@@ -208,6 +211,7 @@ class Runs(InFolder):
         done = subprocess.run([tree / "companion/bench-tool", "run", "-"], input=b"names", capture_output=True, env=settings, timeout=60)
         self.assertEqual((done.stdout, done.stderr, done.returncode), (b"names\n", b"", 0))
 
+    @unittest.skipUnless(shutil.which("ps"), "there is no ps")
     def test_signals(self):
         """Ctrl-C and SIGTERM end `run`, `draw` and the program at once; a program that is killed is reported."""
         slow = self.written("a = arange <i8 0 4000000 1\n" + "x = mod a a\n" * 1000)
