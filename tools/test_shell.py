@@ -177,6 +177,7 @@ class Shells(InFolder):
         self.assertTrue(shell.line(command.replace(b" (", b" " * (65536 - len(command)) + b" (")).endswith("ok a |u1 (2,) new\n"))
         self.assertTrue(shell.line(b"#".ljust(65537, b"x")).endswith("no E01 line too long\n    the line has more than 65,536 bytes\n"))
 
+    @unittest.skipUnless(os.environ.get("BENCH_TESTS") == "all", "what hangs on moments is tried with BENCH_TESTS=all")
     def test_ctrl_c_in_a_long_line(self):
         """Its work is stopped, and the names are those of the lines before it."""
         shell = self.shell()
@@ -190,6 +191,7 @@ class Shells(InFolder):
         self.assertEqual(shell.line(b"print d"), "[1 0]\n")
         self.assertEqual(shell.line(b"undo"), "ok undo\n    (took back: set d[0] = 1)\n")
 
+    @unittest.skipUnless(os.environ.get("BENCH_TESTS") == "all", "what hangs on moments is tried with BENCH_TESTS=all")
     def test_ctrl_c_many_times(self):
         shell, rng = self.shell(), random.Random(1)
         shell.line(b"keep = zeros <i4 (1)")
