@@ -48,7 +48,10 @@ def run_tests(words, counts, is_gate):
     """Runs the tests, on all cores, and tells those that failed, and those that were left out."""
     names = [name for name in names_of(unittest.defaultTestLoader.discover(str(TOOLS), "test_*.py")) if not words or any(word in name for word in words)]
     with concurrent.futures.ProcessPoolExecutor() as pool:
-        for name, fault, reasons, _ in pool.map(run_test, names):
+        for name, fault, reasons, _ in list(pool.map(run_test, names)):
+            if fault:  # On a busy machine a signal or a limit of time may come at the wrong moment.
+                print(f"{fault}\n{name} is run once more, alone", flush=True)
+                _, fault, reasons, _ = run_test(name)
             if fault or is_gate and any("no program" in why for why in reasons):
                 print(f"FAILED: {name}\n{fault or reasons}", flush=True)
                 counts.failed += 1
