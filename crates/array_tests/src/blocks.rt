@@ -159,3 +159,28 @@ fn swaps(rt: HostRuntime) {
     block.swap_strided(0, 2, 10, -2, 2, 3);
     has(&rt, &block, &[10, 11, 8, 9, 6, 7, 4, 5, 2, 3, 0, 1]);
 }
+
+#[test]
+fn writes_ints(rt: HostRuntime) {
+    let mut block = counted(&rt, rt.alloc());
+    let run = block.run_i32_mut(4, 2);
+    check(&rt, run[0] == [4, 5, 6, 7], "an item");
+    run[0] = (-2_i32).to_le_bytes();
+    run[1] = 258_i32.to_le_bytes();
+    has(
+        &rt,
+        &block,
+        &[0, 1, 2, 3, 254, 255, 255, 255, 2, 1, 0, 0],
+    );
+}
+
+#[test]
+fn writes_longs(rt: HostRuntime) {
+    let mut block = counted(&rt, rt.alloc());
+    block.run_i64_mut(3, 1)[0] = (-258_i64).to_le_bytes();
+    has(
+        &rt,
+        &block,
+        &[0, 1, 2, 254, 254, 255, 255, 255, 255, 255, 255, 11],
+    );
+}

@@ -3,7 +3,7 @@ ghost use Rattle.std.specs.Prelude.{◌≡◌, ℕ, pos, ◌+◌, ◌*◌, ◌/�
 ghost use Rattle.std.specs.Borrow.{sem};
 ghost use Rattle.std.specs.List.{refill};
 ghost use Rattle.raw_block.specs.Bytes.{item_at, put, little_number, little_bytes, EachWithin, copied, copied_within, filled, swapped, traded};
-ghost use Rattle.raw_block.specs.NumberRuns.{signed_number};
+ghost use Rattle.raw_block.specs.NumberRuns.{signed_number, signed_numbers, adjacent_items, adjacent_numbers, AreArrays, with_run, SameBeside};
 ghost use Rattle.raw_block.specs.inside.Sizes.{IsSizeFor};
 
 mod builder;
@@ -48,7 +48,7 @@ fn padded(len: usize) -> usize
 }
 
 impl RawBlock {
-    ghost use Rattle.raw_block.specs.BlockLends.{lends_block};
+    ghost use Rattle.raw_block.specs.BlockLends.{lends_block, lends_run};
 
     /// Takes memory for `len` zeros. An `Err` says that there is none; above `isize::MAX - 15` there
     /// never is.
@@ -102,13 +102,39 @@ impl RawBlock {
         RunI32::over(items_at::<4>(self.bytes(), at, n))
     }
 
-    /// The same of eight bytes.
+    /// The same numbers, to write to: each is its four bytes, the lowest first.
+    pub fn run_i32_mut(&mut self, at: usize, n: usize) -> &mut [[u8; 4]]
+        requires { at + 4 * n ≤ length self.old }
+        ensures* writes_back { sem 𝓛 (lends_run 4 at self.entry result) }
+        ensures len { length result.now ≡ n }
+        ensures items { result.now ≡ adjacent_items 4 at n self.old }
+        ensures before { signed_numbers 4 result.now ≡ adjacent_numbers 4 at n self.old }
+        ensures after { (items : List (List ℕ)) → AreArrays 4 n items → adjacent_numbers 4 at n (with_run at items self.old) ≡ signed_numbers 4 items }
+        ensures others { (items : List (List ℕ)) → AreArrays 4 n items → SameBeside at (4 * n) self.old (with_run at items self.old) }
+    {
+        self.bytes.run_mut::<4>(self.base, at, n)
+    }
+
+    /// The `n` numbers of eight bytes that lie one right after another from `at` on.
     pub fn run_i64(&self, at: usize, n: usize) -> RunI64<'_>
         requires { at + 8 * n ≤ length self.now }
         ensures len { length result ≡ n }
         ensures numbers { (k : ℕ) → k < n → slice_index_or result k (pos 0) ≡ signed_number 8 (item_at (at + 8 * k) 8 self.now) }
     {
         RunI64::over(items_at::<8>(self.bytes(), at, n))
+    }
+
+    /// The same numbers, to write to: each is its eight bytes, the lowest first.
+    pub fn run_i64_mut(&mut self, at: usize, n: usize) -> &mut [[u8; 8]]
+        requires { at + 8 * n ≤ length self.old }
+        ensures* writes_back { sem 𝓛 (lends_run 8 at self.entry result) }
+        ensures len { length result.now ≡ n }
+        ensures items { result.now ≡ adjacent_items 8 at n self.old }
+        ensures before { signed_numbers 8 result.now ≡ adjacent_numbers 8 at n self.old }
+        ensures after { (items : List (List ℕ)) → AreArrays 8 n items → adjacent_numbers 8 at n (with_run at items self.old) ≡ signed_numbers 8 items }
+        ensures others { (items : List (List ℕ)) → AreArrays 8 n items → SameBeside at (8 * n) self.old (with_run at items self.old) }
+    {
+        self.bytes.run_mut::<8>(self.base, at, n)
     }
 
     /// The number in the `width` bytes from `at` on, the lowest byte first.
