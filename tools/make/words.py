@@ -22,7 +22,7 @@ def listed(text):
 def helped(source):
     """The help: what the command line says of itself, and the commands of the source."""
     commands = re.search(r'const COMMANDS: &str = "(.*?[^\\])";', source, re.S)[1].replace('\\"', '"').replace("\\\\", "\\")
-    return (TOP / HELP).read_text().partition("Commands, one a line:")[0] + commands + "\n"
+    return (TOP / HELP).read_text().partition("Commands, one per line:")[0] + commands + "\n"
 
 
 def groups():

@@ -11,43 +11,45 @@ use std::env::Env;
 use std::{env, io};
 
 /// What a script may say.
-const COMMANDS: &str = "Commands, one a line:
-  X = zeros D S         binds X to a new array of zeros, as a = zeros <i4 (2,3)
-  X = full D S L        of one literal, as a = full |u1 (4) 255
-  X = arange D a b s    of the integers a, a+s, .. before b
-  X = array D S L..     of literals, as r = array T{<h:x:?:on:} (2) (5,True) 0
-  X = Y                 binds X to the same items: a write through one is seen by both
-  X = Y[ix]             to those that ix names, as b = a[1,:], c = a[::-1], d = a[...,0,None]
-  X = field Y \"f\"       to the field f of each record, as y = field r \"y\"
-  X = transpose Y (..)  to the same items with the axes in this order, or reversed
-  X = reshape Y S       to the same items in another shape, or a copy, as m = reshape a (2,-1)
-  X = broadcast Y S     to the same items, repeated in a larger shape and read-only
-  X = copy Y C, or F    to a copy of the items, in C order or in Fortran order
-  X = cast Y D          to the items as items of type D
-  X = OP Y Z            to what an operation or comparison gives, as c = sub a b[0], m = lt a 5
-  X = UN Y              to what a unary operation gives, as b = neg a
-  X = RED Y [axis]      to a reduction, as s = sum m, t = max m 0; keep behind it keeps the axis
-  X = load \"f\"          to the array in the NPY file f
-  save X \"f\"            writes the array to the NPY file f
-  set X[ix] = L         writes a literal to the items that ix names, as set a[1,-1] = 7
-  set X[ix] = Y[iy]     writes items of Y, as they were before
-  upd X[ix] OP Z        changes items by an operation, as upd a[1:] add a[:-1]
+const COMMANDS: &str = "Commands, one per line:
+  X = zeros D S         makes an array of zeros, as in a = zeros <i4 (2,3)
+  X = full D S L        fills an array with one literal, as in a = full |u1 (4) 255
+  X = arange D a b s    makes an array of the integers a, a+s, .. before b
+  X = array D S L..     makes an array of literals, as in r = array T{<h:x:?:on:} (2) (5,True) 0
+  X = Y                 gives the same items a second name; a write through one shows in both
+  X = Y[ix]             selects items, as in b = a[1,:], c = a[::-1], d = a[...,0,None]
+  X = field Y \"f\"       selects one field of each record, as in y = field r \"y\"
+  X = transpose Y (..)  puts the axes in this order; without a list, reverses them
+  X = reshape Y S       changes the shape, as in m = reshape a (2,-1); copies only if it must
+  X = broadcast Y S     repeats the items in a larger shape, read-only
+  X = copy Y C, or F    copies the items, in C order or in Fortran order
+  X = cast Y D          converts the items to type D
+  X = OP Y Z            calculates or compares item by item, as in c = sub a b[0], m = lt a 5
+  X = UN Y              calculates item by item, as in b = neg a
+  X = RED Y [axis]      reduces all items, or those along an axis, as in s = sum m, t = max m 0;
+                        a final keep keeps that axis, with length 1
+  X = load \"f\"          reads an array from the NPY file f
+  save X \"f\"            writes an array to the NPY file f
+  set X[ix] = L         writes a literal to items of X, as in set a[1,-1] = 7
+  set X[ix] = Y[iy]     writes items of Y to items of X; all are read before any is written
+  upd X[ix] OP Z        updates items of X by an operation, as in upd a[1:] add a[:-1]
   del X                 unbinds X
-  undo                  takes back the last change of names or items that is not taken back yet
+  undo                  takes back the last change to names or items that still stands
   names                 lists the names in the order in which they were first bound
-  print X, format X     shows the array, or the format text of its type
-  info X                tells strides and start in bytes, order, and whether it may be written
-  shares X Y            tells whether X and Y have an item in common
+  print X, format X     prints the items; prints the format text of their type
+  info X                shows strides and start in bytes, order, and whether X is writable
+  shares X Y            says whether X and Y have an item in common
   # ..                  is a comment
 
 D is a type string (<i4, >u2, |b1, |S5) or a format text of PEP 3118 (T{<i:x:>h:y:}).
-L is an integer, True, False, bytes as b'a\\x00', or a record of these, as (1,b'x').
+L is an integer, True, False, a byte string such as b'a\\x00', or a record such as (1,b'x').
 OP is one of add sub mul fdiv mod and or xor shl shr div, or of the comparisons eq ne lt le gt ge.
 UN is one of neg not, RED one of sum prod min max any all argmin argmax.
-Y and Z are arrays, or items of these as Y[ix]; Z may be a literal.
+After OP and UN, Y and Z may be indexed, as in a[1:], and Z may be a literal.
 
-A refused command replies `no`, a code and its meaning, and changes nothing.
-Status: 0 all commands were accepted, 1 one was refused, 2 bad words, 3 the run stopped.";
+A refused command changes nothing. Its reply is `no`, a code and the reason.
+Exit status: 0 if all commands were accepted, 1 if one was refused, 2 for invalid arguments,
+3 if the run could not go on.";
 
 /// The folder where no other is named.
 const THIS_FOLDER: &str = ".";
@@ -66,7 +68,7 @@ fn folder_argument<'a>(alloc: Global) -> Arg<'a>
         .long("dir")
         .value_name("DIR")
         .default_value(THIS_FOLDER)
-        .help("The folder of the files that load and save name")
+        .help("The folder for load and save")
 }
 
 /// The argument that names how many earlier states are kept.
@@ -78,16 +80,16 @@ fn depth_argument<'a>(alloc: Global) -> Arg<'a>
         .value_name("N")
         .value_parser(value_parser!(u8).range(0..=64))
         .default_value("16")
-        .help("How many changes undo can take back, 0 to 64")
+        .help("The number of changes that undo can take back, 0 to 64")
 }
 
 /// The argument that names the script.
 fn script_argument<'a>(alloc: Global) -> Arg<'a>
     ensures { IsNamed (codes "script") result }
 {
-    Arg::new(alloc, "script").value_name("SCRIPT").help(
-        "The script, one command a line; standard input where it is left out",
-    )
+    Arg::new(alloc, "script")
+        .value_name("SCRIPT")
+        .help("The script, one command per line [default: standard input]")
 }
 
 /// The command line of the program.
@@ -96,7 +98,7 @@ fn command<'a>(alloc: Global) -> Result<Command<'a>, AllocError>
 {
     Command::new(alloc, "bench")
         .bin_name("bench")?
-        .about("Runs a script of commands on named arrays, and prints a reply to each")
+        .about("Runs a script of array commands and prints a reply to each")
         .after_help(COMMANDS)
         .arg(folder_argument(alloc))?
         .arg(depth_argument(alloc))?
