@@ -1,5 +1,5 @@
 #!/usr/bin/env python3
-"""Writes the words of the commands, as docs/LANGUAGE.md lists them, into the help, the manual page and the syntax files."""
+"""Writes the keywords that docs/LANGUAGE.md lists into the help, the manual page and the syntax files, and docs/FILES.md from the sources."""
 import pathlib
 import re
 import sys
@@ -8,7 +8,7 @@ TOP = pathlib.Path(__file__).resolve().parents[2]
 sys.path.insert(0, str(TOP / "companion"))
 from bench_tool import language
 
-HELP, SOURCE = "docs/help.txt", "crates/host_process/src/command_line.rt"
+HELP, SOURCE, FILES = "docs/help.txt", "crates/host_process/src/command_line.rt", "docs/FILES.md"
 LISTS = re.compile(r"((OP is one of|the comparisons|UN (?:is )?one of|RED (?:is )?one of)\s+(?:\.B )?)[a-z ]+")
 VIM, TEXT_MATE = "editors/vim/syntax/bench.vim", "editors/bench.tmLanguage.json"
 
@@ -45,14 +45,30 @@ def coloured(vim, text_mate):
     return vim, text_mate
 
 
+def said(source):
+    """The first sentence of what a source file says of itself."""
+    lines = re.match(r"(?://! ?.*\n)*", source)[0].replace("//!", "").split("\n\n")[0]
+    return re.split(r"(?<=[^.]\.)\s", " ".join(lines.split()))[0]
+
+
+def listing():
+    """A line for each source file, crate by crate, lowest first."""
+    page = "# Files\n\nWhat each source file holds, by crate, lowest first: the first sentence of its `//!`. `make words` writes this page.\n"
+    for crate in re.findall(r"(?m)^(\w+)(?: staticlib)?:", (TOP / "crates.txt").read_text()):
+        folder = TOP / "crates" / crate / "src"
+        rows = [f"| `{path.relative_to(folder)}` | {said(path.read_text())} |\n".replace("|S", "\\|S") for path in sorted(folder.rglob("*.rt"))]
+        page += f"\n## {crate}\n\n| File | What it holds |\n|---|---|\n" + "".join(rows)
+    return page
+
+
 def texts():
     """Each text as it is to be, by its path."""
     kept = {path: (TOP / path).read_text() for path in (SOURCE, "man/bench.1", VIM, TEXT_MATE)}
     made = {path: listed(kept[path]) for path in (SOURCE, "man/bench.1")}
-    return {**made, HELP: helped(made[SOURCE]), **dict(zip((VIM, TEXT_MATE), coloured(kept[VIM], kept[TEXT_MATE])))}
+    return {**made, HELP: helped(made[SOURCE]), FILES: listing(), **dict(zip((VIM, TEXT_MATE), coloured(kept[VIM], kept[TEXT_MATE])))}
 
 
 if __name__ == "__main__":
     for path, text in texts().items():
-        if (TOP / path).read_text() != text:
+        if not (TOP / path).is_file() or (TOP / path).read_text() != text:
             (TOP / path).write_text(text)
