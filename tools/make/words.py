@@ -48,7 +48,7 @@ def coloured(vim, text_mate):
 def said(source):
     """The first sentence of what a source file says of itself."""
     lines = re.match(r"(?://! ?.*\n)*", source)[0].replace("//!", "").split("\n\n")[0]
-    return re.split(r"(?<=[^.]\.)\s", " ".join(lines.split()))[0]
+    return re.split(r"(?<=[^.]\.)\s", " ".join(lines.split()))[0].replace("|", "\\|")
 
 
 def listing():
@@ -56,7 +56,7 @@ def listing():
     page = "# Files\n\nWhat each source file holds, by crate, lowest first: the first sentence of its `//!`. `make words` writes this page.\n"
     for crate in re.findall(r"(?m)^(\w+)(?: staticlib)?:", (TOP / "crates.txt").read_text()):
         folder = TOP / "crates" / crate / "src"
-        rows = [f"| `{path.relative_to(folder)}` | {said(path.read_text())} |\n".replace("|S", "\\|S") for path in sorted(folder.rglob("*.rt"))]
+        rows = [f"| `{path.relative_to(folder)}` | {said(path.read_text())} |\n" for path in sorted(folder.rglob("*.rt"))]
         page += f"\n## {crate}\n\n| File | What it holds |\n|---|---|\n" + "".join(rows)
     return page
 
