@@ -1,4 +1,4 @@
-//! Blanks, separators, and texts that are padded to a width.
+//! Spaces, separators, and texts padded to a width.
 ghost use Rattle.std.specs.Prelude.{◌≡◌, ◌+◌, ◌≤◌, ◌++◌, codes, length, drop, replicate, vec_capacity, OnOk};
 ghost use Rattle.std.specs.Io.{StartsWith};
 ghost use Rattle.array_print.specs.Printed.{separator, right_justified, record_end};
@@ -6,7 +6,7 @@ ghost use Rattle.array_print.specs.inside.Shown.{lead, repeated};
 
 use std::alloc::AllocError;
 
-/// Appends so many copies of a byte. Where memory runs out, some may stand past the old end.
+/// Appends `n` copies of a byte. If memory runs out, some may be past the old end.
 fn push_repeated(out: &mut Vec<u8>, byte: u8, n: usize) -> Result<(), AllocError>
     ensures ok { OnOk result (out.new.items ≡ out.old.items ++ replicate n byte) }
     ensures kept { StartsWith out.new.items out.old.items }
@@ -18,8 +18,8 @@ fn push_repeated(out: &mut Vec<u8>, byte: u8, n: usize) -> Result<(), AllocError
     Ok(())
 }
 
-/// Appends what stands before the block at `k` of an axis that has so many axes inside it: nothing
-/// before the first.
+/// Appends what comes before block `k` of an axis that has `inner` axes inside it: nothing before
+/// the first.
 pub fn push_lead(
     out: &mut Vec<u8>,
     k: usize,
@@ -37,7 +37,7 @@ pub fn push_lead(
     push_separator(out, brackets, inner)
 }
 
-/// Appends what stands between two blocks of an axis with so many axes inside it.
+/// Appends what comes between two blocks of an axis that has `inner` axes inside it.
 fn push_separator(out: &mut Vec<u8>, brackets: usize, inner: usize) -> Result<(), AllocError>
     requires { brackets ≤ 64 }
     ensures ok { OnOk result (out.new.items ≡ out.old.items ++ separator brackets inner) }
@@ -51,8 +51,8 @@ fn push_separator(out: &mut Vec<u8>, brackets: usize, inner: usize) -> Result<()
     push_repeated(out, b' ', brackets + 1)
 }
 
-/// Appends the text from `start` on so many times more, each time behind what stands between two
-/// blocks. Memory for all of it is asked for first.
+/// Appends the text from `start` on `times` more times, each after what comes between two blocks.
+/// It asks for the memory for all of it first.
 pub fn push_again(
     out: &mut Vec<u8>,
     start: usize,
@@ -91,7 +91,7 @@ pub fn push_padded(out: &mut Vec<u8>, text: &str, width: usize) -> Result<(), Al
     out.extend_from_slice(text.as_bytes())
 }
 
-/// Appends what stands before the `k`-th value of a record: nothing before the first.
+/// Appends what comes before value `k` of a record: nothing before the first.
 pub fn push_comma(out: &mut Vec<u8>, k: usize) -> Result<(), AllocError>
     ensures ok { OnOk result (out.new.items ≡ out.old.items ++ lead k (codes ", ")) }
     ensures kept { StartsWith out.new.items out.old.items }
@@ -103,7 +103,7 @@ pub fn push_comma(out: &mut Vec<u8>, k: usize) -> Result<(), AllocError>
     out.extend_from_slice(b", ")
 }
 
-/// Appends what follows the values of a record, of which there are so many.
+/// Appends what follows the values of a record that has `values` of them.
 pub fn push_record_end(out: &mut Vec<u8>, values: usize) -> Result<(), AllocError>
     ensures ok { OnOk result (out.new.items ≡ out.old.items ++ record_end values) }
     ensures kept { StartsWith out.new.items out.old.items }

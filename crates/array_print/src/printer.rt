@@ -47,7 +47,7 @@ fn push_leaf(
     push_value(out, &scalar, items.widths[k], bytes)
 }
 
-/// Appends the text of a field whose first leaf is the `k`-th of the item, and answers the number
+/// Appends the text of a field whose first leaf is the `k`-th of the item, and returns the number
 /// of the leaf after it.
 #[cycle(fields)]
 fn push_field(
@@ -76,8 +76,8 @@ fn push_field(
     }
 }
 
-/// Appends the text of a record whose first leaf is the `k`-th of the item, its fields in
-/// parentheses, and answers the number of the leaf after it.
+/// Appends the text of a record whose first leaf is the `k`-th of the item, with its fields in
+/// parentheses, and returns the number of the leaf after it.
 #[cycle(fields)]
 fn push_record(
     out: &mut Vec<u8>,
@@ -120,9 +120,9 @@ fn push_item(out: &mut Vec<u8>, items: &Items<'_>, offset: usize) -> Result<(), 
     Ok(())
 }
 
-/// Appends the text of a block of items: those that the axes from `axis` on lead to, from an offset
-/// on. As many brackets are open before its own as there are axes before it. Blocks along an axis of
-/// stride 0 are the same: one is made, and its text is copied.
+/// Appends the text of the items that the axes from `axis` on lead to, starting at an offset. One
+/// bracket is open before it for each axis before `axis`. Blocks along an axis of stride 0 are all
+/// the same, so the text of one is made and copied.
 fn push_block(
     out: &mut Vec<u8>,
     items: &Items<'_>,
@@ -163,8 +163,8 @@ fn push_block(
     Ok(out.push(b']')?)
 }
 
-/// Appends the text of an array whose items lie at the layout's offsets in a block. Where memory
-/// runs out, the text is as before.
+/// Appends the text of an array whose items are at the layout's offsets in a block. If memory runs
+/// out, the text is as before.
 pub fn print_into(
     alloc: Global,
     out: &mut Vec<u8>,

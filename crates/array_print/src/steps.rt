@@ -2,7 +2,7 @@
 ghost use Rattle.std.specs.Prelude.{◌≡◌, ◌↔◌, ◌<◌, ◌≤◌, pos, ◌+ℤ◌, ◌*ℤ◌, ◌≤ℤ◌, length, slice_index_or, IsTrue};
 ghost use Rattle.shape_strides.specs.Limits.{max_items, max_bytes};
 
-/// Whether an axis leads to the same bytes again.
+/// Whether all steps along an axis lead to the same bytes.
 pub fn repeats(strides: &[isize], axis: usize) -> bool
     requires { axis < length strides.now }
     ensures { IsTrue result ↔ (slice_index_or strides.now axis (pos 0) ≡ pos 0) }
@@ -10,7 +10,7 @@ pub fn repeats(strides: &[isize], axis: usize) -> bool
     strides[axis] == 0
 }
 
-/// The offset that is so many steps further along an axis.
+/// The offset `steps` steps further along an axis.
 pub fn step_along(from: usize, strides: &[isize], axis: usize, steps: usize) -> usize
     requires axis { axis < length strides.now }
     requires start { from ≤ max_bytes }

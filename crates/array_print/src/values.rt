@@ -1,4 +1,4 @@
-//! The texts of single values.
+//! The text of a single value.
 ghost use Rattle.std.specs.Prelude.{◌≡◌, ◌++◌, ◌≤◌, ◌<◌, length, flat_map, vec_capacity, OnOk};
 ghost use Rattle.std.specs.Io.{StartsWith};
 ghost use Rattle.std.specs.Fmt.{signed_decimal};

@@ -1,4 +1,4 @@
-//! The widths to which the texts of an array are padded.
+//! The widths to which the values of an array are padded.
 ghost use Rattle.std.specs.Prelude.{◌≡◌, ◌+◌, ◌^◌, ◌≤◌, ◌<◌, ◌∷◌, ◌++◌, [], ℕ, List, get_or, length, max, take, drop, All, IfOk};
 ghost use Rattle.elem_descr.specs.Encoding.{IsNumber, size, decode};
 ghost use Rattle.elem_descr.specs.Items.{item_size, leaves_of};
@@ -29,7 +29,7 @@ fn least_width(descr: &Descr, k: usize) -> usize
     }
 }
 
-/// The same of all leaves.
+/// The width of each leaf's texts before any is known.
 fn least_widths(alloc: Global, descr: &Descr) -> Result<SmallVec<usize, 8>, AllocError>
     ensures { IfOk result (λ v. v.items ≡ leaf_widths (leaves_of descr.now) []) }
 {
@@ -50,7 +50,7 @@ fn wider_at(width: usize, scalar: &Scalar, block: &[u8], place: usize) -> usize
     Buffer::new().format(value).len().max(width)
 }
 
-/// The width of a leaf's texts where one more of them is known.
+/// The width of a leaf's texts once one more of them is known.
 fn widened(width: usize, scalar: &Scalar, block: &[u8], place: usize) -> usize
     requires inside { place + size scalar.now ≤ length block.now }
     ensures { (texts : List (List ℕ)) → width ≡ leaf_width scalar.now texts

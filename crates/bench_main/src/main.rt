@@ -15,13 +15,13 @@ use std::process::ExitCode;
 use std::rt::Files;
 use std::{fs, io};
 
-/// Says a text on standard error, and answers the status.
+/// Writes a text to standard error, and returns the status.
 fn stop(rt: &impl Eprint, status: u8, text: &str) -> ExitCode {
     let _ = rt.eprintln(text);
     ExitCode::from(status)
 }
 
-/// Ends as a run did.
+/// Ends the program with the status of a run.
 fn finish(rt: &impl Eprint, run: &Result<Summary, RunFault>) -> ExitCode {
     let (status, text) = outcome(run);
     if text.is_empty() {
@@ -30,7 +30,7 @@ fn finish(rt: &impl Eprint, run: &Result<Summary, RunFault>) -> ExitCode {
     stop(rt, status, text)
 }
 
-/// Says what is wrong with the words, or the help that they ask for.
+/// Reports invalid arguments, or prints the help that they ask for.
 fn refuse<R: Print + Eprint>(rt: &R, fault: &OptionsFault) -> ExitCode {
     let OptionsFault::Words(error) = fault else {
         return stop(rt, FAULT, NO_MEMORY);

@@ -1,23 +1,23 @@
-//! How the program ends.
+//! The exit status, and the text for standard error.
 ghost use Rattle.std.specs.Prelude.{◌≡◌};
 ghost use Rattle.bench_main.specs.inside.Outcomes.{outcome_of};
 
 use bench_engine::{RunFault, Summary};
 
-/// The text where the script can't be opened.
+/// The text if the script cannot be opened.
 pub const NO_SCRIPT: &str = "bench: no script";
 
-/// The text where no memory is found to begin with.
+/// The text if there is not enough memory to start.
 pub const NO_MEMORY: &str = "bench: out of memory";
 
-/// The text where what is written is not taken.
+/// The text if output cannot be written.
 pub const WRITE_FAULT: &str = "bench: write fault";
 
-/// The status where a script can't be run to its end.
+/// The status if a script cannot be run to its end.
 pub const FAULT: u8 = 3;
 
-/// The exit status of a run and the text for standard error: 0 where every command was accepted,
-/// 1 where one was refused, and 3 with a text where the run stopped before its end.
+/// The exit status of a run and the text for standard error: 0 if every command was accepted, 1 if
+/// one was refused, and 3 with a text if the run stopped before its end.
 pub fn outcome(run: &Result<Summary, RunFault>) -> (u8, &'static str)
     ensures { (result.0, result.1.now) ≡ outcome_of run.now }
 {

@@ -1,9 +1,9 @@
-//! Shapes that are lined up at the last axis.
+//! Shapes aligned at the last axis.
 ghost use Rattle.std.specs.Prelude.{◌≡◌, ◌<◌, ◌≤◌, length, slice_index};
 ghost use Rattle.broadcasting.specs.Broadcasts.{aligned};
 
-/// The length of an axis of a shape that is lined up at the last of `rank` axes: 1 where the shape has
-/// no axis.
+/// The length of an axis of a shape that is aligned at the last of `rank` axes: 1 if the shape does
+/// not have the axis.
 pub(crate) fn length_at(lengths: &[usize], rank: usize, axis: usize) -> usize
     requires rank { length lengths.now ≤ rank }
     requires axis { axis < rank }

@@ -1,4 +1,4 @@
-//! The common shape of arrays that are broadcast together.
+//! The shape that arrays broadcast to together.
 ghost use Rattle.std.specs.Prelude.{◌≡◌, map, All, IfOk, IsTrue};
 ghost use Rattle.elem_descr.specs.Refusals.{Gives};
 ghost use Rattle.broadcasting.specs.Broadcasts.{go_together, common_length, common_of_two, common_shape, can_stretch};
@@ -21,8 +21,8 @@ fn common_length(left: usize, right: usize) -> usize
     if left == 1 { right } else { left }
 }
 
-/// The common lengths of two shapes, whatever their number of items. Two different lengths of an axis of
-/// which none is 1 are refused as `ShapesDoNotBroadcast`.
+/// The common lengths of two shapes, whatever their number of items. If an axis has two different
+/// lengths and none is 1, it is refused as `ShapesDoNotBroadcast`.
 pub fn common_of_two(
     alloc: Global,
     left: &[usize],
@@ -43,10 +43,10 @@ pub fn common_of_two(
     Ok(lengths)
 }
 
-/// The shape to which these shapes broadcast: they are lined up at the last axis, where a missing axis
-/// counts as one of length 1, and an axis has the length that is not 1 among theirs. Two different
+/// The shape that these shapes broadcast to. They are aligned at the last axis, a missing axis
+/// counts as one of length 1, and the length of each axis is the one that is not 1. Two different
 /// lengths of which none is 1 are refused as `ShapesDoNotBroadcast`; after that, too many items as
-/// `TooLarge`. No shapes have the shape without axes. Each of the shapes stretches to it.
+/// `TooLarge`. Without shapes the result has no axes. Each of the shapes stretches to the result.
 pub fn common(alloc: Global, shapes: &[&Shape]) -> Result<Shape, Refusal>
     ensures value { Gives (λ s. s) result (common_shape (map (λ s. s.now) shapes.now)) }
     ensures fits { IfOk result (λ common. All (λ shape. IsTrue (can_stretch shape common)) (map (λ s. s.now) shapes.now)) }

@@ -1,5 +1,5 @@
-//! Broadcasting: shapes that are lined up at the last axis, layouts that are stretched to them, and the layouts
-//! from which they are stretched.
+//! Broadcasting: common shapes, layouts stretched to a larger shape, and the smaller layouts they
+//! were stretched from.
 #![tactic(auto)]
 
 mod aligned;

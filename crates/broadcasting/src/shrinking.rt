@@ -1,4 +1,4 @@
-//! Layouts whose items repeat along axes, shrunk to those from which they are stretched.
+//! Layouts whose items repeat, shrunk to the layouts that they were stretched from.
 ghost use Rattle.std.specs.Prelude.{◌≡◌, ◌<◌, pos, length, slice_index, slice_index_or, IfOk, IfErr};
 ghost use Rattle.elem_descr.specs.declared.refusal.Refusal.TheVariants.{OutOfMemory};
 ghost use Rattle.broadcasting.specs.Shrinking.{ShrinksTo, CanShrink, IsStretchOf};
@@ -18,7 +18,7 @@ pub fn repeats(layout: &Layout) -> bool {
         .any(|(len, stride)| *len > 1 && *stride == 0)
 }
 
-/// The length of an axis of two arrays with these strides: 1 where the items of both repeat along it.
+/// The length of an axis of two arrays with these strides: 1 if the items of both repeat along it.
 fn shrunk_length(lengths: &[usize], strides: &[isize], others: &[isize], axis: usize) -> usize
     requires axis { axis < length lengths.now }
     requires stride { axis < length strides.now }
@@ -32,7 +32,8 @@ fn shrunk_length(lengths: &[usize], strides: &[isize], others: &[isize], axis: u
     lengths[axis]
 }
 
-/// The same of all axes.
+/// The lengths of all axes of two arrays with these strides: 1 if the items of both repeat along
+/// the axis.
 fn shrunk_lengths(
     alloc: Global,
     lengths: &[usize],

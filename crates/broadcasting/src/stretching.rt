@@ -1,4 +1,4 @@
-//! Layouts that are stretched to a larger shape.
+//! Layouts stretched to a larger shape.
 ghost use Rattle.std.specs.Prelude.{◌≡◌, ◌==◌, ◌<◌, ◌≤◌, true, pos, ◌++◌, length, take, drop, replicate, slice_index, slice_index_or, IfOk, IfErr};
 ghost use Rattle.std.specs.List.{list_all};
 ghost use Rattle.elem_descr.specs.declared.refusal.Refusal.TheVariants.{OutOfMemory};
@@ -32,7 +32,7 @@ fn can_stretch(lengths: &[usize], target: &[usize]) -> bool
     true
 }
 
-/// As many strides of 0.
+/// `count` strides of 0.
 fn zeros(alloc: Global, count: usize) -> Result<Strides, AllocError>
     ensures { IfOk result (λ s. s ≡ replicate count (pos 0)) }
 {
@@ -43,7 +43,7 @@ fn zeros(alloc: Global, count: usize) -> Result<Strides, AllocError>
     Ok(strides)
 }
 
-/// The stride of an axis, 0 where it has one item.
+/// The stride of an axis, or 0 if it has one item.
 fn kept_stride(lengths: &[usize], strides: &[isize], axis: usize) -> isize
     requires axis { axis < length lengths.now }
     requires stride { axis < length strides.now }
@@ -55,7 +55,7 @@ fn kept_stride(lengths: &[usize], strides: &[isize], axis: usize) -> isize
     strides[axis]
 }
 
-/// The strides of an array with so many more axes in front: none of these steps to another item.
+/// The strides of an array with `more` axes in front, none of which steps to another item.
 fn stretched_strides(
     alloc: Global,
     lengths: &[usize],
@@ -72,9 +72,9 @@ fn stretched_strides(
     Ok(made)
 }
 
-/// The layout as a larger shape shows it: the two are lined up at the last axis, and each index of
-/// `target` leads to the item with its numbers on the layout's axes, but for 0 on those of length 1.
-/// A shape that does not broadcast to exactly `target` is refused as `ShapesDoNotBroadcast`. New axes
+/// The layout in a larger shape. The two are aligned at the last axis, and each index of `target`
+/// leads to the item with its numbers on the axes of the layout, but 0 on those of length 1. A
+/// shape that does not broadcast to exactly `target` is refused as `ShapesDoNotBroadcast`. New axes
 /// and axes of length 1 have stride 0; a view without items has strides and offset 0.
 pub fn stretch(alloc: Global, layout: &Layout, target: &Shape) -> Result<Layout, Refusal>
     ensures { GivesView layout.now result (stretched layout.now.shape target.now) }
@@ -96,7 +96,7 @@ fn are_single(lengths: &[usize]) -> bool
     lengths.iter().all(|len| *len == 1)
 }
 
-/// The layout without so many axes in front, each of which has length 1.
+/// The layout without its first `count` axes, each of which has length 1.
 fn without_first(alloc: Global, layout: &Layout, count: usize) -> Result<Layout, Refusal>
     requires count { count ≤ length layout.now.shape }
     requires single { list_all (λ n. n == 1) (take count layout.now.shape) ≡ true }
@@ -108,9 +108,9 @@ fn without_first(alloc: Global, layout: &Layout, count: usize) -> Result<Layout,
     Ok(Layout::new(shape, strides, layout.offset).unwrap())
 }
 
-/// The layout stretched into a target, as an assignment does: axes of length 1 beyond those of `target`,
-/// which come first, fall away, and then it is stretched to exactly `target`. A longer axis beyond
-/// those is refused as `ShapesDoNotBroadcast`, too.
+/// The layout stretched to a target, as an assignment does it: axes beyond those of `target`, which
+/// come first, are dropped if they have length 1, and then it is stretched to exactly `target`. A
+/// longer axis is refused as `ShapesDoNotBroadcast` too.
 pub fn stretch_into(alloc: Global, layout: &Layout, target: &Shape) -> Result<Layout, Refusal>
     ensures { GivesView layout.now result (stretched_into layout.now.shape target.now) }
 {

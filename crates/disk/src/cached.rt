@@ -1,4 +1,4 @@
-//! A disk in memory with a cache, which loses in a crash what was not brought to the disk.
+//! A disk in memory with a cache: a crash may lose what was not synced.
 ghost use Rattle.std.specs.Prelude.{◌≡◌, ◌≢◌, ◌↔◌, ◌∷◌, true, drop, IsTrue, IfOk, OnOk, OnErr};
 ghost use Rattle.std.specs.FinMap.{empty, get};
 ghost use Rattle.disk.specs.declared.disk.DiskFault.TheVariants.{Failed};
@@ -17,26 +17,26 @@ use std::alloc::{AllocError, Global};
 /// What a call has done to a disk with a cache.
 #[derive(Drop)]
 pub enum Event {
-    /// A name has got these bytes, or none. If they are whole, a crash leaves them or what was there before,
-    /// otherwise anything.
+    /// A name has these bytes now, or none. If they are whole, a crash leaves them or what was
+    /// there before, otherwise anything.
     Changed {
         name: Vec<u8>,
         bytes: Option<Vec<u8>>,
         is_whole: bool,
     },
-    /// The bytes of a file were brought to the disk.
+    /// The bytes of a file were synced.
     FileSynced {
         name: Vec<u8>,
     },
-    /// The names were brought to the disk.
+    /// The names were synced.
     NamesSynced,
-    /// The disk was started again; all that a read found then was on it.
+    /// The disk was restarted; all that a read found then was on it.
     Restarted,
 }
 
-/// A disk in memory with a cache, as a list of what its calls did, the newest first. It is honest. Of a file that was
-/// not synced a crash may leave any bytes or none, and each change of a name that was not synced may be lost. One
-/// call can be made to fail, or all calls from one on.
+/// A disk in memory with a cache, as a list of what its calls did, the newest first. It is honest.
+/// Of a file that was not synced, a crash may leave any bytes or none, and it may lose each change
+/// of a name that was not synced. One call can be made to fail, or all calls from one on.
 #[derive(Drop)]
 pub struct CachedMemDisk {
     alloc: Global,
@@ -99,7 +99,7 @@ fn are_bytes_synced(events: &[Event], name: &[u8]) -> bool
     true
 }
 
-/// Whether two files have the same bytes, or neither is there.
+/// Whether two files have the same bytes, or are both missing.
 fn is_same(left: &Option<Vec<u8>>, right: &Option<Vec<u8>>) -> bool
     ensures { IsTrue result ↔ (bytes_of_change left.now ≡ bytes_of_change right.now) }
 {
@@ -200,7 +200,7 @@ fn change(
     Ok(())
 }
 
-/// Gives one name these bytes, which are whole or not, and the other none.
+/// Gives one name these bytes, whole or not, and takes the other name away.
 fn shift(
     alloc: Global,
     events: &mut Vec<Event>,
@@ -256,8 +256,9 @@ impl CachedMemDisk {
         self.failing.fail_at(call, crashes);
     }
 
-    /// Has a crash leave this under a name, and answers whether a crash may leave it; if not, nothing changes. Under
-    /// a name for which this is not called the crash leaves what a read found. `restart` comes next.
+    /// Makes a crash leave this under a name, and returns whether a crash may leave it; if not,
+    /// nothing changes. Under a name for which this is not called, the crash leaves what a read
+    /// found. Call `restart` next.
     pub fn crash(&mut self, name: &[u8], left: Option<Vec<u8>>) -> Result<bool, AllocError>
         ensures may { IfOk result (λ may. IsTrue may ↔ ((files : Files) × MayLeave (⟦<CachedMemDisk as Disk>⟧.history self.old) files × (get files name.now ≡ bytes_of_change left))) }
         ensures left { result ≡ Ok true → get (⟦<CachedMemDisk as Disk>⟧.files self.new) name.now ≡ bytes_of_change left }

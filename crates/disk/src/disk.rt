@@ -9,7 +9,7 @@ ghost use Rattle.disk.specs.Calls.{HasCause, IsThere, Appends, SameButBoth, Repl
 use std::alloc::{AllocError, AllocFailed};
 use thiserror::Error;
 
-/// Why a call of a disk gave up.
+/// Why a call of a disk failed.
 #[derive(Clone, Copy, Debug, PartialEq, Eq, Error)]
 pub enum DiskFault {
     #[error("disk failed")]
@@ -34,12 +34,12 @@ impl<T: Drop> From<AllocFailed<T>> for DiskFault {
     }
 }
 
-/// One folder of files. What its contracts say of files and crashes is said of an honest disk alone.
+/// One folder of files. What its contracts say of files and crashes holds only for an honest disk.
 pub trait Disk {
     /// An open file.
     type File: Drop;
 
-    /// The disk is as its contracts say. It never changes.
+    /// The disk does what its contracts say. This never changes.
     ghost honest: { Bool };
 
     /// The files, as a read finds them.
@@ -60,13 +60,14 @@ pub trait Disk {
     /// Its bytes that are still to be read.
     ghost rest_of: { Self.File → List ℕ };
 
-    /// An open file still stands under the name under which it was opened, and nothing was written to it since but
-    /// through itself. This ends with a `create`, a `rename` or a `remove` of its name and with an `append` to another
-    /// open file of that name; afterwards `read`, `append` and `sync` may not be called with it.
+    /// An open file still has the name under which it was opened, and since then was written only
+    /// through itself. This ends when `create`, `rename` or `remove` is called with its name, or
+    /// `append` with another open file of that name; after that, `read`, `append` and `sync` may
+    /// not be called with it.
     ghost IsCurrent: { Self → Self.File → Type 0 };
 
-    /// Whether a file stands under a name. What is no plain file, as a folder or a pipe, is a failure; a
-    /// link is what it leads to.
+    /// Whether there is a file of this name. Anything that is not a regular file, such as a folder
+    /// or a pipe, is a failure. A link counts as what it leads to.
     fn has_file(&mut self, name: &[u8]) -> Result<bool, DiskFault>
         ensures found { IsTrue honest → IfOk result (λ found. IsThere found (get (files self.old) name.now)) }
         ensures files { IsTrue honest → files self.new ≡ files self.old }
@@ -74,7 +75,7 @@ pub trait Disk {
         ensures current { IsTrue honest → StayAll (IsCurrent self.old) (IsCurrent self.new) }
         ensures cause { HasCause Failed (failures self.old) (failures self.new) result };
 
-    /// Opens a file to be read, and tells how many bytes it has.
+    /// Opens a file for reading, and returns how many bytes it has.
     fn open(&mut self, name: &[u8]) -> Result<(Self::File, u64), DiskFault>
         ensures found { IsTrue honest → IfOk result (λ opened. get (files self.old) name.now ≡ Some (rest_of opened.0)) }
         ensures told { IsTrue honest → IfOk result (λ opened. opened.1 ≡ length (rest_of opened.0)) }
@@ -85,7 +86,7 @@ pub trait Disk {
         ensures current { IsTrue honest → StayAll (IsCurrent self.old) (IsCurrent self.new) }
         ensures cause { HasCause Failed (failures self.old) (failures self.new) result };
 
-    /// Reads what comes next. No byte is read at the end of the file alone.
+    /// Reads the next bytes. It reads none only at the end of the file.
     fn read(&mut self, file: &mut Self::File, piece: &mut [u8]) -> Result<usize, DiskFault>
         requires { IsTrue honest → IsCurrent self.old file.old }
         ensures count { IfOk result (λ count. count ≤ length piece.old) }
@@ -98,10 +99,10 @@ pub trait Disk {
         ensures current { IsTrue honest → StayAll (IsCurrent self.old) (IsCurrent self.new) }
         ensures cause { HasCause Failed (failures self.old) (failures self.new) result };
 
-    /// Makes an empty file that is to take the place of another, and gives it the mode of that. What a
-    /// program has left under its name that has ended is gone then; it fails where another program writes
-    /// under that name, and where something stands in that place that is no plain file, as a link. Until
-    /// the file is synced, a crash may leave anything under its name.
+    /// Makes an empty file that is to replace another, and gives it the mode of that. Whatever a
+    /// program that has ended left under its name is removed. It fails if another program is
+    /// writing under that name, or if the file to replace is not a regular file, such as a link.
+    /// Until the file is synced, a crash may leave anything under its name.
     fn create(&mut self, name: &[u8], place: &[u8]) -> Result<Self::File, DiskFault>
         ensures created { IsTrue honest → OnOk result (get (files self.new) name.now ≡ Some []) }
         ensures name { IsTrue honest → IfOk result (λ file. name_of file ≡ name.now) }
@@ -111,7 +112,8 @@ pub trait Disk {
         ensures current { IsTrue honest → StayOthers name_of name.now (IsCurrent self.old) (IsCurrent self.new) }
         ensures cause { HasCause Failed (failures self.old) (failures self.new) result };
 
-    /// Writes behind what a file has. Until it is synced, a crash may leave anything under its name.
+    /// Writes at the end of a file. Until the file is synced, a crash may leave anything under its
+    /// name.
     fn append(&mut self, file: &mut Self::File, bytes: &[u8]) -> Result<(), DiskFault>
         requires { IsTrue honest → IsCurrent self.old file.old }
         ensures appended { IsTrue honest → OnOk result (Appends bytes.now (get (files self.old) (name_of file.old)) (get (files self.new) (name_of file.old))) }
@@ -122,7 +124,7 @@ pub trait Disk {
         ensures current { IsTrue honest → StayOthers name_of (name_of file.old) (IsCurrent self.old) (IsCurrent self.new) }
         ensures cause { HasCause Failed (failures self.old) (failures self.new) result };
 
-    /// Brings the bytes of a file to the disk.
+    /// Syncs the bytes of a file to the disk.
     fn sync(&mut self, file: &Self::File) -> Result<(), DiskFault>
         requires { IsTrue honest → IsCurrent self.old file.now }
         ensures synced { IsTrue honest → OnOk result (Synced self.new (name_of file.now)) }
@@ -131,8 +133,8 @@ pub trait Disk {
         ensures current { IsTrue honest → StayAll (IsCurrent self.old) (IsCurrent self.new) }
         ensures cause { HasCause Failed (failures self.old) (failures self.new) result };
 
-    /// Gives a file another name, in place of the file that had it. A crash leaves under that name the
-    /// one file or the other, if the bytes of the first are on the disk.
+    /// Renames a file, in place of the file that had the new name. A crash leaves one file or the
+    /// other under that name, if the bytes of the first are on the disk.
     fn rename(&mut self, from: &[u8], to: &[u8]) -> Result<(), DiskFault>
         requires { to.now ≢ from.now }
         ensures renamed { IsTrue honest → OnOk result (get (files self.new) to.now ≡ get (files self.old) from.now) }
@@ -144,7 +146,7 @@ pub trait Disk {
         ensures current { IsTrue honest → (other : Self.File) → name_of other ≢ from.now → name_of other ≢ to.now → IsCurrent self.old other → IsCurrent self.new other }
         ensures cause { HasCause Failed (failures self.old) (failures self.new) result };
 
-    /// Takes the file with this name away, if there is one.
+    /// Removes the file of this name, if there is one.
     fn remove(&mut self, name: &[u8]) -> Result<(), DiskFault>
         ensures removed { IsTrue honest → OnOk result (get (files self.new) name.now ≡ None) }
         ensures others { IsTrue honest → SameBut name.now (files self.old) (files self.new) }
@@ -152,7 +154,7 @@ pub trait Disk {
         ensures current { IsTrue honest → StayOthers name_of name.now (IsCurrent self.old) (IsCurrent self.new) }
         ensures cause { HasCause Failed (failures self.old) (failures self.new) result };
 
-    /// Brings the names to the disk: new ones, changed ones and those that are gone.
+    /// Syncs the names to the disk: new ones, changed ones and removed ones.
     fn sync_names(&mut self) -> Result<(), DiskFault>
         ensures memory { IsErrOf result Memory → ⊥ }
         ensures names { IsTrue honest → OnOk result (HasNames (history self.new) (Synced self.old) (files self.old)) }

@@ -17,13 +17,14 @@ use std::rt::Files;
 
 /// A folder of the operating system, reached through a runtime.
 ///
-/// It passes each call on to the system. No contract of the library says what a file then holds, so this disk is
-/// not honest, and nothing that `Disk` says of files and crashes is proved of it. That is trusted instead: its nine
-/// calls do what `Disk` says, as long as nobody else writes in the folder and its file system can sync a folder.
-/// Where the file system cannot, `sync_names` answers `Ok` although the names may not last: a crash soon afterwards
-/// may bring the old file back.
+/// It passes each call on to the system. No contract of the library says what a file then contains,
+/// so this disk is not honest, and nothing that `Disk` says of files and crashes is proved of it.
+/// It is trusted instead: its nine calls do what `Disk` says, as long as nobody else writes in the
+/// folder and its file system can sync a folder. If the file system cannot, `sync_names` returns
+/// `Ok` although the names may not last: a crash soon afterwards may bring the old file back.
 ///
-/// Proved of it is that each failure is counted, and `host_errors` which errors of the system are no failure.
+/// It is proved that each failure is counted, and `host_errors` proves which errors of the system
+/// are not failures.
 #[derive(Drop)]
 pub struct HostDisk<'a, R: Files<File = File>> {
     rt: &'a R,
@@ -32,8 +33,9 @@ pub struct HostDisk<'a, R: Files<File = File>> {
     failures: u64,
 }
 
-/// The path of a name in a folder. A name that leads out of it is none. Its memory is asked for at once, so
-/// that where a file was made, what that path took serves the one by which it is renamed or removed.
+/// The path of a name in a folder; there is none for a name that leads out of it. It asks for its
+/// memory at once, so that the memory for the path by which a file was made is enough for the path
+/// by which it is renamed or removed.
 fn path_in(alloc: Global, dir: &str, name: &[u8]) -> Result<Option<PathBuf>, AllocError> {
     let Ok(name) = str::from_utf8(name) else {
         return Ok(None);
@@ -48,7 +50,7 @@ fn path_in(alloc: Global, dir: &str, name: &[u8]) -> Result<Option<PathBuf>, All
 }
 
 impl<'a, R: Files<File = File>> HostDisk<'a, R> {
-    /// The folder with this path; an empty path is the folder that the process is in. It isn't looked at.
+    /// The folder with this path; an empty path means the current directory. It is not looked at.
     pub fn try_new(rt: &'a R, alloc: Global, dir: &str) -> Result<HostDisk<'a, R>, AllocError> {
         let dir = if dir.is_empty() { "." } else { dir };
         let dir = String::from_str(alloc, dir)?;
@@ -70,7 +72,7 @@ impl<'a, R: Files<File = File>> HostDisk<'a, R> {
         DiskFault::Failed
     }
 
-    /// What a call has answered, whose failure is counted.
+    /// The result of a call, whose failure is counted.
     fn told<T: Drop>(&mut self, answer: io::Result<T>) -> Result<T, DiskFault>
         ensures cause { HasCause Failed self.old.failures self.new.failures result }
         ensures ok { IfOk result (λ value. answer ≡ Ok value) }

@@ -1,4 +1,4 @@
-//! The calls of the operating system that a folder needs, each tried again where a signal interrupts it.
+//! The calls of the operating system that a folder needs, each repeated if a signal interrupts it.
 ghost use Rattle.std.specs.Prelude.{◌≡◌, ◌≤◌, length, IfOk, IfErr};
 
 use crate::host_errors::{found, gone, where_supported};
@@ -28,7 +28,7 @@ fn uninterrupted<T: Drop, F: Fn() -> io::Result<T> + Drop>(call: F) -> io::Resul
     Err(io::Error::from(ErrorKind::Interrupted))
 }
 
-/// What a path leads to, behind links too.
+/// What a path leads to, through links.
 fn look_through<R: Files>(rt: &R, path: Path) -> io::Result<Option<Metadata>> {
     found(uninterrupted(|| fs::metadata(rt, path)))
 }
@@ -38,7 +38,7 @@ fn look_at<R: Files>(rt: &R, path: Path) -> io::Result<Option<Metadata>> {
     found(uninterrupted(|| fs::symlink_metadata(rt, path)))
 }
 
-/// Whether a path leads to a plain file. Of what is no plain file nothing is told.
+/// Whether a path leads to a regular file. Anything else there is an error.
 pub(crate) fn is_there<R: Files>(rt: &R, path: Path) -> io::Result<bool> {
     match look_through(rt, path)? {
         Some(found) if found.is_file() => Ok(true),
@@ -61,8 +61,8 @@ fn metadata_of<F: OpenFile>(file: &F) -> io::Result<Metadata> {
     uninterrupted(|| file.metadata())
 }
 
-/// Opens a plain file, and tells its length. What is no file, as a folder or a pipe, is not opened: a
-/// pipe would wait for its other end.
+/// Opens a regular file, and returns its length. Anything else, such as a folder or a pipe, is not
+/// opened: a pipe would wait for its other end.
 pub(crate) fn open_file<R: Files>(rt: &R, path: Path) -> io::Result<(R::File, u64)> {
     if !is_there(rt, path)? {
         return Err(io::Error::from(ErrorKind::NotFound));
@@ -193,8 +193,8 @@ fn take_mode(file: &File, old: &Metadata) -> io::Result<()> {
     uninterrupted(|| file.set_permissions(old.permissions()))
 }
 
-/// Makes a new file that is to take the place of another, and gives it the mode of that. What is no plain
-/// file, as a folder or a link, is not replaced.
+/// Makes a new file that is to replace another, and gives it the mode of that. Anything that is not
+/// a regular file, such as a folder or a link, is not replaced.
 pub(crate) fn create_file<R: Files<File = File>>(
     rt: &R,
     path: Path,

@@ -1,4 +1,4 @@
-//! A file in memory that is open.
+//! An open file in memory.
 ghost use Rattle.std.specs.Prelude.{◌≡◌, ◌++◌, ◌<◌, ◌≤◌, [], length, take, drop, IfOk};
 
 use std::alloc::{AllocError, Global};
@@ -22,7 +22,7 @@ impl MemFile {
         })
     }
 
-    /// Moves the next bytes to a piece, as many as it has room for.
+    /// Moves the next bytes to a piece, as many as fit.
     pub(crate) fn take(&mut self, piece: &mut [u8]) -> usize
         ensures count { result ≤ length piece.old }
         ensures taken { drop self.old.at self.old.bytes.items ≡ take result piece.new ++ drop self.new.at self.new.bytes.items }

@@ -18,11 +18,11 @@ pub const MAX_FIELDS: usize = 64;
 /// The most leaves that an item may have.
 pub const MAX_LEAVES: usize = 2048;
 
-/// How many records may lie one within another.
+/// How deep records may be nested.
 pub const MAX_DEPTH: usize = 4;
 
-/// A record: 1 to 64 fields with names of their own, in order of offset, that do not overlap, in
-/// items of at most 65,536 bytes. The bytes between the fields and after them are padding.
+/// A record: 1 to 64 fields with different names, in order of offset and without overlap, in items
+/// of at most 65,536 bytes. The bytes between the fields and after them are padding.
 #[derive(Debug, Drop)]
 #[cycle(descr)]
 pub struct Record {
@@ -72,7 +72,7 @@ impl Model for Record {
     ghost size_decreases = { λ r h. total_falls r.fields.items };
 }
 
-/// Appends leaves, so many bytes further on.
+/// Appends leaves, `by` bytes further on.
 fn push_moved(
     leaves: &mut Vec<Leaf>,
     by: usize,
@@ -199,7 +199,7 @@ impl Record {
         self.fields.as_slice()
     }
 
-    /// The scalars of the fields, those of records within in their place, with their offsets in
+    /// The scalars of the fields, and in the place of nested records their scalars, with offsets in
     /// the whole item.
     pub fn leaves(&self) -> &[Leaf]
         ensures value { result.now ≡ leaves_from 0 self.now.fields }
@@ -305,7 +305,7 @@ impl Descr {
         &self.fields()[k]
     }
 
-    /// The leaves of the field with this number: the first of them, and how many they are.
+    /// The leaves of the field with this number: the first one, and how many there are.
     pub fn leaves_of(&self, field: usize) -> (usize, usize)
         requires { field < length (fields self.now) }
         ensures value { result ≡ field_leaves self.now field }

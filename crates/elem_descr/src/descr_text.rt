@@ -1,4 +1,4 @@
-//! Descriptors as a script gives them.
+//! Descriptors as written in a script.
 ghost use Rattle.std.specs.Prelude.{◌≡◌};
 ghost use Rattle.elem_descr.specs.Refusals.{Gives};
 ghost use Rattle.elem_descr.specs.DescrTexts.{is_kind, is_type_string, descriptor};
@@ -29,8 +29,9 @@ fn is_type_string(text: &[u8]) -> bool
     is_kind(marked(text).1)
 }
 
-/// Reads the descriptor of a script: a type string where, behind an optional mark out of `<`, `>`,
-/// `|` and `=`, a kind letter of NumPy stands before a digit, or `S` alone; else a format text.
+/// Reads the descriptor of a script: a type string if, after an optional mark (`<`, `>`, `|` or
+/// `=`), a kind letter of NumPy comes before a digit, or if it is `S` alone; otherwise a format
+/// text.
 #[tactic(auto, unfolding(crate::specs::DescrTexts::descriptor))]
 pub fn descr_read(alloc: Global, text: &[u8]) -> Result<Descr, Refusal>
     ensures { Gives (λ descr. descr) result (descriptor text.now) }

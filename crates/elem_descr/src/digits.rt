@@ -8,7 +8,7 @@ ghost use Rattle.elem_descr.specs.RecordBuilding.{max_size};
 
 use crate::scalar::MAX_ITEM_SIZE;
 
-/// How many digits stand at the front.
+/// How many digits the text begins with.
 pub fn digits_len(text: &[u8]) -> usize
     ensures value { result ≡ prefix_len is_ascii_digit text.now }
     ensures within { result ≤ length text.now }
@@ -22,7 +22,7 @@ pub fn are_digits(text: &[u8]) -> bool
     text.iter().all(|b| b.is_ascii_digit())
 }
 
-/// The number that digits spell, or one past `most` where it is larger: the digits may be thousands.
+/// The number that digits spell, or `most` + 1 if it is larger: there may be thousands of digits.
 pub fn capped_value(digits: &[u8], most: usize) -> usize
     requires { most ≤ 2 ^ 32 }
     ensures { result ≡ min (value_of digits.now) (most + 1) }
@@ -34,8 +34,8 @@ pub fn capped_value(digits: &[u8], most: usize) -> usize
     value
 }
 
-/// The count of bytes that digits spell: 1 where there are none, and one past the greatest that an item
-/// may have where it is larger.
+/// The number of bytes that digits spell: 1 if there are no digits, and one more than the greatest
+/// size of an item if it is larger.
 pub fn count(digits: &[u8]) -> usize
     ensures { result ≡ min (count_of digits.now) (max_size + 1) }
 {

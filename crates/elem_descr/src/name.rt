@@ -32,7 +32,7 @@ impl FieldName {
         Ok(FieldName { bytes })
     }
 
-    /// The name of a field that is given none: `f` and its number among the fields.
+    /// The name of a field without a name: `f` and its number among the fields.
     #[tactic(auto, using(crate::proofs::DefaultNames::legal_number))]
     pub fn numbered(alloc: Global, number: usize) -> Result<FieldName, AllocError>
         requires { number ≤ 64 }

@@ -6,7 +6,7 @@ ghost use Rattle.elem_descr.specs.Encoding.{IsNumber, size, decode, encode, wrap
 use crate::scalar::{Order, Scalar};
 use byteorder::{BigEndian, ByteOrder, LittleEndian};
 
-/// The integer in the first bytes, in two's complement where it is signed.
+/// The integer in the first bytes, in two's complement if it is signed.
 fn integer_read(signed: bool, order: Order, size: usize, bytes: &[u8]) -> i128
     requires some { 1 ≤ size }
     requires few { size ≤ 8 }
@@ -80,7 +80,7 @@ pub fn num_write(scalar: Scalar, value: i128, bytes: &mut [u8])
     wrapped_write(scalar, value, bytes);
 }
 
-/// Whether a number is a value of the scalar: it is the same when it is written and read again.
+/// Whether a number is a value of the scalar: writing it and reading it back gives the same number.
 #[tactic(auto, using(crate::specs::NumberLaws::number_size))]
 pub fn is_value(scalar: &Scalar, value: i128) -> bool
     requires { IsNumber scalar.now }

@@ -12,7 +12,7 @@ use crate::scalar::MAX_ITEM_SIZE;
 use std::alloc::Global;
 use std::marker::Model;
 
-/// A record to which fields and padding are added in their order.
+/// A record to which fields and padding are added in order.
 #[derive(Debug, Drop)]
 pub struct RecordBuilder {
     size: usize,
@@ -44,8 +44,8 @@ fn is_taken(fields: &[Field], name: &[u8]) -> bool
 }
 
 impl RecordBuilder {
-    /// A record before its first field, in which `levels` more may lie one within another, after so many
-    /// leaves of the whole type.
+    /// A record before its first field, in which records may be nested `levels` deep, after
+    /// `leaves` leaves of the whole type.
     #[tactic(auto, using(crate::proofs::PartialLaws::empty_partial))]
     pub fn new(alloc: Global, levels: usize, leaves: usize) -> RecordBuilder
         requires levels { levels < max_depth }
@@ -69,7 +69,7 @@ impl RecordBuilder {
         self.fields.len()
     }
 
-    /// The leaves of the whole type so far.
+    /// The number of leaves of the whole type so far.
     pub fn leaves(&self) -> usize
         ensures value { result ≡ self.now.leaves }
         ensures few { result ≤ max_leaves }
@@ -77,7 +77,7 @@ impl RecordBuilder {
         self.leaves
     }
 
-    /// How many levels of records may lie in this one.
+    /// How many levels of records may be nested in this one.
     pub fn levels(&self) -> usize
         ensures value { result ≡ self.now.levels }
         ensures few { result < max_depth }
@@ -85,7 +85,7 @@ impl RecordBuilder {
         self.levels
     }
 
-    /// Whether a further field may have this name. A name that is taken is `BadDescriptor`, and a
+    /// Whether another field may have this name. A name that is taken is `BadDescriptor`, and a
     /// 65th field is `TooLarge`.
     #[tactic(auto, unfolding(crate::specs::RecordBuilding::checked_name))]
     pub fn check_name(&self, name: &[u8]) -> Result<(), Refusal>
@@ -151,7 +151,7 @@ impl RecordBuilder {
         self.alignment
     }
 
-    /// The bytes of the record where it ends now.
+    /// The size of the record if it ended now.
     fn closed_size(&self, is_aligned: bool) -> usize
         ensures value { result ≡ closed_size is_aligned self.now }
         ensures later { self.now.size ≤ result }
@@ -162,8 +162,8 @@ impl RecordBuilder {
         self.size.next_multiple_of(self.alignment)
     }
 
-    /// The record, its size a multiple of its alignment where it is to be aligned. A record without a
-    /// field is `DescriptorLeftOut`.
+    /// The record; if it is to be aligned, its size is a multiple of its alignment. A record
+    /// without a field is `DescriptorLeftOut`.
     #[tactic(auto, unfolding(crate::specs::RecordBuilding::closed_record))]
     pub fn close(self, alloc: Global, is_aligned: bool) -> Result<Record, Refusal>
         ensures gives { Gives (λ whole. whole) result (closed_record is_aligned self) }

@@ -6,8 +6,8 @@ use std::alloc::{AllocError, AllocFailed};
 use std::error::Error;
 use std::fmt;
 
-/// Why a command is refused, in the order of the codes. Its message is its code and its text, as a
-/// reply shows them.
+/// Why a command is refused, in the order of the codes. The message is the code and the text, as in
+/// the reply.
 #[derive(Clone, Copy, Debug, PartialEq, Eq)]
 pub enum Refusal {
     LineTooLong,
@@ -51,7 +51,8 @@ pub enum Refusal {
 impl Refusal {
     ghost use Rattle.elem_descr.specs.RefusalTexts.{refusal_text};
 
-    /// The reply to a line that is refused so: `no`, the code and the text, without a newline.
+    /// The reply to a line that is refused for this reason: `no`, the code and the text, without a
+    /// newline.
     pub fn reply(self) -> &'static str
         ensures text { result.now ≡ refusal_text self }
         ensures short { length result.now ≤ 64 }
@@ -96,7 +97,7 @@ impl Refusal {
         }
     }
 
-    /// The code and the text, as the reply has them.
+    /// The code and the text, as in the reply.
     fn text(self) -> &'static str {
         self.reply().strip_prefix("no ").unwrap_or_default()
     }

@@ -1,4 +1,4 @@
-//! Scalars: the types of single values, and the bytes that they take.
+//! Scalars: the types of single values, and their sizes.
 ghost use Rattle.std.specs.Prelude.{◌≡◌, ◌≤◌, SomeIff};
 ghost use Rattle.elem_descr.specs.Encoding.{size, width_size};
 
@@ -14,7 +14,7 @@ pub enum Order {
     Big,
 }
 
-/// The width of an integer that has a byte order, in bytes.
+/// The size in bytes of an integer that has a byte order.
 #[derive(Clone, Copy, Debug, PartialEq, Eq)]
 pub enum Width {
     Two,
@@ -72,7 +72,7 @@ impl BytesLen {
     }
 }
 
-/// An element type that is no record: a bool of one byte, an integer in two's complement, or a
+/// An element type other than a record: a bool of one byte, an integer in two's complement, or a
 /// byte string of a fixed length. Bools, integers of one byte and byte strings have no byte order.
 #[derive(Clone, Copy, Debug, PartialEq, Eq)]
 pub enum Scalar {

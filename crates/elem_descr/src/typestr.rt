@@ -8,7 +8,7 @@ use crate::scalar::{BytesLen, MAX_ITEM_SIZE, Order, Scalar, Width};
 use itoa::Buffer;
 use std::alloc::{AllocError, Global};
 
-/// The byte order that a mark at the front means, and what follows the mark.
+/// The byte order of a mark at the front, and what follows the mark.
 pub fn marked(text: &[u8]) -> (Order, &[u8])
     ensures { (result.0, result.1.now) ≡ marked text.now }
 {
@@ -77,12 +77,12 @@ fn byte_string(digits: &[u8]) -> Result<Scalar, Refusal>
     }
 }
 
-/// Reads a type string: an optional mark out of `<`, `>`, `|` and `=`, then `b1`, `i1`, `i2`, `i4`,
-/// `i8`, `u1`, `u2`, `u4`, `u8`, or `S` with a number of bytes. `>` before an integer of two or more
-/// bytes means big-endian, every other mark or none little-endian.
+/// Reads a type string: an optional mark (`<`, `>`, `|` or `=`), then `b1`, `i1`, `i2`, `i4`, `i8`,
+/// `u1`, `u2`, `u4`, `u8`, or `S` and a number of bytes. `>` before an integer of two or more bytes
+/// means big-endian; any other mark, or none, means little-endian.
 ///
-/// A kind of NumPy that is left out, and a byte string of no bytes, are `DescriptorLeftOut`; a byte
-/// string of more than 65,536 bytes is `TooLarge`; every other text is `BadDescriptor`.
+/// A kind of NumPy that is not supported, and a byte string of no bytes, are `DescriptorLeftOut`. A
+/// byte string of more than 65,536 bytes is `TooLarge`. Every other text is `BadDescriptor`.
 pub fn typestr_read(text: &[u8]) -> Result<Scalar, Refusal>
     ensures { result ≡ typestr text.now }
 {

@@ -1,4 +1,4 @@
-//! The words of the command line.
+//! The arguments of the command line, and the help.
 ghost use Rattle.std.specs.Prelude.{◌≤◌, codes, IfOk, IfErr};
 ghost use Rattle.host_process.specs.inside.Depths.{IsDepth, IsNamed, TakesDepth};
 ghost use Rattle.host_process.specs.Faults.{IsToldApart};
@@ -10,7 +10,7 @@ use std::alloc::{AllocError, Global};
 use std::env::Env;
 use std::{env, io};
 
-/// What a script may say.
+/// The commands, for the help.
 const COMMANDS: &str = "Commands, one per line:
   X = zeros D S         makes an array of zeros, as in a = zeros <i4 (2,3)
   X = full D S L        fills an array with one literal, as in a = full |u1 (4) 255
@@ -51,13 +51,13 @@ A refused command changes nothing. Its reply is `no`, a code and the reason.
 Exit status: 0 if all commands were accepted, 1 if one was refused, 2 for invalid arguments,
 3 if the run could not go on.";
 
-/// The folder where no other is named.
+/// The default folder.
 const THIS_FOLDER: &str = ".";
 
-/// How many earlier states are kept where no number is named.
+/// The default number of earlier states that are kept.
 const DEPTH: u8 = 16;
 
-/// What is wrong with words that are no text.
+/// The message for an argument that is not UTF-8.
 const NO_TEXT: &str = "invalid UTF-8 was detected in one or more arguments";
 
 /// The argument that names the folder.
@@ -71,7 +71,7 @@ fn folder_argument<'a>(alloc: Global) -> Arg<'a>
         .help("The folder for load and save")
 }
 
-/// The argument that names how many earlier states are kept.
+/// The argument for how many earlier states are kept.
 fn depth_argument<'a>(alloc: Global) -> Arg<'a>
     ensures { IsDepth result }
 {
@@ -105,7 +105,7 @@ fn command<'a>(alloc: Global) -> Result<Command<'a>, AllocError>
         .arg(script_argument(alloc))
 }
 
-/// What a fault of `clap` comes to: it may be that memory ran out.
+/// What an error of `clap` means: memory may have run out.
 fn fault_of(error: Error) -> OptionsFault
     ensures { IsToldApart result }
 {
@@ -115,8 +115,8 @@ fn fault_of(error: Error) -> OptionsFault
     }
 }
 
-/// The words that the program is given, of which the first is its own name. One that is no UTF-8 is
-/// a refused word.
+/// The arguments of the program, of which the first is its own name. One that is not UTF-8 is
+/// refused.
 fn given_words<R: Env + AllocGlobal>(rt: &R) -> Result<Vec<String>, OptionsFault>
     ensures told { IfErr result IsToldApart }
 {
@@ -130,7 +130,7 @@ fn given_words<R: Env + AllocGlobal>(rt: &R) -> Result<Vec<String>, OptionsFault
     }
 }
 
-/// Reads the words that the program is given.
+/// Reads the arguments of the program.
 pub fn given_options<R: Env + AllocGlobal>(rt: &R) -> Result<Options, OptionsFault>
     ensures depth { IfOk result (λ options. options.depth ≤ 64) }
     ensures told { IfErr result IsToldApart }
@@ -138,8 +138,8 @@ pub fn given_options<R: Env + AllocGlobal>(rt: &R) -> Result<Options, OptionsFau
     options(rt.alloc(), given_words(rt)?.as_slice())
 }
 
-/// Reads the words, of which the first is the program's own name. Help is asked for by a fault of
-/// the words too, as `clap` has it.
+/// Reads arguments, of which the first is the program's own name. A request for help is an error
+/// too, as in `clap`.
 fn options(alloc: Global, words: &[String]) -> Result<Options, OptionsFault>
     ensures depth { IfOk result (λ options. options.depth ≤ 64) }
     ensures told { IfErr result IsToldApart }
@@ -166,7 +166,7 @@ mod tests {
     use super::*;
     use std::test::Fail;
 
-    /// The words, as text that the program is given.
+    /// The arguments, as the program is given them.
     fn given(alloc: Global, words: &[&str]) -> Result<Vec<String>, AllocError> {
         let mut texts = Vec::new(alloc);
         for word in words {

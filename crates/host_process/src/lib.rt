@@ -1,4 +1,5 @@
-//! What a program has of its process: the words it is given, its stack, and calls that a signal interrupts.
+//! What a program needs of its process: its arguments, its stack, and reads and writes that signals
+//! do not interrupt.
 #![tactic(auto)]
 
 mod command_line;

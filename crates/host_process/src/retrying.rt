@@ -1,4 +1,4 @@
-//! Reads and writes that a signal interrupts are made again.
+//! Repeats reads and writes that a signal interrupts.
 ghost use Rattle.std.specs.Prelude.{◌≡◌, ◌≢◌, IfErr};
 ghost use Rattle.std.specs.IoError.{error_kind};
 ghost use Rattle.std.specs.Io.{ReadsAtMost, WritesAtMost};

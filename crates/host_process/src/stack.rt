@@ -1,4 +1,4 @@
-//! The stack that is taken before the script is read.
+//! Takes the stack before the script is read.
 ghost use Rattle.std.specs.Prelude.{◌<◌, ◌≤◌, ◌*◌, length};
 
 use std::alloc::{AllocError, Global};

@@ -1,27 +1,27 @@
-//! What the words of the command line ask for.
+//! The options that the arguments give.
 ghost use Rattle.std.specs.Prelude.{◌≡◌};
 ghost use Rattle.host_process.specs.declared.words.OptionsFault.TheVariants.{Memory};
 
 use clap::Error;
 use std::alloc::AllocError;
 
-/// What the words ask for.
+/// The options of a run.
 #[derive(Drop)]
 pub struct Options {
     /// How many earlier states are kept for `undo`.
     pub depth: usize,
-    /// The folder of the files that scripts load and save.
+    /// The folder for `load` and `save`.
     pub dir: String,
-    /// The script's file; standard input is read where it is left out.
+    /// The file of the script; without one, standard input is read.
     pub script: Option<String>,
 }
 
-/// Why the words ask for nothing that can be done.
+/// Why the arguments give no options.
 #[derive(Drop)]
 pub enum OptionsFault {
-    /// The words are not understood, or ask for help.
+    /// The arguments are invalid, or ask for help.
     Words(Error),
-    /// No memory was found to read them.
+    /// There was not enough memory to read them.
     Memory,
 }
 

@@ -62,8 +62,8 @@ fn number_at(start: &i128, step: &i128, k: usize) -> i128
     (k as i128).wrapping_mul(*step).wrapping_add(*start)
 }
 
-/// Whether the first `count` of the numbers start, start + step, .. are values of the scalar. They lie
-/// between the first and the last, so these two decide it.
+/// Whether the first `count` of the numbers start, start + step, .. are values of the scalar. All
+/// lie between the first and the last, so these two decide.
 fn are_values(scalar: &Scalar, start: &i128, step: &i128, count: usize) -> bool
     requires number { IsNumber scalar.now }
     requires fits { (k : ℕ) → k < count → FitsSigned w128 (start.now +ℤ step.now *ℤ pos k) }
@@ -131,9 +131,9 @@ impl<'a> NumberTask for Counting<'a> {
     }
 }
 
-/// A block of the numbers start, start + step, .. before the stop, one after another. A step of 0 is
-/// refused as `ZeroStep`, more than 2^24 numbers as `TooLarge`, then a number that is no value of the
-/// scalar as `LiteralOutOfRange`.
+/// A block of the numbers start, start + step, .. before the stop, one after another. A step of 0
+/// is refused as `ZeroStep`, then more than 2^24 numbers as `TooLarge`, then a number that is not a
+/// value of the scalar as `LiteralOutOfRange`.
 pub fn range_block(
     alloc: Global,
     scalar: &Scalar,

@@ -1,4 +1,4 @@
-//! The two orders of an integer's bytes.
+//! The two byte orders of an integer.
 ghost use Rattle.std.specs.Prelude.{◌≡◌, length};
 ghost use Rattle.elem_descr.specs.declared.scalar.Order.{Order};
 ghost use Rattle.elem_descr.specs.declared.scalar.Order.TheVariants.{Little, Big};
@@ -6,7 +6,7 @@ ghost use Rattle.elem_descr.specs.Encoding.{number_in, bytes_of};
 
 use byteorder::{BigEndian, ByteOrder, LittleEndian};
 
-/// An order of the bytes of an integer: how it is read, and written over as many bytes.
+/// A byte order of integers: how they are read and written.
 pub trait Ordered {
     ghost order: { Order };
 

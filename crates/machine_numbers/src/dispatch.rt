@@ -1,4 +1,5 @@
-//! Work on numbers whose type is known only by a scalar: the one place that goes from a scalar to a type.
+//! Work on numbers whose type only a scalar says: the one place that goes from a scalar to a Rust
+//! type.
 ghost use Rattle.std.specs.Prelude.{List, ℕ};
 ghost use Rattle.elem_descr.specs.declared.scalar.Scalar.{Scalar};
 ghost use Rattle.elem_descr.specs.Encoding.{IsNumber};
@@ -9,7 +10,7 @@ use elem_descr::{Order, Scalar, Width};
 
 /// Work on numbers of any type, in either byte order. It may write to bytes.
 pub trait NumberTask {
-    /// What it gives.
+    /// What it returns.
     type Out;
 
     // What it needs, of a scalar and the bytes before.
@@ -23,7 +24,7 @@ pub trait NumberTask {
         ensures { Gives self (N.scalar O.order) bytes.old bytes.new result };
 }
 
-/// Does it at the type that a scalar of numbers names.
+/// Does the work at the type that a scalar of numbers names.
 pub fn on_number<T: NumberTask>(scalar: &Scalar, task: T, bytes: &mut [u8]) -> T::Out
     requires number { IsNumber scalar.now }
     requires needs { T.Needs task scalar.now bytes.old }

@@ -18,7 +18,7 @@ pub fn is_text(scalar: &Scalar) -> bool
     matches!(scalar, Scalar::Bytes(_))
 }
 
-/// Whether the values are integers of which some are below 0.
+/// Whether the values are signed integers.
 pub fn is_signed(scalar: &Scalar) -> bool
     ensures { result ≡ is_signed scalar.now }
 {
@@ -29,7 +29,7 @@ pub fn is_signed(scalar: &Scalar) -> bool
     }
 }
 
-/// The same values, the lowest byte first.
+/// The little-endian scalar with the same values.
 pub fn little(scalar: &Scalar) -> Scalar
     ensures { result ≡ little scalar.now }
 {

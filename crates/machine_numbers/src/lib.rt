@@ -1,5 +1,5 @@
-//! Machine numbers: what they mean and how they are stored, the one way from a scalar to a type, and the
-//! words of what is done with numbers.
+//! Machine numbers: what they mean, how they are stored, how a scalar selects their type, and the
+//! operators on them.
 #![tactic(auto)]
 
 mod byte_orders;

@@ -1,4 +1,4 @@
-//! Machine numbers: what they mean, how they are stored, and how one is made of another.
+//! Machine numbers: what they mean, how they are stored, and how one type is converted to another.
 ghost use Rattle.std.specs.Prelude.{◌≡◌, ◌≤◌, ◌⊎◌, ◌+◌, ◌++◌, ℕ, ℤ, int_lt, pos, Bool, true, false, length, if◌then◌else◌, refl};
 ghost use Rattle.elem_descr.specs.declared.scalar.Order.{Order};
 ghost use Rattle.elem_descr.specs.declared.scalar.Order.TheVariants.{Little};
@@ -27,7 +27,7 @@ pub trait Number: Copy {
 
     ghost WIDTH: { ℕ };
 
-    /// Whether there are numbers below 0.
+    /// Whether the type is signed.
     const SIGNED: bool;
 
     ghost SIGNED: { Bool };
@@ -36,7 +36,7 @@ pub trait Number: Copy {
         requires { length bytes.now ≡ WIDTH }
         ensures { decode (scalar O.order) bytes.now ≡ number (value result) };
 
-    /// Writes a number over as many bytes as it has, from which it is read back.
+    /// Writes a number over its bytes, from which it reads back.
     fn write<O: Ordered>(self, bytes: &mut [u8])
         requires { length bytes.old ≡ WIDTH }
         ensures bytes { bytes.new ≡ encode (scalar O.order) (number (value self)) }
@@ -48,16 +48,16 @@ pub trait Number: Copy {
         ensures bytes { block.new.0 ≡ block.old.0 ++ encode (scalar O.order) (number (value self)) }
         ensures left { WIDTH + block.new.1 ≡ block.old.1 };
 
-    /// The lowest 64 bits, those above its own as its sign says.
+    /// The lowest 64 bits; those above its own bits are copies of its sign.
     fn bits(self) -> u64
         ensures lowest { AreBits result (value self) }
         ensures exact { value self ≡ integer SIGNED 8 result };
 
-    /// The number that has the lowest of these bits, or whether there are any.
+    /// The number that has the lowest of these bits, or for a bool whether any bit is set.
     fn of_bits(bits: u64) -> Self
         ensures { (order : Order) (z : ℤ) → AreBits bits z → value result ≡ wrap (scalar order) z };
 
-    /// Whether it is less than another one.
+    /// Whether it is less than another number.
     fn is_less(self, other: Self) -> bool
         ensures { result ≡ int_lt (value self) (value other) };
 

@@ -1,4 +1,4 @@
-//! The words of what is done with numbers: operations, comparisons and reductions.
+//! The operators: operations, comparisons and reductions.
 
 /// The operations with two operands.
 #[derive(Clone, Copy, Debug)]

@@ -1,4 +1,4 @@
-//! Items at equal steps that are read.
+//! Reads items at equal steps.
 ghost use Rattle.std.specs.Prelude.{◌≡◌, ◌+◌, ◌^◌, ◌<◌, ◌≤◌, pos, ◌≤ℤ◌, ◌<ℤ◌, length};
 ghost use Rattle.raw_block.specs.Bytes.{position, place, item_at, EachWithin};
 ghost use Rattle.elem_descr.specs.Values.{number};
@@ -42,7 +42,7 @@ fn read_at<N: Number, O: Ordered>(bytes: &[u8], at: usize) -> N
     N::read::<O>(&bytes[at..at + N::WIDTH])
 }
 
-/// A run of items, of `width` bytes, that lie in bytes.
+/// A run of items of `width` bytes each, in a slice of bytes.
 #[derive(Clone, Copy, Drop)]
 pub struct Side<'a> {
     pub bytes: &'a [u8],
@@ -55,7 +55,7 @@ pub struct Side<'a> {
 impl<'a> Side<'a> {
     ghost use Rattle.machine_numbers.specs.Sides.{AreSame, item_in, number_of_side};
 
-    /// The same, whose step is known to be this one.
+    /// The same run, whose step is known to be this one.
     #[inline(always)]
     pub fn with_step(self, step: isize) -> Side<'a>
         requires { self.run.step ≡ step }

@@ -14,8 +14,8 @@ use std::rt::Files;
 /// The most bytes of a file in a folder.
 pub const MAX_FILE: usize = 1 << 29;
 
-/// A store that is a folder of the operating system, reached through a runtime. No contract tells what
-/// such a folder holds, so that it isn't honest: its contracts say of its files nothing.
+/// A store that is a folder of the operating system, reached through a runtime. No contract says
+/// what such a folder contains, so it is not honest, and its contracts say nothing about its files.
 pub type DirStore<'a, R> = FolderStore<HostDisk<'a, R>, HeaderCutter>;
 
 impl<'a, R: Files<File = File>> FolderStore<HostDisk<'a, R>, HeaderCutter> {

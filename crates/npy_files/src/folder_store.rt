@@ -18,11 +18,11 @@ use disk::Disk;
 use npy_format::FileParts;
 use std::alloc::Global;
 
-/// A folder on a disk as a store of files: honest where its disk is. Names that begin with a dot are those
-/// of no file in it; to write one is a fault of the device.
+/// A folder on a disk as a store of files; it is honest if its disk is. It has no files whose names
+/// begin with a dot; writing one is a device fault.
 ///
-/// A file is written to a hidden name beside its own, brought to the disk and only then given its name, so
-/// that a fault or a crash leaves the file that was there, or the new one.
+/// A file is written under a hidden name, synced to the disk, and only then renamed, so that a
+/// fault or a crash leaves the file that was there, or the new one.
 #[derive(Drop)]
 pub struct FolderStore<D: Disk, C: Cutter> {
     disk: D,
@@ -64,8 +64,8 @@ fn counted(faults: u64, fault: StoreFault) -> u64
 }
 
 impl<D: Disk, C: Cutter> FolderStore<D, C> {
-    /// The store that is a folder on this disk, whose files have at most so many bytes and are cut like
-    /// this when they are read.
+    /// A store on this disk, whose files have at most `limit` bytes and are cut like this when they
+    /// are read.
     pub fn new(disk: D, cutter: C, limit: usize) -> FolderStore<D, C>
         ensures { ⟦<FolderStore<D, C> as NpyStore>⟧.shelf result ≡ folder_shelf (D.files disk) 0 limit D.honest }
     {

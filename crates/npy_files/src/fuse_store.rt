@@ -10,8 +10,8 @@ use crate::store::{NpyStore, StoreFault};
 use npy_format::FileParts;
 use std::alloc::Global;
 
-/// A store in memory of which one call answers `Device` and leaves the files as they are, for tests of
-/// what happens then. All others are those of a `MemStore`. It is honest.
+/// A store in memory with one call that returns `Device` and leaves the files as they are, for
+/// tests. All other calls are those of a `MemStore`. It is honest.
 #[derive(Drop)]
 pub struct FuseStore {
     store: MemStore,

@@ -1,5 +1,5 @@
-//! Stores of files: in memory, and as a folder on a disk. What the format of the files gives is handed
-//! on.
+//! Stores of files: in memory, and as a folder on a disk. It re-exports what the format of the
+//! files returns.
 #![tactic(auto)]
 
 mod cutter;

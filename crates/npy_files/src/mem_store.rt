@@ -76,7 +76,7 @@ impl MemStore {
         }
     }
 
-    /// The bytes of the file with this name, or `None` where there is no such file.
+    /// The bytes of the file with this name, or `None` if there is no such file.
     pub fn bytes_of(&self, name: &[u8]) -> Option<&[u8]>
         ensures { MatchOption result
             (get (⟦<MemStore as NpyStore>⟧.shelf self.now).files name.now ≡ None)

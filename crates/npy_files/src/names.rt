@@ -4,7 +4,7 @@ ghost use Rattle.npy_files.specs.Names as spec;
 
 use std::alloc::{AllocError, Global};
 
-/// The name may be that of a file of the store, and is no hidden one.
+/// Whether a file of the store may have this name: it is not hidden.
 pub(crate) fn is_user_name(name: &[u8]) -> bool
     ensures { result ≡ spec.is_user_name name.now }
 {

@@ -1,4 +1,4 @@
-//! How a file is put in place of another: under a hidden name first, and then by a rename.
+//! Replaces a file: writes it under a hidden name, then renames it.
 ghost use Rattle.std.specs.Prelude.{◌≡◌, ◌≢◌, ◌++◌, [], IsTrue, IfOk, OnOk, IsErrOf};
 ghost use Rattle.std.specs.FinMap.{get};
 ghost use Rattle.disk.specs.declared.disk.DiskFault.TheVariants.{Failed, Memory};
@@ -8,7 +8,7 @@ ghost use Rattle.disk.specs.Calls.{HasCause, Replaces, Appends, AlwaysHas};
 
 use disk::{Disk, DiskFault};
 
-/// Writes two parts behind what a file has, and brings it to the disk.
+/// Appends two parts to a file, and syncs it to the disk.
 fn fill<D: Disk>(
     disk: &mut D,
     file: &mut D::File,

@@ -1,4 +1,4 @@
-//! Files that are read, cut in two.
+//! Reads files in two parts.
 ghost use Rattle.std.specs.Prelude.{◌≡◌, ◌++◌, ◌+◌, ◌<◌, ◌≤◌, [], ℕ, List, length, take, drop, IsTrue, IfOk, OnOk, IsErrOf};
 ghost use Rattle.std.specs.FinMap.{get};
 ghost use Rattle.disk.specs.Files.{Same};
@@ -17,8 +17,8 @@ use std::alloc::Global;
 /// The most bytes that are read at a time.
 const PIECE: usize = 1 << 16;
 
-/// Fills bytes from `start` on with those that come next in a file. A file that ends before is a fault: it
-/// has shrunk since its length was told.
+/// Fills bytes from `start` on with the next ones of a file. If the file ends before that, it is a
+/// fault: the file has become shorter.
 fn fill<D: Disk>(
     disk: &mut D,
     file: &mut D::File,
@@ -97,7 +97,7 @@ fn fill_rest<D: Disk>(
     Ok(())
 }
 
-/// A file that goes on is a fault: it has grown since its length was told.
+/// If the file goes on, it is a fault: the file has become longer.
 fn expect_end<D: Disk>(disk: &mut D, file: &mut D::File) -> Result<(), StoreFault>
     requires current { IsTrue D.honest → D.IsCurrent disk.old file.old }
     requires told { IsTrue D.honest → length (D.rest_of file.old) ≡ 0 }

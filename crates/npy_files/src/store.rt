@@ -52,7 +52,8 @@ impl From<DiskFault> for StoreFault {
     }
 }
 
-/// Whether the two parts of a file, of so many bytes, are together longer than the limit.
+/// Whether the two parts of a file, of `front` and `items` bytes, are together longer than the
+/// limit.
 pub(crate) fn is_longer(front: usize, items: usize, limit: usize) -> bool
     ensures longer { result ≡ true → limit < front + items }
     ensures within { result ≡ false → front + items ≤ limit }
@@ -69,15 +70,15 @@ pub trait NpyStore {
     fn limit(&self) -> usize
         ensures { result ≡ (shelf self.now).limit };
 
-    /// The file with this name in two parts, wherever the store cuts it, or `None` where there is no such
-    /// file. It leaves all files as they are.
+    /// The file with this name in two parts, cut where the store cuts it, or `None` if there is no
+    /// such file. It leaves all files as they are.
     fn read_parts(&mut self, alloc: Global, name: &[u8]) -> Result<Option<FileParts>, StoreFault>
         ensures same { IsSameStore (shelf self.old) (shelf self.new) }
         ensures files { (shelf self.new).files ≡ (shelf self.old).files }
         ensures cause { FaultHasCause (shelf self.old) (shelf self.new) result }
         ensures found { (shelf self.old).honest ≡ true → IsRead (λ parts. parts.front.items ++ parts.block) (shelf self.old).limit (get (shelf self.old).files name.now) result };
 
-    /// Writes the file that has these bytes in front and these items behind them, over the one with this
+    /// Writes the file that has these bytes in front and these items after them, over the one with this
     /// name if there is one.
     fn write_parts(
         &mut self,

@@ -10,7 +10,8 @@ use std::alloc::{AllocError, Global};
 /// The longest text of version 1.0.
 const MAX_SHORT_TEXT: usize = 65_525;
 
-/// How many spaces go before the newline, so that so many bytes and both fill whole blocks of 64.
+/// How many spaces go before the newline so that everything, `bytes` before them included, fills
+/// whole blocks of 64.
 fn spaces_after(bytes: usize) -> usize
     requires { bytes + 1 < 2 ^ 64 }
     ensures value { result ≡ spaces_after bytes }
@@ -38,8 +39,8 @@ fn push_length(out: &mut Vec<u8>, width: usize, len: usize) -> Result<(), AllocE
     out.extend_from_slice(field.as_slice().split_at(width).0)
 }
 
-/// The bytes of a version: what every file begins with, the version, the length of the header in so
-/// many bytes, and the header, which is the text, spaces and a newline.
+/// The bytes of a version: the magic bytes, the version, the length of the header in `width` bytes,
+/// and the header, which is the text, spaces and a newline.
 fn push_header(out: &mut Vec<u8>, version: u8, width: usize, text: &[u8]) -> Result<(), AllocError>
     requires width { (width ≡ 2) ⊎ (width ≡ 4) }
     requires short { length text.now < 2 ^ 63 }
@@ -56,7 +57,7 @@ fn push_header(out: &mut Vec<u8>, version: u8, width: usize, text: &[u8]) -> Res
     Ok(())
 }
 
-/// The bytes of a file before its items: version 1.0, or 2.0 where the text is too long for it.
+/// The bytes of a file before its items: version 1.0, or 2.0 if the text is too long for that.
 pub fn file_header(alloc: Global, text: &[u8]) -> Result<Vec<u8>, AllocError>
     requires { length text.now < 2 ^ 63 }
     ensures { IfOk result (λ out. out.items ≡ written_header text.now) }

@@ -4,8 +4,8 @@ ghost use Rattle.std.specs.Prelude.{◌≡◌, ◌++◌, IfOk};
 use raw_block::RawBlock;
 use std::alloc::{AllocError, Global};
 
-/// A file in two parts, the one behind the other. Wherever it is cut, it is the same file; where it is cut
-/// behind the header of an NPY file, its block can become that of the array.
+/// A file in two parts, one after the other. Wherever it is cut, it is the same file; if an NPY
+/// file is cut after its header, the block of the second part can become that of the array.
 #[derive(Drop)]
 pub struct FileParts {
     pub front: Vec<u8>,

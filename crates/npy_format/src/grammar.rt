@@ -1,4 +1,4 @@
-//! Literals, straight off the text of a header.
+//! Parses the literals in the text of a header.
 ghost use Rattle.std.specs.Prelude.{◌≡◌, length, option_copied};
 ghost use Rattle.std.specs.Option.{option_map};
 ghost use Rattle.elem_descr.specs.Refusals.{Answers};
@@ -12,7 +12,7 @@ ghost use Rattle.npy_format.specs.inside.Scanned.{string_at, integer_at};
 use crate::token::{Token, next_token};
 use elem_descr::Refusal;
 
-/// How deep brackets lie in a value of a header.
+/// How deep brackets may be nested in a value of a header.
 const MAX_VALUE_DEPTH: usize = 15;
 
 /// What follows this symbol, which must come next.
@@ -55,7 +55,7 @@ pub fn skip_comma(text: &[u8]) -> &[u8]
     symbol(b',', text).unwrap_or(text)
 }
 
-/// What follows values that commas part and the symbol that closes them.
+/// What follows values separated by commas and the symbol that closes them.
 #[cycle(nesting)]
 fn skip_values(depth: usize, closing: u8, text: &[u8]) -> Result<&[u8], Refusal>
     ensures { Answers (λ rest. tokens rest.now) result (behind_entries (literal_in depth) closing (tokens text.now)) }
@@ -76,7 +76,7 @@ fn skip_values(depth: usize, closing: u8, text: &[u8]) -> Result<&[u8], Refusal>
     }
 }
 
-/// What follows the tuple behind its bracket.
+/// What follows the tuple after its bracket.
 #[cycle(nesting)]
 fn skip_tuple(depth: usize, text: &[u8]) -> Result<&[u8], Refusal>
     ensures { Answers (λ rest. tokens rest.now) result (behind (tuple_in (literal_in depth) (tokens text.now))) }
@@ -112,7 +112,7 @@ fn skip_pair(depth: usize, text: &[u8]) -> Result<&[u8], Refusal>
     skip_literal(depth, value)
 }
 
-/// What follows the pairs of a dictionary behind its bracket.
+/// What follows the pairs of a dictionary after its bracket.
 #[cycle(nesting)]
 fn skip_pairs(depth: usize, text: &[u8]) -> Result<&[u8], Refusal>
     ensures { Answers (λ rest. tokens rest.now) result (behind_entries (pair_in (literal_in depth)) 125 (tokens text.now)) }
@@ -146,7 +146,7 @@ fn skip_bracketed(depth: usize, opening: u8, text: &[u8]) -> Result<&[u8], Refus
     }
 }
 
-/// What follows the literal that comes next, in which brackets lie to this depth.
+/// What follows the next literal, in which brackets may be nested to this depth.
 #[cycle(nesting)]
 fn skip_literal(depth: usize, text: &[u8]) -> Result<&[u8], Refusal>
     ensures { Answers (λ rest. tokens rest.now) result (behind (literal_in depth (tokens text.now))) }
@@ -162,7 +162,7 @@ fn skip_literal(depth: usize, text: &[u8]) -> Result<&[u8], Refusal>
     }
 }
 
-/// What follows a value among others, and the comma behind it.
+/// What follows a value among others, and the comma after it.
 pub fn behind_value(text: &[u8]) -> Result<&[u8], Refusal>
     ensures { Answers (λ rest. tokens rest.now) result (behind_entry value_in (tokens text.now)) }
 {
@@ -170,7 +170,7 @@ pub fn behind_value(text: &[u8]) -> Result<&[u8], Refusal>
     Ok(skip_comma(after))
 }
 
-/// What follows a pair among others, and the comma behind it.
+/// What follows a pair among others, and the comma after it.
 pub fn behind_pair(text: &[u8]) -> Result<&[u8], Refusal>
     ensures { Answers (λ rest. tokens rest.now) result (behind_entry (pair_in value_in) (tokens text.now)) }
 {

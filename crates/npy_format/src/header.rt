@@ -20,12 +20,12 @@ use std::alloc::Global;
 #[derive(Drop)]
 pub struct Header {
     pub descr: Descr,
-    /// Whether the items lie in Fortran order.
+    /// Whether the items are in Fortran order.
     pub fortran: bool,
     pub shape: Shape,
 }
 
-/// The pairs of the one dictionary that the text is, with nothing behind it.
+/// The pairs of the dictionary that the text is, with nothing after it.
 fn dictionary(text: &[u8]) -> Result<&[u8], Refusal>
     ensures { MatchResult result
         (λ pairs. (found : List Pair) × (dictionary_of (tokens text.now) ≡ Ok found) × HasPairs (tokens pairs.now) found)
@@ -64,7 +64,7 @@ fn is_string(bytes: &[u8], text: &[u8]) -> bool
     }
 }
 
-/// Where the value under a key stands.
+/// The text from the value of a key on.
 fn value_under<'a>(key: &[u8], pairs: &'a [u8]) -> Result<&'a [u8], Refusal>
     ensures { (found : List Pair) → HasPairs (tokens pairs.now) found → MatchResult result
         (λ place. (value : Literal) × (value_under key.now found ≡ Ok value) × Stands (tokens place.now) value)
@@ -92,7 +92,7 @@ fn truth(text: &[u8]) -> Result<bool, Refusal>
     }
 }
 
-/// Where the lengths stand, if the value is a tuple of integers.
+/// The text from the lengths on, if the value is a tuple of integers.
 fn lengths(text: &[u8]) -> Result<&[u8], Refusal>
     ensures { (value : Literal) → Stands (tokens text.now) value → MatchResult result
         (λ place. (found : List ℕ) × (lengths_of value ≡ Ok found) × HasLengths (tokens place.now) found)
@@ -111,8 +111,8 @@ fn lengths(text: &[u8]) -> Result<&[u8], Refusal>
     Ok(inside)
 }
 
-/// The shape with these lengths. No more of them are held than a shape may have, and one past the limit where
-/// they are longer.
+/// The shape with these lengths. It holds at most as many as a shape may have, and one more if
+/// there are too many.
 fn shape(alloc: Global, lengths: &[u8]) -> Result<Shape, Refusal>
     ensures { (found : List ℕ) → HasLengths (tokens lengths.now) found → Gives (λ shape. shape) result (shape_of found) }
 {
@@ -150,12 +150,12 @@ fn header_of(alloc: Global, pairs: &[u8]) -> Result<Header, Refusal>
     })
 }
 
-/// Reads the header of a file: one dictionary with the keys `descr`, `fortran_order` and `shape`. Memory
-/// is taken for what the header says alone.
+/// Reads the header of a file: one dictionary with the keys `descr`, `fortran_order` and `shape`.
+/// It takes memory only for what the header says.
 ///
-/// A text that is no such dictionary is `BadHeader`, whatever else is wrong with it. Then the element
-/// type is looked at, from the left (`BadDescriptor`, `DescriptorLeftOut`, `TooLarge`), and then the
-/// shape (`TooManyAxes`, `TooLarge`).
+/// A text that is not such a dictionary is `BadHeader`, whatever else is wrong with it. Then the
+/// element type is checked, from the left (`BadDescriptor`, `DescriptorLeftOut`, `TooLarge`), and
+/// then the shape (`TooManyAxes`, `TooLarge`).
 pub fn header_read(alloc: Global, text: &[u8]) -> Result<Header, Refusal>
     ensures { Gives (λ header. header) result (header text.now) }
 {

@@ -1,4 +1,4 @@
-//! The text of a header.
+//! Writes the text of a header.
 ghost use Rattle.std.specs.Prelude.{◌≡◌, ◌++◌, ◌&&◌, nat_eq, IfOk, OnOk};
 ghost use Rattle.elem_descr.specs.TypeStrings.{spelling};
 ghost use Rattle.shape_strides.specs.Shapes.{shape_text};
@@ -38,8 +38,8 @@ fn push_name(text: &mut Vec<u8>, is_first: bool, name: &[u8]) -> Result<(), Allo
     text.extend_from_slice(b", ")
 }
 
-/// The entry of a gap of so many bytes, where there is one. The answer is whether the next entry is
-/// the first one.
+/// The entry for a gap of `bytes` bytes, if there is one. Returns whether the next entry is the
+/// first one.
 fn push_gap(text: &mut Vec<u8>, is_first: bool, bytes: usize) -> Result<bool, AllocError>
     ensures written { OnOk result (text.new.items ≡ text.old.items ++ separated is_first (gap bytes)) }
     ensures next { IfOk result (λ next. next ≡ (is_first && nat_eq bytes 0)) }

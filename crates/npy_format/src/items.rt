@@ -1,4 +1,4 @@
-//! The bytes of items, one after another.
+//! Appends the bytes of items, one after another.
 ghost use Rattle.std.specs.Prelude.{◌≡◌, ◌+◌, ◌*◌, ◌^◌, ◌<◌, ◌≤◌, ◌||◌, ◌++◌, pos, ◌≤ℤ◌, ◌<ℤ◌, length, All, IsTrue, OnOk};
 ghost use Rattle.std.specs.List.{flat_map};
 ghost use Rattle.raw_block.specs.Bytes.{position, place, item_at, EachWithin};
@@ -44,7 +44,7 @@ fn push_stretch(file: &mut Vec<u8>, bytes: &[u8], at: usize, len: usize) -> Resu
     file.extend_from_slice(&bytes[at..at + len])
 }
 
-/// Whether items of `width` bytes lie one right after the other.
+/// Whether items of `width` bytes are adjacent.
 fn is_adjacent(run: Run, width: usize) -> bool
     requires { width ≤ 65536 }
     ensures { IsTrue result → run.step ≡ pos width }
@@ -52,7 +52,7 @@ fn is_adjacent(run: Run, width: usize) -> bool
     run.step == width as isize
 }
 
-/// Appends the items of a run, at once where they lie one right after the other.
+/// Appends the items of a run, all at once if they are adjacent.
 fn push_run(file: &mut Vec<u8>, bytes: &[u8], run: Run, width: usize) -> Result<(), AllocError>
     requires within { EachWithin (length bytes.now) run.offset run.step width run.count }
     requires some { 1 ≤ run.count }
@@ -85,7 +85,7 @@ fn push_runs(
     Ok(())
 }
 
-/// Whether items of `width` bytes lie one right after the other in C order or in Fortran order.
+/// Whether items of `width` bytes are adjacent in C order or in Fortran order.
 pub(crate) fn are_together(layout: &Layout, width: usize) -> bool
     ensures { result ≡ (is_c_contiguous width (offsets layout.now) || is_f_contiguous width layout.now.shape (offsets layout.now)) }
 {

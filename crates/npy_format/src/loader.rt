@@ -1,4 +1,4 @@
-//! Files in two parts that are loaded.
+//! Loads files in two parts.
 ghost use Rattle.std.specs.Prelude.{◌++◌};
 ghost use Rattle.npy_format.specs.Files.{load, Loads};
 ghost use Rattle.npy_format.specs.inside.LoadedParts.{load_behind};
@@ -11,7 +11,7 @@ use raw_block::RawBlock;
 use std::alloc::Global;
 
 /// The array whose header has this text and whose items the block begins with. A block with nothing
-/// behind them becomes the array's.
+/// after them becomes that of the array.
 fn load_behind(alloc: Global, text: &[u8], block: RawBlock) -> Result<(Owned, usize), Refusal>
     ensures { Loads result (load_behind text.now block) }
 {
@@ -25,7 +25,7 @@ fn load_behind(alloc: Global, text: &[u8], block: RawBlock) -> Result<(Owned, us
     Ok((array, 0))
 }
 
-/// Reads a file in two parts, as `npy_read` reads its bytes. Where the first part ends with the header
+/// Reads a file in two parts, as `npy_read` reads its bytes. If the first part ends with the header
 /// and the second with the last item, the items are not copied.
 pub fn npy_load(alloc: Global, parts: FileParts) -> Result<(Owned, usize), Refusal>
     ensures { Loads result (load (parts.front.items ++ parts.block)) }

@@ -1,4 +1,4 @@
-//! Files that are read.
+//! Reads files.
 ghost use Rattle.std.specs.Prelude.{◌≡◌, ◌≤◌, ◌^◌, ◌++◌, length, IfOk};
 ghost use Rattle.elem_descr.specs.Refusals.{Answers, Gives};
 ghost use Rattle.shape_strides.specs.Limits.{max_bytes};
@@ -19,7 +19,7 @@ pub(crate) const MAGIC: [u8; 6] = *b"\x93NUMPY";
 /// The longest header that is read.
 pub const MAX_HEADER: usize = 1 << 20;
 
-/// The first `n` bytes and those behind them.
+/// The first `n` bytes and those after them.
 fn split_front(n: usize, bytes: &[u8]) -> Result<(&[u8], &[u8]), Refusal>
     ensures answers { Answers (λ parts. (parts.0.now, parts.1.now)) result (split_front n bytes.now) }
     ensures len { IfOk result (λ parts. length parts.0.now ≡ n) }
@@ -32,7 +32,7 @@ fn split_front(n: usize, bytes: &[u8]) -> Result<(&[u8], &[u8]), Refusal>
     Ok(bytes.split_at(n))
 }
 
-/// Whether a file begins as it must. What is no such file has fewer bytes, or others.
+/// Whether a file begins with the magic bytes.
 fn begins_well(file: &[u8]) -> bool
     ensures { result ≡ begins_well file.now }
 {
@@ -42,7 +42,7 @@ fn begins_well(file: &[u8]) -> bool
     }
 }
 
-/// How many bytes tell the length of the header.
+/// How many bytes the length of the header has.
 fn length_bytes(version: &[u8]) -> Result<usize, Refusal>
     ensures value { result ≡ length_bytes version.now }
     ensures few { IfOk result (λ n. (1 ≤ n) × (n ≤ 4)) }
@@ -54,7 +54,7 @@ fn length_bytes(version: &[u8]) -> Result<usize, Refusal>
     }
 }
 
-/// The text of the header whose length stands in these bytes, and what follows it.
+/// The text of the header whose length these bytes give, and what follows it.
 fn text_behind<'a>(field: &[u8], behind: &'a [u8]) -> Result<(&'a [u8], &'a [u8]), Refusal>
     requires some { 1 ≤ length field.now }
     requires few { length field.now ≤ 4 }
@@ -83,8 +83,8 @@ pub(crate) fn split_header(file: &[u8]) -> Result<(&[u8], &[u8]), Refusal>
     text_behind(field, behind)
 }
 
-/// How many bytes of a file stand before its items, where the file's header ends within these first ones,
-/// and else 0. A hint: a file reads the same whatever the answer is.
+/// How many bytes of a file come before its items, if the header ends within these first bytes, and
+/// 0 otherwise. A hint: the file reads the same whatever the answer is.
 pub fn front_len(first: &[u8]) -> usize
     ensures { result ≤ length first.now }
 {
@@ -149,14 +149,14 @@ pub(crate) fn array(alloc: Global, header: Header, items: &[u8]) -> Result<Owned
     array_over(alloc, header, block)
 }
 
-/// Reads a file of version 1.0 or 2.0: the array in it, whose items lie as they do in the file, and how
-/// many bytes are left over behind them. The bytes of the items are taken over as they are: padding
-/// keeps what it holds, and a bool whose byte is not 0 is true.
+/// Reads a file of version 1.0 or 2.0: returns its array, whose items are in the order of the file,
+/// and how many bytes follow the items. The bytes of the items are kept as they are: padding keeps
+/// what it contains, and a bool whose byte is not 0 is true.
 ///
-/// What is no such file is `BadMagic`, one of another version `BadVersion`, and one that ends too early
-/// `Truncated`; a header of more than 2^20 bytes, and more than 2^28 bytes of items, are `TooLarge`. The
-/// other refusals are those of `header_read`. The first fault from the left decides, and the limit on
-/// the items goes before their absence.
+/// A file that does not begin like an NPY file is `BadMagic`, one of another version `BadVersion`,
+/// and one that ends too early `Truncated`; a header of more than 2^20 bytes, and more than 2^28
+/// bytes of items, are `TooLarge`. The other refusals are those of `header_read`. The first error
+/// from the left decides, and the limit on the items comes before `Truncated`.
 #[tactic(auto, unfolding(crate::specs::Files::load))]
 pub fn npy_read(alloc: Global, file: &[u8]) -> Result<(Owned, usize), Refusal>
     ensures { Loads result (load file.now) }

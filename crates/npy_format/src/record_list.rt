@@ -88,7 +88,7 @@ fn add_field(
     builder.add(name, 1, descr)
 }
 
-/// The name in an entry, a tuple of two, and where its type stands.
+/// The name in an entry, a tuple of two, and the text from its type on.
 fn entry_parts(entry: &[u8]) -> Option<(&[u8], &[u8])>
     ensures { (value : Literal) → Stands (tokens entry.now) value → MatchOption result
         (entry_parts value ≡ None)
@@ -119,8 +119,8 @@ fn add_entry(alloc: Global, builder: &mut RecordBuilder, entry: &[u8]) -> Result
     add_field(alloc, builder, name, kind)
 }
 
-/// The record whose fields are the entries of a list. `levels` says how many records may lie one within
-/// another, and `leaves` how many leaves the whole type has before this one.
+/// The record whose fields are the entries of a list. `levels` says how deep records may be nested
+/// in it, and `leaves` how many leaves the whole type has before it.
 #[cycle(record)]
 fn record(alloc: Global, levels: usize, leaves: usize, entries: &[u8]) -> Result<Record, Refusal>
     requires levels { levels ≤ max_depth }

@@ -1,4 +1,4 @@
-//! Files in two parts that are saved.
+//! Saves files in two parts.
 ghost use Rattle.std.specs.Prelude.{◌≡◌, true, ◌+◌, ◌*◌, ◌<◌, ◌≤◌, ◌||◌, ◌++◌, length, map, All, IfOk, Err};
 ghost use Rattle.raw_block.specs.Bytes.{item_at};
 ghost use Rattle.elem_descr.specs.declared.refusal.Refusal.TheVariants.{TooLarge};
@@ -36,7 +36,7 @@ fn stretch(bytes: &[u8], at: usize, len: usize) -> &[u8]
     &bytes[at..at + len]
 }
 
-/// The file of items that have `len` bytes and lie as the file has them.
+/// The file of items that have `len` bytes and are stored as in the file.
 fn uncopied<'a>(
     alloc: Global,
     bytes: &'a [u8],
@@ -76,8 +76,8 @@ fn parts<'a>(
     Ok(SavedParts { front, items: &[] })
 }
 
-/// The file that `npy_write` gives, in two parts. Where the items lie one after another in the block as
-/// the file has them, the second part is their bytes there.
+/// The file that `npy_write` returns, in two parts. If the items are stored in the block as in the
+/// file, the second part is their bytes there.
 pub fn npy_parts<'a>(
     alloc: Global,
     block: &'a RawBlock,

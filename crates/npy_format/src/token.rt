@@ -18,7 +18,7 @@ pub enum Token<'a> {
     Nothing,
     /// Any byte that begins no other token.
     Symbol(u8),
-    /// What stands in no literal.
+    /// What is not part of any literal.
     Stray,
 }
 
@@ -74,7 +74,7 @@ fn unspaced(bytes: &[u8]) -> &[u8]
     bytes.split_at(spaces_len(bytes)).1
 }
 
-/// The string whose opening quote stands before these bytes, and what follows it.
+/// The string whose opening quote comes just before these bytes, and what follows it.
 fn text_token(quote: u8, bytes: &[u8]) -> (Token<'_>, &[u8])
     ensures { (token_of result.0, result.1.now) ≡ text_token quote bytes.now }
 {
@@ -136,7 +136,7 @@ fn integer_token(bytes: &[u8]) -> (Token<'_>, &[u8])
     (Token::Integer(digits), behind_long(rest))
 }
 
-/// The token that a text begins with, whose first byte is no space, and what follows the token.
+/// The token that a text begins with, whose first byte is not a space, and what follows the token.
 fn token_from<'a>(first: u8, rest: &'a [u8], text: &'a [u8]) -> (Token<'a>, &'a [u8])
     requires { text.now ≡ first ∷ rest.now }
     ensures { (token_of result.0, result.1.now) ≡ token_from first rest.now }

@@ -1,4 +1,4 @@
-//! Files that are written.
+//! Writes files.
 ghost use Rattle.std.specs.Prelude.{◌≡◌, Bool, ◌+◌, ◌*◌, ◌<◌, ◌≤◌, ◌++◌, length, map, take, drop, All, IfOk, Err};
 ghost use Rattle.std.specs.List.{flat_map};
 ghost use Rattle.elem_descr.specs.declared.refusal.Refusal.TheVariants.{TooLarge};
@@ -22,7 +22,7 @@ use raw_block::RawBlock;
 use shape_strides::{Layout, MAX_BYTES, Shape};
 use std::alloc::{AllocError, Global};
 
-/// Whether items of `width` bytes lie one right after the other in Fortran order and not in C order.
+/// Whether items of `width` bytes are adjacent in Fortran order and not in C order.
 pub(crate) fn is_fortran(layout: &Layout, width: usize) -> bool
     ensures { result ≡ is_fortran width layout.now.shape (offsets layout.now) }
 {
@@ -45,7 +45,7 @@ pub(crate) fn header(
     file_header(alloc, text.as_slice())
 }
 
-/// Writes the `count` items behind the first `start` bytes as a file has them.
+/// Writes the `count` items after the first `start` bytes as a file has them.
 fn write_behind(file: &mut Vec<u8>, start: usize, count: usize, descr: &Descr)
     requires { length file.old.items ≡ start + count * item_size descr.now }
     ensures { file.new.items ≡ take start file.old.items ++ flat_map (λ item. encode_item descr.now (decode_item descr.now item)) (blocks (item_size descr.now) count (drop start file.old.items)) }
@@ -84,7 +84,7 @@ fn look_at(descr: &Descr)
     };
 }
 
-/// What is written of the items of a layout is loaded again.
+/// What is written for the items of a layout loads again.
 pub(crate) fn will_load(bytes: &[u8], layout: &Layout, descr: &Descr)
     requires inside { All (λ offset. offset + item_size descr.now ≤ length bytes.now) (offsets layout.now) }
     requires small { count layout.now.shape * item_size descr.now ≤ max_bytes }
@@ -95,12 +95,12 @@ pub(crate) fn will_load(bytes: &[u8], layout: &Layout, descr: &Descr)
     let _lengths = layout.shape.as_slice();
 }
 
-/// The file of the items of a layout: of version 1.0, or of 2.0 where the header is too long for that.
-/// The items are in Fortran order where they lie so and not in C order, and else in C order; their
-/// padding is zero, and a bool 0 or 1, whatever the block holds there.
+/// The file of the items of a layout, of version 1.0, or 2.0 if the header is too long for that.
+/// The items are in Fortran order if they are stored so and not in C order, and in C order
+/// otherwise. Padding is zero, and a bool 0 or 1, whatever the block contains.
 ///
-/// More than 2^28 bytes of items are `TooLarge`. Every other file loads as an array of the same element
-/// type, shape and items, whether or not there is memory to write it.
+/// More than 2^28 bytes of items are `TooLarge`. Every other file loads as an array of the same
+/// element type, shape and items, whether or not there is memory to write it.
 pub fn npy_write(
     alloc: Global,
     block: &RawBlock,

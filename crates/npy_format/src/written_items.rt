@@ -16,7 +16,7 @@ fn is_bool(scalar: &Scalar) -> bool
     matches!(scalar, Scalar::Bool)
 }
 
-/// Whether leaves fill an item of so many bytes, and none is a bool.
+/// Whether leaves fill an item of `bytes` bytes, and none is a bool.
 fn is_plain(leaves: &[Leaf], bytes: usize) -> bool
     requires in_order { AreInOrder 0 leaves.now bytes }
     requires small { bytes ≤ 65536 }
@@ -79,7 +79,7 @@ fn write_item_at(bytes: &mut [u8], at: usize, leaves: &[Leaf], size: usize)
     write_item(&mut bytes[at..at + size], leaves);
 }
 
-/// The same for `count` items of `size` bytes, one after another.
+/// Writes the values of the leaves of `count` items of `size` bytes, one after another.
 fn write_each(bytes: &mut [u8], count: usize, leaves: &[Leaf], size: usize)
     requires whole { length bytes.old ≡ count * size }
     requires in_order { AreInOrder 0 leaves.now size }
@@ -136,7 +136,7 @@ pub(crate) fn are_plain(descr: &Descr) -> bool
     }
 }
 
-/// Writes `count` items that lie one after another as a file has them.
+/// Writes `count` adjacent items as a file has them.
 pub(crate) fn write_items(bytes: &mut [u8], count: usize, descr: &Descr)
     requires { length bytes.old ≡ count * item_size descr.now }
     ensures { bytes.new ≡ flat_map (λ item. encode_item descr.now (decode_item descr.now item)) (blocks (item_size descr.now) count bytes.old) }

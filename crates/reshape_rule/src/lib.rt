@@ -1,4 +1,4 @@
-//! Reshaping: the shape that a list of lengths means for an array, and when it takes no copy.
+//! Reshaping: the shape that a list of lengths means, and whether it needs a copy.
 #![tactic(auto)]
 
 pub mod target_shape;

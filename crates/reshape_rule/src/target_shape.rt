@@ -18,7 +18,7 @@ fn are_lengths(numbers: &[i128]) -> bool
     numbers.iter().all(|number| -1 <= *number)
 }
 
-/// How many lengths are left open.
+/// How many of the numbers are -1.
 fn left_open(numbers: &[i128]) -> usize
     ensures { result ≡ left_open numbers.now }
 {
@@ -31,7 +31,7 @@ fn left_open(numbers: &[i128]) -> usize
     opened
 }
 
-/// The length that a number gives, or what is left; one more than `MAX_ITEMS` stands for any greater
+/// The length that a number gives, or the rest for -1; `MAX_ITEMS` + 1 stands for any greater
 /// length.
 fn capped_length(number: i128, rest: usize) -> usize
     requires { rest ≤ max_items }
@@ -43,7 +43,7 @@ fn capped_length(number: i128, rest: usize) -> usize
     number.min(MAX_ITEMS as i128 + 1) as usize
 }
 
-/// The product of the lengths that are given, or one more than `MAX_ITEMS` if it is greater than that.
+/// The product of the lengths that are given, or `MAX_ITEMS` + 1 if it is greater than that.
 fn capped_given(numbers: &[i128]) -> usize
     ensures { result ≡ min (given numbers.now) (max_items + 1) }
 {
@@ -54,7 +54,7 @@ fn capped_given(numbers: &[i128]) -> usize
     product
 }
 
-/// Whether lengths of this product, with so many that are left open, make up so many items.
+/// Whether lengths with this product, and `opened` numbers of -1, can have `items` items.
 fn make_up(items: usize, opened: usize, product: usize) -> bool
     ensures { result ≡ make_up items opened product }
 {
@@ -64,14 +64,14 @@ fn make_up(items: usize, opened: usize, product: usize) -> bool
     product != 0 && items % product == 0
 }
 
-/// What is left of so many items beside lengths of this product, and 0 beside a product of 0.
+/// What -1 stands for with `items` items and lengths of this product; 0 if the product is 0.
 fn left_over(items: usize, product: usize) -> usize
     ensures { result ≡ items / product }
 {
     if product == 0 { 0 } else { items / product }
 }
 
-/// The lengths, with what is left for -1.
+/// The lengths, with the rest for -1.
 fn lengths(alloc: Global, numbers: &[i128], rest: usize) -> Result<SmallVec<usize, 8>, AllocError>
     requires { rest ≤ max_items }
     ensures { IfOk result (λ v. v.items ≡ map (λ number. min (length_or rest number) (max_items + 1)) numbers.now) }
@@ -83,10 +83,11 @@ fn lengths(alloc: Global, numbers: &[i128], rest: usize) -> Result<SmallVec<usiz
     Ok(lengths)
 }
 
-/// The shape that these numbers mean for an array of the shape `old`: one of them may be -1, which stands
-/// for the length that is left. More than 64 axes are refused first; then, as `BadReshape`, a number below
-/// -1, a second -1, another number of items, and a -1 that does not come out whole or stands beside a
-/// product of 0; then a length above 2^24, which only a shape without items can have.
+/// The shape that these numbers mean for an array of the shape `old`. One of them may be -1, which
+/// stands for the rest. More than 64 axes are refused first. Then these are refused as
+/// `BadReshape`: a number below -1, a second -1, another number of items, and a -1 for which the
+/// division leaves a remainder or the product is 0. Then a length above 2^24 is refused, which only
+/// a shape without items can have.
 pub fn target(alloc: Global, old: &Shape, numbers: &[i128]) -> Result<Shape, Refusal>
     ensures value { Gives (λ s. s) result (target_of (count old.now) numbers.now) }
     ensures items { IfOk result (λ s. count s ≡ count old.now) }

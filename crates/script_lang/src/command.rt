@@ -1,4 +1,4 @@
-//! What a line of the script asks for.
+//! The commands of a script.
 
 use crate::index::Index;
 use crate::literal::{Literal, Literals};
@@ -16,14 +16,14 @@ pub struct Operand {
     pub index: Option<Index>,
 }
 
-/// What is computed with or written: an operand or a literal.
+/// What an operation takes or a command writes: an operand or a literal.
 #[derive(Drop)]
 pub enum Argument {
     Operand(Operand),
     Literal(Literal),
 }
 
-/// What the items of a new array are, behind its descriptor.
+/// What the items of a new array are, after its descriptor.
 #[derive(Drop)]
 pub enum NewItems {
     /// `zeros D S`
@@ -36,7 +36,7 @@ pub enum NewItems {
     Array { shape: Lengths, values: Literals },
 }
 
-/// How the items of another array are seen.
+/// How another array is viewed.
 #[derive(Drop)]
 pub enum Viewing {
     /// `Y`
@@ -86,7 +86,7 @@ pub enum Computation {
     },
 }
 
-/// What stands behind `X =`.
+/// What follows `X =`.
 #[derive(Drop)]
 pub enum Value {
     /// a new array
@@ -98,7 +98,7 @@ pub enum Value {
     Load { file: FileName },
 }
 
-/// What a command that changes nothing asks.
+/// What a command that changes nothing asks for.
 #[derive(Drop)]
 pub enum Question {
     /// `print X`

@@ -1,4 +1,4 @@
-//! What a line of the script says: the grammar of the commands.
+//! The grammar of a line.
 ghost use Rattle.std.specs.Prelude.{◌≡◌, ◌≤◌, length};
 ghost use Rattle.script_lang.specs.Commands.{load_at, verb_value_at, value_at, bind_at, ask_at, verb_command_at, form_at, command_at};
 ghost use Rattle.script_lang.specs.Lines.{is_silent_front, spelled, line_of, EachListAnyTurns};
@@ -47,7 +47,7 @@ fn is_silent(text: &[u8]) -> bool
     }
 }
 
-/// `"f"`, behind `load`.
+/// `"f"`, after `load`.
 #[tactic(auto, unfolding(crate::specs::Commands::load_at))]
 fn load(alloc: Global, bytes: &[u8]) -> Option<(Value, &[u8])>
     ensures { Scans (λ r. (r.0, r.1.now)) result (load_at bytes.now) }
@@ -70,7 +70,7 @@ fn verb_value(alloc: Global, verb: Verb, bytes: &[u8]) -> Result<(Value, &[u8]),
     }
 }
 
-/// What stands behind `X =`.
+/// What follows `X =`.
 #[tactic(auto, unfolding(crate::specs::Commands::value_at))]
 fn value(alloc: Global, bytes: &[u8]) -> Result<(Value, &[u8]), Refusal>
     ensures { Reads (λ r. (r.0, r.1.now)) (λ r. value_room r.0) result (value_at bytes.now) }
@@ -127,7 +127,8 @@ fn form(alloc: Global, line: &[u8]) -> Result<(Command, &[u8]), Refusal>
     }
 }
 
-/// The command that the whole line spells. It is handed on as it is: it is the largest value of a line.
+/// The command that the whole line spells. It is passed on as it is, because it is the largest
+/// value of a line.
 #[tactic(auto, unfolding(crate::specs::Commands::command_at), using(crate::proofs::Commands::whole_line_room))]
 fn command(alloc: Global, line: &[u8]) -> Result<Option<Command>, Refusal>
     ensures { Says result (spelled (command_at line.now)) }
@@ -145,9 +146,9 @@ fn command(alloc: Global, line: &[u8]) -> Result<Option<Command>, Refusal>
 }
 
 /// What a line asks for: a command, or nothing for a blank line or a comment. A byte that is
-/// neither a tab nor 32 to 126 is refused first (E02), and takes no memory; what the grammar does
-/// not spell is refused as `Syntax` (E03). Memory may run out (E40) only for a command that
-/// `needs_room` names, or on a line that the grammar does not spell.
+/// neither a tab nor 32 to 126 is refused first (E02), without taking memory. A line that the
+/// grammar does not spell is refused as `Syntax` (E03). Memory may run out (E40) only for a command
+/// that `needs_room` names, or on a line that the grammar does not spell.
 #[tactic(auto, unfolding(crate::specs::Lines::line_of), using(crate::proofs::Turns::each_list_any_turns))]
 pub fn parse(alloc: Global, line: &[u8]) -> Result<Option<Command>, Refusal>
     requires { length line.now ≤ 65536 }

@@ -6,8 +6,8 @@ use crate::name::Name;
 use crate::short_list::ShortList;
 use shape_strides::IndexItem;
 
-/// The items between the brackets: at least one, `...` at most once. Integers have up to 30 digits,
-/// and arrays go by their names.
+/// The items between the brackets: at least one, with `...` at most once. Integers have up to 30
+/// digits, and arrays are given by their names.
 pub type Index = ShortList<IndexItem<Name>, 1>;
 
 /// How many items are `...`.

@@ -7,19 +7,19 @@ use crate::short_list::ShortList;
 use std::alloc::{AllocError, Global};
 use std::marker::Model;
 
-/// The bytes of a bytes literal, with its escapes decoded.
+/// The bytes of a byte string, with its escapes decoded.
 pub type ByteText = ShortList<u8, 32>;
 
-/// A literal that is no record.
+/// A literal other than a record.
 #[derive(Drop)]
 pub enum ScalarLiteral {
-    /// Up to 30 digits, with a sign.
+    /// An integer of up to 30 digits, with a sign.
     Integer(i128),
     Boolean(bool),
     Bytes(ByteText),
 }
 
-/// The values of a record literal, at least one, each a scalar or a record in its turn.
+/// The values of a record, at least one, each a scalar or a record itself.
 #[derive(Drop)]
 #[cycle(literal)]
 pub struct RecordLiteral {

@@ -9,7 +9,7 @@ use std::marker::Model;
 /// The most bytes of a name.
 pub const MAX_NAME_LEN: usize = 32;
 
-/// A name of the script: at most 32 bytes, which take no memory of their own.
+/// A name in the script: at most 32 bytes, which take no memory of their own.
 #[derive(Drop)]
 pub struct Name {
     bytes: SmallVec<u8, 32>,

@@ -1,7 +1,7 @@
-//! A word with two operands.
+//! The operators with two operands.
 use machine_numbers::{BinOp, Comparison};
 
-/// A word with two operands.
+/// An operator with two operands: an operation or a comparison.
 #[derive(Clone, Copy, Debug)]
 pub enum Operation {
     Binary(BinOp),

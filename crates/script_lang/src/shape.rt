@@ -1,4 +1,4 @@
-//! Lists of numbers, as they stand in the script: up to 30 digits each.
+//! Lists of numbers of up to 30 digits, as written in the script.
 
 use crate::short_list::ShortList;
 

@@ -1,4 +1,4 @@
-//! Lists that hold their first items themselves.
+//! Lists that store their first items inline.
 ghost use Rattle.std.specs.Prelude.{◌≡◌, ◌<◌, ◌++◌, ◌∷◌, [], length, IsOk, OnOk, OnErr};
 
 use smallvec::SmallVec;

@@ -1,4 +1,4 @@
-//! Texts that a command takes over as they stand.
+//! Texts that a command keeps as they are written.
 ghost use Rattle.std.specs.Prelude.{◌≡◌, ◌≤◌, length, IfOk, IsOk};
 
 use smallvec::SmallVec;
@@ -8,7 +8,8 @@ use std::marker::Model;
 /// The most bytes of a file's name.
 pub const MAX_FILE_NAME_LEN: usize = 64;
 
-/// A text as it stands in the script: of a descriptor, or between the quotation marks of `field`.
+/// A text as it is written in the script: of a descriptor, or between the quotation marks of
+/// `field`.
 #[derive(Drop)]
 pub struct Text {
     bytes: SmallVec<u8, 32>,

@@ -1,4 +1,4 @@
-//! The words that begin a command or a value.
+//! The keywords that begin a command or follow `X =`.
 
 use crate::operation::Operation;
 use crate::operation::Operation::{Binary, Compare};
@@ -10,7 +10,7 @@ use machine_numbers::BinOp::{
 use machine_numbers::Comparison::{Equal, Greater, GreaterOrEqual, Less, LessOrEqual, NotEqual};
 use machine_numbers::{Red, UnOp};
 
-/// A word that begins a command, or a value behind `X =`.
+/// A keyword that begins a command or follows `X =`.
 #[derive(Clone, Copy)]
 pub enum Verb {
     Make(MakeVerb),
@@ -25,7 +25,7 @@ pub enum Verb {
     Ask(AskVerb),
 }
 
-/// A word that makes an array.
+/// A keyword that makes an array.
 #[derive(Clone, Copy)]
 pub enum MakeVerb {
     Zeros,
@@ -34,7 +34,7 @@ pub enum MakeVerb {
     Array,
 }
 
-/// A word that takes the items of another array.
+/// A keyword that views another array.
 #[derive(Clone, Copy)]
 pub enum ViewVerb {
     Field,
@@ -43,7 +43,7 @@ pub enum ViewVerb {
     Broadcast,
 }
 
-/// A word that computes.
+/// A keyword that computes.
 #[derive(Clone, Copy)]
 pub enum ComputeVerb {
     Duplicate,
@@ -53,7 +53,7 @@ pub enum ComputeVerb {
     Reduce(Red),
 }
 
-/// A word that asks.
+/// A keyword that asks for something.
 #[derive(Clone, Copy)]
 pub enum AskVerb {
     Print,
@@ -63,7 +63,7 @@ pub enum AskVerb {
     Shares,
 }
 
-/// Each word that begins a command or a value.
+/// All keywords that begin a command or follow `X =`.
 pub const VERBS: [(&[u8], Verb); 48] = [
     (b"zeros", Verb::Make(MakeVerb::Zeros)),
     (b"full", Verb::Make(MakeVerb::Full)),

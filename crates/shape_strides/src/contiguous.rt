@@ -1,4 +1,4 @@
-//! Fortran order, and what NumPy says of a layout's strides and of the order of its items.
+//! C order and Fortran order, and strides as NumPy shows them.
 ghost use Rattle.std.specs.Prelude.{◌≡◌, ◌≢◌, ◌*◌, ◌<◌, ◌≤◌, pos, length, map, reverse, slice_index_or, IfOk, IsTrue, IsFalse};
 ghost use Rattle.shape_strides.specs.Limits.{max_bytes};
 ghost use Rattle.shape_strides.specs.Indexes.{count};
@@ -12,7 +12,7 @@ use crate::steps::f_order_strides;
 use crate::strides::Strides;
 use std::alloc::{AllocError, Global};
 
-/// Whether an axis steps over so many bytes. One of length 1 takes no step.
+/// Whether an axis steps over `bytes` bytes. An axis of length 1 takes no step.
 fn steps_over(strides: &[isize], axis: usize, len: usize, bytes: u128) -> bool
     requires axis { axis < length strides.now }
     requires bytes { bytes ≤ max_reach }
@@ -22,7 +22,7 @@ fn steps_over(strides: &[isize], axis: usize, len: usize, bytes: u128) -> bool
     len == 1 || strides[axis] as i128 == bytes as i128
 }
 
-/// The stride of an axis of 2 items or more, and 0 for any other one.
+/// The stride of an axis of 2 items or more, and 0 for any other.
 fn printed_stride(strides: &[isize], axis: usize, len: usize) -> isize
     requires axis { axis < length strides.now }
     ensures short { len < 2 → result ≡ pos 0 }
@@ -36,7 +36,7 @@ fn printed_stride(strides: &[isize], axis: usize, len: usize) -> isize
 
 impl Layout {
     /// The layout of items of `item` bytes one after another in Fortran order, in which the first
-    /// axis runs fastest, from the buffer's start. Where there is no item, its strides are 0.
+    /// axis changes fastest, from the start of the buffer. Without items, its strides are 0.
     pub fn f_order(alloc: Global, shape: &Shape, item: usize) -> Result<Layout, AllocError>
         requires item_low { 1 ≤ item }
         requires item_high { item ≤ 65536 }
@@ -59,7 +59,8 @@ impl Layout {
         })
     }
 
-    /// The layout with its axes in reverse: its items in C order are those of the layout in Fortran order.
+    /// The layout with its axes reversed: its items in C order are those of the layout in Fortran
+    /// order.
     pub fn reversed(alloc: Global, layout: &Layout) -> Result<Layout, AllocError>
         ensures shape { IfOk result (λ l. l.shape ≡ reverse layout.now.shape) }
         ensures offsets { IfOk result (λ l. offsets l ≡ fortran_order layout.now.shape (offsets layout.now)) }
@@ -73,15 +74,15 @@ impl Layout {
         })
     }
 
-    /// The offset of the first item in C order, or 0 where there is no item.
+    /// The offset of the first item in C order, or 0 if there are no items.
     pub fn first_address(&self) -> usize
         ensures { result ≡ first_address (offsets self.now) }
     {
         self.offset
     }
 
-    /// The strides as NumPy prints them. That of an axis of length 1 is 0 here, and so is each
-    /// where there is no item.
+    /// The strides as NumPy prints them, except that the stride of an axis of length 1 is 0, and so
+    /// are all strides if there are no items.
     pub fn printed_strides(alloc: Global, layout: &Layout) -> Result<Strides, AllocError>
         ensures { IfOk result (λ s. s ≡ printed_strides layout.now.shape (offsets layout.now)) }
     {
@@ -93,8 +94,8 @@ impl Layout {
         Ok(printed)
     }
 
-    /// Whether the items, of `item` bytes, lie one right after another in C order. A layout of at
-    /// most one item is in that order, whatever its strides.
+    /// Whether the items, of `item` bytes, are adjacent in C order. A layout of at most one item is
+    /// in that order, whatever its strides.
     pub fn is_c(&self, item: usize) -> bool
         ensures { result ≡ is_c_contiguous item (offsets self.now) }
     {
@@ -115,7 +116,7 @@ impl Layout {
         true
     }
 
-    /// Whether they lie so in Fortran order.
+    /// Whether the items, of `item` bytes, are adjacent in Fortran order.
     pub fn is_f(&self, item: usize) -> bool
         ensures { result ≡ is_f_contiguous item self.now.shape (offsets self.now) }
     {

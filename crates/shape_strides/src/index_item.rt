@@ -1,8 +1,8 @@
-//! What an array is indexed by.
+//! The items of an index list.
 ghost use Rattle.std.specs.Prelude.{◌≡◌};
 ghost use Rattle.shape_strides.specs.IndexItems.{is_basic, is_ellipsis};
 
-/// One item of an index list, where an `A` stands for an array.
+/// One item of an index list; an `A` stands for an array.
 #[derive(Clone, Copy, Debug, Default, PartialEq, Eq, Drop)]
 pub enum IndexItem<A> {
     Integer(i128),
@@ -22,7 +22,7 @@ pub enum IndexItem<A> {
 }
 
 impl<A> IndexItem<A> {
-    /// Whether it is anything but an array.
+    /// Whether it is not an array.
     pub fn is_basic(&self) -> bool
         ensures { result ≡ is_basic self.now }
     {

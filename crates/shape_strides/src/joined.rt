@@ -1,4 +1,4 @@
-//! Axes that are joined where one step leads evenly over two of them.
+//! Axes joined into one if a single step leads through both.
 ghost use Rattle.std.specs.Prelude.{◌≡◌, ◌*◌, ◌<◌, ◌≤◌, pos, reverse, IfOk, OnOk};
 ghost use Rattle.shape_strides.specs.Limits.{max_items};
 ghost use Rattle.shape_strides.specs.Indexes.{count};
@@ -9,7 +9,7 @@ use crate::layout::Layout;
 use smallvec::SmallVec;
 use std::alloc::{AllocError, Global};
 
-/// An axis: how many items it has, and how many bytes it steps over from one to the next.
+/// An axis: how many items it has, and how many bytes from one item to the next.
 #[derive(Clone, Copy, Default, Drop)]
 pub struct StridedAxis {
     pub len: usize,
@@ -27,7 +27,7 @@ pub(crate) fn leads_over(outer: StridedAxis, inner: StridedAxis) -> bool
     }
 }
 
-/// Puts an axis outside of axes that are joined. They stand innermost first.
+/// Adds an axis outside of joined axes, which are listed innermost first.
 fn put_outside(axes: &mut SmallVec<StridedAxis, 8>, axis: StridedAxis) -> Result<(), AllocError>
     requires some { 0 < axis.len * count (lengths_of (reverse axes.old.items)) }
     requires items { axis.len * count (lengths_of (reverse axes.old.items)) ≤ max_items }

@@ -12,9 +12,9 @@ use std::alloc::{AllocError, Global};
 /// The most bytes of a buffer.
 pub const MAX_BYTES: usize = 1 << 28;
 
-/// Where in a buffer the items of an array lie: the first one is `offset` bytes from the buffer's
-/// start, and each step along an axis goes on by that axis's stride. Each item begins within the
-/// limit of a buffer. Where there is no item, the offset and the strides are 0.
+/// Where in a buffer the items of an array are: the first one is `offset` bytes from the start of
+/// the buffer, and each step along an axis adds the stride of that axis. Each item begins within
+/// the limit of a buffer. Without items, the offset and the strides are 0.
 #[derive(Drop)]
 pub struct Layout {
     pub shape: Shape,
@@ -46,8 +46,8 @@ impl Layout {
     ghost use Rattle.shape_strides.specs.Indexes.{rank, IsIndex};
     ghost use Rattle.shape_strides.specs.Layouts.{address, offsets, Fits, IsNested, multiples, c_strides};
 
-    /// The layout with these numbers, or nothing where some item begins beyond the limit of a
-    /// buffer. Without items the offset and the strides become 0.
+    /// The layout with these numbers, or nothing if some item begins beyond the limit of a buffer.
+    /// Without items, the offset and the strides become 0.
     pub fn new(shape: Shape, strides: Strides, offset: usize) -> Option<Layout>
         requires { length strides ≡ length shape }
         ensures found { IsSome result ↔ LieWithin shape strides offset max_bytes 1 }
@@ -72,8 +72,8 @@ impl Layout {
         })
     }
 
-    /// The layout of items of `item` bytes one after another in C order, from the buffer's start.
-    /// Where there is no item, its strides are 0.
+    /// The layout of items of `item` bytes one after another in C order, from the start of the
+    /// buffer. Without items, its strides are 0.
     pub fn c_order(alloc: Global, shape: &Shape, item: usize) -> Result<Layout, AllocError>
         requires item_low { 1 ≤ item }
         requires item_high { item ≤ 65536 }
@@ -125,7 +125,7 @@ impl Layout {
         at
     }
 
-    /// Whether every item, of `item` bytes, lies within the first `len` bytes. So it is for a
+    /// Whether every item, of `item` bytes, lies within the first `len` bytes. This holds for a
     /// layout without items.
     pub fn fits(&self, len: usize, item: usize) -> bool
         ensures value { IsTrue result ↔ Fits self.now len item }

@@ -1,7 +1,6 @@
-//! The order in which items lie.
+//! The order of items in memory.
 
-/// The order in which the items of an array lie one after another: the last axis running fastest, or
-/// the first.
+/// The order of adjacent items of an array: the last axis changes fastest, or the first.
 #[derive(Clone, Copy, Debug, PartialEq, Eq, Drop)]
 pub enum MemoryOrder {
     C,

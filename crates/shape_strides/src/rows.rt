@@ -11,7 +11,7 @@ use crate::layout::Layout;
 use crate::runs::Runs;
 use crate::single_run::last_run;
 
-/// Where rows of items begin, as runs of offsets, and the axis that each goes along from there.
+/// Where rows of items begin, as runs of offsets, and the axis that each row goes along.
 #[derive(Drop)]
 pub struct Rows<'a> {
     pub starts: Runs<'a>,
@@ -19,8 +19,8 @@ pub struct Rows<'a> {
 }
 
 impl Layout {
-    /// The items in C order as rows, each of which is a run: those of one run of starts lie at equal
-    /// steps. It takes no memory.
+    /// The items in C order as rows, each of which is a run; the rows that begin in one run of
+    /// starts are at equal steps. It takes no memory.
     pub fn rows(&self) -> Rows<'_>
         ensures offsets { flat_map run_offsets (map (run_along result.along) (flat_map run_offsets result.starts)) ≡ offsets self.now }
         ensures lie { All (λ run. LieWithin (run.count ∷ []) (run.step ∷ []) run.offset max_bytes 1) (map (run_along result.along) (flat_map run_offsets result.starts)) }

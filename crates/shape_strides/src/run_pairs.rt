@@ -1,4 +1,4 @@
-//! The items of two layouts with as many items, run by run.
+//! The items of two layouts with the same number of items, run by run.
 ghost use Rattle.std.specs.Prelude.{◌≡◌, [], ◌∷◌, ◌<◌, ◌≤◌, ℕ, ℤ, pos, ◌+ℤ◌, ◌*ℤ◌, ◌≤ℤ◌, length, All};
 ghost use Rattle.std.specs.List.{flat_map};
 ghost use Rattle.shape_strides.specs.Limits.{max_items, max_bytes};
@@ -14,7 +14,7 @@ use crate::layout::Layout;
 use crate::runs::{Run, Runs};
 use std::marker::Model;
 
-/// Runs of as many items in two layouts.
+/// A run in each of two layouts, of the same length.
 #[derive(Clone, Copy, Drop)]
 pub struct RunPair {
     pub first: Run,
@@ -33,7 +33,7 @@ fn front(run: Run, n: usize) -> Run
 }
 
 /// What follows the first `n` items of a run, before the other runs: the rest of it, or the next
-/// one.
+/// run.
 fn after(runs: &mut Runs<'_>, run: Run, n: usize) -> Option<Run>
     requires run { IsWhole run }
     requires n { n ≤ run.count }
@@ -57,8 +57,8 @@ fn both(first: Option<Run>, second: Option<Run>) -> Option<RunPair>
     Some(RunPair { first, second })
 }
 
-/// The items of two layouts with as many items, each in C order, seen as the list of the pairs of
-/// runs that are left. It takes no memory.
+/// The items of two layouts with the same number of items, each in C order, seen as the list of the
+/// remaining pairs of runs. It takes no memory.
 #[derive(Drop)]
 pub struct RunPairs<'a> {
     at: Option<RunPair>,
@@ -81,7 +81,7 @@ impl<'a> Model for RunPairs<'a> {
 }
 
 impl<'a> RunPairs<'a> {
-    /// The pairs of runs of two layouts. A pair ends wherever a run of either layout ends.
+    /// The pairs of runs of two layouts. A pair ends where a run of either layout ends.
     pub fn new(first: &'a Layout, second: &'a Layout) -> RunPairs<'a>
         requires { count first.now.shape ≡ count second.now.shape }
         ensures pairs { result ≡ run_pairs first.now second.now }

@@ -11,15 +11,15 @@ use crate::single_run::last_run;
 use crate::walk::Walk;
 use std::marker::Model;
 
-/// Items in C order, each of them one step after the one before it.
+/// Items in C order, each of them one step after the one before.
 #[derive(Clone, Copy, Drop)]
 pub struct Run {
-    /// Where the first item lies.
+    /// The offset of the first item.
     pub offset: usize,
     /// How many items there are.
     pub count: usize,
-    /// How many bytes each item lies after the one before it. It may be negative, and is 0 where
-    /// a layout has one item.
+    /// How many bytes each item is after the one before. It may be negative, and is 0 for a layout
+    /// of one item.
     pub step: isize,
 }
 
@@ -27,7 +27,7 @@ impl Run {
     ghost use Rattle.std.specs.Prelude.{pos, ◌+ℤ◌, ◌*ℤ◌, ◌≤ℤ◌};
     ghost use Rattle.shape_strides.specs.Limits.{max_items, max_bytes};
 
-    /// Where the item lies that is so many steps after the first.
+    /// The offset of the item `steps` steps after the first.
     pub fn offset_after(self, steps: usize) -> usize
         requires start { self.offset ≤ max_bytes }
         requires steps { steps ≤ max_items }
@@ -38,7 +38,7 @@ impl Run {
         (self.offset as isize + self.step * steps as isize) as usize
     }
 
-    /// Whether items of `width` bytes lie one right after another.
+    /// Whether items of `width` bytes are adjacent.
     pub fn is_packed(self, width: usize) -> bool
         ensures { IsTrue result ↔ self.step ≡ pos width }
     {
@@ -46,9 +46,8 @@ impl Run {
     }
 }
 
-/// The items of a layout in C order, seen as the list of the runs that are left. Each run covers
-/// the last of the layout's axes, as far as they are joined. It takes no memory, whatever the number
-/// of axes.
+/// The items of a layout in C order, seen as the list of the remaining runs. Each run covers as
+/// many of the last axes as can be joined. It takes no memory, whatever the number of axes.
 #[derive(Drop)]
 pub struct Runs<'a> {
     starts: Walk<'a>,

@@ -23,7 +23,7 @@ fn are_alike(left: &[StridedAxis], right: &[StridedAxis]) -> bool
 }
 
 /// Whether two layouts have the same offsets in C order, whatever their shapes. It takes time by
-/// axes and not by items.
+/// axes, not by items.
 pub fn have_same_offsets(alloc: Global, first: &Layout, second: &Layout) -> Result<bool, AllocError>
     ensures { IfOk result (λ same. IsTrue same ↔ (offsets first.now ≡ offsets second.now)) }
 {

@@ -18,7 +18,7 @@ pub const MAX_AXES: usize = 64;
 /// The greatest length of an axis, and the greatest number of items.
 pub const MAX_ITEMS: usize = 1 << 24;
 
-/// The lengths of an array's axes, first axis first. Up to 8 axes take no memory.
+/// The lengths of an array's axes, the first axis first. Up to 8 axes take no memory.
 #[derive(Drop)]
 pub struct Shape {
     axes: SmallVec<usize, 8>,
@@ -114,7 +114,7 @@ impl Shape {
         })
     }
 
-    /// The same axes, the last one first.
+    /// The shape with its axes reversed.
     pub(crate) fn reversed(self) -> Shape
         ensures { result ≡ reverse self }
     {
@@ -123,7 +123,7 @@ impl Shape {
         shape
     }
 
-    /// The same axes, one and the next in each other's place.
+    /// The shape with an axis and the next one swapped.
     pub(crate) fn swapped(self, axis: usize) -> Shape
         requires { axis + 1 < length self }
         ensures { result ≡ swap self axis (axis + 1) }
@@ -134,7 +134,7 @@ impl Shape {
     }
 }
 
-/// As Python writes a tuple: `()`, `(3,)`, `(2, 3)`.
+/// The shape as Python writes a tuple: `()`, `(3,)`, `(2, 3)`.
 impl fmt::Display for Shape {
     ghost output = { λ s. Some (shape_text s) };
 

@@ -13,7 +13,7 @@ use crate::joined::{StridedAxis, leads_over};
 use crate::layout::Layout;
 use crate::runs::Run;
 
-/// Both axes as one, or nothing where they are two. An axis of length 1 is none.
+/// Both axes as one, or nothing if they cannot be joined. An axis of length 1 joins with any.
 fn one_of(outer: StridedAxis, inner: StridedAxis) -> Option<StridedAxis>
     requires outer { 1 ≤ outer.len }
     requires inner { 1 ≤ inner.len }
@@ -40,13 +40,13 @@ fn one_of(outer: StridedAxis, inner: StridedAxis) -> Option<StridedAxis>
 /// The run that the last axes make.
 #[derive(Clone, Copy, Drop)]
 pub(crate) struct LastRun {
-    /// How many axes stand outside of it.
+    /// How many axes are outside of it.
     pub outside: usize,
-    /// The axis that the others are joined to.
+    /// The axis that the last axes are joined to.
     pub along: StridedAxis,
 }
 
-/// The run that as many of the last axes make as can be joined.
+/// The run of as many of the last axes as can be joined.
 pub(crate) fn last_run(lengths: &[usize], strides: &[isize]) -> LastRun
     requires one_each { length strides.now ≡ length lengths.now }
     requires some { 0 < count lengths.now }
@@ -71,7 +71,7 @@ pub(crate) fn last_run(lengths: &[usize], strides: &[isize]) -> LastRun
 }
 
 impl Layout {
-    /// The run that the items are: one or more, each of them one step after the one before it. It
+    /// The run that all items make: one or more, each of them one step after the one before. It
     /// takes no memory.
     pub fn as_one_run(&self) -> Option<Run>
         ensures items { IfSome result (λ run. run_offsets run ≡ offsets self.now) }
@@ -91,7 +91,7 @@ impl Layout {
         })
     }
 
-    /// The same of two items or more.
+    /// The run that all items make, if there are two or more.
     pub fn as_run(&self) -> Option<Run>
         ensures items { IfSome result (λ run. run_offsets run ≡ offsets self.now) }
         ensures two { IfSome result (λ run. 2 ≤ run.count) }

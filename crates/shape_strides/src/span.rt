@@ -9,8 +9,8 @@ impl Layout {
     ghost use Rattle.shape_strides.specs.Limits.{max_bytes};
     ghost use Rattle.shape_strides.specs.Layouts.{offsets, Fits};
 
-    /// The bytes from the lowest one of any item to the highest, where an item has `item` bytes:
-    /// `0..0` where there is no item.
+    /// The bytes from the lowest to the highest of any item of `item` bytes, or `0..0` without
+    /// items.
     pub fn span(&self, item: usize) -> Range<usize>
         requires { Fits self.now max_bytes item }
         ensures empty { offsets self.now ≡ [] → (result.start ≡ 0) × (result.end ≡ 0) }

@@ -1,4 +1,4 @@
-//! Layouts whose axes step clear of one another.
+//! Layouts in which each axis steps over all that the axes with smaller steps reach.
 ghost use Rattle.std.specs.Prelude.{◌≡◌, ◌↔◌, ◌+◌, ◌-◌, ◌*◌, ◌<◌, ◌≤◌, pos, nat_le, unsigned_abs, if◌then◌else◌, length, slice_index, slice_index_or, All, IsTrue};
 ghost use Rattle.shape_strides.specs.Limits.{max_axes, max_items};
 ghost use Rattle.shape_strides.specs.Layouts.{offsets, IsNested};
@@ -10,13 +10,14 @@ use crate::layout::Layout;
 /// An axis without its direction.
 #[derive(Clone, Copy, Drop)]
 pub struct Axis {
-    /// How many bytes lie between the starts of one item and the next, either way.
+    /// How many bytes from the start of one item to the start of the next, in either direction.
     pub step: usize,
     /// How many items there are.
     pub len: usize,
 }
 
-/// How far an axis reaches from its first item to its last, if it steps over so many bytes at most.
+/// How far an axis reaches from its first item to its last, if it steps over at most `step` bytes,
+/// and 0 otherwise.
 fn axis_within(strides: &[isize], axis: usize, len: usize, step: usize) -> u128
     requires axis { axis < length strides.now }
     requires len { len ≤ max_items }
@@ -31,7 +32,7 @@ fn axis_within(strides: &[isize], axis: usize, len: usize, step: usize) -> u128
     own as u128 * len.saturating_sub(1) as u128
 }
 
-/// How far the axes reach that step over so many bytes at most.
+/// How far the axes reach that step over at most `step` bytes.
 fn reach_within(lengths: &[usize], strides: &[isize], step: usize) -> u128
     requires one_each { length strides.now ≡ length lengths.now }
     requires axes { length lengths.now ≤ max_axes }
@@ -46,8 +47,8 @@ fn reach_within(lengths: &[usize], strides: &[isize], step: usize) -> u128
     reach
 }
 
-/// Whether an axis steps over an item and all that the other axes reach of those that step no
-/// further. One of length 1 does.
+/// Whether an axis steps over an item and all that the other axes with no larger steps reach. An
+/// axis of length 1 does.
 fn steps_clear(lengths: &[usize], strides: &[isize], axis: usize, item: usize) -> bool
     requires one_each { length strides.now ≡ length lengths.now }
     requires axes { length lengths.now ≤ max_axes }
@@ -65,8 +66,9 @@ fn steps_clear(lengths: &[usize], strides: &[isize], axis: usize, item: usize) -
 }
 
 impl Layout {
-    /// Whether the axes can be put in an order in which each of 2 items or more steps over an item
-    /// of `item` bytes and all that the axes before it reach. So it is for a layout without items.
+    /// Whether the axes can be put in an order in which each axis of 2 items or more steps over an
+    /// item of `item` bytes and all that the axes before it reach. This holds for a layout without
+    /// items.
     pub fn is_stacked(&self, item: usize) -> bool
         requires { 1 ≤ item }
         ensures value { IsTrue result ↔ IsStacked self.now item }

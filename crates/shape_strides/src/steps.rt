@@ -10,7 +10,7 @@ use crate::shape::Shape;
 use crate::strides::Strides;
 use std::alloc::{AllocError, Global};
 
-/// The offset that is so many steps further along an axis.
+/// The offset `steps` steps further along an axis.
 pub(crate) fn forward(from: usize, strides: &[isize], axis: usize, steps: usize) -> usize
     requires axis { axis < length strides.now }
     requires start { from ≤ max_bytes }
@@ -22,7 +22,7 @@ pub(crate) fn forward(from: usize, strides: &[isize], axis: usize, steps: usize)
     (from as isize + strides[axis] * steps as isize) as usize
 }
 
-/// The offset that is so many steps back along an axis.
+/// The offset `steps` steps back along an axis.
 pub(crate) fn back(from: usize, strides: &[isize], axis: usize, steps: usize) -> usize
     requires axis { axis < length strides.now }
     requires start { from ≤ max_bytes }
@@ -34,7 +34,7 @@ pub(crate) fn back(from: usize, strides: &[isize], axis: usize, steps: usize) ->
     (from as isize - strides[axis] * steps as isize) as usize
 }
 
-/// How far the last number of an axis lies above its first.
+/// How far the last item of an axis is above its first.
 fn axis_above(strides: &[isize], axis: usize, len: usize) -> u128
     requires axis { axis < length strides.now }
     requires len { len ≤ max_items }
@@ -47,7 +47,7 @@ fn axis_above(strides: &[isize], axis: usize, len: usize) -> u128
     strides[axis].unsigned_abs() as u128 * len.saturating_sub(1) as u128
 }
 
-/// How far the last number of an axis lies below its first.
+/// How far the last item of an axis is below its first.
 fn axis_below(strides: &[isize], axis: usize, len: usize) -> u128
     requires axis { axis < length strides.now }
     requires len { len ≤ max_items }
@@ -123,7 +123,7 @@ fn divided_strides(
     Ok(strides)
 }
 
-/// The strides of C order, or 0 for each axis where there is no item.
+/// The strides of C order, or 0 for each axis if there are no items.
 pub(crate) fn c_order_strides(
     alloc: Global,
     shape: &Shape,
@@ -156,7 +156,7 @@ fn multiplied_strides(alloc: Global, lengths: &[usize], item: usize) -> Result<S
     Ok(strides)
 }
 
-/// The strides of Fortran order, or 0 for each axis where there is no item.
+/// The strides of Fortran order, or 0 for each axis if there are no items.
 pub(crate) fn f_order_strides(
     alloc: Global,
     shape: &Shape,

@@ -7,8 +7,8 @@ use std::alloc::{AllocError, Global};
 use std::fmt;
 use std::marker::Model;
 
-/// How many bytes each axis steps over from one item to the next, first axis first. A step may be
-/// negative. Up to 8 of them take no memory.
+/// How many bytes each axis steps over from one item to the next, the first axis first. A step may
+/// be negative. Up to 8 axes take no memory.
 #[derive(Drop)]
 pub struct Strides {
     steps: SmallVec<isize, 8>,
@@ -44,7 +44,7 @@ impl Strides {
         self.steps.as_slice()
     }
 
-    /// As many strides, all of them 0.
+    /// The same number of strides, all 0.
     pub fn zeroed(self) -> Strides
         ensures { result ≡ map (λ _. pos 0) self }
     {
@@ -55,7 +55,7 @@ impl Strides {
         strides
     }
 
-    /// The same strides, the last one first.
+    /// The strides in reverse order.
     pub(crate) fn reversed(self) -> Strides
         ensures { result ≡ reverse self }
     {
@@ -64,7 +64,7 @@ impl Strides {
         strides
     }
 
-    /// The same strides, one and the next in each other's place.
+    /// The strides with one and the next swapped.
     pub(crate) fn swapped(self, axis: usize) -> Strides
         requires { axis + 1 < length self }
         ensures { result ≡ swap self axis (axis + 1) }
@@ -74,7 +74,7 @@ impl Strides {
         strides
     }
 
-    /// The same strides, but for one that goes the other way.
+    /// The strides with the sign of one changed.
     pub(crate) fn opposed(self, axis: usize) -> Strides
         requires axis { axis < length self }
         requires short { slice_index_or self axis (pos 0) ≢ neg_ℤ (pos (2 ^ 63)) }
@@ -95,7 +95,7 @@ impl Strides {
     }
 }
 
-/// As Python writes a tuple: `()`, `(12,)`, `(-8, 4)`.
+/// The strides as Python writes a tuple: `()`, `(12,)`, `(-8, 4)`.
 impl fmt::Display for Strides {
     ghost output = { λ s. Some (strides_text s) };
 

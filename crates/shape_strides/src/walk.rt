@@ -9,7 +9,7 @@ use crate::layout::Layout;
 use crate::steps::{back, forward};
 use std::marker::Model;
 
-/// The offsets of a layout's items in C order, seen as the list of those that are left. It takes no
+/// The offsets of a layout's items in C order, seen as the list of the remaining ones. It takes no
 /// memory, whatever the number of axes.
 #[derive(Drop)]
 pub struct Walk<'a> {
@@ -75,7 +75,7 @@ impl<'a> Walk<'a> {
     }
 }
 
-/// Goes on to the next index in C order, and from the last one back to the first. The result is the
+/// Goes on to the next index in C order, and from the last one back to the first. Returns the
 /// offset there.
 fn advance(
     lengths: &[usize],

@@ -12,14 +12,14 @@ use elem_descr::Refusal;
 use shape_strides::{IndexItem, Layout};
 use std::alloc::Global;
 
-/// The view that integers, slices, `...` and new axes make, as NumPy has it. A negative integer
-/// counts from the end, and the axis of an integer is gone. Without `...` the axes after the last
+/// The view that integers, slices, `...` and new axes select, as in NumPy. A negative integer
+/// counts from the end, and an integer removes its axis. Without `...`, the axes after the last
 /// item are taken whole.
 ///
-/// Refused are, each over the whole index before the next: items that take more axes than there
-/// are, as `TooManyIndices`; a slice whose step is 0, as `ZeroStep`; an integer outside its axis,
-/// as `IndexOutOfRange`; a view of more than 64 axes, as `TooManyAxes`. A view without items has
-/// strides and offset 0, and an axis of less than two items has stride 0.
+/// Refusals, each checked over the whole index before the next: items that take more axes than
+/// there are (`TooManyIndices`); a slice whose step is 0 (`ZeroStep`); an integer outside its axis
+/// (`IndexOutOfRange`); a view of more than 64 axes (`TooManyAxes`). A view without items has
+/// strides and offset 0, and an axis of fewer than two items has stride 0.
 pub fn basic<A>(alloc: Global, layout: &Layout, items: &[IndexItem<A>]) -> Result<Layout, Refusal>
     requires { list_all is_basic items.now ≡ true }
     ensures view { GivesView layout.now result (basic layout.now.shape items.now) }

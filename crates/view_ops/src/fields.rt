@@ -10,7 +10,7 @@ use elem_descr::{Descr, Refusal};
 use shape_strides::Layout;
 use std::alloc::{AllocError, Global};
 
-/// The layout with each address so many bytes further on.
+/// The layout with each address `by` bytes further on.
 fn moved(alloc: Global, layout: &Layout, by: usize) -> Result<Layout, AllocError>
     requires { Fits layout.now max_bytes (by + 1) }
     ensures shape { IfOk result (λ l. l.shape ≡ layout.now.shape) }
@@ -24,10 +24,10 @@ fn moved(alloc: Global, layout: &Layout, by: usize) -> Result<Layout, AllocError
     Ok(moved)
 }
 
-/// The view of one field of each item, where the items are those of `descr`: the offsets go on by
-/// the field's offset in an item. A field that is a record is seen as a record. A name that no
-/// field has is refused as `NoSuchField`, and so is any name where the items are no records. A view
-/// without items has strides and offset 0.
+/// The view of one field of each item, where the items are those of `descr`: the offsets grow by
+/// the offset of the field in an item. A field may be a record. A name that is not a field is
+/// refused as `NoSuchField`, and so is any name if the items are not records. A view without items
+/// has strides and offset 0.
 pub fn field(alloc: Global, layout: &Layout, descr: &Descr, name: &[u8]) -> Result<Layout, Refusal>
     requires { Fits layout.now max_bytes (item_size descr.now) }
     ensures { GivesField layout.now descr.now (field_of descr.now name.now) result }

@@ -15,7 +15,7 @@ use shape_strides::IndexItem;
 use smallvec::SmallVec;
 use std::alloc::{AllocError, Global};
 
-/// What is picked of an axis: one number, or the numbers of a run; or an axis that is new.
+/// What is picked from an axis: one number, the numbers of a run, or a new axis.
 #[derive(Clone, Copy, Debug, PartialEq, Eq, Default)]
 pub enum AxisPick {
     At(usize),
@@ -49,7 +49,7 @@ pub(crate) fn are_in_range<A>(lengths: &[usize], items: &[IndexItem<A>]) -> bool
     true
 }
 
-/// What an integer or a slice picks of the axis that it takes.
+/// What an integer or a slice picks from its axis.
 pub fn pick_of<A>(n: usize, item: &IndexItem<A>) -> Result<AxisPick, Refusal>
     requires axis { takes_axis item.now ≡ true }
     requires basic { is_basic item.now ≡ true }
@@ -111,7 +111,7 @@ fn push_picks<A>(
     }
 }
 
-/// What the items pick of the axes of a shape.
+/// What the items pick from the axes of a shape.
 pub(crate) fn picks_of<A>(
     alloc: Global,
     lengths: &[usize],

@@ -1,4 +1,4 @@
-//! The view of what was picked of each axis.
+//! The view of what was picked from each axis.
 ghost use Rattle.std.specs.Prelude.{◌≡◌, ℕ, ◌<◌, ◌≤◌, pos, [], ◌++◌, map, length, slice_index_or, IfOk, OnOk};
 ghost use Rattle.std.specs.List.{flat_map};
 ghost use Rattle.elem_descr.specs.Refusals.{Gives};
@@ -66,7 +66,7 @@ fn axes_taken(pick: AxisPick) -> usize
     }
 }
 
-/// The stride of a run along an axis; 0 where it has less than two numbers.
+/// The stride of a run along an axis; 0 if it has fewer than two numbers.
 fn run_stride(strides: &[isize], axis: usize, run: Progression) -> isize
     requires axis { axis < length strides.now }
     requires small { 2 ≤ run.count → IsSmallStep (slice_index_or strides.now axis (pos 0)) run.step }
@@ -113,7 +113,7 @@ fn picked_strides(
     Ok(made)
 }
 
-/// The shape of what is picked of the axes of another one.
+/// The shape of what is picked from the axes of another one.
 fn shape_picked(alloc: Global, shape: &Shape, picks: &[AxisPick]) -> Result<Shape, Refusal>
     requires { ArePicks shape.now picks.now }
     ensures { Gives (λ s. s) result (shape_picked (map pick_shown picks.now)) }
@@ -123,8 +123,8 @@ fn shape_picked(alloc: Global, shape: &Shape, picks: &[AxisPick]) -> Result<Shap
     Shape::try_new(alloc, lengths.as_slice())
 }
 
-/// The view of what is picked. One of more than 64 axes is refused as `TooManyAxes`. A view without items
-/// has strides and offset 0, and an axis of less than two items has stride 0.
+/// The view of what is picked. A view of more than 64 axes is refused as `TooManyAxes`. A view
+/// without items has strides and offset 0, and an axis of fewer than two items has stride 0.
 pub fn with_picks(alloc: Global, layout: &Layout, picks: &[AxisPick]) -> Result<Layout, Refusal>
     requires { ArePicks layout.now.shape picks.now }
     ensures view { GivesView layout.now result (picked_view (map pick_shown picks.now)) }

@@ -13,14 +13,14 @@ pub struct Progression {
     pub count: usize,
 }
 
-/// The least place of a bound.
+/// The least position of a bound.
 fn lowest(step: i128) -> i128
     ensures { result ≡ lowest step }
 {
     if step < 0 { -1 } else { 0 }
 }
 
-/// The greatest place of a bound.
+/// The greatest position of a bound.
 fn highest(n: usize, step: i128) -> i128
     ensures { result ≡ highest n step }
 {
@@ -34,7 +34,7 @@ pub fn from_front(n: usize, at: i128) -> i128
     if at < 0 { at + n as i128 } else { at }
 }
 
-/// Whether a number names one of `n` places.
+/// Whether a number is one of `n` positions.
 pub fn is_place(n: usize, at: i128) -> bool
     ensures { result ≡ is_place n at }
 {
@@ -42,7 +42,7 @@ pub fn is_place(n: usize, at: i128) -> bool
     !(at < 0) && at < n as i128
 }
 
-/// A bound of an axis of `n` items, put where Python has it.
+/// A bound of an axis of `n` items, moved into range as Python does.
 fn clamped(n: usize, step: i128, at: i128) -> i128
     ensures value { result ≡ clamped n step at }
     ensures low { lowest step ≤ℤ result }
@@ -98,8 +98,8 @@ fn gap(start: i128, stop: i128, step: i128) -> usize
     (stop - start).max(0) as usize
 }
 
-/// The slice of an axis of `n` items, as Python's `slice(start, stop, step).indices(n)` has it. A
-/// step of 0 is refused as `ZeroStep`.
+/// The slice of an axis of `n` items, as Python's `slice(start, stop, step).indices(n)`. A step of
+/// 0 is refused as `ZeroStep`.
 pub fn slice_of(
     n: usize,
     start: Option<i128>,

@@ -61,9 +61,10 @@ fn with_axes(alloc: Global, layout: &Layout, axes: &[usize]) -> Result<Layout, R
     })
 }
 
-/// The view whose axis k is the axis that stands at place k of `axes`, where a negative number
-/// counts from the end; without `axes` they are reversed. A wrong number of axes, one out of range
-/// and a repeated one are refused as `BadAxis`. A view without items has strides and offset 0.
+/// The view whose axis k is the axis at position k of `axes`, in which a negative number counts
+/// from the end; without `axes`, the axes are reversed. A wrong number of axes, an axis out of
+/// range and a repeated axis are refused as `BadAxis`. A view without items has strides and offset
+/// 0.
 pub fn transpose(alloc: Global, layout: &Layout, axes: Option<&[i128]>) -> Result<Layout, Refusal>
     ensures view { GivesView layout.now result (transposed layout.now.shape (option_copied axes.entry)) }
     ensures nested { IfOk result (KeepsNested layout.now) }

@@ -1,4 +1,4 @@
-//! A record of a format text, at its closing brace.
+//! The end of a record in a format text.
 ghost use Rattle.std.specs.Prelude.{◌≡◌, ◌+◌, IfOk};
 ghost use Rattle.elem_descr.specs.Refusals.{Gives};
 ghost use Rattle.elem_descr.specs.FormatTexts.{closed_body};
@@ -10,8 +10,7 @@ use crate::record_builder::RecordBuilder;
 use crate::refusal::Refusal;
 use std::alloc::Global;
 
-/// A record that is read, what its offset is a multiple of where `@` is in force, and the mark in
-/// force behind it.
+/// A record that was read, its alignment if `@` is in force, and the mark in force after it.
 #[derive(Debug, Drop)]
 pub struct Body {
     pub whole: Record,
@@ -20,7 +19,7 @@ pub struct Body {
 }
 
 impl Body {
-    /// The record of a builder, aligned where this mark aligns.
+    /// The record of a builder, aligned if this mark aligns.
     pub fn close(alloc: Global, builder: RecordBuilder, mark: Mark) -> Result<Body, Refusal>
         ensures gives { Gives (λ body. body) result (closed_body mark builder) }
         ensures good { IfOk result (IsBody (1 + builder.levels)) }

@@ -16,7 +16,7 @@ use crate::refusal::Refusal;
 use crate::scalar::Scalar;
 use std::alloc::Global;
 
-/// The name of a field: between colons, or `f` and its number among the fields.
+/// The name of a field: the one between colons, or `f` and its number among the fields.
 fn named(alloc: Global, number: usize, text: &[u8]) -> Result<(FieldName, &[u8]), Refusal>
     requires { number ≤ max_fields }
     ensures gives { Gives (λ n. (n.0, n.1.now)) result (named number text.now) }
@@ -32,7 +32,7 @@ fn named(alloc: Global, number: usize, text: &[u8]) -> Result<(FieldName, &[u8])
     }
 }
 
-/// Adds a scalar, and answers the mark in force and what follows its name.
+/// Adds a scalar, and returns the mark in force and what follows its name.
 #[tactic(auto, unfolding(crate::specs::inside::Turns::scalar_in))]
 pub fn add_scalar<'a>(
     alloc: Global,
@@ -54,7 +54,7 @@ pub fn add_scalar<'a>(
     Ok((mark, rest))
 }
 
-/// Adds padding, which has no name, and answers the mark in force and what follows.
+/// Adds padding, which has no name, and returns the mark in force and what follows.
 #[tactic(auto, unfolding(crate::specs::inside::Turns::pad_in))]
 pub fn add_pad<'a>(
     mark: Mark,
@@ -72,7 +72,7 @@ pub fn add_pad<'a>(
     Ok((mark, rest))
 }
 
-/// Adds a record that is read, and answers the mark then in force and what follows its name.
+/// Adds a record that was read, and returns the mark then in force and what follows its name.
 #[tactic(auto, unfolding(crate::specs::inside::Turns::body_in))]
 pub fn add_body<'a>(
     alloc: Global,

@@ -1,4 +1,4 @@
-//! The marks of a format text, and the numbers by their letters.
+//! The marks of a format text, and the numbers that its letters mean.
 ghost use Rattle.std.specs.Prelude.{◌≡◌, ◌≤◌};
 ghost use Rattle.elem_descr.specs.FormatLetters.{number_letter, order_under, long_under, is_aligning, aligned_to, own_alignment};
 ghost use Rattle.elem_descr.specs.inside.Turns.{after, marked};

@@ -16,11 +16,11 @@ use crate::scalar::{BytesLen, Scalar};
 /// A member of a format text, without its name.
 #[derive(Clone, Copy, Debug, PartialEq, Eq)]
 pub enum Member {
-    /// A value of this scalar. It is `None` for a byte string that is larger than any item.
+    /// A value of this scalar, or `None` for a byte string that is larger than any item.
     Value(Option<Scalar>),
-    /// So many bytes of padding; all above 65,536 count as one more than that.
+    /// Padding, by its number of bytes; all numbers above 65,536 count as 65,537.
     Pad(usize),
-    /// The begin of a record, before its brace.
+    /// The beginning of a record, before its brace.
     Opened,
 }
 

@@ -1,4 +1,4 @@
-//! What a format text means.
+//! Reads format texts.
 ghost use Rattle.std.specs.Prelude.{◌≡◌, codes};
 ghost use Rattle.std.specs.List.{list_all};
 ghost use Rattle.elem_descr.specs.Refusals.{Answers, Gives};
@@ -20,7 +20,7 @@ fn is_blank(text: &[u8]) -> bool
     text.iter().all(|b| *b == b' ')
 }
 
-/// Refuses whatever follows a whole descriptor but blanks.
+/// Refuses anything but blanks after a whole descriptor.
 #[tactic(auto, unfolding(crate::specs::inside::Turns::nothing_follows))]
 fn ended(text: &[u8]) -> Result<(), Refusal>
     ensures { Answers (λ _. tt) result (nothing_follows text.now) }
@@ -53,7 +53,7 @@ fn scalar_alone(value: Option<Scalar>, rest: &[u8]) -> Result<Descr, Refusal>
     Ok(Descr::Scalar(scalar))
 }
 
-/// The record whose members the text begins with, where nothing follows it.
+/// The record whose members the text begins with, if nothing follows it.
 #[tactic(auto, unfolding(crate::specs::inside::Turns::record_alone))]
 fn record_alone(alloc: Global, mark: Mark, text: &[u8]) -> Result<Descr, Refusal>
     ensures { Gives (λ descr. descr) result (record_alone mark text.now) }
@@ -63,14 +63,14 @@ fn record_alone(alloc: Global, mark: Mark, text: &[u8]) -> Result<Descr, Refusal
     Ok(Descr::Record(body.whole))
 }
 
-/// Reads a format text: marks and one member, which is a scalar or a record, `T{`, members with
+/// Reads a format text: marks and one member, which is a scalar or a record: `T{`, members with
 /// their names, and `}`. A member of a record is a scalar, padding or a record.
 ///
-/// The text is read from the left and the first fault met decides. A member or a form of PEP 3118
-/// that is left out, a record without a field and records that lie deeper than four are
-/// `DescriptorLeftOut`; a record of more than 64 fields, a text of more than 2,048 leaves and an item
-/// of more than 65,536 bytes are `TooLarge`; a name used twice in a record, and all else that is no
-/// format text, is `BadDescriptor`.
+/// The text is read from the left, and the first error decides. `DescriptorLeftOut` means a member
+/// or a form of PEP 3118 that is not supported, a record without a field, or records nested deeper
+/// than four. `TooLarge` means a record of more than 64 fields, a text of more than 2,048 leaves,
+/// or an item of more than 65,536 bytes. `BadDescriptor` means a name used twice in a record, and
+/// anything else that is not a format text.
 pub fn format_read(alloc: Global, text: &[u8]) -> Result<Descr, Refusal>
     ensures { Gives (λ descr. descr) result (format text.now) }
 {

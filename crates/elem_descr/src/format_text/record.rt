@@ -1,4 +1,4 @@
-//! The records of a format text, and the records within them.
+//! Records in a format text, and the records in them.
 ghost use Rattle.std.specs.Prelude.{◌≡◌, ◌≤◌, length, option_copied, IfOk};
 ghost use Rattle.elem_descr.specs.Refusals.{Gives};
 ghost use Rattle.elem_descr.specs.RecordBuilding.{max_depth, max_leaves};
@@ -13,7 +13,7 @@ use crate::record_builder::RecordBuilder;
 use crate::refusal::Refusal;
 use std::alloc::Global;
 
-/// What follows a closing brace, where the text begins with one.
+/// What follows a closing brace, if the text begins with one.
 fn closing(text: &[u8]) -> Option<&[u8]>
     ensures { option_copied result ≡ closing text.now }
 {
@@ -24,8 +24,8 @@ fn closing(text: &[u8]) -> Option<&[u8]>
 }
 
 /// The record whose members the text begins with, up to its closing brace, and what follows that.
-/// `levels` says how many records may lie one within another, and `leaves` how many leaves the text
-/// has before this one.
+/// `levels` says how deep records in it may be nested, and `leaves` how many leaves the text has
+/// before it.
 #[cycle(record)]
 pub fn record_within(
     alloc: Global,
@@ -58,7 +58,7 @@ pub fn record_within(
     Err(Refusal::BadDescriptor)
 }
 
-/// Adds the next member, and answers the mark then in force and what follows the member.
+/// Adds the next member, and returns the mark then in force and what follows the member.
 #[cycle(record)]
 #[tactic(auto, unfolding(crate::specs::inside::Turns::next_field))]
 fn field_at<'a>(

@@ -1,4 +1,4 @@
-//! The format text of a descriptor.
+//! Writes the format text of a descriptor.
 ghost use Rattle.std.specs.Prelude.{◌≡◌, ◌≤◌, ◌++◌, ◌∷◌, [], OnOk, IfOk, decimal};
 ghost use Rattle.elem_descr.specs.Encoding.{size};
 ghost use Rattle.elem_descr.specs.Descriptors.{IsLegal};
@@ -133,8 +133,8 @@ fn push_descr(text: &mut Vec<u8>, descr: &Descr) -> Result<(), AllocError>
     }
 }
 
-/// Does nothing: what is written of a descriptor is read as that descriptor, whether or not there is
-/// memory to write it.
+/// Does nothing. It says that what is written for a descriptor is read as that descriptor, whether
+/// or not there is memory to write it.
 #[tactic(auto, using(crate::proofs::RoundTrip::reads_record_back))]
 fn will_read(descr: &Descr)
     ensures { format (written_format descr.now) ≡ Ok descr.now }
@@ -149,8 +149,8 @@ fn will_read(descr: &Descr)
     }
 }
 
-/// Writes the format text of a descriptor: each scalar with `<`, or with `>` where it is a big-endian
-/// integer of two or more bytes, and a record with the names of all its fields and its padding.
+/// Writes the format text of a descriptor: each scalar with `<`, or with `>` if it is a big-endian
+/// integer of two or more bytes, and each record with the names of all its fields and its padding.
 pub fn format_write(alloc: Global, descr: &Descr) -> Result<Vec<u8>, AllocError>
     ensures spelled { IfOk result (λ text. text.items ≡ written_format descr.now) }
     ensures reads_back { format (written_format descr.now) ≡ Ok descr.now }

@@ -9,14 +9,14 @@ ghost use Rattle.script_lang.specs.Tokens.{is_blank, is_digit, is_sign, is_name_
 #[derive(Clone, Copy)]
 pub enum Class {
     Blank,
-    /// No blank.
+    /// Not a blank.
     Filled,
     Digit,
     /// A letter, a digit or an underscore.
     Name,
     /// `<`, `>`, `!`, `=`, `@` or `^`
     Mark,
-    /// No quotation mark.
+    /// Not a quotation mark.
     Unquoted,
     /// A byte of the name of a file.
     File,
@@ -40,7 +40,7 @@ pub fn is_sign(byte: u8) -> bool
     byte == b'+' || byte == b'-'
 }
 
-/// Whether a name may begin with the byte.
+/// Whether a name may start with the byte.
 pub fn is_name_start(byte: u8) -> bool
     ensures { result ≡ is_name_start byte }
 {

@@ -1,4 +1,4 @@
-//! The values that are computed from other arrays.
+//! What follows `X =` and computes: `copy`, `cast`, operations and reductions.
 ghost use Rattle.std.specs.Prelude.{◌≡◌};
 ghost use Rattle.script_lang.specs.Commands.{copy_at, cast_at, combine_at, transform_at, reduce_at, computation_at, compute_at};
 ghost use Rattle.script_lang.specs.Reading.{Scans, Reads, computation_room, value_room};
@@ -18,7 +18,7 @@ use elem_descr::Refusal;
 use machine_numbers::{Red, UnOp};
 use std::alloc::Global;
 
-/// `Y C` or `Y F`, behind `copy`.
+/// `Y C` or `Y F`, after `copy`.
 #[tactic(auto, unfolding(crate::specs::Commands::copy_at))]
 fn copy(alloc: Global, bytes: &[u8]) -> Option<(Computation, &[u8])>
     ensures { Scans (λ r. (r.0, r.1.now)) result (copy_at bytes.now) }
@@ -30,7 +30,7 @@ fn copy(alloc: Global, bytes: &[u8]) -> Option<(Computation, &[u8])>
     Some((Computation::Duplicate { source, order }, rest))
 }
 
-/// `Y D`, behind `cast`.
+/// `Y D`, after `cast`.
 #[tactic(auto, unfolding(crate::specs::Commands::cast_at), using(crate::proofs::Commands::cast_room))]
 fn cast(alloc: Global, bytes: &[u8]) -> Result<(Computation, &[u8]), Refusal>
     ensures { Reads (λ r. (r.0, r.1.now)) (λ r. computation_room r.0) result (cast_at bytes.now) }
@@ -42,7 +42,7 @@ fn cast(alloc: Global, bytes: &[u8]) -> Result<(Computation, &[u8]), Refusal>
     Ok((Computation::Cast { source, descr }, rest))
 }
 
-/// An operand and an operand or literal, behind `OP`.
+/// An operand and an operand or literal, after `OP`.
 #[tactic(auto, unfolding(crate::specs::Commands::combine_at), using(crate::proofs::Commands::left_room, crate::proofs::Commands::right_room))]
 fn combine(
     alloc: Global,
@@ -61,7 +61,7 @@ fn combine(
     Ok((combined, rest))
 }
 
-/// An operand, behind `neg` or `not`.
+/// An operand, after `neg` or `not`.
 #[tactic(auto, unfolding(crate::specs::Commands::transform_at), using(crate::proofs::Commands::transform_room))]
 fn transform(alloc: Global, operation: UnOp, bytes: &[u8]) -> Result<(Computation, &[u8]), Refusal>
     ensures { Reads (λ r. (r.0, r.1.now)) (λ r. computation_room r.0) result (transform_at operation bytes.now) }
@@ -70,7 +70,7 @@ fn transform(alloc: Global, operation: UnOp, bytes: &[u8]) -> Result<(Computatio
     Ok((Computation::Transform { operation, operand }, rest))
 }
 
-/// `Y [axis] [keep]`, behind `RED`.
+/// `Y [axis] [keep]`, after `RED`.
 #[tactic(auto, unfolding(crate::specs::Commands::reduce_at))]
 fn reduce(alloc: Global, reduction: Red, bytes: &[u8]) -> Option<(Computation, &[u8])>
     ensures { Scans (λ r. (r.0, r.1.now)) result (reduce_at reduction bytes.now) }

@@ -1,4 +1,4 @@
-//! The values that make an array.
+//! What follows `X =` and makes an array: `zeros`, `full`, `arange` and `array`.
 ghost use Rattle.std.specs.Prelude.{◌≡◌, true};
 ghost use Rattle.script_lang.specs.Commands.{zeros_at, full_at, arange_at, new_array_at, new_items_at, make_at};
 ghost use Rattle.script_lang.specs.Reading.{Scans, Reads, value_room};
@@ -13,7 +13,7 @@ use crate::verb::MakeVerb;
 use elem_descr::Refusal;
 use std::alloc::Global;
 
-/// `S`, behind `zeros D`.
+/// `S`, after `zeros D`.
 #[tactic(auto, unfolding(crate::specs::Commands::zeros_at), using(crate::proofs::Lists::any_list))]
 fn zeros(alloc: Global, bytes: &[u8]) -> Result<(NewItems, &[u8]), Refusal>
     ensures { Reads (λ r. (r.0, r.1.now)) (λ _. true) result (zeros_at bytes.now) }
@@ -22,7 +22,7 @@ fn zeros(alloc: Global, bytes: &[u8]) -> Result<(NewItems, &[u8]), Refusal>
     Ok((NewItems::Zeros { shape }, rest))
 }
 
-/// `S L`, behind `full D`.
+/// `S L`, after `full D`.
 #[tactic(auto, unfolding(crate::specs::Commands::full_at), using(crate::proofs::Lists::any_list))]
 fn full(alloc: Global, bytes: &[u8]) -> Result<(NewItems, &[u8]), Refusal>
     ensures { Reads (λ r. (r.0, r.1.now)) (λ _. true) result (full_at bytes.now) }
@@ -32,7 +32,7 @@ fn full(alloc: Global, bytes: &[u8]) -> Result<(NewItems, &[u8]), Refusal>
     Ok((NewItems::Full { shape, value }, rest))
 }
 
-/// `a b s`, behind `arange D`.
+/// `a b s`, after `arange D`.
 #[tactic(auto, unfolding(crate::specs::Commands::arange_at))]
 fn arange(bytes: &[u8]) -> Option<(NewItems, &[u8])>
     ensures { Scans (λ r. (r.0, r.1.now)) result (arange_at bytes.now) }
@@ -43,7 +43,7 @@ fn arange(bytes: &[u8]) -> Option<(NewItems, &[u8])>
     Some((NewItems::Arange { start, stop, step }, rest))
 }
 
-/// `S L..`, behind `array D`.
+/// `S L..`, after `array D`.
 #[tactic(auto, unfolding(crate::specs::Commands::new_array_at, crate::specs::Literals::literals_at), using(crate::proofs::Lists::any_list))]
 fn array(alloc: Global, bytes: &[u8]) -> Result<(NewItems, &[u8]), Refusal>
     ensures { Reads (λ r. (r.0, r.1.now)) (λ _. true) result (new_array_at bytes.now) }
@@ -53,7 +53,7 @@ fn array(alloc: Global, bytes: &[u8]) -> Result<(NewItems, &[u8]), Refusal>
     Ok((NewItems::Array { shape, values }, rest))
 }
 
-/// What the items are, behind the descriptor.
+/// What the items are, after the descriptor.
 fn new_items(alloc: Global, verb: MakeVerb, bytes: &[u8]) -> Result<(NewItems, &[u8]), Refusal>
     ensures { Reads (λ r. (r.0, r.1.now)) (λ _. true) result (new_items_at verb bytes.now) }
 {

@@ -6,7 +6,7 @@ ghost use Rattle.script_lang.specs.Reading.{Scans};
 use crate::grammar::classes::{Class, front_len};
 use crate::grammar::tokens::{byte, front, is_parted};
 
-/// The bytes behind the marks and `T{` that come at once.
+/// The bytes after the marks and the `T{` at the front.
 #[tactic(auto, unfolding(crate::specs::Descriptors::record_mark_at))]
 fn record_mark(bytes: &[u8]) -> Option<&[u8]>
     ensures { Scans (λ rest. rest.now) result (record_mark_at bytes.now) }
@@ -54,7 +54,7 @@ fn record_len(bytes: &[u8]) -> Option<usize>
     None
 }
 
-/// The text up to the brace that closes and what follows it, given the bytes behind `T{`.
+/// The text up to the closing brace, and what follows it, given the bytes after `T{`.
 #[tactic(auto, unfolding(crate::specs::Descriptors::record_text_at))]
 fn record_text<'a>(bytes: &'a [u8], inside: &'a [u8]) -> Option<(&'a [u8], &'a [u8])>
     requires { length inside.now ≤ length bytes.now }
@@ -69,7 +69,7 @@ fn record_text<'a>(bytes: &'a [u8], inside: &'a [u8]) -> Option<(&'a [u8], &'a [
     Some((text, rest))
 }
 
-/// The descriptor that comes next, behind at least one blank, and what follows it.
+/// The next descriptor, after at least one blank, and what follows it.
 #[tactic(auto, unfolding(crate::specs::Descriptors::descriptor_at), using(crate::proofs::Spelling::record_mark_shorter))]
 pub fn descr(bytes: &[u8]) -> Option<(&[u8], &[u8])>
     ensures { Scans (λ w. (w.0.now, w.1.now)) result (descriptor_at bytes.now) }

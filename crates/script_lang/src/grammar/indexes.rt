@@ -1,4 +1,4 @@
-//! Index lists, and the operands that they stand behind.
+//! Index lists, and operands with an index list.
 ghost use Rattle.std.specs.Prelude.{◌≡◌, ◌≤◌, length, IfSome};
 ghost use Rattle.script_lang.specs.Tokens.{symbol_at};
 ghost use Rattle.script_lang.specs.Lists.{by_rule, one_or_more};
@@ -16,7 +16,7 @@ use elem_descr::Refusal;
 use shape_strides::IndexItem;
 use std::alloc::Global;
 
-/// The step behind the second colon, if there is one, and what follows it.
+/// The step after the second colon, if there is one, and what follows it.
 fn step(bytes: &[u8]) -> (Option<i128>, &[u8])
     ensures { (result.0, result.1.now) ≡ step_at bytes.now (symbol_at 58 bytes.now) }
 {
@@ -47,7 +47,7 @@ fn ellipsis(bytes: &[u8]) -> Option<&[u8]>
     byte(b'.', rest)
 }
 
-/// The item of an index list that comes next, and what follows it.
+/// The next item of an index list, and what follows it.
 #[tactic(auto, unfolding(crate::specs::Indexes::index_item_at))]
 fn item(alloc: Global, bytes: &[u8]) -> Option<(IndexItem<Name>, &[u8])>
     ensures { Scans (λ r. (r.0, r.1.now)) result (index_item_at bytes.now) }
@@ -69,7 +69,7 @@ fn item(alloc: Global, bytes: &[u8]) -> Option<(IndexItem<Name>, &[u8])>
     Some((IndexItem::Array(Name::from_slice(alloc, name)), rest))
 }
 
-/// Items that commas part, up to the bracket that ends them, and what follows it.
+/// Items separated by commas, up to the closing bracket, and what follows it.
 fn items(alloc: Global, bytes: &[u8]) -> Result<(Index, &[u8]), Refusal>
     ensures { Reads (λ r. (r.0, r.1.now)) (λ r. index_room r.0) result (by_rule (one_or_more index_item_at 93) bytes.now) }
 {
@@ -90,7 +90,7 @@ fn items(alloc: Global, bytes: &[u8]) -> Result<(Index, &[u8]), Refusal>
     }
 }
 
-/// The index list behind `[`, and what follows its bracket.
+/// The index list after `[`, and what follows its closing bracket.
 #[tactic(auto, unfolding(crate::specs::Indexes::index_at), using(crate::proofs::Rooms::index_list_room))]
 fn index(alloc: Global, bytes: &[u8]) -> Result<(Index, &[u8]), Refusal>
     ensures { Reads (λ r. (r.0, r.1.now)) (λ r. index_room r.0) result (index_at bytes.now) }
@@ -102,7 +102,7 @@ fn index(alloc: Global, bytes: &[u8]) -> Result<(Index, &[u8]), Refusal>
     Ok((index, rest))
 }
 
-/// The index list in the brackets that come at once, and what follows them.
+/// The index list in the brackets at the front, and what follows them.
 #[tactic(auto, unfolding(crate::specs::Indexes::bracket_at))]
 pub fn bracket(alloc: Global, bytes: &[u8]) -> Result<(Index, &[u8]), Refusal>
     ensures { Reads (λ r. (r.0, r.1.now)) (λ r. index_room r.0) result (bracket_at bytes.now) }
@@ -111,7 +111,8 @@ pub fn bracket(alloc: Global, bytes: &[u8]) -> Result<(Index, &[u8]), Refusal>
     index(alloc, inside)
 }
 
-/// The same, or no index where no bracket comes at once.
+/// The index list in the brackets at the front, or no index if there is no bracket, and what
+/// follows.
 #[tactic(auto, unfolding(crate::specs::Indexes::optional_index_at), using(crate::proofs::Rooms::optional_index_list_room))]
 pub fn optional_index(alloc: Global, bytes: &[u8]) -> Result<(Option<Index>, &[u8]), Refusal>
     ensures { Reads (λ r. (r.0, r.1.now)) (λ r. optional_index_room r.0) result (optional_index_at bytes.now) }
@@ -138,7 +139,7 @@ fn operand_named<'a>(
     Ok((Operand { name, index }, rest))
 }
 
-/// The operand that comes next, and what follows it.
+/// The next operand, and what follows it.
 #[tactic(auto, unfolding(crate::specs::Indexes::operand_at))]
 pub fn operand(alloc: Global, bytes: &[u8]) -> Result<(Operand, &[u8]), Refusal>
     ensures { Reads (λ r. (r.0, r.1.now)) (λ r. operand_room r.0) result (operand_at bytes.now) }
@@ -147,7 +148,7 @@ pub fn operand(alloc: Global, bytes: &[u8]) -> Result<(Operand, &[u8]), Refusal>
     operand_named(alloc, name, rest)
 }
 
-/// The name that comes at once and begins no bytes literal, and what follows it.
+/// The name at the front, if it does not begin a byte string, and what follows it.
 #[tactic(auto, unfolding(crate::specs::Indexes::bare_name_at))]
 fn bare_name(bytes: &[u8]) -> Option<(&[u8], &[u8])>
     ensures found { Scans (λ w. (w.0.now, w.1.now)) result (bare_name_at bytes.now) }
@@ -159,7 +160,7 @@ fn bare_name(bytes: &[u8]) -> Option<(&[u8], &[u8])>
     name(bytes)
 }
 
-/// The operand or literal that comes next, and what follows it.
+/// The next operand or literal, and what follows it.
 #[tactic(auto, unfolding(crate::specs::Indexes::argument_at), using(crate::proofs::Rooms::operand_argument_room, crate::proofs::Rooms::literal_argument_room))]
 pub fn argument(alloc: Global, bytes: &[u8]) -> Result<(Argument, &[u8]), Refusal>
     ensures { Reads (λ r. (r.0, r.1.now)) (λ r. argument_room r.0) result (argument_at bytes.now) }

@@ -1,4 +1,4 @@
-//! The lists of shapes.
+//! The lists of numbers between parentheses.
 ghost use Rattle.std.specs.Prelude.{◌≡◌, true};
 ghost use Rattle.script_lang.specs.Tokens.{length_at, integer_at};
 ghost use Rattle.script_lang.specs.Lists.{by_rule, none_or_more};
@@ -11,7 +11,7 @@ use crate::shape::{Integers, Lengths};
 use elem_descr::Refusal;
 use std::alloc::Global;
 
-/// Lengths that commas part, up to the parenthesis that ends them, and what follows it.
+/// Lengths separated by commas, up to the closing parenthesis, and what follows it.
 fn lengths(alloc: Global, bytes: &[u8]) -> Result<(Lengths, &[u8]), Refusal>
     ensures { Reads (λ r. (r.0, r.1.now)) (λ _. true) result (by_rule (none_or_more length_at 41) bytes.now) }
 {
@@ -35,7 +35,7 @@ fn lengths(alloc: Global, bytes: &[u8]) -> Result<(Lengths, &[u8]), Refusal>
     }
 }
 
-/// Integers that commas part, up to the parenthesis that ends them, and what follows it.
+/// Integers separated by commas, up to the closing parenthesis, and what follows it.
 fn integers(alloc: Global, bytes: &[u8]) -> Result<(Integers, &[u8]), Refusal>
     ensures { Reads (λ r. (r.0, r.1.now)) (λ _. true) result (by_rule (none_or_more integer_at 41) bytes.now) }
 {
@@ -59,7 +59,7 @@ fn integers(alloc: Global, bytes: &[u8]) -> Result<(Integers, &[u8]), Refusal>
     }
 }
 
-/// The shape that comes next, and what follows it.
+/// The next shape, and what follows it.
 #[tactic(auto, unfolding(crate::specs::Indexes::shape_at))]
 pub fn shape(alloc: Global, bytes: &[u8]) -> Result<(Lengths, &[u8]), Refusal>
     ensures { Reads (λ r. (r.0, r.1.now)) (λ _. true) result (shape_at bytes.now) }
@@ -68,7 +68,7 @@ pub fn shape(alloc: Global, bytes: &[u8]) -> Result<(Lengths, &[u8]), Refusal>
     lengths(alloc, rest)
 }
 
-/// The shape with signs that comes next, and what follows it.
+/// The next shape with signs, and what follows it.
 #[tactic(auto, unfolding(crate::specs::Indexes::signed_shape_at))]
 pub fn signed_shape(alloc: Global, bytes: &[u8]) -> Result<(Integers, &[u8]), Refusal>
     ensures { Reads (λ r. (r.0, r.1.now)) (λ _. true) result (signed_shape_at bytes.now) }

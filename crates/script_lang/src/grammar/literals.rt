@@ -12,10 +12,10 @@ use crate::literal::{ByteText, Literal, Literals, RecordLiteral, ScalarLiteral};
 use elem_descr::Refusal;
 use std::alloc::Global;
 
-/// How deep the records of a literal nest at most; one of scalars has depth 1.
+/// How deep the records of a literal may be nested; a record of scalars has depth 1.
 const MAX_LITERAL_DEPTH: usize = 4;
 
-/// The digit that the byte is in base 16.
+/// The hexadecimal digit that the byte is.
 #[tactic(auto, unfolding(crate::specs::Literals::hex_value))]
 fn hex_value(byte: u8) -> Option<u8>
     ensures value { result ≡ hex_value byte }
@@ -41,7 +41,7 @@ fn hex_digit(bytes: &[u8]) -> Option<(u8, &[u8])>
     Some((digit, rest))
 }
 
-/// The byte that `x` and two digits give, and what follows them.
+/// The byte that `x` and two digits mean, and what follows them.
 #[tactic(auto, unfolding(crate::specs::Literals::escape_at))]
 fn escape(bytes: &[u8]) -> Option<(u8, &[u8])>
     ensures { Scans (λ b. (b.0, b.1.now)) result (escape_at bytes.now) }
@@ -62,7 +62,7 @@ fn plain_byte(bytes: &[u8]) -> Option<(u8, &[u8])>
     }
 }
 
-/// The next byte of a bytes literal, and what follows it.
+/// The next byte of a byte string, and what follows it.
 #[tactic(auto, unfolding(crate::specs::Literals::text_byte_at))]
 fn text_byte(bytes: &[u8]) -> Option<(u8, &[u8])>
     ensures { Scans (λ b. (b.0, b.1.now)) result (text_byte_at bytes.now) }
@@ -91,7 +91,7 @@ fn byte_row(alloc: Global, bytes: &[u8]) -> Result<(ByteText, &[u8]), Refusal>
     }
 }
 
-/// The bytes literal behind `b'`, and what follows it.
+/// The byte string after `b'`, and what follows it.
 #[tactic(auto, unfolding(crate::specs::Literals::bytes_at, crate::specs::Literals::byte_text_at), using(crate::proofs::Rooms::bytes_room))]
 fn bytes_literal(alloc: Global, bytes: &[u8]) -> Result<(ScalarLiteral, &[u8]), Refusal>
     ensures { Reads (λ r. (r.0, r.1.now)) (λ r. scalar_room r.0) result (bytes_at bytes.now) }
@@ -114,7 +114,7 @@ fn boolean(bytes: &[u8]) -> Option<(ScalarLiteral, &[u8])>
     None
 }
 
-/// The literal that comes at once and is no record, and what follows it.
+/// The scalar literal at the front, and what follows it.
 #[tactic(auto, unfolding(crate::specs::Literals::scalar_at))]
 fn scalar(alloc: Global, bytes: &[u8]) -> Result<(ScalarLiteral, &[u8]), Refusal>
     ensures { Reads (λ r. (r.0, r.1.now)) (λ r. scalar_room r.0) result (scalar_at bytes.now) }
@@ -128,7 +128,7 @@ fn scalar(alloc: Global, bytes: &[u8]) -> Result<(ScalarLiteral, &[u8]), Refusal
     boolean(bytes).ok_or(Refusal::Syntax)
 }
 
-/// Literals of at most this depth that commas part, up to the parenthesis that ends them, and what
+/// Literals of at most this depth, separated by commas, up to the closing parenthesis, and what
 /// follows it.
 #[cycle(nesting)]
 fn values(alloc: Global, depth: usize, bytes: &[u8]) -> Result<(RecordLiteral, &[u8]), Refusal>
@@ -152,7 +152,7 @@ fn values(alloc: Global, depth: usize, bytes: &[u8]) -> Result<(RecordLiteral, &
     }
 }
 
-/// The record literal behind `(` whose values have at most this depth, and what follows it.
+/// The record literal after `(` whose values have at most this depth, and what follows it.
 #[tactic(auto, unfolding(crate::specs::Literals::record_at), using(crate::proofs::Rooms::record_room))]
 #[cycle(nesting)]
 fn record(alloc: Global, depth: usize, bytes: &[u8]) -> Result<(Literal, &[u8]), Refusal>
@@ -165,7 +165,7 @@ fn record(alloc: Global, depth: usize, bytes: &[u8]) -> Result<(Literal, &[u8]),
     Ok((Literal::Record(values), rest))
 }
 
-/// The literal of at most this depth that comes next, and what follows it.
+/// The next literal, of at most this depth, and what follows it.
 #[tactic(auto, unfolding(crate::specs::Literals::literal_within), using(crate::proofs::Rooms::scalar_literal_room))]
 #[cycle(nesting)]
 fn literal_within(alloc: Global, depth: usize, bytes: &[u8]) -> Result<(Literal, &[u8]), Refusal>
@@ -181,7 +181,7 @@ fn literal_within(alloc: Global, depth: usize, bytes: &[u8]) -> Result<(Literal,
     Ok((Literal::Scalar(value), rest))
 }
 
-/// The literal that comes next, and what follows it.
+/// The next literal, and what follows it.
 #[tactic(auto, unfolding(crate::specs::Literals::literal_at))]
 pub fn literal(alloc: Global, bytes: &[u8]) -> Result<(Literal, &[u8]), Refusal>
     ensures { Reads (λ r. (r.0, r.1.now)) (λ r. literal_room r.0) result (literal_at bytes.now) }
@@ -189,7 +189,7 @@ pub fn literal(alloc: Global, bytes: &[u8]) -> Result<(Literal, &[u8]), Refusal>
     literal_within(alloc, MAX_LITERAL_DEPTH, bytes)
 }
 
-/// The literals up to the line's end, and the blanks that are left there.
+/// The literals up to the end of the line, and the blanks that are left there.
 pub fn literals(alloc: Global, bytes: &[u8]) -> Result<(Literals, &[u8]), Refusal>
     ensures { Reads (λ r. (r.0, r.1.now)) (λ _. true) result (by_rule (row literal_at line_end_at) bytes.now) }
 {

@@ -1,4 +1,4 @@
-//! Names of arrays, and the words that name none.
+//! Names of arrays, and the keywords that cannot be names.
 ghost use Rattle.std.specs.Prelude.{◌≡◌, ◌≤◌, length, IfSome};
 ghost use Rattle.script_lang.specs.Tokens.{starts_name, names_unless_verb, is_name, name_at};
 ghost use Rattle.script_lang.specs.Reading.{Scans};
@@ -18,7 +18,7 @@ fn starts_name(word: &[u8]) -> bool
     }
 }
 
-/// Whether the word names an array unless it is a verb.
+/// Whether the word could be a name, unless it is a verb.
 pub fn names_unless_verb(word: &[u8]) -> bool
     ensures { result ≡ names_unless_verb word.now }
 {
@@ -31,7 +31,7 @@ fn is_name(word: &[u8]) -> bool
     names_unless_verb(word) && verb(word).is_none()
 }
 
-/// The name that comes next, with any blanks before it, and what follows it.
+/// The next name, with any blanks before it, and what follows it.
 #[tactic(auto, unfolding(crate::specs::Tokens::name_at))]
 pub fn name(bytes: &[u8]) -> Option<(&[u8], &[u8])>
     ensures found { Scans (λ w. (w.0.now, w.1.now)) result (name_at bytes.now) }
@@ -44,7 +44,7 @@ pub fn name(bytes: &[u8]) -> Option<(&[u8], &[u8])>
     Some((name, rest))
 }
 
-/// The same, with a copy of the name.
+/// A copy of the next name, with any blanks before it, and what follows it.
 pub fn owned_name(alloc: Global, bytes: &[u8]) -> Option<(Name, &[u8])>
     ensures { Scans (λ r. (r.0, r.1.now)) result (name_at bytes.now) }
 {

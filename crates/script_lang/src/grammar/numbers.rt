@@ -23,7 +23,7 @@ fn value_of(digits: &[u8]) -> u128
     n
 }
 
-/// The number that comes at once, and what follows it.
+/// The number at the front, and what follows it.
 #[tactic(auto, unfolding(crate::specs::Tokens::number_at))]
 fn number(bytes: &[u8]) -> Option<(u128, &[u8])>
     ensures found { Scans (λ n. (n.0, n.1.now)) result (number_at bytes.now) }
@@ -39,7 +39,7 @@ fn number(bytes: &[u8]) -> Option<(u128, &[u8])>
     Some((value_of(digits), rest))
 }
 
-/// The integer without sign that comes next, with any blanks before it, and what follows it.
+/// The next integer without sign, with any blanks before it, and what follows it.
 #[tactic(auto, unfolding(crate::specs::Tokens::length_at))]
 pub fn length(bytes: &[u8]) -> Option<(u128, &[u8])>
     ensures { Scans (λ n. (n.0, n.1.now)) result (length_at bytes.now) }
@@ -47,7 +47,7 @@ pub fn length(bytes: &[u8]) -> Option<(u128, &[u8])>
     number(unspaced(bytes))
 }
 
-/// The integer that comes next, with any blanks before it, and what follows it.
+/// The next integer, with any blanks before it, and what follows it.
 #[tactic(auto, unfolding(crate::specs::Tokens::integer_at), using(crate::proofs::Spelling::signed_plain))]
 pub fn integer(bytes: &[u8]) -> Option<(i128, &[u8])>
     ensures { Scans (λ n. (n.0, n.1.now)) result (integer_at bytes.now) }
@@ -65,7 +65,7 @@ pub fn integer(bytes: &[u8]) -> Option<(i128, &[u8])>
     Some((n as i128, rest))
 }
 
-/// The integer that comes next, if any, and what follows it.
+/// The next integer, if any, and what follows it.
 #[tactic(auto, unfolding(crate::specs::Tokens::optional_integer_at))]
 pub fn optional_integer(bytes: &[u8]) -> (Option<i128>, &[u8])
     ensures { (result.0, result.1.now) ≡ optional_integer_at bytes.now }

@@ -1,4 +1,4 @@
-//! The commands that ask.
+//! The commands that ask for something and change nothing.
 ghost use Rattle.std.specs.Prelude.{◌≡◌};
 ghost use Rattle.script_lang.specs.Commands.{shares_at, asked_at, question_at};
 ghost use Rattle.script_lang.specs.Reading.{Scans};
@@ -9,7 +9,7 @@ use crate::name::Name;
 use crate::verb::AskVerb;
 use std::alloc::Global;
 
-/// `X Y`, behind `shares`.
+/// `X Y`, after `shares`.
 #[tactic(auto, unfolding(crate::specs::Commands::shares_at))]
 fn shares(alloc: Global, bytes: &[u8]) -> Option<(Question, &[u8])>
     ensures { Scans (λ r. (r.0, r.1.now)) result (shares_at bytes.now) }
@@ -23,7 +23,7 @@ fn shares(alloc: Global, bytes: &[u8]) -> Option<(Question, &[u8])>
     Some((shares, rest))
 }
 
-/// What the verb asks.
+/// What the verb asks for.
 #[tactic(auto, unfolding(crate::specs::Commands::question_at, crate::specs::Commands::asked_at))]
 pub fn question(alloc: Global, verb: AskVerb, bytes: &[u8]) -> Option<(Question, &[u8])>
     ensures { Scans (λ r. (r.0, r.1.now)) result (question_at verb bytes.now) }

@@ -7,7 +7,7 @@ use crate::grammar::classes::{Class, are_in, front_len, is_name_byte};
 use crate::grammar::tokens::{byte, symbol};
 use crate::text::MAX_FILE_NAME_LEN;
 
-/// The bytes between the two quotation marks that come next, and what follows them.
+/// The bytes between the next two quotation marks, and what follows them.
 #[tactic(auto, unfolding(crate::specs::Tokens::quoted_at))]
 pub fn quoted(bytes: &[u8]) -> Option<(&[u8], &[u8])>
     ensures { Scans (λ w. (w.0.now, w.1.now)) result (quoted_at bytes.now) }
@@ -33,7 +33,7 @@ fn is_file_name(bytes: &[u8]) -> bool
     starts_file_name(bytes) && bytes.len() <= MAX_FILE_NAME_LEN && are_in(Class::File, bytes)
 }
 
-/// The name of a file between the two quotation marks that come next, and what follows them.
+/// The name of a file between the next two quotation marks, and what follows them.
 #[tactic(auto, unfolding(crate::specs::Tokens::file_name_at))]
 pub fn file_name(bytes: &[u8]) -> Option<(&[u8], &[u8])>
     ensures found { Scans (λ w. (w.0.now, w.1.now)) result (file_name_at bytes.now) }

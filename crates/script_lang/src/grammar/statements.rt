@@ -1,4 +1,4 @@
-//! The commands that bind no name and ask nothing.
+//! The commands that neither bind a name nor ask for something.
 ghost use Rattle.std.specs.Prelude.{◌≡◌};
 ghost use Rattle.script_lang.specs.Commands.{set_at, update_at, delete_at, save_at};
 ghost use Rattle.script_lang.specs.Reading.{Scans, Reads, parts_take_memory};
@@ -14,7 +14,7 @@ use crate::text::FileName;
 use elem_descr::Refusal;
 use std::alloc::Global;
 
-/// `X[ix] = Z`, behind `set`.
+/// `X[ix] = Z`, after `set`.
 #[tactic(auto, unfolding(crate::specs::Commands::set_at), using(crate::proofs::Commands::set_index_room, crate::proofs::Commands::set_value_room))]
 pub fn set(alloc: Global, bytes: &[u8]) -> Result<(Command, &[u8]), Refusal>
     ensures { Reads (λ r. (r.0, r.1.now)) (λ r. parts_take_memory r.0) result (set_at bytes.now) }
@@ -33,7 +33,7 @@ pub fn set(alloc: Global, bytes: &[u8]) -> Result<(Command, &[u8]), Refusal>
     Ok((Command::Set { name, index, value }, rest))
 }
 
-/// `X[ix] OP Z`, behind `upd`.
+/// `X[ix] OP Z`, after `upd`.
 #[tactic(auto, unfolding(crate::specs::Commands::update_at), using(crate::proofs::Commands::update_index_room, crate::proofs::Commands::update_value_room))]
 pub fn update(alloc: Global, bytes: &[u8]) -> Result<(Command, &[u8]), Refusal>
     ensures { Reads (λ r. (r.0, r.1.now)) (λ r. parts_take_memory r.0) result (update_at bytes.now) }
@@ -59,7 +59,7 @@ pub fn update(alloc: Global, bytes: &[u8]) -> Result<(Command, &[u8]), Refusal>
     Ok((update, rest))
 }
 
-/// `X`, behind `del`.
+/// `X`, after `del`.
 #[tactic(auto, unfolding(crate::specs::Commands::delete_at))]
 pub fn delete(alloc: Global, bytes: &[u8]) -> Option<(Command, &[u8])>
     ensures { Scans (λ r. (r.0, r.1.now)) result (delete_at bytes.now) }
@@ -68,7 +68,7 @@ pub fn delete(alloc: Global, bytes: &[u8]) -> Option<(Command, &[u8])>
     Some((Command::Delete { name }, rest))
 }
 
-/// `X "f"`, behind `save`.
+/// `X "f"`, after `save`.
 #[tactic(auto, unfolding(crate::specs::Commands::save_at))]
 pub fn save(alloc: Global, bytes: &[u8]) -> Option<(Command, &[u8])>
     ensures { Scans (λ r. (r.0, r.1.now)) result (save_at bytes.now) }

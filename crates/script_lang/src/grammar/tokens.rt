@@ -19,14 +19,14 @@ pub fn front(class: Class, bytes: &[u8]) -> Option<(&[u8], &[u8])>
     Some(bytes.split_at(len))
 }
 
-/// The bytes behind the blanks at the front.
+/// The bytes after the blanks at the front.
 pub fn unspaced(bytes: &[u8]) -> &[u8]
     ensures { result.now ≡ unspaced bytes.now }
 {
     bytes.split_at(blanks_len(bytes)).1
 }
 
-/// The bytes behind this byte, which must come at once.
+/// The bytes after this byte, which must be at the front.
 pub fn byte(expected: u8, bytes: &[u8]) -> Option<&[u8]>
     ensures { Scans (λ rest. rest.now) result (byte_at expected bytes.now) }
 {
@@ -36,14 +36,14 @@ pub fn byte(expected: u8, bytes: &[u8]) -> Option<&[u8]>
     }
 }
 
-/// The same, with any blanks before the byte.
+/// The bytes after this byte, which must come next, with any blanks before it.
 pub fn symbol(expected: u8, bytes: &[u8]) -> Option<&[u8]>
     ensures { Scans (λ rest. rest.now) result (symbol_at expected bytes.now) }
 {
     byte(expected, unspaced(bytes))
 }
 
-/// The bytes behind `b'`, which must come at once.
+/// The bytes after `b'`, which must be at the front.
 #[tactic(auto, unfolding(crate::specs::Tokens::bytes_mark_at))]
 pub fn bytes_mark(bytes: &[u8]) -> Option<&[u8]>
     ensures { Scans (λ rest. rest.now) result (bytes_mark_at bytes.now) }
@@ -52,7 +52,7 @@ pub fn bytes_mark(bytes: &[u8]) -> Option<&[u8]>
     byte(b'\'', rest)
 }
 
-/// Whether neither a word nor a number follows at once.
+/// Whether the bytes begin with neither a word nor a number.
 #[tactic(auto, unfolding(crate::specs::Tokens::is_parted))]
 pub fn is_parted(bytes: &[u8]) -> bool
     ensures { result ≡ is_parted bytes.now }
@@ -91,7 +91,7 @@ pub fn keyword<'a>(keyword: &[u8], bytes: &'a [u8]) -> Option<&'a [u8]>
     Some(rest)
 }
 
-/// Whether this word comes next, and what follows it if so.
+/// Whether this word comes next, and if so, what follows it.
 #[tactic(auto, unfolding(crate::specs::Tokens::flag_at))]
 pub fn flag<'a>(word: &[u8], bytes: &'a [u8]) -> (bool, &'a [u8])
     ensures { (result.0, result.1.now) ≡ flag_at word.now bytes.now }
@@ -102,7 +102,7 @@ pub fn flag<'a>(word: &[u8], bytes: &'a [u8]) -> (bool, &'a [u8])
     }
 }
 
-/// The digits that come at once, and what follows them.
+/// The digits at the front, and what follows them.
 #[tactic(auto, using(crate::proofs::Spelling::passing_front))]
 pub fn digits(bytes: &[u8]) -> Option<(&[u8], &[u8])>
     ensures found { Scans (λ w. (w.0.now, w.1.now)) result (front_at is_digit bytes.now) }

@@ -1,4 +1,4 @@
-//! The words that the language knows.
+//! The keywords of the language.
 ghost use Rattle.std.specs.Prelude.{◌≡◌, map};
 ghost use Rattle.script_lang.specs.Verbs.{beside, verb_of, is_constant, operation_of, order_of};
 
@@ -6,7 +6,7 @@ use crate::operation::Operation;
 use crate::verb::{ComputeVerb, VERBS, Verb};
 use shape_strides::MemoryOrder;
 
-/// What stands beside the word in a table.
+/// The verb of the word in a table.
 #[tactic(auto, unfolding(crate::specs::Verbs::beside))]
 fn lookup(mut table: &[(&[u8], Verb)], word: &[u8]) -> Option<Verb>
     ensures { result ≡ beside (map (λ row. (row.0.now, row.1)) table.entry.now) word.now }
@@ -27,7 +27,7 @@ pub fn verb(word: &[u8]) -> Option<Verb>
     lookup(&VERBS, word)
 }
 
-/// Whether the word is one of literals and index lists.
+/// Whether the word is a keyword of literals or index lists.
 #[tactic(auto, unfolding(crate::specs::Verbs::is_constant))]
 pub fn is_constant(word: &[u8]) -> bool
     ensures { result ≡ is_constant word.now }
@@ -46,7 +46,7 @@ pub fn operation(word: &[u8]) -> Option<Operation>
     }
 }
 
-/// The order of items that the word of `copy` names.
+/// The order of items that the word after `copy` names.
 #[tactic(auto, unfolding(crate::specs::Verbs::order_of))]
 pub fn order(word: &[u8]) -> Option<MemoryOrder>
     ensures { result ≡ order_of word.now }

@@ -1,4 +1,4 @@
-//! The values that are the items of another array.
+//! What follows `X =` and shows the items of another array.
 ghost use Rattle.std.specs.Prelude.{◌≡◌};
 ghost use Rattle.script_lang.specs.Commands.{viewing_of, plain_view_at, field_name_at, transpose_at, reshape_at, broadcast_at, viewing_at, view_at};
 ghost use Rattle.script_lang.specs.Reading.{Reads, viewing_room, value_room};
@@ -45,7 +45,7 @@ pub fn plain_view<'a>(
     Ok((view, rest))
 }
 
-/// `"f"`, behind `field Y`.
+/// `"f"`, after `field Y`.
 #[tactic(auto, unfolding(crate::specs::Commands::field_name_at), using(crate::proofs::Commands::field_room))]
 fn field(alloc: Global, bytes: &[u8]) -> Result<(Viewing, &[u8]), Refusal>
     ensures { Reads (λ r. (r.0, r.1.now)) (λ r. viewing_room r.0) result (field_name_at bytes.now) }
@@ -55,7 +55,7 @@ fn field(alloc: Global, bytes: &[u8]) -> Result<(Viewing, &[u8]), Refusal>
     Ok((Viewing::Field(field), rest))
 }
 
-/// The axes or nothing, behind `transpose Y`.
+/// The axes or nothing, after `transpose Y`.
 #[tactic(auto, unfolding(crate::specs::Commands::transpose_at), using(crate::proofs::Commands::transpose_room))]
 fn transpose(alloc: Global, bytes: &[u8]) -> Result<(Viewing, &[u8]), Refusal>
     ensures { Reads (λ r. (r.0, r.1.now)) (λ r. viewing_room r.0) result (transpose_at bytes.now) }
@@ -67,7 +67,7 @@ fn transpose(alloc: Global, bytes: &[u8]) -> Result<(Viewing, &[u8]), Refusal>
     Ok((Viewing::Transposed(Some(axes)), rest))
 }
 
-/// `S` with signs, behind `reshape Y`.
+/// `S` with signs, after `reshape Y`.
 #[tactic(auto, unfolding(crate::specs::Commands::reshape_at), using(crate::proofs::Commands::reshape_room))]
 fn reshape(alloc: Global, bytes: &[u8]) -> Result<(Viewing, &[u8]), Refusal>
     ensures { Reads (λ r. (r.0, r.1.now)) (λ r. viewing_room r.0) result (reshape_at bytes.now) }
@@ -76,7 +76,7 @@ fn reshape(alloc: Global, bytes: &[u8]) -> Result<(Viewing, &[u8]), Refusal>
     Ok((Viewing::Reshaped(shape), rest))
 }
 
-/// `S`, behind `broadcast Y`.
+/// `S`, after `broadcast Y`.
 #[tactic(auto, unfolding(crate::specs::Commands::broadcast_at), using(crate::proofs::Commands::broadcast_room))]
 fn broadcast(alloc: Global, bytes: &[u8]) -> Result<(Viewing, &[u8]), Refusal>
     ensures { Reads (λ r. (r.0, r.1.now)) (λ r. viewing_room r.0) result (broadcast_at bytes.now) }
@@ -85,7 +85,7 @@ fn broadcast(alloc: Global, bytes: &[u8]) -> Result<(Viewing, &[u8]), Refusal>
     Ok((Viewing::Broadcast(shape), rest))
 }
 
-/// How the items are seen, behind the name.
+/// How the items are viewed, after the name.
 fn viewing(alloc: Global, verb: ViewVerb, bytes: &[u8]) -> Result<(Viewing, &[u8]), Refusal>
     ensures { Reads (λ r. (r.0, r.1.now)) (λ r. viewing_room r.0) result (viewing_at verb bytes.now) }
 {
@@ -97,7 +97,7 @@ fn viewing(alloc: Global, verb: ViewVerb, bytes: &[u8]) -> Result<(Viewing, &[u8
     }
 }
 
-/// A name, and how the items of its array are seen.
+/// A name, and how its array is viewed.
 #[tactic(auto, unfolding(crate::specs::Commands::view_at), using(crate::proofs::Commands::view_room))]
 pub fn view(alloc: Global, verb: ViewVerb, bytes: &[u8]) -> Result<(Value, &[u8]), Refusal>
     ensures { Reads (λ r. (r.0, r.1.now)) (λ r. value_room r.0) result (view_at verb bytes.now) }
