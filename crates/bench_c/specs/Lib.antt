@@ -1,0 +1,5 @@
+pub mod Appended
+pub mod Calls
+pub mod Held
+pub mod Lives
+pub mod Statuses

@@ -1,0 +1,32 @@
+//! Bytes that are handed to a caller.
+ghost use Rattle.std.specs.Prelude.{◌≡◌};
+ghost use Rattle.std.specs.Option.{option_map};
+ghost use Rattle.bench_c.specs.Lives.{Gives, GivesIfAny};
+
+use crate::status::Status;
+
+/// Copies bytes to where there is room for them, and tells how many there are.
+pub fn copy_out(bytes: &[u8], out: &mut [u8], len: &mut usize) -> Status
+    ensures { Gives bytes.now out.old out.new len.new result }
+{
+    *len = bytes.len();
+    if bytes.len() > out.len() {
+        return Status::NoRoom;
+    }
+    let (front, _) = out.split_at_mut(bytes.len());
+    front.copy_from_slice(bytes);
+    Status::Done
+}
+
+/// The same of bytes that may not be there.
+pub fn copy_if_any(bytes: Option<&[u8]>, out: &mut [u8], len: &mut usize) -> Status
+    ensures { GivesIfAny (option_map (λ b. b.now) bytes.entry) out.old out.new len.new result }
+{
+    match bytes {
+        Some(bytes) => copy_out(bytes, out, len),
+        None => {
+            *len = 0;
+            Status::NoFile
+        }
+    }
+}

@@ -1,0 +1,148 @@
+//! The bench for C: a bench with its files in memory, behind a handle, and a call for each line.
+//!
+//! `library/bench.c` calls these, and asks first what they take for granted: that no pointer is null, and that the
+//! handle is open. `library/bench.h` says what a user of the library has to know.
+#![tactic(auto)]
+
+ghost use Rattle.std.specs.Prelude.{◌≡◌, ◌≤◌, ◌++◌, IsSome, IfOk, None};
+ghost use Rattle.bench_c.specs.Lives.{IsNew};
+ghost use Rattle.bench_c.specs.Calls.{Opens, AnswersHeld, PutsHeld, GivesReply, GivesFile, GivesNextName};
+
+mod answering;
+mod copying;
+mod handle;
+mod live;
+mod parts;
+mod status;
+
+use handle::Handle;
+use live::Live;
+use status::Status;
+use std::alloc::{AllocError, Global};
+use std::mem;
+
+/// The most earlier states that a bench keeps.
+const MAX_DEPTH: usize = 64;
+
+/// A bench that keeps so many earlier states, on the heap.
+fn opened(alloc: Global, depth: usize) -> Result<Box<Live>, AllocError>
+    requires { depth ≤ 64 }
+    ensures { IfOk result (λ live. IsNew depth live.value) }
+{
+    Ok(Box::new(alloc, Live::new(alloc, depth)?)?)
+}
+
+/// Opens a bench that keeps so many earlier states, at most 64. What the handle held is forgotten.
+#[unsafe(no_mangle)]
+pub extern "C" fn bench_c_open(alloc: Global, depth: usize, handle: &mut Handle) -> u8
+    ensures { Opens depth handle.new.value result }
+{
+    *handle = Handle::closed(alloc);
+    if depth > MAX_DEPTH {
+        return Status::Invalid.code();
+    }
+    match opened(alloc, depth) {
+        Ok(live) => {
+            *handle = Handle::of(live);
+            Status::Done.code()
+        }
+        Err(_) => Status::NoMemory.code(),
+    }
+}
+
+/// Answers a line without its newline.
+#[unsafe(no_mangle)]
+pub extern "C" fn bench_c_answer(alloc: Global, handle: &mut Handle, line: &[u8]) -> u8
+    requires { IsSome handle.old.value }
+    ensures { AnswersHeld handle.old.value line.now handle.new.value result }
+{
+    let mut live = mem::replace(handle, Handle::closed(alloc)).into_box();
+    let status = live.answer(line);
+    *handle = Handle::of(live);
+    status.code()
+}
+
+/// Copies the reply to the last line where there is room for all of it, and tells its length.
+#[unsafe(no_mangle)]
+pub extern "C" fn bench_c_reply(
+    alloc: Global,
+    handle: &mut Handle,
+    out: &mut [u8],
+    len: &mut usize,
+) -> u8
+    requires { IsSome handle.old.value }
+    ensures given { GivesReply handle.old.value out.old out.new len.new result }
+    ensures kept { handle.new.value ≡ handle.old.value }
+{
+    let live = mem::replace(handle, Handle::closed(alloc)).into_box();
+    let status = live.copy_reply(out, len);
+    *handle = Handle::of(live);
+    status.code()
+}
+
+/// Puts a file where `load` finds it, over the one with this name if there is one. It has these bytes in front, and
+/// these items behind them.
+#[unsafe(no_mangle)]
+pub extern "C" fn bench_c_put(
+    alloc: Global,
+    handle: &mut Handle,
+    name: &[u8],
+    front: &[u8],
+    items: &[u8],
+) -> u8
+    requires { IsSome handle.old.value }
+    ensures { PutsHeld handle.old.value name.now (front.now ++ items.now) handle.new.value result }
+{
+    let mut live = mem::replace(handle, Handle::closed(alloc)).into_box();
+    let status = live.put(alloc, name, front, items);
+    *handle = Handle::of(live);
+    status.code()
+}
+
+/// Copies the bytes of a file where there is room for all of them, and tells how many it has.
+#[unsafe(no_mangle)]
+pub extern "C" fn bench_c_get(
+    alloc: Global,
+    handle: &mut Handle,
+    name: &[u8],
+    out: &mut [u8],
+    len: &mut usize,
+) -> u8
+    requires { IsSome handle.old.value }
+    ensures given { GivesFile handle.old.value name.now out.old out.new len.new result }
+    ensures kept { handle.new.value ≡ handle.old.value }
+{
+    let live = mem::replace(handle, Handle::closed(alloc)).into_box();
+    let status = live.copy_file(name, out, len);
+    *handle = Handle::of(live);
+    status.code()
+}
+
+/// Copies the first of the files' names that come after this one, in the order of their bytes, where there is
+/// room for it, and tells its length. The first of all comes after the empty one.
+#[unsafe(no_mangle)]
+pub extern "C" fn bench_c_file(
+    alloc: Global,
+    handle: &mut Handle,
+    after: &[u8],
+    out: &mut [u8],
+    len: &mut usize,
+) -> u8
+    requires { IsSome handle.old.value }
+    ensures given { GivesNextName handle.old.value after.now out.old out.new len.new result }
+    ensures kept { handle.new.value ≡ handle.old.value }
+{
+    let live = mem::replace(handle, Handle::closed(alloc)).into_box();
+    let status = live.copy_next_name(after, out, len);
+    *handle = Handle::of(live);
+    status.code()
+}
+
+/// Closes a bench: its names, arrays and files are dropped, and the handle holds none.
+#[unsafe(no_mangle)]
+pub extern "C" fn bench_c_close(alloc: Global, handle: &mut Handle)
+    requires { IsSome handle.old.value }
+    ensures { handle.new.value ≡ None }
+{
+    drop(mem::replace(handle, Handle::closed(alloc)).into_box());
+}

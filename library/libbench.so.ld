@@ -1,0 +1,1 @@
+INPUT(libbench.so.1)
