@@ -1,5 +1,4 @@
-pub mod Appended
+pub mod Benches
 pub mod Calls
 pub mod Held
-pub mod Lives
 pub mod Statuses

@@ -1,13 +1,13 @@
 //! Bytes that are handed to a caller.
 ghost use Rattle.std.specs.Prelude.{◌≡◌};
 ghost use Rattle.std.specs.Option.{option_map};
-ghost use Rattle.bench_c.specs.Lives.{Gives, GivesIfAny};
+ghost use Rattle.bench_c.specs.Benches.{CopiesOut, CopiesOutIfAny};
 
 use crate::status::Status;
 
-/// Copies bytes to where there is room for them, and tells how many there are.
+/// Copies bytes to where there is room for them, and sets their number.
 pub fn copy_out(bytes: &[u8], out: &mut [u8], len: &mut usize) -> Status
-    ensures { Gives bytes.now out.old out.new len.new result }
+    ensures { CopiesOut bytes.now out.old out.new len.new result }
 {
     *len = bytes.len();
     if bytes.len() > out.len() {
@@ -20,7 +20,7 @@ pub fn copy_out(bytes: &[u8], out: &mut [u8], len: &mut usize) -> Status
 
 /// The same of bytes that may not be there.
 pub fn copy_if_any(bytes: Option<&[u8]>, out: &mut [u8], len: &mut usize) -> Status
-    ensures { GivesIfAny (option_map (λ b. b.now) bytes.entry) out.old out.new len.new result }
+    ensures { CopiesOutIfAny (option_map (λ b. b.now) bytes.entry) out.old out.new len.new result }
 {
     match bytes {
         Some(bytes) => copy_out(bytes, out, len),

@@ -1,22 +1,22 @@
 //! The bench for C: a bench with its files in memory, behind a handle, and a call for each line.
 //!
-//! `library/bench.c` calls these, and asks first what they take for granted: that no pointer is null, and that the
-//! handle is open. `library/bench.h` says what a user of the library has to know.
+//! `library/bench.c` makes these calls, and first checks what they require: that no pointer is null, and that the
+//! handle is open. `library/bench.h` documents the library.
 #![tactic(auto)]
 
 ghost use Rattle.std.specs.Prelude.{◌≡◌, ◌≤◌, ◌++◌, IsSome, IfOk, None};
-ghost use Rattle.bench_c.specs.Lives.{IsNew};
-ghost use Rattle.bench_c.specs.Calls.{Opens, AnswersHeld, PutsHeld, GivesReply, GivesFile, GivesNextName};
+ghost use Rattle.bench_c.specs.Benches.{IsJustOpened};
+ghost use Rattle.bench_c.specs.Calls.{Opens, AnswersBehind, PutsBehind, GivesReply, GivesFile, GivesNextName};
 
-mod answering;
 mod copying;
 mod handle;
-mod live;
+mod open_bench;
 mod parts;
+mod reply_text;
 mod status;
 
 use handle::Handle;
-use live::Live;
+use open_bench::OpenBench;
 use status::Status;
 use std::alloc::{AllocError, Global};
 use std::mem;
@@ -25,14 +25,14 @@ use std::mem;
 const MAX_DEPTH: usize = 64;
 
 /// A bench that keeps so many earlier states, on the heap.
-fn opened(alloc: Global, depth: usize) -> Result<Box<Live>, AllocError>
+fn opened(alloc: Global, depth: usize) -> Result<Box<OpenBench>, AllocError>
     requires { depth ≤ 64 }
-    ensures { IfOk result (λ live. IsNew depth live.value) }
+    ensures { IfOk result (λ bench. IsJustOpened depth bench.value) }
 {
-    Ok(Box::new(alloc, Live::new(alloc, depth)?)?)
+    Ok(Box::new(alloc, OpenBench::new(alloc, depth)?)?)
 }
 
-/// Opens a bench that keeps so many earlier states, at most 64. What the handle held is forgotten.
+/// Opens a bench that keeps so many earlier states, at most 64. What the handle held is not closed.
 #[unsafe(no_mangle)]
 pub extern "C" fn bench_c_open(alloc: Global, depth: usize, handle: &mut Handle) -> u8
     ensures { Opens depth handle.new.value result }
@@ -42,27 +42,27 @@ pub extern "C" fn bench_c_open(alloc: Global, depth: usize, handle: &mut Handle)
         return Status::Invalid.code();
     }
     match opened(alloc, depth) {
-        Ok(live) => {
-            *handle = Handle::of(live);
+        Ok(bench) => {
+            *handle = Handle::of(bench);
             Status::Done.code()
         }
         Err(_) => Status::NoMemory.code(),
     }
 }
 
-/// Answers a line without its newline.
+/// Answers a line, given without its newline.
 #[unsafe(no_mangle)]
 pub extern "C" fn bench_c_answer(alloc: Global, handle: &mut Handle, line: &[u8]) -> u8
     requires { IsSome handle.old.value }
-    ensures { AnswersHeld handle.old.value line.now handle.new.value result }
+    ensures { AnswersBehind handle.old.value line.now handle.new.value result }
 {
-    let mut live = mem::replace(handle, Handle::closed(alloc)).into_box();
-    let status = live.answer(line);
-    *handle = Handle::of(live);
+    let mut bench = mem::replace(handle, Handle::closed(alloc)).into_box();
+    let status = bench.answer(line);
+    *handle = Handle::of(bench);
     status.code()
 }
 
-/// Copies the reply to the last line where there is room for all of it, and tells its length.
+/// Copies the reply to the last line where there is room for all of it, and sets its length.
 #[unsafe(no_mangle)]
 pub extern "C" fn bench_c_reply(
     alloc: Global,
@@ -74,9 +74,9 @@ pub extern "C" fn bench_c_reply(
     ensures given { GivesReply handle.old.value out.old out.new len.new result }
     ensures kept { handle.new.value ≡ handle.old.value }
 {
-    let live = mem::replace(handle, Handle::closed(alloc)).into_box();
-    let status = live.copy_reply(out, len);
-    *handle = Handle::of(live);
+    let bench = mem::replace(handle, Handle::closed(alloc)).into_box();
+    let status = bench.copy_reply(out, len);
+    *handle = Handle::of(bench);
     status.code()
 }
 
@@ -91,15 +91,15 @@ pub extern "C" fn bench_c_put(
     items: &[u8],
 ) -> u8
     requires { IsSome handle.old.value }
-    ensures { PutsHeld handle.old.value name.now (front.now ++ items.now) handle.new.value result }
+    ensures { PutsBehind handle.old.value name.now (front.now ++ items.now) handle.new.value result }
 {
-    let mut live = mem::replace(handle, Handle::closed(alloc)).into_box();
-    let status = live.put(alloc, name, front, items);
-    *handle = Handle::of(live);
+    let mut bench = mem::replace(handle, Handle::closed(alloc)).into_box();
+    let status = bench.put(alloc, name, front, items);
+    *handle = Handle::of(bench);
     status.code()
 }
 
-/// Copies the bytes of a file where there is room for all of them, and tells how many it has.
+/// Copies the bytes of a file where there is room for all of them, and sets their number.
 #[unsafe(no_mangle)]
 pub extern "C" fn bench_c_get(
     alloc: Global,
@@ -112,14 +112,14 @@ pub extern "C" fn bench_c_get(
     ensures given { GivesFile handle.old.value name.now out.old out.new len.new result }
     ensures kept { handle.new.value ≡ handle.old.value }
 {
-    let live = mem::replace(handle, Handle::closed(alloc)).into_box();
-    let status = live.copy_file(name, out, len);
-    *handle = Handle::of(live);
+    let bench = mem::replace(handle, Handle::closed(alloc)).into_box();
+    let status = bench.copy_file(name, out, len);
+    *handle = Handle::of(bench);
     status.code()
 }
 
 /// Copies the first of the files' names that come after this one, in the order of their bytes, where there is
-/// room for it, and tells its length. The first of all comes after the empty one.
+/// room for it, and sets its length. All names come after the empty one.
 #[unsafe(no_mangle)]
 pub extern "C" fn bench_c_file(
     alloc: Global,
@@ -132,9 +132,9 @@ pub extern "C" fn bench_c_file(
     ensures given { GivesNextName handle.old.value after.now out.old out.new len.new result }
     ensures kept { handle.new.value ≡ handle.old.value }
 {
-    let live = mem::replace(handle, Handle::closed(alloc)).into_box();
-    let status = live.copy_next_name(after, out, len);
-    *handle = Handle::of(live);
+    let bench = mem::replace(handle, Handle::closed(alloc)).into_box();
+    let status = bench.copy_next_name(after, out, len);
+    *handle = Handle::of(bench);
     status.code()
 }
 

@@ -1,0 +1,65 @@
+-- What a bench with its files in memory answers, and what is done with its files.
+use Rattle.std.specs.Prelude.{◌≡◌, ◌<◌, ◌≤◌, ◌^◌, ◌++◌, ℕ, Bool, List, [], length, drop, Option, Some, None, true, false}
+use Rattle.std.specs.FinMap.{insert}
+use Rattle.name_store.specs.States.{start}
+use Rattle.npy_files.specs.Stores.{StoreState, empty_shelf}
+use Rattle.npy_files.specs.contracts.mem_store.MemStoreNpyStore.TheImpl as mem_store
+use Rattle.bench_engine.specs.Meanings.{AnswersLine}
+use Rattle.bench_engine.specs.Replies.{Reply, Tells}
+use Rattle.bench_engine.specs.Worlds.{World, world}
+use Rattle.bench_c.specs.declared.open_bench.OpenBench.{OpenBench}
+use Rattle.bench_c.specs.declared.status.Status.{Status}
+use Rattle.bench_c.specs.declared.status.Status.TheVariants.{Done, Refused, Silent, NoMemory, TooLong, NoFile, NoRoom, Invalid}
+
+-- the names and the files of a bench
+abbrev pub world_of : OpenBench → World
+world_of bench = world bench.bench.state (mem_store.ghosts.shelf bench.files)
+
+-- No name is bound and no file is there, and so many earlier states are kept.
+pub record IsJustOpened (depth : ℕ) (bench : OpenBench) : Type 0 where
+  pub names : bench.bench.state ≡ start depth
+  pub files : mem_store.ghosts.shelf bench.files ≡ empty_shelf (2 ^ 29)
+  pub reply : bench.reply ≡ []
+
+-- whether a line was accepted, refused, or asks for nothing
+abbrev pub line_status : Option Bool → Status
+line_status None = Silent
+line_status (Some true) = Done
+line_status (Some false) = Refused
+
+-- The machine may answer the line so, and its reply is kept. For want of memory alone the machine may refuse it, with nothing changed.
+pub record AnswersAsMachine (old : OpenBench) (line : List ℕ) (new : OpenBench) (status : Status) : Type 0 where
+  pub accepted : Option Bool
+  pub says : status ≡ line_status accepted
+  pub replies : List Reply
+  pub reply : Tells replies accepted new.reply
+  pub step : AnswersLine (world_of old) line (world_of new) replies
+
+-- Bytes are copied to the front of where there is room for them, and else nothing is. Their number is set.
+pub record CopiesOut (bytes old new : List ℕ) (len : ℕ) (status : Status) : Type 0 where
+  pub number : len ≡ length bytes
+  pub whole : length bytes ≤ length old → (status ≡ Done) × (new ≡ bytes ++ drop (length bytes) old)
+  pub short : length old < length bytes → (status ≡ NoRoom) × (new ≡ old)
+
+-- the same of bytes that may not be there
+abbrev pub CopiesOutIfAny : Option (List ℕ) → List ℕ → List ℕ → ℕ → Status → Type 0
+CopiesOutIfAny (Some bytes) old new len status = CopiesOut bytes old new len status
+CopiesOutIfAny None old new len status = (status ≡ NoFile) × (new ≡ old) × (len ≡ 0)
+
+-- a store with one more file, or other bytes in one
+abbrev pub with_file : StoreState → List ℕ → List ℕ → StoreState
+with_file shelf name bytes = record shelf { files = insert shelf.files name bytes }
+
+-- what a store holds once a file was to be put there
+abbrev pub PutsInStore : StoreState → List ℕ → List ℕ → StoreState → Status → Type 0
+PutsInStore old name bytes new Done = (new ≡ with_file old name bytes) × (length bytes ≤ old.limit)
+PutsInStore old name bytes new TooLong = (new ≡ old) × (old.limit < length bytes)
+PutsInStore old name bytes new NoMemory = new ≡ old
+PutsInStore old name bytes new Invalid = (new ≡ old) × (name ≡ [])
+PutsInStore old name bytes new status = ⊥
+
+-- A file is put among the files, and nothing else changes.
+pub record PutsFile (old : OpenBench) (name bytes : List ℕ) (new : OpenBench) (status : Status) : Type 0 where
+  pub bench : new.bench ≡ old.bench
+  pub reply : new.reply ≡ old.reply
+  pub files : PutsInStore (world_of old).shelf name bytes (world_of new).shelf status
