@@ -1,7 +1,8 @@
 # make test           two minutes, without the toolchain: examples, rows of commands with their replies, launcher, companion, pictures
-# make                proves the crates and builds the program of them, with the toolchain: what changed, and what stands on it
-# make install        puts the program in its places below PREFIX, with its launcher, pages, completions and companion: what `make`
-#                     built here, else the one in dist/. It may be moved. DESTDIR is put before PREFIX while files are copied
+# make                proves the crates and builds the program and the library for C of them, with the toolchain: what changed, and what
+#                     stands on it
+# make install        puts the program in its places below PREFIX, with its launcher, pages, completions, companion and library for C:
+#                     what `make` built here, else those in dist/. It may be moved. DESTDIR is put before PREFIX while files are copied
 # make uninstall      takes them away again
 # make package        out/bench-VERSION-x86_64-linux.tar.gz, which runs where it is unpacked
 # make static         out/bench-x86_64-linux-static, of what `make` built, for systems without glibc 2.34; needs gcc and its libc.a
@@ -14,8 +15,9 @@ DESTDIR =
 to = $(DESTDIR)$(PREFIX)
 program = $(firstword $(wildcard crates/bench_main/out/bench_main dist/bench-x86_64-linux))
 package = bench-$(shell sed -n '/^## /{s/## \([0-9.]*\).*/\1/p;q;}' CHANGELOG.md)-x86_64-linux
-crates := $(shell sed -n 's/^\([a-z_]*\):.*/\1/p' crates.txt)
-uses = $(filter $(crates),$(shell sed -n 's/^$1://p' crates.txt))
+library = $(patsubst %/libbench.so.1,%,$(firstword $(wildcard out/library/libbench.so.1 dist/libbench.so.1)))
+crates := $(shell sed -n 's/^\([a-z_]*\):.*/\1/p; s/^\([a-z_]*\) staticlib:.*/\1/p' crates.txt)
+uses = $(filter $(crates),$(shell sed -n 's/^$1://p; s/^$1 staticlib://p' crates.txt))
 # (asked once, and only where something is built)
 kit = $(eval kit := $(shell rt version))$(kit)
 export BENCH_BEGAN = $(eval BENCH_BEGAN := $(shell date +%s))$(BENCH_BEGAN)
@@ -24,8 +26,11 @@ export BENCH_BEGAN = $(eval BENCH_BEGAN := $(shell date +%s))$(BENCH_BEGAN)
 MAKEFLAGS += -j$(shell awk -v cores="$$(nproc)" '/^MemAvailable:/ { n = int($$2 / 4000000) } END { print n < 1 ? 1 : n < cores ? n : cores }' /proc/meminfo)
 
 # (first what takes longest, with the crates below it)
-all: prove-script_lang prove-fancy_index prove-bench_main
+all: prove-script_lang prove-fancy_index prove-bench_main $(if $(filter bench_c,$(crates)),library)
 	@echo "bench: the program is what these sources give"
+
+library: prove-bench_c
+	@exec python3 tools/make/library.py
 
 define rule
 prove-$1: $(addprefix prove-,$(call uses,$1))
@@ -40,19 +45,21 @@ reads = man/bench.1:share/man/man1/bench.1 man/bench-tool.1:share/man/man1/bench
 	$(foreach tool,bench bench-tool,completions/$(tool).bash:share/bash-completion/completions/$(tool) completions/_$(tool):share/zsh/site-functions/_$(tool)) \
 	$(call below,editors/vim,share/vim/vimfiles) $(call below,editors,share/bench/editors) $(call below,examples,share/doc/bench/examples) \
 	$(call below,companion/bench_tool,lib/bench-tool/bench_tool) docs/LANGUAGE.md:lib/bench-tool/LANGUAGE.md \
-	$(foreach file,$(wildcard README.md CHANGELOG.md LICENSE* docs/*.md docs/pictures/*),$(file):share/doc/bench/$(file))
+	$(foreach file,$(wildcard README.md CHANGELOG.md LICENSE* docs/*.md docs/pictures/*),$(file):share/doc/bench/$(file)) \
+	$(if $(library),$(library)/libbench.so.1:lib/libbench.so.1 $(library)/libbench.a:lib/libbench.a library/bench.h:include/bench.h library/bench.pc:lib/pkgconfig/bench.pc)
 
 install:
 	@[ -n "$(program)" ] || { echo "bench: no program: \`make\` builds it" >&2; exit 3; }
 	@for pair in 755 $(runs) 644 $(reads); do \
 	    case $$pair in *:*) install -D -m $$mode "$${pair%%:*}" "$(to)/$${pair#*:}" || exit 1 ;; *) mode=$$pair ;; esac; \
 	done
+	@[ -z "$(library)" ] || ln -sf libbench.so.1 "$(to)/lib/libbench.so"
 	@echo "bench: installed below $(to)"
 
 uninstall:
 	@[ -n "$(program)" ] || { echo "bench: no program: \`make\` builds it" >&2; exit 3; }
 	@for pair in $(runs) $(reads); do rm -f "$(to)/$${pair#*:}"; done
-	@rm -rf "$(to)/libexec/bench" "$(to)/lib/bench-tool" "$(to)/share/bench" "$(to)/share/doc/bench"
+	@rm -rf "$(to)/lib/libbench.so" "$(to)/libexec/bench" "$(to)/lib/bench-tool" "$(to)/share/bench" "$(to)/share/doc/bench"
 
 package:
 	@rm -rf out/package && $(MAKE) -s install DESTDIR=out/package/ PREFIX=$(package) >/dev/null
@@ -80,4 +87,4 @@ test:
 check:
 	@tools/test.py --gate
 
-.PHONY: all install uninstall package static pictures words dist test check $(addprefix prove-,$(crates))
+.PHONY: all library install uninstall package static pictures words dist test check $(addprefix prove-,$(crates))

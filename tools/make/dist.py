@@ -1,14 +1,15 @@
 #!/usr/bin/env python3
-"""Writes dist/ anew, from what `make` built of these sources: the program without its symbols, and SUMS.
+"""Writes dist/ anew, from what `make` built of these sources: the program without its symbols, the library for C, and SUMS.
 
-    bench-x86_64-linux   the program
-    SUMS                 the toolchain; the sums of the sources, of the program as the toolchain builds it, and of what is here; what it needs
+    bench-x86_64-linux           the program
+    libbench.so.1, libbench.a    the library
+    SUMS                         the toolchain; the sums of the sources, of the program as the toolchain builds it, and of what is here; what it needs
 
 With --check nothing is written: what the gate has just built is compared with dist/. Where SUMS names another toolchain than is here, that is
-said, and only the sum of the sources is compared. The status is 1 where something differs, 3 where there is nothing to compare or to write."""
+said, and only the sums of the sources are compared; so it is of the library where `make` has not built it. The status is 1 where something
+differs, 3 where there is nothing to compare or to write."""
 import pathlib
 import re
-import shutil
 import subprocess
 import sys
 import tempfile
@@ -18,6 +19,7 @@ import sources  # noqa: E402
 
 DIST = sources.TOP / "dist"
 NAME = "bench-x86_64-linux"
+HAS_LIBRARY = "bench_c" in sources.uses()
 
 
 class NotMade(Exception):
@@ -26,40 +28,60 @@ class NotMade(Exception):
 
 def kit():
     """What the toolchain says of itself."""
-    if shutil.which("rt") is None:
+    if sources.kit_folder() is None:
         raise NotMade("this needs the command rt of the toolchain")
     return subprocess.run(["rt", "version"], capture_output=True, text=True, check=True).stdout.strip()
 
 
 def stripped(program):
     """The program without its symbols, by the toolchain's own LLVM, which does what its name says."""
-    clang = pathlib.Path(shutil.which("rt")).resolve().parents[1] / "toolchain/bin/clang"
     with tempfile.TemporaryDirectory() as folder:
         made = pathlib.Path(folder, NAME)
-        subprocess.run(["llvm-strip", "-o", made, program], executable=clang, check=True)
+        subprocess.run(["llvm-strip", "-o", made, program], executable=sources.kit_folder() / "toolchain/bin/clang", check=True)
         return made.read_bytes()
 
 
-def sums(kit_here):
-    """The text of SUMS for what is built here."""
+def needs(binary):
+    """What a binary needs to run."""
+    glibc = max(re.findall(rb"GLIBC_(\d+)\.(\d+)", binary), key=lambda found: tuple(map(int, found)))
+    return f"Linux, x86-64-v2, glibc {b'.'.join(glibc).decode()}"
+
+
+def program():
+    """The program that is built here, as a file of dist/, and its lines of SUMS."""
     bare = stripped(sources.PROGRAM)
-    glibc = max(re.findall(rb"GLIBC_(\d+)\.(\d+)", bare), key=lambda found: tuple(map(int, found)))
-    return bare, (f"toolchain: {kit_here}\nsources: {sources.sum_of()}\nprogram: {sources.digest(sources.PROGRAM)}\n"
-                  f"{NAME}: {sources.sum_of_bytes(bare)}\nneeds: Linux, x86-64-v2, glibc {b'.'.join(glibc).decode()}\n")
+    return {NAME: bare}, (f"sources: {sources.sum_of('bench_main')}\nprogram: {sources.digest(sources.PROGRAM)}\n"
+                          f"{NAME}: {sources.sum_of_bytes(bare)}\nneeds: {needs(bare)}\n")
+
+
+def library():
+    """The same of the library."""
+    files = {name: (sources.LINKED / name).read_bytes() for name in sources.LIBRARIES}
+    sums = "".join(f"{name}: {sources.sum_of_bytes(data)}\n" for name, data in files.items())
+    return files, f"library sources: {sources.library_sum()}\n{sums}library needs: {needs(files['libbench.so.1'])}\n"
+
+
+def is_proved(crate, here):
+    """Whether what `make` built of a crate is of these sources."""
+    proved, built = sources.TOP / "out/proved" / crate, sources.BUILT[crate]
+    return proved.is_file() and built.is_file() and proved.read_text().splitlines() == [here, sources.sum_of(crate), sources.digest(built)]
 
 
 def write():
     here = kit()
-    proved = sources.TOP / "out/proved/bench_main"
-    state = [here, sources.sum_of(), sources.digest(sources.PROGRAM) if sources.PROGRAM.is_file() else None]
-    if not proved.is_file() or proved.read_text().splitlines() != state:
+    if not is_proved("bench_main", here):
         raise NotMade("the program is not what `make` builds of these sources: run `make`")
-    bare, text = sums(here)
+    if HAS_LIBRARY and not (is_proved("bench_c", here) and sources.is_library_linked()):
+        raise NotMade("the library is not what `make` builds of these sources: run `make`")
+    text = f"toolchain: {here}\n"
     DIST.mkdir(exist_ok=True)
-    (DIST / NAME).write_bytes(bare)
-    (DIST / NAME).chmod(0o755)
+    for files, lines in [program(), *([library()] if HAS_LIBRARY else [])]:
+        text += lines
+        for name, data in files.items():
+            (DIST / name).write_bytes(data)
+            (DIST / name).chmod(0o644 if name.endswith(".a") else 0o755)
+            print(f"bench: dist/{name} is that of these sources: {len(data):,} bytes")
     (DIST / "SUMS").write_text(text)
-    print(f"bench: dist/ is that of these sources: {len(bare):,} bytes")
     return 0
 
 
@@ -67,17 +89,23 @@ def differences():
     """What differs in dist/ from what is here."""
     text = (DIST / "SUMS").read_text() if (DIST / "SUMS").is_file() else ""
     told = dict(re.findall(r"^([^:\n]+): (.*)$", text, re.M))
-    if told.get("sources") != sources.sum_of():
+    if told.get("sources") != sources.sum_of("bench_main") or HAS_LIBRARY and told.get("library sources") != sources.library_sum():
         yield "dist/SUMS is not of these sources: run `make`, then `make dist`"
-    if not (DIST / NAME).is_file() or told.get(NAME) != sources.digest(DIST / NAME):
-        yield f"dist/{NAME} has not the sum that dist/SUMS tells"
+    for name in (NAME, *(sources.LIBRARIES if HAS_LIBRARY else ())):
+        if not (DIST / name).is_file() or told.get(name) != sources.digest(DIST / name):
+            yield f"dist/{name} has not the sum that dist/SUMS tells"
     here = kit()
     if told.get("toolchain") != here:
         print(f"bench: dist/ was built by {told.get('toolchain')}, and {here} is here: the programs are not compared")
-    elif not sources.PROGRAM.is_file():
+        return
+    if not sources.PROGRAM.is_file():
         yield "there is no program to compare with dist/"
-    elif sums(here)[1] != text:
+    elif not text.startswith(f"toolchain: {here}\n{program()[1]}"):
         yield "dist/ is not what these sources and this toolchain give"
+    if HAS_LIBRARY and not (is_proved("bench_c", here) and sources.is_library_linked()):
+        print("bench: the library in dist/ is not compared, since `make` has not built it here")
+    elif HAS_LIBRARY and not text.endswith(library()[1]):
+        yield "the library in dist/ is not what these sources and this toolchain give"
 
 
 def check():

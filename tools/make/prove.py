@@ -39,7 +39,7 @@ def code(crate):
 class Crate:
     def __init__(self, name, kit):
         self.name, self.kit, self.folder, self.out = name, kit, BUILD / name, sources.TOP / "crates" / name / "out"
-        self.built = sources.PROGRAM if name == "bench_main" else self.out / "rlib"
+        self.built = sources.BUILT.get(name, self.out / "rlib")
 
     def state(self):
         """What out/proved/ has to say of the crate: toolchain, sources, and the program's own sum."""
@@ -58,7 +58,7 @@ class Crate:
                 old = sources.TOP / "crates" / member / part
                 if old.is_dir():
                     shutil.copytree(old, self.folder / "crates" / member / part, copy_function=link)
-        lines = [line for line in open(sources.TOP / "crates.txt") if line.partition(":")[0] in members]
+        lines = [line for line in open(sources.TOP / "crates.txt") if re.match(r"\w*", line)[0] in members]
         (self.folder / "crates.txt").write_text("".join(lines))
         if self.out.exists():
             self.out.rename(self.folder / "crates" / self.name / "out")

@@ -1,1 +1,0 @@
-INPUT(libbench.so.1)
