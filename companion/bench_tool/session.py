@@ -1,4 +1,4 @@
-"""A session of the program: one line at a time over pipes, each answered before the next is sent.
+"""A session with the program, over pipes. It sends one line at a time, and reads the reply before it sends the next.
 
     with Session() as bench:
         bench.send("a = arange <i4 0 5 1")
@@ -23,8 +23,8 @@ Line = Union[str, bytes]
 Named = Union[str, "os.PathLike[str]"]
 
 # A reply may have several lines or none. So each line is followed by two that are always refused and change nothing: the reply
-# ends where their refusals begin. These differ, so that a reply that is the refusal of either is told from both. The second needs
-# no memory; for the first there may be none.
+# ends where these two refusals begin. They differ, so a reply that equals one of them is not mistaken for the end. The second line
+# needs no memory to be refused; the first one may find none.
 MARKER = b"\n~\n\x7f\n"
 ENDS = tuple(first + b"\nno E02 byte not allowed\n" for first in (b"no E03 syntax", b"no E40 out of memory"))
 LONGEST = max(map(len, ENDS))
@@ -35,15 +35,15 @@ TOKEN = re.compile(r"b'(?:[^'\\]|\\.)*'|[()]|[-\w]+")
 
 
 class BenchError(Exception):
-    """What goes wrong with a session."""
+    """An error of a session."""
 
 
 class ProgramMissing(BenchError):
-    """There is no program to start."""
+    """The program was not found, or cannot be started."""
 
 
 class ProgramEnded(BenchError):
-    """The program is not there any more; `status` is what it ended with."""
+    """The program has ended. `status` is its exit status, or minus the number of the signal that killed it."""
 
     def __init__(self, program: str, status: int):
         how = f"was killed: {signal.strsignal(-status) or -status}" if status < 0 else f"has ended, with status {status}"
@@ -52,7 +52,7 @@ class ProgramEnded(BenchError):
 
 
 class Refused(BenchError):
-    """A line was refused that was to be accepted: the line, the code and the text of its reply."""
+    """A line was refused where it had to be accepted. It has the line, and the code and the text of the reply."""
 
     def __init__(self, line: str, reply: Reply):
         super().__init__(f"{reply.text}: {line}")
@@ -61,8 +61,8 @@ class Refused(BenchError):
 
 @dataclass(frozen=True)
 class Reply:
-    """The reply to a line: its text without the last newline, none to a blank line and a comment; if it is refused its code, and the
-    words behind that."""
+    """The reply to a line: its text, without a newline at the end. A blank line or a comment has an empty one. If the line was refused,
+    `code` and `meaning` are the two parts of the refusal, as in `no E06 unknown name`."""
 
     accepted: bool
     code: str
@@ -72,7 +72,7 @@ class Reply:
 
 @dataclass(frozen=True)
 class Array:
-    """An array as `info` and `print` tell it: strides and `at` in bytes; items in C order, a record as a tuple."""
+    """An array, as `info` and `print` show it: strides and `at` in bytes; items in C order, each record as a tuple."""
 
     name: str
     type: str
@@ -84,7 +84,7 @@ class Array:
     items: tuple[Any, ...]
 
     def tolist(self) -> Any:
-        """The items in lists, one within another as the axes are; of no axes the item itself."""
+        """The items as nested lists, one level for each axis. For an array without axes, the item itself."""
         made: list[Any] = list(self.items)
         for axis in reversed(range(len(self.shape))):
             length = self.shape[axis]
@@ -93,15 +93,20 @@ class Array:
 
 
 def items_of(text: str) -> tuple[Any, ...]:
-    """The items of a printed array, in C order: integers, bools, bytes, and tuples for records."""
+    """The items of a printed array in C order: integers, bools, bytes, and tuples for records."""
     if "'" not in text and "(" not in text and "e" not in text:
         return tuple(map(int, text.replace("[", " ").replace("]", " ").split()))
     found: tuple[Any, ...] = literal_eval(f"({''.join(token + ',' * (token != '(') for token in TOKEN.findall(text))})")
     return found
 
 
+def _integers(text: str) -> tuple[int, ...]:
+    """The integers of a printed tuple."""
+    return tuple(map(int, text.strip("()").replace(",", " ").split()))
+
+
 def literal(item: Any) -> str:
-    """An item as the program prints it; `?` where it is not known."""
+    """An item as the program prints it; `?` for one that is not known."""
     if isinstance(item, tuple):
         return f"({', '.join(map(literal, item))}{',' * (len(item) == 1)})"
     if isinstance(item, bytes):
@@ -110,20 +115,20 @@ def literal(item: Any) -> str:
 
 
 def find_program() -> str:
-    """What starts the program: BENCH, or the launcher of the repository, or the one that is installed."""
+    """The command that starts the program: BENCH if it is set, else the launcher of the repository or the installed one."""
     top = Path(__file__).resolve().parents[2]
     places = map(str, (top / "bench", top.parent / "bin/bench", "bench"))
     found = os.environ.get("BENCH") or next(filter(None, map(shutil.which, places)), None)
     if not found:
-        raise ProgramMissing("there is no program: BENCH names none, and none is installed or built")
+        raise ProgramMissing("there is no program: BENCH is not set, and none is installed or built")
     return found
 
 
 class Session(AbstractContextManager["Session"]):
-    """The program with its names and undos, from its start to `close`.
+    """One run of the program, from its start to `close`.
 
-    An exception in the middle of a reply kills the program, since the rest would be taken for the next reply. The program
-    gets no Ctrl-C of the terminal, and no signal where a file may not grow.
+    An exception in the middle of a reply kills the program, because the rest of the reply would be mistaken for the next one.
+    Ctrl-C in the terminal does not reach the program, nor does the signal that reports a file that may not grow.
     """
 
     def __init__(self, program: Optional[Named] = None, undo: int = 16, dir: Named = ".", wait: bool = True):
@@ -140,16 +145,16 @@ class Session(AbstractContextManager["Session"]):
             self.send("")
 
     def send(self, line: Line, take: Optional[Callable[[bytes], Any]] = None) -> Reply:
-        """The reply to one line. With `take` the reply is handed over in parts as they come, each line of it with its
-        newline, and the text of the reply is its begin alone."""
+        """The reply to one line. With `take`, the reply is passed to it in parts as they arrive, each line with its newline, and the
+        text that is returned is only the beginning."""
         sent = line.encode("utf-8", "surrogateescape") if isinstance(line, str) else bytes(line)
         if b"\n" in sent:
-            raise ValueError("one line at a time: a newline stands within it")
+            raise ValueError("send one line at a time: this one contains a newline")
         if self._status is not None:
             raise ProgramEnded(self.program, self._status)
         begin = bytearray()
         try:
-            with suppress(BrokenPipeError):  # what has ended is seen as its reply is read
+            with suppress(BrokenPipeError):  # reading the reply will show that the program has ended
                 self._to.write(sent + MARKER)
                 self._to.flush()
             for part in self._parts():
@@ -165,31 +170,31 @@ class Session(AbstractContextManager["Session"]):
         return Reply(refused is None, refused[1] if refused else "", refused[2] if refused else "", text)
 
     def run(self, lines: Union[str, Iterable[Line]]) -> list[Reply]:
-        """The replies to several lines, one for each."""
+        """The replies to several lines, one for each line."""
         return [self.send(line) for line in (lines.removesuffix("\n").split("\n") if isinstance(lines, str) else lines)]
 
     def ask(self, line: str) -> str:
-        """The reply to a line that is to be accepted; else `Refused`."""
+        """The text of the reply. `Refused` is raised if the line is refused."""
         reply = self.send(line)
         if not reply.accepted:
             raise Refused(line, reply)
         return reply.text
 
     def names(self) -> list[str]:
-        """The names that are bound, in their order."""
+        """The names that are bound, in the order in which they were first bound."""
         return self.ask("names").split()[1:]
 
     def array(self, name: str, items: bool = True) -> Array:
-        """The array of a name; without its items where these are not wanted. `Refused` where the name is not bound."""
+        """The array behind a name, with `items=False` without its items. `Refused` is raised if the name is not bound."""
         found = INFO.fullmatch(self.ask(f"info {name}"))
         if found is None:
-            raise BenchError(f"the reply to info {name} is not understood")
+            raise BenchError(f"cannot read the reply to info {name}")
         type_, shape, strides, at, order, write = found.groups()
         values = items_of(self.ask(f"print {name}")) if items else ()
-        return Array(name, type_, literal_eval(shape), literal_eval(strides), int(at), order, write == "yes", values)
+        return Array(name, type_, _integers(shape), _integers(strides), int(at), order, write == "yes", values)
 
     def fields(self, name: str) -> list[str]:
-        """The fields of a record's array, by its format text."""
+        """The names of the fields of an array of records."""
         depth, found = 0, []
         for field, brace in FIELD.findall(self.ask(f"format {name}")):
             depth += {"{": 1, "}": -1}.get(brace, 0)
@@ -198,11 +203,11 @@ class Session(AbstractContextManager["Session"]):
         return found
 
     def kill(self) -> None:
-        """Ends the program at once, also from another thread; who waits for its reply gets `ProgramEnded`."""
+        """Kills the program at once. Another thread may do it; a thread that waits for a reply then gets `ProgramEnded`."""
         self._process.kill()
 
     def close(self) -> int:
-        """Ends the program, and answers the status that it ended with. A second call does nothing more."""
+        """Ends the program and returns its exit status. A second call returns the same."""
         if self._status is None:
             with suppress(BrokenPipeError):
                 self._to.close()
@@ -216,7 +221,7 @@ class Session(AbstractContextManager["Session"]):
         self.close()
 
     def _parts(self) -> Iterator[bytes]:
-        """The reply as it comes, without what the marker is answered."""
+        """The reply as it arrives, without the two refusals at its end."""
         held = b""
         while not held.endswith(ENDS):
             part = self._from.read1(1 << 16)
