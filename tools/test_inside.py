@@ -1,14 +1,12 @@
-"""`Session` behind a pipe and in the process: the same replies, arrays and files. BENCH_TESTS=all tries 20,000 random scripts."""
+"""`Session` behind a pipe and in the process: the same replies, arrays and files. test_library.py does the same with random scripts."""
 import doctest
 import os
-import shutil
 import subprocess
 import sys
-import tempfile
 import unittest
 from pathlib import Path
 
-from trials.companion_trials import COMPANION, PROGRAM, TOP, needs_program, numpy_or_none, share
+from trials.companion_trials import COMPANION, PROGRAM, needs_program, numpy_or_none
 import bench_tool.bench
 from bench_tool import BenchError, Info, ProgramEnded, Refused, Session, library
 
@@ -16,11 +14,6 @@ numpy = numpy_or_none()
 LIBRARY = library.loaded()
 needs_library = unittest.skipUnless(LIBRARY, "there is no libbench here")
 needs_numpy = unittest.skipUnless(numpy, "left out: NumPy is not installed")
-try:
-    import hypothesis
-    from bench_tool.testing import scripts
-except ImportError:
-    hypothesis = None
 
 
 def arrays():
@@ -139,38 +132,6 @@ class Inside(Piped):
         failed, tried = doctest.testmod(bench_tool.bench)
         self.assertEqual(failed, 0)
         self.assertGreater(tried, 9)
-
-
-@needs_program
-@needs_library
-@unittest.skipUnless(hypothesis and shutil.which("cc"), "left out: Hypothesis or the C compiler is not installed")
-class Alike(unittest.TestCase):
-    """Random scripts are answered alike by pipe, in the process and from C, with the same files."""
-
-    def test_scripts(self):
-        folder = Path(tempfile.mkdtemp())
-        self.addCleanup(shutil.rmtree, folder)
-        judge = folder / "judge"
-        subprocess.run(["cc", "-O2", f"-I{TOP / 'library'}", TOP / "tools/trials/library_scripts.c", TOP / "dist/libbench.a", "-o", judge], check=True)
-        held = []
-
-        @hypothesis.settings(max_examples=share(300, 20_000), deadline=None, database=None, derandomize=True,
-                             suppress_health_check=list(hypothesis.HealthCheck), phases=[hypothesis.Phase.generate])
-        @hypothesis.given(scripts())
-        def collect(lines):
-            held.append(lines)
-
-        collect()
-        sent = "".join("".join(f"{line}\n" for line in lines) + "\0\n" for lines in held)
-        told = subprocess.run([judge], input=sent.encode(), stdout=subprocess.PIPE, check=True).stdout.split(b"\0\n")
-        for lines, from_c in zip(held, told):
-            with Session(PROGRAM, dir=tempfile.mkdtemp(dir=folder)) as piped, Session() as inside:
-                replies = piped.batch(lines)
-                self.assertEqual(inside.batch(lines), replies, lines)
-                self.assertEqual(dict(inside.files), dict(piped.files), lines)
-                text = "".join(f"{reply}\n" for reply in replies) + "".join(f"{name} {data.hex()}\n" for name, data in piped.files.items())
-                self.assertEqual(from_c.decode(), text, lines)
-        self.assertEqual(len(held) + 1, len(told))
 
 
 if __name__ == "__main__":

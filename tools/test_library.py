@@ -1,4 +1,5 @@
-"""The library for C: its calls from C, from Rust and from Python, with wrong arguments, without memory, and in two threads."""
+"""The library for C, from C, from Rust and from Python: invalid arguments, want of memory, two threads, and random scripts, which are answered
+as by the program. BENCH_TESTS=all tries 20,000 of these."""
 import ctypes
 import itertools
 import os
@@ -7,94 +8,140 @@ import shutil
 import subprocess
 import tempfile
 import unittest
+import unittest.mock
 
-from trials.companion_trials import PROGRAM, TOP
-from bench_tool import library
+from trials.companion_trials import InFolder, PROGRAM, TOP, needs_program, share
+from bench_tool import Session, library
 
-LIBRARY, ARCHIVE = TOP / "dist/libbench.so.1", TOP / "dist/libbench.a"
-EXAMPLES = sorted((TOP / "examples").glob("*.bench"))
+try:
+    import hypothesis
+    from bench_tool.testing import scripts
+except ImportError:
+    hypothesis = None
+
+PLACE = next((path for path in (TOP / "out/library", TOP / "dist") if (path / "libbench.so.1").is_file()), pathlib.Path("/nowhere"))
+SHARED, ARCHIVE = PLACE / "libbench.so.1", PLACE / "libbench.a"
+EXAMPLES = [path for path in sorted((TOP / "examples").glob("*.bench")) if "load" not in path.read_text()]
 FLAGS = ["-O1", "-g", "-std=c11", "-D_GNU_SOURCE", "-Wall", "-Wextra", "-Werror", f"-I{TOP / 'library'}"]
 WRAPPED = ["-Wl,--wrap=malloc", "-Wl,--wrap=realloc"]
-needs_library = unittest.skipUnless(LIBRARY.is_file() and ARCHIVE.is_file(), "left out: tools/library.sh has made no library")
-
-
-def needs(tool):
-    return unittest.skipUnless(shutil.which(tool), f"left out: {tool} is not there")
+SANITIZED = [*WRAPPED, "-fsanitize=address,undefined", "-fno-sanitize-recover=all"]
+needs_library = unittest.skipUnless(SHARED.is_file() and ARCHIVE.is_file(), "there is no libbench here")
+needs_c = unittest.skipUnless(shutil.which("cc"), "there is no C compiler")
 
 
 @needs_library
-class Programs(unittest.TestCase):
-    def setUp(self):
-        self.folder = pathlib.Path(self.enterContext(tempfile.TemporaryDirectory()) if hasattr(self, "enterContext") else tempfile.mkdtemp())
+class Programs(InFolder):
+    """Programs that are linked with the library."""
 
-    def made(self, name, source, *flags, compiler="cc"):
-        made = self.folder / name
-        subprocess.run([compiler, *FLAGS, *flags, TOP / source, ARCHIVE, "-o", made], check=True)
+    def compiled(self, source, *flags, skips=""):
+        """A program of a C source and the library. If the compiler lacks what the flags want, the test is skipped."""
+        made = self.folder / pathlib.Path(source).stem
+        if skips and subprocess.run(["cc", "-x", "c", "-", *flags[-2:], "-o", made], input=b"int main(void) { return 0; }", stderr=subprocess.DEVNULL).returncode:
+            self.skipTest(skips)
+        subprocess.run(["cc", *FLAGS, TOP / source, ARCHIVE, *flags, "-o", made], check=True)
         return made
 
-    def runs_scripts(self, made, **words):
-        """The program answers the examples as their .out files have it."""
+    def answers_the_examples(self, made, **words):
         for example in EXAMPLES:
-            if "load" not in example.read_text() and "save" not in example.read_text():
-                ran = subprocess.run([made], input=example.read_bytes(), stdout=subprocess.PIPE, check=False, **words)
-                self.assertEqual(ran.stdout, example.with_suffix(".out").read_bytes(), example.name)
+            ran = subprocess.run([made], input=example.read_bytes(), stdout=subprocess.PIPE, check=False, **words)
+            self.assertEqual(ran.stdout, example.with_suffix(".out").read_bytes(), example.name)
+            self.assertIn(ran.returncode, (0, 1))
 
-    @needs("cc")
-    def test_c(self):
-        self.runs_scripts(self.made("script", "examples/c/script.c"))
+    @needs_c
+    def test_example_in_c(self):
+        self.answers_the_examples(self.compiled("examples/c/script.c"))
 
-    @needs("cc")
-    def test_c_shared(self):
+    @needs_c
+    def test_example_in_c_with_the_shared_library(self):
         made = self.folder / "script"
-        subprocess.run(["cc", *FLAGS, TOP / "examples/c/script.c", LIBRARY, "-o", made], check=True)
-        self.runs_scripts(made, env={**os.environ, "LD_LIBRARY_PATH": str(LIBRARY.parent)})
+        subprocess.run(["cc", *FLAGS, TOP / "examples/c/script.c", SHARED, "-o", made], check=True)
+        self.answers_the_examples(made, env={**os.environ, "LD_LIBRARY_PATH": str(PLACE)})
 
-    @needs("rustc")
-    def test_rust(self):
+    @unittest.skipUnless(shutil.which("rustc"), "there is no Rust compiler")
+    def test_example_in_rust(self):
         made = self.folder / "script"
-        subprocess.run(["rustc", "-O", "--edition", "2021", TOP / "examples/rust/script.rs", "-L", ARCHIVE.parent, "-l", "static=bench", "-o", made], check=True)
-        self.runs_scripts(made)
+        ran = subprocess.run(["rustc", "-O", "--edition", "2021", TOP / "examples/rust/script.rs", "-L", PLACE, "-l", "static=bench", "-o", made], capture_output=True, text=True)
+        self.assertEqual((ran.returncode, ran.stderr), (0, ""))
+        self.answers_the_examples(made)
 
-    @needs("cc")
-    def test_calls_under_address_sanitizer(self):
-        made = self.made("calls", "tools/trials/library_calls.c", *WRAPPED, "-fsanitize=address,undefined", "-fno-sanitize-recover=all")
-        subprocess.run([made], check=True)
+    @needs_c
+    def test_calls(self):
+        subprocess.run([self.compiled("tools/trials/library_calls.c", *SANITIZED, skips="there is no AddressSanitizer")], check=True)
 
-    @needs("cc")
-    def test_want_of_memory_at_each_request(self):
-        """Each request for memory is refused in turn: the call tells it, and the bench goes on."""
-        made = self.made("calls", "tools/trials/library_calls.c", *WRAPPED, "-fsanitize=address,undefined", "-fno-sanitize-recover=all")
+    @needs_c
+    def test_want_of_memory(self):
+        """Each request for memory is refused in turn. One call reports it, and all other calls return what they return without it."""
+        made = self.compiled("tools/trials/library_calls.c", *SANITIZED, skips="there is no AddressSanitizer")
         for number in itertools.count(1):
-            ran = subprocess.run([made, str(number)], stdout=subprocess.PIPE, check=True, text=True)
-            if ran.stdout == "none refused\n":
+            if subprocess.run([made, str(number)], stdout=subprocess.PIPE, check=True, text=True).stdout == "none refused\n":
                 break
         self.assertGreater(number, 20)
 
-    @needs("cc")
-    @needs("valgrind")
+    @needs_c
+    @unittest.skipUnless(shutil.which("valgrind"), "there is no Valgrind")
     def test_calls_under_valgrind(self):
-        made = self.made("calls", "tools/trials/library_calls.c", *WRAPPED)
-        subprocess.run(["valgrind", "-q", "--error-exitcode=9", "--leak-check=full", made], check=True)
+        made = self.compiled("tools/trials/library_calls.c", *WRAPPED)
+        subprocess.run(["valgrind", "-q", "--error-exitcode=9", "--leak-check=full", "--show-leak-kinds=all", made], check=True)
 
-    @needs("cc")
-    def test_threads_under_thread_sanitizer(self):
-        made = self.made("threads", "tools/trials/library_threads.c", "-fsanitize=thread", "-pthread")
-        subprocess.run([made], check=True)
+    @needs_c
+    def test_two_threads(self):
+        subprocess.run([self.compiled("tools/trials/library_threads.c", "-fsanitize=thread", "-pthread", skips="there is no ThreadSanitizer")], check=True)
 
 
 @needs_library
 class Names(unittest.TestCase):
-    @needs("nm")
-    def test_seen(self):
-        """Only the calls of bench.h are seen from outside."""
+    @unittest.skipUnless(shutil.which("nm"), "there is no nm")
+    def test_only_the_calls_are_visible(self):
         calls = sorted(f"bench_{name}" for name in library.CALLS)
-        for words in (["nm", "-D", "--defined-only", LIBRARY], ["nm", "-g", "--defined-only", ARCHIVE]):
-            told = subprocess.run(words, stdout=subprocess.PIPE, check=True, text=True).stdout
-            self.assertEqual(sorted(line.split()[2] for line in told.splitlines() if len(line.split()) == 3), calls)
+        for words in (["nm", "-D", "--defined-only", SHARED], ["nm", "-g", "--defined-only", ARCHIVE]):
+            listed = subprocess.run(words, stdout=subprocess.PIPE, check=True, text=True).stdout
+            self.assertEqual(sorted(line.split()[2] for line in listed.splitlines() if len(line.split()) == 3), calls)
 
-    def test_loaded(self):
-        self.assertIsInstance(library.loaded(str(LIBRARY)), ctypes.CDLL)
-        self.assertIsNone(library.loaded("/nowhere/libbench.so"))
+    def test_places(self):
+        self.assertIsInstance(library.load(SHARED), ctypes.CDLL)
+        self.assertIsNone(library.load(pathlib.Path("/nowhere/libbench.so.1")))
+        self.assertIsNone(library.load(TOP / "README.md"))
+        self.assertIn(SHARED, library.PLACES)
+
+
+@needs_program
+@needs_library
+@needs_c
+@unittest.skipUnless(hypothesis, "Hypothesis is not installed")
+class Alike(InFolder):
+    """Random scripts get the same replies and leave the same files by pipe, in the process and from C."""
+
+    def setUp(self):
+        super().setUp()
+        words = unittest.mock.patch.dict(os.environ, BENCH_LIBRARY=str(SHARED))
+        words.start()
+        self.addCleanup(words.stop)
+
+    def scripts(self):
+        held = []
+
+        @hypothesis.settings(max_examples=share(300, 20_000), deadline=None, database=None, derandomize=True,
+                             suppress_health_check=list(hypothesis.HealthCheck), phases=[hypothesis.Phase.generate])
+        @hypothesis.given(scripts())
+        def collect(lines):
+            held.append(lines)
+
+        collect()
+        return held
+
+    def test_scripts(self):
+        judge = self.folder / "judge"
+        subprocess.run(["cc", *FLAGS, TOP / "tools/trials/library_scripts.c", ARCHIVE, "-o", judge], check=True)
+        held = self.scripts()
+        sent = "".join("".join(f"{line}\n" for line in lines) + "\0\n" for lines in held)
+        from_c = subprocess.run([judge], input=sent.encode(), stdout=subprocess.PIPE, check=True).stdout.decode().split("\0\n")
+        self.assertEqual(len(from_c), len(held) + 1)
+        for lines, text in zip(held, from_c):
+            with tempfile.TemporaryDirectory(dir=self.folder) as folder, Session(PROGRAM, dir=folder) as piped, Session() as inside:
+                self.assertIsNotNone(inside._inside)
+                replies, files = piped.batch(lines), dict(piped.files)
+                self.assertEqual((inside.batch(lines), dict(inside.files)), (replies, files), lines)
+                self.assertEqual(text, "".join(f"{reply}\n" for reply in replies) + "".join(f"{name} {data.hex()}\n" for name, data in files.items()), lines)
 
 
 if __name__ == "__main__":

@@ -1,4 +1,4 @@
-//! Runs a script, as the program does: script <examples/mirrored.bench
+//! Runs a script, as the program does: ./script <examples/mirrored.bench
 use std::io::{BufRead, Write};
 
 #[repr(C)]
@@ -6,7 +6,7 @@ struct Handle(*mut u8);
 
 extern "C" {
     fn bench_open(depth: usize, bench: *mut Handle) -> i32;
-    fn bench_answer(bench: *mut Handle, line: *const u8, length: usize) -> i32;
+    fn bench_answer(bench: *mut Handle, line: *const u8, line_length: usize) -> i32;
     fn bench_reply(bench: *mut Handle, out: *mut u8, room: usize, length: *mut usize) -> i32;
     fn bench_close(bench: *mut Handle) -> i32;
 }
