@@ -128,6 +128,7 @@ class Inside(Piped):
         told = subprocess.run([sys.executable, "-c", code], env=words, stdout=subprocess.PIPE, check=True, text=True).stdout.split()
         self.assertEqual((told[0], Path(told[1]).exists()), ("None", False))
 
+    @needs_numpy
     def test_examples(self):
         failed, tried = doctest.testmod(bench_tool.bench)
         self.assertEqual(failed, 0)

@@ -24,7 +24,7 @@ except ImportError:
 PLACE = next((path for path in (TOP / "out/library", TOP / "dist") if (path / "libbench.so.1").is_file()), pathlib.Path("/nowhere"))
 SHARED, ARCHIVE = PLACE / "libbench.so.1", PLACE / "libbench.a"
 EXAMPLES = [path for path in sorted((TOP / "examples").glob("*.bench")) if "load" not in path.read_text()]
-FLAGS = ["-O1", "-g", "-std=c11", "-D_GNU_SOURCE", "-Wall", "-Wextra", "-Werror", f"-I{TOP / 'library'}"]
+FLAGS = ["-O1", "-g", "-std=gnu11", "-Wall", "-Wextra", "-Werror", f"-I{TOP / 'library'}"]
 WRAPPED = ["-Wl,--wrap=malloc", "-Wl,--wrap=realloc"]
 SANITIZED = [*WRAPPED, "-fsanitize=address,undefined", "-fno-sanitize-recover=all"]
 needs_library = unittest.skipUnless(SHARED.is_file() and ARCHIVE.is_file(), "there is no libbench here")

@@ -253,6 +253,11 @@ class Session(session.Session):
         finally:
             self._clear()
 
+    def kill(self) -> None:
+        """Kills the program, also from another thread. In the process there is nothing to kill."""
+        if self._inside is None:
+            super().kill()
+
     def close(self) -> int:
         """Ends the session, and answers the status of the program, 0 in the process. A second call does nothing more."""
         if self._inside is None:

@@ -40,7 +40,7 @@ class Linker:
         calls = re.findall(r"^int (bench_\w+)\(", (sources.LIBRARY / "bench.h").read_text(), re.M)
         (self.folder / "calls").write_text("\n".join(calls) + "\n")
         (self.folder / "exports").write_text("{ global: " + " ".join(f"{call};" for call in calls) + " local: *; };\n")
-        proved = ["calls.o", "--whole-archive", sources.ARCHIVE, "--no-whole-archive", self.kit / "c/liblibc_c.a"]
+        proved = ["calls.o", "--whole-archive", sources.ARCHIVE, "--no-whole-archive", self.kit / "c/liblibc_c.a", self.kit / "toolchain/lib/libgcc.a"]
         self.run("ld.lld", *SHARED, "--version-script=exports", "-o", "libbench.so.1", *proved, self.kit / "toolchain/lib/libc.so.6")
         self.run("ld.lld", "-r", "-o", "bench.o", *proved)
         self.run("llvm-objcopy", "--keep-global-symbols=calls", "--strip-debug", "bench.o")

@@ -1,6 +1,5 @@
 /* Runs scripts, each of which ends with a line of one zero byte, and prints for each script the reply to each line, an empty one
  * too, then each file as its name and its bytes in hexadecimal, and then such a line. */
-#define _GNU_SOURCE
 #include <bench.h>
 #include <stdio.h>
 #include <stdlib.h>
