@@ -2,13 +2,12 @@
 from __future__ import annotations
 
 import io
+from functools import lru_cache
 from typing import Any
 
 import numpy as np
 
 npy: Any = np.lib.format  # its functions have no types
-# A header that is longer than this is read again, whole.
-FIRST = 1 << 16
 
 
 def laid_out(array: "np.ndarray[Any, Any]") -> "tuple[bytes, np.ndarray[Any, Any]]":
@@ -26,9 +25,18 @@ def laid_out(array: "np.ndarray[Any, Any]") -> "tuple[bytes, np.ndarray[Any, Any
     return head.getvalue(), items
 
 
+@lru_cache(maxsize=64)
+def _fields(header: bytes) -> "tuple[tuple[int, ...], bool, np.dtype[Any]]":
+    """The shape, whether the order is Fortran's, and the type that a header says."""
+    begin = io.BytesIO(header)
+    version = npy.read_magic(begin)
+    found: "tuple[tuple[int, ...], bool, np.dtype[Any]]" = (npy.read_array_header_1_0 if version == (1, 0) else npy.read_array_header_2_0)(begin)
+    return found
+
+
 def over(file: "np.ndarray[Any, Any]") -> "np.ndarray[Any, Any]":
     """The array of an NPY file, over the bytes of the file themselves."""
-    begin = io.BytesIO(file[:FIRST].tobytes())
-    version = npy.read_magic(begin)
-    shape, fortran, dtype = (npy.read_array_header_1_0 if version == (1, 0) else npy.read_array_header_2_0)(begin)
-    return np.ndarray(shape, dtype, file.data, begin.tell(), order="F" if fortran else "C")
+    behind = 10 if file[6] == 1 else 12  # the length of the text, in two bytes or four
+    start = behind + int.from_bytes(file[8:behind].tobytes(), "little")
+    shape, fortran, dtype = _fields(file[:start].tobytes())
+    return np.ndarray(shape, dtype, file.data, start, order="F" if fortran else "C")
