@@ -37,14 +37,6 @@ class Terminal:
                 os.write(self.terminal, keys[at:at + 512])
         threading.Thread(target=typing, daemon=True).start()
 
-    def interrupt(self):
-        """Presses Ctrl-C at the prompt, and again where nothing comes: Python loses one that comes just before it waits for a key."""
-        for _ in range(10):
-            self.type(CTRL_C)
-            if select.select([self.terminal], [], [], 6)[0]:
-                break
-        self.until(AT_PROMPT)
-
     def until(self, end, seconds=60, is_last=True):
         """What is shown until an end, or until it has been shown; without carriage returns and bells."""
         shown, last = b"", time.monotonic() + seconds
@@ -155,8 +147,11 @@ class Shells(InFolder):
         shell.line(b"a = zeros <i4 (2)")
         shell.type(b"a = zeros <i4 (3)")
         shell.until(b"(3)")
-        shell.interrupt()
+        shell.type(CTRL_C)
+        shell.until(AT_PROMPT)
         self.assertEqual(shell.line(b"print a"), "[0 0]\n")
+        shell.type(UP + UP + ENTER)  # and it is not among the earlier ones
+        self.assertIn("ok a <i4 (2,) new", shell.until(AT_PROMPT))
 
     def test_ctrl_c_in_a_long_print(self):
         shell = self.shell()
@@ -177,12 +172,16 @@ class Shells(InFolder):
         self.assertTrue(shell.line(command.replace(b" (", b" " * (65536 - len(command)) + b" (")).endswith("ok a |u1 (2,) new\n"))
         self.assertTrue(shell.line(b"#".ljust(65537, b"x")).endswith("no E01 line too long\n    the line has more than 65,536 bytes\n"))
 
-    @unittest.skipUnless(os.environ.get("BENCH_TESTS") == "all", "what hangs on moments is tried with BENCH_TESTS=all")
-    def test_ctrl_c_in_a_long_line(self):
-        """Its work is stopped, and the names are those of the lines before it."""
+    def long(self):
+        """A shell in which `print c` takes minutes."""
         shell = self.shell()
         for line in (b"c = full |S65536 (1) b'a'", b"c = broadcast c (16777216)", b"d = zeros <i4 (2)", b"set d[0] = 1", b"set d[0] = 2", b"undo"):
             shell.line(line)
+        return shell
+
+    def test_ctrl_c_in_a_long_line(self):
+        """Its work is stopped, and the names are those of the lines before it."""
+        shell = self.long()
         shell.type(b"print c" + ENTER)
         shell.until(b"print c\n")
         time.sleep(0.3)
@@ -191,8 +190,26 @@ class Shells(InFolder):
         self.assertEqual(shell.line(b"print d"), "[1 0]\n")
         self.assertEqual(shell.line(b"undo"), "ok undo\n    (took back: set d[0] = 1)\n")
 
-    @unittest.skipUnless(os.environ.get("BENCH_TESTS") == "all", "what hangs on moments is tried with BENCH_TESTS=all")
+    def test_names_are_given_up_only_when_asked(self):
+        shell = self.shell()
+        shell.line(b"a = arange <i8 0 16000000 1")
+        for _ in range(4):
+            shell.line(b"b = mod a a")
+        for answer, names in ((b"\x03", "names a b c\n"), (b"y", "names\n")):
+            shell.line(b"c = full |S65536 (1) b'a'")
+            shell.line(b"c = broadcast c (16777216)")
+            shell.type(b"print c" + ENTER)
+            shell.until(b"print c\n")
+            shell.type(CTRL_C)
+            shell.until(b"are run again)\n")
+            shell.type(CTRL_C)
+            shell.until(b"y or n? ")
+            shell.type(answer + ENTER * (answer == b"y"))
+            shell.until(AT_PROMPT)
+            self.assertEqual(shell.line(b"names"), names)
+
     def test_ctrl_c_many_times(self):
+        """However soon after one another they come, wherever they fall, the shell is there and has its names."""
         shell, rng = self.shell(), random.Random(1)
         shell.line(b"keep = zeros <i4 (1)")
         for _ in range(share(25, 500)):
@@ -203,6 +220,21 @@ class Shells(InFolder):
         time.sleep(0.5)
         shell.type(b"\x15print keep" + ENTER)
         self.assertIn("[0]", shell.until(b"[0]\n" + PROMPT.encode()))
+        shell.end()
+        self.assertEqual(shell.status, 0)
+
+    def test_a_drawing_is_stopped(self):
+        shell = self.shell()
+        shell.line(b"a = arange <i8 0 16000000 1")
+        for _ in range(12):
+            shell.line(b"b = mod a a")
+        shell.type(b".draw page.html" + ENTER)
+        shell.until(b".draw page.html\n")
+        time.sleep(0.3)
+        shell.type(CTRL_C)
+        self.assertNotIn("page.html", shell.until(AT_PROMPT))
+        self.assertEqual(shell.line(b"names"), "names a b\n")
+        self.assertFalse((self.folder / "page.html").exists())
 
     def test_pasted_lines(self):
         """Several lines at once, as a terminal pastes them, and a newline within a line: each is a line."""
@@ -234,6 +266,7 @@ class Shells(InFolder):
         (self.folder / "t.bench").write_text("print m\nprint a[0]\n")
         self.assertEqual(shell.line(b".read t.bench"), "[[0 1 2]\n [3 4 5]]\nno E03 syntax\n    t.bench:2: write: t = a[0]\n    t.bench:2: write: print t\n")
         self.assertIn("No such file", shell.line(b".read nowhere"))
+        self.assertIn("No space left", shell.line(b".save /dev/full"))
         self.assertIn("there is no .nothing", shell.line(b".nothing"))
         shell.line(b".time")
         self.assertRegex(shell.line(b"names"), r"^names a m\n    \d+\.\d{3} ms\n$")

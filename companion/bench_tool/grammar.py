@@ -13,7 +13,8 @@ RECORD = re.compile(r"[@=<>!^]*T\{")
 PIECE = re.compile(r'[XY]\[i[xy]\]|L\.\.|"f"|\(axes\)|\[\w+\]|=|\w+')
 LITERAL = "a literal, as 1, True or b'x'"
 VERB, COMMAND, END = "an array, or a word such as zeros, add or sum", "a command, or a name and `=`", "the end of the line"
-TYPE, OPERATION, ARRAY = "a type, as <i4", "an operation, as add", "the name of an array"
+TYPE, OPERATION, ARRAY, ORDER = "a type, as <i4", "an operation, as add", "the name of an array", "`C` or `F`"
+ARGUMENT = f"{ARRAY} or {LITERAL}"
 PIECES = (VERB, TYPE, OPERATION, ARRAY, "a shape, as (2,3)", "`=`", "`C` or `F`", END, "an axis", "keep", f"{ARRAY} or {LITERAL}")
 # The word of a form, a piece of it, and what that piece is there.
 SPECIAL = [("OP", "Y", "Y[?]"), ("UN", "Y", "Y[?]"), ("reshape", "S", "S-"), ("field", '"f"', '"field"')]
