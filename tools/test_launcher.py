@@ -10,6 +10,7 @@ import tempfile
 import time
 import unittest
 
+from test_shell import Terminal
 from trials.companion_trials import PROGRAM, TOP, needs_program
 
 BUILT = "crates/bench_main/out/bench_main"
@@ -124,6 +125,31 @@ class Launcher(InTree):
             os.symlink(PROGRAM, os.path.join(tree, b"dist/bench-x86_64-linux"))
             ran = subprocess.run([os.path.join(tree, b"bench")], input=b"names\n", capture_output=True)
             self.assertEqual((ran.returncode, ran.stdout, ran.stderr), (0, b"names\n", b""), name)
+
+    @needs_program
+    def test_without_arguments_at_a_terminal(self):
+        """It is the companion's shell there, unless Python 3.9 is not there or --plain is said; anywhere else it is the program."""
+        (self.tree / "dist/bench-x86_64-linux").unlink()
+        (self.tree / "dist/bench-x86_64-linux").symlink_to(PROGRAM)
+        for name in ("sh", "readlink", "env", "uname"):
+            self.copy(pathlib.Path(shutil.which(name)), self.folder / "few" / name)
+        self.put(self.folder / "old/python3", "#!/bin/sh\nexit 1\n")
+        few = f"{self.folder / 'old'}:{self.folder / 'few'}"
+        for words, path, is_shell in (([], self.env["PATH"], True), (["--plain"], self.env["PATH"], False), ([], few, False), (["--undo", "3"], None, False)):
+            with self.subTest(words, path=path):
+                self.assertEqual("Tab completes" in self.at_terminal(["./bench", *words], path), is_shell)
+        self.assertEqual(self.told(self.run_in(["./bench"])), [])
+        self.assertEqual(self.run_in(["./bench", "--plain", "nowhere"]).stderr, "bench: no script\n")
+
+    def at_terminal(self, words, path):
+        """What is shown at a terminal where `names` and Ctrl-D are typed."""
+        terminal = Terminal(self.tree, words, {"PATH": path or self.env["PATH"], "BENCH": ""})
+        self.addCleanup(terminal.close)
+        terminal.type(b"names\n")
+        shown = terminal.until(b"\nnames\n", is_last=False)
+        shown += terminal.end()
+        self.assertEqual(terminal.status, 0)
+        return shown
 
     def test_tunables_that_are_set_stay(self):
         self.assertEqual(self.told(self.run_in(["./bench"], GLIBC_TUNABLES="glibc.malloc.arena_max=1"))[1], "tunables: glibc.malloc.arena_max=1")

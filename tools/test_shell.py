@@ -6,28 +6,40 @@ import re
 import select
 import signal
 import subprocess
+import sys
 import threading
 import time
 import unittest
 import unittest.mock
 
-from trials.companion_trials import TOOL, TOP, InFolder, environment, needs_program, share
+from trials.companion_trials import PROGRAM, TOOL, TOP, InFolder, environment, needs_program, share
 from bench_tool.shell import PROMPT, history
 
 UP, TAB, CTRL_C, CTRL_D, ENTER = b"\x1b[A", b"\t", b"\x03", b"\x04", b"\r"
 AT_PROMPT = b"\n" + PROMPT.encode()
 
+SLOW = f"""#!{sys.executable}
+import subprocess, sys, time
+program = subprocess.Popen([{PROGRAM!r}, *sys.argv[1:]], stdin=subprocess.PIPE)
+for line in sys.stdin.buffer:
+    time.sleep(600 if line == b"print slow\\n" else 2 if line.startswith(b"slow") else 0)
+    program.stdin.write(line)
+    program.stdin.flush()
+program.stdin.close()
+sys.exit(program.wait())
+"""
+
 
 class Terminal:
-    """A shell in a terminal of its own."""
+    """A program in a terminal of its own."""
 
-    def __init__(self, folder, *words, more=None):
+    def __init__(self, folder, words, more=None):
         self.pid, self.terminal = pty.fork()
         if self.pid == 0:
             os.chdir(folder)
             signal.signal(signal.SIGINT, signal.SIG_DFL)  # a gate that runs behind a shell's & has it ignored
             settings = environment(**{"TERM": "xterm", "INPUTRC": "/dev/null", "NO_COLOR": "1", "BENCH_HISTORY": str(folder / "history"), **(more or {})})
-            os.execve(TOOL, [str(TOOL), "shell", *words], settings)
+            os.execvpe(words[0], words, settings)
         self.status = None
 
     def type(self, keys):
@@ -71,7 +83,7 @@ class Terminal:
 @needs_program
 class Shells(InFolder):
     def shell(self, *words, more=None):
-        terminal = Terminal(self.folder, *words, more=more)
+        terminal = Terminal(self.folder, [str(TOOL), "shell", *words], more)
         self.addCleanup(terminal.close)
         self.assertIn("help", terminal.until(AT_PROMPT))
         return terminal
@@ -172,41 +184,48 @@ class Shells(InFolder):
         self.assertTrue(shell.line(command.replace(b" (", b" " * (65536 - len(command)) + b" (")).endswith("ok a |u1 (2,) new\n"))
         self.assertTrue(shell.line(b"#".ljust(65537, b"x")).endswith("no E01 line too long\n    the line has more than 65,536 bytes\n"))
 
-    def long(self):
-        """A shell in which `print c` takes minutes."""
-        shell = self.shell()
-        for line in (b"c = full |S65536 (1) b'a'", b"c = broadcast c (16777216)", b"d = zeros <i4 (2)", b"set d[0] = 1", b"set d[0] = 2", b"undo"):
-            shell.line(line)
+    def slow(self):
+        """A shell of a program that is at work for two seconds on each line that begins with `slow`, and for ten minutes on `print slow`."""
+        program = self.folder / "program"
+        program.write_text(SLOW)
+        program.chmod(0o755)
+        shell = self.shell(more={"BENCH": str(program)})
+        for line in (b"d = zeros <i4 (2)", b"set d[0] = 1", b"slow = zeros <i4 (2)", b"set d[0] = 2", b"undo"):
+            self.assertIn("ok ", shell.line(line))
         return shell
+
+    def begun(self, shell, line):
+        """Types a line, and Ctrl-C a little later."""
+        shell.type(line + ENTER)
+        shell.until(line + b"\n")
+        time.sleep(0.3)
+        shell.type(CTRL_C)
 
     def test_ctrl_c_in_a_long_line(self):
         """Its work is stopped, and the names are those of the lines before it."""
-        shell = self.long()
-        shell.type(b"print c" + ENTER)
-        shell.until(b"print c\n")
-        time.sleep(0.3)
-        shell.type(CTRL_C)
+        shell = self.slow()
+        self.begun(shell, b"print slow")
         self.assertIn("the lines before it are run again", shell.until(AT_PROMPT))
         self.assertEqual(shell.line(b"print d"), "[1 0]\n")
-        self.assertEqual(shell.line(b"undo"), "ok undo\n    (took back: set d[0] = 1)\n")
+        self.assertEqual(shell.line(b"undo"), "ok undo\n    (took back: slow = zeros <i4 (2))\n")
 
     def test_names_are_given_up_only_when_asked(self):
-        shell = self.shell()
-        shell.line(b"a = arange <i8 0 16000000 1")
-        for _ in range(4):
-            shell.line(b"b = mod a a")
-        for answer, names in ((b"\x03", "names a b c\n"), (b"y", "names\n")):
-            shell.line(b"c = full |S65536 (1) b'a'")
-            shell.line(b"c = broadcast c (16777216)")
-            shell.type(b"print c" + ENTER)
-            shell.until(b"print c\n")
-            shell.type(CTRL_C)
+        shell = self.slow()
+        for answer, names in ((CTRL_C, "names d slow\n"), (b"y" + ENTER, "names\n")):
+            self.begun(shell, b"print slow")
             shell.until(b"are run again)\n")
             shell.type(CTRL_C)
             shell.until(b"y or n? ")
-            shell.type(answer + ENTER * (answer == b"y"))
+            shell.type(answer)
             shell.until(AT_PROMPT)
             self.assertEqual(shell.line(b"names"), names)
+
+    def test_a_drawing_is_stopped(self):
+        shell = self.slow()
+        self.begun(shell, b".draw page.html")
+        self.assertIn("the drawing is stopped", shell.until(AT_PROMPT))
+        self.assertEqual(shell.line(b"names"), "names d slow\n")
+        self.assertFalse((self.folder / "page.html").exists())
 
     def test_ctrl_c_many_times(self):
         """However soon after one another they come, wherever they fall, the shell is there and has its names."""
@@ -222,19 +241,6 @@ class Shells(InFolder):
         self.assertIn("[0]", shell.until(b"[0]\n" + PROMPT.encode()))
         shell.end()
         self.assertEqual(shell.status, 0)
-
-    def test_a_drawing_is_stopped(self):
-        shell = self.shell()
-        shell.line(b"a = arange <i8 0 16000000 1")
-        for _ in range(12):
-            shell.line(b"b = mod a a")
-        shell.type(b".draw page.html" + ENTER)
-        shell.until(b".draw page.html\n")
-        time.sleep(0.3)
-        shell.type(CTRL_C)
-        self.assertNotIn("page.html", shell.until(AT_PROMPT))
-        self.assertEqual(shell.line(b"names"), "names a b\n")
-        self.assertFalse((self.folder / "page.html").exists())
 
     def test_pasted_lines(self):
         """Several lines at once, as a terminal pastes them, and a newline within a line: each is a line."""
