@@ -9,8 +9,8 @@ import unittest
 
 from trials.companion_trials import PROGRAM, TOP, environment, needs_program, share
 import hostile_scripts as scripts
-from bench_tool import Session, hints, language
-from bench_tool.grammar import ARRAY, Reading
+from bench_tool import Session, grammar, hints, language
+from bench_tool.grammar import Reading
 from bench_tool.translate import translated
 
 PATIENT = 30  # seconds for a hint, where it is tried what it says and not how soon
@@ -22,6 +22,13 @@ i = array <i4 (2) 0 5
 j = array <i8 (3) 0 1 2
 w = broadcast a (2,6)"""
 LINES = TOP / "tools/rows/wrong_lines.txt"
+# Of each piece of a form what it may be, for an example.
+SAMPLES = {
+    "D": "<i4", "S": "(2,3)", "S-": "(2,-1)", '"field"': '"x"', "L": "1", "L..": "1 2 3 4 5 6", "a": "0", "b": "6", "s": "1", "Y[ix]": "a[0]", "Y[iy]": "a[0]",
+    "X[ix]": "a[0]", "Y[?]": "a", "Z": "1", '"f"': '"x"', "(axes)": "(0)", "[axis]": "", "[keep]": "", "OP": "add", "UN": "neg", "RED": "sum", "Y": "a",
+}
+# What is a piece of its own, so that with all that is behind it the line is a command.
+PIECES = (grammar.VERB, grammar.TYPE, grammar.OPERATION, grammar.ARRAY, grammar.ORDER, grammar.END, grammar.ARGUMENT, "a shape, as (2,3)", "`=`", "an axis", "keep")
 
 
 def rows():
@@ -167,8 +174,9 @@ class Places(unittest.TestCase):
             for typed, _ in rows():
                 reading = Reading(typed, bench.names())
                 if bench.send(typed).code == "E03":
-                    for what, text in reading.completions():
-                        count += 1
+                    for what in [what for what in reading.wanted if what in PIECES]:
+                        count, behind = count + 1, reading.wanted[what]
+                        text = " ".join([typed[:reading.far], *(SAMPLES.get(piece, piece) for piece in behind)]).replace(" [", "[")
                         self.assertNotIn(bench.send(text).code, ("E03", "E02"), (typed, what, text))
             self.assertGreater(count, 40)
 

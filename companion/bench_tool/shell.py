@@ -225,11 +225,11 @@ class Shell:
 
     def again(self) -> None:
         """A new program, in which the lines that were accepted so far are run again. Ctrl-C asks whether to give them up."""
-        print()
-        self.note("(the line is stopped, and its program: the lines before it are run again)")
         is_whole = False
         while not is_whole:
             with self.interrupts.during(lambda: self.session.kill()), suppress(ProgramEnded):
+                print()
+                self.note("(the line is stopped, and its program: the lines before it are run again)")
                 self.close()
                 self.begin()
                 for line in self.log:

@@ -1,30 +1,37 @@
 """Lines of NumPy, and lines that are nearly right, as lines of the language.
 
-A line is brought into the form of Python, and Python's own parser reads it. What it holds one in another is bound to free
-names first. Whether the lines that come of it are accepted is not known here.
+A line is brought into the form of Python, and Python's own parser reads it. A call becomes the command of that word: each piece of
+its form takes the argument that it can read. What an expression holds within is bound to free names first. Whether the lines that
+come of it are accepted is not known here.
 """
 import ast
 import re
 import warnings
-from math import prod
+from functools import lru_cache
+from string import Template
 from typing import Any, Callable, Mapping, NoReturn, Optional, Sequence
 
-from . import language
+from . import grammar, language
 from .session import Array, literal
 
 SIGNS: dict[type, str] = {
-    ast.Add: "add", ast.Sub: "sub", ast.Mult: "mul", ast.FloorDiv: "fdiv", ast.Mod: "mod", ast.BitAnd: "and", ast.BitOr: "or", ast.BitXor: "xor",
-    ast.LShift: "shl", ast.RShift: "shr", ast.Eq: "eq", ast.NotEq: "ne", ast.Lt: "lt", ast.LtE: "le", ast.Gt: "gt", ast.GtE: "ge",
-    ast.And: "and", ast.Or: "or",
+    ast.Add: "add", ast.Sub: "sub", ast.Mult: "mul", ast.FloorDiv: "fdiv", ast.Mod: "mod", ast.BitAnd: "and", ast.BitOr: "or",
+    ast.BitXor: "xor", ast.LShift: "shl", ast.RShift: "shr", ast.Eq: "eq", ast.NotEq: "ne", ast.Lt: "lt", ast.LtE: "le", ast.Gt: "gt",
+    ast.GtE: "ge", ast.And: "and", ast.Or: "or", ast.USub: "neg", ast.Invert: "not", ast.Not: "not",
 }
-TURNED = {"add": "add", "mul": "mul", "and": "and", "or": "or", "xor": "xor", "eq": "eq", "ne": "ne", "lt": "gt", "gt": "lt", "le": "ge", "ge": "le"}
+# What an operation is with its operands exchanged.
+TURNED = {verb: verb for verb in ("add", "mul", "and", "or", "xor", "eq", "ne")} | {"lt": "gt", "gt": "lt", "le": "ge", "ge": "le"}
 # NumPy's words for what has another one here.
-WORDS = {
-    "subtract": "sub", "multiply": "mul", "floor_divide": "fdiv", "remainder": "mod", "bitwise_and": "and", "bitwise_or": "or", "bitwise_xor": "xor",
-    "logical_and": "and", "logical_or": "or", "left_shift": "shl", "right_shift": "shr", "equal": "eq", "not_equal": "ne", "less": "lt",
-    "less_equal": "le", "greater": "gt", "greater_equal": "ge", "negative": "neg", "invert": "not", "bitwise_not": "not", "logical_not": "not",
-    "amin": "min", "amax": "max", "empty": "zeros", "zeroes": "zeros", "broadcast_to": "broadcast", "astype": "cast", "asarray": "array", "range": "arange",
-    "plus": "add", "minus": "sub", "times": "mul",
+WORDS = dict(pair.split(":") for pair in """
+    subtract:sub multiply:mul floor_divide:fdiv remainder:mod bitwise_and:and bitwise_or:or bitwise_xor:xor logical_and:and logical_or:or
+    left_shift:shl right_shift:shr equal:eq not_equal:ne less:lt less_equal:le greater:gt greater_equal:ge negative:neg invert:not
+    bitwise_not:not logical_not:not amin:min amax:max empty:zeros zeroes:zeros broadcast_to:broadcast astype:cast asarray:array
+    range:arange plus:add minus:sub times:mul shares_memory:shares may_share_memory:shares len:info type:info str:print repr:print
+    tolist:print flatten:ravel""".split())
+# What takes several lines: $x is the array that is made, $t a free name, $a, $b and $c are the arguments.
+SEVERAL = {
+    "where": "copy $b C; $t = not $a; set $x[$t] = $c",
+    "clip": "copy $a C; $t = lt $x $b; set $x[$t] = $b; $t = gt $x $c; set $x[$t] = $c",
 }
 NO_FLOATS = "there are no floats, only integers, bools, byte strings and records"
 KINDS = {"int": "<i8", "bool": "|b1", "bool_": "|b1", "byte": "|i1", "ubyte": "|u1", "uint": "<u8", "intp": "<i8"}
@@ -38,9 +45,22 @@ class Unknown(Exception):
     """There is no translation; what is to be said of it, where something is known."""
 
 
+@lru_cache(None)
+def pieces(word: str) -> list[str]:
+    """The pieces behind a word in its form, the longest where there are several; none where it is no word of a command."""
+    found = []
+    for form in grammar.forms():
+        names = [piece for piece, _ in form]
+        begin = 2 if names[1:2] == ["="] else 0
+        if word in language.operations().get(names[begin], names[begin:begin + 1]):
+            found.append(names[begin + 1:])
+    return max(found, key=len, default=[])
+
+
 def split(text: str) -> list[str]:
     """The words of a text, parted by blanks and commas that are not within brackets or quotes."""
-    return re.findall(r"""(?:[^\s,()\[\]"']|"[^"]*"?|'[^']*'?|\((?:[^()]|\([^()]*\))*\)?|\[(?:[^\[\]]|\[[^\[\]]*\])*\]?|[)\]])+""", text)
+    nested = r"\((?:[^()]|\([^()]*\))*\)?|\[(?:[^\[\]]|\[[^\[\]]*\])*\]?"
+    return re.findall(rf"""(?:[^\s,()\[\]"']|"[^"]*"?|'[^']*'?|{nested}|[)\]])+""", text)
 
 
 def member(kind: str) -> str:
@@ -52,16 +72,22 @@ def member(kind: str) -> str:
 
 
 def flat(node: Any) -> list[Any]:
-    return [inner for each in node for inner in flat(each)] if isinstance(node, list) else [node]
-
-
-def flat_nodes(node: ast.expr) -> list[ast.expr]:
-    return [inner for each in node.elts for inner in flat_nodes(each)] if isinstance(node, ast.List) else [node]
+    """The items of lists, or of a display of lists, within one another."""
+    inner = node.elts if isinstance(node, ast.List) else node
+    return [item for each in inner for item in flat(each)] if isinstance(inner, list) else [node]
 
 
 def shape_of(lists: Any) -> tuple[int, ...]:
     """The shape of lists within lists."""
     return (len(lists), *(shape_of(lists[0]) if lists else ())) if isinstance(lists, list) else ()
+
+
+def is_type(node: ast.expr) -> bool:
+    """Whether a node is a dtype: a string that is one, a name as np.int16, or a list of fields."""
+    if isinstance(node, ast.List):
+        return bool(node.elts) and all(isinstance(field, ast.Tuple) and isinstance(field.elts[0], ast.Constant) for field in node.elts)
+    word = node.attr if isinstance(node, ast.Attribute) else getattr(node, "id", getattr(node, "value", None))
+    return isinstance(word, str) and (word in KINDS or bool(STRING.match(word) or FLOATS.match(word)) or word.startswith("T{"))
 
 
 class Translation:
@@ -98,8 +124,7 @@ class Translation:
             found = ast.literal_eval(node)
         except (ValueError, TypeError, SyntaxError, MemoryError, RecursionError):
             return self.refuse()
-        values = flat(found) if isinstance(found, list) else [found]
-        if any(isinstance(value, (float, complex)) for value in values):
+        if any(isinstance(value, (float, complex)) for value in flat(found)):
             self.refuse(NO_FLOATS)
         return found
 
@@ -118,10 +143,10 @@ class Translation:
         text = self.value(node)
         return text if re.fullmatch(rf"{NAME}(\[.*\])?", text) else self.bound(text)
 
-    def type(self, node: Optional[ast.expr], default: str = "<i8") -> str:
+    def type(self, node: Optional[ast.expr]) -> str:
         """A dtype as a type."""
         if node is None:
-            return default
+            return "<i8"
         if isinstance(node, ast.List):
             fields = [self.constant(field) for field in node.elts]
             return "T{" + "".join(f"{member(self.type(ast.Constant(kind)))}:{name}:" for name, kind in fields) + "}"
@@ -133,16 +158,8 @@ class Translation:
             return mark + (found[2] + found[3] if found[2] else f"S{found[4]}" if found[4] else "b1")
         return KINDS.get(word) or (word if word.startswith("T{") else self.refuse())
 
-    def shape(self, nodes: Sequence[ast.expr]) -> str:
-        found = [self.constant(node) for node in nodes]
-        lengths = found[0] if len(found) == 1 and isinstance(found[0], (tuple, list)) else found
-        return f"({','.join(map(str, lengths))})"
-
-    def index(self, node: ast.expr) -> str:
-        entries = node.elts if isinstance(node, ast.Tuple) and node.elts else [node]
-        return ",".join(map(self.entry, entries))
-
     def entry(self, node: ast.expr) -> str:
+        """An entry of an index."""
         if isinstance(node, ast.Slice):
             parts = ["" if part is None else self.literal(part) for part in (node.lower, node.upper, node.step)]
             return ":".join(parts if parts[2] else parts[:2])
@@ -160,167 +177,162 @@ class Translation:
     def _name(self, node: ast.Name) -> str:
         return node.id
 
-    def _constant(self, node: ast.Constant) -> str:
+    def _constant(self, node: ast.expr) -> str:
         found = self.constant(node)
         kind = f"|S{max(1, len(found))}" if isinstance(found, (bytes, str)) else "|b1" if isinstance(found, bool) else "<i8"
         return f"full {kind} () {self.literal(node)}"
 
-    def _list(self, node: ast.expr, kind: str = "") -> str:
-        values = self.constant(node)
-        items = flat(values)
-        if not kind:
-            kinds = {bytes: f"|S{max((len(item) for item in items if isinstance(item, (bytes, str))), default=1)}", bool: "|b1", int: "<i8"}
-            kind = kinds.get(bytes if items and isinstance(items[0], str) else type(items[0]) if items else int) or self.refuse()
-        texts = [literal(item.encode("latin-1", "replace") if isinstance(item, str) else item) for item in items]
-        return " ".join([f"array {kind} ({','.join(map(str, shape_of(values)))})", *texts])
+    def _list(self, node: Any, kind: str = "") -> str:
+        values = self.constant(ast.List(node.elts, ast.Load()))
+        items = [item.encode("latin-1", "replace") if isinstance(item, str) else item for item in flat(values)]
+        kinds = {bytes: f"|S{max((len(item) for item in items if isinstance(item, bytes)), default=1)}", bool: "|b1", int: "<i8"}
+        kind = kind or kinds.get(type(items[0]) if items else int) or self.refuse()
+        return " ".join([f"array {kind} ({','.join(map(str, shape_of(values)))})", *map(literal, items)])
 
-    def _tuple(self, node: ast.Tuple) -> str:
-        return self._list(ast.List(node.elts, ast.Load()))
+    _tuple = _list
 
     def _subscript(self, node: ast.Subscript) -> str:
         if isinstance(node.slice, ast.Constant) and isinstance(node.slice.value, str):
             return f'field {self.name(node.value)} "{node.slice.value}"'
-        base = self.name(node.value)
-        return f"{base}[{self.index(node.slice)}]"
+        entries = node.slice.elts if isinstance(node.slice, ast.Tuple) and node.slice.elts else [node.slice]
+        return f"{self.name(node.value)}[{','.join(map(self.entry, entries))}]"
 
     def _attribute(self, node: ast.Attribute) -> str:
         base = self.name(node.value)
         if node.attr == "T":
             return f"transpose {base}"
-        if base in self.arrays and node.attr in self.fields(base):
-            return f'field {base} "{node.attr}"'
-        return self.refuse()
+        return f'field {base} "{node.attr}"' if base in self.arrays and node.attr in self.fields(base) else self.refuse()
 
     def _binop(self, node: Any) -> str:
         if isinstance(node.op, ast.Pow) and isinstance(node.right, ast.Constant) and node.right.value == 2:
-            return self._two("mul", node.left, node.left)
+            return self.two("mul", node.left, node.left)
         if isinstance(node.op, ast.Div):
             self.refuse("there are no floats: `//` is fdiv, which rounds down")
-        return self._two(SIGNS.get(type(node.op)) or self.refuse("there is no power and no `@`"), node.left, node.right)
+        return self.two(SIGNS.get(type(node.op)) or self.refuse("there is no power and no `@`"), node.left, node.right)
 
     def _compare(self, node: ast.Compare) -> str:
         if len(node.ops) > 1:
             self.refuse("one comparison at a time; `and` joins two")
-        return self._two(SIGNS.get(type(node.ops[0])) or self.refuse(), node.left, node.comparators[0])
+        return self.two(SIGNS.get(type(node.ops[0])) or self.refuse(), node.left, node.comparators[0])
 
     def _boolop(self, node: ast.BoolOp) -> str:
-        return self._two(SIGNS[type(node.op)], node.values[0], node.values[1]) if len(node.values) == 2 else self.refuse()
+        return self.two(SIGNS[type(node.op)], *node.values) if len(node.values) == 2 else self.refuse()
 
-    def _two(self, verb: str, left: ast.expr, right: ast.expr) -> str:
+    def _unaryop(self, node: ast.UnaryOp) -> str:
+        return self._constant(node) if self.is_constant(node) else f"{SIGNS.get(type(node.op)) or self.refuse()} {self.operand(node.operand)}"
+
+    def two(self, verb: str, left: ast.expr, right: ast.expr) -> str:
         """An operation, whose first operand is an array."""
         if not self.is_constant(left):
             return f"{verb} {self.operand(left)} {self.operand(right)}"
-        if verb in TURNED:
-            return f"{TURNED[verb]} {self.operand(right)} {self.literal(left)}"
         other = self.operand(right)
+        if verb in TURNED:
+            return f"{TURNED[verb]} {other} {self.literal(left)}"
         array = self.arrays.get(other.partition("[")[0])
-        kind = array.type if array else "<i8"
-        return f"{verb} {self.bound(f'full {kind} () {self.literal(left)}')} {other}"
-
-    def _unaryop(self, node: ast.UnaryOp) -> str:
-        if self.is_constant(node):
-            return f"full <i8 () {self.literal(node)}"
-        verb = {ast.USub: "neg", ast.Invert: "not", ast.Not: "not"}.get(type(node.op)) or self.refuse()
-        return f"{verb} {self.operand(node.operand)}"
+        made = self.bound(f"full {array.type if array else '<i8'} () {self.literal(left)}")
+        return f"{verb} {made} {other}"
 
     def _call(self, node: ast.Call) -> str:
-        """A function or a method."""
-        function, given = node.func, list(node.args)
-        named = {word.arg: word.value for word in node.keywords if word.arg}
-        if isinstance(function, ast.Attribute) and function.attr == "outer" and isinstance(function.value, ast.Attribute):
-            return f"{WORDS.get(function.value.attr, function.value.attr)} {self.bound(self.name(given[0]) + '[:,None]')} {self.operand(given[1])}"
-        if isinstance(function, ast.Attribute) and not (isinstance(function.value, ast.Name) and function.value.id in ("np", "numpy")):
-            given.insert(0, function.value)
-        word = function.attr if isinstance(function, ast.Attribute) else function.id if isinstance(function, ast.Name) else self.refuse()
+        """A function, or a method with its array as the first argument."""
+        raw, given = self.called(node)
+        named = {keyword.arg or "": keyword.value for keyword in node.keywords}
         try:
-            return self._made(WORDS.get(word, word), given, named) or self._viewed(WORDS.get(word, word), given, named)
-        except (IndexError, KeyError, TypeError):  # too few arguments, or too many
+            return self.command(raw, given, named)
+        except (IndexError, TypeError, ValueError):  # too few arguments, or others than a piece can read
             return self.refuse()
 
-    def _made(self, word: str, given: list[ast.expr], named: dict[str, ast.expr]) -> str:
-        """What is made anew, and operations."""
-        of, kind, operations = given[0] if given else named.get("shape"), named.get("dtype"), language.operations()
-        if word in operations["OP"] and len(given) == 2:
-            return self._two(word, *given)
-        if word in operations["UN"]:
-            return f"{word} {self.operand(given[0])}"
-        if word in operations["RED"]:
-            axis = named.get("axis") or (given[1] if len(given) > 1 else None)
-            keep = " keep" * ("keepdims" in named)
-            return f"{word} {self.name(given[0])}{'' if axis is None else ' ' + self.literal(axis)}{keep}"
-        if word in ("zeros", "ones", "full") and of is not None:
-            behind = given[2 if word == "full" else 1:]
-            type_ = self.type(kind or (behind[0] if behind else None))
-            value = {"zeros": "", "ones": " 1"}.get(word) or (" " + self.literal(given[1]) if word == "full" else "")
-            return f"{'zeros' if word == 'zeros' else 'full'} {type_} {self.shape([of])}{value}"
-        if word == "arange":
-            numbers = [self.literal(number) for number in given if not (isinstance(number, ast.Constant) and isinstance(number.value, str))]
-            strings = [number for number in given if isinstance(number, ast.Constant) and isinstance(number.value, str)]
-            first, *more = numbers if len(numbers) > 1 else ["0", *numbers]
-            return f"arange {self.type(kind or (strings[0] if strings else None))} {first} {' '.join(more if len(more) > 1 else [*more, '1'])}"
-        if word == "made":  # `array D S L..`
-            values = flat_nodes(given[2])
-            return " ".join([f"array {self.type(given[0])} {self.shape([given[1]])}", *map(self.literal, values)])
-        if word == "array":
-            kind = kind or (given[1] if len(given) > 1 else None)
-            return self._list(given[0], self.type(kind) if kind else "") if isinstance(given[0], (ast.List, ast.Tuple)) else f"copy {self.name(given[0])} C"
-        return ""
+    def called(self, node: ast.Call) -> tuple[str, list[ast.expr]]:
+        function, given = node.func, list(node.args)
+        if isinstance(function, ast.Name):
+            return function.id, given
+        if not isinstance(function, ast.Attribute):
+            return self.refuse()
+        if function.attr == "outer" and isinstance(function.value, ast.Attribute):
+            first = ast.Name(self.bound(f"{self.name(given[0])}[:,None]"), ast.Load())
+            return function.value.attr, [first, *given[1:]]
+        is_numpy = isinstance(function.value, ast.Name) and function.value.id in ("np", "numpy")
+        return function.attr, given if is_numpy else [function.value, *given]
 
-    def _viewed(self, word: str, given: list[ast.expr], named: dict[str, ast.expr]) -> str:
-        """What looks at the items of another array, and what takes several lines."""
-        base, more = given[0], given[1:]
-        if word == "transpose":
-            return f"transpose {self.name(base)}" + (" " + self.shape(more) if more else "")
-        if word in ("reshape", "broadcast"):
-            return f"{word} {self.name(base)} {self.shape(more)}"
-        if word in ("ravel", "flatten"):
-            return f"reshape {self.name(base)} (-1)"
-        if word == "copy":
-            order = self.constant(named["order"]) if "order" in named else more[0].id if more and isinstance(more[0], ast.Name) else "C"
-            return f"copy {self.name(base)} {'F' if order == 'F' else 'C'}"
-        if word == "cast":
-            return f"cast {self.name(base)} {self.type(more[0])}"
-        if word == "field":
-            return f'field {self.name(base)} "{more[0].id if isinstance(more[0], ast.Name) else self.constant(more[0])}"'
-        if word == "load":
-            return f'load "{self.constant(base)}"'
-        if word == "view" and not more:
-            return self.name(base)
-        if word == "view":
+    def command(self, raw: str, given: list[ast.expr], named: dict[str, ast.expr]) -> str:
+        """What stands behind `X =` for a function with these arguments."""
+        word = WORDS.get(raw, raw)
+        if word == "view" and len(given) > 1:
             self.refuse("there is no view under another type; `cast` makes an array with the same values")
-        several: Callable[..., str] = getattr(self, f"several_{word}", lambda *_: self.refuse(f"there is no `{word}`"))
-        return several(*given)
+        if word in SEVERAL or word == "concatenate":
+            return self.several(word, given)
+        if word == "ravel":
+            return f"reshape {self.name(given[0])} (-1)"
+        if word in language.operations()["OP"] and len(given) == 2:
+            return self.two(word, *given)
+        if word == "ones":
+            word, given = "full", [*given, ast.Constant(1)]
+        if word == "array" and isinstance(given[0], (ast.List, ast.Tuple)) and len(given) + len(named) <= 2 and not is_type(given[0]):
+            kind = named.get("dtype") or (given[1] if len(given) > 1 else None)
+            return self._list(given[0], self.type(kind) if kind else "")
+        if word not in language.verbs(True):
+            self.refuse(f"there is no `{raw}`" if given else "")
+        if word == "array" and not any(isinstance(node, (ast.Tuple, ast.List)) for node in given):
+            given.insert(0, ast.List([ast.Constant(sum(not is_type(node) for node in given))], ast.Load()))
+        made = " ".join(filter(None, [word, *(self.piece(piece, given, named) for piece in pieces(word))]))
+        return made if not given and not named else self.refuse()
 
-    def several_where(self, mask: ast.expr, yes: ast.expr, no: ast.expr) -> str:
-        known = self.name(mask)
-        made = self.made(f"copy {self.name(yes)} C")
-        turned = self.bound(f"not {known}")
-        value = self.operand(no)
-        self.lines.append(f"set {made}[{turned}] = {value if self.is_constant(no) else f'{value}[{turned}]'}")
-        return made
+    def piece(self, piece: str, given: list[ast.expr], named: dict[str, ast.expr]) -> str:
+        """The text of a piece of a form, with the arguments that it takes away."""
+        def numbers() -> list[ast.expr]:
+            found = [node for node in given if self.is_constant(node) and not isinstance(node, ast.Tuple)]
+            given[:] = [node for node in given if node not in found]
+            return found
 
-    def several_clip(self, base: ast.expr, low: ast.expr, high: ast.expr) -> str:
-        made, mask = self.made(f"copy {self.name(base)} C"), self.free()
-        for verb, limit in (("lt", self.literal(low)), ("gt", self.literal(high))):
-            self.lines += [f"{mask} = {verb} {made} {limit}", f"set {made}[{mask}] = {limit}"]
-        return made
+        if piece == "D":
+            of = named.pop("dtype", None) or next(filter(is_type, given), None)
+            given[:] = [node for node in given if node is not of]
+            return self.type(of)
+        if piece in ("S", "S-", "(axes)"):
+            of = named.pop("shape", None) or next((node for node in given if isinstance(node, (ast.Tuple, ast.List))), None)
+            given[:] = [node for node in given if node is not of]
+            return self.shape([of] if of else numbers() if piece != "S" else [given.pop(0)], piece == "(axes)")
+        if piece == "L..":
+            values = [value for node in given for value in flat(node)]
+            given.clear()
+            return " ".join(map(self.literal, values))
+        if piece in "abs":
+            found = list(map(self.literal, numbers())) if piece == "a" else []
+            return " ".join([*["0"][len(found) - 1:], *found, *["1"][len(found) - 2 if len(found) > 1 else 0:]]) if found else ""
+        if piece in ("[axis]", "[keep]"):
+            of = named.pop("axis" if piece == "[axis]" else "keepdims", None) or (given.pop(0) if piece == "[axis]" and given else None)
+            return "" if of is None else "keep" if piece == "[keep]" else self.literal(of)
+        if piece in "CF":
+            of = named.pop("order", None) or (given.pop(0) if given else None)
+            return "F" if getattr(of, "id", getattr(of, "value", "")) == "F" else "C"
+        of = given.pop(0)
+        if piece in ('"f"', '"field"'):
+            return f'"{of.id if isinstance(of, ast.Name) else self.constant(of)}"'
+        return self.literal(of) if piece == "L" else self.operand(of) if piece == "Y[?]" else self.name(of)
 
-    def several_concatenate(self, *given: ast.expr) -> str:
-        parts = [self.name(part) for node in given for part in (node.elts if isinstance(node, (ast.List, ast.Tuple)) else [node])]
-        arrays = [self.arrays.get(part) or self.refuse() for part in parts]
-        if any(len(array.shape) != 1 for array in arrays):
-            self.refuse("there is no `concatenate`: make an array with `zeros`, and set its parts")
-        ends = [sum(array.shape[0] for array in arrays[:k]) for k in range(len(arrays) + 1)]
-        made = self.made(f"zeros {arrays[0].type} ({ends[-1]})")
-        for part, begin, end in zip(parts, ends, ends[1:]):
-            self.lines.append(f"set {made}[{begin or ''}:{end if end < ends[-1] else ''}] = {part}")
-        return made
+    def shape(self, nodes: Sequence[ast.expr], may_lack: bool) -> str:
+        found = [self.constant(node) for node in nodes]
+        lengths = found[0] if len(found) == 1 and isinstance(found[0], (tuple, list)) else found
+        return f"({','.join(map(str, lengths))})" if lengths or nodes or not may_lack else ""
 
-    def made(self, text: str) -> str:
-        """An array that is made in several lines, at once under the name that it is for, if this is not read."""
-        name = self.goal or self.free()
-        self.lines.append(f"{name} = {text}")
-        return name
+    def several(self, word: str, given: list[ast.expr]) -> str:
+        """What takes several lines: at once under the name that it is for, if this is not read."""
+        if word == "concatenate":
+            parts = [self.name(part) for node in given for part in getattr(node, "elts", [node])]
+            arrays = [self.arrays.get(part) or self.refuse() for part in parts]
+            if any(len(array.shape) != 1 for array in arrays):
+                self.refuse("there is no `concatenate`: make an array with `zeros`, and set its parts")
+            ends = [sum(array.shape[0] for array in arrays[:k]) for k in range(len(arrays) + 1)]
+            sets = [f"set $x[{begin or ''}:{end if end < ends[-1] else ''}] = {part}" for part, begin, end in zip(parts, ends, ends[1:])]
+            texts = [f"zeros {arrays[0].type} ({ends[-1]})", *sets]
+            values = {}
+        else:
+            texts, values = SEVERAL[word].split("; "), dict(zip("abc", map(self.operand, given)))
+        values.update(x=self.goal or self.free(), t=self.free())
+        if word == "where" and not self.is_constant(given[2]):
+            values["c"] += f"[{values['t']}]"
+        made = [Template(text).substitute(values) for text in texts]
+        self.lines += [f"{values['x']} = {made[0]}", *made[1:]]
+        return values["x"]
 
     def assign(self, target: ast.expr, value: ast.expr, is_set: bool = False) -> None:
         if isinstance(target, ast.Name) and not is_set:
@@ -337,9 +349,8 @@ class Translation:
 
     def target(self, node: ast.expr) -> str:
         """What is written to: a name and an index."""
-        if isinstance(node, ast.Subscript) and not (isinstance(node.slice, ast.Constant) and isinstance(node.slice.value, str)):
-            return f"{self.name(node.value)}[{self.index(node.slice)}]"
-        return f"{self.name(node)}[...]"
+        text = self.value(node)
+        return text if text.endswith("]") else f"{self.bound(text)}[...]"
 
     def statement(self, node: ast.stmt, is_set: bool) -> None:
         if isinstance(node, ast.Assign) and len(node.targets) == 1:
@@ -357,31 +368,29 @@ class Translation:
         elif isinstance(node, (ast.Import, ast.ImportFrom)):
             self.refuse("nothing is imported: zeros, add and all others are there")
         else:
-            self.refuse("there is no " + {"For": "loop", "While": "loop", "If": "condition", "FunctionDef": "function", "Assert": "`assert`"}.get(
-                type(node).__name__, type(node).__name__.lower()) + ": each line is one command")
+            kinds = {"For": "loop", "While": "loop", "If": "condition", "FunctionDef": "function", "Assert": "`assert`"}
+            self.refuse(f"there is no {kinds.get(type(node).__name__, type(node).__name__.lower())}: each line is one command")
 
     def expression(self, node: ast.expr, is_set: bool) -> None:
         """What is asked of an array, or shown."""
+        raw, given = self.called(node) if isinstance(node, ast.Call) else ("", [])
+        word = WORDS.get(raw, raw)
         if is_set and isinstance(node, ast.Compare) and isinstance(node.ops[0], ast.Eq):
-            return self.assign(node.left, node.comparators[0], True)
-        if isinstance(node, ast.Attribute) and node.attr in ("shape", "dtype", "strides", "ndim", "size", "flags", "nbytes", "base"):
-            return self.lines.append(f"info {self.name(node.value)}")
-        function = node.func if isinstance(node, ast.Call) else None
-        word = function.attr if isinstance(function, ast.Attribute) else function.id if isinstance(function, ast.Name) else ""
-        given = list(node.args) if isinstance(node, ast.Call) else []
-        if word in ("print", "info", "format", "shares_memory", "may_share_memory", "shares") and given:
-            names = [self.name(each) for each in given]
-            self.lines += [f"shares {' '.join(names)}"] if "share" in word else [f"{word} {name}" for name in names]
+            self.assign(node.left, node.comparators[0], True)
+        elif isinstance(node, ast.Attribute) and node.attr in ("shape", "dtype", "strides", "ndim", "size", "flags", "nbytes", "base"):
+            self.lines.append(f"info {self.name(node.value)}")
+        elif word in ("print", "info", "format") and given:
+            self.lines += [f"{word} {self.name(each)}" for each in given]
+        elif word == "shares":
+            self.lines.append(" ".join([word, *map(self.name, given)]))
+        elif word in ("names", "undo") and not given:
+            self.lines.append(word)
         elif word == "upd" and len(given) == 3:
             text = self.operand(given[2])
             self.lines.append(f"upd {self.target(given[0])} {self.constant(given[1])} {text}")
-        elif word in ("tolist", "len", "str", "repr", "type"):
-            base = function.value if isinstance(function, ast.Attribute) else given[0] if given else self.refuse()
-            self.lines.append(f"{'info' if word in ('len', 'type') else 'print'} {self.name(base)}")
         elif word == "save" and len(given) == 2:
             file, array = given if isinstance(given[0], ast.Constant) else given[::-1]
-            text = f'"{self.constant(file)}"'
-            self.lines.append(f"save {self.name(array)} {text}")
+            self.lines.append(f'save {self.name(array)} "{self.constant(file)}"')
         else:
             self.lines.append(f"print {self.name(node)}")
 
@@ -389,12 +398,13 @@ class Translation:
 def python_of(line: str) -> tuple[str, bool]:
     """A line as Python would have it, and whether items are set in it."""
     line = line.strip()
-    if found := re.fullmatch(rf"(set|let|var|upd)\s+({NAME}(?:\.{NAME})*\s*(?:\[.*?\])?)\s*(=?=|[-+*&|^%]=|//=|<<=|>>=)?\s*(.+)", line):
+    signs = r"=?=|[-+*&|^%]=|//=|<<=|>>="
+    if found := re.fullmatch(rf"(set|let|var|upd)\s+({NAME}(?:\.{NAME})*\s*(?:\[.*?\])?)\s*({signs})?\s*(.+)", line):
         verb, target, sign, value = found.groups()
         word, _, behind = value.partition(" ")
         if verb == "upd" and WORDS.get(word, word) in language.operations()["OP"] and behind:
             return f"upd({target}, '{WORDS.get(word, word)}', {behind})", True
-        return f"{target} {'=' if sign in (None, '==') else sign} {called(value)}", verb == "set"
+        return f"{target} {'=' if sign in (None, '==') else sign} {call_of(value)}", verb == "set"
     if found := re.fullmatch(r"(print|info|format|del|shares)\s+(.+)", line):
         parts = ", ".join(split(found[2]))
         return (f"del {parts}" if found[1] == "del" else f"{found[1]}({parts})"), False
@@ -402,33 +412,24 @@ def python_of(line: str) -> tuple[str, bool]:
         array, file = sorted(found.groups(), key=lambda word: not re.fullmatch(NAME, word))
         return f"save({array}, {quoted(file)})", False
     if found := re.fullmatch(rf"({NAME})\s*=\s*(.+)", line):
-        return f"{found[1]} = {called(found[2])}", False
-    return called(line), False
+        return f"{found[1]} = {call_of(found[2])}", False
+    return call_of(line), False
 
 
 def quoted(text: str) -> str:
+    """A file's name without its folder, as Python has it."""
     return repr(text.strip("\"'").rpartition("/")[2])
 
 
-def called(text: str) -> str:
-    """`zeros <i4 (2,3)` as `zeros((2,3), '<i4')`, `sum m axis=0` as `sum(m, axis=0)`; other texts as they are."""
+def call_of(text: str) -> str:
+    """`zeros <i4 (2,3)` as `zeros('<i4', (2,3))`; other texts as they are."""
     verb, _, behind = text.partition(" ")
     word, args = WORDS.get(verb, verb), split(behind)
-    if word not in {*language.verbs(True), "ones", "where", "clip", "concatenate"} or not args or re.match(r"[=(]", behind.lstrip()) and word != "zeros":
+    is_known = word in {*language.verbs(True), "ones", "concatenate", *SEVERAL}
+    if not is_known or not args or re.match(r"[=(]", behind.lstrip()) and "zeros" != word:
         return text
-    is_type = [bool(STRING.match(arg) or FLOATS.match(arg) or arg in KINDS or arg.startswith("T{")) and not arg.isdigit() for arg in args]
-    args = [repr(arg) if known else arg for arg, known in zip(args, is_type)]
-    if word in ("zeros", "full", "ones") and is_type[0]:
-        args = [*args[1:], args[0]]
-    if word == "array":
-        shaped = 1 + (len(args) > 1 and args[1].startswith("("))
-        values = args[shaped:] if len(args) > shaped + 1 or not args[-1].startswith("[") else [args[-1][1:-1]]
-        lengths = args[1] if shaped == 2 else f"({len(split(','.join(values)))})"
-        return f"made({args[0]}, {lengths}, [{', '.join(values)}])" if is_type[0] else f"array([{', '.join(args)}])"
-    if word in ("reshape", "broadcast", "zeros") and len(args) > 2 and all(re.fullmatch(r"-?\d+", arg) for arg in args[1:]):
-        args = [args[0], f"({','.join(args[1:])},)"]
-    if word == "load":
-        args = [quoted(args[0])]
+    args = [re.sub(r"^\((-?\d+)\)$", r"(\1,)", arg) for arg in args]
+    args = [quoted(arg) if word == "load" else repr(arg) if re.match(r"[<>|=?]|T\{", arg) or STRING.match(arg) else arg for arg in args]
     return f"{word}({', '.join(args)})"
 
 
@@ -444,6 +445,6 @@ def translated(line: str, arrays: Mapping[str, Array], fields: Callable[[str], S
             made.statement(statement, is_set)
     except Unknown as known:
         return [f"# {known}"] if str(known) else []
-    except (SyntaxError, ValueError, RecursionError, MemoryError, StopIteration):
+    except (SyntaxError, ValueError, RecursionError, MemoryError, StopIteration, IndexError):
         return []
     return [] if made.lines == [line.strip()] else made.lines
