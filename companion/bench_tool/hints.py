@@ -28,6 +28,11 @@ OPERANDS = ("X[ix]", "Y[ix]", "Y[iy]", "Y[?]", "Y", "Z")
 BOUNDS = {f"{mark}{sign}{size}": (-(1 << 8 * size - 1) * (sign == "i"), (1 << 8 * size - (sign == "i")) - 1)
           for mark in ("<", ">", "|", "") for sign in "iu" for size in (1, 2, 4, 8)}
 Known = dict[str, Array]
+# Lines for which nothing else is written, and why.
+REASONS = {
+    r"(exit|quit)(\(\))?": "`exit` ends the shell; a script ends with its last line",
+    r"undo\W+\d+\W*": "`undo` takes back one change: write it once for each",
+}
 
 
 def items(count: int) -> str:
@@ -89,9 +94,10 @@ class Hints(ExitStack):
         bare = re.fullmatch(r"([^#'\"]*[^#\s'\"])\s*#.*", line)
         offered = translated(bare[1] if bare else line, known, self.session.fields) or ([bare[1]] if bare else [])
         said = ["a comment has a line of its own"] * bool(bare)
+        said += [reason for pattern, reason in REASONS.items() if re.fullmatch(pattern, line.strip())]
         if offered and offered[0].startswith("# "):
             said.append(offered[0][2:])
-        elif offered and not re.fullmatch(r"(exit|quit|help)(\(\))?", line.strip()):
+        elif offered and not said[bool(bare):]:
             with suppress(BenchError):  # there was no time to try them
                 refused = next((pair for pair in zip(offered, self.tried(offered, known)) if not pair[1].accepted), None)
                 if refused is None:

@@ -270,7 +270,7 @@ class Translation:
             kind = named.get("dtype") or (given[1] if len(given) > 1 else None)
             return self._list(given[0], self.type(kind) if kind else "")
         if word not in language.verbs(True):
-            self.refuse(f"there is no `{raw}`" if given else "")
+            self.refuse(f"there is no `{raw}`" if given and raw not in grammar.reserved() else "")
         if word == "array" and not any(isinstance(node, (ast.Tuple, ast.List)) for node in given):
             given.insert(0, ast.List([ast.Constant(sum(not is_type(node) for node in given))], ast.Load()))
         made = " ".join(filter(None, [word, *(self.piece(piece, given, named) for piece in pieces(word))]))
@@ -425,7 +425,7 @@ def call_of(text: str) -> str:
     """`zeros <i4 (2,3)` as `zeros('<i4', (2,3))`; other texts as they are."""
     verb, _, behind = text.partition(" ")
     word, args = WORDS.get(verb, verb), split(behind)
-    is_known = word in {*language.verbs(True), "ones", "concatenate", *SEVERAL}
+    is_known = word in {*language.verbs(True), "ones", "concatenate", *SEVERAL} or re.fullmatch(rf"{NAME} {NAME}", text)
     if not is_known or not args or re.match(r"[=(]", behind.lstrip()) and "zeros" != word:
         return text
     args = [re.sub(r"^\((-?\d+)\)$", r"(\1,)", arg) for arg in args]
@@ -437,12 +437,13 @@ def translated(line: str, arrays: Mapping[str, Array], fields: Callable[[str], S
     """The lines that say what a line says; a sentence behind `#` where there are none and it is known why; else nothing."""
     made = Translation(arrays, fields)
     try:
-        text, is_set = python_of(line)
-        with warnings.catch_warnings():
-            warnings.simplefilter("ignore")
-            statements = ast.parse(text).body
-        for statement in statements:
-            made.statement(statement, is_set)
+        for part in line.rstrip("; \t").split(";") if "'" not in line and '"' not in line else [line]:
+            text, is_set = python_of(part)
+            with warnings.catch_warnings():
+                warnings.simplefilter("ignore")
+                statements = ast.parse(text).body
+            for statement in statements:
+                made.statement(statement, is_set)
     except Unknown as known:
         return [f"# {known}"] if str(known) else []
     except (SyntaxError, ValueError, RecursionError, MemoryError, StopIteration, IndexError):
