@@ -297,7 +297,7 @@ class Session(session.Session):
         writer = threading.Thread(target=write, daemon=True)
         writer.start()
         count, seen = 0, 0
-        read: Any = self._from.read1  # type: ignore[attr-defined]
+        read: Any = self._from.read1
         try:
             while count < len(lines):
                 part = read(1 << 20)

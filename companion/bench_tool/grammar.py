@@ -186,13 +186,14 @@ class Reading:
             is_named ^= letter == ":"
         return end if compiled(PARTED).match(self.line, end) else self._want(end, "a blank")
 
-    def _want(self, at: int, what: str) -> None:
-        """Notes that something is missing at a place."""
+    def _want(self, at: int, what: str) -> Optional[int]:
+        """Notes that something is missing at a place, where nothing ends therefore."""
         at = self._skip(at)
         if what and at > self.far:
             self.far, self.wanted = at, {}
         if what and at == self.far:
             self.wanted.setdefault(what, self._behind)
+        return None
 
     def _skip(self, at: int) -> int:
         while at < len(self.line) and self.line[at] in " \t":

@@ -188,7 +188,7 @@ class Numbers:
         with suppress(LookupError, TypeError):
             if told := reader():
                 return told
-        when, facts = language.codes()[code][1], ", ".join(self.facts())
+        when, facts = language.codes()[code][1], ", ".join(self.facts()) if "E10" <= code <= "E25" else ""
         return facts if facts and len(when) > 80 else f"{when}: {facts}" if facts else when
 
     def facts(self) -> list[str]:

@@ -9,6 +9,8 @@ from . import __version__, page, runs, shell, show
 from .session import BenchError, ProgramEnded
 from .terminal import open_streams, printable, say
 
+SIGNALS = (signal.SIGINT, signal.SIGTERM, signal.SIGHUP)
+
 
 def depth(text: str) -> int:
     """How many changes `undo` can take back."""
@@ -47,14 +49,16 @@ def parser() -> argparse.ArgumentParser:
 
 
 def ended(number: int, _: Any) -> None:
-    """A signal ends what runs, and the programs below it."""
+    """A signal ends what runs, and the programs below it; another one does not disturb that."""
+    for each in SIGNALS:
+        signal.signal(each, signal.SIG_IGN)
     sys.exit(128 + number)
 
 
 def main(arguments: Optional[Sequence[str]] = None) -> int:
     open_streams()
-    for number in (signal.SIGTERM, signal.SIGHUP):
-        if signal.getsignal(number) == signal.SIG_DFL:
+    for number in SIGNALS:
+        if signal.getsignal(number) in (signal.SIG_DFL, signal.default_int_handler):
             signal.signal(number, ended)
     words = parser().parse_args(arguments)
     if "call" not in words:
@@ -71,8 +75,6 @@ def main(arguments: Optional[Sequence[str]] = None) -> int:
     except BenchError as fault:
         say(f"bench-tool: {printable(str(fault), 500)}")
         return 3
-    except KeyboardInterrupt:
-        return 130
     except OSError as fault:
         # Nothing that is left may be written at the end.
         os.dup2(os.open(os.devnull, os.O_WRONLY), 1)

@@ -58,11 +58,11 @@ class Interrupts:
     def _listen(self) -> None:
         signal.pthread_sigmask(signal.SIG_BLOCK, signal.valid_signals())
         while signal.sigwait({signal.SIGINT}):
-            if self._stop and not self.is_stopped:
+            if self._stop is not None and not self.is_stopped:
                 self.is_noted = True
                 self._ended.wait(PATIENCE)
                 with self._lock:
-                    if self._stop and self.is_noted:
+                    if self._stop is not None and self.is_noted:
                         self.is_stopped = True
                         self._stop()
 
@@ -140,7 +140,7 @@ class Shell:
 
     def begin(self) -> None:
         """Starts a program, in which no name is bound."""
-        self.session = Session(undo=self.words.undo, dir=self.words.dir)
+        self.session = Session(undo=self.words.undo, dir=self.words.dir, wait=False)
         self.hints = Hints(self.session)
 
     def close(self) -> None:

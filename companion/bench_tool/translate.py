@@ -82,7 +82,7 @@ def shape_of(lists: Any) -> tuple[int, ...]:
     return (len(lists), *(shape_of(lists[0]) if lists else ())) if isinstance(lists, list) else ()
 
 
-def is_type(node: ast.expr) -> bool:
+def is_type(node: Optional[ast.AST]) -> bool:
     """Whether a node is a dtype: a string that is one, a name as np.int16, or a list of fields."""
     if isinstance(node, ast.List):
         return bool(node.elts) and all(isinstance(field, ast.Tuple) and isinstance(field.elts[0], ast.Constant) for field in node.elts)
@@ -284,7 +284,7 @@ class Translation:
             return found
 
         if piece == "D":
-            of = named.pop("dtype", None) or next(filter(is_type, given), None)
+            of = named.pop("dtype", None) or next((node for node in given if is_type(node)), None)
             given[:] = [node for node in given if node is not of]
             return self.type(of)
         if piece in ("S", "S-", "(axes)"):
