@@ -63,7 +63,8 @@ class Hints(unittest.TestCase):
                 if reply.accepted:
                     bench.send("undo")
                 told = [] if reply.accepted else made.meant(typed, reply)
-                self.assertEqual([line.replace(bench.dir, "FOLDER").rstrip() for line in told], [line.rstrip() for line in said])
+                when = language.codes()[reply.code][1] if told else ""
+                self.assertEqual([line.replace(bench.dir, "FOLDER").replace(when or "WHEN", "WHEN").rstrip() for line in told], said)
                 self.assertTrue(reply.accepted or told)
                 places += [typed] * (len(told) == 2 and told[1].lstrip().startswith("^") and "word of the language" not in told[1])
         self.assertLessEqual(len([typed for typed, _ in rows()[:77] if typed in places]), 17)
