@@ -4,6 +4,7 @@
 // asked: which items a line writes, what an array has at some places. All that is tried there is undone.
 
 export const MOST_CELLS = 256; // items of a buffer that are drawn
+const FEW_CELLS = 64; // of a buffer that has more of them
 export const MOST_UNDO = 56; // of the 64 states that the second bench keeps, the others are for what is tried
 const SIDE = 16; // rows, and columns, of a grid
 const SLICES = 4; // of an array of three axes
@@ -26,9 +27,10 @@ const wordsOf = text => text.match(WORD) ?? [];
 const numbersIn = text => (text.match(/-?\d+/g) ?? []).map(Number);
 const remainder = (value, by) => ((value % by) + by) % by;
 
-/** The numbers below count. Where they are more than most: those at both ends, and those around what is looked at. */
-export function around(count, most, focus = []) {
+/** The numbers below count. Where they are more than most, fewer: those at both ends, and those around what is looked at. */
+export function around(count, most, focus = [], fewer = most) {
   if (count <= most) return range(0, count);
+  most = fewer;
   const edge = focus.length ? 2 : most >> 1, taken = new Set([...range(0, edge), ...range(count - edge, count)]);
   for (let reach = 0; focus.length && taken.size < most && reach < most; reach++) {
     for (const at of focus) for (const near of [at - reach, at + reach]) if (near >= 0 && near < count && taken.size < most) taken.add(near);
@@ -50,6 +52,12 @@ export function itemsOf(text) {
 /** An item as the program prints it; `?` where it is not known. */
 export function literal(item) {
   return Array.isArray(item) ? `(${item.map(literal).join(", ")}${item.length === 1 ? "," : ""})` : item ?? "?";
+}
+
+/** A name that a script does not have. */
+export function freeName(text) {
+  const taken = new Set(wordsOf(text));
+  return range(0, taken.size + 1).map(k => `_${k}`).find(name => !taken.has(name));
 }
 
 /** The reply to a line that is to be accepted. */
@@ -167,7 +175,7 @@ class Buffer {
   starts(focus = []) {
     const most = Math.min(MOST_CELLS, Math.floor(AT_ONCE / this.kind.size), Math.floor(4 * MOST_CELLS / this.kind.leaves.length));
     const cells = [...new Set(focus.map(byte => Math.floor(byte / this.kind.size)))];
-    return around(this.count, Math.max(8, most), cells).map(k => k * this.kind.size);
+    return around(this.count, Math.max(8, most), cells, Math.max(8, Math.min(most, FEW_CELLS))).map(k => k * this.kind.size);
   }
 }
 
@@ -178,10 +186,10 @@ class State {
   inside(number) { return [...this.names].filter(([, bound]) => bound.buffer === number); }
 }
 
-/** A line of the script with its reply; the states before and after it; for each buffer that it concerns the bytes around which it
- *  is drawn; the bytes of the values that it wrote; and where those came from that it moved. */
+/** A line of the script with its reply; the states before and after it; for each buffer the bytes around which it is drawn; the bytes
+ *  of the values that the line wrote; and where those came from that it moved. */
 export class Moment {
-  constructor(number, line, reply, before, after, focus = new Map(), written = new Map(), moved = new Map()) {
+  constructor(number, line, reply, before, after, { focus, written = new Map(), moved = new Map() }) {
     Object.assign(this, { number, line, reply, before, after, focus, written, moved });
     this.words = new Set(wordsOf(line.slice(0, 10_000)).filter(word => before.names.has(word) || after.names.has(word)));
   }
@@ -198,11 +206,11 @@ export class Moment {
 /** A script that is run line by line. `open` makes a bench that keeps so many earlier states; both benches are closed by `close`. */
 export class Trace {
   constructor(open, { undo = 16, text = "" } = {}) {
-    const taken = new Set(wordsOf(text));
-    this.free = range(0, taken.size + 1).map(k => `_${k}`).find(name => !taken.has(name));
+    this.free = freeName(text);
     [this.bench, this.second] = [open(Math.min(undo, MOST_UNDO)), open(64)];
     this.kinds = new Map();
     this.kept = []; // of each change the state before it, and the bytes around which it was drawn
+    this.focus = new Map(); // of each buffer the bytes around which it was drawn last
     this.lines = this.made = 0;
     this.state = new State();
   }
@@ -217,11 +225,12 @@ export class Trace {
     this.lines += 1;
     const reply = this.bench.answer(line), text = line.replace(/\r$/, "").replace(ODD, "\ufffd"), before = this.state;
     const [verb] = reply.text.startsWith("ok ") ? reply.text.split(" ").slice(1) : ["save"];
-    if (verb === "save") return new Moment(this.lines, text, reply, before, before);
+    if (verb === "save") return new Moment(this.lines, text, reply, before, before, { focus: this.focus });
     const did = verb === "set" || verb === "upd" ? this.write(line, reply) : this.change(line, reply, verb);
     if (verb !== "undo") this.kept.push([before, did.focus]);
     if (this.kept.length > MOST_UNDO) this.kept.shift();
-    return new Moment(this.lines, text, reply, before, this.state, did.focus, did.written, did.moved);
+    this.focus = new Map([...this.focus, ...did.focus]);
+    return new Moment(this.lines, text, reply, before, this.state, { ...did, focus: this.focus });
   }
 
   /** Sends a line to the second bench too. */

@@ -1,0 +1,186 @@
+// What is drawn of a line: for each buffer a table of its cells and of the names that see them, and grids; in words too.
+import { literal, product } from "./trace.mjs";
+
+const LONGEST = 40; // letters of a value
+const SHORT = 160; // letters of a type
+const HUES = 12; // colours of names
+const FEW_NAMES = 6, MOST_NAMES = 64, MOST_GRIDS = 4; // that are drawn of a buffer
+const MOST_LEAVES = 16; // values of an item in a grid
+const MOST_BUFFERS = 12; // that a line leaves alone and that are drawn all the same
+
+export const cut = (text, most = LONGEST) => text.length <= most ? text : `${text.slice(0, most >> 1)}…${text.slice(1 - (most >> 1))}`;
+const counted = (count, what) => `${count} ${what}${count === 1 ? "" : "s"}`;
+const shapeText = shape => `(${shape.join(", ")}${shape.length === 1 ? "," : ""})`;
+const listed = names => names.length > 1 ? `${names.slice(0, -1).join(", ")} and ${names.at(-1)}` : names[0];
+const few = names => names.length > FEW_NAMES ? `${names.slice(0, FEW_NAMES).join(", ")} and ${names.length - FEW_NAMES} more` : listed(names);
+
+/** An index as it is written behind a name: `:` along an axis of more than one place whose items lie in one. */
+function indexText({ shape, strides }, index) {
+  return index.length ? `[${index.map((at, axis) => strides[axis] || shape[axis] < 2 ? at : ":")}]` : "";
+}
+
+/** A buffer before and after a line, as it is drawn. A box has a text, a place and a width in columns, and a look: `x` where a value
+ *  has changed, `w` where it was written and is the same, `pad` for bytes of no field. A row's look says what it is. */
+class Drawn {
+  constructor(moment, number, hues, allNames) {
+    const [old, fresh] = [moment.before.buffers.get(number), moment.after.buffers.get(number)], { kind, count } = fresh ?? old;
+    Object.assign(this, { moment, number, hues, kind, count, size: kind.size, values: (fresh ?? old).values, focus: moment.focus.get(number) ?? [] });
+    this.starts = (fresh ?? old).starts(this.focus);
+    this.leaves = kind.leaves.slice(0, Math.max(1, Math.floor(1024 / Math.max(1, this.starts.length))));
+    this.old = old && fresh && old !== fresh ? old.values : new Map();
+    this.changed = new Set([...this.old.keys()].filter(at => this.values.has(at) && this.old.get(at) !== this.values.get(at)));
+    this.written = moment.written.get(number) ?? new Set();
+    const came = moment.reply.text === "ok undo" ? "comes back" : "appears";
+    this.state = !old ? came : !fresh ? "goes" : this.changed.size ? "changes" : "";
+    this.columns = new Map();
+    this.gaps = [];
+    for (const [k, start] of this.starts.entries()) {
+      if (k && start !== this.starts[k - 1] + this.size) this.gaps.push(this.columns.size + this.gaps.length);
+      this.columns.set(start, k + this.gaps.length);
+    }
+    this.choose(came, allNames);
+  }
+
+  /** The names that are drawn, those of the line first. */
+  choose(came, all) {
+    const { before, after, words } = this.moment, now = after.inside(this.number);
+    const gone = before.inside(this.number).filter(([name, bound]) => after.names.get(name) !== bound).map(([name, bound]) => ({ name, bound, state: "goes" }));
+    const names = [...gone, ...now.map(([name, bound]) => ({ name, bound, state: before.names.get(name) === bound ? "" : came }))];
+    const isOwn = ({ name, state }) => Boolean(state) || words.has(name), sorted = [...names.filter(isOwn), ...names.filter(each => !isOwn(each))];
+    const most = all ? MOST_NAMES : FEW_NAMES;
+    [this.names, this.folded] = [sorted.slice(0, most), sorted.slice(most).map(({ name }) => name)];
+  }
+
+  lookOf(bound, at) {
+    const any = of => bound.kind.leaves.some(leaf => of.has(at + leaf.at));
+    return any(this.changed) ? "x" : any(this.written) ? "w" : "";
+  }
+
+  /** Where a byte is, in columns; undefined where it is not drawn. */
+  column(byte) {
+    const inside = byte % this.size, column = this.columns.get(Math.floor(byte - inside));
+    return column === undefined ? undefined : column + inside / this.size;
+  }
+
+  /** A box for some bytes, to scale. */
+  box(text, byte, size, look = "") { return { text, look, byte, size, at: this.column(byte), width: size / this.size }; }
+
+  gapped(row) { return { ...row, boxes: [...this.gaps.map(at => ({ text: "…", look: "gap", at, width: 1 })), ...row.boxes].sort((left, right) => left.at - right.at) }; }
+
+  /** The values of the cells, and the bytes between them; of each the text for its byte and field. */
+  row(label, look, text) {
+    const boxes = [], { leaves } = this, ends = [0, ...leaves.map(leaf => leaf.at + leaf.size)], begins = [...leaves.map(leaf => leaf.at), this.size];
+    const pads = ends.map((end, k) => ({ at: end, size: begins[k] - end })).filter(pad => pad.size > 0), rest = leaves.length < this.kind.leaves.length ? "…" : "";
+    for (const start of this.starts) {
+      boxes.push(...pads.map(({ at, size }) => this.box(at + size === this.size ? rest : "", start + at, size, "pad")));
+      for (const { at, size, field } of leaves) {
+        const lit = look === "field" ? "" : this.changed.has(start + at) ? "x" : look === "now" && this.written.has(start + at) ? "w" : "";
+        boxes.push(this.box(text(start + at, field), start + at, size, lit));
+      }
+    }
+    return this.gapped({ label, look, boxes });
+  }
+
+  /** The cells that a name sees, numbered in the order in which it reads them. */
+  nameRow({ name, bound, state }) {
+    const { array, kind } = bound, times = product(array.shape) / Math.max(1, bound.count);
+    const boxes = bound.numbers(this.starts, this.size).map(([byte, number]) => this.box(times > 1 ? `${number}×${times}` : String(number), byte, kind.size, state ? "" : this.lookOf(bound, byte)));
+    const asked = !state && this.moment.words.has(name) ? "asked" : state.split(" ")[0];
+    const note = `${name}${state && ` ${state}`}: ${cut(array.type, SHORT)} ${shapeText(array.shape)}, strides ${shapeText(array.strides)}, at ${array.at}`
+      + (array.writable ? "" : ", read-only") + (times > 1 ? `, ${times} indexes to each item` : "");
+    return this.gapped({ label: name, look: `name ${this.hue(name)} ${asked}`.trim(), boxes: boxes.sort((left, right) => left.at - right.at), note });
+  }
+
+  hue(name) { return `h${this.hues.get(`${name} ${this.number}`)}`; }
+
+  /** The cells of the buffer, and under them those of each name. */
+  strip() {
+    const rows = [this.gapped({ label: "byte", look: "place", boxes: this.starts.map(start => this.box(String(start), start, this.size)) })];
+    if (this.kind.fields.length) rows.push(this.row("field", "field", (_, field) => field));
+    if (this.changed.size) rows.push(this.row("before", "old", at => cut(literal(this.old.get(at)))));
+    rows.push(this.row("value", "now", at => cut(literal(this.values.get(at)))), ...this.names.map(each => this.nameRow(each)));
+    const half = new Map(this.leaves.map(leaf => [leaf.at, leaf.size / 2])), middle = byte => this.column(byte + (half.get(byte % this.size) ?? 0));
+    const pairs = this.state === "changes" ? [...this.moment.moved].filter(([, { buffer }]) => buffer === this.number && this.written.size) : [];
+    const moves = pairs.map(([at, { byte }]) => [middle(byte), middle(at)]).filter(pair => pair.every(place => place !== undefined));
+    const hidden = this.count - this.starts.length, values = this.kind.leaves.length - this.leaves.length;
+    const caption = [`Buffer ${this.number}${this.state && ` ${this.state}`}: ${counted(this.count, "item")} of ${cut(this.kind.text, SHORT)}, ${counted(this.count * this.size, "byte")}`,
+      hidden && `${hidden} items in between are not drawn`, values && `the last ${values} values of each item are not drawn`,
+      this.folded.length && `${this.folded.length} more names see it: ${this.folded.slice(0, 20).join(" ")}${this.folded.length > 20 ? " .." : ""}`];
+    return { caption: caption.filter(Boolean).join("; "), columns: this.columns.size + this.gaps.length, rows, moves, buffer: this.number };
+  }
+
+  /** Items in rows and columns, one that has changed as `1→2`. */
+  grid(name, bound, { part, rows, columns, places }) {
+    const was = new Map([...this.values, ...this.old]), { kind } = bound;
+    const made = [{ label: "", look: "place", boxes: columns.map((column, k) => ({ text: String(column), look: "", at: k, width: 1 })) }];
+    for (const [k, line] of places.entries()) {
+      const boxes = line.map((byte, at) => {
+        const look = this.lookOf(bound, byte), text = cut(literal(kind.item(this.values, byte)));
+        return { text: look === "x" ? `${cut(literal(kind.item(was, byte)))}→${text}` : text, look, at, width: 1, byte, size: kind.size };
+      });
+      made.push({ label: String(rows[k]), look: `grid ${this.hue(name)}`, boxes });
+    }
+    const hidden = product(bound.array.shape.slice(-2)) - rows.length * columns.length;
+    return { caption: `${name}${part} in rows and columns${hidden ? `; ${hidden} items are not drawn` : ""}`, columns: columns.length, rows: made, moves: [], buffer: this.number };
+  }
+
+  tables() {
+    const shown = this.names.filter(({ bound, state }) => state !== "goes" && bound.kind.leaves.length <= MOST_LEAVES).map(each => ({ ...each, grids: each.bound.grids(this.focus) }));
+    return [this.strip(), ...shown.filter(({ grids }) => grids.length).slice(0, MOST_GRIDS).flatMap(({ name, bound, grids }) => grids.map(grid => this.grid(name, bound, grid)))];
+  }
+}
+
+/** A colour for each name in a buffer, by both: one that no other name has there, as long as there are enough. */
+export function huesOf(moments, hues = new Map()) {
+  for (const { before, after } of moments) {
+    for (const { names } of before === after ? [] : [before, after]) {
+      for (const [name, { buffer }] of names) {
+        if (hues.has(`${name} ${buffer}`)) continue;
+        const taken = new Set([...names].filter(([, other]) => other.buffer === buffer).map(([other]) => hues.get(`${other} ${buffer}`)));
+        hues.set(`${name} ${buffer}`, [...Array(HUES).keys()].find(hue => !taken.has(hue)) ?? hues.size % HUES);
+      }
+    }
+  }
+  return hues;
+}
+
+/** The tables of a line: of the buffers that it concerns, and then of the others, the last ones; and how many are not drawn. */
+export function tablesOf(moment, hues, allNames = false) {
+  const { before, after, touched, words } = moment, own = new Set(touched);
+  for (const word of words) if (after.names.has(word)) own.add(after.names.get(word).buffer);
+  const rest = [...new Set([...before.buffers.keys(), ...after.buffers.keys()])].filter(number => !own.has(number));
+  const shown = [...[...own].sort((left, right) => left - right), ...rest.slice(-MOST_BUFFERS)];
+  return { tables: shown.flatMap(number => new Drawn(moment, number, hues, allNames).tables()), hidden: Math.max(0, rest.length - MOST_BUFFERS) };
+}
+
+/** What a byte of a buffer is for each name that sees it after a line. */
+export function seenAt(moment, number, byte) {
+  const state = moment.after.buffers.has(number) ? moment.after : moment.before, buffer = state.buffers.get(number);
+  return state.inside(number).flatMap(([name, bound]) => {
+    const places = new Set(bound.kind.leaves.map(leaf => byte - leaf.at)), at = [...places].find(place => bound.index(place) !== null);
+    return at === undefined ? [] : [{ name, operand: name + indexText(bound.array, bound.index(at)), value: literal(bound.kind.item(buffer.values, at)) }];
+  });
+}
+
+/** What a line did, in words. */
+export function said(moment) {
+  const { before, after, moved, written } = moment, told = [], isUndo = moment.reply.text === "ok undo";
+  for (const [name, bound] of after.names) {
+    const old = before.names.get(name), { buffer } = bound, others = after.inside(buffer).map(([other]) => other).filter(other => other !== name);
+    if (old === bound) continue;
+    if (isUndo) told.push(`${name} is again as before, in buffer ${buffer}.`);
+    else told.push(`${name} is ${old ? "now " : ""}${before.buffers.has(buffer) ? `a view in buffer ${buffer}${others.length ? `, as ${few(others)}` : ""}` : `a new array in buffer ${buffer}`}.`);
+  }
+  for (const name of before.names.keys()) if (!after.names.has(name)) told.push(`${name} goes.`);
+  for (const number of before.buffers.keys()) if (!after.buffers.has(number)) told.push(`Buffer ${number} goes: no name sees it any more.`);
+  for (const [number, buffer] of after.buffers) {
+    const old = before.buffers.get(number), changed = old && old !== buffer ? [...buffer.values].filter(([at, value]) => old.values.has(at) && old.values.get(at) !== value) : [];
+    if (!changed.length) continue;
+    const names = after.inside(number).filter(([, bound]) => changed.some(([at]) => bound.kind.leaves.some(leaf => bound.index(at - leaf.at) !== null))).map(([name]) => name);
+    const part = buffer.count > buffer.starts(moment.focus.get(number)).length ? ", of those that are drawn" : "";
+    told.push(`${counted(changed.length, "value")} in buffer ${number} change${changed.length === 1 ? "s" : ""}${part}, ${names.length ? `seen by ${few(names)}` : "no name sees it"}.`);
+  }
+  if (moved.size) told.push(`${counted(moved.size, "value")} moved${[...moved.values()].some(({ buffer }) => !written.has(buffer)) ? " from another buffer" : ""}.`);
+  else if (!told.length && [...written.values()].some(bytes => bytes.size)) told.push("What is written is what stood there.");
+  return told.slice(0, 12).join(" ") || "Nothing changes.";
+}
