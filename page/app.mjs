@@ -1,4 +1,9 @@
 // ---- the page
+import { Bench, load } from "./bench.mjs";
+import { Trace, freeName } from "./trace.mjs";
+import { cut, huesOf, said, seenAt, tablesOf } from "./picture.mjs";
+import { STYLE, escape, figure, picture } from "./svg.mjs";
+import { Language, inNumPy } from "./language.mjs";
 
 const MOST_LINK = 8192, SLICE = 12, MOST_KEPT = 64 << 20; // bytes of a link; milliseconds of work in one go; bytes of memory that are kept to go back to
 const at = id => document.getElementById(id), json = id => JSON.parse(at(id).textContent || "null") ?? {};
@@ -6,6 +11,9 @@ const ui = Object.fromEntries([..."script shown examples open chosen link numpy 
 const language = new Language(json("tables")), given = json("given"), files = new Map();
 const unpacked = async (text, form) => new Uint8Array(await new Response(new Blob([Uint8Array.fromBase64?.(text) ?? Uint8Array.from(atob(text), letter => letter.charCodeAt(0))]).stream().pipeThrough(new DecompressionStream(form))).arrayBuffer());
 const made = (tag, text, more = {}) => Object.assign(document.createElement(tag), { textContent: text, ...more });
+const sheet = new CSSStyleSheet();
+sheet.replaceSync(STYLE(":root"));
+document.adoptedStyleSheets = [sheet];
 const linesOf = text => text.replace(/\n$/, "").split("\n");
 
 /** The script as far as it was run. What was changed is run again from the line before it, if the memory of then was kept. */

@@ -3,7 +3,7 @@ import { literal, product } from "./trace.mjs";
 
 const LONGEST = 40; // letters of a value
 const SHORT = 160; // letters of a type
-const HUES = 12; // colours of names
+export const HUES = 12; // colours of names
 const FEW_NAMES = 6, MOST_NAMES = 64, MOST_GRIDS = 4; // that are drawn of a buffer
 const MOST_LEAVES = 16; // values of an item in a grid
 const MOST_BUFFERS = 12; // that a line leaves alone and that are drawn all the same

@@ -1,6 +1,8 @@
 // Tables drawn as SVG, in blocks of as many columns as there is room for; a picture of one line, for documents.
 
-const LETTER = 7.3, LINE = 21, HUES = 12, WIDTH = 720;
+import { HUES } from "./picture.mjs";
+
+const LETTER = 7.3, LINE = 21, WIDTH = 720;
 const LIGHT = "--ink:#1a1a1a;--dim:#5f5f5f;--line:#9a9a9a;--page:#fff;--mark:#ffe28a;--wrote:#e8f0d8;"
   + "--h0:#0b62a8;--h1:#a34700;--h2:#1b6e3c;--h3:#8a2a8a;--h4:#a3203a;--h5:#0d6b70;--h6:#6b5900;--h7:#4f4fb5;--h8:#6a3d1c;--h9:#3c6415;--h10:#7a1f5c;--h11:#2c4a73";
 const DARK = "--ink:#eee;--dim:#aaa;--line:#777;--page:#16181d;--mark:#6b5200;--wrote:#2b3a22;"

@@ -1,0 +1,141 @@
+#!/usr/bin/env python3
+"""Makes the program in WebAssembly and the page of these sources: dist/bench.wasm, dist/bench.mjs and dist/bench.html.
+
+1. module.sh has rt prove crates/bench_c, and keeps the LLVM module that it compiles.
+2. retarget.py makes of that module, which is for x86-64, one for WebAssembly.
+3. The toolchain's clang compiles it, with heap.c and wide.c, and links bench.wasm.
+4. The modules of the page, its style, the tables of LANGUAGE and bench.wasm go into page.html.
+
+build.py            all of these; the module of before is taken where neither sources nor toolchain differ
+build.py --page     the last one alone, with the bench.wasm of dist/
+build.py --check    tells what differs in dist/ from what these sources give; with the toolchain at hand bench.wasm is made anew"""
+import base64
+import gzip
+import hashlib
+import json
+import os
+import pathlib
+import re
+import shutil
+import subprocess
+import sys
+
+HERE = pathlib.Path(__file__).resolve().parent
+TOP = HERE.parent
+sys.dont_write_bytecode = True
+sys.path[:0] = [str(HERE), str(TOP / "companion"), str(TOP / "tools/make")]
+import retarget  # noqa: E402
+import sources  # noqa: E402
+from bench_tool import grammar, language  # noqa: E402
+
+DIST, OUT = TOP / "dist", TOP / "out/page"
+CALLS = ("open", "answer", "reply", "put", "get", "file", "close")
+LINKED = ["--no-entry", "--gc-sections", "--strip-all", "--stack-first", "-z", "stack-size=1048576", "--export=malloc", "--export=free", *(f"--export=bench_c_{call}" for call in CALLS)]
+MODULES = ("bench", "trace", "picture", "svg", "language", "app")
+IMPORT = re.compile(r"(?m)^import .*\n|^export ")
+PROGRAM = re.compile(r'(?<=<script type="application/octet-stream" id="program">)[^<]*')
+
+
+def kit():
+    rt = shutil.which("rt")
+    return rt and pathlib.Path(rt).resolve().parents[1]
+
+
+def clang(*words):
+    target = ["--target=wasm32-unknown-unknown", "-c"]
+    subprocess.run([kit() / "toolchain/bin/clang", *target, *map(str, words)], check=True)
+
+
+def module():
+    """The LLVM module of bench_c, which is proved, compiled and kept."""
+    stamp, told = OUT / "module.of", f"{subprocess.run(['rt', 'version'], capture_output=True, text=True, check=True).stdout}{sources.sum_of('bench_c')}\n"
+    if not (OUT / "module.bc").is_file() or not stamp.is_file() or stamp.read_text() != told:
+        stamp.unlink(missing_ok=True)
+        subprocess.run([HERE / "module.sh", OUT], check=True, stdout=sys.stderr)
+        stamp.write_text(told)
+    return OUT / "module.bc"
+
+
+def program():
+    """The bytes of bench.wasm, made anew."""
+    OUT.mkdir(parents=True, exist_ok=True)
+    disassemble = ["--target=x86_64-unknown-linux-gnu", "-x", "ir", module(), "-S", "-emit-llvm", "-O0", "-Xclang", "-disable-llvm-passes", "-o", OUT / "x86.ll"]
+    subprocess.run([kit() / "toolchain/bin/clang", *disassemble], check=True)
+    (OUT / "wasm.ll").write_text(retarget.retarget((OUT / "x86.ll").read_text()))
+    clang("-O2", "-x", "ir", OUT / "wasm.ll", "-o", OUT / "bench.o")
+    for name in ("heap", "wide"):
+        clang("-O2", "-Wall", "-Wextra", "-ffreestanding", "-fno-builtin", HERE / f"{name}.c", "-o", OUT / f"{name}.o")
+    linker = OUT / "wasm-ld"
+    linker.unlink(missing_ok=True)
+    linker.symlink_to(kit() / "toolchain/bin/ld.lld")
+    subprocess.run([linker, *LINKED, *(OUT / f"{name}.o" for name in ("bench", "heap", "wide")), "-o", OUT / "bench.wasm"], check=True)
+    return (OUT / "bench.wasm").read_bytes()
+
+
+def tables():
+    """What the page takes from LANGUAGE, and the examples, as JSON."""
+    examples = {path.stem: path.read_text() for path in sorted((TOP / "examples").glob("*.bench"))}
+    return json.dumps({"forms": grammar.forms(), "operations": language.operations(), "codes": language.codes(), "examples": examples}).replace("</", "<\\/")
+
+
+def sum_of(text):
+    return f"sha256-{base64.b64encode(hashlib.sha256(text.encode()).digest()).decode()}"
+
+
+def packed(wasm):
+    """The program as it stands in the page; as it stands in dist/'s page, if that is this program."""
+    old = PROGRAM.search((DIST / "bench.html").read_text(encoding="utf-8")) if (DIST / "bench.html").is_file() else None
+    if old and gzip.decompress(base64.b64decode(old[0])) == wasm:
+        return old[0]
+    return base64.b64encode(gzip.compress(wasm, 9, mtime=0)).decode()
+
+
+def page(wasm):
+    """The page: one file, whose policy lets it run its own script alone and fetch nothing."""
+    code = "\n".join(IMPORT.sub("", (HERE / f"{name}.mjs").read_text(encoding="utf-8")) for name in MODULES).replace("</script", "<\\/script").replace("<!--", "<\\!--")
+    style, svg = (HERE / "page.css").read_text(encoding="utf-8"), (HERE / "svg.mjs").read_text(encoding="utf-8")
+    parts = {"CODE": code, "SUM": sum_of(code), "STYLE": style, "STYLESUM": sum_of(style), "TABLES": tables(), "GIVEN": "", "PROGRAM": packed(wasm),
+             "TIP": re.search(r"TIP = '(.*)';", svg)[1]}
+    return re.sub("<!--([A-Z]+)-->", lambda found: parts[found[1]], (HERE / "page.html").read_text(encoding="utf-8"))
+
+
+def write(wasm):
+    DIST.mkdir(exist_ok=True)
+    made = page(wasm)
+    (DIST / "bench.wasm").write_bytes(wasm)
+    (DIST / "bench.html").write_text(made, encoding="utf-8")
+    shutil.copyfile(HERE / "bench.mjs", DIST / "bench.mjs")
+    print(f"page: dist/bench.html has {len(made.encode()):,} bytes, dist/bench.wasm {len(wasm):,}")
+
+
+def differences():
+    """What differs in dist/ from what these sources give."""
+    files = [DIST / name for name in ("bench.wasm", "bench.html", "bench.mjs")]
+    if not all(map(pathlib.Path.is_file, files)):
+        yield "dist/ has no page: run `make page`"
+        return
+    wasm = files[0].read_bytes()
+    if files[1].read_text(encoding="utf-8") != page(wasm):
+        yield "dist/bench.html is not what page/ and dist/bench.wasm give"
+    if files[2].read_bytes() != (HERE / "bench.mjs").read_bytes():
+        yield "dist/bench.mjs is not page/bench.mjs"
+    if kit() and program() != wasm:
+        yield "dist/bench.wasm is not what these sources and this toolchain give"
+
+
+def check():
+    found = list(differences())
+    for difference in found:
+        print(f"page: {difference}")
+    if not found:
+        print("page: dist/ has the page of these sources")
+    return 1 if found else 0
+
+
+if __name__ == "__main__":
+    os.chdir(TOP)
+    if sys.argv[1:] == ["--check"]:
+        sys.exit(check())
+    if not sys.argv[1:] and not kit():
+        sys.exit("page: this needs rt, the command of the toolchain")
+    write((DIST / "bench.wasm").read_bytes() if sys.argv[1:] == ["--page"] else program())
