@@ -6,7 +6,8 @@
 # make uninstall      takes them away again
 # make package        out/bench-VERSION-x86_64-linux.tar.gz, which runs where it is unpacked
 # make static         out/bench-x86_64-linux-static, of what `make` built, for systems without glibc 2.34; needs gcc and its libc.a
-# make pictures       draws the pictures of the docs from scripts in examples/
+# make pictures       draws the pictures of the docs from scripts in examples/; needs Node
+# make page           dist/bench.html, the bench in one page, with dist/bench.wasm and dist/bench.mjs; proves bench_c
 # make words          writes the words of docs/LANGUAGE.md into help, manual page and syntax files
 # make dist           writes dist/ anew, from what `make` built
 # make check          the gate: every proof from nothing, dist/, and `make test`
@@ -45,6 +46,7 @@ reads = man/bench.1:share/man/man1/bench.1 man/bench-tool.1:share/man/man1/bench
 	$(foreach tool,bench bench-tool,completions/$(tool).bash:share/bash-completion/completions/$(tool) completions/_$(tool):share/zsh/site-functions/_$(tool)) \
 	$(call below,editors/vim,share/vim/vimfiles) $(call below,editors,share/bench/editors) $(call below,examples,share/doc/bench/examples) \
 	$(call below,companion/bench_tool,lib/bench-tool/bench_tool) docs/LANGUAGE.md:lib/bench-tool/LANGUAGE.md \
+	$(foreach file,$(wildcard dist/bench.html),$(file):lib/bench-tool/bench.html) \
 	$(foreach file,$(wildcard README.md CHANGELOG.md LICENSE* docs/*.md docs/pictures/*),$(file):share/doc/bench/$(file)) \
 	$(if $(library),$(library)/libbench.so.1:lib/libbench.so.1 $(library)/libbench.a:lib/libbench.a library/bench.h:include/bench.h library/bench.pc:lib/pkgconfig/bench.pc)
 
@@ -75,6 +77,9 @@ pictures:
 	    companion/bench-tool draw examples/$${drawn%:*}.bench --line $${drawn#*:} --svg -o $(or $(FOLDER),docs/pictures)/$${drawn%:*}.svg || exit 1; \
 	done
 
+page:
+	@page/build.py
+
 words:
 	@tools/make/words.py
 
@@ -87,4 +92,4 @@ test:
 check:
 	@tools/test.py --gate
 
-.PHONY: all library install uninstall package static pictures words dist test check $(addprefix prove-,$(crates))
+.PHONY: all library install uninstall package static pictures page words dist test check $(addprefix prove-,$(crates))

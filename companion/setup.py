@@ -1,5 +1,5 @@
-"""What pyproject.toml cannot say: the page of the language and the library lie outside of the package, and a wheel with the library is for
-one kind of machine."""
+"""What pyproject.toml cannot say: the page of the language, the page for pictures and the library lie outside of the package, and a wheel with
+the library is for one kind of machine."""
 import shutil
 from pathlib import Path
 
@@ -12,7 +12,7 @@ except ImportError:
     from wheel.bdist_wheel import bdist_wheel
 
 TOP = Path(__file__).resolve().parent.parent
-PAGE = TOP / "docs/LANGUAGE.md"
+PAGES = (TOP / "docs/LANGUAGE.md", TOP / "dist/bench.html")
 # The library that `make` linked, else the one in dist/; empty if there is neither.
 LIBRARY = [path for path in (TOP / "out/library/libbench.so.1", TOP / "dist/libbench.so.1") if path.is_file()][:1]
 
@@ -20,7 +20,7 @@ LIBRARY = [path for path in (TOP / "out/library/libbench.so.1", TOP / "dist/libb
 class Build(build_py):
     def run(self):
         super().run()
-        for file in (PAGE, *LIBRARY):
+        for file in filter(Path.is_file, (*PAGES, *LIBRARY)):
             shutil.copy(file, Path(self.build_lib, "bench_tool", file.name))
 
 

@@ -5,6 +5,8 @@
     libbench.so.1, libbench.a    the library
     SUMS                         the toolchain; the sums of the sources, of the program as the toolchain builds it, and of what is here; what it needs
 
+bench.html, bench.wasm and bench.mjs are of `make page` (page/build.py); SUMS has their sums.
+
 With --check nothing is written: what the gate has just built is compared with dist/. Where SUMS names another toolchain than is here, that is
 said, and only the sums of the sources are compared; so it is of the library where `make` has not built it. The status is 1 where something
 differs, 3 where there is nothing to compare or to write."""
@@ -20,6 +22,7 @@ import sources  # noqa: E402
 DIST = sources.TOP / "dist"
 NAME = "bench-x86_64-linux"
 HAS_LIBRARY = "bench_c" in sources.uses()
+PAGE = ("bench.html", "bench.mjs", "bench.wasm")
 
 
 class NotMade(Exception):
@@ -81,6 +84,7 @@ def write():
             (DIST / name).write_bytes(data)
             (DIST / name).chmod(0o644 if name.endswith(".a") else 0o755)
             print(f"bench: dist/{name} is that of these sources: {len(data):,} bytes")
+    text += "".join(f"{name}: {sources.digest(DIST / name)}\n" for name in PAGE if (DIST / name).is_file())
     (DIST / "SUMS").write_text(text)
     return 0
 
@@ -91,9 +95,11 @@ def differences():
     told = dict(re.findall(r"^([^:\n]+): (.*)$", text, re.M))
     if told.get("sources") != sources.sum_of("bench_main") or HAS_LIBRARY and told.get("library sources") != sources.library_sum():
         yield "dist/SUMS is not of these sources: run `make`, then `make dist`"
-    for name in (NAME, *(sources.LIBRARIES if HAS_LIBRARY else ())):
+    for name in (NAME, *(sources.LIBRARIES if HAS_LIBRARY else ()), *PAGE):
         if not (DIST / name).is_file() or told.get(name) != sources.digest(DIST / name):
             yield f"dist/{name} has not the sum that dist/SUMS tells"
+    if subprocess.run([sys.executable, sources.TOP / "page/build.py", "--check"], check=False).returncode:
+        yield "the page in dist/ is not of these sources: run `make page`, then `make dist`"
     here = kit()
     if told.get("toolchain") != here:
         print(f"bench: dist/ was built by {told.get('toolchain')}, and {here} is here: the programs are not compared")
@@ -104,7 +110,7 @@ def differences():
         yield "dist/ is not what these sources and this toolchain give"
     if HAS_LIBRARY and not (is_proved("bench_c", here) and sources.is_library_linked()):
         print("bench: the library in dist/ is not compared, since `make` has not built it here")
-    elif HAS_LIBRARY and not text.endswith(library()[1]):
+    elif HAS_LIBRARY and library()[1] not in text:
         yield "the library in dist/ is not what these sources and this toolchain give"
 
 
