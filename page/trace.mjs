@@ -168,7 +168,7 @@ export class Bound {
 }
 
 /** A stretch of memory: items one after another, and those of their values that were looked at, by their bytes. */
-class Buffer {
+class Memory {
   constructor(kind, count, values = new Map()) { Object.assign(this, { kind, count, values }); }
 
   /** Where the items begin that are drawn: fewer of long ones and of those with many values. */
@@ -224,13 +224,20 @@ export class Trace {
   step(line) {
     this.lines += 1;
     const reply = this.bench.answer(line), text = line.replace(/\r$/, "").replace(ODD, "\ufffd"), before = this.state;
-    const [verb] = reply.text.startsWith("ok ") ? reply.text.split(" ").slice(1) : ["save"];
-    if (verb === "save") return new Moment(this.lines, text, reply, before, before, { focus: this.focus });
+    const verb = /^ok (\w+)/.exec(reply.text)?.[1];
+    if (verb === "save") this.share(line);
+    if (!verb || verb === "save") return new Moment(this.lines, text, reply, before, before, { focus: this.focus });
     const did = verb === "set" || verb === "upd" ? this.write(line, reply) : this.change(line, reply, verb);
     if (verb !== "undo") this.kept.push([before, did.focus]);
     if (this.kept.length > MOST_UNDO) this.kept.shift();
     this.focus = new Map([...this.focus, ...did.focus]);
     return new Moment(this.lines, text, reply, before, this.state, { ...did, focus: this.focus });
+  }
+
+  /** The second bench gets the file that a line saved. */
+  share(line) {
+    const [, name] = /"([^"]*)"/.exec(line);
+    this.second.files.set(name, this.bench.files.get(name));
   }
 
   /** Sends a line to the second bench too. */
@@ -279,7 +286,7 @@ export class Trace {
     const [, ...behind] = wordsOf(line), array = arrayOf(this.second, name), kind = this.kind(array.type);
     const number = how === "view" ? names.get(behind.find(word => names.has(word))).buffer : ++this.made;
     const bound = new Bound(array, number, kind), focus = this.places(bound, bound.count);
-    this.turn([...names, [name, bound]], [...buffers, [number, buffers.get(number) ?? new Buffer(kind, product(array.shape))]]);
+    this.turn([...names, [name, bound]], [...buffers, [number, buffers.get(number) ?? new Memory(kind, product(array.shape))]]);
     this.look(number, focus);
     return { focus: new Map([[number, focus]]) };
   }
@@ -300,7 +307,7 @@ export class Trace {
     this.look(number, focus);
     this.again(line, reply);
     const cells = new Set(old.starts(focus)), stays = [...old.values].filter(([at]) => cells.has(at - at % old.kind.size));
-    this.turn(names, [...buffers, [number, new Buffer(old.kind, old.count, new Map())]]);
+    this.turn(names, [...buffers, [number, new Memory(old.kind, old.count, new Map())]]);
     const fresh = this.state.buffers.get(number).values;
     this.look(number, focus);
     for (const [at, value] of stays) if (!fresh.has(at)) fresh.set(at, value); // what no name sees has stayed

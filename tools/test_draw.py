@@ -1,11 +1,8 @@
-"""`bench-tool draw`: buffers against `shares`, cells and values against `print`, pages of all kinds in a browser, pictures of the docs."""
+"""`bench-tool draw`: what the modules of the page draw, in Node: buffers against `shares`, cells and values against `print`, moves against a
+machine of ids, pages of all kinds, pictures of the docs. tools/test_page.py tries the page in a browser."""
 import argparse
-import base64
-import hashlib
-import html
 import itertools
 import json
-import os
 import pathlib
 import random
 import re
@@ -15,17 +12,15 @@ import tempfile
 import time
 import unittest
 import xml.etree.ElementTree
-import zlib
 
 from trials.companion_trials import PROGRAM, TOOL, TOP, environment, needs_program, share
 import hostile_scripts as scripts
 from bench_tool import BenchError, Session
 from bench_tool import page as pages
-from bench_tool.page import page
-from bench_tool.trace import Trace, kind_of, literal
+from bench_tool.session import literal
 
-DATA = re.compile(r'<script type="application/octet-stream" id="data">(.*)</script>')
-CHROMIUM = next(filter(None, map(shutil.which, ("chromium", "chromium-browser", "google-chrome"))), None)
+HAS_PAGE = any(map(pathlib.Path.is_file, pages.PLACES))
+needs_node = unittest.skipUnless(HAS_PAGE and shutil.which("node"), "left out: Node is not installed, or `make page` has made no page")
 LONG = "name_of_just_thirty_two_bytes_ab"
 SCRIPTS = {
     "refused in part": ["a = arange <i4 0 3 1", "b = nothing", "set a[3] = 1", "what is this?", "set a[0] = 7", "\x7f", "x = load \"none.npy\""],
@@ -48,50 +43,31 @@ SCRIPTS["markup"] = ["# </script><script>alert(1)</script> <!--DATA--> <!--TITLE
     "r = zeros T{i:<script>alert(1)</script>:i:&lt;x:h:--><b>:b:]]>:5s:<img src=x onerror=alert(1)>:i:<!--DATA-->:} (2)", "set r[0] = (1, 2, 3, 4, b'</t><', 6)",
     "s = array |S40 (2) b'</text></svg><script>alert(1)</script>' b'<!--SCRIPT--> &amp; <b>'", "set s[0] = s[1]", "x = field r \"<script>alert(1)</script>\"",
     "x = <script>alert(1)</script>", "print r", "format r", "n = zeros T{T{i:<svg/onload=alert(1)>:}:<a href=x>:i:q&:} (2)"]
-# What a page does while each arrow is pressed, and then the slider is moved, in a frame of some width.
-FRAMES = """<!DOCTYPE html><meta charset="utf-8"><body><pre id="told"></pre><script>
-const told = [], pages = [%s];
-const texts = rows => [...rows].filter(row => row.getClientRects().length).map(row => [...row.querySelectorAll("rect:not(.pad)")].map(
-  box => box.nextSibling?.tagName === "text" ? box.nextSibling.textContent : ""));
-async function tried(page, width) {
-  const frame = document.createElement("iframe");
-  frame.style = `width:${width}px;height:700px`;
-  frame.srcdoc = page;
-  const loaded = new Promise(done => frame.onload = done);
-  document.body.append(frame);
-  await loaded;
-  const inside = frame.contentWindow, page_ = inside.document, lines = [];
-  while (!page_.body.dataset.drawn) await new Promise(done => setTimeout(done, 10));
-  const count = page_.querySelectorAll("nav button").length;
-  const press = key => page_.body.dispatchEvent(new inside.KeyboardEvent("keydown", { key, bubbles: true, cancelable: true }));
-  for (let k = 0; k <= count; k++) press("ArrowUp");
-  for (let k = 0; k < count; k++) {
-    lines.push([page_.getElementById("line").textContent, page_.getElementById("words").textContent, texts(page_.querySelectorAll("g.now")),
-      page_.querySelectorAll("[aria-current]").length, page_.documentElement.scrollWidth <= inside.innerWidth]);
-    press("ArrowDown");
-  }
-  const slider = page_.getElementById("slider");
-  slider.value = 0;
-  slider.dispatchEvent(new inside.Event("input"));
-  told.push({ lines, faults: inside.faults, first: page_.getElementById("line").textContent });
-  frame.remove();
+# Runs scripts, and tells of each line its reply, its words, its tables, and the memory before and after it.
+LOOKS = """
+const namesOf = state => Object.fromEntries([...state.names].map(([name, bound]) => [name, { ...bound.array, buffer: bound.buffer, leaves: bound.kind.leaves.map(leaf => leaf.at) }]));
+function looked(moment, hues) {
+  const { tables, hidden } = tablesOf(moment, hues), { number, line, reply, moved, written, before, after } = moment;
+  return { number, line, reply: reply.text, words: said(moment), tables, hidden, moved: [...moved].map(([at, from]) => [at, from.buffer, from.byte]), written: [...written].map(([of, bytes]) => [of, [...bytes]]),
+    names: namesOf(after), before: namesOf(before), picture: picture(line, tables, said(moment)), size: figure(tables[0] ?? { caption: "", rows: [{ label: "", boxes: [] }], moves: [], columns: 0 }, 700).length };
 }
-(async () => {
-  for (const page of pages) for (const width of [1300, 360]) await tried(page, width);
-  document.getElementById("told").textContent = JSON.stringify(told);
-})();
-</script>"""
+const told = %s.map(({ lines, undo }) => {
+  const trace = new Trace(opened, { undo, text: lines.join("\\n") }), moments = lines.map(line => trace.step(line)), hues = huesOf(moments);
+  trace.close();
+  return moments.map(moment => looked(moment, hues));
+});
+process.stdout.write(JSON.stringify(told));
+"""
 
 
-WATCH = "window.faults=[];for(const n of ['error','securitypolicyviolation'])addEventListener(n,e=>faults.push(e.message||e.blockedURI))"
-POLICY = "default-src 'none'; style-src 'unsafe-inline'; script-src %s"
+def looks(chosen):
+    """What is told of scripts: pairs of lines and an undo depth."""
+    given = json.dumps([{"lines": [line.decode("latin-1") if isinstance(line, bytes) else line for line in lines], "undo": undo} for lines, undo in chosen])
+    return json.loads(pages.asked(LOOKS % given, [], argparse.Namespace(undo=16, dir="/nowhere")))
 
 
-def watched(text):
-    """A page that may run its own script alone, and notes what else is tried."""
-    own = [WATCH, re.findall(r"<script>(.*?)</script>", text, re.S)[-1]]
-    sums = " ".join(f"'sha256-{base64.b64encode(hashlib.sha256(each.encode()).digest()).decode()}'" for each in own)
-    return text.replace("<head>", f'<head><meta http-equiv="Content-Security-Policy" content="{POLICY % sums}"><script>{WATCH}</script>', 1)
+def look(lines, undo=16):
+    return looks([(lines, undo)])[0]
 
 
 def flat(item):
@@ -99,18 +75,9 @@ def flat(item):
     return [value for inner in item for value in flat(inner)] if isinstance(item, tuple) else [item]
 
 
-def processor_time():
-    """The seconds that programs took which were started and have ended."""
-    used = os.times()
-    return used.children_user + used.children_system
-
-
-def random_script(seed):
-    return scripts.random_script(PROGRAM, random.Random(seed), seed, depths=(0, 1, 3, 16, 56))
-
-
 def random_move(rng):
-    """Lines that bind a and b, indexes and masks, also in the buffer of a; where each item of a comes from, and a line that sets."""
+    """Lines that bind a and b, indexes and masks, also in the buffer of a; where each item of a comes from, the items that are written,
+    and a line that sets."""
     n = rng.randint(2, 7)
     lines = [f"a = array <i4 ({n}) " + " ".join(str(rng.choice([0, 1, 2, 5])) for _ in range(n)), f"b = array <i4 ({n}) " + " ".join(str(rng.choice([0, 1, 3])) for _ in range(n))]
     mask, index = [rng.random() < 0.5 for _ in range(n)], [rng.randrange(-n, n) for _ in range(rng.randint(1, n))]
@@ -137,160 +104,201 @@ def random_move(rng):
     of = of * len(to) if len(of) == 1 else of
     ids = {4 * k: ("a", 4 * k) for k in range(n)}
     ids.update({4 * k: source and (source, 4 * j) for k, j in zip(to, of if source else to)})
-    return lines, ids, f"set {text}"
+    return lines, ids, sorted({4 * k for k in to}), f"set {text}"
 
 
-def bytes_seen(bound):
+def bytes_seen(array):
     """The bytes of a buffer at which an array has values."""
-    starts = [bound.array.at]
-    for stride, length in zip(bound.array.strides, bound.array.shape):
+    starts = [array["at"]]
+    for stride, length in zip(array["strides"], array["shape"]):
         starts = [start + k * stride for start in starts for k in range(length)]
-    return {start + leaf.at for start in starts for leaf in bound.kind.leaves}
+    return {start + leaf for start in starts for leaf in array["leaves"]}
 
 
-def block_of(svg):
-    """A block of a table: the lines of its caption, and rows with their boxes, each with its text, look, place and width."""
-    rows = []
-    for group in svg.iter("g"):
-        if "class" in group.attrib:
-            parts = list(group)
-            label = parts.pop(0).text if parts and parts[0].get("class") == "label" else ""
-            boxes = [(after.text if after is not None and after.tag == "text" else "", part.get("class"), float(part.get("x")), float(part.get("width")))
-                     for part, after in itertools.zip_longest(parts, parts[1:]) if part.tag == "rect"]
-            rows.append((label, group.get("class"), boxes))
-    return [text.text for text in svg.iter("text") if text.get("class") == "head"], rows
-
-
-def table_of(figure, narrow=False):
-    """A table that a page draws, wide or narrow: its caption and its blocks."""
-    found = list(xml.etree.ElementTree.fromstring(f"<both>{figure}</both>"))
-    blocks = list(map(block_of, found[-1 if narrow else 0]))
-    return " ".join(line for caption, _ in blocks for line in caption), [rows for _, rows in blocks]
-
-
-def data_of(text, narrow=False):
-    """What a page draws: for each line that has a reply its number, its tables and its words."""
-    lines, figures = json.loads(zlib.decompress(base64.b64decode(DATA.search(text)[1])))
-    tables = [table_of(figure, narrow) for figure in figures]
-    return [(number, [tables[k] for k in ids], words) for number, ids, words in lines]
-
-
-def rows_of(tables, look):
-    """The rows of a look, of all blocks."""
-    return [row for _, blocks in tables for rows in blocks for row in rows if row[1].split()[0] == look]
+def rows_of(tables, look_):
+    """The rows of a look, of all tables."""
+    return [row for table in tables for row in table["rows"] if row["look"].split()[0] == look_]
 
 
 def texts(row):
-    return [text for text, look, _, _ in row[2] if look != "pad"]
+    return [box["text"] for box in row["boxes"] if box["look"] not in ("pad", "gap")]
 
 
 def items_of_name(row, values):
     """The items that the row of a name shows, by their numbers: the texts of the values that stand over each."""
     found = {}
-    for text, _, left, width in row[2]:
-        number, _, times = text.partition("×")
-        inside = [value for value, look, at, wide in values[2] if look != "pad" and left - 0.2 <= at and at + wide <= left + width + 0.2]
-        found[int(number)] = (inside, int(times or 1))
+    for box in row["boxes"]:
+        if box["look"] != "gap":
+            number, _, times = box["text"].partition("×")
+            inside = [other["text"] for other in values["boxes"] if other["look"] not in ("pad", "gap") and box["byte"] <= other["byte"] < box["byte"] + box["size"]]
+            found[int(number)] = (inside, int(times or 1))
     return found
 
 
 @needs_program
+@needs_node
 class Pictures(unittest.TestCase):
-    def run_script(self, script, look=lambda trace, judge, moment: None, folder="."):
-        """The moments of a script; after each line `look` is given a session that has had the same lines."""
-        moments = []
-        with Trace(PROGRAM, script.depth or 0, folder, b"\n".join(script.lines)) as trace, Session(PROGRAM, script.depth or 0, folder) as judge:
-            for line in script.lines:
-                judge.send(line)
-                moments.append(trace.step(line))
-                with self.subTest(script=script.name, line=line):
-                    look(trace, judge, moments[-1])
-        return moments
-
     def test_buffers_and_values(self):
         """Buffers are as `shares` says, and what is drawn is what `print` says."""
-        def look(trace, judge, moment):
-            names = judge.names()
-            self.assertEqual(list(moment.after.names), names)
-            for (name, bound), (other, against) in itertools.combinations_with_replacement(moment.after.names.items(), 2):
-                common = bound.buffer == against.buffer and bool(bytes_seen(bound) & bytes_seen(against))
-                self.assertEqual(judge.ask(f"shares {name} {other}"), "shares yes" if common else "shares no", (name, other))
-            arrays.append({name: judge.array(name) for name in names})
+        chosen = [scripts.random_script(PROGRAM, random.Random(-seed - 1), -seed - 1, depths=(0, 1, 3, 16, 56)) for seed in range(share(8, 400))]
+        for script, told in zip(chosen, looks([(script.lines, script.depth or 0) for script in chosen])):
+            with tempfile.TemporaryDirectory() as folder, Session(PROGRAM, script.depth or 0, folder) as judge:
+                for line, moment in zip(script.lines, told):
+                    with self.subTest(script=script.name, line=line):
+                        self.check_moment(judge, line, moment)
 
-        for seed in range(share(5, 400)):
-            arrays = []
-            with tempfile.TemporaryDirectory() as folder:
-                moments = self.run_script(random_script(-seed - 1), look, folder)
-            drawn = data_of(page("random", moments))
-            told = [(moment, array) for moment, array in zip(moments, arrays) if moment.reply.text]
-            self.assertEqual([line[0] for line in drawn], [moment.number for moment, _ in told])
-            for (_, tables, _), (moment, expected) in zip(drawn, told):
-                with self.subTest(seed=seed, line=moment.line):
-                    self.check_tables(tables, expected)
-
-    def test_moves(self):
-        """An item is said to have moved from where it did: beside a machine of ids, for every kind of `set`, in one session."""
-        rng = random.Random(5)
-        with Trace(PROGRAM, 0) as trace:
-            for _ in range(share(120, 3000)):
-                lines, ids, line = random_move(rng)
-                for before in lines:
-                    self.assertTrue(trace.step(before.encode()).reply.accepted, before)
-                moment = trace.step(line.encode())
-                if not moment.reply.accepted:
-                    continue
-                numbers = {name: bound.buffer for name, bound in moment.before.names.items()}
-                number = numbers["a"]
-                wanted = {at: (numbers[source[0]], source[1]) for at, source in ids.items() if source}
-                wanted = {at: source for at, source in wanted.items() if source != (number, at)}
-                if moment.before.buffers[number].values == moment.after.buffers[number].values:
-                    wanted = {}
-                self.assertEqual({at.byte: tuple(source) for at, source in moment.moved.items() if at.buffer == number}, wanted, (lines, line))
-                self.assertEqual({at.buffer for at in moment.moved} - {number}, set())
-
-    def test_kinds(self):
-        kind = kind_of("T{<b:x:3xT{>i:y:<5s:q:}:s:<?:k:2x}")
-        self.assertEqual([tuple(leaf) for leaf in kind.leaves], [(0, 1, "x"), (4, 4, "s.y"), (8, 5, "s.q"), (13, 1, "k")])
-        self.assertEqual((kind.size, kind_of("|S12").size, kind_of(">u2").size), (16, 12, 2))
+    def check_moment(self, judge, line, moment):
+        self.assertEqual(moment["reply"], judge.send(line).text)
+        names = judge.names()
+        self.assertEqual(list(moment["names"]), names)
+        for (name, array), (other, against) in itertools.combinations_with_replacement(moment["names"].items(), 2):
+            common = array["buffer"] == against["buffer"] and bool(bytes_seen(array) & bytes_seen(against))
+            self.assertEqual(judge.ask(f"shares {name} {other}"), "shares yes" if common else "shares no", (name, other))
+        if moment["reply"]:
+            self.check_tables(moment["tables"], {name: judge.array(name) for name in names})
 
     def check_tables(self, tables, expected):
-        seen, grids, partly = {}, {}, set()
-        for caption, blocks in tables:
-            for rows in blocks:
-                values = next((row for row in rows if row[1] == "now"), None)
-                for row in rows:
-                    if row[1].startswith("name") and not row[1].endswith("goes"):
-                        seen.setdefault(row[0], {}).update(items_of_name(row, values))
-                        partly |= {row[0]} if "not drawn" in caption else set()
-                    elif row[1].startswith("grid"):
-                        columns = texts(rows[0])
-                        cells = {(int(row[0]), int(column)): text.split("→")[-1] for text, column in zip(texts(row), columns)}
-                        grids.setdefault(caption.split()[0], {}).update(cells)
-        self.assertEqual(set(seen), set(expected))
-        for name, array in expected.items():
-            numbers = {}
+        seen, grids, partly, folded = {}, {}, set(), set()
+        for table in tables:
+            values = next((row for row in table["rows"] if row["look"] == "now"), None)
+            folded |= set(re.findall(r"more names see it: (.*)", table["caption"])[0].split()) if "more names" in table["caption"] else set()
+            for row in table["rows"]:
+                if row["look"].startswith("name") and not row["look"].endswith("goes"):
+                    seen.setdefault(row["label"], {}).update(items_of_name(row, values))
+                    partly |= {row["label"]} if "not drawn" in table["caption"] else set()
+                elif row["look"].startswith("grid"):
+                    name, *index = re.findall(r"\w+", table["caption"].partition(" in rows")[0])
+                    cells = {(*map(int, index), int(row["label"]), int(column)): text.split("→")[-1] for text, column in zip(texts(row), texts(table["rows"][0]))}
+                    grids.setdefault(name, {}).update(cells)
+        self.assertEqual(set(seen) | folded, set(expected))
+        for name in seen:
+            array, numbers = expected[name], {}
             for index, item in zip(itertools.product(*map(range, array.shape)), array.items):
                 at = tuple(k if stride else 0 for k, stride in zip(index, array.strides))
                 numbers.setdefault(at, []).append(item)
-            wanted = {k: (list(map(literal, flat(items[0]))), len(items)) for k, items in enumerate(numbers.values())
-                      if k in seen[name] or name not in partly}
+            wanted = {k: (list(map(literal, flat(items[0]))), len(items)) for k, items in enumerate(numbers.values()) if k in seen[name] or name not in partly}
             self.assertEqual(seen[name], wanted, name)
-            if len(array.shape) == 2 and array.items:
-                self.assertEqual(len(grids[name]), min(16, array.shape[0]) * min(16, array.shape[1]))
-                self.assertEqual(grids[name], {(i, j): literal(array.tolist()[i][j]) for i, j in grids[name]})
+            by_index = dict(zip(itertools.product(*map(range, array.shape)), array.items))
+            self.assertEqual(grids.get(name, {}), {at: literal(by_index[at]) for at in grids.get(name, {})})
 
+    def test_moves(self):
+        """An item is said to have moved from where it did, and to be written where it was: beside a machine of ids, for every kind of `set`."""
+        rng = random.Random(5)
+        chosen = [random_move(rng) for _ in range(share(400, 10_000))]
+        for (lines, ids, written, line), moments in zip(chosen, looks([([*lines, line], 0) for lines, _, _, line in chosen])):
+            self.assertTrue(all(moment["reply"].startswith("ok") for moment in moments[:-1]), moments)
+            last = moments[-1]
+            if last["reply"].startswith("no "):
+                continue
+            numbers = {name: array["buffer"] for name, array in last["before"].items()}
+            number = numbers["a"]
+            wanted = {at: [numbers[source[0]], source[1]] for at, source in ids.items() if source}
+            wanted = {at: source for at, source in wanted.items() if source != [number, at]}
+            is_changed = any(box["look"] == "x" for row in rows_of(last["tables"], "now") for box in row["boxes"])
+            self.assertEqual({at: source for at, *source in last["moved"]}, wanted if is_changed else {}, (lines, line))
+            self.assertEqual([[number, sorted(set(bytes_))] for number, bytes_ in last["written"]], [[number, written]], (lines, line))
+            drawn = [box["byte"] for table in last["tables"] if table["buffer"] == number for row in rows_of([table], "now") for box in row["boxes"] if box["look"]]
+            self.assertEqual(drawn, written)
+
+    def test_kinds(self):
+        text = pages.asked('const kind = kindOf("T{<b:x:3xT{>i:y:<5s:q:}:s:<?:k:2x}");\nprocess.stdout.write(JSON.stringify([kind.leaves, kind.size, kindOf("|S12").size, kindOf(">u2").size]));',
+                           [], argparse.Namespace(undo=0, dir="."))
+        leaves, *sizes = json.loads(text)
+        self.assertEqual([tuple(leaf.values()) for leaf in leaves], [(0, 1, "x"), (4, 4, "s.y"), (8, 5, "s.q"), (13, 1, "k")])
+        self.assertEqual(sizes, [16, 12, 2])
+
+    def test_pictures_of_all_kinds(self):
+        for (name, lines), moments in zip(SCRIPTS.items(), looks([(lines, 16) for lines in SCRIPTS.values()])):
+            with self.subTest(name):
+                self.assertEqual([moment["reply"] != "" for moment in moments], [bool(line.strip()) and not line.startswith("#") for line in lines])
+                for moment in moments:
+                    drawn = xml.etree.ElementTree.fromstring(moment["picture"])
+                    self.assertEqual([child.tag.split("}")[1] for child in drawn][:2], ["title", "desc"])
+                    self.assertEqual({part.tag.split("}")[1] for part in drawn.iter()} - {"svg", "title", "desc", "style", "marker", "path", "rect", "text", "g"}, set())
+
+    def test_what_is_said(self):
+        lines = ["a = arange <i4 0 4 1", "b = a[::2]", "c = reshape a (2,2)", "t = transpose c", "d = reshape t (4)",
+                 "set a[1:] = a[:-1]", "del d", "undo", "set b[0] = b[0]", "b = copy a C", "set a[:] = b", "del a"]
+        words = [moment["words"] for moment in look(lines)]
+        self.assertEqual(words[:2], ["a is a new array in buffer 1.", "b is a view in buffer 1, as a."])
+        self.assertEqual(words[4:9], ["d is a new array in buffer 2.", "3 values in buffer 1 change, seen by a, b, c and t. 3 values moved.", "d goes. Buffer 2 goes: no name sees it any more.",
+                                      "d is again as before, in buffer 2.", "What is written is what stood there."])
+        self.assertEqual(words[9:], ["b is now a new array in buffer 3.", "What is written is what stood there.", "a goes."])
+
+    def test_around_what_changed(self):
+        """A long array is drawn around what a line writes or names, and its grids too."""
+        lines = ["a = arange <i8 0 16777216 1", "m = reshape a (4096,4096)", "t = transpose m", "set m[2000,3000] = -5", "v = a[9000000:9000003]", "i = array <i8 (2) 77777 5000000", "set a[i] = -1", "print a[0]"]
+        begun = time.process_time()
+        told = look(lines)
+        *_, changed, view, _, scattered, _ = told
+        values = [(box["text"], box["look"]) for box in rows_of(changed["tables"][:1], "now")[0]["boxes"]]
+        self.assertIn(("-5", "x"), values)
+        self.assertIn(("8195001", ""), values)
+        self.assertLess(len(values), 80)
+        self.assertEqual([texts(row) for table in changed["tables"][1:3] for row in table["rows"] if any("→" in box["text"] for box in row["boxes"])] != [], True)
+        self.assertIn("items in between are not drawn", changed["tables"][0]["caption"])
+        names = {row["label"]: texts(row) for row in rows_of(view["tables"][:1], "name")}
+        self.assertEqual(names["v"], ["0", "1", "2"])
+        self.assertEqual([box["text"] for box in rows_of(scattered["tables"][:1], "now")[0]["boxes"] if box["look"] == "x"], ["-1", "-1"])
+        self.assertLess(time.process_time() - begun, 20)
+
+    def test_bounds(self):
+        """Time grows with what is drawn: many views of a buffer, records of many values, long replies and types."""
+        views = ["a = zeros <i4 (16,16)", *(f"v{k} = a[{k % 16}:,{k // 16}:]" for k in range(40)), *(f"set a[{k % 16},{k // 16}] = {k + 1}" for k in range(20))]
+        leaf = "T{" + "".join(f"b:{'abcdefgh'[k % 8]}{k}:" for k in range(64)) + "}"
+        big = "T{" + "".join(f"{leaf}:r{j}:" for j in range(32)) + "}"
+        records = [f"a = zeros {big} (4)", f"b = zeros {big} (4)", "set a[0] = b[1]", "set b[0] = a[1]"]
+        long = "T{" + "".join("T{" + "".join("b:" + f"f{j}{k}_".ljust(28, "x") + ":" for k in range(64)) + f"}}:g{j}:" for j in range(32)) + "}"
+        begun = time.monotonic()
+        told = looks([(lines, 16) for lines in (views, records, [f"a = zeros {long} (2)", "names"], ["a = zeros |u1 (2000,2000)", *["print a"] * 3])])
+        self.assertLess(time.monotonic() - begun, 20)
+        self.assertIn("34 more names see it: ", told[0][-1]["tables"][0]["caption"])
+        self.assertIn("the last 1792 values of each item are not drawn", told[1][0]["tables"][0]["caption"])
+
+    def test_many_names(self):
+        """Of many names in a buffer those of the line are drawn, and the others are named; of many buffers some."""
+        lines = [f"n{k} = arange <i4 0 {k % 5} 1" for k in range(60)] + [f"v{k} = n4[{k % 4}:]" for k in range(40)]
+        *_, changed, asked = look([*lines, "n8 = n4", "set v30[0] = 7", "print v33"])
+        self.assertEqual(asked["hidden"], 46)
+        self.assertEqual(rows_of(changed["tables"], "name")[0]["label"], "v30")
+        self.assertEqual([row["label"] for row in rows_of(asked["tables"], "name") if row["look"].endswith("asked")], ["v33"])
+        self.assertEqual(changed["words"], "1 value in buffer 5 changes, seen by n4, n8, v0, v1, v2, v4 and 34 more.".replace("v0, v1, v2, v4 and 34", changed["words"].split("n8, ")[1].split(" more")[0]))
+
+    def test_pictures_of_the_docs(self):
+        with tempfile.TemporaryDirectory() as folder:
+            subprocess.run(["make", "-s", "-C", str(TOP), "pictures", f"FOLDER={folder}"], check=True, env=environment(), timeout=120)
+            made = {path.name: path.read_text() for path in pathlib.Path(folder).iterdir()}
+        self.assertEqual(made, {path.name: path.read_text() for path in (TOP / "docs/pictures").iterdir()}, "make pictures draws them anew")
+
+
+@unittest.skipUnless(HAS_PAGE, "left out: `make page` has made no page")
+class Pages(unittest.TestCase):
     def words(self, **words):
-        folder = tempfile.TemporaryDirectory()
-        self.addCleanup(folder.cleanup)
-        return argparse.Namespace(**{"undo": 16, "dir": folder.name, "line": None, **words})
+        return argparse.Namespace(**{"undo": 16, "dir": "/nowhere", "line": None, **words})
 
-    def drawn(self, lines, **words):
-        """The page of some lines."""
-        return pages.drawn("made <&>.bench", lines, self.words(**words))
+    def given(self, text):
+        return json.loads(pages.GIVEN.search(text)[0])
+
+    def test_pages_of_all_kinds(self):
+        """The page has the script as it is, and nothing of it is markup."""
+        for name, lines in SCRIPTS.items():
+            text = pages.drawn("made <&>.bench", [line.encode() for line in lines], self.words(line=2))
+            self.assertEqual(self.given(text), {"title": "made <&>.bench", "script": "\n".join(lines), "files": {}, "undo": 16, "line": 2}, name)
+            self.assertEqual(pages.GIVEN.sub("", text), pages.form())
+
+    def test_files(self):
+        with tempfile.TemporaryDirectory() as folder:
+            pathlib.Path(folder, "x.npy").write_bytes(b"\0\xff")
+            text = pages.drawn("", [b'a = load "x.npy"', b'b = load "none.npy"'], self.words(dir=folder))
+            self.assertEqual(self.given(text)["files"], {"x.npy": "AP8="})
+            pathlib.Path(folder, "y.npy").touch()
+            with open(pathlib.Path(folder, "y.npy"), "r+b") as file:
+                file.truncate(pages.MOST_FILES + 1)
+            self.assertRaisesRegex(BenchError, "have more than", pages.drawn, "", [b'a = load "y.npy"'], self.words(dir=folder))
 
     @unittest.skipUnless(shutil.which("bash"), "there is no Bash")
     def test_command(self):
-        """`bench-tool draw` writes a page or a picture to its output or to a file: whole, or what was there stays."""
+        """`bench-tool draw` writes a page to its output or to a file: whole, or what was there stays."""
         lines = [b"a = arange <i4 0 4 1", b"set a[1:] = a[:-1]"]
         with tempfile.TemporaryDirectory() as folder:
             script, made = pathlib.Path(folder, "made <&>.bench"), pathlib.Path(folder, "page.html")
@@ -300,7 +308,7 @@ class Pictures(unittest.TestCase):
                 return subprocess.run(["bash", "-c", f'{before} exec "$@"', "-", str(TOOL), "draw", str(script), f"--dir={folder}", *words],
                                       capture_output=True, env=environment(), timeout=120)
             done = tool()
-            self.assertEqual((done.stderr, done.returncode, done.stdout.decode()), (b"", 0, self.drawn(lines)))
+            self.assertEqual((done.stderr, done.returncode, done.stdout.decode()), (b"", 0, pages.drawn(script.name, lines, self.words(dir=folder))))
             self.assertEqual(tool("-o", str(made)).returncode, 0)
             self.assertEqual(made.read_bytes(), done.stdout)
             made.write_text("old")
@@ -308,40 +316,8 @@ class Pictures(unittest.TestCase):
             self.assertEqual((failed.returncode, made.read_text()), (3, "old"))
             self.assertEqual(sorted(path.name for path in pathlib.Path(folder).iterdir()), ["made <&>.bench", "page.html"])
             self.assertEqual(tool("-o", "/dev/null").returncode, 0)
-            self.assertIn(b"<svg", tool("--svg", "--line", "2").stdout)
-
-    def test_pages_and_pictures_of_all_kinds(self):
-        for name, lines in SCRIPTS.items():
-            with self.subTest(name):
-                text = self.drawn([line.encode() for line in lines])
-                self.assertLess(len(text.encode()), 200_000)
-                self.assertNotIn("http", re.sub(DATA, "", text))
-                answered = [k for k, line in enumerate(lines, 1) if line.strip() and not line.startswith("#")]
-                self.assertEqual([line[0] for line in data_of(text)], answered)
-                if lines:
-                    picture = xml.etree.ElementTree.fromstring(pages.picture([line.encode() for line in lines], self.words(line=len(lines))))
-                    self.assertEqual([child.tag.split("}")[1] for child in picture][:2], ["title", "desc"])
-
-    def test_what_is_said(self):
-        lines = [b"a = arange <i4 0 4 1", b"b = a[::2]", b"c = reshape a (2,2)", b"t = transpose c", b"d = reshape t (4)",
-                 b"set a[1:] = a[:-1]", b"del d", b"undo", b"set b[0] = b[0]"]
-        words = [words for _, _, words in data_of(self.drawn(lines))]
-        self.assertEqual(words[0], "Buffer 1 appears. a appears, in buffer 1.")
-        self.assertEqual(words[1], "b appears, in buffer 1.")
-        self.assertEqual(words[4], "Buffer 2 appears. d appears, in buffer 2.")
-        self.assertEqual(words[5], "Buffer 1 changes: byte 4 from 1 to 0; byte 8 from 2 to 1; byte 12 from 3 to 2; seen by a, b, c, t. "
-                                   "Moved: to byte 4 from byte 0; to byte 8 from byte 4; to byte 12 from byte 8.")
-        self.assertEqual((words[6], words[7]), ("Buffer 2 goes. d goes, in buffer 2.", "Buffer 2 comes back. d comes back, in buffer 2."))
-        self.assertEqual(words[8], "Nothing changes.")
-
-    def test_large_pages(self):
-        rng = random.Random(1)
-        arrays = [f"a{k} = array <i8 (16,16) " + " ".join(str(rng.randrange(-2**63, 2**63)) for _ in range(256)) for k in range(6)]
-        views = [f"{view}{k} = {what.format(k)}" for k in range(6) for view, what in (("t", "transpose a{}"), ("r", "a{}[::-1,::2]"))]
-        writes = [f"set a{k % 6}[1:] = a{(k + k // 6) % 6}[:-1]" for k in range(32)]
-        text = self.drawn([line.encode() for line in arrays + views + writes])
-        self.assertLess(len(text.encode()), 200_000)
-        self.assertEqual(len(data_of(text)), 50)
+            alone = tool("--svg", "--line", "2")
+            self.assertIn(b"<svg" if shutil.which("node") else b"needs Node", alone.stdout + alone.stderr)
 
     def test_bad_words(self):
         with self.assertRaisesRegex(BenchError, "1 to 1"):
@@ -351,77 +327,6 @@ class Pictures(unittest.TestCase):
             done = subprocess.run(words, capture_output=True, env=environment(), timeout=60)
             self.assertEqual((done.returncode, done.stdout), (3, b""))
             self.assertIn(told, done.stderr.decode())
-
-    def test_many_names(self):
-        """Of many names in a buffer those of the line are drawn, and the others are named; of many buffers some."""
-        lines = [f"n{k} = arange <i4 0 {k % 5} 1".encode() for k in range(60)] + [f"v{k} = n4[{k % 4}:]".encode() for k in range(40)]
-        drawn = data_of(self.drawn([*lines, b"n8 = n4", b"set v30[0] = 7", b"print v33"]))
-        self.assertIn("46 more buffers are not drawn", drawn[-1][2])
-        *_, changed, asked = (rows_of(tables, "name") for _, tables, _ in drawn)
-        self.assertIn("v30", [row[0] for row in changed])
-        self.assertEqual([row[0] for row in asked if row[1].endswith("asked")], ["v33"])
-        self.assertIn("30 more names see it: ", " ".join(caption for caption, _ in drawn[-1][1]))
-        self.assertTrue(drawn[-2][2].startswith("Buffer 5 changes: byte "))
-
-    def test_bounds(self):
-        """Time, memory and page grow with what is drawn: many views of a buffer, records of many values, long replies and types."""
-        views = ["a = zeros <i4 (16,16)", *(f"v{k} = a[{k % 16}:,{k // 16}:]" for k in range(40)), *(f"set a[{k % 16},{k // 16}] = {k + 1}" for k in range(20))]
-        leaf = "T{" + "".join(f"b:{'abcdefgh'[k % 8]}{k}:" for k in range(64)) + "}"
-        big = "T{" + "".join(f"{leaf}:r{j}:" for j in range(32)) + "}"
-        records = [f"a = zeros {big} (4)", f"b = zeros {big} (4)", "set a[0] = b[1]", "set b[0] = a[1]"]
-        long = "T{" + "".join("T{" + "".join("b:" + f"f{j}{k}_".ljust(28, "x") + ":" for k in range(64)) + f"}}:g{j}:" for j in range(32)) + "}"
-        for lines, most in ((views, 600_000), (records, 200_000), ([f"a = zeros {long} (2)", "names"], 200_000), (["a = zeros |u1 (2000,2000)", *["print a"] * 3], 200_000)):
-            with self.subTest(lines[0][:60]):
-                begun = time.process_time()
-                text = self.drawn([line.encode() for line in lines])
-                self.assertLess(len(text.encode()), most)
-                self.assertLess(time.process_time() - begun, 20)
-        self.assertIn("the last 1792 values of each item are not drawn", " ".join(caption for _, tables, _ in data_of(self.drawn([line.encode() for line in records]))
-                                                                                  for caption, _ in tables))
-
-    def test_many_items(self):
-        lines = [b"a = arange <i8 0 16777216 1", b"m = reshape a (4096,4096)", b"t = transpose m", b"set t[0] = -5"]
-        begun = processor_time()
-        with Session(PROGRAM) as bench:
-            bench.run(lines)
-        if processor_time() - begun > 1:
-            self.skipTest("left out: this program takes long for 2^24 items alone")
-        begun = processor_time()
-        _, tables, words = data_of(self.drawn(lines))[-1]
-        self.assertLess(processor_time() - begun, 2)
-        self.assertIn("16776960 items in between are not drawn", tables[0][0])
-        values = [text for row in rows_of(tables[:1], "now") for text in texts(row)]
-        self.assertEqual(values[:3] + values[-2:], ["-5", "1", "2", "16777214", "16777215"])
-        self.assertEqual([texts(row)[0] for row in rows_of(tables[1:2], "grid")][:2], ["0→-5", "4096→-5"])
-        self.assertTrue(words.startswith("Buffer 1 changes, as far as it is drawn: byte 0 from 0 to -5"))
-
-    def test_in_a_browser(self):
-        if CHROMIUM is None:
-            self.skipTest("left out: no chromium is installed")
-        chosen = {path.stem: scripts.lines_of(path.read_bytes()) for path in sorted((TOP / "examples").glob("*.bench"))[:3]}
-        chosen.update((name, [line.encode() for line in lines]) for name, lines in SCRIPTS.items())
-        made = {name: self.drawn(lines) for name, lines in chosen.items()}
-        with tempfile.TemporaryDirectory() as folder:
-            frames = pathlib.Path(folder, "frames.html")
-            frames.write_text(FRAMES % ",\n".join(json.dumps(text).replace("</", "<\\/").replace("<!--", "<\\u0021--") for text in map(watched, made.values())))
-            words = ["--headless", "--no-sandbox", "--disable-gpu", f"--user-data-dir={folder}/user", "--virtual-time-budget=600000", "--dump-dom"]
-            done = subprocess.run([CHROMIUM, *words, frames.as_uri()], capture_output=True, timeout=300)
-        told = re.search(r'<pre id="told">(.*?)</pre>', done.stdout.decode(), re.S)[1]
-        for (name, width), did in zip(itertools.product(made, (1300, 360)), json.loads(html.unescape(told))):
-            with self.subTest(name, width=width):
-                drawn = data_of(made[name], width == 360)
-                self.assertEqual(did["faults"], [])
-                self.assertEqual(len(did["lines"]), len(drawn))
-                self.assertEqual(did["first"].split(":")[0], f"Line {drawn[0][0]}" if drawn else "")
-                for (title, words, shown, current, fits), (number, tables, said) in zip(did["lines"], drawn):
-                    self.assertEqual((title.split(":")[0], words, current, fits), (f"Line {number}", said, 1, True))
-                    self.assertEqual(shown, list(map(texts, rows_of(tables, "now"))))
-
-    def test_pictures_of_the_docs(self):
-        with tempfile.TemporaryDirectory() as folder:
-            subprocess.run(["make", "-s", "-C", str(TOP), "pictures", f"FOLDER={folder}"], check=True, env=environment(), timeout=120)
-            made = {path.name: path.read_text() for path in pathlib.Path(folder).iterdir()}
-        self.assertEqual(made, {path.name: path.read_text() for path in (TOP / "docs/pictures").iterdir()}, "make pictures draws them anew")
 
 
 if __name__ == "__main__":
