@@ -1,0 +1,117 @@
+"""A headless chromium, to which its pages are asked over a pipe. Nothing of it is left at the end."""
+import base64
+import contextlib
+import json
+import os
+import shutil
+import subprocess
+import tempfile
+import time
+
+CHROMIUM = next(filter(None, map(shutil.which, ("chromium", "chromium-browser", "google-chrome"))), None)
+
+
+class Browser(contextlib.ExitStack):
+    """The browser, until it is closed. `faults` has what its pages report as errors."""
+
+    def __init__(self):
+        super().__init__()
+        folder = tempfile.mkdtemp()
+        self.callback(shutil.rmtree, folder, ignore_errors=True)
+        (ours, to_us), (from_us, self._to) = os.pipe(), os.pipe()
+        words = [CHROMIUM, "--headless=new", "--no-sandbox", "--disable-gpu", "--disable-dev-shm-usage", "--remote-debugging-pipe", f"--user-data-dir={folder}"]
+        # The browser reads at 3 and writes at 4.
+        shell = ["sh", "-c", f'exec 3<&{from_us} 4>&{to_us}; exec "$@"', "", *words]
+        process = subprocess.Popen(shell, pass_fds=[from_us, to_us], stdout=subprocess.DEVNULL, stderr=subprocess.DEVNULL)
+        os.close(from_us), os.close(to_us)
+        self.callback(process.wait)
+        self.callback(process.terminate)
+        self.callback(os.close, self._to)
+        self.callback(os.close, ours)
+        self._from, self._held, self._number, self.faults = ours, b"", 0, []
+
+    def call(self, method, session=None, **given):
+        """A call of the DevTools protocol, and its result."""
+        self._number += 1
+        told = {"id": self._number, "method": method, "params": given, **({"sessionId": session} if session else {})}
+        os.write(self._to, json.dumps(told).encode() + b"\0")
+        while True:
+            while b"\0" not in self._held:
+                part = os.read(self._from, 1 << 20)
+                if not part:
+                    raise RuntimeError("the browser has ended")
+                self._held += part
+            one, _, self._held = self._held.partition(b"\0")
+            reply = json.loads(one)
+            if reply.get("method") in ("Runtime.exceptionThrown", "Log.entryAdded"):
+                self.faults.append(json.dumps(reply["params"])[:2000])
+            if reply.get("id") == self._number:
+                if "error" in reply:
+                    raise RuntimeError(f"{method}: {reply['error']}")
+                return reply["result"]
+
+    def open(self, url, width=1280, height=900, is_dark=False, folder=None):
+        """Opens a page in a tab of its own."""
+        target = self.call("Target.createTarget", url="about:blank")["targetId"]
+        page = Page(self, target, self.call("Target.attachToTarget", targetId=target, flatten=True)["sessionId"])
+        for domain in ("Runtime", "Log", "Page", "DOM"):
+            page.call(f"{domain}.enable")
+        page.call("Emulation.setDeviceMetricsOverride", width=width, height=height, deviceScaleFactor=1, mobile=width < 500)
+        page.call("Emulation.setEmulatedMedia", features=[{"name": "prefers-color-scheme", "value": "dark" if is_dark else "light"}])
+        page.call("Emulation.setFocusEmulationEnabled", enabled=True)
+        if folder:
+            self.call("Browser.setDownloadBehavior", behavior="allow", downloadPath=str(folder))
+        page.call("Page.navigate", url=url)
+        return page
+
+
+class Page:
+    """A tab."""
+
+    def __init__(self, browser, target, session):
+        self.browser, self.target, self.session = browser, target, session
+
+    def call(self, method, **given):
+        return self.browser.call(method, self.session, **given)
+
+    def ask(self, text):
+        """What an expression of JavaScript gives."""
+        told = self.call("Runtime.evaluate", expression=text, returnByValue=True, awaitPromise=True, userGesture=True)
+        if "exceptionDetails" in told:
+            raise RuntimeError(told["exceptionDetails"]["exception"].get("description"))
+        return told["result"].get("value")
+
+    def wait(self, text, seconds=30):
+        """Waits until an expression is true."""
+        end = time.monotonic() + seconds
+        while not (found := self.ask(text)):
+            if time.monotonic() > end:
+                raise TimeoutError(text)
+            time.sleep(0.02)
+        return found
+
+    def key(self, key, modifiers=0, text=None):
+        code = {"Enter": 13, "Tab": 9, "Escape": 27, "ArrowLeft": 37, "ArrowUp": 38, "ArrowRight": 39, "ArrowDown": 40, "Backspace": 8}.get(key, 0)
+        given = {"key": key, "code": key, "windowsVirtualKeyCode": code, "modifiers": modifiers}
+        self.call("Input.dispatchKeyEvent", type="keyDown", **given, **({"text": "\r" if key == "Enter" else text} if key == "Enter" or text else {}))
+        self.call("Input.dispatchKeyEvent", type="keyUp", **given)
+
+    def type(self, text):
+        """Types a text; each newline is the key Enter."""
+        for k, line in enumerate(text.split("\n")):
+            if k:
+                self.key("Enter")
+            if line:
+                self.call("Input.insertText", text=line)
+
+    def point(self, x, y, pressed=False):
+        self.call("Input.dispatchMouseEvent", type="mouseMoved", x=x, y=y)
+        for kind in ("mousePressed", "mouseReleased") if pressed else ():
+            self.call("Input.dispatchMouseEvent", type=kind, x=x, y=y, button="left", clickCount=1)
+
+    def shot(self, path):
+        with open(path, "wb") as file:
+            file.write(base64.b64decode(self.call("Page.captureScreenshot")["data"]))
+
+    def close(self):
+        self.browser.call("Target.closeTarget", targetId=self.target)
