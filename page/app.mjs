@@ -61,6 +61,7 @@ class Run {
       if (this.moments.length === same && same !== this.kept?.count) this.keep();
       try {
         this.moments.push(this.trace.step(lines[this.moments.length]));
+        huesOf(this.moments.slice(-1), this.hues);
       } catch (fault) {
         this.fault = `The program stopped in line ${this.moments.length + 1}${fault instanceof WebAssembly.RuntimeError ? " (its stack overflowed)" : `: ${fault.message}`}. It starts again with the next change of the script.`;
       }
@@ -70,7 +71,6 @@ class Run {
       if (!seen()) return false;
       until = performance.now() + SLICE;
     }
-    huesOf(this.moments, this.hues);
     return true;
   }
 }
@@ -330,9 +330,9 @@ for (const name of Object.keys(language.examples)) ui.examples.append(made("opti
 for (const [name, text] of Object.entries(given.files ?? {})) files.set(name, Uint8Array.from(atob(text), letter => letter.charCodeAt(0)));
 const asked = await linked();
 if (given.title) document.title = `${given.title} - bench`;
-write(asked.text || given.script || Object.values(language.examples)[0] || "");
+write(asked.text ?? given.script ?? language.examples.mirrored);
 if (given.script === undefined) ui.script.focus({ preventScroll: true });
 else document.body.classList.add("drawn");
-run = new Run(await WebAssembly.compile(await unpacked(at("program").textContent, "gzip")), given.undo ?? 16);
+run = window.bench = new Run(await WebAssembly.compile(await unpacked(at("program").textContent, "gzip")), given.undo ?? 16);
 await start(false, (asked.line || given.line || linesOf(ui.script.value).length) - 1);
 goTo(current);

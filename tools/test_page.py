@@ -185,5 +185,188 @@ console.log(JSON.stringify(told));
         self.assertEqual(replies[-2:], ["ok b <i4 (3,) new", "[0 1 2]"])
 
 
+TYPED = """a = arange <i4 0 5 1
+b = a[::-1]
+set b[1:] = b[:-1]
+print a
+c = b[9]
+d = reshape a (2,3"""
+CONTRAST = """(() => {
+  const canvas = document.createElement("canvas").getContext("2d"), style = getComputedStyle(document.documentElement);
+  const light = text => { canvas.fillStyle = text; canvas.fillRect(0, 0, 1, 1); return [...canvas.getImageData(0, 0, 1, 1).data].slice(0, 3).map(c => (c /= 255, c <= .03928 ? c / 12.92 : ((c + .055) / 1.055) ** 2.4)).reduce((sum, c, k) => sum + c * [.2126, .7152, .0722][k], 0); };
+  const of = name => light(style.getPropertyValue(`--${name}`)), ratio = (a, b) => (Math.max(a, b) + .05) / (Math.min(a, b) + .05);
+  return [...["ink", "dim", ...[...Array(12).keys()].map(k => `h${k}`)].map(name => [name, ratio(of(name), of("page"))]), ["ink on mark", ratio(of("ink"), of("mark"))], ["ink on wrote", ratio(of("ink"), of("wrote"))]];
+})()"""
+UNNAMED = """[...document.querySelectorAll("button, input, select, textarea, [role=group], section, a")].filter(each => !each.hidden && !each.getAttribute("aria-label") && !each.labels?.length && !each.textContent.trim()).map(each => each.outerHTML.slice(0, 80))"""
+BESIDE = """[...document.querySelectorAll("#shown .l")].map(line => line.querySelector(".r")?.textContent ?? "")"""
+VALUES = """[...document.querySelectorAll("#pictures g.now")].map(row => [...row.querySelectorAll("text")].slice(1).map(text => text.textContent))"""
+
+
+@needs_page
+@needs_browser
+class InBrowser(unittest.TestCase):
+    """The page in a headless chromium, opened from a file."""
+
+    @classmethod
+    def setUpClass(cls):
+        cls.browser = Browser()
+        cls.addClassCleanup(cls.browser.close)
+
+    def page(self, uri=PAGE.as_uri(), **look):
+        self.browser.faults.clear()
+        page = self.browser.open(uri, **look)
+        self.addCleanup(page.close)
+        page.wait("document.body?.dataset.ran")
+        return page
+
+    def typed(self, page, text):
+        """Writes a script in the place of the one that is there."""
+        page.ask("script.focus(), script.select()")
+        before = page.ask("document.body.dataset.ran")
+        page.type(text)
+        page.wait(f"document.body.dataset.ran !== '{before}' && bench.moments.length === script.value.replace(/\\n$/, '').split('\\n').length")
+        return page
+
+    def test_a_script(self):
+        """Replies beside the lines, a refusal in place with its hint, the picture of the line."""
+        page = self.typed(self.page(), TYPED)
+        self.assertEqual(page.ask("script.value"), TYPED)
+        self.assertEqual(page.ask(BESIDE), ["ok a <i4 (5,) new", "ok b <i4 (5,) view", "ok set 4", "[1 2 3 4 4]", "E11 index out of range", "E03 syntax: expected `,` or `)`"])
+        self.assertEqual(page.ask("[line.textContent, reply.textContent, hint.textContent]"), ["Line 6: d = reshape a (2,3", "no E03 syntax", "Expected `,` or `)`"])
+        page.key("ArrowUp")
+        page.wait("line.textContent.startsWith('Line 5')")
+        self.assertRegex(page.ask("hint.textContent"), r"is outside|b is <i4 \(5,\)")
+        page.key("ArrowUp"), page.key("ArrowUp")
+        page.wait("line.textContent.startsWith('Line 3')")
+        self.assertEqual(page.ask(VALUES), [["1", "2", "3", "4", "4"]])
+        self.assertEqual(page.ask("[words.textContent, document.querySelectorAll('#pictures path').length]"), ["4 values in buffer 1 change, seen by a and b. 4 values moved.", 4])
+        self.assertEqual(self.browser.faults, [])
+
+    def test_keyboard(self):
+        """Everything is reached without a mouse: lines, words, cells, the slider."""
+        page = self.typed(self.page(), "a = arange <i4 0 3 1\nb = tra")
+        page.key("Tab")
+        self.assertEqual(page.ask("script.value"), "a = arange <i4 0 3 1\nb = transpose ")
+        page.wait("offers.textContent.includes('the name of an array')")
+        page.type("a\nset b[0] = 7")
+        page.wait("bench.moments.length === 3")
+        page.key("Escape"), page.key("Tab")
+        self.assertNotEqual(page.ask("document.activeElement.id"), "script")
+        page.ask("slider.focus()")
+        page.key("ArrowLeft")
+        page.wait("line.textContent.startsWith('Line 2')")
+        page.ask("on.click(), pictures.focus()")
+        page.key("ArrowRight")
+        self.assertEqual(page.ask("lit.textContent"), "Byte 0 of buffer 1, before 0: a[0] is 7, b[0] is 7")
+        page.key("ArrowRight")
+        self.assertEqual(page.ask("[lit.textContent, document.querySelectorAll('#pictures .lit').length]"), ["Byte 4 of buffer 1: a[1] is 1, b[1] is 1", 5])
+        page.ask("document.activeElement.blur()")
+        page.key("ArrowUp")
+        page.wait("line.textContent.startsWith('Line 2')")
+
+    def test_pointing(self):
+        """A cell of a strip or a grid, by mouse or finger, lights up every cell of its byte."""
+        page = self.typed(self.page(), "a = arange <i2 0 6 1\nm = reshape a (2,3)\nt = transpose m")
+        x, y = page.ask("(() => { const box = [...document.querySelectorAll('#pictures .grid [data-at=\"6\"]')].at(-1).getBoundingClientRect(); return [box.x + box.width / 2, box.y + box.height / 2]; })()")
+        page.point(x, y)
+        page.wait("lit.textContent")
+        self.assertEqual(page.ask("lit.textContent"), "Byte 6 of buffer 1: a[3] is 3, m[1,0] is 3, t[0,1] is 3")
+        self.assertEqual(page.ask("[...document.querySelectorAll('#pictures .lit + text')].map(text => text.textContent)").count("3"), 5)
+
+    def test_files(self):
+        """A file that is dropped is loaded; what is saved is a link."""
+        with tempfile.TemporaryDirectory() as folder, Session(PROGRAM, dir=folder) as bench:
+            bench.run(["x = arange <i8 0 4 1", 'save x "x.npy"'])
+            data = pathlib.Path(folder, "x.npy").read_bytes()
+            page = self.typed(self.page(folder=folder), 'y = load "x.npy"\nset y[0] = 9\nsave y "y.npy"')
+            self.assertEqual(page.ask(BESIDE)[0], "E34 no such file: there is no file of that name")
+            page.ask(f"(() => {{ const held = new DataTransfer(); held.items.add(new File([Uint8Array.from(atob('{coded(data)}'), c => c.charCodeAt(0))], 'x.npy')); dispatchEvent(new DragEvent('drop', {{ dataTransfer: held }})); }})()")
+            page.wait("bench.moments[0]?.reply.accepted && document.querySelector('#files a')")
+            page.ask("document.querySelector('#files a').click()")
+            made, end = pathlib.Path(folder, "y.npy"), time.monotonic() + 20
+            while not made.is_file() and time.monotonic() < end:
+                time.sleep(0.05)
+            bench.run(['y = load "x.npy"', "set y[0] = 9", 'save y "z.npy"'])
+            self.assertEqual(made.read_bytes(), pathlib.Path(folder, "z.npy").read_bytes())
+
+    def test_links(self):
+        """A link carries the script and the line; a long one is told of; `#2` is a line."""
+        page = self.typed(self.page(), TYPED)
+        page.ask("navigator.clipboard.writeText = async text => { window.copied = text; }")
+        page.ask("link.click()")
+        link = page.wait("window.copied")
+        other = self.page(link)
+        self.assertEqual(other.ask("[script.value, line.textContent]"), [TYPED, "Line 6: d = reshape a (2,3"])
+        page.ask("numpy.click()")
+        page.wait("window.copied.startsWith('import')")
+        self.assertEqual(page.ask("window.copied").split("\n")[:4], ["import numpy as np", 'a = np.arange(0, 5, 1, dtype="<i4")', "b = a[::-1]", "b[1:] = b[:-1]"])
+        rng = random.Random(1)
+        self.typed(page, "\n".join(f"a{rng.random()} = {rng.random()}" for _ in range(700)))
+        page.ask("link.click()")
+        page.wait("note.textContent.includes('8 KB')")
+        self.assertTrue(self.page(f"{PAGE.as_uri()}#3").ask("line.textContent").startswith("Line 3"))
+
+    def test_widths_and_colours(self):
+        """At 390 and 1280 pixels, light and dark, nothing is wider than the page; names and contrast."""
+        for width in (390, 1280):
+            for is_dark in (False, True):
+                page = self.page(width=width, height=844, is_dark=is_dark)
+                for name in page.ask("[...examples.options].map(option => option.value).filter(Boolean)"):
+                    page.ask(f"examples.value = '{name}', examples.dispatchEvent(new Event('change'))")
+                    page.wait("bench.moments.length === script.value.replace(/\\n$/, '').split('\\n').length && bench.lines.join('\\n') === script.value.replace(/\\n$/, '')")
+                    for line in range(page.ask("bench.moments.length")):
+                        page.ask(f"slider.value = {line}, slider.dispatchEvent(new Event('input'))")
+                        self.assertLessEqual(page.ask("document.documentElement.scrollWidth"), width, (name, line))
+                self.assertEqual([(name, ratio) for name, ratio in page.ask(CONTRAST) if ratio < 4.5], [])
+                self.assertEqual(page.ask(UNNAMED), [])
+                if width == 390:  # the reply is in sight, and the picture begins on the first screen
+                    self.assertLess(page.ask("reply.getBoundingClientRect().bottom"), 844)
+                    self.assertLess(page.ask("pictures.getBoundingClientRect().top"), 600)
+        self.assertEqual(self.browser.faults, [])
+
+    def test_time(self):
+        """From a key to the picture it takes at most a tenth of a second in the examples; long scripts and arrays stay usable."""
+        page = self.page()
+        timed = """(async () => { const ran = document.body.dataset.ran, begun = performance.now(); script.setRangeText(' ', %s, %s, 'end'); script.dispatchEvent(new Event('input'));
+                   while (document.body.dataset.ran === ran) await new Promise(done => setTimeout(done)); return performance.now() - begun; })()"""
+        for name in page.ask("[...examples.options].map(option => option.value).filter(Boolean)"):
+            page.ask(f"examples.value = '{name}', examples.dispatchEvent(new Event('change'))")
+            page.wait("bench.lines.join('\\n') === script.value.replace(/\\n$/, '')")
+            self.assertLess(min(page.ask(timed % (("script.value.length - 1",) * 2)) for _ in range(5)), 100, name)
+        self.typed(page, "\n".join(["a = arange <i4 0 1000000 1", *(f"set a[{k * 997}:{k * 997 + 3}] = {k}" for k in range(1000)), "print a"][:-1]))
+        self.assertLess(min(page.ask(timed % (("script.value.length",) * 2)) for _ in range(5)), 1000)
+        self.assertIn("999", page.ask(VALUES)[0])
+
+    def test_nothing_is_sent(self):
+        page = self.page()
+        self.assertEqual(page.ask("fetch('https://example.com/').then(() => 'sent', () => 'refused')"), "refused")
+        self.assertEqual(page.ask("(() => { try { return eval('1'); } catch { return 'refused'; } })()"), "refused")
+
+    def test_the_program_stops(self):
+        """A stack that overflows is told of, and the next change begins anew."""
+        page = self.typed(self.page(), "a = arange <i4 0 3 1")
+        page.ask("bench.trace.step = () => { throw new WebAssembly.RuntimeError('unreachable'); }")
+        page.type("\nprint a")
+        page.wait("words.textContent.startsWith('The program stopped in line 2 (its stack overflowed)')")
+        page.type(" ")
+        page.wait("reply.textContent === '[0 1 2]'")
+
+    def test_drawn_pages(self):
+        """`bench-tool draw` fills the page: every kind of script opens, and each line is drawn, without a fault."""
+        from test_draw import SCRIPTS
+        with tempfile.TemporaryDirectory() as folder:
+            for name, lines in SCRIPTS.items():
+                path = pathlib.Path(folder, f"{name}.html")
+                path.write_text(pages.drawn(f"{name} <&>", [line.encode() for line in lines], argparse.Namespace(undo=16, dir=folder, line=2)))
+                for width in (390, 1280):
+                    page = self.page(path.as_uri(), width=width)
+                    self.assertEqual(page.ask("[script.value, document.title, bench.fault]"), ["\n".join(lines), f"{name} <&> - bench", ""])
+                    self.assertTrue(page.ask("line.textContent").startswith(f"Line {min(2, max(1, len(lines)))}:"), name)
+                    for line in range(len(lines)):
+                        page.ask(f"slider.value = {line}, slider.dispatchEvent(new Event('input'))")
+                        self.assertLessEqual(page.ask("document.documentElement.scrollWidth"), width, (name, line))
+                    self.assertEqual(self.browser.faults, [], name)
+
+
 if __name__ == "__main__":
     unittest.main()
