@@ -306,14 +306,13 @@ export class Trace {
     const moved = target ? this.moves(line, number, target) : new Map();
     this.look(number, focus);
     this.again(line, reply);
-    const cells = new Set(old.starts(focus)), stays = [...old.values].filter(([at]) => cells.has(at - at % old.kind.size));
-    this.turn(names, [...buffers, [number, new Memory(old.kind, old.count, new Map())]]);
-    const fresh = this.state.buffers.get(number).values;
+    const cells = new Set(old.starts(focus)), fresh = new Memory(old.kind, old.count);
+    this.turn(names, [...buffers, [number, fresh]]);
     this.look(number, focus);
-    for (const [at, value] of stays) if (!fresh.has(at)) fresh.set(at, value); // what no name sees has stayed
-    if (fresh.size === old.values.size && [...fresh].every(([at, value]) => old.values.get(at) === value)) this.turn(names, buffers);
-    const changed = this.state.buffers.get(number) !== old, written = target ? this.values(target).map(place => place.byte) : [];
-    return { focus: new Map([[number, focus]]), written: new Map([[number, new Set(written)]]), moved: changed ? moved : new Map() };
+    for (const [at, value] of old.values) if (cells.has(at - at % old.kind.size) && !fresh.values.has(at)) fresh.values.set(at, value); // what no name sees has stayed
+    const isSame = cells.size === old.count && [...fresh.values].every(([at, value]) => old.values.get(at) === value), written = target ? this.values(target) : [];
+    if (isSame) this.turn(names, buffers);
+    return { focus: new Map([[number, focus]]), written: new Map([[number, new Set(written.map(({ byte }) => byte))]]), moved: isSame ? new Map() : moved };
   }
 
   /** The items that an operand, `X` or `X[ix]`, names: their shape, how many they are, and where each is, in C order. Where arrays are in
