@@ -97,12 +97,8 @@ class Page:
         self.call("Input.dispatchKeyEvent", type="keyUp", **given)
 
     def type(self, text):
-        """Types a text; each newline is the key Enter."""
-        for k, line in enumerate(text.split("\n")):
-            if k:
-                self.key("Enter")
-            if line:
-                self.call("Input.insertText", text=line)
+        """Types a text, as from the clipboard."""
+        self.call("Input.insertText", text=text)
 
     def point(self, x, y, pressed=False):
         self.call("Input.dispatchMouseEvent", type="mouseMoved", x=x, y=y)
