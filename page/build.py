@@ -33,6 +33,7 @@ CALLS = ("open", "answer", "reply", "put", "get", "file", "close")
 LINKED = ["--no-entry", "--gc-sections", "--strip-all", "--stack-first", "-z", "stack-size=1048576", "--export=malloc", "--export=free", *(f"--export=bench_c_{call}" for call in CALLS)]
 MODULES = ("bench", "trace", "picture", "svg", "language", "app")
 IMPORT = re.compile(r"(?m)^import .*\n|^export ")
+COMMENT = re.compile(r"(?ms)^ */\*\*.*?\*/\n|(?m:^ *// (?!---- the page)[^\n]*\n)")
 PROGRAM = re.compile(r'(?<=<script type="application/octet-stream" id="program">)[^<]*')
 
 
@@ -92,7 +93,7 @@ def packed(wasm):
 
 def page(wasm):
     """The page: one file, whose policy lets it run its own script alone and fetch nothing."""
-    code = "\n".join(IMPORT.sub("", (HERE / f"{name}.mjs").read_text(encoding="utf-8")) for name in MODULES).replace("</script", "<\\/script").replace("<!--", "<\\!--")
+    code = "\n".join(COMMENT.sub("", IMPORT.sub("", (HERE / f"{name}.mjs").read_text(encoding="utf-8"))) for name in MODULES).replace("</script", "<\\/script").replace("<!--", "<\\!--")
     style, svg = (HERE / "page.css").read_text(encoding="utf-8"), (HERE / "svg.mjs").read_text(encoding="utf-8")
     parts = {"CODE": code, "SUM": sum_of(code), "STYLE": style, "STYLESUM": sum_of(style), "TABLES": tables(), "GIVEN": "", "PROGRAM": packed(wasm),
              "TIP": re.search(r"TIP = '(.*)';", svg)[1]}

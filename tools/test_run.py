@@ -212,16 +212,15 @@ class Runs(InFolder):
 
     @unittest.skipUnless(shutil.which("ps"), "there is no ps")
     def test_signals(self):
-        """Ctrl-C and SIGTERM end `run`, `draw` and the program at once; a program that is killed is reported."""
+        """Ctrl-C and SIGTERM end `run` and the program at once; a program that is killed is reported."""
         slow = self.written("a = arange <i8 0 4000000 1\n" + "x = mod a a\n" * 1000)
-        for word in ("run", "draw"):
-            for sent, status in ((signal.SIGINT, 130), (signal.SIGTERM, 143)):
-                with self.subTest(word, sent=sent):
-                    tool, programs = self.begun(word, slow)
-                    for _ in range(5):  # the first ends it, and the others do not disturb that
-                        tool.send_signal(sent)
-                    self.assertEqual(tool.wait(timeout=20), status)
-                    self.assertEqual(list(filter(alive, programs)), [])
+        for sent, status in ((signal.SIGINT, 130), (signal.SIGTERM, 143)):
+            with self.subTest(sent=sent):
+                tool, programs = self.begun("run", slow)
+                for _ in range(5):  # the first ends it, and the others do not disturb that
+                    tool.send_signal(sent)
+                self.assertEqual(tool.wait(timeout=20), status)
+                self.assertEqual(list(filter(alive, programs)), [])
         tool, programs = self.begun("run", slow)
         os.kill(programs[0], signal.SIGKILL)
         self.assertIn(b"was killed", tool.communicate(timeout=20)[1])
