@@ -9,7 +9,7 @@ export const MOST_UNDO = 56; // of the 64 states that the second bench keeps, th
 const SIDE = 16; // rows, and columns, of a grid
 const SLICES = 4; // of an array of three axes
 const AT_ONCE = 1 << 16; // bytes of items that are printed in one go
-const MOST_PLACES = 4096; // of the items that a line writes, those that are looked at
+const MOST_PLACES = 4096; // of the values that a line writes, those that are looked at
 const ENDS = 8; // of the items of a name that came, or that were written, those around which a long buffer is drawn
 const WORD = /[A-Za-z_]\w*/g;
 const ODD = /[^\t -~]/g;
@@ -331,7 +331,7 @@ export class Trace {
 
   /** The values of the first items that an operand names, each with the number of its item and its place. */
   values({ kind, count, buffer, place }) {
-    return range(0, Math.min(count, MOST_PLACES)).flatMap(k => kind.leaves.map((leaf, of) => ({ item: k, leaf: of, buffer, byte: place(k) + leaf.at })));
+    return range(0, Math.min(count, Math.ceil(MOST_PLACES / kind.leaves.length))).flatMap(k => kind.leaves.map((leaf, of) => ({ item: k, leaf: of, buffer, byte: place(k) + leaf.at })));
   }
 
   /** Where the values came from that a line put somewhere: of each the place, by its byte in the buffer that is written. Where an item is
