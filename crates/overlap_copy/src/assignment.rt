@@ -12,7 +12,7 @@ ghost use Rattle.overlap_copy.specs.Overlaps.{have_common_byte};
 use crate::apart::may_overlap;
 use crate::packed::{gather, scatter};
 use crate::run_copies::{as_runs, copy_pairs, copy_run, move_pairs};
-use crate::run_moves::{is_same_line, move_run, turn_run, turned};
+use crate::run_moves::{have_same_step, is_same_line, move_run, turn_run, turned};
 use raw_block::RawBlock;
 use shape_strides::{Layout, LayoutPair, RunPairs, in_memory_order, lies_in_c_order};
 use std::alloc::{AllocError, Global};
@@ -117,7 +117,7 @@ fn assign_runs(block: &mut RawBlock, dst: &Layout, src: &Layout, width: usize) -
     let Some(from) = src.as_run() else {
         return false;
     };
-    if to.step == from.step {
+    if have_same_step(to, from) {
         move_run(block, to, from, width);
         return true;
     }

@@ -26,11 +26,18 @@ pub(crate) fn turned(run: Run) -> Run
     }
 }
 
+/// Whether two runs go by the same step.
+pub(crate) fn have_same_step(run: Run, other: Run) -> bool
+    ensures { IsTrue result ↔ run.step ≡ other.step }
+{
+    run.step == other.step
+}
+
 /// Whether two runs begin at the same item and go by the same step.
 pub(crate) fn is_same_line(run: Run, other: Run) -> bool
     ensures { IsTrue result ↔ (run.offset ≡ other.offset) × (run.step ≡ other.step) }
 {
-    run.offset == other.offset && run.step == other.step
+    have_same_step(run, other) && run.offset == other.offset
 }
 
 /// Whether items can move from the first to the last to those of a run with the same step: none is

@@ -1,6 +1,5 @@
-use Rattle.std.proofs.Common.{◌≡◌, length, w64, sym, ap, ◌∙◌, arith}
+use Rattle.std.proofs.Common.{◌≡◌, length, sym, ap, ◌∙◌, arith}
 use Rattle.std.proofs.lemmas.Bool.{both_ways}
-use mir.Val.{of_z}
 use Rattle.shape_strides.specs.Layouts.{offsets}
 use Rattle.shape_strides.specs.LayoutLaws.{length-offsets, offsets_within}
 use Rattle.overlap_copy.proofs.LineLaws.{run_of, run_length, run_spaced, moved_is_assigned, moved_along, turned_line}
@@ -29,8 +28,8 @@ move_run-requires-clause-spaced c =
     let t = run_of c.args.dst.now c.in-Some.to c.in-Some.ensures.items c.in-Some.ensures.two c.in-Some.ensures.few c.in-Some.ensures.lie in
     run_spaced (offsets c.args.dst.now) c.in-Some.to c.args.width t c.requires.nested
 
-pub returns-then-to-from-clause-written : goal.returns-then-to-from-clause-written
-returns-then-to-from-clause-written c = λ _.
+pub returns-then-have_same_step-clause-written : goal.returns-then-have_same_step-clause-written
+returns-then-have_same_step-clause-written c = λ _.
     let dst = c.args.dst.now in
     let src = c.args.src.now in
     let len = length c.args.block.now in
@@ -41,7 +40,7 @@ returns-then-to-from-clause-written c = λ _.
 
 pub returns-then-not-is_same_line-clause-same_step : goal.returns-then-not-is_same_line-clause-same_step
 returns-then-not-is_same_line-clause-same_step c = λ step run run'.
-    absurd (c.if-to-from.false (ap (of_z w64) (c.in-Some.ensures.found step run.0 run.1 ∙ sym (c.in-Some-as_run.ensures.found step run'.0 run'.1))))
+    absurd (both_ways c.have_same_step.result c.if-have_same_step.false (c.have_same_step.ensures.1 (c.in-Some.ensures.found step run.0 run.1 ∙ sym (c.in-Some-as_run.ensures.found step run'.0 run'.1))))
 
 pub returns-then-not-is_same_line-clause-turned : goal.returns-then-not-is_same_line-clause-turned
 returns-then-not-is_same_line-clause-turned c = λ step other run run' are.
