@@ -87,9 +87,9 @@ fn depth_argument<'a>(alloc: Global) -> Arg<'a>
 fn script_argument<'a>(alloc: Global) -> Arg<'a>
     ensures { IsNamed (codes "script") result }
 {
-    Arg::new(alloc, "script")
-        .value_name("SCRIPT")
-        .help("The script, one command per line [default: standard input]")
+    Arg::new(alloc, "script").value_name("SCRIPT").help(
+        "The script, one command per line [default: standard input]",
+    )
 }
 
 /// The command line of the program.
