@@ -1,14 +1,13 @@
 -- A name bound to what is computed of other arrays.
-use Rattle.std.proofs.Common.{◌≡◌, ℕ, true, false, Some, None, unwrap_or, List, [], ◌∷◌, map, IfOk, Option, Result, Ok, Err, refl, sym, ap, ◌∙◌, inl, inr}
+use Rattle.std.proofs.Common.{◌≡◌, ℕ, true, false, Some, None, List, map, IfOk, Option, Result, Ok, Err, refl, sym, ap, ◌∙◌, ◌⊎◌, inl, inr}
 use Rattle.std.specs.List.{list_all}
 use Rattle.std.proofs.lemmas.Simd.{map-map}
 use Rattle.elem_descr.specs.declared.refusal.Refusal.{Refusal}
-use Rattle.elem_descr.specs.declared.refusal.Refusal.TheVariants.{UnknownName, TooManyNames}
+use Rattle.elem_descr.specs.declared.refusal.Refusal.TheVariants.{UnknownName, TooManyNames, OutOfMemory}
 use Rattle.elem_descr.specs.declared.descr.Descr.{Descr}
 use Rattle.elem_descr.specs.Refusals.{Gives, check, ◌>>=◌}
 use Rattle.elem_descr.specs.Blocks.{item_from}
 use Rattle.shape_strides.specs.declared.index_item.IndexItem.{IndexItem}
-use Rattle.shape_strides.specs.declared.index_item.IndexItem.TheVariants.{Ellipsis}
 use Rattle.shape_strides.specs.declared.memory_order.MemoryOrder.{MemoryOrder}
 use Rattle.shape_strides.specs.declared.memory_order.MemoryOrder.TheVariants.{C}
 use Rattle.shape_strides.specs.Layouts.{offsets}
@@ -29,7 +28,7 @@ use Rattle.bench_engine.specs.Contents.{Contents, new_contents}
 use Rattle.bench_engine.specs.IndexLists.{taken}
 use Rattle.bench_engine.specs.Machine.{Choice, Outcome, bound_in_value, bind_outcome, bound_new, copy_outcome, cast_outcome, operand_values, viewed, operand_part, argument_values, operation_with, operation_contents, transformed, creation_outcome, computed_outcome}
 use Rattle.bench_engine.specs.inside.Computed.{computed_contents, origin_of}
-use Rattle.bench_engine.specs.inside.Operands.{StandsFor}
+use Rattle.bench_engine.specs.inside.Operands.{StandsFor, GivesGiven}
 use Rattle.bench_engine.specs.inside.OwnContents.{held, IsInCOrder}
 use Rattle.bench_engine.proofs.Copies.{made-held}
 
@@ -82,22 +81,27 @@ module _ (s : State) (name : List ℕ) (c : Computation) where
 -- ---- operands
 
 module _ (s : State) (operand : Operand) (a : Array) (found : find_array s.names operand.name ≡ Some a) where
-  abbrev index : List (IndexItem (List ℕ))
-  index = unwrap_or operand.index (Ellipsis ∷ [])
-
-  pub part-bad : (e : Refusal) → taken s a index ≡ Err e → operand_part s operand ≡ Err e
+  pub part-whole : operand.index ≡ None → operand_part s operand ≡ Ok a
   unfolding operand_part
-  part-bad e bad = rw (found, bad) refl
+  part-whole none = rw (found, none) refl
 
-  pub part-done : (view : View) → taken s a index ≡ Ok view → operand_part s operand ≡ Ok (viewed a view)
+  pub part-bad : (index : List (IndexItem (List ℕ))) (e : Refusal) → operand.index ≡ Some index → taken s a index ≡ Err e → operand_part s operand ≡ Err e
   unfolding operand_part
-  part-done view good = rw (found, good) refl
+  part-bad index e some bad = rw (found, some, bad) refl
+
+  pub part-done : (index : List (IndexItem (List ℕ))) (view : View) → operand.index ≡ Some index → taken s a index ≡ Ok view → operand_part s operand ≡ Ok (viewed a view)
+  unfolding operand_part
+  part-done index view some good = rw (found, some, good) refl
 
 -- ---- two operands
 
 pub combined-part : (s : State) (op : Operation) (left : Operand) (right : Argument) (part : Array) → operand_part s left ≡ Ok part → operation_contents s op left right ≡ operation_with op (operand_values s part) (argument_values s op (descr_of s part) right)
 unfolding operation_contents
 combined-part s op left right part good = rw good refl
+
+pub combined-bad : (s : State) (op : Operation) (left : Operand) (right : Argument) (part : Array) (e : Refusal) → operand_part s left ≡ Ok part → GivesGiven s right (Err e) → (e ≡ OutOfMemory) ⊎ (operation_contents s op left right ≡ Err e)
+combined-bad s op left right part e good (inl lacks) = inl lacks
+combined-bad s op left right part e good (inr (operand, is, bad)) = inr (combined-part s op left right part good ∙ rw (is, bad) refl)
 
 -- ---- one operand
 

@@ -1,5 +1,5 @@
 -- Items that are to be written: stretched into a shape, and cast.
-use Rattle.std.proofs.Common.{◌≡◌, ◌<◌, ◌≤◌, ◌+◌, ◌*◌, ℕ, zero, suc, Bool, true, false, nat_le, if◌then◌else◌, List, [], ◌∷◌, length, map, get_or, slice_index, unwrap_or, Option, Some, None, is_some, refl, sym, ap, ◌∙◌, subst, All, Result, Ok, Err, inl, inr, arith}
+use Rattle.std.proofs.Common.{◌≡◌, ◌<◌, ◌≤◌, ◌+◌, ◌*◌, ℕ, zero, suc, Bool, true, false, nat_le, if◌then◌else◌, List, [], ◌∷◌, length, map, get_or, slice_index, Option, Some, None, is_some, refl, sym, ap, ◌∙◌, subst, All, Result, Ok, Err, inl, inr, arith}
 use Rattle.std.specs.FinMap.{get}
 use Rattle.std.proofs.lemmas.Bool.{false≢true, le-leb}
 use Rattle.std.proofs.lemmas.List.{get_or-map, length-map}
@@ -11,8 +11,6 @@ use Rattle.elem_descr.specs.Blocks.{item_from}
 use Rattle.elem_descr.specs.Items.{item_size, leaves_of, AreAlike}
 use Rattle.elem_descr.specs.Values.{LeafValue}
 use Rattle.elementwise.specs.Casts.{can_cast, cast_item}
-use Rattle.shape_strides.specs.declared.index_item.IndexItem.{IndexItem}
-use Rattle.shape_strides.specs.declared.index_item.IndexItem.TheVariants.{Ellipsis}
 use Rattle.shape_strides.specs.declared.layout.Layout.{Layout}
 use Rattle.shape_strides.specs.Indexes.{count, indexes, rank}
 use Rattle.shape_strides.specs.LayoutLaws.{length-offsets}
@@ -25,7 +23,7 @@ use Rattle.overlap_copy.specs.declared.owned.Owned.{Owned}
 use Rattle.script_lang.specs.declared.command.Operand.{Operand}
 use Rattle.script_lang.specs.declared.command.Argument.TheVariants as argument
 use Rattle.name_store.specs.States.{State, Array}
-use Rattle.name_store.specs.Arrays.{find_array, addresses, buffer_of, descr_of, read, span_of, placed_item}
+use Rattle.name_store.specs.Arrays.{addresses, buffer_of, descr_of, read, span_of, placed_item}
 use Rattle.name_store.specs.Parts.{part_at}
 use Rattle.name_store.specs.Shown.{Shows}
 use Rattle.name_store.specs.declared.array_ref.ArrayRef.{ArrayRef}
@@ -33,12 +31,10 @@ use Rattle.name_store.specs.declared.bound.Bound.{Bound}
 use Rattle.name_store.specs.declared.bound.Bound.TheVariants as bound
 use Rattle.name_store.specs.declared.target.Source.{Source}
 use Rattle.name_store.specs.declared.target.Source.TheVariants as source
-use Rattle.bench_engine.specs.IndexLists.{taken}
-use Rattle.bench_engine.specs.Machine.{viewed, source_part, argument_items}
-use Rattle.bench_engine.specs.inside.Assigns.{Holds, IsTaken, GivesTaken, Stretches, Fitted, cast_from, GivesItems}
-use Rattle.bench_engine.specs.inside.Operands.{StandsFor}
-use Rattle.bench_engine.proofs.Assigns.{all-viewed, lies-whole, lies-viewed, stretched-shape}
-use Rattle.bench_engine.proofs.OperandLaws.{copy-stands, view-stands}
+use Rattle.bench_engine.specs.Machine.{viewed, operand_part, argument_items}
+use Rattle.bench_engine.specs.inside.Assigns.{IsTaken, GivesTaken, LiesIn, Stretches, Fitted, cast_from, GivesItems}
+use Rattle.bench_engine.specs.inside.Operands.{StandsFor, LiesInBuffer}
+use Rattle.bench_engine.proofs.Assigns.{all-viewed, lies-viewed, stretched-shape}
 use Rattle.bench_engine.proofs.Casts.{cast-none, cast-some}
 use Rattle.bench_engine.proofs.Views.{given-view}
 
@@ -96,51 +92,37 @@ stands-wide s part x stands wide seen is =
 
 -- ---- what an operand comes to
 
-module _ (s : State) (operand : Operand) (descr : Descr) (shape : List ℕ) (b : Array) (found : find_array s.names operand.name ≡ Some b) where
-  abbrev index : List (IndexItem (List ℕ))
-  index = unwrap_or operand.index (Ellipsis ∷ [])
+-- a part of an array, of this shape, at these places
+abbrev part_in : Array → List ℕ → List ℕ → Array
+part_in array shape places = record array { shape = shape; places = places }
 
-  source-bad : (e : Refusal) → taken s b index ≡ Err e → source_part s b operand.index shape ≡ Err e
-  unfolding source_part
-  source-bad e bad = rw bad refl
+module _ (s : State) (operand : Operand) (descr : Descr) (shape : List ℕ) where
+  pub items-bad : (e : Refusal) → operand_part s operand ≡ Err e → argument_items s (argument.Operand operand) descr shape ≡ Err e
+  items-bad e bad = rw bad refl
 
-  source-narrow : (view : View) (e : Refusal) → taken s b index ≡ Ok view → stretched_into view.shape shape ≡ Err e → source_part s b operand.index shape ≡ Err e
-  unfolding source_part
-  source-narrow view e good narrow = rw (good, narrow) refl
+  -- the items of the part, which stand in a block
+  module _ (part : Array) (good : operand_part s operand ≡ Ok part) (x : Items) (stands : StandsFor s part x) where
+    items-narrow : (e : Refusal) → stretched_into part.shape shape ≡ Err e → argument_items s (argument.Operand operand) descr shape ≡ Err e
+    items-narrow e narrow = rw (good, narrow) refl
 
-  source-done : (view wide : View) → taken s b index ≡ Ok view → stretched_into view.shape shape ≡ Ok wide → source_part s b operand.index shape ≡ Ok (viewed (viewed b view) wide)
-  unfolding source_part
-  source-done view wide good fits = rw (good, fits) refl
+    items-uncast : (wide : View) → stretched_into part.shape shape ≡ Ok wide → can_cast (descr_of s part) descr ≡ false → argument_items s (argument.Operand operand) descr shape ≡ Err NoSuchCast
+    items-uncast wide fits none = rw (good, fits) (cast-none s (viewed part wide) descr none)
 
-  pub items-bad : (e : Refusal) → taken s b index ≡ Err e → argument_items s (argument.Operand operand) descr shape ≡ Err e
-  items-bad e bad = rw (found, source-bad e bad) refl
+    items-done : (wide : View) → stretched_into part.shape shape ≡ Ok wide → can_cast (descr_of s part) descr ≡ true →
+        argument_items s (argument.Operand operand) descr shape ≡ Ok (map (cast_item (descr_of s part) descr) (read s (viewed part wide)))
+    items-done wide fits can = rw (good, fits) (cast-some s (viewed part wide) descr can)
 
-  items-narrow : (view : View) (e : Refusal) → taken s b index ≡ Ok view → stretched_into view.shape shape ≡ Err e → argument_items s (argument.Operand operand) descr shape ≡ Err e
-  items-narrow view e good narrow = rw (found, source-narrow view e good narrow) refl
-
-  items-uncast : (view wide : View) → taken s b index ≡ Ok view → stretched_into view.shape shape ≡ Ok wide → can_cast (descr_of s b) descr ≡ false → argument_items s (argument.Operand operand) descr shape ≡ Err NoSuchCast
-  items-uncast view wide good fits none = rw (found, source-done view wide good fits) (cast-none s (viewed (viewed b view) wide) descr none)
-
-  items-done : (view wide : View) → taken s b index ≡ Ok view → stretched_into view.shape shape ≡ Ok wide → can_cast (descr_of s b) descr ≡ true →
-      argument_items s (argument.Operand operand) descr shape ≡ Ok (map (cast_item (descr_of s b) descr) (read s (viewed (viewed b view) wide)))
-  items-done view wide good fits can = rw (found, source-done view wide good fits) (cast-some s (viewed (viewed b view) wide) descr can)
-
-  -- the items of what is taken, which stand in a block
-  module _ (view : View) (good : taken s b index ≡ Ok view) (x : Items) (stands : StandsFor s (viewed b view) x) where
-    part : Array
-    part = viewed b view
-
-    fits : (wide : Layout) (is : Stretches x.layout.now shape wide) → stretched_into view.shape shape ≡ Ok is.seen
+    fits : (wide : Layout) (is : Stretches x.layout.now shape wide) → stretched_into part.shape shape ≡ Ok is.seen
     fits wide is = ap (λ (l : List ℕ). stretched_into l shape) stands.shape ∙ is.there
 
     done : (wide : Layout) (is : Stretches x.layout.now shape wide) → can_cast x.descr.now descr ≡ true →
-        argument_items s (argument.Operand operand) descr shape ≡ Ok (map (cast_item (descr_of s b) descr) (read s (viewed (viewed b view) is.seen)))
-    done wide is can = items-done view is.seen good (fits wide is) (ap (λ d. can_cast d descr) stands.descr ∙ can)
+        argument_items s (argument.Operand operand) descr shape ≡ Ok (map (cast_item (descr_of s part) descr) (read s (viewed part is.seen)))
+    done wide is can = items-done is.seen (fits wide is) (ap (λ d. can_cast d descr) stands.descr ∙ can)
 
-    cast-read : (wide : Layout) (is : Stretches x.layout.now shape wide) → cast_from x.block.now x.descr.now wide descr ≡ map (cast_item (descr_of s b) descr) (read s (viewed (viewed b view) is.seen))
+    cast-read : (wide : Layout) (is : Stretches x.layout.now shape wide) → cast_from x.block.now x.descr.now wide descr ≡ map (cast_item (descr_of s part) descr) (read s (viewed part is.seen))
     cast-read wide is =
         sym (map-map (cast_item x.descr.now descr) (item_from x.descr.now x.block.now) (offsets wide))
-        ∙ (λ i. map (cast_item (sym stands.descr i) descr) (stands-wide s (viewed b view) x stands wide is.seen is.is i))
+        ∙ (λ i. map (cast_item (sym stands.descr i) descr) (stands-wide s part x stands wide is.seen is.is i))
 
     block-given : (number : Option ℕ) (o : Owned) → Fitted x number shape descr (Ok (source.Block o)) → GivesItems s descr (count shape) (Ok (source.Block o)) (argument_items s (argument.Operand operand) descr shape)
     block-given number o (wide, is, can, type-is, shape-is, items) =
@@ -149,22 +131,25 @@ module _ (s : State) (operand : Operand) (descr : Descr) (shape : List ℕ) (b :
 
     none-given : (number : Option ℕ) (e : Refusal) → Fitted x number shape descr (Err e) → GivesItems s descr (count shape) (Err e) (argument_items s (argument.Operand operand) descr shape)
     none-given number e (inl lacks) = inl lacks
-    none-given number e (inr (inl narrow)) = inr (items-narrow view e good (ap (λ (l : List ℕ). stretched_into l shape) stands.shape ∙ narrow))
-    none-given number e (inr (inr (none, wide, is, cannot))) = inr (items-uncast view is.seen good (fits wide is) (ap (λ d. can_cast d descr) stands.descr ∙ cannot) ∙ ap Err (sym none))
+    none-given number e (inr (inl narrow)) = inr (items-narrow e (ap (λ (l : List ℕ). stretched_into l shape) stands.shape ∙ narrow))
+    none-given number e (inr (inr (none, wide, is, cannot))) = inr (items-uncast is.seen (fits wide is) (ap (λ d. can_cast d descr) stands.descr ∙ cannot) ∙ ap Err (sym none))
 
-  -- a view of the array
-  module _ (r : ArrayRef) (shows : Shows s b r) (layout : Layout) (view : View) (good : taken s b index ≡ Ok view) (is-view : IsViewOf r.layout.now layout view)
-      (x : Items) (block : x.block.now ≡ r.block.now) (laid : x.layout.now ≡ layout) (typed : x.descr.now ≡ r.descr.now) where
-    stands : StandsFor s (viewed b view) x
-    stands = view-stands s b r layout view x shows is-view block laid typed
+    -- a copy
+    copy-given : (result : Result Source Refusal) → Fitted x None shape descr result → GivesItems s descr (count shape) result (argument_items s (argument.Operand operand) descr shape)
+    copy-given (Ok (source.One bytes)) is = absurd is
+    copy-given (Ok (source.Buffer number wide)) (same, stretches, can, alike, items) = let no : ⊥ = cc in absurd no
+    copy-given (Ok (source.Block o)) is = block-given None o is
+    copy-given (Err e) is = none-given None e is
 
+  -- items that stand in the buffer of an array that is shown
+  module _ (b : Array) (r : ArrayRef) (shows : Shows s b r) (lengths places : List ℕ) (good : operand_part s operand ≡ Ok (part_in b lengths places)) (x : Items) (stands : StandsFor s (part_in b lengths places) x)
+      (lies : LiesIn s b (part_in b lengths places) x.layout.now) where
     buffer-given : (number : ℕ) (wide : Layout) → Fitted x (Some r.number) shape descr (Ok (source.Buffer number wide)) → GivesItems s descr (count shape) (Ok (source.Buffer number wide)) (argument_items s (argument.Operand operand) descr shape)
     buffer-given number wide (same, is, can, alike, items) =
         let same-number : r.number ≡ number = cc in
-        let in-view : IsViewOf layout wide is.seen = subst (λ (l : Layout). IsViewOf l wide is.seen) laid is.is in
-        let lies = lies-viewed s b (viewed b view) layout wide is.seen (lies-viewed s b b r.layout.now layout view (lies-whole s b r shows) is-view) in-view in
-        subst (GivesItems s descr (count shape) (Ok (source.Buffer number wide))) (sym (done view good x stands wide is can)) (
-          record (viewed (viewed b view) is.seen) { writable = false },
+        let seen = lies-viewed s b (part_in b lengths places) x.layout.now wide is.seen lies is.is in
+        subst (GivesItems s descr (count shape) (Ok (source.Buffer number wide))) (sym (done (part_in b lengths places) good x stands wide is can)) (
+          record (viewed (part_in b lengths places) is.seen) { writable = false },
           record {
             view = record {
               number_is = sym same-number ∙ shows.view.number_is;
@@ -172,32 +157,32 @@ module _ (s : State) (operand : Operand) (descr : Descr) (shape : List ℕ) (b :
               there = subst (λ n. is_some (get s.buffers n) ≡ true) same-number shows.view.there;
               laid = record {
                 part = shows.view.laid.part;
-                shape = in-view.shape;
-                places = lies.offsets_are ∙ ap (λ (a : Array). addresses s (record b { places = a.places })) (sym lies.part_is);
+                shape = is.is.shape;
+                places = seen.offsets_are ∙ ap (λ (a : Array). addresses s (record b { places = a.places })) (sym seen.part_is);
                 writable_is = refl;
-                fits = lies.fits;
+                fits = seen.fits;
                 nested = λ no. absurd (false≢true no);
               };
             };
             alike = subst (λ (d : Descr). AreAlike d descr) (sym stands.descr) alike;
             count = length-offsets wide ∙ ap count (stretched-shape x.layout.now (Ok wide) shape (subst (GivesView x.layout.now (Ok wide)) (sym is.there) is.is));
           },
-          sym (stands-wide s (viewed b view) x stands wide is.seen is.is) ∙ items ∙ cast-read view good x stands wide is,
+          sym (stands-wide s (part_in b lengths places) x stands wide is.seen is.is) ∙ items ∙ cast-read (part_in b lengths places) good x stands wide is,
         )
 
-    pub view-given : (result : Result Source Refusal) → Fitted x (Some r.number) shape descr result → GivesItems s descr (count shape) result (argument_items s (argument.Operand operand) descr shape)
+    view-given : (result : Result Source Refusal) → Fitted x (Some r.number) shape descr result → GivesItems s descr (count shape) result (argument_items s (argument.Operand operand) descr shape)
     view-given (Ok (source.One bytes)) is = absurd is
     view-given (Ok (source.Buffer number wide)) is = buffer-given number wide is
-    view-given (Ok (source.Block o)) is = block-given view good x stands (Some r.number) o is
-    view-given (Err e) is = none-given view good x stands (Some r.number) e is
+    view-given (Ok (source.Block o)) is = block-given (part_in b lengths places) good x stands (Some r.number) o is
+    view-given (Err e) is = none-given (part_in b lengths places) good x stands (Some r.number) e is
 
-  -- a copy
-  pub copy-given : (view : View) → taken s b index ≡ Ok view → (o : Owned) → Holds s (viewed b view) o → (x : Items) → x.block.now ≡ o.block → x.layout.now ≡ o.layout → x.descr.now ≡ o.descr →
-      (result : Result Source Refusal) → Fitted x None shape descr result → GivesItems s descr (count shape) result (argument_items s (argument.Operand operand) descr shape)
-  copy-given view good o holds x block laid typed (Ok (source.One bytes)) is = absurd is
-  copy-given view good o holds x block laid typed (Ok (source.Buffer number wide)) (same, stretches, can, alike, items) = let no : ⊥ = cc in absurd no
-  copy-given view good o holds x block laid typed (Ok (source.Block o')) is = block-given view good x (copy-stands s (viewed b view) o x holds block laid typed) None o' is
-  copy-given view good o holds x block laid typed (Err e) is = none-given view good x (copy-stands s (viewed b view) o x holds block laid typed) None e is
+  -- any part
+  pub part-given : (part : Array) (number : Option ℕ) (x : Items) (result : Result Source Refusal) → operand_part s operand ≡ Ok part → StandsFor s part x → LiesInBuffer s part number x.layout.now →
+      Fitted x number shape descr result → GivesItems s descr (count shape) result (argument_items s (argument.Operand operand) descr shape)
+  part-given part None x result good stands lies is = copy-given part good x stands result is
+  part-given part (Some number) x result good stands (b, r, shows, same, lies) is =
+      subst (λ (p : Array). operand_part s operand ≡ Ok p → StandsFor s p x → LiesIn s b p x.layout.now → GivesItems s descr (count shape) result (argument_items s (argument.Operand operand) descr shape)) (sym lies.part_is)
+      (λ good stands lies. view-given b r shows _ _ good x stands lies result (subst (λ n. Fitted x (Some n) shape descr result) same is)) good stands lies
 
 -- ---- of whatever is taken
 

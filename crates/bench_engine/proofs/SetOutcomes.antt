@@ -1,9 +1,9 @@
 -- The exits of `set X[ix] = Z` and `upd X[ix] OP Z`.
-use Rattle.std.proofs.Common.{◌≡◌, ◌++◌, ◌∷◌, ◌&&◌, ℕ, Bool, true, false, List, length, Option, Some, None, refl, sym, ap, subst, ◌∙◌, Result, Ok, Err}
+use Rattle.std.proofs.Common.{◌≡◌, ◌++◌, ◌∷◌, ◌&&◌, ℕ, Bool, true, false, List, length, Option, Some, None, refl, sym, ap, subst, ◌∙◌, ◌⊎◌, inl, inr, Result, Ok, Err}
 use Rattle.std.specs.List.{list_all}
 use Rattle.std.proofs.lemmas.List.Folds.{list_all-append}
 use Rattle.elem_descr.specs.declared.refusal.Refusal.{Refusal}
-use Rattle.elem_descr.specs.declared.refusal.Refusal.TheVariants.{UnknownName}
+use Rattle.elem_descr.specs.declared.refusal.Refusal.TheVariants.{UnknownName, OutOfMemory}
 use Rattle.elem_descr.specs.declared.descr.Descr.{Descr}
 use Rattle.elem_descr.specs.Values.{LeafValue}
 use Rattle.shape_strides.specs.declared.index_item.IndexItem.{IndexItem}
@@ -22,7 +22,8 @@ use Rattle.name_store.specs.declared.target.Target.{Target}
 use Rattle.bench_engine.specs.IndexLists.{names_in_index}
 use Rattle.bench_engine.specs.Machine.{target_part, new_items, names_in_argument, write_outcome, write_reply, accepted_with}
 use Rattle.bench_engine.specs.inside.Assigns.{IsTarget, GivesTarget, GivesItems}
-use Rattle.bench_engine.specs.inside.Operands.{GivesChanged}
+use Rattle.bench_engine.specs.inside.Operands.{GivesChanged, GivesGiven}
+use Rattle.bench_engine.proofs.GivenLaws.{items-bad}
 
 module _ (s : State) (name : List ℕ) (index : List (IndexItem (List ℕ))) (op : Option Operation) (value : Argument) where
   pub set-unknown : find_array s.names name ≡ None → write_outcome s name index op value ≡ Err UnknownName
@@ -52,6 +53,13 @@ module _ (s : State) (name : List ℕ) (index : List (IndexItem (List ℕ))) (op
 
   pub all-bound : (a : Array) → find_array s.names name ≡ Some a → list_all (is_bound s) (names_in_index index) ≡ true → list_all (is_bound s) (names_in_argument value) ≡ true → list_all (is_bound s) (name ∷ names_in_index index ++ names_in_argument value) ≡ true
   all-bound a is left right = rw (is, both-bound true true left right) refl
+
+-- ---- what is written
+
+pub new-items-bad : (s : State) (descr : Descr) (part : Array) (op : Option Operation) (value : Argument) (e : Refusal) → GivesGiven s value (Err e) → (e ≡ OutOfMemory) ⊎ (new_items s descr part op value ≡ Err e)
+new-items-bad s descr part op value e (inl lacks) = inl lacks
+new-items-bad s descr part None value e (inr (operand, is, bad)) = inr (rw is (items-bad s operand descr part.shape e bad))
+new-items-bad s descr part (Some op) value e (inr (operand, is, bad)) = inr (rw (is, bad) refl)
 
 pub given-target : (s : State) (name : List ℕ) (a : Array) (t : Target) (there : Result Array Refusal) → GivesTarget s name a (Ok t) there → (part : Array) × (there ≡ Ok part) × IsTarget s name a part t
 given-target s name a t (Ok part) is = (part, refl, is)

@@ -11,8 +11,9 @@ ghost use Rattle.bench_engine.specs.inside.Computed.{computed_contents};
 ghost use Rattle.bench_engine.specs.inside.OwnContents.{held};
 ghost use Rattle.bench_engine.specs.inside.Parts.{IsShown, Copies, Casts};
 
+use crate::given::given_by;
 use crate::operand::{items_of_view, operand_part};
-use crate::work::work_argument;
+use crate::work::work_given;
 use elem_descr::{Refusal, descr_read};
 use elementwise::apply1;
 use machine_numbers::{Red, UnOp};
@@ -53,7 +54,8 @@ fn combined(
     ensures { Gives held result (operation_contents bench.now.state operation left.now right.now) }
 {
     let left = operand_part(alloc, bench, left)?;
-    work_argument(alloc, bench, operation, left.items(), right)
+    let right = given_by(alloc, bench, right)?;
+    work_given(alloc, operation, left.items(), &right)
 }
 
 /// What an operation gives on an operand.

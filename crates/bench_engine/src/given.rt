@@ -1,26 +1,22 @@
 //! Items that are to be written to an array: one that a literal is, or those of an operand.
-ghost use Rattle.std.specs.Prelude.{◌≡◌, ◌≤◌, ◌+◌, ◌*◌, ◌∷◌, [], ℕ, List, true, length, unwrap_or, All};
+ghost use Rattle.std.specs.Prelude.{◌≡◌, ◌≤◌, ◌*◌, true};
 ghost use Rattle.std.specs.List.{list_all};
 ghost use Rattle.elem_descr.specs.Items.{item_size};
-ghost use Rattle.shape_strides.specs.IndexItems.{is_basic};
 ghost use Rattle.shape_strides.specs.Indexes.{count};
 ghost use Rattle.shape_strides.specs.Limits.{max_bytes};
-ghost use Rattle.shape_strides.specs.Layouts.{offsets};
-ghost use Rattle.shape_strides.specs.declared.index_item.IndexItem.TheVariants.{Ellipsis};
-ghost use Rattle.script_lang.specs.declared.command.Argument.TheVariants as argument;
 ghost use Rattle.name_store.specs.Arrays.{is_bound};
-ghost use Rattle.name_store.specs.Shown.{Shows};
-ghost use Rattle.name_store.specs.States.{Array};
-ghost use Rattle.bench_engine.specs.IndexLists.{names_in_index, taken};
+ghost use Rattle.name_store.specs.States.{State};
+ghost use Rattle.script_lang.specs.declared.command.Argument.{Argument};
 ghost use Rattle.bench_engine.specs.Machine.{argument_items, names_in_argument};
-ghost use Rattle.bench_engine.specs.inside.Assigns.{GivesTaken, GivesItems, Fitted};
+ghost use Rattle.bench_engine.specs.inside.Assigns.{GivesItems, Fitted};
+ghost use Rattle.bench_engine.specs.inside.Operands.{IsGiven, GivesGiven};
 
 use crate::item::item_of;
-use crate::operand::{items_of_view, operand_items};
+use crate::operand::{Part, operand_part};
 use elem_descr::{Descr, Refusal};
 use elementwise::Items;
-use name_store::{Bench, Bound, Source};
-use script_lang::{Argument, Operand};
+use name_store::{Bench, Source};
+use script_lang::{Argument, Literal};
 use shape_strides::Shape;
 use std::alloc::Global;
 
@@ -54,43 +50,43 @@ fn fitted(
     Ok(Source::Block(owned))
 }
 
-/// The items of an operand, stretched into a shape and cast to an element type.
-fn given_operand(
+/// What stands behind `=` or an operation: a literal, or the part that an operand is.
+#[derive(Drop)]
+pub enum Given<'a> {
+    Literal(&'a Literal),
+    Items(Part<'a>),
+}
+
+/// What an argument gives. The refusals are those of its operand's index list.
+pub fn given_by<'a>(
     alloc: Global,
-    bench: &Bench,
-    operand: &Operand,
-    shape: &Shape,
-    descr: &Descr,
-) -> Result<Source, Refusal>
-    requires bound { list_all (is_bound bench.now.state) (names_in_argument (argument.Operand operand.now)) ≡ true }
-    requires few { count shape.now * item_size descr.now ≤ max_bytes }
-    ensures { GivesItems bench.now.state descr.now (count shape.now) result (argument_items bench.now.state (argument.Operand operand.now) descr.now shape.now) }
+    bench: &'a Bench,
+    value: &'a Argument,
+) -> Result<Given<'a>, Refusal>
+    requires { list_all (is_bound bench.now.state) (names_in_argument value.now) ≡ true }
+    ensures { GivesGiven bench.now.state value.now result }
 {
-    let array = bench.get(&operand.name).unwrap();
-    match operand_items(alloc, bench, &array, &operand.index)? {
-        Bound::View { number, layout, .. } => {
-            let items = items_of_view(&array, &layout);
-            fitted(alloc, items, Some(number), shape, descr)
-        }
-        Bound::Fresh(copy) => fitted(alloc, copy.items(), None, shape, descr),
+    match value {
+        Argument::Literal(literal) => Ok(Given::Literal(literal)),
+        Argument::Operand(operand) => Ok(Given::Items(operand_part(alloc, bench, operand)?)),
     }
 }
 
-/// The items of an argument, one for each index of a shape: those of an operand, stretched into the
+/// The items that are written, one for each index of a shape: those of an operand, stretched into the
 /// shape and cast to an element type, or one that a literal is of that type.
-pub fn give(
+pub fn source_of(
     alloc: Global,
-    bench: &Bench,
-    value: &Argument,
+    given: &Given<'_>,
     shape: &Shape,
     descr: &Descr,
 ) -> Result<Source, Refusal>
-    requires bound { list_all (is_bound bench.now.state) (names_in_argument value.now) ≡ true }
+    requires given { (s : State) × (value : Argument) × IsGiven s value given.now }
     requires few { count shape.now * item_size descr.now ≤ max_bytes }
-    ensures { GivesItems bench.now.state descr.now (count shape.now) result (argument_items bench.now.state value.now descr.now shape.now) }
+    ensures { (s : State) (value : Argument) → IsGiven s value given.now
+        → GivesItems s descr.now (count shape.now) result (argument_items s value descr.now shape.now) }
 {
-    match value {
-        Argument::Literal(literal) => Ok(Source::One(item_of(alloc, descr, literal)?)),
-        Argument::Operand(operand) => given_operand(alloc, bench, operand, shape, descr),
+    match given {
+        Given::Literal(literal) => Ok(Source::One(item_of(alloc, descr, literal)?)),
+        Given::Items(part) => fitted(alloc, part.items(), part.number(), shape, descr),
     }
 }

@@ -12,10 +12,10 @@ ghost use Rattle.bench_engine.specs.inside.Assigns.{IsTarget, GivesItems};
 ghost use Rattle.bench_engine.specs.inside.Contract.{CarriesOut};
 
 use crate::assign::target_of;
-use crate::given::give;
+use crate::given::{given_by, source_of};
 use crate::index::are_bound;
 use crate::operand::has_bound;
-use crate::update::{Change, updated};
+use crate::update::updated;
 use elem_descr::Refusal;
 use itoa::Buffer;
 use name_store::{ArrayRef, Bench, Source, Target};
@@ -61,12 +61,11 @@ fn new_items(
     ensures { (name : List ℕ) (a part : Array) → Shows bench.now.state a array.now → IsTarget bench.now.state name a part target.now
         → GivesItems bench.now.state array.now.descr.now (count part.shape) result (new_items bench.now.state array.now.descr.now part assignment.entry.operation assignment.entry.value.now) }
 {
-    let value = assignment.value;
+    let given = given_by(alloc, bench, assignment.value)?;
     match assignment.operation {
-        None => give(alloc, bench, value, target.shape(), array.descr),
+        None => source_of(alloc, &given, target.shape(), array.descr),
         Some(operation) => {
-            let change = Change { operation, value };
-            let owned = updated(alloc, bench, array, target, change)?;
+            let owned = updated(alloc, array, target, operation, &given)?;
             Ok(Source::Block(owned))
         }
     }

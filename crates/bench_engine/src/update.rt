@@ -1,27 +1,26 @@
 //! Items of an array, changed by an operation.
 ghost use Rattle.std.specs.Prelude.{◌≡◌, ◌≤◌, ◌*◌, ℕ, List, true, length, map, Ok};
-ghost use Rattle.std.specs.List.{list_all};
 ghost use Rattle.elem_descr.specs.Blocks.{item_from};
 ghost use Rattle.elem_descr.specs.Items.{item_size};
 ghost use Rattle.elementwise.specs.Casts.{can_cast, cast_item};
 ghost use Rattle.shape_strides.specs.Layouts.{offsets};
 ghost use Rattle.shape_strides.specs.Indexes.{count};
 ghost use Rattle.shape_strides.specs.Limits.{max_bytes};
-ghost use Rattle.script_lang.specs.declared.command.Argument.TheVariants as argument;
-ghost use Rattle.name_store.specs.Arrays.{is_bound};
+ghost use Rattle.script_lang.specs.declared.command.Argument.{Argument};
 ghost use Rattle.name_store.specs.Shown.{Shows};
-ghost use Rattle.name_store.specs.States.{Array};
-ghost use Rattle.bench_engine.specs.Machine.{OperandValues, argument_values, literal_values, updated_items, changed_with, updated, names_in_argument};
+ghost use Rattle.name_store.specs.States.{State, Array};
+ghost use Rattle.bench_engine.specs.Machine.{OperandValues, argument_values, literal_values, updated_items, changed_with, updated};
 ghost use Rattle.bench_engine.specs.inside.Assigns.{IsTarget};
-ghost use Rattle.bench_engine.specs.inside.Operands.{Stands, GivesChanged};
+ghost use Rattle.bench_engine.specs.inside.Operands.{IsGiven, Stands, GivesChanged};
 
-use crate::operand::{items_of_view, operand_part};
+use crate::given::Given;
+use crate::operand::items_of_view;
 use crate::work::{result_scalar, work, work_literal};
 use elem_descr::{Descr, Refusal};
 use elementwise::{Items, keeps_items, same_kind, scalar_of};
-use name_store::{ArrayRef, Bench, Target};
+use name_store::{ArrayRef, Target};
 use overlap_copy::Owned;
-use script_lang::{Argument, Literal, Operand, Operation};
+use script_lang::{Literal, Operation};
 use std::alloc::Global;
 
 /// New items as items of the type of the old ones.
@@ -74,70 +73,43 @@ fn changed_by_literal(
     as_old(alloc, new, old.descr)
 }
 
-/// Items, changed by an operation with an operand.
-fn changed_by_operand(
-    alloc: Global,
-    bench: &Bench,
-    operation: Operation,
-    old: Items<'_>,
-    operand: &Operand,
-) -> Result<Owned, Refusal>
-    requires bound { list_all (is_bound bench.now.state) (names_in_argument (argument.Operand operand.now)) ≡ true }
-    requires few { count old.layout.now.shape * item_size old.descr.now ≤ max_bytes }
-    ensures { (v : OperandValues) → Stands v old.entry → GivesChanged old.entry.descr.now (count v.shape) result
-        (changed_with operation old.entry.descr.now v (argument_values bench.now.state operation old.entry.descr.now (argument.Operand operand.now))) }
-{
-    let part = operand_part(alloc, bench, operand)?;
-    changed_by_items(alloc, operation, old, part.items())
-}
-
-/// Items, changed by an operation with an argument.
+/// Items, changed by an operation with what an argument gives.
 fn changed(
     alloc: Global,
-    bench: &Bench,
     operation: Operation,
     old: Items<'_>,
-    value: &Argument,
+    given: &Given<'_>,
 ) -> Result<Owned, Refusal>
-    requires bound { list_all (is_bound bench.now.state) (names_in_argument value.now) ≡ true }
+    requires given { (s : State) × (value : Argument) × IsGiven s value given.now }
     requires few { count old.layout.now.shape * item_size old.descr.now ≤ max_bytes }
-    ensures { (v : OperandValues) → Stands v old.entry → GivesChanged old.entry.descr.now (count v.shape) result
-        (changed_with operation old.entry.descr.now v (argument_values bench.now.state operation old.entry.descr.now value.now)) }
+    ensures { (s : State) (value : Argument) (v : OperandValues) → IsGiven s value given.now → Stands v old.entry
+        → GivesChanged old.entry.descr.now (count v.shape) result
+        (changed_with operation old.entry.descr.now v (argument_values s operation old.entry.descr.now value)) }
 {
-    match value {
-        Argument::Literal(literal) => changed_by_literal(alloc, operation, old, literal),
-        Argument::Operand(operand) => changed_by_operand(alloc, bench, operation, old, operand),
+    match given {
+        Given::Literal(literal) => changed_by_literal(alloc, operation, old, literal),
+        Given::Items(part) => changed_by_items(alloc, operation, old, part.items()),
     }
 }
 
-/// `OP Z`, behind `upd X[ix]`.
-#[derive(Clone, Copy)]
-pub struct Change<'a> {
-    pub operation: Operation,
-    pub value: &'a Argument,
-}
-
-/// The items of a target in an array, changed by an operation with an argument.
+/// The items of a target in an array, changed by an operation with what an argument gives.
 pub fn updated(
     alloc: Global,
-    bench: &Bench,
     array: &ArrayRef<'_>,
     target: &Target,
-    change: Change<'_>,
+    operation: Operation,
+    given: &Given<'_>,
 ) -> Result<Owned, Refusal>
-    requires bound { list_all (is_bound bench.now.state) (names_in_argument change.value.now) ≡ true }
-    requires target { (name : List ℕ) × (a : Array) × (part : Array) × Shows bench.now.state a array.now × IsTarget bench.now.state name a part target.now }
-    ensures { (name : List ℕ) (a part : Array) → Shows bench.now.state a array.now → IsTarget bench.now.state name a part target.now
-        → GivesChanged array.now.descr.now (count part.shape) result (updated bench.now.state array.now.descr.now part change.entry.operation change.entry.value.now) }
+    requires { (s : State) × (value : Argument) × (name : List ℕ) × (a : Array) × (part : Array)
+        × IsGiven s value given.now × Shows s a array.now × IsTarget s name a part target.now }
+    ensures { (s : State) (value : Argument) (name : List ℕ) (a part : Array) → IsGiven s value given.now → Shows s a array.now → IsTarget s name a part target.now
+        → GivesChanged array.now.descr.now (count part.shape) result (updated s array.now.descr.now part operation value) }
 {
     match target {
-        Target::View(layout) => {
-            let old = items_of_view(array, layout);
-            changed(alloc, bench, change.operation, old, change.value)
-        }
+        Target::View(layout) => changed(alloc, operation, items_of_view(array, layout), given),
         Target::Plan(plan) => {
             let old = plan.gather_owned(alloc, array.block, array.descr)?;
-            changed(alloc, bench, change.operation, old.items(), change.value)
+            changed(alloc, operation, old.items(), given)
         }
     }
 }

@@ -1,6 +1,5 @@
 //! What an operation gives on operands.
-ghost use Rattle.std.specs.Prelude.{◌≡◌, ◌≤◌, ◌+◌, ◌∷◌, [], true, length, map, All, IfOk};
-ghost use Rattle.std.specs.List.{list_all};
+ghost use Rattle.std.specs.Prelude.{◌≡◌, ◌≤◌, ◌+◌, ◌∷◌, [], length, map, All, IfOk};
 ghost use Rattle.elem_descr.specs.Refusals.{Gives, Answers};
 ghost use Rattle.elem_descr.specs.declared.descr.Descr.TheVariants.{Scalar as ScalarDescr};
 ghost use Rattle.elem_descr.specs.Blocks.{item_from};
@@ -11,25 +10,24 @@ ghost use Rattle.elementwise.specs.Promotion.{promote};
 ghost use Rattle.elementwise.specs.Results.{integer_compared_result, compared_item};
 ghost use Rattle.literal_items.specs.LiteralItems.{item_value, literal_number};
 ghost use Rattle.script_lang.specs.declared.literal.ScalarLiteral.TheVariants.{Boolean};
-ghost use Rattle.script_lang.specs.declared.command.Argument.TheVariants as argument;
+ghost use Rattle.script_lang.specs.declared.command.Argument.{Argument};
 ghost use Rattle.script_lang.specs.declared.operation.Operation.TheVariants as operation;
-ghost use Rattle.name_store.specs.Arrays.{is_bound};
-ghost use Rattle.bench_engine.specs.Machine.{OperandValues, literal_value, literal_scalar, operand_of_literal, compared_literal, literal_values, argument_values, names_in_argument, operation_scalar, operation_on, operation_with};
-ghost use Rattle.bench_engine.specs.inside.Operands.{Stands, GivesStanding};
+ghost use Rattle.name_store.specs.States.{State};
+ghost use Rattle.bench_engine.specs.Machine.{OperandValues, literal_value, literal_scalar, operand_of_literal, compared_literal, literal_values, argument_values, operation_scalar, operation_on, operation_with};
+ghost use Rattle.bench_engine.specs.inside.Operands.{IsGiven, Stands, GivesStanding};
 ghost use Rattle.bench_engine.specs.inside.OwnContents.{held, IsInCOrder};
 
 use crate::contents::filled;
+use crate::given::Given;
 use crate::item::item_of;
-use crate::operand::operand_part;
 use elem_descr::{Descr, Refusal, Scalar};
 use elementwise::{
     Items, apply2, compare, compare_bytes, compare_integer, compared_type, literal_type, promote,
     scalar_of,
 };
 use machine_numbers::{BinOp, Comparison};
-use name_store::Bench;
 use overlap_copy::Owned;
-use script_lang::{Argument, Literal, Operand, Operation, ScalarLiteral};
+use script_lang::{Literal, Operation, ScalarLiteral};
 use shape_strides::{MemoryOrder, Shape};
 use std::alloc::Global;
 
@@ -60,8 +58,6 @@ pub fn work(
         Operation::Compare(comparison) => compare(alloc, comparison, left, right),
     }
 }
-
-// ---- literals
 
 /// The one item that a literal is of a scalar, in an array of no axes.
 fn single(alloc: Global, scalar: &Scalar, literal: &Literal) -> Result<Owned, Refusal>
@@ -163,36 +159,19 @@ pub fn work_literal(
     }
 }
 
-// ---- operands
-
-/// What an operation gives on items and an operand.
-fn work_operand(
+/// What an operation gives on items and what an argument gives.
+pub fn work_given(
     alloc: Global,
-    bench: &Bench,
     operation: Operation,
     left: Items<'_>,
-    operand: &Operand,
+    right: &Given<'_>,
 ) -> Result<Owned, Refusal>
-    requires bound { list_all (is_bound bench.now.state) (names_in_argument (argument.Operand operand.now)) ≡ true }
-    ensures { (v : OperandValues) → Stands v left.entry → Gives held result (operation_with operation v (argument_values bench.now.state operation v.descr (argument.Operand operand.now))) }
-{
-    let right = operand_part(alloc, bench, operand)?;
-    work(alloc, operation, left, right.items())
-}
-
-/// What an operation gives on items and an argument.
-pub fn work_argument(
-    alloc: Global,
-    bench: &Bench,
-    operation: Operation,
-    left: Items<'_>,
-    right: &Argument,
-) -> Result<Owned, Refusal>
-    requires bound { list_all (is_bound bench.now.state) (names_in_argument right.now) ≡ true }
-    ensures { (v : OperandValues) → Stands v left.entry → Gives held result (operation_with operation v (argument_values bench.now.state operation v.descr right.now)) }
+    requires { (s : State) × (value : Argument) × IsGiven s value right.now }
+    ensures { (s : State) (value : Argument) (v : OperandValues) → IsGiven s value right.now → Stands v left.entry
+        → Gives held result (operation_with operation v (argument_values s operation v.descr value)) }
 {
     match right {
-        Argument::Literal(literal) => work_literal(alloc, operation, left, literal),
-        Argument::Operand(operand) => work_operand(alloc, bench, operation, left, operand),
+        Given::Literal(literal) => work_literal(alloc, operation, left, literal),
+        Given::Items(part) => work(alloc, operation, left, part.items()),
     }
 }

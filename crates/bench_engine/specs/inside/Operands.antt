@@ -1,10 +1,11 @@
 -- Operands: the items of a layout in a block, which those of an array of the state are.
-use Rattle.std.specs.Prelude.{◌≡◌, ◌⊎◌, ℕ, Bool, List, map, IsTrue, Result, Ok, Err}
+use Rattle.std.specs.Prelude.{◌≡◌, ◌⊎◌, ℕ, List, map, IsTrue, Option, Some, None, Result, Ok, Err}
 use Rattle.elem_descr.specs.declared.refusal.Refusal.{Refusal}
 use Rattle.elem_descr.specs.declared.refusal.Refusal.TheVariants.{OutOfMemory}
 use Rattle.elem_descr.specs.Blocks.{item_from}
+use Rattle.shape_strides.specs.declared.layout.Layout.{Layout}
 use Rattle.shape_strides.specs.Layouts.{offsets}
-use Rattle.view_ops.specs.Views.{View}
+use Rattle.view_ops.specs.Views.{View, IsViewOf}
 use Rattle.broadcasting.specs.Broadcasts.{can_stretch}
 use Rattle.elementwise.specs.Results.{stretched_items}
 use Rattle.overlap_copy.specs.declared.items.Items.{Items}
@@ -13,11 +14,18 @@ use Rattle.elem_descr.specs.declared.descr.Descr.{Descr}
 use Rattle.elem_descr.specs.Values.{LeafValue}
 use Rattle.name_store.specs.Targets.{HasItems}
 use Rattle.name_store.specs.Shown.{Shows}
+use Rattle.name_store.specs.declared.array_ref.ArrayRef.{ArrayRef}
 use Rattle.name_store.specs.States.{State, Array}
 use Rattle.name_store.specs.Arrays.{descr_of, read}
-use Rattle.bench_engine.specs.Machine.{OperandValues, viewed}
+use Rattle.script_lang.specs.declared.command.Argument.{Argument}
+use Rattle.script_lang.specs.declared.command.Argument.TheVariants as argument
+use Rattle.script_lang.specs.declared.command.Operand.{Operand}
+use Rattle.bench_engine.specs.Machine.{OperandValues, operand_part, viewed}
+use Rattle.bench_engine.specs.declared.given.Given.{Given}
+use Rattle.bench_engine.specs.declared.given.Given.TheVariants as given
 use Rattle.bench_engine.specs.declared.operand.Part.{Part}
-use Rattle.bench_engine.specs.inside.Assigns.{IsTaken}
+use Rattle.bench_engine.specs.declared.operand.Part.TheVariants as part
+use Rattle.bench_engine.specs.inside.Assigns.{Holds, LiesIn}
 
 -- they are those of an array of the state
 pub record StandsFor (s : State) (array : Array) (x : Items) : Type 0 where
@@ -25,20 +33,38 @@ pub record StandsFor (s : State) (array : Array) (x : Items) : Type 0 where
   pub shape : array.shape ≡ x.layout.now.shape
   pub items : read s array ≡ map (item_from x.descr.now x.block.now) (offsets x.layout.now)
 
--- what is taken of an array that is shown is a part of it
-pub record IsPart (s : State) (part : Array) (p : Part) : Type 0 where
-  pub array : Array
-  pub plain : Bool
-  pub view : View
-  pub shows : Shows s array p.array
-  pub is : IsTaken s array p.array plain p.taken view
-  pub part_is : viewed array view ≡ part
+-- an array of the state that is shown, a view of one, or a copy of its items
+abbrev pub IsPart : State → Array → Part → Type 0
+IsPart s a (part.Whole r) = Shows s a r
+IsPart s a (part.View r layout) = (array : Array) × (view : View) × Shows s array r × IsViewOf r.layout.now layout view × (viewed array view ≡ a)
+IsPart s a (part.Copy o) = Holds s a o
+
+-- the buffer in which its items stand, unless they are copied
+abbrev pub buffer_number : Part → Option ℕ
+buffer_number (part.Whole r) = Some r.number
+buffer_number (part.View r layout) = Some r.number
+buffer_number (part.Copy o) = None
+
+-- a layout has the items of a part of an array that is shown, in the buffer that has this number, where there is one
+abbrev pub LiesInBuffer : State → Array → Option ℕ → Layout → Type 0
+LiesInBuffer s a None layout = Unit {0}
+LiesInBuffer s a (Some number) layout = (array : Array) × (r : ArrayRef) × Shows s array r × (number ≡ r.number) × LiesIn s array a layout
 
 -- the part is the one that is there; a refusal is the one that is there, unless memory ran out
 abbrev pub GivesPart : State → Result Part Refusal → Result Array Refusal → Type 0
-GivesPart s (Ok p) (Ok part) = IsPart s part p
+GivesPart s (Ok p) (Ok array) = IsPart s array p
 GivesPart s (Ok p) (Err refusal) = ⊥
 GivesPart s (Err refusal) there = (refusal ≡ OutOfMemory) ⊎ (there ≡ Err refusal)
+
+-- a literal, or the part that an operand is
+abbrev pub IsGiven : State → Argument → Given → Type 0
+IsGiven s value (given.Literal literal) = value ≡ argument.Literal literal.now
+IsGiven s value (given.Items p) = (operand : Operand) × (array : Array) × (value ≡ argument.Operand operand) × (operand_part s operand ≡ Ok array) × IsPart s array p
+
+-- what an argument gives; a refusal is that of the part that its operand is, unless memory ran out
+abbrev pub GivesGiven : State → Argument → Result Given Refusal → Type 0
+GivesGiven s value (Ok given) = IsGiven s value given
+GivesGiven s value (Err refusal) = (refusal ≡ OutOfMemory) ⊎ ((operand : Operand) × (value ≡ argument.Operand operand) × (operand_part s operand ≡ Err refusal))
 
 -- they are those of an operand, also where they are stretched
 pub record Stands (v : OperandValues) (x : Items) : Type 0 where

@@ -23,4 +23,4 @@ returns c =
     let s = c.args.bench.now.state in
     let is = given-part s c.in_ok-part.part (operand_part s c.args.operand.now) c.in_ok-part.ensures in
     let e = c.apply1.ensures in
-    transformed-gives s c.args.operation c.args.operand.now is.0 c.items.result c.apply1.result is.1 (c.items.ensures s is.0 is.2) e.gives e.order e.items
+    transformed-gives s c.args.operation c.args.operand.now is.0 c.items.result c.apply1.result is.1 (c.items.ensures.stands s is.0 is.2) e.gives e.order e.items
