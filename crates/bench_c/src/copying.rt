@@ -1,4 +1,4 @@
-//! Bytes that are handed to a caller.
+//! Bytes copied to a caller.
 ghost use Rattle.std.specs.Prelude.{◌≡◌};
 ghost use Rattle.std.specs.Option.{option_map};
 ghost use Rattle.bench_c.specs.Benches.{CopiesOut, CopiesOutIfAny};

@@ -1,4 +1,4 @@
-//! What a call came to.
+//! The status that a call returns.
 ghost use Rattle.std.specs.Prelude.{◌≡◌};
 ghost use Rattle.bench_c.specs.Statuses.{code_of};
 
