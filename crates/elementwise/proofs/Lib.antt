@@ -3,6 +3,7 @@ pub mod NulLaws
 pub mod LeafLaws
 pub mod RowLaws
 pub mod CastLaws
+pub mod CommonLaws
 pub mod EncodedLaws
 pub mod WorkLaws
 pub mod ColumnLaws

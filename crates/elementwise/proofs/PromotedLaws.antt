@@ -41,7 +41,7 @@ little-native (Int signed width order) is = refl
 little-native (Bytes n) is = absurd (false≢true (sym is))
 
 -- an answer is native
-abbrev AnswersNative : Result Scalar Refusal → Type 0
+abbrev pub AnswersNative : Result Scalar Refusal → Type 0
 AnswersNative (Ok s) = IsNative s
 AnswersNative (Err e) = Unit {0}
 
@@ -54,7 +54,7 @@ integers-native l r = elim (is_signed l) as (λ t. AnswersNative (cond t (cond (
   | false ↦ elim (is_signed r) as (λ t. AnswersNative (cond t (mixed_type (size l) (size r)) (Ok (integer_type false (max (size l) (size r)))))) [ true ↦ mixed-native (size l) (size r) | false ↦ integer-native false (max (size l) (size r)) ]
 ]
 
-common-native : (l r : Scalar) → is_text l ≡ false → is_text r ≡ false → AnswersNative (common_type l r)
+pub common-native : (l r : Scalar) → is_text l ≡ false → is_text r ≡ false → AnswersNative (common_type l r)
 common-native l r is is' = elim (is_bool l) as (λ t. AnswersNative (cond t (Ok (little r)) (cond (is_bool r) (Ok (little l)) (common_integers l r)))) [
   | true ↦ little-native r is'
   | false ↦ elim (is_bool r) as (λ t. AnswersNative (cond t (Ok (little l)) (common_integers l r))) [ true ↦ little-native l is | false ↦ integers-native l r ]

@@ -20,7 +20,7 @@ ghost use Rattle.elementwise.specs.inside.Made.{IsMade};
 use crate::made::made;
 use crate::operands::{Broadcast, note_bytes, read_as};
 use crate::pairing::{Pairing, Work};
-use crate::promotion::{compared_type, eight_bytes, scalar_of};
+use crate::promotion::{common_type, compared_type, scalar_of};
 use crate::rows::Operands;
 use crate::shrunk::{spread, without_repeats};
 use crate::text_pairs::ComparingTexts;
@@ -32,8 +32,9 @@ use machine_numbers::{Comparison, is_signed, little};
 use overlap_copy::{Items, Owned};
 use std::alloc::Global;
 
-/// How numbers of two scalars are compared: as those of a scalar that holds both, and else as integers of
-/// eight bytes, of which the first have a sign where the second have none, or the other way round.
+/// How numbers of two scalars are compared: as those of the smallest scalar that holds both, and where there
+/// is none as integers of eight bytes, of which the first have a sign where the second have none, or the
+/// other way round.
 fn number_pairing<'a>(
     comparison: Comparison,
     left: &Scalar,
@@ -45,19 +46,17 @@ fn number_pairing<'a>(
     ensures { IsComparing comparison left.now right.now result }
 {
     let native = little(left);
-    let signed = is_signed(left);
     let work = Work::Compare(comparison);
     if native == little(right) {
         let scalar = read_as(&native, both.left, both.right);
         return Pairing::Alike { work, scalar };
     }
-    if signed == is_signed(right) {
-        let scalar = eight_bytes(signed);
-        return Pairing::Alike { work, scalar };
-    }
-    Pairing::Signs {
-        comparison,
-        left_signed: signed,
+    match common_type(left, right) {
+        Ok(scalar) => Pairing::Alike { work, scalar },
+        Err(_) => Pairing::Signs {
+            comparison,
+            left_signed: is_signed(left),
+        },
     }
 }
 

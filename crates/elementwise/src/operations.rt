@@ -155,11 +155,11 @@ pub(crate) struct Working<'a, 'b> {
 impl<'a, 'b> NumberTask for Working<'a, 'b> {
     type Out = BlockBuilder;
 
-    ghost Needs = { λ t scalar bytes. IsWork t.work × (t.bools ≡ is_bool scalar) × (item_size t.operands.left.descr.now ≡ size scalar) × (item_size t.operands.right.descr.now ≡ size scalar) × (pairs_of t.operands * size (target t.work scalar) ≤ t.block.1) };
+    ghost Needs = { λ t scalar. IsWork t.work × (t.bools ≡ is_bool scalar) × (item_size t.operands.left.descr.now ≡ size scalar) × (item_size t.operands.right.descr.now ≡ size scalar) × (pairs_of t.operands * size (target t.work scalar) ≤ t.block.1) };
 
-    ghost Gives = { λ t scalar old new block. (block.0 ≡ t.block.0 ++ made_of_all (number_pair scalar scalar (target t.work scalar) (meaning t.work scalar)) t.operands) × (pairs_of t.operands * size (target t.work scalar) + block.1 ≡ t.block.1) };
+    ghost Gives = { λ t scalar block. (block.0 ≡ t.block.0 ++ made_of_all (number_pair scalar scalar (target t.work scalar) (meaning t.work scalar)) t.operands) × (pairs_of t.operands * size (target t.work scalar) + block.1 ≡ t.block.1) };
 
-    fn run<N: Number, O: Ordered>(self, bytes: &mut [u8]) -> BlockBuilder {
+    fn run<N: Number, O: Ordered>(self) -> BlockBuilder {
         let Working {
             work,
             bools,

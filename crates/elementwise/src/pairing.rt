@@ -113,7 +113,7 @@ impl<'a> Pairing<'a> {
                     operands,
                     block,
                 };
-                on_number(scalar, task, &mut [])
+                on_number(scalar, task)
             }
             Pairing::Signs {
                 comparison,

@@ -91,7 +91,8 @@ fn common_integers(left: &Scalar, right: &Scalar) -> Result<Scalar, Refusal>
     }
 }
 
-fn common_type(left: &Scalar, right: &Scalar) -> Result<Scalar, Refusal>
+/// The smallest type that holds the numbers of two types. `NeedsFloats` where there is none.
+pub(crate) fn common_type(left: &Scalar, right: &Scalar) -> Result<Scalar, Refusal>
     ensures { Answers (λ s. s) result (common_type left.now right.now) }
 {
     if is_bool(left) {

@@ -1,5 +1,5 @@
 //! Machine numbers: what they mean, how they are stored, and how one type is converted to another.
-ghost use Rattle.std.specs.Prelude.{◌≡◌, ◌≤◌, ◌⊎◌, ◌+◌, ◌++◌, ℕ, ℤ, int_lt, pos, Bool, true, false, length, if◌then◌else◌, refl};
+ghost use Rattle.std.specs.Prelude.{◌≡◌, ◌≤◌, ◌⊎◌, ◌+◌, ◌++◌, ℕ, ℤ, int_lt, pos, Bool, true, false, length, if◌then◌else◌, IsTrue, refl};
 ghost use Rattle.elem_descr.specs.declared.scalar.Order.{Order};
 ghost use Rattle.elem_descr.specs.declared.scalar.Order.TheVariants.{Little};
 ghost use Rattle.elem_descr.specs.declared.scalar.Scalar.{Scalar};
@@ -61,6 +61,14 @@ pub trait Number: Copy {
     fn is_less(self, other: Self) -> bool
         ensures { result ≡ int_lt (value self) (value other) };
 
+    /// Whether the numbers are bools.
+    #[inline(always)]
+    fn are_bools() -> bool
+        ensures { IsTrue result → (order : Order) → is_bool (scalar order) ≡ true }
+    {
+        false
+    }
+
     ghost is_number: { (order : Order) → IsNumber (scalar order) };
 
     ghost has_width: { (order : Order) → size (scalar order) ≡ WIDTH };
@@ -120,6 +128,10 @@ impl Number for bool {
 
     fn is_less(self, other: bool) -> bool {
         !self & other
+    }
+
+    fn are_bools() -> bool {
+        true
     }
 }
 

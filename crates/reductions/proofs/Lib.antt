@@ -1,6 +1,7 @@
 mod Vectors
 pub mod LineLaws
 pub mod AxisLaws
+pub mod DecidedLaws
 pub mod OutcomeLaws
 pub mod RowLaws
 pub mod SoughtLaws

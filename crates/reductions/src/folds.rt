@@ -1,17 +1,17 @@
 //! Reductions that go over numbers one by one.
-ghost use Rattle.std.specs.Prelude.{◌≡◌, ◌+◌, ◌<◌, ◌^◌, ℕ, ℤ, pos, Bool, true, false, [], ◌∷◌, ◌++◌, List, length, if◌then◌else◌, is_some, IfSome, refl};
+ghost use Rattle.std.specs.Prelude.{◌≡◌, ◌+◌, ◌<◌, ◌^◌, ℕ, ℤ, pos, Bool, true, false, [], ◌∷◌, ◌++◌, List, length, if◌then◌else◌, is_some, IfSome, IsTrue, refl};
 ghost use Rattle.std.specs.List.{fold};
 ghost use Rattle.elem_descr.specs.declared.scalar.Order.{Order};
 ghost use Rattle.elem_descr.specs.declared.scalar.Order.TheVariants.{Little};
 ghost use Rattle.elem_descr.specs.Encoding.{low_bits, size};
 ghost use Rattle.machine_numbers.specs.declared.operators.Red.{Red};
 ghost use Rattle.reductions.specs.Reductions.{first_place, result_scalar};
-ghost use Rattle.reductions.specs.inside.Numbers.{numbers_of, TakesIn, IsStored, IsReduced};
+ghost use Rattle.reductions.specs.inside.Numbers.{number_at, numbers_at, numbers_of, TakesIn, IsStored, IsReduced};
 ghost use Rattle.reductions.specs.inside.FoldLaws.{total_of, total, total_is, total_size, truth_of, truth, truth_is, truth_size, is_true_bits};
 ghost use Rattle.reductions.specs.inside.FoundLaws.{HasFound, HasSought, better_next, better_stays};
 ghost use Rattle.reductions.specs.inside.Extremes.{reduction_of, places_of, is_better, better, best_of, best_from, best_is, best_size, place_is, place_size, better_kept, better_left};
 
-use crate::lines::{fold_each, part, place_of};
+use crate::lines::{BLOCK, fold_each, part, place_of};
 use machine_numbers::{Number, Ordered, Side};
 
 /// A reduction of numbers of a type, as it goes over them. It is given the first of them when it starts, and
@@ -39,6 +39,21 @@ pub(crate) trait Fold<S: Number> {
 
     fn finish(held: Self::Held) -> Self::Total
         ensures { (first : ℤ) (rest : List ℤ) → holds held first (first ∷ rest) → Self.Total.value result ≡ meaning (first ∷ rest) };
+
+    /// Whether no number more changes what is held.
+    #[inline(always)]
+    fn is_decided(held: Self::Held) -> bool
+        ensures { IsTrue result → (order : Order) (first : ℤ) (seen : List ℤ) (bytes offsets : List ℕ)
+            → holds held first seen → holds held first (seen ++ numbers_at (S.scalar order) bytes offsets) }
+    {
+        false
+    }
+
+    /// Whether it is worth asking that on the way. A hint: either answer is right.
+    #[inline(always)]
+    fn may_end_early() -> bool {
+        false
+    }
 
     /// Goes over numbers that lie one right after the other, and have `seen` before them, where it does so
     /// otherwise than one by one.
@@ -104,6 +119,17 @@ fn is_better<S: Number, const GREATEST: bool>(item: S, best: S) -> bool
     item.is_less(best)
 }
 
+/// Whether no number of the type is better. It is told of bools alone.
+#[inline(always)]
+fn is_last<S: Number, const GREATEST: bool>(best: S) -> bool
+    ensures { IsTrue result → (order : Order) (bytes : List ℕ) (offset : ℕ) → is_better GREATEST (number_at (S.scalar order) bytes offset) (S.value best) ≡ false }
+{
+    if !S::are_bools() {
+        return false;
+    }
+    (best.bits() != 0) == GREATEST
+}
+
 impl<S: Number, const GREATEST: bool> Fold<S> for Best<GREATEST> {
     type Held = S;
 
@@ -128,6 +154,14 @@ impl<S: Number, const GREATEST: bool> Fold<S> for Best<GREATEST> {
             return item;
         }
         held
+    }
+
+    fn is_decided(held: S) -> bool {
+        is_last::<S, GREATEST>(held)
+    }
+
+    fn may_end_early() -> bool {
+        S::are_bools()
     }
 
     fn finish(held: S) -> S {
@@ -162,6 +196,14 @@ impl<S: Number, const ALL: bool> Fold<S> for Truth<ALL> {
         if ALL { held & is_true } else { held | is_true }
     }
 
+    fn is_decided(held: bool) -> bool {
+        held != ALL
+    }
+
+    fn may_end_early() -> bool {
+        true
+    }
+
     fn finish(held: bool) -> bool {
         held
     }
@@ -173,10 +215,6 @@ pub(crate) struct Found<S> {
     best: S,
     place: usize,
 }
-
-/// The numbers that are gone over at once for the best of them. The last block with a better one is
-/// searched for its place.
-const BLOCK: usize = 1024;
 
 /// The best number so far, and how many numbers stand before the block in which it came.
 #[derive(Clone, Copy)]
@@ -196,6 +234,9 @@ fn seek_in<S: Number, O: Ordered, const GREATEST: bool>(
     requires few { block.run.count < 2 ^ 63 }
     ensures { HasSought GREATEST (numbers_of (S.scalar O.order) block.entry) (S.value held.best) held.before before (S.value result.best) result.before }
 {
+    if is_last::<S, GREATEST>(held.best) {
+        return held;
+    }
     let best = fold_each::<S, O, Best<GREATEST>>(held.best, 0, block);
     if !is_better::<S, GREATEST>(best, held.best) {
         return held;

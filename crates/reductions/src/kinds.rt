@@ -112,11 +112,11 @@ pub(crate) struct Reducing<'a> {
 impl<'a> NumberTask for Reducing<'a> {
     type Out = Result<RawBlock, AllocError>;
 
-    ghost Needs = { λ t scalar bytes. (t.lists.width ≡ size scalar) × HaveItems (length t.lists.bytes.now) (size scalar) t.lists.starts.now t.lists.axis };
+    ghost Needs = { λ t scalar. (t.lists.width ≡ size scalar) × HaveItems (length t.lists.bytes.now) (size scalar) t.lists.starts.now t.lists.axis };
 
-    ghost Gives = { λ t scalar old new block. IfOk block (AreReduced t.reduction scalar t.lists.bytes.now (size (result_scalar t.reduction scalar)) (lists_from t.lists.starts.now t.lists.axis)) };
+    ghost Gives = { λ t scalar block. IfOk block (AreReduced t.reduction scalar t.lists.bytes.now (size (result_scalar t.reduction scalar)) (lists_from t.lists.starts.now t.lists.axis)) };
 
-    fn run<N: Number, O: Ordered>(self, bytes: &mut [u8]) -> Result<RawBlock, AllocError> {
+    fn run<N: Number, O: Ordered>(self) -> Result<RawBlock, AllocError> {
         let (alloc, lists) = (self.alloc, self.lists);
         match self.reduction {
             Red::Sum => reduced::<N, O, Wrapping<false>>(alloc, lists),

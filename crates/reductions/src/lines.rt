@@ -131,6 +131,32 @@ pub(crate) fn fold_each<S: Number, O: Ordered, F: Fold<S>>(
     held
 }
 
+/// The numbers that are gone over at once where it may turn out that no others matter.
+pub(crate) const BLOCK: usize = 1024;
+
+/// Goes over numbers until no number more changes what is held. They have `seen` before them.
+pub(crate) fn fold_blocks<S: Number, O: Ordered, F: Fold<S>>(
+    held: F::Held,
+    seen: usize,
+    side: Side<'_>,
+) -> F::Held
+    requires width { side.width ≡ S.WIDTH }
+    requires few { seen + side.run.count < 2 ^ 63 }
+    ensures { TakesIn F.holds held seen (numbers_of (S.scalar O.order) side.entry) result }
+{
+    let mut held = held;
+    let mut done = 0;
+    while done < side.run.count {
+        if F::is_decided(held) {
+            return held;
+        }
+        let block = part(side, done, BLOCK.min(side.run.count - done));
+        held = fold_each::<S, O, F>(held, seen + done, block);
+        done += block.run.count;
+    }
+    held
+}
+
 /// Where a number stands first among others; how many there are where it does not.
 #[inline(always)]
 pub(crate) fn place_of<S: Number, O: Ordered>(number: S, side: Side<'_>) -> usize
@@ -162,6 +188,9 @@ pub(crate) fn fold_run<S: Number, O: Ordered, F: Fold<S>>(
         return fold_each::<S, O, F>(held, seen, side);
     }
     let near = side.with_step(S::WIDTH as isize);
+    if F::may_end_early() {
+        return fold_blocks::<S, O, F>(held, seen, near);
+    }
     match F::fold_near::<O>(held, seen, near) {
         Some(after) => after,
         None => fold_each::<S, O, F>(held, seen, near),

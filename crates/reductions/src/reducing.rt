@@ -67,7 +67,7 @@ fn reduced_from(
         reduction,
         lists,
     };
-    on_number(source.scalar, task, &mut [])
+    on_number(source.scalar, task)
 }
 
 /// A block of what comes of all items, which are gone over in the order of another layout of them.
@@ -196,15 +196,14 @@ pub fn reduce(
     {
         return reduce_items(alloc, reduction, items, axis, keep);
     }
+    // For the prover alone: so few items of so few bytes are within the limit of a block.
+    let _items = items.layout.shape.items();
     let near = copy(
         alloc,
         items.block,
         items.layout,
         items.descr,
         MemoryOrder::C,
-    );
-    let Ok(near) = near else {
-        return Err(Refusal::OutOfMemory);
-    };
+    )?;
     reduce_items(alloc, reduction, near.items(), axis, keep)
 }

@@ -1,41 +1,42 @@
-use Rattle.std.proofs.Common.{◌≡◌, sym, ap, subst, refl, ◌∙◌}
+use Rattle.std.proofs.Common.{sym, ap, subst, refl, ◌∙◌}
 use Rattle.std.specs.Prelude.{not}
 use Rattle.elem_descr.specs.declared.scalar.Order.TheVariants.{Little}
 use Rattle.elem_descr.specs.declared.scalar.Width.TheVariants.{Eight}
 use Rattle.elem_descr.specs.declared.scalar.Scalar.TheVariants.{Int}
-use Rattle.elem_descr.specs.Encoding.{IsNumber}
-use Rattle.machine_numbers.specs.Kinds.{is_signed, little}
+use Rattle.machine_numbers.specs.Kinds.{little}
 use Rattle.elementwise.specs.inside.PairPasses.{Holds}
-use Rattle.elementwise.proofs.BitLaws.{agree, differ}
-use Rattle.elementwise.proofs.HeldLaws.{little-little, holds-wide}
+use Rattle.elementwise.proofs.CommonLaws.{common-held, common-signs}
+use Rattle.elementwise.proofs.HeldLaws.{little-little, holds-wide, number-no_text}
+use Rattle.elementwise.proofs.PromotedLaws.{AnswersNative, common-native, native-little, number-read}
 use Rattle.elementwise.proofs.compared.number_pairing.Goals as goal
 
 pub read_as-scalar-requires : goal.read_as-scalar-requires
 read_as-scalar-requires c = ap little c.little-native.ensures ∙ little-little c.args.left.now ∙ sym c.little-native.ensures
 
-pub returns-then-signed-is_signed : goal.returns-then-signed-is_signed
-returns-then-signed-is_signed c =
+pub returns-in-Ok : goal.returns-in-Ok
+returns-in-Ok c =
     let from = c.args.left.now in
     let other = c.args.right.now in
-    let is = c.eight_bytes-scalar.ensures ∙ λ i. Int (c.is_signed-signed.ensures i) Eight Little in
-    let same : is_signed from ≡ is_signed other = sym c.is_signed-signed.ensures ∙ agree _ _ c.if-signed-is_signed.true ∙ c.is_signed.ensures in
-    let number = subst IsNumber (sym is) tt in
+    let s = c.in-Ok.scalar in
+    let held = common-held from other s c.requires.left c.requires.right c.in-Ok.ensures in
+    let native = subst AnswersNative c.in-Ok.ensures (common-native from other (number-no_text from c.requires.left) (number-no_text other c.requires.right)) in
+    let number = number-read s s (native-little s native) native in
     record {
       can = (number, tt);
-      left = (number, subst (Holds from) (sym is) (holds-wide from c.requires.left));
-      right = (number, subst (Holds other) (sym (is ∙ λ i. Int (same i) Eight Little)) (holds-wide other c.requires.right));
+      left = (number, held.0);
+      right = (number, held.1);
       target = refl;
       says = λ x y. refl;
     }
 
-pub returns : goal.returns
-returns c =
+pub returns-in-Err : goal.returns-in-Err
+returns-in-Err c =
     let from = c.args.left.now in
     let other = c.args.right.now in
-    let turned : not c.is_signed-signed.result ≡ is_signed other = differ _ _ c.if-signed-is_signed.false ∙ c.is_signed.ensures in
+    let turned = ap not c.is_signed.ensures ∙ common-signs from other c.in-Err.field-0 c.requires.left c.requires.right c.in-Err.ensures in
     record {
       can = tt;
-      left = (tt, subst (λ signed. Holds from (Int signed Eight Little)) (sym c.is_signed-signed.ensures) (holds-wide from c.requires.left));
+      left = (tt, subst (λ signed. Holds from (Int signed Eight Little)) (sym c.is_signed.ensures) (holds-wide from c.requires.left));
       right = (tt, subst (λ signed. Holds other (Int signed Eight Little)) (sym turned) (holds-wide other c.requires.right));
       target = refl;
       says = λ x y. refl;

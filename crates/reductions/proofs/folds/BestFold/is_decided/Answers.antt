@@ -1,0 +1,17 @@
+use Rattle.std.proofs.Common.{sym, ap, ◌∙◌}
+use Rattle.std.specs.List.{fold}
+use Rattle.std.specs.Prelude.{nat_eq, not}
+use Rattle.std.proofs.lemmas.List.Sums.{fold-append}
+use Rattle.reductions.specs.inside.Extremes.{better}
+use Rattle.reductions.specs.inside.Numbers.{numbers_at}
+use Rattle.reductions.proofs.DecidedLaws.{best-stays}
+use Rattle.reductions.proofs.folds.BestFold.is_decided.Goals as goal
+
+pub returns : goal.returns
+returns g c last order first seen bytes offsets held =
+    let greatest = not (nat_eq g.row.GREATEST 0) in
+    let scalar = g.S.Number.scalar order in
+    let numbers = numbers_at scalar bytes offsets in
+    best-stays greatest (g.S.Number.value c.args.held) scalar bytes (λ offset. c.is_last.ensures last order bytes offset) offsets
+    ∙ ap (λ best. fold (better greatest) best numbers) held
+    ∙ sym (fold-append (better greatest) first seen numbers)

@@ -1,0 +1,15 @@
+use Rattle.std.proofs.Common.{◌-◌, ◌≤◌}
+use Rattle.reductions.specs.inside.Numbers.{numbers_at, TakesIn}
+use Rattle.shape_strides.specs.Runs.{run_offsets}
+use Rattle.reductions.proofs.LineLaws.{front}
+use Rattle.reductions.proofs.lines.fold_blocks.Given as goal
+
+-- the numbers so far are taken in
+abbrev pub invariant-loop-done : goal.invariant-loop-done
+invariant-loop-done g l = record {
+  fits : l.done ≤ l.side.run.count;
+  takes : TakesIn g.F.Fold.holds l.initial.held l.seen (numbers_at (g.S.Number.scalar g.O.Ordered.order) l.side.bytes.now (run_offsets (front l.done l.side.run))) l.held;
+}
+
+abbrev pub decreases-loop-done : goal.decreases-loop-done
+decreases-loop-done g l = l.side.run.count - l.done
