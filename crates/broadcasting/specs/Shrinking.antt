@@ -4,6 +4,10 @@ use Rattle.shape_strides.specs.declared.layout.Layout.{Layout}
 use Rattle.view_ops.specs.Views.{IsViewOf}
 use Rattle.broadcasting.specs.Broadcasts.{can_stretch, broadcast_index}
 
+-- an axis of more items than one, each step along which leads to the same item
+abbrev pub RepeatsAlong : Layout → ℕ → Type 0
+RepeatsAlong l axis = (axis < length l.shape) × (1 < slice_index l.shape axis) × (slice_index_or l.strides axis (pos 0) ≡ pos 0)
+
 -- an axis keeps its length, or has length 1 where each of its steps leads to the same item
 abbrev pub ShrinksTo : ℕ → ℤ → ℕ → Type 0
 ShrinksTo n stride m = (m ≡ n) ⊎ ((m ≡ 1) × (stride ≡ pos 0) × (1 < n))

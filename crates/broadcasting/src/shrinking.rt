@@ -1,21 +1,26 @@
 //! Layouts whose items repeat, shrunk to the layouts that they were stretched from.
-ghost use Rattle.std.specs.Prelude.{◌≡◌, ◌<◌, pos, length, slice_index, slice_index_or, IfOk, IfErr};
+ghost use Rattle.std.specs.Prelude.{◌≡◌, ◌<◌, ℕ, pos, false, length, slice_index, slice_index_or, IfOk, IfErr, IsTrue};
 ghost use Rattle.elem_descr.specs.declared.refusal.Refusal.TheVariants.{OutOfMemory};
-ghost use Rattle.broadcasting.specs.Shrinking.{ShrinksTo, CanShrink, IsStretchOf};
+ghost use Rattle.broadcasting.specs.Shrinking.{RepeatsAlong, ShrinksTo, CanShrink, IsStretchOf};
 
 use elem_descr::Refusal;
 use shape_strides::{Layout, Shape, Strides};
 use smallvec::SmallVec;
 use std::alloc::{AllocError, Global};
 
-/// Whether items repeat along an axis. A hint: either answer is right.
-pub fn repeats(layout: &Layout) -> bool {
+/// Whether items repeat along an axis.
+pub fn repeats(layout: &Layout) -> bool
+    ensures yes { IsTrue result → (axis : ℕ) × RepeatsAlong layout.now axis }
+    ensures no { result ≡ false → (axis : ℕ) → RepeatsAlong layout.now axis → ⊥ }
+{
     let lengths = layout.shape.as_slice();
     let strides = layout.strides.as_slice();
-    lengths
-        .iter()
-        .zip(strides)
-        .any(|(len, stride)| *len > 1 && *stride == 0)
+    for axis in 0..lengths.len() {
+        if lengths[axis] > 1 && strides[axis] == 0 {
+            return true;
+        }
+    }
+    false
 }
 
 /// The length of an axis of two arrays with these strides: 1 if the items of both repeat along it.
