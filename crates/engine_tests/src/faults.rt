@@ -1,7 +1,7 @@
 //! Reads and writes that fail in mid-stream, and a run that may make few reads.
 use crate::fakes::{Counted, bytes_in, failing, in_pieces, room_for};
-use crate::rows::{FIRST_REPLIES, FIRST_RUN};
 use crate::runs::{DEPTH, check_fault, counts};
+use crate::scripts::{FIRST_REPLIES, FIRST_RUN};
 use bench_engine::RunFault;
 use bench_engine::runner::{Limits, run_within};
 use npy_files::MemStore;

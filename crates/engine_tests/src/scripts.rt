@@ -1,46 +1,33 @@
-//! Scripts with their replies.
-use crate::assignments::ASSIGNMENTS;
-use crate::casts::CASTS;
+//! Scripts that are read whole and in pieces, and the counts of their commands.
 use crate::fakes::in_pieces;
-use crate::gathers::GATHERS;
-use crate::rows::{FIRST_RUN, ROWS, Row};
 use crate::runs::{DEPTH, check_row, counts};
-use crate::undos::UNDOS;
-use std::alloc::Global;
-use std::process::Abort;
 
-fn check_rows(rt: &impl Abort, alloc: Global, rows: &[Row]) {
-    for (script, replies) in rows {
-        let mut reader = *script;
-        check_row(rt, alloc, &mut reader, replies, DEPTH);
-    }
-}
+pub const FIRST_RUN: &[u8] = b"a = zeros <i4 (2,3)\nset a[1,0] = 7\nprint a\n";
 
-#[test]
-fn rows_reply(rt: HostRuntime) {
-    check_rows(&rt, rt.alloc(), &ROWS);
-    check_rows(&rt, rt.alloc(), &ASSIGNMENTS);
-    check_rows(&rt, rt.alloc(), &CASTS);
-    check_rows(&rt, rt.alloc(), &GATHERS);
-}
+pub const FIRST_REPLIES: &[u8] = b"ok a <i4 (2, 3) new\nok set 1\n[[0 0 0]\n [7 0 0]]\n";
+
+/// Scripts and their replies.
+const ROWS: [(&[u8], &[u8]); 3] = [
+    (FIRST_RUN, FIRST_REPLIES),
+    (b"", b""),
+    // Carriage returns, blank lines, comments, blanks at both ends, and no newline at the end.
+    (
+        b"a = zeros <i8 ()\r\n\r\n \t\n  # \x80 is no matter here\n \tset a[ ] = 1\n  print\ta \nprint a",
+        b"ok a <i8 () new\nno E03 syntax\n0\n0\n",
+    ),
+];
 
 #[test]
-fn rows_reply_byte_by_byte(rt: HostRuntime) {
+fn the_pieces_of_a_script_make_no_difference(rt: HostRuntime) {
     for (script, replies) in &ROWS {
-        let mut reader = in_pieces(script, 1);
-        check_row(&rt, rt.alloc(), &mut reader, replies, DEPTH);
+        for most in [1, 2, 7, 4096] {
+            let mut reader = in_pieces(script, most);
+            check_row(&rt, rt.alloc(), &mut reader, replies, DEPTH);
+        }
     }
 }
 
-#[test]
-fn undone_changes_are_gone(rt: HostRuntime) {
-    for (depth, script, replies) in &UNDOS {
-        let mut reader = *script;
-        check_row(&rt, rt.alloc(), &mut reader, replies, *depth);
-    }
-}
-
-/// Scripts, and how many of their commands are accepted and how many refused. A line that asks for nothing is neither.
+/// Scripts, and how many of their commands are accepted and how many refused. A blank line or a comment is neither.
 const COUNTED: &[(&[u8], (u64, u64))] = &[
     (b"", (0, 0)),
     (FIRST_RUN, (3, 0)),

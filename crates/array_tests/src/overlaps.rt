@@ -1,68 +1,13 @@
-//! Arrays over blocks of their own, and views that share bytes as NumPy's `shares_memory` says.
-ghost use Rattle.std.specs.Prelude.{◌≤◌};
+//! Which views may overlap by their ranges and strides alone. Whether they share bytes is NumPy's `shares_memory`.
 ghost use Rattle.shape_strides.specs.Limits.{max_bytes};
 ghost use Rattle.shape_strides.specs.Layouts.{Fits};
+ghost use Rattle.std.specs.Prelude.{◌≤◌};
 
-use crate::check::{check, check_bytes};
-use elem_descr::{BytesLen, Descr, Refusal, Scalar};
-use overlap_copy::{Owned, may_overlap, share_cell};
-use raw_block::RawBlock;
-use shape_strides::{Layout, MAX_BYTES, MemoryOrder, Shape, Strides};
+use crate::check::check;
+use overlap_copy::{may_overlap, share_cell};
+use shape_strides::{Layout, Shape, Strides};
 use std::alloc::Global;
 use std::process::Abort;
-
-/// An array of byte strings.
-fn strings(alloc: Global, len: usize, lengths: &[usize]) -> Result<Owned, Refusal> {
-    let Some(len) = BytesLen::try_new(len) else {
-        return Err(Refusal::BadDescriptor);
-    };
-    let shape = Shape::try_new(alloc, lengths)?;
-    Owned::zeroed(alloc, Descr::Scalar(Scalar::Bytes(len)), &shape)
-}
-
-/// The array has these bytes, lengths and strides.
-fn has(rt: &impl Abort, array: &Owned, bytes: &[u8], lengths: &[usize], strides: &[isize]) {
-    check_bytes(rt, array.block.bytes(), bytes);
-    check(rt, array.layout.shape.as_slice() == lengths, "lengths");
-    check(rt, array.layout.strides.as_slice() == strides, "strides");
-}
-
-#[test]
-fn an_array_of_zeros(rt: HostRuntime) {
-    let array = strings(rt.alloc(), 2, &[2, 3]).expect(&rt, "no array");
-    has(&rt, &array, &[0; 12], &[2, 3], &[6, 2]);
-}
-
-/// An array over a block of four bytes, in Fortran order.
-fn over(rt: &impl Abort, alloc: Global, block: RawBlock) -> Owned {
-    let descr = Descr::Scalar(Scalar::Byte { signed: false });
-    let shape = Shape::try_new(alloc, &[2, 2]).expect(rt, "no shape");
-    let is_whole = shape.items() * descr.size() == block.len() && block.len() <= MAX_BYTES;
-    check(rt, is_whole, "a block that the items fill");
-    Owned::over(alloc, descr, &shape, MemoryOrder::Fortran, block).expect(rt, "no memory")
-}
-
-#[test]
-fn an_array_over_a_block(rt: HostRuntime) {
-    let mut block = RawBlock::try_zeroed(rt.alloc(), 4).expect(&rt, "no memory");
-    block.bytes_mut().copy_from_slice(&[5, 6, 7, 8]);
-    let array = over(&rt, rt.alloc(), block);
-    has(&rt, &array, &[5, 6, 7, 8], &[2, 2], &[1, 2]);
-}
-
-/// The refusal of an array of byte strings.
-fn refused(alloc: Global, len: usize, lengths: &[usize]) -> Option<Refusal> {
-    strings(alloc, len, lengths).err()
-}
-
-#[test]
-fn at_most_2_28_bytes(rt: HostRuntime) {
-    check(&rt, MAX_BYTES == 65_536 * 4_096, "the most bytes");
-    let more = refused(rt.alloc(), 65_536, &[4_097]);
-    check(&rt, more == Some(Refusal::TooLarge), "too large");
-    let empty = strings(rt.alloc(), 65_536, &[4_097, 0]).expect(&rt, "no array");
-    check(&rt, empty.block.len() == 0, "no bytes");
-}
 
 /// Items along one axis: how many, the step, the offset and the bytes of one.
 type Axis = (usize, isize, usize, usize);
