@@ -1,62 +1,105 @@
-"""A script at the limits of reshapes and casts, with its replies: arrays that are too large to copy, and no room for a name."""
-import numpy as np
+"""Limits of the address space and of the stack, which hold from a run's first moment on, in steps of a page.
 
-import reshapes
-from rules import CODES, MOST_BYTES, MOST_ITEMS, tuple_text
+Under a limit the program may not be loaded, or end while it takes its stack; nothing ends it after its first reply."""
+from __future__ import annotations
 
-ITEM = "T{<q:x:>q:y:<?:z:}"
-WIDE = (2, MOST_ITEMS // 2)
-AT_LIMIT = MOST_BYTES // 2**16
-TOO_LARGE, NO_CAST = "no E09 too large", "no E33 no such cast"
+import collections
+import dataclasses
+from argparse import Namespace
+from pathlib import Path
+from random import Random
+from typing import Sequence
+
+from .lacking import Lacking
+from .lines import Script, own_scripts, random_script
+from .runs import Part, Runner, in_processes, with_launcher
+
+PAGE = 4096
+RANDOM_SCRIPTS = 40
+BEFORE, BEHIND = 100 * PAGE, 16 * PAGE
+MOST_STEPS = 400
+FILLS, FILLED_LIMITS = b"fills", 20
+FULL = [(22, 24), (18, 16), (14, 16), (12, 32), (8, 32), (4, 16)]
+STACKS = range(PAGE, 2**20 + 1, PAGE)
+ENDS_SHELL, ENDS_PROGRAM = 2**16, 2**19
+BEFORE_START = ("not started", "ended at the start")
 
 
-class Limits:
-    def __init__(self, rng):
-        self.lines, self.replies = [], []
-        self.make("a", ITEM, (2, 1))
-        self.add(f"w = broadcast a ({WIDE[0]},{WIDE[1]})", f"ok w {ITEM} {WIDE} view")
-        for _ in range(8):
-            shape = reshapes.lengths_for(rng, WIDE)
-            shared = reshapes.without_copy(np.broadcast_to(np.zeros((2, 1)), WIDE), shape) is not None
-            self.add(f"b = reshape w ({','.join(map(str, shape))})", f"ok b {ITEM} {tuple_text(shape)} view" if shared else TOO_LARGE)
-        for text, reply in ((ITEM, TOO_LARGE), ("T{<q:x:>q:y:<20000s:z:}", NO_CAST), ("<i4", NO_CAST)):
-            self.add(f"b = cast w {text}", reply)
-        self.add_long_items()
-        self.make("b", "|u1", (1,))
-        for count in (64, 65):
-            reply = f"ok w |u1 {tuple_text([1] * count)} view" if count <= 64 else "no E08 too many axes"
-            self.add(f"w = reshape b ({','.join(['1'] * count)})", reply)
-        self.add_names(rng)
+def filling(script: Script) -> Script:
+    """A script after others that take memory in ever smaller pieces, until there is none."""
+    lines = [FILLS + b"%d_%d = zeros |u1 (%d)" % (size, k, 2**size) for size, count in FULL for k in range(count)]
+    return dataclasses.replace(script, lines=script.lines[:1] + lines + script.lines)
 
-    def add(self, line, reply):
-        self.lines.append(line)
-        self.replies.append(reply)
 
-    def make(self, name, type_, shape):
-        self.add(f"{name} = zeros {type_} ({','.join(map(str, shape))})", f"ok {name} {type_} {tuple_text(shape)} new")
+class Limited(Lacking):
+    """A script under limits."""
 
-    def add_long_items(self):
-        """Copies of items of 2^16 bytes: just as many as there may be, and more."""
-        self.make("a", "|S65536", (2, 1))
-        for count in (AT_LIMIT, AT_LIMIT + 2):
-            self.add(f"w = broadcast a (2,{count // 2})", f"ok w |S65536 (2, {count // 2}) view")
-            self.add("b = reshape w (-1)", f"ok b |S65536 ({count},) copy" if count <= AT_LIMIT else TOO_LARGE)
-        for text, reply in (("|S65536", TOO_LARGE), ("<i4", NO_CAST), ("|S1", f"ok b |S1 (2, {AT_LIMIT // 2 + 1}) new")):
-            self.add(f"b = cast w {text}", reply)
-        self.add("b = reshape w (1,-2)", "no E18 bad reshape")
+    def under(self, kind: str, most: int) -> str:
+        """A run under a limit: a word for what it comes to."""
+        self.part.count(f"runs under a limit of {'the stack' if kind == 'stack' else 'memory'}")
+        return self.trial(f"{most} bytes for {kind}", BEFORE_START, limits=[(kind, most)])
 
-    def add_names(self, rng):
-        """Reshapes and casts while every name is taken, new ones refused before the numbers are looked at."""
-        for number in range(1024 - len("abw")):
-            self.make(f"n{number}", "|u1", (6,))
-        asked = [("reshape", f"({','.join(map(str, numbers))})", numbers) for numbers in (reshapes.numbers_for(rng, (6,)) for _ in range(8))]
-        for verb, rest, numbers in [*asked, ("cast", "<f4", None)]:
-            self.add(f"x = {verb} n7 {rest}", "no E07 too many names")
-            self.add(f"x = {verb} y {rest}", "no E06 unknown name")
-            self.add(f"n8 = {verb} y {rest}", "no E06 unknown name")
-            self.add(f"n8 = {verb} n7 {rest}", "no E05 descriptor left out" if numbers is None else self.small(numbers))
-        self.add("n8 = cast n7 >i8", "ok n8 >i8 (6,) new")
+    def least(self, words: Sequence[str], low: int, high: int) -> int:
+        """The smallest limit of memory, by pages, from which on a run does not come to one of these words."""
+        while high - low > PAGE:
+            middle = (low + high) // 2 // PAGE * PAGE
+            low, high = (middle, high) if self.judged(*self.run(self.lines, limits=[("as", middle)]))[0] in words else (low, middle)
+        return high
 
-    def small(self, numbers):
-        fault = reshapes.refusal(6, numbers)
-        return f"no {fault} {CODES[fault]}" if fault else f"ok n8 |u1 {tuple_text(reshapes.target(6, numbers))} view"
+
+def at_each_page(trial: Limited, rng: Random) -> dict[str, list[int]]:
+    """Every page from where the program begins to run to where its memory suffices; where these are many, those at both ends and some between."""
+    first = trial.least(BEFORE_START, PAGE, 2**31)
+    last = max(first, trial.least((*BEFORE_START, "stopped at the start", "with E40"), first - PAGE, 2**31))
+    pages = range(first - BEFORE, last + BEHIND, PAGE)
+    chosen = pages if len(pages) <= MOST_STEPS else sorted({*pages[: MOST_STEPS // 2], *pages[-BEHIND // PAGE * 2 :], *rng.sample(pages, MOST_STEPS // 3)})
+    words = collections.defaultdict(list)
+    for most in chosen:
+        words[trial.under("as", most)].append(most)
+    return words
+
+
+def trials_of(task: tuple[Path, int, Script, float]) -> tuple[Part, int]:
+    """All runs over one script."""
+    program, number, script, seed = task
+    part, rng = Part(), Random(seed)
+    with Runner(program) as runner:
+        part.count("scripts")
+        asked = script.asking()
+        words = at_each_page(Limited(runner, part, script.name, asked), rng)
+        ended = words["ended at the start"]
+        running = [most for word in words for most in words[word] if word not in BEFORE_START]
+        above = max(ended) - min(running) if ended and running else 0
+        if number % 5 == 0:
+            full = Limited(runner, part, f"{script.name} in full memory", filling(asked))
+            for most in rng.sample(range(2**23, 2**27, PAGE), FILLED_LIMITS):
+                full.under("as", most)
+    return part, above
+
+
+def stacks(program: Path, folder: Path) -> Part:
+    """Every limit of the stack, of the program alone and of the launcher, which answers where there is too little."""
+    part = Part()
+    scripts = {script.name: script for script in own_scripts()}
+    for name, started in (("the program", program), ("the launcher", with_launcher(program, folder))):
+        with Runner(started) as runner:
+            for script in ("every_command.bench", "many_axes.bench", "saved_records.bench", "long lists"):
+                asked = scripts[script].asking()
+                trial = Limited(runner, part, f"{name}, {script}", asked)
+                ended = [most for most in STACKS if trial.under("stack", most) == "ended at the start"]
+                part.note(f"{name}, {script}: ended at the start under a stack of", f"up to {max(ended, default=0):,} bytes")
+                part.expect(f"{name}, {script}: ended at its start", max(ended, default=0) < (ENDS_SHELL if name == "the launcher" else ENDS_PROGRAM), True)
+    return part
+
+
+def all_trials(given: Namespace, folder: Path) -> Part:
+    """All limits over all scripts."""
+    rng = Random(given.seed)
+    scripts = own_scripts() + [random_script(given.program, rng, number) for number in range(RANDOM_SCRIPTS)]
+    part = stacks(given.program, folder)
+    tasks = [(given.program, number, script, rng.random()) for number, script in enumerate(scripts)]
+    found = list(in_processes(given, trials_of, tasks))
+    for runs, _ in found:
+        part.add(runs)
+    part.note("limits that end a run at its start, above the least under which it runs", f"up to {max(above for _, above in found):,} bytes")
+    return part

@@ -1,8 +1,13 @@
 """What the program replies to the load of a file, worked out from the bytes of the file by the rules of NPY files."""
+from __future__ import annotations
+
 import math
 import re
+from typing import Any
 
-from rules import LETTERS, MOST_AXES, MOST_BYTES, MOST_ITEMS, Refused, tuple_text
+from .rules import LETTERS, MOST_AXES, MOST_BYTES, MOST_ITEMS, Refused, tuple_text
+
+Token = tuple[str, Any]
 
 TOKEN = re.compile(r"""[ \t\n\r]*(?:'([ -&(-\[\]-~]*)'|"([ !#-\[\]-~]*)"|(0|[1-9][0-9]*)L?(?![0-9])|(True|False|None)(?![A-Za-z])|([](){}[:,])|$)""")
 LITERALS = {"True": True, "False": False, "None": None}
@@ -12,9 +17,10 @@ NAME = re.compile(r"[ !#-&(-9;-\[\]-~]{1,64}")
 BAD_HEADER, BAD_TYPE, LEFT_OUT, TOO_LARGE, TRUNCATED = map(Refused, ("E30", "E04", "E05", "E09", "E31"))
 
 
-def tokens(text):
+def tokens(text: str) -> list[Token]:
     """The tokens of a header: symbols as (`,`, None), literals as ("literal", value)."""
-    found, at = [], 0
+    found: list[Token] = []
+    at = 0
     while True:
         token = TOKEN.match(text, at)
         if not token:
@@ -34,24 +40,25 @@ def tokens(text):
 class Grammar:
     """Reads literals from tokens: a tuple is a tuple, a list a list, a dictionary a list of pairs within `Entries`."""
 
-    def __init__(self, found):
+    def __init__(self, found: list[Token]) -> None:
         self.tokens, self.at = found, 0
 
-    def take(self, *kinds):
+    def take(self, *kinds: str) -> Token:
         kind, value = self.tokens[self.at]
         if kinds and kind not in kinds:
             raise BAD_HEADER
         self.at += 1
         return kind, value
 
-    def literal(self, depth):
+    def literal(self, depth: int) -> Any:
         kind, value = self.take("literal", "(", "[", "{")
         if kind == "literal":
             return value
         if depth > MOST_DEPTH:
             raise BAD_HEADER
         close = {"(": ")", "[": "]", "{": "}"}[kind]
-        items, ended_by_comma = [], False
+        items: list[Any] = []
+        ended_by_comma = False
         while self.tokens[self.at][0] != close:
             if items and not ended_by_comma:
                 raise BAD_HEADER
@@ -71,11 +78,11 @@ class Grammar:
 class Entries:
     """The entries of a dictionary, in their order."""
 
-    def __init__(self, items):
+    def __init__(self, items: list[Any]) -> None:
         self.items = items
 
 
-def header_values(text):
+def header_values(text: str) -> tuple[Any, bool, tuple[int, ...]]:
     """The three values of a header."""
     grammar = Grammar(tokens(text))
     whole = grammar.literal(1)
@@ -90,13 +97,13 @@ def header_values(text):
     return descr, fortran, shape
 
 
-def number(digits):
+def number(digits: str) -> int:
     """The number that digits stand for; those above the bytes of an item are all one more than that."""
     bare = digits.lstrip("0")
     return min(int(bare[:6] or 0), MOST_ITEM + 1)
 
 
-def scalar(text):
+def scalar(text: str) -> tuple[str, int]:
     """The written type string and the size of a type string."""
     mark, rest = (text[0], text[1:]) if text[:1] in tuple("<>|=") else ("", text)
     if rest[:1] in tuple("fcmMOUV"):
@@ -114,12 +121,12 @@ def scalar(text):
     return ("|" if size == 1 else ">" if mark == ">" else "<") + rest, size
 
 
-def scalar_format(text):
+def scalar_format(text: str) -> str:
     mark = ">" if text[0] == ">" else "<"
     return mark + (f"{text[2:]}s" if text[1] == "S" else LETTERS[text[1:]])
 
 
-def padding(type_):
+def padding(type_: object) -> int:
     """The bytes of an entry without a name."""
     found = isinstance(type_, str) and re.fullmatch("[<>|=]?V([0-9]+)", type_)
     if not found:
@@ -130,10 +137,10 @@ def padding(type_):
 class Records:
     """Reads the records of a `descr`, whose leaves are counted over all of it."""
 
-    def __init__(self):
+    def __init__(self) -> None:
         self.leaves = 0
 
-    def record(self, entries, depth):
+    def record(self, entries: list[Any], depth: int) -> tuple[str, int]:
         """The format text and the size of a record."""
         if depth > MOST_RECORDS:
             raise LEFT_OUT
@@ -160,7 +167,7 @@ class Records:
             raise LEFT_OUT
         return "T{" + text + (f"{gap}x" if gap else "") + "}", size
 
-    def field(self, type_, depth):
+    def field(self, type_: Any, depth: int) -> tuple[str, int]:
         """The format text and the size of a field."""
         if isinstance(type_, list):
             return self.record(type_, depth + 1)
@@ -169,7 +176,7 @@ class Records:
         return scalar_format(text), size
 
 
-def descriptor(descr):
+def descriptor(descr: object) -> tuple[str, int]:
     """How a descriptor is shown, and the size of an item."""
     if isinstance(descr, str):
         return scalar(descr)
@@ -178,7 +185,7 @@ def descriptor(descr):
     return Records().record(descr, 1)
 
 
-def checked_shape(shape):
+def checked_shape(shape: tuple[int, ...]) -> int:
     if len(shape) > MOST_AXES:
         raise Refused("E08")
     if max(shape, default=0) > MOST_ITEMS or math.prod(shape) > MOST_ITEMS:
@@ -186,7 +193,7 @@ def checked_shape(shape):
     return math.prod(shape)
 
 
-def header(file):
+def header(file: bytes) -> tuple[str, int]:
     """The text of the header and where the items begin."""
     if len(file) < 6 or file[:6] != b"\x93NUMPY":
         raise Refused("E28")
@@ -205,7 +212,7 @@ def header(file):
     return file[8 + wide : 8 + wide + length].decode("latin-1"), 8 + wide + length
 
 
-def loaded(file, more):
+def loaded(file: bytes, more: int) -> tuple[str, int]:
     """What follows `ok x ` in the reply to a load of a file with more bytes behind it, and the bytes of the items."""
     text, start = header(file)
     descr, _, shape = header_values(text)
@@ -219,7 +226,7 @@ def loaded(file, more):
     return f"{shown} {tuple_text(shape)} new rest {rest}", total
 
 
-def reply(file, more=0):
+def reply(file: bytes, more: int = 0) -> tuple[str, int]:
     """The reply to `x = load` of a file with more bytes behind it, and the bytes of the array's items."""
     try:
         text, items = loaded(file, more)

@@ -1,22 +1,32 @@
 """What docs/LANGUAGE.md says of any reply: limits, refusals, letters of types, shapes."""
+from __future__ import annotations
+
+import collections
 import contextlib
+from typing import Any, Iterable, Iterator
+
+import numpy as np
 
 from bench_tool import language
 
+Array = np.ndarray[Any, Any]
+Dtype = np.dtype[Any]
 MOST_AXES, MOST_ITEMS, MOST_BYTES = 64, 2**24, 2**28
 LETTERS = {"b1": "?", "i1": "b", "u1": "B", "i2": "h", "u2": "H", "i4": "i", "u4": "I", "i8": "q", "u8": "Q"}
 CODES = {code: words for code, (words, _) in language.codes().items()}
+# What came of the scripts, beside the replies.
+TALLY: collections.Counter[str] = collections.Counter()
 
 
 class Refused(Exception):
     """A refusal by its code."""
 
-    def __str__(self):
+    def __str__(self) -> str:
         return f"{self.args[0]} {CODES[self.args[0]]}"
 
 
 @contextlib.contextmanager
-def refusing(code):
+def refusing(code: str) -> Iterator[None]:
     """Refuses by this code what NumPy refuses."""
     try:
         yield
@@ -24,6 +34,5 @@ def refusing(code):
         raise Refused(code) from None
 
 
-def tuple_text(numbers):
-    inside = ", ".join(map(str, numbers))
-    return f"({inside},)" if len(numbers) == 1 else f"({inside})"
+def tuple_text(numbers: Iterable[int]) -> str:
+    return repr(tuple(numbers))

@@ -8,16 +8,23 @@ fast as it is kept. NumPy's time is that of `timeit`. Both are processor time, t
 Each row is timed for arrays of each size, at the default depth of undo and with --undo 0, which keeps nothing: the
 geometric mean of the ratios is told for each. A ratio above 1 says that the program takes longer than NumPy.
 """
+from __future__ import annotations
+
 import math
 import string
 import sys
 import time
 import timeit
-import typing
+from argparse import Namespace
+from pathlib import Path
+from typing import NamedTuple
 
 import numpy as np
 
-from timed import FOLDER, refusal, seconds, words
+from .runs import Part
+from .timed import FOLDER, refusal, seconds
+
+Sides = tuple[str, str]
 
 SIZES = (100, 10000, 2**22)
 DEPTHS = (16, 0)
@@ -27,7 +34,7 @@ LONG_ENOUGH = 0.15
 HIGH = 2
 
 
-class Row(typing.NamedTuple):
+class Row(NamedTuple):
     """A command: the lines before it, its line, and both for NumPy. $n is the number of items, $side its root, and $half,
     $fourth and $third are parts of it."""
 
@@ -38,12 +45,12 @@ class Row(typing.NamedTuple):
     numpy: str
 
 
-def two(kind):
+def two(kind: str) -> Sides:
     """Two arrays of that type for both."""
     return f"a = full {kind} ($n) 7\nb = full {kind} ($n) 5", f"a = np.full($n, 7, '{kind}'); b = np.full($n, 5, '{kind}')"
 
 
-def places(kind):
+def places(kind: str) -> Sides:
     """An array, every fourth of its places in that type, and as many numbers, for both."""
     return (
         f"a = full <i4 ($n) 7\nt = arange <i8 0 $n 4\ni = cast t {kind}\nv = cast t <i4",
@@ -89,7 +96,7 @@ NAMES = ("\n".join(f"n{k} = full <i4 (10) 7" for k in range(1000)) + f"\n{FEW[0]
 SAVED = (f'{ITEMS[0]}\nsave a "a.npy"', f"{ITEMS[1]}; f = '{FOLDER.name}/n.npy'; np.save(f, a)")
 
 
-def row(name, sides, line, numpy):
+def row(name: str, sides: Sides, line: str, numpy: str) -> Row:
     """A row whose lines before it are the same for both."""
     return Row(name, sides[0], line, sides[1], numpy)
 
@@ -156,64 +163,58 @@ ROWS = [
 ]
 
 
-def of_size(row, size):
+def of_size(row: Row, size: int) -> Row:
     """The row for arrays of so many items."""
     numbers = {"n": size, "side": math.isqrt(size), "half": size // 2, "fourth": size // 4, "third": size // 3}
     return Row(row.name, *(string.Template(text).substitute(numbers) for text in row[1:]))
 
 
-def bench_time(program, row, depth, runs):
+def bench_time(program: Path, row: Row, depth: int, runs: int) -> float:
     """The seconds that one line of the program takes, of so many repeats that these can be timed."""
-    def repeated(times):
+    def repeated(times: int) -> float:
         return seconds(program, f"{row.setup}\n" + f"{row.line}\n" * times, depth)
 
     repeats, start = 4, repeated(BEFORE)
     while repeats < MOST_REPEATS and repeated(BEFORE + repeats) - start < LONG_ENOUGH:
         repeats *= 2
-    short, long = map(min, zip(*((repeated(BEFORE), repeated(BEFORE + repeats)) for _ in range(runs))))
-    return (long - short) / repeats
+    pairs = [(repeated(BEFORE + repeats), repeated(BEFORE)) for _ in range(runs)]
+    return (min(long for long, _ in pairs) - min(short for _, short in pairs)) / repeats
 
 
-def numpy_time(row, runs):
+def numpy_time(row: Row, runs: int) -> float:
     """The seconds that NumPy's statement takes."""
     timer = timeit.Timer(row.numpy, row.numpy_setup or "pass", time.process_time, {"np": np})
     loops, _ = timer.autorange()
     return min(timer.repeat(runs, loops)) / loops
 
 
-def told(row, given, width):
-    """Prints a row for a size, and gives its ratio for each depth."""
-    if refusal(given.bench, f"{row.setup}\n{row.line}\n", 16):
-        theirs, ours = 0, {}
-    else:
-        theirs, ours = numpy_time(row, given.runs), {depth: bench_time(given.bench, row, depth, given.runs) for depth in given.undo}
-    ratios = {depth: taken / theirs for depth, taken in ours.items()}
-    texts = [f"{theirs * 1e6:.2f}" if ours else "refused", *(text for depth in ours for text in (f"{ours[depth] * 1e6:.2f}", f"{ratios[depth]:.2f}"))]
-    print(f"{row.name:{width}}  " + "  ".join(f"{text:>12}" for text in texts), flush=True)
-    return ratios
-
-
-def report(size, given):
+def report(part: Part, size: int, given: Namespace) -> None:
     """Prints the rows for a size, and their geometric means."""
     rows = [of_size(row, size) for row in ROWS if given.only in row.name]
     width = max([14, *(len(row.name) for row in rows)])
     heads = ["NumPy us", *(head for depth in given.undo for head in (f"undo {depth} us", "ratio"))]
     print(f"\n{f'{size:,} items':{width}}  " + "  ".join(f"{head:>12}" for head in heads))
-    ratios = {row.name: told(row, given, width) for row in rows}
-    for depth in given.undo:
-        known = {name: of_row[depth] for name, of_row in ratios.items() if depth in of_row}
-        high = [f"{name} ({ratio:.1f})" for name, ratio in known.items() if ratio > HIGH]
-        mean = math.exp(sum(math.log(max(ratio, 0.001)) for ratio in known.values()) / max(1, len(known)))
-        print(f"undo {depth}: geometric mean {mean:.2f}; above {HIGH}: {'; '.join(high) or 'none'}", flush=True)
+    ratios: dict[int, list[float]] = {depth: [] for depth in given.undo}
+    for row in rows:
+        if refusal(given.program, f"{row.setup}\n{row.line}\n", 16):
+            print(f"{row.name:{width}}  {'refused':>12}")
+            continue
+        theirs, figures = numpy_time(row, given.runs), {}
+        for depth in given.undo:
+            ours = bench_time(given.program, row, depth, given.runs)
+            ratios[depth].append(ours / theirs)
+            figures.update({f"undo {depth} us": ours * 1e6, f"ratio {depth}": ours / theirs})
+        print(f"{row.name:{width}}  " + "  ".join(f"{value:12.2f}" for value in (theirs * 1e6, *figures.values())), flush=True)
+        part.figures.append({"row": row.name, "items": size, "NumPy us": theirs * 1e6, **figures})
+    for depth, found in ratios.items():
+        mean = math.exp(sum(math.log(max(ratio, 0.001)) for ratio in found) / max(1, len(found)))
+        print(f"undo {depth}: geometric mean {mean:.2f}; {sum(ratio > HIGH for ratio in found)} above {HIGH}", flush=True)
 
 
-def main():
-    parser = words("Times commands of the program and the same work in NumPy.", 5)
-    parser.add_argument("--sizes", type=int, nargs="+", default=SIZES, metavar="N", help="items of the arrays, 100 or more")
-    parser.add_argument("--undo", type=int, nargs="+", default=DEPTHS, metavar="N", help="depths of undo, 0 to 20")
-    given = parser.parse_args()
-    if given.runs < 1 or min(given.sizes) < 100 or not all(0 <= depth <= 20 for depth in given.undo):
-        parser.error("--runs is 1 or more, each of --sizes 100 or more, and each of --undo 0 to 20")
+def all_trials(given: Namespace, _folder: Path) -> Part:
+    """Each row, for arrays of each size."""
+    part = Part()
     np.set_printoptions(threshold=sys.maxsize, linewidth=sys.maxsize)
     for size in given.sizes:
-        report(size, given)
+        report(part, size, given)
+    return part

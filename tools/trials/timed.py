@@ -1,42 +1,55 @@
-"""Runs of the program whose processor time is taken, with the environment that `./bench` gives it, in a folder of their own."""
-import argparse
+"""Runs of the program whose processor time and memory are taken, with the environment that `./bench` gives it, in a folder of their own."""
+from __future__ import annotations
+
 import os
-import pathlib
-import resource
+import signal
 import subprocess
 import tempfile
+import threading
+from pathlib import Path
+from typing import IO, NamedTuple, Optional
 
 TUNABLES = {"hugetlb": 1, "mmap_threshold": 2**29, "trim_threshold": 2**29}
 ENVIRONMENT = {"GLIBC_TUNABLES": ":".join(f"glibc.malloc.{name}={value}" for name, value in TUNABLES.items()), **os.environ}
 FOLDER = tempfile.TemporaryDirectory()
 
 
-def words(about, runs):
-    """The words of a call."""
-    parser = argparse.ArgumentParser(description=about)
-    parser.add_argument("bench", type=lambda path: pathlib.Path(path).resolve(), help="the program")
-    parser.add_argument("--only", default="", metavar="WORD", help="the rows with this in their names")
-    parser.add_argument("--runs", type=int, default=runs, metavar="K", help=f"runs of which the least time counts ({runs})")
-    return parser
+class Used(NamedTuple):
+    """What a run took: processor seconds, the most bytes of memory, and whether it ended by itself."""
+
+    seconds: float
+    memory: int
+    ended: bool
 
 
-def run(program, text, depth, limit=None, out=subprocess.DEVNULL):
+def run(program: Path, text: str, depth: int, limit: Optional[float] = None, out: Optional[IO[bytes]] = None) -> Used:
     """A run over a script, which may take so many seconds."""
     with tempfile.TemporaryFile() as script:
         script.write(text.encode())
         script.seek(0)
-        return subprocess.run([program, "--undo", str(depth)], stdin=script, stdout=out, env=ENVIRONMENT, cwd=FOLDER.name, timeout=limit)
+        words, sink = [str(program), "--undo", str(depth)], out or subprocess.DEVNULL
+        process = subprocess.Popen(words, stdin=script, stdout=sink, env=ENVIRONMENT, cwd=FOLDER.name)
+        stop = threading.Timer(limit or 86400, process.send_signal, [signal.SIGKILL])
+        stop.start()
+        _, status, used = os.wait4(process.pid, 0)
+        stop.cancel()
+        process.returncode = os.waitstatus_to_exitcode(status)
+    return Used(used.ru_utime + used.ru_stime, used.ru_maxrss * 1024, process.returncode >= 0)
 
 
-def seconds(program, text, depth, limit=None):
+def seconds(program: Path, text: str, depth: int) -> float:
     """The processor time of a run over a script."""
-    before = resource.getrusage(resource.RUSAGE_CHILDREN)
-    run(program, text, depth, limit)
-    after = resource.getrusage(resource.RUSAGE_CHILDREN)
-    return after.ru_utime + after.ru_stime - before.ru_utime - before.ru_stime
+    return run(program, text, depth).seconds
 
 
-def refusal(program, text, depth, limit=None):
+def replies(program: Path, text: str, depth: int) -> list[str]:
+    """The replies to a script, of which none is long."""
+    with tempfile.TemporaryFile() as out:
+        run(program, text, depth, None, out)
+        out.seek(0)
+        return out.read().decode("latin-1").split("\n")
+
+
+def refusal(program: Path, text: str, depth: int) -> str:
     """The first refusal of a script, or nothing."""
-    replies = run(program, text, depth, limit, subprocess.PIPE).stdout.decode().split("\n")
-    return next((reply for reply in replies if reply.startswith("no E")), "")
+    return next((reply for reply in replies(program, text, depth) if reply.startswith("no E")), "")

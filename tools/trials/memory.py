@@ -1,18 +1,22 @@
 """Requests for memory that are refused, one in each run. At most one line may lack memory then."""
+from __future__ import annotations
+
 import itertools
 import os
-import pathlib
-import random
 import struct
 import subprocess
 import time
+from argparse import Namespace
+from pathlib import Path
+from random import Random
 
-from hostile_files import reserved_when_idle
-from hostile_lacking import LACK, STOPPED, Lacking
-from hostile_runs import Part, Runner, contents, fill, in_processes, shown
-from hostile_scripts import own_scripts, random_script, text_of
+from . import TOP
+from .files import reserved_when_idle
+from .lacking import LACK, STOPPED, Lacking
+from .lines import Script, own_scripts, random_script, text_of
+from .runs import Part, Runner, Word, contents, fill, in_processes, shown
 
-SOURCE = pathlib.Path(__file__).resolve().parent / "refuse_memory.c"
+SOURCE = TOP / "tools/trials/refuse_memory.c"
 ROOM = 2**25
 LONGEST_PRINT = 20000
 FIRST_REQUESTS = 60
@@ -21,7 +25,7 @@ MOST_SECONDS = 15
 RANDOM_SCRIPTS = 200
 
 
-def built_library(folder):
+def built_library(folder: Path) -> Path:
     """The `malloc` that refuses, compiled."""
     library = folder / "refuse_memory.so"
     subprocess.run(["cc", "-O2", "-shared", "-fPIC", "-o", library, SOURCE], check=True)
@@ -31,22 +35,23 @@ def built_library(folder):
 class Requests:
     """The requests for memory of a run: with one refused, how many were made and refused."""
 
-    def __init__(self, library, folder):
+    def __init__(self, library: Path, folder: Path) -> None:
         self.library, self.told = library, folder / "told"
 
-    def refusing(self, request):
+    def refusing(self, request: int) -> dict[str, str]:
         """The environment of a run."""
         self.told.write_bytes(bytes(16))
         return {**os.environ, "LD_PRELOAD": str(self.library), "REFUSE_TOLD": str(self.told), "REFUSE_REQUEST": str(request)}
 
-    def counts(self):
-        return struct.unpack("=2Q", self.told.read_bytes())
+    def counts(self) -> tuple[int, int]:
+        made, refused = struct.unpack("=2Q", self.told.read_bytes())
+        return made, refused
 
 
 class Refusing(Lacking):
     """A script, run again and again with one request for memory refused."""
 
-    def __init__(self, runner, part, script, library):
+    def __init__(self, runner: Runner, part: Part, script: Script, library: Path) -> None:
         super().__init__(runner, part, script.name, script, most=1)
         short = [len(reply) <= LONGEST_PRINT or not line.startswith(b"print") for line, reply in zip(self.lines, self.expected()[0])]
         self.lines, self.without = list(itertools.compress(self.lines, short)), {}
@@ -55,13 +60,13 @@ class Refusing(Lacking):
         self.run(self.lines, env=self.requests.refusing(0))
         self.seconds, (self.made, _) = time.monotonic() - began, self.requests.counts()
 
-    def chosen(self, every):
+    def chosen(self, every: bool) -> list[int]:
         """The requests to refuse: the first ones, and of the others so many as there is time for."""
         most = max(FIRST_REQUESTS, min(MOST_REQUESTS, int(MOST_SECONDS / self.seconds)))
         step = 1 if every else max(1, -(-(self.made - FIRST_REQUESTS) // max(1, most - FIRST_REQUESTS)))
         return [n for n in range(1, self.made + 1) if n <= FIRST_REQUESTS or (n - FIRST_REQUESTS) % step == 0]
 
-    def refuse(self, request):
+    def refuse(self, request: int) -> None:
         """A run with one request refused."""
         where = f"request {request} of {self.made} refused"
         where += "" if self.part.faults else f", the script being\n{shown(text_of(self.lines).decode('latin-1'), 3000)}"
@@ -69,7 +74,7 @@ class Refusing(Lacking):
         self.part.expect(f"{self.name}, request {request}: requests refused", self.requests.counts()[1], 1)
 
 
-def trials_of(task):
+def trials_of(task: tuple[Path, Path, Script, bool]) -> Part:
     """All runs over one script."""
     program, library, script, every = task
     part = Part()
@@ -106,7 +111,7 @@ LACKING = [
 ]
 
 
-def within_bounds(program):
+def within_bounds(program: Path) -> Part:
     """A run in an address space with room for 32 MB: what takes more is refused, and all else goes on."""
     part = Part()
     with Runner(program) as runner:
@@ -121,7 +126,7 @@ def within_bounds(program):
     return part
 
 
-def words_of_the_program(program, library):
+def words_of_the_program(program: Path, library: Path) -> Part:
     """Words that are refused, or ask for help: each run is as with all memory, or is out of memory and does nothing else."""
     part = Part()
     with Runner(program) as runner:
@@ -136,9 +141,9 @@ def words_of_the_program(program, library):
     return part
 
 
-def all_trials(given, folder):
+def all_trials(given: Namespace, folder: Path) -> Part:
     """The refused requests over all scripts."""
-    rng = random.Random(given.seed)
+    rng = Random(given.seed)
     scripts = own_scripts() + [random_script(given.program, rng, number) for number in range(RANDOM_SCRIPTS)]
     library, part = built_library(folder), within_bounds(given.program)
     part.add(words_of_the_program(given.program, library))

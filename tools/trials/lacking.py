@@ -2,8 +2,14 @@
 
 Such a run does not come to its first reply, or each reply is that of the script without the lines that are answered
 `no E40 out of memory`, and so are the files. Such a reply never stands for a line that takes no memory."""
-from hostile_runs import Ran, contents, fill, shown
-from hostile_scripts import marked, replies_of
+from __future__ import annotations
+
+from typing import Any, Optional, Sequence
+
+from .lines import Script, marked, replies_of
+from .runs import Files, Part, Ran, Runner, contents, fill, shown
+
+Numbers = tuple[int, ...]
 
 LACK = "no E40 out of memory"
 E40 = LACK.encode() + b"\n"
@@ -16,26 +22,26 @@ IN_PLACE = 1
 class Lacking:
     """A script, run again and again with too little memory; of its lines so many at most may lack it."""
 
-    def __init__(self, runner, part, name, script, most=None):
+    def __init__(self, runner: Runner, part: Part, name: str, script: Script, most: Optional[int] = None) -> None:
         self.runner, self.part, self.name, self.script = runner, part, name, script
         self.lines, self.most = script.lines, len(script.lines) if most is None else most
         self.words = ["--dir", str(runner.dir)] + ([] if script.depth is None else ["--undo", str(script.depth)])
-        self.without = {}
+        self.without: dict[Numbers, tuple[list[bytes], Files]] = {}
 
-    def run(self, lines, **bounds):
+    def run(self, lines: Sequence[bytes], **bounds: Any) -> tuple[Ran, Files]:
         """What a run comes to, and the files that it leaves."""
         fill(self.runner.dir, self.script.files)
         return self.runner.run(marked(lines), self.words, **bounds), contents(self.runner.dir)
 
-    def expected(self, refused=()):
+    def expected(self, refused: Numbers = ()) -> tuple[list[bytes], Files]:
         """Replies and files of the script without some lines, in a run with all memory."""
         if refused not in self.without:
             lines = [line for k, line in enumerate(self.lines) if k not in refused]
             ran, files = self.run(lines)
-            self.without[refused] = replies_of(ran.out, lines), files
+            self.without[refused] = replies_of(ran.out, lines) or [], files
         return self.without[refused]
 
-    def judged(self, ran, files):
+    def judged(self, ran: Ran, files: Files) -> tuple[str, Optional[str]]:
         """What a run comes to: a word for the count, and what should have happened, or none."""
         if not ran.out and ran.status not in (0, 1):
             fill(self.runner.dir, self.script.files)
@@ -58,7 +64,7 @@ class Lacking:
             return word, f"the files of the script without lines {refused}, of which there are {self.most} at most"
         return word, next((told for k in refused if (told := self.never(k, refused))), None)
 
-    def never(self, number, refused):
+    def never(self, number: int, refused: Numbers) -> Optional[str]:
         """Of a line that takes no memory, and so is never answered by E40, what it should have been answered."""
         line, words = self.lines[number], self.lines[number].split()
         before = tuple(k for k in refused if k < number)
@@ -67,7 +73,7 @@ class Lacking:
         is_free = words[:1] == [b"undo"] or words[:1] == [b"del"] and self.script.depth == 0 and reply.startswith(b"ok del")
         return f"never E40 for {shown(line)}, but {shown(reply)}" if is_free or reply.startswith(NEVER) and not is_long else None
 
-    def trial(self, where, may=(), **bounds):
+    def trial(self, where: str, may: Sequence[str] = (), **bounds: Any) -> str:
         """A run that lacks memory, which is counted; beside stopping, it may end before its first reply by these words."""
         ran, files = self.run(self.lines, **bounds)
         word, should = self.judged(ran, files)

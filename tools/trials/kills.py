@@ -1,11 +1,16 @@
 """The program killed at random moments of a save over an old file.
 
 After each kill the file is the old one or the new one, whole. A save in peace then removes what the kill left, and of no other name."""
-import random
+from __future__ import annotations
+
 import subprocess
 import time
+from argparse import Namespace
+from pathlib import Path
+from random import Random
+from typing import Sequence
 
-from hostile_runs import Part, Runner, contents
+from .runs import Part, Runner, Word, contents
 
 KILLS = 200
 SIZE = 2**24 - 2**12
@@ -13,9 +18,10 @@ SCRIPT = "x = full |u1 ({}) {}\nsave x \"a.npy\"\n"
 OLD, NEW = SCRIPT.format(SIZE, 7).encode(), SCRIPT.format(SIZE, 9).encode()
 
 
-def killed(runner, words, seconds):
+def killed(runner: Runner, words: Sequence[Word], seconds: float) -> None:
     """Kills a run after a while."""
     process = subprocess.Popen([runner.program, *words], stdin=subprocess.PIPE, stdout=subprocess.DEVNULL)
+    assert process.stdin
     process.stdin.write(NEW)
     process.stdin.close()
     time.sleep(seconds)
@@ -23,11 +29,12 @@ def killed(runner, words, seconds):
     process.wait()
 
 
-def all_trials(given, _folder):
+def all_trials(given: Namespace, _folder: Path) -> Part:
     """So many kills, each over the old file."""
-    part, rng, files = Part(), random.Random(given.seed), {}
+    part, rng = Part(), Random(given.seed)
+    files: dict[object, object] = {}
     with Runner(given.program) as runner:
-        words = ["--dir", str(runner.dir)]
+        words: list[Word] = ["--dir", str(runner.dir)]
         for name, text in (("new", NEW), ("old", OLD)):
             began = time.monotonic()
             runner.run(text, words)
@@ -43,8 +50,8 @@ def all_trials(given, _folder):
             part.count(f"of them left the {left} file")
             part.count("with a hidden part", ".a.npy.part" in found)
             if left == "neither":
-                part.fault(f"kill {turn}", f"{len(found['a.npy'])} bytes that are neither file", "the old file or the new one")
+                part.fault(f"kill {turn}", "a file that is neither", "the old file or the new one")
         runner.run(OLD, words)
-        left = {name: files.get(file, file) for name, file in contents(runner.dir).items()}
-        part.expect("after a save in peace", left, {"a.npy": "old", ".b.npy.part": b"left of another name"})
+        after = {name: files.get(file, file) for name, file in contents(runner.dir).items()}
+        part.expect("after a save in peace", after, {"a.npy": "old", ".b.npy.part": b"left of another name"})
     return part

@@ -2,18 +2,38 @@
 
 `strace` fails the calls of the system, with all errors. The tests of the gate do the same with fewer errors by `fail_calls.c`, which stands before
 the C library."""
+from __future__ import annotations
+
 import collections
 import errno
 import os
 import re
 import shutil
 import subprocess
+from argparse import Namespace
+from pathlib import Path
+from typing import NamedTuple, Sequence, Union
 
-from hostile_files import FILE
-from hostile_runs import TOP, Part, fill
+from . import TOP
+from .files import FILE
+from .runs import Part, fill
 
-Call = collections.namedtuple("Call", "kind name")
-Scenario = collections.namedtuple("Scenario", "name script files reply")
+
+class Call(NamedTuple):
+    """A call of the system, and the file that it is about."""
+
+    kind: str
+    name: str
+
+
+class Scenario(NamedTuple):
+    """A script over some files, and its last reply in peace."""
+
+    name: str
+    script: str
+    files: dict[str, bytes]
+    reply: str
+
 
 ITEMS = bytes([7, 7, 7])
 NEW = FILE[:10] + b"{'descr': '|u1', 'fortran_order': False, 'shape': (3,), }" + b" " * 60 + b"\n" + ITEMS
@@ -39,7 +59,7 @@ KINDS = {
 SHOWN = re.compile(r"^(?P<call>\w+)\((?:(?P<file>\d+)<(?P<opened>[^>]*)>|[^\"]*\"(?P<path>[^\"]*)\")")
 
 
-def answer(scenario, calls, at, error):
+def answer(scenario: Scenario, calls: Sequence[Call], at: int, error: int) -> str:
     """The reply where this call fails with this error."""
     call, earlier = calls[at], calls[:at]
     is_left = HIDDEN in scenario.files
@@ -56,12 +76,12 @@ def answer(scenario, calls, at, error):
     return FAULT
 
 
-def is_new(calls, at, reply):
+def is_new(calls: Sequence[Call], at: int, reply: str) -> bool:
     """Whether the new file has the name by then."""
     return reply.startswith("ok save") or calls[at].name == FOLDER
 
 
-def prepare(folder, scenario):
+def prepare(folder: Path, scenario: Scenario) -> None:
     fill(folder, scenario.files)
     for name in scenario.files:
         (folder / name).chmod(OLD_MODE)
@@ -70,11 +90,11 @@ def prepare(folder, scenario):
 class Shim:
     """Runs of a program below `fail_calls.c`."""
 
-    def __init__(self, program, place):
+    def __init__(self, program: Path, place: Path) -> None:
         self.program, self.log, self.library = str(program), place / "calls", place / "fail_calls.so"
         subprocess.run(["cc", "-O2", "-shared", "-fPIC", "-o", self.library, TOP / "tools/trials/fail_calls.c"], check=True)
 
-    def run(self, script, folder, **more):
+    def run(self, script: str, folder: Path, **more: str) -> tuple[str, list[Call]]:
         """What a script is answered over a folder, and the calls on its files."""
         self.log.unlink(missing_ok=True)
         env = {**os.environ, "LD_PRELOAD": str(self.library), "STORE_FOLDER": str(folder), "STORE_LOG": str(self.log), **more}
@@ -82,26 +102,28 @@ class Shim:
         lines = self.log.read_text().splitlines() if self.log.exists() else []
         return ran.stdout.decode().splitlines()[-1], [Call(*line.split(" ", 1)) for line in lines]
 
-    def failing(self, script, folder, _calls, at, error):
+    def failing(self, script: str, folder: Path, _calls: Sequence[Call], at: int, error: int) -> str:
         return self.run(script, folder, STORE_FAILS=str(at), STORE_ERROR=str(error))[0]
 
 
 class Strace:
     """Runs of a program below strace."""
 
-    def __init__(self, program, place):
+    def __init__(self, program: Path, place: Path) -> None:
         self.program, self.log = str(program), place / "traced"
-        self.numbers = []
+        self.numbers: list[tuple[str, int]] = []
 
-    def traced(self, script, folder, *options):
-        words = ["strace", "-qq", "-y", "-o", self.log, *options, self.program, "--dir", folder]
+    def traced(self, script: str, folder: Path, *options: str) -> str:
+        words = ["strace", "-qq", "-y", "-o", str(self.log), *options, self.program, "--dir", str(folder)]
         ran = subprocess.run(words, input=script.encode(), capture_output=True, timeout=60)
         return ran.stdout.decode().splitlines()[-1]
 
-    def run(self, script, folder):
+    def run(self, script: str, folder: Path) -> tuple[str, list[Call]]:
         """What a script is answered over a folder, and the calls on its files. Of each call this keeps which call of its kind it is."""
         reply = self.traced(script, folder, "-e", f"trace={','.join(KINDS)}")
-        calls, seen, self.numbers = [], collections.Counter(), []
+        calls: list[Call] = []
+        seen: collections.Counter[str] = collections.Counter()
+        self.numbers = []
         for line in self.log.read_text().splitlines():
             shown = SHOWN.match(line)
             if not shown:
@@ -114,12 +136,15 @@ class Strace:
                 self.numbers.append((shown["call"], seen[shown["call"]]))
         return reply, calls
 
-    def failing(self, script, folder, _calls, at, error):
+    def failing(self, script: str, folder: Path, _calls: Sequence[Call], at: int, error: int) -> str:
         call, number = self.numbers[at]
         return self.traced(script, folder, "-e", f"trace={call}", "-e", f"inject={call}:error={error}:when={number}")
 
 
-def one_call(part, runs, folder, scenario, calls, at, error):
+Means = Union[Shim, Strace]
+
+
+def one_call(part: Part, runs: Means, folder: Path, scenario: Scenario, calls: Sequence[Call], at: int, error: int) -> None:
     """One call fails with one error; afterwards a save in peace goes well."""
     prepare(folder, scenario)
     where = f"{scenario.name}: {calls[at].kind} {calls[at].name} (call {at}) fails with {errno.errorcode[error]}"
@@ -138,7 +163,7 @@ def one_call(part, runs, folder, scenario, calls, at, error):
     part.expect(f"{where}: a save in peace", then, ("ok save 131", [NAME]))
 
 
-def each_call(part, runs, folder, errors):
+def each_call(part: Part, runs: Means, folder: Path, errors: Sequence[int]) -> None:
     """Each call of each scenario, with each of these errors."""
     for scenario in SCENARIOS:
         prepare(folder, scenario)
@@ -150,7 +175,7 @@ def each_call(part, runs, folder, errors):
                 one_call(part, runs, folder, scenario, calls, at, error)
 
 
-def all_trials(given, folder):
+def all_trials(given: Namespace, folder: Path) -> Part:
     """All errors that the system knows, by strace."""
     part, place = Part(), folder / "errors"
     place.mkdir()

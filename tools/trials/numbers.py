@@ -2,8 +2,13 @@
 
 `{B}` in a line stands for 30 nines. One digit more is no number of a script; in a type and in a file, where digits are not
 counted, it is still too large."""
-from hostile_files import DATA, header_text, padded, with_header
-from hostile_runs import Part, Runner, fill
+from __future__ import annotations
+
+from argparse import Namespace
+from pathlib import Path
+
+from .files import DATA, header_text, padded, with_header
+from .runs import Part, Runner, fill
 
 NINES = "9" * 30
 SETUP = [
@@ -13,7 +18,7 @@ SETUP = [
 SYNTAX = "no E03 syntax"
 
 
-def refused(lines):
+def refused(lines: dict[str, str]) -> list[tuple[str, str]]:
     """Lines, by the refusal that is the reply to each."""
     return [(line, f"no {refusal}") for refusal, texts in lines.items() for line in texts.split("; ")]
 
@@ -132,21 +137,21 @@ STEPS = [
 ]
 
 
-def zeros_before(line, digits):
+def zeros_before(line: str, digits: int) -> str:
     """A line whose numbers, as `{5}`, have so many digits."""
     return line.format(*(str(digit).rjust(digits, "0") for digit in range(10)))
 
 
-def with_number(line, number):
+def with_number(line: str, number: str) -> str:
     return line.format(*range(10), B=number)
 
 
-def asks(line):
+def asks(line: str) -> str:
     """The first line of a trial, whose reply one digit more changes; what follows it asks for the result."""
     return line.split("\n")[0]
 
 
-def trials():
+def trials() -> list[tuple[str, str]]:
     """Lines with the replies to them."""
     found = list(STEPS)
     for line, reply in LINES:
@@ -162,13 +167,13 @@ def trials():
     return found
 
 
-def files():
+def files() -> list[tuple[bytes, str]]:
     """Files with headers that have such numbers, and the replies to their loads."""
     rows = [(name, value.replace("{B}", "9" * digits), refusal) for refusal, name, values in HEADERS for value in values for digits in (30, 31, 1000)]
     return [(with_header(padded(header_text(**{name: value})), DATA), f"no {refusal}") for name, value, refusal in rows]
 
 
-def all_trials(given, _folder):
+def all_trials(given: Namespace, _folder: Path) -> Part:
     """Each trial in a run of its own setup, all in one script."""
     part, loaded = Part(), files()
     lines = trials() + [(f'x = load "{k}"', reply) for k, (_, reply) in enumerate(loaded)]

@@ -1,62 +1,87 @@
 """Runs of the program under trial, the memory they take, and what a part of the trial counts."""
+from __future__ import annotations
+
 import collections
 import multiprocessing
 import os
-import pathlib
 import re
 import resource
 import shutil
 import subprocess
 import tempfile
 import threading
+from argparse import Namespace
+from pathlib import Path
+from typing import Callable, Iterable, Iterator, Mapping, NamedTuple, Optional, Sequence, TypeVar, Union
 
-TOP = pathlib.Path(__file__).resolve().parents[2]
+from . import TOP
+
+T = TypeVar("T")
+U = TypeVar("U")
+Word = Union[str, bytes, Path]
+Files = dict[str, Union[bytes, int]]
+
 IN_MEMORY = "/dev/shm" if os.access("/dev/shm", os.W_OK) else None
 MOST_SECONDS = 60
 MOST_WAIT = 300
-Ran = collections.namedtuple("Ran", "status out err")
+
+
+class Ran(NamedTuple):
+    """The status of a run, its output and what it said on standard error."""
+
+    status: int
+    out: bytes
+    err: bytes
 
 
 class Part:
     """The counts of a part, what was found where no rule tells it, and what was wrong: where, what happened, what should have."""
 
-    def __init__(self):
-        self.counts = collections.Counter()
-        self.notes, self.faults = [], []
+    def __init__(self) -> None:
+        self.counts: collections.Counter[str] = collections.Counter()
+        self.notes: list[str] = []
+        self.faults: list[tuple[str, object, object]] = []
+        self.figures: list[dict[str, object]] = []
 
-    def count(self, what, number=1):
+    def summary(self) -> dict[str, object]:
+        """All of it, as JSON has it."""
+        faults = [{"where": where, "happened": shown(happened), "should": shown(should)} for where, happened, should in self.faults]
+        return {"counts": dict(self.counts), "notes": self.notes, "wrong": len(self.faults), "faults": faults, "figures": self.figures}
+
+    def count(self, what: str, number: int = 1) -> None:
         self.counts[what] += number
 
-    def note(self, what, found):
+    def note(self, what: str, found: object) -> None:
         self.notes.append(f"{what}: {shown(found)}")
 
-    def fault(self, where, happened, should):
+    def fault(self, where: str, happened: object, should: object) -> None:
         self.faults.append((where, happened, should))
 
-    def expect(self, where, happened, should):
+    def expect(self, where: str, happened: object, should: object) -> None:
         """Counts a trial, and a fault where something else happened than should have."""
         self.count("trials")
         if happened != should:
             self.fault(where, happened, should)
 
-    def add(self, other):
+    def add(self, other: Part) -> None:
         self.counts.update(other.counts)
         self.notes += other.notes
         self.faults += other.faults
+        self.figures += other.figures
 
 
-def shown(value, length=400):
+def shown(value: object, length: int = 400) -> str:
     """A text for a report, cut where it is long."""
     text = value if isinstance(value, str) else repr(value)
     return text if len(text) <= length else f"{text[:length]}.. ({len(text)} characters)"
 
 
-def temporary_folder():
+def temporary_folder() -> Path:
     """A folder for files that are soon gone, in memory where that can be had."""
-    return pathlib.Path(tempfile.mkdtemp(prefix="hostile", dir=IN_MEMORY))
+    return Path(tempfile.mkdtemp(prefix="hostile", dir=IN_MEMORY))
 
 
-def fill(folder, files):
+def fill(folder: Path, files: Mapping[str, Union[bytes, int]]) -> None:
     """Empties a folder and puts files there: their bytes, or a number for as many zeros without blocks on the disk."""
     shutil.rmtree(folder, ignore_errors=True)
     folder.mkdir()
@@ -68,27 +93,27 @@ def fill(folder, files):
                 file.truncate(content)
 
 
-def contents(folder):
+def contents(folder: Path) -> Files:
     """The files of a folder; of one that is long only its length."""
     sizes = {path: path.stat().st_size for path in folder.iterdir()}
     return {path.name: path.read_bytes() if size < 2**24 else size for path, size in sizes.items()}
 
 
-def limited(limits):
+def limited(limits: Sequence[tuple[str, int]]) -> list[str]:
     """The words before a program that set limits, as ("as", bytes), which hold from its first moment on."""
     return ["prlimit", *(f"--{kind}={most}" for kind, most in limits)] if limits else []
 
 
-def with_launcher(program, folder):
+def with_launcher(program: Path, folder: Path) -> Path:
     """The launcher of a tree with this program and nothing else."""
     tree = folder / "tree"
     placed = tree / "crates" / "bench_main" / "out" / "bench_main"
     placed.parent.mkdir(parents=True)
     shutil.copy(program, placed)
-    return pathlib.Path(shutil.copy(TOP / "bench", tree / "bench"))
+    return Path(shutil.copy(TOP / "bench", tree / "bench"))
 
 
-def in_processes(given, trial, tasks):
+def in_processes(given: Namespace, trial: Callable[[T], U], tasks: Iterable[T]) -> Iterator[U]:
     """What a trial comes to on each task, some at a time."""
     with multiprocessing.Pool(given.processes) as pool:
         yield from pool.imap_unordered(trial, tasks)
@@ -97,23 +122,24 @@ def in_processes(given, trial, tasks):
 class Runner:
     """Runs a program over scripts, with a folder of its own for its streams and for the files of `--dir`."""
 
-    def __init__(self, program):
+    def __init__(self, program: Word) -> None:
         self.program = str(program)
         self.folder = temporary_folder()
         self.dir = self.folder / "dir"
         self.dir.mkdir()
         self.streams = [self.folder / name for name in ("in", "out", "err")]
 
-    def __enter__(self):
+    def __enter__(self) -> Runner:
         return self
 
-    def __exit__(self, *_):
+    def __exit__(self, *_: object) -> None:
         shutil.rmtree(self.folder, ignore_errors=True)
 
-    def run(self, text, words=(), env=None, limits=(), seconds=MOST_SECONDS):
+    def run(self, text: bytes, words: Sequence[Word] = (), env: Optional[Mapping[str, str]] = None,
+            limits: Sequence[tuple[str, int]] = (), seconds: int = MOST_SECONDS) -> Ran:
         """What a run over a script comes to. It may take so many seconds of processor time, and keeps within limits from its start."""
         self.streams[0].write_bytes(text)
-        called = [*limited(limits), self.program, *words]
+        called: list[Word] = [*limited(limits), self.program, *words]
         with open(self.streams[0], "rb") as given, open(self.streams[1], "wb") as out, open(self.streams[2], "wb") as err:
             started = subprocess.Popen(called, stdin=given, stdout=out, stderr=err, env=env, close_fds=False)
             resource.prlimit(started.pid, resource.RLIMIT_CPU, (seconds, seconds))
@@ -124,19 +150,20 @@ class Runner:
 class Talk:
     """A run that is spoken to through pipes, so that its memory can be looked at before it ends."""
 
-    def __init__(self, program, words=(), env=None):
-        self.process = subprocess.Popen(
-            [str(program), *words], stdin=subprocess.PIPE, stdout=subprocess.PIPE, stderr=subprocess.PIPE, env=env
-        )
+    def __init__(self, program: Word, words: Sequence[Word] = (), env: Optional[Mapping[str, str]] = None) -> None:
+        called: list[Word] = [str(program), *words]
+        self.process = subprocess.Popen(called, stdin=subprocess.PIPE, stdout=subprocess.PIPE, stderr=subprocess.DEVNULL, env=env)
+        assert self.process.stdin and self.process.stdout
+        self.into, self.out = self.process.stdin, self.process.stdout
         self.tail, self.length = b"", 0
         self.changed = threading.Condition()
         self.reader = threading.Thread(target=self.read, daemon=True)
         self.reader.start()
 
-    def read(self):
+    def read(self) -> None:
         """Takes replies until they end, and keeps the last of them."""
         while True:
-            piece = os.read(self.process.stdout.fileno(), 2**16)
+            piece = os.read(self.out.fileno(), 2**16)
             with self.changed:
                 self.tail = (self.tail + piece)[-4096:]
                 self.length += len(piece)
@@ -144,28 +171,27 @@ class Talk:
             if not piece:
                 return
 
-    def say(self, text):
-        self.process.stdin.write(text)
+    def say(self, text: bytes) -> None:
+        self.into.write(text)
 
-    def answered(self, line, reply):
+    def answered(self, line: bytes, reply: bytes) -> bool:
         """Says a line and waits for the reply to it, which answers all lines before."""
         with self.changed:
             self.tail = b""
         self.say(line + b"\n")
-        self.process.stdin.flush()
+        self.into.flush()
         with self.changed:
             return self.changed.wait_for(lambda: self.tail.endswith(reply + b"\n"), MOST_WAIT)
 
-    def memory(self, what="VmHWM"):
+    def memory(self, what: str = "VmHWM") -> int:
         """The bytes of memory: `VmHWM` is the most that was in use, `VmPeak` the most that was reserved."""
-        text = pathlib.Path(f"/proc/{self.process.pid}/status").read_text()
-        return int(re.search(rf"{what}:\s+(\d+) kB", text)[1]) * 1024
+        text = Path(f"/proc/{self.process.pid}/status").read_text()
+        return int(re.findall(rf"{what}:\s+(\d+) kB", text)[0]) * 1024
 
-    def end(self):
+    def end(self) -> int:
         """Ends the script, and answers the status."""
-        self.process.stdin.close()
+        self.into.close()
         status = self.process.wait(MOST_WAIT)
         self.reader.join()
-        self.process.stdout.close()
-        self.process.stderr.close()
+        self.out.close()
         return status

@@ -1,15 +1,23 @@
 """Devices that fail, over real files, folders and pipes.
 
 What no rule tells, as how a pipe that is closed ends a run, is told as it is found."""
+from __future__ import annotations
+
 import fcntl
 import os
 import shutil
 import signal
 import subprocess
 import time
+from argparse import Namespace
+from pathlib import Path
+from typing import Any, Optional, Sequence
 
-from hostile_files import FILE
-from hostile_runs import TOP, Part, limited, with_launcher
+from . import TOP
+from .files import FILE
+from .runs import Part, Word, limited, with_launcher
+
+Ended = tuple[Optional[int], str, str]
 
 SCRIPT = "a = arange <i4 0 3 1\nsave a \"a.npy\"\nx = load \"a.npy\"\nprint a\n"
 REPLIES = "ok a <i4 (3,) new\nok save 140\nok x <i4 (3,) new rest 0\n[0 1 2]\n"
@@ -26,7 +34,7 @@ MOST_BLOCKS = 8192
 class Trials:
     """The trials of one program, with a folder for their files."""
 
-    def __init__(self, program, folder):
+    def __init__(self, program: Path, folder: Path) -> None:
         self.part = Part()
         self.folder = folder
         self.program = folder / "bench"
@@ -36,12 +44,12 @@ class Trials:
         self.dir = folder / "files"
         self.dir.mkdir()
 
-    def start(self, words=(), before=(), through=None, **streams):
+    def start(self, words: Sequence[Word] = (), before: Sequence[Word] = (), through: Optional[Path] = None, **streams: Any) -> Any:
         """A run of the program, perhaps by another one, or through the launcher."""
-        given = {"stdin": subprocess.DEVNULL, "stdout": subprocess.PIPE, "stderr": subprocess.PIPE, **streams}
+        given: dict[str, Any] = {"stdin": subprocess.DEVNULL, "stdout": subprocess.PIPE, "stderr": subprocess.PIPE, **streams}
         return subprocess.Popen([*map(str, before), str(through or self.program), *words], cwd=self.folder, **given)
 
-    def run(self, text, words=(), before=(), through=None, **streams):
+    def run(self, text: str, words: Sequence[Word] = (), before: Sequence[Word] = (), through: Optional[Path] = None, **streams: Any) -> Ended:
         """Status, output and what is said on standard error; a run that takes too long is ended, and has none."""
         with self.start(words, before, through, **{"stdin": subprocess.PIPE, **streams}) as process:
             try:
@@ -51,14 +59,14 @@ class Trials:
                 return None, "", "still running"
         return process.returncode, (out or b"").decode(), (err or b"").decode()
 
-    def expect(self, where, happened, status, out, err):
+    def expect(self, where: str, happened: object, status: Optional[int], out: str, err: str) -> None:
         self.part.expect(where, happened, (status, out, err))
 
-    def over(self, where, dir_, out, status=1, before=(), text=SCRIPT):
+    def over(self, where: str, dir_: Word, out: str, status: int = 1, before: Sequence[Word] = (), text: str = SCRIPT) -> None:
         """A run over a folder that fails, which ends as it should."""
         self.expect(where, self.run(text, ["--dir", dir_], before), status, out, "")
 
-    def outputs(self):
+    def outputs(self) -> None:
         """Standard output that takes nothing, or not all."""
         with open("/dev/full", "wb") as full:
             self.expect("/dev/full as standard output", self.run(SCRIPT, ["--dir", self.dir], stdout=full), 3, "", "bench: write fault\n")
@@ -70,7 +78,7 @@ class Trials:
         self.closed_streams()
         self.limited_output()
 
-    def closed_pipe(self, name, handler):
+    def closed_pipe(self, name: str, handler: Any) -> None:
         """Standard output is a pipe whose reader goes after one reply; the signal of it is left on or off."""
         process = self.start(stdin=subprocess.PIPE, preexec_fn=lambda: signal.signal(signal.SIGPIPE, handler), restore_signals=False)
         process.stdin.write(b"names\n")
@@ -88,24 +96,25 @@ class Trials:
         ended = first == b"names\n" and time.monotonic() - began < MOST_WAIT / 2
         self.part.expect(f"a closed pipe ({name})", (ended, status, err), (True, 3, "bench: write fault\n"))
 
-    def closed_streams(self):
+    def closed_streams(self) -> None:
         """A stream that is closed from the start, of which files that are opened may take the number."""
         script = self.folder / "plain.bench"
         script.write_text(SCRIPT)
         text = 'x = load "a.npy"\n' + SCRIPT
-        for closed, words, happened in (
+        runs: list[tuple[str, list[Word], tuple[int, str, str]]] = [
             ("<&-", [], (3, "", "bench: read fault\n")),
             ("<&-", [script], (1, FAULTED, "")),
             (">&-", [], (3, "", "bench: write fault\n")),
             (">&-", [script], (3, "", "bench: write fault\n")),
             ("2>&-", [script], (1, FAULTED, "")),
             ("2>&-", [self.folder / "none.bench"], (3, "", "")),
-        ):
+        ]
+        for closed, words, happened in runs:
             before = ["sh", "-c", f'exec "$@" {closed}', "sh"]
             named = "with SCRIPT" if words else "without SCRIPT"
             self.expect(f"{closed} {named}", self.run(text, ["--dir", self.folder / "none", *words], before), *happened)
 
-    def limited_output(self):
+    def limited_output(self) -> None:
         """Standard output is a file that takes no more than some bytes."""
         whole = self.run(LONG_SCRIPT)[1].encode()
         for most in (0, 1, 100, 65536, len(whole) - 1, len(whole)):
@@ -116,7 +125,7 @@ class Trials:
             self.expect(f"standard output of {most} bytes", happened, *fault)
             self.part.expect(f"what was written of {most} bytes", path.read_bytes() == whole[:most], True)
 
-    def limited_files(self):
+    def limited_files(self) -> None:
         """A file that may not grow so far is not saved, and none is left half written."""
         text = "a = zeros |u1 (100000)\nsave a \"big.npy\"\nb = zeros |u1 (3)\nsave b \"small.npy\"\n"
         folder = self.folder / "limited"
@@ -129,7 +138,7 @@ class Trials:
             left = {path.name: path.stat().st_size for path in folder.iterdir()}
             self.part.expect(f"what is left of files of {most} bytes", left, dict([("small.npy", 131), ("big.npy", 100128)][:saved]))
 
-    def words(self):
+    def words(self) -> None:
         """Words that are no text are refused words."""
         for word in (b"\xff", b"--dir=\xc3", b"--undo=\xf5", b"a\x80"):
             status, out, err = self.run("names\n", [word])
@@ -137,7 +146,7 @@ class Trials:
             refused = self.run("names\n", [b"names.bench", b"more", word])
             self.part.expect(f"the word {word!r} behind others", refused[0], 2)
 
-    def interrupted(self):
+    def interrupted(self) -> None:
         """Reads, writes, looks, syncs and renames that a signal interrupts are made again; a stream with nothing to give yet is a fault."""
         library = self.folder / "interrupt_calls.so"
         subprocess.run(["cc", "-O2", "-shared", "-fPIC", "-o", library, TOP / "tools/trials/interrupt_calls.c"], check=True)
@@ -153,7 +162,7 @@ class Trials:
         before = ["env", f"LD_PRELOAD={library}", "INTERRUPT_TIMES=1", "INTERRUPT_AGAIN=1"]
         self.expect("nothing to read yet", self.run(SCRIPT, ["--dir", folder], before), 3, "", "bench: read fault\n")
 
-    def writers(self):
+    def writers(self) -> None:
         """Two programs that save one name leave one of the two files, whole, and nothing beside it; while another holds the lock
         of the hidden file a save is a fault, and leaves it alone."""
         folder, sizes = self.folder / "writers", {1: 100_000, 2: 300_000}
@@ -180,11 +189,12 @@ class Trials:
         self.over("a save once the other has ended", folder, "ok a |u1 (3,) new\nok save 131\n", 0, text=text)
         self.part.expect("what is left of the other", os.listdir(folder), ["a.npy"])
 
-    def scripts(self):
+    def scripts(self) -> None:
         """Scripts that are no files."""
         missing = self.folder / "none.bench"
         self.expect("a folder as SCRIPT", self.run("", [self.dir]), 3, "", "bench: read fault\n")
-        for where, word in (("not there", missing), ("under a file", self.program / "x"), ("an empty name", ""), ("a name that is too long", "x" * 5000)):
+        names: dict[str, Word] = {"not there": missing, "under a file": self.program / "x", "an empty name": "", "a name that is too long": "x" * 5000}
+        for where, word in names.items():
             self.expect(f"SCRIPT: {where}", self.run("", [word]), 3, "", "bench: no script\n")
         folder = os.open(self.dir, os.O_RDONLY)
         self.expect("a folder as standard input", self.run("", stdin=folder), 3, "", "bench: read fault\n")
@@ -196,7 +206,7 @@ class Trials:
             secret.chmod(0)
             self.expect("SCRIPT without rights", self.run("", [secret], NOBODY), 3, "", "bench: no script\n")
 
-    def folders(self):
+    def folders(self) -> None:
         """Folders that are not there, that may not be used, or that are full."""
         self.over("DIR that is not there", self.folder / "none", FAULTED)
         self.over("an empty name as DIR", "", REPLIES, 0)
@@ -211,7 +221,7 @@ class Trials:
         self.part.expect("what is left in DIR without rights", os.listdir(locked), [])
         self.full_disk()
 
-    def full_disk(self):
+    def full_disk(self) -> None:
         """A disk of one page: what does not fit is a fault, and the file that was there stays."""
         disk = self.folder / "disk"
         disk.mkdir()
@@ -223,7 +233,7 @@ class Trials:
         left = (self.folder / "left").read_text().split()
         self.part.expect("what is left on the full disk", left, ["a.npy", "c.npy"])
 
-    def files(self):
+    def files(self) -> None:
         """Files that are no plain files, or that change meanwhile."""
         (self.dir / "folder").mkdir()
         (self.dir / "folder" / "inside").write_bytes(b"")
@@ -239,7 +249,7 @@ class Trials:
         self.fifos()
         self.changing_files()
 
-    def fifos(self):
+    def fifos(self) -> None:
         """A FIFO as the file that is loaded, without a writer and with one: it is not opened."""
         fifo, text = self.dir / "fifo", 'x = load "fifo"\nnames\n'
         os.mkfifo(fifo)
@@ -250,7 +260,7 @@ class Trials:
         os.close(held)
         fifo.unlink()
 
-    def while_written(self, name, command):
+    def while_written(self, name: str, command: str) -> tuple[Optional[int], list[str], str]:
         """The replies to loads of a file, again and again, while a command of the shell writes it."""
         path = self.dir / name
         path.write_bytes(FILE)
@@ -263,7 +273,7 @@ class Trials:
             writer.wait()
         return status, out.splitlines(), err
 
-    def changing_files(self):
+    def changing_files(self) -> None:
         """A file that grows while it is loaded, and one that is written anew."""
         status, replies, err = self.while_written("grows", "printf 0123456789abcdef >>\"$1\"")
         rests = [int(reply.rsplit(" ", 1)[1]) for reply in replies if reply.startswith("ok x <i4 (3,) new rest ")]
@@ -280,7 +290,7 @@ class Trials:
         self.part.note("of its loads", f"{replies.count('ok x <i4 (3,) new rest 0')} arrays, {replies.count('no E28 bad magic')} without a byte")
 
 
-def all_trials(given, folder):
+def all_trials(given: Namespace, folder: Path) -> Part:
     """All devices, in a folder that another user may look at."""
     own = folder / "devices"
     own.mkdir()

@@ -1,0 +1,96 @@
+"""What is tried on the built program beside its proofs; the gate runs none of this whole. Each trial reports its counts and what was wrong:
+where, what happened, and what should have. The status is 1 where something was.
+
+The scripts of `hostile` are those of examples/ and tools/trials/scripts/, and random ones. It needs a C compiler, `prlimit` and, for errors,
+`strace`; trials with another user or a full disk need root's rights and are skipped elsewhere. The others need NumPy."""
+from __future__ import annotations
+
+import argparse
+import importlib
+import json
+import os
+import shutil
+import sys
+import time
+from pathlib import Path
+from typing import Optional, Sequence
+
+from . import TOP
+from .runs import Part, shown, temporary_folder
+
+PROGRAM = Path(os.environ.get("BENCH") or TOP / "crates/bench_main/out/bench_main")
+HOSTILE = {"memory": "memory", "limits": "limits", "files": "files", "numbers": "numbers", "devices": "devices", "errors": "errors",
+           "kills": "kills", "long": "long_runs"}
+MOST_TOLD = 20
+
+
+def arguments(words: Optional[Sequence[str]]) -> argparse.Namespace:
+    """What the command line asks for; `modules` are those of its parts."""
+    common = argparse.ArgumentParser(add_help=False)
+    common.add_argument("--program", type=Path, default=PROGRAM, help="the program, if not the built one")
+    common.add_argument("--seed", type=int, default=1, help="the seed of what is random (1)")
+    common.add_argument("--processes", type=int, default=min(2, os.cpu_count() or 1), metavar="N", help="processes at a time (2)")
+    common.add_argument("--json", type=Path, metavar="FILE", help="write a summary there")
+    parser = argparse.ArgumentParser(prog="tools/try", description=__doc__, formatter_class=argparse.RawDescriptionHelpFormatter)
+    trials = parser.add_subparsers(dest="trial", required=True)
+
+    def trial(name: str, about: str) -> argparse.ArgumentParser:
+        return trials.add_parser(name, parents=[common], help=about, description=about)
+
+    numpy = trial("numpy", "random scripts, by the program and by NumPy")
+    numpy.add_argument("--scripts", type=int, default=1000, metavar="N", help="how many scripts (1000; for a night 20000)")
+    numpy.add_argument("--seconds", type=float, metavar="N", help="begin no more after so many seconds")
+    numpy.add_argument("--only", choices=["mixed", "indexes", "masks", "shares", "formats"], help="scripts of one kind alone")
+    hostile = trial("hostile", "how the program bears what goes wrong: all parts, or those that are named")
+    hostile.add_argument("parts", nargs="*", metavar="PART", choices=[*HOSTILE, []], help=", ".join(HOSTILE))
+    hostile.add_argument("--every", action="store_true", help="refuse every request for memory, also of long runs")
+    speed = trial("speed", "how long commands take beside NumPy's")
+    speed.add_argument("--sizes", type=int, nargs="+", default=[100, 10000, 2**22], metavar="N", help="items of the arrays, 100 or more")
+    speed.add_argument("--undo", type=int, nargs="+", default=[16, 0], metavar="N", help="depths of undo, 0 to 20")
+    worst = trial("worst", "the time and the memory of the worst line of each command")
+    worst.add_argument("--seconds", type=float, default=120, metavar="N", help="the most that a run may take (120)")
+    for timed, runs in ((speed, 5), (worst, 3)):
+        timed.add_argument("--only", default="", metavar="WORD", help="the rows with this in their names")
+        timed.add_argument("--runs", type=int, default=runs, metavar="K", help=f"runs of which the least time counts ({runs})")
+    vectors = trial("vectors", "writes vectors/: scripts with their replies, for other libraries")
+    vectors.add_argument("--each", type=int, default=200, metavar="N", help="how many scripts of each family (200)")
+    vectors.add_argument("--to", type=Path, default=TOP / "vectors", help="the folder (vectors/)")
+    trial("sessions", "how long the calls of a session take, behind a pipe and in the process")
+    given = parser.parse_args(words)
+    given.program = given.program.resolve()
+    parts = [HOSTILE[part] for part in getattr(given, "parts", []) or HOSTILE]
+    given.modules = parts if given.trial == "hostile" else ["beside_numpy" if given.trial == "numpy" else given.trial]
+    return given
+
+
+def report(name: str, part: Part, seconds: float) -> None:
+    """Prints what a part came to."""
+    counts = ", ".join(f"{count:,} {what}" for what, count in sorted(part.counts.items()) if count)
+    print(f"{name}: {counts or 'nothing tried'}; {len(part.faults)} wrong; {seconds:.0f} s", flush=True)
+    for note in part.notes:
+        print(f"   {note}")
+    for where, happened, should in part.faults[:MOST_TOLD]:
+        print(f"-- {where}\n   what happened: {shown(happened, 4000)}\n   what should have: {shown(should)}", flush=True)
+    if len(part.faults) > MOST_TOLD:
+        print(f"-- and {len(part.faults) - MOST_TOLD} more")
+
+
+def main(words: Optional[Sequence[str]] = None) -> int:
+    given, folder, found = arguments(words), temporary_folder(), []
+    print(f"{given.program}, seed {given.seed}", flush=True)
+    try:
+        for name in given.modules:
+            began = time.monotonic()
+            part: Part = importlib.import_module(f"trials.{name}").all_trials(given, folder)
+            seconds = time.monotonic() - began
+            report(name, part, seconds)
+            found.append({"part": name, "seconds": round(seconds, 1), **part.summary()})
+    finally:
+        shutil.rmtree(folder, ignore_errors=True)
+    if given.json:
+        given.json.write_text(json.dumps({"program": str(given.program), "seed": given.seed, "parts": found}, indent=1) + "\n")
+    return int(any(part["wrong"] for part in found))
+
+
+if __name__ == "__main__":
+    sys.exit(main())

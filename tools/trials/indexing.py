@@ -1,0 +1,88 @@
+"""The items of an array that an index list names; its refusals come in the program's order."""
+from __future__ import annotations
+
+from typing import Any, Callable, Iterator, Optional
+
+import numpy as np
+
+from .rules import Array, Refused
+
+SCALARS = {"...": Ellipsis, "None": None}
+
+
+def read(text: str, array: Callable[[str], Array]) -> list[Any]:
+    """The items of an index list: integers, slices, `...`, None and arrays."""
+    def item(word: str) -> Any:
+        if ":" in word:
+            return slice(*(int(part) if part else None for part in word.split(":")))
+        return SCALARS[word] if word in SCALARS else array(word) if word[0].isalpha() else int(word)
+
+    return [item(word) for word in text.split(",")]
+
+
+def is_mask(item: Any) -> bool:
+    return isinstance(item, np.ndarray) and item.dtype.kind == "b"
+
+
+def width(item: Any) -> int:
+    """For how many axes an item of a list stands."""
+    return int(item.ndim) if is_mask(item) else int(item is not None and item is not Ellipsis)
+
+
+def lined_up(array: Array, items: list[Any]) -> Iterator[tuple[Any, tuple[int, ...]]]:
+    """The integers and arrays of a list, each with the lengths of the axes that it stands for."""
+    axis = 0
+    for item in items:
+        if isinstance(item, (int, np.ndarray)):
+            yield item, array.shape[axis:axis + width(item)]
+        axis += array.ndim - sum(map(width, items)) if item is Ellipsis else width(item)
+
+
+def is_outside(item: Any, lengths: tuple[int, ...]) -> bool:
+    """Whether an integer or an index array has a number that is outside its axis."""
+    numbers = [] if is_mask(item) else [item] if isinstance(item, int) else item.ravel().tolist()
+    return any(not -lengths[0] <= number < lengths[0] for number in numbers)
+
+
+def refusal(array: Array, items: list[Any]) -> Optional[str]:
+    """The first refusal of an index list that is known before its arrays are stretched to one another."""
+    arrays = [item for item in items if isinstance(item, np.ndarray)]
+    pairs = [] if sum(map(width, items)) > array.ndim else list(lined_up(array, items))
+    checks = {
+        "E14": any(not (item.dtype.kind in "iu" or item.dtype.kind == "b" and item.ndim) for item in arrays),
+        "E10": sum(map(width, items)) > array.ndim,
+        "E13": any(is_mask(item) and item.shape != lengths for item, lengths in pairs),
+        "E12": any(isinstance(item, slice) and item.step == 0 for item in items),
+    }
+    found = next((code for code, holds in checks.items() if holds), None)
+    return found or ("E11" if any(is_outside(item, lengths) for item, lengths in pairs) else None)
+
+
+class Part:
+    """The items that a list names. Of arrays in the list, and of integers beside them, `places` has the numbers of the items, in the
+    order in which they are taken."""
+
+    def __init__(self, array: Array, items: list[Any]):
+        if code := refusal(array, items):
+            raise Refused(code)
+        self.array, self.places = array, None
+        self.items = tuple(items) + (() if any(item is Ellipsis for item in items) else (Ellipsis,))
+        if any(isinstance(item, np.ndarray) for item in items):
+            self.items = tuple(np.asarray(item) if isinstance(item, int) else item for item in self.items)
+            try:
+                self.places = np.arange(array.size).reshape(array.shape)[self.items]
+            except IndexError:
+                raise Refused("E15") from None
+
+    def read(self) -> Array:
+        """A view of the items, or where the list has arrays a copy."""
+        taken: Array = self.array[self.items]
+        return taken if self.places is None else taken.copy("C")
+
+    def write(self, made: Array) -> None:
+        """Writes items of the array's own type; of a place that is named twice the last one stands."""
+        if self.places is None:
+            self.array[self.items] = made
+        else:
+            for place, value in zip(self.places.ravel(), made.ravel()):
+                self.array.flat[int(place)] = value

@@ -1,0 +1,107 @@
+"""Scripts for hostile trials: those of folders, some with lines that are too long, and random ones with every command."""
+from __future__ import annotations
+
+import dataclasses
+import os
+import re
+import tempfile
+from pathlib import Path
+from random import Random
+from typing import Iterable, Iterator, Optional, Sequence, Union
+
+from bench_tool import Session, scripts
+
+from . import TOP
+
+Named = Union[str, "os.PathLike[str]"]
+NAME = re.compile(rb"\s*([A-Za-z_]\w*)\s*=")
+LONGEST_LINE = 65536
+# A line that takes no memory.
+MARK, MARKED = b"\x7f", b"no E02 byte not allowed\n"
+
+
+@dataclasses.dataclass
+class Script:
+    """A script: its lines, the files of its folder and its undo depth."""
+
+    name: str
+    lines: list[bytes]
+    files: dict[str, bytes] = dataclasses.field(default_factory=dict)
+    depth: Optional[int] = None
+
+    def asking(self) -> Script:
+        """The script followed by `names` and `print` of every name that it binds."""
+        bound = dict.fromkeys(found[1] for found in map(NAME.match, self.lines) if found)
+        asked = [b"names", *(b"print " + name for name in bound)]
+        return dataclasses.replace(self, lines=self.lines + asked)
+
+
+def is_silent(line: bytes) -> bool:
+    """Whether a line is blank or a comment, and so has no reply."""
+    bare = line.removesuffix(b"\r")
+    inside = bare.strip(b" \t")
+    return len(bare) <= LONGEST_LINE and (not inside or inside.startswith(b"#"))
+
+
+def text_of(lines: Iterable[bytes]) -> bytes:
+    return b"".join(line + b"\n" for line in lines)
+
+
+def lines_of(text: bytes) -> list[bytes]:
+    return text.removesuffix(b"\n").split(b"\n")
+
+
+def marked(lines: Iterable[bytes]) -> bytes:
+    """The text of lines, each with one behind it that is no command, whose reply tells the others apart."""
+    return text_of([text for line in lines for text in (line, MARK)])
+
+
+def replies_of(out: bytes, lines: Sequence[bytes]) -> Optional[list[bytes]]:
+    """The replies to marked lines, one for each, or none where they are not told apart."""
+    found: list[bytes] = []
+    at = 0
+    for line in lines:
+        end = at if is_silent(line) else out.find(b"\n", at) + 1
+        while end and not out.startswith(MARKED, end):
+            end = out.find(b"\n", end) + 1
+        if not end and not (at == end and is_silent(line)):
+            return None
+        found.append(out[at:end])
+        at = end + len(MARKED)
+    return found if at == len(out) else None
+
+
+def scripts_in(folder: Path) -> Iterator[Script]:
+    """The scripts of a folder, each with what stands beside it: NAME.dir with files, and NAME.undo with a depth."""
+    for path in sorted(folder.glob("*.bench")):
+        files, undo = path.with_suffix(".dir"), path.with_suffix(".undo")
+        kept = {file.name: file.read_bytes() for file in sorted(files.iterdir())} if files.is_dir() else {}
+        yield Script(path.name, lines_of(path.read_bytes()), kept, int(undo.read_text()) if undo.is_file() else None)
+
+
+def long_scripts() -> list[Script]:
+    """Scripts with lines of the greatest length and above it, with long lists and with bad bytes."""
+    make, full, over = b"a = zeros <i4 (2,3)", LONGEST_LINE, LONGEST_LINE + 1
+    many = b"v = array |u1 (1000) " + b" ".join(b"%d" % (k % 200) for k in range(1000))
+    axes = b"w = zeros |u1 (" + b",".join([b"1"] * 64) + b")"
+    record = b"r = zeros T{" + b"".join(b"h:field%d:" % k for k in range(64)) + b"} (2)"
+    index = b"x = w[" + b",".join([b"0:1"] * 64) + b"]"
+    return [
+        Script("lines that are too long", [make, b"x" * over, b"#" * over, b" " * over, make.ljust(over), b"\x00" * over]),
+        Script("longest lines", [make.ljust(full), b"#" * full, b" " * full + b"\r", b"b = a".rjust(full), b"print a".ljust(full), b"x" * full]),
+        Script("bytes that are not allowed", [make, b"print\x00a", b"print a\x7f", b"\xff", b"print a\r\r", b"names\x0b", b"b = a\xc3\xa4"]),
+        Script("long lists", [many, b"upd v[:] add v", axes, index, record, b"set r[0] = (" + b"1," * 64 + b")", b'f = field r "field63"', b"format r"]),
+    ]
+
+
+def own_scripts() -> list[Script]:
+    """The scripts of the repository."""
+    return [*scripts_in(TOP / "examples"), *scripts_in(TOP / "tools/trials/scripts"), *long_scripts()]
+
+
+def random_script(program: Named, rng: Random, number: int, depths: Sequence[int] = (0, 1, 2, 16, 64)) -> Script:
+    """A random script with up to thirty commands, at some depth, as the program takes it."""
+    depth = rng.choice(depths)
+    with tempfile.TemporaryDirectory() as folder, Session(program, depth, folder) as bench:
+        lines = scripts.write(rng, lambda line: bench.send(line).text, scripts.PROFILES["small"], rng.randint(8, 30))
+    return Script(f"random script {number}", [line.encode() for line in lines], {}, depth)

@@ -1,0 +1,92 @@
+"""NPY files: as the program should write them, as NumPy writes them, and damaged ones."""
+from __future__ import annotations
+
+import io
+from random import Random
+from typing import Any
+
+import numpy as np
+from numpy.lib import format as untyped
+
+from bench_tool import scripts
+
+from . import dtypes
+from .rules import Array, Dtype
+
+npy: Any = untyped
+LONGEST_SHORT_TEXT = 65525
+VERSIONS = {(1, 0): 2, (2, 0): 4}
+HEADER_BYTES = b" '\",:()[]{}LTFN0123456789<>|=biuSVfx\\\n\x00\x7f"
+
+
+def is_fortran(array: Array) -> bool:
+    return bool(array.flags.f_contiguous and not array.flags.c_contiguous)
+
+
+def saved(array: Array) -> bytes:
+    """The bytes of the file that the program should write: the fewest spaces before the items, and padding of zeros."""
+    text = f"{{'descr': {npy.dtype_to_descr(array.dtype)!r}, 'fortran_order': {is_fortran(array)}, 'shape': {array.shape!r}, }}"
+    version = (1, 0) if len(text) <= LONGEST_SHORT_TEXT else (2, 0)
+    before = 8 + VERSIONS[version]
+    text += " " * (-(before + len(text) + 1) % 64) + "\n"
+    head = b"\x93NUMPY" + bytes(version) + len(text).to_bytes(VERSIONS[version], "little") + text.encode()
+    return head + dtypes.cast(array, array.dtype).tobytes("F" if is_fortran(array) else "C")
+
+
+def loaded(file: bytes) -> Array:
+    """What NumPy loads from a file."""
+    found: Array = np.load(io.BytesIO(file), allow_pickle=False)
+    return found
+
+
+def is_loaded_as(file: bytes, array: Array) -> bool:
+    """Whether NumPy loads an array of this type, shape and order with these items from the file."""
+    found = loaded(file)
+    return (found.dtype, found.shape, is_fortran(found), found.tolist()) == (array.dtype, array.shape, is_fortran(array), array.tolist())
+
+
+def value_bytes(dtype: Dtype, start: int = 0) -> set[int]:
+    """Which bytes of an item hold values."""
+    if dtype.names is None:
+        return set(range(start, start + dtype.itemsize))
+    return {byte for _, inner, at in dtypes.fields(dtype) for byte in value_bytes(inner, start + at)}
+
+
+def with_marked_padding(array: Array, order: Any) -> Array:
+    """The items of an array in an order, with other bytes than zero for padding."""
+    items: Array = np.zeros(array.shape, array.dtype, order)
+    dtypes.fill(items, array)
+    padding = [byte for byte in range(array.dtype.itemsize) if byte not in value_bytes(array.dtype)]
+    flat = items.reshape(-1, order=order)
+    flat.view("u1").reshape(array.size, array.dtype.itemsize)[:, padding] = 0xEE
+    return items
+
+
+def random_array(rng: Random, most: int = 4) -> Array:
+    """An array of some type and shape."""
+    text = rng.choice(scripts.NUMBERS + scripts.STRINGS + scripts.RECORDS)
+    shape = [rng.randint(0, most) for _ in range(rng.choice([0, 1, 1, 2, 2, 3]))]
+    values = [dtypes.literal(scripts.literal(rng, text, True)) for _ in range(int(np.prod(shape, dtype=int)))]
+    return np.array(values, dtype=dtypes.read(text)).reshape(shape)
+
+
+def numpys(rng: Random) -> bytes:
+    """A file that NumPy writes of a random array, in some order and version, with some bytes behind the items."""
+    file = io.BytesIO()
+    items = with_marked_padding(random_array(rng), rng.choice("CCF"))
+    npy.write_array(file, items, version=rng.choice([(1, 0), (2, 0)]), allow_pickle=False)
+    return file.getvalue() + b"\xff" * rng.choice([0, 0, 1, 5])
+
+
+def cut(rng: Random, file: bytes) -> bytes:
+    """A front of a file."""
+    return file[:rng.choice([rng.randrange(12), rng.randrange(len(file))])]
+
+
+def altered(rng: Random, file: bytes) -> bytes:
+    """A file with some bytes of its header, or of what stands before it, put in, left out or changed."""
+    changed = bytearray(file)
+    for _ in range(rng.choice([1, 1, 2, 3])):
+        at = rng.randrange(min(len(changed), 128) + 1)
+        changed[at:at + rng.choice([0, 1, 1])] = bytes(rng.choice(HEADER_BYTES) for _ in range(rng.choice([0, 1, 1])))
+    return bytes(changed)
