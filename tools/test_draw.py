@@ -14,7 +14,7 @@ import unittest
 import xml.etree.ElementTree
 
 from trials.companion_trials import PROGRAM, TOOL, TOP, environment, needs_program, share
-import hostile_scripts as scripts
+from trials import lines as scripts
 from bench_tool import BenchError, Session
 from bench_tool import page as pages
 from bench_tool.session import literal

@@ -7,7 +7,7 @@ import subprocess
 import unittest
 
 from trials.companion_trials import PROGRAM, InFolder, needs_program
-import hostile_devices
+from trials import devices as hostile_devices
 
 FAULT = b"no E27 store fault\n"
 

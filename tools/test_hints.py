@@ -8,7 +8,7 @@ import time
 import unittest
 
 from trials.companion_trials import PROGRAM, TOP, environment, needs_program, share
-import hostile_scripts as scripts
+from trials import lines as scripts
 from bench_tool import Session, grammar, hints, language
 from bench_tool.grammar import Reading
 from bench_tool.translate import translated

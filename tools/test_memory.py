@@ -9,9 +9,9 @@ import tempfile
 import unittest
 
 from trials.companion_trials import PROGRAM, needs_program
-import hostile_memory
-from hostile_runs import Part, Runner
-from hostile_scripts import own_scripts
+from trials import memory
+from trials.lines import own_scripts
+from trials.runs import Part, Runner
 
 # A script that makes more requests than these is tried with as many of them, evenly spread.
 MOST_REQUESTS = 150
@@ -26,13 +26,13 @@ class RefusedMemory(unittest.TestCase):
     def setUpClass(cls):
         cls.folder = pathlib.Path(tempfile.mkdtemp())
         cls.addClassCleanup(shutil.rmtree, cls.folder)
-        cls.library = hostile_memory.built_library(cls.folder)
+        cls.library = memory.built_library(cls.folder)
 
     def test_each_request_of_each_script(self):
         part = Part()
         for script in own_scripts():
             with Runner(PROGRAM) as runner:
-                trial = hostile_memory.Refusing(runner, part, script.asking(), self.library)
+                trial = memory.Refusing(runner, part, script.asking(), self.library)
                 step = -(-trial.made // MOST_REQUESTS)
                 for request in range(1, trial.made + 1, step):
                     trial.refuse(request)

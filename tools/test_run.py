@@ -11,8 +11,8 @@ import time
 import unittest
 
 from trials.companion_trials import PROGRAM, TOOL, TOP, InFolder, environment, needs_program, numpy_or_none, share
-import hostile_runs
-import hostile_scripts as scripts
+from trials import runs as hostile_runs
+from trials import lines as scripts
 
 TOLD = re.compile(r"(.*):(\d+): (E\d\d) ([^:]*): ?(.*)")
 
@@ -82,11 +82,11 @@ class Runs(InFolder):
     def test_scripts_of_the_comparison_with_numpy(self):
         if numpy_or_none() is None:
             self.skipTest("left out: NumPy is not installed")
-        import numpy_scripts
+        from trials import beside_numpy
         for number in range(share(5, 200)):
-            made = numpy_scripts.Script(random.Random(f"run {number}"), 30)
+            reference, lines, files = beside_numpy.script(f"run {number}", "mixed", 30)
             with self.subTest(number):
-                self.compare(scripts.Script("of the comparison", [line.encode() for line in made.lines], made.first, made.world.depth))
+                self.compare(scripts.Script("of the comparison", [line.encode() for line in lines], files, reference.depth))
 
     def both(self, path):
         """A script by the program and by the companion: output, errors and status."""

@@ -9,8 +9,8 @@ import subprocess
 import unittest
 
 from trials.companion_trials import PROGRAM, InFolder, needs_program, share
-import hostile_errors
-from hostile_errors import FOLDER, HIDDEN, NAME, NEW, SAVE, Call
+from trials import errors
+from trials.errors import FOLDER, HIDDEN, NAME, NEW, SAVE, Call
 
 FAULT = "no E27 store fault"
 SAVED = "ok save 131"
@@ -62,7 +62,7 @@ class Bytes(Folder):
 class Calls(Folder):
     def setUp(self):
         super().setUp()
-        means = hostile_errors.Shim if has_compiler else hostile_errors.Strace
+        means = errors.Shim if has_compiler else errors.Strace
         self.runs = means(self.program, self.folder)
 
     def comes_in_order(self, calls, *wanted):
@@ -89,8 +89,8 @@ class Calls(Folder):
 
     def test_each_call_that_fails(self):
         """Each call on a file or the folder fails with each of some errors: the answers are those of docs/DECISIONS.md."""
-        part = hostile_errors.Part()
-        hostile_errors.each_call(part, self.runs, self.folder / "tried", share(hostile_errors.FEW[:6], hostile_errors.FEW))
+        part = errors.Part()
+        errors.each_call(part, self.runs, self.folder / "tried", share(errors.FEW[:6], errors.FEW))
         self.assertEqual(part.faults, [])
         self.assertGreater(part.counts["trials"], 500)
 

@@ -1,0 +1,82 @@
+"""The trials of tools/trials/ themselves: the scripts of each kind beside NumPy for half a minute, whether a difference is seen and told with few
+lines, types by mypy and style by ruff where these are installed."""
+import json
+import random
+import shutil
+import subprocess
+import sys
+import unittest
+from unittest import mock
+
+from trials.companion_trials import PROGRAM, TOP, InFolder, needs_program, numpy_or_none, share
+from bench_tool import Session, scripts
+
+needs_numpy = unittest.skipUnless(numpy_or_none(), "left out: NumPy is not installed")
+KINDS = ("mixed", "indexes", "masks", "shares", "formats")
+
+
+@needs_program
+@needs_numpy
+class BesideNumPy(InFolder):
+    def tried(self, *words):
+        """What `tools/try numpy` ends with, and its summary."""
+        from trials import __main__ as trials
+        summary = self.folder / "summary.json"
+        status = trials.main(["numpy", "--program", PROGRAM, "--json", str(summary), *words])
+        return status, json.loads(summary.read_text())["parts"][0]
+
+    def test_random_scripts(self):
+        for kind in KINDS:
+            with self.subTest(kind):
+                status, part = self.tried("--only", kind, "--scripts", "100000", "--seconds", str(share(6, 60)))
+                self.assertEqual((status, part["faults"]), (0, []))
+                self.assertGreater(part["counts"]["scripts"], 20)
+
+    def test_a_difference_is_told_with_few_lines(self):
+        """An addition that is one too high is found, and its script has no line that is not needed."""
+        from trials import beside_numpy, computations, runs
+        right = computations.result_of
+        with mock.patch.object(computations, "result_of", lambda word, *more: right(word, *more) + (word == "add")):
+            part = beside_numpy.trial((runs.Path(PROGRAM), 1, "mixed", 0))
+        self.assertTrue(part.faults)
+        for where, _, _ in part.faults:
+            lines = where.split("\n")[1:]
+            self.assertLessEqual(len(lines), 6, where)
+            self.assertIn(" add ", where)
+
+
+@needs_program
+class Scripts(unittest.TestCase):
+    def test_most_lines_of_every_kind_are_accepted(self):
+        for kind, profile in scripts.PROFILES.items():
+            replies = []
+            for number in range(4):
+                with Session(PROGRAM) as session:
+                    scripts.write(random.Random(f"{kind} {number}"), lambda line: replies.append(session.send(line)) or replies[-1].text, profile)
+            accepted = sum(reply.accepted for reply in replies)
+            self.assertGreater(accepted, 0.75 * len(replies), kind)
+
+    def test_the_same_seed_gives_the_same_script(self):
+        made = []
+        for _ in range(2):
+            with Session(PROGRAM) as session:
+                made.append(scripts.write(random.Random(7), lambda line: session.send(line).text))
+        self.assertEqual(*made)
+
+
+class Tools(unittest.TestCase):
+    def clean(self, *words):
+        done = subprocess.run(words, cwd=TOP, capture_output=True, text=True)
+        self.assertEqual(done.returncode, 0, done.stdout + done.stderr)
+
+    @unittest.skipUnless(shutil.which("mypy") and numpy_or_none(), "left out: mypy or NumPy is not installed")
+    def test_types(self):
+        self.clean("mypy", "--python-executable", sys.executable)
+
+    @unittest.skipUnless(shutil.which("ruff"), "left out: ruff is not installed")
+    def test_style(self):
+        self.clean("ruff", "check", ".")
+
+
+if __name__ == "__main__":
+    unittest.main()
