@@ -12,7 +12,7 @@ from trials.companion_trials import PROGRAM, TOP, InFolder, needs_program, numpy
 from bench_tool import Session, scripts
 
 needs_numpy = unittest.skipUnless(numpy_or_none(), "left out: NumPy is not installed")
-KINDS = ("mixed", "indexes", "masks", "shares", "formats")
+KINDS = ("mixed", "indexes", "masks", "shares", "computing", "formats")
 
 
 @needs_program
@@ -28,7 +28,7 @@ class BesideNumPy(InFolder):
     def test_random_scripts(self):
         for kind in KINDS:
             with self.subTest(kind):
-                status, part = self.tried("--only", kind, "--scripts", "100000", "--seconds", str(share(6, 60)))
+                status, part = self.tried("--only", kind, "--scripts", "100000", "--seconds", str(share(5, 60)))
                 self.assertEqual((status, part["faults"]), (0, []))
                 self.assertGreater(part["counts"]["scripts"], 20)
 

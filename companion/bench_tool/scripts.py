@@ -55,7 +55,7 @@ class Known(NamedTuple):
 class Profile:
     """How often each command comes, by its weight; then, as shares of 1: index lists that may have arrays, items of these that are
     arrays, and arrays that are masks; names of several axes that are preferred, and values that are made to fit what they are written to;
-    scripts whose arrays seldom become small, and the lengths and numbers of axes of these."""
+    arrays of records; scripts whose arrays seldom become small, and the lengths and numbers of axes of these."""
 
     weights: Mapping[str, int] = field(default_factory=dict)
     lists: float = 0.25
@@ -65,6 +65,7 @@ class Profile:
     fewest: int = 0
     wide: float = 0
     fitted: float = 0
+    records: float = 0.5
     roomy: float = 0.5
     lengths: Sequence[int] = (1, 2, 3, 4, 6)
     ranks: Sequence[int] = (2, 2, 3, 4)
@@ -77,12 +78,14 @@ MIXED = Profile({
 })
 LISTED = {"make": 16, "index": 30, "set": 18, "assign": 24, "update": 24, "transpose": 6, "broadcast": 3, "field": 5, "undo": 8}
 SHARED = {"make": 8, "index": 20, "transpose": 8, "field": 14, "reshape": 14, "broadcast": 4, "alias": 1, "copy": 1, "shares": 40, "twins": 60}
+COMPUTED = {"make": 20, "operation": 40, "reduction": 20, "update": 30, "unary": 5, "cast": 15, "index": 6, "alias": 2, "undo": 8}
 INDEXES = Profile(LISTED, lists=0.9, arrays=0.8, masks=0.05, fewest=2, wide=0.8, fitted=0.9, roomy=0.8, ranks=(2, 3, 3, 4))
 PROFILES = {
     "mixed": MIXED,
     "indexes": INDEXES,
     "masks": replace(INDEXES, masks=0.7, mask_axes=(1, 2, 2, 3, 3), fewest=3),
     "shares": Profile(SHARED, lists=0, roomy=1, lengths=(3, 5, 8, 12, 20), ranks=(1, 1, 2, 2)),
+    "computing": replace(MIXED, weights=COMPUTED, records=0.1, lists=0.1),
     "formats": Profile({"text": 1}),
     "small": replace(MIXED, roomy=0, weights={**MIXED.weights, "wrong": 12}),
 }
@@ -244,7 +247,7 @@ class Writer:
         self.send(f"{name} = array {type_} {text_of(shape)} {values}".rstrip())
 
     def type(self) -> str:
-        return self.rng.choice(RECORDS) if self.chance(0.5) else self.rng.choice(NUMBERS + STRINGS)
+        return self.rng.choice(RECORDS) if self.chance(self.profile.records) else self.rng.choice(NUMBERS + STRINGS)
 
     def shape(self) -> list[int]:
         lengths, ranks = (self.profile.lengths, self.profile.ranks) if self.roomy else ((0, 1, 2, 3, 4), (0, 1, 1, 2, 2, 3, 4))
@@ -504,8 +507,10 @@ class Writer:
 
     def update(self) -> None:
         target = self.number()
-        items = self.items(target)
-        value = self.fitting(target, items) if self.chance(0.6 * self.profile.fitted) else self.argument()
+        if self.chance(max(0.4, 0.6 * self.profile.fitted)):
+            items, value = self.pair(target)
+        else:
+            items, value = self.items(target), self.argument()
         self.send(f"upd {target}[{items}] {self.rng.choice(self.binary + self.comparisons)} {value}")
 
     def cast(self) -> None:

@@ -40,7 +40,7 @@ def arguments(words: Optional[Sequence[str]]) -> argparse.Namespace:
     numpy = trial("numpy", "random scripts, by the program and by NumPy")
     numpy.add_argument("--scripts", type=int, default=1000, metavar="N", help="how many scripts (1000; for a night 20000)")
     numpy.add_argument("--seconds", type=float, metavar="N", help="begin no more after so many seconds")
-    numpy.add_argument("--only", choices=["mixed", "indexes", "masks", "shares", "formats"], help="scripts of one kind alone")
+    numpy.add_argument("--only", choices=["mixed", "indexes", "masks", "shares", "computing", "formats"], help="scripts of one kind alone")
     hostile = trial("hostile", "how the program bears what goes wrong: all parts, or those that are named")
     hostile.add_argument("parts", nargs="*", metavar="PART", choices=[*HOSTILE, []], help=", ".join(HOSTILE))
     hostile.add_argument("--every", action="store_true", help="refuse every request for memory, also of long runs")
