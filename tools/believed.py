@@ -10,22 +10,32 @@
     tools/believed.py --twice    statements that are proved twice, definitions that stand twice, and public words of specs/
                                  with two meanings
 
-It reads the texts alone: the clauses of `run`, what the definitions that they cite cite in turn, for a type that
-contracts see as a value (`impl Model`) what its view cites, and for any other the types of its fields.
+It follows the clauses of `run`, what the definitions that they cite cite in turn, for a type that contracts see as a value (`impl Model`)
+what its view cites, and for any other the types of its fields.
+
+It reads the sources by patterns, because the toolchain has no such listing: `rt` tells of a crate whether it is proved, and what its macros
+write; `rt lemma` finds one name. What is read is small: `use` lines, heads of definitions, and words. tools/test_believed.py tries it on a
+small repository.
 """
+from __future__ import annotations
+
 import collections
-import pathlib
 import re
 import sys
+from collections.abc import Iterable, Iterator
+from pathlib import Path
 
-TOP = pathlib.Path(__file__).resolve().parent.parent
-LIST = TOP / "docs/believed.txt"
+TOP = Path(__file__).resolve().parent.parent
+HEADLINE = ("crates/bench_engine/src/runner.rt", "run")
+# A definition: its module, or none for the file at hand, and its name. What a text imports: these by name, and modules by alias.
+Item = tuple[str, str]
+Uses = tuple[dict[str, Item], dict[str, str]]
 # A verdict carries its proof, so that its type says all, whatever the test is that finds it.
 VERDICT = re.compile(r"→ \w+OrNot\b")
 WORD = re.compile(r"[^\s(){}\[\],;]+")
 
 
-def types(text):
+def types(text: str) -> dict[str, str]:
     """The types that a .rt file imports: the crate where each stands, by its name; `crate` where it is the file's own."""
     found = {}
     for path, group, name in re.findall(r"(?m)^use (\w+)(?:::\w+)*::(?:\{([^}]*)\}|(\w+));", text):
@@ -34,9 +44,10 @@ def types(text):
     return found
 
 
-def uses(text):
+def uses(text: str) -> Uses:
     """What a file imports: the crate's module and the name there, by the name in this file; and modules by their alias."""
-    names, modules = {}, {}
+    names: dict[str, Item] = {}
+    modules: dict[str, str] = {}
     for path, group in re.findall(r"use Rattle\.([\w.«»]+)\.\{([^}]*)\}", text):
         for item in group.split(","):
             there, _, here = item.strip().partition(" as ")
@@ -47,9 +58,14 @@ def uses(text):
 
 
 class Repository:
-    def __init__(self):
-        self.files, self.models, self.fields = {}, {}, {}
-        for crate in (TOP / "crates").iterdir():
+    """The definitions of specs/ by module and name, the views of types, and the fields of types without one."""
+
+    def __init__(self, top: Path = TOP):
+        self.crates = sorted((top / "crates").iterdir())
+        self.files: dict[str, tuple[Path, dict[str, str], dict[str, Item], dict[str, str]]] = {}
+        self.models: dict[Item, tuple[str, dict[str, Item], dict[str, str]]] = {}
+        self.fields: dict[Item, tuple[str, dict[str, str]]] = {}
+        for crate in self.crates:
             for file in sorted(crate.glob("specs/**/*.antt")):
                 text = file.read_text()
                 module = f"{crate.name}.specs.{'.'.join(file.relative_to(crate / 'specs').with_suffix('').parts)}"
@@ -62,13 +78,13 @@ class Repository:
                 for name, body in re.findall(r"(?m)^(?:pub )?(?:struct|enum) (\w+)([^{;]*(?:\{[^}]*\}|;))", text):
                     self.fields[crate.name, name] = (body, types(text))
 
-    def cited(self, text, local, names, modules):
+    def cited(self, text: str, local: Iterable[str], names: dict[str, Item], modules: dict[str, str]) -> set[Item]:
         """The definitions, and the types with a view, that a text cites."""
-        here = set()
+        here: set[Item] = set()
         for word in WORD.findall(re.sub(r"--.*", "", text)):
             parts = word.split(".")
             if word in local:
-                here.add((None, word))
+                here.add(("", word))
             for start in {word, parts[0]}:
                 if start in names:
                     here.add(names[start])
@@ -80,7 +96,7 @@ class Repository:
                 here.add(target)
         return here
 
-    def fields_of(self, crate, name):
+    def fields_of(self, crate: str, name: str) -> Iterator[Item]:
         """The types in the fields of a type that has no view."""
         body, imported = self.fields.get((crate, name), ("", {}))
         for word in set(re.findall(r"\b[A-Z]\w*", re.sub(r"//.*", "", body))):
@@ -89,8 +105,9 @@ class Repository:
             if (where, word) in self.fields:
                 yield f"{where}.specs.declared.{word}", word
 
-    def reached(self, todo):
-        done = set()
+    def reached(self, todo: set[Item]) -> set[Item]:
+        """What these definitions cite, they and all that is cited in turn."""
+        done: set[Item] = set()
         while todo:
             module, name = todo.pop()
             if (module, name) in done:
@@ -111,7 +128,7 @@ class Repository:
         return {it for it in done if ".declared." not in it[0]}
 
 
-def exported(crate):
+def exported(crate: Path) -> set[str]:
     """The names that a crate's lib.rt makes public."""
     root = crate / "src/lib.rt"
     if not root.is_file():
@@ -119,14 +136,14 @@ def exported(crate):
     return {it.strip().split(" as ")[-1] for group in re.findall(r"pub use [\w:]+::(?:\{([^}]*)\}|(\w+));", root.read_text()) for it in ",".join(group).split(",") if it.strip()}
 
 
-def public_clauses(crate, with_invariants):
+def public_clauses(crate: Path, with_invariants: bool) -> Iterator[tuple[str, str]]:
     """The clauses of the public functions and types of a crate, each with the file that they stand in."""
     names = exported(crate)
     wanted = r" *ghost (Value|view|invariant)\b" if with_invariants else r" *ghost (Value|view)\b"
     for file in sorted(crate.glob("src/**/*.rt")):
         text = file.read_text()
         for header in re.findall(r"(?m)^pub fn (?:.|\n)*?\n?\{$", text):
-            if re.match(r"pub fn (\w+)", header)[1] in names:
+            if re.findall(r"pub fn (\w+)", header)[0] in names:
                 yield text, header
         for of_trait, owner, body in re.findall(r"(?ms)^impl(?:<[^>]*>)? (?:([\w<>', ]+) for )?(\w+)[^{\n]*\{(.*?)^\}", text):
             if owner in names:
@@ -139,15 +156,15 @@ def public_clauses(crate, with_invariants):
                 yield text, " ".join(re.findall(r"(?m)^ *(?:pub )?ghost .*$", body)) + (body if " fn " in body else "")
 
 
-def inside():
+def inside() -> None:
     """By file, the definitions outside specs/inside/ that no public contract of any crate reaches, and those inside that one does.
 
     Laws that other crates cite stand in specs/ as well, in files whose names end in Laws."""
     repository = Repository()
 
-    def reached(with_invariants):
-        roots = set()
-        for crate in sorted((TOP / "crates").iterdir()):
+    def reached(with_invariants: bool) -> set[Item]:
+        roots: set[Item] = set()
+        for crate in repository.crates:
             for text, clauses in public_clauses(crate, with_invariants):
                 names, modules = uses(text)
                 roots |= {it for it in repository.cited(clauses, {}, names, modules) if it[0]}
@@ -169,7 +186,7 @@ BIND = "◌>>=◌"
 NAMED = re.compile(r"^((?:(?:abbrev|unfoldable|opaque|pub|record|data)\s+)*)([^\s:(){}]+)(?=[ :])")
 
 
-def renamed(text, name):
+def renamed(text: str, name: str) -> str:
     """A text with its own name and its variables numbered in their order, so that the same thing under other names reads alike."""
     text = " ".join(re.sub(r"--.*", "", text).split())
     text = re.sub(r"\b(?:abbrev|unfoldable|opaque|pub) ", "", text)
@@ -184,9 +201,10 @@ def renamed(text, name):
     return " ".join(bound.get(it, it) for it in words)
 
 
-def statements(text):
+def statements(text: str) -> Iterator[tuple[str, bool, str, str]]:
     """The lemmas and definitions of an .antt file: the name, whether it is public, what is stated, and the whole."""
-    found, start = [], None
+    found: list[tuple[str, bool, list[str]]] = []
+    start: list[str] | None = None
     for line in [*text.split("\n"), "use "]:
         head = NAMED.match(line)
         if line.startswith(("use ", "pub use ", "mod ", "pub mod ", "module ", "open ", "infix")):
@@ -197,17 +215,16 @@ def statements(text):
         elif start is not None:
             start.append(line)
     for name, is_public, lines in found:
-        stated = []
-        for line in lines:
-            if stated and NAMED.match(line) and NAMED.match(line)[2] == name:
-                break
-            stated.append(line)
+        again = next((at for at, line in enumerate(lines[1:], 1) if (head := NAMED.match(line)) and head[2] == name), len(lines))
+        stated = lines[:again]
         yield name, is_public, "\n".join(stated), "\n".join(lines)
 
 
-def twice():
+def twice() -> int:
     """Prints what stands twice; answers how much that is."""
-    proved, defined, public = (collections.defaultdict(set) for _ in range(3))
+    proved: dict[str, set[Item]] = collections.defaultdict(set)
+    defined: dict[str, set[Item]] = collections.defaultdict(set)
+    public: dict[str, set[Item]] = collections.defaultdict(set)
     for crate in sorted((TOP / "crates").iterdir()):
         for part in ("specs", "proofs"):
             for file in sorted(crate.glob(f"{part}/**/*.antt")):
@@ -238,28 +255,26 @@ def twice():
     return count
 
 
-def believed():
-    repository = Repository()
-    file = TOP / "crates/bench_engine/src/runner.rt"
-    text = file.read_text()
-    contract = re.search(r"pub fn run<.*?\n\{", text, re.S)[0]
+def believed(top: Path = TOP, headline: tuple[str, str] = HEADLINE) -> dict[Path, list[str]]:
+    """By file, the definitions that the contract of a function reaches, in their order."""
+    repository, text = Repository(top), (top / headline[0]).read_text()
+    contract = re.findall(rf"pub fn {headline[1]}\b.*?\n\{{", text, re.S)[0]
     names, modules = uses(text)
-    roots = {it for it in repository.cited(contract, {}, names, modules) if it[0]}
-    by_file = collections.defaultdict(list)
-    for module, name in repository.reached(roots):
-        by_file[repository.files[module][0].relative_to(TOP / "crates")].append((module, name))
+    by_file: dict[Path, list[Item]] = collections.defaultdict(list)
+    for module, name in repository.reached({it for it in repository.cited(contract, (), names, modules) if it[0]}):
+        by_file[repository.files[module][0].relative_to(top / "crates")].append((module, name))
     order = {module: list(found[1]) for module, found in repository.files.items()}
-    return {file: [name for _, name in sorted(names, key=lambda it: order[it[0]].index(it[1]))] for file, names in sorted(by_file.items())}
+    return {file: [name for _, name in sorted(items, key=lambda it: order[it[0]].index(it[1]))] for file, items in sorted(by_file.items())}
 
 
-def listed(found):
+def listed(found: dict[Path, list[str]]) -> str:
     """The list that is kept of what is reached."""
     return "".join(f"{file}: {' '.join(names)}\n" for file, names in found.items())
 
 
-def unlisted(found):
+def unlisted(found: dict[Path, list[str]]) -> Iterator[str]:
     """What the kept list lacks or has too much, and the files of it that stand in no table."""
-    kept = dict(line.split(": ", 1) for line in LIST.read_text().splitlines())
+    kept = dict(line.split(": ", 1) for line in (TOP / "docs/believed.txt").read_text().splitlines())
     there = {file: names.split() for file, names in kept.items()}
     here = {str(file): names for file, names in found.items()}
     page = (TOP / "docs/DEFINITIONS.md").read_text()
@@ -276,7 +291,7 @@ def unlisted(found):
         yield f"DEFINITIONS.md should say that the headline reaches {counted(found)}"
 
 
-def unnamed(page):
+def unnamed(page: str) -> Iterator[str]:
     """The files of specs/ that are for readers, but for laws, that a page does not name."""
     for file in sorted((TOP / "crates").glob("*/specs/**/*.antt")):
         crate, name = file.relative_to(TOP / "crates").parts[0], "/".join(file.relative_to(TOP / "crates").parts[2:])
@@ -285,7 +300,7 @@ def unnamed(page):
             yield f"{crate}/specs/{name}"
 
 
-def counted(found):
+def counted(found: dict[Path, list[str]]) -> str:
     """How many definitions the headline reaches, and how many lines they have."""
     repository = Repository()
     wholes = {file.relative_to(TOP / "crates"): local for file, local, _, _ in repository.files.values()}
@@ -293,7 +308,7 @@ def counted(found):
     return f"{sum(map(len, found.values())):,} definitions, {lines:,} lines"
 
 
-def main():
+def main() -> int:
     if sys.argv[1:] == ["--inside"]:
         inside()
         return 0
@@ -301,7 +316,7 @@ def main():
         return 1 if twice() else 0
     found = believed()
     if sys.argv[1:] == ["--write"]:
-        LIST.write_text(listed(found))
+        (TOP / "docs/believed.txt").write_text(listed(found))
     elif sys.argv[1:] == ["--check"]:
         faults = list(unlisted(found))
         print("\n".join(faults), end="\n" * bool(faults))
