@@ -2,12 +2,15 @@
 lines, types by mypy and style by ruff where these are installed."""
 import json
 import random
+import re
 import shutil
 import subprocess
 import sys
 import unittest
 from unittest import mock
 
+import test_rows
+from trials import npy_rule
 from trials.companion_trials import PROGRAM, TOP, InFolder, needs_program, numpy_or_none, share
 from bench_tool import Session, scripts
 
@@ -43,6 +46,20 @@ class BesideNumPy(InFolder):
             lines = where.split("\n")[1:]
             self.assertLessEqual(len(lines), 6, where)
             self.assertIn(" add ", where)
+
+
+class NpyRule(unittest.TestCase):
+    def test_the_rule_says_what_the_rows_say(self):
+        tried = 0
+        for row in test_rows.rows(TOP / "tools/rows/files.rows"):
+            loads = [re.fullmatch(rb'\w+ = load "([\w.-]+)"', line) for line in row.script]
+            if all(loads):
+                for found, reply in zip(loads, row.replies):
+                    tried += 1
+                    name = found[0].split()[0].decode()
+                    said, _ = npy_rule.reply(row.files[found[1].decode()])
+                    self.assertEqual(said.replace("ok x", f"ok {name}"), reply.decode(), (row.title, found[1]))
+        self.assertGreater(tried, 170)
 
 
 @needs_program

@@ -18,7 +18,7 @@ import numpy as np
 
 from bench_tool import scripts
 
-from . import npy_files
+from . import npy_files, npy_rule
 from .reference import Reference
 from .rules import TALLY
 from .runs import Files, Part, Ran, Runner, contents, fill, in_processes
@@ -30,7 +30,7 @@ BATCH = 25
 def first_files(rng: Random) -> dict[str, bytes]:
     """Files that NumPy writes, one in ten of them cut."""
     made = {f"p{number}.npy": npy_files.numpys(rng) for number in range(rng.randint(0, 4))}
-    return {name: npy_files.cut(rng, file) if rng.random() < 0.1 else file for name, file in made.items()}
+    return {name: npy_rule.cut(rng, file) if rng.random() < 0.1 else file for name, file in made.items()}
 
 
 def script(seed: str, profile: Optional[str], size: Optional[int] = None) -> tuple[Reference, list[str], dict[str, bytes]]:

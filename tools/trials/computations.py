@@ -11,8 +11,8 @@ import numpy as np
 
 from bench_tool import language
 
-from .dtypes import is_value
-from .rules import Array, Dtype, Refused, refusing
+from .dtypes import Array, Dtype, is_value
+from .rules import Refused, refusing
 
 Operand = Union[Array, int, bool, bytes]
 Items = list[Any]

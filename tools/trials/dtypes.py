@@ -13,7 +13,10 @@ from typing import Any
 import numpy as np
 from numpy.core._internal import _dtype_from_pep3118  # type: ignore[attr-defined]
 
-from .rules import LETTERS, TALLY, Array, Dtype, Refused
+from .rules import LETTERS, TALLY, Refused
+
+Array = np.ndarray[Any, Any]
+Dtype = np.dtype[Any]
 
 CODES = {letter: code for code, letter in LETTERS.items()}
 SCALAR = re.compile(r"([<>=|]?)(?:([biu][1248])|([?bBhHiIqQ])|S(\d+)|(\d+)s)")

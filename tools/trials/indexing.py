@@ -5,7 +5,8 @@ from typing import Any, Callable, Iterator, Optional
 
 import numpy as np
 
-from .rules import Array, Refused
+from .dtypes import Array
+from .rules import Refused
 
 SCALARS = {"...": Ellipsis, "None": None}
 

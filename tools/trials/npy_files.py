@@ -1,4 +1,4 @@
-"""NPY files: as the program should write them, as NumPy writes them, and damaged ones."""
+"""NPY files: as the program should write them, as NumPy writes them."""
 from __future__ import annotations
 
 import io
@@ -11,12 +11,11 @@ from numpy.lib import format as untyped
 from bench_tool import scripts
 
 from . import dtypes
-from .rules import Array, Dtype
+from .dtypes import Array, Dtype
 
 npy: Any = untyped
 LONGEST_SHORT_TEXT = 65525
 VERSIONS = {(1, 0): 2, (2, 0): 4}
-HEADER_BYTES = b" '\",:()[]{}LTFN0123456789<>|=biuSVfx\\\n\x00\x7f"
 
 
 def is_fortran(array: Array) -> bool:
@@ -76,17 +75,3 @@ def numpys(rng: Random) -> bytes:
     items = with_marked_padding(random_array(rng), rng.choice("CCF"))
     npy.write_array(file, items, version=rng.choice([(1, 0), (2, 0)]), allow_pickle=False)
     return file.getvalue() + b"\xff" * rng.choice([0, 0, 1, 5])
-
-
-def cut(rng: Random, file: bytes) -> bytes:
-    """A front of a file."""
-    return file[:rng.choice([rng.randrange(12), rng.randrange(len(file))])]
-
-
-def altered(rng: Random, file: bytes) -> bytes:
-    """A file with some bytes of its header, or of what stands before it, put in, left out or changed."""
-    changed = bytearray(file)
-    for _ in range(rng.choice([1, 1, 2, 3])):
-        at = rng.randrange(min(len(changed), 128) + 1)
-        changed[at:at + rng.choice([0, 1, 1])] = bytes(rng.choice(HEADER_BYTES) for _ in range(rng.choice([0, 1, 1])))
-    return bytes(changed)

@@ -1,8 +1,9 @@
-"""What the program replies to the load of a file, worked out from the bytes of the file by the rules of NPY files."""
+"""What the program replies to the load of a file, worked out from the bytes of the file by the rules of NPY files; and damaged files."""
 from __future__ import annotations
 
 import math
 import re
+from random import Random
 from typing import Any
 
 from .rules import LETTERS, MOST_AXES, MOST_BYTES, MOST_ITEMS, Refused, tuple_text
@@ -10,6 +11,7 @@ from .rules import LETTERS, MOST_AXES, MOST_BYTES, MOST_ITEMS, Refused, tuple_te
 Token = tuple[str, Any]
 
 TOKEN = re.compile(r"""[ \t\n\r]*(?:'([ -&(-\[\]-~]*)'|"([ !#-\[\]-~]*)"|(0|[1-9][0-9]*)L?(?![0-9])|(True|False|None)(?![A-Za-z])|([](){}[:,])|$)""")
+HEADER_BYTES = b" '\",:()[]{}LTFN0123456789<>|=biuSVfx\\\n\x00\x7f"
 LITERALS = {"True": True, "False": False, "None": None}
 MOST_DEPTH, MOST_HEADER, MOST_ITEM = 16, 2**20, 65536
 MOST_FIELDS, MOST_LEAVES, MOST_RECORDS = 64, 2048, 4
@@ -233,3 +235,17 @@ def reply(file: bytes, more: int = 0) -> tuple[str, int]:
         return f"ok x {text}", items
     except Refused as refused:
         return f"no {refused}", 0
+
+
+def cut(rng: Random, file: bytes) -> bytes:
+    """A front of a file."""
+    return file[:rng.choice([rng.randrange(12), rng.randrange(len(file))])]
+
+
+def altered(rng: Random, file: bytes) -> bytes:
+    """A file with some bytes of its header, or of what stands before it, put in, left out or changed."""
+    changed = bytearray(file)
+    for _ in range(rng.choice([1, 1, 2, 3])):
+        at = rng.randrange(min(len(changed), 128) + 1)
+        changed[at:at + rng.choice([0, 1, 1])] = bytes(rng.choice(HEADER_BYTES) for _ in range(rng.choice([0, 1, 1])))
+    return bytes(changed)

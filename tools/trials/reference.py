@@ -16,8 +16,8 @@ from typing import Any, Optional
 import numpy as np
 
 from . import computations, dtypes, indexing, npy_files, npy_rule, reshapes
-from .dtypes import type_text
-from .rules import MOST_AXES, MOST_ITEMS, Array, Refused, refusing, tuple_text
+from .dtypes import Array, type_text
+from .rules import MOST_AXES, MOST_ITEMS, Refused, refusing, tuple_text
 
 NAME, TYPE, SHAPE, PART = "([a-z])", r"(\S+)", r"\(([^)]*)\)", r"([a-z])(?:\[(.+?)\])?"
 WORDS = {"OP": computations.OPERATIONS + computations.COMPARISONS, "UN": computations.UNARY, "RED": computations.REDUCTIONS}

@@ -13,7 +13,8 @@ from typing import Iterator, Optional, Sequence
 
 import numpy as np
 
-from .rules import MOST_AXES, MOST_ITEMS, TALLY, Array
+from .dtypes import Array
+from .rules import MOST_AXES, MOST_ITEMS, TALLY
 
 
 def refusal(items: int, numbers: Sequence[int]) -> Optional[str]:

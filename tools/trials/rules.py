@@ -3,14 +3,10 @@ from __future__ import annotations
 
 import collections
 import contextlib
-from typing import Any, Iterable, Iterator
-
-import numpy as np
+from typing import Iterable, Iterator
 
 from bench_tool import language
 
-Array = np.ndarray[Any, Any]
-Dtype = np.dtype[Any]
 MOST_AXES, MOST_ITEMS, MOST_BYTES = 64, 2**24, 2**28
 LETTERS = {"b1": "?", "i1": "b", "u1": "B", "i2": "h", "u2": "H", "i4": "i", "u4": "I", "i8": "q", "u8": "Q"}
 CODES = {code: words for code, (words, _) in language.codes().items()}

@@ -10,7 +10,7 @@ import numpy as np
 
 from bench_tool import Session, library
 
-from .rules import Array
+from .dtypes import Array
 from .runs import Part
 
 

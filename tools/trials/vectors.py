@@ -13,7 +13,7 @@ from typing import Iterator, NamedTuple
 
 from bench_tool.scripts import PROFILES, Profile, write
 
-from . import beside_numpy, npy_files
+from . import beside_numpy, npy_files, npy_rule
 from .reference import Reference
 from .runs import Part, Runner
 
@@ -50,7 +50,7 @@ def damaged(rng: Random) -> Script:
     files = {}
     for number in range(4):
         file, how = npy_files.numpys(rng), rng.random()
-        files[f"{number}.npy"] = npy_files.altered(rng, file) if how < 0.6 else npy_files.cut(rng, file) if how < 0.8 else file
+        files[f"{number}.npy"] = npy_rule.altered(rng, file) if how < 0.6 else npy_rule.cut(rng, file) if how < 0.8 else file
     reference = Reference(0, files)
     return Script(reference, [line for name in files if reference.ask(line := f'x = load "{name}"')], files)
 
