@@ -49,6 +49,7 @@ def arguments(words: Optional[Sequence[str]]) -> argparse.Namespace:
     speed.add_argument("--undo", type=int, nargs="+", default=[16, 0], metavar="N", help="depths of undo, 0 to 20")
     worst = trial("worst", "the time and the memory of the worst line of each command")
     worst.add_argument("--seconds", type=float, default=120, metavar="N", help="the most that a run may take (120)")
+    worst.add_argument("--first", type=int, default=0, metavar="K", help="begin behind so many rows")
     for timed, runs in ((speed, 5), (worst, 3)):
         timed.add_argument("--only", default="", metavar="WORD", help="the rows with this in their names")
         timed.add_argument("--runs", type=int, default=runs, metavar="K", help=f"runs of which the least time counts ({runs})")

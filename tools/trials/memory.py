@@ -14,7 +14,7 @@ from . import TOP
 from .files import reserved_when_idle
 from .lacking import LACK, STOPPED, Lacking
 from .lines import Script, own_scripts, random_script, text_of
-from .runs import Part, Runner, Word, contents, fill, in_processes, shown
+from .runs import Part, Runner, contents, fill, in_processes, shown
 
 SOURCE = TOP / "tools/trials/refuse_memory.c"
 ROOM = 2**25

@@ -2,10 +2,9 @@
 from __future__ import annotations
 
 import os
-import signal
+import resource
 import subprocess
 import tempfile
-import threading
 from pathlib import Path
 from typing import IO, NamedTuple, Optional
 
@@ -23,16 +22,15 @@ class Used(NamedTuple):
 
 
 def run(program: Path, text: str, depth: int, limit: Optional[float] = None, out: Optional[IO[bytes]] = None) -> Used:
-    """A run over a script, which may take so many seconds."""
+    """A run over a script, which may take so many seconds of processor time."""
     with tempfile.TemporaryFile() as script:
         script.write(text.encode())
         script.seek(0)
         words, sink = [str(program), "--undo", str(depth)], out or subprocess.DEVNULL
         process = subprocess.Popen(words, stdin=script, stdout=sink, env=ENVIRONMENT, cwd=FOLDER.name)
-        stop = threading.Timer(limit or 86400, process.send_signal, [signal.SIGKILL])
-        stop.start()
+        if limit:
+            resource.prlimit(process.pid, resource.RLIMIT_CPU, (int(limit), int(limit)))
         _, status, used = os.wait4(process.pid, 0)
-        stop.cancel()
         process.returncode = os.waitstatus_to_exitcode(status)
     return Used(used.ru_utime + used.ru_stime, used.ru_maxrss * 1024, process.returncode >= 0)
 

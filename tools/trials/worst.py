@@ -9,6 +9,7 @@ from __future__ import annotations
 
 import math
 import re
+import tempfile
 from argparse import Namespace
 from pathlib import Path
 from typing import NamedTuple
@@ -155,32 +156,36 @@ ROWS = [
 ]
 
 
-def held(program: Path, text: str) -> tuple[int, str]:
+def held(told: list[str]) -> tuple[int, str]:
     """The bytes of the arrays that a script makes, and its last reply where that is a refusal."""
-    told = [reply for reply in replies(program, text, 1) if reply]
     made = [found for found in map(MADE.match, told) if found]
     sizes = [dtypes.read(found[1]).itemsize * math.prod(map(int, re.findall(r"\d+", found[2]))) for found in made]
-    return sum(sizes), told[-1] if told[-1].startswith("no ") else ""
+    last = next((reply for reply in reversed(told) if reply), "")
+    return sum(sizes), last if last.startswith("no ") else ""
 
 
 def measured(program: Path, row: Row, runs: int, limit: float) -> tuple[float, int, str]:
     """The seconds of a line, the bytes that it takes beside its arrays and its result, and what is to be said of it."""
     before = f"{row.setup}\n"
-    whole = f"{before}{row.line}\n"
-    first = run(program, whole, 1, limit)
-    if not first.ended:
-        return first.seconds, first.memory, f"above {limit:.0f} s"
-    least = min([first.seconds, *(run(program, whole, 1).seconds for _ in range(runs - 1 if first.seconds < 5 else 0))])
-    size, reply = held(program, whole) if row.command != "print" else held(program, before)
+    whole, is_printed = f"{before}{row.line}\n", row.command in ("print", "names")
+    with tempfile.TemporaryFile() as out:
+        used = [run(program, whole, 1, limit, None if is_printed else out)]
+        out.seek(0)
+        size, reply = held(replies(program, before, 1) if is_printed else out.read().decode("latin-1").split("\n"))
+    if not used[0].ended:
+        return used[0].seconds, used[0].memory, f"stopped after {limit:.0f} s"
+    if used[0].seconds < 5:
+        used += [run(program, whole, 1) for _ in range(runs - 1)]
+    begun = min(run(program, before, 1).seconds for _ in range(runs if used[0].seconds < 5 else 1))
     idle = run(program, "names\n", 1).memory
-    return max(0.0, least - min(run(program, before, 1).seconds for _ in range(runs))), max(0, first.memory - idle - size), reply
+    return max(0.0, min(each.seconds for each in used) - begun), max(0, used[0].memory - idle - size), reply
 
 
 def all_trials(given: Namespace, _folder: Path) -> Part:
     """Each row, as a table."""
     part = Part()
     print("| Command | Its worst line | Seconds | MB beside arrays and result | |\n|---|---|---|---|---|")
-    for row in ROWS:
+    for row in ROWS[given.first:]:
         if given.only in f"{row.command} {row.name}":
             seconds, memory, told = measured(given.program, row, given.runs, given.seconds)
             is_over = seconds > MOST_SECONDS or memory > MOST_MEMORY
