@@ -71,7 +71,7 @@ class Scripts(unittest.TestCase):
                 with Session(PROGRAM) as session:
                     scripts.write(random.Random(f"{kind} {number}"), lambda line: replies.append(session.send(line)) or replies[-1].text, profile)
             accepted = sum(reply.accepted for reply in replies)
-            self.assertGreater(accepted, 0.75 * len(replies), kind)
+            self.assertGreater(accepted, 0.65 * len(replies), kind)
 
     def test_the_same_seed_gives_the_same_script(self):
         made = []
