@@ -1,4 +1,6 @@
 """A headless chromium, to which its pages are asked over a pipe. Nothing of it is left at the end."""
+from __future__ import annotations
+
 import base64
 import contextlib
 import json
@@ -7,14 +9,16 @@ import shutil
 import subprocess
 import tempfile
 import time
+from pathlib import Path
+from typing import Any, Optional
 
-CHROMIUM = next(filter(None, map(shutil.which, ("chromium", "chromium-browser", "google-chrome"))), None)
+CHROMIUM = next(filter(None, map(shutil.which, ("chromium", "chromium-browser", "google-chrome"))), "")
 
 
 class Browser(contextlib.ExitStack):
     """The browser, until it is closed. `faults` has what its pages report as errors."""
 
-    def __init__(self):
+    def __init__(self) -> None:
         super().__init__()
         folder = tempfile.mkdtemp()
         self.callback(shutil.rmtree, folder, ignore_errors=True)
@@ -28,9 +32,10 @@ class Browser(contextlib.ExitStack):
         self.callback(process.terminate)
         self.callback(os.close, self._to)
         self.callback(os.close, ours)
-        self._from, self._held, self._number, self.faults = ours, b"", 0, []
+        self._from, self._held, self._number = ours, b"", 0
+        self.faults: list[str] = []
 
-    def call(self, method, session=None, **given):
+    def call(self, method: str, session: Optional[str] = None, **given: Any) -> Any:
         """A call of the DevTools protocol, and its result."""
         self._number += 1
         told = {"id": self._number, "method": method, "params": given, **({"sessionId": session} if session else {})}
@@ -50,7 +55,7 @@ class Browser(contextlib.ExitStack):
                     raise RuntimeError(f"{method}: {reply['error']}")
                 return reply["result"]
 
-    def open(self, url, width=1280, height=900, is_dark=False, folder=None):
+    def open(self, url: str, width: int = 1280, height: int = 900, is_dark: bool = False, folder: Optional[Path] = None) -> Page:
         """Opens a page in a tab of its own."""
         target = self.call("Target.createTarget", url="about:blank")["targetId"]
         page = Page(self, target, self.call("Target.attachToTarget", targetId=target, flatten=True)["sessionId"])
@@ -68,20 +73,20 @@ class Browser(contextlib.ExitStack):
 class Page:
     """A tab."""
 
-    def __init__(self, browser, target, session):
+    def __init__(self, browser: Browser, target: str, session: str):
         self.browser, self.target, self.session = browser, target, session
 
-    def call(self, method, **given):
+    def call(self, method: str, **given: Any) -> Any:
         return self.browser.call(method, self.session, **given)
 
-    def ask(self, text):
+    def ask(self, text: str) -> Any:
         """What an expression of JavaScript gives."""
         told = self.call("Runtime.evaluate", expression=text, returnByValue=True, awaitPromise=True, userGesture=True)
         if "exceptionDetails" in told:
             raise RuntimeError(told["exceptionDetails"]["exception"].get("description"))
         return told["result"].get("value")
 
-    def wait(self, text, seconds=30):
+    def wait(self, text: str, seconds: float = 30) -> Any:
         """Waits until an expression is true."""
         end = time.monotonic() + seconds
         while not (found := self.ask(text)):
@@ -90,24 +95,24 @@ class Page:
             time.sleep(0.02)
         return found
 
-    def key(self, key, modifiers=0, text=None):
+    def key(self, key: str, modifiers: int = 0, text: Optional[str] = None) -> None:
         code = {"Enter": 13, "Tab": 9, "Escape": 27, "ArrowLeft": 37, "ArrowUp": 38, "ArrowRight": 39, "ArrowDown": 40, "Backspace": 8}.get(key, 0)
         given = {"key": key, "code": key, "windowsVirtualKeyCode": code, "modifiers": modifiers}
         self.call("Input.dispatchKeyEvent", type="keyDown", **given, **({"text": "\r" if key == "Enter" else text} if key == "Enter" or text else {}))
         self.call("Input.dispatchKeyEvent", type="keyUp", **given)
 
-    def type(self, text):
+    def type(self, text: str) -> None:
         """Types a text, as from the clipboard."""
         self.call("Input.insertText", text=text)
 
-    def point(self, x, y, pressed=False):
+    def point(self, x: float, y: float, pressed: bool = False) -> None:
         self.call("Input.dispatchMouseEvent", type="mouseMoved", x=x, y=y)
         for kind in ("mousePressed", "mouseReleased") if pressed else ():
             self.call("Input.dispatchMouseEvent", type=kind, x=x, y=y, button="left", clickCount=1)
 
-    def shot(self, path):
+    def shot(self, path: Path) -> None:
         with open(path, "wb") as file:
             file.write(base64.b64decode(self.call("Page.captureScreenshot")["data"]))
 
-    def close(self):
+    def close(self) -> None:
         self.browser.call("Target.closeTarget", targetId=self.target)
