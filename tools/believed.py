@@ -133,7 +133,8 @@ def exported(crate: Path) -> set[str]:
     root = crate / "src/lib.rt"
     if not root.is_file():
         return set()
-    return {it.strip().split(" as ")[-1] for group in re.findall(r"pub use [\w:]+::(?:\{([^}]*)\}|(\w+));", root.read_text()) for it in ",".join(group).split(",") if it.strip()}
+    groups = re.findall(r"pub use [\w:]+::(?:\{([^}]*)\}|(\w+));", root.read_text())
+    return {it.strip().split(" as ")[-1] for group in groups for it in ",".join(group).split(",") if it.strip()}
 
 
 def public_clauses(crate: Path, with_invariants: bool) -> Iterator[tuple[str, str]]:

@@ -108,7 +108,8 @@ def members(type_: str) -> list[tuple[str, str]]:
         elif member := MEMBER.match(type_, at):
             count, letter, name = member.groups()
             code = LETTERS.get(letter, "")
-            found.append((name, f"|S{count}" if letter == "s" else code if code.startswith("|") else f"{'>' if type_[at] == '>' else '<'}{code}"))
+            order = "" if code.startswith("|") else ">" if type_[at] == ">" else "<"
+            found.append((name, f"|S{count}" if letter == "s" else f"{order}{code}"))
             at = member.end()
         else:
             return []
@@ -270,11 +271,15 @@ class Writer:
             return str(self.rng.choice([length, -length - 1, FAR, -FAR, 0]))
         return str(self.rng.randint(-length, length - 1))
 
+    def bound_of(self, length: int) -> str:
+        """The begin or the end of a slice, often left out."""
+        if self.chance(0.8 if self.roomy else 0.4):
+            return ""
+        return str(self.rng.choice([FAR, -FAR]) if self.chance(0.05) else self.rng.randint(-length - 2, length + 2))
+
     def slice(self, length: int) -> str:
-        low, high = ("" if self.chance(0.8 if self.roomy else 0.4) else str(self.rng.choice([FAR, -FAR]) if self.chance(0.05)
-                                                                             else self.rng.randint(-length - 2, length + 2)) for _ in range(2))
         step = self.rng.choice(["", "", ":1", ":2", ":-1", ":-2", ":3", ":-3", ":-5", ":7", f":{FAR}", f":-{FAR}", ":0"])
-        return f"{low}:{high}{step}"
+        return f"{self.bound_of(length)}:{self.bound_of(length)}{step}"
 
     def items(self, name: str) -> str:
         """An index list: at least one item, `...` at most once, seldom one axis too many; in some, names of arrays."""

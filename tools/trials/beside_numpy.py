@@ -34,7 +34,8 @@ def first_files(rng: Random) -> dict[str, bytes]:
 
 
 def script(seed: str, profile: Optional[str], size: Optional[int] = None) -> tuple[Reference, list[str], dict[str, bytes]]:
-    """A random script, carried out by NumPy: that, its lines, and the files that were there first. Of five, one is of computations alone and one of format texts."""
+    """A random script, carried out by NumPy: that, its lines, and the files that were there first. Of five, one is of computations alone
+    and one of format texts."""
     rng = Random(seed)
     chosen = profile or rng.choice(["mixed", "mixed", "mixed", "computing", "formats"])
     files = first_files(rng) if chosen == "mixed" else {}

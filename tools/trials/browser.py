@@ -23,7 +23,8 @@ class Browser(contextlib.ExitStack):
         folder = tempfile.mkdtemp()
         self.callback(shutil.rmtree, folder, ignore_errors=True)
         (ours, to_us), (from_us, self._to) = os.pipe(), os.pipe()
-        words: list[str] = [CHROMIUM or "chromium", "--headless=new", "--no-sandbox", "--disable-gpu", "--disable-dev-shm-usage", "--remote-debugging-pipe", f"--user-data-dir={folder}"]
+        words: list[str] = [CHROMIUM or "chromium", "--headless=new", "--no-sandbox", "--disable-gpu", "--disable-dev-shm-usage",
+                            "--remote-debugging-pipe", f"--user-data-dir={folder}"]
         # The browser reads at 3 and writes at 4.
         shell = ["sh", "-c", f'exec 3<&{from_us} 4>&{to_us}; exec "$@"', "", *words]
         process = subprocess.Popen(shell, pass_fds=[from_us, to_us], stdout=subprocess.DEVNULL, stderr=subprocess.DEVNULL)

@@ -225,7 +225,8 @@ class Trials:
         """A disk of one page: what does not fit is a fault, and the file that was there stays."""
         disk = self.folder / "disk"
         disk.mkdir()
-        text = 'a = arange <i4 0 3 1\nsave a "a.npy"\nb = zeros <i4 (30000)\nsave b "a.npy"\nsave b "b.npy"\nx = load "a.npy"\nprint x\ny = load "b.npy"\nsave a "c.npy"\n'
+        text = ('a = arange <i4 0 3 1\nsave a "a.npy"\nb = zeros <i4 (30000)\nsave b "a.npy"\nsave b "b.npy"\nx = load "a.npy"\nprint x\n'
+                'y = load "b.npy"\nsave a "c.npy"\n')
         replies = ("ok a <i4 (3,) new\nok save 140\nok b <i4 (30000,) new\nno E27 store fault\nno E27 store fault\nok x <i4 (3,) new rest 0\n[0 1 2]\n"
                    "no E34 no such file\nok save 140\n")
         mounted = 'mount -t tmpfs -o size=64k tmpfs disk && "$@"; status=$?; ls -A disk >left; umount disk; exit $status'
@@ -286,7 +287,8 @@ class Trials:
         (self.folder / "whole").write_bytes(FILE)
         status, replies, err = self.while_written("anew", "cat \"$2\" >\"$1\"")
         may = {"ok x <i4 (3,) new rest 0", "no E28 bad magic", "no E31 truncated", FAULT}
-        self.part.expect("a file that is written anew while it is loaded", (status in (0, 1), len(replies), set(replies) <= may, err), (True, LOADS, True, ""))
+        whole = (status in (0, 1), err, len(replies), set(replies) <= may)
+        self.part.expect("a file that is written anew while it is loaded", whole, (True, "", LOADS, True))
         self.part.note("of its loads", f"{replies.count('ok x <i4 (3,) new rest 0')} arrays, {replies.count('no E28 bad magic')} without a byte")
 
 

@@ -52,7 +52,8 @@ def at_each_page(trial: Limited, rng: Random) -> dict[str, list[int]]:
     first = trial.least(BEFORE_START, PAGE, 2**31)
     last = max(first, trial.least((*BEFORE_START, "stopped at the start", "with E40"), first - PAGE, 2**31))
     pages = range(first - BEFORE, last + BEHIND, PAGE)
-    chosen = pages if len(pages) <= MOST_STEPS else sorted({*pages[: MOST_STEPS // 2], *pages[-BEHIND // PAGE * 2 :], *rng.sample(pages, MOST_STEPS // 3)})
+    some = {*pages[:MOST_STEPS // 2], *pages[-BEHIND // PAGE * 2:], *rng.sample(pages, min(len(pages), MOST_STEPS // 3))}
+    chosen = pages if len(pages) <= MOST_STEPS else sorted(some)
     words = collections.defaultdict(list)
     for most in chosen:
         words[trial.under("as", most)].append(most)
@@ -88,7 +89,8 @@ def stacks(program: Path, folder: Path) -> Part:
                 trial = Limited(runner, part, f"{name}, {script}", asked)
                 ended = [most for most in STACKS if trial.under("stack", most) == "ended at the start"]
                 part.note(f"{name}, {script}: ended at the start under a stack of", f"up to {max(ended, default=0):,} bytes")
-                part.expect(f"{name}, {script}: ended at its start", max(ended, default=0) < (ENDS_SHELL if name == "the launcher" else ENDS_PROGRAM), True)
+                most = ENDS_SHELL if name == "the launcher" else ENDS_PROGRAM
+                part.expect(f"{name}, {script}: ended at its start", max(ended, default=0) < most, True)
     return part
 
 

@@ -27,7 +27,8 @@ def memory(talk: Talk) -> int:
     return talk.memory()
 
 
-def long_run(part: Part, program: Path, what: str, blocks: Iterable[tuple[bytes, Optional[int]]], status: int, warm: int = 1, words: Sequence[Word] = ()) -> None:
+def long_run(part: Part, program: Path, what: str, blocks: Iterable[tuple[bytes, Optional[int]]], status: int,
+             warm: int = 1, words: Sequence[Word] = ()) -> None:
     """A long run over blocks, each a text and the bytes of its replies, or none. Behind some of them it should take no more memory."""
     talk, began, first = Talk(program, words), time.monotonic(), 0
     replies: Optional[int] = 0
