@@ -287,8 +287,8 @@ class Trials:
         (self.folder / "whole").write_bytes(FILE)
         status, replies, err = self.while_written("anew", "cat \"$2\" >\"$1\"")
         may = {"ok x <i4 (3,) new rest 0", "no E28 bad magic", "no E31 truncated", FAULT}
-        whole = (status in (0, 1), err, len(replies), set(replies) <= may)
-        self.part.expect("a file that is written anew while it is loaded", whole, (True, "", LOADS, True))
+        anew = (status in (0, 1), err, len(replies), set(replies) <= may)
+        self.part.expect("a file that is written anew while it is loaded", anew, (True, "", LOADS, True))
         self.part.note("of its loads", f"{replies.count('ok x <i4 (3,) new rest 0')} arrays, {replies.count('no E28 bad magic')} without a byte")
 
 
