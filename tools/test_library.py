@@ -68,7 +68,8 @@ class Programs(InFolder):
 
     @needs_c
     def test_calls(self):
-        subprocess.run([self.compiled("tools/trials/library_calls.c", *SANITIZED, skips="there is no AddressSanitizer")], check=True)
+        made = self.compiled("tools/trials/library_calls.c", *SANITIZED, skips="there is no AddressSanitizer")
+        subprocess.run([made], stdout=subprocess.DEVNULL, check=True)
 
     @needs_c
     def test_want_of_memory(self):
@@ -83,7 +84,7 @@ class Programs(InFolder):
     @unittest.skipUnless(shutil.which("valgrind"), "there is no Valgrind")
     def test_calls_under_valgrind(self):
         made = self.compiled("tools/trials/library_calls.c", *WRAPPED)
-        subprocess.run(["valgrind", "-q", "--error-exitcode=9", "--leak-check=full", "--show-leak-kinds=all", made], check=True)
+        subprocess.run(["valgrind", "-q", "--error-exitcode=9", "--leak-check=full", "--show-leak-kinds=all", made], stdout=subprocess.DEVNULL, check=True)
 
     @needs_c
     def test_two_threads(self):
