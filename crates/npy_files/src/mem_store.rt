@@ -115,8 +115,7 @@ impl NpyStore for MemStore {
         if bytes.len() > self.limit {
             return Err(StoreFault::TooLong);
         }
-        let bytes = Vec::from_slice(alloc, bytes)?;
-        Ok(Some(FileParts::uncut(alloc, bytes)?))
+        Ok(Some(FileParts::copied(alloc, bytes)?))
     }
 
     fn write_parts(

@@ -1,6 +1,7 @@
 //! Files in two parts.
 ghost use Rattle.std.specs.Prelude.{◌≡◌, ◌++◌, IfOk};
 
+use crate::reader::front_len;
 use raw_block::RawBlock;
 use std::alloc::{AllocError, Global};
 
@@ -13,14 +14,14 @@ pub struct FileParts {
 }
 
 impl FileParts {
-    /// The file with these bytes, all of them in front.
-    pub fn uncut(alloc: Global, bytes: Vec<u8>) -> Result<FileParts, AllocError>
-        ensures { IfOk result (λ parts. parts.front.items ++ parts.block ≡ bytes.items) }
+    /// A copy of a file, cut behind its header if it is an NPY file. Each byte is copied once.
+    pub fn copied(alloc: Global, bytes: &[u8]) -> Result<FileParts, AllocError>
+        ensures { IfOk result (λ parts. parts.front.items ++ parts.block ≡ bytes.now) }
     {
-        let block = RawBlock::try_zeroed(alloc, 0)?;
+        let (front, items) = bytes.split_at(front_len(bytes));
         Ok(FileParts {
-            front: bytes,
-            block,
+            front: Vec::from_slice(alloc, front)?,
+            block: RawBlock::try_copied(alloc, items)?,
         })
     }
 

@@ -19,7 +19,7 @@ returns-then-bytes-self-clause-found c = λ _. (
 
 pub returns-clause-found : goal.returns-clause-found
 returns-clause-found c = λ _.
-    let same = c.in_ok-uncut.ensures ∙ c.in_ok-bytes.ensures.items ∙ c.as_slice-bytes.ensures.value in (
+    let same = c.in_ok-copied.ensures ∙ c.as_slice-bytes.ensures.value in (
       present c.args.name.now c.args.self.now.files.items c.in-Some.place c.index.result.now (at c.args.name.now c.as_slice.ensures.value ∙ sym c.place_of.ensures.place ∙ c.in-Some.is) ∙ ap (λ f. Some f.bytes.items) (sym c.index.ensures) ∙ ap Some (sym same),
       rw same (omega (arith, c.if-bytes-self.false)),
     )
