@@ -220,13 +220,6 @@ class Shells(InFolder):
             shell.until(AT_PROMPT)
             self.assertEqual(shell.line(b"names"), names)
 
-    def test_a_drawing_is_stopped(self):
-        shell = self.slow()
-        self.begun(shell, b".draw page.html")
-        self.assertIn("the drawing is stopped", shell.until(AT_PROMPT))
-        self.assertEqual(shell.line(b"names"), "names d slow\n")
-        self.assertFalse((self.folder / "page.html").exists())
-
     def test_ctrl_c_many_times(self):
         """However soon after one another they come, wherever they fall, the shell is there and has its names."""
         shell, rng = self.shell(), random.Random(1)

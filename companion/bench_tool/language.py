@@ -93,12 +93,12 @@ def verbs(behind: bool) -> list[str]:
 
 def plain(markdown: str) -> str:
     """A section of the page without Markdown's marks: no fences, no pictures, tables as columns."""
-    lines = [line for line in markdown.splitlines() if not re.match(r"```|!\[|\|[-|]+$", line)]
+    text = re.sub(r"^(```|!\[|\|[-|]+$).*\n", "", markdown, flags=re.M).replace("`", "").replace("**", "")
     made = []
-    for line in lines:
-        cells = [cell.strip() for cell in re.split(r"(?<!\\)\|", line)[1:-1]] if line.startswith("|") else []
-        made.append(f"{cells[0]:44} {' '.join(cells[1:])}" if cells else line)
-    return re.sub(r"\n{3,}", "\n\n", re.sub(r"\[([^]]*)\]\([^)]*\)", r"\1", "\n".join(made).replace("\\|", "|").replace("`", "").replace("**", "")))
+    for line in re.sub(r"\[([^]]*)\]\([^)]*\)", r"\1", text).splitlines():
+        cells = [cell.strip().replace("\\|", "|") for cell in re.split(r"(?<!\\)\|", line)[1:-1]] if line.startswith("|") else []
+        made.append(f"{cells[0]:44} {'  '.join(cells[1:])}" if cells else line)
+    return re.sub(r"\n{3,}", "\n\n", "\n".join(made))
 
 
 def help_text(word: str = "", columns: int = 0) -> str:

@@ -4,7 +4,7 @@ import collections
 import os
 import sys
 import time
-from typing import BinaryIO, Iterator
+from typing import BinaryIO
 
 from .hints import Hints
 from .session import Reply, Session
@@ -29,7 +29,7 @@ def refusal(hints: Hints, place: str, line: bytes, reply: Reply, is_noted: bool)
 def lines(script: BinaryIO, session: Session, words: argparse.Namespace, hints: Hints) -> int:
     """Runs all lines, or with --stop those until one is refused; answers the status."""
     begun, codes, name = time.perf_counter(), collections.Counter[str](), printable(words.script)
-    for number, line in enumerate(read(script), 1):
+    for number, line in enumerate(lines_of(script), 1):
         sent = time.perf_counter()
         reply = session.send(line, sys.stdout.buffer.write)
         sys.stdout.buffer.flush()
@@ -49,18 +49,6 @@ def lines(script: BinaryIO, session: Session, words: argparse.Namespace, hints: 
     return 1 if codes else 0
 
 
-class ReadFault(Exception):
-    """The script cannot be read further."""
-
-
-def read(script: BinaryIO) -> Iterator[bytes]:
-    """The lines of a script."""
-    try:
-        yield from lines_of(script)
-    except OSError as fault:
-        raise ReadFault from fault
-
-
 def run(words: argparse.Namespace) -> int:
     name = printable(words.script)
     if not os.path.isdir(words.dir):
@@ -73,10 +61,6 @@ def run(words: argparse.Namespace) -> int:
     except OSError as fault:
         say(f"bench-tool: {name} cannot be read: {'it is a folder' if isinstance(fault, IsADirectoryError) else fault.strerror}")
         return 3
-    status = 3
     with script, Session(undo=words.undo, dir=words.dir) as session, Hints(session) as hints:
-        try:
-            status = lines(script, session, words, hints)
-        except ReadFault as fault:
-            say(f"bench: read fault: {name}: {fault.__cause__}")
+        status = lines(script, session, words, hints)
     return status

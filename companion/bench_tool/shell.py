@@ -4,7 +4,6 @@ import os
 import re
 import shutil
 import signal
-import subprocess
 import sys
 import tempfile
 import threading
@@ -16,7 +15,7 @@ from itertools import combinations
 from pathlib import Path
 from typing import Callable, Iterator, Optional
 
-from . import __version__, language
+from . import __version__, language, page
 from .grammar import ARGUMENT, ARRAY, COMMAND, OPERATION, ORDER, TYPE, VERB, Reading
 from .hints import Hints
 from .session import BenchError, ProgramEnded, Session
@@ -273,19 +272,11 @@ class Shell:
         self.is_timed = not self.is_timed
 
     def dot_draw(self, file: str) -> None:
-        """Draws in a process of its own, which Ctrl-C can stop."""
         path = Path(file).expanduser().absolute() if file else Path(tempfile.mkdtemp(prefix="bench-"), "session.html")
-        words = [sys.executable, sys.argv[0], "draw", "-", "-o", str(path), f"--undo={self.words.undo}", f"--dir={self.words.dir}"]
-        drawing = subprocess.Popen(words, stdin=subprocess.PIPE)
-        with self.interrupts.during(drawing.terminate):
-            drawing.communicate(self.script())
-        if self.interrupts.is_stopped:
-            self.interrupts.is_stopped = False  # the program was not
-            print("\n    (the drawing is stopped)")
-        elif drawing.returncode == 0:
-            print(f"    {printable(str(path))}")
-            if os.environ.get("DISPLAY") or os.environ.get("WAYLAND_DISPLAY"):
-                webbrowser.open(path.as_uri())
+        page.write(str(path), page.drawn("session", self.script().splitlines(), self.words))
+        print(f"    {printable(str(path))}")
+        if os.environ.get("DISPLAY") or os.environ.get("WAYLAND_DISPLAY"):
+            webbrowser.open(path.as_uri())
 
     def complete(self, text: str, state: int) -> Optional[str]:
         """The words that may stand where the cursor is, one for each state, as readline asks for them."""

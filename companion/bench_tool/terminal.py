@@ -6,6 +6,8 @@ from collections import deque
 from contextlib import suppress
 from typing import BinaryIO, Iterator
 
+from .session import BenchError
+
 LONGEST = 65_536  # bytes of a line that the program takes
 RED, BLUE = "31", "34"
 
@@ -39,9 +41,15 @@ def open_streams() -> None:
 
 def lines_of(script: BinaryIO) -> Iterator[bytes]:
     """The lines of a script without their newlines. Of one that is too long only so much is kept that it still is too long."""
-    while line := script.readline(LONGEST + 3):
+    def read(most: int) -> bytes:
+        try:
+            return script.readline(most)
+        except OSError as fault:
+            raise BenchError(f"read fault: {fault.strerror}") from None
+
+    while line := read(LONGEST + 3):
         rest = line
-        while not rest.endswith(b"\n") and (rest := script.readline(1 << 20)):
+        while not rest.endswith(b"\n") and (rest := read(1 << 20)):
             pass
         yield line.removesuffix(b"\n")
 
