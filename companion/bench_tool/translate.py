@@ -32,6 +32,7 @@ WORDS = dict(pair.split(":") for pair in """
 SEVERAL = {
     "where": "copy $b C; $t = not $a; set $x[$t] = $c",
     "clip": "copy $a C; $t = lt $x $b; set $x[$t] = $b; $t = gt $x $c; set $x[$t] = $c",
+    "concatenate": "zeros $type ($count); set $x[:$first] = $a; set $x[$first:] = $b",
 }
 NO_FLOATS = "there are no floats, only integers, bools, byte strings and records"
 KINDS = {"int": "<i8", "bool": "|b1", "bool_": "|b1", "byte": "|i1", "ubyte": "|u1", "uint": "<u8", "intp": "<i8"}
@@ -238,7 +239,7 @@ class Translation:
         named = {keyword.arg or "": keyword.value for keyword in node.keywords}
         try:
             return self.command(raw, given, named)
-        except (IndexError, TypeError, ValueError):  # too few arguments, or others than a piece can read
+        except (LookupError, TypeError, ValueError):  # too few arguments, or others than a piece can read
             return self.refuse()
 
     def called(self, node: ast.Call) -> tuple[str, list[ast.expr]]:
@@ -258,7 +259,7 @@ class Translation:
         word = WORDS.get(raw, raw)
         if word == "view" and len(given) > 1:
             self.refuse("there is no view under another type; `cast` makes an array with the same values")
-        if word in SEVERAL or word == "concatenate":
+        if word in SEVERAL:
             return self.several(word, given)
         if word == "ravel":
             return f"reshape {self.name(given[0])} (-1)"
@@ -266,71 +267,64 @@ class Translation:
             return self.two(word, *given)
         if word == "ones":
             word, given = "full", [*given, ast.Constant(1)]
+        if word not in language.verbs(True):
+            self.refuse(f"there is no `{raw}`" if given and raw not in grammar.reserved() else "")
         if word == "array" and isinstance(given[0], (ast.List, ast.Tuple)) and len(given) + len(named) <= 2 and not is_type(given[0]):
             kind = named.get("dtype") or (given[1] if len(given) > 1 else None)
             return self._list(given[0], self.type(kind) if kind else "")
-        if word not in language.verbs(True):
-            self.refuse(f"there is no `{raw}`" if given and raw not in grammar.reserved() else "")
-        if word == "array" and not any(isinstance(node, (ast.Tuple, ast.List)) for node in given):
-            given.insert(0, ast.List([ast.Constant(sum(not is_type(node) for node in given))], ast.Load()))
+        types, others = [node for node in given if is_type(node)], [node for node in given if not is_type(node)]
+        if word == "array" and not any(isinstance(node, (ast.Tuple, ast.List)) for node in others):
+            others.insert(0, ast.List([ast.Constant(len(others))], ast.Load()))
+        if word == "arange":
+            others = [*[ast.Constant(0)][:len(others) < 2], *others, *[ast.Constant(1)][:len(others) < 3]]
+        return self.form(word, types + others, named)
+
+    def form(self, word: str, given: list[ast.expr], named: dict[str, ast.expr]) -> str:
+        """A word with the pieces of its form."""
         made = " ".join(filter(None, [word, *(self.piece(piece, given, named) for piece in pieces(word))]))
         return made if not given and not named else self.refuse()
 
     def piece(self, piece: str, given: list[ast.expr], named: dict[str, ast.expr]) -> str:
         """The text of a piece of a form, with the arguments that it takes away."""
-        def numbers() -> list[ast.expr]:
-            found = [node for node in given if self.is_constant(node) and not isinstance(node, ast.Tuple)]
-            given[:] = [node for node in given if node not in found]
-            return found
-
         if piece == "D":
             of = named.pop("dtype", None) or next((node for node in given if is_type(node)), None)
             given[:] = [node for node in given if node is not of]
             return self.type(of)
         if piece in ("S", "S-", "(axes)"):
             of = named.pop("shape", None) or next((node for node in given if isinstance(node, (ast.Tuple, ast.List))), None)
-            given[:] = [node for node in given if node is not of]
-            return self.shape([of] if of else numbers() if piece != "S" else [given.pop(0)], piece == "(axes)")
+            taken = [of] if of else given[:1 if piece == "S" else None]
+            given[:] = [node for node in given if node not in taken]
+            found = [self.constant(node) for node in taken]
+            lengths = found[0] if len(found) == 1 and isinstance(found[0], (tuple, list)) else found
+            return f"({','.join(map(str, lengths))})" if taken or piece != "(axes)" else ""
         if piece == "L..":
             values = [value for node in given for value in flat(node)]
             given.clear()
             return " ".join(map(self.literal, values))
-        if piece in "abs":
-            found = list(map(self.literal, numbers())) if piece == "a" else []
-            return " ".join([*["0"][len(found) - 1:], *found, *["1"][len(found) - 2 if len(found) > 1 else 0:]]) if found else ""
-        if piece in ("[axis]", "[keep]"):
-            of = named.pop("axis" if piece == "[axis]" else "keepdims", None) or (given.pop(0) if piece == "[axis]" and given else None)
-            return "" if of is None else "keep" if piece == "[keep]" else self.literal(of)
-        if piece in "CF":
-            of = named.pop("order", None) or (given.pop(0) if given else None)
-            return "F" if getattr(of, "id", getattr(of, "value", "")) == "F" else "C"
-        of = given.pop(0)
+        if piece in ("[axis]", "[keep]", "C", "F"):
+            word = {"[axis]": "axis", "[keep]": "keepdims"}.get(piece, "order")
+            of = named.pop(word, None) or (given.pop(0) if given and piece != "[keep]" else None)
+            if word == "order":
+                return "F" if getattr(of, "id", getattr(of, "value", "")) == "F" else "C"
+            return "" if of is None else "keep" if word == "keepdims" else self.literal(of)
+        of = next((node for node in given if not is_type(node)), given[0])
+        given.remove(of)
         if piece in ('"f"', '"field"'):
             return f'"{of.id if isinstance(of, ast.Name) else self.constant(of)}"'
-        return self.literal(of) if piece == "L" else self.operand(of) if piece == "Y[?]" else self.name(of)
-
-    def shape(self, nodes: Sequence[ast.expr], may_lack: bool) -> str:
-        found = [self.constant(node) for node in nodes]
-        lengths = found[0] if len(found) == 1 and isinstance(found[0], (tuple, list)) else found
-        return f"({','.join(map(str, lengths))})" if lengths or nodes or not may_lack else ""
+        return self.literal(of) if piece in ("L", "a", "b", "s") else self.operand(of) if piece == "Y[?]" else self.name(of)
 
     def several(self, word: str, given: list[ast.expr]) -> str:
         """What takes several lines: at once under the name that it is for, if this is not read."""
-        if word == "concatenate":
-            parts = [self.name(part) for node in given for part in getattr(node, "elts", [node])]
-            arrays = [self.arrays.get(part) or self.refuse() for part in parts]
-            if any(len(array.shape) != 1 for array in arrays):
-                self.refuse("there is no `concatenate`: make an array with `zeros`, and set its parts")
-            ends = [sum(array.shape[0] for array in arrays[:k]) for k in range(len(arrays) + 1)]
-            sets = [f"set $x[{begin or ''}:{end if end < ends[-1] else ''}] = {part}" for part, begin, end in zip(parts, ends, ends[1:])]
-            texts = [f"zeros {arrays[0].type} ({ends[-1]})", *sets]
-            values = {}
-        else:
-            texts, values = SEVERAL[word].split("; "), dict(zip("abc", map(self.operand, given)))
+        values = dict(zip("abc", map(self.operand, [part for node in given for part in flat(node)])))
         values.update(x=self.goal or self.free(), t=self.free())
         if word == "where" and not self.is_constant(given[2]):
             values["c"] += f"[{values['t']}]"
-        made = [Template(text).substitute(values) for text in texts]
+        if word == "concatenate":
+            first, second = (self.arrays.get(values[each]) or self.refuse() for each in "ab")
+            if "c" in values or not len(first.shape) == len(second.shape) == 1:
+                self.refuse("there is no `concatenate`: make an array with `zeros`, and set its parts")
+            values.update(type=first.type, first=str(first.shape[0]), count=str(first.shape[0] + second.shape[0]))
+        made = [Template(text).substitute(values) for text in SEVERAL[word].split("; ")]
         self.lines += [f"{values['x']} = {made[0]}", *made[1:]]
         return values["x"]
 
@@ -365,11 +359,8 @@ class Translation:
             self.lines += [f"del {self.name(each)}" for each in node.targets]
         elif isinstance(node, ast.Expr):
             self.expression(node.value, is_set)
-        elif isinstance(node, (ast.Import, ast.ImportFrom)):
-            self.refuse("nothing is imported: zeros, add and all others are there")
         else:
-            kinds = {"For": "loop", "While": "loop", "If": "condition", "FunctionDef": "function", "Assert": "`assert`"}
-            self.refuse(f"there is no {kinds.get(type(node).__name__, type(node).__name__.lower())}: each line is one command")
+            self.refuse(f"there is no {re.sub('from|def', '', type(node).__name__.lower())}: each line is one command")
 
     def expression(self, node: ast.expr, is_set: bool) -> None:
         """What is asked of an array, or shown."""
@@ -379,18 +370,13 @@ class Translation:
             self.assign(node.left, node.comparators[0], True)
         elif isinstance(node, ast.Attribute) and node.attr in ("shape", "dtype", "strides", "ndim", "size", "flags", "nbytes", "base"):
             self.lines.append(f"info {self.name(node.value)}")
-        elif word in ("print", "info", "format") and given:
-            self.lines += [f"{word} {self.name(each)}" for each in given]
-        elif word == "shares":
-            self.lines.append(" ".join([word, *map(self.name, given)]))
-        elif word in ("names", "undo") and not given:
-            self.lines.append(word)
         elif word == "upd" and len(given) == 3:
             text = self.operand(given[2])
             self.lines.append(f"upd {self.target(given[0])} {self.constant(given[1])} {text}")
-        elif word == "save" and len(given) == 2:
-            file, array = given if isinstance(given[0], ast.Constant) else given[::-1]
-            self.lines.append(f'save {self.name(array)} "{self.constant(file)}"')
+        elif word in ("print", "info", "format") and given:
+            self.lines += [f"{word} {self.name(each)}" for each in given]
+        elif word in ("shares", "save", "names", "undo"):  # numpy.save has the file first
+            self.lines.append(self.form(word, sorted(given, key=lambda node: isinstance(node, ast.Constant)), {}))
         else:
             self.lines.append(f"print {self.name(node)}")
 
@@ -425,7 +411,7 @@ def call_of(text: str) -> str:
     """`zeros <i4 (2,3)` as `zeros('<i4', (2,3))`; other texts as they are."""
     verb, _, behind = text.partition(" ")
     word, args = WORDS.get(verb, verb), split(behind)
-    is_known = word in {*language.verbs(True), "ones", "concatenate", *SEVERAL} or re.fullmatch(rf"{NAME} {NAME}", text)
+    is_known = word in {*language.verbs(True), "ones", *SEVERAL} or re.fullmatch(rf"{NAME} {NAME}", text)
     if not is_known or not args or re.match(r"[=(]", behind.lstrip()) and "zeros" != word:
         return text
     args = [re.sub(r"^\((-?\d+)\)$", r"(\1,)", arg) for arg in args]
@@ -446,6 +432,6 @@ def translated(line: str, arrays: Mapping[str, Array], fields: Callable[[str], S
                 made.statement(statement, is_set)
     except Unknown as known:
         return [f"# {known}"] if str(known) else []
-    except (SyntaxError, ValueError, RecursionError, MemoryError, StopIteration, IndexError):
+    except (SyntaxError, ValueError, RecursionError, MemoryError, LookupError):
         return []
     return [] if made.lines == [line.strip()] else made.lines
