@@ -2,7 +2,6 @@
 import argparse
 import os
 import re
-import shutil
 import signal
 import sys
 import tempfile
@@ -19,7 +18,7 @@ from . import __version__, language, page
 from .grammar import ARGUMENT, ARRAY, COMMAND, OPERATION, ORDER, TYPE, VERB, Reading
 from .hints import Hints
 from .session import BenchError, ProgramEnded, Session
-from .terminal import BLUE, RED, Window, lines_of, painted, printable, say
+from .terminal import BLUE, RED, Window, lines_of, painted, printable, room, say
 
 try:
     import readline
@@ -177,8 +176,7 @@ class Shell:
         bare = line.strip()
         first, _, rest = bare.partition(" ")
         if first == ".help" or first == "help" and not rest.lstrip().startswith(("=", "[")):
-            columns = shutil.get_terminal_size().columns if self.is_terminal else 0
-            print(language.help_text(rest.strip(), columns) + f"\n{DOTS}" * (not rest))
+            print(language.help_text(rest.strip(), room()[1] * self.is_terminal) + f"\n{DOTS}" * (not rest))
         elif first.startswith("."):
             dot = getattr(self, f"dot_{first[1:]}", None)
             print(f"    there is no {printable(first)}; help lists all") if dot is None else dot(rest.strip())
@@ -188,9 +186,8 @@ class Shell:
 
     def send(self, line: str, place: str = "", is_whole: bool = False) -> None:
         """Sends a line; writes its reply as it comes, a printed array cut to the window, and what is said of a refused line."""
-        size = shutil.get_terminal_size()
         is_cut = self.is_terminal and not is_whole and line.split()[:1] == ["print"]
-        window = Window(size.lines - 4, size.columns - 1)
+        window = Window(room()[0] - 4, room()[1] - 1)
 
         def write(part: bytes) -> None:
             if is_cut:

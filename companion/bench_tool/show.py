@@ -2,7 +2,6 @@
 import argparse
 import ast
 import os
-import shutil
 import sys
 import tempfile
 from math import prod
@@ -10,7 +9,7 @@ from pathlib import Path
 from typing import Any, BinaryIO
 
 from .session import Session
-from .terminal import Window, printable, say
+from .terminal import Window, printable, room, say
 
 MAGIC = b"\x93NUMPY"
 MOST = 1 << 20  # bytes of a header that is looked at
@@ -90,8 +89,8 @@ def show(words: argparse.Namespace) -> int:
         if words.all:
             session.send("print x", sys.stdout.buffer.write)
             return 0
-        size = shutil.get_terminal_size()
-        window = Window(size.lines - 5, size.columns)
+        lines, columns = room()
+        window = Window(lines - 5, columns)
         session.send("print x", window.take)
         print("\n".join([*window.lines(), *["(cut to the screen; --all shows all)"] * window.is_cut]))
     return 0

@@ -1,6 +1,7 @@
 """Texts for people: printable, on streams that may be closed, full or of any encoding, and cut to the window."""
 import io
 import os
+import shutil
 import sys
 from collections import deque
 from contextlib import suppress
@@ -58,6 +59,12 @@ def painted(text: str, colour: str) -> str:
     """A text in a colour, where the terminal has colours and its user wants them."""
     plain = not colour or not sys.stdout.isatty() or os.environ.get("TERM", "dumb") == "dumb" or os.environ.get("NO_COLOR")
     return text if plain else f"\x1b[{colour}m{text}\x1b[0m"
+
+
+def room() -> tuple[int, int]:
+    """The lines and columns of the window; of one that tells none, the usual ones."""
+    size = shutil.get_terminal_size()
+    return size.lines or 24, size.columns or 80
 
 
 class Window:

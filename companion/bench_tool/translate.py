@@ -104,7 +104,8 @@ class Translation:
         raise Unknown(said)
 
     def free(self) -> str:
-        name = next(name for name in ("t", "u", "v", "w", *(f"t{k}" for k in range(99))) if name not in self._taken)
+        names = ("t", "u", "v", "w", *(f"t{k}" for k in range(99)))
+        name = next(filter(lambda name: name not in self._taken, names), "") or self.refuse()
         self._taken.add(name)
         return name
 
