@@ -63,10 +63,10 @@ export class Bench {
     this.call("open", BigInt(undo));
   }
 
-  /** The reply to a line: whether it is accepted, its text, and of a refusal the code and its meaning. */
+  /** The reply to a line, a text or its bytes without the newline: whether it is accepted, its text, and of a refusal the code and its meaning. */
   answer(line) {
     if (!this.handle) throw new Error("the bench is closed");
-    const status = this.lend(bytesOf(line), (at, length) => this.call("answer", at, length));
+    const bytes = bytesOf(line), status = this.lend(bytes.at(-1) === 13 ? bytes.subarray(0, -1) : bytes, (at, length) => this.call("answer", at, length));
     const text = status === NOTHING ? "" : ASCII.decode(this.told("reply"));
     const [, code = "", meaning = ""] = status === REFUSED ? REFUSAL.exec(text) : [];
     return { accepted: status !== REFUSED, code, meaning, text };

@@ -30,10 +30,10 @@ from bench_tool import grammar, language  # noqa: E402
 
 DIST, OUT = TOP / "dist", TOP / "out/page"
 CALLS = ("open", "answer", "reply", "put", "get", "file", "close")
-LINKED = ["--no-entry", "--gc-sections", "--strip-all", "--stack-first", "-z", "stack-size=1048576", "--export=malloc", "--export=free", *(f"--export=bench_c_{call}" for call in CALLS)]
+LINKED = ["--no-entry", "--gc-sections", "--strip-all", "--stack-first", "-z", "stack-size=1048576", "--export=malloc", "--export=realloc", "--export=free", *(f"--export=bench_c_{call}" for call in CALLS)]
 MODULES = ("bench", "trace", "picture", "svg", "language", "app")
 IMPORT = re.compile(r"(?m)^import .*\n|^export ")
-COMMENT = re.compile(r"(?ms)^ */\*\*.*?\*/\n|(?m:^ *// (?!---- the page)[^\n]*\n)")
+COMMENT = re.compile(r"(?ms)^ */\*\*.*?\*/\n|(?m:^ *// (?!---- the page)[^\n]*\n)|(?m:^ +)")  # comments in lines of their own, and indentation
 PROGRAM = re.compile(r'(?<=<script type="application/octet-stream" id="program">)[^<]*')
 
 
