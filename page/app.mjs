@@ -89,17 +89,17 @@ function moveTo(line) {
 }
 
 function colours(line, moment) {
-  const hint = moment?.reply.code === "E03" ? language.hint(moment) : null, html = [];
+  const hint = moment && !moment.reply.accepted ? language.hint(moment) : null, html = [];
   let place = 0;
   for (const [text, look] of language.parts(line)) {
     const bound = look === "bound" && moment && (moment.after.names.get(text) ?? moment.before.names.get(text)), hue = bound ? ` h${run.hues.get(`${text} ${bound.buffer}`)}` : "";
-    const isStop = hint?.text && place <= hint.at && hint.at < place + text.length;
+    const isStop = hint?.at !== undefined && place <= hint.at && hint.at < place + text.length;
     html.push(look || isStop ? `<span class="${look}${hue}${isStop ? " stop" : ""}">${escape(text)}</span>` : escape(text));
     place += text.length;
   }
   if (!moment?.reply.text) return html.join("");
   const { reply } = moment, told = reply.accepted ? reply.text : [`${reply.code} ${reply.meaning}`, hint?.text].filter(Boolean).join(": ");
-  return `${html.join("")}<span class="r">${escape(cut(told.replace(/\s*\n\s*/g, " "), 90))}</span>`;
+  return `${html.join("")}<span class="r">${escape(cut(told.replace(/\s*\n\s*/g, " "), 160))}</span>`;
 }
 
 /** Writes the lines in colours, each with its reply. Only those that differ are written. */

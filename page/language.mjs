@@ -58,7 +58,7 @@ export function inNumPy(line) {
 /** The words of the language, by its tables: the forms of its commands, what OP, UN and RED stand for, and its codes. */
 export class Language {
   constructor({ forms, operations, codes, examples }) {
-    Object.assign(this, { forms, operations, codes, examples });
+    Object.assign(this, { forms, operations, codes, examples, patterns: new Map(), hints: new WeakMap() });
     this.verbs = new Set(forms.flat().flatMap(piece => operations[piece] ?? (/^[a-z]{2,}$/.test(piece) ? [piece] : [])));
   }
 
@@ -75,7 +75,7 @@ export class Language {
     for (const form of this.forms) {
       let at = 0, isWhole = true;
       for (const [k, piece] of form.entries()) {
-        const begin = skip(at), [pattern, what] = this.piece(piece, k, form), found = new RegExp(`(?:${pattern})`, "y");
+        const begin = skip(at), [pattern, what] = this.piece(piece, k, form), found = this.pattern(pattern);
         found.lastIndex = begin;
         const text = found.exec(line)?.[0], word = /^\w+/.exec(text ?? "")?.[0], isKnown = !names || !/^[YZ]|^X\[/.test(piece) || names.has(word) || /^(b'|True\b|False\b|[^A-Za-z_])/.test(text ?? "");
         const isName = /^[XYZ]/.test(piece) && /^[A-Za-z_]/.test(text ?? "") && !/^(b'|True\b|False\b)/.test(text);
@@ -94,6 +94,11 @@ export class Language {
     return { far, wanted };
   }
 
+  pattern(text) {
+    if (!this.patterns.has(text)) this.patterns.set(text, new RegExp(`(?:${text})`, "y"));
+    return this.patterns.get(text);
+  }
+
   piece(piece, k, form) {
     const words = this.operations[piece] ?? (PIECES[piece] ? null : [piece]);
     if (words) return [words.map(word => `${word}\\b`).join("|"), k === 0 ? "a command" : /^[CF]$/.test(piece) ? "`C` or `F`" : form[k - 1] === "=" ? "a word such as zeros, add or sum" : "an operation, as add"];
@@ -109,7 +114,12 @@ export class Language {
   }
 
   /** What is said of a refused line: where it stops being a command and what may stand there, or when its code comes and what its arrays are. */
-  hint({ line, reply, before, words }) {
+  hint(moment) {
+    if (!this.hints.has(moment)) this.hints.set(moment, this.hinted(moment));
+    return this.hints.get(moment);
+  }
+
+  hinted({ line, reply, before, words }) {
     if (reply.code === "E03") {
       const { far, wanted } = this.reading(line, new Set(before.names.keys()));
       return wanted.size ? { at: far, text: `expected ${[...wanted.keys()].slice(0, 4).join(" or ")}` } : { at: 0, text: "" };

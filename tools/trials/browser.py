@@ -83,7 +83,7 @@ class Page:
 
     def ask(self, text: str) -> Any:
         """What an expression of JavaScript gives."""
-        told = self.call("Runtime.evaluate", expression=text, returnByValue=True, awaitPromise=True, userGesture=True)
+        told = self.call("Runtime.evaluate", expression=text, returnByValue=True, awaitPromise=True, userGesture=True, allowUnsafeEvalBlockedByCSP=False)
         if "exceptionDetails" in told:
             raise RuntimeError(told["exceptionDetails"]["exception"].get("description"))
         return told["result"].get("value")
