@@ -252,7 +252,7 @@ class Pictures(unittest.TestCase):
         begun = time.monotonic()
         told = looks([(lines, 16) for lines in (views, records, [f"a = zeros {long} (2)", "names"], ["a = zeros |u1 (2000,2000)", *["print a"] * 3])])
         self.assertLess(time.monotonic() - begun, 20)
-        self.assertIn("34 more names see it: ", told[0][-1]["tables"][0]["caption"])
+        self.assertIn("35 more names see it: ", told[0][-1]["tables"][0]["caption"])
         self.assertIn("the last 1792 values of each item are not drawn", told[1][0]["tables"][0]["caption"])
 
     def test_many_names(self):

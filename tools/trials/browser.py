@@ -50,7 +50,7 @@ class Browser(contextlib.ExitStack):
                 self._held += part
             one, _, self._held = self._held.partition(b"\0")
             reply = json.loads(one)
-            if reply.get("method") in ("Runtime.exceptionThrown", "Log.entryAdded"):
+            if reply.get("method") == "Runtime.exceptionThrown" or reply.get("method") == "Log.entryAdded" and reply["params"]["entry"]["level"] == "error":
                 self.faults.append(json.dumps(reply["params"])[:2000])
             if reply.get("id") == self._number:
                 if "error" in reply:
