@@ -88,7 +88,7 @@ class Drawn {
     const asked = !state && this.moment.words.has(name) ? "asked" : state.split(" ")[0];
     const note = `${name}${state && ` ${state}`}: ${cut(array.type, SHORT)} ${shapeText(array.shape)}, strides ${shapeText(array.strides)}, at ${array.at}`
       + (array.writable ? "" : ", read-only") + (times > 1 ? `, ${times} indexes to each item` : "");
-    return this.gapped({ label: name, look: `name ${this.hue(name)} ${asked}`.trim(), boxes: boxes.sort((left, right) => left.at - right.at), note });
+    return { label: name, look: `name ${this.hue(name)} ${asked}`.trim(), boxes: boxes.sort((left, right) => left.at - right.at), note };
   }
 
   hue(name) { return `h${this.hues.get(`${name} ${this.number}`)}`; }
