@@ -74,9 +74,23 @@ def program():
 
 
 def tables():
-    """What the page takes from LANGUAGE, and the examples, as JSON."""
+    """What the page takes from LANGUAGE and from the shell's grammar, and the examples, as JSON. Each rule stands there once, by its number."""
+    numbers = {}
+
+    def number(rule):
+        if isinstance(rule, grammar.Token):
+            made = ("token", *rule)
+        elif isinstance(rule, grammar.Many):
+            made = ("many", number(rule.rule))
+        else:
+            made = ("type",) if rule is grammar.TYPE else ("any" if isinstance(rule, list) else "all", *map(number, rule))
+        return numbers.setdefault(made, len(numbers))
+
+    forms = [[(piece, number(rule)) for piece, rule in form] for form in grammar.forms()]
+    ends = {"arrays": [grammar.ARRAY, grammar.VERB, grammar.ARGUMENT], "type": grammar.TYPE, "end": grammar.END, "command": grammar.COMMAND}
     examples = {path.stem: path.read_text() for path in sorted((TOP / "examples").glob("*.bench"))}
-    return json.dumps({"forms": grammar.forms(), "operations": language.operations(), "codes": language.codes(), "examples": examples}).replace("</", "<\\/")
+    made = {"forms": forms, "rules": list(numbers), "ends": ends, "operations": language.operations(), "codes": language.codes(), "examples": examples}
+    return json.dumps(made, separators=(",", ":")).replace("</", "<\\/")
 
 
 def sum_of(text):

@@ -2,15 +2,6 @@
 
 const NESTED = [1, 2, 3, 4].reduce(inner => `\\((?:[^()]|${inner})*\\)`, "\\([^()]*\\)");
 const LITERAL = `[+-]?\\d+|True|False|b'(?:[^'\\\\]|\\\\x[0-9A-Fa-f]{2})*'|${NESTED}`;
-const NAME = "[A-Za-z_]\\w{0,31}", INDEX = "\\[[^\\]]+\\]", TYPE = "[@=<>!^]*T\\{\\S*\\}|[^\\s(]+", SHAPE = "\\((?:\\s*[+-]?\\d+\\s*(?:,(?=.)|(?=\\))))*\\s*\\)";
-const ARRAY = "the name of an array", END = "the end of the line";
-// What a piece of a form is: as a pattern, and in words. `words` may stand there, or the bound names.
-const PIECES = {
-  "=": ["=", "`=`"], X: [NAME, ARRAY], Y: [NAME, ARRAY], "Y[?]": [`${NAME}(?:${INDEX})?`, ARRAY], "X[ix]": [NAME + INDEX, `${ARRAY} with an index`], "Y[ix]": [NAME + INDEX, `${ARRAY} with an index`],
-  "Y[iy]": [NAME + INDEX, `${ARRAY} with an index`], Z: [`${LITERAL}|${NAME}(?:${INDEX})?`, `${ARRAY} or a literal`], D: [TYPE, "a type, as <i4"], S: [SHAPE, "a shape, as (2,3)"], "S-": [SHAPE, "a shape, as (2,-1)"],
-  L: [LITERAL, "a literal, as 1, True or b'x'"], "L..": [`(?:(?:${LITERAL})(?:\\s+|$|(?=[(b])))*`, "a literal, as 1, True or b'x'"], a: ["[+-]?\\d+", "the first integer"], b: ["[+-]?\\d+", "the end, an integer"], s: ["[+-]?\\d+", "the step, an integer"],
-  '"f"': ['"[\\w.-]+"', "a file's name between quotes"], '"field"': ['"[^"]*"', "a field's name between quotes"], "(axes)": [SHAPE, "axes, as (1,0)"], "[axis]": ["[+-]?\\d+", "an axis"], "[keep]": ["keep", "keep"],
-};
 const TYPES = ["|b1", "|i1", "<i2", "<i4", "<i8", "|u1", "<u2", "<u4", "<u8", "|S8", "T{<i:x:<h:y:}"];
 const SIGNS = { add: "+", sub: "-", mul: "*", fdiv: "//", mod: "%", and: "&", or: "|", xor: "^", shl: "<<", shr: ">>", eq: "==", ne: "!=", lt: "<", le: "<=", gt: ">", ge: ">=", neg: "-", not: "~", div: "/" };
 const TOKENS = /(#.*)|(b'(?:[^'\\]|\\.)*'?|"[^"]*"?)|([A-Za-z_]\w*)|([+-]?\d+)/g;
@@ -55,62 +46,84 @@ export function inNumPy(line) {
   return undefined;
 }
 
-/** The words of the language, by its tables: the forms of its commands, what OP, UN and RED stand for, and its codes. */
-export class Language {
-  constructor({ forms, operations, codes, examples }) {
-    Object.assign(this, { forms, operations, codes, examples, patterns: new Map(), hints: new WeakMap() });
-    this.verbs = new Set(forms.flat().flatMap(piece => operations[piece] ?? (/^[a-z]{2,}$/.test(piece) ? [piece] : [])));
+/** A line read as each form of a command: `far` is the place up to which it reads as some form, and `wanted` what may stand there, each with
+ *  the pieces of the forms from there on. Where `names` are given, only these are arrays. The rules are those of grammar.py. */
+class Reading {
+  constructor({ forms, rules, pattern, ends }, line, names) {
+    Object.assign(this, { rules, pattern, ends, line, names, far: 0, wanted: new Map(), behind: [] });
+    this.isWhole = forms.some(form => this.form(form));
   }
 
-  isReserved(word) { return this.verbs.has(word) || ["True", "False", "None"].includes(word); }
-
-  /** The place up to which a line reads as some command, and what may stand there: in words, each with its pieces of forms. */
-  reading(line, names) {
-    let far = 0, wanted = new Map();
-    const want = (at, what, piece) => {
-      if (at > far) [far, wanted] = [at, new Map()];
-      if (at === far) wanted.set(what, [...(wanted.get(what) ?? []), piece]);
-    };
-    const skip = at => at + /^[ \t]*/.exec(line.slice(at))[0].length;
-    for (const form of this.forms) {
-      let at = 0, isWhole = true;
-      for (const [k, piece] of form.entries()) {
-        const begin = skip(at), [pattern, what] = this.piece(piece, k, form), found = this.pattern(pattern);
-        found.lastIndex = begin;
-        const text = found.exec(line)?.[0], word = /^\w+/.exec(text ?? "")?.[0], isKnown = !names || !/^[YZ]|^X\[/.test(piece) || names.has(word) || /^(b'|True\b|False\b|[^A-Za-z_])/.test(text ?? "");
-        const isName = /^[XYZ]/.test(piece) && /^[A-Za-z_]/.test(text ?? "") && !/^(b'|True\b|False\b)/.test(text);
-        const isParted = text === undefined || piece === "=" || piece === "L.." || !/^[\w+-]/.test(line.slice(begin + text.length)) || /\W$/.test(text);
-        if (text !== undefined && isParted && !(isName && this.isReserved(word)) && isKnown) { at = begin + text.length; continue; }
-        want(begin, what, piece);
-        if (piece[0] === "[") continue;
-        const open = /^\w*([[(])[^\])]*$/.exec(line.slice(begin));
-        if (open && (open[1] === "(") === /^(S-?|\(axes\)|L|L\.\.)$/.test(piece) && /[[(SLZ]/.test(piece)) want(line.length, open[1] === "[" ? "`,` or `]`" : "`,` or `)`", "");
-        isWhole = false;
-        break;
-      }
-      if (isWhole && skip(at) === line.length) return { far: line.length, wanted: new Map() };
-      if (isWhole) want(skip(at), form.at(-1) === "L.." ? "a literal, as 1, True or b'x', or the end of the line" : END, "");
+  form(form) {
+    let at = 0;
+    for (const [k, [, rule]] of form.entries()) {
+      this.behind = form.slice(k).map(([piece]) => piece);
+      at = this.read(rule, at);
+      if (at === null) return false;
     }
-    return { far, wanted };
+    this.behind = [];
+    return this.skip(at) === this.line.length || this.want(at, this.ends.end) !== null;
   }
 
-  pattern(text) {
-    if (!this.patterns.has(text)) this.patterns.set(text, new RegExp(`(?:${text})`, "y"));
-    return this.patterns.get(text);
+  /** Where a rule ends that begins at a place, or null. */
+  read(rule, at) {
+    const [kind, ...parts] = this.rules[rule];
+    if (kind === "token") return this.token(parts, at);
+    if (kind === "type") return this.type(at);
+    if (kind === "any") { for (const each of parts) { const end = this.read(each, at); if (end !== null) return end; } return null; }
+    if (kind === "many") { for (let end = at; end !== null; end = this.read(parts[0], at)) at = end; return at; }
+    for (const each of parts) if ((at = this.read(each, at)) === null) return null;
+    return at;
   }
 
-  piece(piece, k, form) {
-    const words = this.operations[piece] ?? (PIECES[piece] ? null : [piece]);
-    if (words) return [words.map(word => `${word}\\b`).join("|"), k === 0 ? "a command" : /^[CF]$/.test(piece) ? "`C` or `F`" : form[k - 1] === "=" ? "a word such as zeros, add or sum" : "an operation, as add"];
-    return k === 0 && piece === "X" ? [PIECES.X[0], "a name and `=`"] : PIECES[piece];
+  token([pattern, what, isGlued], at) {
+    const begin = isGlued ? at : this.skip(at), form = this.pattern(pattern);
+    form.lastIndex = begin;
+    const found = form.exec(this.line)?.[0], isArray = found && this.ends.arrays.includes(what) && /^(?!(?:True|False)$)[A-Za-z_]\w*$/.test(found);
+    if (found !== undefined && !(isArray && this.names && !this.names.has(found) && !this.ends.words.includes(found))) return begin + found.length;
+    return this.want(at, what + (isGlued && this.line.startsWith("[", this.skip(at)) ? " at once behind the name" : ""));
   }
+
+  /** A type: behind a blank, and up to the next one. */
+  type(at) {
+    const begin = this.skip(at);
+    return begin === at || begin === this.line.length ? this.want(at, this.ends.type) : begin + /^(?:[@=<>!^]*T\{(?:[^:}]|:[^:]*:|\}(?=[:}\w]))*\}|[^ \t]+)/.exec(this.line.slice(begin))[0].length;
+  }
+
+  want(at, what) {
+    at = this.skip(at);
+    if (what && at > this.far) [this.far, this.wanted] = [at, new Map()];
+    if (what && at === this.far) this.wanted.set(what, [...(this.wanted.get(what) ?? []), this.behind]);
+    return null;
+  }
+
+  skip(at) { return at + /^[ \t]*/.exec(this.line.slice(at))[0].length; }
+
+  /** What may stand where the line stops being a command. */
+  get told() {
+    const { command } = this.ends, [, first, behind] = /^\s*(\w*)\s*(.?)/.exec(this.line);
+    if ([...this.wanted.keys()].join() === "`=`" && !["set", "upd"].includes(first) && /[\w"']|^$/.test(behind)) return { at: this.skip(0), what: [command] };
+    return { at: this.far, what: [...this.wanted.keys()].filter(what => what !== "`[`" || this.wanted.size === 1) };
+  }
+}
+
+/** The words of the language, by its tables: the forms of its commands and their rules, what OP, UN and RED stand for, and its codes. */
+export class Language {
+  constructor({ forms, rules, ends, operations, codes, examples }) {
+    const patterns = new Map(), words = ends.words = [...new Set([...forms.flat().flatMap(([piece]) => operations[piece] ?? (/^[a-z]{2,}$/.test(piece) ? [piece] : [])), "True", "False", "None"])];
+    const pattern = text => patterns.get(text) ?? patterns.set(text, new RegExp(text, "y")).get(text);
+    Object.assign(this, { forms, rules, ends, operations, codes, examples, words, pattern, hints: new WeakMap() });
+  }
+
+  isReserved(word) { return this.words.includes(word); }
 
   /** What may stand at a place of a line, by what is typed of it so far. */
   offers(begin, names) {
-    const stem = /[A-Za-z_]\w*$/.exec(begin)?.[0] ?? "", before = begin.slice(0, begin.length - stem.length), { far, wanted } = this.reading(before, names);
+    const stem = /[A-Za-z_]\w*$/.exec(begin)?.[0] ?? "", before = begin.slice(0, begin.length - stem.length), { far, wanted } = new Reading(this, before, names), { arrays, type, end } = this.ends;
     if (far !== before.length && before.slice(far).trim()) return { stem, words: [], told: "" };
-    const words = [...wanted.values()].flat().flatMap(piece => piece === "X" && !before.trim() ? [] : /^[XYZ]/.test(piece) ? [...names] : piece === "D" ? TYPES : this.operations[piece] ?? (/^\w+$/.test(piece) && !PIECES[piece] ? [piece] : []));
-    return { stem, words: [...new Set(words)].filter(word => word.startsWith(stem) && word !== stem), told: [...wanted.keys()].filter(what => what !== END || wanted.size > 1).join(", ") };
+    const wordsOf = (what, piece) => [...(arrays.includes(what) && /^[XYZ]/.test(piece) ? names : []), ...(what === type ? TYPES : this.operations[piece] ?? (/^([a-z]{2,}|[CF])$/.test(piece) ? [piece] : []))];
+    const words = [...wanted].flatMap(([what, behind]) => behind.flatMap(([piece = ""]) => wordsOf(what, piece)));
+    return { stem, words: [...new Set(words)].filter(word => word.startsWith(stem) && word !== stem), told: [...wanted.keys()].filter(what => what !== end || wanted.size > 1).join(", ") };
   }
 
   /** What is said of a refused line: where it stops being a command and what may stand there, or when its code comes and what its arrays are. */
@@ -121,8 +134,8 @@ export class Language {
 
   hinted({ line, reply, before, words }) {
     if (reply.code === "E03") {
-      const { far, wanted } = this.reading(line, new Set(before.names.keys()));
-      return wanted.size ? { at: far, text: `expected ${[...wanted.keys()].slice(0, 4).join(" or ")}` } : { at: 0, text: "" };
+      const { at, what } = new Reading(this, line, new Set(before.names.keys())).told;
+      return { at, text: what.length ? `expected ${what.slice(0, 4).join(" or ")}` : "" };
     }
     const arrays = [...words].filter(word => before.names.has(word)).slice(0, 4).map(word => before.names.get(word).array);
     return { text: [this.codes[reply.code]?.[1], ...arrays.map(({ name, type, shape }) => `${name} is ${type} (${shape.join(", ")}${shape.length === 1 ? "," : ""})`)].filter(Boolean).join("; ") };
