@@ -63,7 +63,7 @@ def program():
     disassemble = ["--target=x86_64-unknown-linux-gnu", "-x", "ir", module(), "-S", "-emit-llvm", "-O0", "-Xclang", "-disable-llvm-passes", "-o", OUT / "x86.ll"]
     subprocess.run([kit() / "toolchain/bin/clang", *disassemble], check=True)
     (OUT / "wasm.ll").write_text(retarget.retarget((OUT / "x86.ll").read_text()))
-    clang("-O2", "-x", "ir", OUT / "wasm.ll", "-o", OUT / "bench.o")
+    clang("-Os", "-x", "ir", OUT / "wasm.ll", "-o", OUT / "bench.o")
     for name in ("heap", "wide"):
         clang("-O2", "-Wall", "-Wextra", "-ffreestanding", "-fno-builtin", HERE / f"{name}.c", "-o", OUT / f"{name}.o")
     linker = OUT / "wasm-ld"

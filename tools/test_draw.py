@@ -140,7 +140,7 @@ def items_of_name(row, values):
 class Pictures(unittest.TestCase):
     def test_buffers_and_values(self):
         """Buffers are as `shares` says, and what is drawn is what `print` says."""
-        chosen = [scripts.random_script(PROGRAM, random.Random(-seed - 1), -seed - 1, depths=(0, 1, 3, 16, 56)) for seed in range(share(8, 400))]
+        chosen = [scripts.random_script(PROGRAM, random.Random(-seed - 1), -seed - 1, depths=(0, 1, 3, 16, 56)) for seed in range(share(6, 400))]
         for script, told in zip(chosen, looks([(script.lines, script.depth or 0) for script in chosen])):
             with tempfile.TemporaryDirectory() as folder, Session(PROGRAM, script.depth or 0, folder) as judge:
                 for line, moment in zip(script.lines, told):
@@ -184,7 +184,7 @@ class Pictures(unittest.TestCase):
     def test_moves(self):
         """An item is said to have moved from where it did, and to be written where it was: beside a machine of ids, for every kind of `set`."""
         rng = random.Random(5)
-        chosen = [random_move(rng) for _ in range(share(400, 10_000))]
+        chosen = [random_move(rng) for _ in range(share(250, 10_000))]
         for (lines, ids, written, line), moments in zip(chosen, looks([([*lines, line], 0) for lines, _, _, line in chosen])):
             self.assertTrue(all(moment["reply"].startswith("ok") for moment in moments[:-1]), moments)
             last = moments[-1]
