@@ -8,9 +8,11 @@ use Rattle.elem_descr.specs.RefusalLaws.{bind_same}
 use Rattle.npy_format.specs.Tokens.{Token}
 use Rattle.npy_format.specs.Tokens as token
 use Rattle.npy_format.specs.Listed.{Literal, Pair}
+use Rattle.npy_format.specs.Headers.{HeaderAnyTurns}
 use Rattle.npy_format.specs.Literals.{Read, symbol_token_at, if_read, list_end, entries_in, tuple_in, list_in, pair_in, dictionary_in, bracketed, literal_in}
 use Rattle.npy_format.specs.inside.Entries.{behind, behind_entries, behind_key}
-use Rattle.npy_format.proofs.GrammarLaws.{Shortens, symbol_shorter}
+use Rattle.npy_format.proofs.GrammarLaws.{Shortens, symbol_shorter, pair_leaves, literal_leaves}
+use Rattle.npy_format.proofs.TokenLaws.{tokens_any_turns}
 
 pub behind_ok : {A : Type 0} (r : Read A) (rest : List Token) → behind r ≡ Ok rest → (x : A) × (r ≡ Ok (x, rest))
 behind_ok (Ok x) rest is = let same : x.1 ≡ rest = cc in (x.0, ap (λ (l : List Token). Ok (x.0, l)) same)
@@ -30,7 +32,7 @@ found_same (Some b) next next' other h = h b refl
 
 module _ {A : Type 0} (entry : List Token → Read A) (shortens : Shortens entry) (none : entry [] ≡ Err BadHeader) where
   -- turns enough for the tokens
-  entries_turns : (closing n m : ℕ) (toks : List Token) → length toks ≤ n → length toks ≤ m → entries_in entry closing n toks ≡ entries_in entry closing m toks
+  pub entries_turns : (closing n m : ℕ) (toks : List Token) → length toks ≤ n → length toks ≤ m → entries_in entry closing n toks ≡ entries_in entry closing m toks
   unfolding entries_in
   entries_turns closing zero zero toks few few' = refl
   entries_turns closing zero (suc m) [] few few' = rw none refl
@@ -163,3 +165,15 @@ module _ (depth : ℕ) (toks rest : List Token) where
 pub skip_end : (depth : ℕ) (toks : List Token) → toks ≡ [] → behind (literal_in depth toks) ≡ Err BadHeader
 unfolding literal_in
 skip_end depth toks is = rw is refl
+
+-- more turns read the same
+pub header_any_turns : HeaderAnyTurns
+header_any_turns = (
+  tokens_any_turns,
+  (λ depth.
+  let value = literal_leaves depth in (
+    (λ turns toks few. entries_turns (literal_in depth) value (no_literal depth) 41 turns (length toks) toks few (omega arith)),
+    (λ turns toks few. entries_turns (literal_in depth) value (no_literal depth) 93 turns (length toks) toks few (omega arith)),
+    (λ turns toks few. entries_turns (pair_in (literal_in depth)) (pair_leaves (literal_in depth) value) (no_pair depth) 125 turns (length toks) toks few (omega arith)),
+  )),
+)

@@ -66,6 +66,10 @@ tokens_turns (suc n) (suc m) bytes few few' = first (tokens_turns n m) (unspaced
         let shorter = shorter_token b rest in
         ap (λ (toks : List Token). t.0 ∷ toks) (later t.1 (omega (arith, few, less, shorter)) (omega (arith, few', less, shorter)))
 
+pub tokens_any_turns : (turns : ℕ) (text : List ℕ) → length text ≤ turns → tokens_in turns text ≡ tokens text
+unfolding tokens
+tokens_any_turns turns text few = tokens_turns turns (length text) text few (omega arith)
+
 tokens_is : (text : List ℕ) → tokens text ≡ first_token tokens (unspaced_text text)
 unfolding tokens
 tokens_is text = tokens_turns (length text) (suc (length text)) text (omega arith) (omega arith) ∙ first (unspaced_text text) (shorter_drop (prefix_len is_space text) text)

@@ -1,16 +1,16 @@
 -- Headers of files: one dictionary, and what it says of an array.
-use Rattle.std.specs.Prelude.{ℕ, Bool, false, List, [], ◌∷◌, codes, length, nat_eq, if◌then◌else◌, Result, Ok, Err}
+use Rattle.std.specs.Prelude.{◌≡◌, ◌≤◌, ℕ, Bool, false, List, [], ◌∷◌, codes, length, nat_eq, if◌then◌else◌, Result, Ok, Err}
 use Rattle.std.specs.Option.{ok_or}
 use Rattle.std.specs.Str.{bytes_eq}
 use Rattle.elem_descr.specs.declared.refusal.Refusal.{Refusal}
 use Rattle.elem_descr.specs.declared.refusal.Refusal.TheVariants.{BadHeader}
 use Rattle.elem_descr.specs.Refusals.{◌>>=◌, check}
 use Rattle.shape_strides.specs.Shapes.{shape_of}
-use Rattle.npy_format.specs.Tokens.{Token, tokens}
+use Rattle.npy_format.specs.Tokens.{Token, tokens_in, tokens}
 use Rattle.npy_format.specs.Values.{Round, Text, Integer, Truth}
 use Rattle.npy_format.specs.Listed.{Literal, Plain, Row, Pair, value_literals}
 use Rattle.npy_format.specs.declared.header.Header.{Header}
-use Rattle.npy_format.specs.Literals.{symbol_token_at, pairs_in, literal_in}
+use Rattle.npy_format.specs.Literals.{Read, symbol_token_at, entries_in, pair_in, pairs_in, literal_in}
 use Rattle.npy_format.specs.RecordLists.{descr_in}
 
 -- how deep brackets lie in a value of the dictionary
@@ -68,3 +68,14 @@ header_of pairs = do
 -- what the text of a header says, or the first refusal
 abbrev pub header : List ℕ → Result Header Refusal
 header text = dictionary_of (tokens text) >>= header_of
+
+-- entries are read the same in any number of turns from that of the tokens on
+abbrev pub EntriesAnyTurns : {A : Type 0} → (List Token → Read A) → ℕ → Type 0
+EntriesAnyTurns entry closing = (turns : ℕ) (tokens : List Token) → length tokens ≤ turns → entries_in entry closing turns tokens ≡ entries_in entry closing (length tokens) tokens
+
+-- The tokens of a header are what is read in any number of turns from that of its bytes on, and so are the values of each tuple
+-- and list and the pairs of each dictionary.
+abbrev pub HeaderAnyTurns : Type 0
+HeaderAnyTurns =
+    ((turns : ℕ) (text : List ℕ) → length text ≤ turns → tokens_in turns text ≡ tokens text)
+    × ((depth : ℕ) → EntriesAnyTurns (literal_in depth) 41 × EntriesAnyTurns (literal_in depth) 93 × EntriesAnyTurns (pair_in (literal_in depth)) 125)

@@ -4,7 +4,7 @@ ghost use Rattle.elem_descr.specs.Refusals.{Answers, Gives};
 ghost use Rattle.shape_strides.specs.Shapes.{shape_of};
 ghost use Rattle.npy_format.specs.Tokens.{tokens};
 ghost use Rattle.npy_format.specs.Listed.{Literal, Pair};
-ghost use Rattle.npy_format.specs.Headers.{dictionary_of, value_under, lengths_of, header_of, header};
+ghost use Rattle.npy_format.specs.Headers.{dictionary_of, value_under, lengths_of, header_of, header, HeaderAnyTurns};
 ghost use Rattle.npy_format.specs.inside.Scanned.{string_at, is_string_token, truth_at};
 ghost use Rattle.npy_format.specs.inside.Places.{Stands, HasPairs, HasLengths};
 
@@ -156,8 +156,10 @@ fn header_of(alloc: Global, pairs: &[u8]) -> Result<Header, Refusal>
 /// A text that is not such a dictionary is `BadHeader`, whatever else is wrong with it. Then the
 /// element type is checked, from the left (`BadDescriptor`, `DescriptorLeftOut`, `TooLarge`), and
 /// then the shape (`TooManyAxes`, `TooLarge`).
+#[tactic(auto, using(crate::proofs::SkipLaws::header_any_turns))]
 pub fn header_read(alloc: Global, text: &[u8]) -> Result<Header, Refusal>
-    ensures { Gives (λ header. header) result (header text.now) }
+    ensures gives { Gives (λ header. header) result (header text.now) }
+    ensures turns { HeaderAnyTurns }
 {
     let pairs = dictionary(text)?;
     header_of(alloc, pairs)
