@@ -4,9 +4,9 @@ use Rattle.std.specs.FinMap.{insert}
 use Rattle.name_store.specs.States.{start}
 use Rattle.npy_files.specs.Stores.{StoreState, empty_shelf}
 use Rattle.npy_files.specs.contracts.mem_store.MemStoreNpyStore.TheImpl as mem_store
-use Rattle.bench_engine.specs.Meanings.{AnswersLine}
+use Rattle.bench_engine.specs.Headline.{AnswersLine}
 use Rattle.bench_engine.specs.Replies.{Reply, Tells}
-use Rattle.bench_engine.specs.Worlds.{World, world}
+use Rattle.bench_engine.specs.Steps.{World, world}
 use Rattle.bench_c.specs.declared.open_bench.OpenBench.{OpenBench}
 use Rattle.bench_c.specs.declared.status.Status.{Status}
 use Rattle.bench_c.specs.declared.status.Status.TheVariants.{Done, Refused, Silent, NoMemory, TooLong, NoFile, NoRoom, Invalid}

@@ -1,8 +1,8 @@
 //! The text of a reply.
 ghost use Rattle.std.specs.Prelude.{◌≡◌, List, [], IfOk};
-ghost use Rattle.bench_engine.specs.Meanings.{AnswersLine};
+ghost use Rattle.bench_engine.specs.Headline.{AnswersLine};
 ghost use Rattle.bench_engine.specs.Replies.{Reply, Tells};
-ghost use Rattle.bench_engine.specs.Worlds.{world};
+ghost use Rattle.bench_engine.specs.Steps.{world};
 
 use bench_engine::{MAX_REFUSAL_LEN, answer};
 use name_store::Bench;

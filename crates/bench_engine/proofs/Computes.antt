@@ -21,12 +21,12 @@ use Rattle.script_lang.specs.declared.command.Operand.{Operand}
 use Rattle.script_lang.specs.declared.command.Argument.{Argument}
 use Rattle.script_lang.specs.declared.command.Computation.{Computation}
 use Rattle.script_lang.specs.declared.command.Computation.TheVariants.{Duplicate, Cast, Combine, Transform, Reduce}
-use Rattle.script_lang.specs.declared.command.Value.TheVariants.{Compute}
 use Rattle.name_store.specs.States.{State, Array}
 use Rattle.name_store.specs.Arrays.{find_array, is_bound, has_room_for, descr_of, read}
 use Rattle.bench_engine.specs.Contents.{Contents, new_contents}
 use Rattle.bench_engine.specs.IndexLists.{taken}
-use Rattle.bench_engine.specs.Machine.{Choice, Outcome, bound_in_value, bind_outcome, bound_new, copy_outcome, cast_outcome, operand_values, viewed, operand_part, argument_values, operation_with, operation_contents, transformed, creation_outcome, computed_outcome}
+use Rattle.bench_engine.specs.Memory.{bound_in_computation}
+use Rattle.bench_engine.specs.Machine.{Choice, Outcome, compute_outcome, bound_new, copy_outcome, cast_outcome, operand_values, viewed, operand_part, argument_values, operation_with, operation_contents, transformed, creation_outcome, computed_outcome}
 use Rattle.bench_engine.specs.inside.Computed.{computed_contents, origin_of}
 use Rattle.bench_engine.specs.inside.Operands.{StandsFor, GivesGiven}
 use Rattle.bench_engine.specs.inside.OwnContents.{held, IsInCOrder}
@@ -37,7 +37,7 @@ use Rattle.bench_engine.proofs.Copies.{made-held}
 -- a computation is carried out where its names are bound and there is room for one more
 unfoldable computing : Choice → State → List ℕ → Computation → Outcome
 computing choice s name c = do
-  _ ← check (list_all (is_bound s) (bound_in_value (Compute c))) UnknownName
+  _ ← check (list_all (is_bound s) (bound_in_computation c)) UnknownName
   _ ← check (has_room_for s name) TooManyNames
   new ← computed_contents s c
   bound_new choice s name (origin_of c) new
@@ -52,7 +52,7 @@ unfolding cast_outcome computing
 cast-so choice s name source text None is = rw is refl
 cast-so choice s name source text (Some a) is = rw is refl
 
-carried-so : (choice : Choice) (s : State) (name : List ℕ) (c : Computation) → bind_outcome choice s name (Compute c) ≡ computing choice s name c
+carried-so : (choice : Choice) (s : State) (name : List ℕ) (c : Computation) → compute_outcome choice s name c ≡ computing choice s name c
 unfolding computed_outcome creation_outcome computing
 carried-so choice s name (Duplicate source order) = copied-so choice s name source order (find_array s.names source) refl
 carried-so choice s name (Cast source text) = cast-so choice s name source text (find_array s.names source) refl
@@ -61,20 +61,20 @@ carried-so choice s name (Transform op operand) = refl
 carried-so choice s name (Reduce reduction source axis keep) = refl
 
 module _ (s : State) (name : List ℕ) (c : Computation) where
-  pub compute-unknown : list_all (is_bound s) (bound_in_value (Compute c)) ≡ false → (choice : Choice) → bind_outcome choice s name (Compute c) ≡ Err UnknownName
+  pub compute-unknown : list_all (is_bound s) (bound_in_computation c) ≡ false → (choice : Choice) → compute_outcome choice s name c ≡ Err UnknownName
   unfolding computing
   compute-unknown none choice = carried-so choice s name c ∙ rw none refl
 
-  module _ (all : list_all (is_bound s) (bound_in_value (Compute c)) ≡ true) where
-    pub compute-many : has_room_for s name ≡ false → (choice : Choice) → bind_outcome choice s name (Compute c) ≡ Err TooManyNames
+  module _ (all : list_all (is_bound s) (bound_in_computation c) ≡ true) where
+    pub compute-many : has_room_for s name ≡ false → (choice : Choice) → compute_outcome choice s name c ≡ Err TooManyNames
     unfolding computing
     compute-many full choice = carried-so choice s name c ∙ rw (all, full) refl
 
-    pub compute-bad : (e : Refusal) → has_room_for s name ≡ true → computed_contents s c ≡ Err e → (choice : Choice) → bind_outcome choice s name (Compute c) ≡ Err e
+    pub compute-bad : (e : Refusal) → has_room_for s name ≡ true → computed_contents s c ≡ Err e → (choice : Choice) → compute_outcome choice s name c ≡ Err e
     unfolding computing
     compute-bad e room bad choice = carried-so choice s name c ∙ rw (all, room, bad) refl
 
-    pub compute-done : (new : Contents) → has_room_for s name ≡ true → computed_contents s c ≡ Ok new → (choice : Choice) → bind_outcome choice s name (Compute c) ≡ bound_new choice s name (origin_of c) new
+    pub compute-done : (new : Contents) → has_room_for s name ≡ true → computed_contents s c ≡ Ok new → (choice : Choice) → compute_outcome choice s name c ≡ bound_new choice s name (origin_of c) new
     unfolding computing
     compute-done new room good choice = carried-so choice s name c ∙ rw (all, room, good) refl
 

@@ -1,34 +1,43 @@
 -- A session, some bytes more.
-use Rattle.std.proofs.Common.{◌≡◌, ◌<◌, ◌+◌, ℕ, Bool, true, false, List, [], ◌∷◌, ◌++◌, length, map, Option, Some, None, is_some, refl, sym, ap, ◌∙◌, subst, arith, append_assoc, add_assoc, not, cond, ◌&&◌, nat_eq}
-use Rattle.std.specs.List.{count_by}
-use Rattle.std.proofs.lemmas.List.Sums.{sum_by-append}
-use Rattle.std.proofs.lemmas.List.{append-nil}
-use Rattle.std.proofs.lemmas.Grind.{flat_map-append}
-use Rattle.bench_engine.specs.declared.session.Session.{Session}
+use Rattle.std.proofs.Common.{◌≡◌, ◌≢◌, ◌<◌, ◌+◌, ℕ, Bool, true, false, List, [], ◌∷◌, ◌++◌, length, map, Option, Some, None, is_some, refl, sym, ap, ◌∙◌, subst, arith, append_assoc, add_assoc, not, cond, ◌&&◌, nat_eq}
 use Rattle.std.specs.Io.KnownBytes.{Appends}
-use Rattle.bench_engine.specs.Meanings.{AnswersLine}
-use Rattle.bench_engine.specs.Replies.{Reply}
-use Rattle.bench_engine.specs.Lines.{ended_lines, unended, trimmed, whole_lines, lines}
-use Rattle.bench_engine.specs.Runs.{Run, BreaksOff, output, reply_line, accepted_count, refused_count}
+use Rattle.std.specs.List.{count_by}
+use Rattle.std.proofs.Math.Dec.{eqb-suc-zero}
+use Rattle.std.proofs.lemmas.Bool.{false≢true}
+use Rattle.std.proofs.lemmas.List.Elements.{All-nil}
+use Rattle.std.proofs.lemmas.List.Sums.{sum_by-append}
+use Rattle.std.proofs.lemmas.List.{append-nil, map-append}
+use Rattle.std.proofs.lemmas.Grind.{flat_map-append}
+use Rattle.name_store.specs.States.{State}
 use Rattle.npy_files.specs.Stores.{StoreState}
-use Rattle.bench_engine.specs.Worlds.{world}
-use Rattle.bench_engine.specs.Sessions.{HoldsPiece, HoldsBytes, Fed, HasTold}
+use Rattle.bench_engine.specs.declared.session.Session.{Session}
+use Rattle.bench_engine.specs.Replies.{Reply}
+use Rattle.bench_engine.specs.Steps.{World, world}
+use Rattle.bench_engine.specs.Headline.{AnswersLine, Run, IsUnbroken, trimmed, output, reply_line, accepted_count, refused_count, AnswersInPart}
+use Rattle.bench_engine.specs.Sessions.{HoldsPiece, HoldsBytes, HasTold, Fed, FedInPart, Ends, EndsInPart}
 use Rattle.bench_engine.specs.inside.Sessions.{Told, ToldInPart, AnswersHeld}
 use Rattle.bench_engine.proofs.Known.{appends_then, appends_nothing}
-use Rattle.bench_engine.proofs.Lines.{whole_lines-piece, whole_lines-split, unended-newline, unended-piece, unended-whole, unended-append, whole_lines-append, lines-last}
+use Rattle.bench_engine.proofs.Lines.{splits, splits-one, splits-more, splits-then, splits-on, lines-one, lines-none}
 
 count_by-append : (p : Reply → Bool) (xs ys : List Reply) → count_by p (xs ++ ys) ≡ count_by p xs + count_by p ys
 count_by-append p xs ys = sum_by-append (λ r. cond (p r) 1 0) xs ys
 
 -- a piece of which something is held
-pub held-some : (bytes : List ℕ) (is_long : Bool) (piece : List ℕ) → (nat_eq (length bytes) 0 && not is_long) ≡ false → HoldsBytes bytes is_long piece → 0 < length piece
+held-some : (bytes : List ℕ) (is_long : Bool) (piece : List ℕ) → (nat_eq (length bytes) 0 && not is_long) ≡ false → HoldsBytes bytes is_long piece → 0 < length piece
 held-some bytes true piece some holds = omega arith
 held-some [] false piece some holds = cc
 held-some (b ∷ bytes) false piece some holds = omega (arith, ap length holds)
 
+-- and one of which nothing is
+held-none : (bytes : List ℕ) (is_long : Bool) (piece : List ℕ) → (nat_eq (length bytes) 0 && not is_long) ≡ true → HoldsBytes bytes is_long piece → piece ≡ []
+held-none [] true piece none holds = cc
+held-none (b ∷ bytes) true piece none holds = absurd (false≢true (rw (eqb-suc-zero (length bytes)) at none))
+held-none [] false piece none holds = sym holds
+held-none (b ∷ bytes) false piece none holds = absurd (false≢true (rw (eqb-suc-zero (length bytes)) at none))
+
 -- a reply that stands in out, and a part of it that has gone out
 pub told-in-part : (shelf shelf' : StoreState) (old new : Session) (answered : Option Bool) (written written' : Option (List ℕ)) → true ≡ is_some answered → AnswersHeld shelf shelf' old new answered →
-    ((gone missing : List ℕ) × (new.out.items ++ 10 ∷ [] ≡ gone ++ missing) × (0 < length missing) × Appends written written' gone) → ToldInPart AnswersLine (world old.bench.state shelf) (world new.bench.state shelf') written written' old
+    ((gone missing : List ℕ) × (new.out.items ++ 10 ∷ [] ≡ gone ++ missing) × (0 < length missing) × Appends written written' gone) → ToldInPart (world old.bench.state shelf) (world new.bench.state shelf') written written' old
 told-in-part shelf shelf' old new None written written' some held part = cc
 told-in-part shelf shelf' old new (Some accepted) written written' some held part = record {
   reply = held.tells.0;
@@ -40,140 +49,171 @@ told-in-part shelf shelf' old new (Some accepted) written written' some held par
   sent = part.4;
 }
 
-module _ {World : Type 0} (Answer : World → List ℕ → World → List Reply → Type 0) where
-  -- one more line in a run
-  run_more : (old mid new : World) (ls : List (List ℕ)) (line : List ℕ) (replies more : List Reply) → Run Answer old ls replies mid → Answer mid line new more → Run Answer old (ls ++ line ∷ []) (replies ++ more) new
-  run_more old mid new [] line replies more run answered =
-      (new, more, [], ap (λ r. r ++ more) run.0 ∙ sym (append-nil more), subst (λ (s : World). Answer s line new more) run.1 answered, (refl, refl))
-  run_more old mid new (l ∷ ls) line replies more run answered =
-      (run.0, run.1, run.2 ++ more, ap (λ r. r ++ more) run.3 ∙ append_assoc run.1 run.2 more, run.4, run_more run.0 mid new ls line run.2 more run.5 answered)
+-- two runs in a row
+run-append : (old mid new : World) (lines more : List (List ℕ)) (xs ys : List Reply) → Run old lines xs mid → Run mid more ys new → Run old (lines ++ more) (xs ++ ys) new
+run-append old mid new [] more xs ys first second = rw first.0 (subst (λ (s : World). Run s more ys new) first.1 second)
+run-append old mid new (line ∷ lines) more xs ys first second =
+    (first.0, first.1, first.2 ++ ys, ap (λ x. x ++ ys) first.3 ∙ append_assoc first.1 first.2 ys, first.4, run-append first.0 mid new lines more first.2 ys first.5 second)
 
-  module _ (start : World) (before : Option (List ℕ)) (a r : ℕ) where
-    -- a piece in which no newline stands is held
-    pub fed-piece : (to : World) (written : Option (List ℕ)) (read piece : List ℕ) (old new : Session) → ended_lines piece ≡ [] → new.accepted ≡ old.accepted → new.refused ≡ old.refused →
-        ((held : List ℕ) → HoldsPiece old.line held → HoldsPiece new.line (held ++ piece)) → Fed Answer start to before written read a r old → Fed Answer start to before written (read ++ piece) a r new
-    fed-piece to written read piece old new one same-accepted same-refused holds fed = record {
-      told = record {
-        replies = fed.told.replies;
-        run = rw (whole_lines-piece read piece one) fed.told.run;
-        sent = fed.told.sent;
-        accepted = same-accepted ∙ fed.told.accepted;
-        refused = same-refused ∙ fed.told.refused;
-      };
-      held = rw (unended-piece read piece one) (holds (unended read) fed.held);
-    }
+-- a run over one line
+run-one : (old new : World) (line : List ℕ) (replies : List Reply) → AnswersLine old line new replies → Run old (line ∷ []) replies new
+run-one old new line replies answered = (new, replies, [], sym (append-nil replies), answered, (refl, refl))
 
-    -- one line more is answered
-    told-line : (mid to : World) (written written' : Option (List ℕ)) (all : List (List ℕ)) (piece : List ℕ) (old new : Session) → HoldsPiece old.line piece → Told Answer mid to written written' old new →
-        HasTold Answer start mid before written all a r old → HasTold Answer start to before written' (all ++ trimmed piece ∷ []) a r new
-    told-line mid to written written' all piece old new holds line told = record {
-      replies = told.replies ++ line.replies;
-      run = run_more start mid to all (trimmed piece) told.replies line.replies told.run (line.answers piece holds);
-      sent = rw (flat_map-append reply_line told.replies line.replies) (appends_then before written written' (output told.replies) (output line.replies) told.sent line.sent);
-      accepted = line.accepted ∙ ap (λ n. n + accepted_count line.replies) told.accepted ∙ add_assoc a (accepted_count told.replies) (accepted_count line.replies) ∙ ap (λ n. a + n) (sym (count_by-append (λ x. x.accepted) told.replies line.replies));
-      refused = line.refused ∙ ap (λ n. n + refused_count line.replies) told.refused ∙ add_assoc r (refused_count told.replies) (refused_count line.replies) ∙ ap (λ n. r + n) (sym (count_by-append (λ x. not x.accepted) told.replies line.replies));
-    }
+module _ (start mid to : World) (before written written' : Option (List ℕ)) (a r : ℕ) (old new : Session) where
+  -- more lines are answered, and counted beside those before them
+  pub told-on : (first second : List (List ℕ)) → HasTold start mid before written first a r old → HasTold mid to written written' second old.accepted old.refused new → HasTold start to before written' (first ++ second) a r new
+  told-on first second early late = record {
+    replies = early.replies ++ late.replies;
+    run = run-append start mid to first second early.replies late.replies early.run late.run;
+    sent = rw (flat_map-append reply_line early.replies late.replies) (appends_then before written written' (output early.replies) (output late.replies) early.sent late.sent);
+    accepted = late.accepted ∙ ap (λ n. n + accepted_count late.replies) early.accepted ∙ add_assoc a (accepted_count early.replies) (accepted_count late.replies) ∙ ap (λ n. a + n) (sym (count_by-append (λ x. x.accepted) early.replies late.replies));
+    refused = late.refused ∙ ap (λ n. n + refused_count late.replies) early.refused ∙ add_assoc r (refused_count early.replies) (refused_count late.replies) ∙ ap (λ n. r + n) (sym (count_by-append (λ x. not x.accepted) early.replies late.replies));
+  }
 
-    -- one line more, its reply cut
-    cut-line : (mid to : World) (written written' : Option (List ℕ)) (all later : List (List ℕ)) (piece : List ℕ) (old : Session) → HoldsPiece old.line piece → ToldInPart Answer mid to written written' old →
-        HasTold Answer start mid before written all a r old → BreaksOff Answer start to before written' ((all ++ trimmed piece ∷ []) ++ later)
-    cut-line mid to written written' all later piece old holds part told = record {
-      answered = all ++ trimmed piece ∷ [];
-      later = later;
-      replies = told.replies;
-      last = part.reply;
-      gone = part.gone;
-      missing = part.missing;
-      front = refl;
-      run = run_more start mid to all (trimmed piece) told.replies (part.reply ∷ []) told.run (part.answers piece holds);
-      broken = part.broken;
-      some_missing = part.some_missing;
-      sent = appends_then before written written' (output told.replies) part.gone told.sent part.sent;
-    }
+  -- more bytes come
+  pub fed-on : (read bytes : List ℕ) (early : Fed start mid before written read a r old) → Fed mid to written written' (early.rest ++ bytes) old.accepted old.refused new → Fed start to before written' (read ++ bytes) a r new
+  fed-on read bytes early late = record {
+    pieces = early.pieces ++ late.pieces;
+    rest = late.rest;
+    splits = splits-on read bytes early.pieces late.pieces early.rest late.rest early.splits late.splits;
+    told = rw (map-append trimmed early.pieces late.pieces) (told-on (map trimmed early.pieces) (map trimmed late.pieces) early.told late.told);
+    held = late.held;
+  }
 
-    -- a newline, its line answered
-    pub fed-newline : (mid to : World) (written written' : Option (List ℕ)) (read : List ℕ) (old new : Session) → HoldsPiece new.line [] → Told Answer mid to written written' old new →
-        Fed Answer start mid before written read a r old → Fed Answer start to before written' (read ++ 10 ∷ []) a r new
-    fed-newline mid to written written' read old new empty line fed = record {
-      told = rw (whole_lines-split read []) (told-line mid to written written' (whole_lines read) (unended read) old new fed.held line fed.told);
-      held = rw (unended-newline read) empty;
-    }
+module _ (start mid : World) (shelf : StoreState) (before written written' : Option (List ℕ)) (a r : ℕ) (old : Session) where
+  -- more lines are answered in part
+  pub cut-on : (first second : List (List ℕ)) → HasTold start mid before written first a r old → AnswersInPart second mid shelf written written' → AnswersInPart (first ++ second) start shelf before written'
+  cut-on first second early part = record {
+    answered = first ++ part.answered;
+    later = part.later;
+    replies = early.replies ++ part.replies;
+    last = part.last;
+    state = part.state;
+    gone = part.gone;
+    missing = part.missing;
+    front = ap (λ l. first ++ l) part.front ∙ sym (append_assoc first part.answered part.later);
+    run = rw (append_assoc early.replies part.replies (part.last ∷ [])) (run-append start mid (world part.state shelf) first part.answered early.replies (part.replies ++ part.last ∷ []) early.run part.run);
+    broken = part.broken;
+    some_missing = part.some_missing;
+    sent = rw (flat_map-append reply_line early.replies part.replies, append_assoc (output early.replies) (output part.replies) part.gone) (appends_then before written written' (output early.replies) (output part.replies ++ part.gone) early.sent part.sent);
+  }
 
-    -- a newline, its reply cut
-    pub cut-newline : (mid to : World) (written written' : Option (List ℕ)) (read more : List ℕ) (old : Session) → ToldInPart Answer mid to written written' old →
-        Fed Answer start mid before written read a r old → BreaksOff Answer start to before written' (whole_lines (read ++ 10 ∷ more))
-    cut-newline mid to written written' read more old part fed =
-        rw (whole_lines-split read more, sym (append_assoc (whole_lines read) (trimmed (unended read) ∷ []) (whole_lines more)))
-        (cut-line mid to written written' (whole_lines read) (whole_lines more) (unended read) old fed.held part fed.told)
+-- one line is answered
+told-one : (from to : World) (written written' : Option (List ℕ)) (piece : List ℕ) (old new : Session) → HoldsPiece old.line piece → Told from to written written' old new → HasTold from to written written' (trimmed piece ∷ []) old.accepted old.refused new
+told-one from to written written' piece old new holds told = record {
+  replies = told.replies;
+  run = run-one from to (trimmed piece) told.replies (told.answers piece holds);
+  sent = told.sent;
+  accepted = told.accepted;
+  refused = told.refused;
+}
 
-    -- a last line, answered
-    pub told-last : (mid to : World) (written written' : Option (List ℕ)) (read : List ℕ) (old new : Session) → 0 < length (unended read) → Told Answer mid to written written' old new →
-        Fed Answer start mid before written read a r old → HasTold Answer start to before written' (lines read) a r new
-    told-last mid to written written' read old new some line fed = rw (lines-last read some) (told-line mid to written written' (whole_lines read) (unended read) old new fed.held line fed.told)
-
-    -- a last line, its reply cut
-    pub cut-last : (mid to : World) (written written' : Option (List ℕ)) (read : List ℕ) (old : Session) → 0 < length (unended read) → ToldInPart Answer mid to written written' old →
-        Fed Answer start mid before written read a r old → BreaksOff Answer start to before written' (lines read)
-    cut-last mid to written written' read old some part fed =
-        rw (lines-last read some, sym (append-nil (whole_lines read ++ trimmed (unended read) ∷ []))) (cut-line mid to written written' (whole_lines read) [] (unended read) old fed.held part fed.told)
-
-    pub fed_along : (to : World) (written : Option (List ℕ)) (xs ys : List ℕ) (s : Session) → xs ≡ ys → Fed Answer start to before written xs a r s → Fed Answer start to before written ys a r s
-    fed_along to written xs ys s same fed = subst (λ bytes. Fed Answer start to before written bytes a r s) same fed
-
-    pub cut_along : (to : World) (written : Option (List ℕ)) (xs ys : List ℕ) → xs ≡ ys → BreaksOff Answer start to before written (whole_lines xs) → BreaksOff Answer start to before written (whole_lines ys)
-    cut_along to written xs ys same cut = subst (λ bytes. BreaksOff Answer start to before written (whole_lines bytes)) same cut
+-- the first of some lines is answered, its reply cut
+cut-one : (from : World) (state : State) (shelf : StoreState) (written written' : Option (List ℕ)) (piece : List ℕ) (later : List (List ℕ)) (old : Session) → HoldsPiece old.line piece → ToldInPart from (world state shelf) written written' old →
+    AnswersInPart (trimmed piece ∷ later) from shelf written written'
+cut-one from state shelf written written' piece later old holds part = record {
+  answered = trimmed piece ∷ [];
+  later = later;
+  replies = [];
+  last = part.reply;
+  state = state;
+  gone = part.gone;
+  missing = part.missing;
+  front = refl;
+  run = run-one from (world state shelf) (trimmed piece) (part.reply ∷ []) (part.answers piece holds);
+  broken = part.broken;
+  some_missing = part.some_missing;
+  sent = part.sent;
+}
 
 -- A session that holds the beginning of a line, before any byte more.
-pub fed-nothing : (shelf : StoreState) (written : Option (List ℕ)) (held : List ℕ) (s : Session) → ended_lines held ≡ [] → HoldsPiece s.line held →
-    Fed AnswersLine (world s.bench.state shelf) (world s.bench.state shelf) written written held s.accepted s.refused s
-fed-nothing shelf written held s one holds = record {
+pub fed-nothing : (shelf : StoreState) (written : Option (List ℕ)) (held : List ℕ) (s : Session) → IsUnbroken held → HoldsPiece s.line held →
+    Fed (world s.bench.state shelf) (world s.bench.state shelf) written written held s.accepted s.refused s
+fed-nothing shelf written held s unbroken holds = record {
+  pieces = [];
+  rest = held;
+  splits = splits-one held unbroken;
   told = record {
     replies = [];
-    run = rw (ap (map trimmed) one) (refl, refl);
+    run = (refl, refl);
     sent = appends_nothing written;
     accepted = omega arith;
     refused = omega arith;
   };
-  held = rw (unended-whole held one) holds;
+  held = holds;
 }
 
-module _ {World : Type 0} (Answer : World → List ℕ → World → List Reply → Type 0) where
-  -- two runs in a row
-  run-append : (old mid new : World) (ls more : List (List ℕ)) (xs ys : List Reply) → Run Answer old ls xs mid → Run Answer mid more ys new → Run Answer old (ls ++ more) (xs ++ ys) new
-  run-append old mid new [] more xs ys first second = rw first.0 (subst (λ (s : World). Run Answer s more ys new) first.1 second)
-  run-append old mid new (l ∷ ls) more xs ys first second =
-      (first.0, first.1, first.2 ++ ys, ap (λ x. x ++ ys) first.3 ∙ append_assoc first.1 first.2 ys, first.4, run-append first.0 mid new ls more first.2 ys first.5 second)
+module _ (start : World) (before : Option (List ℕ)) (a r : ℕ) where
+  -- a piece in which no newline stands is held
+  pub fed-piece : (to : World) (written : Option (List ℕ)) (read piece : List ℕ) (old new : Session) → IsUnbroken piece → new.accepted ≡ old.accepted → new.refused ≡ old.refused →
+      ((held : List ℕ) → HoldsPiece old.line held → HoldsPiece new.line (held ++ piece)) → Fed start to before written read a r old → Fed start to before written (read ++ piece) a r new
+  fed-piece to written read piece old new unbroken same-accepted same-refused holds fed = record {
+    pieces = fed.pieces;
+    rest = fed.rest ++ piece;
+    splits = splits-more read piece fed.pieces fed.rest fed.splits unbroken;
+    told = record {
+      replies = fed.told.replies;
+      run = fed.told.run;
+      sent = fed.told.sent;
+      accepted = same-accepted ∙ fed.told.accepted;
+      refused = same-refused ∙ fed.told.refused;
+    };
+    held = holds fed.rest fed.held;
+  }
 
-  module _ (start mid to : World) (before written written' : Option (List ℕ)) (a r : ℕ) (old new : Session) where
-    -- more lines are answered, and counted beside those before them
-    pub told-on : (first second both : List (List ℕ)) → both ≡ first ++ second → HasTold Answer start mid before written first a r old → HasTold Answer mid to written written' second old.accepted old.refused new → HasTold Answer start to before written' both a r new
-    told-on first second both is early late = record {
-      replies = early.replies ++ late.replies;
-      run = rw is (run-append start mid to first second early.replies late.replies early.run late.run);
-      sent = rw (flat_map-append reply_line early.replies late.replies) (appends_then before written written' (output early.replies) (output late.replies) early.sent late.sent);
-      accepted = late.accepted ∙ ap (λ n. n + accepted_count late.replies) early.accepted ∙ add_assoc a (accepted_count early.replies) (accepted_count late.replies) ∙ ap (λ n. a + n) (sym (count_by-append (λ x. x.accepted) early.replies late.replies));
-      refused = late.refused ∙ ap (λ n. n + refused_count late.replies) early.refused ∙ add_assoc r (refused_count early.replies) (refused_count late.replies) ∙ ap (λ n. r + n) (sym (count_by-append (λ x. not x.accepted) early.replies late.replies));
-    }
+  -- a newline, its line answered
+  pub fed-newline : (mid to : World) (written written' : Option (List ℕ)) (read : List ℕ) (old new : Session) → HoldsPiece new.line [] → Told mid to written written' old new →
+      Fed start mid before written read a r old → Fed start to before written' (read ++ 10 ∷ []) a r new
+  fed-newline mid to written written' read old new empty line fed = record {
+    pieces = fed.pieces ++ fed.rest ∷ [];
+    rest = [];
+    splits = splits-then read [] fed.pieces [] fed.rest [] fed.splits (splits-one [] (All-nil (λ b. b ≢ 10)));
+    told = rw (map-append trimmed fed.pieces (fed.rest ∷ []))
+        (told-on start mid to before written written' a r old new (map trimmed fed.pieces) (trimmed fed.rest ∷ []) fed.told (told-one mid to written written' fed.rest old new fed.held line));
+    held = empty;
+  }
 
-    -- more bytes come
-    pub fed-on : (read bytes : List ℕ) → Fed Answer start mid before written read a r old → Fed Answer mid to written written' (unended read ++ bytes) old.accepted old.refused new → Fed Answer start to before written' (read ++ bytes) a r new
-    fed-on read bytes early late = record {
-      told = told-on (whole_lines read) (whole_lines (unended read ++ bytes)) (whole_lines (read ++ bytes)) (whole_lines-append read bytes) early.told late.told;
-      held = rw (unended-append read bytes) late.held;
-    }
+  -- a newline, its reply cut
+  pub cut-newline : (mid : World) (state : State) (shelf : StoreState) (written written' : Option (List ℕ)) (read more : List ℕ) (old : Session) → ToldInPart mid (world state shelf) written written' old →
+      Fed start mid before written read a r old → FedInPart start shelf before written' (read ++ 10 ∷ more)
+  cut-newline mid state shelf written written' read more old part fed =
+      let s = splits more in (
+        map trimmed fed.pieces ++ trimmed fed.rest ∷ map trimmed s.0,
+        (fed.pieces ++ fed.rest ∷ s.0, s.1, splits-then read more fed.pieces s.0 fed.rest s.1 fed.splits s.2, sym (map-append trimmed fed.pieces (fed.rest ∷ s.0))),
+        cut-on start mid shelf before written written' a r old (map trimmed fed.pieces) (trimmed fed.rest ∷ map trimmed s.0) fed.told (cut-one mid state shelf written written' fed.rest (map trimmed s.0) old fed.held part),
+      )
 
-    -- more lines are answered in part
-    pub cut-on : (first second both : List (List ℕ)) → both ≡ first ++ second → HasTold Answer start mid before written first a r old → BreaksOff Answer mid to written written' second → BreaksOff Answer start to before written' both
-    cut-on first second both is early part = record {
-      answered = first ++ part.answered;
-      later = part.later;
-      replies = early.replies ++ part.replies;
-      last = part.last;
-      gone = part.gone;
-      missing = part.missing;
-      front = is ∙ ap (λ l. first ++ l) part.front ∙ sym (append_assoc first part.answered part.later);
-      run = rw (append_assoc early.replies part.replies (part.last ∷ [])) (run-append start mid to first part.answered early.replies (part.replies ++ part.last ∷ []) early.run part.run);
-      broken = part.broken;
-      some_missing = part.some_missing;
-      sent = rw (flat_map-append reply_line early.replies part.replies, append_assoc (output early.replies) (output part.replies) part.gone) (appends_then before written written' (output early.replies) (output part.replies ++ part.gone) early.sent part.sent);
-    }
+  pub fed_along : (to : World) (written : Option (List ℕ)) (xs ys : List ℕ) (s : Session) → xs ≡ ys → Fed start to before written xs a r s → Fed start to before written ys a r s
+  fed_along to written xs ys s same fed = subst (λ bytes. Fed start to before written bytes a r s) same fed
+
+pub fed_in_part_along : (start : World) (shelf : StoreState) (before written : Option (List ℕ)) (xs ys : List ℕ) → xs ≡ ys → FedInPart start shelf before written xs → FedInPart start shelf before written ys
+fed_in_part_along start shelf before written xs ys same cut = subst (λ bytes. FedInPart start shelf before written bytes) same cut
+
+-- ---- the end
+
+-- a last line, answered
+pub ends-told : (shelf shelf' : StoreState) (written written' : Option (List ℕ)) (held : List ℕ) (old new : Session) → IsUnbroken held → (nat_eq (length old.line.bytes.items) 0 && not old.line.is_long) ≡ false → HoldsPiece old.line held →
+    Told (world old.bench.state shelf) (world new.bench.state shelf') written written' old new → Ends shelf shelf' written written' held old new
+ends-told shelf shelf' written written' held old new unbroken some holds told =
+    (trimmed held ∷ [], lines-one held unbroken (held-some _ _ held some holds), told-one _ _ written written' held old new holds told)
+
+-- a last line, its reply cut
+pub ends-cut : (from : World) (state : State) (shelf : StoreState) (written written' : Option (List ℕ)) (held : List ℕ) (old : Session) → IsUnbroken held → (nat_eq (length old.line.bytes.items) 0 && not old.line.is_long) ≡ false → HoldsPiece old.line held →
+    ToldInPart from (world state shelf) written written' old → EndsInPart from shelf written written' held
+ends-cut from state shelf written written' held old unbroken some holds part =
+    (trimmed held ∷ [], lines-one held unbroken (held-some _ _ held some holds), cut-one from state shelf written written' held [] old holds part)
+
+-- no last line
+pub ends-empty : (shelf : StoreState) (written : Option (List ℕ)) (held : List ℕ) (s : Session) → (nat_eq (length s.line.bytes.items) 0 && not s.line.is_long) ≡ true → HoldsPiece s.line held → Ends shelf shelf written written held s s
+ends-empty shelf written held s none holds =
+    subst (λ (bytes : List ℕ). Ends shelf shelf written written bytes s s) (sym (held-none _ _ held none holds)) (
+      [],
+      lines-none,
+      record {
+        replies = [];
+        run = (refl, refl);
+        sent = appends_nothing written;
+        accepted = omega arith;
+        refused = omega arith;
+      },
+    )

@@ -1,5 +1,4 @@
 pub mod Capped
-pub mod Cases
 pub mod Creates
 pub mod Deletes
 pub mod Feeding

@@ -1,86 +1,120 @@
--- One piece, one line more.
-use Rattle.std.proofs.Common.{◌≡◌, ◌<◌, ◌≤◌, ◌+◌, ℕ, true, false, List, [], ◌∷◌, ◌++◌, length, map, refl, sym, ap, ◌∙◌, cond, arith, nat_eq, take, get_or, Some, None, nat_lt, one-add, subst, take_all, not, drop, append_assoc, add-one, drop-cons, suc}
-use Rattle.std.specs.List.{position, position_or_len}
-use Rattle.std.proofs.lemmas.Bool.{eqb-true, ltb-false}
-use Rattle.std.proofs.lemmas.List.{map-append, take-append-drop}
+-- Bytes in pieces that newlines end, and more bytes behind them.
+use Rattle.std.proofs.Common.{◌≡◌, ◌≢◌, ◌<◌, ◌≤◌, ◌+◌, ℕ, true, false, List, [], ◌∷◌, ◌++◌, length, map, refl, sym, ap, ◌∙◌, cond, arith, nat_eq, take, get_or, Some, None, nat_lt, one-add, subst, take_all, not, drop, append_assoc, add-one, drop-cons, suc}
+use Rattle.std.specs.List.{position, position_or_len, flat_map}
+use Rattle.std.proofs.lemmas.Bool.{eqb-true, eqb-false, ltb-false}
+use Rattle.std.proofs.lemmas.List.{map-append, append-nil, take-append-drop}
+use Rattle.std.proofs.lemmas.List.Elements.{All-nil, All-cons, All-head, All-tail, All-append}
 use Rattle.std.proofs.lemmas.List.Quantifiers.{position-Some}
-use Rattle.bench_engine.specs.Lines.{ended_lines, unended, onto_first_piece, before_rest, trimmed, whole_lines, lines, if_any}
+use Rattle.std.proofs.lemmas.Grind.{flat_map-append}
+use Rattle.bench_engine.specs.Headline.{IsUnbroken, Splits, trimmed, if_any, AreWholeLines, AreLines}
 
-onto_first_piece-split : (b : ℕ) (pieces : List (List ℕ)) (last : List ℕ) (later : List (List ℕ)) → onto_first_piece b (pieces ++ last ∷ later) ≡ onto_first_piece b pieces ++ before_rest b pieces last ∷ later
-onto_first_piece-split b [] last later = refl
-onto_first_piece-split b (piece ∷ pieces) last later = refl
+-- the pieces, each with its newline
+abbrev with_newlines : List (List ℕ) → List ℕ
+with_newlines pieces = flat_map (λ piece. piece ++ 10 ∷ []) pieces
 
--- a newline, and more after it
-ended-split : (bytes more : List ℕ) → ended_lines (bytes ++ 10 ∷ more) ≡ ended_lines bytes ++ unended bytes ∷ ended_lines more
-ended-split [] more = refl
-ended-split (b ∷ bytes) more =
-    elim (nat_eq b 10) as (λ t. cond t ([] ∷ ended_lines (bytes ++ 10 ∷ more)) (onto_first_piece b (ended_lines (bytes ++ 10 ∷ more))) ≡ cond t ([] ∷ ended_lines bytes) (onto_first_piece b (ended_lines bytes)) ++ cond t (unended bytes) (before_rest b (ended_lines bytes) (unended bytes)) ∷ ended_lines more) [
-      | true ↦ ap (λ p. [] ∷ p) (ended-split bytes more)
-      | false ↦ ap (onto_first_piece b) (ended-split bytes more) ∙ onto_first_piece-split b (ended_lines bytes) (unended bytes) (ended_lines more)
-    ]
+-- ---- splits
 
-before_last : (b : ℕ) (pieces : List (List ℕ)) (last rest : List ℕ) → before_rest b (pieces ++ last ∷ []) rest ≡ rest
-before_last b [] last rest = refl
-before_last b (piece ∷ pieces) last rest = refl
+-- one piece without a newline
+pub splits-one : (bytes : List ℕ) → IsUnbroken bytes → Splits bytes [] bytes
+splits-one bytes unbroken = record { joined = refl; pieces_unbroken = All-nil IsUnbroken; rest_unbroken = unbroken }
 
-pub unended-newline : (bytes : List ℕ) → unended (bytes ++ 10 ∷ []) ≡ []
-unended-newline [] = refl
-unended-newline (b ∷ bytes) =
-    elim (nat_eq b 10) as (λ t. cond t (unended (bytes ++ 10 ∷ [])) (before_rest b (ended_lines (bytes ++ 10 ∷ [])) (unended (bytes ++ 10 ∷ []))) ≡ []) [
-      | true ↦ unended-newline bytes
-      | false ↦ rw (ended-split bytes [], unended-newline bytes) (before_last b (ended_lines bytes) (unended bytes) [])
-    ]
+-- more bytes, which are split behind the rest
+pub splits-on : (bytes more : List ℕ) (pieces later : List (List ℕ)) (rest rest' : List ℕ) → Splits bytes pieces rest → Splits (rest ++ more) later rest' → Splits (bytes ++ more) (pieces ++ later) rest'
+splits-on bytes more pieces later rest rest' first then = record {
+  joined = ap (λ b. b ++ more) first.joined ∙ append_assoc (with_newlines pieces) rest more ∙ ap (λ b. with_newlines pieces ++ b) then.joined ∙ sym (append_assoc (with_newlines pieces) (with_newlines later) rest')
+      ∙ ap (λ b. b ++ rest') (sym (flat_map-append (λ (piece : List ℕ). piece ++ 10 ∷ []) pieces later));
+  pieces_unbroken = All-append IsUnbroken pieces later first.pieces_unbroken then.pieces_unbroken;
+  rest_unbroken = then.rest_unbroken;
+}
 
--- a piece in which no newline stands
-pub ended-piece : (bytes piece : List ℕ) → ended_lines piece ≡ [] → ended_lines (bytes ++ piece) ≡ ended_lines bytes
-ended-piece [] piece none = none
-ended-piece (b ∷ bytes) piece none = rw (ended-piece bytes piece none) refl
+-- more bytes without a newline
+pub splits-more : (bytes more : List ℕ) (pieces : List (List ℕ)) (rest : List ℕ) → Splits bytes pieces rest → IsUnbroken more → Splits (bytes ++ more) pieces (rest ++ more)
+splits-more bytes more pieces rest first unbroken =
+    subst (λ (all : List (List ℕ)). Splits (bytes ++ more) all (rest ++ more)) (append-nil pieces)
+    (splits-on bytes more pieces [] rest (rest ++ more) first (splits-one (rest ++ more) (All-append (λ b. b ≢ 10) rest more first.rest_unbroken unbroken)))
 
-before_rest-append : (b : ℕ) (pieces : List (List ℕ)) (rest more : List ℕ) → before_rest b pieces (rest ++ more) ≡ before_rest b pieces rest ++ more
-before_rest-append b [] rest more = refl
-before_rest-append b (piece ∷ pieces) rest more = refl
+-- a piece, its newline, and more
+splits-newline : (piece more : List ℕ) (later : List (List ℕ)) (rest : List ℕ) → IsUnbroken piece → Splits more later rest → Splits (piece ++ 10 ∷ more) (piece ∷ later) rest
+splits-newline piece more later rest unbroken then = record {
+  joined = ap (λ m. piece ++ 10 ∷ m) then.joined ∙ regrouped piece (with_newlines later) rest;
+  pieces_unbroken = All-cons IsUnbroken piece later unbroken then.pieces_unbroken;
+  rest_unbroken = then.rest_unbroken;
+}
+  where
+    regrouped : (piece later rest : List ℕ) → piece ++ 10 ∷ (later ++ rest) ≡ ((piece ++ 10 ∷ []) ++ later) ++ rest
+    regrouped piece later rest = simp append_assoc
 
-onto_none : (b : ℕ) (pieces : List (List ℕ)) → onto_first_piece b pieces ≡ [] → pieces ≡ []
-onto_none b [] none = refl
-onto_none b (piece ∷ pieces) none = cc
+-- a newline, and more
+pub splits-then : (bytes more : List ℕ) (pieces later : List (List ℕ)) (rest rest' : List ℕ) → Splits bytes pieces rest → Splits more later rest' → Splits (bytes ++ 10 ∷ more) (pieces ++ rest ∷ later) rest'
+splits-then bytes more pieces later rest rest' first then =
+    splits-on bytes (10 ∷ more) pieces (rest ∷ later) rest rest' first (splits-newline rest more later rest' first.rest_unbroken then)
 
-pub unended-whole : (piece : List ℕ) → ended_lines piece ≡ [] → unended piece ≡ piece
-unended-whole [] none = refl
-unended-whole (b ∷ piece) none =
-    elim (nat_eq b 10) as (λ t. cond t ([] ∷ ended_lines piece) (onto_first_piece b (ended_lines piece)) ≡ [] → cond t (unended piece) (before_rest b (ended_lines piece) (unended piece)) ≡ b ∷ piece) [
-      | true ↦ λ h. cc
-      | false ↦ λ h. let rest = onto_none b (ended_lines piece) h in rw (rest, unended-whole piece rest) refl
-    ] none
+splits-byte : (b : ℕ) (bytes : List ℕ) (pieces : List (List ℕ)) (rest : List ℕ) → b ≢ 10 → Splits bytes pieces rest → (more : List (List ℕ)) × (rest' : List ℕ) × Splits (b ∷ bytes) more rest'
+splits-byte b bytes [] rest other s = ([], b ∷ rest, record { joined = ap (λ l. b ∷ l) s.joined; pieces_unbroken = All-nil IsUnbroken; rest_unbroken = All-cons (λ b. b ≢ 10) b rest other s.rest_unbroken })
+splits-byte b bytes (piece ∷ pieces) rest other s = (
+  (b ∷ piece) ∷ pieces,
+  rest,
+  record {
+    joined = ap (λ l. b ∷ l) s.joined;
+    pieces_unbroken = All-cons IsUnbroken (b ∷ piece) pieces (All-cons (λ b. b ≢ 10) b piece other (All-head IsUnbroken piece pieces s.pieces_unbroken)) (All-tail IsUnbroken piece pieces s.pieces_unbroken);
+    rest_unbroken = s.rest_unbroken;
+  },
+)
 
-pub unended-piece : (bytes piece : List ℕ) → ended_lines piece ≡ [] → unended (bytes ++ piece) ≡ unended bytes ++ piece
-unended-piece [] piece none = unended-whole piece none
-unended-piece (b ∷ bytes) piece none =
-    elim (nat_eq b 10) as (λ t. cond t (unended (bytes ++ piece)) (before_rest b (ended_lines (bytes ++ piece)) (unended (bytes ++ piece))) ≡ cond t (unended bytes) (before_rest b (ended_lines bytes) (unended bytes)) ++ piece) [
-      | true ↦ unended-piece bytes piece none
-      | false ↦ rw (ended-piece bytes piece none, unended-piece bytes piece none) (before_rest-append b (ended_lines bytes) (unended bytes) piece)
-    ]
+-- all bytes are split
+pub splits : (bytes : List ℕ) → (pieces : List (List ℕ)) × (rest : List ℕ) × Splits bytes pieces rest
+splits [] = ([], [], splits-one [] (All-nil (λ b. b ≢ 10)))
+splits (b ∷ bytes) =
+    let s = splits bytes in
+    elim (nat_eq b 10) as (λ t. nat_eq b 10 ≡ t → (pieces : List (List ℕ)) × (rest : List ℕ) × Splits (b ∷ bytes) pieces rest) [
+      | true ↦ λ newline. ([] ∷ s.0, s.1, subst (λ (c : ℕ). Splits (c ∷ bytes) ([] ∷ s.0) s.1) (sym (eqb-true b 10 newline)) (splits-newline [] bytes s.0 s.1 (All-nil (λ b. b ≢ 10)) s.2))
+      | false ↦ λ other. splits-byte b bytes s.0 s.1 (eqb-false b 10 other) s.2
+    ] refl
 
-pub whole_lines-piece : (bytes piece : List ℕ) → ended_lines piece ≡ [] → whole_lines (bytes ++ piece) ≡ whole_lines bytes
-whole_lines-piece bytes piece none = ap (map trimmed) (ended-piece bytes piece none)
+-- ---- lines
 
-pub whole_lines-split : (bytes more : List ℕ) → whole_lines (bytes ++ 10 ∷ more) ≡ whole_lines bytes ++ trimmed (unended bytes) ∷ whole_lines more
-whole_lines-split bytes more = ap (map trimmed) (ended-split bytes more) ∙ map-append trimmed (ended_lines bytes) (unended bytes ∷ ended_lines more)
+-- more lines come behind those of the pieces
+pub whole_lines-on : (bytes more : List ℕ) (pieces : List (List ℕ)) (rest : List ℕ) (lines : List (List ℕ)) → Splits bytes pieces rest → AreWholeLines (rest ++ more) lines → AreWholeLines (bytes ++ more) (map trimmed pieces ++ lines)
+whole_lines-on bytes more pieces rest lines first then =
+    (pieces ++ then.0, then.1, splits-on bytes more pieces then.0 rest then.1 first then.2, ap (λ l. map trimmed pieces ++ l) then.3 ∙ sym (map-append trimmed pieces then.0))
 
-if_any-some : (piece : List ℕ) → 0 < length piece → if_any piece ≡ piece ∷ []
-if_any-some [] h = absurd (omega arith)
-if_any-some (b ∷ piece) h = refl
+pub lines-on : (bytes more : List ℕ) (pieces : List (List ℕ)) (rest : List ℕ) (lines : List (List ℕ)) → Splits bytes pieces rest → AreLines (rest ++ more) lines → AreLines (bytes ++ more) (map trimmed pieces ++ lines)
+lines-on bytes more pieces rest lines first then = (
+  pieces ++ then.0,
+  then.1,
+  splits-on bytes more pieces then.0 rest then.1 first then.2,
+  ap (λ l. map trimmed pieces ++ l) then.3 ∙ sym (map-append trimmed pieces (then.0 ++ if_any then.1)) ∙ ap (λ l. map trimmed l) (sym (append_assoc pieces then.0 (if_any then.1))),
+)
 
--- a last line that no newline ends
-pub lines-last : (bytes : List ℕ) → 0 < length (unended bytes) → lines bytes ≡ whole_lines bytes ++ trimmed (unended bytes) ∷ []
-lines-last bytes some = ap (λ last. whole_lines bytes ++ map trimmed last) (if_any-some (unended bytes) some)
+-- and none more
+pub lines-end : (bytes : List ℕ) (pieces : List (List ℕ)) (rest : List ℕ) (lines : List (List ℕ)) → Splits bytes pieces rest → AreLines rest lines → AreLines bytes (map trimmed pieces ++ lines)
+lines-end bytes pieces rest lines first then =
+    subst (λ (b : List ℕ). AreLines b (map trimmed pieces ++ lines)) (append-nil bytes) (lines-on bytes [] pieces rest lines first (subst (λ (b : List ℕ). AreLines b lines) (sym (append-nil rest)) then))
 
--- the bytes before the first newline
-ended-before : (bytes : List ℕ) → ended_lines (take (position_or_len (λ b. nat_eq b 10) bytes) bytes) ≡ []
-ended-before [] = refl
-ended-before (b ∷ bytes) =
-    elim (nat_eq b 10) as (λ t. nat_eq b 10 ≡ t → ended_lines (take (cond (not t) (1 + position_or_len (λ x. nat_eq x 10) bytes) 0) (b ∷ bytes)) ≡ []) [
-      | true ↦ λ _. refl
-      | false ↦ λ other. rw (one-add, other, ended-before bytes) refl
+-- the lines of a piece
+pub lines-one : (piece : List ℕ) → IsUnbroken piece → 0 < length piece → AreLines piece (trimmed piece ∷ [])
+lines-one [] unbroken some = absurd (omega arith)
+lines-one (b ∷ bytes) unbroken some = ([], b ∷ bytes, splits-one (b ∷ bytes) unbroken, refl)
+
+pub lines-none : AreLines [] []
+lines-none = ([], [], splits-one [] (All-nil (λ b. b ≢ 10)), refl)
+
+-- the lines that newlines end are first lines of a script that goes on
+pub lines-front : (bytes more : List ℕ) (lines : List (List ℕ)) → AreWholeLines bytes lines → (later : List (List ℕ)) × AreLines (bytes ++ more) (lines ++ later)
+lines-front bytes more lines whole =
+    let s = splits (whole.1 ++ more) in
+    let later = map trimmed (s.0 ++ if_any s.1) in
+    (later, subst (λ (l : List (List ℕ)). AreLines (bytes ++ more) (l ++ later)) (sym whole.3) (lines-on bytes more whole.0 whole.1 later whole.2 (s.0, s.1, s.2, refl)))
+
+-- ---- the first newline
+
+-- the bytes before it
+before_newline : (bytes : List ℕ) → IsUnbroken (take (position_or_len (λ b. nat_eq b 10) bytes) bytes)
+before_newline [] = All-nil (λ b. b ≢ 10)
+before_newline (b ∷ bytes) =
+    elim (nat_eq b 10) as (λ t. nat_eq b 10 ≡ t → IsUnbroken (take (cond (not t) (1 + position_or_len (λ x. nat_eq x 10) bytes) 0) (b ∷ bytes))) [
+      | true ↦ λ _. All-nil (λ b. b ≢ 10)
+      | false ↦ λ other. rw one-add (All-cons (λ b. b ≢ 10) b (take (position_or_len (λ x. nat_eq x 10) bytes) bytes) (eqb-false b 10 other) (before_newline bytes))
     ] refl
 
 place : (q n end : ℕ) → cond (nat_lt q n) (Some q) None ≡ Some end → q ≡ end
@@ -91,10 +125,10 @@ place q n end is =
     ] is
 
 -- the first newline, after bytes without one
-pub first_newline : (bytes : List ℕ) (end : ℕ) → position (λ b. nat_eq b 10) bytes ≡ Some end → (end < length bytes) × (ended_lines (take end bytes) ≡ []) × (get_or bytes end 10 ≡ 10)
+pub first_newline : (bytes : List ℕ) (end : ℕ) → position (λ b. nat_eq b 10) bytes ≡ Some end → (end < length bytes) × IsUnbroken (take end bytes) × (get_or bytes end 10 ≡ 10)
 first_newline bytes end is =
     let at = position-Some (λ b. nat_eq b 10) bytes end 10 is in
-    (at.0, subst (λ n. ended_lines (take n bytes) ≡ []) (place (position_or_len (λ b. nat_eq b 10) bytes) (length bytes) end is) (ended-before bytes), eqb-true _ _ at.1)
+    (at.0, subst (λ n. IsUnbroken (take n bytes)) (place (position_or_len (λ b. nat_eq b 10) bytes) (length bytes) end is) (before_newline bytes), eqb-true _ _ at.1)
 
 nowhere : (q n : ℕ) → cond (nat_lt q n) (Some q) None ≡ None → n ≤ q
 nowhere q n is =
@@ -104,9 +138,9 @@ nowhere q n is =
     ] refl is
 
 -- no newline at all
-pub no_newline : (bytes : List ℕ) → position (λ b. nat_eq b 10) bytes ≡ None → ended_lines bytes ≡ []
+pub no_newline : (bytes : List ℕ) → position (λ b. nat_eq b 10) bytes ≡ None → IsUnbroken bytes
 no_newline bytes none =
-    subst (λ piece. ended_lines piece ≡ []) (take_all _ bytes (nowhere (position_or_len (λ b. nat_eq b 10) bytes) (length bytes) none)) (ended-before bytes)
+    subst IsUnbroken (take_all _ bytes (nowhere (position_or_len (λ b. nat_eq b 10) bytes) (length bytes) none)) (before_newline bytes)
 
 -- the bytes before a newline, it, and those after it
 at_newline : (bytes : List ℕ) (end : ℕ) → end < length bytes → get_or bytes end 10 ≡ 10 → bytes ≡ take end bytes ++ 10 ∷ drop (end + 1) bytes
@@ -115,70 +149,3 @@ at_newline bytes end here is = sym (take-append-drop end bytes) ∙ ap (λ d. ta
 -- a newline in the last part of some bytes
 pub newline_in_rest : (bytes taken rest : List ℕ) (end : ℕ) → bytes ≡ taken ++ rest → end < length rest → get_or rest end 10 ≡ 10 → bytes ≡ (taken ++ take end rest) ++ 10 ∷ drop (end + 1) rest
 newline_in_rest bytes taken rest end is here newline = is ∙ ap (λ r. taken ++ r) (at_newline rest end here newline) ∙ sym (append_assoc taken (take end rest) (10 ∷ drop (end + 1) rest))
-
--- more bytes leave the lines that stand
-onto_first_piece-front : (b : ℕ) (pieces more : List (List ℕ)) → (later : List (List ℕ)) × (onto_first_piece b (pieces ++ more) ≡ onto_first_piece b pieces ++ later)
-onto_first_piece-front b [] more = (onto_first_piece b more, refl)
-onto_first_piece-front b (piece ∷ pieces) more = (more, refl)
-
-ended-front : (bytes more : List ℕ) → (later : List (List ℕ)) × (ended_lines (bytes ++ more) ≡ ended_lines bytes ++ later)
-ended-front [] more = (ended_lines more, refl)
-ended-front (b ∷ bytes) more =
-    let rest = ended-front bytes more in
-    elim (nat_eq b 10) as (λ t. (later : List (List ℕ)) × (cond t ([] ∷ ended_lines (bytes ++ more)) (onto_first_piece b (ended_lines (bytes ++ more))) ≡ cond t ([] ∷ ended_lines bytes) (onto_first_piece b (ended_lines bytes)) ++ later)) [
-      | true ↦ (rest.0, ap (λ p. [] ∷ p) rest.1)
-      | false ↦ let onto = onto_first_piece-front b (ended_lines bytes) rest.0 in (onto.0, ap (onto_first_piece b) rest.1 ∙ onto.1)
-    ]
-
-pub lines-front : (bytes more : List ℕ) → (later : List (List ℕ)) × (lines (bytes ++ more) ≡ whole_lines bytes ++ later)
-lines-front bytes more =
-    let front = ended-front bytes more in
-    let last = map trimmed (if_any (unended (bytes ++ more))) in
-    (map trimmed front.0 ++ last, ap (λ pieces. map trimmed pieces ++ last) front.1 ∙ ap (λ l. l ++ last) (map-append trimmed (ended_lines bytes) front.0) ∙ append_assoc (whole_lines bytes) (map trimmed front.0) last)
-
--- bytes in two parts: what the first leaves unended goes on in the second
-pub ended-append : (bytes more : List ℕ) → ended_lines (bytes ++ more) ≡ ended_lines bytes ++ ended_lines (unended bytes ++ more)
-ended-append [] more = refl
-ended-append (b ∷ bytes) more =
-    elim (nat_eq b 10) as (λ t. nat_eq b 10 ≡ t → cond t ([] ∷ ended_lines (bytes ++ more)) (onto_first_piece b (ended_lines (bytes ++ more)))
-    ≡ cond t ([] ∷ ended_lines bytes) (onto_first_piece b (ended_lines bytes)) ++ ended_lines (cond t (unended bytes) (before_rest b (ended_lines bytes) (unended bytes)) ++ more)) [
-      | true ↦ λ _. ap (λ p. [] ∷ p) (ended-append bytes more)
-      | false ↦ λ other. ap (onto_first_piece b) (ended-append bytes more) ∙ onto-append b other (ended_lines bytes) (unended bytes) more
-    ] refl
-  where
-    onto-append : (b : ℕ) → nat_eq b 10 ≡ false → (pieces : List (List ℕ)) (rest more : List ℕ) → onto_first_piece b (pieces ++ ended_lines (rest ++ more)) ≡ onto_first_piece b pieces ++ ended_lines (before_rest b pieces rest ++ more)
-    onto-append b other [] rest more = rw other refl
-    onto-append b other (piece ∷ pieces) rest more = refl
-
-pub unended-append : (bytes more : List ℕ) → unended (bytes ++ more) ≡ unended (unended bytes ++ more)
-unended-append [] more = refl
-unended-append (b ∷ bytes) more =
-    elim (nat_eq b 10) as (λ t. nat_eq b 10 ≡ t → cond t (unended (bytes ++ more)) (before_rest b (ended_lines (bytes ++ more)) (unended (bytes ++ more)))
-    ≡ unended (cond t (unended bytes) (before_rest b (ended_lines bytes) (unended bytes)) ++ more)) [
-      | true ↦ λ _. unended-append bytes more
-      | false ↦ λ other. rw (ended-append bytes more, unended-append bytes more) (rest-append b other (ended_lines bytes) (unended bytes) more)
-    ] refl
-  where
-    rest-append : (b : ℕ) → nat_eq b 10 ≡ false → (pieces : List (List ℕ)) (rest more : List ℕ) → before_rest b (pieces ++ ended_lines (rest ++ more)) (unended (rest ++ more)) ≡ unended (before_rest b pieces rest ++ more)
-    rest-append b other [] rest more = rw other refl
-    rest-append b other (piece ∷ pieces) rest more = refl
-
--- no newline is left in what follows the last one
-pub ended-unended : (bytes : List ℕ) → ended_lines (unended bytes) ≡ []
-ended-unended [] = refl
-ended-unended (b ∷ bytes) =
-    elim (nat_eq b 10) as (λ t. nat_eq b 10 ≡ t → ended_lines (cond t (unended bytes) (before_rest b (ended_lines bytes) (unended bytes))) ≡ []) [
-      | true ↦ λ _. ended-unended bytes
-      | false ↦ λ other. in_rest b other (ended_lines bytes) (unended bytes) (ended-unended bytes)
-    ] refl
-  where
-    in_rest : (b : ℕ) → nat_eq b 10 ≡ false → (pieces : List (List ℕ)) (rest : List ℕ) → ended_lines rest ≡ [] → ended_lines (before_rest b pieces rest) ≡ []
-    in_rest b other [] rest none = rw (other, none) refl
-    in_rest b other (piece ∷ pieces) rest none = none
-
-pub whole_lines-append : (bytes more : List ℕ) → whole_lines (bytes ++ more) ≡ whole_lines bytes ++ whole_lines (unended bytes ++ more)
-whole_lines-append bytes more = ap (map trimmed) (ended-append bytes more) ∙ map-append trimmed (ended_lines bytes) (ended_lines (unended bytes ++ more))
-
--- the last line goes on from what is unended
-pub lines-unended : (bytes : List ℕ) → lines bytes ≡ whole_lines bytes ++ lines (unended bytes)
-lines-unended bytes = rw (ended-unended bytes, unended-whole (unended bytes) (ended-unended bytes)) refl

@@ -1,7 +1,8 @@
 -- Arrays that are loaded.
-use Rattle.std.proofs.Common.{◌≡◌, ◌∙◌, ℕ, true, List, ◌++◌, append_assoc, refl, sym, ap, subst, inl, inr, arith, Option, Some, None, Result, Ok, Err}
+use Rattle.std.proofs.Common.{◌≡◌, ◌∙◌, ℕ, true, false, List, ◌++◌, append_assoc, refl, sym, ap, subst, inl, inr, arith, Option, Some, None, Result, Ok, Err}
 use Rattle.std.specs.FinMap.{get}
 use Rattle.elem_descr.specs.declared.refusal.Refusal.{Refusal}
+use Rattle.elem_descr.specs.declared.refusal.Refusal.TheVariants.{TooManyNames, OutOfMemory}
 use Rattle.elem_descr.specs.Items.{item_size}
 use Rattle.elem_descr.specs.Blocks.{items_in}
 use Rattle.shape_strides.specs.Indexes.{count}
@@ -11,16 +12,17 @@ use Rattle.npy_files.specs.Stores.{StoreState, IsSameStore, FaultHasCause, IsRea
 use Rattle.npy_files.specs.declared.store.StoreFault.{StoreFault}
 use Rattle.npy_files.specs.declared.store.StoreFault.TheVariants.{Device, TooLong, Memory}
 use Rattle.npy_format.specs.Files.{Loaded, Loads, HoldsFileItems, file_order}
+use Rattle.script_lang.specs.declared.command.Command.TheVariants.{Bind}
+use Rattle.script_lang.specs.declared.command.Value.TheVariants.{Load as LoadValue}
 use Rattle.name_store.specs.States.{State}
 use Rattle.name_store.specs.Arrays.{has_room_for}
 use Rattle.bench_engine.specs.inside.OwnContents.{held}
 use Rattle.bench_engine.specs.inside.Contract.{CarriesOut, Carried}
 use Rattle.bench_engine.specs.inside.LoadedFiles.{Finds}
 use Rattle.bench_engine.specs.Replies.{refusal}
-use Rattle.bench_engine.specs.Machine.{Choice, after_outcome}
-use Rattle.bench_engine.specs.Worlds.{world}
-use Rattle.bench_engine.specs.Meanings.{MayAnswerLoad}
-use Rattle.bench_engine.specs.Loads.{Found, MayFind, loaded, loaded_contents, bound_loaded, load_outcome}
+use Rattle.bench_engine.specs.Memory.{MayAnswer}
+use Rattle.bench_engine.specs.Machine.{Choice, IsAllowed, after_outcome}
+use Rattle.bench_engine.specs.Steps.{world, Found, MayFind, loaded, loaded_contents, bound_loaded, load_outcome, LoadStep}
 use Rattle.bench_engine.proofs.Stored.{places-stored}
 use Rattle.bench_engine.proofs.Steps.{spare}
 
@@ -32,34 +34,54 @@ contents-held o l has = λ i. record {
   buffer = record { descr = sym has.descr i; items = items_in (sym has.descr i) (count (sym has.shape i)) (sym has.block i) };
 }
 
-load-bad : (choice : Choice) (s : State) (name : List ℕ) (found : Found) (e : Refusal) → has_room_for s name ≡ true → loaded found ≡ Err e → load_outcome choice s name found ≡ Err e
+load-bad : (choice : Choice) (s : State) (name : List ℕ) (found : Found) (e : Refusal) → loaded found ≡ Err e → load_outcome choice s name found ≡ Err e
 unfolding load_outcome
-load-bad choice s name found e room bad = rw (room, bad) refl
+load-bad choice s name found e bad = rw bad refl
 
-load-done : (choice : Choice) (s : State) (name : List ℕ) (found : Found) (l : Loaded) → has_room_for s name ≡ true → loaded found ≡ Ok l → load_outcome choice s name found ≡ bound_loaded choice s name l.rest (loaded_contents l)
+load-done : (choice : Choice) (s : State) (name : List ℕ) (found : Found) (l : Loaded) → loaded found ≡ Ok l → load_outcome choice s name found ≡ bound_loaded choice s name l.rest (loaded_contents l)
 unfolding load_outcome
-load-done choice s name found l room good = rw (room, good) refl
+load-done choice s name found l good = rw good refl
+
+-- there is no room for the name
+full-step : (s : State) (shelf : StoreState) (name file : List ℕ) → has_room_for s name ≡ false → LoadStep (world s shelf) name file (world s shelf) (refusal TooManyNames)
+full-step s shelf name file full = rw full (refl, refl)
+
+pub load-full : (s : State) (shelf : StoreState) (name file : List ℕ) → has_room_for s name ≡ false → MayAnswer (world s shelf) (Bind name (LoadValue file)) (world s shelf) (refusal TooManyNames)
+load-full s shelf name file full = inl (full-step s shelf name file full)
+
+-- want of memory once the store was asked is an answer of the store
+load-lacks : (s t : State) (old new : StoreState) (name file : List ℕ) (found : Found) (e : Refusal) → has_room_for s name ≡ true → MayFind old new file found → t ≡ s → e ≡ OutOfMemory → LoadStep (world s old) name file (world t new) (refusal e)
+load-lacks s t old new name file found e room may same lacks =
+    let any = spare s in
+    rw room (
+      Err Memory,
+      record { same = may.same; files = may.files; cause = tt; read = λ _. tt },
+      (any.0, any.1, ap (after_outcome s) (load-bad any.0 s name (Err Memory) OutOfMemory refl) ∙ (λ i. (sym same i, refusal (sym lacks i)))),
+    )
 
 -- the answer of the store is refused
-pub find-refused : (s : State) (old new : StoreState) (name file : List ℕ) (e : Refusal) → has_room_for s name ≡ true → IsSameStore old new → new.files ≡ old.files → Finds old new file (Err e) →
-    MayAnswerLoad (world s old) name file (world s new) (refusal e)
-find-refused s old new name file e room same files finds =
-    elim finds.loads as (λ _. MayAnswerLoad (world s old) name file (world s new) (refusal e)) [
-      | inl lacks ↦ inr (room, same, files, inr (refl, (refl, ap refusal lacks)))
-      | inr bad ↦ let any = spare s in inr (room, same, files, inl (any.0, any.1, finds.found, finds.may, ap (after_outcome s) (load-bad any.0 s name finds.found e room bad)))
-    ]
+pub find-refused : (s : State) (old new : StoreState) (name file : List ℕ) (e : Refusal) → has_room_for s name ≡ true → Finds old new file (Err e) → MayAnswer (world s old) (Bind name (LoadValue file)) (world s new) (refusal e)
+find-refused s old new name file e room finds =
+    inl (elim finds.loads as (λ _. LoadStep (world s old) name file (world s new) (refusal e)) [
+      | inl lacks ↦ load-lacks s s old new name file finds.found e room finds.may refl lacks
+      | inr bad ↦ let any = spare s in rw room (finds.found, finds.may, (any.0, any.1, ap (after_outcome s) (load-bad any.0 s name finds.found e bad)))
+    ])
+
+done-step : (s t : State) (old new : StoreState) (name file text : List ℕ) (found : Found) (choice : Choice) → has_room_for s name ≡ true → MayFind old new file found → IsAllowed s choice →
+    after_outcome s (load_outcome choice s name found) ≡ (t, record { text = text; accepted = true }) → LoadStep (world s old) name file (world t new) (record { text = text; accepted = true })
+done-step s t old new name file text found choice room may allowed is = rw room (found, may, (choice, allowed, is))
 
 -- the name is bound to what is loaded
-pub load-answers : (s t : State) (old new : StoreState) (name file before after : List ℕ) (o : Owned) (rest : ℕ) (result : Result (Unit {0}) Refusal) → has_room_for s name ≡ true → IsSameStore old new → new.files ≡ old.files → Finds old new file (Ok (o, rest)) →
-    CarriesOut true (λ choice. bound_loaded choice s name rest (held o)) s t before after result → Carried (MayAnswerLoad (world s old) name file (world t new)) before after result
-load-answers s t old new name file before after o rest (Ok done) room same files finds h =
+pub load-answers : (s t : State) (old new : StoreState) (name file before after : List ℕ) (o : Owned) (rest : ℕ) (result : Result (Unit {0}) Refusal) → has_room_for s name ≡ true → Finds old new file (Ok (o, rest)) →
+    CarriesOut true (λ choice. bound_loaded choice s name rest (held o)) s t before after result → Carried (MayAnswer (world s old) (Bind name (LoadValue file)) (world t new)) before after result
+load-answers s t old new name file before after o rest (Ok done) room finds h =
     let l : Loaded = finds.loads.0 in
     let is : load_outcome h.0 s name finds.found ≡ bound_loaded h.0 s name rest (held o) =
-    load-done h.0 s name finds.found l room finds.loads.1 ∙ (λ i. bound_loaded h.0 s name (sym finds.loads.3 i) (contents-held o l finds.loads.2 i)) in
-    (h.2, inr (room, same, files, inl (h.0, h.1, finds.found, finds.may, ap (after_outcome s) (is ∙ h.3))), h.4)
-load-answers s t old new name file before after o rest (Err e) room same files finds (kept, starts, inl lacks) =
-    (starts, inr (room, same, files, inr (refl, (kept, ap refusal lacks.0))))
-load-answers s t old new name file before after o rest (Err e) room same files finds (kept, starts, inr bad) =
+    load-done h.0 s name finds.found l finds.loads.1 ∙ (λ i. bound_loaded h.0 s name (sym finds.loads.3 i) (contents-held o l finds.loads.2 i)) in
+    (h.2, inl (done-step s t old new name file h.2 finds.found h.0 room finds.may h.1 (ap (after_outcome s) (is ∙ h.3))), h.4)
+load-answers s t old new name file before after o rest (Err e) room finds (kept, starts, inl lacks) =
+    (starts, inl (load-lacks s t old new name file finds.found e room finds.may kept lacks.0))
+load-answers s t old new name file before after o rest (Err e) room finds (kept, starts, inr bad) =
     let any = spare s in let no = bad any.0 in cc
 
 -- what a store answers, its bytes as a view shows them
@@ -68,18 +90,18 @@ as-found view (Ok None) = Ok None
 as-found view (Ok (Some bytes)) = Ok (Some (view bytes))
 as-found view (Err fault) = Err fault
 
-may-find : {V : Type 0} (view : V → List ℕ) (old new : StoreState) (file : List ℕ) (answer : Result (Option V) StoreFault) → FaultHasCause old new answer → (old.honest ≡ true → IsRead view old.limit (get old.files file) answer) → MayFind old new file (as-found view answer)
-may-find view old new file (Ok None) cause read = record { cause = tt; read = read }
-may-find view old new file (Ok (Some bytes)) cause read = record { cause = tt; read = read }
-may-find view old new file (Err Device) cause read = record { cause = cause; read = read }
-may-find view old new file (Err TooLong) cause read = record { cause = tt; read = read }
-may-find view old new file (Err Memory) cause read = record { cause = tt; read = read }
+may-find : {V : Type 0} (view : V → List ℕ) (old new : StoreState) (file : List ℕ) (answer : Result (Option V) StoreFault) → IsSameStore old new → new.files ≡ old.files → FaultHasCause old new answer → (old.honest ≡ true → IsRead view old.limit (get old.files file) answer) → MayFind old new file (as-found view answer)
+may-find view old new file (Ok None) same files cause read = record { same = same; files = files; cause = tt; read = read }
+may-find view old new file (Ok (Some bytes)) same files cause read = record { same = same; files = files; cause = tt; read = read }
+may-find view old new file (Err Device) same files cause read = record { same = same; files = files; cause = cause; read = read }
+may-find view old new file (Err TooLong) same files cause read = record { same = same; files = files; cause = tt; read = read }
+may-find view old new file (Err Memory) same files cause read = record { same = same; files = files; cause = tt; read = read }
 
-pub finds : {V : Type 0} (view : V → List ℕ) (old new : StoreState) (name file : List ℕ) (answer answer' : Result (Option V) StoreFault) (result : Result (Owned × ℕ) Refusal) → name ≡ file → answer ≡ answer' → FaultHasCause old new answer →
+pub finds : {V : Type 0} (view : V → List ℕ) (old new : StoreState) (name file : List ℕ) (answer answer' : Result (Option V) StoreFault) (result : Result (Owned × ℕ) Refusal) → name ≡ file → answer ≡ answer' → IsSameStore old new → new.files ≡ old.files → FaultHasCause old new answer →
     (old.honest ≡ true → IsRead view old.limit (get old.files name) answer) → Loads result (loaded (as-found view answer')) → Finds old new file result
-finds {V} view old new name file answer answer' result same is cause read loads = record {
+finds {V} view old new name file answer answer' result same is kept files cause read loads = record {
   found = as-found view answer;
-  may = may-find view old new file answer cause (subst (λ (n : List ℕ). old.honest ≡ true → IsRead view old.limit (get old.files n) answer) same read);
+  may = may-find view old new file answer kept files cause (subst (λ (n : List ℕ). old.honest ≡ true → IsRead view old.limit (get old.files n) answer) same read);
   loads = subst (λ (a : Result (Option V) StoreFault). Loads result (loaded (as-found view a))) (sym is) loads;
 }
 

@@ -2,8 +2,7 @@
 use Rattle.std.proofs.Common.{◌≡◌, ◌<◌, ◌≤◌, ◌+◌, ℕ, Bool, true, false, List, [], ◌∷◌, length, refl, sym, cond, arith, nat_eq, take, ◌-◌, length-take}
 use Rattle.std.specs.List.{ends_with}
 use Rattle.std.proofs.lemmas.Bool.{lt-ltb, le-ltb}
-use Rattle.bench_engine.specs.Lines.{trimmed}
-use Rattle.bench_engine.specs.Meanings.{too_long, says, meaning_of, limit}
+use Rattle.bench_engine.specs.Headline.{trimmed, too_long, says, meaning_of, limit}
 use Rattle.script_lang.specs.Lines.{line_of}
 use Rattle.bench_engine.specs.Sessions.{HoldsBytes}
 

@@ -6,15 +6,14 @@ use Rattle.elem_descr.specs.Blocks.{item_from}
 use Rattle.shape_strides.specs.Layouts.{offsets}
 use Rattle.npy_files.specs.Stores.{StoreState, IsSameStore, FaultHasCause, IsKept, IsWritten}
 use Rattle.npy_format.specs.WrittenFiles.{saved}
+use Rattle.script_lang.specs.declared.command.Command.TheVariants.{Save}
 use Rattle.name_store.specs.States.{State, Array}
 use Rattle.name_store.specs.Arrays.{find_array, is_bound, addresses, descr_of, read}
 use Rattle.name_store.specs.Shown.{Shows}
 use Rattle.name_store.specs.declared.array_ref.ArrayRef.{ArrayRef}
 use Rattle.bench_engine.specs.Replies.{Reply, refusal}
-use Rattle.bench_engine.specs.Worlds.{world}
-use Rattle.bench_engine.specs.Meanings.{MayAnswerSave}
-use Rattle.bench_engine.specs.StoreFaults.{store_refusal}
-use Rattle.bench_engine.specs.Saves.{Stored, file_of_name, save_reply}
+use Rattle.bench_engine.specs.Steps.{world, store_refusal, Stored, file_of_name, save_reply, SaveStep}
+use Rattle.bench_engine.specs.Memory.{MayAnswer}
 use Rattle.bench_engine.specs.inside.SavedFiles.{refused, Puts}
 
 unknown : (s : State) (name : List ℕ) → find_array s.names name ≡ None → file_of_name s name ≡ Err UnknownName
@@ -31,15 +30,18 @@ file-shown : (s : State) (name : List ℕ) (a : Array) (r : ArrayRef) → find_a
 file-shown s name a r is shows =
     file-known s name a is ∙ λ i. saved (shows.descr i) (sym shows.view.laid.shape i) (sym shows.view.laid.places i) (shows.reads i)
 
-pub save-unknown : (s : State) (shelf : StoreState) (name file : List ℕ) → find_array s.names name ≡ None → MayAnswerSave (world s shelf) name file (world s shelf) (refusal UnknownName)
-save-unknown s shelf name file none = inl (UnknownName, unknown s name none, (refl, refl))
-
 -- there is no file
+not-there : (s : State) (shelf : StoreState) (name file : List ℕ) (e : Refusal) → file_of_name s name ≡ Err e → SaveStep (world s shelf) name file (world s shelf) (refusal e)
+not-there s shelf name file e bad = rw bad (refl, refl)
+
+pub save-unknown : (s : State) (shelf : StoreState) (name file : List ℕ) → find_array s.names name ≡ None → MayAnswer (world s shelf) (Save name file) (world s shelf) (refusal UnknownName)
+save-unknown s shelf name file none = inl (not-there s shelf name file UnknownName (unknown s name none))
+
 pub save-refused : (s : State) (shelf : StoreState) (name file : List ℕ) (a : Array) (r : ArrayRef) (e : Refusal) → find_array s.names name ≡ Some a → is_bound s name ≡ true → Shows s a r →
     (e ≡ OutOfMemory) ⊎ (saved r.descr.now r.layout.now.shape (offsets r.layout.now) (map (item_from r.descr.now r.block.now) (offsets r.layout.now)) ≡ Err e) →
-    MayAnswerSave (world s shelf) name file (world s shelf) (refusal e)
-save-refused s shelf name file a r e is bound shows (inl lacks) = inr (inl (bound, (refl, ap refusal lacks)))
-save-refused s shelf name file a r e is bound shows (inr bad) = inl (e, file-shown s name a r is shows ∙ bad, (refl, refl))
+    MayAnswer (world s shelf) (Save name file) (world s shelf) (refusal e)
+save-refused s shelf name file a r e is bound shows (inl lacks) = inr (rw bound refl, (refl, ap refusal lacks))
+save-refused s shelf name file a r e is bound shows (inr bad) = inl (not-there s shelf name file e (file-shown s name a r is shows ∙ bad))
 
 told-refusal : (n : ℕ) (stored : Stored) (e : Refusal) → Err e ≡ refused stored → refusal e ≡ save_reply n stored
 told-refusal n (Ok done) e is = cc
@@ -50,30 +52,31 @@ told-done n (Ok done) _ is = refl
 told-done n (Err fault) done is = cc
 
 -- the store is asked
-asked : (s : State) (old new : StoreState) (name file bytes : List ℕ) (result : Result (Unit {0}) Refusal) (reply : Reply) → file_of_name s name ≡ Ok bytes → IsSameStore old new → (puts : Puts old new file bytes result) →
-    reply ≡ save_reply (length bytes) puts.stored → MayAnswerSave (world s old) name file (world s new) reply
-asked s old new name file bytes result reply is same puts told = inr (inr (bytes, is, (refl, same, puts.stored, puts.may, told)))
+asked : (s : State) (old new : StoreState) (name file bytes : List ℕ) (result : Result (Unit {0}) Refusal) (reply : Reply) → file_of_name s name ≡ Ok bytes → (puts : Puts old new file bytes result) → reply ≡ save_reply (length bytes) puts.stored →
+    MayAnswer (world s old) (Save name file) (world s new) reply
+asked s old new name file bytes result reply is puts told = inl (rw is (refl, puts.stored, puts.may, told))
 
 -- the store has the file
 pub save-done : (s : State) (old new : StoreState) (name file bytes : List ℕ) (a : Array) (r : ArrayRef) (done : Unit {0}) → find_array s.names name ≡ Some a → Shows s a r →
-    saved r.descr.now r.layout.now.shape (offsets r.layout.now) (map (item_from r.descr.now r.block.now) (offsets r.layout.now)) ≡ Ok bytes → IsSameStore old new → Puts old new file bytes (Ok done) →
-    MayAnswerSave (world s old) name file (world s new) (record { text = codes "ok save " ++ decimal (length bytes); accepted = true })
-save-done s old new name file bytes a r done is shows good same puts =
-    asked s old new name file bytes (Ok done) _ (file-shown s name a r is shows ∙ good) same puts (told-done (length bytes) puts.stored done puts.tells)
+    saved r.descr.now r.layout.now.shape (offsets r.layout.now) (map (item_from r.descr.now r.block.now) (offsets r.layout.now)) ≡ Ok bytes → Puts old new file bytes (Ok done) →
+    MayAnswer (world s old) (Save name file) (world s new) (record { text = codes "ok save " ++ decimal (length bytes); accepted = true })
+save-done s old new name file bytes a r done is shows good puts =
+    asked s old new name file bytes (Ok done) _ (file-shown s name a r is shows ∙ good) puts (told-done (length bytes) puts.stored done puts.tells)
 
 -- the store refuses it
 pub save-not-stored : (s : State) (old new : StoreState) (name file bytes : List ℕ) (a : Array) (r : ArrayRef) (e : Refusal) → find_array s.names name ≡ Some a → Shows s a r →
-    saved r.descr.now r.layout.now.shape (offsets r.layout.now) (map (item_from r.descr.now r.block.now) (offsets r.layout.now)) ≡ Ok bytes → IsSameStore old new → Puts old new file bytes (Err e) →
-    MayAnswerSave (world s old) name file (world s new) (refusal e)
-save-not-stored s old new name file bytes a r e is shows good same puts =
-    asked s old new name file bytes (Err e) _ (file-shown s name a r is shows ∙ good) same puts (told-refusal (length bytes) puts.stored e puts.tells)
+    saved r.descr.now r.layout.now.shape (offsets r.layout.now) (map (item_from r.descr.now r.block.now) (offsets r.layout.now)) ≡ Ok bytes → Puts old new file bytes (Err e) →
+    MayAnswer (world s old) (Save name file) (world s new) (refusal e)
+save-not-stored s old new name file bytes a r e is shows good puts =
+    asked s old new name file bytes (Err e) _ (file-shown s name a r is shows ∙ good) puts (told-refusal (length bytes) puts.stored e puts.tells)
 
 -- a store that was given the file answers so
-pub puts-answer : (old new : StoreState) (name file bytes : List ℕ) (answer answer' : Stored) (result : Result (Unit {0}) Refusal) → name ≡ file → answer ≡ answer' → FaultHasCause old new answer → IsKept name answer old.files new.files →
+pub puts-answer : (old new : StoreState) (name file bytes : List ℕ) (answer answer' : Stored) (result : Result (Unit {0}) Refusal) → name ≡ file → answer ≡ answer' → IsSameStore old new → FaultHasCause old new answer → IsKept name answer old.files new.files →
     (old.honest ≡ true → IsWritten old name bytes answer new.files) → result ≡ refused answer' → Puts old new file bytes result
-puts-answer old new name file bytes answer answer' result same is cause kept written tells = record {
+puts-answer old new name file bytes answer answer' result same is store cause kept written tells = record {
   stored = answer;
   may = record {
+    same = store;
     cause = cause;
     kept = subst (λ (n : List ℕ). IsKept n answer old.files new.files) same kept;
     written = subst (λ (n : List ℕ). old.honest ≡ true → IsWritten old n bytes answer new.files) same written;

@@ -1,5 +1,5 @@
 -- The cases of a command and of a line, from what carries them out.
-use Rattle.std.proofs.Common.{◌≡◌, ◌≢◌, ◌≤◌, ◌+◌, ℕ, suc, false, List, [], ◌∷◌, Some, None, refl, sym, ap, subst, ◌∙◌, inl, inr, arith, Err, Ok}
+use Rattle.std.proofs.Common.{◌⊎◌, Bool, IsTrue, Result, ◌≡◌, ◌≢◌, ◌≤◌, ◌+◌, ℕ, suc, false, List, [], ◌∷◌, Some, None, refl, sym, ap, subst, ◌∙◌, inl, inr, arith, Err, Ok}
 use Rattle.std.specs.Ordering.{nat_cmp, eq_by_cmp, is_eq}
 use Rattle.std.specs.declared.cmp.Ordering.TheVariants.{Less, Equal, Greater}
 use Rattle.std.specs.List.{AllByRecursion}
@@ -9,13 +9,15 @@ use Rattle.elem_descr.specs.declared.refusal.Refusal.{Refusal}
 use Rattle.elem_descr.specs.declared.refusal.Refusal.TheVariants.{LineTooLong, OutOfMemory}
 use Rattle.script_lang.specs.declared.command.Command.{Command}
 use Rattle.script_lang.specs.Lines.{Line, silent, bad_byte, misspelt, asks}
-use Rattle.script_lang.specs.Reading.{MayLackRoom, Says}
+use Rattle.script_lang.specs.Reading.{MayLackRoom, Says, parts_take_memory}
 use Rattle.name_store.specs.States.{State, Array, Buffer}
+use Rattle.npy_files.specs.Stores.{StoreState}
 use Rattle.bench_engine.specs.Replies.{Reply, refusal}
-use Rattle.bench_engine.specs.Machine.{Choice, IsAllowed, outcome, after_outcome, may_lack_memory}
-use Rattle.bench_engine.specs.inside.Contract.{IsRefused}
-use Rattle.bench_engine.specs.Meanings.{Meaning, too_long, says, MayAnswerState, MayAnswer, Answered}
-use Rattle.bench_engine.specs.Worlds.{World}
+use Rattle.bench_engine.specs.Machine.{Choice, IsAllowed, Outcome, after_outcome}
+use Rattle.bench_engine.specs.Steps.{World, world, Refuses, DoesAlone, Step}
+use Rattle.bench_engine.specs.Headline.{Meaning, too_long, says, AnswersMeaning}
+use Rattle.bench_engine.specs.Memory.{MayAnswer, MayAnswerLine}
+use Rattle.bench_engine.specs.inside.Contract.{IsRefused, CarriesOut, Carried}
 use Rattle.bench_engine.specs.inside.ReadLines.{ReadsAs}
 
 apart : (q k : ℕ) → k ≢ q → eq_by_cmp nat_cmp q k ≡ false
@@ -56,40 +58,71 @@ spare s =
     )
 
 -- a refused command
-pub refused : (old new : State) (command : Command) (r : Refusal) → new ≡ old → IsRefused (may_lack_memory old command) (λ choice. outcome choice old command) r → MayAnswerState old command new (refusal r)
-refused old new command r same (inl lacks) = inr (lacks.1, (same, ap refusal lacks.0))
-refused old new command r same (inr is) =
+refused : (old new : State) (shelf : StoreState) (may : Bool) (outcome : Choice → Outcome) (r : Refusal) → new ≡ old → IsRefused may outcome r →
+    DoesAlone (world old shelf) outcome (world new shelf) (refusal r) ⊎ (IsTrue may × Refuses (world old shelf) (world new shelf) OutOfMemory (refusal r))
+refused old new shelf may outcome r same (inl lacks) = inr (lacks.1, (ap (λ s. world s shelf) same, ap refusal lacks.0))
+refused old new shelf may outcome r same (inr is) =
     let any = spare old in
-    inl (any.0, any.1, ap (after_outcome old) (is any.0) ∙ ap (λ (s : State). (s, refusal r)) (sym same))
+    inl (refl, (any.0, any.1, ap (after_outcome old) (is any.0) ∙ ap (λ (s : State). (s, refusal r)) (sym same)))
+
+-- carried out, or refused, over a store that is not asked
+pub carried : (old new : State) (shelf : StoreState) (may : Bool) (outcome : Choice → Outcome) (before after : List ℕ) (result : Result (Unit {0}) Refusal) → CarriesOut may outcome old new before after result →
+    Carried (λ reply. DoesAlone (world old shelf) outcome (world new shelf) reply ⊎ (IsTrue may × Refuses (world old shelf) (world new shelf) OutOfMemory reply)) before after result
+carried old new shelf may outcome before after (Ok done) h = (h.2, inl (refl, (h.0, h.1, ap (after_outcome old) h.3)), h.4)
+carried old new shelf may outcome before after (Err e) h = (h.1, refused old new shelf may outcome e h.0 h.2)
 
 -- a line that asks for a command
-asked : (old new : World) (line : Line) (command : Command) (reply : Reply) → line ≡ asks command → MayAnswer old command new reply → Answered old (says line) new (reply ∷ [])
-asked old new line command reply is done = subst (λ (l : Line). Answered old (says l) new (reply ∷ [])) (sym is) (reply, refl, inl done)
+asked : (old new : World) (line : Line) (command : Command) (reply : Reply) → line ≡ asks command → MayAnswer old command new reply → MayAnswerLine old (says line) new (reply ∷ [])
+asked old new line command reply is done = subst (λ (l : Line). MayAnswerLine old (says l) new (reply ∷ [])) (sym is) (reply, refl, inl done)
 
-pub answered : (old new : World) (meaning : Meaning) (command : Command) (reply : Reply) → ReadsAs (Ok (Some command)) meaning → MayAnswer old command new reply → Answered old meaning new (reply ∷ [])
+pub answered : (old new : World) (meaning : Meaning) (command : Command) (reply : Reply) → ReadsAs (Ok (Some command)) meaning → MayAnswer old command new reply → MayAnswerLine old meaning new (reply ∷ [])
 answered old new too_long command reply is done = cc
 answered old new (says line) command reply is done = asked old new line command reply is done
 
-lacking : (old : World) (line : Line) → MayLackRoom line → Answered old (says line) old (refusal OutOfMemory ∷ [])
+lacking : (old : World) (line : Line) → MayLackRoom line → MayAnswerLine old (says line) old (refusal OutOfMemory ∷ [])
 lacking old silent h = absurd h
 lacking old bad_byte h = absurd h
 lacking old misspelt h = (refusal OutOfMemory, refl, inr (refl, refl))
 lacking old (asks command) h = (refusal OutOfMemory, refl, inr (h, (refl, refl)))
 
 -- a line that is refused
-misread : (old : World) (line : Line) (r : Refusal) → Says (Err r) line → Answered old (says line) old (refusal r ∷ [])
-misread old line r (inl p) = subst (λ (l : Line). Answered old (says l) old (refusal r ∷ [])) (sym p.1) (refusal r, refl, inl (refl, ap refusal p.0))
-misread old line r (inr (inl p)) = subst (λ (l : Line). Answered old (says l) old (refusal r ∷ [])) (sym p.1) (refl, ap (λ e. refusal e ∷ []) p.0)
-misread old line r (inr (inr p)) = subst (λ (e : Refusal). Answered old (says line) old (refusal e ∷ [])) (sym p.0) (lacking old line p.1)
+misread : (old : World) (line : Line) (r : Refusal) → Says (Err r) line → MayAnswerLine old (says line) old (refusal r ∷ [])
+misread old line r (inl p) = subst (λ (l : Line). MayAnswerLine old (says l) old (refusal r ∷ [])) (sym p.1) (refusal r, refl, inl (refl, ap refusal p.0))
+misread old line r (inr (inl p)) = subst (λ (l : Line). MayAnswerLine old (says l) old (refusal r ∷ [])) (sym p.1) (refusal r, refl, (refl, ap refusal p.0))
+misread old line r (inr (inr p)) = subst (λ (e : Refusal). MayAnswerLine old (says line) old (refusal e ∷ [])) (sym p.0) (lacking old line p.1)
 
-pub refused_line : (old : World) (meaning : Meaning) (r : Refusal) → ReadsAs (Err r) meaning → Answered old meaning old (refusal r ∷ [])
-refused_line old too_long r is = let which : r ≡ LineTooLong = cc in (refl, ap (λ e. refusal e ∷ []) which)
+pub refused_line : (old : World) (meaning : Meaning) (r : Refusal) → ReadsAs (Err r) meaning → MayAnswerLine old meaning old (refusal r ∷ [])
+refused_line old too_long r is = let which : r ≡ LineTooLong = cc in (refusal r, refl, (refl, ap refusal which))
 refused_line old (says line) r is = misread old line r is
 
 -- a line that asks for nothing
-nothing_asked : (old : World) (line : Line) → line ≡ silent → Answered old (says line) old []
-nothing_asked old line is = subst (λ (l : Line). Answered old (says l) old []) (sym is) (refl, refl)
+nothing_asked : (old : World) (line : Line) → line ≡ silent → MayAnswerLine old (says line) old []
+nothing_asked old line is = subst (λ (l : Line). MayAnswerLine old (says l) old []) (sym is) (refl, refl)
 
-pub silent_line : (old : World) (meaning : Meaning) → ReadsAs (Ok None) meaning → Answered old meaning old []
+pub silent_line : (old : World) (meaning : Meaning) → ReadsAs (Ok None) meaning → MayAnswerLine old meaning old []
 silent_line old too_long is = cc
 silent_line old (says line) is = nothing_asked old line is
+
+-- what may be answered a command is a step, or want of memory
+command_weaker : (old new : World) (command : Command) (may : Type 0) (reply : Reply) → MayAnswer old command new reply ⊎ (may × Refuses old new OutOfMemory reply) → Step old command new reply ⊎ Refuses old new OutOfMemory reply
+command_weaker old new command may reply (inl (inl step)) = inl step
+command_weaker old new command may reply (inl (inr lacks)) = inr lacks.1
+command_weaker old new command may reply (inr lacks) = inr lacks.1
+
+-- what may be answered a line is what the headline says
+line_weaker : (old new : World) (meaning : Meaning) (replies : List Reply) → MayAnswerLine old meaning new replies → AnswersMeaning old meaning new replies
+line_weaker old new too_long replies is = is
+line_weaker old new (says silent) replies is = is
+line_weaker old new (says bad_byte) replies is = is
+line_weaker old new (says misspelt) replies is = is
+line_weaker old new (says (asks command)) replies is = (is.0, is.1, command_weaker old new command (IsTrue (parts_take_memory command)) is.0 is.2)
+
+-- so for each way in which a line is answered
+pub answered_weaker : (old new : World) (meaning : Meaning) (command : Command) (reply : Reply) → ReadsAs (Ok (Some command)) meaning → MayAnswer old command new reply → AnswersMeaning old meaning new (reply ∷ [])
+answered_weaker old new meaning command reply reads done = line_weaker old new meaning (reply ∷ []) (answered old new meaning command reply reads done)
+
+pub refused_weaker : (old : World) (meaning : Meaning) (r : Refusal) → ReadsAs (Err r) meaning → AnswersMeaning old meaning old (refusal r ∷ [])
+refused_weaker old meaning r is = line_weaker old old meaning (refusal r ∷ []) (refused_line old meaning r is)
+
+pub silent_weaker : (old : World) (meaning : Meaning) → ReadsAs (Ok None) meaning → AnswersMeaning old meaning old []
+silent_weaker old meaning is = line_weaker old old meaning [] (silent_line old meaning is)

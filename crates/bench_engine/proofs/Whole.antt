@@ -1,16 +1,18 @@
 -- What a session comes to outside of the run.
-use Rattle.std.proofs.Common.{◌≡◌, ◌⊎◌, inl, inr, ◌++◌, ap, ◌∙◌, append_assoc, zero-add, ℕ, List, Option, Some, None, Err, subst, IfSome, IsErrOf}
+use Rattle.std.proofs.Common.{◌≡◌, ◌≢◌, [], ◌⊎◌, inl, inr, ◌++◌, ap, ◌∙◌, sym, append_assoc, zero-add, ℕ, List, Option, Some, None, Err, subst, IfSome, refl, map}
+use Rattle.std.specs.Io.KnownBytes.{Consumes, IsAtEnd}
+use Rattle.npy_files.specs.Stores.{StoreState}
+use Rattle.bench_engine.specs.declared.runner.RunFault.{RunFault}
+use Rattle.bench_engine.specs.declared.runner.RunFault.TheVariants.{Read, Write, Memory}
 use Rattle.bench_engine.specs.declared.session.Session.{Session}
 use Rattle.bench_engine.specs.declared.session.Summary.{Summary}
-use Rattle.bench_engine.specs.inside.Sessions.{Ended, Reading}
-use Rattle.bench_engine.specs.declared.runner.RunFault.{RunFault}
-use Rattle.npy_files.specs.Stores.{StoreState}
-use Rattle.bench_engine.specs.Worlds.{World}
-use Rattle.bench_engine.specs.Outside.{Outside, first_world, AnswersScript, AnswersWholeLines, AnswersInPart, AnswersSome, AnswersFirstLines}
-use Rattle.std.specs.Io.KnownBytes.{Consumes, IsAtEnd}
-use Rattle.bench_engine.specs.Lines.{lines, whole_lines}
-use Rattle.bench_engine.proofs.Lines.{lines-front}
-use Rattle.bench_engine.proofs.Known.{all_read}
+use Rattle.bench_engine.specs.Steps.{World, world}
+use Rattle.bench_engine.specs.Sessions.{IsNew}
+use Rattle.bench_engine.specs.Headline.{AreLines, AreWholeLines, Outside, first_world, AnswersScript, AnswersWholeLines, AnswersInPart, AnswersFirstLines, ComesTo, trimmed}
+use Rattle.bench_engine.specs.inside.Sessions.{Ended, Reading, Turned}
+use Rattle.std.proofs.lemmas.List.Elements.{All-nil}
+use Rattle.bench_engine.proofs.Lines.{splits-one, lines-front}
+use Rattle.bench_engine.proofs.Known.{all_read, appends_nothing}
 
 known : (a b : Option (List ℕ)) (script : List ℕ) → Consumes a b script → IsAtEnd b → IfSome a (λ bytes. script ≡ bytes)
 known None b script read ended = tt
@@ -20,10 +22,12 @@ known (Some bytes) b script read ended = all_read bytes b script read ended
 pub answers-script : (depth : ℕ) (before after : Outside) (session : Session) (summary : Summary) → Ended depth before after session → summary.bench ≡ session.bench → summary.accepted ≡ session.accepted → summary.refused ≡ session.refused → AnswersScript depth before after summary
 answers-script depth before after session summary end bench accepted refused = record {
   script = end.input;
+  lines = end.lines;
   replies = end.told.replies;
   read = end.read;
   ended = end.ended;
   known = known before.unread after.unread end.input end.read end.ended;
+  are_lines = end.are_lines;
   run = rw bench end.told.run;
   sent = end.told.sent;
   accepted = accepted ∙ end.told.accepted ∙ zero-add _;
@@ -31,50 +35,82 @@ answers-script depth before after session summary end bench accepted refused = r
 }
 
 -- some first ones of these lines are some first ones of more
-extended : (h : World) (h' : StoreState) (all more all' : List (List ℕ)) (c d : Option (List ℕ)) → all' ≡ all ++ more → AnswersInPart all h h' c d → AnswersInPart all' h h' c d
-extended h h' all more all' c d is (state, part) = (
-  state,
-  record {
-    answered = part.answered;
-    later = part.later ++ more;
-    replies = part.replies;
-    last = part.last;
-    gone = part.gone;
-    missing = part.missing;
-    front = is ∙ ap (λ l. l ++ more) part.front ∙ append_assoc part.answered part.later more;
-    run = part.run;
-    broken = part.broken;
-    some_missing = part.some_missing;
-    sent = part.sent;
-  },
-)
-
--- the lines of what was read are first lines of the script
-known-part : (h : World) (h' : StoreState) (a b c d : Option (List ℕ)) (input : List ℕ) → Consumes a b input → AnswersInPart (whole_lines input) h h' c d ⊎ (IsAtEnd b × AnswersInPart (lines input) h h' c d) → IfSome a (λ script. AnswersInPart (lines script) h h' c d)
-known-part h h' None b c d input read some = tt
-known-part h h' (Some script) None c d input read some = absurd read
-known-part h h' (Some script) (Some rest) c d input read (inl some) = let front = lines-front input rest in extended h h' (whole_lines input) front.0 (lines script) c d (ap lines read ∙ front.1) some
-known-part h h' (Some script) (Some rest) c d input read (inr some) = subst (λ (bytes : List ℕ). AnswersInPart (lines bytes) h h' c d) (all_read script (Some rest) input read some.0) some.1
-
-pub first-lines : (depth : ℕ) (before after : Outside) (input : List ℕ) → Consumes before.unread after.unread input → AnswersSome depth before after (whole_lines input) ⊎ (IsAtEnd after.unread × AnswersSome depth before after (lines input)) → AnswersFirstLines depth before after
-first-lines depth before after input read some = record {
-  input = input;
-  read = read;
-  some = some;
-  known = known-part (first_world depth before) after.store before.unread after.unread before.written after.written input read some;
+extended : (lines later : List (List ℕ)) (first : World) (shelf : StoreState) (written written' : Option (List ℕ)) → AnswersInPart lines first shelf written written' → AnswersInPart (lines ++ later) first shelf written written'
+extended lines later first shelf written written' part = record {
+  answered = part.answered;
+  later = part.later ++ later;
+  replies = part.replies;
+  last = part.last;
+  state = part.state;
+  gone = part.gone;
+  missing = part.missing;
+  front = ap (λ l. l ++ later) part.front ∙ append_assoc part.answered part.later later;
+  run = part.run;
+  broken = part.broken;
+  some_missing = part.some_missing;
+  sent = part.sent;
 }
 
--- a fault that is passed on
-pub passed-on : {T U : Type 0} (e f : RunFault) → IsErrOf {T = T} (Err e) f → IsErrOf {T = U} (Err e) f
-passed-on e f is = let same : e ≡ f = cc in ap Err same
+-- the lines of what was read are first lines of the script
+known-part : (first : World) (shelf : StoreState) (a b written written' : Option (List ℕ)) (input : List ℕ) (lines : List (List ℕ)) → Consumes a b input → AreWholeLines input lines ⊎ (IsAtEnd b × AreLines input lines) → AnswersInPart lines first shelf written written' →
+    IfSome a (λ script. (all : List (List ℕ)) × AreLines script all × AnswersInPart all first shelf written written')
+known-part first shelf None b written written' input lines read come some = tt
+known-part first shelf (Some script) None written written' input lines read come some = absurd read
+known-part first shelf (Some script) (Some rest) written written' input lines read (inl whole) some =
+    let front = lines-front input rest lines whole in
+    (lines ++ front.0, subst (λ (bytes : List ℕ). AreLines bytes (lines ++ front.0)) (sym read) front.1, extended lines front.0 first shelf written written' some)
+known-part first shelf (Some script) (Some rest) written written' input lines read (inr come) some = (lines, subst (λ (bytes : List ℕ). AreLines bytes lines) (all_read script (Some rest) input read come.0) come.1, some)
+
+pub first-lines : (depth : ℕ) (before after : Outside) (input : List ℕ) (lines : List (List ℕ)) → Consumes before.unread after.unread input → AreWholeLines input lines ⊎ (IsAtEnd after.unread × AreLines input lines) →
+    AnswersInPart lines (first_world depth before) after.store before.written after.written → AnswersFirstLines depth before after
+first-lines depth before after input lines read come some = record {
+  input = input;
+  lines = lines;
+  read = read;
+  are_lines = come;
+  some = some;
+  known = known-part (first_world depth before) after.store before.unread after.unread before.written after.written input lines read come some;
+}
+
+consumes_none : (known : Option (List ℕ)) → Consumes known known []
+consumes_none None = tt
+consumes_none (Some bytes) = refl
+
+-- nothing is read yet
+pub reading-new : (depth : ℕ) (before : Outside) (session : Session) → IsNew depth session → Reading depth before before session
+reading-new depth before session new = record {
+  input = [];
+  read = consumes_none before.unread;
+  fed = record {
+    pieces = [];
+    rest = [];
+    splits = splits-one [] (All-nil (λ b. b ≢ 10));
+    told = record {
+      replies = [];
+      run = (refl, ap (λ s. world s before.store) new.bench);
+      sent = appends_nothing before.written;
+      accepted = new.accepted;
+      refused = new.refused;
+    };
+    held = rw new.whole new.line;
+  };
+}
 
 -- before a read all whole lines are answered
 pub whole-lines : (depth : ℕ) (before after : Outside) (session : Session) → Reading depth before after session → AnswersWholeLines depth before after
 whole-lines depth before after session reading = record {
   input = reading.input;
+  lines = map trimmed reading.fed.pieces;
   replies = reading.fed.told.replies;
   state = session.bench.state;
   read = reading.read;
+  are_lines = (reading.fed.pieces, reading.fed.rest, reading.fed.splits, refl);
   run = reading.fed.told.run;
   sent = reading.fed.told.sent;
 }
+
+-- a turn that ends in a fault
+pub ended-by : (depth : ℕ) (before after : Outside) (session : Session) (fault : RunFault) → Turned (Err fault) depth before after session → ComesTo depth before after (Err fault)
+ended-by depth before after session Read turned = turned
+ended-by depth before after session Write turned = turned
+ended-by depth before after session Memory turned = absurd turned

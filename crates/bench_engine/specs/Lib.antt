@@ -1,14 +1,9 @@
 pub mod Contents
+pub mod Headline
 pub mod IndexLists
-pub mod Lines
-pub mod Loads
 pub mod Machine
-pub mod Meanings
-pub mod Outside
+pub mod Memory
 pub mod Replies
-pub mod Runs
-pub mod Saves
 pub mod Sessions
-pub mod StoreFaults
-pub mod Worlds
+pub mod Steps
 pub mod inside

@@ -2,10 +2,9 @@
 //! computed of other arrays.
 ghost use Rattle.std.specs.Prelude.{◌≡◌, ◌≤◌, vec_capacity};
 ghost use Rattle.std.specs.List.{list_all};
-ghost use Rattle.script_lang.specs.declared.command.Command.TheVariants.{Bind};
-ghost use Rattle.script_lang.specs.declared.command.Value.TheVariants.{Compute};
 ghost use Rattle.name_store.specs.Arrays.{is_bound};
-ghost use Rattle.bench_engine.specs.Machine.{bind_outcome, bound_in_value, may_lack_memory};
+ghost use Rattle.bench_engine.specs.Machine.{compute_outcome};
+ghost use Rattle.bench_engine.specs.Memory.{bound_in_computation};
 ghost use Rattle.bench_engine.specs.inside.Computed.{origin_of};
 ghost use Rattle.bench_engine.specs.inside.Contract.{CarriesOut};
 
@@ -19,7 +18,7 @@ use script_lang::{Computation, Name};
 
 /// Whether the names in a computation are bound.
 fn are_bound(bench: &Bench, computation: &Computation) -> bool
-    ensures { result ≡ list_all (is_bound bench.now.state) (bound_in_value (Compute computation.now)) }
+    ensures { result ≡ list_all (is_bound bench.now.state) (bound_in_computation computation.now) }
 {
     match computation {
         Computation::Duplicate { source, .. } => bench.get(source).is_some(),
@@ -48,8 +47,8 @@ pub fn compute(
     computation: &Computation,
     out: &mut Vec<u8>,
 ) -> Result<(), Refusal>
-    ensures answers { CarriesOut (may_lack_memory bench.old.state (Bind name.now (Compute computation.now)))
-        (λ choice. bind_outcome choice bench.old.state name.now (Compute computation.now)) bench.old.state bench.new.state out.old.items out.new.items result }
+    ensures answers { CarriesOut (list_all (is_bound bench.old.state) (bound_in_computation computation.now))
+        (λ choice. compute_outcome choice bench.old.state name.now computation.now) bench.old.state bench.new.state out.old.items out.new.items result }
     ensures room { vec_capacity out.old ≤ vec_capacity out.new }
 {
     if !are_bound(bench, computation) {

@@ -2,11 +2,11 @@
 ghost use Rattle.std.specs.Prelude.{◌≡◌, ℕ, List, true, Some};
 ghost use Rattle.std.specs.List.{list_all};
 ghost use Rattle.elem_descr.specs.Refusals.{Gives};
-ghost use Rattle.script_lang.specs.declared.command.Value.TheVariants.{Compute};
 ghost use Rattle.name_store.specs.Arrays.{find_array, is_bound};
 ghost use Rattle.name_store.specs.Shown.{Shows};
 ghost use Rattle.name_store.specs.States.{State, Array};
-ghost use Rattle.bench_engine.specs.Machine.{bound_in_value, names_in_operand, names_in_argument, operation_contents, transformed, reduced_contents};
+ghost use Rattle.bench_engine.specs.Memory.{bound_in_computation};
+ghost use Rattle.bench_engine.specs.Machine.{names_in_operand, names_in_argument, operation_contents, transformed, reduced_contents};
 ghost use Rattle.bench_engine.specs.inside.Computed.{computed_contents};
 ghost use Rattle.bench_engine.specs.inside.OwnContents.{held};
 ghost use Rattle.bench_engine.specs.inside.Parts.{IsShown, Copies, Casts};
@@ -90,7 +90,7 @@ fn reduced(
 
 /// What a computation gives.
 pub fn computed(alloc: Global, bench: &Bench, computation: &Computation) -> Result<Owned, Refusal>
-    requires bound { list_all (is_bound bench.now.state) (bound_in_value (Compute computation.now)) ≡ true }
+    requires bound { list_all (is_bound bench.now.state) (bound_in_computation computation.now) ≡ true }
     ensures { Gives held result (computed_contents bench.now.state computation.now) }
 {
     match computation {

@@ -1,12 +1,14 @@
 //! One line: what it says, carried out, with the reply at the end of `out`.
 ghost use Rattle.std.specs.Prelude.{◌≡◌, ◌≤◌, ◌+◌, ◌++◌, ◌&&◌, [], List, vec_len, vec_capacity};
 ghost use Rattle.std.specs.List.{list_all};
+ghost use Rattle.script_lang.specs.declared.command.Command.TheVariants.{Bind};
 ghost use Rattle.name_store.specs.Arrays.{is_bound};
 ghost use Rattle.bench_engine.specs.inside.Contract.{CarriesOut, Carried};
-ghost use Rattle.bench_engine.specs.Machine.{question_outcome, bound_in_question};
+ghost use Rattle.bench_engine.specs.Machine.{question_outcome};
 ghost use Rattle.bench_engine.specs.Replies.{Reply, Tells};
-ghost use Rattle.bench_engine.specs.Meanings.{MayAnswerBind, MayAnswer, Answered, AnswersLine};
-ghost use Rattle.bench_engine.specs.Worlds.{world};
+ghost use Rattle.bench_engine.specs.Steps.{world};
+ghost use Rattle.bench_engine.specs.Headline.{meaning_of, AnswersMeaning, AnswersLine};
+ghost use Rattle.bench_engine.specs.Memory.{bound_in_question, MayAnswer, MayAnswerLine};
 ghost use Rattle.bench_engine.specs.inside.ReadLines.{ReadsAs, meaning_of_read};
 
 use crate::compute::compute;
@@ -40,7 +42,7 @@ fn bind<N: NpyStore>(
     value: &Value,
     out: &mut Vec<u8>,
 ) -> Result<(), Refusal>
-    ensures answers { Carried (MayAnswerBind (world bench.old.state (N.shelf store.old)) name.now value.now (world bench.new.state (N.shelf store.new)))
+    ensures answers { Carried (MayAnswer (world bench.old.state (N.shelf store.old)) (Bind name.now value.now) (world bench.new.state (N.shelf store.new)))
         out.old.items out.new.items result }
     ensures room { vec_capacity out.old ≤ vec_capacity out.new }
 {
@@ -162,7 +164,9 @@ pub fn answer_read<N: NpyStore>(
     requires empty { out.old.items ≡ [] }
     requires room { 64 ≤ vec_capacity out.old }
     ensures answered { (replies : List Reply) × Tells replies result out.new.items
-        × Answered (world bench.old.state (N.shelf store.old)) (meaning_of_read line.entry) (world bench.new.state (N.shelf store.new)) replies }
+        × AnswersMeaning (world bench.old.state (N.shelf store.old)) (meaning_of_read line.entry) (world bench.new.state (N.shelf store.new)) replies }
+    ensures memory { (replies : List Reply) × Tells replies result out.new.items
+        × MayAnswerLine (world bench.old.state (N.shelf store.old)) (meaning_of_read line.entry) (world bench.new.state (N.shelf store.new)) replies }
     ensures room { vec_capacity out.old ≤ vec_capacity out.new }
 {
     match read_line(*out.allocator(), line) {
@@ -191,6 +195,9 @@ pub fn answer<N: NpyStore>(
     requires room { 64 ≤ vec_capacity out.old }
     ensures answered { (replies : List Reply) × Tells replies result out.new.items
         × AnswersLine (world bench.old.state (N.shelf store.old)) line.now (world bench.new.state (N.shelf store.new)) replies }
+    // Out of memory is the answer only where memory may be asked for.
+    ensures memory { (replies : List Reply) × Tells replies result out.new.items
+        × MayAnswerLine (world bench.old.state (N.shelf store.old)) (meaning_of line.now) (world bench.new.state (N.shelf store.new)) replies }
     ensures room { vec_capacity out.old ≤ vec_capacity out.new }
 {
     out.clear();

@@ -1,9 +1,5 @@
 //! The line that is being read.
 ghost use Rattle.std.specs.Prelude.{◌≡◌, ◌++◌, [], List, ℕ, IfOk, false, ◌&&◌, nat_eq, not, length, vec_capacity, ◌+◌, ◌≤◌};
-ghost use Rattle.bench_engine.specs.Lines.{trimmed};
-ghost use Rattle.bench_engine.specs.Meanings.{meaning_of};
-ghost use Rattle.bench_engine.specs.inside.ReadLines.{meaning_of_read};
-ghost use Rattle.bench_engine.specs.Sessions.{HoldsPiece, HasLineRoom};
 
 use std::alloc::{AllocError, Global};
 
@@ -22,12 +18,16 @@ pub enum Line<'a> {
 pub struct HeldLine {
     bytes: Vec<u8>,
     is_long: bool,
+    ghost room: { 65537 ≤ vec_capacity bytes },
 }
 
 impl HeldLine {
+    ghost use Rattle.bench_engine.specs.Headline.{trimmed, meaning_of};
+    ghost use Rattle.bench_engine.specs.inside.ReadLines.{meaning_of_read};
+    ghost use Rattle.bench_engine.specs.Sessions.{HoldsPiece};
+
     /// No byte yet, and room for a line with a carriage return.
     pub fn new(alloc: Global) -> Result<HeldLine, AllocError>
-        ensures room { IfOk result HasLineRoom }
         ensures bytes { IfOk result (λ line. line.bytes.items ≡ []) }
         ensures whole { IfOk result (λ line. line.is_long ≡ false) }
     {
@@ -40,9 +40,7 @@ impl HeldLine {
 
     /// Adds bytes to the line.
     pub fn hold(&mut self, more: &[u8])
-        requires room { HasLineRoom self.old }
-        ensures room { HasLineRoom self.new }
-        ensures held { (piece : List ℕ) → HoldsPiece self.old piece → HoldsPiece self.new (piece ++ more.now) }
+        ensures { (piece : List ℕ) → HoldsPiece self.old piece → HoldsPiece self.new (piece ++ more.now) }
     {
         let left = (MAX_LINE_LEN + 1).saturating_sub(self.bytes.len());
         if more.len() > left {
@@ -72,8 +70,6 @@ impl HeldLine {
 
     /// Begins the next line.
     pub fn clear(&mut self)
-        requires room { HasLineRoom self.old }
-        ensures room { HasLineRoom self.new }
         ensures bytes { self.new.bytes.items ≡ [] }
         ensures whole { self.new.is_long ≡ false }
     {

@@ -2,12 +2,12 @@
 ghost use Rattle.std.specs.Prelude.{◌≡◌, ◌≤◌, ◌++◌, OnOk, codes, decimal, true, vec_capacity};
 ghost use Rattle.std.specs.Io.{StartsWith};
 ghost use Rattle.name_store.specs.Arrays.{has_room_for};
-ghost use Rattle.npy_files.specs.Stores.{IsSameStore};
 ghost use Rattle.bench_engine.specs.declared.replies.Origin.TheVariants as origin;
 ghost use Rattle.bench_engine.specs.Replies.{bound_text};
-ghost use Rattle.bench_engine.specs.Worlds.{world};
-ghost use Rattle.bench_engine.specs.Loads.{bound_loaded};
-ghost use Rattle.bench_engine.specs.Meanings.{MayAnswerLoad};
+ghost use Rattle.bench_engine.specs.Steps.{world, bound_loaded};
+ghost use Rattle.bench_engine.specs.Memory.{MayAnswer};
+ghost use Rattle.script_lang.specs.declared.command.Command.TheVariants.{Bind};
+ghost use Rattle.script_lang.specs.declared.command.Value.TheVariants.{Load};
 ghost use Rattle.bench_engine.specs.inside.OwnContents.{held};
 ghost use Rattle.bench_engine.specs.inside.Contract.{CarriesOut, Carried};
 ghost use Rattle.bench_engine.specs.inside.LoadedFiles.{Finds};
@@ -27,9 +27,7 @@ fn find<N: NpyStore>(
     store: &mut N,
     file: &FileName,
 ) -> Result<(Owned, usize), Refusal>
-    ensures same { IsSameStore (N.shelf store.old) (N.shelf store.new) }
-    ensures files { (N.shelf store.new).files ≡ (N.shelf store.old).files }
-    ensures finds { Finds (N.shelf store.old) (N.shelf store.new) file.now result }
+    ensures { Finds (N.shelf store.old) (N.shelf store.new) file.now result }
 {
     match store.read_parts(alloc, file.as_slice()) {
         Ok(Some(parts)) => npy_load(alloc, parts),
@@ -92,7 +90,7 @@ pub fn load<N: NpyStore>(
     out: &mut Vec<u8>,
 ) -> Result<(), Refusal>
     ensures room { vec_capacity out.old ≤ vec_capacity out.new }
-    ensures answers { Carried (MayAnswerLoad (world bench.old.state (N.shelf store.old)) name.now file.now (world bench.new.state (N.shelf store.new)))
+    ensures answers { Carried (MayAnswer (world bench.old.state (N.shelf store.old)) (Bind name.now (Load file.now)) (world bench.new.state (N.shelf store.new)))
         out.old.items out.new.items result }
 {
     if !bench.has_room_for(name) {

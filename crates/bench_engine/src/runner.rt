@@ -1,7 +1,6 @@
 //! A whole run: from what is read to what is written.
 ghost use Rattle.std.specs.Prelude.{◌≡◌, ◌≤◌, ◌<◌, ◌+◌, ◌*◌, ◌^◌, ℕ, length, IfOk, OnOk, IsErrOf};
-ghost use Rattle.bench_engine.specs.Outside.{Outside, outside, AnswersScript, AnswersWholeLines, AnswersFirstLines, ReadsInTime};
-ghost use Rattle.bench_engine.specs.Sessions.{HasRoom};
+ghost use Rattle.bench_engine.specs.Headline.{Outside, outside, ReadsInTime, ComesTo};
 ghost use Rattle.bench_engine.specs.inside.Sessions.{Reading, Turned};
 ghost use Rattle.bench_engine.specs.declared.runner.RunFault.TheVariants.{Write, Memory};
 
@@ -60,22 +59,14 @@ fn take_turn<S: ScriptSource, W: Write, N: NpyStore>(
     requires some { 0 < length chunk.old }
     requires size { length chunk.old ≤ 65538 }
     requires may { S.MayRead source.old (W.contents writer.old) }
-    requires room { HasRoom session.old }
     requires few { session.old.accepted + session.old.refused + length chunk.old < 2 ^ 50 }
-    ensures room { HasRoom session.new }
     ensures few { session.new.accepted + session.new.refused ≤ session.old.accepted + session.old.refused + length chunk.old }
     ensures counted { S.reads source.new ≤ S.reads source.old + 1 }
     ensures well { OnOk result (S.failures source.new ≡ S.failures source.old) }
-    ensures ok { IfOk result (λ ended. (depth : ℕ) (before : Outside) →
-        Reading depth before (outside (S.remaining source.old) (W.contents writer.old) (N.shelf store.old)) session.old →
-        Turned ended depth before (outside (S.remaining source.new) (W.contents writer.new) (N.shelf store.new)) session.new) }
-    ensures read { IsErrOf result RunFault.Read → (depth : ℕ) (before : Outside) →
-        Reading depth before (outside (S.remaining source.old) (W.contents writer.old) (N.shelf store.old)) session.old →
-        AnswersWholeLines depth before (outside (S.remaining source.new) (W.contents writer.new) (N.shelf store.new)) }
-    ensures write { IsErrOf result RunFault.Write → (depth : ℕ) (before : Outside) →
-        Reading depth before (outside (S.remaining source.old) (W.contents writer.old) (N.shelf store.old)) session.old →
-        AnswersFirstLines depth before (outside (S.remaining source.new) (W.contents writer.new) (N.shelf store.new)) }
     ensures memory { ¬ IsErrOf result RunFault.Memory }
+    ensures turned { (depth : ℕ) (before : Outside) →
+        Reading depth before (outside (S.remaining source.old) (W.contents writer.old) (N.shelf store.old)) session.old →
+        Turned result depth before (outside (S.remaining source.new) (W.contents writer.new) (N.shelf store.new)) session.new }
 {
     let count = source.read_some(&*writer, chunk).ok_or(RunFault::Read)?;
     if count == 0 {
@@ -109,18 +100,11 @@ pub fn run_within<S: ScriptSource, W: Write, N: NpyStore>(
     // The source is read only where all lines so far are answered.
     requires in_time { ReadsInTime S.remaining S.failures S.MayRead limits.depth source.old
         (outside (S.remaining source.old) (W.contents writer.old) (N.shelf store.old)) }
-    // Each line was answered by a step of the machine, up to the end of what there was to read.
-    ensures script { IfOk result (AnswersScript limits.depth
-        (outside (S.remaining source.old) (W.contents writer.old) (N.shelf store.old))
-        (outside (S.remaining source.new) (W.contents writer.new) (N.shelf store.new))) }
-    // A read failed, or too many were made: the lines that came whole were answered.
-    ensures read_failed { IsErrOf result RunFault.Read → AnswersWholeLines limits.depth
-        (outside (S.remaining source.old) (W.contents writer.old) (N.shelf store.old))
-        (outside (S.remaining source.new) (W.contents writer.new) (N.shelf store.new)) }
-    // A write failed: some first lines were answered, and of the last reply a last part has not gone out.
-    ensures write_failed { IsErrOf result RunFault.Write → AnswersFirstLines limits.depth
-        (outside (S.remaining source.old) (W.contents writer.old) (N.shelf store.old))
-        (outside (S.remaining source.new) (W.contents writer.new) (N.shelf store.new)) }
+    // Each line was answered by a step of the machine, up to the end of what there was to read; or a read or a write failed, or
+    // no memory was found to begin with.
+    ensures comes_to { let before = outside (S.remaining source.old) (W.contents writer.old) (N.shelf store.old) in
+        let after = outside (S.remaining source.new) (W.contents writer.new) (N.shelf store.new) in
+        ComesTo limits.depth before after result }
     // No memory was found to begin with: nothing was read, written or stored.
     ensures no_memory { IsErrOf result RunFault.Memory →
         (source.new ≡ source.old) × (writer.new ≡ writer.old) × (store.new ≡ store.old) }
@@ -159,18 +143,11 @@ pub fn run<S: ScriptSource, W: Write, N: NpyStore>(
     // read has failed: what asks for that may be read so.
     requires in_time { ReadsInTime S.remaining S.failures S.MayRead depth source.old
         (outside (S.remaining source.old) (W.contents writer.old) (N.shelf store.old)) }
-    // Each line was answered by a step of the machine, up to the end of what there was to read.
-    ensures script { IfOk result (AnswersScript depth
-        (outside (S.remaining source.old) (W.contents writer.old) (N.shelf store.old))
-        (outside (S.remaining source.new) (W.contents writer.new) (N.shelf store.new))) }
-    // A read failed, or too many were made: the lines that came whole were answered.
-    ensures read_failed { IsErrOf result RunFault.Read → AnswersWholeLines depth
-        (outside (S.remaining source.old) (W.contents writer.old) (N.shelf store.old))
-        (outside (S.remaining source.new) (W.contents writer.new) (N.shelf store.new)) }
-    // A write failed: some first lines were answered, and of the last reply a last part has not gone out.
-    ensures write_failed { IsErrOf result RunFault.Write → AnswersFirstLines depth
-        (outside (S.remaining source.old) (W.contents writer.old) (N.shelf store.old))
-        (outside (S.remaining source.new) (W.contents writer.new) (N.shelf store.new)) }
+    // Each line was answered by a step of the machine, up to the end of what there was to read; or a read or a write failed, or
+    // no memory was found to begin with.
+    ensures comes_to { let before = outside (S.remaining source.old) (W.contents writer.old) (N.shelf store.old) in
+        let after = outside (S.remaining source.new) (W.contents writer.new) (N.shelf store.new) in
+        ComesTo depth before after result }
     // No memory was found to begin with: nothing was read, written or stored.
     ensures no_memory { IsErrOf result RunFault.Memory →
         (source.new ≡ source.old) × (writer.new ≡ writer.old) × (store.new ≡ store.old) }

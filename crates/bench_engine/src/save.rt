@@ -1,8 +1,8 @@
 //! `save X "f"`: an array is written to a file.
 ghost use Rattle.std.specs.Prelude.{◌≡◌, ◌≤◌, ◌+◌, ◌++◌, codes, decimal, vec_len, vec_capacity};
-ghost use Rattle.npy_files.specs.Stores.{IsSameStore};
-ghost use Rattle.bench_engine.specs.Worlds.{world};
-ghost use Rattle.bench_engine.specs.Meanings.{MayAnswerSave};
+ghost use Rattle.script_lang.specs.declared.command.Command.TheVariants.{Save};
+ghost use Rattle.bench_engine.specs.Steps.{world};
+ghost use Rattle.bench_engine.specs.Memory.{MayAnswer};
 ghost use Rattle.bench_engine.specs.inside.Contract.{Carried};
 ghost use Rattle.bench_engine.specs.inside.SavedFiles.{Puts};
 
@@ -22,8 +22,7 @@ fn put<N: NpyStore>(
     front: &[u8],
     items: &[u8],
 ) -> Result<(), Refusal>
-    ensures same { IsSameStore (N.shelf store.old) (N.shelf store.new) }
-    ensures puts { Puts (N.shelf store.old) (N.shelf store.new) file.now (front.now ++ items.now) result }
+    ensures { Puts (N.shelf store.old) (N.shelf store.new) file.now (front.now ++ items.now) result }
 {
     match store.write_parts(alloc, file.as_slice(), front, items) {
         Ok(()) => Ok(()),
@@ -54,7 +53,7 @@ pub fn save<N: NpyStore>(
 ) -> Result<(), Refusal>
     requires room { vec_len out.old + 64 ≤ vec_capacity out.old }
     ensures room { vec_capacity out.old ≤ vec_capacity out.new }
-    ensures answers { Carried (MayAnswerSave (world bench.now.state (N.shelf store.old)) name.now file.now (world bench.now.state (N.shelf store.new)))
+    ensures answers { Carried (MayAnswer (world bench.now.state (N.shelf store.old)) (Save name.now file.now) (world bench.now.state (N.shelf store.new)))
         out.old.items out.new.items result }
 {
     let Some(array) = bench.get(name) else {

@@ -1,12 +1,6 @@
 //! What a run holds between one read and the next.
-ghost use Rattle.std.specs.Prelude.{◌≡◌, ◌≤◌, ◌<◌, ◌+◌, ◌^◌, ◌++◌, [], ◌∷◌, List, ℕ, Option, length, OnOk, OnErr, IfOk, nat_eq, false};
+ghost use Rattle.std.specs.Prelude.{◌≡◌, ◌≤◌, ◌<◌, ◌+◌, ◌^◌, ◌++◌, [], ◌∷◌, List, ℕ, Option, length, OnOk, OnErr, IfOk, nat_eq, vec_capacity};
 ghost use Rattle.std.specs.List.{position};
-ghost use Rattle.bench_engine.specs.Outside.{AnswersInPart};
-ghost use Rattle.bench_engine.specs.Lines.{ended_lines, lines, whole_lines};
-ghost use Rattle.bench_engine.specs.Meanings.{AnswersLine};
-ghost use Rattle.bench_engine.specs.Sessions.{HoldsPiece, HasRoom, FedMachine, Feeds, HasTold, IsNew};
-ghost use Rattle.bench_engine.specs.inside.Sessions.{Told, ToldInPart, AnswersHeld};
-ghost use Rattle.bench_engine.specs.Worlds.{World, world};
 
 use crate::engine::{MAX_REFUSAL_LEN, answer_read};
 use crate::line::HeldLine;
@@ -34,14 +28,18 @@ pub struct Session {
     out: Vec<u8>,
     accepted: u64,
     refused: u64,
+    ghost room: { 64 ≤ vec_capacity out },
 }
 
 impl Session {
+    ghost use Rattle.bench_engine.specs.Steps.{World, world};
+    ghost use Rattle.bench_engine.specs.Headline.{IsUnbroken};
+    ghost use Rattle.bench_engine.specs.Sessions.{HoldsPiece, Fed, FedInPart, Feeds, Ends, EndsInPart, IsNew};
+    ghost use Rattle.bench_engine.specs.inside.Sessions.{Told, ToldInPart, AnswersHeld};
+
     /// Answers the line, and begins the next one. What is answered stands in `out`.
     fn answer_line<N: NpyStore>(&mut self, store: &mut N) -> Option<bool>
-        requires room { HasRoom self.old }
         requires few { self.old.accepted + self.old.refused < 2 ^ 50 }
-        ensures room { HasRoom self.new }
         ensures next { HoldsPiece self.new.line [] }
         ensures few { self.new.accepted + self.new.refused ≤ self.old.accepted + self.old.refused + 1 }
         ensures answered { AnswersHeld (N.shelf store.old) (N.shelf store.new) self.old self.new result }
@@ -63,13 +61,11 @@ impl Session {
         writer: &mut W,
         store: &mut N,
     ) -> Result<(), WriteFault>
-        requires room { HasRoom self.old }
         requires few { self.old.accepted + self.old.refused < 2 ^ 50 }
-        ensures room { HasRoom self.new }
         ensures next { HoldsPiece self.new.line [] }
         ensures few { self.new.accepted + self.new.refused ≤ self.old.accepted + self.old.refused + 1 }
-        ensures ok { OnOk result (Told AnswersLine (world self.old.bench.state (N.shelf store.old)) (world self.new.bench.state (N.shelf store.new)) (W.contents writer.old) (W.contents writer.new) self.old self.new) }
-        ensures err { OnErr result (ToldInPart AnswersLine (world self.old.bench.state (N.shelf store.old)) (world self.new.bench.state (N.shelf store.new)) (W.contents writer.old) (W.contents writer.new) self.old) }
+        ensures ok { OnOk result (Told (world self.old.bench.state (N.shelf store.old)) (world self.new.bench.state (N.shelf store.new)) (W.contents writer.old) (W.contents writer.new) self.old self.new) }
+        ensures err { OnErr result (ToldInPart (world self.old.bench.state (N.shelf store.old)) (world self.new.bench.state (N.shelf store.new)) (W.contents writer.old) (W.contents writer.new) self.old) }
     {
         if self.answer_line(store).is_none() {
             return Ok(());
@@ -84,17 +80,15 @@ impl Session {
         store: &mut N,
         piece: &[u8],
     ) -> Result<(), WriteFault>
-        requires room { HasRoom self.old }
         requires few { self.old.accepted + self.old.refused < 2 ^ 50 }
-        requires one { ended_lines piece.now ≡ [] }
-        ensures room { HasRoom self.new }
+        requires one { IsUnbroken piece.now }
         ensures few { self.new.accepted + self.new.refused ≤ self.old.accepted + self.old.refused + 1 }
         ensures ok { OnOk result ((first : World) (before : Option (List ℕ)) (read : List ℕ) (accepted refused : ℕ) →
-            FedMachine first (N.shelf store.old) before (W.contents writer.old) read accepted refused self.old →
-            FedMachine first (N.shelf store.new) before (W.contents writer.new) (read ++ piece.now ++ 10 ∷ []) accepted refused self.new) }
+            Fed first (world self.old.bench.state (N.shelf store.old)) before (W.contents writer.old) read accepted refused self.old →
+            Fed first (world self.new.bench.state (N.shelf store.new)) before (W.contents writer.new) (read ++ piece.now ++ 10 ∷ []) accepted refused self.new) }
         ensures err { OnErr result ((first : World) (before : Option (List ℕ)) (read more : List ℕ) (accepted refused : ℕ) →
-            FedMachine first (N.shelf store.old) before (W.contents writer.old) read accepted refused self.old →
-            AnswersInPart (whole_lines (read ++ piece.now ++ 10 ∷ more)) first (N.shelf store.new) before (W.contents writer.new)) }
+            Fed first (world self.old.bench.state (N.shelf store.old)) before (W.contents writer.old) read accepted refused self.old →
+            FedInPart first (N.shelf store.new) before (W.contents writer.new) (read ++ piece.now ++ 10 ∷ more)) }
     {
         self.line.hold(piece);
         self.finish_line(writer, store)
@@ -108,15 +102,13 @@ impl Session {
         store: &mut N,
         bytes: &[u8],
     ) -> Result<(), WriteFault>
-        requires room { HasRoom self.old }
         requires few { self.old.accepted + self.old.refused + length bytes.now < 2 ^ 50 }
-        ensures room { HasRoom self.new }
         ensures few { self.new.accepted + self.new.refused ≤ self.old.accepted + self.old.refused + length bytes.now }
         // What is held of a line is whole, or is only known to be too long.
-        ensures told { OnOk result ((held : List ℕ) → ended_lines held ≡ [] → HoldsPiece self.old.line held →
+        ensures told { OnOk result ((held : List ℕ) → IsUnbroken held → HoldsPiece self.old.line held →
             Feeds (N.shelf store.old) (N.shelf store.new) (W.contents writer.old) (W.contents writer.new) held bytes.now self.old self.new) }
-        ensures told_in_part { OnErr result ((held : List ℕ) → ended_lines held ≡ [] → HoldsPiece self.old.line held →
-            AnswersInPart (whole_lines (held ++ bytes.now)) (world self.old.bench.state (N.shelf store.old)) (N.shelf store.new) (W.contents writer.old) (W.contents writer.new)) }
+        ensures told_in_part { OnErr result ((held : List ℕ) → IsUnbroken held → HoldsPiece self.old.line held →
+            FedInPart (world self.old.bench.state (N.shelf store.old)) (N.shelf store.new) (W.contents writer.old) (W.contents writer.new) (held ++ bytes.now)) }
     {
         let mut rest = bytes;
         while let Some(end) = newline(rest) {
@@ -150,16 +142,14 @@ impl Session {
         writer: &mut W,
         store: &mut N,
     ) -> Result<(), WriteFault>
-        requires room { HasRoom self.old }
         requires few { self.old.accepted + self.old.refused < 2 ^ 50 }
-        ensures room { HasRoom self.new }
         ensures few { self.new.accepted + self.new.refused ≤ self.old.accepted + self.old.refused + 1 }
         // The next line has not begun.
         ensures next { HoldsPiece self.new.line [] }
-        ensures told { OnOk result ((held : List ℕ) → ended_lines held ≡ [] → HoldsPiece self.old.line held →
-            HasTold AnswersLine (world self.old.bench.state (N.shelf store.old)) (world self.new.bench.state (N.shelf store.new)) (W.contents writer.old) (W.contents writer.new) (lines held) self.old.accepted self.old.refused self.new) }
-        ensures told_in_part { OnErr result ((held : List ℕ) → ended_lines held ≡ [] → HoldsPiece self.old.line held →
-            AnswersInPart (lines held) (world self.old.bench.state (N.shelf store.old)) (N.shelf store.new) (W.contents writer.old) (W.contents writer.new)) }
+        ensures told { OnOk result ((held : List ℕ) → IsUnbroken held → HoldsPiece self.old.line held →
+            Ends (N.shelf store.old) (N.shelf store.new) (W.contents writer.old) (W.contents writer.new) held self.old self.new) }
+        ensures told_in_part { OnErr result ((held : List ℕ) → IsUnbroken held → HoldsPiece self.old.line held →
+            EndsInPart (world self.old.bench.state (N.shelf store.old)) (N.shelf store.new) (W.contents writer.old) (W.contents writer.new) held) }
     {
         if self.line.is_empty() {
             return Ok(());

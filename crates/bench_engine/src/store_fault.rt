@@ -1,6 +1,6 @@
 //! The refusals that tell faults of a store.
 ghost use Rattle.std.specs.Prelude.{◌≡◌};
-ghost use Rattle.bench_engine.specs.StoreFaults.{store_refusal};
+ghost use Rattle.bench_engine.specs.Steps.{store_refusal};
 
 use elem_descr::Refusal;
 use npy_files::StoreFault;

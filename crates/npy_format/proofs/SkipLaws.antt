@@ -171,9 +171,9 @@ pub header_any_turns : HeaderAnyTurns
 header_any_turns = (
   tokens_any_turns,
   (λ depth.
-  let value = literal_leaves depth in (
-    (λ turns toks few. entries_turns (literal_in depth) value (no_literal depth) 41 turns (length toks) toks few (omega arith)),
-    (λ turns toks few. entries_turns (literal_in depth) value (no_literal depth) 93 turns (length toks) toks few (omega arith)),
-    (λ turns toks few. entries_turns (pair_in (literal_in depth)) (pair_leaves (literal_in depth) value) (no_pair depth) 125 turns (length toks) toks few (omega arith)),
-  )),
+      let value = literal_leaves depth in (
+        (λ turns toks few. entries_turns (literal_in depth) value (no_literal depth) 41 turns (length toks) toks few (omega arith)),
+        (λ turns toks few. entries_turns (literal_in depth) value (no_literal depth) 93 turns (length toks) toks few (omega arith)),
+        (λ turns toks few. entries_turns (pair_in (literal_in depth)) (pair_leaves (literal_in depth) value) (no_pair depth) 125 turns (length toks) toks few (omega arith)),
+      )),
 )

@@ -4,7 +4,7 @@ use Rattle.elem_descr.specs.declared.refusal.Refusal.{Refusal}
 use Rattle.overlap_copy.specs.declared.owned.Owned.{Owned}
 use Rattle.npy_files.specs.Stores.{StoreState}
 use Rattle.npy_format.specs.Files.{Loads}
-use Rattle.bench_engine.specs.Loads.{Found, MayFind, loaded}
+use Rattle.bench_engine.specs.Steps.{Found, MayFind, loaded}
 
 -- it is what is loaded of some answer that the store may give
 pub record Finds (old new : StoreState) (file : List ℕ) (result : Result (Owned × ℕ) Refusal) : Type 0 where

@@ -6,7 +6,7 @@ use Rattle.script_lang.specs.declared.command.Command.{Command}
 use Rattle.script_lang.specs.Reading.{Says}
 use Rattle.bench_engine.specs.declared.line.Line.{Line as ReadLine}
 use Rattle.bench_engine.specs.declared.line.Line.TheVariants.{Held, TooLong}
-use Rattle.bench_engine.specs.Meanings.{Meaning, too_long, says, meaning_of}
+use Rattle.bench_engine.specs.Headline.{Meaning, too_long, says, meaning_of}
 
 -- what a line as it was read means
 abbrev pub meaning_of_read : ReadLine → Meaning

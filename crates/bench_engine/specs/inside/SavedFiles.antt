@@ -2,8 +2,7 @@
 use Rattle.std.specs.Prelude.{◌≡◌, ℕ, List, Result, Ok, Err}
 use Rattle.elem_descr.specs.declared.refusal.Refusal.{Refusal}
 use Rattle.npy_files.specs.Stores.{StoreState}
-use Rattle.bench_engine.specs.StoreFaults.{store_refusal}
-use Rattle.bench_engine.specs.Saves.{Stored, MayStore}
+use Rattle.bench_engine.specs.Steps.{Stored, MayStore, store_refusal}
 
 abbrev pub refused : Stored → Result (Unit {0}) Refusal
 refused (Ok done) = Ok done

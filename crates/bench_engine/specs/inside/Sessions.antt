@@ -1,15 +1,14 @@
 -- What a session stands for, once some bytes have come.
-use Rattle.std.specs.Prelude.{◌≡◌, ◌<◌, ◌+◌, ℕ, Bool, true, false, List, [], ◌∷◌, ◌++◌, length, Option}
+use Rattle.std.specs.Prelude.{◌≡◌, ◌<◌, ◌+◌, ℕ, Bool, true, false, List, [], ◌∷◌, ◌++◌, length, Option, Result, Ok, Err}
 use Rattle.std.specs.Io.KnownBytes.{Appends, Consumes, IsAtEnd}
 use Rattle.bench_engine.specs.declared.session.Session.{Session}
+use Rattle.bench_engine.specs.declared.runner.RunFault.{RunFault}
+use Rattle.bench_engine.specs.declared.runner.RunFault.TheVariants.{Read, Write, Memory}
 use Rattle.bench_engine.specs.Replies.{Reply, Tells}
-use Rattle.bench_engine.specs.Lines.{lines, trimmed}
-use Rattle.bench_engine.specs.Meanings.{AnswersLine}
 use Rattle.npy_files.specs.Stores.{StoreState}
-use Rattle.bench_engine.specs.Worlds.{world}
-use Rattle.bench_engine.specs.Outside.{Outside, first_world}
-use Rattle.bench_engine.specs.Sessions.{HoldsPiece, HasTold, FedMachine}
-use Rattle.bench_engine.specs.Runs.{output, reply_line, accepted_count, refused_count}
+use Rattle.bench_engine.specs.Steps.{World, world}
+use Rattle.bench_engine.specs.Headline.{AnswersLine, trimmed, AreLines, output, reply_line, accepted_count, refused_count, Outside, first_world, AnswersWholeLines, AnswersFirstLines}
+use Rattle.bench_engine.specs.Sessions.{HoldsPiece, HasTold, Fed}
 
 -- The line that is held is answered, what is answered stands in out, and the next line is empty.
 pub record AnswersHeld (shelf shelf' : StoreState) (old new : Session) (answered : Option Bool) : Type 0 where
@@ -20,17 +19,17 @@ pub record AnswersHeld (shelf shelf' : StoreState) (old new : Session) (answered
   pub refused : new.refused ≡ old.refused + refused_count replies
 
 -- The line that is held is answered, and the reply has gone out.
-pub record Told {World : Type 0} (Answer : World → List ℕ → World → List Reply → Type 0) (from to : World) (written written' : Option (List ℕ)) (old new : Session) : Type 0 where
+pub record Told (from to : World) (written written' : Option (List ℕ)) (old new : Session) : Type 0 where
   pub replies : List Reply
-  pub answers : (piece : List ℕ) → HoldsPiece old.line piece → Answer from (trimmed piece) to replies
+  pub answers : (piece : List ℕ) → HoldsPiece old.line piece → AnswersLine from (trimmed piece) to replies
   pub sent : Appends written written' (output replies)
   pub accepted : new.accepted ≡ old.accepted + accepted_count replies
   pub refused : new.refused ≡ old.refused + refused_count replies
 
 -- The line that is held is answered, and only a part of the reply has gone out.
-pub record ToldInPart {World : Type 0} (Answer : World → List ℕ → World → List Reply → Type 0) (from to : World) (written written' : Option (List ℕ)) (old : Session) : Type 0 where
+pub record ToldInPart (from to : World) (written written' : Option (List ℕ)) (old : Session) : Type 0 where
   pub reply : Reply
-  pub answers : (piece : List ℕ) → HoldsPiece old.line piece → Answer from (trimmed piece) to (reply ∷ [])
+  pub answers : (piece : List ℕ) → HoldsPiece old.line piece → AnswersLine from (trimmed piece) to (reply ∷ [])
   pub gone : List ℕ
   pub missing : List ℕ
   pub broken : reply_line reply ≡ gone ++ missing
@@ -41,15 +40,21 @@ pub record ToldInPart {World : Type 0} (Answer : World → List ℕ → World �
 pub record Reading (depth : ℕ) (before after : Outside) (s : Session) : Type 0 where
   pub input : List ℕ
   pub read : Consumes before.unread after.unread input
-  pub fed : FedMachine (first_world depth before) after.store before.written after.written input 0 0 s
+  pub fed : Fed (first_world depth before) (world s.bench.state after.store) before.written after.written input 0 0 s
 
 -- All lines of what was read are answered, and nothing is left.
 pub record Ended (depth : ℕ) (before after : Outside) (s : Session) : Type 0 where
   pub input : List ℕ
+  pub lines : List (List ℕ)
   pub read : Consumes before.unread after.unread input
   pub ended : IsAtEnd after.unread
-  pub told : HasTold AnswersLine (first_world depth before) (world s.bench.state after.store) before.written after.written (lines input) 0 0 s
+  pub are_lines : AreLines input lines
+  pub told : HasTold (first_world depth before) (world s.bench.state after.store) before.written after.written lines 0 0 s
 
-abbrev pub Turned : Bool → ℕ → Outside → Outside → Session → Type 0
-Turned true = Ended
-Turned false = Reading
+-- what one turn comes to: the end, or more is to be read, or a fault
+abbrev pub Turned : Result Bool RunFault → ℕ → Outside → Outside → Session → Type 0
+Turned (Ok true) depth before after s = Ended depth before after s
+Turned (Ok false) depth before after s = Reading depth before after s
+Turned (Err Read) depth before after s = AnswersWholeLines depth before after
+Turned (Err Write) depth before after s = AnswersFirstLines depth before after
+Turned (Err Memory) depth before after s = ⊥

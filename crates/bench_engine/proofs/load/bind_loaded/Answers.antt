@@ -1,6 +1,6 @@
 use Rattle.std.proofs.Common.{refl}
 use Rattle.bench_engine.specs.inside.OwnContents.{held}
-use Rattle.bench_engine.specs.Loads.{bound_loaded}
+use Rattle.bench_engine.specs.Steps.{bound_loaded}
 use Rattle.bench_engine.proofs.Creates.{fresh-answers}
 use Rattle.bench_engine.proofs.load.bind_loaded.Goals as goal
 

@@ -1,31 +1,37 @@
-use Rattle.std.proofs.Common.{arith, ◌∙◌}
+use Rattle.std.proofs.Common.{arith, refl, ◌∙◌}
 use Rattle.std.proofs.lemmas.Result.{err_from_is_err_and}
-use Rattle.bench_engine.proofs.Whole.{answers-script, passed-on, whole-lines}
+use Rattle.bench_engine.proofs.Whole.{answers-script, ended-by, reading-new, whole-lines}
 use Rattle.bench_engine.proofs.runner.run_within.Goals as goal
 
-pub returns-in_err-take_turn-clause-read_failed : goal.returns-in_err-take_turn-clause-read_failed
-returns-in_err-take_turn-clause-read_failed g c is =
+pub returns-in_err-take_turn-clause-comes_to : goal.returns-in_err-take_turn-clause-comes_to
+returns-in_err-take_turn-clause-comes_to g c =
     let p = err_from_is_err_and c.from_residual-in_err-take_turn.result c.from_residual-in_err-take_turn.ensures.1 in
-    c.in_err-take_turn.ensures.read (passed-on _ _ (rw p.2 at (rw p.1 at is))) _ _ c.loop-turn.invariant.fed
+    rw (p.1, p.2) (ended-by _ _ _ _ _ (c.in_err-take_turn.ensures.turned _ _ c.loop-turn.invariant.fed))
 
-pub returns-in_err-take_turn-clause-write_failed : goal.returns-in_err-take_turn-clause-write_failed
-returns-in_err-take_turn-clause-write_failed g c is =
-    let p = err_from_is_err_and c.from_residual-in_err-take_turn.result c.from_residual-in_err-take_turn.ensures.1 in
-    c.in_err-take_turn.ensures.write (passed-on _ _ (rw p.2 at (rw p.1 at is))) _ _ c.loop-turn.invariant.fed
-
-pub returns-then-branch-clause-script : goal.returns-then-branch-clause-script
-returns-then-branch-clause-script g c =
-    answers-script _ _ _ c.take_turn.new.session c.into_summary.result (rw c.if-branch.true at (c.in_ok-take_turn.ensures.ok _ _ c.loop-turn.invariant.fed))
+pub returns-then-branch-clause-comes_to : goal.returns-then-branch-clause-comes_to
+returns-then-branch-clause-comes_to g c =
+    answers-script _ _ _ c.take_turn.new.session c.into_summary.result (rw c.if-branch.true at (c.in_ok-take_turn.ensures.turned _ _ c.loop-turn.invariant.fed))
     c.into_summary.ensures.bench c.into_summary.ensures.accepted c.into_summary.ensures.refused
+
+pub returns-clause-comes_to : goal.returns-clause-comes_to
+returns-clause-comes_to g c = whole-lines _ _ _ _ c.loop-turn.invariant.fed
+
+pub loop-turn-init : goal.loop-turn-init
+loop-turn-init g c = record {
+  few = omega (arith, c.in_ok-session.ensures.accepted, c.in_ok-session.ensures.refused);
+  chunk = c.in_ok-chunk.ensures.len;
+  counted = omega arith;
+  well = refl;
+  fed = reading-new _ _ c.in_ok-session.session c.in_ok-session.ensures;
+}
 
 pub loop-turn-preserved : goal.loop-turn-preserved
 loop-turn-preserved g c = record {
-  room = c.take_turn.ensures.room;
   few = omega (arith, c.take_turn.ensures.few, c.as_mut_slice.ensures.len);
   chunk = c.loop-turn.invariant.chunk;
   counted = omega (arith, c.take_turn.ensures.counted, c.loop-turn.invariant.counted);
   well = c.in_ok-take_turn.ensures.well ∙ c.loop-turn.invariant.well;
-  fed = rw c.if-branch.false at (c.in_ok-take_turn.ensures.ok _ _ c.loop-turn.invariant.fed);
+  fed = rw c.if-branch.false at (c.in_ok-take_turn.ensures.turned _ _ c.loop-turn.invariant.fed);
 }
 
 pub take_turn-requires-clause-may : goal.take_turn-requires-clause-may

@@ -1,13 +1,11 @@
 use Rattle.std.proofs.Common.{◌≡◌, ◌≤◌, ◌+◌, ◌*◌, vec_len}
-use Rattle.bench_engine.specs.Outside.{outside}
-use Rattle.bench_engine.specs.Sessions.{HasRoom}
+use Rattle.bench_engine.specs.Headline.{outside}
 use Rattle.bench_engine.specs.inside.Sessions.{Reading}
 use Rattle.bench_engine.proofs.runner.run_within.Given as goal
 
 -- what was read so far is fed to the session
 abbrev pub invariant-loop-turn : goal.invariant-loop-turn
 invariant-loop-turn g l = record {
-  room : HasRoom l.session;
   few : l.session.accepted + l.session.refused ≤ 65538 * l.turn;
   chunk : vec_len l.chunk ≡ l.fn.limits.size;
   counted : g.S.ScriptSource.reads l.source ≤ g.S.ScriptSource.reads l.fn.source + l.turn;

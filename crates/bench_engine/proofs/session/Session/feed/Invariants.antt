@@ -1,15 +1,14 @@
-use Rattle.std.proofs.Common.{◌≡◌, ◌≤◌, ◌+◌, ◌++◌, List, [], ℕ, length}
-use Rattle.bench_engine.specs.Lines.{ended_lines}
-use Rattle.bench_engine.specs.Sessions.{HasRoom, HoldsPiece, Feeds}
+use Rattle.std.proofs.Common.{◌≡◌, ◌≤◌, ◌+◌, ◌++◌, List, ℕ, length}
+use Rattle.bench_engine.specs.Headline.{IsUnbroken}
+use Rattle.bench_engine.specs.Sessions.{HoldsPiece, Feeds}
 use Rattle.bench_engine.proofs.session.Session.feed.Given as goal
 
 -- some first bytes are taken, up to a newline
 abbrev pub invariant-loop-end : goal.invariant-loop-end
 invariant-loop-end g l = record {
-  room : HasRoom l.self;
   few : l.self.accepted + l.self.refused + length l.rest ≤ l.fn.self.accepted + l.fn.self.refused + length l.bytes;
   fed : (taken : List ℕ) × (l.bytes ≡ taken ++ l.rest)
-      × ((held : List ℕ) → ended_lines held ≡ [] → HoldsPiece l.fn.self.line held →
+      × ((held : List ℕ) → IsUnbroken held → HoldsPiece l.fn.self.line held →
       Feeds (g.N.NpyStore.shelf l.fn.store) (g.N.NpyStore.shelf l.store) (g.W.Write.contents l.fn.writer) (g.W.Write.contents l.writer) held taken l.fn.self l.self);
 }
 

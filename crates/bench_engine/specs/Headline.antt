@@ -1,0 +1,175 @@
+-- The headline: what a run comes to, for every script, store and undo depth. `run` ensures `ComesTo`, the last definition. Each
+-- definition uses those above it, and `Step`, a step of the machine.
+use Rattle.std.specs.Prelude.{◌≡◌, ◌≢◌, ◌⊎◌, ◌<◌, ◌-◌, ℕ, List, [], ◌∷◌, ◌++◌, length, map, take, count_by, not, nat_eq, nat_lt, if◌then◌else◌, All, Option, IfSome, Result, Ok, Err}
+use Rattle.std.specs.Io.KnownBytes.{Appends, Consumes, IsAtEnd}
+use Rattle.std.specs.List.{ends_with, flat_map}
+use Rattle.elem_descr.specs.declared.refusal.Refusal.TheVariants.{LineTooLong, ByteNotAllowed, Syntax, OutOfMemory}
+use Rattle.script_lang.specs.Lines.{Line, line_of, silent, bad_byte, misspelt, asks}
+use Rattle.name_store.specs.States.{State, start}
+use Rattle.npy_files.specs.Stores.{StoreState}
+use Rattle.bench_engine.specs.declared.session.Summary.{Summary}
+use Rattle.bench_engine.specs.declared.runner.RunFault.{RunFault}
+use Rattle.bench_engine.specs.declared.runner.RunFault.TheVariants.{Read, Write, Memory}
+use Rattle.bench_engine.specs.Replies.{Reply}
+use Rattle.bench_engine.specs.Steps.{World, world, Refuses, Step}
+
+-- ---- how a line may be answered
+
+-- the most bytes of a line
+abbrev pub limit : ℕ
+limit = 65536
+
+-- what a line means: it is too long, or it says what the grammar reads in it
+pub data Meaning : Type 0 where
+  too_long : Meaning
+  says : Line → Meaning
+
+unfoldable pub meaning_of : List ℕ → Meaning
+meaning_of line = if nat_lt limit (length line) then too_long else says (line_of line)
+
+-- exactly one reply, and this holds of it
+abbrev pub OneReply : List Reply → (Reply → Type 0) → Type 0
+OneReply replies P = (reply : Reply) × (replies ≡ reply ∷ []) × P reply
+
+-- A command is a step of the machine, or refused as out of memory with nothing changed.
+abbrev pub AnswersMeaning : World → Meaning → World → List Reply → Type 0
+AnswersMeaning old too_long new replies = OneReply replies (Refuses old new LineTooLong)
+AnswersMeaning old (says silent) new replies = (new ≡ old) × (replies ≡ [])
+AnswersMeaning old (says bad_byte) new replies = OneReply replies (Refuses old new ByteNotAllowed)
+AnswersMeaning old (says misspelt) new replies = OneReply replies (λ reply. Refuses old new Syntax reply ⊎ Refuses old new OutOfMemory reply)
+AnswersMeaning old (says (asks command)) new replies = OneReply replies (λ reply. Step old command new reply ⊎ Refuses old new OutOfMemory reply)
+
+-- how a line may be answered, and the world that this leads to
+abbrev pub AnswersLine : World → List ℕ → World → List Reply → Type 0
+AnswersLine old line new replies = AnswersMeaning old (meaning_of line) new replies
+
+-- lines are answered so, one after the other
+abbrev pub Run : World → List (List ℕ) → List Reply → World → Type 0
+Run old [] replies new = (replies ≡ []) × (new ≡ old)
+Run old (line ∷ lines) replies new = (mid : World) × (first rest : List Reply) × (replies ≡ first ++ rest) × AnswersLine old line mid first × Run mid lines rest new
+
+-- ---- the lines of a script
+
+-- these bytes contain no newline
+abbrev pub IsUnbroken : List ℕ → Type 0
+IsUnbroken bytes = All (λ b. b ≢ 10) bytes
+
+-- The bytes are pieces, each with a newline behind it, and then the rest. Neither a piece nor the rest contains a newline.
+pub record Splits (bytes : List ℕ) (pieces : List (List ℕ)) (rest : List ℕ) : Type 0 where
+  pub joined : bytes ≡ flat_map (λ piece. piece ++ 10 ∷ []) pieces ++ rest
+  pub pieces_unbroken : All IsUnbroken pieces
+  pub rest_unbroken : IsUnbroken rest
+
+-- a piece without its last byte, if that is a carriage return
+abbrev pub trimmed : List ℕ → List ℕ
+trimmed piece = if ends_with nat_eq piece (13 ∷ []) then take (length piece - 1) piece else piece
+
+-- one piece, or none if it is empty
+abbrev pub if_any : List ℕ → List (List ℕ)
+if_any [] = []
+if_any (b ∷ bytes) = (b ∷ bytes) ∷ []
+
+-- the lines that a newline ends
+abbrev pub AreWholeLines : List ℕ → List (List ℕ) → Type 0
+AreWholeLines bytes lines = (pieces : List (List ℕ)) × (rest : List ℕ) × Splits bytes pieces rest × (lines ≡ map trimmed pieces)
+
+-- those, and the rest as the last line, unless it is empty
+abbrev pub AreLines : List ℕ → List (List ℕ) → Type 0
+AreLines bytes lines = (pieces : List (List ℕ)) × (rest : List ℕ) × Splits bytes pieces rest × (lines ≡ map trimmed (pieces ++ if_any rest))
+
+-- ---- what goes out
+
+-- a reply with its newline
+abbrev pub reply_line : Reply → List ℕ
+reply_line reply = reply.text ++ 10 ∷ []
+
+abbrev pub output : List Reply → List ℕ
+output replies = flat_map reply_line replies
+
+abbrev pub accepted_count : List Reply → ℕ
+accepted_count replies = count_by (λ r. r.accepted) replies
+
+abbrev pub refused_count : List Reply → ℕ
+refused_count replies = count_by (λ r. not r.accepted) replies
+
+-- ---- what a run comes to
+
+-- What is outside of a run: the bytes still to be read and the bytes written, where they are known, and the store of files.
+pub record Outside : Type 0 where
+  pub unread : Option (List ℕ)
+  pub written : Option (List ℕ)
+  pub store : StoreState
+
+abbrev pub outside : Option (List ℕ) → Option (List ℕ) → StoreState → Outside
+outside unread written store = record { unread = unread; written = written; store = store }
+
+-- the world in which a run with this undo depth begins
+abbrev pub first_world : ℕ → Outside → World
+first_world depth before = world (start depth) before.store
+
+-- The bytes read, up to the end of the input, are a script: the known one, where it was known. A run of the machine answers its
+-- lines, and leads to the summary's bench and to the files that are left. The replies and nothing else are written, and the
+-- summary counts them.
+pub record AnswersScript (depth : ℕ) (before after : Outside) (summary : Summary) : Type 0 where
+  pub script : List ℕ
+  pub lines : List (List ℕ)
+  pub replies : List Reply
+  pub read : Consumes before.unread after.unread script
+  pub ended : IsAtEnd after.unread
+  pub known : IfSome before.unread (λ bytes. script ≡ bytes)
+  pub are_lines : AreLines script lines
+  pub run : Run (first_world depth before) lines replies (world summary.bench.state after.store)
+  pub sent : Appends before.written after.written (output replies)
+  pub accepted : summary.accepted ≡ accepted_count replies
+  pub refused : summary.refused ≡ refused_count replies
+
+-- Of the bytes read, the lines that a newline ends are answered, and all their replies are written.
+pub record AnswersWholeLines (depth : ℕ) (before after : Outside) : Type 0 where
+  pub input : List ℕ
+  pub lines : List (List ℕ)
+  pub replies : List Reply
+  pub state : State
+  pub read : Consumes before.unread after.unread input
+  pub are_lines : AreWholeLines input lines
+  pub run : Run (first_world depth before) lines replies (world state after.store)
+  pub sent : Appends before.written after.written (output replies)
+
+-- The source may be read while no read has failed and each line that a newline has ended is answered, with all replies written.
+abbrev pub ReadsInTime : {S : Type 0} → (S → Option (List ℕ)) → (S → ℕ) → (S → Option (List ℕ) → Type 0) → ℕ → S → Outside → Type 0
+ReadsInTime {S} remaining failures MayRead depth source before =
+    (now : S) (written : Option (List ℕ)) (store : StoreState) → failures now ≡ failures source
+    → AnswersWholeLines depth before (outside (remaining now) written store) → MayRead now written
+
+-- Of these lines the first ones are answered, and the files are as they leave them. All their replies are written but for a last
+-- part of the last one, which is not empty.
+pub record AnswersInPart (lines : List (List ℕ)) (first : World) (shelf : StoreState) (written written' : Option (List ℕ)) : Type 0 where
+  pub answered : List (List ℕ)
+  pub later : List (List ℕ)
+  pub replies : List Reply
+  pub last : Reply
+  pub state : State
+  pub gone : List ℕ
+  pub missing : List ℕ
+  pub front : lines ≡ answered ++ later
+  pub run : Run first answered (replies ++ last ∷ []) (world state shelf)
+  pub broken : reply_line last ≡ gone ++ missing
+  pub some_missing : 0 < length missing
+  pub sent : Appends written written' (output replies ++ gone)
+
+-- Of the lines that a newline ends, or of all lines where the input has ended, the first ones are answered in part; and so are the
+-- first lines of the script, where it was known.
+pub record AnswersFirstLines (depth : ℕ) (before after : Outside) : Type 0 where
+  pub input : List ℕ
+  pub lines : List (List ℕ)
+  pub read : Consumes before.unread after.unread input
+  pub are_lines : AreWholeLines input lines ⊎ (IsAtEnd after.unread × AreLines input lines)
+  pub some : AnswersInPart lines (first_world depth before) after.store before.written after.written
+  pub known : IfSome before.unread (λ script. (all : List (List ℕ)) × AreLines script all × AnswersInPart all (first_world depth before) after.store before.written after.written)
+
+-- After Ok the script is answered. After a failed read, or too many reads, the whole lines are answered; after a failed write the
+-- first lines, the last one in part. Without the memory to begin with, nothing has changed.
+abbrev pub ComesTo : ℕ → Outside → Outside → Result Summary RunFault → Type 0
+ComesTo depth before after (Ok summary) = AnswersScript depth before after summary
+ComesTo depth before after (Err Read) = AnswersWholeLines depth before after
+ComesTo depth before after (Err Write) = AnswersFirstLines depth before after
+ComesTo depth before after (Err Memory) = after ≡ before

@@ -1,0 +1,77 @@
+-- Where a command may be refused as out of memory: what `execute` and `answer` promise beyond the machine.
+use Rattle.std.specs.Prelude.{◌⊎◌, ℕ, Bool, true, false, IsTrue, ◌&&◌, ◌++◌, List, [], ◌∷◌, nat_lt}
+use Rattle.std.specs.List.{list_all}
+use Rattle.elem_descr.specs.declared.refusal.Refusal.TheVariants.{OutOfMemory}
+use Rattle.script_lang.specs.declared.command.Computation.{Computation}
+use Rattle.script_lang.specs.declared.command.Computation.TheVariants as computation
+use Rattle.script_lang.specs.declared.command.Value.{Value}
+use Rattle.script_lang.specs.declared.command.Value.TheVariants as value
+use Rattle.script_lang.specs.declared.command.Question.{Question}
+use Rattle.script_lang.specs.declared.command.Question.TheVariants as question
+use Rattle.script_lang.specs.declared.command.Command.{Command}
+use Rattle.script_lang.specs.declared.command.Command.TheVariants as command
+use Rattle.script_lang.specs.Lines.{asks}
+use Rattle.script_lang.specs.Reading.{parts_take_memory}
+use Rattle.name_store.specs.States.{State}
+use Rattle.name_store.specs.Arrays.{is_bound}
+use Rattle.bench_engine.specs.IndexLists.{names_in_index}
+use Rattle.bench_engine.specs.Machine.{names_in_viewing, names_in_operand, names_in_argument}
+use Rattle.bench_engine.specs.Replies.{Reply}
+use Rattle.bench_engine.specs.Steps.{World, Refuses, Step}
+use Rattle.bench_engine.specs.Headline.{Meaning, says, OneReply, AnswersMeaning}
+
+-- The names that must be bound, from the left.
+
+abbrev pub bound_in_computation : Computation → List (List ℕ)
+bound_in_computation (computation.Duplicate source order) = source ∷ []
+bound_in_computation (computation.Cast source descr) = source ∷ []
+bound_in_computation (computation.Combine op left right) = names_in_operand left ++ names_in_argument right
+bound_in_computation (computation.Transform op operand) = names_in_operand operand
+bound_in_computation (computation.Reduce reduction source axis keep) = source ∷ []
+
+abbrev pub bound_in_value : Value → List (List ℕ)
+bound_in_value (value.Make descr items) = []
+bound_in_value (value.View source how) = source ∷ names_in_viewing how
+bound_in_value (value.Compute computation) = bound_in_computation computation
+bound_in_value (value.Load file) = []
+
+abbrev pub bound_in_question : Question → List (List ℕ)
+bound_in_question (question.Print name) = name ∷ []
+bound_in_question (question.Info name) = name ∷ []
+bound_in_question (question.Format name) = name ∷ []
+bound_in_question question.Names = []
+bound_in_question (question.Shares left right) = left ∷ right ∷ []
+
+abbrev pub must_be_bound : Command → List (List ℕ)
+must_be_bound (command.Bind name value) = bound_in_value value
+must_be_bound (command.Set name index argument) = name ∷ names_in_index index ++ names_in_argument argument
+must_be_bound (command.Update name index op argument) = name ∷ names_in_index index ++ names_in_argument argument
+must_be_bound (command.Delete name) = name ∷ []
+must_be_bound (command.Ask question) = bound_in_question question
+must_be_bound (command.Save name file) = name ∷ []
+must_be_bound command.Undo = []
+
+-- Whether a command takes memory as it is carried out. Where a load lacks memory, that is an answer of the store. To unbind a
+-- name takes memory only if the state before it is kept, and to go back to a kept state takes none.
+abbrev pub asks_for_memory : State → Command → Bool
+asks_for_memory s (command.Bind name (value.Load file)) = false
+asks_for_memory s (command.Bind name value) = true
+asks_for_memory s (command.Set name index argument) = true
+asks_for_memory s (command.Update name index op argument) = true
+asks_for_memory s (command.Delete name) = nat_lt 0 s.depth
+asks_for_memory s (command.Ask question) = true
+asks_for_memory s (command.Save name file) = true
+asks_for_memory s command.Undo = false
+
+-- whether a command may be refused as out of memory: never where a name that must be bound is not
+abbrev pub may_lack_memory : State → Command → Bool
+may_lack_memory s command = asks_for_memory s command && list_all (is_bound s) (must_be_bound command)
+
+-- A command is a step of the machine, or refused as out of memory, where it may ask for some.
+abbrev pub MayAnswer : World → Command → World → Reply → Type 0
+MayAnswer old command new reply = Step old command new reply ⊎ (IsTrue (may_lack_memory old.state command) × Refuses old new OutOfMemory reply)
+
+-- So it is for a line. To read its command takes memory too, if a part of it is held in memory of its own.
+abbrev pub MayAnswerLine : World → Meaning → World → List Reply → Type 0
+MayAnswerLine old (says (asks command)) new replies = OneReply replies (λ reply. MayAnswer old command new reply ⊎ (IsTrue (parts_take_memory command) × Refuses old new OutOfMemory reply))
+MayAnswerLine old meaning new replies = AnswersMeaning old meaning new replies
