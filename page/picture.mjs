@@ -168,11 +168,11 @@ export function said(moment) {
   for (const [name, bound] of after.names) {
     const old = before.names.get(name), { buffer } = bound, others = after.inside(buffer).map(([other]) => other).filter(other => other !== name);
     if (old === bound) continue;
-    if (isUndo) told.push(`${name} is again as before, in buffer ${buffer}.`);
-    else told.push(`${name} is ${old ? "now " : ""}${before.buffers.has(buffer) ? `a view in buffer ${buffer}${others.length ? `, as ${few(others)}` : ""}` : `a new array in buffer ${buffer}`}.`);
+    if (isUndo) told.push(`${name} is back, in buffer ${buffer}.`);
+    else told.push(`${name} is ${old ? "now " : ""}${before.buffers.has(buffer) ? `a view of buffer ${buffer}${others.length ? `, like ${few(others)}` : ""}` : `a new array in buffer ${buffer}`}.`);
   }
-  for (const name of before.names.keys()) if (!after.names.has(name)) told.push(`${name} goes.`);
-  for (const number of before.buffers.keys()) if (!after.buffers.has(number)) told.push(`Buffer ${number} goes: no name sees it any more.`);
+  for (const name of before.names.keys()) if (!after.names.has(name)) told.push(`${name} is unbound.`);
+  for (const number of before.buffers.keys()) if (!after.buffers.has(number)) told.push(`Buffer ${number} is freed.`);
   for (const [number, buffer] of after.buffers) {
     const old = before.buffers.get(number), changed = old && old !== buffer ? [...buffer.values].filter(([at, value]) => old.values.has(at) && old.values.get(at) !== value) : [];
     if (!changed.length) continue;
@@ -181,6 +181,6 @@ export function said(moment) {
     told.push(`${counted(changed.length, "value")} in buffer ${number} change${changed.length === 1 ? "s" : ""}${part}, ${names.length ? `seen by ${few(names)}` : "no name sees it"}.`);
   }
   if (moved.size) told.push(`${counted(moved.size, "value")} moved${[...moved.values()].some(({ buffer }) => !written.has(buffer)) ? " from another buffer" : ""}.`);
-  else if (!told.length && [...written.values()].some(bytes => bytes.size)) told.push("What is written is what stood there.");
+  else if (!told.length && [...written.values()].some(bytes => bytes.size)) told.push("The values written are those that were there.");
   return told.slice(0, 12).join(" ") || "Nothing changes.";
 }

@@ -220,10 +220,10 @@ class Pictures(unittest.TestCase):
         lines = ["a = arange <i4 0 4 1", "b = a[::2]", "c = reshape a (2,2)", "t = transpose c", "d = reshape t (4)",
                  "set a[1:] = a[:-1]", "del d", "undo", "set b[0] = b[0]", "b = copy a C", "set a[:] = b", "del a"]
         words = [moment["words"] for moment in look(lines)]
-        self.assertEqual(words[:2], ["a is a new array in buffer 1.", "b is a view in buffer 1, as a."])
-        self.assertEqual(words[4:9], ["d is a new array in buffer 2.", "3 values in buffer 1 change, seen by a, b, c and t. 3 values moved.", "d goes. Buffer 2 goes: no name sees it any more.",
-                                      "d is again as before, in buffer 2.", "What is written is what stood there."])
-        self.assertEqual(words[9:], ["b is now a new array in buffer 3.", "What is written is what stood there.", "a goes."])
+        self.assertEqual(words[:2], ["a is a new array in buffer 1.", "b is a view of buffer 1, like a."])
+        self.assertEqual(words[4:9], ["d is a new array in buffer 2.", "3 values in buffer 1 change, seen by a, b, c and t. 3 values moved.", "d is unbound. Buffer 2 is freed.",
+                                      "d is back, in buffer 2.", "The values written are those that were there."])
+        self.assertEqual(words[9:], ["b is now a new array in buffer 3.", "The values written are those that were there.", "a is unbound."])
 
     def test_around_what_changed(self):
         """A long array is drawn around what a line writes or names, and its grids too."""
