@@ -86,7 +86,7 @@ def reserved() -> frozenset[str]:
 
 
 def name(what: str) -> Token:
-    return Token(rf"(?!(?:{'|'.join(reserved())})(?!\w))[A-Za-z_]\w{{0,31}}(?!\w){PARTED}", what)
+    return Token(rf"(?!(?:{'|'.join(sorted(reserved()))})(?!\w))[A-Za-z_]\w{{0,31}}(?!\w){PARTED}", what)
 
 
 def rule_of(piece: str, what: str) -> Any:
