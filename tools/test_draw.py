@@ -18,6 +18,7 @@ from trials import lines as scripts
 from bench_tool import BenchError, Session
 from bench_tool import page as pages
 from bench_tool.session import literal
+from test_page import vectors
 
 HAS_PAGE = any(map(pathlib.Path.is_file, pages.PLACES))
 needs_node = unittest.skipUnless(HAS_PAGE and shutil.which("node"), "left out: Node is not installed, or `make page` has made no page")
@@ -139,12 +140,14 @@ def items_of_name(row, values):
 @needs_node
 class Pictures(unittest.TestCase):
     def test_buffers_and_values(self):
-        """Buffers are as `shares` says, and what is drawn is what `print` says."""
-        chosen = [scripts.random_script(PROGRAM, random.Random(-seed - 1), -seed - 1, depths=(0, 1, 3, 16, 56)) for seed in range(share(6, 400))]
-        for script, told in zip(chosen, looks([(script.lines, script.depth or 0) for script in chosen])):
-            with tempfile.TemporaryDirectory() as folder, Session(PROGRAM, script.depth or 0, folder) as judge:
-                for line, moment in zip(script.lines, told):
-                    with self.subTest(script=script.name, line=line):
+        """Buffers are as `shares` says, and what is drawn is what `print` says: in random scripts, and in some of vectors/."""
+        made = [scripts.random_script(PROGRAM, random.Random(-seed - 1), -seed - 1, depths=(0, 1, 3, 16, 56)) for seed in range(share(6, 400))]
+        written = [(lines, min(undo, 56)) for path in sorted((TOP / "vectors").glob("*.txt")) for lines, files, undo, _, _ in vectors(path) if not files]
+        chosen = [(script.lines, script.depth or 0) for script in made] + random.Random(7).sample(written, share(30, len(written)))
+        for (lines, undo), told in zip(chosen, looks(chosen)):
+            with tempfile.TemporaryDirectory() as folder, Session(PROGRAM, undo, folder) as judge:
+                for line, moment in zip(lines, told):
+                    with self.subTest(lines=lines, line=line):
                         self.check_moment(judge, line, moment)
 
     def check_moment(self, judge, line, moment):

@@ -15,7 +15,7 @@ import unittest
 
 from trials.companion_trials import PROGRAM, TOP, needs_program, share
 from trials.browser import CHROMIUM, Browser
-import hostile_scripts as scripts
+from trials import lines as scripts
 from bench_tool import Session
 from bench_tool import page as pages
 from test_rows import rows, zeros
