@@ -184,6 +184,17 @@ class Shells(InFolder):
         self.assertTrue(shell.line(command.replace(b" (", b" " * (65536 - len(command)) + b" (")).endswith("ok a |u1 (2,) new\n"))
         self.assertTrue(shell.line(b"#".ljust(65537, b"x")).endswith("no E01 line too long\n    the line has more than 65,536 bytes\n"))
 
+    def test_ctrl_c_with_the_keys_of_vi(self):
+        (self.folder / "inputrc").write_text("set editing-mode vi\n")
+        shell = self.shell(more={"INPUTRC": str(self.folder / "inputrc")})
+        for keys in (b"abc", b"abc\x1b"):
+            shell.type(keys)
+            shell.until(b"abc", is_last=False)
+            time.sleep(0.6)  # so that Escape is a key of its own
+            shell.type(CTRL_C)
+            shell.until(AT_PROMPT)
+        self.assertEqual(shell.line(b"names"), "names\n")
+
     def slow(self):
         """A shell of a program that is at work for two seconds on each line that begins with `slow`, and for ten minutes on `print slow`."""
         program = self.folder / "program"

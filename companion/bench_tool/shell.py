@@ -87,7 +87,8 @@ class Keys:
         self._without[6][termios.VINTR] = b"\0"
         octal = f"\\{ord(self._key):03o}"
         for setting in ("tab: complete", "set completion-query-items 0", "set page-completions off",
-                        f'"{octal}": "\\026{octal}\\015"', f'"\\e{octal}": "{octal}"'):
+                        f'"{octal}": "\\026{octal}\\015"', f'"\\e{octal}": "{octal}"',
+                        "$if mode=vi", "set keymap vi-command", f'"{octal}": "i\\026{octal}\\015"', "set keymap vi-insert", "$endif"):
             readline.parse_and_bind(setting)
         readline.set_completer_delims(" \t=[](),:\"")
         readline.set_completer(complete)
