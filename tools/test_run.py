@@ -160,7 +160,7 @@ class Runs(InFolder):
             ("x = m[0,5]", "axis 1 of m has length 3: 5 is outside, -3 to 2 are within"), ("x = add a m", "a has shape (6,), m has shape (2, 3):"),
             ("x = reshape a (4,2)", "a is <i4 (6,): 6 items, and (4,2) has 8"),
             ("x = a[k]", "a is <i4 (6,), k is |b1 (4,)"), ("x = m[i,j]", "i is <i8 (2,), j is <i8 (3,)"),
-            ("x = broadcast a (3)", "a has shape (6,): from the last axis on, lengths are the same, or 1 in a"),
+            ("x = broadcast a (3)", "a has shape (6,): aligned at the last axis, lengths must be equal, or 1 in a"),
             ("set m[0] = a", "m[0] has shape (3,), a has shape (6,)"),
         ]:
             with self.subTest(line):

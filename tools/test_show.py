@@ -58,9 +58,9 @@ class Shows(InFolder):
     def test_refused(self):
         """What a file is that is refused, by Python's reading of its header."""
         (self.folder / "no.npy").write_bytes(b"none")
-        self.assertEqual(self.show("no.npy"), ("", "no.npy: E28 bad magic\n    no NPY file: it begins with b'none'\n", 1))
+        self.assertEqual(self.show("no.npy"), ("", "no.npy: E28 bad magic\n    not an NPY file: it begins with b'none'\n", 1))
         (self.folder / "no.npz").write_bytes(b"PK\x03\x04none")
-        self.assertIn("a zip file, as NPZ files are", self.show("no.npz")[1])
+        self.assertIn("a ZIP file, like every NPZ file", self.show("no.npz")[1])
         self.assertEqual(self.show("nowhere.npy"), ("", "nowhere.npy: E34 no such file\n", 1))
         self.assertEqual(self.show("."), ("", ".: E27 store fault\n    a folder\n", 1))
         (self.folder / "l.npy").symlink_to("l.npy")
@@ -73,7 +73,7 @@ class Shows(InFolder):
         self.assertIn("    its header is {__import__('os').system('id')}\n", self.header("{__import__('os').system('id')}")[1])
         mixed = self.header("{'descr': [('x', '<U5'), ('y', '<f4', (2,))], 'fortran_order': False, 'shape': (2,), }")
         self.assertIn("(2,), C order, 56 bytes of items", mixed[1])
-        self.assertIn("bench has no strings but of bytes, no floats", mixed[1])
+        self.assertIn("bench has no Unicode strings, no floats", mixed[1])
 
     def test_damaged_headers(self):
         """No header ends it otherwise than with a code."""

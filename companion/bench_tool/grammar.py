@@ -10,7 +10,7 @@ ARGUMENT = f"{ARRAY} or {LITERAL}"
 VERB, COMMAND, END = "an array, or a word such as zeros, add or sum", "a command, or a name and `=`", "the end of the line"
 TYPE, OPERATION, ORDER = "a type, as <i4", "an operation, as add", "`C` or `F`"
 ENTRY = "an integer, a slice as 1:3, `...`, None or an array of integers or bools"
-FILE = "a file's name between quotes: letters, digits, `_`, `-` and `.`, no folder"
+FILE = "a file name in quotes: letters, digits, `_`, `-` and `.`, no folder"
 PARTED = r"(?=b'|[^\w+-]|$)"  # behind a word or a number no other begins at once, but a byte string
 INTEGER = rf"[+-]?[0-9]{{1,30}}{PARTED}"
 RECORD = re.compile(r"[@=<>!^]*T\{")
@@ -95,7 +95,7 @@ def rule_of(piece: str, what: str) -> Any:
         "=": mark("="), "X": name(what), "Y": name(what), "D": TYPE, "S": shape(INTEGER.replace("[+-]?", "")), "S-": shape(INTEGER),
         "(axes)": shape(INTEGER), "L": literal(LITERAL), "L..": Many(literal(LITERAL)), "a": Token(INTEGER, "the first integer"),
         "b": Token(INTEGER, "the end, an integer"), "s": Token(INTEGER, "the step, an integer"), "[axis]": maybe(Token(INTEGER, "an axis")),
-        "[keep]": maybe(word(["keep"], "keep")), "Y[?]": (name(what), maybe(index())), '"field"': Token('"[^"]*"', "a name between quotes"),
+        "[keep]": maybe(word(["keep"], "keep")), "Y[?]": (name(what), maybe(index())), '"field"': Token('"[^"]*"', "a name in quotes"),
         '"f"': Token(r'"\w[\w.-]{0,63}"', FILE), "Z": [literal(ARGUMENT), (name(ARGUMENT), maybe(index()))],
         "C": word("C", ORDER), "F": word("F", ORDER),
     }

@@ -93,7 +93,7 @@ class Hints(ExitStack):
         """What to write in the place of a line that is no command, else where it stops being one."""
         bare = re.fullmatch(r"([^#'\"]*[^#\s'\"])\s*#.*", line)
         offered = translated(bare[1] if bare else line, known, self.session.fields) or ([bare[1]] if bare else [])
-        said = ["a comment has a line of its own"] * bool(bare)
+        said = ["a comment needs a line of its own"] * bool(bare)
         said += [reason for pattern, reason in REASONS.items() if re.fullmatch(pattern, line.strip())]
         if offered and offered[0].startswith("# "):
             said.append(offered[0][2:])
@@ -107,15 +107,15 @@ class Hints(ExitStack):
         reading = Reading(line, names)
         word = re.match(r"[a-z_]{4,}|", line[reading.stop()[0]:])[0]  # type: ignore[index]
         near = [] if word in reserved() else difflib.get_close_matches(word, sorted(reserved()), 2, 0.75)
-        return [*said, *reading.place(), *[f"near it: {' '.join(near)}"] * bool(near)] if reading.wanted else said
+        return [*said, *reading.place(), *[f"did you mean {' or '.join(near)}?"] * bool(near)] if reading.wanted else said
 
     def _of_name(self, line: str, names: list[str]) -> list[str]:
         """What is said of a name that is not bound."""
         words = WORD.findall(re.sub(r'^\s*\w+\s*=|"[^"]*"', "", line))
         word = next(word for word in words if word not in names and word not in reserved())
         near = self._near(word, names)
-        bound = f"bound: {' '.join(names[:10])}{' ..' * (len(names) > 10)}" if names else "no name is bound yet"
-        return [f"{word} is not bound", f"near it: {near}" if near else bound]
+        bound = f"names: {' '.join(names[:10])}{' ..' * (len(names) > 10)}" if names else "no name is bound yet"
+        return [f"{word} is not bound", f"did you mean {near}?" if near else bound]
 
     def _of_file(self, line: str) -> list[str]:
         """What is said of a file that is not there."""
@@ -124,7 +124,7 @@ class Hints(ExitStack):
             return [f"there is no folder {printable(folder)}"]
         with os.scandir(folder) as entries:
             near = self._near(line.split('"')[1], (entry.name for entry in entries))
-        return [f"near it: {printable(near)}" if near else f"looked for in {printable(os.path.abspath(folder))}"]
+        return [f"did you mean {printable(near)}?" if near else f"looked for in {printable(os.path.abspath(folder))}"]
 
     def _near(self, word: str, among: Iterable[str]) -> str:
         """The nearest of some words, as far as there is time to look."""
@@ -210,12 +210,12 @@ class Numbers:
 
     def _e04(self) -> str:
         kind = self.text["D"]
-        return f"{KINDS[kind]} is written for {kind}" if kind in KINDS else \
-            f"{printable(kind, 60)} is no type, as <i4, |u1, |b1, |S5 or T{{<i:x:<h:y:}} are"
+        return f"write {KINDS[kind]} instead of {kind}" if kind in KINDS else \
+            f"{printable(kind, 60)} is not a type such as <i4, |u1, |b1, |S5 or T{{<i:x:<h:y:}}"
 
     def _e05(self) -> str:
         kind = self.text["D"]
-        return f"{KINDS[kind]} is written for {kind}" if kind in KINDS else "there are no floats" * bool(FLOATS.match(kind))
+        return f"write {KINDS[kind]} instead of {kind}" if kind in KINDS else "there are no floats" * bool(FLOATS.match(kind))
 
     def _e09(self) -> str:
         lengths = list(map(int, re.findall(r"\d+", self.text.get("S") or self.text["S-"])))
@@ -252,7 +252,7 @@ class Numbers:
         shapes = {operand: self.array(operand).shape for operand in self.operands}
         source = "" if "OP" in self.text and "X[ix]" not in self.text else f" in {self.operands[-1]}"
         told = ", ".join(f"{operand} has shape {shape}" for operand, shape in shapes.items())
-        return f"{told}: from the last axis on, lengths are the same, or 1{source}"
+        return f"{told}: aligned at the last axis, lengths must be equal, or 1{source}"
 
     def _e18(self) -> str:
         name, lengths = self.text["Y"], list(map(int, re.findall(r"[+-]?\d+", self.text["S-"])))
@@ -280,9 +280,9 @@ class Numbers:
 
     def _e33(self) -> str:
         given = self.text.get("L") or self.text.get("Z") or self.operands[-1]
-        return f"{given} does not become {self.text.get('D') or self.array(self.operands[0]).type}" if "L.." not in self.text else ""
+        return f"{given} cannot be converted to {self.text.get('D') or self.array(self.operands[0]).type}" if "L.." not in self.text else ""
 
     def _e32(self) -> str:
         count = prod(map(int, re.findall(r"\d+", self.text["S"])))
         values = len(re.findall(r"b'[^']*'|\((?:[^()]|\([^()]*\))*\)|[^\s()]+", self.text["L.."]))
-        return f"the shape {self.text['S']} has {items(count)}, and {values} {'literal stands' if values == 1 else 'literals stand'} there"
+        return f"the shape {self.text['S']} has {items(count)}, and there {'is 1 literal' if values == 1 else f'are {values} literals'}"

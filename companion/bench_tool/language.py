@@ -110,7 +110,7 @@ def help_text(word: str = "", columns: int = 0) -> str:
         example = next((lines for words, lines in EXAMPLES if word in words.split()), "").replace(" UN ", f" {word} ").replace(" OP ", f" {word} ")
         found += [f"      for example:\n{textwrap.indent(example.replace(' RED ', f' {word} '), ' ' * 10)}"] * bool(found and example)
         sections = [plain(part.rstrip()) for part in text().split("\n## ") if word in part.partition("\n")[0].lower().split()]
-        return "\n".join(found or sections) or f"  there is no command {word}; help alone lists them"
+        return "\n".join(found or sections) or f"  there is no command {word}; help lists them all"
     width = max(len(form) for command in commands() for form in command.forms)
     shown = [f"  {form:{width}}  {command.what or command.reply}" for command in commands() for form in command.forms]
     shown += [f"  {key} is one of {' '.join(words)}" for key, words in operations().items()]

@@ -32,11 +32,11 @@ ENDS = ("exit", "quit", "exit()", "quit()", ".exit", ".quit")
 TYPES = ["|b1", "|i1", "<i2", "<i4", "<i8", "|u1", "<u2", "<u4", "<u8", "|S8", "T{<i:x:<h:y:}"]
 CHANGES_NO_NAME = re.compile(r"\s*(save|print|info|format|names|shares)\b")
 DOTS = """  .read FILE    runs the lines of a script
-  .save FILE    writes the accepted lines as a script
-  .names        lists the names with types and shapes, and which share items
-  .draw [PAGE]  writes a page of pictures of the session, and opens it where there is a browser
-  .all NAME     prints an array whole; `print NAME` cuts it to the window
-  .time         says how long each line takes, or stops saying it
+  .save FILE    writes the accepted lines of the session as a script
+  .names        lists the names with types and shapes, and which of them share items
+  .draw [PAGE]  writes a page of pictures of the session, and opens it if there is a browser
+  .all NAME     prints an array without cutting it; `print NAME` cuts it to the window
+  .time         starts or stops showing how long each line takes
   exit, quit    end the shell, as Ctrl-D does"""
 
 
@@ -180,7 +180,7 @@ class Shell:
             print(language.help_text(rest.strip(), room()[1] * self.is_terminal) + f"\n{DOTS}" * (not rest))
         elif first.startswith("."):
             dot = getattr(self, f"dot_{first[1:]}", None)
-            print(f"    there is no {printable(first)}; help lists all") if dot is None else dot(rest.strip())
+            print(f"    there is no command {printable(first)}; help lists them all") if dot is None else dot(rest.strip())
         else:
             is_name = bare.isidentifier() and bare in self.session.names()
             self.send(f"print {bare}" if is_name else line)
@@ -204,7 +204,7 @@ class Shell:
             return
         if is_cut:
             print(painted("\n".join(window.lines()), "" if reply.accepted else RED))
-            self.note(f"(cut to the window; .all {line.split()[1]} prints it whole)" if window.is_cut else "")
+            self.note(f"(cut to the window; .all {line.split()[1]} prints all of it)" if window.is_cut else "")
         if not reply.accepted:
             for text in self.hints.meant(line, reply):
                 self.note(place + text)
@@ -226,14 +226,14 @@ class Shell:
         while not is_whole:
             with self.interrupts.during(lambda: self.session.kill()), suppress(ProgramEnded):
                 print()
-                self.note("(the line is stopped, and its program: the lines before it are run again)")
+                self.note("(the program was stopped; the lines before this one are run again)")
                 self.close()
                 self.begin()
                 for line in self.log:
                     if not self.interrupts.is_noted and not CHANGES_NO_NAME.match(line) and not self.session.send(line).accepted:
                         self.note(f"(refused now: {printable(line, 200)})")
             is_whole = not self.interrupts.is_noted
-            if not is_whole and self.read("    give up the names, y or n? ").startswith("y"):
+            if not is_whole and self.read("    give up the names (y or n)? ").startswith("y"):
                 self.log.clear()
                 self.changes.clear()
 
@@ -249,7 +249,7 @@ class Shell:
 
     def dot_save(self, file: str) -> None:
         Path(os.path.expanduser(file)).write_bytes(self.script())
-        print(f"    {len(self.log)} lines are in {printable(file)}")
+        print(f"    wrote {len(self.log)} lines to {printable(file)}")
 
     def dot_names(self, _: str) -> None:
         arrays = [self.session.array(name, items=False) for name in self.session.names()]

@@ -13,7 +13,7 @@ from .terminal import Window, printable, room, say
 
 MAGIC = b"\x93NUMPY"
 MOST = 1 << 20  # bytes of a header that is looked at
-NO_KIND = {"f": "floats", "c": "complex numbers", "m": "time spans", "M": "dates", "U": "strings but of bytes", "O": "Python objects", "V": "plain bytes"}
+NO_KIND = {"f": "floats", "c": "complex numbers", "m": "time spans", "M": "dates", "U": "Unicode strings", "O": "Python objects", "V": "plain bytes"}
 
 
 def size_of(descr: Any) -> int:
@@ -33,9 +33,9 @@ def told(file: BinaryIO) -> list[str]:
     """What a file is by its first bytes: the parts of its header, and whether its items are all there."""
     begin, length = file.read(12), os.fstat(file.fileno()).st_size
     if begin.startswith(b"PK"):
-        return ["a zip file, as NPZ files are: unpack it, there is an NPY file in it for each array"]
+        return ["a ZIP file, like every NPZ file: unpack it to get an NPY file for each array"]
     if not begin.startswith(MAGIC):
-        return [f"no NPY file: it begins with {begin[:6]!r}" if begin else "an empty file"]
+        return [f"not an NPY file: it begins with {begin[:6]!r}" if begin else "an empty file"]
     if len(begin) < 10:
         return ["it ends within its first 10 bytes"]
     wide = begin[6] > 1
