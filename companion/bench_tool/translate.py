@@ -83,6 +83,13 @@ def shape_of(lists: Any) -> tuple[int, ...]:
     return (len(lists), *(shape_of(lists[0]) if lists else ())) if isinstance(lists, list) else ()
 
 
+def kind_of(items: Sequence[Any]) -> str:
+    """The type that NumPy makes of literals."""
+    if items and all(isinstance(item, (bytes, str)) for item in items):
+        return f"|S{max(1, *map(len, items))}"
+    return "|b1" if items and all(isinstance(item, bool) for item in items) else "<i8"
+
+
 def is_type(node: Optional[ast.AST]) -> bool:
     """Whether a node is a dtype: a string that is one, a name as np.int16, or a list of fields."""
     if isinstance(node, ast.List):
@@ -180,16 +187,12 @@ class Translation:
         return node.id
 
     def _constant(self, node: ast.expr) -> str:
-        found = self.constant(node)
-        kind = f"|S{max(1, len(found))}" if isinstance(found, (bytes, str)) else "|b1" if isinstance(found, bool) else "<i8"
-        return f"full {kind} () {self.literal(node)}"
+        return f"full {kind_of([self.constant(node)])} () {self.literal(node)}"
 
     def _list(self, node: Any, kind: str = "") -> str:
         values = self.constant(ast.List(node.elts, ast.Load()))
         items = [item.encode("latin-1", "replace") if isinstance(item, str) else item for item in flat(values)]
-        kinds = {bytes: f"|S{max((len(item) for item in items if isinstance(item, bytes)), default=1)}", bool: "|b1", int: "<i8"}
-        kind = kind or kinds.get(type(items[0]) if items else int) or self.refuse()
-        return " ".join([f"array {kind} ({','.join(map(str, shape_of(values)))})", *map(literal, items)])
+        return " ".join([f"array {kind or kind_of(items)} ({','.join(map(str, shape_of(values)))})", *map(literal, items)])
 
     _tuple = _list
 
@@ -270,6 +273,8 @@ class Translation:
             word, given = "full", [*given, ast.Constant(1)]
         if word not in language.verbs(True):
             self.refuse(f"there is no `{raw}`" if given and raw not in grammar.reserved() else "")
+        if word == "full" and not any(map(is_type, given)):
+            named.setdefault("dtype", ast.Constant(kind_of([self.constant(given[-1])])))
         if word == "array" and isinstance(given[0], (ast.List, ast.Tuple)) and len(given) + len(named) <= 2 and not is_type(given[0]):
             kind = named.get("dtype") or (given[1] if len(given) > 1 else None)
             return self._list(given[0], self.type(kind) if kind else "")
