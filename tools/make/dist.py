@@ -22,7 +22,7 @@ import sources  # noqa: E402
 DIST = sources.TOP / "dist"
 NAME = "bench-x86_64-linux"
 HAS_LIBRARY = "bench_c" in sources.uses()
-PAGE = ("bench.html", "bench.mjs", "bench.wasm")
+PAGE = ("bench.html", "bench.mjs", "bench.wasm") if (sources.TOP / "page").is_dir() else ()
 
 
 class NotMade(Exception):
@@ -98,7 +98,7 @@ def differences():
     for name in (NAME, *(sources.LIBRARIES if HAS_LIBRARY else ()), *PAGE):
         if not (DIST / name).is_file() or told.get(name) != sources.digest(DIST / name):
             yield f"dist/{name} has not the sum that dist/SUMS tells"
-    if subprocess.run([sys.executable, sources.TOP / "page/build.py", "--check"], check=False).returncode:
+    if PAGE and subprocess.run([sys.executable, sources.TOP / "page/build.py", "--check"], check=False).returncode:
         yield "the page in dist/ is not of these sources: run `make page`, then `make dist`"
     here = kit()
     if told.get("toolchain") != here:
