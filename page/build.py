@@ -131,7 +131,7 @@ def differences():
         return
     wasm = files[0].read_bytes()
     if files[1].read_text(encoding="utf-8") != page(wasm):
-        yield "dist/bench.html is not what page/ and dist/bench.wasm give"
+        yield "dist/bench.html is not what page/, LANGUAGE, the grammar, the examples and dist/bench.wasm give: run page/build.py --page"
     if files[2].read_bytes() != (HERE / "bench.mjs").read_bytes():
         yield "dist/bench.mjs is not page/bench.mjs"
     if kit() and program() != wasm:
