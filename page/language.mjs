@@ -137,6 +137,8 @@ export class Language {
       const { at, what } = new Reading(this, line, new Set(before.names.keys())).told;
       return { at, text: what.length ? `expected ${what.slice(0, 4).join(" or ")}` : "" };
     }
+    const unknown = reply.code === "E06" && line.replace(/^\s*\w+\s*=|"[^"]*"|b'[^']*'/g, "").match(/[A-Za-z_]\w*/g)?.find(word => !this.isReserved(word) && !before.names.has(word));
+    if (unknown) return { text: `${unknown} is not bound${before.names.size ? `; bound: ${[...before.names.keys()].slice(0, 10).join(" ")}` : ""}` };
     const arrays = [...words].filter(word => before.names.has(word)).slice(0, 4).map(word => before.names.get(word).array);
     return { text: [this.codes[reply.code]?.[1], ...arrays.map(({ name, type, shape }) => `${name} is ${type} (${shape.join(", ")}${shape.length === 1 ? "," : ""})`)].filter(Boolean).join("; ") };
   }
