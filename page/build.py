@@ -8,7 +8,9 @@
 
 build.py            all of these; the module of before is taken where neither sources nor toolchain differ
 build.py --page     the last one alone, with the bench.wasm of dist/
-build.py --check    tells what differs in dist/ from what these sources give; with the toolchain at hand bench.wasm is made anew"""
+build.py --check    tells what differs in dist/ from what these sources give; bench.wasm is made anew where its module is kept
+
+out/page/state says of which sources dist/bench.wasm was made. `make dist` writes that into SUMS, and the gate refuses another program."""
 import base64
 import gzip
 import hashlib
@@ -29,6 +31,8 @@ import sources  # noqa: E402
 from bench_tool import grammar, language  # noqa: E402
 
 DIST, OUT = TOP / "dist", TOP / "out/page"
+PARTS = ("module.sh", "retarget.py", "heap.c", "wide.c")  # of what bench.wasm is made, beside bench_c
+OPTIMIZED = "-Os"
 CALLS = ("open", "answer", "reply", "put", "get", "file", "close")
 LINKED = ["--no-entry", "--gc-sections", "--strip-all", "--stack-first", "-z", "stack-size=1048576", "--export=malloc", "--export=realloc", "--export=free", *(f"--export=bench_c_{call}" for call in CALLS)]
 MODULES = ("bench", "trace", "picture", "svg", "language", "app")
@@ -47,13 +51,33 @@ def clang(*words):
     subprocess.run([kit() / "toolchain/bin/clang", *target, *map(str, words)], check=True)
 
 
+def program_sum():
+    """The sum of the sources of bench.wasm."""
+    parts = "".join(f"{sources.digest(HERE / name)}  page/{name}\n" for name in PARTS)
+    return sources.sum_of_bytes(f"{sources.sum_of('bench_c')}\n{parts}{OPTIMIZED} {' '.join(LINKED)}\n".encode())
+
+
+def state():
+    """What out/page/state says where dist/bench.wasm is of these sources."""
+    return f"{program_sum()}\n{sources.digest(DIST / 'bench.wasm')}\n"
+
+
+def module_state():
+    """What out/page/module.of says where the module that is kept is of these sources and this toolchain."""
+    return f"{subprocess.run(['rt', 'version'], capture_output=True, text=True, check=True).stdout}{sources.sum_of('bench_c')}\n"
+
+
+def is_module_kept():
+    stamp = OUT / "module.of"
+    return (OUT / "module.bc").is_file() and stamp.is_file() and stamp.read_text() == module_state()
+
+
 def module():
     """The LLVM module of bench_c, which is proved, compiled and kept."""
-    stamp, told = OUT / "module.of", f"{subprocess.run(['rt', 'version'], capture_output=True, text=True, check=True).stdout}{sources.sum_of('bench_c')}\n"
-    if not (OUT / "module.bc").is_file() or not stamp.is_file() or stamp.read_text() != told:
-        stamp.unlink(missing_ok=True)
+    if not is_module_kept():
+        (OUT / "module.of").unlink(missing_ok=True)
         subprocess.run([HERE / "module.sh", OUT], check=True, stdout=sys.stderr)
-        stamp.write_text(told)
+        (OUT / "module.of").write_text(module_state())
     return OUT / "module.bc"
 
 
@@ -63,7 +87,7 @@ def program():
     disassemble = ["--target=x86_64-unknown-linux-gnu", "-x", "ir", module(), "-S", "-emit-llvm", "-O0", "-Xclang", "-disable-llvm-passes", "-o", OUT / "x86.ll"]
     subprocess.run([kit() / "toolchain/bin/clang", *disassemble], check=True)
     (OUT / "wasm.ll").write_text(retarget.retarget((OUT / "x86.ll").read_text()))
-    clang("-Os", "-x", "ir", OUT / "wasm.ll", "-o", OUT / "bench.o")
+    clang(OPTIMIZED, "-x", "ir", OUT / "wasm.ll", "-o", OUT / "bench.o")
     for name in ("heap", "wide"):
         clang("-O2", "-Wall", "-Wextra", "-ffreestanding", "-fno-builtin", HERE / f"{name}.c", "-o", OUT / f"{name}.o")
     linker = OUT / "wasm-ld"
@@ -114,10 +138,12 @@ def page(wasm):
     return re.sub("<!--([A-Z]+)-->", lambda found: parts[found[1]], (HERE / "page.html").read_text(encoding="utf-8"))
 
 
-def write(wasm):
+def write(wasm, is_new):
     DIST.mkdir(exist_ok=True)
     made = page(wasm)
     (DIST / "bench.wasm").write_bytes(wasm)
+    if is_new:
+        (OUT / "state").write_text(state())
     (DIST / "bench.html").write_text(made, encoding="utf-8")
     shutil.copyfile(HERE / "bench.mjs", DIST / "bench.mjs")
     print(f"page: dist/bench.html has {len(made.encode()):,} bytes, dist/bench.wasm {len(wasm):,}")
@@ -134,7 +160,9 @@ def differences():
         yield "dist/bench.html is not what page/, LANGUAGE, the grammar, the examples and dist/bench.wasm give: run page/build.py --page"
     if files[2].read_bytes() != (HERE / "bench.mjs").read_bytes():
         yield "dist/bench.mjs is not page/bench.mjs"
-    if kit() and program() != wasm:
+    if not kit() or not is_module_kept():
+        print("page: bench.wasm is not made anew, since its module is not kept here")
+    elif program() != wasm:
         yield "dist/bench.wasm is not what these sources and this toolchain give"
 
 
@@ -153,4 +181,5 @@ if __name__ == "__main__":
         sys.exit(check())
     if not sys.argv[1:] and not kit():
         sys.exit("page: this needs rt, the command of the toolchain")
-    write((DIST / "bench.wasm").read_bytes() if sys.argv[1:] == ["--page"] else program())
+    is_page = sys.argv[1:] == ["--page"]
+    write((DIST / "bench.wasm").read_bytes() if is_page else program(), not is_page)

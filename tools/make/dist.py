@@ -16,13 +16,15 @@ import subprocess
 import sys
 import tempfile
 
-sys.path.insert(0, str(pathlib.Path(__file__).resolve().parent))
+sys.path[:0] = [str(pathlib.Path(__file__).resolve().parent), str(pathlib.Path(__file__).resolve().parents[2] / "page")]
 import sources  # noqa: E402
 
 DIST = sources.TOP / "dist"
 NAME = "bench-x86_64-linux"
 HAS_LIBRARY = "bench_c" in sources.uses()
 PAGE = ("bench.html", "bench.mjs", "bench.wasm") if (sources.TOP / "page").is_dir() else ()
+if PAGE:
+    import build as page
 
 
 class NotMade(Exception):
@@ -70,13 +72,21 @@ def is_proved(crate, here):
     return proved.is_file() and built.is_file() and proved.read_text().splitlines() == [here, sources.sum_of(crate), sources.digest(built)]
 
 
+def page_lines():
+    """The lines of SUMS for the page, which `make page` has written."""
+    made = page.OUT / "state"
+    if not (DIST / "bench.wasm").is_file() or not made.is_file() or made.read_text() != page.state():
+        raise NotMade("the page is not of these sources: run `make page`")
+    return f"page program sources: {page.program_sum()}\n" + "".join(f"{name}: {sources.digest(DIST / name)}\n" for name in PAGE)
+
+
 def write():
     here = kit()
     if not is_proved("bench_main", here):
         raise NotMade("the program is not what `make` builds of these sources: run `make`")
     if HAS_LIBRARY and not (is_proved("bench_c", here) and sources.is_library_linked()):
         raise NotMade("the library is not what `make` builds of these sources: run `make`")
-    text = f"toolchain: {here}\n"
+    text, of_page = f"toolchain: {here}\n", page_lines() if PAGE else ""
     DIST.mkdir(exist_ok=True)
     for files, lines in [program(), *([library()] if HAS_LIBRARY else [])]:
         text += lines
@@ -84,8 +94,7 @@ def write():
             (DIST / name).write_bytes(data)
             (DIST / name).chmod(0o644 if name.endswith(".a") else 0o755)
             print(f"bench: dist/{name} is that of these sources: {len(data):,} bytes")
-    text += "".join(f"{name}: {sources.digest(DIST / name)}\n" for name in PAGE if (DIST / name).is_file())
-    (DIST / "SUMS").write_text(text)
+    (DIST / "SUMS").write_text(text + of_page)
     return 0
 
 
@@ -98,8 +107,9 @@ def differences():
     for name in (NAME, *(sources.LIBRARIES if HAS_LIBRARY else ()), *PAGE):
         if not (DIST / name).is_file() or told.get(name) != sources.digest(DIST / name):
             yield f"dist/{name} has not the sum that dist/SUMS tells"
-    if PAGE and subprocess.run([sys.executable, sources.TOP / "page/build.py", "--check"], check=False).returncode:
-        yield "the page in dist/ is not of these sources: run `make page`, then `make dist`"
+    if PAGE and told.get("page program sources") != page.program_sum():
+        yield "dist/bench.wasm is not of these sources: run `make page`, then `make dist`"
+    yield from page.differences() if PAGE else ()
     here = kit()
     if told.get("toolchain") != here:
         print(f"bench: dist/ was built by {told.get('toolchain')}, and {here} is here: the programs are not compared")
