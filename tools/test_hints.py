@@ -189,7 +189,7 @@ class Places(unittest.TestCase):
                 said = language.help_text(word)
                 shown = re.findall(r"^ {10}([a-z]+ .*|undo|names)$", said.partition("for example:")[2], re.M)
                 with self.subTest(word), tempfile.TemporaryDirectory() as folder, Session(PROGRAM, dir=folder) as bench:
-                    self.assertEqual(len(shown), len(lines.splitlines()))
+                    self.assertEqual(len(shown), len(lines.split("; ")))
                     self.assertEqual([reply.text for reply in bench.run(shown) if not reply.accepted], [])
 
 

@@ -229,12 +229,12 @@ class Numbers:
         operand = next(operand for operand in self.operands if "[" in operand and not self._is_within(operand))
         name, _, index = operand.rstrip("] \t").partition("[")
         entries, lengths = [entry.strip() for entry in index.split(",")], self.known[name].shape
-        takes = [len(self.known[entry].shape) if entry in self.known and self.known[entry].type == "|b1" else int(entry not in ("None", "..."))
-                 for entry in entries]
+        masks = {name: len(array.shape) for name, array in self.known.items() if array.type == "|b1"}
+        takes = [masks.get(entry, int(entry not in ("None", "..."))) for entry in entries]
         axis = 0
         for k, (entry, count) in enumerate(zip(entries, takes)):
             axis = len(lengths) - sum(takes[k:]) if entries[k - 1:k] == ["..."] else axis
-            is_array = entry in self.known and self.known[entry].type != "|b1"
+            is_array = entry in self.known and entry not in masks
             values = self.hints.session.array(entry).items if is_array else [int(entry)] if re.fullmatch(r"[+-]?\d+", entry) else []
             for value in values:
                 if not -lengths[axis] <= value < lengths[axis]:

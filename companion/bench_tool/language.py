@@ -3,6 +3,7 @@ import re
 import textwrap
 from functools import lru_cache
 from pathlib import Path
+from string import Template
 from typing import NamedTuple
 
 HERE = Path(__file__).resolve()
@@ -13,18 +14,28 @@ GROUPS = {
     "type": "E04 E05 E09", "shape": "E08 E09", "index": "E10 E12 E11 E08 E14 E13 E15",
     "file": "E28 E29 E30 E31 E04 E05 E08 E09",
 }
-# Words, and lines that run as they stand.
-EXAMPLES = [
-    ("zeros", "x = zeros <i4 (2,3)"), ("full", "x = full |u1 (4) 255"), ("arange", "x = arange <i4 0 6 1"), ("array", "x = array <i4 (2,2) 1 2 3 4"),
-    ("field", "r = array T{<i:x:<h:y:} (2) (1,2) (3,4)\nx = field r \"y\""), ("transpose", "m = zeros <i4 (2,3)\nx = transpose m"),
-    ("reshape", "a = arange <i4 0 6 1\nx = reshape a (2,-1)"), ("broadcast", "a = arange <i4 0 3 1\nx = broadcast a (2,3)"),
-    ("copy", "m = zeros <i4 (2,3)\nx = copy m F"), ("cast", "a = arange <i4 0 6 1\nx = cast a |u1"),
-    ("add sub mul fdiv mod and or xor shl shr eq ne lt le gt ge", "a = arange <i4 0 6 1\nx = OP a 2"),
-    ("neg not", "a = arange <i4 0 6 1\nx = UN a"), ("sum prod min max any all argmin argmax", "m = full <i4 (2,3) 1\nx = RED m\nx = RED m 0 keep"),
-    ("save load", "a = arange <i4 0 6 1\nsave a \"a.npy\"\nx = load \"a.npy\""), ("set", "a = arange <i4 0 6 1\nset a[1:] = a[:-1]\nset a[0] = 9"),
-    ("upd", "a = arange <i4 0 6 1\nupd a[:] add 1"), ("del undo names", "a = arange <i4 0 6 1\ndel a\nundo\nnames"),
-    ("print info format", "a = arange <i4 0 6 1\nprint a\ninfo a\nformat a"), ("shares", "a = arange <i4 0 6 1\nb = a[::2]\nshares a b"),
-]
+# Words, and lines that run as they stand; $word is the word.
+EXAMPLES = [row.split(": ") for row in r"""
+zeros: x = zeros <i4 (2,3)
+full: x = full |u1 (4) 255
+arange: x = arange <i4 0 6 1
+array: x = array <i4 (2,2) 1 2 3 4
+field: r = array T{<i:x:<h:y:} (2) (1,2) (3,4); x = field r "y"
+transpose: m = zeros <i4 (2,3); x = transpose m
+reshape: a = arange <i4 0 6 1; x = reshape a (2,-1)
+broadcast: a = arange <i4 0 3 1; x = broadcast a (2,3)
+copy: m = zeros <i4 (2,3); x = copy m F
+cast: a = arange <i4 0 6 1; x = cast a |u1
+add sub mul fdiv mod and or xor shl shr eq ne lt le gt ge: a = arange <i4 0 6 1; x = $word a 2
+neg not: a = arange <i4 0 6 1; x = $word a
+sum prod min max any all argmin argmax: m = full <i4 (2,3) 1; x = $word m; x = $word m 0 keep
+save load: a = arange <i4 0 6 1; save a "a.npy"; x = load "a.npy"
+set: a = arange <i4 0 6 1; set a[1:] = a[:-1]; set a[0] = 9
+upd: a = arange <i4 0 6 1; upd a[:] add 1
+del undo names: a = arange <i4 0 6 1; del a; undo; names
+print info format: a = arange <i4 0 6 1; print a; info a; format a
+shares: a = arange <i4 0 6 1; b = a[::2]; shares a b
+""".strip().splitlines()]
 
 
 class Command(NamedTuple):
@@ -107,8 +118,9 @@ def help_text(word: str = "", columns: int = 0) -> str:
         return f"  {word} {codes()[word][0]}: {codes()[word][1]}"
     if word:
         found = [command.told() for command in commands() if word in command.words() or word in command.forms]
-        example = next((lines for words, lines in EXAMPLES if word in words.split()), "").replace(" UN ", f" {word} ").replace(" OP ", f" {word} ")
-        found += [f"      for example:\n{textwrap.indent(example.replace(' RED ', f' {word} '), ' ' * 10)}"] * bool(found and example)
+        example = next((lines for words, lines in EXAMPLES if word in words.split()), "")
+        lines = Template(example).substitute(word=word).replace("; ", f"\n{' ' * 10}")
+        found += [f"      for example:\n{' ' * 10}{lines}"] * bool(found and example)
         sections = [plain(part.rstrip()) for part in text().split("\n## ") if word in part.partition("\n")[0].lower().split()]
         return "\n".join(found or sections) or f"  there is no command {word}; help lists them all"
     width = max(len(form) for command in commands() for form in command.forms)
@@ -117,4 +129,6 @@ def help_text(word: str = "", columns: int = 0) -> str:
     shown += ["  help COMMAND shows an example and the refusals, help E11 says when that code comes; help types, help shapes,",
               "  help indexes and help limits say what these are"]
     indent = " " * (width + 4)
-    return "\n".join(line for each in shown for line in (textwrap.wrap(each, columns, subsequent_indent=indent) if columns > width + 30 else [each]))
+    if columns <= width + 30:
+        return "\n".join(shown)
+    return "\n".join(line for each in shown for line in textwrap.wrap(each, columns, subsequent_indent=indent))

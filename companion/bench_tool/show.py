@@ -13,7 +13,8 @@ from .terminal import Window, printable, room, say
 
 MAGIC = b"\x93NUMPY"
 MOST = 1 << 20  # bytes of a header that is looked at
-NO_KIND = {"f": "floats", "c": "complex numbers", "m": "time spans", "M": "dates", "U": "Unicode strings", "O": "Python objects", "V": "plain bytes"}
+NO_KIND = {"f": "floats", "c": "complex numbers", "m": "time spans", "M": "dates", "U": "Unicode strings", "O": "Python objects",
+           "V": "plain bytes"}
 
 
 def size_of(descr: Any) -> int:

@@ -224,7 +224,9 @@ class Translation:
         return self.two(SIGNS[type(node.op)], *node.values) if len(node.values) == 2 else self.refuse()
 
     def _unaryop(self, node: ast.UnaryOp) -> str:
-        return self._constant(node) if self.is_constant(node) else f"{SIGNS.get(type(node.op)) or self.refuse()} {self.operand(node.operand)}"
+        if self.is_constant(node):
+            return self._constant(node)
+        return f"{SIGNS.get(type(node.op)) or self.refuse()} {self.operand(node.operand)}"
 
     def two(self, verb: str, left: ast.expr, right: ast.expr) -> str:
         """An operation, whose first operand is an array."""
@@ -282,7 +284,7 @@ class Translation:
         if word == "array" and not any(isinstance(node, (ast.Tuple, ast.List)) for node in others):
             others.insert(0, ast.List([ast.Constant(len(others))], ast.Load()))
         if word == "arange":
-            others = [*[ast.Constant(0)][:len(others) < 2], *others, *[ast.Constant(1)][:len(others) < 3]]
+            others = [ast.Constant(0)] * (len(others) < 2) + others + [ast.Constant(1)] * (len(others) < 3)
         return self.form(word, types + others, named)
 
     def form(self, word: str, given: list[ast.expr], named: dict[str, ast.expr]) -> str:
