@@ -7,7 +7,7 @@ _bench() {
     --undo) mapfile -t COMPREPLY < <(compgen -W "0 1 16 64" -- "$word") ;;
     *)
         case $word in
-        -*) mapfile -t COMPREPLY < <(compgen -W "--dir --undo --help" -- "$word") ;;
+        -*) mapfile -t COMPREPLY < <(compgen -W "--dir --undo --plain --help" -- "$word") ;;
         *) compopt -o filenames; mapfile -t COMPREPLY < <(compgen -f -X '!*.bench' -- "$word"; compgen -d -- "$word") ;;
         esac
         ;;
