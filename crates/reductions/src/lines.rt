@@ -132,7 +132,7 @@ pub(crate) fn fold_each<S: Number, O: Ordered, F: Fold<S>>(
 }
 
 /// The numbers that are gone over at once where it may turn out that no others matter.
-pub(crate) const BLOCK: usize = 1024;
+pub(crate) const BLOCK: usize = 4096;
 
 /// Goes over numbers until no number more changes what is held. They have `seen` before them.
 pub(crate) fn fold_blocks<S: Number, O: Ordered, F: Fold<S>>(
