@@ -167,11 +167,7 @@ fn writes_ints(rt: HostRuntime) {
     check(&rt, run[0] == [4, 5, 6, 7], "an item");
     run[0] = (-2_i32).to_le_bytes();
     run[1] = 258_i32.to_le_bytes();
-    has(
-        &rt,
-        &block,
-        &[0, 1, 2, 3, 254, 255, 255, 255, 2, 1, 0, 0],
-    );
+    has(&rt, &block, &[0, 1, 2, 3, 254, 255, 255, 255, 2, 1, 0, 0]);
 }
 
 #[test]
