@@ -7,12 +7,20 @@ import json
 import os
 import shutil
 import subprocess
+import sys
 import tempfile
 import time
 from pathlib import Path
 from typing import Any, Optional
 
 CHROMIUM: Optional[str] = next(filter(None, map(shutil.which, ("chromium", "chromium-browser", "google-chrome"))), None)
+
+# The browser reads at 3 and writes at 4, whatever the numbers of our pipes are.
+START = """import fcntl, os, sys
+held = [fcntl.fcntl(int(number), fcntl.F_DUPFD, 10) for number in sys.argv[1:3]]
+os.dup2(held[0], 3)
+os.dup2(held[1], 4)
+os.execvp(sys.argv[3], sys.argv[3:])"""
 
 
 class Browser(contextlib.ExitStack):
@@ -25,9 +33,8 @@ class Browser(contextlib.ExitStack):
         (ours, to_us), (from_us, self._to) = os.pipe(), os.pipe()
         words: list[str] = [CHROMIUM or "chromium", "--headless=new", "--no-sandbox", "--disable-gpu", "--disable-dev-shm-usage",
                             "--remote-debugging-pipe", f"--user-data-dir={folder}"]
-        # The browser reads at 3 and writes at 4.
-        shell = ["sh", "-c", f'exec 3<&{from_us} 4>&{to_us}; exec "$@"', "", *words]
-        process = subprocess.Popen(shell, pass_fds=[from_us, to_us], stdout=subprocess.DEVNULL, stderr=subprocess.DEVNULL)
+        started = [sys.executable, "-c", START, str(from_us), str(to_us), *words]
+        process = subprocess.Popen(started, pass_fds=[from_us, to_us], stdout=subprocess.DEVNULL, stderr=subprocess.DEVNULL)
         os.close(from_us)
         os.close(to_us)
         self.callback(process.wait)
