@@ -39,10 +39,16 @@ class BesideNumPy(InFolder):
         """An addition that is one too high is found, and its script has no line that is not needed."""
         from trials import beside_numpy, computations, runs
         right = computations.result_of
-        with mock.patch.object(computations, "result_of", lambda word, *more: right(word, *more) + (word == "add")):
-            part = beside_numpy.trial((runs.Path(PROGRAM), 1, "mixed", 0))
-        self.assertTrue(part.faults)
-        for where, _, _ in part.faults:
+
+        def too_high(word, dtype, a, b):
+            found = right(word, dtype, a, b)
+            return computations.wrapped(found + 1, dtype) if word == "add" else found
+
+        with mock.patch.object(computations, "result_of", too_high):
+            parts = [beside_numpy.trial((runs.Path(PROGRAM), 1, "mixed", first)) for first in range(0, 100, beside_numpy.BATCH)]
+        faults = [fault for part in parts for fault in part.faults]
+        self.assertTrue(faults)
+        for where, _, _ in faults:
             lines = where.split("\n")[1:]
             self.assertLessEqual(len(lines), 6, where)
             self.assertIn(" add ", where)
