@@ -15,8 +15,8 @@ use Rattle.shape_strides.specs.declared.memory_order.MemoryOrder.TheVariants.{C}
 use Rattle.shape_strides.specs.Limits.{max_bytes}
 use Rattle.shape_strides.specs.Indexes.{count}
 use Rattle.shape_strides.specs.Layouts.{offsets}
-use Rattle.overlap_copy.specs.declared.owned.Owned.{Owned}
-use Rattle.overlap_copy.specs.Blocks.{offsets_in}
+use Rattle.arrays.specs.declared.owned.Owned.{Owned}
+use Rattle.arrays.specs.Blocks.{offsets_in}
 use Rattle.name_store.specs.States.{State, Array}
 use Rattle.name_store.specs.Arrays.{descr_of, read}
 use Rattle.name_store.specs.Shown.{Shows}

@@ -13,8 +13,8 @@ use Rattle.shape_strides.specs.declared.memory_order.MemoryOrder.TheVariants.{C}
 use Rattle.shape_strides.specs.Layouts.{offsets}
 use Rattle.view_ops.specs.Views.{View}
 use Rattle.elementwise.specs.Results.{unary_result, unary_item}
-use Rattle.overlap_copy.specs.declared.items.Items.{Items}
-use Rattle.overlap_copy.specs.declared.owned.Owned.{Owned}
+use Rattle.arrays.specs.declared.items.Items.{Items}
+use Rattle.arrays.specs.declared.owned.Owned.{Owned}
 use Rattle.script_lang.specs.declared.operation.Operation.{Operation}
 use Rattle.machine_numbers.specs.declared.operators.UnOp.{UnOp}
 use Rattle.script_lang.specs.declared.command.Operand.{Operand}

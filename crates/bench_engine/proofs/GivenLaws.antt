@@ -18,8 +18,8 @@ use Rattle.shape_strides.specs.Layouts.{offsets}
 use Rattle.shape_strides.specs.Limits.{max_bytes}
 use Rattle.view_ops.specs.Views.{View, IsViewOf, GivesView}
 use Rattle.broadcasting.specs.Broadcasts.{stretched_into}
-use Rattle.overlap_copy.specs.declared.items.Items.{Items}
-use Rattle.overlap_copy.specs.declared.owned.Owned.{Owned}
+use Rattle.arrays.specs.declared.items.Items.{Items}
+use Rattle.arrays.specs.declared.owned.Owned.{Owned}
 use Rattle.script_lang.specs.declared.command.Operand.{Operand}
 use Rattle.script_lang.specs.declared.command.Argument.TheVariants as argument
 use Rattle.name_store.specs.States.{State, Array}

@@ -8,6 +8,9 @@ pub mod Nested
 pub mod Sets
 pub mod Known
 pub mod Lines
+pub mod Moved
+pub mod Reordered
+pub mod WriteOrder
 pub mod LoadedFiles
 pub mod Listings
 pub mod Looks

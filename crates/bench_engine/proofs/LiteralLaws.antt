@@ -25,9 +25,9 @@ use Rattle.broadcasting.specs.BroadcastLaws.{can-itself, stretched-self}
 use Rattle.machine_numbers.specs.Kinds.{is_text}
 use Rattle.elementwise.specs.Promotion.{compared_type, promote}
 use Rattle.elementwise.specs.Results.{scalar_of, integer_compared_result, bytes_compared_result, compared_item, pairwise}
-use Rattle.overlap_copy.specs.declared.items.Items.{Items}
-use Rattle.overlap_copy.specs.declared.owned.Owned.{Owned}
-use Rattle.overlap_copy.specs.Blocks.{offsets_in}
+use Rattle.arrays.specs.declared.items.Items.{Items}
+use Rattle.arrays.specs.declared.owned.Owned.{Owned}
+use Rattle.arrays.specs.Blocks.{offsets_in}
 use Rattle.literal_items.specs.LiteralItems.{is_castable, item_value}
 use Rattle.machine_numbers.specs.declared.operators.BinOp.{BinOp}
 use Rattle.machine_numbers.specs.declared.operators.Comparison.{Comparison}
@@ -219,23 +219,26 @@ pub given-standing : (o : Owned) (there : Result OperandValues Refusal) → Give
 given-standing o (Ok w) is = (w, refl, is)
 given-standing o (Err e) is = absurd is
 
--- ---- a literal has no axes
+-- ---- a literal is one item, without axes
 
 then-each : {X Y : Type 0} (P : Y → Type 0) (r : Result X Refusal) (f : X → Result Y Refusal) → ((x : X) → IfOk (f x) P) → IfOk (r >>= f) P
 then-each P (Ok x) f all = all x
 then-each P (Err e) f all = tt
 
-worked-axes : (op : BinOp) (d : Descr) (l : Literal) → IfOk (operand_of_literal op d l) (λ w. w.shape ≡ [])
+abbrev pub IsOneItem : OperandValues → Type 0
+IsOneItem w = (descr : Descr) × (item : List LeafValue) × (w ≡ one_item descr item)
+
+worked-one : (op : BinOp) (d : Descr) (l : Literal) → IfOk (operand_of_literal op d l) IsOneItem
 unfolding operand_of_literal
-worked-axes op d l =
-    then-each (λ (w : OperandValues). w.shape ≡ []) (scalar_of d) _ (λ s. then-each (λ (w : OperandValues). w.shape ≡ []) (literal_scalar s l) _ (λ own. then-each (λ (w : OperandValues). w.shape ≡ []) (promote op s own) _ (λ to. then-each (λ (w : OperandValues). w.shape ≡ []) (item_value (ScalarDescr own) l) _ (λ item. refl))))
+worked-one op d l =
+    then-each IsOneItem (scalar_of d) _ (λ s. then-each IsOneItem (literal_scalar s l) _ (λ own. then-each IsOneItem (promote op s own) _ (λ to. then-each IsOneItem (item_value (ScalarDescr own) l) _ (λ item. (ScalarDescr own, item, refl)))))
 
-compared-axes : (d : Descr) (l : Literal) → IfOk (compared_literal d l) (λ w. w.shape ≡ [])
+compared-one : (d : Descr) (l : Literal) → IfOk (compared_literal d l) IsOneItem
 unfolding compared_literal
-compared-axes d (literal.Record values) = tt
-compared-axes d (literal.Scalar l) =
-    then-each (λ (w : OperandValues). w.shape ≡ []) (scalar_of d) _ (λ s. then-each (λ (w : OperandValues). w.shape ≡ []) (check (is_castable s l) NotForThisKind) _ (λ _. refl))
+compared-one d (literal.Record values) = tt
+compared-one d (literal.Scalar l) =
+    then-each IsOneItem (scalar_of d) _ (λ s. then-each IsOneItem (check (is_castable s l) NotForThisKind) _ (λ _. (d, literal_value l ∷ [], refl)))
 
-pub literal-axes : (op : Operation) (d : Descr) (l : Literal) → IfOk (literal_values op d l) (λ w. w.shape ≡ [])
-literal-axes (Binary op) d l = worked-axes op d l
-literal-axes (Compare c) d l = compared-axes d l
+pub literal-one : (op : Operation) (d : Descr) (l : Literal) → IfOk (literal_values op d l) IsOneItem
+literal-one (Binary op) d l = worked-one op d l
+literal-one (Compare c) d l = compared-one d l

@@ -6,8 +6,8 @@ use Rattle.elem_descr.specs.declared.refusal.Refusal.TheVariants.{TooManyNames, 
 use Rattle.elem_descr.specs.Items.{item_size}
 use Rattle.elem_descr.specs.Blocks.{items_in}
 use Rattle.shape_strides.specs.Indexes.{count}
-use Rattle.overlap_copy.specs.declared.owned.Owned.{Owned}
-use Rattle.overlap_copy.specs.Blocks.{places_of}
+use Rattle.arrays.specs.declared.owned.Owned.{Owned}
+use Rattle.arrays.specs.Blocks.{places_of}
 use Rattle.npy_files.specs.Stores.{StoreState, IsSameStore, FaultHasCause, IsRead}
 use Rattle.npy_files.specs.declared.store.StoreFault.{StoreFault}
 use Rattle.npy_files.specs.declared.store.StoreFault.TheVariants.{Device, TooLong, Memory}

@@ -17,11 +17,11 @@ use Rattle.shape_strides.specs.Limits.{max_bytes, max_items}
 use Rattle.shape_strides.specs.declared.memory_order.MemoryOrder.TheVariants.{C}
 use Rattle.shape_strides.specs.Indexes.{count}
 use Rattle.shape_strides.specs.Layouts.{offsets}
-use Rattle.overlap_copy.specs.Blocks.{offsets_in, places_of}
+use Rattle.arrays.specs.Blocks.{offsets_in, places_of}
 use Rattle.std.specs.List.{range_with_len}
 use Rattle.shape_strides.specs.Shapes.{shape_of}
 use Rattle.script_lang.specs.declared.literal.Literal.{Literal}
-use Rattle.overlap_copy.specs.declared.owned.Owned.{Owned}
+use Rattle.arrays.specs.declared.owned.Owned.{Owned}
 use Rattle.literal_items.specs.LiteralItems.{item_value, item_values}
 use Rattle.literal_items.specs.RangeItems.{range_items}
 use Rattle.bench_engine.specs.Contents.{new_contents, array_type, zeros_contents, full_contents, array_contents, arange_contents, integer_scalar, range_scalar}

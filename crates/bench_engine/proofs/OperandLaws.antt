@@ -12,14 +12,14 @@ use Rattle.shape_strides.specs.Indexes.{count}
 use Rattle.view_ops.specs.Views.{View, view_through, IsViewOf}
 use Rattle.broadcasting.specs.Broadcasts.{can_stretch, broadcast_index}
 use Rattle.elementwise.specs.Results.{stretched_items}
-use Rattle.overlap_copy.specs.declared.items.Items.{Items}
-use Rattle.overlap_copy.specs.declared.owned.Owned.{Owned}
+use Rattle.arrays.specs.declared.items.Items.{Items}
+use Rattle.arrays.specs.declared.owned.Owned.{Owned}
 use Rattle.name_store.specs.States.{State, Array}
 use Rattle.name_store.specs.Arrays.{buffer_of, span_of, placed_item}
 use Rattle.name_store.specs.Parts.{part_at}
 use Rattle.name_store.specs.Shown.{Shows}
 use Rattle.name_store.specs.declared.array_ref.ArrayRef.{ArrayRef}
-use Rattle.bench_engine.specs.declared.operand.Part.{Part}
+use Rattle.bench_engine.specs.declared.operate.Part.{Part}
 use Rattle.bench_engine.specs.Machine.{OperandValues, operand_values, one_item, viewed}
 use Rattle.bench_engine.specs.inside.Assigns.{Holds}
 use Rattle.bench_engine.specs.inside.Operands.{StandsFor, IsPart, GivesPart, Stands, OwnStands}

@@ -7,8 +7,8 @@ use Rattle.shape_strides.specs.IndexItems.{is_basic}
 use Rattle.view_ops.specs.Views.{View}
 use Rattle.elem_descr.specs.declared.descr.Descr.{Descr}
 use Rattle.elem_descr.specs.Items.{item_size}
-use Rattle.overlap_copy.specs.declared.owned.Owned.{Owned}
-use Rattle.overlap_copy.specs.Blocks.{offsets_in}
+use Rattle.arrays.specs.declared.owned.Owned.{Owned}
+use Rattle.arrays.specs.Blocks.{offsets_in}
 use Rattle.name_store.specs.States.{State, Array}
 use Rattle.name_store.specs.Arrays.{descr_of, read}
 use Rattle.name_store.specs.Shown.{Shows}
@@ -18,7 +18,7 @@ use Rattle.bench_engine.specs.IndexLists.{taken}
 use Rattle.bench_engine.specs.Machine.{a_view, a_copy, viewed, part_seen}
 use Rattle.name_store.specs.declared.bound.Bound.{Bound}
 use Rattle.name_store.specs.declared.bound.Bound.TheVariants as bound
-use Rattle.bench_engine.specs.declared.part.Viewed.{Viewed}
+use Rattle.bench_engine.specs.declared.view.Viewed.{Viewed}
 use Rattle.bench_engine.specs.inside.Assigns.{Holds, IsTaken, GivesTaken}
 use Rattle.bench_engine.specs.inside.OwnContents.{held}
 use Rattle.bench_engine.specs.inside.Parts.{IsOf, GivesSeen}

@@ -17,7 +17,7 @@ use Rattle.shape_strides.specs.LayoutLaws.{length-offsets}
 use Rattle.shape_strides.specs.Layouts.{offsets}
 use Rattle.shape_strides.specs.AxisLaws.{axis_below}
 use Rattle.view_ops.specs.Slices.{from_front}
-use Rattle.overlap_copy.specs.declared.owned.Owned.{Owned}
+use Rattle.arrays.specs.declared.owned.Owned.{Owned}
 use Rattle.machine_numbers.specs.declared.operators.Red.{Red}
 use Rattle.reductions.specs.Lists.{lists, named_axis, is_axis, IsAxisOf}
 use Rattle.reductions.specs.ListLaws.{IsIndex-insert}

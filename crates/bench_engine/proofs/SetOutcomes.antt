@@ -1,5 +1,5 @@
 -- The exits of `set X[ix] = Z` and `upd X[ix] OP Z`.
-use Rattle.std.proofs.Common.{◌≡◌, ◌++◌, ◌∷◌, ◌&&◌, ℕ, Bool, true, false, List, length, Option, Some, None, refl, sym, ap, subst, ◌∙◌, ◌⊎◌, inl, inr, Result, Ok, Err}
+use Rattle.std.proofs.Common.{◌≡◌, ◌++◌, ◌∷◌, ◌&&◌, ℕ, Bool, true, false, List, Option, Some, None, refl, ◌∙◌, ◌⊎◌, inl, inr, Result, Ok, Err}
 use Rattle.std.specs.List.{list_all}
 use Rattle.std.proofs.lemmas.List.Folds.{list_all-append}
 use Rattle.elem_descr.specs.declared.refusal.Refusal.{Refusal}
@@ -10,19 +10,13 @@ use Rattle.shape_strides.specs.declared.index_item.IndexItem.{IndexItem}
 use Rattle.shape_strides.specs.Indexes.{count}
 use Rattle.script_lang.specs.declared.command.Argument.{Argument}
 use Rattle.script_lang.specs.declared.operation.Operation.{Operation}
-use Rattle.overlap_copy.specs.declared.owned.Owned.{Owned}
 use Rattle.name_store.specs.States.{State, Array}
 use Rattle.name_store.specs.Arrays.{find_array, is_bound, descr_of, written}
-use Rattle.name_store.specs.Shown.{Shows}
-use Rattle.name_store.specs.Targets.{Supplies, target_offsets}
-use Rattle.name_store.specs.declared.array_ref.ArrayRef.{ArrayRef}
-use Rattle.name_store.specs.declared.target.Source.{Source}
-use Rattle.name_store.specs.declared.target.Source.TheVariants.{Block}
 use Rattle.name_store.specs.declared.target.Target.{Target}
 use Rattle.bench_engine.specs.IndexLists.{names_in_index}
 use Rattle.bench_engine.specs.Machine.{target_part, new_items, names_in_argument, write_outcome, write_reply, accepted_with}
-use Rattle.bench_engine.specs.inside.Assigns.{IsTarget, GivesTarget, GivesItems}
-use Rattle.bench_engine.specs.inside.Operands.{GivesChanged, GivesGiven}
+use Rattle.bench_engine.specs.inside.Assigns.{IsTarget, GivesTarget}
+use Rattle.bench_engine.specs.inside.Operands.{GivesGiven}
 use Rattle.bench_engine.proofs.GivenLaws.{items-bad}
 
 module _ (s : State) (name : List ℕ) (index : List (IndexItem (List ℕ))) (op : Option Operation) (value : Argument) where
@@ -64,18 +58,3 @@ new-items-bad s descr part (Some op) value e (inr (operand, is, bad)) = inr (rw 
 pub given-target : (s : State) (name : List ℕ) (a : Array) (t : Target) (there : Result Array Refusal) → GivesTarget s name a (Ok t) there → (part : Array) × (there ≡ Ok part) × IsTarget s name a part t
 given-target s name a t (Ok part) is = (part, refl, is)
 given-target s name a t (Err e) is = absurd is
-
-pub given-given : (s : State) (descr : Descr) (n : ℕ) (source : Source) (there : Result (List (List LeafValue)) Refusal) → GivesItems s descr n (Ok source) there → (items : List (List LeafValue)) × (there ≡ Ok items) × Supplies s descr n source items
-given-given s descr n source (Ok items) is = (items, refl, is)
-given-given s descr n source (Err e) is = absurd is
-
-pub block-items : (s : State) (d : Descr) (n : ℕ) (o : Owned) (there : Result (List (List LeafValue)) Refusal) → GivesChanged d n (Ok o) there → GivesItems s d n (Ok (Block o)) there
-block-items s d n o (Ok items) is = is
-block-items s d n o (Err e) is = absurd is
-
--- the items of a part that is shown are those of the target
-pub supplied : (s : State) (a part : Array) (r : ArrayRef) (target : Target) (source : Source) (items : List (List LeafValue)) → Shows s a r → {name : List ℕ} → IsTarget s name a part target → Supplies s r.descr.now (count part.shape) source items →
-    Supplies s (descr_of s a) (length (target_offsets target)) source items
-supplied s a part r target source items shows is has =
-    subst (λ (d : Descr). Supplies s d (length (target_offsets target)) source items) (sym shows.descr)
-    (subst (λ n. Supplies s r.descr.now n source items) (ap count (ap (λ (x : Array). x.shape) is.part_is) ∙ sym is.counted) has)

@@ -14,7 +14,7 @@ use Rattle.shape_strides.specs.Indexes.{count, indexes, rank, IsIndex}
 use Rattle.shape_strides.specs.IndexLaws.{length-indexes, get_or-indexes, index_at, rank-lt}
 use Rattle.shape_strides.specs.ReverseLaws.{count-reverse, IsIndex-from_reverse}
 use Rattle.shape_strides.specs.Layouts.{multiples, f_multiples}
-use Rattle.overlap_copy.specs.Blocks.{offsets_in, places_of}
+use Rattle.arrays.specs.Blocks.{offsets_in, places_of}
 use Rattle.bench_engine.specs.Contents.{places_in}
 use Rattle.npy_format.specs.WrittenFiles.{ordered}
 

@@ -16,7 +16,7 @@ use Rattle.shape_strides.specs.Layouts.{offsets, IsNested}
 use Rattle.shape_strides.specs.Limits.{max_bytes}
 use Rattle.view_ops.specs.Views.{View, view_through, IsViewOf, GivesView, KeepsNested}
 use Rattle.view_ops.specs.Basics.{basic}
-use Rattle.overlap_copy.specs.declared.owned.Owned.{Owned}
+use Rattle.arrays.specs.declared.owned.Owned.{Owned}
 use Rattle.fancy_index.specs.Plans.{Planned, IsPlanOf, GivesPlan}
 use Rattle.name_store.specs.States.{State, Array}
 use Rattle.name_store.specs.Arrays.{find_array, descr_of, read}

@@ -21,12 +21,12 @@ use Rattle.broadcasting.specs.BroadcastLaws.{stretched-ok}
 use Rattle.elementwise.specs.Casts.{can_cast, cast_item}
 use Rattle.elementwise.specs.Promotion.{same_kind}
 use Rattle.elementwise.specs.Results.{scalar_of, stretched_items}
-use Rattle.overlap_copy.specs.declared.items.Items.{Items}
+use Rattle.arrays.specs.declared.items.Items.{Items}
 use Rattle.shape_strides.specs.LayoutLaws.{length-offsets}
 use Rattle.shape_strides.specs.Shapes.{IsShape}
 use Rattle.std.proofs.lemmas.Simd.{map-map}
 use Rattle.bench_engine.proofs.GivenLaws.{cast-lacks}
-use Rattle.overlap_copy.specs.declared.owned.Owned.{Owned}
+use Rattle.arrays.specs.declared.owned.Owned.{Owned}
 use Rattle.script_lang.specs.declared.literal.Literal.{Literal}
 use Rattle.script_lang.specs.declared.operation.Operation.{Operation}
 use Rattle.bench_engine.specs.Contents.{Contents}
@@ -34,7 +34,7 @@ use Rattle.bench_engine.specs.Machine.{OperandValues, literal_values, operation_
 use Rattle.bench_engine.specs.inside.Operands.{Stands, GivesChanged}
 use Rattle.bench_engine.specs.inside.OwnContents.{held, IsInCOrder}
 use Rattle.bench_engine.proofs.LegalLaws.{legal-common}
-use Rattle.bench_engine.proofs.LiteralLaws.{literal-axes}
+use Rattle.bench_engine.proofs.LiteralLaws.{IsOneItem, literal-one}
 use Rattle.bench_engine.proofs.Stored.{items-from}
 use Rattle.bench_engine.proofs.StretchLaws.{common-onto, none-fits, stretched-can}
 use Rattle.bench_engine.proofs.WorkLaws.{same_refusal, worked-bad, worked-done}
@@ -150,8 +150,8 @@ stands-own x = record { descr = refl; shape = refl; items = λ target can. refl 
 
 literal-can : (op : Operation) (v w : OperandValues) (l : Literal) → literal_values op v.descr l ≡ Ok w → can_stretch w.shape v.shape ≡ true
 literal-can op v w l is =
-    let axes : w.shape ≡ [] = subst (λ (r : Result OperandValues Refusal). IfOk r (λ w. w.shape ≡ [])) is (literal-axes op v.descr l) in
-    ap (λ (shape : List ℕ). can_stretch shape v.shape) axes ∙ none-fits v.shape
+    let one = subst (λ (r : Result OperandValues Refusal). IfOk r IsOneItem) is (literal-one op v.descr l) in
+    ap (λ (w : OperandValues). can_stretch w.shape v.shape) one.2 ∙ none-fits v.shape
 
 pub literal-parts : (op : Operation) (d : Descr) (v : OperandValues) (l : Literal) (new : Owned) → v.descr ≡ d → operation_with op v (literal_values op v.descr l) ≡ Ok (held new) →
     (w : OperandValues) × (s : Scalar) × (literal_values op d l ≡ Ok w) × (operation_on op v w ≡ Ok (held new)) × (stretched w.shape v.shape ≡ Ok (record { shape = v.shape; leads = broadcast_index w.shape })) × (new.layout.shape ≡ v.shape) × (operation_scalar op d w.descr ≡ Ok s) × (new.descr ≡ ScalarDescr s)

@@ -14,7 +14,7 @@ use Rattle.name_store.specs.Shown.{Shows}
 use Rattle.name_store.specs.declared.bound.Bound.{Bound}
 use Rattle.name_store.specs.declared.bound.Bound.TheVariants as bound
 use Rattle.name_store.specs.declared.array_ref.ArrayRef.{ArrayRef}
-use Rattle.bench_engine.specs.declared.part.Viewed.{Viewed}
+use Rattle.bench_engine.specs.declared.view.Viewed.{Viewed}
 use Rattle.bench_engine.specs.inside.Parts.{IsOf, GivesSeen, descr_seen, shape_of_bound, origin_of_bound}
 use Rattle.bench_engine.specs.Contents.{array_over}
 use Rattle.bench_engine.specs.inside.Contract.{CarriesOut, IsRefused}

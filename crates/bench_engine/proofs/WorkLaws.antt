@@ -16,9 +16,9 @@ use Rattle.broadcasting.specs.Broadcasts.{can_stretch, common_shape}
 use Rattle.broadcasting.specs.FitLaws.{common-fits}
 use Rattle.elementwise.specs.Promotion.{promote, compared_type}
 use Rattle.elementwise.specs.Results.{scalar_of, binary_result, compared_result, binary_item, compared_item, pairwise, stretched_items}
-use Rattle.overlap_copy.specs.declared.items.Items.{Items}
-use Rattle.overlap_copy.specs.declared.owned.Owned.{Owned}
-use Rattle.overlap_copy.specs.Blocks.{offsets_in}
+use Rattle.arrays.specs.declared.items.Items.{Items}
+use Rattle.arrays.specs.declared.owned.Owned.{Owned}
+use Rattle.arrays.specs.Blocks.{offsets_in}
 use Rattle.machine_numbers.specs.declared.operators.BinOp.{BinOp}
 use Rattle.machine_numbers.specs.declared.operators.Comparison.{Comparison}
 use Rattle.script_lang.specs.declared.operation.Operation.{Operation}

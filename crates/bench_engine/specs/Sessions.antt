@@ -2,7 +2,7 @@
 use Rattle.std.specs.Prelude.{◌≡◌, ◌<◌, ◌+◌, ℕ, Bool, true, false, List, [], ◌++◌, length, map, Option}
 use Rattle.std.specs.Io.KnownBytes.{Appends}
 use Rattle.name_store.specs.States.{start}
-use Rattle.bench_engine.specs.declared.line.HeldLine.{HeldLine}
+use Rattle.bench_engine.specs.declared.session.HeldLine.{HeldLine}
 use Rattle.bench_engine.specs.declared.session.Session.{Session}
 use Rattle.bench_engine.specs.Replies.{Reply}
 use Rattle.npy_files.specs.Stores.{StoreState}

@@ -1,17 +1,187 @@
-//! `X = zeros ..`, `full`, `arange`, `array`: a name is bound to a new array.
-ghost use Rattle.std.specs.Prelude.{◌≡◌, ◌≤◌, true, vec_capacity};
-ghost use Rattle.name_store.specs.Arrays.{has_room_for};
-ghost use Rattle.bench_engine.specs.Contents.{contents_of};
+//! `X = zeros ..`, `full`, `arange`, `array`: bind a name to a new array.
+ghost use Rattle.std.specs.Prelude.{◌≡◌, IfOk, vec_len, ◌≤◌, ◌-◌, ◌*◌, ◌^◌, length, map, min, replicate, true, vec_capacity};
+ghost use Rattle.elem_descr.specs.Refusals.{Gives, Answers};
+ghost use Rattle.elem_descr.specs.Items.{item_size, decode_item};
+ghost use Rattle.literal_items.specs.LiteralItems.{item_value, item_values};
+ghost use Rattle.elem_descr.specs.Blocks.{blocks};
+ghost use Rattle.elem_descr.specs.Encoding.{IsNumber, size};
+ghost use Rattle.elem_descr.specs.declared.descr.Descr.TheVariants.{Scalar as ScalarDescr};
+ghost use Rattle.shape_strides.specs.Limits.{max_bytes, max_items};
+ghost use Rattle.shape_strides.specs.Indexes.{count};
+ghost use Rattle.shape_strides.specs.Shapes.{shape_of};
+ghost use Rattle.literal_items.specs.RangeItems.{range_count, range_items};
+ghost use Rattle.bench_engine.specs.Contents.{array_type, zeros_contents, full_contents, array_contents, arange_contents, contents_of, integer_scalar, range_scalar};
 ghost use Rattle.bench_engine.specs.inside.OwnContents.{held};
+ghost use Rattle.name_store.specs.Arrays.{has_room_for};
 ghost use Rattle.bench_engine.specs.inside.Contract.{CarriesOut};
 ghost use Rattle.bench_engine.specs.Machine.{bound_new, creation_outcome};
 
-use crate::contents;
 use crate::replies::{Origin, push_bound_text};
-use elem_descr::Refusal;
+use arrays::Owned;
+use elem_descr::{Descr, Refusal, Scalar, descr_read};
+use literal_items::{range_block, range_len, write_item, write_items};
 use name_store::{Bench, Bound};
-use overlap_copy::Owned;
-use script_lang::{Name, NewItems, Text};
+use raw_block::{BlockBuilder, RawBlock};
+use script_lang::{Lengths, Literal, Literals, Name, NewItems, Text};
+use shape_strides::{MAX_BYTES, MemoryOrder, Shape};
+use smallvec::SmallVec;
+use std::alloc::{AllocError, Global};
+
+/// The bytes of the item that a literal is.
+pub fn item_of(alloc: Global, descr: &Descr, literal: &Literal) -> Result<Vec<u8>, Refusal>
+    ensures value { Gives (λ item. decode_item descr.now item.items) result (item_value descr.now literal.now) }
+    ensures len { IfOk result (λ item. vec_len item ≡ item_size descr.now) }
+{
+    let mut item = vec![in alloc; 0u8; descr.size()]?;
+    write_item(descr, literal, item.as_mut_slice())?;
+    Ok(item)
+}
+
+/// The lengths as numbers of the machine: one that is larger than those is the largest.
+fn capped(alloc: Global, lengths: &[u128]) -> Result<SmallVec<usize, 8>, AllocError>
+    ensures { IfOk result (λ axes. axes.items ≡ map (λ n. min n (2 ^ 64 - 1)) lengths.now) }
+{
+    let mut axes = SmallVec::new(alloc);
+    for length in lengths {
+        axes.push((*length).min(u128::from(u64::MAX)) as usize)?;
+    }
+    Ok(axes)
+}
+
+/// The shape with the lengths that a script gives.
+pub fn shape_of(alloc: Global, lengths: &Lengths) -> Result<Shape, Refusal>
+    ensures { Gives (λ s. s) result (shape_of lengths.now) }
+{
+    let axes = capped(alloc, lengths.as_slice())?;
+    Shape::try_new(alloc, axes.as_slice())
+}
+
+/// The element type and the shape of a new array.
+fn array_type(alloc: Global, descr: &Text, lengths: &Lengths) -> Result<(Descr, Shape), Refusal>
+    ensures value { Gives (λ t. (t.0, t.1)) result (array_type descr.now lengths.now) }
+    ensures bytes { IfOk result (λ t. count t.1 * item_size t.0 ≤ max_bytes) }
+{
+    let descr = descr_read(alloc, descr.as_slice())?;
+    let shape = shape_of(alloc, lengths)?;
+    if shape.items() * descr.size() > MAX_BYTES {
+        return Err(Refusal::TooLarge);
+    }
+    Ok((descr, shape))
+}
+
+/// `zeros D S`
+fn zeros(alloc: Global, descr: &Text, lengths: &Lengths) -> Result<Owned, Refusal>
+    ensures { Gives held result (zeros_contents descr.now lengths.now) }
+{
+    let (descr, shape) = array_type(alloc, descr, lengths)?;
+    Owned::zeroed(alloc, descr, &shape)
+}
+
+/// A block of so many items, each with these bytes.
+pub fn filled(alloc: Global, item: &[u8], items: usize) -> Result<RawBlock, AllocError>
+    requires bytes { items * length item.now ≤ max_bytes }
+    ensures whole { IfOk result (λ block. length block ≡ items * length item.now) }
+    ensures items { IfOk result (λ block. blocks (length item.now) items block ≡ replicate items item.now) }
+{
+    let mut block = BlockBuilder::try_new(alloc, items * item.len())?;
+    block.push_repeated(item, items);
+    Ok(block.finish())
+}
+
+/// `full D S L`
+fn full(alloc: Global, descr: &Text, lengths: &Lengths, literal: &Literal) -> Result<Owned, Refusal>
+    ensures { Gives held result (full_contents descr.now lengths.now literal.now) }
+{
+    let (descr, shape) = array_type(alloc, descr, lengths)?;
+    let item = item_of(alloc, &descr, literal)?;
+    let block = filled(alloc, item.as_slice(), shape.items())?;
+    drop(item);
+    let owned = Owned::over(alloc, descr, &shape, MemoryOrder::C, block)?;
+    Ok(owned)
+}
+
+/// A block of the items that these literals are, one after another.
+fn listed(alloc: Global, descr: &Descr, literals: &[Literal]) -> Result<RawBlock, Refusal>
+    requires bytes { length literals.now * item_size descr.now ≤ max_bytes }
+    ensures whole { IfOk result (λ block. length block ≡ length literals.now * item_size descr.now) }
+    ensures items { Gives (λ block. map (decode_item descr.now) (blocks (item_size descr.now) (length literals.now) block)) result (item_values descr.now literals.now) }
+{
+    let mut block = RawBlock::try_zeroed(alloc, literals.len() * descr.size())?;
+    write_items(descr, literals, block.bytes_mut())?;
+    Ok(block)
+}
+
+/// `array D S L..`
+fn array(
+    alloc: Global,
+    descr: &Text,
+    lengths: &Lengths,
+    literals: &Literals,
+) -> Result<Owned, Refusal>
+    ensures { Gives held result (array_contents descr.now lengths.now literals.now) }
+{
+    let (descr, shape) = array_type(alloc, descr, lengths)?;
+    let literals = literals.as_slice();
+    if literals.len() != shape.items() {
+        return Err(Refusal::NumberOfValues);
+    }
+    let block = listed(alloc, &descr, literals)?;
+    let owned = Owned::over(alloc, descr, &shape, MemoryOrder::C, block)?;
+    Ok(owned)
+}
+
+/// The scalar of an element type whose values are integers.
+fn integer_scalar(descr: &Descr) -> Result<Scalar, Refusal>
+    ensures value { Answers (λ scalar. scalar) result (integer_scalar descr.now) }
+    ensures number { IfOk result IsNumber }
+{
+    match descr {
+        Descr::Scalar(scalar) => match scalar {
+            Scalar::Byte { .. } | Scalar::Int { .. } => Ok(*scalar),
+            Scalar::Bool | Scalar::Bytes(_) => Err(Refusal::NotForThisKind),
+        },
+        Descr::Record(_) => Err(Refusal::NotForThisKind),
+    }
+}
+
+/// The scalar of a descriptor whose values are integers.
+fn integer_type(alloc: Global, descr: &Text) -> Result<Scalar, Refusal>
+    ensures value { Gives (λ scalar. scalar) result (range_scalar descr.now) }
+    ensures number { IfOk result IsNumber }
+{
+    let descr = descr_read(alloc, descr.as_slice())?;
+    integer_scalar(&descr)
+}
+
+/// `arange D a b s`
+fn arange(
+    alloc: Global,
+    descr: &Text,
+    start: &i128,
+    stop: &i128,
+    step: &i128,
+) -> Result<Owned, Refusal>
+    ensures { Gives held result (arange_contents descr.now start.now stop.now step.now) }
+{
+    let scalar = integer_type(alloc, descr)?;
+    let len = range_len(start, stop, step)?;
+    let shape = Shape::try_new(alloc, &[len])?;
+    let block = range_block(alloc, &scalar, start, stop, step)?;
+    let owned = Owned::over(alloc, Descr::Scalar(scalar), &shape, MemoryOrder::C, block)?;
+    Ok(owned)
+}
+
+/// What a command that makes an array puts into it.
+fn contents_of(alloc: Global, descr: &Text, items: &NewItems) -> Result<Owned, Refusal>
+    ensures { Gives held result (contents_of descr.now items.now) }
+{
+    match items {
+        NewItems::Zeros { shape } => zeros(alloc, descr, shape),
+        NewItems::Full { shape, value } => full(alloc, descr, shape, value),
+        NewItems::Arange { start, stop, step } => arange(alloc, descr, start, stop, step),
+        NewItems::Array { shape, values } => array(alloc, descr, shape, values),
+    }
+}
 
 /// Binds a name, for which there is room, to a new array. The reply is appended before the change,
 /// which is the last step that may lack memory.
@@ -46,6 +216,6 @@ pub fn make(
     if !bench.has_room_for(name) {
         return Err(Refusal::TooManyNames);
     }
-    let owned = contents::contents_of(*out.allocator(), descr, items)?;
+    let owned = contents_of(*out.allocator(), descr, items)?;
     bind_new(bench, name, owned, Origin::New, out)
 }

@@ -1,4 +1,4 @@
-//! `del X`: a name is bound no longer.
+//! `del X`: unbinds a name.
 ghost use Rattle.std.specs.Prelude.{◌≡◌, ◌≤◌, ◌+◌, ◌&&◌, nat_lt, vec_len, vec_capacity};
 ghost use Rattle.name_store.specs.Arrays.{is_bound};
 ghost use Rattle.bench_engine.specs.inside.Contract.{CarriesOut};

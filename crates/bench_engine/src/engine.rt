@@ -1,4 +1,4 @@
-//! One line: what it says, carried out, with the reply at the end of `out`.
+//! Carries out one line, and appends the reply to `out`.
 ghost use Rattle.std.specs.Prelude.{◌≡◌, ◌≤◌, ◌+◌, ◌++◌, ◌&&◌, [], List, vec_len, vec_capacity};
 ghost use Rattle.std.specs.List.{list_all};
 ghost use Rattle.script_lang.specs.declared.command.Command.TheVariants.{Bind};
@@ -11,20 +11,15 @@ ghost use Rattle.bench_engine.specs.Headline.{meaning_of, AnswersMeaning, Answer
 ghost use Rattle.bench_engine.specs.Memory.{bound_in_question, MayAnswer, MayAnswerLine};
 ghost use Rattle.bench_engine.specs.inside.ReadLines.{ReadsAs, meaning_of_read};
 
-use crate::compute::compute;
+use crate::ask::{format, info, names, print, shares};
 use crate::create::make;
 use crate::delete::delete;
-use crate::format::format;
-use crate::info::info;
-use crate::line::{Line, MAX_LINE_LEN};
-use crate::load::load;
-use crate::names::names;
-use crate::print::print;
-use crate::save::save;
-use crate::set::{Assignment, set};
-use crate::shares::shares;
+use crate::files::{load, save};
+use crate::operate::compute;
+use crate::session::{Line, MAX_LINE_LEN};
 use crate::undo::undo;
 use crate::view::view;
+use crate::write::{Assignment, set};
 use elem_descr::Refusal;
 use name_store::Bench;
 use npy_files::NpyStore;

@@ -1,14 +1,125 @@
-//! What a run holds between one read and the next.
-ghost use Rattle.std.specs.Prelude.{◌≡◌, ◌≤◌, ◌<◌, ◌+◌, ◌^◌, ◌++◌, [], ◌∷◌, List, ℕ, Option, length, OnOk, OnErr, IfOk, nat_eq, vec_capacity};
+//! What a run holds between one read and the next: the line that is being read, and how far replies are sent.
+ghost use Rattle.std.specs.Prelude.{◌≡◌, ◌≤◌, ◌<◌, ◌++◌, ◌∷◌, [], List, ℕ, length, OnOk, OnErr, vec_capacity, IfOk, false, ◌&&◌, nat_eq, not, ◌+◌, ◌^◌, Option};
+ghost use Rattle.std.specs.Io.KnownBytes.{Appends};
 ghost use Rattle.std.specs.List.{position};
 
 use crate::engine::{MAX_REFUSAL_LEN, answer_read};
-use crate::line::HeldLine;
-use crate::send::{WriteFault, send_line};
 use name_store::Bench;
 use npy_files::NpyStore;
 use std::alloc::{AllocError, Global};
 use std::io::Write;
+use thiserror::Error;
+
+/// A write failed or took nothing.
+#[derive(Clone, Copy, Debug, PartialEq, Eq, Error)]
+#[error("write fault")]
+pub struct WriteFault;
+
+/// Writes all of the bytes; after a fault some first ones, not all, have gone out.
+fn send<W: Write>(writer: &mut W, bytes: &[u8]) -> Result<(), WriteFault>
+    ensures ok { OnOk result (Appends (W.contents writer.old) (W.contents writer.new) bytes.now) }
+    ensures err { OnErr result ((gone missing : List ℕ) × (bytes.now ≡ gone ++ missing)
+        × (0 < length missing) × Appends (W.contents writer.old) (W.contents writer.new) gone) }
+{
+    let mut rest = bytes;
+    while !rest.is_empty() {
+        match writer.write(rest) {
+            Ok(0) | Err(_) => return Err(WriteFault),
+            Ok(n) => rest = &rest[n..],
+        }
+    }
+    Ok(())
+}
+
+/// Writes a text and a newline: in one piece where the room of the text has a byte left.
+fn send_line<W: Write>(writer: &mut W, text: &mut Vec<u8>) -> Result<(), WriteFault>
+    ensures ok { OnOk result (Appends (W.contents writer.old) (W.contents writer.new) (text.old.items ++ 10 ∷ [])) }
+    ensures err { OnErr result ((gone missing : List ℕ) × (text.old.items ++ 10 ∷ [] ≡ gone ++ missing)
+        × (0 < length missing) × Appends (W.contents writer.old) (W.contents writer.new) gone) }
+    ensures room { vec_capacity text.old ≤ vec_capacity text.new }
+{
+    if text.len() < text.capacity() {
+        text.push(b'\n').unwrap();
+        return send(writer, text.as_slice());
+    }
+    send(writer, text.as_slice())?;
+    send(writer, b"\n")
+}
+
+/// The most bytes of a line.
+pub const MAX_LINE_LEN: usize = 65_536;
+
+/// A line as it was read: whole, or only that it is too long.
+#[derive(Clone, Copy)]
+pub enum Line<'a> {
+    Held(&'a [u8]),
+    TooLong,
+}
+
+/// What has come of a line so far. Of one that is too long only that is held.
+#[derive(Drop)]
+pub struct HeldLine {
+    bytes: Vec<u8>,
+    is_long: bool,
+    ghost room: { 65537 ≤ vec_capacity bytes },
+}
+
+impl HeldLine {
+    ghost use Rattle.bench_engine.specs.Headline.{trimmed, meaning_of};
+    ghost use Rattle.bench_engine.specs.inside.ReadLines.{meaning_of_read};
+    ghost use Rattle.bench_engine.specs.Sessions.{HoldsPiece};
+
+    /// No byte yet, and room for a line with a carriage return.
+    pub fn new(alloc: Global) -> Result<HeldLine, AllocError>
+        ensures bytes { IfOk result (λ line. line.bytes.items ≡ []) }
+        ensures whole { IfOk result (λ line. line.is_long ≡ false) }
+    {
+        let bytes = Vec::with_capacity(alloc, MAX_LINE_LEN + 1)?;
+        Ok(HeldLine {
+            bytes,
+            is_long: false,
+        })
+    }
+
+    /// Adds bytes to the line.
+    pub fn hold(&mut self, more: &[u8])
+        ensures { (piece : List ℕ) → HoldsPiece self.old piece → HoldsPiece self.new (piece ++ more.now) }
+    {
+        let left = (MAX_LINE_LEN + 1).saturating_sub(self.bytes.len());
+        if more.len() > left {
+            self.is_long = true;
+        } else {
+            self.bytes.extend_from_slice(more).unwrap();
+        }
+    }
+
+    /// Whether nothing has come.
+    pub fn is_empty(&self) -> bool
+        ensures { result ≡ (nat_eq (length self.now.bytes.items) 0 && not self.now.is_long) }
+    {
+        self.bytes.is_empty() && !self.is_long
+    }
+
+    /// The line without one carriage return at its end.
+    pub fn line(&self) -> Line<'_>
+        ensures { (piece : List ℕ) → HoldsPiece self.now piece → meaning_of_read result ≡ meaning_of (trimmed piece) }
+    {
+        if self.is_long {
+            return Line::TooLong;
+        }
+        let bytes = self.bytes.as_slice();
+        Line::Held(bytes.strip_suffix(b"\r").unwrap_or(bytes))
+    }
+
+    /// Begins the next line.
+    pub fn clear(&mut self)
+        ensures bytes { self.new.bytes.items ≡ [] }
+        ensures whole { self.new.is_long ≡ false }
+    {
+        self.bytes.clear();
+        self.is_long = false;
+    }
+}
 
 /// What a whole run came to: the number of replies that accept a command and of those that refuse
 /// one, and the bench as the last command left it.

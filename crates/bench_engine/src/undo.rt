@@ -1,4 +1,4 @@
-//! `undo`: the state before the last change is back.
+//! `undo`: goes back to the state before the last change.
 ghost use Rattle.std.specs.Prelude.{◌≡◌, ◌≤◌, ◌+◌, false, vec_len, vec_capacity};
 ghost use Rattle.bench_engine.specs.inside.Contract.{CarriesOut};
 ghost use Rattle.bench_engine.specs.Machine.{undo_outcome};

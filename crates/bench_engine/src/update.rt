@@ -1,26 +1,31 @@
-//! Items of an array, changed by an operation.
-ghost use Rattle.std.specs.Prelude.{◌≡◌, ◌≤◌, ◌*◌, ℕ, List, true, length, map, Ok};
+//! Items of an array, changed by an operation, and the places to which they are written.
+ghost use Rattle.std.specs.Prelude.{◌≡◌, ◌≤◌, ◌*◌, ℕ, List, true, map, Ok, IfSome};
+ghost use Rattle.std.specs.List.Sorted.{IsPermutation};
 ghost use Rattle.elem_descr.specs.Blocks.{item_from};
 ghost use Rattle.elem_descr.specs.Items.{item_size};
 ghost use Rattle.elementwise.specs.Casts.{can_cast, cast_item};
 ghost use Rattle.shape_strides.specs.Layouts.{offsets};
 ghost use Rattle.shape_strides.specs.Indexes.{count};
 ghost use Rattle.shape_strides.specs.Limits.{max_bytes};
+ghost use Rattle.shape_strides.specs.Shapes.{IsShape};
 ghost use Rattle.script_lang.specs.declared.command.Argument.{Argument};
+ghost use Rattle.script_lang.specs.declared.command.Argument.TheVariants.{Literal as LiteralArgument};
 ghost use Rattle.name_store.specs.Shown.{Shows};
 ghost use Rattle.name_store.specs.States.{State, Array};
-ghost use Rattle.bench_engine.specs.Machine.{OperandValues, argument_values, literal_values, updated_items, changed_with, updated};
+ghost use Rattle.name_store.specs.declared.target.Target.TheVariants.{View};
+ghost use Rattle.bench_engine.specs.Machine.{OperandValues, argument_values, literal_values, operand_values, updated_items, changed_with, updated};
 ghost use Rattle.bench_engine.specs.inside.Assigns.{IsTarget};
 ghost use Rattle.bench_engine.specs.inside.Operands.{IsGiven, Stands, GivesChanged};
+ghost use Rattle.bench_engine.specs.inside.Writings.{GivesWriting, GoTogether};
 
-use crate::given::Given;
-use crate::operand::items_of_view;
-use crate::work::{result_scalar, work, work_literal};
+use crate::operate::{items_of_view, result_scalar, work, work_literal};
+use crate::write::Given;
+use arrays::Owned;
 use elem_descr::{Descr, Refusal};
 use elementwise::{Items, keeps_items, same_kind, scalar_of};
-use name_store::{ArrayRef, Target};
-use overlap_copy::Owned;
+use name_store::{ArrayRef, Source, Target};
 use script_lang::{Literal, Operation};
+use shape_strides::{Layout, LayoutPair, in_memory_order, lies_in_c_order};
 use std::alloc::Global;
 
 /// New items as items of the type of the old ones.
@@ -92,24 +97,146 @@ fn changed(
     }
 }
 
-/// The items of a target in an array, changed by an operation with what an argument gives.
+/// Items, and the places to which they are written, in the same order.
+#[derive(Drop)]
+pub struct Writing {
+    pub target: Target,
+    pub source: Source,
+}
+
+/// The places of a view as they lie in memory.
+fn near(alloc: Global, view: Layout) -> Layout
+    ensures { IsPermutation (offsets view) (offsets result) }
+{
+    match in_memory_order(alloc, &view, &view) {
+        Some(pair) => {
+            let LayoutPair { target, source: _ } = pair;
+            target
+        }
+        None => view,
+    }
+}
+
+/// The items of a view of an array, changed by an operation with a literal. They are read, and written, in
+/// the order in which they lie in memory.
+fn view_by_literal(
+    alloc: Global,
+    array: &ArrayRef<'_>,
+    view: Layout,
+    operation: Operation,
+    literal: &Literal,
+) -> Result<Writing, Refusal>
+    requires { (s : State) × (name : List ℕ) × (a : Array) × (part : Array) × Shows s a array.now × IsTarget s name a part (View view) }
+    ensures { (s : State) (name : List ℕ) (a part : Array) → Shows s a array.now → IsTarget s name a part (View view)
+        → GivesWriting s name a part result (updated s array.now.descr.now part operation (LiteralArgument literal.now)) }
+{
+    // What is known of shapes, and of the size of an item, comes with these calls.
+    let _size = array.descr.size();
+    let _before = view.shape.as_slice();
+    let moved = near(alloc, view);
+    let _after = moved.shape.as_slice();
+    let new = changed_by_literal(alloc, operation, items_of_view(array, &moved), literal)?;
+    Ok(Writing {
+        target: Target::View(moved),
+        source: Source::Block(new),
+    })
+}
+
+/// A view, and items that are stretched to its shape, both in the order in which the view lies in memory.
+/// Nothing where that is C order, where they do not stretch, or if there is no memory.
+fn near_both(alloc: Global, view: &Layout, items: &Layout) -> Option<LayoutPair>
+    ensures { IfSome result (GoTogether view.now items.now) }
+{
+    if lies_in_c_order(view) {
+        return None;
+    }
+    match broadcasting::stretch(alloc, items, &view.shape) {
+        Ok(wide) => in_memory_order(alloc, view, &wide),
+        Err(_) => None,
+    }
+}
+
+/// The items of the first view of a pair, changed by an operation with those of the second.
+fn pair_by_items(
+    alloc: Global,
+    array: &ArrayRef<'_>,
+    pair: LayoutPair,
+    operation: Operation,
+    items: Items<'_>,
+) -> Result<Writing, Refusal>
+    requires { (s : State) × (name : List ℕ) × (a : Array) × (part : Array) × (view : Layout)
+        × Shows s a array.now × IsTarget s name a part (View view) × GoTogether view items.layout.now pair }
+    ensures { (s : State) (name : List ℕ) (a part : Array) (view : Layout) (w : OperandValues) → Shows s a array.now → IsTarget s name a part (View view)
+        → IsShape view.shape → GoTogether view items.entry.layout.now pair → Stands w items.entry
+        → GivesWriting s name a part result (updated_items operation array.now.descr.now (operand_values s part) w) }
+{
+    let LayoutPair { target, source } = pair;
+    // What is known of a shape, and of the size of an item, comes with these calls.
+    let _size = array.descr.size();
+    let _lengths = target.shape.as_slice();
+    let beside = Items {
+        block: items.block,
+        layout: &source,
+        descr: items.descr,
+    };
+    let new = changed_by_items(alloc, operation, items_of_view(array, &target), beside)?;
+    Ok(Writing {
+        target: Target::View(target),
+        source: Source::Block(new),
+    })
+}
+
+/// The items of a view of an array, changed by an operation with other items, which are stretched to the
+/// shape of the view.
+fn view_by_items(
+    alloc: Global,
+    array: &ArrayRef<'_>,
+    view: Layout,
+    operation: Operation,
+    items: Items<'_>,
+) -> Result<Writing, Refusal>
+    requires { (s : State) × (name : List ℕ) × (a : Array) × (part : Array) × Shows s a array.now × IsTarget s name a part (View view) }
+    ensures { (s : State) (name : List ℕ) (a part : Array) (w : OperandValues) → Shows s a array.now → IsTarget s name a part (View view) → Stands w items.entry
+        → GivesWriting s name a part result (updated_items operation array.now.descr.now (operand_values s part) w) }
+{
+    // What is known of a shape comes with this call.
+    let _lengths = view.shape.as_slice();
+    if let Some(pair) = near_both(alloc, &view, items.layout) {
+        return pair_by_items(alloc, array, pair, operation, items);
+    }
+    let new = changed_by_items(alloc, operation, items_of_view(array, &view), items)?;
+    Ok(Writing {
+        target: Target::View(view),
+        source: Source::Block(new),
+    })
+}
+
+/// The items of a target in an array, changed by an operation with what an argument gives, and their
+/// places in the same order, which may be another one than that of the target.
 pub fn updated(
     alloc: Global,
     array: &ArrayRef<'_>,
-    target: &Target,
+    target: Target,
     operation: Operation,
     given: &Given<'_>,
-) -> Result<Owned, Refusal>
+) -> Result<Writing, Refusal>
     requires { (s : State) × (value : Argument) × (name : List ℕ) × (a : Array) × (part : Array)
-        × IsGiven s value given.now × Shows s a array.now × IsTarget s name a part target.now }
-    ensures { (s : State) (value : Argument) (name : List ℕ) (a part : Array) → IsGiven s value given.now → Shows s a array.now → IsTarget s name a part target.now
-        → GivesChanged array.now.descr.now (count part.shape) result (updated s array.now.descr.now part operation value) }
+        × IsGiven s value given.now × Shows s a array.now × IsTarget s name a part target }
+    ensures { (s : State) (value : Argument) (name : List ℕ) (a part : Array) → IsGiven s value given.now → Shows s a array.now → IsTarget s name a part target
+        → GivesWriting s name a part result (updated s array.now.descr.now part operation value) }
 {
     match target {
-        Target::View(layout) => changed(alloc, operation, items_of_view(array, layout), given),
+        Target::View(view) => match given {
+            Given::Literal(literal) => view_by_literal(alloc, array, view, operation, literal),
+            Given::Items(part) => view_by_items(alloc, array, view, operation, part.items()),
+        },
         Target::Plan(plan) => {
             let old = plan.gather_owned(alloc, array.block, array.descr)?;
-            changed(alloc, operation, old.items(), given)
+            let new = changed(alloc, operation, old.items(), given)?;
+            Ok(Writing {
+                target: Target::Plan(plan),
+                source: Source::Block(new),
+            })
         }
     }
 }

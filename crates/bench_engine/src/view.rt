@@ -1,16 +1,214 @@
-//! `X = Y`, `X = Y[ix]`, `X = transpose Y`, `X = reshape Y S`, `X = broadcast Y S`, `X = field Y "f"`: a
-//! name is bound to items of another name's array, to one field of each, or to a copy of them.
-ghost use Rattle.std.specs.Prelude.{◌≡◌, ◌≤◌, ◌∷◌, vec_capacity};
+//! `X = Y`, `X = Y[ix]`, `X = transpose Y`, `X = reshape Y S`, `X = broadcast Y S`, `X = field Y "f"`: bind a
+//! name to items of another name's array, to one field of each, or to a copy of them.
+ghost use Rattle.std.specs.Prelude.{◌≡◌, true, option_copied, ◌≤◌, ◌∷◌, vec_capacity};
 ghost use Rattle.std.specs.List.{list_all};
+ghost use Rattle.shape_strides.specs.Indexes.{count};
+ghost use Rattle.script_lang.specs.declared.command.Viewing.TheVariants.{Whole, Indexed, Field, Transposed, Reshaped, Broadcast};
 ghost use Rattle.name_store.specs.Arrays.{is_bound};
+ghost use Rattle.name_store.specs.Shown.{Shows};
+ghost use Rattle.name_store.specs.States.{Array};
+ghost use Rattle.name_store.specs.declared.bound.Bound.TheVariants.{View};
+ghost use Rattle.bench_engine.specs.IndexLists.{names_in_index};
+ghost use Rattle.bench_engine.specs.Machine.{names_in_viewing, view_outcome};
+ghost use Rattle.bench_engine.specs.inside.Parts.{IsShown, Sees, SeesIn, Duplicates, shape_of_bound, origin_of_bound};
 ghost use Rattle.bench_engine.specs.inside.Contract.{CarriesOut};
-ghost use Rattle.bench_engine.specs.Machine.{view_outcome, names_in_viewing};
 
-use crate::part::{has_bound, origin_of_bound, seen, shape_of_bound};
-use crate::replies::push_bound_text;
-use elem_descr::Refusal;
-use name_store::Bench;
-use script_lang::{Name, Viewing};
+use crate::create::shape_of;
+use crate::index_list::{are_bound, take};
+use crate::replies::{Origin, push_bound_text};
+use arrays::Owned;
+use elem_descr::{Descr, Refusal};
+use name_store::{ArrayRef, Bench, Bound};
+use script_lang::{Index, Lengths, Name, Text, Viewing};
+use shape_strides::{Layout, MemoryOrder, Shape};
+use std::alloc::Global;
+
+/// What is seen of an array, to be bound: items of the buffer that it lies in, or a copy of its items in
+/// C order; and their element type.
+#[derive(Drop)]
+pub struct Viewed<'a> {
+    pub bound: Bound,
+    pub descr: &'a Descr,
+}
+
+/// The shape of what is bound.
+fn shape_of_bound(bound: &Bound) -> &Shape
+    ensures { result.now ≡ shape_of_bound bound.now }
+{
+    match bound {
+        Bound::Fresh(owned) => &owned.layout.shape,
+        Bound::View { layout, .. } => &layout.shape,
+    }
+}
+
+/// Whether it is a view or a copy.
+fn origin_of_bound(bound: &Bound) -> Origin
+    ensures { result ≡ origin_of_bound bound.now }
+{
+    match bound {
+        Bound::Fresh(_) => Origin::Copy,
+        Bound::View { .. } => Origin::View,
+    }
+}
+
+/// The items of an array with this layout.
+fn items<'a>(array: &ArrayRef<'a>, layout: Layout, writable: bool) -> Viewed<'a>
+    ensures bound { result.bound ≡ View array.now.number array.now.path.now layout writable }
+    ensures descr { result.descr ≡ array.now.descr }
+{
+    let bound = Bound::View {
+        number: array.number,
+        path: *array.path,
+        layout,
+        writable,
+    };
+    Viewed {
+        bound,
+        descr: array.descr,
+    }
+}
+
+/// `Y`
+fn whole<'a>(alloc: Global, array: &ArrayRef<'a>) -> Result<Viewed<'a>, Refusal>
+    ensures { Sees Whole array.now result }
+{
+    let layout = Layout::try_copy(alloc, array.layout)?;
+    Ok(items(array, layout, array.writable))
+}
+
+/// `Y[ix]`, which is a copy where the list names an array.
+fn indexed<'a>(
+    alloc: Global,
+    bench: &Bench,
+    array: &ArrayRef<'a>,
+    index: &Index,
+) -> Result<Viewed<'a>, Refusal>
+    requires bound { list_all (is_bound bench.now.state) (names_in_index index.now) ≡ true }
+    requires shown { (a : Array) × Shows bench.now.state a array.now }
+    ensures { SeesIn bench.now.state (Indexed index.now) array.now result }
+{
+    let bound = take(alloc, bench, array, index.as_slice())?;
+    Ok(Viewed {
+        bound,
+        descr: array.descr,
+    })
+}
+
+/// `transpose Y [(axes)]`
+fn transposed<'a>(
+    alloc: Global,
+    array: &ArrayRef<'a>,
+    axes: Option<&[i128]>,
+) -> Result<Viewed<'a>, Refusal>
+    ensures { Sees (Transposed (option_copied axes.entry)) array.now result }
+{
+    let layout = view_ops::transpose(alloc, array.layout, axes)?;
+    Ok(items(array, layout, array.writable))
+}
+
+/// `field Y "f"`
+fn field<'a>(alloc: Global, array: &ArrayRef<'a>, field: &Text) -> Result<Viewed<'a>, Refusal>
+    requires { IsShown array.now }
+    ensures { Sees (Field field.now) array.now result }
+{
+    let Some(k) = array.descr.leaf_of(field.as_slice()) else {
+        return Err(Refusal::NoSuchField);
+    };
+    let layout = view_ops::field(alloc, array.layout, array.descr, field.as_slice())?;
+    let bound = Bound::View {
+        number: array.number,
+        path: array.path.then(k),
+        layout,
+        writable: array.writable,
+    };
+    Ok(Viewed {
+        bound,
+        descr: &array.descr.field(k).descr,
+    })
+}
+
+/// `broadcast Y S`: it may not be written, since one item may stand at many indexes.
+fn broadcast<'a>(
+    alloc: Global,
+    array: &ArrayRef<'a>,
+    lengths: &Lengths,
+) -> Result<Viewed<'a>, Refusal>
+    ensures { Sees (Broadcast lengths.now) array.now result }
+{
+    let shape = shape_of(alloc, lengths)?;
+    let layout = broadcasting::stretch(alloc, array.layout, &shape)?;
+    Ok(items(array, layout, false))
+}
+
+/// The items of an array in a block of their own, in C order, under a shape with as many items.
+fn duplicate<'a>(alloc: Global, array: &ArrayRef<'a>, shape: &Shape) -> Result<Viewed<'a>, Refusal>
+    requires shown { IsShown array.now }
+    requires items { count shape.now ≡ count array.now.layout.now.shape }
+    ensures { Duplicates shape.now array.now result }
+{
+    let copy = arrays::copy(
+        alloc,
+        array.block,
+        array.layout,
+        array.descr,
+        MemoryOrder::C,
+    )?;
+    let owned = Owned::over(alloc, copy.descr, shape, MemoryOrder::C, copy.block)?;
+    Ok(Viewed {
+        bound: Bound::Fresh(owned),
+        descr: array.descr,
+    })
+}
+
+/// `reshape Y S`: where no strides lead to the items under the new shape, they are copied.
+fn reshaped<'a>(
+    alloc: Global,
+    array: &ArrayRef<'a>,
+    numbers: &[i128],
+) -> Result<Viewed<'a>, Refusal>
+    requires { IsShown array.now }
+    ensures { Sees (Reshaped numbers.now) array.now result }
+{
+    let shape = reshape_rule::target(alloc, &array.layout.shape, numbers)?;
+    if let Some(layout) = reshape_rule::no_copy(alloc, array.layout, &shape)? {
+        return Ok(items(array, layout, array.writable));
+    }
+    duplicate(alloc, array, &shape)
+}
+
+/// Whether the names in a way of seeing an array are bound.
+pub fn has_bound(bench: &Bench, how: &Viewing) -> bool
+    ensures { result ≡ list_all (is_bound bench.now.state) (names_in_viewing how.now) }
+{
+    match how {
+        Viewing::Indexed(index) => are_bound(bench, index.as_slice()),
+        _ => true,
+    }
+}
+
+/// What is seen of an array. The refusals are those of the way it is seen.
+fn seen<'a>(
+    alloc: Global,
+    bench: &Bench,
+    array: &ArrayRef<'a>,
+    how: &Viewing,
+) -> Result<Viewed<'a>, Refusal>
+    requires shown { (a : Array) × Shows bench.now.state a array.now }
+    requires bound { list_all (is_bound bench.now.state) (names_in_viewing how.now) ≡ true }
+    ensures { SeesIn bench.now.state how.now array.now result }
+{
+    match how {
+        Viewing::Whole => whole(alloc, array),
+        Viewing::Indexed(index) => indexed(alloc, bench, array, index),
+        Viewing::Field(part) => field(alloc, array, part),
+        Viewing::Transposed(axes) => match axes {
+            None => transposed(alloc, array, None),
+            Some(axes) => transposed(alloc, array, Some(axes.as_slice())),
+        },
+        Viewing::Broadcast(lengths) => broadcast(alloc, array, lengths),
+        Viewing::Reshaped(numbers) => reshaped(alloc, array, numbers.as_slice()),
+    }
+}
 
 /// Binds a name to an array, seen in some way. The reply is appended before the change, which is the
 /// last step that may lack memory.

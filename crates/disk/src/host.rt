@@ -51,7 +51,9 @@ fn path_in(alloc: Global, dir: &str, name: &[u8]) -> Result<Option<PathBuf>, All
 
 impl<'a, R: Files<File = File>> HostDisk<'a, R> {
     /// The folder with this path; an empty path means the current directory. It is not looked at.
-    pub fn try_new(rt: &'a R, alloc: Global, dir: &str) -> Result<HostDisk<'a, R>, AllocError> {
+    pub fn try_new(rt: &'a R, alloc: Global, dir: &str) -> Result<HostDisk<'a, R>, AllocError>
+        ensures failures { IfOk result (λ disk. ⟦<HostDisk<'a, R> as Disk>⟧.failures disk ≡ 0) }
+    {
         let dir = if dir.is_empty() { "." } else { dir };
         let dir = String::from_str(alloc, dir)?;
         Ok(HostDisk {

@@ -11,13 +11,13 @@ use Rattle.shape_strides.specs.declared.run_pairs.RunPair.{RunPair}
 use Rattle.shape_strides.specs.Runs.{run_offsets}
 use Rattle.shape_strides.specs.WalkLaws.{length-run_offsets}
 use Rattle.elementwise.specs.Results.{pairwise}
-use Rattle.overlap_copy.specs.Assignments.{items_at, with_items}
+use Rattle.arrays.specs.Assignments.{items_at, with_items}
 use Rattle.elementwise.specs.inside.PairPasses.{pair_from}
 use Rattle.elementwise.proofs.PairLaws.{pairwise-append, joined_pairs, firsts, seconds}
 use Rattle.elementwise.proofs.RowLaws.{landed, rows-in, rows-lie}
 use Rattle.elementwise.proofs.TurnedLaws.{AreWide}
-use Rattle.overlap_copy.specs.PackedLaws.{length-row, row-split}
-use Rattle.overlap_copy.specs.Packed.{row_offsets}
+use Rattle.arrays.specs.PackedLaws.{length-row, row-split}
+use Rattle.arrays.specs.Packed.{row_offsets}
 
 -- ---- items put over bytes that are behind others
 

@@ -1,18 +1,17 @@
 -- Numbers by their lowest 64 bits.
-use Rattle.std.proofs.Common.{◌≡◌, ℕ, zero, suc, ◌+◌, ◌-◌, ◌*◌, ◌%◌, ◌^◌, ◌<◌, ◌≤◌, inl, inr, cond, nat_lt, Bool, true, false, refl, sym, ap, ◌∙◌, arith}
-use Rattle.std.specs.Prelude.{ℤ, pos, negsuc, not, neg_ℤ, ◌+ℤ◌, ◌-ℤ◌, ◌*ℤ◌, nat_le}
+use Rattle.std.proofs.Common.{◌≡◌, ℕ, zero, suc, ◌+◌, ◌-◌, ◌*◌, ◌/◌, ◌%◌, ◌^◌, ◌<◌, ◌≤◌, inl, inr, cond, nat_lt, Bool, true, false, refl, sym, ap, ◌∙◌, arith}
+use Rattle.std.specs.Prelude.{ℤ, pos, negsuc, neg_ℤ, ◌+ℤ◌, ◌-ℤ◌, ◌*ℤ◌, nat_le}
 use Rattle.std.specs.Int.{w64, cast_signed, cast_unsigned, int_wrap}
-use Rattle.std.proofs.lemmas.Bool.{cases_lt, false≢true}
+use Rattle.std.proofs.lemmas.Bool.{cases_lt}
 use Rattle.std.proofs.lemmas.Bool.Decides.{nat_tests}
 use Rattle.std.proofs.lemmas.Int.{ints, wrapping_add-bits, wrapping_sub-bits, wrapping_mul-bits, int_wrap-add_left, int_wrap-add_right, int_wrap-sub_right, int_wrap-mul_left, int_wrap-mul_right, of_z-to_z}
-use Rattle.std.proofs.lemmas.Nat.{div-add-mod', pow_below}
-use Rattle.std.proofs.Math.Nat.{mod-lt, mod-eq_of_lt, pos_of_ne-zero}
-use Rattle.std.proofs.Math.Bool.{beq}
+use Rattle.std.proofs.lemmas.Nat.{pow_below}
+use Rattle.std.proofs.Math.Nat.{div-add-mod, mod-lt, mod-eq_of_lt, mul-le-mul_left, mul-le-mul_right}
 use Rattle.elem_descr.specs.Encoding.{integer, low_bits}
 use Rattle.elem_descr.specs.EncodingLaws.{low_bits-lt, low_bits-integer}
 use Rattle.elem_descr.specs.WrapLaws.{int_wrap-low_bits}
-use Rattle.elementwise.specs.Operations.{modulo, shifted_left}
-use Rattle.elementwise.specs.Bits.{is_negative, magnitude_of}
+use Rattle.elementwise.specs.Operations.{floor_quotient, modulo, shifted_left}
+use Rattle.elementwise.specs.Bits.{is_negative}
 
 -- the lowest bits of a sum, a difference or a product are what the lowest bits give
 module _ (f : ℕ → ℕ → ℕ) (op : ℤ → ℤ → ℤ) (first : (a b : ℤ) → int_wrap w64 (op (int_wrap w64 a) b) ≡ int_wrap w64 (op a b)) (second : (a b : ℤ) → int_wrap w64 (op a (int_wrap w64 b)) ≡ int_wrap w64 (op a b)) (word : (m n : ℕ) → m < 2 ^ 64 → n < 2 ^ 64 → cast_signed w64 (f m n) ≡ int_wrap w64 (op (cast_signed w64 m) (cast_signed w64 n))) (below : (m n : ℕ) → f m n < 2 ^ 64) where
@@ -67,75 +66,62 @@ is_large x large below =
 
 -- ---- what is left of a number by another
 
-modulo-pos : (x y : ℕ) → (y ≡ 0 → ⊥) → modulo (pos x) (pos y) ≡ pos (x % y)
-modulo-pos x zero some = absurd (some refl)
-modulo-pos x (suc d) some = let e = div-add-mod' x (suc d) in omega (arith, ints, e)
+low_bits-sub : (u v : ℤ) → low_bits 8 (u -ℤ v) ≡ (low_bits 8 u + (2 ^ 64 - low_bits 8 v)) % 2 ^ 64
+low_bits-sub = low_bits-op (λ x y. (x + (2 ^ 64 - y)) % 2 ^ 64) (λ a b. a -ℤ b) (λ a b. int_wrap-add_left w64 a (neg_ℤ b)) (int_wrap-sub_right w64) (wrapping_sub-bits w64) (λ m n. mod-lt (m + (2 ^ 64 - n)) (omega arith))
 
-modulo-neg : (m b : ℕ) → modulo (negsuc m) (negsuc b) ≡ neg_ℤ (pos (suc m % suc b))
-modulo-neg m b = let e = div-add-mod' (suc m) (suc b) in omega (arith, ints, e)
+modulo-some : (a b : ℤ) → (b ≡ pos 0 → ⊥) → modulo a b ≡ a -ℤ b *ℤ floor_quotient a b
+modulo-some a (pos zero) some = absurd (some refl)
+modulo-some a (pos (suc b)) some = refl
+modulo-some a (negsuc b) some = refl
 
-low_bits-neg : (n : ℕ) → n < 2 ^ 64 → low_bits 8 (neg_ℤ (pos n)) ≡ (2 ^ 64 - n) % 2 ^ 64
-low_bits-neg zero below = refl
-low_bits-neg (suc n) below = omega arith
+pub rest_low : (signed : Bool) (x y q : ℕ) → x < 2 ^ 64 → y < 2 ^ 64 → (y ≡ 0 → ⊥) → q ≡ low_bits 8 (floor_quotient (integer signed 8 x) (integer signed 8 y)) → (x + (2 ^ 64 - (y * q) % 2 ^ 64)) % 2 ^ 64 ≡ low_bits 8 (modulo (integer signed 8 x) (integer signed 8 y))
+rest_low signed x y q fits fits' some is =
+    let a = integer signed 8 x in
+    let b = integer signed 8 y in
+    (λ i. (sym (low_bits-integer signed 8 x fits) i + (2 ^ 64 - (sym (low_bits-integer signed 8 y fits') i * is i) % 2 ^ 64)) % 2 ^ 64)
+    ∙ (λ i. (low_bits 8 a + (2 ^ 64 - sym (low_bits-mul b (floor_quotient a b)) i)) % 2 ^ 64)
+    ∙ sym (low_bits-sub a (b *ℤ floor_quotient a b))
+    ∙ ap (low_bits 8) (sym (modulo-some a b (λ none. some (sym (low_bits-integer signed 8 y fits') ∙ ap (low_bits 8) none))))
 
-rest-pos : (x y : ℕ) → y < 2 ^ 64 → (y ≡ 0 → ⊥) → x % y ≡ low_bits 8 (modulo (pos x) (pos y))
-rest-pos x y below some = sym (ap (low_bits 8) (modulo-pos x y some) ∙ low_bits-small (x % y) (omega (arith, mod-lt x (pos_of_ne-zero some))))
+-- ---- quotients by a product
 
-rest-neg : (x y : ℕ) → 2 ^ 63 ≤ x → x < 2 ^ 64 → 2 ^ 63 ≤ y → y < 2 ^ 64 →
-    magnitude_of true (magnitude_of true x % magnitude_of true y) ≡ low_bits 8 (modulo (negsuc (2 ^ 64 - 1 - x)) (negsuc (2 ^ 64 - 1 - y)))
-rest-neg x y large below large' below' =
-    let size : magnitude_of true x ≡ suc (2 ^ 64 - 1 - x) = omega arith in
-    let divisor : magnitude_of true y ≡ suc (2 ^ 64 - 1 - y) = omega arith in
-    let left = suc (2 ^ 64 - 1 - x) % suc (2 ^ 64 - 1 - y) in
-    let few : left < 2 ^ 64 = let low : left < suc (2 ^ 64 - 1 - y) = mod-lt (suc (2 ^ 64 - 1 - x)) (omega arith) in omega (arith, low, large') in
-    (λ i. magnitude_of true (size i % divisor i))
-    ∙ sym (low_bits-neg left few)
-    ∙ sym (ap (low_bits 8) (modulo-neg (2 ^ 64 - 1 - x) (2 ^ 64 - 1 - y)))
+reciprocal-most : (n d m : ℕ) → n < 2 ^ 32 → d ≤ n → m ≡ (2 ^ 64 - 1) / d → 1 ≤ d → n ≤ m
+reciprocal-most n d m few near is some =
+    let parts = div-add-mod (2 ^ 64 - 1) d in
+    let low : (2 ^ 64 - 1) % d < d = mod-lt (2 ^ 64 - 1) some in
+    elim (cases_lt m n) as (λ _. n ≤ m) [
+      | inl under ↦
+          let times = mul-le-mul_right (m + 1) near in
+          let square : n * (m + 1) ≤ n * n = mul-le-mul_left n (omega (arith, under)) in
+          let most : n * n ≤ n * (2 ^ 32 - 1) = mul-le-mul_left n (omega (arith, few)) in
+          absurd (let whole : d * m + (2 ^ 64 - 1) % d ≡ 2 ^ 64 - 1 = (λ i. d * is i + (2 ^ 64 - 1) % d) ∙ parts in omega (arith, whole, low, times, square, most, few))
+      | inr over ↦ over
+    ]
 
--- of two numbers of one sign
-same_sign : (signed : Bool) (x y : ℕ) → x < 2 ^ 64 → y < 2 ^ 64 → (magnitude_of (is_negative signed y) y ≡ 0 → ⊥) → is_negative signed x ≡ is_negative signed y →
-    magnitude_of (is_negative signed y) (magnitude_of (is_negative signed x) x % magnitude_of (is_negative signed y) y) ≡ low_bits 8 (modulo (integer signed 8 x) (integer signed 8 y))
-same_sign false x y below below' some same = rest-pos x y below' some
-same_sign true x y below below' some same = elim (cases_lt x (2 ^ 63)) [
-  | inl small ↦ elim (cases_lt y (2 ^ 63)) [
-    | inl small' ↦
-        let first = is_small x small in
-        let second = is_small y small' in
-        (λ i. magnitude_of (second.0 i) (magnitude_of (first.0 i) x % magnitude_of (second.0 i) y))
-        ∙ rest-pos x y below' (λ none. some (ap (λ t. magnitude_of t y) second.0 ∙ none))
-        ∙ sym (λ i. low_bits 8 (modulo (first.1 i) (second.1 i)))
-    | inr large' ↦ absurd (false≢true (sym (is_small x small).0 ∙ same ∙ (is_large y large' below').0))
-  ]
-  | inr large ↦ elim (cases_lt y (2 ^ 63)) [
-    | inl small' ↦ absurd (false≢true (sym (is_small y small').0 ∙ sym same ∙ (is_large x large below).0))
-    | inr large' ↦
-        let first = is_large x large below in
-        let second = is_large y large' below' in
-        (λ i. magnitude_of (second.0 i) (magnitude_of (first.0 i) x % magnitude_of (second.0 i) y))
-        ∙ rest-neg x y large below large' below'
-        ∙ sym (λ i. low_bits 8 (modulo (first.1 i) (second.1 i)))
-  ]
-]
-
-pub agree : (a b : Bool) → beq a b ≡ true → a ≡ b
-agree true true same = refl
-agree true false same = absurd (false≢true same)
-agree false true same = absurd (false≢true same)
-agree false false same = refl
-
-pub differ : (a b : Bool) → beq a b ≡ false → not a ≡ b
-differ true true other = absurd (false≢true (sym other))
-differ true false other = refl
-differ false true other = refl
-differ false false other = absurd (false≢true (sym other))
-
-pub rest_low : (signed : Bool) (x y : ℕ) (below over : Bool) (size divisor result : ℕ) → x < 2 ^ 64 → y < 2 ^ 64 → below ≡ is_negative signed x → over ≡ is_negative signed y → size ≡ magnitude_of below x → divisor ≡ magnitude_of over y →
-    result ≡ magnitude_of over (size % divisor) → (divisor ≡ 0 → ⊥) → beq below over ≡ true → result ≡ low_bits 8 (modulo (integer signed 8 x) (integer signed 8 y))
-rest_low signed x y below over size divisor result fits fits' is is' sized divides made some same =
-    let other = ap (λ t. magnitude_of t y) is' in
-    made
-    ∙ (λ i. magnitude_of (is' i) ((sized ∙ ap (λ t. magnitude_of t x) is) i % (divides ∙ other) i))
-    ∙ same_sign signed x y fits fits' (λ none. some (divides ∙ other ∙ none)) (sym is ∙ agree below over same ∙ is')
+pub divided : (n d m low high : ℕ) → n < 2 ^ 32 → 1 ≤ d → m ≡ (2 ^ 64 - 1) / d → low < 2 ^ 64 → low + high * 2 ^ 64 ≡ n * m + m → high ≡ n / d
+divided n d m low high few some is fits split =
+    let q = n / d in
+    let r = (2 ^ 64 - 1) % d in
+    let parts = div-add-mod n d in
+    let left : n % d < d = mod-lt n some in
+    let whole : d * m + r ≡ 2 ^ 64 - 1 = (λ i. d * is i + r) ∙ div-add-mod (2 ^ 64 - 1) d in
+    let less : r < d = mod-lt (2 ^ 64 - 1) some in
+    elim (cases_lt high q) as (λ _. high ≡ q) [
+      | inl under ↦
+          let near : d ≤ n = let one : d * 1 ≤ d * q = mul-le-mul_left d (omega (arith, under)) in omega (arith, one, parts) in
+          let most = reciprocal-most n d m few near is some in
+          let times : q * (r + 1) ≤ q * d = mul-le-mul_left q (omega (arith, less)) in
+          let least : q * d * m ≤ n * m = mul-le-mul_right m (omega (arith, parts)) in
+          let all : q * (d * m + r) ≡ q * (2 ^ 64 - 1) = ap (λ z. q * z) whole in
+          absurd (omega (arith, split, fits, under, most, times, least, all, parts))
+      | inr from ↦ elim (cases_lt q high) as (λ _. high ≡ q) [
+        | inl over ↦
+            let most : (n + 1) * m ≤ (d * q + d) * m = mul-le-mul_right m (omega (arith, parts, left)) in
+            let all : (q + 1) * (d * m + r) ≡ (q + 1) * (2 ^ 64 - 1) = ap (λ z. (q + 1) * z) whole in
+            absurd (omega (arith, split, over, most, all))
+        | inr to ↦ omega (arith, from, to)
+      ]
+    ]
 
 -- ---- bits that move up
 

@@ -16,13 +16,12 @@ use Rattle.elem_descr.specs.Blocks.{item_from}
 use Rattle.raw_block.specs.Bytes.{item_at}
 use Rattle.shape_strides.specs.Layouts.{multiples}
 use Rattle.elementwise.specs.Casts.{can_cast, can_cast_scalar, can_cast_fields, cast_value, cast_values, cast_item}
-use Rattle.overlap_copy.specs.Assignments.{with_items}
-use Rattle.elementwise.specs.inside.LeafCasts.{leaf_from}
-use Rattle.elementwise.specs.inside.LeafCasts.{source, HasSource, IsLeafCast}
+use Rattle.arrays.specs.Assignments.{with_items}
+use Rattle.elementwise.specs.inside.LeafCasts.{leaf_from, source, HasSource, IsLeafCast}
 use Rattle.elementwise.proofs.RowLaws.{row-entry, AreBeside, landed, kept, row-in, rows-in, rows-lie, rows-beside}
 use Rattle.elementwise.proofs.LeafLaws.{length-leaf_cast, cast_read_back}
-use Rattle.overlap_copy.specs.PackedLaws.{length-row}
-use Rattle.overlap_copy.specs.Packed.{row_offsets}
+use Rattle.arrays.specs.PackedLaws.{length-row}
+use Rattle.arrays.specs.Packed.{row_offsets}
 
 -- ---- which leaves are cast to which
 

@@ -19,9 +19,9 @@ use Rattle.shape_strides.specs.Indexes.{count, indexes}
 use Rattle.shape_strides.specs.IndexLaws.{rank-lt, same_on_indexes}
 use Rattle.shape_strides.specs.Layouts.{address, offsets}
 use Rattle.shape_strides.specs.LayoutLaws.{pos-natural}
-use Rattle.overlap_copy.specs.Assignments.{items_at, with_items, assigned}
+use Rattle.arrays.specs.Assignments.{items_at, with_items, assigned}
 use Rattle.shape_strides.specs.Runs.{run_offsets}
-use Rattle.overlap_copy.specs.Packed.{row_offsets}
+use Rattle.arrays.specs.Packed.{row_offsets}
 use Rattle.elementwise.specs.Casts.{cast_value, cast_item}
 use Rattle.elementwise.specs.inside.LeafCasts.{leaf_from}
 use Rattle.elementwise.proofs.AppendedLaws.{rows-read}

@@ -12,12 +12,11 @@ use Rattle.elem_descr.specs.Blocks.{item_from}
 use Rattle.raw_block.specs.Bytes.{item_at, joined}
 use Rattle.raw_block.specs.JoinedLaws.{all_joined, joined_list}
 use Rattle.elementwise.specs.Casts.{can_cast, cast_item}
-use Rattle.overlap_copy.specs.Assignments.{with_items}
-use Rattle.elementwise.specs.inside.LeafCasts.{leaf_from}
-use Rattle.elementwise.specs.inside.LeafCasts.{source, IsLeafCast}
+use Rattle.arrays.specs.Assignments.{with_items}
+use Rattle.elementwise.specs.inside.LeafCasts.{leaf_from, source, IsLeafCast}
 use Rattle.elementwise.proofs.RowLaws.{AreBeside}
 use Rattle.elementwise.proofs.CastLaws.{row-kept, each-wide, length-cast_item, leaf-encoded}
-use Rattle.overlap_copy.specs.Packed.{row_offsets}
+use Rattle.arrays.specs.Packed.{row_offsets}
 
 -- ---- leaves and what lies between them
 

@@ -26,6 +26,7 @@ pub mod BytesComparedLaws
 pub mod TextWordLaws
 pub mod EvenTextLaws
 pub mod WordOrderLaws
+pub mod TextNumberLaws
 pub mod TrimmedLaws
 pub mod BitLaws
 pub mod WordLaws

@@ -13,9 +13,9 @@ use Rattle.elem_descr.specs.declared.scalar.Scalar.TheVariants.{Bool as BoolScal
 use Rattle.shape_strides.specs.declared.memory_order.MemoryOrder.TheVariants.{C}
 use Rattle.shape_strides.specs.Indexes.{count}
 use Rattle.shape_strides.specs.Layouts.{offsets, multiples}
-use Rattle.overlap_copy.specs.Blocks.{offsets_in}
-use Rattle.overlap_copy.specs.ItemLists.{owned_items}
-use Rattle.overlap_copy.specs.declared.owned.Owned.{Owned}
+use Rattle.arrays.specs.Blocks.{offsets_in}
+use Rattle.arrays.specs.ItemLists.{owned_items}
+use Rattle.arrays.specs.declared.owned.Owned.{Owned}
 use Rattle.elementwise.specs.inside.Made.{IsMade}
 use Rattle.elementwise.specs.Results.{truth_item}
 

@@ -8,7 +8,7 @@ use Rattle.shape_strides.specs.declared.runs.Run.{Run}
 use Rattle.shape_strides.specs.declared.run_pairs.RunPair.{RunPair}
 use Rattle.shape_strides.specs.Runs.{run_offsets}
 use Rattle.shape_strides.specs.WalkLaws.{length-run_offsets}
-use Rattle.overlap_copy.specs.RunLaws.{run_offsets-more}
+use Rattle.arrays.specs.RunLaws.{run_offsets-more}
 use Rattle.elementwise.specs.Results.{pairwise}
 
 -- ---- pairs of two lists

@@ -15,8 +15,8 @@ use Rattle.elem_descr.specs.Items.{item_size, encode_item}
 use Rattle.elem_descr.specs.ByteLaws.{length-encode, one-encoded}
 use Rattle.elementwise.specs.Results.{pairwise, value_in}
 use Rattle.shape_strides.specs.LayoutLaws.{length-offsets}
-use Rattle.overlap_copy.specs.ItemLists.{items}
-use Rattle.overlap_copy.specs.declared.owned.Owned.{Owned}
+use Rattle.arrays.specs.ItemLists.{items}
+use Rattle.arrays.specs.declared.owned.Owned.{Owned}
 use Rattle.elementwise.specs.declared.pairing.Pairing.{Pairing}
 use Rattle.elementwise.specs.declared.rows.Operands.{Operands}
 use Rattle.elementwise.specs.inside.Made.{IsMade}
@@ -28,8 +28,8 @@ use Rattle.elementwise.proofs.MadeLaws.{over-made}
 use Rattle.elementwise.proofs.AppendedLaws.{rows-read}
 use Rattle.elementwise.proofs.TurnedLaws.{length-concat}
 use Rattle.elementwise.proofs.PairLaws.{length-pairwise, map-pairwise, pairwise-map}
-use Rattle.overlap_copy.specs.PackedLaws.{row-multiples}
-use Rattle.overlap_copy.specs.Packed.{row_offsets}
+use Rattle.arrays.specs.PackedLaws.{row-multiples}
+use Rattle.arrays.specs.Packed.{row_offsets}
 
 -- the item of a scalar is its value
 pub scalar-item : (scalar : Scalar) (bytes : List ℕ) (o : ℕ) → item_from (ScalarDescr scalar) bytes o ≡ decode scalar (item_at o (size scalar) bytes) ∷ []

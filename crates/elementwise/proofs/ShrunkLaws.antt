@@ -20,7 +20,7 @@ use Rattle.view_ops.specs.Views.{view_through}
 use Rattle.broadcasting.specs.Broadcasts.{can_stretch, broadcast_index}
 use Rattle.broadcasting.specs.BroadcastLaws.{IsIndex-broadcast, stretched-self}
 use Rattle.broadcasting.specs.Shrinking.{IsStretchOf}
-use Rattle.overlap_copy.specs.declared.owned.Owned.{Owned}
+use Rattle.arrays.specs.declared.owned.Owned.{Owned}
 use Rattle.elementwise.specs.Casts.{cast_item}
 use Rattle.elementwise.specs.Results.{stretched_items, pairwise}
 use Rattle.elementwise.specs.inside.Shrunk.{IsShrunk}

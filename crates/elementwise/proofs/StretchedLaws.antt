@@ -8,8 +8,9 @@ use Rattle.elem_descr.specs.declared.refusal.Refusal.TheVariants.{OutOfMemory}
 use Rattle.shape_strides.specs.declared.layout.Layout.{Layout}
 use Rattle.shape_strides.specs.Indexes.{indexes, rank}
 use Rattle.shape_strides.specs.Layouts.{offsets}
-use Rattle.view_ops.specs.Views.{View, IsViewOf, GivesView}
+use Rattle.view_ops.specs.Views.{View, view_through, IsViewOf, GivesView}
 use Rattle.broadcasting.specs.Broadcasts.{can_stretch, broadcast_index, stretched}
+use Rattle.broadcasting.specs.BroadcastLaws.{stretched-self}
 use Rattle.elementwise.specs.inside.Shrunk.{IsStretched}
 
 -- the view that there is
@@ -40,3 +41,11 @@ pub given_refusal : (old : Layout) (shape : List ℕ) (result : Result Layout Re
 given_refusal old shape (Ok new) can gives = tt
 given_refusal old shape (Err e) can (inl is) = is
 given_refusal old shape (Err e) can (inr there) = absurd (false≢true (sym (ap is_ok there) ∙ ap is_ok (stretched-is old.shape shape can)))
+
+-- a layout of that shape stretches to itself
+pub stretches-itself : (l : Layout) (shape : List ℕ) → l.shape ≡ shape → IsStretched l l shape
+stretches-itself l shape same = record {
+  shape_is = same;
+  places = sym (stretched-self l) ∙ (λ i. view_through (offsets l) l.shape (same i) (broadcast_index l.shape));
+  inside = λ len width ends. ends;
+}

@@ -12,8 +12,8 @@ use Rattle.shape_strides.specs.Indexes.{count, rank}
 use Rattle.shape_strides.specs.IndexLaws.{rank-lt, index_at}
 use Rattle.shape_strides.specs.Layouts.{multiples}
 use Rattle.shape_strides.specs.ReverseLaws.{count-reverse, IsIndex-reverse}
-use Rattle.overlap_copy.specs.Assignments.{items_at}
-use Rattle.overlap_copy.specs.FortranLaws.{length-fortran, fortran-at}
+use Rattle.arrays.specs.Assignments.{items_at}
+use Rattle.arrays.specs.FortranLaws.{length-fortran, fortran-at}
 use Rattle.elementwise.specs.declared.operands.Layouts.{Layouts}
 use Rattle.elementwise.specs.inside.Made.{IsTurned}
 use Rattle.elementwise.specs.Results.{pairwise}

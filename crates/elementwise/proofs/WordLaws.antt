@@ -1,5 +1,5 @@
 -- Operations that are done on the lowest 64 bits, and what is kept of them.
-use Rattle.std.proofs.Common.{◌≡◌, ◌⊎◌, ℕ, suc, ◌+◌, ◌-◌, ◌*◌, ◌%◌, ◌^◌, ◌<◌, ◌≤◌, inl, inr, Bool, true, false, refl, sym, ap, subst, ◌∙◌, arith, mul_assoc}
+use Rattle.std.proofs.Common.{◌≡◌, ℕ, suc, ◌+◌, ◌-◌, ◌*◌, ◌%◌, ◌^◌, ◌<◌, ◌≤◌, inl, inr, Bool, true, false, refl, sym, ap, subst, ◌∙◌, arith, mul_assoc}
 use Rattle.std.specs.Prelude.{ℤ, pos, negsuc, ◌+ℤ◌, ◌-ℤ◌, unsigned_abs, nat_lt}
 use Rattle.std.proofs.Math.Nat.{mod-mod, mod-eq_of_lt}
 use Rattle.std.proofs.Math.Pow.{mod-mod-pow}
@@ -14,6 +14,7 @@ use Rattle.elem_descr.specs.WrapLaws.{integer-differs, integer-fits}
 use Rattle.machine_numbers.specs.declared.operators.BinOp.{BinOp}
 use Rattle.machine_numbers.specs.declared.operators.BinOp.TheVariants.{Add, Subtract, Multiply, FloorDivide, Modulo, And, Or, Xor, ShiftLeft, ShiftRight, Divide}
 use Rattle.machine_numbers.specs.Kinds.{is_bool}
+use Rattle.elementwise.specs.Bits.{IsTruth}
 use Rattle.elementwise.specs.Operations.{exact, binary, of_bits}
 use Rattle.elementwise.proofs.WorkLaws.{small_width}
 use Rattle.machine_numbers.specs.Bits.{AreBits}
@@ -59,9 +60,6 @@ truth-low (negsuc n) below =
     let m = 2 ^ 64 - 2 - n in
     let low : low_bits 8 (negsuc n) ≡ suc m = omega (arith, mod-eq_of_lt (let less : n < 2 ^ 64 = omega (arith, below) in less)) in
     ap truth low ∙ truth_suc m ∙ sym (truth_suc n)
-
-abbrev pub IsTruth : ℤ → Type 0
-IsTruth z = (z ≡ pos 0) ⊎ (z ≡ pos 1)
 
 -- operations of two bools give small numbers
 abbrev few : BinOp → ℤ → ℤ → Bool

@@ -13,10 +13,10 @@ use Rattle.elem_descr.specs.ByteLaws.{AreBytes, bytes-take}
 same-first : (a b : ℕ) (xs ys : List ℕ) → a ≡ b → text_below (a ∷ xs) (b ∷ ys) ≡ text_below xs ys
 same-first a b xs ys same = (λ i. nat_lt (same i) b || (same i == b && text_below xs ys)) ∙ λ i. lt-self b i || (eq-self b i && text_below xs ys)
 
-not-above : (a b : ℕ) → a < b → nat_lt b a ≡ false
+pub not-above : (a b : ℕ) → a < b → nat_lt b a ≡ false
 not-above a b less = grind (arith, nat_tests)
 
-not-equal : (a b : ℕ) → a < b → (b == a) ≡ false
+pub not-equal : (a b : ℕ) → a < b → (b == a) ≡ false
 not-equal a b less = grind (arith, nat_tests)
 
 less-first : (a b : ℕ) (xs ys : List ℕ) → a < b → (text_below (a ∷ xs) (b ∷ ys) ≡ true) × (text_below (b ∷ ys) (a ∷ xs) ≡ false)

@@ -7,3 +7,4 @@ pub mod Operands
 pub mod Held
 pub mod Works
 pub mod Made
+pub mod Words

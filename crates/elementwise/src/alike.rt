@@ -1,4 +1,4 @@
-//! Element types whose items lie alike in bytes.
+//! Element types whose items have the same layout in bytes.
 ghost use Rattle.std.specs.Prelude.{◌≡◌, ◌+◌, ◌<◌, ◌≤◌, ◌↔◌, ℕ, length, IsTrue};
 ghost use Rattle.elem_descr.specs.Items.{item_size, leaves_of, leaf_at, AreAlike};
 ghost use Rattle.elem_descr.specs.Blocks.{item_from};

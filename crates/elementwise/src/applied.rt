@@ -6,18 +6,18 @@ ghost use Rattle.elem_descr.specs.Items.{item_size, encode_item};
 ghost use Rattle.elem_descr.specs.Blocks.{item_from};
 ghost use Rattle.shape_strides.specs.declared.memory_order.MemoryOrder.TheVariants.{C};
 ghost use Rattle.shape_strides.specs.Layouts.{offsets};
-ghost use Rattle.overlap_copy.specs.Blocks.{offsets_in};
-ghost use Rattle.overlap_copy.specs.ItemLists.{owned_items};
+ghost use Rattle.arrays.specs.Blocks.{offsets_in};
+ghost use Rattle.arrays.specs.ItemLists.{owned_items};
 ghost use Rattle.elementwise.specs.Results.{binary_result, unary_result, binary_item, unary_item, stretched_items, pairwise};
 
 use crate::operands::read_as;
 use crate::pairing::{Pairing, Work};
 use crate::promotion::{promote, promote_one, scalar_of};
 use crate::typed::make_cast;
+use arrays::{Items, Owned};
 use broadcasting::common;
 use elem_descr::Refusal;
 use machine_numbers::{BinOp, UnOp};
-use overlap_copy::{Items, Owned};
 use std::alloc::Global;
 
 /// What an operation gives on the items of two arrays that are broadcast together, in a block of their

@@ -1,4 +1,4 @@
-//! Operations on numbers that are given by their lowest 64 bits, above which the bits are those of their sign.
+//! Operations on numbers given by their lowest 64 bits; all higher bits repeat the sign.
 ghost use Rattle.std.specs.Prelude.{◌≡◌, ◌≤◌, ◌/◌, ◌^◌, nat_lt, if◌then◌else◌, Bool, int_lt};
 ghost use Rattle.elem_descr.specs.Encoding.{integer, low_bits};
 ghost use Rattle.elementwise.specs.Operations.{floor_quotient, modulo, shifted_left, shifted_right};
@@ -6,7 +6,7 @@ ghost use Rattle.elementwise.specs.Bits.{is_negative, magnitude_of};
 
 /// Whether bits are those of a number below 0.
 #[inline(always)]
-fn is_negative(signed: bool, bits: u64) -> bool
+pub(crate) fn is_negative(signed: bool, bits: u64) -> bool
     ensures { result ≡ is_negative signed bits }
 {
     signed && bits >= 1 << 63
@@ -14,7 +14,7 @@ fn is_negative(signed: bool, bits: u64) -> bool
 
 /// How far a number is from 0.
 #[inline(always)]
-fn magnitude(negative: bool, bits: u64) -> u64
+pub(crate) fn magnitude(negative: bool, bits: u64) -> u64
     ensures { result ≡ magnitude_of negative bits }
 {
     if negative { bits.wrapping_neg() } else { bits }
@@ -43,17 +43,10 @@ pub(crate) fn quotient(signed: bool, left: u64, right: u64) -> u64
 pub(crate) fn rest(signed: bool, left: u64, right: u64) -> u64
     ensures { result ≡ low_bits 8 (modulo (integer signed 8 left) (integer signed 8 right)) }
 {
-    let below = is_negative(signed, left);
-    let over = is_negative(signed, right);
-    let size = magnitude(below, left);
-    let divisor = magnitude(over, right);
-    if size == 0 || divisor == 0 {
+    if right == 0 {
         return 0;
     }
-    if below == over {
-        return magnitude(over, size % divisor);
-    }
-    magnitude(over, divisor - 1 - (size - 1) % divisor)
+    left.wrapping_sub(right.wrapping_mul(quotient(signed, left, right)))
 }
 
 /// The bits of a number that is moved up by so many of the `width` bits of a scalar.

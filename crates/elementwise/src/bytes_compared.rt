@@ -1,5 +1,5 @@
 //! Comparisons of all items of arrays of byte strings with bytes.
-ghost use Rattle.std.specs.Prelude.{◌≡◌, [], ◌∷◌, map, IfOk, IfErr};
+ghost use Rattle.std.specs.Prelude.{◌≡◌, ◌≤◌, [], ◌∷◌, length, map, IfOk, IfErr};
 ghost use Rattle.std.specs.List.{flat_map};
 ghost use Rattle.elem_descr.specs.declared.refusal.Refusal.TheVariants.{OutOfMemory};
 ghost use Rattle.elem_descr.specs.declared.descr.Descr.TheVariants.{Scalar as ScalarDescr};
@@ -11,22 +11,26 @@ ghost use Rattle.elem_descr.specs.Refusals.{Gives};
 ghost use Rattle.elem_descr.specs.Values.{text};
 ghost use Rattle.shape_strides.specs.declared.memory_order.MemoryOrder.TheVariants.{C};
 ghost use Rattle.shape_strides.specs.Layouts.{offsets};
-ghost use Rattle.overlap_copy.specs.Blocks.{offsets_in};
-ghost use Rattle.overlap_copy.specs.ItemLists.{owned_items};
+ghost use Rattle.arrays.specs.Blocks.{offsets_in};
+ghost use Rattle.arrays.specs.ItemLists.{owned_items};
 ghost use Rattle.elementwise.specs.Results.{bytes_compared_result, compared_item};
 ghost use Rattle.elementwise.specs.inside.Made.{IsMade};
 
+use crate::compared;
+use crate::integers::one_item;
 use crate::made::made;
+use crate::operands::Broadcast;
 use crate::pairing::Pairing;
 use crate::promotion::scalar_of;
 use crate::rows::Operands;
 use crate::shrunk::{spread, without_repeats};
 use crate::text_comparing::without_nuls;
+use arrays::{Items, Owned};
 use broadcasting::repeats;
 use elem_descr::{BytesLen, Refusal, Scalar};
 use machine_numbers::Comparison;
-use overlap_copy::{Items, Owned};
-use std::alloc::Global;
+use raw_block::{BlockBuilder, RawBlock};
+use std::alloc::{AllocError, Global};
 
 /// A comparison of the byte strings of an array with one that no NULs end.
 fn compare_with(
@@ -79,6 +83,42 @@ fn compare_once(
     spread(alloc, &made, &layout.shape)
 }
 
+/// Bytes and the NULs that they lack.
+fn filled_up(alloc: Global, width: BytesLen, bytes: &[u8]) -> Result<RawBlock, AllocError>
+    requires { length bytes.now ≤ width }
+    ensures len { IfOk result (λ b. length b ≡ width) }
+    ensures same { IfOk result (λ b. without_nuls b ≡ without_nuls bytes.now) }
+{
+    let width = width.get();
+    let mut block = BlockBuilder::try_new(alloc, width)?;
+    block.push_bytes(bytes);
+    block.push_zeros(width - bytes.len());
+    Ok(block.finish())
+}
+
+/// A comparison of the byte strings of an array with one that they can hold.
+fn compare_with_item(
+    alloc: Global,
+    comparison: Comparison,
+    width: BytesLen,
+    operand: Items<'_>,
+    bytes: &[u8],
+) -> Result<Owned, Refusal>
+    requires from { operand.descr.now ≡ ScalarDescr (Bytes width) }
+    requires held { length bytes.now ≤ width }
+    ensures made { IfOk result (IsMade (ScalarDescr BoolScalar) operand.entry.layout.now.shape (map (λ offset. compared_item comparison (item_from operand.entry.descr.now operand.entry.block.now offset) (text (without_nuls bytes.now) ∷ [])) (offsets operand.entry.layout.now))) }
+    ensures refused { IfErr result (λ refusal. refusal ≡ OutOfMemory) }
+{
+    let block = filled_up(alloc, width, bytes)?;
+    let item = one_item(alloc, &Scalar::Bytes(width), block)?;
+    let both = Broadcast {
+        left: operand,
+        right: item.items(),
+        shape: &operand.layout.shape,
+    };
+    compared::compare_once(alloc, comparison, both)
+}
+
 /// What a comparison says of the byte strings of an array and of bytes, which may be more than an item
 /// has, as bools in a block of their own in C order. NULs at the end of the bytes do not count. Refused
 /// are records and numbers, as `NotForThisKind`.
@@ -98,5 +138,8 @@ pub fn compare_bytes(
     let Scalar::Bytes(width) = from else {
         return Err(Refusal::NotForThisKind);
     };
+    if bytes.len() <= width.get() {
+        return compare_with_item(alloc, comparison, width, operand, bytes);
+    }
     compare_once(alloc, comparison, width, operand, without_nuls(bytes))
 }

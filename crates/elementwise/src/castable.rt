@@ -1,4 +1,4 @@
-//! Which casts there are.
+//! Which casts exist.
 ghost use Rattle.std.specs.Prelude.{◌≡◌};
 ghost use Rattle.std.specs.List.{list_all};
 ghost use Rattle.elem_descr.specs.Descriptors.{listed};

@@ -10,8 +10,8 @@ ghost use Rattle.elem_descr.specs.Blocks.{item_from};
 ghost use Rattle.elem_descr.specs.Refusals.{Gives};
 ghost use Rattle.shape_strides.specs.declared.memory_order.MemoryOrder.TheVariants.{C};
 ghost use Rattle.shape_strides.specs.Layouts.{offsets};
-ghost use Rattle.overlap_copy.specs.Blocks.{offsets_in};
-ghost use Rattle.overlap_copy.specs.ItemLists.{owned_items};
+ghost use Rattle.arrays.specs.Blocks.{offsets_in};
+ghost use Rattle.arrays.specs.ItemLists.{owned_items};
 ghost use Rattle.elementwise.specs.Results.{compared_result, compared_item, stretched_items, pairwise};
 ghost use Rattle.elementwise.specs.inside.Works.{AreComparable, IsComparing};
 ghost use Rattle.elementwise.specs.inside.Held.{stretched};
@@ -26,10 +26,10 @@ use crate::shrunk::{spread, without_repeats};
 use crate::text_pairs::ComparingTexts;
 use crate::trimmed::trimmed_in;
 use crate::typed::{make_cast, stretched_to};
+use arrays::{Items, Owned};
 use broadcasting::{common, repeats};
 use elem_descr::{Descr, Refusal, Scalar};
 use machine_numbers::{Comparison, is_signed, little};
-use overlap_copy::{Items, Owned};
 use std::alloc::Global;
 
 /// How numbers of two scalars are compared: as those of the smallest scalar that holds both, and where there
@@ -95,8 +95,8 @@ fn compare_texts(
 {
     let Broadcast { left, right, shape } = both;
     let _items = shape.items();
-    let width = trimmed_in(alloc, left, texts.width, shape)?;
-    let other_width = trimmed_in(alloc, right, texts.other_width, shape)?;
+    let width = trimmed_in(alloc, left, texts.width, texts.other_width, shape)?;
+    let other_width = trimmed_in(alloc, right, texts.other_width, texts.width, shape)?;
     let cut = Pairing::Texts(ComparingTexts {
         comparison: texts.comparison,
         width,

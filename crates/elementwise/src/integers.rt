@@ -1,5 +1,5 @@
 //! Comparisons of all items of arrays of numbers with one integer.
-ghost use Rattle.std.specs.Prelude.{◌≡◌, ◌≢◌, [], ◌∷◌, length, map, replicate, if◌then◌else◌, IfOk, IfErr};
+ghost use Rattle.std.specs.Prelude.{◌≡◌, ◌≢◌, ◌≤◌, [], ◌∷◌, length, map, replicate, if◌then◌else◌, IfOk, IfErr};
 ghost use Rattle.std.specs.List.{flat_map};
 ghost use Rattle.elem_descr.specs.declared.refusal.Refusal.TheVariants.{OutOfMemory};
 ghost use Rattle.elem_descr.specs.declared.descr.Descr.TheVariants.{Scalar as ScalarDescr};
@@ -10,10 +10,11 @@ ghost use Rattle.elem_descr.specs.Blocks.{item_from};
 ghost use Rattle.elem_descr.specs.Refusals.{Gives};
 ghost use Rattle.elem_descr.specs.Values.{number};
 ghost use Rattle.shape_strides.specs.declared.memory_order.MemoryOrder.TheVariants.{C};
+ghost use Rattle.shape_strides.specs.Limits.{max_bytes};
 ghost use Rattle.shape_strides.specs.Indexes.{count};
 ghost use Rattle.shape_strides.specs.Layouts.{offsets};
-ghost use Rattle.overlap_copy.specs.Blocks.{offsets_in};
-ghost use Rattle.overlap_copy.specs.ItemLists.{owned_items};
+ghost use Rattle.arrays.specs.Blocks.{offsets_in};
+ghost use Rattle.arrays.specs.ItemLists.{owned_items};
 ghost use Rattle.machine_numbers.specs.Kinds.{little};
 ghost use Rattle.elementwise.specs.Results.{integer_compared_result, compared_item, truth_item};
 ghost use Rattle.elementwise.specs.inside.Made.{IsMade};
@@ -22,9 +23,9 @@ use crate::compared::compare_once;
 use crate::comparing::says;
 use crate::operands::{Broadcast, note_bytes};
 use crate::promotion::scalar_of;
+use arrays::{Items, Owned};
 use elem_descr::{Descr, Refusal, Scalar, is_value, num_write};
 use machine_numbers::{Comparison, is_text, little};
-use overlap_copy::{Items, Owned};
 use raw_block::RawBlock;
 use shape_strides::{MemoryOrder, Shape};
 use std::alloc::{AllocError, Global};
@@ -40,16 +41,16 @@ fn number_block(alloc: Global, scalar: &Scalar, integer: i128) -> Result<RawBloc
     Ok(block)
 }
 
-/// A number as an array of one item without axes.
-fn one_item(alloc: Global, scalar: &Scalar, integer: i128) -> Result<Owned, Refusal>
-    requires number { IsNumber scalar.now }
+/// A value as an array of one item without axes, over its bytes.
+pub(crate) fn one_item(alloc: Global, scalar: &Scalar, block: RawBlock) -> Result<Owned, Refusal>
+    requires whole { length block ≡ size scalar.now }
+    requires small { length block ≤ max_bytes }
     ensures descr { IfOk result (λ o. o.descr ≡ ScalarDescr scalar.now) }
     ensures shape { IfOk result (λ o. o.layout.shape ≡ []) }
-    ensures items { IfOk result (λ o. owned_items o ≡ (number (wrap scalar.now integer) ∷ []) ∷ []) }
+    ensures items { IfOk result (λ o. owned_items o ≡ (decode scalar.now block ∷ []) ∷ []) }
     ensures refused { IfErr result (λ refusal. refusal ≡ OutOfMemory) }
 {
     let shape = Shape::try_new(alloc, &[])?;
-    let block = number_block(alloc, scalar, integer)?;
     let descr = Descr::Scalar(*scalar);
     let owned = Owned::over(alloc, descr, &shape, MemoryOrder::C, block)?;
     Ok(owned)
@@ -69,7 +70,9 @@ fn compare_with_value(
     ensures made { IfOk result (IsMade (ScalarDescr BoolScalar) operand.entry.layout.now.shape (map (λ offset. compared_item comparison (item_from operand.entry.descr.now operand.entry.block.now offset) (number integer ∷ [])) (offsets operand.entry.layout.now))) }
     ensures refused { IfErr result (λ refusal. refusal ≡ OutOfMemory) }
 {
-    let item = one_item(alloc, &little(from), integer)?;
+    let scalar = little(from);
+    let block = number_block(alloc, &scalar, integer)?;
+    let item = one_item(alloc, &scalar, block)?;
     let both = Broadcast {
         left: operand,
         right: item.items(),

@@ -1,4 +1,4 @@
-//! Passes over pairs of numbers: what a kernel makes of them is pushed.
+//! Passes over pairs of numbers, which push the results of a kernel.
 ghost use Rattle.std.specs.Prelude.{◌≡◌, ◌+◌, ◌*◌, ◌≤◌, ◌++◌, ℤ};
 ghost use Rattle.elem_descr.specs.Items.{item_size};
 ghost use Rattle.raw_block.specs.Bytes.{joined};
@@ -44,7 +44,7 @@ fn push_each<K: Kernel<A, B, T>, A: Number, B: Number, T: Number, O: Ordered, Q:
 
 /// A kernel over numbers that are read in a byte order, and pushed in one.
 #[derive_where(Clone, Copy)]
-struct Numbers<K, A, B, T, O, Q>(PhantomData<(K, A, B, T, O, Q)>);
+pub(crate) struct Numbers<K, A, B, T, O, Q>(pub(crate) PhantomData<(K, A, B, T, O, Q)>);
 
 impl<K: Kernel<A, B, T>, A: Number, B: Number, T: Number, O: Ordered, Q: Ordered> Pass
     for Numbers<K, A, B, T, O, Q> {

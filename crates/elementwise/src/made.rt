@@ -1,10 +1,10 @@
-//! Arrays of what is made of pairs of items: row by row, or column by column where these lie nearer.
+//! Arrays of the results of pairs of items: row by row, or by columns where these lie closer together.
 ghost use Rattle.std.specs.Prelude.{◌≡◌, [], ◌∷◌, ◌*◌, ◌≤◌, IfOk, IfErr, IfSome};
 ghost use Rattle.elem_descr.specs.declared.refusal.Refusal.TheVariants.{OutOfMemory};
 ghost use Rattle.elem_descr.specs.declared.descr.Descr.TheVariants.{Scalar as ScalarDescr};
 ghost use Rattle.elem_descr.specs.Encoding.{size};
 ghost use Rattle.shape_strides.specs.Limits.{max_bytes};
-ghost use Rattle.overlap_copy.specs.ItemLists.{items};
+ghost use Rattle.arrays.specs.ItemLists.{items};
 ghost use Rattle.elementwise.specs.Results.{pairwise, value_in};
 ghost use Rattle.elementwise.specs.inside.Made.{IsMade, IsTurned};
 ghost use Rattle.elementwise.specs.inside.Operands.{pairs_of};
@@ -13,8 +13,8 @@ ghost use Rattle.elementwise.specs.inside.Works.{left_of, right_of, target_of, g
 use crate::operands::Layouts;
 use crate::pairing::Pairing;
 use crate::rows::Operands;
+use arrays::{Items, Owned, gather};
 use elem_descr::{Descr, Refusal};
-use overlap_copy::{Items, Owned, gather};
 use raw_block::BlockBuilder;
 use shape_strides::{Layout, MemoryOrder, Rows};
 use std::alloc::{AllocError, Global};

@@ -3,9 +3,9 @@ ghost use Rattle.std.specs.Prelude.{◌≡◌, ℕ, ◌<◌, slice_index_or, IsT
 ghost use Rattle.broadcasting.specs.Broadcasts.{can_stretch};
 ghost use Rattle.machine_numbers.specs.Kinds.{little};
 
+use arrays::Items;
 use elem_descr::{Descr, Scalar};
 use machine_numbers::little;
-use overlap_copy::Items;
 use raw_block::RawBlock;
 use shape_strides::{Layout, Shape};
 

@@ -1,5 +1,5 @@
-//! Work on operands of numbers, at the type that their scalar names, and which kernel does it. Each operation is done on
-//! the lowest 64 bits, of which a number keeps its own.
+//! Work on operands of numbers in the type that their scalar names, and which kernel does it. Each operation is done on
+//! the lowest 64 bits, and a number keeps as many as its type has.
 ghost use Rattle.std.specs.Prelude.{◌≡◌, ◌+◌, ◌*◌, ◌≤◌, ◌++◌, true, ◌-ℤ◌};
 ghost use Rattle.elem_descr.specs.declared.scalar.Order.TheVariants.{Little};
 ghost use Rattle.elem_descr.specs.Encoding.{size, integer, wrap};
@@ -14,12 +14,14 @@ ghost use Rattle.elementwise.specs.inside.Works.{target, meaning, IsWork};
 use crate::bits;
 use crate::casting::cast;
 use crate::comparing::compare;
+use crate::dividing::Quotients;
 use crate::kernels::{Kernel, push_made};
 use crate::pairing::Work;
 use crate::rows::Operands;
 use elem_descr::Scalar;
 use machine_numbers::{BinOp, LowFirst, Number, NumberTask, Ordered, UnOp, is_bool, is_text};
 use raw_block::BlockBuilder;
+use std::marker::PhantomData;
 
 struct Adding;
 
@@ -54,7 +56,7 @@ impl<N: Number> Kernel<N, N, N> for Multiplying {
     }
 }
 
-struct Dividing;
+pub(crate) struct Dividing;
 
 impl<N: Number> Kernel<N, N, N> for Dividing {
     ghost makes = { binary FloorDivide (N.scalar Little) };
@@ -171,7 +173,7 @@ impl<'a, 'b> NumberTask for Working<'a, 'b> {
                 BinOp::Add => push_made::<Adding, N, N, N, O, LowFirst>(block, operands),
                 BinOp::Subtract => push_made::<Subtracting, N, N, N, O, LowFirst>(block, operands),
                 BinOp::Multiply => push_made::<Multiplying, N, N, N, O, LowFirst>(block, operands),
-                BinOp::FloorDivide => push_made::<Dividing, N, N, N, O, LowFirst>(block, operands),
+                BinOp::FloorDivide => { operands.push_all(&Quotients::<N, O>(PhantomData), block) }
                 BinOp::Modulo => push_made::<LeavingRests, N, N, N, O, LowFirst>(block, operands),
                 BinOp::And => push_made::<KeepingBoth, N, N, N, O, LowFirst>(block, operands),
                 BinOp::Or => push_made::<KeepingEither, N, N, N, O, LowFirst>(block, operands),

@@ -1,4 +1,4 @@
-//! What is made of the items of two operands, pair by pair.
+//! Combines the items of two operands, pair by pair.
 ghost use Rattle.std.specs.Prelude.{◌≡◌, ◌+◌, ◌*◌, ◌≤◌, ◌++◌};
 ghost use Rattle.elem_descr.specs.Encoding.{size};
 ghost use Rattle.elem_descr.specs.Items.{item_size};
@@ -9,6 +9,7 @@ use crate::operations::Working;
 use crate::promotion::eight_bytes;
 use crate::rows::Operands;
 use crate::text_pairs::{ComparingTexts, ComparingWith, Cutting};
+use crate::text_words::push_texts;
 use elem_descr::{BytesLen, Scalar};
 use machine_numbers::{BinOp, Comparison, LowFirst, UnOp, is_bool, little, on_number};
 use raw_block::BlockBuilder;
@@ -123,7 +124,7 @@ impl<'a> Pairing<'a> {
                 comparison,
                 left_signed: false,
             } => compare::<u64, i64, LowFirst>(*comparison, block, operands),
-            Pairing::Texts(texts) => operands.push_all(texts, block),
+            Pairing::Texts(texts) => push_texts(texts, block, operands),
             Pairing::With {
                 comparison,
                 other,

@@ -1,13 +1,19 @@
-//! What is made of the items of two operands, row by row.
-ghost use Rattle.std.specs.Prelude.{◌≡◌, ◌+◌, ◌*◌, ◌≤◌, ◌++◌, ℕ, List};
+//! Combines the items of two operands, row by row.
+ghost use Rattle.std.specs.Prelude.{◌≡◌, ◌+◌, ◌*◌, ◌≤◌, ◌++◌, ℕ, List, length, IfSome};
+ghost use Rattle.std.specs.List.{concat};
 ghost use Rattle.elem_descr.specs.Items.{item_size};
-ghost use Rattle.raw_block.specs.Bytes.{joined};
+ghost use Rattle.raw_block.specs.Bytes.{joined, EachWithin};
+ghost use Rattle.shape_strides.specs.Layouts.{offsets};
+ghost use Rattle.shape_strides.specs.Runs.{run_offsets};
+ghost use Rattle.arrays.specs.RunLaws.{BeginsWithin};
+ghost use Rattle.elementwise.specs.Results.{pairwise};
+ghost use Rattle.elementwise.specs.inside.PairPasses.{pair_from};
 
 use crate::sides::Pairs;
+use arrays::Items;
 use machine_numbers::Side;
-use overlap_copy::Items;
 use raw_block::BlockBuilder;
-use shape_strides::RunPairs;
+use shape_strides::{RunPair, RunPairs};
 
 /// The items of two arrays of one shape.
 #[derive(Clone, Copy, Drop)]
@@ -43,6 +49,44 @@ pub(crate) trait Pass {
 impl<'a, 'b> Operands<'a, 'b> {
     ghost use Rattle.elementwise.specs.inside.Operands.{pairs_of, made_of_all};
 
+    /// The row that all pairs of items make, if they make one.
+    fn as_row(self) -> Option<RunPair>
+        ensures first { IfSome result (λ row. run_offsets row.first ≡ offsets self.entry.left.layout.now) }
+        ensures second { IfSome result (λ row. run_offsets row.second ≡ offsets self.entry.right.layout.now) }
+        ensures first_lies { IfSome result (λ row. BeginsWithin row.first) }
+        ensures second_lies { IfSome result (λ row. BeginsWithin row.second) }
+    {
+        let first = self.left.layout.as_one_run()?;
+        let second = self.right.layout.as_one_run()?;
+        Some(RunPair { first, second })
+    }
+
+    /// Pushes what is made of each pair of items of a row.
+    fn push_row<P: Pass>(self, pass: &P, block: BlockBuilder, row: RunPair) -> BlockBuilder
+        requires reads { P.Reads pass.now (item_size self.left.descr.now) (item_size self.right.descr.now) }
+        requires room { row.first.count * P.width pass.now ≤ block.1 }
+        requires even { row.first.count ≡ row.second.count }
+        requires first { EachWithin (length self.left.block.now) row.first.offset row.first.step (item_size self.left.descr.now) row.first.count }
+        requires second { EachWithin (length self.right.block.now) row.second.offset row.second.step (item_size self.right.descr.now) row.second.count }
+        ensures bytes { result.0 ≡ block.0 ++ concat (pairwise (pair_from (P.makes pass.now) (item_size self.entry.left.descr.now) (item_size self.entry.right.descr.now) self.entry.left.block.now self.entry.right.block.now) (run_offsets row.first) (run_offsets row.second)) }
+        ensures left { row.first.count * P.width pass.now + result.1 ≡ block.1 }
+    {
+        let _filled = block.filled();
+        let pairs = Pairs {
+            left: Side {
+                bytes: self.left.block.bytes(),
+                run: row.first,
+                width: self.left.descr.size(),
+            },
+            right: Side {
+                bytes: self.right.block.bytes(),
+                run: row.second,
+                width: self.right.descr.size(),
+            },
+        };
+        pass.push_row(block, pairs)
+    }
+
     /// Pushes what is made of each pair of items, in C order. The block is moved into each row and back.
     pub(crate) fn push_all<P: Pass>(self, pass: &P, block: BlockBuilder) -> BlockBuilder
         requires reads { P.Reads pass.now (item_size self.left.descr.now) (item_size self.right.descr.now) }
@@ -50,26 +94,12 @@ impl<'a, 'b> Operands<'a, 'b> {
         ensures bytes { result.0 ≡ block.0 ++ made_of_all (P.makes pass.now) self.entry }
         ensures left { pairs_of self.entry * P.width pass.now + result.1 ≡ block.1 }
     {
+        if let Some(row) = self.as_row() {
+            return self.push_row(pass, block, row);
+        }
         let mut block = block;
-        let _filled = block.filled();
-        let left = self.left.block.bytes();
-        let left_width = self.left.descr.size();
-        let right = self.right.block.bytes();
-        let right_width = self.right.descr.size();
         for row in RunPairs::new(self.left.layout, self.right.layout) {
-            let pairs = Pairs {
-                left: Side {
-                    bytes: left,
-                    run: row.first,
-                    width: left_width,
-                },
-                right: Side {
-                    bytes: right,
-                    run: row.second,
-                    width: right_width,
-                },
-            };
-            block = pass.push_row(block, pairs);
+            block = self.push_row(pass, block, row);
         }
         block
     }

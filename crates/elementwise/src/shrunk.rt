@@ -1,4 +1,4 @@
-//! Operands whose items repeat: what is made of the items that differ, stretched.
+//! Operands whose items repeat: combines the distinct items, and broadcasts the result.
 ghost use Rattle.std.specs.Prelude.{◌≡◌, IfOk, IfErr, IsTrue};
 ghost use Rattle.elem_descr.specs.declared.refusal.Refusal.TheVariants.{OutOfMemory};
 ghost use Rattle.elem_descr.specs.declared.descr.Descr.TheVariants.{Scalar as ScalarDescr};
@@ -10,9 +10,9 @@ ghost use Rattle.elementwise.specs.inside.Made.{IsMade};
 
 use crate::casts::cast_scalars;
 use crate::typed::stretched_to;
+use arrays::{Items, Owned};
 use broadcasting::{shrink, shrunk_shape};
 use elem_descr::{Refusal, Scalar};
-use overlap_copy::{Items, Owned};
 use shape_strides::{Layout, Shape};
 use std::alloc::Global;
 

@@ -1,4 +1,4 @@
-//! Byte strings without the NULs that end all of them.
+//! Byte strings without the trailing NULs that all of them have.
 ghost use Rattle.std.specs.Prelude.{◌≡◌, ◌+◌, ◌≤◌, length, All, IfOk, IfErr, IsTrue};
 ghost use Rattle.elem_descr.specs.declared.refusal.Refusal.TheVariants.{OutOfMemory};
 ghost use Rattle.elem_descr.specs.declared.descr.Descr.TheVariants.{Scalar as ScalarDescr};
@@ -9,9 +9,9 @@ ghost use Rattle.shape_strides.specs.Layouts.{offsets};
 
 use crate::shrunk::without_repeats;
 use crate::text_comparing::without_nuls;
+use arrays::Items;
 use broadcasting::repeats;
 use elem_descr::{BytesLen, Refusal};
-use overlap_copy::Items;
 use shape_strides::{Layout, Shape, Walk};
 use std::alloc::Global;
 
@@ -43,11 +43,13 @@ fn trimmed(alloc: Global, items: Items<'_>, width: BytesLen) -> Result<BytesLen,
     Ok(BytesLen::try_new(most).unwrap())
 }
 
-/// The same where the array shows more places in a shape than it has items; else the length that it has.
+/// The same where the array shows more places in a shape than it has items, and is compared with byte strings
+/// of another length; else the length that it has.
 pub(crate) fn trimmed_in(
     alloc: Global,
     items: Items<'_>,
     width: BytesLen,
+    other_width: BytesLen,
     shape: &Shape,
 ) -> Result<BytesLen, Refusal>
     requires { items.descr.now ≡ ScalarDescr (Bytes width) }
@@ -55,7 +57,8 @@ pub(crate) fn trimmed_in(
     ensures same { IfOk result (λ n. All (λ offset. without_nuls (item_at offset n items.entry.block.now) ≡ without_nuls (item_at offset width items.entry.block.now)) (offsets items.entry.layout.now)) }
     ensures refused { IfErr result (λ refusal. refusal ≡ OutOfMemory) }
 {
-    if repeats(items.layout) || items.layout.shape.items() < shape.items() {
+    let shown_again = repeats(items.layout) || items.layout.shape.items() < shape.items();
+    if shown_again && width.get() != other_width.get() {
         return trimmed(alloc, items, width);
     }
     Ok(width)

@@ -1,4 +1,4 @@
-//! Operands that are cast and stretched, and what is made of them.
+//! Casts and broadcasts operands, and combines them.
 ghost use Rattle.std.specs.Prelude.{◌≡◌, [], ◌∷◌, ◌≤◌, true, map, IfOk, IfErr, IsTrue};
 ghost use Rattle.elem_descr.specs.declared.refusal.Refusal.TheVariants.{OutOfMemory};
 ghost use Rattle.elem_descr.specs.declared.descr.Descr.TheVariants.{Scalar as ScalarDescr};
@@ -7,7 +7,7 @@ ghost use Rattle.elem_descr.specs.Items.{item_size};
 ghost use Rattle.broadcasting.specs.Broadcasts.{can_stretch};
 ghost use Rattle.elementwise.specs.Casts.{can_cast, cast_item};
 ghost use Rattle.elementwise.specs.Results.{pairwise, value_in};
-ghost use Rattle.elementwise.specs.inside.Held.{stretched};
+ghost use Rattle.elementwise.specs.inside.Held.{stretched, fitted_layout};
 ghost use Rattle.elementwise.specs.inside.Made.{IsMade};
 ghost use Rattle.elementwise.specs.inside.Shrunk.{IsStretched};
 ghost use Rattle.elementwise.specs.inside.Works.{left_of, right_of, target_of, gives, CanPair};
@@ -17,9 +17,9 @@ use crate::casts::cast;
 use crate::made::made;
 use crate::pairing::Pairing;
 use crate::rows::Operands;
+use arrays::{Items, Owned};
 use broadcasting::stretch;
 use elem_descr::{Descr, Refusal};
-use overlap_copy::{Items, Owned};
 use shape_strides::{Layout, Shape};
 use std::alloc::Global;
 
@@ -31,7 +31,7 @@ pub(crate) enum Held<'a> {
 }
 
 impl<'a> Held<'a> {
-    ghost use Rattle.overlap_copy.specs.ItemLists.{items};
+    ghost use Rattle.arrays.specs.ItemLists.{items};
     ghost use Rattle.elementwise.specs.inside.Held.{held_items, held_descr, held_shape};
 
     /// Items as those of a small element type: where they lie, if a cast leaves them as they are.
@@ -76,6 +76,35 @@ pub(crate) fn stretched_to(alloc: Global, layout: &Layout, shape: &Shape) -> Res
     stretch(alloc, layout, shape)
 }
 
+/// A layout that has a shape already, or is stretched to it.
+#[derive(Drop)]
+pub(crate) enum Fitted<'a> {
+    Same(&'a Layout),
+    Made(Layout),
+}
+
+impl<'a> Fitted<'a> {
+    fn to(alloc: Global, layout: &'a Layout, shape: &Shape) -> Result<Fitted<'a>, Refusal>
+        requires { IsTrue (can_stretch layout.now.shape shape.now) }
+        ensures stretched { IfOk result (λ fitted. IsStretched (fitted_layout fitted) layout.now shape.now) }
+        ensures refused { IfErr result (λ refusal. refusal ≡ OutOfMemory) }
+    {
+        if layout.shape.as_slice() == shape.as_slice() {
+            return Ok(Fitted::Same(layout));
+        }
+        Ok(Fitted::Made(stretched_to(alloc, layout, shape)?))
+    }
+
+    fn layout(&self) -> &Layout
+        ensures { result.now ≡ fitted_layout self.now }
+    {
+        match self {
+            Fitted::Same(layout) => layout,
+            Fitted::Made(layout) => layout,
+        }
+    }
+}
+
 /// What is made of the items of two arrays that are cast, and then stretched.
 pub(crate) fn make_cast(
     alloc: Global,
@@ -100,17 +129,17 @@ pub(crate) fn make_cast(
     let right_held = Held::of(alloc, right, &right_to)?;
     let left = left_held.items();
     let right = right_held.items();
-    let first = stretched_to(alloc, left.layout, shape)?;
-    let second = stretched_to(alloc, right.layout, shape)?;
+    let first = Fitted::to(alloc, left.layout, shape)?;
+    let second = Fitted::to(alloc, right.layout, shape)?;
     let operands = Operands {
         left: Items {
             block: left.block,
-            layout: &first,
+            layout: first.layout(),
             descr: left.descr,
         },
         right: Items {
             block: right.block,
-            layout: &second,
+            layout: second.layout(),
             descr: right.descr,
         },
     };

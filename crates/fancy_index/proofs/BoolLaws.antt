@@ -1,52 +1,119 @@
--- Bools that lie one right after another.
-use Rattle.std.proofs.Common.{◌≡◌, ℕ, zero, suc, ◌+◌, ◌-◌, ◌*◌, ◌<◌, ◌≤◌, List, [], ◌∷◌, map, length, get_or, take, drop, All, refl, sym, ap, ◌∙◌, arith, length-drop, length-take-le}
-use Rattle.std.proofs.lemmas.List.{same_lists, get_or-map, length-map, get_or-drop}
+-- The ranks at which bools are true.
+use Rattle.std.proofs.Common.{◌≡◌, ◌⊎◌, inl, inr, ℕ, zero, suc, ◌+◌, ◌*◌, ◌<◌, ◌≤◌, true, false, List, [], ◌∷◌, ◌++◌, map, length, get_or, set, take, drop, refl, sym, ap, ◌∙◌, arith, append_assoc}
+use Rattle.std.specs.List.{flat_map}
+use Rattle.std.specs.Ordering.{int_eq}
+use Rattle.std.proofs.lemmas.List.{get_or-map, length-map, get_or-drop, drop_more, map-append, take-set, take_more_set}
+use lib.IntN.{ℤ, pos}
 use Rattle.elem_descr.specs.declared.descr.Descr.{Descr}
-use Rattle.elem_descr.specs.declared.descr.Descr.TheVariants.{Scalar as ScalarDescr}
-use Rattle.elem_descr.specs.declared.scalar.Scalar.TheVariants.{Bool as BoolScalar}
+use Rattle.elem_descr.specs.declared.descr.Descr.TheVariants.{Scalar as ScalarDescr, Record as RecordDescr}
+use Rattle.elem_descr.specs.declared.scalar.Scalar.TheVariants.{Bool as BoolScalar, Byte, Int, Bytes}
+use Rattle.elem_descr.specs.Encoding.{truth}
+use Rattle.shape_strides.specs.declared.runs.Run.{Run}
+use Rattle.shape_strides.specs.Runs.{run_offsets}
+use Rattle.shape_strides.specs.WalkLaws.{length-run_offsets}
+use Rattle.fancy_index.specs.declared.kind.Kind.TheVariants.{Mask}
+use Rattle.fancy_index.specs.IndexArrays.{kind_of, axes_of_kind}
 use Rattle.fancy_index.specs.Sources.{number_from}
-use Rattle.fancy_index.specs.inside.Words.{bool_number}
-use Rattle.overlap_copy.specs.Packed.{row_offsets as packed}
-use Rattle.overlap_copy.specs.PackedLaws.{length-row as length-packed}
-use Rattle.fancy_index.proofs.RunLaws.{packed-entry}
+use Rattle.fancy_index.specs.declared.bools.Bools.{Bools}
+use Rattle.fancy_index.specs.inside.Bools.{bool_at, bools_in}
+use Rattle.fancy_index.specs.inside.PointLists.{true_ranks}
 
-pub bools-end : (at n len : ℕ) (offsets : List ℕ) → 1 ≤ n → offsets ≡ packed at 1 n → All (λ offset. offset + 1 ≤ len) offsets → at + n ≤ len
-bools-end at n len offsets some is within =
-    omega (arith, within (n - 1) 0 (omega (arith, ap length is, length-packed at 1 n)), ap (λ l. get_or l (n - 1) 0) is, packed-entry at 1 n (n - 1) (omega arith))
+-- ---- the bools of a mask
+
+pub mask-bool : (descr : Descr) (shape : List ℕ) → kind_of descr shape ≡ Mask → descr ≡ ScalarDescr BoolScalar
+mask-bool (ScalarDescr BoolScalar) shape is = refl
+mask-bool (ScalarDescr (Byte signed)) shape is = absurd (omega (arith, ap (λ k. axes_of_kind k []) is))
+mask-bool (ScalarDescr (Int signed width order)) shape is = absurd (omega (arith, ap (λ k. axes_of_kind k []) is))
+mask-bool (ScalarDescr (Bytes n)) shape is = absurd (omega (arith, ap (λ k. axes_of_kind k []) is))
+mask-bool (RecordDescr record') shape is = absurd (omega (arith, ap (λ k. axes_of_kind k []) is))
 
 first-byte : (xs : List ℕ) → get_or (take 1 xs) 0 0 ≡ get_or xs 0 0
 first-byte [] = refl
 first-byte (x ∷ xs) = refl
 
-number-bool : (descr : Descr) (block : List ℕ) (offset : ℕ) → descr ≡ ScalarDescr BoolScalar → number_from descr block offset ≡ bool_number (get_or block offset 0)
+number-bool : (descr : Descr) (block : List ℕ) (offset : ℕ) → descr ≡ ScalarDescr BoolScalar → number_from descr block offset ≡ bool_at block offset
 number-bool descr block offset is =
     let here : get_or (take 1 (take 1 (drop offset block))) 0 0 ≡ get_or block offset 0 =
     first-byte (take 1 (drop offset block)) ∙ first-byte (drop offset block) ∙ get_or-drop offset block 0 0 ∙ ap (λ k. get_or block k 0) (omega arith) in
     let number : get_or (take 1 (take 1 (drop offset block))) 0 0 + 256 * 0 ≡ get_or block offset 0 = omega (arith, here) in
-    ap (λ d. number_from d block offset) is ∙ ap bool_number number
+    ap (λ d. number_from d block offset) is ∙ ap (λ n. pos (truth n)) number
 
--- the numbers are those of the bytes
-pub bools-are : (descr : Descr) (block : List ℕ) (at n : ℕ) (offsets bytes : List ℕ) → descr ≡ ScalarDescr BoolScalar → offsets ≡ packed at 1 n → at + n ≤ length block → bytes ≡ take n (drop at block) →
-    map bool_number bytes ≡ map (number_from descr block) offsets
-bools-are descr block at n offsets bytes is lie room cut =
-    same_lists (map bool_number bytes) (map (number_from descr block) offsets)
-    (length-map bytes bool_number ∙ many ∙ sym (length-map offsets (number_from descr block) ∙ ap length lie ∙ length-packed at 1 n)) (λ k d below.
-    let low : k < n = omega (arith, below, length-map bytes bool_number, many) in
-    let inside : k < length offsets = omega (arith, low, ap length lie, length-packed at 1 n) in
-    let place : at + k ≡ at + 1 * k = omega arith in
-    get_or-map bool_number bytes k 0 d (omega (arith, low, many))
-    ∙ ap bool_number (ap (λ l. get_or l k 0) cut ∙ taken n (drop at block) k low ∙ get_or-drop at block k 0 ∙ ap (λ j. get_or block j 0) place)
-    ∙ sym (get_or-map (number_from descr block) offsets k 0 d inside
-    ∙ ap (number_from descr block) (ap (λ l. get_or l k 0) lie ∙ packed-entry at 1 n k low)
-    ∙ number-bool descr block (at + 1 * k) is))
+pub numbers-are : (descr : Descr) (block offsets : List ℕ) → descr ≡ ScalarDescr BoolScalar → map (number_from descr block) offsets ≡ map (bool_at block) offsets
+numbers-are descr block offsets is = λ i. map (λ offset. number-bool descr block offset is i) offsets
+
+-- ---- their ranks
+
+rank-step : (number : ℤ) (numbers : List ℤ) (rank : ℕ) → (true_ranks rank (number ∷ numbers) ≡ true_ranks rank (number ∷ []) ++ true_ranks (rank + 1) numbers)
+rank-step number numbers rank = by (int_eq number (pos 0)) refl
   where
-    many : length bytes ≡ n
-    many = ap length cut ∙ length-take-le n (drop at block) (omega (arith, room, length-drop at block))
+    by : (zero' : _) → int_eq number (pos 0) ≡ zero' → true_ranks rank (number ∷ numbers) ≡ true_ranks rank (number ∷ []) ++ true_ranks (rank + 1) numbers
+    by true is = rw is refl
+    by false is = rw is refl
 
-    taken : (m : ℕ) (xs : List ℕ) (k : ℕ) → k < m → get_or (take m xs) k 0 ≡ get_or xs k 0
-    taken zero xs k low = absurd (omega arith)
-    taken (suc m) [] k low = refl
-    taken (suc m) (x ∷ xs) zero low = refl
-    taken (suc m) (x ∷ xs) (suc k) low = taken m xs k (omega arith)
+pub true_ranks-append : (front back : List ℤ) (rank : ℕ) → true_ranks rank (front ++ back) ≡ true_ranks rank front ++ true_ranks (rank + length front) back
+true_ranks-append [] back rank = ap (λ r. true_ranks r back) (omega arith)
+true_ranks-append (number ∷ front) back rank =
+    let here = true_ranks rank (number ∷ []) in
+    let next : rank + 1 + length front ≡ rank + length (number ∷ front) = omega arith in
+    rank-step number (front ++ back) rank
+    ∙ ap (λ l. here ++ l) (true_ranks-append front back (rank + 1))
+    ∙ sym (append_assoc here (true_ranks (rank + 1) front) (true_ranks (rank + 1 + length front) back))
+    ∙ (λ i. sym (rank-step number front rank) i ++ true_ranks (next i) back)
 
--- ---- the ranks
+-- ---- a loop over bools
+
+either : (t : ℕ) → t ≤ 1 → (t ≡ 0) ⊎ (t ≡ 1)
+either zero few = inl refl
+either (suc n) few = inr (omega (arith, few))
+
+-- the rank of one more is written, and stays if it is true
+pub noted : (numbers : List ℤ) (found whole : List ℕ) (rank many k t : ℕ) → t ≤ 1 → k < length numbers → many < length found → get_or numbers k (pos 0) ≡ pos t →
+    take many found ++ true_ranks (rank + k) (drop k numbers) ≡ whole → take (many + t) (set found many (rank + k)) ++ true_ranks (rank + (k + 1)) (drop (k + 1) numbers) ≡ whole
+noted numbers found whole rank many k t few low room is so_far =
+    let rest = true_ranks (rank + (k + 1)) (drop (k + 1) numbers) in
+    let next : rank + k + 1 ≡ rank + (k + 1) = omega arith in
+    let split : true_ranks (rank + k) (drop k numbers) ≡ true_ranks (rank + k) (pos t ∷ []) ++ rest =
+    ap (true_ranks (rank + k)) (drop_more numbers k (pos 0) low ∙ ap (λ n. n ∷ drop (k + 1) numbers) is)
+    ∙ rank-step (pos t) (drop (k + 1) numbers) (rank + k) ∙ ap (λ r. true_ranks (rank + k) (pos t ∷ []) ++ true_ranks r (drop (k + 1) numbers)) next in
+    elim (either t few) as (λ _. take (many + t) (set found many (rank + k)) ++ rest ≡ whole) [
+      | inl none ↦
+          let here : true_ranks (rank + k) (pos t ∷ []) ≡ [] = ap (λ t. true_ranks (rank + k) (pos t ∷ [])) none in
+          let same : many + t ≡ many = omega (arith, none) in
+          ap (λ n. take n (set found many (rank + k)) ++ rest) same
+          ∙ ap (λ l. l ++ rest) (take-set found many (rank + k))
+          ∙ ap (λ l. take many found ++ (l ++ rest)) (sym here)
+          ∙ ap (λ l. take many found ++ l) (sym split)
+          ∙ so_far
+      | inr one ↦
+          let here : true_ranks (rank + k) (pos t ∷ []) ≡ (rank + k) ∷ [] = ap (λ t. true_ranks (rank + k) (pos t ∷ [])) one in
+          let more : many + t ≡ many + 1 = omega (arith, one) in
+          ap (λ n. take n (set found many (rank + k)) ++ rest) more
+          ∙ ap (λ l. l ++ rest) (take_more_set found many (rank + k) room)
+          ∙ append_assoc (take many found) ((rank + k) ∷ []) rest
+          ∙ ap (λ l. take many found ++ (l ++ rest)) (sym here)
+          ∙ ap (λ l. take many found ++ l) (sym split)
+          ∙ so_far
+    ]
+
+pub length-bools : (bools : Bools) → length (bools_in bools) ≡ bools.run.count
+length-bools bools = length-map (run_offsets bools.run) (bool_at bools.bytes.now) ∙ length-run_offsets bools.run
+
+-- the bool there
+pub bool-there : (bools : Bools) (k offset : ℕ) → k < bools.run.count → offset ≡ get_or (run_offsets bools.run) k 0 → get_or (bools_in bools) k (pos 0) ≡ bool_at bools.bytes.now offset
+bool-there bools k offset low is =
+    get_or-map (bool_at bools.bytes.now) (run_offsets bools.run) k 0 (pos 0) (omega (arith, low, length-run_offsets bools.run)) ∙ ap (bool_at bools.bytes.now) (sym is)
+
+-- ranks that were found are added
+pub found_added : (ranks ranks' found whole later later' : List ℕ) → ranks' ≡ ranks ++ found → found ++ later' ≡ later → ranks ++ later ≡ whole → ranks' ++ later' ≡ whole
+found_added ranks ranks' found whole later later' added is so_far =
+    ap (λ l. l ++ later') added ∙ append_assoc ranks found later' ∙ ap (λ l. ranks ++ l) is ∙ so_far
+
+-- the bools of the first run of those that are left
+pub run_noted : (f : ℕ → ℤ) (run : Run) (left left' : List Run) (rank : ℕ) → left ≡ run ∷ left' →
+    true_ranks rank (map f (run_offsets run)) ++ true_ranks (rank + run.count) (map f (flat_map run_offsets left')) ≡ true_ranks rank (map f (flat_map run_offsets left))
+run_noted f run left left' rank walked =
+    let long : run.count ≡ length (map f (run_offsets run)) = sym (length-map (run_offsets run) f ∙ length-run_offsets run) in
+    ap (λ n. true_ranks rank (map f (run_offsets run)) ++ true_ranks (rank + n) (map f (flat_map run_offsets left'))) long
+    ∙ sym (true_ranks-append (map f (run_offsets run)) (map f (flat_map run_offsets left')) rank)
+    ∙ ap (true_ranks rank) (sym (map-append f (run_offsets run) (flat_map run_offsets left')))
+    ∙ ap (λ l. true_ranks rank (map f (flat_map run_offsets l))) (sym walked)

@@ -53,7 +53,7 @@ module _ (shape : List ℕ) (k : ℕ) (some : 0 < count shape) where
   few-before : count (take k shape) ≤ count shape
   few-before = omega (arith, counts, mul-le-mul_left (count (take k shape)) some-behind, mul-one (count (take k shape)))
 
-  few-behind : count (drop k shape) ≤ count shape
+  pub few-behind : count (drop k shape) ≤ count shape
   few-behind = omega (arith, counts, mul-le-mul_right (count (drop k shape)) some-before, one-mul (count (drop k shape)))
 
   all_short : (axes : List ℕ) → All (λ n. n ≤ max_items) axes → list_all (λ n. nat_le n max_items) axes ≡ true

@@ -6,8 +6,8 @@ use Rattle.shape_strides.specs.declared.runs.Run.{Run}
 use Rattle.shape_strides.specs.Runs.{run_offsets}
 use Rattle.shape_strides.specs.Layouts.{multiples}
 use Rattle.shape_strides.specs.WalkLaws.{length-run_offsets}
-use Rattle.overlap_copy.specs.Packed.{row_offsets as packed}
-use Rattle.overlap_copy.specs.PackedLaws.{row-split as packed-append, row-multiples}
+use Rattle.arrays.specs.Packed.{row_offsets as packed}
+use Rattle.arrays.specs.PackedLaws.{row-split as packed-append, row-multiples}
 
 pub packed-suc : (at width n : ℕ) → packed at width (suc n) ≡ at ∷ packed (at + width) width n
 packed-suc at width n =

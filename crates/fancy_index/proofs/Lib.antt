@@ -17,6 +17,7 @@ pub mod RestLaws
 pub mod CutLaws
 pub mod ShiftLaws
 pub mod LoneLaws
+pub mod RankLaws
 pub mod LeadLaws
 pub mod IndexSplits
 pub mod LaidLaws

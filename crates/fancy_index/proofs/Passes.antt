@@ -10,14 +10,14 @@ use Rattle.shape_strides.specs.Addresses.{LieWithin}
 use Rattle.shape_strides.specs.Limits.{max_bytes}
 use Rattle.shape_strides.specs.Runs.{run_offsets}
 use Rattle.shape_strides.specs.WalkLaws.{length-run_offsets}
-use Rattle.overlap_copy.specs.Assignments.{assigned}
-use Rattle.overlap_copy.specs.Joined.{joined_at}
-use Rattle.overlap_copy.specs.RunLaws.{All-back, All-front, assigned-append}
+use Rattle.arrays.specs.Assignments.{assigned}
+use Rattle.arrays.specs.Joined.{joined_at}
+use Rattle.arrays.specs.RunLaws.{All-back, All-front, assigned-append}
 use lib.IntN.{pos}
 use Rattle.fancy_index.specs.Plans.{put_each}
 use Rattle.fancy_index.specs.inside.Moved.{moved_offset, shifted_all, moved_all, IsMoved}
-use Rattle.overlap_copy.specs.Packed.{row_offsets as packed}
-use Rattle.overlap_copy.specs.PackedLaws.{length-row as length-packed, row-split as packed-append}
+use Rattle.arrays.specs.Packed.{row_offsets as packed}
+use Rattle.arrays.specs.PackedLaws.{length-row as length-packed, row-split as packed-append}
 use Rattle.fancy_index.specs.PlanLaws.{put_each-append}
 
 pub All-unmap : (P : ℕ → Type 0) (f : ℕ → ℕ) (xs : List ℕ) → All P (map f xs) → All (λ x. P (f x)) xs

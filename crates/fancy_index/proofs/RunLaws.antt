@@ -11,9 +11,9 @@ use Rattle.shape_strides.specs.Addresses.{natural, LieWithin}
 use Rattle.shape_strides.specs.Limits.{max_bytes}
 use Rattle.shape_strides.specs.Runs.{run_offsets}
 use Rattle.shape_strides.specs.WalkLaws.{length-run_offsets}
-use Rattle.overlap_copy.specs.RunLaws.{nth-offset, place-at, lie-within}
+use Rattle.arrays.specs.RunLaws.{nth-offset, place-at, lie-within}
 use Rattle.fancy_index.specs.inside.Moved.{moved_offset, IsMoved}
-use Rattle.overlap_copy.specs.Packed.{row_offsets as packed}
+use Rattle.arrays.specs.Packed.{row_offsets as packed}
 
 -- ---- a run that is moved
 

@@ -6,9 +6,9 @@ use Rattle.shape_strides.specs.declared.layout.Layout.{Layout}
 use Rattle.shape_strides.specs.Indexes.{count}
 use Rattle.shape_strides.specs.Layouts.{offsets}
 use Rattle.shape_strides.specs.LayoutLaws.{length-offsets, entry-first}
-use Rattle.overlap_copy.specs.Assignments.{assigned}
+use Rattle.arrays.specs.Assignments.{assigned}
 use Rattle.fancy_index.specs.inside.Moved.{moved_offset, shifted_all}
-use Rattle.overlap_copy.specs.Packed.{row_offsets as packed}
+use Rattle.arrays.specs.Packed.{row_offsets as packed}
 use Rattle.fancy_index.proofs.GatherLaws.{packed-suc}
 use Rattle.fancy_index.proofs.Passes.{CanScatter, Scattering, Pushing, Filling, scatter_front, scattered_front, push_front, pushed_front, fill_front, filled_front}
 

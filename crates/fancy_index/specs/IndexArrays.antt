@@ -21,7 +21,7 @@ pub record IndexArray : Type 0 where
 -- Integers index one axis. Bools of an axis or more are a mask of as many axes. Nothing else is an index.
 abbrev pub kind_of : Descr → List ℕ → Kind
 kind_of (ScalarDescr (Byte signed)) shape = Integers
-kind_of (ScalarDescr (Int signed array_axes_width order)) shape = Integers
+kind_of (ScalarDescr (Int signed width order)) shape = Integers
 kind_of (ScalarDescr BoolScalar) (n ∷ shape) = Mask
 kind_of _ _ = NoIndex
 

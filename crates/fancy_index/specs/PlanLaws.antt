@@ -4,7 +4,7 @@ use Rattle.raw_block.specs.Bytes.{put, place, EachWithin, filled}
 use Rattle.raw_block.specs.BytesLaws.{fewer}
 use Rattle.shape_strides.specs.declared.runs.Run.{Run}
 use Rattle.shape_strides.specs.Runs.{run_offsets}
-use Rattle.overlap_copy.specs.RunLaws.{run_offsets-more}
+use Rattle.arrays.specs.RunLaws.{run_offsets-more}
 use Rattle.fancy_index.specs.Plans.{put_each}
 
 -- an item written to some offsets, and then to others

@@ -1,52 +1,84 @@
-//! Bools that lie one right after another.
-ghost use Rattle.std.specs.Prelude.{◌≡◌, ◌+◌, ◌≤◌, length, map, IfOk, IfSome, IsTrue};
-ghost use Rattle.elem_descr.specs.declared.descr.Descr.TheVariants.{Scalar as ScalarDescr};
-ghost use Rattle.elem_descr.specs.declared.scalar.Scalar.TheVariants.{Bool as BoolScalar};
-ghost use Rattle.shape_strides.specs.Limits.{max_items};
+//! The ranks at which masks are true.
+ghost use Rattle.std.specs.Prelude.{◌≡◌, ◌+◌, ◌≤◌, ◌++◌, length, take, drop, IfOk, OnOk};
+ghost use Rattle.elem_descr.specs.Encoding.{truth};
+ghost use Rattle.fancy_index.specs.declared.kind.Kind.TheVariants.{Mask};
+ghost use Rattle.fancy_index.specs.IndexArrays.{kind};
 ghost use Rattle.fancy_index.specs.Sources.{index_array_of, LiesInBlock};
-ghost use Rattle.fancy_index.specs.inside.Words.{bool_number};
 ghost use Rattle.fancy_index.specs.inside.PointLists.{true_ranks};
+ghost use Rattle.fancy_index.specs.inside.Bools.{bools_in, LieInBytes};
 
-use crate::singles::bytes_at;
 use crate::source::Indices;
-use elem_descr::{Descr, Scalar};
+use shape_strides::{Run, Runs};
 use std::alloc::{AllocError, Global};
 
-/// Whether the items of this type are bools.
-fn are_bools(descr: &Descr) -> bool
-    ensures { IsTrue result → descr.now ≡ ScalarDescr BoolScalar }
-{
-    matches!(descr, Descr::Scalar(Scalar::Bool))
+/// The bools of a run, the first of which has this rank.
+#[derive(Clone, Copy)]
+pub(crate) struct Bools<'a> {
+    pub bytes: &'a [u8],
+    pub run: Run,
+    pub rank: usize,
 }
 
-/// The bytes of the bools of an array that lie so.
-pub(crate) fn bools_of<'a>(array: Indices<'a>) -> Option<&'a [u8]>
-    requires { LiesInBlock array }
-    ensures numbers { IfSome result (λ bytes. map bool_number bytes.now ≡ (index_array_of array.entry).numbers) }
-    ensures few { IfSome result (λ bytes. length bytes.now ≤ max_items) }
+/// 1 for a bool that is true, else 0.
+#[inline(always)]
+fn truth(byte: u8) -> usize
+    ensures value { result ≡ truth byte }
+    ensures few { result ≤ 1 }
 {
-    if !are_bools(array.descr) {
-        return None;
-    }
-    let Some(run) = array.layout.as_run() else {
-        return None;
-    };
-    if run.step != 1 {
-        return None;
-    }
-    Some(bytes_at(array.block.bytes(), run.offset, run.count))
+    (byte != 0) as usize
 }
 
-/// The ranks of the bytes that are not 0.
-pub(crate) fn true_bytes(alloc: Global, bytes: &[u8]) -> Result<Vec<u32>, AllocError>
-    requires { length bytes.now ≤ max_items }
-    ensures { IfOk result (λ v. v.items ≡ true_ranks 0 (map bool_number bytes.now)) }
+/// Writes the ranks of those bools that are true, from one on up to another, one after another, and
+/// returns how many there are. Each rank is written, and stays if its bool is true: there is no branch.
+fn note_true(found: &mut [u32; 1024], bools: Bools<'_>, from: usize, end: usize) -> usize
+    requires lie { LieInBytes bools }
+    requires end { end ≤ bools.run.count }
+    requires few { end ≤ from + 1024 }
+    requires order { from ≤ end }
+    ensures many { result ≤ 1024 }
+    ensures found { take result found.new ++ true_ranks (bools.entry.rank + end) (drop end (bools_in bools.entry)) ≡ true_ranks (bools.entry.rank + from) (drop from (bools_in bools.entry)) }
 {
+    let mut many = 0;
+    for k in from..end {
+        found[many] = (bools.rank + k) as u32;
+        many += truth(bools.bytes[bools.run.offset_after(k)]);
+    }
+    many
+}
+
+/// Adds the ranks of the bools that are true, a block of them after the other.
+fn push_true(
+    ranks: &mut Vec<u32>,
+    found: &mut [u32; 1024],
+    bools: Bools<'_>,
+) -> Result<(), AllocError>
+    requires { LieInBytes bools }
+    ensures { OnOk result (ranks.new.items ≡ ranks.old.items ++ true_ranks bools.entry.rank (bools_in bools.entry)) }
+{
+    let mut from = 0;
+    while from < bools.run.count {
+        let end = bools.run.count.min(from + 1024);
+        let many = note_true(found, bools, from, end);
+        ranks.extend_from_slice(&found[..many])?;
+        from = end;
+    }
+    Ok(())
+}
+
+/// The ranks at which a mask is true.
+pub(crate) fn true_ranks(alloc: Global, mask: Indices<'_>) -> Result<Vec<u32>, AllocError>
+    requires kind { kind (index_array_of mask) ≡ Mask }
+    requires lies { LiesInBlock mask }
+    ensures { IfOk result (λ v. v.items ≡ true_ranks 0 (index_array_of mask.entry).numbers) }
+{
+    let _items = mask.layout.shape.items();
+    let bytes = mask.block.bytes();
     let mut ranks = Vec::new(alloc);
-    for rank in 0..bytes.len() {
-        if bytes[rank] != 0 {
-            ranks.push(rank as u32)?;
-        }
+    let mut found = [0; 1024];
+    let mut rank = 0;
+    for run in Runs::new(mask.layout) {
+        push_true(&mut ranks, &mut found, Bools { bytes, run, rank })?;
+        rank += run.count;
     }
     Ok(ranks)
 }

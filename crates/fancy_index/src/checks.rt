@@ -1,4 +1,4 @@
-//! What is refused of an index list with arrays, each over the whole list.
+//! The checks of an index list with arrays, each of which covers the whole list.
 ghost use Rattle.std.specs.Prelude.{◌≡◌, ◌≤◌, length, nat_le, All, IfOk, IfErr, Err};
 ghost use Rattle.std.specs.List.{list_all};
 ghost use Rattle.shape_strides.specs.Limits.{max_axes};

@@ -1,4 +1,4 @@
-//! Index lists, item by item, and the axes that the items take.
+//! Index lists, item by item, and the axes that the items index.
 ghost use Rattle.std.specs.Prelude.{◌≡◌, ◌+◌, ◌<◌, ◌≤◌, [], length, All, IfSome, None};
 ghost use Rattle.std.proofs.Props.{props};
 ghost use Rattle.fancy_index.specs.IndexArrays.{item_axes, array_axes_taken, array_axes_width};

@@ -1,17 +1,19 @@
-//! Shifts where one part alone has points, on axes that lie as in C order: each is so many steps on.
-ghost use Rattle.std.specs.Prelude.{◌≡◌, ℕ, ℤ, pos, ◌+◌, ◌*◌, ◌<◌, ◌≤◌, ◌*ℤ◌, List, ◌∷◌, ◌++◌, take, drop, map, length, All, IfOk, IfSome, IsTrue, OnOk};
-ghost use Rattle.shape_strides.specs.Limits.{max_items, max_bytes};
+//! Shifts where only one part has points: the offset of the item to which a rank on its axes leads.
+ghost use Rattle.std.specs.Prelude.{◌≡◌, ◌+◌, ◌<◌, ◌≤◌, ◌++◌, take, drop, map, length, All, IfErr, IfOk, IfSome, OnOk};
+ghost use Rattle.elem_descr.specs.declared.refusal.Refusal.TheVariants.{OutOfMemory};
 ghost use Rattle.shape_strides.specs.Indexes.{count, indexes};
+ghost use Rattle.shape_strides.specs.Layouts.{offsets};
 ghost use Rattle.fancy_index.specs.declared.points.PointList.{PointList};
 ghost use Rattle.fancy_index.specs.declared.parts.IndexPart.TheVariants.{Points as PointsPart};
 ghost use Rattle.fancy_index.specs.inside.PointLists.{IsPointList};
-ghost use Rattle.fancy_index.specs.inside.PartLists.{first_offset, LeadInto};
-ghost use Rattle.fancy_index.specs.inside.Lone.{IsPlain, IsLone, IsReached, reached, GoByRank};
+ghost use Rattle.fancy_index.specs.inside.PartLists.{first_offset, AreParts, LeadInto};
+ghost use Rattle.fancy_index.specs.inside.Lone.{IsPlain, IsLone, led};
 
 use crate::parts::IndexPart;
 use crate::points::PointList;
 use crate::shifts::push_all;
-use shape_strides::{Layout, MAX_ITEMS, Run};
+use elem_descr::Refusal;
+use shape_strides::{Layout, Shape, Strides};
 use smallvec::SmallVec;
 use std::alloc::{AllocError, Global};
 use std::mem;
@@ -55,61 +57,6 @@ pub(crate) fn lone_points<'a>(parts: &'a [IndexPart], lengths: &[usize]) -> Opti
     Some(Lone { before, points })
 }
 
-/// Whether one step of an outer axis leads over so many steps along inner ones.
-fn leads_over(outer: isize, step: isize, items: usize) -> bool
-    requires { items ≤ max_items }
-    ensures { IsTrue result → outer ≡ step *ℤ pos items }
-{
-    match step.checked_mul(items as isize) {
-        Some(end) => outer == end,
-        None => false,
-    }
-}
-
-/// By how many bytes an item lies after the one of the rank before it with one axis more outside, where
-/// it is by `step` along the others, which have so many items.
-fn step_outside(step: isize, items: usize, len: usize, stride: isize) -> Option<isize>
-    requires { items ≤ max_items }
-    ensures { IfSome result (λ next. (strides : List ℤ) (axes : List ℕ) → count axes ≡ items → GoByRank strides axes step → GoByRank (stride ∷ strides) (len ∷ axes) next) }
-{
-    if items == 1 {
-        return Some(stride);
-    }
-    if len == 1 || leads_over(stride, step, items) {
-        return Some(step);
-    }
-    None
-}
-
-/// How many items there are with one axis more, unless they are too many.
-fn items_outside(items: usize, len: usize) -> Option<usize>
-    ensures { IfSome result (λ more. (more ≡ len * items) × (more ≤ max_items)) }
-{
-    let more = len.checked_mul(items)?;
-    if more > MAX_ITEMS {
-        return None;
-    }
-    Some(more)
-}
-
-/// By how many bytes each item lies after the one of the rank before it, along axes that lie as in C
-/// order.
-fn rank_step(lengths: &[usize], strides: &[isize]) -> Option<isize>
-    requires { length strides.now ≡ length lengths.now }
-    ensures few { IfSome result (λ _. count lengths.now ≤ max_items) }
-    ensures step { IfSome result (GoByRank strides.now lengths.now) }
-{
-    let mut step = 0;
-    let mut items = 1;
-    let mut axis = lengths.len();
-    while axis > 0 {
-        axis -= 1;
-        step = step_outside(step, items, lengths[axis], strides[axis])?;
-        items = items_outside(items, lengths[axis])?;
-    }
-    Some(step)
-}
-
 /// The strides of so many axes from one on.
 fn strides_from(strides: &[isize], axis: usize, axes: usize) -> &[isize]
     requires { axis + axes ≤ length strides.now }
@@ -128,21 +75,21 @@ fn push_origin(numbers: &mut SmallVec<usize, 8>, axes: &[usize]) -> Result<(), A
     Ok(())
 }
 
-/// The run along which the points lead, where their axes lie as in C order: its first item lies where
-/// they are 0, and each rank on their axes is one step more.
-pub(crate) fn run_along(
+/// The items along the axes of the points, where each other part shows its first item.
+pub(crate) fn along_points(
     alloc: Global,
     layout: &Layout,
     parts: &[IndexPart],
     lone: Lone<'_>,
-) -> Result<Option<Run>, AllocError>
+) -> Result<Layout, Refusal>
+    requires are { AreParts layout.now.shape parts.now }
     requires lone { IsLone parts.now lone.before lone.points.now }
     requires list { IsPointList lone.points.now }
     requires leads { LeadInto layout.now lone.points.now.lengths.items parts.now }
     requires some { 0 < count lone.points.now.lengths.items }
-    ensures start { IfOk result (λ found. IfSome found (λ run. run.offset ≤ max_bytes)) }
-    ensures reached { IfOk result (λ found. IfSome found (λ run. All (IsReached run) lone.entry.points.now.ranks.items)) }
-    ensures shifts { IfOk result (λ found. IfSome found (λ run. map (reached run) lone.entry.points.now.ranks.items ≡ map (first_offset layout.now parts.now) (indexes lone.entry.points.now.lengths.items))) }
+    ensures shape { IfOk result (λ along. along.shape ≡ lone.entry.points.now.axes.items) }
+    ensures shifts { IfOk result (λ along. led (offsets along) lone.entry.points.now.ranks.items ≡ map (first_offset layout.now parts.now) (indexes lone.entry.points.now.lengths.items)) }
+    ensures err { IfErr result (λ refusal. refusal ≡ OutOfMemory) }
 {
     let _lengths = layout.shape.as_slice();
     let strides = layout.strides.as_slice();
@@ -150,16 +97,15 @@ pub(crate) fn run_along(
     let mut index = SmallVec::new(alloc);
     push_all(&mut index, &parts[..lone.before], &[])?;
     let axis = index.len();
-    let Some(step) = rank_step(axes, strides_from(strides, axis, axes.len())) else {
-        return Ok(None);
-    };
     push_origin(&mut index, axes)?;
     push_all(&mut index, &parts[lone.before + 1..], &[])?;
-    Ok(Some(Run {
+    let shape = Shape::try_new(alloc, axes)?;
+    let strides = Strides::from_slice(alloc, strides_from(strides, axis, axes.len()))?;
+    Ok(Layout {
+        shape,
+        strides,
         offset: layout.at(index.as_slice()),
-        count: 1,
-        step,
-    }))
+    })
 }
 
 /// Takes the ranks of the points out of a part, which is of no use then.
@@ -169,16 +115,5 @@ pub(crate) fn take_ranks(alloc: Global, part: &mut IndexPart) -> Vec<u32>
     match part {
         IndexPart::Points(points) => mem::replace(&mut points.ranks, Vec::new(alloc)),
         _ => Vec::new(alloc),
-    }
-}
-
-/// Makes of each number of steps the offset to which it leads from a run's first item on.
-pub(crate) fn lead_along(run: Run, steps: &mut [u32])
-    requires start { run.offset ≤ max_bytes }
-    requires reached { All (IsReached run) steps.old }
-    ensures { steps.new ≡ map (reached run) steps.old }
-{
-    for step in steps.iter_mut() {
-        *step = run.offset_after(*step as usize) as u32;
     }
 }

@@ -1,4 +1,4 @@
-//! The parts that the items of an index list come to.
+//! The parts that the items of an index list stand for.
 ghost use Rattle.std.specs.Prelude.{◌≡◌, ◌≤◌, ◌∷◌, length, map, true, false, All, IfOk, OnOk};
 ghost use Rattle.elem_descr.specs.declared.refusal.Refusal.TheVariants.{IndexOutOfRange};
 ghost use Rattle.elem_descr.specs.Refusals.{Gives, check};

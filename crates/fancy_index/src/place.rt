@@ -1,4 +1,4 @@
-//! Where the axes of the points go among the other axes of the result.
+//! Where the axes of the points stand among the other axes of the result.
 ghost use Rattle.std.specs.Prelude.{◌≡◌, ◌≤◌, length, map};
 ghost use Rattle.fancy_index.specs.Parts.{axes_of_part, other_axes, are_points, side_by_side, axes_before, points_place};
 ghost use Rattle.fancy_index.specs.inside.PartLists.{shown_part};

@@ -1,22 +1,20 @@
 //! Points on some axes: those of an integer, of an array of integers and of a mask.
 ghost use Rattle.std.specs.Prelude.{◌≡◌, ◌≢◌, ◌≤◌, [], ◌∷◌, length, map, pos, true, All, IfOk};
-ghost use Rattle.std.specs.Ordering.{int_eq};
 ghost use Rattle.elem_descr.specs.declared.refusal.Refusal.TheVariants.{IndexOutOfRange};
 ghost use Rattle.elem_descr.specs.Refusals.{Gives, check};
 ghost use Rattle.shape_strides.specs.Limits.{max_items};
 ghost use Rattle.view_ops.specs.Slices.{is_place};
-ghost use Rattle.fancy_index.specs.declared.kind.Kind.TheVariants.{NoIndex};
+ghost use Rattle.fancy_index.specs.declared.kind.Kind.TheVariants.{Mask, NoIndex};
 ghost use Rattle.fancy_index.specs.IndexArrays.{kind, axes_of_kind, covers_kind, are_places};
 ghost use Rattle.fancy_index.specs.Parts.{points_of};
 ghost use Rattle.fancy_index.specs.Sources.{index_array_of, LiesInBlock};
 ghost use Rattle.fancy_index.specs.inside.PointLists.{place_of, named_places, true_ranks, IsPart};
 
-use crate::bools::{bools_of, true_bytes};
+use crate::bools::true_ranks;
 use crate::kind::Kind;
-use crate::source::{Indices, kind, number_at};
+use crate::source::{Indices, kind};
 use crate::words::{named_place, places};
 use elem_descr::Refusal;
-use shape_strides::Walk;
 use smallvec::SmallVec;
 use std::alloc::{AllocError, Global};
 
@@ -26,42 +24,6 @@ pub(crate) struct PointList {
     pub lengths: SmallVec<usize, 8>,
     pub axes: SmallVec<usize, 8>,
     pub ranks: Vec<u32>,
-}
-
-fn is_zero(number: i128) -> bool
-    ensures { result ≡ int_eq number (pos 0) }
-{
-    number == 0
-}
-
-/// The ranks at which a mask is true.
-fn true_ranks_each(alloc: Global, array: Indices<'_>) -> Result<Vec<u32>, AllocError>
-    requires kind { kind (index_array_of array) ≢ NoIndex }
-    requires lies { LiesInBlock array }
-    ensures { IfOk result (λ v. v.items ≡ true_ranks 0 (index_array_of array.entry).numbers) }
-{
-    let _items = array.layout.shape.items();
-    let mut ranks = Vec::new(alloc);
-    let mut rank: usize = 0;
-    for offset in Walk::new(array.layout) {
-        if !is_zero(number_at(array, offset)) {
-            ranks.push(rank as u32)?;
-        }
-        rank += 1;
-    }
-    Ok(ranks)
-}
-
-/// The ranks at which a mask is true. Bools that lie one right after another need no walk.
-fn true_ranks(alloc: Global, array: Indices<'_>) -> Result<Vec<u32>, AllocError>
-    requires kind { kind (index_array_of array) ≢ NoIndex }
-    requires lies { LiesInBlock array }
-    ensures { IfOk result (λ v. v.items ≡ true_ranks 0 (index_array_of array.entry).numbers) }
-{
-    if let Some(bytes) = bools_of(array) {
-        return true_bytes(alloc, bytes);
-    }
-    true_ranks_each(alloc, array)
 }
 
 /// The one point of an integer, or its refusal.
@@ -106,7 +68,7 @@ fn integer_points(alloc: Global, n: usize, array: Indices<'_>) -> Result<PointLi
 
 /// The points at which a mask is true.
 fn mask_points(alloc: Global, array: Indices<'_>) -> Result<PointList, AllocError>
-    requires kind { kind (index_array_of array) ≢ NoIndex }
+    requires kind { kind (index_array_of array) ≡ Mask }
     requires lies { LiesInBlock array }
     ensures lengths { IfOk result (λ p. p.lengths.items ≡ length p.ranks.items ∷ []) }
     ensures axes { IfOk result (λ p. p.axes.items ≡ (index_array_of array.entry).shape) }

@@ -1,4 +1,4 @@
-//! The axes beside those of the points, where all points are 0.
+//! The axes other than those of the points, with all points at 0.
 ghost use Rattle.std.specs.Prelude.{◌≡◌, ◌<◌, ◌≤◌, ◌++◌, map, length, take, drop, IfOk, IfErr, OnOk};
 ghost use Rattle.elem_descr.specs.declared.refusal.Refusal.TheVariants.{OutOfMemory};
 ghost use Rattle.shape_strides.specs.Limits.{max_axes};

@@ -1,13 +1,13 @@
-//! Items that lie one after another, copied to where a plan leads, strictly one after the other.
+//! Copies contiguous items to where a plan leads, strictly one after the other.
 ghost use Rattle.std.specs.Prelude.{◌≡◌, ◌+◌, ◌*◌, ◌≤◌, length, All};
-ghost use Rattle.overlap_copy.specs.Assignments.{assigned};
+ghost use Rattle.arrays.specs.Assignments.{assigned};
 ghost use Rattle.fancy_index.specs.inside.Kept.{offsets_from, moved_offsets, shifted_offsets};
-ghost use Rattle.overlap_copy.specs.Packed.{row_offsets as packed};
+ghost use Rattle.arrays.specs.Packed.{row_offsets as packed};
 
 use crate::rows::{MovedLayout, PlanAxes, Shifted, moved};
 use crate::run_moves::moved_run;
 use crate::singles::scatter_singles;
-use overlap_copy::{copy_run, packed_run};
+use arrays::{copy_run, packed_run};
 use raw_block::RawBlock;
 use shape_strides::{Runs, Walk};
 

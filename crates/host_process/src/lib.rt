@@ -1,4 +1,4 @@
-//! What a program needs of its process: its arguments, its stack, and reads and writes that signals
+//! What a program needs from its process: its arguments, its stack, and reads and writes that signals
 //! do not interrupt.
 #![tactic(auto)]
 

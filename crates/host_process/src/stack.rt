@@ -1,4 +1,4 @@
-//! Takes the stack before the script is read.
+//! Reserves the stack before the script is read.
 ghost use Rattle.std.specs.Prelude.{◌<◌, ◌≤◌, ◌*◌, length};
 
 use std::alloc::{AllocError, Global};
@@ -33,7 +33,8 @@ fn touch_heap(alloc: Global, at: usize) -> Result<u8, AllocError>
     Ok(touch(room.as_mut_slice(), at))
 }
 
-/// Takes the stack that the deepest command needs, and answers whether there is memory for it.
+/// Takes the stack that the deepest command needs, and answers whether there is memory for it. No
+/// contract speaks of the stack, so either answer is right.
 pub fn has_stack(alloc: Global, depth: usize) -> bool
     requires { depth ≤ 64 }
 {

@@ -1,4 +1,4 @@
-//! Work on numbers whose type only a scalar says: the one place that goes from a scalar to a Rust
+//! Work on numbers whose type only a scalar tells: the one place that goes from a scalar to a Rust
 //! type.
 ghost use Rattle.elem_descr.specs.declared.scalar.Scalar.{Scalar};
 ghost use Rattle.elem_descr.specs.Encoding.{IsNumber};

@@ -7,7 +7,7 @@ use Rattle.elem_descr.specs.Items.{item_size, decode_item}
 use Rattle.elem_descr.specs.Values.{LeafValue}
 use Rattle.shape_strides.specs.declared.layout.Layout.{Layout}
 use Rattle.shape_strides.specs.Layouts.{offsets, Fits, IsNested, offsets_of}
-use Rattle.overlap_copy.specs.Assignments.{items_at, with_items}
+use Rattle.arrays.specs.Assignments.{items_at, with_items}
 use Rattle.name_store.specs.States.{State, Array}
 use Rattle.name_store.specs.Arrays.{find_array, descr_of, written}
 use Rattle.name_store.specs.Calls.{AnswersWrite}

@@ -12,7 +12,7 @@ use Rattle.circular_buffer.specs.Buffer.{Buffer as Ring, buffer, keep_last}
 use Rattle.indexmap.specs.IndexMap.{insert_entry}
 use Rattle.shape_strides.specs.declared.layout.Layout.{Layout}
 use Rattle.shape_strides.specs.Indexes.{count}
-use Rattle.overlap_copy.specs.declared.owned.Owned.{Owned}
+use Rattle.arrays.specs.declared.owned.Owned.{Owned}
 use Rattle.name_store.specs.Arrays.{find_array, put_array, without, is_in_use, has_room_for, keeping}
 use Rattle.name_store.specs.Calls.{Binds, IsUnused, own_array, own_buffer}
 use Rattle.name_store.specs.Invariants.{Holds, IsSound, LiesAt, IsUndoable, one_at, users_of, users_at, users_in, found_at, pins, all_pins}

@@ -11,8 +11,8 @@ use Rattle.elem_descr.specs.Items.{item_size}
 use Rattle.shape_strides.specs.Contiguity.{is_c_contiguous}
 use Rattle.shape_strides.specs.LayoutLaws.{length-offsets}
 use Rattle.shape_strides.specs.Layouts.{offsets, multiples, Fits}
-use Rattle.overlap_copy.specs.declared.owned.Owned.{Owned}
-use Rattle.overlap_copy.specs.Assignments.{items_at, with_items}
+use Rattle.arrays.specs.declared.owned.Owned.{Owned}
+use Rattle.arrays.specs.Assignments.{items_at, with_items}
 use Rattle.name_store.specs.declared.table.Home.{Home}
 use Rattle.name_store.specs.declared.old_items.OldItems.{OldItems}
 use Rattle.name_store.specs.declared.slot.Slot.{Slot}

@@ -3,11 +3,11 @@ use Rattle.std.proofs.Common.{◌≡◌, ◌+◌, ◌*◌, map, ℕ, true, List,
 use Rattle.elem_descr.specs.Items.{item_size}
 use Rattle.shape_strides.specs.Indexes.{count}
 use Rattle.shape_strides.specs.Layouts.{offsets, Fits, offsets_of}
-use Rattle.overlap_copy.specs.declared.owned.Owned.{Owned}
+use Rattle.arrays.specs.declared.owned.Owned.{Owned}
 use Rattle.name_store.specs.Calls.{own_array, own_buffer}
 use Rattle.elem_descr.specs.Blocks.{items_in}
 use Rattle.name_store.specs.Invariants.{LiesIn}
-use Rattle.overlap_copy.specs.Blocks.{places_of}
+use Rattle.arrays.specs.Blocks.{places_of}
 use Rattle.name_store.specs.View.{array_at, buffer_in}
 use Rattle.name_store.specs.Views.{IsLaidOut}
 use Rattle.name_store.specs.declared.entry.Entry.{Entry}

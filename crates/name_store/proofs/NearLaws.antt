@@ -8,7 +8,8 @@ use Rattle.shape_strides.specs.ItemPairs.{item_pairs}
 use Rattle.shape_strides.specs.LayoutLaws.{offsets_within}
 use Rattle.shape_strides.specs.Layouts.{offsets}
 use Rattle.shape_strides.specs.PlaceLaws.{fits-offsets}
-use Rattle.overlap_copy.specs.OrderLaws.{pair_even, firsts-reordered, nested-reordered, filled-reordered}
+use Rattle.arrays.specs.PairLaws.{pair_even, firsts-reordered}
+use Rattle.overlap_copy.specs.OrderLaws.{nested-reordered, filled-reordered}
 use Rattle.fancy_index.specs.Plans.{put_each}
 use Rattle.name_store.specs.declared.target.Target.TheVariants.{View}
 use Rattle.name_store.specs.inside.Puts.{MayPut}

@@ -5,7 +5,7 @@ use Rattle.elem_descr.specs.Items.{item_size}
 use Rattle.shape_strides.specs.Layouts.{offsets, distance}
 use Rattle.name_store.specs.Invariants.{LiesIn}
 use Rattle.name_store.specs.Parts.{start_at}
-use Rattle.overlap_copy.specs.Blocks.{places_of}
+use Rattle.arrays.specs.Blocks.{places_of}
 use Rattle.name_store.specs.View.{array_at}
 use Rattle.name_store.specs.declared.entry.Entry.{Entry}
 use Rattle.name_store.specs.declared.slot.Slot.{Slot}

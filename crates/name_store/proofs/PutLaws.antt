@@ -6,7 +6,7 @@ use Rattle.elem_descr.specs.declared.descr.Descr.{Descr}
 use Rattle.elem_descr.specs.Blocks.{items_in, item_from}
 use Rattle.elem_descr.specs.Items.{item_size, decode_item}
 use Rattle.raw_block.specs.Bytes.{put}
-use Rattle.overlap_copy.specs.Assignments.{with_items}
+use Rattle.arrays.specs.Assignments.{with_items}
 use Rattle.name_store.specs.Arrays.{placed_item, write}
 use Rattle.name_store.specs.Parts.{IsPathOf, descr_at, start_at, span_at, part_at, with_part}
 use Rattle.name_store.specs.Places.{IsElementType}

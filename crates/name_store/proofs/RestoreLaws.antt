@@ -9,7 +9,7 @@ use Rattle.std.proofs.lemmas.List.Sorted.{Contains-permutation}
 use Rattle.std.proofs.lemmas.Bool.{cases_lt}
 use Rattle.raw_block.specs.Bytes.{put, item_at}
 use Rattle.raw_block.specs.BytesLaws.{length-put, length-item_at, get_or-put_before, get_or-put_after, item_at-put_same}
-use Rattle.overlap_copy.specs.Assignments.{items_at, with_items}
+use Rattle.arrays.specs.Assignments.{items_at, with_items}
 
 -- the byte k is among those of the items, or it is the same in both
 abbrev pub Within : ℕ → List ℕ → ℕ → Type 0

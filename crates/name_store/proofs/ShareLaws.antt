@@ -11,7 +11,7 @@ use Rattle.elem_descr.specs.Items.{item_size, leaves_of, leaves_in, fields, fiel
 use Rattle.shape_strides.specs.declared.layout.Layout.{Layout}
 use Rattle.shape_strides.specs.Limits.{max_bytes}
 use Rattle.shape_strides.specs.Layouts.{address, offsets, Fits, offsets_of}
-use Rattle.overlap_copy.specs.Blocks.{places_of}
+use Rattle.arrays.specs.Blocks.{places_of}
 use Rattle.overlap_copy.specs.Overlaps.{have_common_byte}
 use Rattle.shape_strides.specs.CountLaws.{mul-step}
 use Rattle.name_store.specs.States.{Buffer}

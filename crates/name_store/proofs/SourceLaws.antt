@@ -7,7 +7,7 @@ use Rattle.elem_descr.specs.Encoding.{size, decode}
 use Rattle.elem_descr.specs.Items.{item_size, decode_item, AreAlike}
 use Rattle.elem_descr.specs.Values.{LeafValue}
 use Rattle.raw_block.specs.Bytes.{put}
-use Rattle.overlap_copy.specs.Assignments.{items_at, with_items}
+use Rattle.arrays.specs.Assignments.{items_at, with_items}
 use Rattle.fancy_index.specs.Plans.{put_each}
 
 -- one item is put, as often as there are offsets

@@ -10,7 +10,7 @@ use Rattle.name_store.specs.States.{Array, Buffer}
 use Rattle.name_store.specs.Arrays.{buffer_of, descr_of, is_in_use, no_buffer, placed_item, read}
 use Rattle.name_store.specs.Invariants.{LiesIn}
 use Rattle.name_store.specs.Parts.{descr_at, start_at, span_at, part_at, IsPathOf}
-use Rattle.overlap_copy.specs.Blocks.{places_of}
+use Rattle.arrays.specs.Blocks.{places_of}
 use Rattle.name_store.specs.View.{array_at, named_array, buffer_in, slot_at, present}
 use Rattle.name_store.specs.Views.{IsLaidOut, IsViewIn}
 use Rattle.name_store.specs.declared.entry.Entry.{Entry}

@@ -11,7 +11,7 @@ use Rattle.circular_buffer.specs.Buffer.{Buffer as Ring, buffer, keep_last}
 use Rattle.elem_descr.specs.declared.descr.Descr.{Descr}
 use Rattle.elem_descr.specs.Items.{item_size}
 use Rattle.elem_descr.specs.Values.{LeafValue}
-use Rattle.overlap_copy.specs.Assignments.{items_at, with_items}
+use Rattle.arrays.specs.Assignments.{items_at, with_items}
 use Rattle.name_store.specs.States.{State, Array}
 use Rattle.name_store.specs.Arrays.{is_in_use, keeping, descr_of}
 use Rattle.name_store.specs.Calls.{AnswersWrite, CountsWrite}

@@ -4,12 +4,12 @@ use Rattle.std.specs.FinMap.{get}
 use Rattle.circular_buffer.specs.Buffer.{keep_last}
 use Rattle.elem_descr.specs.declared.refusal.Refusal.{Refusal}
 use Rattle.elem_descr.specs.declared.refusal.Refusal.TheVariants.{OutOfMemory, TooManyNames, UnknownName, NothingToUndo}
-use Rattle.overlap_copy.specs.declared.owned.Owned.{Owned}
+use Rattle.arrays.specs.declared.owned.Owned.{Owned}
 use Rattle.elem_descr.specs.Items.{item_size}
 use Rattle.elem_descr.specs.Values.{LeafValue}
 use Rattle.shape_strides.specs.Indexes.{count}
 use Rattle.shape_strides.specs.Layouts.{offsets}
-use Rattle.overlap_copy.specs.Blocks.{places_of}
+use Rattle.arrays.specs.Blocks.{places_of}
 use Rattle.name_store.specs.States.{State, Array, BenchValue, Buffer}
 use Rattle.name_store.specs.Arrays.{has_kept, undone, is_bound, has_room_for, bound_to, bound_view, unbound, descr_of, written, find_array, share_cells}
 use Rattle.elem_descr.specs.Blocks.{items_in}

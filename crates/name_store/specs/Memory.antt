@@ -6,7 +6,7 @@ use Rattle.shape_strides.specs.Contiguity.{is_c_contiguous}
 use Rattle.shape_strides.specs.Layouts.{offsets}
 use Rattle.shape_strides.specs.Stacks.{IsStacked}
 use Rattle.overlap_copy.specs.Apart.{AreApart}
-use Rattle.overlap_copy.specs.Assignments.{IsRun}
+use Rattle.overlap_copy.specs.Runs.{IsRun}
 use Rattle.name_store.specs.States.{State, Array}
 use Rattle.name_store.specs.Arrays.{find_array, descr_of}
 use Rattle.name_store.specs.declared.target.Source.{Source}

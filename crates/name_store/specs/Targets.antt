@@ -8,7 +8,7 @@ use Rattle.elem_descr.specs.Values.{LeafValue}
 use Rattle.shape_strides.specs.declared.layout.Layout.{Layout}
 use Rattle.shape_strides.specs.Layouts.{offsets, Fits, IsNested}
 use Rattle.shape_strides.specs.Limits.{max_bytes}
-use Rattle.overlap_copy.specs.declared.owned.Owned.{Owned}
+use Rattle.arrays.specs.declared.owned.Owned.{Owned}
 use Rattle.name_store.specs.States.{State, Array}
 use Rattle.name_store.specs.Arrays.{find_array, buffer_of, descr_of, addresses, read}
 use Rattle.name_store.specs.Views.{IsViewIn}

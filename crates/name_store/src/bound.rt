@@ -1,6 +1,6 @@
 //! What a name is bound to.
 use crate::path::Path;
-use overlap_copy::Owned;
+use arrays::Owned;
 use shape_strides::Layout;
 
 /// What a name is bound to: an array with a block of its own, or a view in a buffer that is there, by

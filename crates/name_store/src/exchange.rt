@@ -1,10 +1,10 @@
-//! Where all the items of a buffer are written, a block of the new ones takes the place of its block, which
+//! If all items of a buffer are written, a block of the new ones replaces the block of the buffer, which
 //! is handed out as the old items.
 ghost use Rattle.std.specs.Prelude.{◌≡◌, length, replicate, Some, IsTrue, IsOk, IfOk, IfErr};
 ghost use Rattle.elem_descr.specs.Items.{item_size};
 ghost use Rattle.shape_strides.specs.Contiguity.{is_c_contiguous};
 ghost use Rattle.shape_strides.specs.Layouts.{offsets};
-ghost use Rattle.overlap_copy.specs.Assignments.{items_at};
+ghost use Rattle.arrays.specs.Assignments.{items_at};
 ghost use Rattle.name_store.specs.Targets.{target_offsets};
 ghost use Rattle.name_store.specs.View.{slot_at};
 ghost use Rattle.name_store.specs.declared.slot.Slot.{Slot};
@@ -19,7 +19,8 @@ use crate::slot::Slot;
 use crate::slots::{slot_mut, slot_of};
 use crate::table::Home;
 use crate::target::{Source, Target};
-use overlap_copy::{Owned, exchange, gather};
+use arrays::{Owned, gather};
+use overlap_copy::exchange;
 use raw_block::{BlockBuilder, RawBlock};
 use shape_strides::Layout;
 use std::alloc::{AllocError, Global};

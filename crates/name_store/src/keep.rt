@@ -1,4 +1,4 @@
-//! Changes are kept, so that they can be undone.
+//! Keeps changes, so that they can be undone.
 ghost use Rattle.std.specs.Prelude.{◌≡◌, ◌≤◌, ◌<◌, ◌^◌, ◌+◌, ◌++◌, ◌∷◌, ℕ, [], nat_lt, length, min, None, OnOk, IsOk, if◌then◌else◌};
 ghost use Rattle.std.specs.Option.{option_map};
 ghost use Rattle.circular_buffer.specs.Buffer.{buffer, keep_last};

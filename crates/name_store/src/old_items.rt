@@ -5,7 +5,7 @@ ghost use Rattle.name_store.specs.Targets.{target_offsets};
 ghost use Rattle.name_store.specs.inside.OldItems.{AreOld};
 
 use crate::target::Target;
-use overlap_copy::{gather, scatter};
+use arrays::{gather, scatter};
 use raw_block::RawBlock;
 use std::alloc::{AllocError, Global};
 

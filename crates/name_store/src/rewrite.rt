@@ -1,4 +1,4 @@
-//! The bytes of a block are written at the offsets of a target: those of one item, or of the items of
+//! Writes the bytes of a block at the offsets of a target: those of one item, or of the items of
 //! a layout.
 ghost use Rattle.std.specs.Prelude.{◌≡◌, ◌+◌, ◌≤◌, length, All, IfOk, IfErr, IsOk, IsTrue};
 ghost use Rattle.std.specs.List.{flat_map};
@@ -6,14 +6,15 @@ ghost use Rattle.raw_block.specs.Bytes.{EachWithin};
 ghost use Rattle.shape_strides.specs.Limits.{max_bytes};
 ghost use Rattle.shape_strides.specs.Layouts.{offsets, Fits};
 ghost use Rattle.shape_strides.specs.Runs.{run_offsets};
-ghost use Rattle.overlap_copy.specs.Assignments.{assigned};
+ghost use Rattle.arrays.specs.Assignments.{assigned};
 ghost use Rattle.fancy_index.specs.Plans.{put_each};
 ghost use Rattle.name_store.specs.Memory.{AreShifted};
 ghost use Rattle.name_store.specs.Targets.{target_offsets};
 ghost use Rattle.name_store.specs.inside.Puts.{MayPut, InPlace};
 
 use crate::target::Target;
-use overlap_copy::{assign, assign_from, assign_shifted, gather, in_any_order};
+use arrays::gather;
+use overlap_copy::{assign, assign_from, assign_shifted, in_any_order};
 use raw_block::RawBlock;
 use shape_strides::{Layout, Runs, lies_in_c_order};
 use std::alloc::{AllocError, Global};

@@ -11,9 +11,10 @@ use crate::path::Path;
 use crate::slot::Slot;
 use crate::slots::{Slots, slot_mut};
 use crate::target::Target;
+use arrays::Owned;
 use elem_descr::Refusal;
 use indexmap::IndexMap;
-use overlap_copy::{Owned, share_cell};
+use overlap_copy::share_cell;
 use std::alloc::{AllocError, Global};
 
 /// The most names that are bound at one time.

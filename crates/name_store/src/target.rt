@@ -2,8 +2,8 @@
 ghost use Rattle.std.specs.Prelude.{◌≡◌, length};
 ghost use Rattle.name_store.specs.Targets.{target_offsets, target_shape};
 
+use arrays::Owned;
 use fancy_index::Plan;
-use overlap_copy::Owned;
 use shape_strides::{Layout, Shape};
 
 /// Where in a name's array items are written.

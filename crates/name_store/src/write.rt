@@ -1,4 +1,4 @@
-//! Items are written to the places of a target in a buffer.
+//! Writes items to the places of a target in a buffer.
 ghost use Rattle.std.specs.Prelude.{◌≡◌, ◌≢◌, IfOk, IfErr, IsOk};
 ghost use Rattle.name_store.specs.inside.OldItems.{AreSame};
 ghost use Rattle.name_store.specs.inside.Puts.{CanPut, Puts, InPlace, NeedsNone};
@@ -10,7 +10,7 @@ use crate::slot::Slot;
 use crate::slots::{slot_mut, slot_of};
 use crate::table::Home;
 use crate::target::{Source, Target};
-use overlap_copy::Owned;
+use arrays::Owned;
 use shape_strides::Layout;
 use std::alloc::{AllocError, Global};
 

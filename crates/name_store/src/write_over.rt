@@ -1,4 +1,4 @@
-//! Items are written to the places of a target in a buffer, and the old ones are handed out.
+//! Writes items to the places of a target in a buffer, and hands out the old ones.
 ghost use Rattle.std.specs.Prelude.{◌≡◌, ℕ, List, length, IfOk, IfErr, IfSome};
 ghost use Rattle.std.specs.List.Sorted.{IsPermutation};
 ghost use Rattle.fancy_index.specs.Plans.{put_each};
@@ -14,7 +14,7 @@ use crate::slots::slot_of;
 use crate::table::Home;
 use crate::target::{Source, Target};
 use crate::write::copy_items;
-use overlap_copy::Owned;
+use arrays::Owned;
 use shape_strides::{LayoutPair, in_memory_order};
 use std::alloc::{AllocError, Global};
 

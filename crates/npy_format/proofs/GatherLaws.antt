@@ -23,8 +23,8 @@ use Rattle.shape_strides.specs.LayoutLaws.{length-offsets}
 use Rattle.shape_strides.specs.Runs.{run_offsets, runs}
 use Rattle.shape_strides.specs.ContiguityLaws.{first_address-entry}
 use Rattle.shape_strides.specs.WalkLaws.{length-run_offsets}
-use Rattle.overlap_copy.specs.RunLaws.{run_offsets-more, place-at, run-ends}
-use Rattle.overlap_copy.specs.FortranLaws.{length-fortran}
+use Rattle.arrays.specs.RunLaws.{run_offsets-more, place-at, run-ends}
+use Rattle.arrays.specs.FortranLaws.{length-fortran}
 use Rattle.npy_format.specs.inside.WrittenItems.{addresses_in_file}
 use Rattle.elem_descr.specs.NulLaws.{reverse-replicate}
 

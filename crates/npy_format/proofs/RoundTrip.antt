@@ -17,7 +17,7 @@ use Rattle.elem_descr.specs.declared.refusal.Refusal.{Refusal}
 use Rattle.elem_descr.specs.Refusals.{◌>>=◌}
 use Rattle.shape_strides.specs.Contiguity.{fortran_order}
 use Rattle.npy_format.specs.declared.header.Header.{Header}
-use Rattle.overlap_copy.specs.FortranLaws.{length-fortran}
+use Rattle.arrays.specs.FortranLaws.{length-fortran}
 use Rattle.npy_format.proofs.GatherLaws.{fortran-within}
 use Rattle.npy_format.proofs.WriterLaws.{ordered-items}
 use Rattle.elem_descr.specs.Values.{LeafValue, number}
@@ -31,7 +31,7 @@ use Rattle.shape_strides.specs.Indexes.{count, indexes, rank}
 use Rattle.shape_strides.specs.IndexLaws.{length-indexes, rank-lt, get_or-indexes, index_at}
 use Rattle.shape_strides.specs.ReverseLaws.{count-reverse, IsIndex-reverse}
 use Rattle.shape_strides.specs.Shapes.{IsShape}
-use Rattle.overlap_copy.specs.Blocks.{offsets_in}
+use Rattle.arrays.specs.Blocks.{offsets_in}
 use Rattle.npy_format.specs.Files.{load, file_order, data_size, split_front, split_header}
 use Rattle.npy_format.specs.Headers.{header}
 use Rattle.npy_format.specs.WrittenHeaders.{written_text, written_header}

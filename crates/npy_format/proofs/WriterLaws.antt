@@ -20,7 +20,7 @@ use Rattle.shape_strides.specs.Contiguity.{fortran_order}
 use Rattle.npy_format.specs.Files.{file_order}
 use Rattle.npy_format.specs.WrittenFiles.{is_fortran, ordered, file_of, saved}
 use Rattle.npy_format.specs.inside.WrittenItems.{addresses_in_file}
-use Rattle.overlap_copy.specs.FortranLaws.{length-fortran}
+use Rattle.arrays.specs.FortranLaws.{length-fortran}
 use Rattle.npy_format.proofs.GatherLaws.{gathered, fortran-entry, fortran-within}
 
 -- items that are gathered, item by item

@@ -4,7 +4,7 @@ use Rattle.elem_descr.specs.declared.descr.Descr.{Descr}
 use Rattle.elem_descr.specs.Values.{LeafValue}
 use Rattle.elem_descr.specs.Items.{item_size}
 use Rattle.elem_descr.specs.Blocks.{item_from}
-use Rattle.overlap_copy.specs.Blocks.{offsets_in}
+use Rattle.arrays.specs.Blocks.{offsets_in}
 use Rattle.npy_format.specs.Files.{Loaded, load, file_order}
 
 -- a file loads as an array of this element type, this shape and these items, in C order of their indexes, with nothing behind it

@@ -5,8 +5,8 @@ ghost use Rattle.npy_format.specs.inside.LoadedParts.{load_behind};
 
 use crate::file_parts::FileParts;
 use crate::reader::{array, array_over, contents, npy_read, split_header};
+use arrays::Owned;
 use elem_descr::Refusal;
-use overlap_copy::Owned;
 use raw_block::RawBlock;
 use std::alloc::Global;
 

@@ -6,9 +6,9 @@ ghost use Rattle.npy_format.specs.Files.{split_front, begins_well, length_bytes,
 ghost use Rattle.npy_format.specs.inside.LoadedParts.{load_behind};
 
 use crate::header::{Header, header_read};
+use arrays::Owned;
 use byteorder::{ByteOrder, LittleEndian};
 use elem_descr::Refusal;
-use overlap_copy::Owned;
 use raw_block::RawBlock;
 use shape_strides::{MAX_BYTES, MemoryOrder};
 use std::alloc::{AllocError, Global};

@@ -1,4 +1,4 @@
-//! Items as a file has them: a bool is 0 or 1, and padding is zero.
+//! Items as a file stores them: a bool is 0 or 1, and padding is zero.
 ghost use Rattle.std.specs.Prelude.{◌≡◌, ◌-◌, ◌+◌, ◌*◌, ◌<◌, ◌≤◌, length, map, replicate, IsTrue};
 ghost use Rattle.std.specs.List.{flat_map};
 ghost use Rattle.raw_block.specs.Bytes.{item_at, put};
@@ -37,7 +37,10 @@ fn clear(item: &mut [u8], from: usize, to: usize)
     requires to { to ≤ length item.old }
     ensures { item.new ≡ put from (replicate (to - from) 0) item.old }
 {
-    item[from..to].fill(0);
+    // (most leaves follow one another, and a call costs more than the question)
+    if from < to {
+        item[from..to].fill(0);
+    }
 }
 
 /// The byte of a bool.

@@ -11,7 +11,7 @@ use Rattle.shape_strides.specs.Layouts.{offsets, Fits, IsNested, distance, dot}
 use Rattle.shape_strides.specs.AddressOrders.{IsRising, IsFalling}
 use Rattle.shape_strides.specs.IndexLaws.{index_at}
 use Rattle.shape_strides.specs.LayoutLaws.{length-offsets, pos-offset, offsets_within, entry-first}
-use Rattle.overlap_copy.specs.Assignments.{assigned}
+use Rattle.arrays.specs.Assignments.{assigned}
 use Rattle.overlap_copy.specs.inside.Moves.{IsAssigned}
 use Rattle.overlap_copy.specs.inside.Shifts.{source, sources, MayCome}
 use Rattle.overlap_copy.proofs.MoveLaws.{same_assigned, assigned_is}

@@ -1,15 +1,11 @@
 -- Items that are copied to offsets at which they lie apart.
-use Rattle.std.proofs.Common.{◌≡◌, ◌+◌, ◌≤◌, ◌⊎◌, inl, inr, ℕ, List, [], ◌∷◌, length, map, All, refl, sym, ap, subst, ◌∙◌, arith}
+use Rattle.std.proofs.Common.{◌≡◌, ◌+◌, ◌≤◌, ◌⊎◌, inl, inr, ℕ, List, [], ◌∷◌, length, All, refl, sym, subst, ◌∙◌, arith}
 use Rattle.std.proofs.lemmas.Bool.{cases_lt}
 use Rattle.std.proofs.lemmas.List.Elements.{All-rest, All-head}
-use Rattle.std.proofs.lemmas.Simd.{map-map}
 use Rattle.raw_block.specs.Bytes.{put, item_at}
 use Rattle.raw_block.specs.BytesLaws.{length-item_at, length-put, item_at-put_apart}
-use Rattle.elem_descr.specs.declared.descr.Descr.{Descr}
-use Rattle.elem_descr.specs.Items.{item_size, decode_item}
-use Rattle.elem_descr.specs.Blocks.{item_from}
 use Rattle.shape_strides.specs.Layouts.{distance}
-use Rattle.overlap_copy.specs.Assignments.{assigned}
+use Rattle.arrays.specs.Assignments.{assigned}
 
 module _ (width : ℕ) (other : List ℕ) where
   abbrev IsIn : List ℕ → ℕ → Type 0
@@ -41,10 +37,3 @@ module _ (width : ℕ) (other : List ℕ) where
       let left : All (IsIn next) to = subst (λ n. All (λ o. o + width ≤ n) to) (sym same) (All-rest (IsIn block) at to (at ∷ to) refl in_block) in
       kept place to from next (subst (λ n. place + width ≤ n) (sym same) there) left (All-rest (IsIn other) offset from (offset ∷ from) refl in_other) (All-rest (λ o. width ≤ distance place o) at to (at ∷ to) refl apart)
       ∙ kept-once at offset place block here first there (All-head (λ o. width ≤ distance place o) at to apart)
-
--- equal bytes are equal items
-pub items-from_bytes : (descr : Descr) (block other to from : List ℕ) → map (λ o. item_at o (item_size descr) block) to ≡ map (λ o. item_at o (item_size descr) other) from → map (item_from descr block) to ≡ map (item_from descr other) from
-items-from_bytes descr block other to from same =
-    sym (map-map (decode_item descr) (λ o. item_at o (item_size descr) block) to)
-    ∙ ap (map (decode_item descr)) same
-    ∙ map-map (decode_item descr) (λ o. item_at o (item_size descr) other) from

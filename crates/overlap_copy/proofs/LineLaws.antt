@@ -15,7 +15,7 @@ use Rattle.shape_strides.specs.Limits.{max_bytes, max_items}
 use Rattle.shape_strides.specs.Addresses.{natural, LieWithin}
 use Rattle.shape_strides.specs.Layouts.{offsets, Fits, IsNested}
 use Rattle.shape_strides.specs.Runs.{run_offsets}
-use Rattle.overlap_copy.specs.Assignments.{assigned}
+use Rattle.arrays.specs.Assignments.{assigned}
 use Rattle.overlap_copy.specs.inside.Moves.{IsAssigned, IsLine, IsTurned, AreSpaced, IsRunOf, place_in}
 use Rattle.overlap_copy.proofs.MoveLaws.{same_assigned, retold, assigned_is}
 use Rattle.overlap_copy.proofs.TurnLaws.{line_within, turned_position, turned_place}

@@ -6,7 +6,7 @@ use Rattle.std.proofs.lemmas.List.Elements.{All-rest, All-head}
 use Rattle.raw_block.specs.Bytes.{put, item_at, place, EachWithin, copied_within}
 use Rattle.raw_block.specs.BytesLaws.{length-item_at, length-put, get_or-put_before, get_or-put_after, item_at-put_same, item_at-put_apart, place_within, fewer}
 use Rattle.shape_strides.specs.Layouts.{IsNested, distance}
-use Rattle.overlap_copy.specs.Assignments.{assigned}
+use Rattle.arrays.specs.Assignments.{assigned}
 use Rattle.overlap_copy.specs.inside.Moves.{IsOutside, IsAssigned}
 
 -- ---- the bytes of items

@@ -8,8 +8,8 @@ use Rattle.shape_strides.specs.declared.runs.Run.{Run}
 use Rattle.shape_strides.specs.Layouts.{IsNested, distance}
 use Rattle.shape_strides.specs.Runs.{run_offsets}
 use Rattle.shape_strides.specs.WalkLaws.{length-run_offsets}
-use Rattle.overlap_copy.specs.RunLaws.{place-at, run-ends, All-back, All-front, assigned-append}
-use Rattle.overlap_copy.specs.Assignments.{items_at, with_items, assigned}
+use Rattle.arrays.specs.RunLaws.{place-at, run-ends, All-back, All-front, assigned-append}
+use Rattle.arrays.specs.Assignments.{items_at, with_items, assigned}
 use Rattle.overlap_copy.specs.inside.Moves.{IsAssigned, LiesApart, LieApart, place_in}
 use Rattle.overlap_copy.proofs.CopyLaws.{kept}
 use Rattle.overlap_copy.proofs.MoveLaws.{same_assigned, retold, assigned_is, passed}

@@ -15,8 +15,8 @@ use Rattle.shape_strides.specs.Indexes.{IsIndex}
 use Rattle.shape_strides.specs.Layouts.{offsets, IsNested, distance}
 use Rattle.shape_strides.specs.Runs.{run_offsets}
 use Rattle.shape_strides.specs.WalkLaws.{length-run_offsets}
-use Rattle.overlap_copy.specs.RunLaws.{place-at, run-ends, lie-within, runs-within, All-back, All-front}
-use Rattle.overlap_copy.specs.Assignments.{assigned}
+use Rattle.arrays.specs.RunLaws.{place-at, run-ends, lie-within, runs-within, All-back, All-front}
+use Rattle.arrays.specs.Assignments.{assigned}
 use Rattle.overlap_copy.specs.inside.Moves.{IsAssigned, IsLine, IsTurned, AreSpaced, LiesApart, LieApart, place_in}
 use Rattle.overlap_copy.specs.inside.Shifts.{source, sources, source_run, MayCome}
 use Rattle.overlap_copy.proofs.MoveLaws.{reordered, retold}

@@ -10,11 +10,11 @@ use Rattle.shape_strides.specs.declared.run_pairs.RunPair.{RunPair}
 use Rattle.shape_strides.specs.Layouts.{IsNested, distance}
 use Rattle.shape_strides.specs.Runs.{run_offsets}
 use Rattle.shape_strides.specs.WalkLaws.{length-run_offsets}
-use Rattle.overlap_copy.specs.RunLaws.{run_offsets-more}
-use Rattle.overlap_copy.specs.Assignments.{items_at, with_items, assigned}
+use Rattle.arrays.specs.RunLaws.{run_offsets-more}
+use Rattle.arrays.specs.Assignments.{items_at, with_items, assigned}
 use Rattle.overlap_copy.specs.inside.Trades.{traded_at}
 use Rattle.overlap_copy.proofs.MoveLaws.{assigned_is}
-use Rattle.overlap_copy.proofs.RunCopies.{firsts, seconds}
+use Rattle.overlap_copy.proofs.PairCopies.{firsts, seconds}
 
 abbrev Both : Type 0
 Both = List ℕ × List ℕ

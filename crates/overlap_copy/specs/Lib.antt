@@ -1,13 +1,5 @@
-pub mod Blocks
-pub mod ItemLists
-pub mod Overlaps
-pub mod RunLaws
-pub mod Assignments
 pub mod Apart
-pub mod Packed
-pub mod inside
-pub mod Joined
-pub mod JoinedLaws
-pub mod PackedLaws
-pub mod FortranLaws
 pub mod OrderLaws
+pub mod Overlaps
+pub mod Runs
+pub mod inside

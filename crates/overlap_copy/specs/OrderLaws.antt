@@ -10,15 +10,11 @@ use Rattle.std.proofs.lemmas.List.{ext_get_or, get_or_default, length-map, get_o
 use Rattle.std.proofs.lemmas.List.Edits.{length-swap, swapped_from_swap}
 use Rattle.std.proofs.lemmas.List.Elements.{All-head, All-tail, All-from_recursion, Contains-get_or}
 use Rattle.std.proofs.lemmas.List.Sorted.{IsPermutation-map, IsPermutation-sym, IsPermutation-keeps, All-permutation, Contains-permutation}
-use Rattle.std.proofs.lemmas.Slice.Zip.{get_or-zip, length-zip, firsts-zip, seconds-zip}
+use Rattle.std.proofs.lemmas.Slice.Zip.{get_or-zip, length-zip}
 use Rattle.raw_block.specs.Bytes.{put, item_at}
 use Rattle.raw_block.specs.BytesLaws.{length-put, get_or-put_before, get_or-put_after, item_at-put_same, length-item_at, byte_of}
-use Rattle.shape_strides.specs.declared.layout.Layout.{Layout}
-use Rattle.shape_strides.specs.declared.layout_pair.LayoutPair.{LayoutPair}
-use Rattle.shape_strides.specs.Indexes.{count}
-use Rattle.shape_strides.specs.LayoutLaws.{length-offsets}
-use Rattle.shape_strides.specs.Layouts.{offsets, IsNested, distance}
-use Rattle.overlap_copy.specs.Assignments.{items_at, with_items, assigned}
+use Rattle.shape_strides.specs.Layouts.{IsNested, distance}
+use Rattle.arrays.specs.Assignments.{items_at, with_items, assigned}
 
 -- ---- items, each with its place
 
@@ -184,22 +180,6 @@ assigned-reordered width to from to' from' other block long nested in_to in_from
     with_items-reordered width to (items_at from width other) to' (items_at from' width other) block (length-map from _ ∙ long) nested
     (All-from_recursion (LiesIn (length block) width) (zip to (items_at from width other)) (zip-lie (length block) width to from other in_to in_from)) moved
 
--- the firsts of pairs in another order, and the seconds
-pub firsts-reordered : (to from to' from' : List ℕ) → length from ≡ length to → length from' ≡ length to' → IsPermutation (zip to from) (zip to' from') → IsPermutation to to'
-firsts-reordered to from to' from' long long' same =
-    subst (λ l. IsPermutation l to') (firsts-zip to from long) (subst (IsPermutation (map (λ p. p.0) (zip to from))) (firsts-zip to' from' long') (IsPermutation-map (λ p. p.0) (zip to from) (zip to' from') same))
-
-pub seconds-reordered : (to from to' from' : List ℕ) → length from ≡ length to → length from' ≡ length to' → IsPermutation (zip to from) (zip to' from') → IsPermutation from from'
-seconds-reordered to from to' from' long long' same =
-    subst (λ l. IsPermutation l from') (seconds-zip to from long) (subst (IsPermutation (map (λ p. p.1) (zip to from))) (seconds-zip to' from' long') (IsPermutation-map (λ p. p.1) (zip to from) (zip to' from') same))
-
--- what holds of all places holds of them in another order
-pub All-firsts : (P : ℕ → Type 0) (to from to' from' : List ℕ) → length from ≡ length to → length from' ≡ length to' → IsPermutation (zip to from) (zip to' from') → All P to → All P to'
-All-firsts P to from to' from' long long' same all = All-permutation P to to' (firsts-reordered to from to' from' long long' same) all
-
-pub All-seconds : (P : ℕ → Type 0) (to from to' from' : List ℕ) → length from ≡ length to → length from' ≡ length to' → IsPermutation (zip to from) (zip to' from') → All P from → All P from'
-All-seconds P to from to' from' long long' same all = All-permutation P from from' (seconds-reordered to from to' from' long long' same) all
-
 -- ---- one item at all places
 
 zip-same : (os : List ℕ) (item : List ℕ) → zip os (replicate (length os) item) ≡ map (λ o. (o, item)) os
@@ -219,15 +199,6 @@ filled-reordered os os' item block nested lie same =
         let with : ℕ → Placed = λ o. (o, item) in
         let low : k < length os = omega (arith, below, length-map os with) in
         subst (LiesIn (length block) (length item)) (sym (get_or-map with os k 0 d low)) (lie k 0 low, refl)
-
--- ---- layouts
-
--- layouts with as many items have as many offsets
-pub even : (dst src : Layout) → count dst.shape ≡ count src.shape → length (offsets src) ≡ length (offsets dst)
-even dst src same = length-offsets src ∙ sym same ∙ sym (length-offsets dst)
-
-pub pair_even : (pair : LayoutPair) → length (offsets pair.source) ≡ length (offsets pair.target)
-pair_even pair = even pair.target pair.source (ap count (sym pair.same_shape))
 
 -- ---- places that lie apart, in another order
 
@@ -275,14 +246,3 @@ swapped-nested width l i j in_i in_j nested = record {
 pub nested-reordered : (width : ℕ) (to to' : List ℕ) → IsPermutation to to' → IsNested to width → IsNested to' width
 nested-reordered width to to' same nested =
     IsPermutation-keeps to (λ l. IsNested l width) nested (λ l i j in_i in_j are. swapped-nested width l i j in_i in_j are) to' same
-
-flipped : (to from : List ℕ) → zip from to ≡ map (λ (p : ℕ × ℕ). (p.1, p.0)) (zip to from)
-flipped [] [] = refl
-flipped [] (offset ∷ from) = refl
-flipped (at ∷ to) [] = refl
-flipped (at ∷ to) (offset ∷ from) = ap (λ l. (offset, at) ∷ l) (flipped to from)
-
-pub flipped-reordered : (to from to' from' : List ℕ) → IsPermutation (zip to from) (zip to' from') → IsPermutation (zip from to) (zip from' to')
-flipped-reordered to from to' from' same =
-    let flip : ℕ × ℕ → ℕ × ℕ = λ p. (p.1, p.0) in
-    subst (λ l. IsPermutation l (zip from' to')) (sym (flipped to from)) (subst (IsPermutation (map flip (zip to from))) (sym (flipped to' from')) (IsPermutation-map flip (zip to from) (zip to' from') same))

@@ -1,5 +1,7 @@
-pub mod Rows
+pub mod Joins
 pub mod Marks
 pub mod Moves
 pub mod Shifts
+pub mod Sums
 pub mod Trades
+pub mod Turns

@@ -1,12 +1,12 @@
-//! Whether two layouts in one block are apart, as the ranges of their bytes and their strides tell.
+//! Decides by byte ranges and strides whether two layouts in one block are disjoint.
 ghost use Rattle.std.specs.Prelude.{◌≡◌, ◌↔◌, ◌+◌, ◌%◌, ◌<◌, ◌≤◌, ◌∷◌, pos, length, slice_index_or, unsigned_abs, nat_le, if◌then◌else◌, false, IsTrue};
 ghost use Rattle.shape_strides.specs.Limits.{max_bytes};
 ghost use Rattle.shape_strides.specs.Layouts.{offsets, Fits};
 ghost use Rattle.overlap_copy.specs.Overlaps.{have_common_byte};
 ghost use Rattle.overlap_copy.specs.Apart.{steps, IsGreatestDivisor, LieBetween, AreApart};
 
+use crate::divisors::common_divisor;
 use crate::overlap;
-use axis_sums::common_divisor;
 use shape_strides::Layout;
 
 /// How many bytes an axis steps over, either way: 0 where it has no two items.

@@ -6,13 +6,14 @@ ghost use Rattle.shape_strides.specs.Indexes.{count};
 ghost use Rattle.shape_strides.specs.Layouts.{offsets, Fits, IsNested};
 ghost use Rattle.shape_strides.specs.ItemPairs.{item_pairs};
 ghost use Rattle.overlap_copy.specs.Apart.{AreApart};
-ghost use Rattle.overlap_copy.specs.Assignments.{assigned, IsRun};
+ghost use Rattle.arrays.specs.Assignments.{assigned};
+ghost use Rattle.overlap_copy.specs.Runs.{IsRun};
 ghost use Rattle.overlap_copy.specs.Overlaps.{have_common_byte};
 
 use crate::apart::may_overlap;
-use crate::packed::{gather, scatter};
-use crate::run_copies::{as_runs, copy_pairs, copy_run, move_pairs};
+use crate::pair_copies::{as_runs, copy_pairs, move_pairs};
 use crate::run_moves::{have_same_step, is_same_line, move_run, turn_run, turned};
+use arrays::{copy_run, gather, scatter};
 use raw_block::RawBlock;
 use shape_strides::{Layout, LayoutPair, RunPairs, in_memory_order, lies_in_c_order};
 use std::alloc::{AllocError, Global};

@@ -1,14 +1,14 @@
-//! Items of two blocks that are exchanged, in one pass.
+//! Exchanges items of two blocks in one pass.
 ghost use Rattle.std.specs.Prelude.{◌≡◌, ◌+◌, ◌≤◌, length, All};
 ghost use Rattle.std.specs.List.{flat_map};
 ghost use Rattle.raw_block.specs.Bytes.{EachWithin};
 ghost use Rattle.shape_strides.specs.Indexes.{count};
 ghost use Rattle.shape_strides.specs.Layouts.{offsets, IsNested};
 ghost use Rattle.shape_strides.specs.Runs.{run_offsets};
-ghost use Rattle.overlap_copy.specs.Assignments.{assigned, items_at};
+ghost use Rattle.arrays.specs.Assignments.{assigned, items_at};
 ghost use Rattle.overlap_copy.specs.inside.Trades.{traded_at};
 
-use crate::run_copies::as_runs;
+use crate::pair_copies::as_runs;
 use raw_block::RawBlock;
 use shape_strides::{Layout, Run, RunPairs, in_memory_order, lies_in_c_order};
 use std::alloc::Global;

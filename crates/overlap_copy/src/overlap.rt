@@ -1,4 +1,4 @@
-//! Whether the ranges of bytes of two layouts in one block meet.
+//! Whether the byte ranges of two layouts in one block overlap.
 ghost use Rattle.std.specs.Prelude.{◌≡◌, false};
 ghost use Rattle.shape_strides.specs.Limits.{max_bytes};
 ghost use Rattle.shape_strides.specs.Layouts.{offsets, Fits};

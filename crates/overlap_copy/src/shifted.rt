@@ -7,7 +7,7 @@ ghost use Rattle.shape_strides.specs.Addresses.{LieWithin};
 ghost use Rattle.shape_strides.specs.Layouts.{offsets, Fits, IsNested};
 ghost use Rattle.shape_strides.specs.Runs.{run_offsets};
 ghost use Rattle.shape_strides.specs.Stacks.{IsStacked};
-ghost use Rattle.overlap_copy.specs.Assignments.{assigned};
+ghost use Rattle.arrays.specs.Assignments.{assigned};
 ghost use Rattle.overlap_copy.specs.inside.Shifts.{sources, source_run, MayCome};
 
 use crate::run_moves::{move_run, turned};

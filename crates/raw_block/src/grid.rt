@@ -1,4 +1,4 @@
-//! Items of a grid, copied column by column to where they lie row by row.
+//! Copies the items of a grid column by column to where they lie row by row.
 ghost use Rattle.std.specs.Prelude.{◌≡◌, ◌+◌, ◌*◌, ◌^◌, ◌<◌, ◌≤◌, ◌++◌, pos, ◌≤ℤ◌, ◌<ℤ◌, length, take};
 ghost use Rattle.raw_block.specs.Bytes.{position, place, grid_items, GridWithin};
 ghost use Rattle.raw_block.specs.inside.Bands.{band};

@@ -15,7 +15,7 @@ use Rattle.raw_block.specs.BytesLaws.{not_negative, position-add}
 use Rattle.shape_strides.specs.declared.runs.Run.{Run}
 use Rattle.shape_strides.specs.Runs.{run_offsets}
 use Rattle.shape_strides.specs.WalkLaws.{length-run_offsets}
-use Rattle.overlap_copy.specs.RunLaws.{run_offsets-more}
+use Rattle.arrays.specs.RunLaws.{run_offsets-more}
 use Rattle.reductions.specs.Reductions.{first_place}
 use Rattle.reductions.specs.inside.FoundLaws.{found-next}
 use Rattle.reductions.specs.inside.Numbers.{number_at, numbers_at, numbers_of, IsPart, TakesIn}

@@ -1,4 +1,4 @@
-//! What comes of all items of a layout, and of the lines along an axis from each of them on, one line after
+//! Reduces all items of a layout, or the lines along an axis that start at each of them: one line after
 //! another, or all at once, row by row.
 ghost use Rattle.std.specs.Prelude.{◌≡◌, ◌+◌, ◌*◌, ◌<◌, ◌≤◌, [], ◌∷◌, length, IfOk, OnOk, Some};
 ghost use Rattle.elem_descr.specs.declared.scalar.Order.TheVariants.{Little};

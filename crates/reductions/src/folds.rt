@@ -1,4 +1,4 @@
-//! Reductions that go over numbers one by one.
+//! Reductions that visit numbers one by one.
 ghost use Rattle.std.specs.Prelude.{◌≡◌, ◌+◌, ◌<◌, ◌^◌, ℕ, ℤ, pos, Bool, true, false, [], ◌∷◌, ◌++◌, List, length, if◌then◌else◌, is_some, IfSome, IsTrue, refl};
 ghost use Rattle.std.specs.List.{fold};
 ghost use Rattle.elem_descr.specs.declared.scalar.Order.{Order};
@@ -119,7 +119,7 @@ fn is_better<S: Number, const GREATEST: bool>(item: S, best: S) -> bool
     item.is_less(best)
 }
 
-/// Whether no number of the type is better. It is told of bools alone.
+/// Whether no number of the type is better; asked only for bools.
 #[inline(always)]
 fn is_last<S: Number, const GREATEST: bool>(best: S) -> bool
     ensures { IsTrue result → (order : Order) (bytes : List ℕ) (offset : ℕ) → is_better GREATEST (number_at (S.scalar order) bytes offset) (S.value best) ≡ false }

@@ -1,5 +1,5 @@
-//! All that goes by the word of a reduction: the type of its result, whether it needs items, what it makes of
-//! none, and which loop does it.
+//! All that depends on the reduction: the type of its result, whether it needs items, its result without
+//! items, and the loop that computes it.
 ghost use Rattle.std.specs.Prelude.{◌≡◌, ◌*◌, ◌<◌, ◌≤◌, ℕ, [], true, length, IfOk};
 ghost use Rattle.elem_descr.specs.declared.scalar.Order.TheVariants.{Little};
 ghost use Rattle.elem_descr.specs.Encoding.{size};

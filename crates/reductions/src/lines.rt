@@ -1,4 +1,4 @@
-//! Numbers that are reduced, the lists and lines that they make, and what comes of a line.
+//! The numbers to reduce, the lists and lines that they form, and the result of a line.
 ghost use Rattle.std.specs.Prelude.{◌≡◌, ◌+◌, ◌^◌, ◌<◌, ◌≤◌, ℕ, length, All, IsTrue};
 ghost use Rattle.elem_descr.specs.Encoding.{size};
 ghost use Rattle.raw_block.specs.Bytes.{place, EachWithin};

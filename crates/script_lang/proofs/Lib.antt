@@ -6,4 +6,5 @@ pub mod Lists
 pub mod Records
 pub mod Rooms
 pub mod Commands
+pub mod VerbLaws
 mod Vectors

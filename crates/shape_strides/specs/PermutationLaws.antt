@@ -131,7 +131,7 @@ paired (a ∷ order) (k ∷ index) in' =
     let rest = paired order index in'.1 in
     ((a, k) ∷ rest.0, ap (λ l. a ∷ l) rest.1, ap (λ l. k ∷ l) rest.2, (in'.0, rest.3))
 
-map-swap : {X Y : Type 0} (f : X → Y) (l : List X) (i j : ℕ) (d : X) → i < length l → j < length l → map f (swap l i j) ≡ swap (map f l) i j
+pub map-swap : {X Y : Type 0} (f : X → Y) (l : List X) (i j : ℕ) (d : X) → i < length l → j < length l → map f (swap l i j) ≡ swap (map f l) i j
 map-swap f l i j d below below' =
     let long = length-map l f in
     ap (map f) (swap_is l i j d below below')

@@ -1,4 +1,4 @@
-//! The view of what was picked from each axis.
+//! The view of what was selected from each axis.
 ghost use Rattle.std.specs.Prelude.{◌≡◌, ℕ, ◌<◌, ◌≤◌, pos, [], ◌++◌, map, length, slice_index_or, IfOk, OnOk};
 ghost use Rattle.std.specs.List.{flat_map};
 ghost use Rattle.elem_descr.specs.Refusals.{Gives};

@@ -12,8 +12,8 @@ use Rattle.shape_strides.specs.Layouts.{offsets}
 use Rattle.shape_strides.specs.Limits.{max_bytes}
 use Rattle.shape_strides.specs.Indexes.{count}
 use Rattle.view_ops.specs.Views.{View, IsViewOf, KeepsNested}
-use Rattle.overlap_copy.specs.declared.items.Items.{Items}
-use Rattle.overlap_copy.specs.declared.owned.Owned.{Owned}
+use Rattle.arrays.specs.declared.items.Items.{Items}
+use Rattle.arrays.specs.declared.owned.Owned.{Owned}
 use Rattle.elementwise.specs.Casts.{can_cast, cast_item}
 use Rattle.broadcasting.specs.Broadcasts.{stretched_into}
 use Rattle.name_store.specs.States.{State, Array}

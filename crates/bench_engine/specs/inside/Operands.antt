@@ -8,8 +8,8 @@ use Rattle.shape_strides.specs.Layouts.{offsets}
 use Rattle.view_ops.specs.Views.{View, IsViewOf}
 use Rattle.broadcasting.specs.Broadcasts.{can_stretch}
 use Rattle.elementwise.specs.Results.{stretched_items}
-use Rattle.overlap_copy.specs.declared.items.Items.{Items}
-use Rattle.overlap_copy.specs.declared.owned.Owned.{Owned}
+use Rattle.arrays.specs.declared.items.Items.{Items}
+use Rattle.arrays.specs.declared.owned.Owned.{Owned}
 use Rattle.elem_descr.specs.declared.descr.Descr.{Descr}
 use Rattle.elem_descr.specs.Values.{LeafValue}
 use Rattle.name_store.specs.Targets.{HasItems}
@@ -21,10 +21,10 @@ use Rattle.script_lang.specs.declared.command.Argument.{Argument}
 use Rattle.script_lang.specs.declared.command.Argument.TheVariants as argument
 use Rattle.script_lang.specs.declared.command.Operand.{Operand}
 use Rattle.bench_engine.specs.Machine.{OperandValues, operand_part, viewed}
-use Rattle.bench_engine.specs.declared.given.Given.{Given}
-use Rattle.bench_engine.specs.declared.given.Given.TheVariants as given
-use Rattle.bench_engine.specs.declared.operand.Part.{Part}
-use Rattle.bench_engine.specs.declared.operand.Part.TheVariants as part
+use Rattle.bench_engine.specs.declared.write.Given.{Given}
+use Rattle.bench_engine.specs.declared.write.Given.TheVariants as given
+use Rattle.bench_engine.specs.declared.operate.Part.{Part}
+use Rattle.bench_engine.specs.declared.operate.Part.TheVariants as part
 use Rattle.bench_engine.specs.inside.Assigns.{Holds, LiesIn}
 
 -- they are those of an array of the state

@@ -4,8 +4,8 @@ use Rattle.elem_descr.specs.declared.refusal.Refusal.{Refusal}
 use Rattle.elem_descr.specs.declared.refusal.Refusal.TheVariants.{LineTooLong}
 use Rattle.script_lang.specs.declared.command.Command.{Command}
 use Rattle.script_lang.specs.Reading.{Says}
-use Rattle.bench_engine.specs.declared.line.Line.{Line as ReadLine}
-use Rattle.bench_engine.specs.declared.line.Line.TheVariants.{Held, TooLong}
+use Rattle.bench_engine.specs.declared.session.Line.{Line as ReadLine}
+use Rattle.bench_engine.specs.declared.session.Line.TheVariants.{Held, TooLong}
 use Rattle.bench_engine.specs.Headline.{Meaning, too_long, says, meaning_of}
 
 -- what a line as it was read means

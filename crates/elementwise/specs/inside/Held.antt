@@ -2,11 +2,14 @@
 use Rattle.std.specs.Prelude.{ℕ, List}
 use Rattle.elem_descr.specs.declared.descr.Descr.{Descr}
 use Rattle.elem_descr.specs.Values.{LeafValue}
-use Rattle.overlap_copy.specs.ItemLists.{items, owned_items}
-use Rattle.overlap_copy.specs.declared.items.Items.{Items}
+use Rattle.arrays.specs.ItemLists.{items, owned_items}
+use Rattle.arrays.specs.declared.items.Items.{Items}
+use Rattle.shape_strides.specs.declared.layout.Layout.{Layout}
 use Rattle.elementwise.specs.Results.{stretched_items}
 use Rattle.elementwise.specs.declared.typed.Held.{Held}
 use Rattle.elementwise.specs.declared.typed.Held.TheVariants.{Kept, Made}
+use Rattle.elementwise.specs.declared.typed.Fitted.{Fitted}
+use Rattle.elementwise.specs.declared.typed.Fitted.TheVariants as fitted
 
 abbrev pub held_items : Held → List (List LeafValue)
 held_items (Kept i) = items i
@@ -19,6 +22,10 @@ held_descr (Made o) = o.descr
 abbrev pub held_shape : Held → List ℕ
 held_shape (Kept i) = i.layout.now.shape
 held_shape (Made o) = o.layout.shape
+
+abbrev pub fitted_layout : Fitted → Layout
+fitted_layout (fitted.Same l) = l.now
+fitted_layout (fitted.Made l) = l
 
 -- items that are lent, as they are stretched to a shape
 abbrev pub stretched : Items → List ℕ → List (List LeafValue)

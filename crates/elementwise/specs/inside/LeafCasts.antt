@@ -8,7 +8,7 @@ use Rattle.elem_descr.specs.Encoding.{size, decode, encode}
 use Rattle.elem_descr.specs.Items.{item_size, leaves_of, leaf_at}
 use Rattle.raw_block.specs.Bytes.{item_at}
 use Rattle.elementwise.specs.Casts.{cast_value}
-use Rattle.overlap_copy.specs.Packed.{row_offsets}
+use Rattle.arrays.specs.Packed.{row_offsets}
 
 -- the bytes of a value of one scalar as those of another
 abbrev pub leaf_cast : Scalar → Scalar → List ℕ → List ℕ

@@ -9,7 +9,7 @@ use Rattle.shape_strides.specs.declared.layout.Layout.{Layout}
 use Rattle.shape_strides.specs.Contiguity.{fortran_order}
 use Rattle.shape_strides.specs.Indexes.{count}
 use Rattle.shape_strides.specs.Layouts.{offsets, multiples}
-use Rattle.overlap_copy.specs.declared.owned.Owned.{Owned}
+use Rattle.arrays.specs.declared.owned.Owned.{Owned}
 
 -- an array of this element type and shape, in C order, with these items, whose bytes are theirs as they are encoded
 pub record IsMade (descr : Descr) (shape : List ℕ) (values : List (List LeafValue)) (o : Owned) : Type 0 where

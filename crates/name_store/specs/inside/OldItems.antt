@@ -2,7 +2,7 @@
 use Rattle.std.specs.Prelude.{◌≡◌, ◌*◌, ℕ, List, length, Option, Some}
 use Rattle.std.specs.Option.{option_map}
 use Rattle.shape_strides.specs.Layouts.{multiples}
-use Rattle.overlap_copy.specs.Assignments.{items_at}
+use Rattle.arrays.specs.Assignments.{items_at}
 use Rattle.name_store.specs.Invariants.{users_at}
 use Rattle.name_store.specs.Targets.{target_offsets}
 use Rattle.name_store.specs.View.{slot_at}

@@ -1,4 +1,4 @@
-//! The commands that ask for something and change nothing.
+//! The commands that answer a question and change nothing.
 ghost use Rattle.std.specs.Prelude.{◌≡◌};
 ghost use Rattle.script_lang.specs.Commands.{shares_at, asked_at, question_at};
 ghost use Rattle.script_lang.specs.Reading.{Scans};

@@ -1,4 +1,4 @@
-//! The commands that neither bind a name nor ask for something.
+//! The commands that neither bind a name nor answer a question.
 ghost use Rattle.std.specs.Prelude.{◌≡◌};
 ghost use Rattle.script_lang.specs.Commands.{set_at, update_at, delete_at, save_at};
 ghost use Rattle.script_lang.specs.Reading.{Scans, Reads, parts_take_memory};

@@ -3,7 +3,7 @@ ghost use Rattle.std.specs.Prelude.{◌≡◌, map};
 ghost use Rattle.script_lang.specs.Verbs.{beside, verb_of, is_constant, operation_of, order_of};
 
 use crate::operation::Operation;
-use crate::verb::{ComputeVerb, VERBS, Verb};
+use crate::verb::{ComputeVerb, FOUR_LETTERS, MORE_LETTERS, THREE_LETTERS, TWO_LETTERS, Verb};
 use shape_strides::MemoryOrder;
 
 /// The verb of the word in a table.
@@ -24,7 +24,13 @@ fn lookup(mut table: &[(&[u8], Verb)], word: &[u8]) -> Option<Verb>
 pub fn verb(word: &[u8]) -> Option<Verb>
     ensures { result ≡ verb_of word.now }
 {
-    lookup(&VERBS, word)
+    match word.len() {
+        0 | 1 => None,
+        2 => lookup(&TWO_LETTERS, word),
+        3 => lookup(&THREE_LETTERS, word),
+        4 => lookup(&FOUR_LETTERS, word),
+        _ => lookup(&MORE_LETTERS, word),
+    }
 }
 
 /// Whether the word is a keyword of literals or index lists.

@@ -24,6 +24,12 @@ returns-in_default c = record { gives = inr (number_refused c.args.operand.descr
 pub compare_once-requires : goal.compare_once-requires
 compare_once-requires c = is_scalar c.args.operand.descr.now c.in_ok-from.from c.in_ok-from.ensures ∙ ap ScalarDescr c.in-Bytes.is
 
+pub returns-then-bytes-get-clause-gives : goal.returns-then-bytes-get-clause-gives
+returns-then-bytes-get-clause-gives c =
+    made-gives (ScalarDescr BoolScalar) c.args.operand.layout.now.shape _ c.compare_with_item.result _
+    (one_given c.args.operand.descr.now c.args.operand.layout.now.shape c.in_ok-from.from c.in_ok-from.ensures (ap is_text c.in-Bytes.is))
+    c.compare_with_item.ensures.made c.compare_with_item.ensures.refused
+
 pub returns-clause-gives : goal.returns-clause-gives
 returns-clause-gives c =
     made-gives (ScalarDescr BoolScalar) c.args.operand.layout.now.shape _ c.compare_once.result _

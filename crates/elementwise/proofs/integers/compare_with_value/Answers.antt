@@ -13,8 +13,8 @@ use Rattle.elementwise.proofs.MadeLaws.{made-as}
 use Rattle.elementwise.proofs.IntegerLaws.{one-stretches, all_held}
 use Rattle.elementwise.proofs.integers.compare_with_value.Goals as goal
 
-pub one_item-requires : goal.one_item-requires
-one_item-requires c = record { number = subst IsNumber (sym c.little.ensures) (number-little c.args.from.now c.requires.number) }
+pub number_block-requires : goal.number_block-requires
+number_block-requires c = subst IsNumber (sym c.little-scalar.ensures) (number-little c.args.from.now c.requires.number)
 
 pub invariant_of-both : goal.invariant_of-both
 invariant_of-both c =
@@ -24,7 +24,7 @@ invariant_of-both c =
 pub compare_once-requires : goal.compare_once-requires
 compare_once-requires c =
     let from = c.args.from.now in
-    comparable_scalars c.args.operand.descr.now c.items.result.descr.now from (little from) c.requires.from (c.items.ensures.descr ∙ c.in_ok-item.ensures.descr ∙ ap ScalarDescr c.little.ensures) (comparable_numbers from c.requires.number)
+    comparable_scalars c.args.operand.descr.now c.items.result.descr.now from (little from) c.requires.from (c.items.ensures.descr ∙ c.in_ok-item.ensures.descr ∙ ap ScalarDescr c.little-scalar.ensures) (comparable_numbers from c.requires.number)
 
 pub returns-clause-made : goal.returns-clause-made
 returns-clause-made c =
@@ -32,5 +32,5 @@ returns-clause-made c =
     let y = c.items.result in
     made-as (ScalarDescr BoolScalar) x.layout.now.shape _ _ c.compare_once.result
     (all_held c.args.comparison x.descr.now y.descr.now x.block.now y.block.now x.layout.now y.layout.now (number c.args.integer ∷ []) (ap (λ l. l.shape) c.items.ensures.layout ∙ c.in_ok-item.ensures.shape)
-    (c.items.ensures.items ∙ c.in_ok-item.ensures.items ∙ (λ i. (number (wrap (c.little.ensures i) (to_z-of_z w128 c.args.integer c.ranges.integer i)) ∷ []) ∷ []) ∙ λ i. (number (c.requires.held i) ∷ []) ∷ []))
+    (c.items.ensures.items ∙ c.in_ok-item.ensures.items ∙ (λ i. (c.in_ok-block.ensures.value i ∷ []) ∷ []) ∙ (λ i. (number (wrap (c.little-scalar.ensures i) (to_z-of_z w128 c.args.integer c.ranges.integer i)) ∷ []) ∷ []) ∙ λ i. (number (c.requires.held i) ∷ []) ∷ []))
     c.compare_once.ensures.made

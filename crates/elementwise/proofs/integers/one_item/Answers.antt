@@ -1,11 +1,8 @@
-use Rattle.std.proofs.Common.{inl, inr, ◌≡◌, ◌*◌, [], ◌∷◌, sym, ap, ◌∙◌, refl, arith}
-use Rattle.std.specs.Int.{w128}
+use Rattle.std.proofs.Common.{inl, inr, ◌≡◌, ◌*◌, [], sym, ap, ◌∙◌, refl, arith}
 use Rattle.std.specs.Result.{is_ok}
-use Rattle.std.proofs.lemmas.Int.{to_z-of_z}
 use Rattle.std.proofs.lemmas.Result.{err_from_is_err_and}
 use Rattle.std.proofs.lemmas.Bool.{false≢true}
-use Rattle.elem_descr.specs.Encoding.{size, wrap}
-use Rattle.elem_descr.specs.Values.{number}
+use Rattle.elem_descr.specs.Encoding.{size}
 use Rattle.shape_strides.specs.Indexes.{count}
 use Rattle.shape_strides.specs.ShapeLaws.{shape_of-ok, shape_of-same}
 use Rattle.elementwise.proofs.IntegerLaws.{one_read}
@@ -24,13 +21,11 @@ over-requires-clause-whole c =
     let none = shape_of-same [] c.in_ok-shape.shape c.in_ok-shape.ensures in
     let one : count c.in_ok-shape.shape ≡ 1 = ap count (sym none) in
     let all : count c.in_ok-shape.shape * size c.args.scalar.now ≡ 1 * size c.args.scalar.now = ap (λ n. n * size c.args.scalar.now) one in
-    omega (arith, c.in_ok-block.ensures.len, all)
+    omega (arith, c.requires.whole, all)
 
 pub returns-clause-shape : goal.returns-clause-shape
 returns-clause-shape c = c.in_ok-owned.ensures.shape ∙ sym (shape_of-same [] c.in_ok-shape.shape c.in_ok-shape.ensures)
 
 pub returns-clause-items : goal.returns-clause-items
 returns-clause-items c =
-    let fits = c.ranges.integer in
-    one_read c.args.scalar.now c.in_ok-owned.owned c.in_ok-shape.shape c.in_ok-block.block _ (shape_of-same [] c.in_ok-shape.shape c.in_ok-shape.ensures) c.in_ok-owned.ensures.descr c.in_ok-owned.ensures.order c.in_ok-owned.ensures.block c.in_ok-block.ensures.len c.in_ok-block.ensures.value
-    ∙ λ i. (number (wrap c.args.scalar.now (to_z-of_z w128 c.args.integer fits i)) ∷ []) ∷ []
+    one_read c.args.scalar.now c.in_ok-owned.owned c.in_ok-shape.shape c.args.block _ (shape_of-same [] c.in_ok-shape.shape c.in_ok-shape.ensures) c.in_ok-owned.ensures.descr c.in_ok-owned.ensures.order c.in_ok-owned.ensures.block c.requires.whole refl

@@ -7,7 +7,7 @@ use Rattle.shape_strides.specs.Indexes.{count}
 use Rattle.shape_strides.specs.Layouts.{offsets}
 use Rattle.shape_strides.specs.LayoutLaws.{length-offsets, offsets_within}
 use Rattle.shape_strides.specs.ReverseLaws.{count-reverse}
-use Rattle.overlap_copy.specs.FortranLaws.{fortran-all}
+use Rattle.arrays.specs.FortranLaws.{fortran-all}
 use Rattle.elementwise.specs.Results.{pairwise}
 use Rattle.elementwise.specs.inside.Operands.{pairs_of, made_of_all}
 use Rattle.elementwise.specs.inside.PairPasses.{pair_from}

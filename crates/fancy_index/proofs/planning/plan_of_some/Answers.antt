@@ -56,7 +56,7 @@ shifts-requires-clause-many c =
 
 pub try_new-requires-clause-count : goal.try_new-requires-clause-count
 try_new-requires-clause-count c =
-    ap (λ s. length (moved_all c.in_ok-inner.inner.offset (offsets c.in_ok-outer.outer) s (offsets c.in_ok-inner.inner))) c.in_ok-shifts.ensures
+    ap (λ s. length (moved_all c.in_ok-inner.inner.offset (offsets c.in_ok-outer.outer) s (offsets c.in_ok-inner.inner))) c.in_ok-shifts.ensures.ok
     ∙ count-is c.args.layout.now c.in_ok-rest.rest c.in_ok-outer.outer c.in_ok-inner.inner c.args.parts.now c.args.points.now (laid (goal.at.try_new-requires-clause-count c).In_ok-inner)
     ∙ sym (ap count c.requires.shape)
 
@@ -65,13 +65,13 @@ try_new-requires-clause-small c = small-offset c.args.layout.now c.in_ok-rest.re
 
 pub try_new-requires-clause-starts : goal.try_new-requires-clause-starts
 try_new-requires-clause-starts c =
-    subst (λ (s : List ℕ). All (AreStarts c.in_ok-inner.inner.offset (offsets c.in_ok-inner.inner) s) (offsets c.in_ok-outer.outer)) (sym c.in_ok-shifts.ensures) (starts c.args.layout.now c.in_ok-rest.rest c.in_ok-outer.outer c.in_ok-inner.inner c.args.parts.now c.args.points.now (laid (goal.at.try_new-requires-clause-starts c).In_ok-inner))
+    subst (λ (s : List ℕ). All (AreStarts c.in_ok-inner.inner.offset (offsets c.in_ok-inner.inner) s) (offsets c.in_ok-outer.outer)) (sym c.in_ok-shifts.ensures.ok) (starts c.args.layout.now c.in_ok-rest.rest c.in_ok-outer.outer c.in_ok-inner.inner c.args.parts.now c.args.points.now (laid (goal.at.try_new-requires-clause-starts c).In_ok-inner))
 
 pub returns-clause-ok : goal.returns-clause-ok
 returns-clause-ok c =
     is-plan c.args.layout.now c.in_ok-rest.rest c.in_ok-outer.outer c.in_ok-inner.inner c.args.parts.now c.args.points.now (laid (goal.at.returns-clause-ok c).In_ok-inner) c.in_ok-try_new.field-0
     (c.in_ok-try_new.ensures.shape ∙ c.requires.shape)
-    (c.in_ok-try_new.ensures.offsets ∙ ap (λ s. moved_all c.in_ok-inner.inner.offset (offsets c.in_ok-outer.outer) s (offsets c.in_ok-inner.inner)) c.in_ok-shifts.ensures)
+    (c.in_ok-try_new.ensures.offsets ∙ ap (λ s. moved_all c.in_ok-inner.inner.offset (offsets c.in_ok-outer.outer) s (offsets c.in_ok-inner.inner)) c.in_ok-shifts.ensures.ok)
 
 pub shifts-requires-clause-some : goal.shifts-requires-clause-some
 shifts-requires-clause-some c = (some_others c.args.parts.now c.args.points.now (omega (arith, ap count c.requires.shape, c.requires.some))).1

@@ -1,9 +1,9 @@
 use Rattle.std.proofs.Common.{◌≡◌, ◌+◌, ◌*◌, length, All}
 use Rattle.shape_strides.specs.Layouts.{offsets}
-use Rattle.overlap_copy.specs.Assignments.{assigned}
+use Rattle.arrays.specs.Assignments.{assigned}
 use Rattle.fancy_index.specs.inside.Kept.{offsets_from}
 use Rattle.fancy_index.specs.inside.Moved.{moved_all, AreStarts}
-use Rattle.overlap_copy.specs.Packed.{row_offsets as packed}
+use Rattle.arrays.specs.Packed.{row_offsets as packed}
 use Rattle.fancy_index.proofs.Passes.{Scattering}
 use Rattle.fancy_index.proofs.scatter.scatter.Given as goal
 

@@ -1,7 +1,7 @@
 use Rattle.std.proofs.Common.{◌≡◌, ◌+◌, ◌*◌, length}
-use Rattle.overlap_copy.specs.Assignments.{assigned}
+use Rattle.arrays.specs.Assignments.{assigned}
 use Rattle.fancy_index.specs.inside.Kept.{moved_offsets}
-use Rattle.overlap_copy.specs.Packed.{row_offsets as packed}
+use Rattle.arrays.specs.Packed.{row_offsets as packed}
 use Rattle.fancy_index.proofs.Passes.{RunsLeft, Scattering, moved_runs}
 use Rattle.fancy_index.proofs.scatter.scatter_from.Given as goal
 

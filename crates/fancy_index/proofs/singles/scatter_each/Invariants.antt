@@ -1,7 +1,7 @@
 use Rattle.std.proofs.Common.{◌≡◌, ◌+◌, ◌*◌, length, map, drop}
-use Rattle.overlap_copy.specs.Assignments.{assigned}
+use Rattle.arrays.specs.Assignments.{assigned}
 use Rattle.fancy_index.specs.inside.Moved.{moved_offset}
-use Rattle.overlap_copy.specs.Packed.{row_offsets as packed}
+use Rattle.arrays.specs.Packed.{row_offsets as packed}
 use Rattle.fancy_index.proofs.Passes.{Scattering}
 use Rattle.fancy_index.proofs.singles.scatter_each.Given as goal
 

@@ -14,7 +14,7 @@ use Rattle.shape_strides.specs.Layouts.{offsets}
 use Rattle.shape_strides.specs.LayoutLaws.{length-offsets}
 use Rattle.shape_strides.specs.Runs.{run_offsets}
 use Rattle.shape_strides.specs.WalkLaws.{length-run_offsets}
-use Rattle.overlap_copy.specs.RunLaws.{All-front, All-back}
+use Rattle.arrays.specs.RunLaws.{All-front, All-back}
 use Rattle.fancy_index.specs.Sources.{number_from, index_array_of}
 use Rattle.fancy_index.specs.inside.Words.{word, ArePushed}
 use Rattle.fancy_index.proofs.PartLaws.{passed}

@@ -1,7 +1,7 @@
 use Rattle.std.proofs.Common.{refl, sym, ap, subst, ◌∙◌, length, List, Option, arith}
 use Rattle.std.specs.Option.{option_copied_mut}
 use Rattle.std.proofs.lemmas.Option.{same_Some}
-use Rattle.overlap_copy.specs.Assignments.{with_items}
+use Rattle.arrays.specs.Assignments.{with_items}
 use Rattle.name_store.specs.Targets.{target_offsets}
 use Rattle.name_store.specs.declared.slot.Slot.{Slot}
 use Rattle.name_store.specs.inside.Exchanges.{IsPacked}

@@ -3,7 +3,7 @@ use Rattle.std.specs.Option.{option_copied_mut}
 use Rattle.std.proofs.lemmas.Option.{same_Some}
 use Rattle.shape_strides.specs.LayoutLaws.{length-offsets}
 use Rattle.shape_strides.specs.Layouts.{offsets, multiples}
-use Rattle.overlap_copy.specs.Assignments.{items_at, assigned}
+use Rattle.arrays.specs.Assignments.{items_at, assigned}
 use Rattle.name_store.specs.declared.slot.Slot.{Slot}
 use Rattle.name_store.specs.declared.target.Source.TheVariants.{Block}
 use Rattle.name_store.specs.declared.target.Target.TheVariants.{View}

@@ -4,7 +4,7 @@ use mir.Val.{SFits}
 use Rattle.raw_block.specs.Bytes.{EachWithin, filled}
 use Rattle.shape_strides.specs.Limits.{max_bytes}
 use Rattle.shape_strides.specs.Runs.{runs}
-use Rattle.overlap_copy.specs.RunLaws.{run-within, runs-within}
+use Rattle.arrays.specs.RunLaws.{run-within, runs-within}
 use Rattle.fancy_index.specs.Plans.{put_each}
 use Rattle.fancy_index.specs.PlanLaws.{filled-run}
 use Rattle.name_store.proofs.rewrite.fill_each.Goals as goal

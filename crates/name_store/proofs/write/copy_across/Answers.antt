@@ -2,7 +2,7 @@ use Rattle.std.proofs.Common.{◌≡◌, ◌+◌, ◌≤◌, refl, ap, sym, ◌�
 use Rattle.std.proofs.lemmas.Option.{same_Some}
 use Rattle.shape_strides.specs.Layouts.{offsets}
 use Rattle.shape_strides.specs.LayoutLaws.{offsets_within}
-use Rattle.overlap_copy.specs.Assignments.{items_at, with_items}
+use Rattle.arrays.specs.Assignments.{items_at, with_items}
 use Rattle.name_store.specs.Targets.{target_offsets}
 use Rattle.name_store.specs.View.{slot_at}
 use Rattle.name_store.specs.inside.Homes.{HasNew}

@@ -1,7 +1,7 @@
 use Rattle.std.proofs.Common.{refl, sym, ap, ◌∙◌, length, arith}
 use Rattle.std.specs.Option.{option_copied_mut}
 use Rattle.shape_strides.specs.Layouts.{offsets}
-use Rattle.overlap_copy.specs.Assignments.{assigned}
+use Rattle.arrays.specs.Assignments.{assigned}
 use Rattle.name_store.specs.Targets.{target_offsets}
 use Rattle.name_store.specs.declared.target.Source.TheVariants.{Block}
 use Rattle.name_store.specs.declared.slot.Slot.{Slot}

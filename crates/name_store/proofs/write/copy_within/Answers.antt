@@ -3,7 +3,7 @@ use Rattle.std.specs.Option.{option_copied_mut}
 use Rattle.std.proofs.lemmas.Option.{same_Some}
 use Rattle.std.proofs.lemmas.Result.{IfOk-weaker, IfErr-weaker}
 use Rattle.shape_strides.specs.Layouts.{offsets, Fits}
-use Rattle.overlap_copy.specs.Assignments.{items_at, with_items}
+use Rattle.arrays.specs.Assignments.{items_at, with_items}
 use Rattle.name_store.specs.Targets.{target_offsets}
 use Rattle.name_store.specs.View.{slot_at}
 use Rattle.name_store.specs.inside.Puts.{block_in}

@@ -1,7 +1,7 @@
 use Rattle.std.proofs.Common.{refl, sym, ap, ◌∙◌, length, replicate, arith}
 use Rattle.std.specs.Option.{option_copied_mut}
 use Rattle.fancy_index.specs.Plans.{put_each}
-use Rattle.overlap_copy.specs.Assignments.{with_items}
+use Rattle.arrays.specs.Assignments.{with_items}
 use Rattle.name_store.specs.Targets.{target_offsets}
 use Rattle.name_store.specs.declared.target.Source.TheVariants.{One}
 use Rattle.name_store.specs.declared.slot.Slot.{Slot}

@@ -1,6 +1,6 @@
 use Rattle.std.proofs.Common.{◌≡◌, ◌+◌, ◌≤◌, length, replicate, sym, ap, subst, ◌∙◌}
 use Rattle.std.proofs.lemmas.List.Sorted.{All-permutation}
-use Rattle.overlap_copy.specs.Assignments.{with_items}
+use Rattle.arrays.specs.Assignments.{with_items}
 use Rattle.name_store.specs.Targets.{target_offsets}
 use Rattle.name_store.specs.declared.target.Source.{Source}
 use Rattle.name_store.specs.inside.Homes.{HasNew}

@@ -5,7 +5,7 @@ use Rattle.shape_strides.specs.Limits.{max_bytes}
 use Rattle.shape_strides.specs.Layouts.{offsets}
 use Rattle.shape_strides.specs.LayoutLaws.{length-offsets}
 use Rattle.shape_strides.specs.Runs.{run_offsets, runs}
-use Rattle.overlap_copy.specs.RunLaws.{runs-within}
+use Rattle.arrays.specs.RunLaws.{runs-within}
 use Rattle.npy_format.specs.inside.WrittenItems.{addresses_in_file}
 use Rattle.npy_format.proofs.GatherLaws.{gathered, together, in_file-none, few-counts}
 use Rattle.npy_format.proofs.items.push_items.Goals as goal

@@ -1,6 +1,7 @@
 use Rattle.std.proofs.Common.{◌+◌, ◌≤◌, length, ◌∙◌}
 use Rattle.shape_strides.specs.Layouts.{offsets}
-use Rattle.overlap_copy.specs.OrderLaws.{even, pair_even, All-firsts, All-seconds, assigned-reordered}
+use Rattle.arrays.specs.PairLaws.{even, pair_even, All-firsts, All-seconds}
+use Rattle.overlap_copy.specs.OrderLaws.{assigned-reordered}
 use Rattle.overlap_copy.proofs.assignment.assign_from.Goals as goal
 
 pub assign_in_order-requires-in-Some-clause-dst : goal.assign_in_order-requires-in-Some-clause-dst

@@ -1,7 +1,7 @@
 use Rattle.std.proofs.Common.{length, ◌∙◌}
 use Rattle.shape_strides.specs.Layouts.{offsets}
-use Rattle.overlap_copy.specs.Assignments.{assigned}
-use Rattle.overlap_copy.proofs.RunCopies.{as_many, one-within}
+use Rattle.arrays.specs.Assignments.{assigned}
+use Rattle.overlap_copy.proofs.PairCopies.{as_many, one-within}
 use Rattle.overlap_copy.proofs.assignment.assign_in_order.Goals as goal
 
 pub copy_run-requires : goal.copy_run-requires

@@ -1,6 +1,6 @@
 use Rattle.std.proofs.Common.{length}
 use Rattle.shape_strides.specs.Limits.{max_bytes}
-use Rattle.overlap_copy.specs.RunLaws.{walked-within}
+use Rattle.arrays.specs.RunLaws.{walked-within}
 use Rattle.overlap_copy.proofs.assignment.assign_pairs.Goals as goal
 
 pub copy_pairs-requires-clause-to : goal.copy_pairs-requires-clause-to

@@ -3,11 +3,11 @@ use Rattle.shape_strides.specs.Limits.{max_bytes}
 use Rattle.shape_strides.specs.declared.layout.Layout.{Layout}
 use Rattle.shape_strides.specs.Indexes.{count}
 use Rattle.shape_strides.specs.Layouts.{offsets, IsNested}
-use Rattle.overlap_copy.specs.Assignments.{assigned}
-use Rattle.overlap_copy.specs.RunLaws.{walked-within}
-use Rattle.overlap_copy.specs.OrderLaws.{even}
+use Rattle.arrays.specs.Assignments.{assigned}
+use Rattle.arrays.specs.RunLaws.{walked-within}
+use Rattle.arrays.specs.PairLaws.{even}
 use Rattle.overlap_copy.specs.inside.Trades.{traded_at}
-use Rattle.overlap_copy.proofs.RunCopies.{as_many, one-within, firsts, seconds}
+use Rattle.overlap_copy.proofs.PairCopies.{as_many, one-within, firsts, seconds}
 use Rattle.overlap_copy.proofs.TradeLaws.{traded-apart}
 use Rattle.overlap_copy.proofs.exchanges.exchange_pairs.Goals as goal
 use Rattle.overlap_copy.proofs.exchanges.exchange_pairs.Goals.{After-trade_run, After-trade_pairs}

@@ -3,7 +3,7 @@ use Rattle.std.specs.List.{flat_map}
 use Rattle.shape_strides.specs.Limits.{max_bytes}
 use Rattle.shape_strides.specs.Addresses.{LieWithin}
 use Rattle.shape_strides.specs.Runs.{run_offsets}
-use Rattle.overlap_copy.specs.Assignments.{assigned}
+use Rattle.arrays.specs.Assignments.{assigned}
 use Rattle.overlap_copy.specs.inside.Shifts.{sources, MayCome}
 use Rattle.overlap_copy.proofs.MovingLaws.{IsMoving}
 use Rattle.overlap_copy.proofs.shifted.move_shifted.Given as goal

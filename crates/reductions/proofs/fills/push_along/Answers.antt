@@ -2,7 +2,7 @@ use Rattle.std.proofs.Common.{◌≡◌, ◌+◌, ◌*◌, ◌≤◌, All, lengt
 use Rattle.std.proofs.lemmas.List.{map-append}
 use Rattle.std.proofs.lemmas.List.Elements.{All-head, All-rest}
 use Rattle.raw_block.specs.Bytes.{place, EachWithin}
-use Rattle.overlap_copy.specs.RunLaws.{runs-within, place-at, All-front, All-back}
+use Rattle.arrays.specs.RunLaws.{runs-within, place-at, All-front, All-back}
 use Rattle.shape_strides.specs.Limits.{max_bytes}
 use Rattle.shape_strides.specs.Layouts.{offsets}
 use Rattle.shape_strides.specs.LayoutLaws.{length-offsets}

@@ -1,18 +1,20 @@
-use Rattle.std.proofs.Common.{◌≡◌, ◌+◌, ◌*◌, ◌≤◌, ◌++◌, All, length, sym, ap, subst, ◌∙◌, arith, mul_comm, mul-le-mul_right}
+use Rattle.std.proofs.Common.{◌≡◌, ◌+◌, ◌*◌, ◌≤◌, ◌++◌, All, length, sym, ap, subst, ◌∙◌, arith}
 use Rattle.std.specs.List.{concat}
 use Rattle.std.proofs.lemmas.List.Elements.{All-rest}
 use Rattle.elem_descr.specs.Items.{item_size}
 use Rattle.raw_block.specs.Bytes.{EachWithin}
 use Rattle.shape_strides.specs.Limits.{max_bytes}
+use Rattle.shape_strides.specs.Indexes.{count}
 use Rattle.shape_strides.specs.Layouts.{offsets}
 use Rattle.shape_strides.specs.LayoutLaws.{length-offsets}
+use Rattle.shape_strides.specs.WalkLaws.{length-run_offsets}
 use Rattle.shape_strides.specs.RunPairs.{run_pairs}
-use Rattle.overlap_copy.specs.RunLaws.{runs-within, next_pair}
+use Rattle.arrays.specs.RunLaws.{run-within, runs-within, next_pair}
 use Rattle.elementwise.specs.Results.{pairwise}
 use Rattle.elementwise.specs.inside.PairPasses.{pair_from}
 use Rattle.elementwise.specs.inside.Operands.{pairs_of}
 use Rattle.elementwise.proofs.PairLaws.{firsts, seconds}
-use Rattle.elementwise.proofs.AppendedLaws.{pushed-next, bytes-next, lies-in, row-made}
+use Rattle.elementwise.proofs.AppendedLaws.{pushed-next, bytes-next}
 use Rattle.elementwise.proofs.rows.Operands.push_all.Goals as goal
 
 pub loop-row-init : goal.loop-row-init
@@ -37,71 +39,74 @@ loop-row-init g c =
     record {
       bytes = λ i. c.args.block.0 ++ concat (pairwise make (xs i) (ys i));
       room = omega (arith, many, c.requires.room);
-      shrinks = omega arith;
       left = omega (arith, many);
       even = subst (All (λ row. row.first.count ≡ row.second.count)) (sym are) ens.counts;
       first = subst (All (λ row. EachWithin len row.first.offset row.first.step width row.first.count)) (sym are) (runs-within len width (λ row. row.first) (run_pairs l m) (ens.first_lie max_bytes 1 l.within_limit) ends);
       second = subst (All (λ row. EachWithin len' row.second.offset row.second.step width' row.second.count)) (sym are) (runs-within len' width' (λ row. row.second) (run_pairs l m) (ens.second_lie max_bytes 1 m.within_limit) ends');
     }
 
-pub invariant_of-pairs : goal.invariant_of-pairs
-invariant_of-pairs g c =
-    let o = c.args.self in
-    let wide = g.P.Pass.width c.args.pass.now in
-    let inv = c.loop-row.invariant in
-    let steps = c.in-Some.ensures.steps in
+pub push_row-requires-clause-room : goal.push_row-requires-clause-room
+push_row-requires-clause-room g c =
     let row = c.in-Some.row in
-    let some : 1 ≤ wide = g.met.P.Pass.not_empty c.args.pass.now in
-    let least : 1 * row.first.count ≤ wide * row.first.count = mul-le-mul_right row.first.count some in
-    let there = next_pair (λ q. EachWithin (length o.left.block.now) q.first.offset q.first.step (item_size o.left.descr.now) q.first.count) _ _ row steps inv.first in
-    record {
-      few = omega (arith, least, mul_comm wide row.first.count, bytes-next wide _ _ row steps, inv.room, inv.shrinks, c.filled-filled.ensures.small);
-      within = lies-in _ _ _ _ row.first c.bytes-left.ensures c.size-left_width.ensures.value there;
-    }
+    let l = c.args.self.left.layout.now in
+    let few : row.first.count ≡ pairs_of c.args.self = sym (length-run_offsets row.first) ∙ ap length c.in-Some.ensures.first ∙ length-offsets l in
+    omega (arith, ap (λ n. n * g.P.Pass.width c.args.pass.now) few, c.requires.room)
 
-pub invariant_of-pairs-in-loop-row : goal.invariant_of-pairs-in-loop-row
-invariant_of-pairs-in-loop-row g c =
-    let o = c.args.self in
-    let wide = g.P.Pass.width c.args.pass.now in
-    let inv = c.loop-row.invariant in
-    let steps = c.in-Some.ensures.steps in
+pub push_row-requires-clause-even : goal.push_row-requires-clause-even
+push_row-requires-clause-even g c =
     let row = c.in-Some.row in
-    let some : 1 ≤ wide = g.met.P.Pass.not_empty c.args.pass.now in
-    let least : 1 * row.first.count ≤ wide * row.first.count = mul-le-mul_right row.first.count some in
-    let even = next_pair (λ q. q.first.count ≡ q.second.count) _ _ row steps inv.even in
-    let there = next_pair (λ q. EachWithin (length o.right.block.now) q.second.offset q.second.step (item_size o.right.descr.now) q.second.count) _ _ row steps inv.second in
-    record {
-      few = omega (arith, even, least, mul_comm wide row.first.count, bytes-next wide _ _ row steps, inv.room, inv.shrinks, c.filled-filled.ensures.small);
-      within = lies-in _ _ _ _ row.second c.bytes-right.ensures c.size-right_width.ensures.value there;
-    }
+    let o = c.args.self in
+    sym (length-run_offsets row.first) ∙ ap length c.in-Some.ensures.first ∙ length-offsets o.left.layout.now ∙ ap count o.even
+    ∙ sym (sym (length-run_offsets row.second) ∙ ap length c.in-Some.ensures.second ∙ length-offsets o.right.layout.now)
 
-pub invariant_of-pairs-in-loop-row-2 : goal.invariant_of-pairs-in-loop-row-2
-invariant_of-pairs-in-loop-row-2 g c = record { even = next_pair (λ q. q.first.count ≡ q.second.count) _ _ c.in-Some.row c.in-Some.ensures.steps c.loop-row.invariant.even }
+pub push_row-requires-clause-first : goal.push_row-requires-clause-first
+push_row-requires-clause-first g c =
+    let left = c.args.self.left in
+    let width = item_size left.descr.now in
+    run-within (length left.block.now) width c.in-Some.row.first c.in-Some.ensures.first_lies (subst (All (λ offset. offset + width ≤ length left.block.now)) (sym c.in-Some.ensures.first) left.inside)
+
+pub push_row-requires-clause-second : goal.push_row-requires-clause-second
+push_row-requires-clause-second g c =
+    let right = c.args.self.right in
+    let width = item_size right.descr.now in
+    run-within (length right.block.now) width c.in-Some.row.second c.in-Some.ensures.second_lies (subst (All (λ offset. offset + width ≤ length right.block.now)) (sym c.in-Some.ensures.second) right.inside)
+
+pub returns-in-Some-clause-left : goal.returns-in-Some-clause-left
+returns-in-Some-clause-left g c =
+    let row = c.in-Some.row in
+    let l = c.args.self.left.layout.now in
+    let few : row.first.count ≡ pairs_of c.args.self = sym (length-run_offsets row.first) ∙ ap length c.in-Some.ensures.first ∙ length-offsets l in
+    omega (arith, ap (λ n. n * g.P.Pass.width c.args.pass.now) few, c.push_row.ensures.left)
 
 pub push_row-block-requires-clause-room : goal.push_row-block-requires-clause-room
-push_row-block-requires-clause-room g c = omega (arith, bytes-next (g.P.Pass.width c.args.pass.now) _ _ c.in-Some.row c.in-Some.ensures.steps, c.loop-row.invariant.room)
+push_row-block-requires-clause-room g c = omega (arith, bytes-next (g.P.Pass.width c.args.pass.now) _ _ c.in-Some-row.row c.in-Some-row.ensures.steps, c.loop-row.invariant.room)
+
+pub push_row-block-requires-clause-first : goal.push_row-block-requires-clause-first
+push_row-block-requires-clause-first g c =
+    let left = c.args.self.left in
+    next_pair (λ q. EachWithin (length left.block.now) q.first.offset q.first.step (item_size left.descr.now) q.first.count) _ _ c.in-Some-row.row c.in-Some-row.ensures.steps c.loop-row.invariant.first
+
+pub push_row-block-requires-clause-second : goal.push_row-block-requires-clause-second
+push_row-block-requires-clause-second g c =
+    let right = c.args.self.right in
+    next_pair (λ q. EachWithin (length right.block.now) q.second.offset q.second.step (item_size right.descr.now) q.second.count) _ _ c.in-Some-row.row c.in-Some-row.ensures.steps c.loop-row.invariant.second
 
 pub loop-row-preserved : goal.loop-row-preserved
 loop-row-preserved g c =
     let o = c.args.self in
-    let makes = g.P.Pass.makes c.args.pass.now in
     let wide = g.P.Pass.width c.args.pass.now in
     let left = o.left.block.now in
     let right = o.right.block.now in
     let width = item_size o.left.descr.now in
     let width' = item_size o.right.descr.now in
     let inv = c.loop-row.invariant in
-    let steps = c.in-Some.ensures.steps in
-    let row = c.in-Some.row in
+    let row = c.in-Some-row.row in
+    let steps = c.in-Some-row.ensures.steps in
     let more = bytes-next wide _ _ row steps in
     let even = next_pair (λ q. q.first.count ≡ q.second.count) _ _ row steps inv.even in
-    let lies = next_pair (λ q. EachWithin (length left) q.first.offset q.first.step width q.first.count) _ _ row steps inv.first in
-    let lies' = next_pair (λ q. EachWithin (length right) q.second.offset q.second.step width' q.second.count) _ _ row steps inv.second in
     record {
-      bytes = pushed-next (pair_from makes width width' left right) _ _ row c.loop-row.block.0 c.push_row-block.result.0 _ steps even
-          (row-made makes width width' _ _ left right _ _ row c.loop-row.block.0 c.push_row-block.result.0 c.size-left_width.ensures.value c.size-right_width.ensures.value c.bytes-left.ensures c.bytes-right.ensures even lies lies' c.push_row-block.ensures.bytes) inv.bytes;
+      bytes = pushed-next (pair_from (g.P.Pass.makes c.args.pass.now) width width' left right) _ _ row c.loop-row.block.0 c.push_row-block.result.0 _ steps even c.push_row-block.ensures.bytes inv.bytes;
       room = omega (arith, more, inv.room, c.push_row-block.ensures.left);
-      shrinks = omega (arith, inv.shrinks, c.push_row-block.ensures.left);
       left = omega (arith, more, inv.left, c.push_row-block.ensures.left);
       even = All-rest (λ q. q.first.count ≡ q.second.count) _ _ _ steps inv.even;
       first = All-rest (λ q. EachWithin (length left) q.first.offset q.first.step width q.first.count) _ _ _ steps inv.first;

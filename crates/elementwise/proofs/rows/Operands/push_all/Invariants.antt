@@ -19,7 +19,6 @@ invariant-loop-row g l =
     record {
       bytes : l.block.0 ++ concat (pairwise make (firsts l.row-iterator) (seconds l.row-iterator)) ≡ l.fn.block.0 ++ made_of_all (g.P.Pass.makes l.pass) o;
       room : length (firsts l.row-iterator) * wide ≤ l.block.1;
-      shrinks : l.block.1 ≤ l.fn.block.1;
       left : pairs_of o * wide + l.block.1 ≡ l.fn.block.1 + length (firsts l.row-iterator) * wide;
       even : All (λ row. row.first.count ≡ row.second.count) l.row-iterator;
       first : All (λ row. EachWithin (length o.left.block.now) row.first.offset row.first.step width row.first.count) l.row-iterator;

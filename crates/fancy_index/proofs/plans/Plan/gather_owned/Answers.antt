@@ -5,7 +5,7 @@ use Rattle.elem_descr.specs.Items.{item_size, decode_item}
 use Rattle.raw_block.specs.Bytes.{item_at}
 use Rattle.shape_strides.specs.Indexes.{count}
 use Rattle.shape_strides.specs.Layouts.{offsets, multiples}
-use Rattle.overlap_copy.specs.Assignments.{items_at}
+use Rattle.arrays.specs.Assignments.{items_at}
 use Rattle.fancy_index.specs.Plans.{Planned}
 use Rattle.fancy_index.proofs.plans.Plan.gather_owned.Goals as goal
 

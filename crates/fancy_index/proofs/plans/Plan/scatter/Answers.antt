@@ -1,6 +1,6 @@
 use Rattle.std.proofs.Common.{length, ◌∙◌}
-use Rattle.overlap_copy.specs.Assignments.{assigned}
-use Rattle.overlap_copy.specs.PackedLaws.{row-multiples}
+use Rattle.arrays.specs.Assignments.{assigned}
+use Rattle.arrays.specs.PackedLaws.{row-multiples}
 use Rattle.fancy_index.proofs.plans.Plan.scatter.Goals as goal
 
 pub returns-clause-written : goal.returns-clause-written

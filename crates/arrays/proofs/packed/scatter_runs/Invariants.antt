@@ -1,0 +1,15 @@
+use Rattle.std.proofs.Common.{◌≡◌, ◌+◌, ◌*◌, ◌≤◌, length, All}
+use Rattle.raw_block.specs.Bytes.{EachWithin}
+use Rattle.arrays.specs.Assignments.{assigned}
+use Rattle.arrays.specs.Packed.{row_offsets}
+use Rattle.arrays.proofs.packed.scatter_runs.Given as goal
+use Rattle.shape_strides.specs.RunPairs.{all_offsets}
+
+abbrev pub invariant-loop-run : goal.invariant-loop-run
+invariant-loop-run l = record {
+  rest : assigned (all_offsets l.run-iterator) (row_offsets l.at l.width (length (all_offsets l.run-iterator))) l.width l.items l.block ≡ assigned (all_offsets l.fn.runs) (row_offsets 0 l.width (length (all_offsets l.fn.runs))) l.width l.items l.fn.block;
+  len : length l.block ≡ length l.fn.block;
+  room : l.at + length (all_offsets l.run-iterator) * l.width ≤ l.len;
+  some : All (λ run. 1 ≤ run.count) l.run-iterator;
+  to : All (λ run. EachWithin (length l.fn.block) run.offset run.step l.width run.count) l.run-iterator;
+}

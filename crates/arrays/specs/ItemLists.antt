@@ -1,0 +1,15 @@
+-- Items, as lists of their values.
+use Rattle.std.specs.Prelude.{List, map}
+use Rattle.elem_descr.specs.Values.{LeafValue}
+use Rattle.elem_descr.specs.Blocks.{item_from}
+use Rattle.shape_strides.specs.Layouts.{offsets}
+use Rattle.arrays.specs.declared.items.Items.{Items}
+use Rattle.arrays.specs.declared.owned.Owned.{Owned}
+
+-- items that are lent, in C order
+abbrev pub items : Items → List (List LeafValue)
+items i = map (item_from i.descr.now i.block.now) (offsets i.layout.now)
+
+-- those of an array in a block of its own
+abbrev pub owned_items : Owned → List (List LeafValue)
+owned_items o = map (item_from o.descr o.block) (offsets o.layout)

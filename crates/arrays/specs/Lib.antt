@@ -1,0 +1,11 @@
+pub mod Assignments
+pub mod Blocks
+pub mod FortranLaws
+pub mod ItemLists
+pub mod Joined
+pub mod JoinedLaws
+pub mod Packed
+pub mod PackedLaws
+pub mod PairLaws
+pub mod RunLaws
+pub mod inside

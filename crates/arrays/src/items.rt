@@ -1,0 +1,36 @@
+//! Items that are lent: where they lie, and that they lie there.
+ghost use Rattle.std.specs.Prelude.{◌≡◌, ◌+◌, ◌≤◌, length, All};
+ghost use Rattle.elem_descr.specs.Items.{item_size};
+ghost use Rattle.shape_strides.specs.Layouts.{offsets};
+
+use crate::owned::Owned;
+use elem_descr::Descr;
+use raw_block::RawBlock;
+use shape_strides::Layout;
+
+/// The items of a layout, of an element type, which lie in a block.
+#[derive(Clone, Copy, Drop)]
+pub struct Items<'a> {
+    pub block: &'a RawBlock,
+    pub layout: &'a Layout,
+    pub descr: &'a Descr,
+    pub ghost inside: { All (λ offset. offset + item_size descr.now ≤ length block.now) (offsets layout.now) },
+}
+
+impl Owned {
+    ghost use Rattle.arrays.specs.ItemLists.{items, owned_items};
+
+    /// The items that lie in the block.
+    pub fn items(&self) -> Items<'_>
+        ensures block { result.block.now ≡ self.now.block }
+        ensures layout { result.layout.now ≡ self.now.layout }
+        ensures descr { result.descr.now ≡ self.now.descr }
+        ensures items { items result ≡ owned_items self.now }
+    {
+        Items {
+            block: &self.block,
+            layout: &self.layout,
+            descr: &self.descr,
+        }
+    }
+}

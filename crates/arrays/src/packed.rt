@@ -1,0 +1,142 @@
+//! The items of a layout, one after another in a block of their own.
+ghost use Rattle.std.specs.Prelude.{◌≡◌, ◌+◌, ◌*◌, ◌^◌, ◌<◌, ◌≤◌, ◌++◌, pos, length, All, IfOk, IsTrue};
+ghost use Rattle.std.specs.List.{flat_map};
+ghost use Rattle.raw_block.specs.Bytes.{item_at, EachWithin};
+ghost use Rattle.shape_strides.specs.Contiguity.{is_c_contiguous};
+ghost use Rattle.shape_strides.specs.Layouts.{offsets, multiples};
+ghost use Rattle.shape_strides.specs.Runs.{run_offsets};
+ghost use Rattle.arrays.specs.Assignments.{items_at, assigned};
+ghost use Rattle.arrays.specs.Packed.{row_offsets};
+ghost use Rattle.arrays.specs.Joined.{joined_at};
+
+use crate::rows::push_layout;
+use crate::run_copies::copy_run;
+use raw_block::{BlockBuilder, RawBlock};
+use shape_strides::{Layout, Run, Runs};
+use std::alloc::{AllocError, Global};
+
+/// The run of `count` items of `width` bytes that lie one after another from `at` on, in a block of
+/// `len` bytes.
+pub fn packed_run(at: usize, width: usize, count: usize, len: usize) -> Run
+    requires some { 1 ≤ count }
+    requires within { at + count * width ≤ len }
+    requires small { len < 2 ^ 63 }
+    ensures run { result ≡ record { offset = at; count = count; step = pos width } }
+    ensures within { EachWithin len at (pos width) width count }
+{
+    Run {
+        offset: at,
+        count,
+        step: width as isize,
+    }
+}
+
+/// Fills the next bytes of a block with the items of `width` bytes of runs, one after another.
+pub(crate) fn push_runs(items: &mut BlockBuilder, runs: Runs<'_>, block: &RawBlock, width: usize)
+    requires from { All (λ run. EachWithin (length block.now) run.offset run.step width run.count) runs }
+    requires room { length (flat_map run_offsets runs) * width ≤ items.old.1 }
+    ensures bytes { items.new.0 ≡ items.old.0 ++ joined_at (flat_map run_offsets runs.entry) width block.now }
+    ensures left { length (flat_map run_offsets runs.entry) * width + items.new.1 ≡ items.old.1 }
+{
+    for run in runs {
+        items.push_strided(block, run.offset, run.step, width, run.count);
+    }
+}
+
+/// Copies items that lie one after another from a block's start on to those of runs.
+fn scatter_runs(block: &mut RawBlock, runs: Runs<'_>, items: &RawBlock, width: usize)
+    requires some { All (λ run. 1 ≤ run.count) runs }
+    requires to { All (λ run. EachWithin (length block.old) run.offset run.step width run.count) runs }
+    requires room { length (flat_map run_offsets runs) * width ≤ length items.now }
+    ensures written { block.new ≡ assigned (flat_map run_offsets runs.entry) (row_offsets 0 width (length (flat_map run_offsets runs.entry))) width items.now block.old }
+    ensures len { length block.new ≡ length block.old }
+{
+    let len = items.len();
+    let mut at = 0;
+    for run in runs {
+        copy_run(
+            block,
+            run,
+            items,
+            packed_run(at, width, run.count, len),
+            width,
+        );
+        at += run.count * width;
+    }
+}
+
+/// The `len` bytes from `at` on.
+fn stretch(bytes: &[u8], at: usize, len: usize) -> &[u8]
+    requires { at + len ≤ length bytes.now }
+    ensures bytes { result.now ≡ item_at at len bytes.now }
+    ensures len { length result.now ≡ len }
+{
+    &bytes[at..at + len]
+}
+
+/// The same as `gather` of items that lie one right after another.
+fn gather_whole(
+    alloc: Global,
+    block: &RawBlock,
+    layout: &Layout,
+    width: usize,
+) -> Result<RawBlock, AllocError>
+    requires order { IsTrue (is_c_contiguous width (offsets layout.now)) }
+    requires inside { All (λ offset. offset + width ≤ length block.now) (offsets layout.now) }
+    ensures len { IfOk result (λ items. length items ≡ length (offsets layout.now) * width) }
+    ensures items { IfOk result (λ items. items_at (multiples width (length (offsets layout.now))) width items ≡ items_at (offsets layout.now) width block.now) }
+{
+    // For the prover alone: the block is within its limit.
+    let _len = block.len();
+    let len = layout.shape.items().saturating_mul(width);
+    let whole = stretch(block.bytes(), layout.first_address(), len);
+    RawBlock::try_copied(alloc, whole)
+}
+
+/// The same run by run, or by columns.
+fn gather_each(
+    alloc: Global,
+    block: &RawBlock,
+    layout: &Layout,
+    width: usize,
+) -> Result<RawBlock, AllocError>
+    requires inside { All (λ offset. offset + width ≤ length block.now) (offsets layout.now) }
+    ensures len { IfOk result (λ items. length items ≡ length (offsets layout.now) * width) }
+    ensures items { IfOk result (λ items. items_at (multiples width (length (offsets layout.now))) width items ≡ items_at (offsets layout.now) width block.now) }
+{
+    // More bytes than there can be are refused as any others.
+    let bytes = layout.shape.items().saturating_mul(width);
+    let mut items = BlockBuilder::try_new(alloc, bytes)?;
+    // For the prover alone: the bytes that are asked for are within the limit of a block.
+    let _filled = items.filled();
+    push_layout(&mut items, layout, block, width);
+    Ok(items.finish())
+}
+
+/// The items of `width` bytes of a layout, one after another in C order in a block of their own.
+pub fn gather(
+    alloc: Global,
+    block: &RawBlock,
+    layout: &Layout,
+    width: usize,
+) -> Result<RawBlock, AllocError>
+    requires { All (λ offset. offset + width ≤ length block.now) (offsets layout.now) }
+    ensures len { IfOk result (λ items. length items ≡ length (offsets layout.now) * width) }
+    ensures items { IfOk result (λ items. items_at (multiples width (length (offsets layout.now))) width items ≡ items_at (offsets layout.now) width block.now) }
+{
+    if layout.is_c(width) {
+        return gather_whole(alloc, block, layout, width);
+    }
+    gather_each(alloc, block, layout, width)
+}
+
+/// Copies items of `width` bytes that lie one after another from a block's start on to those of a
+/// layout, in C order.
+pub fn scatter(block: &mut RawBlock, layout: &Layout, items: &RawBlock, width: usize)
+    requires inside { All (λ offset. offset + width ≤ length block.old) (offsets layout.now) }
+    requires items { length (offsets layout.now) * width ≤ length items.now }
+    ensures written { block.new ≡ assigned (offsets layout.now) (multiples width (length (offsets layout.now))) width items.now block.old }
+    ensures len { length block.new ≡ length block.old }
+{
+    scatter_runs(block, Runs::new(layout), items, width);
+}

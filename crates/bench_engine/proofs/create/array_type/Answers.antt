@@ -1,0 +1,35 @@
+use Rattle.std.proofs.Common.{◌≡◌, ◌*◌, inr, arith, refl}
+use Rattle.std.proofs.lemmas.Result.{err_from_is_err_and}
+use Rattle.elem_descr.specs.DescrTexts.{descriptor}
+use Rattle.elem_descr.specs.Items.{item_size}
+use Rattle.shape_strides.specs.Indexes.{count}
+use Rattle.shape_strides.specs.Shapes.{shape_of}
+use Rattle.bench_engine.proofs.Makes.{passed, type-large, type-done}
+use Rattle.bench_engine.specs.Contents.{array_type}
+use Rattle.bench_engine.proofs.create.array_type.Goals as goal
+
+pub returns-in_err-descr-clause-value : goal.returns-in_err-descr-clause-value
+unfolding array_type
+returns-in_err-descr-clause-value c =
+    let p = err_from_is_err_and c.from_residual.result c.from_residual.ensures.1 in
+    rw (p.1, p.2) (passed (descriptor c.args.descr.now) _ _ (λ bad. rw bad refl) (rw c.as_slice.ensures at c.in_err-descr.ensures))
+
+pub returns-in_err-shape-clause-value : goal.returns-in_err-shape-clause-value
+unfolding array_type
+returns-in_err-shape-clause-value c =
+    let p = err_from_is_err_and c.from_residual-in_err-shape.result c.from_residual-in_err-shape.ensures.1 in
+    rw (p.1, p.2) (passed (shape_of c.args.lengths.now) _ _ (λ bad. rw (rw c.as_slice.ensures at c.in_ok-descr.ensures, bad) refl) c.in_err-shape.ensures)
+
+pub returns-then-items-size-gt-MAX_BYTES-clause-value : goal.returns-then-items-size-gt-MAX_BYTES-clause-value
+returns-then-items-size-gt-MAX_BYTES-clause-value c =
+    let bytes : c.items.result * c.size.result ≡ count c.in_ok-shape.shape * item_size c.in_ok-descr.descr = cc in
+    inr (type-large _ _ _ _ (rw c.as_slice.ensures at c.in_ok-descr.ensures) c.in_ok-shape.ensures (omega arith))
+
+pub returns-clause-value : goal.returns-clause-value
+returns-clause-value c =
+    let bytes : c.items.result * c.size.result ≡ count c.in_ok-shape.shape * item_size c.in_ok-descr.descr = cc in
+    type-done _ _ _ _ (rw c.as_slice.ensures at c.in_ok-descr.ensures) c.in_ok-shape.ensures (omega arith)
+
+pub returns-clause-bytes : goal.returns-clause-bytes
+returns-clause-bytes c =
+    let bytes : c.items.result * c.size.result ≡ count c.in_ok-shape.shape * item_size c.in_ok-descr.descr = cc in omega arith

@@ -1,0 +1,9 @@
+use Rattle.std.proofs.Common.{◌≡◌, true, take}
+use Rattle.std.specs.List.{list_all}
+use Rattle.name_store.specs.Arrays.{is_bound}
+use Rattle.bench_engine.specs.IndexLists.{names_in_index}
+use Rattle.bench_engine.proofs.index_list.are_bound.Given as goal
+
+-- the names so far are bound
+abbrev pub invariant-loop-item : goal.invariant-loop-item
+invariant-loop-item l = list_all (is_bound l.bench.state) (names_in_index (take l.item-index l.index)) ≡ true

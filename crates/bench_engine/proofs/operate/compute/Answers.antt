@@ -1,0 +1,32 @@
+use Rattle.std.proofs.Common.{refl, sym, ap, inr, ◌∙◌}
+use Rattle.std.proofs.lemmas.Result.{err_from_is_err_and}
+use Rattle.bench_engine.specs.Machine.{bound_new}
+use Rattle.bench_engine.specs.inside.Computed.{computed_contents}
+use Rattle.bench_engine.specs.inside.OwnContents.{held}
+use Rattle.bench_engine.proofs.Computes.{compute-unknown, compute-many, compute-bad, compute-done}
+use Rattle.bench_engine.proofs.Creates.{same-answers}
+use Rattle.bench_engine.proofs.Looks.{unchanged}
+use Rattle.bench_engine.proofs.Views.{refused-or}
+use Rattle.bench_engine.proofs.operate.compute.Goals as goal
+
+pub returns-then-not-has_bound_operands-clause-answers : goal.returns-then-not-has_bound_operands-clause-answers
+returns-then-not-has_bound_operands-clause-answers c = (refl, unchanged _, inr (compute-unknown c.args.bench.now.state _ _ (sym c.if-not-has_bound_operands.ensures)))
+
+pub returns-then-not-has_room_for-clause-answers : goal.returns-then-not-has_room_for-clause-answers
+returns-then-not-has_room_for-clause-answers c =
+    (refl, unchanged _, inr (compute-many c.args.bench.now.state _ _ (sym c.if-not-has_bound_operands.ensures) (sym c.if-not-has_room_for.ensures)))
+
+pub returns-in_err-owned-clause-answers : goal.returns-in_err-owned-clause-answers
+returns-in_err-owned-clause-answers c =
+    let s = c.args.bench.now.state in
+    let p = err_from_is_err_and c.from_residual.result c.from_residual.ensures.1 in
+    let all = sym c.if-not-has_bound_operands.ensures in
+    rw (p.1, p.2) (refl, unchanged _, refused-or _ _ _ (computed_contents s c.args.computation.now) all c.in_err-owned.ensures (compute-bad s c.args.name.now c.args.computation.now all _ (sym c.if-not-has_room_for.ensures)))
+
+pub returns-clause-answers : goal.returns-clause-answers
+returns-clause-answers c =
+    let s = c.args.bench.now.state in
+    let all = sym c.if-not-has_bound_operands.ensures in
+    same-answers s _ _ _ _ _ _ _ _ all
+    (λ choice. compute-done s c.args.name.now c.args.computation.now all _ (sym c.if-not-has_room_for.ensures) c.in_ok-owned.ensures choice
+    ∙ ap (λ o. bound_new choice s c.args.name.now o (held c.in_ok-owned.owned)) (sym c.origin_of.ensures)) c.bind_new.ensures.answers

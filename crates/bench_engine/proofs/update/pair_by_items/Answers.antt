@@ -1,0 +1,50 @@
+use Rattle.std.proofs.Common.{◌≤◌, ◌+◌, ◌*◌, ℕ, length, refl, sym, subst, ◌∙◌, Ok, Err}
+use Rattle.std.proofs.lemmas.Result.{err_from_is_err_and}
+use Rattle.std.proofs.lemmas.List.Sorted.{All-permutation, length_permutation}
+use Rattle.elem_descr.specs.Items.{item_size}
+use Rattle.shape_strides.specs.Indexes.{count}
+use Rattle.shape_strides.specs.LayoutLaws.{length-offsets}
+use Rattle.shape_strides.specs.Layouts.{offsets}
+use Rattle.shape_strides.specs.Limits.{max_bytes}
+use Rattle.shape_strides.specs.Shapes.{IsShape}
+use Rattle.bench_engine.proofs.Moved.{items-gives, together-inside, together-moved}
+use Rattle.bench_engine.proofs.Written.{view-inside}
+use Rattle.bench_engine.proofs.update.pair_by_items.Goals as goal
+
+pub items_of_view-requires : goal.items_of_view-requires
+items_of_view-requires c =
+    let t = c.requires in
+    record {
+      inside = All-permutation (λ offset. offset + item_size c.args.array.now.descr.now ≤ length c.args.array.now.block.now) (offsets t.4) (offsets c.args.pair.target) (together-moved t.4 c.args.items.layout.now c.args.pair t.7)
+          (view-inside t.0 t.1 t.2 t.3 c.args.array.now t.5 t.4 t.6);
+    }
+
+pub changed_by_items-requires : goal.changed_by_items-requires
+changed_by_items-requires c =
+    let t = c.requires in
+    let old = c.items_of_view.ensures in
+    let many = sym (length-offsets c.args.pair.target) ∙ length_permutation (offsets t.4) (offsets c.args.pair.target) (together-moved t.4 c.args.items.layout.now c.args.pair t.7) in
+    record {
+      few = subst (λ (n : ℕ). n ≤ max_bytes) ((λ i. sym many i * item_size (t.5.descr i)) ∙ λ i. count (sym old.layout i).shape * item_size (sym old.descr i)) t.6.few;
+    }
+
+pub returns-in_err-new : goal.returns-in_err-new
+returns-in_err-new c s name a part view w shows is legal together sw =
+    let p = err_from_is_err_and c.from_residual.result c.from_residual.ensures.1 in
+    let old = c.items_of_view.ensures in
+    let lengths = c.as_slice-lengths.ensures in
+    let legal' : IsShape c.args.pair.target.shape = record { axes = lengths.rank; lengths = lengths.lengths; items = lengths.items } in
+    rw (p.1, p.2) (items-gives s name a part c.args.array.now shows view c.args.pair.target is (subst (λ n. 1 ≤ n) c.size-size.ensures.value c.size-size.ensures.not_empty) legal legal' c.items_of_view.result old.block old.layout old.descr
+    c.args.operation c.args.items _ together.wide c.args.pair.source together.seen w (Err c.in_err-new.field-0.0) c.args.pair.same_shape together.there together.is_wide together.same refl refl refl sw c.in_err-new.ensures)
+
+pub returns : goal.returns
+returns c s name a part view w shows is legal together sw =
+    let old = c.items_of_view.ensures in
+    let lengths = c.as_slice-lengths.ensures in
+    let legal' : IsShape c.args.pair.target.shape = record { axes = lengths.rank; lengths = lengths.lengths; items = lengths.items } in
+    items-gives s name a part c.args.array.now shows view c.args.pair.target is (subst (λ n. 1 ≤ n) c.size-size.ensures.value c.size-size.ensures.not_empty) legal legal' c.items_of_view.result old.block old.layout old.descr
+    c.args.operation c.args.items _ together.wide c.args.pair.source together.seen w (Ok c.in_ok-new.new) c.args.pair.same_shape together.there together.is_wide together.same refl refl refl sw c.in_ok-new.ensures
+
+pub invariant_of-beside : goal.invariant_of-beside
+invariant_of-beside c =
+    record { inside = together-inside c.requires.4 c.args.items.layout.now c.args.pair (λ offset. offset + item_size c.args.items.descr.now ≤ length c.args.items.block.now) c.requires.7 c.args.items.inside }

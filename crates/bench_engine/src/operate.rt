@@ -1,0 +1,419 @@
+//! `X = copy Y C`, `cast Y D`, `OP operand Z`, `neg operand`, `RED Y [axis] [keep]`: apply an operation to
+//! operands, and bind a name to the result.
+ghost use Rattle.std.specs.Prelude.{◌≡◌, ◌≤◌, ◌+◌, true, length, All, ◌∷◌, [], map, IfOk, ℕ, List, Some, vec_capacity};
+ghost use Rattle.std.specs.List.{list_all};
+ghost use Rattle.elem_descr.specs.Items.{item_size};
+ghost use Rattle.shape_strides.specs.Layouts.{offsets};
+ghost use Rattle.name_store.specs.Arrays.{is_bound, find_array};
+ghost use Rattle.name_store.specs.States.{State, Array};
+ghost use Rattle.bench_engine.specs.Machine.{operand_part, names_in_operand, names_in_argument, OperandValues, literal_value, literal_scalar, operand_of_literal, compared_literal, literal_values, argument_values, operation_scalar, operation_on, operation_with, operation_contents, transformed, reduced_contents, compute_outcome};
+ghost use Rattle.bench_engine.specs.inside.Operands.{StandsFor, IsPart, GivesPart, LiesInBuffer, buffer_number, IsGiven, Stands, GivesStanding};
+ghost use Rattle.elem_descr.specs.Refusals.{Gives, Answers};
+ghost use Rattle.elem_descr.specs.declared.descr.Descr.TheVariants.{Scalar as ScalarDescr};
+ghost use Rattle.elem_descr.specs.Blocks.{item_from};
+ghost use Rattle.elem_descr.specs.Values as leaf;
+ghost use Rattle.elementwise.specs.Promotion.{promote};
+ghost use Rattle.elementwise.specs.Results.{integer_compared_result, compared_item};
+ghost use Rattle.literal_items.specs.LiteralItems.{item_value, literal_number};
+ghost use Rattle.script_lang.specs.declared.literal.ScalarLiteral.TheVariants.{Boolean};
+ghost use Rattle.script_lang.specs.declared.command.Argument.{Argument};
+ghost use Rattle.script_lang.specs.declared.operation.Operation.TheVariants as operation;
+ghost use Rattle.bench_engine.specs.inside.OwnContents.{held, IsInCOrder};
+ghost use Rattle.name_store.specs.Shown.{Shows};
+ghost use Rattle.bench_engine.specs.Memory.{bound_in_computation};
+ghost use Rattle.bench_engine.specs.inside.Computed.{computed_contents, origin_of};
+ghost use Rattle.bench_engine.specs.inside.Parts.{IsShown, Copies, Casts};
+ghost use Rattle.bench_engine.specs.inside.Contract.{CarriesOut};
+
+use crate::create::{bind_new, filled, item_of};
+use crate::index_list::{are_bound, take};
+use crate::replies::Origin;
+use crate::write::{Given, given_by};
+use arrays::Owned;
+use elem_descr::{Descr, Refusal, Scalar, descr_read};
+use elementwise::{
+    Items, apply1, apply2, compare, compare_bytes, compare_integer, compared_type, literal_type,
+    promote, scalar_of,
+};
+use machine_numbers::{BinOp, Comparison, Red, UnOp};
+use name_store::{ArrayRef, Bench, Bound};
+use script_lang::{Argument, Computation, Literal, Name, Operand, Operation, ScalarLiteral, Text};
+use shape_strides::{Layout, MemoryOrder, Shape};
+use std::alloc::Global;
+
+/// Whether the names in an operand are bound.
+pub fn is_bound(bench: &Bench, operand: &Operand) -> bool
+    ensures { result ≡ list_all (is_bound bench.now.state) (names_in_operand operand.now) }
+{
+    if bench.get(&operand.name).is_none() {
+        return false;
+    }
+    match &operand.index {
+        Some(index) => are_bound(bench, index.as_slice()),
+        None => true,
+    }
+}
+
+/// Whether the names in an argument are bound.
+pub fn has_bound(bench: &Bench, value: &Argument) -> bool
+    ensures { result ≡ list_all (is_bound bench.now.state) (names_in_argument value.now) }
+{
+    match value {
+        Argument::Operand(operand) => is_bound(bench, operand),
+        Argument::Literal(_) => true,
+    }
+}
+
+/// The items that a layout shows of the buffer of an array.
+pub fn items_of_view<'a>(array: &'a ArrayRef<'_>, view: &'a Layout) -> Items<'a>
+    requires inside { All (λ offset. offset + item_size array.now.descr.now ≤ length array.now.block.now) (offsets view.now) }
+    ensures block { result.block.now ≡ array.now.block.now }
+    ensures layout { result.layout.now ≡ view.now }
+    ensures descr { result.descr.now ≡ array.now.descr.now }
+{
+    Items {
+        block: array.block,
+        layout: view,
+        descr: array.descr,
+    }
+}
+
+/// The part of an array that an operand is.
+#[derive(Drop)]
+pub enum Part<'a> {
+    /// All of the array.
+    Whole(ArrayRef<'a>),
+    /// A view of it.
+    View(ArrayRef<'a>, Layout),
+    /// A copy of some of its items.
+    Copy(Owned),
+}
+
+impl Part<'_> {
+    /// The items of the part.
+    pub fn items(&self) -> Items<'_>
+        requires { (s : State) × (part : Array) × IsPart s part self.now }
+        ensures stands { (s : State) (part : Array) → IsPart s part self.now → StandsFor s part result }
+        ensures lies { (s : State) (part : Array) → IsPart s part self.now → LiesInBuffer s part (buffer_number self.now) result.layout.now }
+    {
+        match self {
+            Part::Whole(array) => items_of_view(array, array.layout),
+            Part::View(array, layout) => items_of_view(array, layout),
+            Part::Copy(copy) => copy.items(),
+        }
+    }
+
+    /// The number of the buffer in which the items stand, unless they are a copy.
+    pub fn number(&self) -> Option<u64>
+        ensures { result ≡ buffer_number self.now }
+    {
+        match self {
+            Part::Whole(array) => Some(array.number),
+            Part::View(array, _) => Some(array.number),
+            Part::Copy(_) => None,
+        }
+    }
+}
+
+/// The part that an operand is of the array of its name. The refusals are those of its index list.
+pub fn operand_part<'a>(
+    alloc: Global,
+    bench: &'a Bench,
+    operand: &Operand,
+) -> Result<Part<'a>, Refusal>
+    requires { list_all (is_bound bench.now.state) (names_in_operand operand.now) ≡ true }
+    ensures { GivesPart bench.now.state result (operand_part bench.now.state operand.now) }
+{
+    let array = bench.get(&operand.name).unwrap();
+    let Some(index) = &operand.index else {
+        return Ok(Part::Whole(array));
+    };
+    match take(alloc, bench, &array, index.as_slice())? {
+        Bound::View { layout, .. } => Ok(Part::View(array, layout)),
+        Bound::Fresh(copy) => Ok(Part::Copy(copy)),
+    }
+}
+
+/// The type of what an operation gives on items of two types.
+pub fn result_scalar(operation: Operation, left: &Descr, right: &Descr) -> Result<Scalar, Refusal>
+    ensures { Answers (λ s. s) result (operation_scalar operation left.now right.now) }
+{
+    let from = scalar_of(left)?;
+    let other = scalar_of(right)?;
+    match operation {
+        Operation::Binary(op) => promote(op, from, other),
+        Operation::Compare(_) => compared_type(from, other),
+    }
+}
+
+/// What an operation gives on items that are broadcast together.
+pub fn work(
+    alloc: Global,
+    operation: Operation,
+    left: Items<'_>,
+    right: Items<'_>,
+) -> Result<Owned, Refusal>
+    ensures gives { (v w : OperandValues) → Stands v left.entry → Stands w right.entry → Gives held result (operation_on operation v w) }
+    ensures order { IfOk result IsInCOrder }
+{
+    match operation {
+        Operation::Binary(op) => apply2(alloc, op, left, right),
+        Operation::Compare(comparison) => compare(alloc, comparison, left, right),
+    }
+}
+
+/// The one item that a literal is of a scalar, in an array of no axes.
+fn single(alloc: Global, scalar: &Scalar, literal: &Literal) -> Result<Owned, Refusal>
+    ensures descr { IfOk result (λ o. o.descr ≡ ScalarDescr scalar.now) }
+    ensures shape { IfOk result (λ o. o.layout.shape ≡ []) }
+    ensures offsets { IfOk result (λ o. offsets o.layout ≡ 0 ∷ []) }
+    ensures item { Gives (λ o. item_from o.descr o.block 0) result (item_value (ScalarDescr scalar.now) literal.now) }
+{
+    let descr = Descr::Scalar(*scalar);
+    // What is known of the size of an item comes with this call.
+    let _size = descr.size();
+    let item = item_of(alloc, &descr, literal)?;
+    let block = filled(alloc, item.as_slice(), 1)?;
+    drop(item);
+    let shape = Shape::try_new(alloc, &[])?;
+    let owned = Owned::over(alloc, descr, &shape, MemoryOrder::C, block)?;
+    Ok(owned)
+}
+
+/// The type that a literal has beside a scalar. Bytes and records are no operands.
+fn literal_scalar(beside: &Scalar, literal: &Literal) -> Result<Scalar, Refusal>
+    ensures { Answers (λ s. s) result (literal_scalar beside.now literal.now) }
+{
+    let Literal::Scalar(literal) = literal else {
+        return Err(Refusal::NotForThisKind);
+    };
+    match literal {
+        ScalarLiteral::Integer(_) => Ok(literal_type(*beside)),
+        ScalarLiteral::Boolean(_) => Ok(Scalar::Bool),
+        ScalarLiteral::Bytes(_) => Err(Refusal::NotForThisKind),
+    }
+}
+
+/// The item that a literal is beside items of an element type.
+fn worked_literal(
+    alloc: Global,
+    op: BinOp,
+    descr: &Descr,
+    literal: &Literal,
+) -> Result<Owned, Refusal>
+    ensures { GivesStanding result (operand_of_literal op descr.now literal.now) }
+{
+    let beside = scalar_of(descr)?;
+    let scalar = literal_scalar(&beside, literal)?;
+    promote(op, beside, scalar)?;
+    single(alloc, &scalar, literal)
+}
+
+/// The number that a bool is.
+fn number_of(value: bool) -> i128
+    ensures { result ≡ literal_number (Boolean value) }
+{
+    if value { 1 } else { 0 }
+}
+
+/// A comparison of items with a literal, by value.
+fn compare_literal(
+    alloc: Global,
+    comparison: Comparison,
+    left: Items<'_>,
+    literal: &Literal,
+) -> Result<Owned, Refusal>
+    ensures gives { (v : OperandValues) → Stands v left.entry → Gives held result (operation_with (operation.Compare comparison) v (compared_literal v.descr literal.now)) }
+    ensures order { IfOk result IsInCOrder }
+{
+    let Literal::Scalar(literal) = literal else {
+        return Err(Refusal::NotForThisKind);
+    };
+    // What is known of a shape comes with this call.
+    let _lengths = left.layout.shape.as_slice();
+    match literal {
+        ScalarLiteral::Integer(value) => compare_integer(alloc, comparison, left, *value),
+        ScalarLiteral::Boolean(value) => compare_integer(
+            alloc,
+            comparison,
+            left,
+            number_of(*value),
+        ),
+        ScalarLiteral::Bytes(bytes) => compare_bytes(alloc, comparison, left, bytes.as_slice()),
+    }
+}
+
+/// What an operation gives on items and a literal.
+pub fn work_literal(
+    alloc: Global,
+    operation: Operation,
+    left: Items<'_>,
+    literal: &Literal,
+) -> Result<Owned, Refusal>
+    ensures gives { (v : OperandValues) → Stands v left.entry → Gives held result (operation_with operation v (literal_values operation v.descr literal.now)) }
+    ensures order { IfOk result IsInCOrder }
+{
+    match operation {
+        Operation::Binary(op) => {
+            let item = worked_literal(alloc, op, left.descr, literal)?;
+            apply2(alloc, op, left, item.items())
+        }
+        Operation::Compare(comparison) => compare_literal(alloc, comparison, left, literal),
+    }
+}
+
+/// What an operation gives on items and what an argument gives.
+fn work_given(
+    alloc: Global,
+    operation: Operation,
+    left: Items<'_>,
+    right: &Given<'_>,
+) -> Result<Owned, Refusal>
+    requires { (s : State) × (value : Argument) × IsGiven s value right.now }
+    ensures { (s : State) (value : Argument) (v : OperandValues) → IsGiven s value right.now → Stands v left.entry
+        → Gives held result (operation_with operation v (argument_values s operation v.descr value)) }
+{
+    match right {
+        Given::Literal(literal) => work_literal(alloc, operation, left, literal),
+        Given::Items(part) => work(alloc, operation, left, part.items()),
+    }
+}
+
+/// The items of an array in a block of their own, stored in an order.
+fn copied(alloc: Global, array: &ArrayRef<'_>, order: MemoryOrder) -> Result<Owned, Refusal>
+    requires { IsShown array.now }
+    ensures { Copies order array.now result }
+{
+    arrays::copy(alloc, array.block, array.layout, array.descr, order)
+}
+
+/// The items of an array as items of an element type, in a block of their own.
+fn converted(alloc: Global, array: &ArrayRef<'_>, descr: &Text) -> Result<Owned, Refusal>
+    requires { IsShown array.now }
+    ensures { Casts descr.now array.now result }
+{
+    let descr = descr_read(alloc, descr.as_slice())?;
+    let items = items_of_view(array, array.layout);
+    elementwise::cast(alloc, items, &descr)
+}
+
+/// What an operation gives on an operand and an argument.
+fn combined(
+    alloc: Global,
+    bench: &Bench,
+    operation: Operation,
+    left: &Operand,
+    right: &Argument,
+) -> Result<Owned, Refusal>
+    requires left { list_all (is_bound bench.now.state) (names_in_operand left.now) ≡ true }
+    requires right { list_all (is_bound bench.now.state) (names_in_argument right.now) ≡ true }
+    ensures { Gives held result (operation_contents bench.now.state operation left.now right.now) }
+{
+    let left = operand_part(alloc, bench, left)?;
+    let right = given_by(alloc, bench, right)?;
+    work_given(alloc, operation, left.items(), &right)
+}
+
+/// What an operation gives on an operand.
+fn transformed(
+    alloc: Global,
+    bench: &Bench,
+    operation: UnOp,
+    operand: &Operand,
+) -> Result<Owned, Refusal>
+    requires bound { list_all (is_bound bench.now.state) (names_in_operand operand.now) ≡ true }
+    ensures { Gives held result (transformed bench.now.state operation operand.now) }
+{
+    let part = operand_part(alloc, bench, operand)?;
+    apply1(alloc, operation, part.items())
+}
+
+/// What a reduction gives on an array.
+fn reduced(
+    alloc: Global,
+    array: &ArrayRef<'_>,
+    reduction: Red,
+    axis: Option<i128>,
+    keep: bool,
+) -> Result<Owned, Refusal>
+    requires { IsShown array.now }
+    ensures { (s : State) (source : List ℕ) (a : Array) → find_array s.names source ≡ Some a → Shows s a array.now
+        → Gives held result (reduced_contents s reduction source axis keep) }
+{
+    let items = items_of_view(array, array.layout);
+    reductions::reduce(alloc, reduction, items, axis, keep)
+}
+
+/// What a computation gives.
+fn computed(alloc: Global, bench: &Bench, computation: &Computation) -> Result<Owned, Refusal>
+    requires bound { list_all (is_bound bench.now.state) (bound_in_computation computation.now) ≡ true }
+    ensures { Gives held result (computed_contents bench.now.state computation.now) }
+{
+    match computation {
+        Computation::Duplicate { source, order } => {
+            copied(alloc, &bench.get(source).unwrap(), *order)
+        }
+        Computation::Cast { source, descr } => {
+            converted(alloc, &bench.get(source).unwrap(), descr)
+        }
+        Computation::Combine {
+            operation,
+            left,
+            right,
+        } => combined(alloc, bench, *operation, left, right),
+        Computation::Transform { operation, operand } => {
+            transformed(alloc, bench, *operation, operand)
+        }
+        Computation::Reduce {
+            reduction,
+            source,
+            axis,
+            keep,
+        } => reduced(alloc, &bench.get(source).unwrap(), *reduction, *axis, *keep),
+    }
+}
+
+/// Whether the names in a computation are bound.
+fn has_bound_operands(bench: &Bench, computation: &Computation) -> bool
+    ensures { result ≡ list_all (is_bound bench.now.state) (bound_in_computation computation.now) }
+{
+    match computation {
+        Computation::Duplicate { source, .. } => bench.get(source).is_some(),
+        Computation::Cast { source, .. } => bench.get(source).is_some(),
+        Computation::Combine { left, right, .. } => is_bound(bench, left)
+            && has_bound(bench, right),
+        Computation::Transform { operand, .. } => is_bound(bench, operand),
+        Computation::Reduce { source, .. } => bench.get(source).is_some(),
+    }
+}
+
+/// Whether what is computed is told as new or as a copy.
+fn origin_of(computation: &Computation) -> Origin
+    ensures { result ≡ origin_of computation.now }
+{
+    match computation {
+        Computation::Duplicate { .. } => Origin::Copy,
+        _ => Origin::New,
+    }
+}
+
+/// Binds a name to what is computed, and appends the reply.
+pub fn compute(
+    bench: &mut Bench,
+    name: &Name,
+    computation: &Computation,
+    out: &mut Vec<u8>,
+) -> Result<(), Refusal>
+    ensures answers { CarriesOut (list_all (is_bound bench.old.state) (bound_in_computation computation.now))
+        (λ choice. compute_outcome choice bench.old.state name.now computation.now) bench.old.state bench.new.state out.old.items out.new.items result }
+    ensures room { vec_capacity out.old ≤ vec_capacity out.new }
+{
+    if !has_bound_operands(bench, computation) {
+        return Err(Refusal::UnknownName);
+    }
+    if !bench.has_room_for(name) {
+        return Err(Refusal::TooManyNames);
+    }
+    let owned = computed(*out.allocator(), bench, computation)?;
+    bind_new(bench, name, owned, origin_of(computation), out)
+}

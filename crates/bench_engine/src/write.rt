@@ -1,0 +1,212 @@
+//! `set X[ix] = Z` and `upd X[ix] OP Z`: write to items of an array.
+ghost use Rattle.std.specs.Prelude.{◌≡◌, ◌≤◌, ◌*◌, true, ℕ, List, Some, ◌<◌, ◌+◌, ◌++◌, ◌∷◌, vec_len, vec_capacity};
+ghost use Rattle.std.specs.List.{list_all};
+ghost use Rattle.elem_descr.specs.Items.{item_size};
+ghost use Rattle.shape_strides.specs.Indexes.{count};
+ghost use Rattle.shape_strides.specs.Limits.{max_bytes, max_items};
+ghost use Rattle.name_store.specs.Arrays.{is_bound, find_array};
+ghost use Rattle.name_store.specs.States.{State, Array};
+ghost use Rattle.script_lang.specs.declared.command.Argument.{Argument};
+ghost use Rattle.bench_engine.specs.Machine.{argument_items, names_in_argument, target_part, new_items, write_outcome, write_reply};
+ghost use Rattle.bench_engine.specs.inside.Assigns.{GivesItems, Fitted, GivesTarget, GivesAim, IsTarget};
+ghost use Rattle.bench_engine.specs.inside.Operands.{IsGiven, GivesGiven};
+ghost use Rattle.name_store.specs.Shown.{Shows};
+ghost use Rattle.bench_engine.specs.IndexLists.{names_in_index, taken};
+ghost use Rattle.bench_engine.specs.inside.Contract.{CarriesOut};
+ghost use Rattle.bench_engine.specs.inside.Writings.{GivesWriting};
+
+use crate::create::item_of;
+use crate::index_list::{are_bound, planned};
+use crate::operate::{Part, has_bound, operand_part};
+use crate::update::{Writing, updated};
+use elem_descr::{Descr, Refusal};
+use elementwise::Items;
+use itoa::Buffer;
+use name_store::{ArrayRef, Bench, Source, Target};
+use script_lang::{Argument, Index, Literal, Name, Operation};
+use shape_strides::{IndexItem, Shape};
+use std::alloc::Global;
+
+/// Items, stretched into a shape and cast to an element type. Those of the buffer that has a number stay
+/// there where the cast leaves them as they are.
+fn fitted(
+    alloc: Global,
+    items: Items<'_>,
+    number: Option<u64>,
+    shape: &Shape,
+    descr: &Descr,
+) -> Result<Source, Refusal>
+    requires few { count shape.now * item_size descr.now ≤ max_bytes }
+    ensures { Fitted items.entry number shape.now descr.now result }
+{
+    let wide = broadcasting::stretch_into(alloc, items.layout, shape)?;
+    if !elementwise::can_cast(items.descr, descr) {
+        return Err(Refusal::NoSuchCast);
+    }
+    if let Some(number) = number {
+        if elementwise::keeps_items(items.block, items.descr, descr) {
+            return Ok(Source::Buffer(number, wide));
+        }
+    }
+    let stretched = Items {
+        block: items.block,
+        layout: &wide,
+        descr: items.descr,
+    };
+    let owned = elementwise::cast(alloc, stretched, descr)?;
+    Ok(Source::Block(owned))
+}
+
+/// What stands behind `=` or an operation: a literal, or the part that an operand is.
+#[derive(Drop)]
+pub enum Given<'a> {
+    Literal(&'a Literal),
+    Items(Part<'a>),
+}
+
+/// What an argument gives. The refusals are those of its operand's index list.
+pub fn given_by<'a>(
+    alloc: Global,
+    bench: &'a Bench,
+    value: &'a Argument,
+) -> Result<Given<'a>, Refusal>
+    requires { list_all (is_bound bench.now.state) (names_in_argument value.now) ≡ true }
+    ensures { GivesGiven bench.now.state value.now result }
+{
+    match value {
+        Argument::Literal(literal) => Ok(Given::Literal(literal)),
+        Argument::Operand(operand) => Ok(Given::Items(operand_part(alloc, bench, operand)?)),
+    }
+}
+
+/// The items that are written, one for each index of a shape: those of an operand, stretched into the
+/// shape and cast to an element type, or one that a literal is of that type.
+fn source_of(
+    alloc: Global,
+    given: &Given<'_>,
+    shape: &Shape,
+    descr: &Descr,
+) -> Result<Source, Refusal>
+    requires given { (s : State) × (value : Argument) × IsGiven s value given.now }
+    requires few { count shape.now * item_size descr.now ≤ max_bytes }
+    ensures { (s : State) (value : Argument) → IsGiven s value given.now
+        → GivesItems s descr.now (count shape.now) result (argument_items s value descr.now shape.now) }
+{
+    match given {
+        Given::Literal(literal) => Ok(Source::One(item_of(alloc, descr, literal)?)),
+        Given::Items(part) => fitted(alloc, part.items(), part.number(), shape, descr),
+    }
+}
+
+/// Where the items lie that an index list takes of an array.
+fn named_target(
+    alloc: Global,
+    bench: &Bench,
+    array: &ArrayRef<'_>,
+    index: &[IndexItem<Name>],
+) -> Result<Target, Refusal>
+    requires bound { list_all (is_bound bench.now.state) (names_in_index index.now) ≡ true }
+    ensures { (a : Array) → Shows bench.now.state a array.now → GivesAim bench.now.state a array.now result (taken bench.now.state a index.now) }
+{
+    if view_ops::are_basic(index) {
+        return Ok(Target::View(view_ops::basic(alloc, array.layout, index)?));
+    }
+    Ok(Target::Plan(planned(alloc, bench, array, index)?))
+}
+
+/// Where the items lie that an index list takes of an array, which are to be written.
+fn target_of(
+    alloc: Global,
+    bench: &Bench,
+    array: &ArrayRef<'_>,
+    index: &[IndexItem<Name>],
+) -> Result<Target, Refusal>
+    requires bound { list_all (is_bound bench.now.state) (names_in_index index.now) ≡ true }
+    ensures { (name : List ℕ) (a : Array) → find_array bench.now.state.names name ≡ Some a → Shows bench.now.state a array.now
+        → GivesTarget bench.now.state name a result (target_part bench.now.state a index.now) }
+{
+    let target = named_target(alloc, bench, array, index)?;
+    if !array.writable {
+        return Err(Refusal::ReadOnly);
+    }
+    // What is known of the size of an item comes with this call.
+    let _size = array.descr.size();
+    Ok(target)
+}
+
+/// Appends `ok set N`, or `ok upd N`. It takes no memory.
+fn push_count(out: &mut Vec<u8>, operation: Option<Operation>, count: usize)
+    requires count { count ≤ max_items }
+    requires room { vec_len out.old + 64 ≤ vec_capacity out.old }
+    ensures told { out.new.items ≡ out.old.items ++ write_reply operation count }
+    ensures room { vec_capacity out.old ≤ vec_capacity out.new }
+{
+    let mut buffer = Buffer::new();
+    let done = match operation {
+        None => b"ok set ",
+        Some(_) => b"ok upd ",
+    };
+    out.extend_from_slice(done).unwrap();
+    out.extend_from_slice(buffer.format(count).as_bytes())
+        .unwrap();
+}
+
+/// What `set X[ix] = Z` says, or `upd X[ix] OP Z`, where there is an operation.
+#[derive(Clone, Copy)]
+pub struct Assignment<'a> {
+    pub name: &'a Name,
+    pub index: &'a Index,
+    pub operation: Option<Operation>,
+    pub value: &'a Argument,
+}
+
+/// The new items of a target in an array, and their places: those of the argument, or what an operation
+/// gives with it.
+fn new_items(
+    alloc: Global,
+    bench: &Bench,
+    array: &ArrayRef<'_>,
+    target: Target,
+    assignment: Assignment<'_>,
+) -> Result<Writing, Refusal>
+    requires bound { list_all (is_bound bench.now.state) (names_in_argument assignment.value.now) ≡ true }
+    requires target { (name : List ℕ) × (a : Array) × (part : Array) × Shows bench.now.state a array.now × IsTarget bench.now.state name a part target }
+    ensures { (name : List ℕ) (a part : Array) → Shows bench.now.state a array.now → IsTarget bench.now.state name a part target
+        → GivesWriting bench.now.state name a part result (new_items bench.now.state array.now.descr.now part assignment.entry.operation assignment.entry.value.now) }
+{
+    let given = given_by(alloc, bench, assignment.value)?;
+    match assignment.operation {
+        None => {
+            let source = source_of(alloc, &given, target.shape(), array.descr)?;
+            Ok(Writing { target, source })
+        }
+        Some(operation) => updated(alloc, array, target, operation, &given),
+    }
+}
+
+/// Writes to the items of a name's array that an index list takes: what stands behind `=`, or what the
+/// operation of `upd` gives on them and what stands behind it.
+pub fn set(bench: &mut Bench, assignment: Assignment<'_>, out: &mut Vec<u8>) -> Result<(), Refusal>
+    requires room { vec_len out.old + 64 ≤ vec_capacity out.old }
+    ensures room { vec_capacity out.old ≤ vec_capacity out.new }
+    ensures answers { CarriesOut (list_all (is_bound bench.old.state) (assignment.entry.name.now ∷ names_in_index assignment.entry.index.now ++ names_in_argument assignment.entry.value.now))
+        (λ choice. write_outcome bench.old.state assignment.entry.name.now assignment.entry.index.now assignment.entry.operation assignment.entry.value.now) bench.old.state bench.new.state out.old.items out.new.items result }
+{
+    let alloc = *out.allocator();
+    let Some(array) = bench.get(assignment.name) else {
+        return Err(Refusal::UnknownName);
+    };
+    if !are_bound(bench, assignment.index.as_slice()) {
+        return Err(Refusal::UnknownName);
+    }
+    if !has_bound(bench, assignment.value) {
+        return Err(Refusal::UnknownName);
+    }
+    let target = target_of(alloc, bench, &array, assignment.index.as_slice())?;
+    // What is known of the number of items of a shape comes with this call.
+    let _count = target.shape().items();
+    let writing = new_items(alloc, bench, &array, target, assignment)?;
+    let count = bench.write_items(alloc, assignment.name, writing.target, writing.source)?;
+    push_count(out, assignment.operation, count);
+    Ok(())
+}

@@ -1,0 +1,95 @@
+//! Quotients of pairs of numbers, with a loop of its own for a row that one number divides.
+ghost use Rattle.std.specs.Prelude.{◌≡◌, ◌+◌, ◌*◌, ◌<◌, ◌≤◌, ◌++◌, ℕ, true, IfSome};
+ghost use Rattle.elem_descr.specs.declared.scalar.Order.TheVariants.{Little};
+ghost use Rattle.elem_descr.specs.Encoding.{integer};
+ghost use Rattle.raw_block.specs.Bytes.{joined};
+ghost use Rattle.machine_numbers.specs.declared.operators.BinOp.TheVariants.{FloorDivide};
+ghost use Rattle.machine_numbers.specs.Kinds.{is_bool};
+ghost use Rattle.machine_numbers.specs.Sides.{number_of_side};
+ghost use Rattle.elementwise.specs.Bits.{IsTruth};
+ghost use Rattle.elementwise.specs.Operations.{binary};
+ghost use Rattle.elementwise.specs.inside.PairPasses.{number_pair};
+ghost use Rattle.elementwise.specs.inside.Sides.{pair_count, made_of};
+
+use crate::divisor::Divisor;
+use crate::kernels::Numbers;
+use crate::operations::Dividing;
+use crate::rows::Pass;
+use crate::sides::Pairs;
+use machine_numbers::{LowFirst, Number, Ordered};
+use raw_block::BlockBuilder;
+use std::marker::PhantomData;
+
+/// Fewer pairs than these are divided one by one.
+const FEW: usize = 4;
+
+/// The number that each second one of many pairs is, if it is not 0.
+fn divisor_of<N: Number, O: Ordered>(pairs: Pairs<'_, '_>) -> Option<Divisor>
+    requires { pairs.right.width ≡ N.WIDTH }
+    ensures signed { IfSome result (λ d. d.signed ≡ N.SIGNED) }
+    ensures truth { IfSome result (λ d. is_bool (N.scalar Little) ≡ true → IsTruth (integer N.SIGNED 8 d.bits)) }
+    ensures each { IfSome result (λ d. (k : ℕ) → k < pair_count pairs.entry → number_of_side (N.scalar O.order) pairs.entry.right k ≡ integer N.SIGNED 8 d.bits) }
+{
+    match pairs.right.run.step {
+        0 if pairs.right.run.count >= FEW => {
+            let divisor = pairs.right.number::<N, O>(0);
+            Divisor::new(N::SIGNED, divisor.bits())
+        }
+        _ => None,
+    }
+}
+
+/// A number, divided.
+#[inline(always)]
+fn divided<N: Number>(left: N, divisor: Divisor) -> N
+    requires signed { divisor.signed ≡ N.SIGNED }
+    requires truth { is_bool (N.scalar Little) ≡ true → IsTruth (integer N.SIGNED 8 divisor.bits) }
+    ensures { N.value result ≡ binary FloorDivide (N.scalar Little) (N.value left) (integer N.SIGNED 8 divisor.bits) }
+{
+    N::of_bits(divisor.quotient(left.bits()))
+}
+
+/// Pushes the quotients of the first numbers of pairs, where each second one is this divisor.
+fn push_divided<N: Number, O: Ordered>(
+    block: BlockBuilder,
+    pairs: Pairs<'_, '_>,
+    divisor: Divisor,
+) -> BlockBuilder
+    requires left { pairs.left.width ≡ N.WIDTH }
+    requires signed { divisor.signed ≡ N.SIGNED }
+    requires truth { is_bool (N.scalar Little) ≡ true → IsTruth (integer N.SIGNED 8 divisor.bits) }
+    requires each { (k : ℕ) → k < pair_count pairs → number_of_side (N.scalar O.order) pairs.right k ≡ integer N.SIGNED 8 divisor.bits }
+    requires room { pair_count pairs * N.WIDTH ≤ block.1 }
+    ensures bytes { result.0 ≡ block.0 ++ joined (made_of (number_pair (N.scalar O.order) (N.scalar O.order) (N.scalar Little) (binary FloorDivide (N.scalar Little))) pairs.entry) (pair_count pairs.entry) }
+    ensures left { pair_count pairs.entry * N.WIDTH + result.1 ≡ block.1 }
+{
+    let mut block = block;
+    for k in 0..pairs.left.run.count {
+        let left = pairs.left.number::<N, O>(k);
+        divided(left, divisor).push::<LowFirst>(&mut block);
+    }
+    block
+}
+
+/// Quotients of numbers that are read in a byte order.
+#[derive_where(Clone, Copy)]
+pub(crate) struct Quotients<N, O>(pub(crate) PhantomData<(N, O)>);
+
+impl<N: Number, O: Ordered> Pass for Quotients<N, O> {
+    ghost makes = { λ _. number_pair (N.scalar O.order) (N.scalar O.order) (N.scalar Little) (binary FloorDivide (N.scalar Little)) };
+
+    ghost Reads = { λ _ width width'. (width ≡ N.WIDTH) × (width' ≡ N.WIDTH) };
+
+    ghost width = { λ _. N.WIDTH };
+
+    ghost not_empty = { λ _. N.is_small.0 };
+
+    fn push_row(&self, block: BlockBuilder, pairs: Pairs<'_, '_>) -> BlockBuilder {
+        match divisor_of::<N, O>(pairs) {
+            Some(divisor) => push_divided::<N, O>(block, pairs, divisor),
+            None => {
+                Numbers::<Dividing, N, N, N, O, LowFirst>(PhantomData).push_row(block, pairs)
+            }
+        }
+    }
+}

@@ -1,0 +1,12 @@
+use Rattle.std.proofs.Common.{◌≡◌, ◌++◌, take, drop}
+use Rattle.shape_strides.specs.Layouts.{offsets}
+use Rattle.fancy_index.specs.inside.Lone.{led}
+use Rattle.fancy_index.specs.inside.Ranks.{IsAtRun}
+use Rattle.fancy_index.proofs.ranks.lead_by_runs.Given as goal
+
+abbrev pub invariant-loop-rank : goal.invariant-loop-rank
+invariant-loop-rank l = record {
+  at : IsAtRun l.at;
+  layout : l.at.layout.now ≡ l.layout;
+  led : l.ranks ≡ led (offsets l.layout) (take l.rank-index l.fn.ranks) ++ drop l.rank-index l.fn.ranks;
+}

@@ -1,0 +1,21 @@
+-- Bools by the bytes that they stand in.
+use Rattle.std.specs.Prelude.{ℕ, ◌+◌, ◌<◌, ◌≤◌, ℤ, pos, List, [], ◌∷◌, map, length, get_or, All}
+use Rattle.elem_descr.specs.Encoding.{truth}
+use Rattle.shape_strides.specs.Addresses.{LieWithin}
+use Rattle.shape_strides.specs.Limits.{max_items, max_bytes}
+use Rattle.shape_strides.specs.Runs.{run_offsets}
+use Rattle.fancy_index.specs.declared.bools.Bools.{Bools}
+
+-- the number of the bool in the byte at an offset
+abbrev pub bool_at : List ℕ → ℕ → ℤ
+bool_at bytes offset = pos (truth (get_or bytes offset 0))
+
+-- the bools of a run
+abbrev pub bools_in : Bools → List ℤ
+bools_in bools = map (bool_at bools.bytes.now) (run_offsets bools.run)
+
+-- they lie in their bytes, and have ranks within the limit
+pub record LieInBytes (bools : Bools) : Type 0 where
+  pub few : bools.rank + bools.run.count ≤ max_items
+  pub limit : LieWithin (bools.run.count ∷ []) (bools.run.step ∷ []) bools.run.offset max_bytes 1
+  pub inside : All (λ offset. offset < length bools.bytes.now) (run_offsets bools.run)

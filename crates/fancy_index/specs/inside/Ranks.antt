@@ -1,0 +1,14 @@
+-- How far the runs of a layout were gone through.
+use Rattle.std.specs.Prelude.{◌≡◌, ◌≤◌, [], ◌∷◌, length, drop, All}
+use Rattle.std.specs.List.{flat_map}
+use Rattle.shape_strides.specs.Addresses.{LieWithin}
+use Rattle.shape_strides.specs.Layouts.{offsets}
+use Rattle.shape_strides.specs.Limits.{max_bytes}
+use Rattle.shape_strides.specs.Runs.{run_offsets}
+use Rattle.fancy_index.specs.declared.ranks.RunAt.{RunAt}
+
+-- the run and those behind it have the items from a rank on
+pub record IsAtRun (at : RunAt) : Type 0 where
+  pub low : at.first ≤ length (offsets at.layout.now)
+  pub left : flat_map run_offsets (at.run ∷ at.later) ≡ drop at.first (offsets at.layout.now)
+  pub lie : All (λ run. LieWithin (run.count ∷ []) (run.step ∷ []) run.offset max_bytes 1) (at.run ∷ at.later)

@@ -1,0 +1,59 @@
+-- Runs of items in pairs: those that layouts are, and those that are copied pair after pair.
+use Rattle.std.proofs.Common.{◌≡◌, ℕ, ◌+◌, ◌≤◌, List, [], ◌∷◌, ◌++◌, All, length, sym, ap, subst, ◌∙◌}
+use Rattle.std.specs.List.{flat_map, AllByRecursion as Each}
+use Rattle.std.proofs.lemmas.List.Elements.{All-from_recursion, recursion_from_All}
+use Rattle.raw_block.specs.Bytes.{EachWithin}
+use Rattle.shape_strides.specs.declared.runs.Run.{Run}
+use Rattle.shape_strides.specs.declared.run_pairs.RunPair.{RunPair}
+use Rattle.shape_strides.specs.Runs.{run_offsets}
+use Rattle.shape_strides.specs.WalkLaws.{length-run_offsets}
+use Rattle.shape_strides.specs.declared.layout.Layout.{Layout}
+use Rattle.shape_strides.specs.Indexes.{count}
+use Rattle.shape_strides.specs.Layouts.{offsets}
+use Rattle.shape_strides.specs.LayoutLaws.{length-offsets}
+use Rattle.arrays.specs.RunLaws.{BeginsWithin, run-within, run-ends, assigned-append}
+use Rattle.arrays.specs.Assignments.{assigned}
+
+-- ---- layouts that are runs
+
+-- those of as many items are runs of as many
+pub as_many : (first second : Layout) (pair : RunPair) → count first.shape ≡ count second.shape → run_offsets pair.first ≡ offsets first → run_offsets pair.second ≡ offsets second → pair.first.count ≡ pair.second.count
+as_many first second pair same is is' =
+    sym (length-run_offsets pair.first) ∙ ap length is ∙ length-offsets first ∙ same ∙ sym (length-offsets second) ∙ ap length (sym is') ∙ length-run_offsets pair.second
+
+pub one-within : (len width : ℕ) (run : Run) (os : List ℕ) → BeginsWithin run → run_offsets run ≡ os → All (λ offset. offset + width ≤ len) os → EachWithin len run.offset run.step width run.count
+one-within len width run os begins is ends = run-within len width run begins (subst (All (λ offset. offset + width ≤ len)) (sym is) ends)
+
+-- ---- pair after pair
+
+-- the offsets of the first runs, and of the second ones
+abbrev pub firsts : List RunPair → List ℕ
+firsts pairs = flat_map (λ (pair : RunPair). run_offsets pair.first) pairs
+
+abbrev pub seconds : List RunPair → List ℕ
+seconds pairs = flat_map (λ (pair : RunPair). run_offsets pair.second) pairs
+
+-- the next pair is copied
+pub copied-pair : (left left' : List RunPair) (pair : RunPair) (width : ℕ) (other block block' whole : List ℕ) → left ≡ pair ∷ left' → pair.first.count ≡ pair.second.count →
+    block' ≡ assigned (run_offsets pair.first) (run_offsets pair.second) width other block → assigned (firsts left) (seconds left) width other block ≡ whole → assigned (firsts left') (seconds left') width other block' ≡ whole
+copied-pair left left' pair width other block block' whole walked even is so_far =
+    ap (assigned (firsts left') (seconds left') width other) is
+    ∙ sym (assigned-append (run_offsets pair.first) (run_offsets pair.second) (firsts left') (seconds left') width other block (length-run_offsets pair.first ∙ even ∙ sym (length-run_offsets pair.second)))
+    ∙ (λ i. assigned (firsts (sym walked i)) (seconds (sym walked i)) width other block)
+    ∙ so_far
+
+-- the items of all runs end within the bytes
+ends-of : (run_of : RunPair → Run) (pairs : List RunPair) (len width : ℕ) → Each (λ pair. EachWithin len (run_of pair).offset (run_of pair).step width (run_of pair).count) pairs → Each (λ offset. offset + width ≤ len) (flat_map (λ pair. run_offsets (run_of pair)) pairs)
+ends-of run_of [] len width within = tt
+ends-of run_of (pair ∷ pairs) len width within =
+    join (run_offsets (run_of pair)) (flat_map (λ p. run_offsets (run_of p)) pairs) (recursion_from_All (λ offset. offset + width ≤ len) (run_offsets (run_of pair)) (run-ends len width (run_of pair) within.0)) (ends-of run_of pairs len width within.1)
+  where
+    join : (xs ys : List ℕ) → Each (λ offset. offset + width ≤ len) xs → Each (λ offset. offset + width ≤ len) ys → Each (λ offset. offset + width ≤ len) (xs ++ ys)
+    join [] ys first later = later
+    join (x ∷ xs) ys first later = (first.0, join xs ys first.1 later)
+
+pub firsts-end : (pairs : List RunPair) (len width : ℕ) → All (λ pair. EachWithin len pair.first.offset pair.first.step width pair.first.count) pairs → All (λ offset. offset + width ≤ len) (firsts pairs)
+firsts-end pairs len width within = All-from_recursion (λ offset. offset + width ≤ len) (firsts pairs) (ends-of (λ pair. pair.first) pairs len width (recursion_from_All (λ pair. EachWithin len pair.first.offset pair.first.step width pair.first.count) pairs within))
+
+pub seconds-end : (pairs : List RunPair) (len width : ℕ) → All (λ pair. EachWithin len pair.second.offset pair.second.step width pair.second.count) pairs → All (λ offset. offset + width ≤ len) (seconds pairs)
+seconds-end pairs len width within = All-from_recursion (λ offset. offset + width ≤ len) (seconds pairs) (ends-of (λ pair. pair.second) pairs len width (recursion_from_All (λ pair. EachWithin len pair.second.offset pair.second.step width pair.second.count) pairs within))

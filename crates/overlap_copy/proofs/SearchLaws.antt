@@ -1,0 +1,121 @@
+-- Laws of sums along axes, and of a search for one within bounds.
+use Rattle.std.proofs.Common.{◌≡◌, ℕ, ◌+◌, ◌-◌, ◌*◌, ◌<◌, ◌≤◌, inl, inr, List, [], ◌∷◌, length, get_or, take, drop, All, sym, subst, ap, refl, arith, mul-suc, mul-le-mul_left, mul_comm}
+use Rattle.std.specs.Int.{div_ceil}
+use Rattle.std.proofs.lemmas.Bool.{cases_lt}
+use Rattle.std.proofs.lemmas.Grind.{div_ceil_times}
+use Rattle.std.proofs.lemmas.List.{take_all}
+use Rattle.std.proofs.lemmas.List.Elements.{recursion_from_All, All-from_recursion}
+use Rattle.shape_strides.specs.Indexes.{IsIndex}
+use Rattle.shape_strides.specs.declared.stacked.Axis.{Axis}
+use Rattle.shape_strides.specs.Stacks.{reach, lengths_in}
+use Rattle.shape_strides.specs.PermutationLaws.{reached}
+use Rattle.overlap_copy.specs.inside.Sums.{reach_of, AreForward, HasSum}
+
+-- ---- the first axis and the rest
+
+abbrev pub no_axis : Axis
+no_axis = record { step = 0; len = 0 }
+
+-- a list that is not empty, as a slice's pattern takes it apart
+pub first_rest : (axes : List Axis) → 1 ≤ length axes → axes ≡ get_or axes 0 no_axis ∷ take (length axes - 1) (drop 1 axes)
+first_rest [] some = absurd (omega arith)
+first_rest (a ∷ axes) some = ap (λ l. a ∷ l) (sym (take_all (length (a ∷ axes) - 1) axes (omega arith)))
+
+-- k items on along the first axis
+pub with_first : (a : Axis) (axes : List Axis) (low high k low' : ℕ) → k < a.len → a.step * k ≤ high → low' ≡ low - a.step * k → HasSum axes low' (high - a.step * k) → HasSum (a ∷ axes) low high
+with_first a axes low high k low' below within is s = record {
+  index = k ∷ s.index;
+  inside = (below, s.inside);
+  from = omega (arith, s.from, is);
+  to = omega (arith, s.to);
+}
+
+-- the item of the first axis, and what it leaves to the others
+pub record StartsAt (a : Axis) (axes : List Axis) (low high : ℕ) : Type 0 where
+  pub k : ℕ
+  pub below : k < a.len
+  pub within : a.step * k ≤ high
+  pub others : HasSum axes (low - a.step * k) (high - a.step * k)
+
+pub first_of : (a : Axis) (axes : List Axis) (low high : ℕ) → HasSum (a ∷ axes) low high → StartsAt a axes low high
+first_of a axes low high s = at s.index s.inside s.from s.to
+  where
+    at : (index : List ℕ) → IsIndex (lengths_in (a ∷ axes)) index → low ≤ reached (a ∷ axes) index → reached (a ∷ axes) index ≤ high → StartsAt a axes low high
+    at [] inside from to = absurd inside
+    at (k ∷ index) inside from to = record {
+      k = k;
+      below = inside.0;
+      within = omega (arith, to);
+      others = record { index = index; inside = inside.1; from = omega (arith, from); to = omega (arith, to) };
+    }
+
+-- no sum goes beyond the reach
+pub most_sum : (axes : List Axis) (index : List ℕ) → IsIndex (lengths_in axes) index → reached axes index ≤ reach_of axes
+most_sum [] [] inside = omega arith
+most_sum [] (k ∷ index) inside = absurd inside
+most_sum (a ∷ axes) [] inside = absurd inside
+most_sum (a ∷ axes) (k ∷ index) inside =
+    let least : k ≤ a.len - 1 = omega (arith, inside.0) in
+    omega (arith, mul-le-mul_left a.step least, most_sum axes index inside.1)
+
+-- ---- the items of the first axis one by one
+
+-- with its items below k no sum lies within the bounds
+pub record NoneBelow (a : Axis) (axes : List Axis) (low high k : ℕ) : Type 0 where
+  pub none : (j : ℕ) → j < k → a.step * j ≤ high → HasSum axes (low - a.step * j) (high - a.step * j) → ⊥
+
+-- the others do not reach so far from the first items
+pub none_at_first : (a : Axis) (axes : List Axis) (low high beyond short least : ℕ) → 0 < a.step → beyond ≡ reach_of axes → short ≡ low - beyond → least ≡ div_ceil short a.step → NoneBelow a axes low high least
+none_at_first a axes low high beyond short least forward is left ceil = record { none = none }
+  where
+    none : (j : ℕ) → j < least → a.step * j ≤ high → HasSum axes (low - a.step * j) (high - a.step * j) → ⊥
+    none j below within s =
+        let times = div_ceil_times short a.step forward in
+        let near : least * a.step < short + a.step = subst (λ n. n * a.step < short + a.step) (sym ceil) times.1 in
+        let more = mul-le-mul_left a.step below in
+        omega (arith, near, left, more, mul_comm least a.step, mul-suc a.step j, most_sum axes s.index s.inside, s.from, is)
+
+pub none_more : (a : Axis) (axes : List Axis) (low high k low' : ℕ) → NoneBelow a axes low high k → low' ≡ low - a.step * k → (HasSum axes low' (high - a.step * k) → ⊥) → NoneBelow a axes low high (k + 1)
+none_more a axes low high k low' before is here = record { none = none }
+  where
+    none : (j : ℕ) → j < k + 1 → a.step * j ≤ high → HasSum axes (low - a.step * j) (high - a.step * j) → ⊥
+    none j below within s = elim (cases_lt j k) [
+      | inl less ↦ before.none j less within s
+      | inr not_less ↦ let same : j ≡ k = omega (arith, not_less, below) in
+          here (subst (λ n. HasSum axes n (high - a.step * k)) (sym is) (subst (λ i. HasSum axes (low - a.step * i) (high - a.step * i)) same s))
+    ]
+
+-- they were all, or the next one goes beyond the bounds alone
+pub none_left : (a : Axis) (axes : List Axis) (low high k : ℕ) → NoneBelow a axes low high k → ((j : ℕ) → j < a.len → k ≤ j → high < a.step * j) → HasSum (a ∷ axes) low high → ⊥
+none_left a axes low high k before beyond s =
+    let first = first_of a axes low high s in
+    elim (cases_lt first.k k) [
+      | inl less ↦ before.none first.k less first.within first.others
+      | inr not_less ↦ absurd (omega (arith, beyond first.k first.below not_less, first.within))
+    ]
+
+pub none_beyond : (a : Axis) (axes : List Axis) (low high k : ℕ) → NoneBelow a axes low high k → high < a.step * k → HasSum (a ∷ axes) low high → ⊥
+none_beyond a axes low high k before above = none_left a axes low high k before (λ j below from. omega (arith, mul-le-mul_left a.step from, above))
+
+-- without axes there is one sum
+pub no_axes : (low high : ℕ) → HasSum [] low high → low ≡ 0
+no_axes low high s = at s.index s.inside s.from
+  where
+    at : (index : List ℕ) → IsIndex (lengths_in []) index → low ≤ reached [] index → low ≡ 0
+    at [] inside from = omega (arith, from)
+    at (k ∷ index) inside from = absurd inside
+
+-- ---- what is known of all axes holds of the rest
+
+pub reach_rest : (axes : List Axis) (whole : ℕ) → 1 ≤ length axes → whole ≡ reach_of axes → whole - reach (get_or axes 0 no_axis) ≡ reach_of (take (length axes - 1) (drop 1 axes))
+reach_rest axes whole some is = omega (arith, is, ap reach_of (first_rest axes some))
+
+all_rest : (P : Axis → Type 0) (axes : List Axis) → 1 ≤ length axes → All P axes → All P (take (length axes - 1) (drop 1 axes))
+all_rest P axes some all = All-from_recursion P (take (length axes - 1) (drop 1 axes)) (recursion_from_All P (get_or axes 0 no_axis ∷ take (length axes - 1) (drop 1 axes)) (subst (λ l. All P l) (first_rest axes some) all)).1
+
+pub forward_rest : (axes : List Axis) → 1 ≤ length axes → AreForward axes → AreForward (take (length axes - 1) (drop 1 axes))
+forward_rest axes some are = record {
+  steps = all_rest (λ a. 0 < a.step) axes some are.steps;
+  items = all_rest (λ a. 0 < a.len) axes some are.items;
+  near = omega (arith, are.near, reach_rest axes (reach_of axes) some refl);
+}

@@ -1,0 +1,31 @@
+use Rattle.std.proofs.Common.{◌≡◌, length, ap, sym, subst, ◌∙◌}
+use Rattle.std.proofs.lemmas.List.Elements.{All-rest}
+use Rattle.raw_block.specs.Bytes.{EachWithin}
+use Rattle.arrays.specs.Assignments.{assigned}
+use Rattle.overlap_copy.proofs.PairCopies.{firsts, seconds, copied-pair}
+use Rattle.overlap_copy.proofs.pair_copies.copy_pairs.Goals as goal
+use Rattle.arrays.specs.RunLaws.{next_pair}
+
+pub copy_run-requires : goal.copy_run-requires
+copy_run-requires c = record {
+  count = next_pair (λ pair. pair.first.count ≡ pair.second.count) _ _ _ c.in-Some.ensures.steps c.loop-pair.invariant.counts;
+  to = subst (λ n. EachWithin n c.in-Some.pair.first.offset c.in-Some.pair.first.step c.args.width c.in-Some.pair.first.count) (sym c.loop-pair.invariant.len)
+      (next_pair (λ pair. EachWithin (length c.args.block.now) pair.first.offset pair.first.step c.args.width pair.first.count) _ _ _ c.in-Some.ensures.steps c.loop-pair.invariant.to);
+  from = next_pair (λ pair. EachWithin (length c.args.other.now) pair.second.offset pair.second.step c.args.width pair.second.count) _ _ _ c.in-Some.ensures.steps c.loop-pair.invariant.from;
+}
+
+pub loop-pair-preserved : goal.loop-pair-preserved
+loop-pair-preserved c = record {
+  rest = copied-pair _ _ _ _ _ _ _ _ c.in-Some.ensures.steps (next_pair (λ pair. pair.first.count ≡ pair.second.count) _ _ _ c.in-Some.ensures.steps c.loop-pair.invariant.counts) c.copy_run.ensures.written c.loop-pair.invariant.rest;
+  len = c.copy_run.ensures.len ∙ c.loop-pair.invariant.len;
+  counts = All-rest (λ pair. pair.first.count ≡ pair.second.count) _ _ _ c.in-Some.ensures.steps c.loop-pair.invariant.counts;
+  to = All-rest (λ pair. EachWithin (length c.args.block.now) pair.first.offset pair.first.step c.args.width pair.first.count) _ _ _ c.in-Some.ensures.steps c.loop-pair.invariant.to;
+  from = All-rest (λ pair. EachWithin (length c.args.other.now) pair.second.offset pair.second.step c.args.width pair.second.count) _ _ _ c.in-Some.ensures.steps c.loop-pair.invariant.from;
+}
+
+pub returns-clause-written : goal.returns-clause-written
+returns-clause-written c =
+    ap (λ pairs. assigned (firsts pairs) (seconds pairs) c.args.width c.args.other.now c.loop-pair.block) (sym c.in-None.ensures.steps.0) ∙ c.loop-pair.invariant.rest
+
+pub returns-clause-len : goal.returns-clause-len
+returns-clause-len c = c.loop-pair.invariant.len

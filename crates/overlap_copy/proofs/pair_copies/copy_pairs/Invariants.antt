@@ -1,0 +1,15 @@
+use Rattle.std.proofs.Common.{◌≡◌, length, All}
+use Rattle.raw_block.specs.Bytes.{EachWithin}
+use Rattle.arrays.specs.Assignments.{assigned}
+use Rattle.overlap_copy.proofs.PairCopies.{firsts, seconds}
+use Rattle.overlap_copy.proofs.pair_copies.copy_pairs.Given as goal
+
+-- the pairs that are left lead to what all of them do
+abbrev pub invariant-loop-pair : goal.invariant-loop-pair
+invariant-loop-pair l = record {
+  rest : assigned (firsts l.pair-iterator) (seconds l.pair-iterator) l.width l.other l.block ≡ assigned (firsts l.fn.pairs) (seconds l.fn.pairs) l.width l.other l.fn.block;
+  len : length l.block ≡ length l.fn.block;
+  counts : All (λ pair. pair.first.count ≡ pair.second.count) l.pair-iterator;
+  to : All (λ pair. EachWithin (length l.fn.block) pair.first.offset pair.first.step l.width pair.first.count) l.pair-iterator;
+  from : All (λ pair. EachWithin (length l.other) pair.second.offset pair.second.step l.width pair.second.count) l.pair-iterator;
+}

@@ -1,0 +1,46 @@
+use Rattle.std.proofs.Common.{rules, ◌≡◌, length, w64, sym, subst, ◌∙◌, arith}
+use Rattle.std.proofs.lemmas.Int.{to_z-of_z}
+use mir.Val.{SFits}
+use Rattle.raw_block.specs.Bytes.{EachWithin, copied_within}
+use Rattle.overlap_copy.specs.inside.Moves.{IsAssigned, place_in}
+use Rattle.overlap_copy.proofs.RunCopyLaws.{whole_within, packed_moved}
+use Rattle.overlap_copy.proofs.MovingLaws.{assigned_from_moves, apart_passed}
+use Rattle.overlap_copy.proofs.pair_copies.move_apart.Goals as goal
+
+pub move_within-requires-clause-dst : goal.move_within-requires-clause-dst
+move_within-requires-clause-dst c =
+    let to = c.args.to in
+    whole_within (length c.args.block.now) to.offset c.args.width to.count to.step (omega arith) (c.is_packed.ensures.0 c.if-is_packed.true) c.requires.to
+
+pub move_within-requires-clause-src : goal.move_within-requires-clause-src
+move_within-requires-clause-src c =
+    let from = c.args.from in
+    let len = length c.args.block.now in
+    whole_within len from.offset c.args.width c.args.to.count from.step (omega arith) (c.is_packed-then-is_packed.ensures.0 c.if-is_packed-2.true) (subst (EachWithin len from.offset from.step c.args.width) (sym c.requires.count) c.requires.from)
+
+pub returns-then-is_packed-2-clause-written : goal.returns-then-is_packed-2-clause-written
+returns-then-is_packed-2-clause-written c =
+    let to = c.args.to in
+    let from = c.args.from in
+    let old = c.args.block.now in
+    let len = length old in
+    let is = c.is_packed.ensures.0 c.if-is_packed.true in
+    let is' = c.is_packed-then-is_packed.ensures.0 c.if-is_packed-2.true in
+    let from_in = subst (EachWithin len from.offset from.step c.args.width) (sym c.requires.count) c.requires.from in
+    assigned_from_moves to from c.args.width old c.move_within.new.self c.requires.count c.requires.to c.requires.from c.requires.nested
+    (packed_moved to from c.args.width old c.move_within.new.self is (is' ∙ sym is)
+    (whole_within len to.offset c.args.width to.count to.step (omega arith) is c.requires.to)
+    (whole_within len from.offset c.args.width to.count from.step (omega arith) is' from_in)
+    c.move_within.ensures.moved)
+
+pub returns-clause-written : goal.returns-clause-written
+returns-clause-written c =
+    let to = c.args.to in
+    let from = c.args.from in
+    let old = c.args.block.now in
+    let fits : SFits w64 to.step = search rules in
+    let fits' : SFits w64 from.step = search rules in
+    let is : c.copy_strided_within.new.self ≡ copied_within to.offset to.step from.offset from.step c.args.width to.count old = c.copy_strided_within.ensures.copied ∙ (λ i. copied_within to.offset (to_z-of_z w64 to.step fits i) from.offset (to_z-of_z w64 from.step fits' i) c.args.width to.count old) in
+    assigned_from_moves to from c.args.width old c.copy_strided_within.new.self c.requires.count c.requires.to c.requires.from c.requires.nested
+    (subst (IsAssigned to.count (place_in to) (place_in from) c.args.width old old) (sym is)
+    (apart_passed to from c.args.width old c.requires.count c.requires.to c.requires.from c.requires.nested c.requires.apart))

@@ -1,0 +1,19 @@
+use Rattle.std.proofs.Common.{◌≡◌, length, All}
+use Rattle.raw_block.specs.Bytes.{EachWithin}
+use Rattle.shape_strides.specs.Layouts.{IsNested}
+use Rattle.arrays.specs.Assignments.{assigned}
+use Rattle.overlap_copy.specs.inside.Moves.{LieApart}
+use Rattle.overlap_copy.proofs.PairCopies.{firsts, seconds}
+use Rattle.overlap_copy.proofs.MovingLaws.{IsMoving}
+use Rattle.overlap_copy.proofs.pair_copies.move_pairs.Given as goal
+
+-- the pairs that are left lead to what all of them do
+abbrev pub invariant-loop-pair : goal.invariant-loop-pair
+invariant-loop-pair l = record {
+  moving : IsMoving (firsts l.pair-iterator) (seconds l.pair-iterator) l.width l.fn.block l.block (assigned (firsts l.fn.pairs) (seconds l.fn.pairs) l.width l.fn.block l.fn.block);
+  counts : All (λ pair. pair.first.count ≡ pair.second.count) l.pair-iterator;
+  to : All (λ pair. EachWithin (length l.fn.block) pair.first.offset pair.first.step l.width pair.first.count) l.pair-iterator;
+  from : All (λ pair. EachWithin (length l.fn.block) pair.second.offset pair.second.step l.width pair.second.count) l.pair-iterator;
+  nested : IsNested (firsts l.pair-iterator) l.width;
+  apart : LieApart l.width (firsts l.pair-iterator) (seconds l.pair-iterator);
+}

@@ -1,0 +1,20 @@
+-- Axes that lead as far as others.
+use Rattle.std.specs.Prelude.{◌≡◌, ℕ, ◌*◌, ◌/◌, ◌≤◌, List}
+use Rattle.shape_strides.specs.declared.stacked.Axis.{Axis}
+use Rattle.overlap_copy.specs.inside.Sums.{reach_of, AreForward, HasSum}
+
+-- a step of the wide axis is a number of steps of the narrow one, which has so many items
+pub record GoesOn (wide narrow : Axis) : Type 0 where
+  pub times : wide.step ≡ narrow.step * (wide.step / narrow.step)
+  pub items : wide.step / narrow.step ≤ narrow.len
+
+-- whatever the bounds, sums of both lie within them or of neither
+pub record SameSums (axes others : List Axis) : Type 0 where
+  pub to : (low high : ℕ) → HasSum axes low high → HasSum others low high
+  pub from : (low high : ℕ) → HasSum others low high → HasSum axes low high
+
+-- forward axes with the same sums, which reach as far
+pub record AreJoined (axes joined : List Axis) : Type 0 where
+  pub forward : AreForward joined
+  pub reach : reach_of joined ≡ reach_of axes
+  pub same : SameSums axes joined

@@ -1,0 +1,20 @@
+-- Among the rows of a table, those that fail a test stand beside no word that passes it.
+use Rattle.std.proofs.Common.{◌≡◌, ℕ, Bool, true, false, List, [], ◌∷◌, filter, Some, inl, inr, refl, sym, ◌∙◌, ap}
+use Rattle.std.specs.Bool.{if◌then◌else◌}
+use Rattle.std.specs.Str.{bytes_eq}
+use Rattle.std.proofs.lemmas.Bool.{cases_Bool, false_from_ne_true, false≢true}
+use Rattle.std.proofs.lemmas.Slice.Eq.{bytes_eq-Decides}
+use Rattle.script_lang.specs.declared.verb.Verb.{Verb}
+use Rattle.script_lang.specs.Verbs.{beside}
+
+pub beside-filtered : (test : List ℕ → Bool) (rows : List (List ℕ × Verb)) (word : List ℕ) → test word ≡ true → beside rows word ≡ beside (filter (λ row. test row.0) rows) word
+unfolding beside
+beside-filtered test [] word passes = refl
+beside-filtered test (row ∷ rows) word passes =
+    let later = beside-filtered test rows word passes in
+    elim (cases_Bool (test row.0)) [
+      | inl kept ↦ rw kept (ap (λ rest. if bytes_eq row.0 word then Some row.1 else rest) later)
+      | inr left ↦
+          let other : bytes_eq row.0 word ≡ false = false_from_ne_true _ (λ same. false≢true (sym left ∙ ap test ((bytes_eq-Decides row.0 word).0 same) ∙ passes)) in
+          rw (left, other) later
+    ]
