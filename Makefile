@@ -10,7 +10,7 @@
 # make page           dist/bench.html, the bench in one page, with dist/bench.wasm and dist/bench.mjs; proves bench_c
 # make words          writes the words of docs/LANGUAGE.md into help, manual page and syntax files
 # make dist           writes dist/ anew, from what `make` built
-# make check          the gate: every proof from nothing, dist/, and `make test`
+# make check          the gate: every proof from scratch, dist/, and `make test`
 PREFIX = /usr/local
 DESTDIR =
 to = $(DESTDIR)$(PREFIX)
@@ -77,7 +77,7 @@ pictures:
 	    companion/bench-tool draw examples/$${drawn%:*}.bench --line $${drawn#*:} --svg -o $(or $(FOLDER),docs/pictures)/$${drawn%:*}.svg || exit 1; \
 	done
 
-page:
+page: $(if $(filter bench_c,$(crates)),prove-bench_c)
 	@page/build.py
 
 words:

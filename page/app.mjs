@@ -1,7 +1,7 @@
 // ---- the page
 import { Bench, load } from "./bench.mjs";
-import { Trace, freeName } from "./trace.mjs";
-import { cut, huesOf, said, seenAt, tablesOf } from "./picture.mjs";
+import { Trace, freeName, range } from "./trace.mjs";
+import { bytesIn, cut, huesOf, said, seenAt, tablesOf } from "./picture.mjs";
 import { STYLE, escape, figure, picture } from "./svg.mjs";
 import { Language, inNumPy } from "./language.mjs";
 
@@ -12,8 +12,15 @@ const language = new Language(json("tables")), given = json("given"), files = ne
 const unpacked = async (text, form) => new Uint8Array(await new Response(new Blob([Uint8Array.fromBase64?.(text) ?? Uint8Array.from(atob(text), letter => letter.charCodeAt(0))]).stream().pipeThrough(new DecompressionStream(form))).arrayBuffer());
 const made = (tag, text, more = {}) => Object.assign(document.createElement(tag), { textContent: text, ...more });
 const sheet = new CSSStyleSheet();
-sheet.replaceSync(STYLE(":root"));
 document.adoptedStyleSheets = [sheet];
+let colours = 0;
+
+/** Writes the rules of pictures, with those of so many colours at least. */
+function dress(count) {
+  if (count <= colours) return;
+  colours = 2 * count;
+  sheet.replaceSync(STYLE(":root", range(0, colours)));
+}
 const linesOf = text => text.replace(/\n$/, "").split("\n");
 
 /** The script as far as it was run. What was changed is run again from the line before it, if the memory of then was kept. */
@@ -88,7 +95,7 @@ function moveTo(line) {
   ui.script.setSelectionRange(begin + (lines[line]?.length ?? 0), begin + (lines[line]?.length ?? 0));
 }
 
-function colours(line, moment) {
+function coloured(line, moment) {
   const hint = moment && !moment.reply.accepted ? language.hint(moment) : null, html = [];
   let place = 0;
   for (const [text, look] of language.parts(line)) {
@@ -108,7 +115,7 @@ function paint() {
   while (ui.shown.children.length > lines.length) ui.shown.lastChild.remove();
   while (ui.shown.children.length < lines.length) ui.shown.append(made("div", ""));
   for (const [k, line] of lines.entries()) {
-    const moment = run?.moments[k]?.line === line || run?.lines[k] === line ? run.moments[k] : undefined, shown = ui.shown.children[k], html = colours(line, moment) || "\u200b";
+    const moment = run?.moments[k]?.line === line || run?.lines[k] === line ? run.moments[k] : undefined, shown = ui.shown.children[k], html = coloured(line, moment) || "\u200b";
     const look = `l${moment && !moment.reply.accepted ? " no" : ""}${k === current ? " here" : ""}`;
     if (shown.html !== html) shown.innerHTML = shown.html = html;
     if (shown.className !== look) shown.className = look;
@@ -132,6 +139,7 @@ function complete(stem, word) {
 function show(line) {
   current = Math.max(0, Math.min(line, (run?.moments.length ?? 1) - 1));
   const moment = run?.moments[current];
+  dress(run?.hues.size ?? 0);
   paint();
   offer();
   if (!moment) return;
@@ -187,7 +195,8 @@ function light(number, byte) {
   const { moment } = drawn, kind = (moment.after.buffers.get(number) ?? moment.before.buffers.get(number)).kind, leaf = kind.leaves.find(each => each.at <= byte % kind.size && byte % kind.size < each.at + each.size);
   const begin = leaf ? byte - byte % kind.size + leaf.at : byte, seen = seenAt(moment, number, begin), old = moment.before.buffers.get(number)?.values.get(begin), now = moment.after.buffers.get(number)?.values.get(begin);
   const from = moment.written.has(number) ? moment.moved.get(begin) : undefined, was = old !== undefined && now !== undefined && old !== now ? `, before ${old}` : "";
-  ui.lit.textContent = `Byte ${begin} of buffer ${number}${was}${from ? `, from byte ${from.byte} of buffer ${from.buffer}` : ""}: ${seen.map(({ operand, value }) => `${operand} is ${value}`).join(", ") || "no name sees it"}`;
+  const bytes = leaf ? bytesIn(leaf, now ?? old) : "";
+  ui.lit.textContent = `Byte ${begin} of buffer ${number}${bytes && ` (${bytes})`}${was}${from ? `, from byte ${from.byte} of buffer ${from.buffer}` : ""}: ${seen.map(({ operand, value }) => `${operand} is ${value}`).join(", ") || "no name sees it"}`;
 }
 
 function lightNext(step) {
@@ -326,6 +335,7 @@ addEventListener("hashchange", async () => {
   if (line) goTo(line - 1);
 });
 
+dress(32);
 for (const name of Object.keys(language.examples)) ui.examples.append(made("option", name, { value: name }));
 for (const [name, text] of Object.entries(given.files ?? {})) files.set(name, Uint8Array.from(atob(text), letter => letter.charCodeAt(0)));
 const asked = await linked();

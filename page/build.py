@@ -1,16 +1,17 @@
 #!/usr/bin/env python3
 """Makes the program in WebAssembly and the page of these sources: dist/bench.wasm, dist/bench.mjs and dist/bench.html.
 
-1. module.sh has rt prove crates/bench_c, and keeps the LLVM module that it compiles.
+1. tools/make/module.py has the toolchain check crates/bench_c, and keeps the LLVM module that it compiles.
 2. retarget.py makes of that module, which is for x86-64, one for WebAssembly.
 3. The toolchain's clang compiles it, with heap.c and wide.c, and links bench.wasm.
 4. The modules of the page, its style, the tables of LANGUAGE and bench.wasm go into page.html.
 
 build.py            all of these; the module of before is taken where neither sources nor toolchain differ
 build.py --page     the last one alone, with the bench.wasm of dist/
-build.py --check    tells what differs in dist/ from what these sources give; bench.wasm is made anew where its module is kept
+build.py --check    tells what differs in dist/ from what the sources of the page and dist/bench.wasm give
 
-out/page/state says of which sources dist/bench.wasm was made. `make dist` writes that into SUMS, and the gate refuses another program."""
+out/page/state says of which sources dist/bench.wasm was made. `make dist` writes that into SUMS. The gate makes bench.wasm anew from the
+crates that it has just proved, and refuses another one (tools/make/dist.py)."""
 import base64
 import gzip
 import hashlib
@@ -26,29 +27,25 @@ HERE = pathlib.Path(__file__).resolve().parent
 TOP = HERE.parent
 sys.dont_write_bytecode = True
 sys.path[:0] = [str(HERE), str(TOP / "companion"), str(TOP / "tools/make")]
+import module as modules  # noqa: E402
 import retarget  # noqa: E402
 import sources  # noqa: E402
 from bench_tool import grammar, language  # noqa: E402
 
 DIST, OUT = TOP / "dist", TOP / "out/page"
-PARTS = ("module.sh", "retarget.py", "heap.c", "wide.c")  # of what bench.wasm is made, beside bench_c
+PARTS = ("retarget.py", "heap.c", "wide.c")  # of what bench.wasm is made, beside bench_c
 OPTIMIZED = "-Os"
 CALLS = ("open", "answer", "reply", "put", "get", "file", "close")
 LINKED = ["--no-entry", "--gc-sections", "--strip-all", "--stack-first", "-z", "stack-size=1048576", "--export=malloc", "--export=realloc", "--export=free", *(f"--export=bench_c_{call}" for call in CALLS)]
-MODULES = ("bench", "trace", "picture", "svg", "language", "app")
+SCRIPTS = ("bench", "trace", "picture", "svg", "language", "app")
 IMPORT = re.compile(r"(?m)^import .*\n|^export ")
 COMMENT = re.compile(r"(?ms)^ */\*\*.*?\*/\n|(?m:^ *// (?!---- the page)[^\n]*\n)|(?m:^ +)")  # comments in lines of their own, and indentation
 PROGRAM = re.compile(r'(?<=<script type="application/octet-stream" id="program">)[^<]*')
 
 
-def kit():
-    rt = shutil.which("rt")
-    return rt and pathlib.Path(rt).resolve().parents[1]
-
-
 def clang(*words):
     target = ["--target=wasm32-unknown-unknown", "-c"]
-    subprocess.run([kit() / "toolchain/bin/clang", *target, *map(str, words)], check=True)
+    subprocess.run([sources.kit_folder() / "toolchain/bin/clang", *target, *map(str, words)], check=True)
 
 
 def program_sum():
@@ -62,37 +59,30 @@ def state():
     return f"{program_sum()}\n{sources.digest(DIST / 'bench.wasm')}\n"
 
 
-def module_state():
-    """What out/page/module.of says where the module that is kept is of these sources and this toolchain."""
-    return f"{subprocess.run(['rt', 'version'], capture_output=True, text=True, check=True).stdout}{sources.sum_of('bench_c')}\n"
-
-
-def is_module_kept():
-    stamp = OUT / "module.of"
-    return (OUT / "module.bc").is_file() and stamp.is_file() and stamp.read_text() == module_state()
-
-
-def module():
-    """The LLVM module of bench_c, which is proved, compiled and kept."""
-    if not is_module_kept():
-        (OUT / "module.of").unlink(missing_ok=True)
-        subprocess.run([HERE / "module.sh", OUT], check=True, stdout=sys.stderr)
-        (OUT / "module.of").write_text(module_state())
-    return OUT / "module.bc"
-
-
-def program():
-    """The bytes of bench.wasm, made anew."""
+def kept_module():
+    """The LLVM module of bench_c. It is kept, with the sum of the sources and the toolchain that gave it in out/page/module.of."""
+    here = subprocess.run(["rt", "version"], capture_output=True, text=True, check=True).stdout.strip()
+    kept, stamp, wanted = OUT / "module.bc", OUT / "module.of", f"{here}\n{sources.sum_of('bench_c')}\n"
     OUT.mkdir(parents=True, exist_ok=True)
-    disassemble = ["--target=x86_64-unknown-linux-gnu", "-x", "ir", module(), "-S", "-emit-llvm", "-O0", "-Xclang", "-disable-llvm-passes", "-o", OUT / "x86.ll"]
-    subprocess.run([kit() / "toolchain/bin/clang", *disassemble], check=True)
+    if not (kept.is_file() and stamp.is_file() and stamp.read_text() == wanted):
+        stamp.unlink(missing_ok=True)
+        modules.build(OUT, here)
+        stamp.write_text(wanted)
+    return kept
+
+
+def program(module):
+    """The bytes of bench.wasm, made of an LLVM module of bench_c."""
+    OUT.mkdir(parents=True, exist_ok=True)
+    disassemble = ["--target=x86_64-unknown-linux-gnu", "-x", "ir", module, "-S", "-emit-llvm", "-O0", "-Xclang", "-disable-llvm-passes", "-o", OUT / "x86.ll"]
+    subprocess.run([sources.kit_folder() / "toolchain/bin/clang", *disassemble], check=True)
     (OUT / "wasm.ll").write_text(retarget.retarget((OUT / "x86.ll").read_text()))
     clang(OPTIMIZED, "-x", "ir", OUT / "wasm.ll", "-o", OUT / "bench.o")
     for name in ("heap", "wide"):
         clang("-O2", "-Wall", "-Wextra", "-ffreestanding", "-fno-builtin", HERE / f"{name}.c", "-o", OUT / f"{name}.o")
     linker = OUT / "wasm-ld"
     linker.unlink(missing_ok=True)
-    linker.symlink_to(kit() / "toolchain/bin/ld.lld")
+    linker.symlink_to(sources.kit_folder() / "toolchain/bin/ld.lld")
     subprocess.run([linker, *LINKED, *(OUT / f"{name}.o" for name in ("bench", "heap", "wide")), "-o", OUT / "bench.wasm"], check=True)
     return (OUT / "bench.wasm").read_bytes()
 
@@ -131,7 +121,7 @@ def packed(wasm):
 
 def page(wasm):
     """The page: one file, whose policy lets it run its own script alone and fetch nothing."""
-    code = "\n".join(COMMENT.sub("", IMPORT.sub("", (HERE / f"{name}.mjs").read_text(encoding="utf-8"))) for name in MODULES).replace("</script", "<\\/script").replace("<!--", "<\\!--")
+    code = "\n".join(COMMENT.sub("", IMPORT.sub("", (HERE / f"{name}.mjs").read_text(encoding="utf-8"))) for name in SCRIPTS).replace("</script", "<\\/script").replace("<!--", "<\\!--")
     style, svg = (HERE / "page.css").read_text(encoding="utf-8"), (HERE / "svg.mjs").read_text(encoding="utf-8")
     parts = {"CODE": code, "SUM": sum_of(code), "STYLE": style, "STYLESUM": sum_of(style), "TABLES": tables(), "GIVEN": "", "PROGRAM": packed(wasm),
              "TIP": re.search(r"TIP = '(.*)';", svg)[1]}
@@ -150,7 +140,7 @@ def write(wasm, is_new):
 
 
 def differences():
-    """What differs in dist/ from what these sources give."""
+    """What differs in dist/ from what the sources of the page and dist/bench.wasm give."""
     files = [DIST / name for name in ("bench.wasm", "bench.html", "bench.mjs")]
     if not all(map(pathlib.Path.is_file, files)):
         yield "dist/ has no page: run `make page`"
@@ -160,10 +150,6 @@ def differences():
         yield "dist/bench.html is not what page/, LANGUAGE, the grammar, the examples and dist/bench.wasm give: run page/build.py --page"
     if files[2].read_bytes() != (HERE / "bench.mjs").read_bytes():
         yield "dist/bench.mjs is not page/bench.mjs"
-    if not kit() or not is_module_kept():
-        print("page: bench.wasm is not made anew, since its module is not kept here")
-    elif program() != wasm:
-        yield "dist/bench.wasm is not what these sources and this toolchain give"
 
 
 def check():
@@ -179,7 +165,10 @@ if __name__ == "__main__":
     os.chdir(TOP)
     if sys.argv[1:] == ["--check"]:
         sys.exit(check())
-    if not sys.argv[1:] and not kit():
+    if not sys.argv[1:] and not sources.kit_folder():
         sys.exit("page: this needs rt, the command of the toolchain")
     is_page = sys.argv[1:] == ["--page"]
-    write((DIST / "bench.wasm").read_bytes() if is_page else program(), not is_page)
+    try:
+        write((DIST / "bench.wasm").read_bytes() if is_page else program(kept_module()), not is_page)
+    except modules.NotBuilt as why:
+        sys.exit(f"page: {why}")

@@ -1,9 +1,9 @@
 // What is drawn of a line: for each buffer a table of its cells and of the names that see them, and grids; in words too.
-import { literal, product } from "./trace.mjs";
+import { literal, product, range } from "./trace.mjs";
 
 const LONGEST = 40; // letters of a value
 const SHORT = 160; // letters of a type
-export const HUES = 12; // colours of names
+const PLAIN = 12, STRIPES = ["", "left", "right", "left right"]; // names of a buffer without stripes in their cells; where the next ones have them
 const FEW_NAMES = 6, MOST_NAMES = 64, MOST_GRIDS = 4; // that are drawn of a buffer
 const MOST_LEAVES = 16; // values of an item in a grid
 const MOST_BUFFERS = 12; // that a line leaves alone and that are drawn all the same
@@ -88,10 +88,11 @@ class Drawn {
     const asked = !state && this.moment.words.has(name) ? "asked" : state.split(" ")[0];
     const note = `${name}${state && ` ${state}`}: ${cut(array.type, SHORT)} ${shapeText(array.shape)}, strides ${shapeText(array.strides)}, at ${array.at}`
       + (array.writable ? "" : ", read-only") + (times > 1 ? `, ${times} indexes to each item` : "");
-    return { label: name, look: `name ${this.hue(name)} ${asked}`.trim(), boxes: boxes.sort((left, right) => left.at - right.at), note };
+    const hue = this.hue(name), stripes = state === "goes" ? "" : STRIPES[Math.floor(hue / PLAIN) % STRIPES.length];
+    return { label: name, look: `name ${asked}`.trim(), hue, stripes, boxes: boxes.sort((left, right) => left.at - right.at), note };
   }
 
-  hue(name) { return `h${this.hues.get(`${name} ${this.number}`)}`; }
+  hue(name) { return this.hues.get(`${name} ${this.number}`); }
 
   /** The cells of the buffer, and under them those of each name. */
   strip() {
@@ -118,7 +119,7 @@ class Drawn {
         const look = this.lookOf(bound, byte), text = cut(literal(kind.item(this.values, byte)));
         return { text: look === "x" ? `${cut(literal(kind.item(was, byte)))}→${text}` : text, look, at, width: 1, byte, size: kind.size };
       });
-      made.push({ label: String(rows[k]), look: `grid ${this.hue(name)}`, boxes });
+      made.push({ label: String(rows[k]), look: "grid", hue: this.hue(name), boxes });
     }
     const hidden = product(bound.array.shape.slice(-2)) - rows.length * columns.length;
     return { caption: `${name}${part} in rows and columns${hidden ? `; ${hidden} items are not drawn` : ""}`, columns: columns.length, rows: made, moves: [], buffer: this.number };
@@ -130,14 +131,14 @@ class Drawn {
   }
 }
 
-/** A colour for each name in a buffer, by both: one that no other name has there, as long as there are enough. */
+/** The number of a colour for each name in a buffer, by both: one that no other name has there. */
 export function huesOf(moments, hues = new Map()) {
   for (const { before, after } of moments) {
     for (const { names } of before === after ? [] : [before, after]) {
       for (const [name, { buffer }] of names) {
         if (hues.has(`${name} ${buffer}`)) continue;
         const taken = new Set([...names].filter(([, other]) => other.buffer === buffer).map(([other]) => hues.get(`${other} ${buffer}`)));
-        hues.set(`${name} ${buffer}`, [...Array(HUES).keys()].find(hue => !taken.has(hue)) ?? hues.size % HUES);
+        hues.set(`${name} ${buffer}`, range(0, taken.size + 1).find(hue => !taken.has(hue)));
       }
     }
   }
@@ -162,14 +163,22 @@ export function seenAt(moment, number, byte) {
   });
 }
 
+/** The bytes of a number as they lie in memory; nothing for a value of another kind. */
+export function bytesIn({ type, size }, value) {
+  if (!/^-?\d+$/.test(value)) return "";
+  const bytes = BigInt.asUintN(8 * size, BigInt(value)).toString(16).padStart(2 * size, "0").match(/../g);
+  return (type[0] === ">" ? bytes : bytes.reverse()).join(" ");
+}
+
 /** What a line did, in words. */
 export function said(moment) {
-  const { before, after, moved, written } = moment, told = [], isUndo = moment.reply.text === "ok undo";
+  const { before, after, moved, written, undone, line, reply } = moment, told = undone ? [`Line ${undone} is taken back.`] : [], [, saved] = /^ok save (\d+)$/.exec(reply.text) ?? [];
+  const fresh = reply.text.endsWith(" copy") ? "a copy" : "a new array", why = fresh === "a copy" && /=\s*reshape\b/.test(line) ? ": no strides lead to the items in this shape" : "";
   for (const [name, bound] of after.names) {
     const old = before.names.get(name), { buffer } = bound, others = after.inside(buffer).map(([other]) => other).filter(other => other !== name);
     if (old === bound) continue;
-    if (isUndo) told.push(`${name} is back, in buffer ${buffer}.`);
-    else told.push(`${name} is ${old ? "now " : ""}${before.buffers.has(buffer) ? `a view of buffer ${buffer}${others.length ? `, like ${few(others)}` : ""}` : `a new array in buffer ${buffer}`}.`);
+    if (undone) told.push(`${name} is back, in buffer ${buffer}.`);
+    else told.push(`${name} is ${old ? "now " : ""}${before.buffers.has(buffer) ? `a view of buffer ${buffer}${others.length ? `, like ${few(others)}` : ""}` : `${fresh} in buffer ${buffer}${why}`}.`);
   }
   for (const name of before.names.keys()) if (!after.names.has(name)) told.push(`${name} is unbound.`);
   for (const number of before.buffers.keys()) if (!after.buffers.has(number)) told.push(`Buffer ${number} is freed.`);
@@ -180,7 +189,9 @@ export function said(moment) {
     const part = buffer.count > buffer.starts(moment.focus.get(number)).length ? ", of those that are drawn" : "";
     told.push(`${counted(changed.length, "value")} in buffer ${number} change${changed.length === 1 ? "s" : ""}${part}, ${names.length ? `seen by ${few(names)}` : "no name sees it"}.`);
   }
-  if (moved.size) told.push(`${counted(moved.size, "value")} moved${[...moved.values()].some(({ buffer }) => !written.has(buffer)) ? " from another buffer" : ""}.`);
+  const [from] = [...moved.values()].map(({ buffer }) => buffer).filter(buffer => !written.has(buffer));
+  if (saved) told.push(`The file ${/"(.*)"/.exec(line)[1]} has ${saved} bytes.`);
+  if (moved.size) told.push(from ? `${counted(moved.size, "value")} come${moved.size === 1 ? "s" : ""} from buffer ${from}.` : `${counted(moved.size, "value")} moved.`);
   else if (!told.length && [...written.values()].some(bytes => bytes.size)) told.push("The values written are those that were there.");
   return told.slice(0, 12).join(" ") || "Nothing changes.";
 }

@@ -1,22 +1,20 @@
 // Tables drawn as SVG, in blocks of as many columns as there is room for; a picture of one line, for documents.
 
-import { HUES } from "./picture.mjs";
-
 const LETTER = 7.3, LINE = 21, WIDTH = 720;
-const LIGHT = "--ink:#1a1a1a;--dim:#5f5f5f;--line:#9a9a9a;--page:#fff;--mark:#ffe28a;--wrote:#e8f0d8;"
-  + "--h0:#0b62a8;--h1:#a34700;--h2:#1b6e3c;--h3:#8a2a8a;--h4:#a3203a;--h5:#0d6b70;--h6:#6b5900;--h7:#4f4fb5;--h8:#6a3d1c;--h9:#3c6415;--h10:#7a1f5c;--h11:#2c4a73";
-const DARK = "--ink:#eee;--dim:#aaa;--line:#777;--page:#16181d;--mark:#6b5200;--wrote:#2b3a22;"
-  + "--h0:#6cb6ff;--h1:#ffa657;--h2:#57c785;--h3:#d8a0e8;--h4:#ff8a95;--h5:#4fd1d6;--h6:#d9c04a;--h7:#a5a5ff;--h8:#d8a785;--h9:#a3d070;--h10:#ff9bd0;--h11:#8fb4e6";
-const RULES = [...Array(HUES).keys()].map(k => `.h${k}{--c:var(--h${k})}`).join("") + `
+const LIGHT = "--ink:#1a1a1a;--dim:#5f5f5f;--line:#9a9a9a;--page:#fff;--mark:#ffe28a;--wrote:#e8f0d8;--light:.48;--vivid:.13";
+const DARK = "--ink:#eee;--dim:#aaa;--line:#777;--page:#16181d;--mark:#6b5200;--wrote:#2b3a22;--light:.78;--vivid:.12";
+const RULES = `
 svg text{font:12px ui-monospace,Menlo,Consolas,monospace;fill:var(--ink)}svg rect{fill:none;stroke:var(--line)}svg .head{font-weight:bold}
 svg .page{fill:var(--page);stroke:none}.place text,.field text,.old text{fill:var(--dim)}.place rect,.field rect,svg .gap{stroke:none}
 .old rect,svg .pad,.goes rect{stroke-dasharray:3 2}.old .x+text{text-decoration:line-through}
 .now .x,.grid .x{fill:var(--mark);stroke:var(--ink);stroke-width:2}.now .w,.grid .w{fill:var(--wrote);stroke:var(--ink)}
-.name rect{fill:var(--c);stroke:var(--page)}.name text{fill:var(--page)}.name .x{stroke:var(--ink);stroke-width:2}.name.goes rect{fill:none;stroke:var(--c)}
+.name rect{fill:var(--c);stroke:var(--page)}.name text{fill:var(--page)}svg .stripe{fill:var(--page);stroke:none;pointer-events:none}.name .x{stroke:var(--ink);stroke-width:2}.name.goes rect{fill:none;stroke:var(--c)}
 .appears .label,.comes .label,.asked .label{text-decoration:underline}.name .label,.grid .label,.name.goes text,.note{fill:var(--c);font-weight:bold}
 svg path{fill:none;stroke:var(--ink);stroke-width:1.5;marker-end:url(#tip)}#tip path{fill:var(--ink);stroke:none}`;
-/** The rules of pictures, and the head of their arrows. */
-export const STYLE = selector => `${selector}{${LIGHT}}@media(prefers-color-scheme:dark){${selector}{${DARK}}}${RULES}`;
+/** The rule of a colour. All are as light; each turns the hue by the golden angle, which spreads the first ones evenly, however many they are. */
+const ruleOf = hue => `.h${hue}{--c:oklch(var(--light) var(--vivid) ${fixed((250 + 137.508 * hue) % 360)})}`;
+/** The rules of pictures with these colours, and the head of their arrows. */
+export const STYLE = (selector, hues) => `${selector}{${LIGHT}}@media(prefers-color-scheme:dark){${selector}{${DARK}}}${hues.map(ruleOf).join("")}${RULES}`;
 export const TIP = '<marker id="tip" viewBox="0 0 8 8" refX="7" refY="4" markerWidth="6" markerHeight="6" orient="auto"><path d="M0 0L8 4L0 8z"/></marker>';
 const ENTITIES = { "&": "&amp;", "<": "&lt;", ">": "&gt;", '"': "&quot;", "'": "&#x27;" };
 
@@ -40,6 +38,8 @@ function wrapped(text, room) {
   return lines;
 }
 
+const lookOf = ({ look, hue }) => hue === undefined ? look : `${look} h${hue}`;
+
 /** How many letters a column has room for: all texts, within bounds. */
 function lettersOf(table) {
   const boxes = table.rows.flatMap(row => row.boxes.filter(box => box.text)), most = boxes.every(box => box.width === 1) ? 42 : 200;
@@ -53,10 +53,11 @@ function block(table, first, last, margin, width, isLive) {
   for (const row of table.rows) {
     const boxes = row.boxes.filter(inside);
     if (row.look === "old" && !boxes.some(box => box.look === "x")) continue;
-    drawn.push(`<g class="${row.look}">${textAt(4, y, row.label, 99, ' class="label"')}`);
+    drawn.push(`<g class="${lookOf(row)}">${textAt(4, y, row.label, 99, ' class="label"')}`);
     for (const { text, at, width: part, look, byte, size } of boxes) {
       const left = margin + (at - first) * width, wide = part * width, place = isLive && byte !== undefined ? ` data-at="${byte}" data-size="${size}"` : "";
       drawn.push(`<rect x="${fixed(left)}" y="${y + 1}" width="${fixed(wide)}" height="${LINE - 3}" class="${look}"${place}/>${textAt(left + wide / 2, y, text, (wide + 2) / LETTER, ' text-anchor="middle"')}`);
+      for (const side of row.stripes?.split(" ") ?? []) drawn.push(side && `<rect class="stripe" x="${fixed(side === "left" ? left + 3 : left + wide - 5)}" y="${y + 3}" width="2" height="${LINE - 7}"/>`);
     }
     drawn.push("</g>");
     y += LINE;
@@ -70,7 +71,7 @@ function block(table, first, last, margin, width, isLive) {
 
 /** A table as blocks of at least one column each, the first below its caption and the notes of its rows. */
 function parts(table, room, isLive = false) {
-  const told = [[table.caption, "head"], ...table.rows.filter(row => row.note).map(row => [row.note, `note ${row.look}`])];
+  const told = [[table.caption, "head"], ...table.rows.filter(row => row.note).map(row => [row.note, `note ${lookOf(row)}`])];
   const lines = told.flatMap(([text, look]) => wrapped(text, Math.floor(room / LETTER) - 1).map(line => [line, look])), height = lines.length * (LINE - 4) + 6;
   const head = lines.map(([line, look], k) => textAt(4, k * (LINE - 4), line, line.length, ` class="${look}"`)).join("");
   const margin = 12 + LETTER * Math.max(...table.rows.map(row => row.label.length)), longest = Math.max(...lines.map(([line]) => line.length));
@@ -91,7 +92,7 @@ export function figure(table, room) {
 
 /** The picture of a line, which stands alone, with its text for those who do not see it. What has room stands side by side. */
 export function picture(line, tables, words) {
-  const drawn = [textAt(8, 6, line, 96)];
+  const drawn = [textAt(8, 6, line, 96)], hues = new Set(tables.flatMap(table => table.rows.flatMap(row => row.hue ?? [])));
   let [x, y, below, wide] = [4, 30, 30, WIDTH];
   for (const part of tables.flatMap(table => parts(table, WIDTH))) {
     if (x + part.width > WIDTH) [x, y] = [4, below];
@@ -100,5 +101,5 @@ export function picture(line, tables, words) {
   }
   return [`<svg xmlns="http://www.w3.org/2000/svg" viewBox="0 0 ${wide} ${below}" width="${wide}" height="${below}" role="img" aria-labelledby="title words">`
     + `<title id="title">${escape(line)}</title><desc id="words">${escape(words)}</desc>`,
-    `<style>${STYLE("svg")}</style>${TIP}<rect class="page" width="${wide}" height="${below}"/>`, ...drawn, "</svg>\n"].join("\n");
+    `<style>${STYLE("svg", [...hues])}</style>${TIP}<rect class="page" width="${wide}" height="${below}"/>`, ...drawn, "</svg>\n"].join("\n");
 }

@@ -73,12 +73,12 @@ function arrayOf(bench, name) {
   return { name, type, shape: numbersIn(shape), strides: numbersIn(strides), at: Number(at), order, writable: write === "yes" };
 }
 
-/** An element type as it lies in memory: its bytes; the fields of a record, each with its first byte; and its values, each with its field. */
+/** An element type as it lies in memory: its bytes; the fields of a record, each with its first byte; and its values, each with its field and type. */
 export class Kind {
   constructor(text, size, fields = []) {
     Object.assign(this, { text, size, fields });
-    const inner = fields.flatMap(({ at, name, kind }) => kind.leaves.map(leaf => ({ at: at + leaf.at, size: leaf.size, field: name + (leaf.field && `.${leaf.field}`) })));
-    this.leaves = inner.length ? inner : [{ at: 0, size, field: "" }];
+    const inner = fields.flatMap(({ at, name, kind }) => kind.leaves.map(leaf => ({ ...leaf, at: at + leaf.at, field: name + (leaf.field && `.${leaf.field}`) })));
+    this.leaves = inner.length ? inner : [{ at: 0, size, field: "", type: text }];
   }
 
   /** The values of an item that begins at a byte, each with its own byte. */
@@ -187,10 +187,10 @@ class State {
 }
 
 /** A line of the script with its reply; the states before and after it; for each buffer the bytes around which it is drawn; the bytes
- *  of the values that the line wrote; and where those came from that it moved. */
+ *  of the values that the line wrote; where those came from that it moved; and the number of the line that it took back. */
 export class Moment {
-  constructor(number, line, reply, before, after, { focus, written = new Map(), moved = new Map() }) {
-    Object.assign(this, { number, line, reply, before, after, focus, written, moved });
+  constructor(number, line, reply, before, after, { focus, written = new Map(), moved = new Map(), undone }) {
+    Object.assign(this, { number, line, reply, before, after, focus, written, moved, undone });
     this.words = new Set(wordsOf(line.slice(0, 10_000)).filter(word => before.names.has(word) || after.names.has(word)));
   }
 
@@ -209,7 +209,7 @@ export class Trace {
     this.free = freeName(text);
     [this.bench, this.second] = [open(Math.min(undo, MOST_UNDO)), open(64)];
     this.kinds = new Map();
-    this.kept = []; // of each change the state before it, and the bytes around which it was drawn
+    this.kept = []; // of each change the state before it, the bytes around which it was drawn, and its line
     this.focus = new Map(); // of each buffer the bytes around which it was drawn last
     this.lines = this.made = 0;
     this.state = new State();
@@ -228,7 +228,7 @@ export class Trace {
     if (verb === "save") this.share(line);
     if (!verb || verb === "save") return new Moment(this.lines, text, reply, before, before, { focus: this.focus });
     const did = verb === "set" || verb === "upd" ? this.write(line, reply) : this.change(line, reply, verb);
-    if (verb !== "undo") this.kept.push([before, did.focus]);
+    if (verb !== "undo") this.kept.push([before, did.focus, this.lines]);
     if (this.kept.length > MOST_UNDO) this.kept.shift();
     this.focus = new Map([...this.focus, ...did.focus]);
     return new Moment(this.lines, text, reply, before, this.state, { ...did, focus: this.focus });
@@ -265,9 +265,9 @@ export class Trace {
     const { names, buffers } = this.state;
     this.again(line, reply);
     if (verb === "undo") {
-      const [state, focus] = this.kept.pop();
+      const [state, focus, undone] = this.kept.pop();
       this.state = state;
-      return { focus };
+      return { focus, undone };
     }
     if (verb === "del") this.turn([...names].filter(([name]) => name !== reply.text.split(" ")[2]), buffers);
     else return this.bind(line, reply);

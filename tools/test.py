@@ -2,7 +2,7 @@
 """Runs the tests of everything but the proofs: tools/test.py [WORD ..] runs those whose names have one of the words, or all.
 
 Two minutes on two cores, and no toolchain. What is left out is told with its reason. The last line is `N passed, M failed, K skipped`.
-With --gate `rt ci` comes first, which proves all from nothing, then dist/ is compared with the program that it built, and no test
+With --gate `rt ci` comes first, which proves all from scratch, then dist/ is compared with the program that it built, and no test
 may be left out for want of the program."""
 import concurrent.futures
 import io

@@ -205,7 +205,7 @@ class Pictures(unittest.TestCase):
         text = pages.asked('const kind = kindOf("T{<b:x:3xT{>i:y:<5s:q:}:s:<?:k:2x}");\nprocess.stdout.write(JSON.stringify([kind.leaves, kind.size, kindOf("|S12").size, kindOf(">u2").size]));',
                            [], argparse.Namespace(undo=0, dir="."))
         leaves, *sizes = json.loads(text)
-        self.assertEqual([tuple(leaf.values()) for leaf in leaves], [(0, 1, "x"), (4, 4, "s.y"), (8, 5, "s.q"), (13, 1, "k")])
+        self.assertEqual([tuple(leaf.values()) for leaf in leaves], [(0, 1, "x", "<b"), (4, 4, "s.y", ">i"), (8, 5, "s.q", "<5s"), (13, 1, "k", "<?")])
         self.assertEqual(sizes, [16, 12, 2])
 
     def test_pictures_of_all_kinds(self):
@@ -222,9 +222,20 @@ class Pictures(unittest.TestCase):
                  "set a[1:] = a[:-1]", "del d", "undo", "set b[0] = b[0]", "b = copy a C", "set a[:] = b", "del a"]
         words = [moment["words"] for moment in look(lines)]
         self.assertEqual(words[:2], ["a is a new array in buffer 1.", "b is a view of buffer 1, like a."])
-        self.assertEqual(words[4:9], ["d is a new array in buffer 2.", "3 values in buffer 1 change, seen by a, b, c and t. 3 values moved.", "d is unbound. Buffer 2 is freed.",
-                                      "d is back, in buffer 2.", "The values written are those that were there."])
-        self.assertEqual(words[9:], ["b is now a new array in buffer 3.", "The values written are those that were there.", "a is unbound."])
+        self.assertEqual(words[4:9], ["d is a copy in buffer 2: no strides lead to the items in this shape.", "3 values in buffer 1 change, seen by a, b, c and t. 3 values moved.", "d is unbound. Buffer 2 is freed.",
+                                      "Line 7 is taken back. d is back, in buffer 2.", "The values written are those that were there."])
+        self.assertEqual(words[9:], ["b is now a copy in buffer 3.", "The values written are those that were there.", "a is unbound."])
+
+        words = [moment["words"] for moment in look(["a = arange <i4 0 2 1", "m = zeros <i4 (3,2)", "set m[:] = a", 'save m "m.npy"', "undo", "undo", "set a[0] = a[1]"])]
+        self.assertEqual(words[2:], ["3 values in buffer 2 change, seen by m. 6 values come from buffer 1.", "The file m.npy has 152 bytes.",
+                                     "Line 3 is taken back. 3 values in buffer 2 change, seen by m.", "Line 2 is taken back. m is unbound. Buffer 2 is freed.", "1 value in buffer 1 changes, seen by a. 1 value moved."])
+
+    def test_bytes(self):
+        """The bytes of a number are those that NPY files have."""
+        chosen = [["<i4", 4, 258], [">i4", 4, 258], [">i2", 2, -2], ["<i8", 8, -2 ** 63], [">u8", 8, 2 ** 64 - 1], ["|u1", 1, 255], ["<h", 2, -32768], [">Q", 8, 1], ["b", 1, -1]]
+        given = json.dumps([[kind, size, str(value)] for kind, size, value in chosen] + [["|b1", 1, "True"], ["|S3", 3, "b'12'"]])
+        made = pages.asked(f"process.stdout.write(JSON.stringify({given}.map(([type, size, value]) => bytesIn({{ type, size }}, value))));", [], argparse.Namespace(undo=0, dir="."))
+        self.assertEqual(json.loads(made), [value.to_bytes(size, "big" if kind[0] == ">" else "little", signed=value < 0).hex(" ") for kind, size, value in chosen] + ["", ""])
 
     def test_around_what_changed(self):
         """A long array is drawn around what a line writes or names, and its grids too."""
@@ -264,6 +275,20 @@ class Pictures(unittest.TestCase):
         self.assertEqual(rows_of(changed["tables"], "name")[0]["label"], "v30")
         self.assertEqual([row["label"] for row in rows_of(asked["tables"], "name") if row["look"].endswith("asked")], ["v33"])
         self.assertEqual(changed["words"], "1 value in buffer 5 changes, seen by n4, n8, v0, v1, v2, v4 and 34 more.".replace("v0, v1, v2, v4 and 34", changed["words"].split("n8, ")[1].split(" more")[0]))
+
+    def test_colours(self):
+        """No colour comes twice in a buffer; those with the same stripes are far apart; one that is free is taken again."""
+        lines = ["n0 = arange <i4 0 4 1", *(f"n{k} = n0[:]" for k in range(1, 60)), "del n3", "v = n0"]
+        asked = r"""const moments = run(given.script, 16), { tables } = tablesOf(moments.at(-1), huesOf(moments), true), rows = tables[0].rows.filter(row => row.hue !== undefined);
+const rules = [...STYLE("svg", rows.map(row => row.hue)).matchAll(/\.h\d+{--c:oklch\(var\(--light\) var\(--vivid\) ([\d.]+)\)}/g)].map(([, turn]) => Number(turn));
+process.stdout.write(JSON.stringify(rows.map((row, k) => [row.hue, row.label, row.stripes, rules[k]])));"""
+        told = sorted(json.loads(pages.asked(asked, [line.encode() for line in lines], argparse.Namespace(undo=16, dir="."))))
+        self.assertEqual([hue for hue, *_ in told], list(range(60)))
+        self.assertEqual(told[3][1], "v")
+        self.assertEqual([stripes for _, _, stripes, _ in told], [stripes for stripes in ("", "left", "right", "left right", "") for _ in range(12)])
+        for first in range(0, 60, 12):
+            turns = sorted(turn for *_, turn in told[first:first + 12])
+            self.assertGreater(min((after - before) % 360 for before, after in zip(turns, turns[1:] + turns[:1])), 19)
 
     def test_pictures_of_the_docs(self):
         with tempfile.TemporaryDirectory() as folder:

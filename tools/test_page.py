@@ -1,4 +1,4 @@
-"""The page and the program in WebAssembly: the same replies and files as the program's, in Node; and the page in a headless chromium.
+"""The page and the program in WebAssembly: the same replies and files as the program's, in Node; and the page in a headless chromium and Firefox.
 BENCH_TESTS=all tries 10,000 random scripts, and 4 GB of memory."""
 import argparse
 import base64
@@ -14,8 +14,7 @@ import time
 import unittest
 
 from trials.companion_trials import PROGRAM, TOP, needs_program, share
-from trials.browser import CHROMIUM, Browser
-from trials import lines as scripts
+from trials import browser, firefox, lines as scripts
 from bench_tool import Session
 from bench_tool import page as pages
 from test_rows import rows, zeros
@@ -27,7 +26,8 @@ DIST, TRIALS = TOP / "dist", TOP / "tools/trials"
 PAGE = DIST / "bench.html"
 needs_page = unittest.skipUnless(PAGE.is_file(), "left out: `make page` has made no page")
 needs_node = unittest.skipUnless(shutil.which("node"), "left out: Node is not installed (Debian: nodejs)")
-needs_browser = unittest.skipUnless(CHROMIUM, "left out: no chromium is installed (Debian: chromium)")
+needs_chromium = unittest.skipUnless(browser.CHROMIUM, "left out: no chromium is installed (Debian: chromium)")
+needs_firefox = unittest.skipUnless(firefox.FIREFOX, "left out: no Firefox is installed (Debian: firefox-esr)")
 
 
 def coded(data):
@@ -192,24 +192,23 @@ print a
 c = b[9]
 d = reshape a (2,3"""
 CONTRAST = """(() => {
-  const canvas = document.createElement("canvas").getContext("2d"), style = getComputedStyle(document.documentElement);
+  const canvas = document.createElement("canvas").getContext("2d", { willReadFrequently: true }), put = document.body.appendChild(document.createElement("span")), { style } = put;
   const light = text => { canvas.fillStyle = text; canvas.fillRect(0, 0, 1, 1); return [...canvas.getImageData(0, 0, 1, 1).data].slice(0, 3).map(c => (c /= 255, c <= .03928 ? c / 12.92 : ((c + .055) / 1.055) ** 2.4)).reduce((sum, c, k) => sum + c * [.2126, .7152, .0722][k], 0); };
-  const of = name => light(style.getPropertyValue(`--${name}`)), ratio = (a, b) => (Math.max(a, b) + .05) / (Math.min(a, b) + .05);
-  return [...["ink", "dim", ...[...Array(12).keys()].map(k => `h${k}`)].map(name => [name, ratio(of(name), of("page"))]), ["ink on mark", ratio(of("ink"), of("mark"))], ["ink on wrote", ratio(of("ink"), of("wrote"))]];
+  const of = (name, look = "") => (put.className = look, style.color = `var(--${name})`, light(getComputedStyle(put).color)), ratio = (a, b) => (Math.max(a, b) + .05) / (Math.min(a, b) + .05), page = of("page");
+  const named = ["ink", "dim", "blue", "green", "red", "violet"].map(name => [name, ratio(of(name), page)]), hues = [...Array(64).keys()].map(k => [`h${k}`, ratio(of("c", `h${k}`), page)]);
+  return [...named, ...hues, ["ink on mark", ratio(of("ink"), of("mark"))], ["ink on wrote", ratio(of("ink"), of("wrote"))]];
 })()"""
 UNNAMED = """[...document.querySelectorAll("button, input, select, textarea, [role=group], section, a")].filter(each => !each.hidden && !each.getAttribute("aria-label") && !each.labels?.length && !each.textContent.trim()).map(each => each.outerHTML.slice(0, 80))"""
 BESIDE = """[...document.querySelectorAll("#shown .l")].map(line => line.querySelector(".r")?.textContent ?? "")"""
 VALUES = """[...document.querySelectorAll("#pictures g.now")].map(row => [...row.querySelectorAll("text")].slice(1).map(text => text.textContent))"""
 
 
-@needs_page
-@needs_browser
-class InBrowser(unittest.TestCase):
-    """The page in a headless chromium, opened from a file."""
+class InBrowser:
+    """The page in a browser that shows no window, opened from a file."""
 
     @classmethod
     def setUpClass(cls):
-        cls.browser = Browser()
+        cls.browser = cls.OPENS()
         cls.addClassCleanup(cls.browser.close)
 
     def page(self, uri=PAGE.as_uri(), **look):
@@ -259,9 +258,9 @@ class InBrowser(unittest.TestCase):
         page.wait("line.textContent.startsWith('Line 2')")
         page.ask("on.click(), pictures.focus()")
         page.key("ArrowRight")
-        self.assertEqual(page.ask("lit.textContent"), "Byte 0 of buffer 1, before 0: a[0] is 7, b[0] is 7")
+        self.assertEqual(page.ask("lit.textContent"), "Byte 0 of buffer 1 (07 00 00 00), before 0: a[0] is 7, b[0] is 7")
         page.key("ArrowRight")
-        self.assertEqual(page.ask("[lit.textContent, document.querySelectorAll('#pictures .lit').length]"), ["Byte 4 of buffer 1: a[1] is 1, b[1] is 1", 5])
+        self.assertEqual(page.ask("[lit.textContent, document.querySelectorAll('#pictures .lit').length]"), ["Byte 4 of buffer 1 (01 00 00 00): a[1] is 1, b[1] is 1", 5])
         page.ask("document.activeElement.blur()")
         page.key("ArrowUp")
         page.wait("line.textContent.startsWith('Line 2')")
@@ -269,11 +268,15 @@ class InBrowser(unittest.TestCase):
     def test_pointing(self):
         """A cell of a strip or a grid, by mouse or finger, lights up every cell of its byte."""
         page = self.typed(self.page(), "a = arange <i2 0 6 1\nm = reshape a (2,3)\nt = transpose m")
-        x, y = page.ask("(() => { const box = [...document.querySelectorAll('#pictures .grid [data-at=\"6\"]')].at(-1).getBoundingClientRect(); return [box.x + box.width / 2, box.y + box.height / 2]; })()")
-        page.point(x, y)
+        at = "(() => { const box = [...document.querySelectorAll('#pictures %s')].at(-1).getBoundingClientRect(); return [box.x + box.width / 2, box.y + box.height / 2]; })()"
+        page.point(*page.ask(at % '.grid [data-at="6"]'))
         page.wait("lit.textContent")
-        self.assertEqual(page.ask("lit.textContent"), "Byte 6 of buffer 1: a[3] is 3, m[1,0] is 3, t[0,1] is 3")
+        self.assertEqual(page.ask("lit.textContent"), "Byte 6 of buffer 1 (03 00): a[3] is 3, m[1,0] is 3, t[0,1] is 3")
         self.assertEqual(page.ask("[...document.querySelectorAll('#pictures .lit + text')].map(text => text.textContent)").count("3"), 5)
+        page = self.typed(page, "r = zeros T{>i:x:2xh:y:} (2)\ny = field r \"y\"\nset r[1] = (258, 3)")
+        for place, told in (('.now [data-at="8"]', "Byte 8 of buffer 1 (00 00 01 02), before 0: r[1] is (258, 3)"), ('.name [data-at="14"]', "Byte 14 of buffer 1 (00 03), before 0: r[1] is (258, 3), y[1] is 3")):
+            page.point(*page.ask(at % place))
+            page.wait(f"lit.textContent === {json.dumps(told)}")
 
     def test_files(self):
         """A file that is dropped is loaded; what is saved is a link."""
@@ -286,7 +289,7 @@ class InBrowser(unittest.TestCase):
             page.wait("bench.moments[0]?.reply.accepted && document.querySelectorAll('#files a').length")
             page.ask("document.querySelector('#files a').click()")
             made, end = pathlib.Path(folder, "y.npy"), time.monotonic() + 20
-            while not made.is_file() and time.monotonic() < end:
+            while not (made.is_file() and made.stat().st_size) and time.monotonic() < end:  # (Firefox makes an empty file first)
                 time.sleep(0.05)
             bench.run(['y = load "x.npy"', "set y[0] = 9", 'save y "z.npy"'])
             self.assertEqual(made.read_bytes(), pathlib.Path(folder, "z.npy").read_bytes())
@@ -342,7 +345,8 @@ class InBrowser(unittest.TestCase):
     def test_nothing_is_sent(self):
         page = self.page()
         self.assertEqual(page.ask("fetch('https://example.com/').then(() => 'sent', () => 'refused')"), "refused")
-        self.assertEqual(page.ask("(() => { try { return eval('1'); } catch { return 'refused'; } })()"), "refused")
+        page.ask("(() => { setTimeout('window.made = 1'); document.body.append(Object.assign(document.createElement('script'), { textContent: 'window.made = 2' })); })()")
+        self.assertEqual(page.ask("new Promise(done => setTimeout(() => done(window.made ?? 'refused'), 50))"), "refused")
 
     def test_the_program_stops(self):
         """A stack that overflows is told of, and the next change begins anew."""
@@ -369,6 +373,18 @@ class InBrowser(unittest.TestCase):
                         page.ask(f"slider.value = {line}, slider.dispatchEvent(new Event('input'))")
                         self.assertLessEqual(page.ask("document.documentElement.scrollWidth"), width, (name, line))
                     self.assertEqual(self.browser.faults, [], name)
+
+
+@needs_page
+@needs_chromium
+class InChromium(InBrowser, unittest.TestCase):
+    OPENS = browser.Browser
+
+
+@needs_page
+@needs_firefox
+class InFirefox(InBrowser, unittest.TestCase):
+    OPENS = firefox.Browser
 
 
 if __name__ == "__main__":

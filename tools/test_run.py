@@ -183,11 +183,18 @@ class Runs(InFolder):
 
     @unittest.skipUnless(shutil.which("bash"), "there is no Bash")
     def test_closed_streams(self):
-        path = self.written("a = zeros <i4 (3)\n")
-        for words, wanted in (("run - <&-", 0), (f"run {path} >&-", 0), ("shell <&-", 0), ("draw - <&-", 0), (f"draw {path} >&-", 0), (f"run {path} <&- >&- 2>&-", 0)):
+        """A stream that is closed or full is a fault where it is needed, and said in one line where that can be said."""
+        path, closed = self.written("a = zeros <i4 (3)\n"), "bench-tool: a standard stream is closed"
+        full = "bench-tool: No space left on device"
+        for words, status, said in (
+            ("run - <&-", 3, "bench-tool: read fault: Bad file descriptor"), ("draw - <&-", 3, "bench-tool: read fault: Bad file descriptor"),
+            ("shell <&-", 3, closed), (f"shell <{path} >&-", 3, closed), (f"draw {path} >&-", 3, closed), ("--version >&-", 3, closed),
+            (f"run {path} >&-", 3, "bench: write fault"), (f"run {path} <&-", 0, ""), (f"run {path} <&- >&- 2>&-", 3, ""),
+            (f"shell <{path} >/dev/full", 3, full), (f"draw {path} >/dev/full", 3, full), ("--version >/dev/full", 3, full),
+        ):
             with self.subTest(words):
                 done = subprocess.run(["bash", "-c", f"{TOOL} {words}"], capture_output=True, env=environment(), timeout=60)
-                self.assertEqual((done.returncode, done.stderr), (wanted, b""))
+                self.assertEqual((done.returncode, done.stderr.decode()), (status, said + "\n" * bool(said)))
 
     @unittest.skipUnless(shutil.which("bash"), "there is no Bash")
     def test_a_file_that_may_not_grow(self):

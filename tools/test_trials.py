@@ -21,17 +21,17 @@ KINDS = ("mixed", "indexes", "masks", "shares", "computing", "formats")
 @needs_program
 @needs_numpy
 class BesideNumPy(InFolder):
-    def tried(self, *words):
-        """What `tools/try numpy` ends with, and its summary."""
+    def tried(self, trial, *words):
+        """What a trial ends with, and its summary."""
         from trials import __main__ as trials
         summary = self.folder / "summary.json"
-        status = trials.main(["numpy", "--program", PROGRAM, "--json", str(summary), *words])
+        status = trials.main([trial, "--program", PROGRAM, "--json", str(summary), *words])
         return status, json.loads(summary.read_text())["parts"][0]
 
     def test_random_scripts(self):
         for kind in KINDS:
             with self.subTest(kind):
-                status, part = self.tried("--only", kind, "--scripts", "100000", "--seconds", str(share(5, 60)))
+                status, part = self.tried("numpy", "--only", kind, "--scripts", "100000", "--seconds", str(share(5, 60)))
                 self.assertEqual((status, part["faults"]), (0, []))
                 self.assertGreater(part["counts"]["scripts"], 20)
 
@@ -52,6 +52,15 @@ class BesideNumPy(InFolder):
             lines = where.split("\n")[1:]
             self.assertLessEqual(len(lines), 6, where)
             self.assertIn(" add ", where)
+
+    @unittest.skipUnless(shutil.which("cc"), "left out: no C compiler is installed")
+    def test_planted_faults(self):
+        """A reply and a bit of a file that are wrong in the program are found; without them nothing is."""
+        from trials import planted
+        few = [fault for fault in planted.FAULTS if fault.said == "FILES" or fault.trial == "hostile numbers"]
+        with mock.patch.multiple(planted, FAULTS=few, SCRIPTS=25):
+            status, part = self.tried("planted")
+        self.assertEqual((status, part["faults"], part["counts"]), (0, [], {"trials": 4}))
 
 
 class NpyRule(unittest.TestCase):

@@ -19,7 +19,7 @@ from pathlib import Path
 from typing import TYPE_CHECKING, Any, Callable, Iterable, Iterator, Mapping, NamedTuple, Optional, Union
 
 from . import library, session
-from .session import ENDS, MARKER, REFUSAL, BenchError, Line, Named, ProgramEnded, Refused, Reply
+from .session import ENDS, MARKER, BenchError, Line, Named, ProgramEnded, Refused, Reply, reply_of, sent_of
 
 if TYPE_CHECKING:
     import numpy
@@ -44,18 +44,9 @@ class Info(NamedTuple):
     writable: bool
 
 
-def _bytes(line: Line) -> bytes:
-    """A line as it is sent, without a carriage return at its end."""
-    sent = line.encode("utf-8", "surrogateescape") if isinstance(line, str) else bytes(line)
-    if b"\n" in sent:
-        raise ValueError("one line at a time: a newline stands within it")
-    return sent[:-1] if sent.endswith(b"\r") else sent
-
-
-def _reply(told: bytes) -> Reply:
-    text = told.decode("ascii", "replace")
-    refused = REFUSAL.fullmatch(text) if text.startswith("no ") else None
-    return Reply(True, "", "", text) if refused is None else Reply(False, refused[1], refused[2], text)
+def _split(lines: Union[str, Iterable[Line]]) -> Iterable[Line]:
+    """The lines of a text, or those that are given."""
+    return lines.removesuffix("\n").split("\n") if isinstance(lines, str) else lines
 
 
 class Files(Mapping[str, bytes]):
@@ -151,7 +142,7 @@ class Session(session.Session):
         """
         if self._inside is None:
             return super().send(line, take)
-        reply = _reply(self._answered(_bytes(line)))
+        reply = reply_of(self._answered(sent_of(line)))
         if take is None or not reply.text:
             return reply
         take(reply.text.encode() + b"\n")
@@ -167,7 +158,7 @@ class Session(session.Session):
         bench_tool.session.Refused: no E11 index out of range: b = a[5]
         """
         replies = []
-        for line in lines.removesuffix("\n").split("\n") if isinstance(lines, str) else lines:
+        for line in _split(lines):
             reply = self.send(line)
             if check and not reply.accepted:
                 raise Refused(line if isinstance(line, str) else line.decode("utf-8", "replace"), reply)
@@ -180,7 +171,7 @@ class Session(session.Session):
         >>> Session().batch(["a = zeros <i4 (2)", "", "print a", "print b"])
         ['ok a <i4 (2,) new', '', '[0 0]', 'no E06 unknown name']
         """
-        sent = [_bytes(line) for line in (lines.removesuffix("\n").split("\n") if isinstance(lines, str) else lines)]
+        sent = list(map(sent_of, _split(lines)))
         if self._inside is None:
             return self._batch(sent)
         return [self._answered(line).decode("ascii", "replace") for line in sent]
@@ -279,7 +270,7 @@ class Session(session.Session):
             raise ProgramEnded(self.program, self._status)
         assert self._inside is not None
         try:
-            return self._inside.answer(line)[1]
+            return self._inside.answer(line.removesuffix(b"\r"))[1]
         except MemoryError:
             raise BenchError("out of memory") from None
 

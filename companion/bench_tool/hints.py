@@ -146,7 +146,8 @@ class Hints(ExitStack):
             made += sum(reply.text.startswith("ok ") and not reply.text.startswith("ok save") for reply in replies)
             if shown and all(reply.accepted for reply in replies):
                 shown(self._spare)
-            self._spare.run(["undo"] * made)
+            for _ in range(made):
+                self._spare.send("undo")
             return replies
         except BenchError:
             self._spare.kill()

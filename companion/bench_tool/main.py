@@ -1,12 +1,13 @@
 """The words of bench-tool."""
 import argparse
+import errno
 import os
 import signal
 import sys
 from typing import Any, Callable, Optional, Sequence
 
 from . import __version__, page, runs, shell, show
-from .session import BenchError, ProgramEnded
+from .session import BenchError
 from .terminal import open_streams, printable, say
 
 SIGNALS = (signal.SIGINT, signal.SIGTERM, signal.SIGHUP)
@@ -55,29 +56,34 @@ def ended(number: int, _: Any) -> None:
     sys.exit(128 + number)
 
 
+def called(words: argparse.Namespace, arguments: Optional[Sequence[str]]) -> int:
+    """Does what the arguments ask for, and writes out what it printed."""
+    try:
+        parser().parse_args(arguments, words)
+        if words.call:
+            return int(words.call(words))
+        parser().print_help(sys.stderr)
+        return 2
+    finally:
+        sys.stdout.flush()
+
+
 def main(arguments: Optional[Sequence[str]] = None) -> int:
     open_streams()
     for number in SIGNALS:
         if signal.getsignal(number) in (signal.SIG_DFL, signal.default_int_handler):
             signal.signal(number, ended)
-    words = parser().parse_args(arguments)
-    if "call" not in words:
-        parser().print_help(sys.stderr)
-        return 2
+    words = argparse.Namespace(call=None)
     try:
-        status = int(words.call(words))
-        sys.stdout.flush()
-        return status
-    except ProgramEnded as fault:
-        if words.call is not runs.run or fault.status != 3:  # else it has said itself why
-            say(f"bench-tool: {printable(str(fault), 500)}")
-        return 3
+        return called(words, arguments)
     except BenchError as fault:
-        say(f"bench-tool: {printable(str(fault), 500)}")
-        return 3
+        # The program says itself why it ends with 3.
+        if words.call is not runs.run or getattr(fault, "status", 0) != 3:
+            say(f"bench-tool: {printable(str(fault), 500)}")
     except OSError as fault:
         # Nothing that is left may be written at the end.
         os.dup2(os.open(os.devnull, os.O_WRONLY), 1)
-        said = f"{fault.strerror}: {os.fsdecode(fault.filename)}" if fault.filename else str(fault)
-        say("bench: write fault" if words.call is runs.run else f"bench-tool: {printable(said)}")
-        return 3
+        said = "a standard stream is closed" if fault.errno == errno.EBADF else fault.strerror or str(fault)
+        named = f": {os.fsdecode(fault.filename)}" if fault.filename else ""
+        say("bench: write fault" if words.call is runs.run else f"bench-tool: {printable(said + named)}")
+    return 3

@@ -17,7 +17,7 @@ from contextlib import AbstractContextManager, suppress
 from dataclasses import dataclass
 from math import prod
 from pathlib import Path
-from typing import Any, Callable, Iterable, Iterator, Optional, Union
+from typing import Any, Callable, Iterator, Optional, Union
 
 Line = Union[str, bytes]
 Named = Union[str, "os.PathLike[str]"]
@@ -114,6 +114,20 @@ def literal(item: Any) -> str:
     return "?" if item is None else str(item)
 
 
+def sent_of(line: Line) -> bytes:
+    """A line as it is sent."""
+    sent = line.encode("utf-8", "surrogateescape") if isinstance(line, str) else bytes(line)
+    if b"\n" in sent:
+        raise ValueError("send one line at a time: this one contains a newline")
+    return sent
+
+
+def reply_of(told: Union[bytes, bytearray]) -> Reply:
+    text = told.decode("ascii", "replace").removesuffix("\n")
+    refused = REFUSAL.fullmatch(text) if text.startswith("no ") else None
+    return Reply(False, refused[1], refused[2], text) if refused else Reply(True, "", "", text)
+
+
 def find_program() -> str:
     """The command that starts the program: BENCH if it is set, else the launcher of the repository or the installed one."""
     top = Path(__file__).resolve().parents[2]
@@ -147,9 +161,7 @@ class Session(AbstractContextManager["Session"]):
     def send(self, line: Line, take: Optional[Callable[[bytes], Any]] = None) -> Reply:
         """The reply to one line. With `take`, the reply is passed to it in parts as they arrive, each line with its newline, and the
         text that is returned is only the beginning."""
-        sent = line.encode("utf-8", "surrogateescape") if isinstance(line, str) else bytes(line)
-        if b"\n" in sent:
-            raise ValueError("send one line at a time: this one contains a newline")
+        sent = sent_of(line)
         if self._status is not None:
             raise ProgramEnded(self.program, self._status)
         begin = bytearray()
@@ -165,13 +177,7 @@ class Session(AbstractContextManager["Session"]):
             self.kill()
             self.close()
             raise
-        text = begin.decode("ascii", "replace").removesuffix("\n")
-        refused = REFUSAL.fullmatch(text)
-        return Reply(refused is None, refused[1] if refused else "", refused[2] if refused else "", text)
-
-    def run(self, lines: Union[str, Iterable[Line]]) -> list[Reply]:
-        """The replies to several lines, one for each line."""
-        return [self.send(line) for line in (lines.removesuffix("\n").split("\n") if isinstance(lines, str) else lines)]
+        return reply_of(begin)
 
     def ask(self, line: str) -> str:
         """The text of the reply. `Refused` is raised if the line is refused."""

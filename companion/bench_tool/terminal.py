@@ -26,12 +26,12 @@ def say(text: str) -> None:
 
 
 def open_streams() -> None:
-    """What is closed of the standard streams becomes the null device, and no encoding refuses a text."""
-    for number in range(3):
+    """Makes a closed standard stream one that cannot be read or written, for messages the null device; no encoding refuses a text."""
+    for number, flags in enumerate((os.O_WRONLY, os.O_RDONLY, os.O_RDWR)):
         try:
             os.fstat(number)
         except OSError:
-            os.open(os.devnull, os.O_RDWR)  # takes the lowest number that is free, which is this one
+            os.open(os.devnull, flags)  # takes the lowest number that is free, which is this one
     for number, name in enumerate(("stdin", "stdout", "stderr")):
         if getattr(sys, name) is None:
             setattr(sys, name, open(number, "w" if number else "r", closefd=False))

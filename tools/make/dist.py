@@ -7,9 +7,9 @@
 
 bench.html, bench.wasm and bench.mjs are of `make page` (page/build.py); SUMS has their sums.
 
-With --check nothing is written: what the gate has just built is compared with dist/. Where SUMS names another toolchain than is here, that is
-said, and only the sums of the sources are compared; so it is of the library where `make` has not built it. The status is 1 where something
-differs, 3 where there is nothing to compare or to write."""
+With --check nothing is written: what the gate has just built is compared with dist/. `rt ci` proves bench_c and builds nothing of it, so the
+library and bench.wasm are made here, over the libraries that `rt ci` built. Where SUMS names another toolchain than is here, that is said, and
+only sums are compared. The status is 1 where something differs, 3 where there is nothing to compare or to write."""
 import pathlib
 import re
 import subprocess
@@ -17,6 +17,8 @@ import sys
 import tempfile
 
 sys.path[:0] = [str(pathlib.Path(__file__).resolve().parent), str(pathlib.Path(__file__).resolve().parents[2] / "page")]
+import library as libraries  # noqa: E402
+import module as modules  # noqa: E402
 import sources  # noqa: E402
 
 DIST = sources.TOP / "dist"
@@ -98,6 +100,18 @@ def write():
     return 0
 
 
+def made_anew(here):
+    """What differs in dist/ from what is made of bench_c now: the library, and the program in WebAssembly."""
+    try:
+        archive, module = modules.build(sources.TOP / "out/gate", here)
+    except modules.NotBuilt as why:
+        yield f"the library and the page are not compared: {why}"
+        return
+    for name, data in {**libraries.linked(archive), **({"bench.wasm": page.program(module)} if PAGE else {})}.items():
+        if not (DIST / name).is_file() or (DIST / name).read_bytes() != data:
+            yield f"dist/{name} is not what these sources and this toolchain give: run `make`, `make page`, then `make dist`"
+
+
 def differences():
     """What differs in dist/ from what is here."""
     text = (DIST / "SUMS").read_text() if (DIST / "SUMS").is_file() else ""
@@ -118,10 +132,8 @@ def differences():
         yield "there is no program to compare with dist/"
     elif not text.startswith(f"toolchain: {here}\n{program()[1]}"):
         yield "dist/ is not what these sources and this toolchain give"
-    if HAS_LIBRARY and not (is_proved("bench_c", here) and sources.is_library_linked()):
-        print("bench: the library in dist/ is not compared, since `make` has not built it here")
-    elif HAS_LIBRARY and library()[1] not in text:
-        yield "the library in dist/ is not what these sources and this toolchain give"
+    if HAS_LIBRARY:
+        yield from made_anew(here)
 
 
 def check():

@@ -20,10 +20,10 @@ SHARED = ["-shared", "--soname=libbench.so.1", "--gc-sections", "--strip-all", "
 
 
 class Linker:
-    """The toolchain's LLVM, in a folder of its own for what lies between."""
+    """The toolchain's LLVM, in a folder of its own for what lies between, and the archive of bench_c."""
 
-    def __init__(self, folder):
-        self.folder, self.kit = folder, sources.kit_folder()
+    def __init__(self, folder, archive):
+        self.folder, self.archive, self.kit = folder, archive, sources.kit_folder()
 
     def run(self, tool, *words):
         subprocess.run([tool, *map(str, words)], executable=self.kit / "toolchain/bin/clang", cwd=self.folder, check=True)
@@ -40,11 +40,20 @@ class Linker:
         calls = re.findall(r"^int (bench_\w+)\(", (sources.LIBRARY / "bench.h").read_text(), re.M)
         (self.folder / "calls").write_text("\n".join(calls) + "\n")
         (self.folder / "exports").write_text("{ global: " + " ".join(f"{call};" for call in calls) + " local: *; };\n")
-        proved = ["calls.o", "--whole-archive", sources.ARCHIVE, "--no-whole-archive", self.kit / "c/liblibc_c.a", self.kit / "toolchain/lib/libgcc.a"]
+        proved = ["calls.o", "--whole-archive", self.archive, "--no-whole-archive", self.kit / "c/liblibc_c.a", self.kit / "toolchain/lib/libgcc.a"]
         self.run("ld.lld", *SHARED, "--version-script=exports", "-o", "libbench.so.1", *proved, self.kit / "toolchain/lib/libc.so.6")
         self.run("ld.lld", "-r", "-o", "bench.o", *proved)
         self.run("llvm-objcopy", "--keep-global-symbols=calls", "--strip-debug", "bench.o")
         self.run("llvm-ar", "rcsD", "libbench.a", "bench.o")
+
+
+def linked(archive):
+    """The bytes of the library's files, linked from an archive of bench_c."""
+    with tempfile.TemporaryDirectory() as folder:
+        linker = Linker(pathlib.Path(folder), archive)
+        linker.compile()
+        linker.link()
+        return {name: (linker.folder / name).read_bytes() for name in sources.LIBRARIES}
 
 
 def main():
@@ -53,14 +62,12 @@ def main():
         return 3
     if sources.is_library_linked():
         return 0
-    with tempfile.TemporaryDirectory() as folder:
-        linker = Linker(pathlib.Path(folder))
-        linker.compile()
-        linker.link()
-        shutil.rmtree(sources.LINKED, ignore_errors=True)
-        sources.LINKED.mkdir(parents=True)
-        for name in sources.LIBRARIES:
-            shutil.copy(linker.folder / name, sources.LINKED / name)
+    files = linked(sources.ARCHIVE)
+    shutil.rmtree(sources.LINKED, ignore_errors=True)
+    sources.LINKED.mkdir(parents=True)
+    for name, data in files.items():
+        (sources.LINKED / name).write_bytes(data)
+        (sources.LINKED / name).chmod(0o644 if name.endswith(".a") else 0o755)
     (sources.LINKED / "state").write_text(sources.library_state())
     return 0
 

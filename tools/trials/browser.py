@@ -95,7 +95,7 @@ class Page:
             raise RuntimeError(told["exceptionDetails"]["exception"].get("description"))
         return told["result"].get("value")
 
-    def wait(self, text: str, seconds: float = 30) -> Any:
+    def wait(self, text: str, seconds: float = 60) -> Any:
         """Waits until an expression is true."""
         end = time.monotonic() + seconds
         while not (found := self.ask(text)):
@@ -104,24 +104,21 @@ class Page:
             time.sleep(0.02)
         return found
 
-    def key(self, key: str, modifiers: int = 0, text: Optional[str] = None) -> None:
+    def key(self, key: str) -> None:
         code = {"Enter": 13, "Tab": 9, "Escape": 27, "ArrowLeft": 37, "ArrowUp": 38, "ArrowRight": 39, "ArrowDown": 40, "Backspace": 8}.get(key, 0)
-        given = {"key": key, "code": key, "windowsVirtualKeyCode": code, "modifiers": modifiers}
-        self.call("Input.dispatchKeyEvent", type="keyDown", **given, **({"text": "\r" if key == "Enter" else text} if key == "Enter" or text else {}))
+        given = {"key": key, "code": key, "windowsVirtualKeyCode": code}
+        self.call("Input.dispatchKeyEvent", type="keyDown", **given, **({"text": "\r"} if key == "Enter" else {}))
         self.call("Input.dispatchKeyEvent", type="keyUp", **given)
 
     def type(self, text: str) -> None:
         """Types a text, as from the clipboard."""
         self.call("Input.insertText", text=text)
 
-    def point(self, x: float, y: float, pressed: bool = False) -> None:
+    def point(self, x: float, y: float) -> None:
         self.call("Input.dispatchMouseEvent", type="mouseMoved", x=x, y=y)
-        for kind in ("mousePressed", "mouseReleased") if pressed else ():
-            self.call("Input.dispatchMouseEvent", type=kind, x=x, y=y, button="left", clickCount=1)
 
     def shot(self, path: Path) -> None:
-        with open(path, "wb") as file:
-            file.write(base64.b64decode(self.call("Page.captureScreenshot")["data"]))
+        path.write_bytes(base64.b64decode(self.call("Page.captureScreenshot")["data"]))
 
     def close(self) -> None:
         self.browser.call("Target.closeTarget", targetId=self.target)

@@ -90,6 +90,8 @@ def prepare(folder: Path, scenario: Scenario) -> None:
 class Shim:
     """Runs of a program below `fail_calls.c`."""
 
+    replaced: tuple[str, ...] = ()
+
     def __init__(self, program: Path, place: Path) -> None:
         self.program, self.log, self.library = str(program), place / "calls", place / "fail_calls.so"
         subprocess.run(["cc", "-O2", "-shared", "-fPIC", "-o", self.library, TOP / "tools/trials/fail_calls.c"], check=True)
@@ -108,6 +110,9 @@ class Shim:
 
 class Strace:
     """Runs of a program below strace."""
+
+    # Kinds of calls that the C library makes by another call where the system has them not.
+    replaced = ("look", "look-open")
 
     def __init__(self, program: Path, place: Path) -> None:
         self.program, self.log = str(program), place / "traced"
@@ -149,7 +154,8 @@ def one_call(part: Part, runs: Means, folder: Path, scenario: Scenario, calls: S
     prepare(folder, scenario)
     where = f"{scenario.name}: {calls[at].kind} {calls[at].name} (call {at}) fails with {errno.errorcode[error]}"
     reply = runs.failing(scenario.script, folder, calls, at, error)
-    should = answer(scenario, calls, at, error)
+    is_replaced = error == errno.ENOSYS and calls[at].kind in runs.replaced
+    should = scenario.reply if is_replaced else answer(scenario, calls, at, error)
     part.expect(where, reply, should)
     if scenario.script != SAVE:
         return

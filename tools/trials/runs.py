@@ -42,6 +42,10 @@ class Part:
         self.notes: list[str] = []
         self.faults: list[tuple[str, object, object]] = []
         self.figures: list[dict[str, object]] = []
+        self.first = 0  # how many were tried before the first that was wrong
+
+    def tried(self) -> int:
+        return sum(self.counts[what] for what in ("trials", "scripts", "kills"))
 
     def summary(self) -> dict[str, object]:
         """All of it, as JSON has it."""
@@ -55,15 +59,18 @@ class Part:
         self.notes.append(f"{what}: {shown(found)}")
 
     def fault(self, where: str, happened: object, should: object) -> None:
+        self.first = self.first if self.faults else self.tried()
         self.faults.append((where, happened, should))
 
     def expect(self, where: str, happened: object, should: object) -> None:
         """Counts a trial, and a fault where something else happened than should have."""
-        self.count("trials")
         if happened != should:
             self.fault(where, happened, should)
+        self.count("trials")
 
     def add(self, other: Part) -> None:
+        if other.faults and not self.faults:
+            self.first = self.tried() + other.first
         self.counts.update(other.counts)
         self.notes += other.notes
         self.faults += other.faults

@@ -1,0 +1,76 @@
+"""Builds crates/bench_c over the libraries below it, as they stand in crates/*/out/rlib: its archive, and the LLVM module that the archive is compiled from.
+
+`make page` takes the libraries that `make` built, and the gate those that `rt ci` has just built: it proves bench_c itself, and builds nothing of it."""
+import os
+import pathlib
+import re
+import shutil
+import subprocess
+import sys
+
+sys.path.insert(0, str(pathlib.Path(__file__).resolve().parent))
+import prove  # noqa: E402
+import sources  # noqa: E402
+
+CRATE = "bench_c"
+# (rattle starts clang with no environment)
+CLANG = """#!/bin/sh
+for word in "$@"; do case $word in *.bc) [ ! -f "$word" ] || cp "$word" "{out}/module.bc" ;; esac; done
+exec "{real}/bin/clang" "$@"
+"""
+
+
+class NotBuilt(Exception):
+    """Why there is no module."""
+
+
+def toolchain(out):
+    """A folder of links to the toolchain's LLVM, with a clang that first copies each module that it is given to out/module.bc."""
+    real, made = sources.kit_folder() / "toolchain", out / "toolchain"
+    shutil.rmtree(made, ignore_errors=True)
+    (made / "bin").mkdir(parents=True)
+    for path in [*real.iterdir(), *(real / "bin").iterdir()]:
+        if path.name not in ("bin", "clang"):
+            (made / path.relative_to(real)).symlink_to(path)
+    clang = made / "bin/clang"
+    clang.write_text(CLANG.format(out=out, real=real))
+    clang.chmod(0o755)
+    return made
+
+
+def rlib(crate):
+    return sources.TOP / "crates" / crate / "out/rlib"
+
+
+def is_built(crate, here):
+    """Whether the library of a crate is of these sources: `make` says of which it built one, and what `rt ci` has built has no stamp."""
+    return rlib(crate).is_dir() and (not (rlib(crate) / "stamp").is_file() or prove.Crate(crate, here).stands())
+
+
+def words(below):
+    """The libraries that bench_c uses, in the words of rattle: those of the toolchain, and those of this repository."""
+    kit, own = sources.kit_folder(), sources.uses()[CRATE]
+    used = re.search(rf"^{CRATE} staticlib:(.*)$", (sources.TOP / "crates.txt").read_text(), re.M)[1].split()
+    externs = [f"{name}={kit}/rlibs/{name}.rlib" for name in ["std", *used] if name not in own] + [f"{name}={rlib(name)}/{name}.rlib" for name in own]
+    return [word for flag, values in (("--extern", externs), ("-L", [f"dependency={folder}" for folder in [kit / "rlibs", *map(rlib, below)]])) for value in values for word in (flag, value)]
+
+
+def build(out, here):
+    """Has rattle check and compile bench_c, by the toolchain `here`: OUT/libbench_c.a and OUT/module.bc. What earlier checks of it kept is used."""
+    kit, below = sources.kit_folder(), [name for name in sources.made_of(CRATE) if name != CRATE]
+    stale = [name for name in below if not is_built(name, here)]
+    if stale:
+        raise NotBuilt(f"the libraries below bench_c are not built of these sources: run `make` ({' '.join(stale)})")
+    archive, kept = out / f"lib{CRATE}.a", out / "module.bc"
+    out.mkdir(parents=True, exist_ok=True)
+    for path in (archive, kept):
+        path.unlink(missing_ok=True)
+    logic = ["--antt-project", kit / "rattle/logic/antt-project.json", "--logic-built", kit / "logic_built", "--incremental", "out/incremental"]
+    made = ["--crate-type", "staticlib", "--toolchain", toolchain(out), "--backend", "llvm", "-o", archive]
+    jobs = min(len(os.sched_getaffinity(0)), prove.MOST_JOBS)
+    with open(out / "log", "wb") as log:
+        command = [kit / "bin/rattle", "build", "--crate-name", CRATE, "src/lib.rt", *words(below), *logic, "--jobs", str(jobs), *made]
+        done = subprocess.run(command, cwd=sources.TOP / "crates" / CRATE, stdin=subprocess.DEVNULL, stdout=log, stderr=log)
+    if done.returncode or not kept.is_file():
+        raise NotBuilt(f"bench_c was not built: {out}/log has all that rattle said")
+    return archive, kept

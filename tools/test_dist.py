@@ -1,0 +1,95 @@
+"""The gate refuses a library and a program in WebAssembly that are not those of the sources, whatever sums dist/SUMS has."""
+import pathlib
+import subprocess
+import sys
+import tempfile
+import unittest
+import unittest.mock
+
+from trials.companion_trials import TOP
+
+sys.path[:0] = [str(TOP / "tools/make"), str(TOP / "page")]
+import build as page  # noqa: E402
+import dist  # noqa: E402
+import library  # noqa: E402
+import module  # noqa: E402
+import sources  # noqa: E402
+
+# What stands for bench_c: its calls, which answer a number.
+CALLS = "".join(f"unsigned char bench_c_{call}(void *handle) {{ return handle ? {number} : 0; }}\n" for number, call in enumerate(page.CALLS, 1))
+WHY = "is not what these sources and this toolchain give: run `make`, `make page`, then `make dist`"
+
+
+@unittest.skipUnless(sources.kit_folder(), "left out: the toolchain is not installed")
+class MadeAnew(unittest.TestCase):
+    def setUp(self):
+        made = tempfile.TemporaryDirectory()
+        self.addCleanup(made.cleanup)
+        self.folder, self.dist = pathlib.Path(made.name), pathlib.Path(made.name, "dist")
+        self.dist.mkdir()
+        for owner, name, value in ((dist, "DIST", self.dist), (page, "OUT", self.folder / "page"), (module, "build", self.stands_in)):
+            patch = unittest.mock.patch.object(owner, name, value)
+            patch.start()
+            self.addCleanup(patch.stop)
+        archive, built = self.stands_in()
+        self.files = {**library.linked(archive), "bench.wasm": page.program(built)}
+        for name, data in self.files.items():
+            (self.dist / name).write_bytes(data)
+
+    def run_tool(self, *words):
+        subprocess.run([words[0], *map(str, words[1:])], executable=sources.kit_folder() / "toolchain/bin/clang", check=True)
+
+    def stands_in(self, *_):
+        """An archive and an LLVM module in the place of those of bench_c."""
+        code, built, archive = (self.folder / name for name in ("calls.c", "calls.bc", "calls.a"))
+        code.write_text(CALLS)
+        target = ["--target=x86_64-unknown-linux-gnu", "-O2", "-fPIC", "-c", code]
+        self.run_tool("clang", *target, "-emit-llvm", "-o", built)
+        self.run_tool("clang", *target, "-o", self.folder / "calls.o")
+        archive.unlink(missing_ok=True)
+        self.run_tool("llvm-ar", "rcsD", archive, self.folder / "calls.o")
+        return archive, built
+
+    def test_the_same(self):
+        self.assertEqual(sorted(self.files), ["bench.wasm", "libbench.a", "libbench.so.1"])
+        self.assertEqual(list(dist.made_anew("a kit")), [])
+
+    def test_another_byte(self):
+        for name, data in self.files.items():
+            for at in (8, len(data) // 2, len(data) - 1):
+                with self.subTest(name, at=at):
+                    (self.dist / name).write_bytes(data[:at] + bytes([data[at] ^ 1]) + data[at + 1:])
+                    self.assertEqual(list(dist.made_anew("a kit")), [f"dist/{name} {WHY}"])
+            (self.dist / name).unlink()
+            self.assertEqual(list(dist.made_anew("a kit")), [f"dist/{name} {WHY}"])
+            (self.dist / name).write_bytes(data)
+
+    def test_another_program(self):
+        """One byte of the sources is another, as a call that answers another number."""
+        with unittest.mock.patch(f"{__name__}.CALLS", CALLS.replace("handle ? 2", "handle ? 9")):
+            self.assertEqual(list(dist.made_anew("a kit")), [f"dist/{name} {WHY}" for name in ("libbench.so.1", "libbench.a", "bench.wasm")])
+
+    def test_not_built(self):
+        """Where bench_c cannot be built, nothing passes."""
+        with unittest.mock.patch.object(module, "build", side_effect=module.NotBuilt("no library")):
+            self.assertEqual(list(dist.made_anew("a kit")), ["the library and the page are not compared: no library"])
+
+
+@unittest.skipUnless(sources.kit_folder(), "left out: the toolchain is not installed")
+class Module(unittest.TestCase):
+    def test_the_module_is_kept(self):
+        """The clang of the folder of links compiles as the real one does, and keeps the module."""
+        with tempfile.TemporaryDirectory() as name:
+            folder = pathlib.Path(name)
+            made, real = module.toolchain(folder), sources.kit_folder() / "toolchain"
+            for part in ("", "bin"):
+                self.assertEqual({path.name for path in (made / part).iterdir()}, {path.name for path in (real / part).iterdir()})
+            (folder / "code.c").write_text(CALLS)
+            subprocess.run([made / "bin/clang", "-c", "-emit-llvm", "code.c", "-o", "given.bc"], cwd=folder, check=True, env={})
+            self.assertFalse((folder / "module.bc").exists())
+            subprocess.run([made / "bin/clang", "-c", "-x", "ir", "given.bc", "-o", "given.o"], cwd=folder, check=True, env={})
+            self.assertEqual((folder / "module.bc").read_bytes(), (folder / "given.bc").read_bytes())
+
+
+if __name__ == "__main__":
+    unittest.main()
