@@ -191,10 +191,13 @@ class Runs(InFolder):
             ("shell <&-", 3, closed), (f"shell <{path} >&-", 3, closed), (f"draw {path} >&-", 3, closed), ("--version >&-", 3, closed),
             (f"run {path} >&-", 3, "bench: write fault"), (f"run {path} <&-", 0, ""), (f"run {path} <&- >&- 2>&-", 3, ""),
             (f"shell <{path} >/dev/full", 3, full), (f"draw {path} >/dev/full", 3, full), ("--version >/dev/full", 3, full),
+            ("run --help >/dev/full", 3, full),
         ):
-            with self.subTest(words):
-                done = subprocess.run(["bash", "-c", f"{TOOL} {words}"], capture_output=True, env=environment(), timeout=60)
-                self.assertEqual((done.returncode, done.stderr.decode()), (status, said + "\n" * bool(said)))
+            for unbuffered in ("", "1") if "full" in words else ("",):
+                with self.subTest(words, unbuffered=unbuffered):
+                    settings = environment(PYTHONUNBUFFERED=unbuffered)
+                    done = subprocess.run(["bash", "-c", f"{TOOL} {words}"], capture_output=True, env=settings, timeout=60)
+                    self.assertEqual((done.returncode, done.stderr.decode()), (status, said + "\n" * bool(said)))
 
     @unittest.skipUnless(shutil.which("bash"), "there is no Bash")
     def test_a_file_that_may_not_grow(self):
@@ -251,13 +254,8 @@ class Runs(InFolder):
             for _ in range(300):
                 file.write(b"a" * 1_000_000)
             file.write(b"\nnames\n")
-        tool = subprocess.Popen([TOOL, "run", path], stdout=subprocess.PIPE, stderr=subprocess.DEVNULL, env=environment())
-        with tool.stdout:
-            self.assertEqual(tool.stdout.read(), b"no E01 line too long\nnames\n")
-        _, status, used = os.wait4(tool.pid, 0)
-        tool.returncode = os.waitstatus_to_exitcode(status)
-        self.assertEqual(tool.returncode, 1)
-        self.assertLess(used.ru_maxrss, 250_000)  # kilobytes
+        done = subprocess.run(["sh", "-c", f"ulimit -v 250000; exec {TOOL} run {path}"], capture_output=True, env=environment())  # kilobytes
+        self.assertEqual((done.stdout, done.returncode), (b"no E01 line too long\nnames\n", 1))
 
     def test_names_are_printable(self):
         path = self.folder / "e\x1b[31mv"

@@ -26,7 +26,8 @@ def say(text: str) -> None:
 
 
 def open_streams() -> None:
-    """Makes a closed standard stream one that cannot be read or written, for messages the null device; no encoding refuses a text."""
+    """Makes a closed standard stream one that cannot be read or written, for messages the null device; no encoding refuses a text.
+    With PYTHONUNBUFFERED too, output is written when it is flushed: argparse passes over errors of the writes that it makes."""
     for number, flags in enumerate((os.O_WRONLY, os.O_RDONLY, os.O_RDWR)):
         try:
             os.fstat(number)
@@ -38,6 +39,8 @@ def open_streams() -> None:
     for stream, errors in ((sys.stdin, "surrogateescape"), (sys.stdout, "backslashreplace"), (sys.stderr, "backslashreplace")):
         if isinstance(stream, io.TextIOWrapper):
             stream.reconfigure(errors=errors)
+    if isinstance(sys.stdout, io.TextIOWrapper):
+        sys.stdout.reconfigure(write_through=False, line_buffering=sys.stdout.isatty())
 
 
 def lines_of(script: BinaryIO) -> Iterator[bytes]:
