@@ -1,9 +1,8 @@
--- One leaf of all items, moved to where it begins, cast, and put where it lies.
-use Rattle.std.proofs.Common.{◌≡◌, ◌+◌, ◌*◌, ◌<◌, ℕ, ℤ, pos, ◌+ℤ◌, ◌≤ℤ◌, Option, Some, None, IfSome, IfOk, List, [], ◌∷◌, ◌++◌, map, length, refl, sym, ap, ◌∙◌, arith}
+-- One leaf of all items, read from where it begins, cast, and put where it lies.
+use Rattle.std.proofs.Common.{◌≡◌, ◌+◌, ◌*◌, ◌<◌, ◌-◌, min, ℕ, ℤ, pos, inl, inr, List, [], ◌∷◌, ◌++◌, map, length, drop, take, refl, sym, ap, ◌∙◌, arith}
 use Rattle.std.specs.List.{concat, flat_map}
-use Rattle.std.specs.Option.{ok_or}
-use Rattle.std.proofs.lemmas.Int.{ints}
-use Rattle.std.proofs.lemmas.List.{length-map}
+use Rattle.std.proofs.lemmas.Bool.{cases_lt}
+use Rattle.std.proofs.lemmas.List.{length-map, length-drop, take_all, drop-drop, drop_all}
 use Rattle.std.proofs.lemmas.Simd.{map-map}
 use Rattle.elem_descr.specs.declared.descr.Descr.TheVariants.{Scalar as ScalarDescr}
 use Rattle.elem_descr.specs.declared.scalar.Scalar.{Scalar}
@@ -13,52 +12,37 @@ use Rattle.raw_block.specs.Bytes.{item_at}
 use Rattle.elem_descr.specs.Items.{encode_item}
 use Rattle.elem_descr.specs.Blocks.{item_from}
 use Rattle.elem_descr.specs.ByteLaws.{one-encoded}
-use Rattle.shape_strides.specs.declared.layout.Layout.{Layout}
-use Rattle.shape_strides.specs.Addresses.{natural, address_at}
-use Rattle.shape_strides.specs.Indexes.{count, indexes}
-use Rattle.shape_strides.specs.IndexLaws.{rank-lt, same_on_indexes}
-use Rattle.shape_strides.specs.Layouts.{address, offsets}
-use Rattle.shape_strides.specs.LayoutLaws.{pos-natural}
 use Rattle.arrays.specs.Assignments.{items_at, with_items, assigned}
 use Rattle.shape_strides.specs.Runs.{run_offsets}
 use Rattle.arrays.specs.Packed.{row_offsets}
 use Rattle.elementwise.specs.Casts.{cast_value, cast_item}
-use Rattle.elementwise.specs.inside.LeafCasts.{leaf_from}
+use Rattle.elementwise.specs.inside.LeafCasts.{leaf_cast, leaf_from}
 use Rattle.elementwise.proofs.AppendedLaws.{rows-read}
 use Rattle.elementwise.proofs.LeafLaws.{length-leaf_cast}
 use Rattle.elementwise.proofs.PairedLaws.{scalar-item}
 use Rattle.elementwise.proofs.TurnedLaws.{AreWide, length-concat}
 
--- ---- layouts that begin further on
-
-pub offsets-moved : (l m : Layout) (by : ℕ) → m.shape ≡ l.shape → (0 < count l.shape → m.strides ≡ l.strides) → (0 < count l.shape → m.offset ≡ l.offset + by) → offsets m ≡ map (λ offset. offset + by) (offsets l)
-unfolding offsets
-offsets-moved l m by shape strides offset =
-    (λ i. map (λ index. natural (address m index)) (indexes (shape i)))
-    ∙ same_on_indexes l.shape (λ index. natural (address m index)) (λ index. natural (address l index) + by) (λ index inside.
-    let some : 0 < count l.shape = omega (arith, rank-lt l.shape index inside) in
-    let sum : address_at l.strides (l.offset + by) index ≡ address l index +ℤ pos by = omega (arith, ints) in
-    let low : pos 0 ≤ℤ address l index = l.within_limit.from_zero index inside in
-    let further : natural (address l index +ℤ pos by) ≡ natural (address l index) + by = omega (arith, ints, pos-natural (address l index) low, pos-natural (address l index +ℤ pos by) (omega (arith, ints, low))) in
-    (λ i. natural (address_at (strides some i) (offset some i) index)) ∙ ap natural sum ∙ further)
-    ∙ sym (map-map (λ offset. offset + by) (λ index. natural (address l index)) (indexes l.shape))
-
-pub found-moved : {E : Type 0} (found : Option Layout) (err : E) (l : Layout) (by offset : ℕ) (shape : List ℕ) (strides : List ℤ) → offset ≡ l.offset + by → shape ≡ l.shape → strides ≡ l.strides →
-    IfSome found (λ n. n.shape ≡ shape) → IfSome found (λ n. 0 < count shape → n.strides ≡ strides) → IfSome found (λ n. 0 < count shape → n.offset ≡ offset) → IfOk (ok_or found err) (λ m. offsets m ≡ map (λ o. o + by) (offsets l))
-found-moved None err l by offset shape strides sum same same' has-shape has-strides has-offset = tt
-found-moved (Some m) err l by offset shape strides sum same same' has-shape has-strides has-offset =
-    let some = λ (low : 0 < count l.shape). (let there : 0 < count shape = omega (arith, low, ap count same) in there) in
-    offsets-moved l m by (has-shape ∙ same) (λ low. has-strides (some low) ∙ same') (λ low. has-offset (some low) ∙ sum)
-
 -- ---- a leaf in a block of its own
 
+-- bytes from a place on, or none where there are fewer
+pub dropped : (n : ℕ) (bytes : List ℕ) (m : ℕ) → m ≡ min n (length bytes) → take (length bytes - m) (drop m bytes) ≡ drop n bytes
+dropped n bytes m is =
+    take_all (length bytes - m) (drop m bytes) (omega (arith, length-drop m bytes))
+    ∙ elim (cases_lt n (length bytes)) as (λ _. drop m bytes ≡ drop n bytes) [
+      | inl low ↦ ap (λ k. drop k bytes) (omega (arith, is, low))
+      | inr high ↦ drop_all m bytes (omega (arith, is, high)) ∙ sym (drop_all n bytes high)
+    ]
+
 pub cast-column : (leaf : Leaf) (to : Scalar) (block os : List ℕ) →
-    flat_map (encode_item (ScalarDescr to)) (map (λ offset. cast_item (ScalarDescr leaf.scalar) (ScalarDescr to) (item_from (ScalarDescr leaf.scalar) block offset)) (map (λ offset. offset + leaf.at) os)) ≡ concat (map (leaf_from leaf to block) os)
+    flat_map (encode_item (ScalarDescr to)) (map (λ offset. cast_item (ScalarDescr leaf.scalar) (ScalarDescr to) (item_from (ScalarDescr leaf.scalar) (drop leaf.at block) offset)) os) ≡ concat (map (leaf_from leaf to block) os)
 cast-column leaf to block [] = refl
 cast-column leaf to block (o ∷ os) =
     let s = leaf.scalar in
-    let here : encode_item (ScalarDescr to) (cast_item (ScalarDescr s) (ScalarDescr to) (item_from (ScalarDescr s) block (o + leaf.at))) ≡ leaf_from leaf to block o =
-    ap (λ item. encode_item (ScalarDescr to) (cast_item (ScalarDescr s) (ScalarDescr to) item)) (scalar-item s block (o + leaf.at)) ∙ one-encoded to (cast_value to (decode s (item_at (o + leaf.at) (size s) block))) in
+    let there : drop o (drop leaf.at block) ≡ drop (o + leaf.at) block = drop-drop o leaf.at block ∙ ap (λ n. drop n block) (omega arith) in
+    let here : encode_item (ScalarDescr to) (cast_item (ScalarDescr s) (ScalarDescr to) (item_from (ScalarDescr s) (drop leaf.at block) o)) ≡ leaf_from leaf to block o =
+    ap (λ item. encode_item (ScalarDescr to) (cast_item (ScalarDescr s) (ScalarDescr to) item)) (scalar-item s (drop leaf.at block) o)
+    ∙ one-encoded to (cast_value to (decode s (item_at o (size s) (drop leaf.at block))))
+    ∙ ap (λ bytes. leaf_cast s to (take (size s) bytes)) there in
     λ i. here i ++ cast-column leaf to block os i
 
 module _ (leaf : Leaf) (to : Scalar) (block os : List ℕ) where

@@ -22,7 +22,7 @@ use crate::made::made;
 use crate::operands::Broadcast;
 use crate::pairing::Pairing;
 use crate::promotion::scalar_of;
-use crate::rows::Operands;
+use crate::rows::{Operand, Operands};
 use crate::shrunk::{spread, without_repeats};
 use crate::text_comparing::without_nuls;
 use arrays::{Items, Owned};
@@ -45,8 +45,8 @@ fn compare_with(
     ensures refused { IfErr result (λ refusal. refusal ≡ OutOfMemory) }
 {
     let operands = Operands {
-        left: operand,
-        right: operand,
+        left: Operand::of(operand),
+        right: Operand::of(operand),
     };
     let _items = operand.layout.shape.items();
     let pairing = Pairing::With {

@@ -1,5 +1,5 @@
 //! Casts: the items of an array as items of another element type.
-ghost use Rattle.std.specs.Prelude.{◌≡◌, ◌+◌, ◌*◌, ◌<◌, ◌≤◌, ℕ, true, length, map, nat_le, if◌then◌else◌, IfOk, IfErr};
+ghost use Rattle.std.specs.Prelude.{◌≡◌, ◌+◌, ◌*◌, ◌<◌, ◌≤◌, ℕ, true, length, drop, map, nat_le, if◌then◌else◌, IfOk, IfErr};
 ghost use Rattle.std.specs.List.{concat, flat_map};
 ghost use Rattle.elem_descr.specs.declared.refusal.Refusal.TheVariants.{OutOfMemory, TooLarge, NoSuchCast};
 ghost use Rattle.elem_descr.specs.declared.descr.Descr.TheVariants.{Scalar as ScalarDescr};
@@ -21,12 +21,12 @@ ghost use Rattle.elementwise.specs.inside.Made.{IsMade};
 use crate::castable::can_cast;
 use crate::made::made;
 use crate::pairing::{Pairing, Work};
-use crate::rows::Operands;
+use crate::rows::{Operand, Operands};
 use arrays::{Items, Owned, copy_run};
 use elem_descr::{Descr, Leaf, Refusal, Scalar};
 use raw_block::RawBlock;
-use shape_strides::{Layout, MAX_BYTES, MemoryOrder, Run, Shape, Strides};
-use std::alloc::{AllocError, Global};
+use shape_strides::{MAX_BYTES, MemoryOrder, Run};
+use std::alloc::Global;
 
 /// The leaf with a number.
 pub(crate) fn leaf_of(descr: &Descr, k: usize) -> Leaf
@@ -53,14 +53,14 @@ fn source_of(descr: &Descr, k: usize) -> Leaf
 /// Numbers or byte strings as those of another scalar, each pushed once.
 pub(crate) fn cast_scalars(
     alloc: Global,
-    from: Items<'_>,
+    from: Operand<'_>,
     scalar: &Scalar,
     to: &Scalar,
 ) -> Result<Owned, Refusal>
     requires from { from.descr.now ≡ ScalarDescr scalar.now }
     requires can { can_cast_scalar scalar.now to.now ≡ true }
     requires few { count from.layout.now.shape * size to.now ≤ max_bytes }
-    ensures made { IfOk result (IsMade (ScalarDescr to.now) from.entry.layout.now.shape (map (λ offset. cast_item from.entry.descr.now (ScalarDescr to.now) (item_from from.entry.descr.now from.entry.block.now offset)) (offsets from.entry.layout.now))) }
+    ensures made { IfOk result (IsMade (ScalarDescr to.now) from.entry.layout.now.shape (map (λ offset. cast_item from.entry.descr.now (ScalarDescr to.now) (item_from from.entry.descr.now from.entry.bytes.now offset)) (offsets from.entry.layout.now))) }
     ensures refused { IfErr result (λ refusal. refusal ≡ OutOfMemory) }
 {
     let operands = Operands {
@@ -85,17 +85,11 @@ pub(crate) fn cast_scalars(
     }
 }
 
-/// The layout with each address so many bytes further on. Beyond the limit of a buffer there is none.
-fn moved(alloc: Global, layout: &Layout, by: usize) -> Result<Layout, AllocError>
-    ensures shape { IfOk result (λ l. l.shape ≡ layout.now.shape) }
-    ensures offsets { IfOk result (λ l. offsets l ≡ map (λ offset. offset + by) (offsets layout.now)) }
+/// The bytes from a place on, which may lie behind the last one.
+fn bytes_from(bytes: &[u8], at: usize) -> &[u8]
+    ensures { result.now ≡ drop at bytes.now }
 {
-    let Some(offset) = layout.offset.checked_add(by) else {
-        return Err(AllocError);
-    };
-    let shape = Shape::try_copy(alloc, &layout.shape)?;
-    let strides = Strides::from_slice(alloc, layout.strides.as_slice())?;
-    Layout::new(shape, strides, offset).ok_or(AllocError)
+    &bytes[at.min(bytes.len())..]
 }
 
 /// A leaf of all items as one of another scalar, in a block of its own.
@@ -106,12 +100,10 @@ fn cast_column(alloc: Global, from: Items<'_>, leaf: Leaf, to: &Scalar) -> Resul
     ensures bytes { IfOk result (λ o. o.block ≡ concat (map (leaf_from leaf to.now from.entry.block.now) (offsets from.entry.layout.now))) }
     ensures refused { IfErr result (λ refusal. refusal ≡ OutOfMemory) }
 {
-    let _item = from.descr.size();
-    let layout = moved(alloc, from.layout, leaf.at)?;
     let descr = Descr::Scalar(leaf.scalar);
-    let column = Items {
-        block: from.block,
-        layout: &layout,
+    let column = Operand {
+        bytes: bytes_from(from.block.bytes(), leaf.at),
+        layout: from.layout,
         descr: &descr,
     };
     cast_scalars(alloc, column, &leaf.scalar, to)
@@ -193,7 +185,7 @@ fn cast_items(alloc: Global, from: Items<'_>, to: &Descr) -> Result<Owned, Refus
 {
     match (from.descr, to) {
         (Descr::Scalar(scalar), Descr::Scalar(target)) => {
-            cast_scalars(alloc, from, scalar, target)
+            cast_scalars(alloc, Operand::of(from), scalar, target)
         }
         _ => cast_records(alloc, from, to),
     }

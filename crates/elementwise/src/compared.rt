@@ -21,7 +21,7 @@ use crate::made::made;
 use crate::operands::{Broadcast, note_bytes, read_as};
 use crate::pairing::{Pairing, Work};
 use crate::promotion::{common_type, compared_type, scalar_of};
-use crate::rows::Operands;
+use crate::rows::{Operand, Operands};
 use crate::shrunk::{spread, without_repeats};
 use crate::text_pairs::ComparingTexts;
 use crate::trimmed::trimmed_in;
@@ -107,16 +107,16 @@ fn compare_texts(
     let first = stretched_to(alloc, left.layout, shape)?;
     let second = stretched_to(alloc, right.layout, shape)?;
     let operands = Operands {
-        left: Items {
+        left: Operand::of(Items {
             block: left.block,
             layout: &first,
             descr: &descr,
-        },
-        right: Items {
+        }),
+        right: Operand::of(Items {
             block: right.block,
             layout: &second,
             descr: &other_descr,
-        },
+        }),
     };
     made(alloc, &cut, operands)
 }

@@ -4,16 +4,15 @@ ghost use Rattle.elem_descr.specs.declared.refusal.Refusal.TheVariants.{OutOfMem
 ghost use Rattle.elem_descr.specs.declared.descr.Descr.TheVariants.{Scalar as ScalarDescr};
 ghost use Rattle.elem_descr.specs.Encoding.{size};
 ghost use Rattle.shape_strides.specs.Limits.{max_bytes};
-ghost use Rattle.arrays.specs.ItemLists.{items};
 ghost use Rattle.elementwise.specs.Results.{pairwise, value_in};
 ghost use Rattle.elementwise.specs.inside.Made.{IsMade, IsTurned};
-ghost use Rattle.elementwise.specs.inside.Operands.{pairs_of};
+ghost use Rattle.elementwise.specs.inside.Operands.{operand_items, pairs_of};
 ghost use Rattle.elementwise.specs.inside.Works.{left_of, right_of, target_of, gives, CanPair};
 
 use crate::operands::Layouts;
 use crate::pairing::Pairing;
-use crate::rows::Operands;
-use arrays::{Items, Owned, gather};
+use crate::rows::{Operand, Operands};
+use arrays::{Owned, gather};
 use elem_descr::{Descr, Refusal};
 use raw_block::BlockBuilder;
 use shape_strides::{Layout, MemoryOrder, Rows};
@@ -56,7 +55,7 @@ pub(crate) fn made(
     requires left { operands.left.descr.now ≡ ScalarDescr (left_of pairing.now) }
     requires right { operands.right.descr.now ≡ ScalarDescr (right_of pairing.now) }
     requires few { pairs_of operands * size (target_of pairing.now) ≤ max_bytes }
-    ensures made { IfOk result (IsMade (ScalarDescr (target_of pairing.now)) operands.entry.left.layout.now.shape (pairwise (λ x y. gives pairing.now (value_in x) (value_in y) ∷ []) (items operands.entry.left) (items operands.entry.right))) }
+    ensures made { IfOk result (IsMade (ScalarDescr (target_of pairing.now)) operands.entry.left.layout.now.shape (pairwise (λ x y. gives pairing.now (value_in x) (value_in y) ∷ []) (operand_items operands.entry.left) (operand_items operands.entry.right))) }
     ensures refused { IfErr result (λ refusal. refusal ≡ OutOfMemory) }
 {
     let Operands { left, right } = operands;
@@ -70,13 +69,13 @@ pub(crate) fn made(
         return Ok(owned);
     };
     let turned = Operands {
-        left: Items {
-            block: left.block,
+        left: Operand {
+            bytes: left.bytes,
             layout: &columns.first,
             descr: left.descr,
         },
-        right: Items {
-            block: right.block,
+        right: Operand {
+            bytes: right.bytes,
             layout: &columns.second,
             descr: right.descr,
         },

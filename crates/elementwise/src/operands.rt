@@ -26,12 +26,18 @@ pub(crate) struct Layouts {
     pub(crate) second: Layout,
 }
 
+/// A slice of `u8` holds bytes.
+pub(crate) fn note_slice(bytes: &[u8])
+    ensures { (k : ℕ) → slice_index_or bytes.now k 0 < 256 }
+{
+    let _len = bytes.len();
+}
+
 /// A block holds bytes.
 pub(crate) fn note_bytes(block: &RawBlock)
     ensures { (k : ℕ) → slice_index_or block.now k 0 < 256 }
 {
-    let bytes = block.bytes();
-    let _len = bytes.len();
+    note_slice(block.bytes());
 }
 
 /// The scalar as which two operands are read: a little-endian one, or the same in the byte order of the

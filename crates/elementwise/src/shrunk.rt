@@ -9,6 +9,7 @@ ghost use Rattle.elementwise.specs.inside.Shrunk.{IsShrunk};
 ghost use Rattle.elementwise.specs.inside.Made.{IsMade};
 
 use crate::casts::cast_scalars;
+use crate::rows::Operand;
 use crate::typed::stretched_to;
 use arrays::{Items, Owned};
 use broadcasting::{shrink, shrunk_shape};
@@ -65,5 +66,5 @@ pub(crate) fn spread(alloc: Global, made: &Owned, shape: &Shape) -> Result<Owned
         layout: &wide,
         descr: items.descr,
     };
-    cast_scalars(alloc, bools, &Scalar::Bool, &Scalar::Bool)
+    cast_scalars(alloc, Operand::of(bools), &Scalar::Bool, &Scalar::Bool)
 }

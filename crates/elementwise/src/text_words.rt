@@ -7,7 +7,7 @@ ghost use Rattle.elementwise.specs.inside.Operands.{pairs_of, made_of_all};
 ghost use Rattle.elementwise.specs.inside.PairPasses.{text_pair};
 ghost use Rattle.elementwise.specs.inside.Words.{IsWord};
 
-use crate::operands::note_bytes;
+use crate::operands::note_slice;
 use crate::operations::Working;
 use crate::pairing::Work;
 use crate::rows::Operands;
@@ -58,8 +58,8 @@ pub(crate) fn push_texts(
     ensures bytes { result.0 ≡ block.0 ++ made_of_all (text_pair texts.now.comparison) operands.entry }
     ensures left { pairs_of operands.entry + result.1 ≡ block.1 }
 {
-    note_bytes(operands.left.block);
-    note_bytes(operands.right.block);
+    note_slice(operands.left.bytes);
+    note_slice(operands.right.bytes);
     let Some(scalar) = word_of(texts) else {
         return operands.push_all(texts, block);
     };

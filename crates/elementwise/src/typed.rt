@@ -16,7 +16,7 @@ use crate::alike::keeps_items;
 use crate::casts::cast;
 use crate::made::made;
 use crate::pairing::Pairing;
-use crate::rows::Operands;
+use crate::rows::{Operand, Operands};
 use arrays::{Items, Owned};
 use broadcasting::stretch;
 use elem_descr::{Descr, Refusal};
@@ -132,16 +132,16 @@ pub(crate) fn make_cast(
     let first = Fitted::to(alloc, left.layout, shape)?;
     let second = Fitted::to(alloc, right.layout, shape)?;
     let operands = Operands {
-        left: Items {
+        left: Operand::of(Items {
             block: left.block,
             layout: first.layout(),
             descr: left.descr,
-        },
-        right: Items {
+        }),
+        right: Operand::of(Items {
             block: right.block,
             layout: second.layout(),
             descr: right.descr,
-        },
+        }),
     };
     made(alloc, pairing, operands)
 }

@@ -1,23 +1,25 @@
-use Rattle.std.proofs.Common.{[], ◌∷◌, map, ◌∙◌, arith}
+use Rattle.std.proofs.Common.{[], ◌∷◌, map, ap, ◌∙◌, arith}
 use Rattle.std.proofs.lemmas.Simd.{map-map}
 use Rattle.elem_descr.specs.declared.descr.Descr.TheVariants.{Scalar as ScalarDescr}
 use Rattle.elem_descr.specs.declared.scalar.Scalar.TheVariants.{Bool as BoolScalar}
 use Rattle.elem_descr.specs.Values.{text}
 use Rattle.elem_descr.specs.Blocks.{item_from}
+use Rattle.shape_strides.specs.Indexes.{count}
 use Rattle.shape_strides.specs.Layouts.{offsets}
-use Rattle.elementwise.specs.Results.{compared_item}
+use Rattle.elementwise.specs.Results.{pairwise, compared_item}
 use Rattle.elementwise.proofs.AppliedLaws.{pairwise-same}
-use Rattle.elementwise.proofs.MadeLaws.{made-as}
+use Rattle.elementwise.proofs.MadeLaws.{made-in}
 use Rattle.elementwise.proofs.bytes_compared.compare_with.Goals as goal
 
 pub made-requires-clause-few : goal.made-requires-clause-few
-made-requires-clause-few c = omega (arith, c.items-items.ensures.value, c.items-items.ensures.limit)
+made-requires-clause-few c = omega (arith, ap (λ l. count l.shape) c.of.ensures.layout, c.items-items.ensures.value, c.items-items.ensures.limit)
 
 pub returns-clause-made : goal.returns-clause-made
 returns-clause-made c =
     let x = c.args.operand in
     let read = item_from x.descr.now x.block.now in
     let os = offsets x.layout.now in
-    made-as (ScalarDescr BoolScalar) x.layout.now.shape _ _ c.made.result
-    (pairwise-same (λ u v. compared_item c.args.comparison u (text c.args.other.now ∷ [])) (map read os) ∙ map-map (λ u. compared_item c.args.comparison u (text c.args.other.now ∷ [])) read os)
+    made-in (ScalarDescr BoolScalar) c.of.result.layout.now.shape x.layout.now.shape _ _ c.made.result (ap (λ l. l.shape) c.of.ensures.layout)
+    ((λ i. pairwise (λ u v. compared_item c.args.comparison u (text c.args.other.now ∷ [])) (c.of.ensures.items i) (c.of-2.ensures.items i))
+    ∙ pairwise-same (λ u v. compared_item c.args.comparison u (text c.args.other.now ∷ [])) (map read os) ∙ map-map (λ u. compared_item c.args.comparison u (text c.args.other.now ∷ [])) read os)
     c.made.ensures.made

@@ -43,14 +43,14 @@ pub invariant_of-turned : goal.invariant_of-turned
 invariant_of-turned c =
     let x = c.args.operands.left in let l = x.layout.now in let r = c.args.operands.right.layout.now in
     let both = both_turned c.in_ok-columns.field-0 c.in-Some.columns l r c.in-Some.is c.in_ok-columns.ensures.first c.in_ok-columns.ensures.second in
-    let ends = λ (o : ℕ). o + item_size x.descr.now ≤ length x.block.now in
+    let ends = λ (o : ℕ). o + item_size x.descr.now ≤ length x.bytes.now in
     record { inside = subst (All ends) (sym both.0.places) (fortran-all ends l.shape (offsets l) (length-offsets l) x.inside) }
 
 pub invariant_of-turned-2 : goal.invariant_of-turned-2
 invariant_of-turned-2 c =
     let y = c.args.operands.right in let l = c.args.operands.left.layout.now in let r = y.layout.now in
     let both = both_turned c.in_ok-columns.field-0 c.in-Some.columns l r c.in-Some.is c.in_ok-columns.ensures.first c.in_ok-columns.ensures.second in
-    let ends = λ (o : ℕ). o + item_size y.descr.now ≤ length y.block.now in
+    let ends = λ (o : ℕ). o + item_size y.descr.now ≤ length y.bytes.now in
     record { inside = subst (All ends) (sym both.1.places) (fortran-all ends r.shape (offsets r) (length-offsets r) y.inside) }
 
 pub push-requires-2-clause-room : goal.push-requires-2-clause-room
@@ -80,9 +80,9 @@ gather-requires c =
     let both = both_turned c.in_ok-columns.field-0 c.in-Some.columns l r c.in-Some.is c.in_ok-columns.ensures.first c.in_ok-columns.ensures.second in
     let left = left_of p in let right = right_of p in let to = target_of p in
     let width = c.size-width.result in
-    let make = pair_from (pair_made p) (item_size o.left.descr.now) (item_size o.right.descr.now) o.left.block.now o.right.block.now in
+    let make = pair_from (pair_made p) (item_size o.left.descr.now) (item_size o.right.descr.now) o.left.bytes.now o.right.bytes.now in
     let sized : size to ≡ width = sym (c.size-width.ensures.value ∙ ap size c.target-scalar.ensures) in
-    let each = λ (us vs : List ℕ). subst (λ n. AreWide n (pairwise make us vs)) sized (each-wide left right to (gives p) (item_size o.left.descr.now) (item_size o.right.descr.now) o.left.block.now o.right.block.now us vs) in
+    let each = λ (us vs : List ℕ). subst (λ n. AreWide n (pairwise make us vs)) sized (each-wide left right to (gives p) (item_size o.left.descr.now) (item_size o.right.descr.now) o.left.bytes.now o.right.bytes.now us vs) in
     let xs = fortran_order l.shape (offsets l) in let ys = fortran_order l.shape (offsets r) in
     let is : c.finish-block-2.result ≡ concat (pairwise make xs ys) = c.finish-block-2.ensures ∙ c.push-2.ensures.bytes ∙ λ i. (c.in_ok-block.ensures i).0 ++ concat (pairwise make (both.0.places i) ((both.1.places ∙ λ j. fortran_order (sym o.even j) (offsets r)) i)) in
     let long = turned-long make width l.shape (offsets l) (offsets r) (length-offsets l) (length-offsets r ∙ ap count (sym o.even)) c.finish-block-2.result (each xs ys) is in
@@ -95,9 +95,9 @@ returns-clause-made c =
     let both = both_turned c.in_ok-columns.field-0 c.in-Some.columns l r c.in-Some.is c.in_ok-columns.ensures.first c.in_ok-columns.ensures.second in
     let left = left_of p in let right = right_of p in let to = target_of p in
     let width = c.size-width.result in
-    let make = pair_from (pair_made p) (item_size o.left.descr.now) (item_size o.right.descr.now) o.left.block.now o.right.block.now in
+    let make = pair_from (pair_made p) (item_size o.left.descr.now) (item_size o.right.descr.now) o.left.bytes.now o.right.bytes.now in
     let sized : size to ≡ width = sym (c.size-width.ensures.value ∙ ap size c.target-scalar.ensures) in
-    let each = λ (us vs : List ℕ). subst (λ n. AreWide n (pairwise make us vs)) sized (each-wide left right to (gives p) (item_size o.left.descr.now) (item_size o.right.descr.now) o.left.block.now o.right.block.now us vs) in
+    let each = λ (us vs : List ℕ). subst (λ n. AreWide n (pairwise make us vs)) sized (each-wide left right to (gives p) (item_size o.left.descr.now) (item_size o.right.descr.now) o.left.bytes.now o.right.bytes.now us vs) in
     let xs = fortran_order l.shape (offsets l) in let ys = fortran_order l.shape (offsets r) in
     let is : c.finish-block-2.result ≡ concat (pairwise make xs ys) = c.finish-block-2.ensures ∙ c.push-2.ensures.bytes ∙ λ i. (c.in_ok-block.ensures i).0 ++ concat (pairwise make (both.0.places i) ((both.1.places ∙ λ j. fortran_order (sym o.even j) (offsets r)) i)) in
     let kept = c.in_ok-block-2.ensures in
