@@ -6,7 +6,7 @@ use Rattle.std.proofs.lemmas.Bool.{cases_lt}
 use Rattle.std.proofs.lemmas.Bool.Decides.{nat_tests}
 use Rattle.std.proofs.lemmas.Int.{ints, wrapping_add-bits, wrapping_sub-bits, wrapping_mul-bits, int_wrap-add_left, int_wrap-add_right, int_wrap-sub_right, int_wrap-mul_left, int_wrap-mul_right, of_z-to_z}
 use Rattle.std.proofs.lemmas.Nat.{pow_below}
-use Rattle.std.proofs.Math.Nat.{div-add-mod, mod-lt, mod-eq_of_lt, mul-le-mul_left, mul-le-mul_right}
+use Rattle.std.proofs.Math.Nat.{div-add-mod, mod-lt, mod-eq_of_lt, mul-le-mul_left, mul-le-mul_right, div-div-eq-div-mul}
 use Rattle.elem_descr.specs.Encoding.{integer, low_bits}
 use Rattle.elem_descr.specs.EncodingLaws.{low_bits-lt, low_bits-integer}
 use Rattle.elem_descr.specs.WrapLaws.{int_wrap-low_bits}
@@ -85,43 +85,52 @@ rest_low signed x y q fits fits' some is =
 
 -- ---- quotients by a product
 
-reciprocal-most : (n d m : ℕ) → n < 2 ^ 32 → d ≤ n → m ≡ (2 ^ 64 - 1) / d → 1 ≤ d → n ≤ m
-reciprocal-most n d m few near is some =
-    let parts = div-add-mod (2 ^ 64 - 1) d in
-    let low : (2 ^ 64 - 1) % d < d = mod-lt (2 ^ 64 - 1) some in
-    elim (cases_lt m n) as (λ _. n ≤ m) [
-      | inl under ↦
-          let times = mul-le-mul_right (m + 1) near in
-          let square : n * (m + 1) ≤ n * n = mul-le-mul_left n (omega (arith, under)) in
-          let most : n * n ≤ n * (2 ^ 32 - 1) = mul-le-mul_left n (omega (arith, few)) in
-          absurd (let whole : d * m + (2 ^ 64 - 1) % d ≡ 2 ^ 64 - 1 = (λ i. d * is i + (2 ^ 64 - 1) % d) ∙ parts in omega (arith, whole, low, times, square, most, few))
-      | inr over ↦ over
-    ]
+-- the product with a reciprocal that is rounded down, less its lowest bits, is the quotient or one less
+module _ (v n d m low near : ℕ) (few : n ≤ v) (some : 1 ≤ d) (is : m ≡ v / d) (fits : low ≤ v) (split : low + near * (v + 1) ≡ n * m) where
+  whole : d * m + v % d ≡ v
+  whole = (λ i. d * is i + v % d) ∙ div-add-mod v d
 
-pub divided : (n d m low high : ℕ) → n < 2 ^ 32 → 1 ≤ d → m ≡ (2 ^ 64 - 1) / d → low < 2 ^ 64 → low + high * 2 ^ 64 ≡ n * m + m → high ≡ n / d
-divided n d m low high few some is fits split =
-    let q = n / d in
-    let r = (2 ^ 64 - 1) % d in
+  all : n * (d * m + v % d) ≡ n * v
+  all = ap (λ z. n * z) whole
+
+  pub near-low : near * d ≤ n
+  near-low = elim (cases_lt n (near * d)) as (λ _. near * d ≤ n) [
+    | inl over ↦
+        let times : (n + 1) * (v + 1) ≤ near * d * (v + 1) = mul-le-mul_right (v + 1) (omega (arith, over)) in
+        let parts : d * (low + near * (v + 1)) ≡ d * (n * m) = ap (λ z. d * z) split in
+        absurd (omega (arith, times, parts, all))
+    | inr under ↦ under
+  ]
+
+  pub near-high : n < near * d + 2 * d
+  near-high = elim (cases_lt n (near * d + 2 * d)) as (λ _. n < near * d + 2 * d) [
+    | inl under ↦ under
+    | inr over ↦
+        let times : (near * d + 2 * d) * (v + 1) ≤ n * (v + 1) = mul-le-mul_right (v + 1) over in
+        let parts : d * (low + near * (v + 1)) ≡ d * (n * m) = ap (λ z. d * z) split in
+        let less : v % d < d = mod-lt v some in
+        let rest : n * (v % d + 1) ≤ n * d = mul-le-mul_left n (omega (arith, less)) in
+        let most : n * d ≤ v * d = mul-le-mul_right d few in
+        let lows : d * low ≤ d * v = mul-le-mul_left d fits in
+        absurd (omega (arith, times, parts, all, rest, most, lows, some))
+  ]
+
+pub quotient-is : (n d q : ℕ) → q * d ≤ n → n < q * d + d → q ≡ n / d
+quotient-is n d q low high =
     let parts = div-add-mod n d in
+    let some : 1 ≤ d = omega (arith, low, high) in
     let left : n % d < d = mod-lt n some in
-    let whole : d * m + r ≡ 2 ^ 64 - 1 = (λ i. d * is i + r) ∙ div-add-mod (2 ^ 64 - 1) d in
-    let less : r < d = mod-lt (2 ^ 64 - 1) some in
-    elim (cases_lt high q) as (λ _. high ≡ q) [
-      | inl under ↦
-          let near : d ≤ n = let one : d * 1 ≤ d * q = mul-le-mul_left d (omega (arith, under)) in omega (arith, one, parts) in
-          let most = reciprocal-most n d m few near is some in
-          let times : q * (r + 1) ≤ q * d = mul-le-mul_left q (omega (arith, less)) in
-          let least : q * d * m ≤ n * m = mul-le-mul_right m (omega (arith, parts)) in
-          let all : q * (d * m + r) ≡ q * (2 ^ 64 - 1) = ap (λ z. q * z) whole in
-          absurd (omega (arith, split, fits, under, most, times, least, all, parts))
-      | inr from ↦ elim (cases_lt q high) as (λ _. high ≡ q) [
-        | inl over ↦
-            let most : (n + 1) * m ≤ (d * q + d) * m = mul-le-mul_right m (omega (arith, parts, left)) in
-            let all : (q + 1) * (d * m + r) ≡ (q + 1) * (2 ^ 64 - 1) = ap (λ z. (q + 1) * z) whole in
-            absurd (omega (arith, split, over, most, all))
+    elim (cases_lt q (n / d)) as (λ _. q ≡ n / d) [
+      | inl under ↦ let most : (q + 1) * d ≤ n / d * d = mul-le-mul_right d (omega (arith, under)) in absurd (omega (arith, most, parts, high))
+      | inr from ↦ elim (cases_lt (n / d) q) as (λ _. q ≡ n / d) [
+        | inl over ↦ let most : (n / d + 1) * d ≤ q * d = mul-le-mul_right d (omega (arith, over)) in absurd (omega (arith, most, parts, low, left))
         | inr to ↦ omega (arith, from, to)
       ]
     ]
+
+-- the highest bits of a reciprocal are the reciprocal of fewer bits
+pub reciprocal-high : (v k w d : ℕ) → v / k ≡ w → v / d / k ≡ w / d
+reciprocal-high v k w d is = div-div-eq-div-mul v d k ∙ ap (λ n. v / n) (omega arith) ∙ sym (div-div-eq-div-mul v k d) ∙ ap (λ n. n / d) is
 
 -- ---- bits that move up
 

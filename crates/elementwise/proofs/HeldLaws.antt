@@ -1,6 +1,7 @@
 -- Numbers that are compared as those of a larger scalar, which holds them.
-use Rattle.std.proofs.Common.{◌≡◌, inl, inr, ℕ, zero, suc, true, false, Bool, cond, List, [], ◌∷◌, map, take, drop, refl, sym, ap, ◌∙◌, arith}
-use Rattle.std.specs.Prelude.{ℤ, pos}
+use Rattle.std.proofs.Common.{◌≡◌, ◌-◌, ◌*◌, ◌^◌, ◌<◌, ◌≤◌, inl, inr, ℕ, zero, suc, true, false, Bool, cond, List, [], ◌∷◌, map, take, drop, refl, sym, ap, subst, ◌∙◌, arith}
+use Rattle.std.specs.Prelude.{ℤ, pos, negsuc, unsigned_abs}
+use Rattle.std.proofs.Math.Pow.{pow-lt}
 use Rattle.std.proofs.lemmas.Int.{ints}
 use Rattle.elem_descr.specs.declared.scalar.Order.TheVariants.{Little}
 use Rattle.elem_descr.specs.declared.scalar.Width.TheVariants.{Eight}
@@ -21,6 +22,9 @@ use Rattle.view_ops.specs.Views.{view_through}
 use Rattle.broadcasting.specs.Broadcasts.{broadcast_index}
 use Rattle.machine_numbers.specs.declared.operators.Comparison.{Comparison}
 use Rattle.elementwise.specs.Casts.{cast_item}
+use Rattle.raw_block.specs.Bytes.{place}
+use Rattle.machine_numbers.specs.Sides.{item_in, number_of_side}
+use Rattle.machine_numbers.specs.declared.sides.Side.{Side}
 use Rattle.machine_numbers.specs.Kinds.{is_signed, is_text, little}
 use Rattle.elementwise.specs.Comparisons.{compared}
 use Rattle.elementwise.specs.Results.{value_in, compared_item, stretched_items, pairwise}
@@ -40,6 +44,26 @@ value-of BoolScalar bytes are is = truth-is (number_in Little 1 bytes)
 value-of (Byte signed) bytes are is = integer-fits signed 1 (number_in Little 1 bytes) (omega arith) (number-lt Little 1 bytes are)
 value-of (Int signed width order) bytes are is = integer-fits signed (width_size width) (number_in order (width_size width) bytes) (some_bytes width) (number-lt order (width_size width) bytes are)
 value-of (Bytes n) bytes are never = absurd never
+
+-- how far it is from 0
+fits-small : (signed : Bool) (n : ℕ) (z : ℤ) → 1 ≤ n → FitsBytes signed n z → unsigned_abs z < 2 ^ (8 * n)
+fits-small false n (pos a) some fits = omega (arith, ints, fits.1)
+fits-small false n (negsuc a) some fits = absurd (omega (arith, ints, fits.0))
+fits-small true n (pos a) some fits = let half : 2 ^ (8 * n - 1) < 2 ^ (8 * n) = pow-lt (omega (arith, some)) in omega (arith, ints, fits.1, half)
+fits-small true n (negsuc a) some fits = let half : 2 ^ (8 * n - 1) < 2 ^ (8 * n) = pow-lt (omega (arith, some)) in omega (arith, ints, fits.0, half)
+
+value-small : (s : Scalar) (z : ℤ) → IsValueOf s z → unsigned_abs z < 2 ^ (8 * size s)
+value-small BoolScalar z (inl e) = let none : unsigned_abs z ≡ 0 = ap unsigned_abs e in omega (arith, none)
+value-small BoolScalar z (inr e) = let one : unsigned_abs z ≡ 1 = ap unsigned_abs e in omega (arith, one)
+value-small (Byte signed) z fits = fits-small signed 1 z (omega arith) fits
+value-small (Int signed width order) z fits = fits-small signed (width_size width) z (some_bytes width) fits
+value-small (Bytes n) z never = absurd never
+
+pub side-small : (s : Scalar) (side : Side) (k width : ℕ) → AreBytes side.bytes.now → IsNumber s → size s ≡ width → unsigned_abs (number_of_side s side k) < 2 ^ (8 * width)
+side-small s side k width are is wide =
+    let at = place side.run.offset side.run.step k in
+    let bytes = bytes-take side.width (drop at side.bytes.now) (bytes-drop at side.bytes.now are) in
+    subst (λ n. unsigned_abs (number_of_side s side k) < 2 ^ (8 * n)) wide (value-small s (number_of_side s side k) (value-of s (item_in side k) bytes is))
 
 -- a byte order makes no difference
 pub little-little : (s : Scalar) → little (little s) ≡ little s

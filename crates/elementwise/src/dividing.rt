@@ -1,5 +1,5 @@
 //! Quotients of pairs of numbers, with a loop of its own for a row that one number divides.
-ghost use Rattle.std.specs.Prelude.{◌≡◌, ◌+◌, ◌*◌, ◌<◌, ◌≤◌, ◌++◌, ℕ, true, IfSome};
+ghost use Rattle.std.specs.Prelude.{◌≡◌, ◌+◌, ◌*◌, ◌<◌, ◌≤◌, ◌++◌, ◌^◌, ℕ, true, unsigned_abs, IfSome};
 ghost use Rattle.elem_descr.specs.declared.scalar.Order.TheVariants.{Little};
 ghost use Rattle.elem_descr.specs.Encoding.{integer};
 ghost use Rattle.raw_block.specs.Bytes.{joined};
@@ -13,6 +13,7 @@ ghost use Rattle.elementwise.specs.inside.Sides.{pair_count, made_of};
 
 use crate::divisor::Divisor;
 use crate::kernels::Numbers;
+use crate::operands::note_slice;
 use crate::operations::Dividing;
 use crate::rows::Pass;
 use crate::sides::Pairs;
@@ -28,8 +29,10 @@ fn divisor_of<N: Number, O: Ordered>(pairs: Pairs<'_, '_>) -> Option<Divisor>
     requires { pairs.right.width ≡ N.WIDTH }
     ensures signed { IfSome result (λ d. d.signed ≡ N.SIGNED) }
     ensures truth { IfSome result (λ d. is_bool (N.scalar Little) ≡ true → IsTruth (integer N.SIGNED 8 d.bits)) }
+    ensures small { IfSome result (λ d. unsigned_abs (integer N.SIGNED 8 d.bits) < 2 ^ (8 * N.WIDTH)) }
     ensures each { IfSome result (λ d. (k : ℕ) → k < pair_count pairs.entry → number_of_side (N.scalar O.order) pairs.entry.right k ≡ integer N.SIGNED 8 d.bits) }
 {
+    note_slice(pairs.right.bytes);
     match pairs.right.run.step {
         0 if pairs.right.run.count >= FEW => {
             let divisor = pairs.right.number::<N, O>(0);
@@ -44,12 +47,15 @@ fn divisor_of<N: Number, O: Ordered>(pairs: Pairs<'_, '_>) -> Option<Divisor>
 fn divided<N: Number>(left: N, divisor: Divisor) -> N
     requires signed { divisor.signed ≡ N.SIGNED }
     requires truth { is_bool (N.scalar Little) ≡ true → IsTruth (integer N.SIGNED 8 divisor.bits) }
+    requires small { unsigned_abs (N.value left) < 2 ^ (8 * N.WIDTH) }
+    requires also { unsigned_abs (integer N.SIGNED 8 divisor.bits) < 2 ^ (8 * N.WIDTH) }
     ensures { N.value result ≡ binary FloorDivide (N.scalar Little) (N.value left) (integer N.SIGNED 8 divisor.bits) }
 {
-    N::of_bits(divisor.quotient(left.bits()))
+    N::of_bits(divisor.quotient(N::SIGNED, N::WIDTH, left.bits()))
 }
 
 /// Pushes the quotients of the first numbers of pairs, where each second one is this divisor.
+#[inline(always)]
 fn push_divided<N: Number, O: Ordered>(
     block: BlockBuilder,
     pairs: Pairs<'_, '_>,
@@ -58,11 +64,13 @@ fn push_divided<N: Number, O: Ordered>(
     requires left { pairs.left.width ≡ N.WIDTH }
     requires signed { divisor.signed ≡ N.SIGNED }
     requires truth { is_bool (N.scalar Little) ≡ true → IsTruth (integer N.SIGNED 8 divisor.bits) }
+    requires small { unsigned_abs (integer N.SIGNED 8 divisor.bits) < 2 ^ (8 * N.WIDTH) }
     requires each { (k : ℕ) → k < pair_count pairs → number_of_side (N.scalar O.order) pairs.right k ≡ integer N.SIGNED 8 divisor.bits }
     requires room { pair_count pairs * N.WIDTH ≤ block.1 }
     ensures bytes { result.0 ≡ block.0 ++ joined (made_of (number_pair (N.scalar O.order) (N.scalar O.order) (N.scalar Little) (binary FloorDivide (N.scalar Little))) pairs.entry) (pair_count pairs.entry) }
     ensures left { pair_count pairs.entry * N.WIDTH + result.1 ≡ block.1 }
 {
+    note_slice(pairs.left.bytes);
     let mut block = block;
     for k in 0..pairs.left.run.count {
         let left = pairs.left.number::<N, O>(k);
@@ -85,7 +93,12 @@ impl<N: Number, O: Ordered> Pass for Quotients<N, O> {
     ghost not_empty = { λ _. N.is_small.0 };
 
     fn push_row(&self, block: BlockBuilder, pairs: Pairs<'_, '_>) -> BlockBuilder {
+        let near = N::WIDTH as isize;
         match divisor_of::<N, O>(pairs) {
+            Some(divisor) if pairs.left.run.step == near => {
+                let pairs = pairs.with_steps(N::WIDTH as isize, pairs.right.run.step);
+                push_divided::<N, O>(block, pairs, divisor)
+            }
             Some(divisor) => push_divided::<N, O>(block, pairs, divisor),
             None => {
                 Numbers::<Dividing, N, N, N, O, LowFirst>(PhantomData).push_row(block, pairs)

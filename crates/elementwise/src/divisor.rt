@@ -1,20 +1,59 @@
 //! Division of many numbers by one, through its reciprocal.
-ghost use Rattle.std.specs.Prelude.{◌≡◌, ◌-◌, ◌/◌, ◌^◌, ◌<◌, ◌≤◌, IfSome};
+ghost use Rattle.std.specs.Prelude.{◌≡◌, ◌-◌, ◌*◌, ◌/◌, ◌^◌, ◌<◌, ◌≤◌, unsigned_abs, IfSome};
 ghost use Rattle.elem_descr.specs.Encoding.{integer, low_bits};
 ghost use Rattle.elementwise.specs.Operations.{floor_quotient};
-ghost use Rattle.elementwise.specs.Bits.{is_negative, magnitude_of};
 
-use crate::bits::{is_negative, magnitude, quotient};
+use crate::bits::{is_negative, magnitude};
+
+/// A number of 16 bits, divided by another. The product with its reciprocal, which is rounded down, gives
+/// the quotient or one less.
+#[inline(always)]
+fn divided_16(number: u16, by: u16, reciprocal: u16) -> u16
+    requires some { 1 ≤ by }
+    requires divides { reciprocal ≡ (2 ^ 16 - 1) / by }
+    ensures { result ≡ number / by }
+{
+    let (_, near) = number.carrying_mul(reciprocal, 0);
+    let rest = number - near * by;
+    if rest >= by { near + 1 } else { near }
+}
+
+/// A number of 32 bits, divided by another.
+#[inline(always)]
+fn divided_32(number: u32, by: u32, reciprocal: u32) -> u32
+    requires some { 1 ≤ by }
+    requires divides { reciprocal ≡ (2 ^ 32 - 1) / by }
+    ensures { result ≡ number / by }
+{
+    let (_, near) = number.carrying_mul(reciprocal, 0);
+    let rest = number - near * by;
+    if rest >= by { near + 1 } else { near }
+}
+
+/// A number of 64 bits, divided by another.
+#[inline(always)]
+fn divided_64(number: u64, by: u64, reciprocal: u64) -> u64
+    requires some { 1 ≤ by }
+    requires divides { reciprocal ≡ (2 ^ 64 - 1) / by }
+    ensures { result ≡ number / by }
+{
+    let (_, near) = number.carrying_mul(reciprocal, 0);
+    let rest = number - near * by;
+    if rest >= by { near + 1 } else { near }
+}
 
 /// A number other than 0, given by its lowest 64 bits.
 #[derive(Clone, Copy, Drop)]
 pub(crate) struct Divisor {
     pub(crate) signed: bool,
     pub(crate) bits: u64,
-    /// The largest 64 bits, divided by how far the number is from 0.
+    /// How far the number is from 0.
+    size: u64,
+    /// The largest 64 bits, divided by that.
     reciprocal: u64,
-    ghost some: { 1 ≤ magnitude_of (is_negative signed bits) bits },
-    ghost divides: { reciprocal ≡ (2 ^ 64 - 1) / magnitude_of (is_negative signed bits) bits },
+    ghost some: { 1 ≤ size },
+    ghost far: { size ≡ unsigned_abs (integer signed 8 bits) },
+    ghost divides: { reciprocal ≡ (2 ^ 64 - 1) / size },
 }
 
 impl Divisor {
@@ -29,35 +68,47 @@ impl Divisor {
         Some(Divisor {
             signed,
             bits,
+            size,
             reciprocal: u64::MAX / size,
         })
     }
 
-    /// A number of 32 bits, divided by how far the divisor is from 0.
+    /// A number of so many bytes, divided by how far the divisor is from 0. It is computed with as few bits
+    /// as hold both.
     #[inline(always)]
-    fn divided(self, size: u64) -> u64
-        requires { size < 2 ^ 32 }
-        ensures { result ≡ size / magnitude_of (is_negative self.signed self.bits) self.bits }
+    fn divided(self, width: usize, number: u64) -> u64
+        requires number { number < 2 ^ (8 * width) }
+        requires divisor { self.size < 2 ^ (8 * width) }
+        ensures { result ≡ number / self.size }
     {
-        let (_, whole) = size.carrying_mul(self.reciprocal, self.reciprocal);
-        whole
+        let by = self.size;
+        let reciprocal = self.reciprocal;
+        match width {
+            1 => {
+                let number = u16::from(number as u8);
+                u64::from(divided_16(number, by as u16, (reciprocal >> 48) as u16))
+            }
+            2 => u64::from(divided_16(number as u16, by as u16, (reciprocal >> 48) as u16)),
+            4 => u64::from(divided_32(number as u32, by as u32, (reciprocal >> 32) as u32)),
+            _ => divided_64(number, by, reciprocal),
+        }
     }
 
-    /// The bits of a quotient that is rounded down. Where 32 bits hold what is divided, a product takes the
-    /// place of the division.
+    /// The bits of the quotient of a number of so many bytes, rounded down. Each step is the same for all
+    /// numbers, so that one instruction does it for many.
     #[inline(always)]
-    pub(crate) fn quotient(self, left: u64) -> u64
-        ensures { result ≡ low_bits 8 (floor_quotient (integer self.signed 8 left) (integer self.signed 8 self.bits)) }
+    pub(crate) fn quotient(self, signed: bool, width: usize, left: u64) -> u64
+        requires signed { self.signed ≡ signed }
+        requires left { unsigned_abs (integer signed 8 left) < 2 ^ (8 * width) }
+        requires divisor { unsigned_abs (integer signed 8 self.bits) < 2 ^ (8 * width) }
+        ensures { result ≡ low_bits 8 (floor_quotient (integer signed 8 left) (integer signed 8 self.bits)) }
     {
-        let turned = magnitude(is_negative(self.signed, self.bits), left);
-        let below = is_negative(self.signed, turned);
+        let over = is_negative(signed, self.bits);
+        let turned = magnitude(over, left);
+        let left = left.cast_signed();
+        let below = signed & if over { left > 0 } else { left < 0 };
         let size = if below { !turned } else { turned };
-        if size >= 1 << 32 {
-            return quotient(self.signed, left, self.bits);
-        }
-        if below {
-            return !self.divided(size);
-        }
-        self.divided(size)
+        let whole = self.divided(width, size);
+        if below { !whole } else { whole }
     }
 }

@@ -1,5 +1,5 @@
-use Rattle.std.proofs.Common.{◌≡◌, ◌<◌, ℕ, Option, Some, None, sym, ap, subst, ◌∙◌, arith, rules}
-use Rattle.std.specs.Prelude.{IfSome, pos, ℤ, ◌+ℤ◌, ◌*ℤ◌, nat_abs, Bool, true}
+use Rattle.std.proofs.Common.{◌≡◌, ◌*◌, ◌^◌, ◌<◌, ℕ, Option, Some, None, sym, ap, subst, ◌∙◌, arith, rules}
+use Rattle.std.specs.Prelude.{IfSome, pos, ℤ, ◌+ℤ◌, ◌*ℤ◌, nat_abs, unsigned_abs, Bool, true}
 use Rattle.std.proofs.lemmas.Int.{ints}
 use Rattle.elem_descr.specs.declared.scalar.Order.TheVariants.{Little}
 use Rattle.elem_descr.specs.declared.scalar.Scalar.{Scalar}
@@ -10,6 +10,7 @@ use Rattle.machine_numbers.specs.Sides.{number_of_side}
 use Rattle.machine_numbers.specs.declared.sides.Side.{Side}
 use Rattle.elementwise.specs.Bits.{IsTruth}
 use Rattle.elementwise.specs.declared.divisor.Divisor.{Divisor}
+use Rattle.elementwise.proofs.HeldLaws.{side-small}
 use Rattle.elementwise.proofs.dividing.divisor_of.Goals as goal
 
 -- items without a step between them are one
@@ -36,3 +37,11 @@ returns-in-0-clause-each g c =
     let right = c.args.pairs.right in
     of_given (λ bits. (k : ℕ) → k < c.args.pairs.left.run.count → number_of_side scalar right k ≡ integer g.N.Number.SIGNED 8 bits) c.new.result c.SIGNED.result c.bits.result c.new.ensures
     (λ k below. same_number scalar right k (search rules) ∙ sym c.number-divisor.ensures ∙ c.bits.ensures.exact)
+
+pub returns-in-0-clause-small : goal.returns-in-0-clause-small
+returns-in-0-clause-small g c =
+    let scalar = g.N.Number.scalar g.O.Ordered.order in
+    let width = g.N.Number.WIDTH in
+    of_given (λ bits. unsigned_abs (integer g.N.Number.SIGNED 8 bits) < 2 ^ (8 * width)) c.new.result c.SIGNED.result c.bits.result c.new.ensures
+    (subst (λ z. unsigned_abs z < 2 ^ (8 * width)) (sym c.number-divisor.ensures ∙ c.bits.ensures.exact)
+    (side-small scalar c.args.pairs.right 0 width c.note_slice.ensures (g.met.N.Number.is_number g.O.Ordered.order) (g.met.N.Number.has_width g.O.Ordered.order)))

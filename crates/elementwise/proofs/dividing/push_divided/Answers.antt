@@ -1,4 +1,5 @@
-use Rattle.std.proofs.Common.{◌≡◌, ◌+◌, ◌*◌, ◌≤◌, ◌++◌, suc, sym, ap, ◌∙◌, append_assoc, arith}
+use Rattle.std.proofs.Common.{◌≡◌, ◌+◌, ◌*◌, ◌^◌, ◌<◌, ◌≤◌, ◌++◌, suc, sym, ap, subst, ◌∙◌, append_assoc, arith}
+use Rattle.std.specs.Prelude.{unsigned_abs}
 use Rattle.std.proofs.Math.Nat.{suc-mul, add-mul, mul-le-mul_right}
 use Rattle.elem_descr.specs.declared.scalar.Order.TheVariants.{Little}
 use Rattle.elem_descr.specs.Values.{number}
@@ -8,12 +9,20 @@ use Rattle.machine_numbers.specs.declared.operators.BinOp.TheVariants.{FloorDivi
 use Rattle.elementwise.specs.Operations.{binary}
 use Rattle.elementwise.specs.inside.PairPasses.{number_pair}
 use Rattle.elementwise.specs.inside.Sides.{made_of, pair_count}
+use Rattle.elementwise.proofs.HeldLaws.{side-small}
 use Rattle.elementwise.proofs.dividing.push_divided.Goals as goal
 
 pub push-requires : goal.push-requires
 push-requires g c =
     let most : suc c.loop-k.k * g.N.Number.WIDTH ≤ pair_count c.args.pairs * g.N.Number.WIDTH = mul-le-mul_right g.N.Number.WIDTH c.loop-k-test.true in
     omega (arith, most, suc-mul c.loop-k.k g.N.Number.WIDTH, c.requires.room, c.loop-k.invariant.left)
+
+pub divided-requires-clause-small : goal.divided-requires-clause-small
+divided-requires-clause-small g c =
+    let scalar = g.N.Number.scalar g.O.Ordered.order in
+    let width = g.N.Number.WIDTH in
+    subst (λ z. unsigned_abs z < 2 ^ (8 * width)) (sym c.number-left.ensures)
+    (side-small scalar c.args.pairs.left c.loop-k.k width c.note_slice.ensures (g.met.N.Number.is_number g.O.Ordered.order) (g.met.N.Number.has_width g.O.Ordered.order))
 
 pub loop-k-preserved : goal.loop-k-preserved
 loop-k-preserved g c =
