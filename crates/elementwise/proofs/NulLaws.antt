@@ -1,11 +1,18 @@
 -- Byte strings with NULs behind them, cut and filled up again.
-use Rattle.std.proofs.Common.{◌≡◌, ◌+◌, ◌-◌, ◌≤◌, inl, inr, ℕ, List, ◌++◌, length, take, min, replicate, sym, ap, ◌∙◌, arith, append_assoc, length-take, length-append}
+use Rattle.std.proofs.Common.{◌≡◌, ◌+◌, ◌-◌, ◌*◌, ◌<◌, ◌≤◌, inl, inr, ℕ, zero, suc, ℤ, pos, List, ◌++◌, length, take, drop, min, replicate, subst, sym, ap, ◌∙◌, arith, append_assoc, length-take, length-append}
 use Rattle.std.proofs.lemmas.Bool.{cases_lt}
 use Rattle.std.proofs.Math.Seq.{take-append_seam}
+use Rattle.std.proofs.Math.Nat.{suc-mul}
+use Rattle.std.proofs.lemmas.Int.{ints}
 use Rattle.std.proofs.lemmas.List.{append-nil, length-replicate, take_all, take-take, take-append-le, replicate-append-replicate}
 use Rattle.elem_descr.specs.Encoding.{without_nuls, padded}
 use Rattle.elem_descr.specs.NulLaws.{without_nuls-back, without_nuls-more, without_nuls-twice, length-without_nuls}
 use Rattle.elem_descr.specs.Nuls.{nuls}
+use Rattle.raw_block.specs.Bytes.{place, joined, EachWithin}
+use Rattle.raw_block.specs.BytesLaws.{length-item_at}
+use Rattle.raw_block.specs.JoinedLaws.{length-joined, joined-same, joined_run}
+use Rattle.machine_numbers.specs.Sides.{item_in}
+use Rattle.machine_numbers.specs.declared.sides.Side.{Side}
 
 -- ---- filled up
 
@@ -78,3 +85,37 @@ text_read_back n bytes le =
 -- a byte string that is not longer stays
 pub text_stays : (n : ℕ) (bytes : List ℕ) → length bytes ≤ n → without_nuls (take n (without_nuls bytes)) ≡ without_nuls bytes
 text_stays n bytes le = ap without_nuls (take_all n (without_nuls bytes) (omega (arith, length-without_nuls bytes))) ∙ without_nuls-twice bytes
+
+-- ---- byte strings that are as long as they are cut
+
+cut-whole : (n : ℕ) (bytes : List ℕ) → length bytes ≡ n → bytes ≡ padded n (without_nuls (take n (without_nuls bytes)))
+cut-whole n bytes long =
+    let none : n - n ≡ 0 = omega arith in
+    sym (append-nil bytes)
+    ∙ (λ i. sym (take_all n bytes (omega (arith, long))) i ++ replicate (sym none i) 0)
+    ∙ text_pushed n n bytes (omega (arith, long))
+
+item-long : (side : Side) (k : ℕ) → k < side.run.count → length (item_in side k) ≡ side.width
+item-long side k low =
+    let lies = side.within.each k low in
+    let ends : place side.run.offset side.run.step k + side.width ≤ length side.bytes.now = omega (arith, ints, lies.0, lies.1) in
+    length-item_at (place side.run.offset side.run.step k) side.width side.bytes.now ends
+
+pub all-long : (side : Side) → length (joined (item_in side) side.run.count) ≡ side.run.count * side.width
+all-long side = length-joined (item_in side) side.width side.run.count (item-long side)
+
+pub all-whole : (side : Side) (n : ℕ) → side.width ≡ n → joined (item_in side) side.run.count ≡ joined (λ k. padded n (without_nuls (take n (without_nuls (item_in side k))))) side.run.count
+all-whole side n wide =
+    joined-same (item_in side) (λ k. padded n (without_nuls (take n (without_nuls (item_in side k))))) side.run.count (λ k low. cut-whole n (item_in side k) (item-long side k low ∙ wide))
+
+-- items one right after another
+pub adjacent-within : (len at : ℕ) (step : ℤ) (width n : ℕ) → 0 < n → step ≡ pos width → EachWithin len at step width n → at + n * width ≤ len
+adjacent-within len at step width zero some is within = absurd (omega (arith, some))
+adjacent-within len at step width (suc n) some is within =
+    let last = (subst (λ s. EachWithin len at s width (suc n)) is within).each n (omega arith) in
+    omega (arith, ints, last.1, suc-mul n width)
+
+pub adjacent-joined : (side : Side) → side.run.step ≡ pos side.width → take (side.run.offset + side.run.count * side.width - side.run.offset) (drop side.run.offset side.bytes.now) ≡ joined (item_in side) side.run.count
+adjacent-joined side is =
+    let len : side.run.offset + side.run.count * side.width - side.run.offset ≡ side.run.count * side.width = omega arith in
+    ap (λ n. take n (drop side.run.offset side.bytes.now)) len ∙ joined_run side.run.offset side.run.step side.width side.run.count side.bytes.now is

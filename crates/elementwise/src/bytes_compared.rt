@@ -57,7 +57,7 @@ fn compare_with(
     made(alloc, &pairing, operands)
 }
 
-/// The same, once where the items repeat.
+/// A comparison with bytes that no NULs end, made once where the items repeat.
 fn compare_once(
     alloc: Global,
     comparison: Comparison,

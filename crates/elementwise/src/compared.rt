@@ -147,7 +147,7 @@ fn compare_scalars(
     }
 }
 
-/// The same, once where the items of both repeat.
+/// A comparison of numbers, or of byte strings, made once where the items of both repeat.
 pub(crate) fn compare_once(
     alloc: Global,
     comparison: Comparison,

@@ -14,7 +14,7 @@ pub(crate) struct Pairs<'a, 'b> {
 impl<'a, 'b> Pairs<'a, 'b> {
     ghost use Rattle.machine_numbers.specs.Sides.{AreSame};
 
-    /// The same, whose steps are known to be these.
+    /// Two runs whose steps are known to be these.
     #[inline(always)]
     pub(crate) fn with_steps(self, left: isize, right: isize) -> Pairs<'a, 'b>
         requires left { self.left.run.step ≡ left }

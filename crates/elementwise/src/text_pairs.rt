@@ -1,8 +1,10 @@
 //! Comparisons and casts of byte strings, row by row.
-ghost use Rattle.std.specs.Prelude.{◌≤◌, take};
+ghost use Rattle.std.specs.Prelude.{◌≡◌, ◌≤◌, take, IfSome};
 ghost use Rattle.elem_descr.specs.declared.scalar.Scalar.TheVariants.{Bool as BoolScalar};
 ghost use Rattle.elem_descr.specs.Values.{text};
 ghost use Rattle.elem_descr.specs.Encoding.{padded, encode, without_nuls};
+ghost use Rattle.raw_block.specs.Bytes.{joined};
+ghost use Rattle.machine_numbers.specs.Sides.{item_in};
 ghost use Rattle.elementwise.specs.inside.PairPasses.{text_pair, truth_value};
 ghost use Rattle.std.proofs.Common.{arith};
 
@@ -10,7 +12,7 @@ use crate::rows::Pass;
 use crate::sides::Pairs;
 use crate::text_comparing::{are_compared, are_items_compared, without_nuls};
 use elem_descr::BytesLen;
-use machine_numbers::{Comparison, LowFirst, Number};
+use machine_numbers::{Comparison, LowFirst, Number, Side};
 use raw_block::BlockBuilder;
 
 /// A comparison of byte strings of two lengths.
@@ -77,6 +79,17 @@ impl<'a> Pass for ComparingWith<'a> {
     }
 }
 
+/// The bytes of items that lie one right after another.
+fn adjacent_bytes(items: Side<'_>) -> Option<&[u8]>
+    ensures { IfSome result (λ bytes. bytes.now ≡ joined (item_in items.entry) items.entry.run.count) }
+{
+    let run = items.run;
+    if run.count == 0 || !run.is_packed(items.width) {
+        return None;
+    }
+    Some(&items.bytes[run.offset..run.offset + run.count * items.width])
+}
+
 impl Pass for Cutting {
     ghost makes = { λ t x _. padded t.width (without_nuls (take t.width (without_nuls x))) };
 
@@ -88,6 +101,12 @@ impl Pass for Cutting {
 
     fn push_row(&self, block: BlockBuilder, pairs: Pairs<'_, '_>) -> BlockBuilder {
         let mut block = block;
+        if pairs.left.width == self.width {
+            if let Some(bytes) = adjacent_bytes(pairs.left) {
+                block.push_bytes(bytes);
+                return block;
+            }
+        }
         for k in 0..pairs.left.run.count {
             let item = pairs.left.item(k);
             let kept = item.len().min(self.width);
