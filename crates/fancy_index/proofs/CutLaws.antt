@@ -50,7 +50,7 @@ module _ (shape : List ℕ) (k : ℕ) (some : 0 < count shape) where
   pub some-behind : 0 < count (drop k shape)
   some-behind = (factors_pos (count (take k shape)) (count (drop k shape)) (omega (arith, counts, some))).1
 
-  few-before : count (take k shape) ≤ count shape
+  pub few-before : count (take k shape) ≤ count shape
   few-before = omega (arith, counts, mul-le-mul_left (count (take k shape)) some-behind, mul-one (count (take k shape)))
 
   pub few-behind : count (drop k shape) ≤ count shape
@@ -70,7 +70,7 @@ module _ (shape : List ℕ) (k : ℕ) (some : 0 < count shape) where
   pub IsIndex-whole : (i j : List ℕ) → IsIndex (take k shape) i → IsIndex (drop k shape) j → IsIndex shape (i ++ j)
   IsIndex-whole i j in-i in-j = subst (λ (s : List ℕ). IsIndex s (i ++ j)) whole (IsIndex-append (take k shape) (drop k shape) i j in-i in-j)
 
-pub only-memory : (made : Result (List ℕ) Refusal) (shape : List ℕ) (e : Refusal) → made ≡ Ok shape → (e ≡ OutOfMemory) ⊎ (made ≡ Err e) → e ≡ OutOfMemory
+pub only-memory : {A : Type 0} (made : Result A Refusal) (shape : A) (e : Refusal) → made ≡ Ok shape → (e ≡ OutOfMemory) ⊎ (made ≡ Err e) → e ≡ OutOfMemory
 only-memory made shape e is (inl memory) = memory
 only-memory made shape e is (inr there) = absurd (false≢true (ap is_ok (sym there ∙ is)))
 

@@ -16,11 +16,12 @@ pub mod PlaceLaws
 pub mod RestLaws
 pub mod CutLaws
 pub mod ShiftLaws
-pub mod LoneLaws
+pub mod SizeLaws
 pub mod RankLaws
 pub mod LeadLaws
 pub mod IndexSplits
 pub mod LaidLaws
 pub mod AnswerLaws
 pub mod SumLaws
-pub mod SumTies
+pub mod AlongLaws
+pub mod StartLaws

@@ -5,8 +5,7 @@ ghost use Rattle.shape_strides.specs.Indexes.{count};
 ghost use Rattle.shape_strides.specs.Layouts.{offsets};
 ghost use Rattle.shape_strides.specs.Limits.{max_bytes, max_items};
 ghost use Rattle.shape_strides.specs.Runs.{run_offsets};
-ghost use Rattle.fancy_index.specs.inside.Lone.{led};
-ghost use Rattle.fancy_index.specs.inside.Ranks.{IsAtRun};
+ghost use Rattle.fancy_index.specs.inside.Ranks.{led, IsAtRun};
 
 use shape_strides::{Layout, Run, Runs};
 

@@ -1,11 +1,15 @@
--- How far the runs of a layout were gone through.
-use Rattle.std.specs.Prelude.{◌≡◌, ◌≤◌, [], ◌∷◌, length, drop, All}
+-- Ranks that become offsets, and how far the runs of a layout were gone through.
+use Rattle.std.specs.Prelude.{◌≡◌, ◌≤◌, ℕ, List, [], ◌∷◌, map, length, get_or, drop, All}
 use Rattle.std.specs.List.{flat_map}
 use Rattle.shape_strides.specs.Addresses.{LieWithin}
 use Rattle.shape_strides.specs.Layouts.{offsets}
 use Rattle.shape_strides.specs.Limits.{max_bytes}
 use Rattle.shape_strides.specs.Runs.{run_offsets}
 use Rattle.fancy_index.specs.declared.ranks.RunAt.{RunAt}
+
+-- the offsets to which ranks lead
+abbrev pub led : List ℕ → List ℕ → List ℕ
+led offsets ranks = map (λ rank. get_or offsets rank 0) ranks
 
 -- the run and those behind it have the items from a rank on
 pub record IsAtRun (at : RunAt) : Type 0 where

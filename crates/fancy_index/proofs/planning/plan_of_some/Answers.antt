@@ -3,12 +3,14 @@ use Rattle.shape_strides.specs.Indexes.{count}
 use Rattle.shape_strides.specs.AxisIndexes.{zero_filled}
 use Rattle.shape_strides.specs.AxisLaws.{IsIndex-first}
 use Rattle.shape_strides.specs.Layouts.{offsets}
+use Rattle.shape_strides.specs.Shapes.{IsShape}
 use Rattle.fancy_index.specs.Parts.{other_axes}
 use Rattle.fancy_index.specs.inside.Moved.{moved_all, AreStarts}
 use Rattle.fancy_index.specs.inside.PartLists.{shown_part}
 use Rattle.fancy_index.proofs.LaidLaws.{IsLaid, some_others, points_many, first-in, starts, is-plan, count-is, small-offset}
 use Rattle.fancy_index.proofs.LeadLaws.{rest-are}
 use Rattle.fancy_index.proofs.ShiftLaws.{all_ready_at}
+use Rattle.fancy_index.proofs.SizeLaws.{middle-shape}
 use Rattle.fancy_index.proofs.planning.plan_of_some.Goals as goal
 use Rattle.fancy_index.proofs.planning.plan_of_some.Goals.{Start, In_ok-rest, In_ok-inner}
 
@@ -72,6 +74,12 @@ returns-clause-ok c =
     is-plan c.args.layout.now c.in_ok-rest.rest c.in_ok-outer.outer c.in_ok-inner.inner c.args.parts.now c.args.points.now (laid (goal.at.returns-clause-ok c).In_ok-inner) c.in_ok-try_new.field-0
     (c.in_ok-try_new.ensures.shape ∙ c.requires.shape)
     (c.in_ok-try_new.ensures.offsets ∙ ap (λ s. moved_all c.in_ok-inner.inner.offset (offsets c.in_ok-outer.outer) s (offsets c.in_ok-inner.inner)) c.in_ok-shifts.ensures.ok)
+
+pub shifts-requires-clause-shape : goal.shifts-requires-clause-shape
+shifts-requires-clause-shape c =
+    let shape = c.as_slice-lengths.ensures in
+    let is : IsShape c.args.shape = record { axes = shape.rank; lengths = shape.lengths; items = shape.items } in
+    middle-shape _ c.args.points.now _ (subst IsShape c.requires.shape is) (omega (arith, ap count c.requires.shape, c.requires.some))
 
 pub shifts-requires-clause-some : goal.shifts-requires-clause-some
 shifts-requires-clause-some c = (some_others c.args.parts.now c.args.points.now (omega (arith, ap count c.requires.shape, c.requires.some))).1

@@ -1,7 +1,6 @@
 use Rattle.std.proofs.Common.{◌≡◌, ◌++◌, take, drop}
 use Rattle.shape_strides.specs.Layouts.{offsets}
-use Rattle.fancy_index.specs.inside.Lone.{led}
-use Rattle.fancy_index.specs.inside.Ranks.{IsAtRun}
+use Rattle.fancy_index.specs.inside.Ranks.{led, IsAtRun}
 use Rattle.fancy_index.proofs.ranks.lead_by_runs.Given as goal
 
 abbrev pub invariant-loop-rank : goal.invariant-loop-rank

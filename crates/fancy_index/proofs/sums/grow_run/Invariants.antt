@@ -3,4 +3,4 @@ use Rattle.fancy_index.specs.inside.Sums.{HaveGrownFrom, number_along}
 use Rattle.fancy_index.proofs.sums.grow_run.Given as goal
 
 abbrev pub invariant-loop-k : goal.invariant-loop-k
-invariant-loop-k l = HaveGrownFrom l.at l.stride (number_along l.numbers l.run l.at) l.fn.shifts l.shifts (l.at + l.k)
+invariant-loop-k l = HaveGrownFrom l.at l.start (number_along l.offsets l.places l.at) l.fn.shifts l.shifts (l.at + l.k)
