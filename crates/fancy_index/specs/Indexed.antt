@@ -31,6 +31,10 @@ leads_through axes parts index =
     let place = points_place parts in
     leads (take axes (drop place index)) parts (take place index ++ drop (place + axes) index)
 
+-- what parts show whose points have these lengths in common
+abbrev pub view_of : List ℕ → List Part → View
+view_of points parts = record { shape = all_axes points parts; leads = leads_through (length points) parts }
+
 -- what parts show
 unfoldable pub parts_view : List Part → Result View Refusal
 parts_view parts = do

@@ -27,7 +27,8 @@ fn push_picked(lengths: &mut SmallVec<usize, 8>, pick: AxisPick) -> Result<(), A
 }
 
 fn push_axis(lengths: &mut SmallVec<usize, 8>, part: &IndexPart) -> Result<(), AllocError>
-    ensures { OnOk result (lengths.new.items ≡ lengths.old.items ++ axes_of_part (shown_part part.now)) }
+    ensures { let more = axes_of_part (shown_part part.now) in
+        OnOk result (lengths.new.items ≡ lengths.old.items ++ more) }
 {
     match part {
         IndexPart::Axis(pick) => push_picked(lengths, *pick),

@@ -2,10 +2,10 @@
 ghost use Rattle.std.specs.Prelude.{◌≡◌, ◌+◌, ◌≤◌, ◌++◌, length, take, drop, IfOk, OnOk};
 ghost use Rattle.elem_descr.specs.Encoding.{truth};
 ghost use Rattle.fancy_index.specs.declared.kind.Kind.TheVariants.{Mask};
-ghost use Rattle.fancy_index.specs.IndexArrays.{kind};
-ghost use Rattle.fancy_index.specs.Sources.{index_array_of, LiesInBlock};
+ghost use Rattle.fancy_index.specs.Sources.{LiesInBlock};
+ghost use Rattle.fancy_index.specs.inside.Items.{kind_in, numbers_in};
 ghost use Rattle.fancy_index.specs.inside.PointLists.{true_ranks};
-ghost use Rattle.fancy_index.specs.inside.Bools.{bools_in, LieInBytes};
+ghost use Rattle.fancy_index.specs.inside.Bools.{bools_in, ranks_from, LieInBytes};
 
 use crate::source::Indices;
 use shape_strides::{Run, Runs};
@@ -36,7 +36,8 @@ fn note_true(found: &mut [u32; 1024], bools: Bools<'_>, from: usize, end: usize)
     requires few { end ≤ from + 1024 }
     requires order { from ≤ end }
     ensures many { result ≤ 1024 }
-    ensures found { take result found.new ++ true_ranks (bools.entry.rank + end) (drop end (bools_in bools.entry)) ≡ true_ranks (bools.entry.rank + from) (drop from (bools_in bools.entry)) }
+    ensures found { let left = ranks_from bools.entry end in
+        take result found.new ++ left ≡ ranks_from bools.entry from }
 {
     let mut many = 0;
     for k in from..end {
@@ -53,7 +54,8 @@ fn push_true(
     bools: Bools<'_>,
 ) -> Result<(), AllocError>
     requires { LieInBytes bools }
-    ensures { OnOk result (ranks.new.items ≡ ranks.old.items ++ true_ranks bools.entry.rank (bools_in bools.entry)) }
+    ensures { let more = true_ranks bools.entry.rank (bools_in bools.entry) in
+        OnOk result (ranks.new.items ≡ ranks.old.items ++ more) }
 {
     let mut from = 0;
     while from < bools.run.count {
@@ -67,9 +69,9 @@ fn push_true(
 
 /// The ranks at which a mask is true.
 pub(crate) fn true_ranks(alloc: Global, mask: Indices<'_>) -> Result<Vec<u32>, AllocError>
-    requires kind { kind (index_array_of mask) ≡ Mask }
+    requires kind { kind_in mask ≡ Mask }
     requires lies { LiesInBlock mask }
-    ensures { IfOk result (λ v. v.items ≡ true_ranks 0 (index_array_of mask.entry).numbers) }
+    ensures { IfOk result (λ v. v.items ≡ true_ranks 0 (numbers_in mask.entry)) }
 {
     let _items = mask.layout.shape.items();
     let bytes = mask.block.bytes();

@@ -73,7 +73,8 @@ pub(crate) fn check<'a>(
     ensures axes { IfOk result (λ left. left.axes.now ≡ axes.now) }
     ensures items { IfOk result (λ left. items_left left ≡ index_items arrays.now items.now) }
     ensures ok { IfOk result (λ left. IsChecked left.axes.now (items_left left)) }
-    ensures err { IfErr result (λ refusal. indexed axes.now (index_items arrays.now items.now) ≡ Err refusal) }
+    ensures err { IfErr result (λ refusal.
+        indexed axes.now (index_items arrays.now items.now) ≡ Err refusal) }
 {
     let list = IndexList { items, arrays };
     if !are_indexes(list) {

@@ -18,7 +18,8 @@ fn common_with_part(
     lengths: SmallVec<usize, 8>,
     part: &IndexPart,
 ) -> Result<SmallVec<usize, 8>, Refusal>
-    ensures { Gives (λ v. v.items) result (as_index_shapes (common_with lengths.items (shapes_of_part (shown_part part.now)))) }
+    ensures { let shapes = shapes_of_part (shown_part part.now) in
+        Gives (λ v. v.items) result (as_index_shapes (common_with lengths.items shapes)) }
 {
     match part {
         IndexPart::Points(points) => {

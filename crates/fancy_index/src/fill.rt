@@ -21,7 +21,7 @@ fn fill_from(block: &mut RawBlock, target: MovedLayout<'_>, item: &[u8])
     }
 }
 
-/// The same from a place that is shifted by each shift.
+/// Writes the item to those of the inner axes, from a place that is shifted by each shift.
 fn fill_runs(block: &mut RawBlock, rows: Shifted<'_>, item: &[u8])
     requires { All (λ offset. offset + length item.now ≤ length block.old) (shifted_offsets rows) }
     ensures written { block.new ≡ put_each (shifted_offsets rows.entry) item.now block.old }
@@ -38,7 +38,7 @@ fn fill_runs(block: &mut RawBlock, rows: Shifted<'_>, item: &[u8])
     }
 }
 
-/// The same, where a layout of one item needs no walk.
+/// Writes the item from a place on, once for each shift. Inner axes of one item need no walk.
 fn fill_shifts(block: &mut RawBlock, rows: Shifted<'_>, item: &[u8])
     requires { All (λ offset. offset + length item.now ≤ length block.old) (shifted_offsets rows) }
     ensures written { block.new ≡ put_each (shifted_offsets rows.entry) item.now block.old }
@@ -51,7 +51,7 @@ fn fill_shifts(block: &mut RawBlock, rows: Shifted<'_>, item: &[u8])
     fill_runs(block, rows, item);
 }
 
-/// The same from each place of the outer axes.
+/// Writes the item to all to which the axes lead.
 pub(crate) fn fill(block: &mut RawBlock, axes: &PlanAxes, item: &[u8])
     requires { All (λ offset. offset + length item.now ≤ length block.old) (offsets_from axes.now) }
     ensures written { block.new ≡ put_each (offsets_from axes.now) item.now block.old }

@@ -29,7 +29,7 @@ fn push_from(
     items
 }
 
-/// The same once for each shift.
+/// Pushes the items of the inner axes, from a place that is shifted by each shift.
 fn push_runs(items: BlockBuilder, block: &RawBlock, rows: Shifted<'_>, width: usize) -> BlockBuilder
     requires inside { All (λ offset. offset + width ≤ length block.now) (shifted_offsets rows) }
     requires room { length (shifted_offsets rows) * width ≤ items.1 }
@@ -49,7 +49,7 @@ fn push_runs(items: BlockBuilder, block: &RawBlock, rows: Shifted<'_>, width: us
     items
 }
 
-/// The same, where a layout of one item needs no walk.
+/// Pushes the items from a place on, once for each shift. Inner axes of one item need no walk.
 fn push_shifted(
     items: BlockBuilder,
     block: &RawBlock,
@@ -67,7 +67,7 @@ fn push_shifted(
     push_runs(items, block, rows, width)
 }
 
-/// The same from each place of the outer axes.
+/// Pushes all items to which the axes lead.
 pub(crate) fn push_all(
     items: BlockBuilder,
     block: &RawBlock,

@@ -1,9 +1,9 @@
 //! Index lists, item by item, and the axes that the items index.
 ghost use Rattle.std.specs.Prelude.{◌≡◌, ◌+◌, ◌<◌, ◌≤◌, [], length, All, IfSome, None};
 ghost use Rattle.std.proofs.Props.{props};
-ghost use Rattle.fancy_index.specs.IndexArrays.{item_axes, array_axes_taken, array_axes_width};
+ghost use Rattle.fancy_index.specs.IndexArrays.{item_axes, array_axes_width};
 ghost use Rattle.fancy_index.specs.Sources.{LiesInBlock, IsNamed, index_items};
-ghost use Rattle.fancy_index.specs.inside.Items.{index_item_of, ItemsLieInBlock, IsNamed-prop};
+ghost use Rattle.fancy_index.specs.inside.Items.{index_item_of, axes_taken, ItemsLieInBlock, IsNamed-prop};
 
 use crate::kind::Kind;
 use crate::source::{Indices, kind, resolved};
@@ -23,7 +23,7 @@ pub(crate) struct IndexList<'a> {
 pub(crate) struct Left<'a> {
     pub axes: &'a [usize],
     pub list: IndexList<'a>,
-    pub ghost enough: { array_axes_taken (index_items list.arrays.now list.items.now) ≤ length axes.now },
+    pub ghost enough: { axes_taken list.arrays.now list.items.now ≤ length axes.now },
 }
 
 /// How many axes an item takes, beside those of `...`.
@@ -42,8 +42,9 @@ fn axes_of(item: IndexItem<Indices<'_>>) -> usize
 
 /// How many of so many axes the items leave to `...`, unless they take more.
 pub(crate) fn axes_beside(list: IndexList<'_>, axes: usize) -> Option<usize>
-    ensures some { IfSome result (λ left. left + array_axes_taken (index_items list.entry.arrays.now list.entry.items.now) ≡ axes) }
-    ensures none { result ≡ None → axes < array_axes_taken (index_items list.entry.arrays.now list.entry.items.now) }
+    ensures some { let taken = axes_taken list.entry.arrays.now list.entry.items.now in
+        IfSome result (λ left. left + taken ≡ axes) }
+    ensures none { result ≡ None → axes < axes_taken list.entry.arrays.now list.entry.items.now }
 {
     let mut left = axes;
     for item in list.items {
@@ -58,8 +59,9 @@ pub(crate) fn axes_beside(list: IndexList<'_>, axes: usize) -> Option<usize>
 
 /// How many of the axes that are left an item takes: `...` takes those beside the items after it.
 fn width(left: usize, item: IndexItem<Indices<'_>>, later: IndexList<'_>) -> usize
-    requires { item_axes (index_item_of item) + array_axes_taken (index_items later.arrays.now later.items.now) ≤ left }
-    ensures { result ≡ array_axes_width left (index_item_of item.entry) (index_items later.entry.arrays.now later.entry.items.now) }
+    requires { item_axes (index_item_of item) + axes_taken later.arrays.now later.items.now ≤ left }
+    ensures { let items = index_items later.entry.arrays.now later.entry.items.now in
+        result ≡ array_axes_width left (index_item_of item.entry) items }
 {
     match item {
         IndexItem::Ellipsis => axes_beside(later, left).unwrap_or(0),
@@ -68,13 +70,15 @@ fn width(left: usize, item: IndexItem<Indices<'_>>, later: IndexList<'_>) -> usi
 }
 
 impl<'a> Left<'a> {
-    ghost use Rattle.fancy_index.specs.inside.Lists.{items_left, IsNext};
+    ghost use Rattle.fancy_index.specs.inside.Lists.{items_left, IsNextOf};
 
     /// The next item, with the axes that it takes.
     pub(crate) fn next(&mut self) -> Option<(IndexItem<Indices<'a>>, &'a [usize])>
-        ensures next { IfSome result (λ next. IsNext self.old.axes.now (items_left self.old) (index_item_of next.0) next.1.now self.new.axes.now (items_left self.new)) }
+        ensures next { IfSome result (λ next.
+            IsNextOf self.old (index_item_of next.0) next.1.now self.new) }
         ensures lies { IfSome result (λ next. ItemsLieInBlock next.0) }
-        ensures fewer { IfSome result (λ _. length self.new.list.items.now < length self.old.list.items.now) }
+        ensures fewer { IfSome result (λ _.
+            length self.new.list.items.now < length self.old.list.items.now) }
         ensures none { result ≡ None → items_left self.old ≡ [] }
         ensures same { result ≡ None → self.new.axes.now ≡ self.old.axes.now }
     {

@@ -1,13 +1,11 @@
 //! The parts that the items of an index list stand for.
 ghost use Rattle.std.specs.Prelude.{◌≡◌, ◌≤◌, ◌∷◌, length, map, true, false, All, IfOk, OnOk};
-ghost use Rattle.elem_descr.specs.declared.refusal.Refusal.TheVariants.{IndexOutOfRange};
-ghost use Rattle.elem_descr.specs.Refusals.{Gives, check};
 ghost use Rattle.shape_strides.specs.Limits.{max_items};
 ghost use Rattle.shape_strides.specs.IndexItems.{is_ellipsis};
 ghost use Rattle.view_ops.specs.Basics.{has_step};
 ghost use Rattle.fancy_index.specs.IndexArrays.{is_index, item_axes, covers, is_within, are_within};
 ghost use Rattle.fancy_index.specs.Parts.{Between, wholes, parts_of, parts};
-ghost use Rattle.fancy_index.specs.inside.Items.{index_item_of, ItemsLieInBlock};
+ghost use Rattle.fancy_index.specs.inside.Items.{index_item_of, ItemsLieInBlock, IsWithin};
 ghost use Rattle.fancy_index.specs.inside.Lists.{items_left};
 ghost use Rattle.fancy_index.specs.inside.PartLists.{IsChecked, shown_part, AreParts, AddsParts};
 
@@ -38,7 +36,8 @@ fn push_wholes(parts: &mut Vec<IndexPart>, axes: &[usize]) -> Result<(), AllocEr
 }
 
 fn push_between(parts: &mut Vec<IndexPart>, axes: &[usize]) -> Result<(), AllocError>
-    ensures { OnOk result (AddsParts parts.old.items parts.new.items axes.now (Between ∷ wholes axes.now)) }
+    ensures { let there = Between ∷ wholes axes.now in
+        OnOk result (AddsParts parts.old.items parts.new.items axes.now there) }
 {
     parts.push(IndexPart::Between)?;
     push_wholes(parts, axes)
@@ -54,11 +53,13 @@ fn push_parts(
     requires small { All (λ n. n ≤ max_items) axes.now }
     requires lies { ItemsLieInBlock item }
     requires index { is_index (index_item_of item) ≡ true }
-    requires axes { is_ellipsis (index_item_of item) ≡ false → length axes.now ≡ item_axes (index_item_of item) }
+    requires axes { is_ellipsis (index_item_of item) ≡ false
+        → length axes.now ≡ item_axes (index_item_of item) }
     requires covers { covers axes.now (index_item_of item) ≡ true }
     requires step { has_step (index_item_of item) ≡ true }
-    ensures within { Gives (λ _. tt) result (check (is_within axes.now (index_item_of item.entry)) IndexOutOfRange) }
-    ensures added { OnOk result (AddsParts parts.old.items parts.new.items axes.now (parts_of axes.now (index_item_of item.entry))) }
+    ensures within { IsWithin (is_within axes.now (index_item_of item.entry)) result }
+    ensures added { let there = parts_of axes.now (index_item_of item.entry) in
+        OnOk result (AddsParts parts.old.items parts.new.items axes.now there) }
 {
     match item {
         IndexItem::Integer(at) => {
@@ -82,9 +83,10 @@ fn push_parts(
 pub(crate) fn parts_of(alloc: Global, left: Left<'_>) -> Result<Vec<IndexPart>, Refusal>
     requires small { All (λ n. n ≤ max_items) left.axes.now }
     requires checked { IsChecked left.axes.now (items_left left) }
-    ensures within { Gives (λ _. tt) result (check (are_within left.entry.axes.now (items_left left.entry)) IndexOutOfRange) }
+    ensures within { IsWithin (are_within left.entry.axes.now (items_left left.entry)) result }
     ensures are { IfOk result (λ v. AreParts left.entry.axes.now v.items) }
-    ensures shown { IfOk result (λ v. map shown_part v.items ≡ parts left.entry.axes.now (items_left left.entry)) }
+    ensures shown { IfOk result (λ v.
+        map shown_part v.items ≡ parts left.entry.axes.now (items_left left.entry)) }
 {
     let mut parts = Vec::new(alloc);
     let mut left = left;

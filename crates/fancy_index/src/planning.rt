@@ -2,7 +2,7 @@
 ghost use Rattle.std.specs.Prelude.{◌≡◌, ◌<◌, [], length, map, All, IfOk, IfErr};
 ghost use Rattle.elem_descr.specs.declared.refusal.Refusal.TheVariants.{OutOfMemory};
 ghost use Rattle.shape_strides.specs.Indexes.{count};
-ghost use Rattle.fancy_index.specs.Indexed.{all_axes, leads_through, parts_view, indexed};
+ghost use Rattle.fancy_index.specs.Indexed.{all_axes, view_of, parts_view, indexed};
 ghost use Rattle.fancy_index.specs.Sources.{LiesInBlock, IsNamed, index_items};
 ghost use Rattle.fancy_index.specs.Plans.{IsPlanOf, GivesPlan};
 ghost use Rattle.fancy_index.specs.inside.PartLists.{shown_part, AreParts, IsReady};
@@ -43,7 +43,8 @@ fn plan_of_some(
     requires ready { All (IsReady points.now) parts.old }
     requires shape { shape ≡ all_axes points.now (map shown_part parts.old) }
     requires some { 0 < count shape }
-    ensures ok { IfOk result (λ plan. IsPlanOf layout.now plan (record { shape = all_axes points.now (map shown_part parts.old); leads = leads_through (length points.now) (map shown_part parts.old) })) }
+    ensures ok { IfOk result (λ plan.
+        IsPlanOf layout.now plan (view_of points.now (map shown_part parts.old))) }
     ensures err { IfErr result (λ refusal. refusal ≡ OutOfMemory) }
 {
     let _lengths = shape.as_slice();
@@ -90,7 +91,8 @@ pub fn plan(
 ) -> Result<Plan, Refusal>
     requires named { All (IsNamed (length arrays.now)) items.now }
     requires lie { All LiesInBlock arrays.now }
-    ensures { GivesPlan layout.now result (indexed layout.now.shape (index_items arrays.now items.now)) }
+    ensures { let there = indexed layout.now.shape (index_items arrays.now items.now) in
+        GivesPlan layout.now result there }
 {
     let lengths = layout.shape.as_slice();
     let left = check(lengths, items, arrays)?;

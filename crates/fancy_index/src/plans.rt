@@ -10,7 +10,7 @@ ghost use Rattle.shape_strides.specs.Layouts.{offsets, multiples};
 ghost use Rattle.arrays.specs.Assignments.{items_at, assigned};
 ghost use Rattle.arrays.specs.Blocks.{offsets_in};
 ghost use Rattle.fancy_index.specs.Plans.{put_each};
-ghost use Rattle.fancy_index.specs.inside.Moved.{moved_all, AreStarts};
+ghost use Rattle.fancy_index.specs.inside.Moved.{laid_offsets, AllStart};
 ghost use Rattle.fancy_index.specs.inside.Kept.{offsets_from};
 
 use crate::fill::fill;
@@ -114,11 +114,12 @@ impl Plan {
         shifts: Vec<u32>,
         inner: Layout,
     ) -> Result<Plan, AllocError>
-        requires count { length (moved_all inner.offset (offsets outer) shifts.items (offsets inner)) ≡ count shape }
+        requires count { length (laid_offsets outer shifts.items inner) ≡ count shape }
         requires small { inner.offset ≤ max_bytes }
-        requires starts { All (AreStarts inner.offset (offsets inner) shifts.items) (offsets outer) }
+        requires starts { AllStart outer shifts.items inner }
         ensures shape { IfOk result (λ plan. plan.shape ≡ shape) }
-        ensures offsets { IfOk result (λ plan. plan.offsets ≡ moved_all inner.offset (offsets outer) shifts.items (offsets inner)) }
+        ensures offsets { IfOk result (λ plan.
+            plan.offsets ≡ laid_offsets outer shifts.items inner) }
     {
         let axes = PlanAxes {
             outer,
@@ -168,7 +169,9 @@ impl Plan {
     ) -> Result<RawBlock, AllocError>
         requires { All (λ offset. offset + width ≤ length block.now) self.now.offsets }
         ensures len { IfOk result (λ items. length items ≡ length self.now.offsets * width) }
-        ensures items { IfOk result (λ items. items_at (multiples width (length self.now.offsets)) width items ≡ items_at self.now.offsets width block.now) }
+        ensures items { let packed = multiples width (length self.now.offsets) in
+            IfOk result (λ items.
+            items_at packed width items ≡ items_at self.now.offsets width block.now) }
     {
         // More bytes than there can be are refused as any others.
         let bytes = self.shape.items().saturating_mul(width);
@@ -186,14 +189,18 @@ impl Plan {
         block: &RawBlock,
         descr: &Descr,
     ) -> Result<Owned, Refusal>
-        requires { All (λ offset. offset + item_size descr.now ≤ length block.now) self.now.offsets }
+        requires { let width = item_size descr.now in
+            All (λ offset. offset + width ≤ length block.now) self.now.offsets }
         ensures descr { IfOk result (λ o. o.descr ≡ descr.now) }
         ensures shape { IfOk result (λ o. o.layout.shape ≡ self.now.shape) }
-        ensures order { IfOk result (λ o. offsets o.layout ≡ offsets_in C (item_size descr.now) self.now.shape) }
-        ensures items { IfOk result (λ o. map (item_from descr.now o.block) (offsets o.layout) ≡ map (item_from descr.now block.now) self.now.offsets) }
+        ensures order { IfOk result (λ o.
+            offsets o.layout ≡ offsets_in C (item_size descr.now) self.now.shape) }
+        ensures items { IfOk result (λ o. map (item_from descr.now o.block) (offsets o.layout)
+            ≡ map (item_from descr.now block.now) self.now.offsets) }
         ensures within { IfOk result (λ _. count self.now.shape * item_size descr.now ≤ max_bytes) }
-        ensures refused { IfErr result (λ refusal. refusal
-            ≡ (if nat_le (count self.now.shape * item_size descr.now) max_bytes then OutOfMemory else TooLarge)) }
+        ensures refused { let bytes = count self.now.shape * item_size descr.now in
+            IfErr result (λ refusal.
+            refusal ≡ (if nat_le bytes max_bytes then OutOfMemory else TooLarge)) }
     {
         let item = descr.size();
         if self.len() * item > MAX_BYTES {
@@ -209,7 +216,8 @@ impl Plan {
     pub fn scatter(&self, block: &mut RawBlock, items: &RawBlock, width: usize)
         requires inside { All (λ offset. offset + width ≤ length block.old) self.now.offsets }
         requires items { length self.now.offsets * width ≤ length items.now }
-        ensures written { block.new ≡ assigned self.now.offsets (multiples width (length self.now.offsets)) width items.now block.old }
+        ensures written { let packed = multiples width (length self.now.offsets) in
+            block.new ≡ assigned self.now.offsets packed width items.now block.old }
         ensures len { length block.new ≡ length block.old }
     {
         scatter(block, self.axes(), items, width);
@@ -221,7 +229,8 @@ impl Plan {
         requires inside { All (λ offset. offset + width ≤ length block.old) self.now.offsets }
         requires from { All (λ offset. offset + width ≤ length other.now) (offsets from.now) }
         requires count { length (offsets from.now) ≡ length self.now.offsets }
-        ensures written { block.new ≡ assigned self.now.offsets (offsets from.now) width other.now block.old }
+        ensures written { let from = offsets from.now in
+            block.new ≡ assigned self.now.offsets from width other.now block.old }
         ensures len { length block.new ≡ length block.old }
     {
         if is_packed(from, width) {

@@ -1,13 +1,13 @@
 //! Points on some axes: those of an integer, of an array of integers and of a mask.
 ghost use Rattle.std.specs.Prelude.{◌≡◌, ◌≢◌, ◌≤◌, [], ◌∷◌, length, map, pos, true, All, IfOk};
-ghost use Rattle.elem_descr.specs.declared.refusal.Refusal.TheVariants.{IndexOutOfRange};
-ghost use Rattle.elem_descr.specs.Refusals.{Gives, check};
+ghost use Rattle.elem_descr.specs.Refusals.{Gives};
 ghost use Rattle.shape_strides.specs.Limits.{max_items};
 ghost use Rattle.view_ops.specs.Slices.{is_place};
 ghost use Rattle.fancy_index.specs.declared.kind.Kind.TheVariants.{Mask, NoIndex};
-ghost use Rattle.fancy_index.specs.IndexArrays.{kind, axes_of_kind, covers_kind, are_places};
-ghost use Rattle.fancy_index.specs.Parts.{points_of};
+ghost use Rattle.fancy_index.specs.IndexArrays.{item_axes, covers, is_within};
+ghost use Rattle.fancy_index.specs.Parts.{parts_of};
 ghost use Rattle.fancy_index.specs.Sources.{index_array_of, LiesInBlock};
+ghost use Rattle.fancy_index.specs.inside.Items.{kind_in, numbers_in, array_item, IsWithin};
 ghost use Rattle.fancy_index.specs.inside.PointLists.{place_of, named_places, true_ranks, IsPart};
 
 use crate::bools::true_ranks;
@@ -29,7 +29,7 @@ pub(crate) struct PointList {
 /// The one point of an integer, or its refusal.
 pub(crate) fn integer_point(alloc: Global, n: usize, at: i128) -> Result<PointList, Refusal>
     requires { n ≤ max_items }
-    ensures within { Gives (λ _. tt) result (check (is_place n at) IndexOutOfRange) }
+    ensures within { IsWithin (is_place n at) result }
     ensures lengths { IfOk result (λ p. p.lengths.items ≡ []) }
     ensures axes { IfOk result (λ p. p.axes.items ≡ n ∷ []) }
     ensures ranks { IfOk result (λ p. p.ranks.items ≡ place_of n at ∷ []) }
@@ -50,11 +50,11 @@ pub(crate) fn integer_point(alloc: Global, n: usize, at: i128) -> Result<PointLi
 /// The points of an array of integers along an axis of `n`, or the refusal of a number.
 fn integer_points(alloc: Global, n: usize, array: Indices<'_>) -> Result<PointList, Refusal>
     requires small { n ≤ max_items }
-    requires kind { kind (index_array_of array) ≢ NoIndex }
+    requires kind { kind_in array ≢ NoIndex }
     requires lies { LiesInBlock array }
     ensures lengths { IfOk result (λ p. p.lengths.items ≡ (index_array_of array.entry).shape) }
     ensures axes { IfOk result (λ p. p.axes.items ≡ n ∷ []) }
-    ensures ranks { Gives (λ p. p.ranks.items) result (named_places n (index_array_of array.entry).numbers) }
+    ensures ranks { Gives (λ p. p.ranks.items) result (named_places n (numbers_in array.entry)) }
 {
     let lengths = SmallVec::from_slice(alloc, array.layout.shape.as_slice())?;
     let axes = SmallVec::from_slice(alloc, &[n])?;
@@ -68,11 +68,11 @@ fn integer_points(alloc: Global, n: usize, array: Indices<'_>) -> Result<PointLi
 
 /// The points at which a mask is true.
 fn mask_points(alloc: Global, array: Indices<'_>) -> Result<PointList, AllocError>
-    requires kind { kind (index_array_of array) ≡ Mask }
+    requires kind { kind_in array ≡ Mask }
     requires lies { LiesInBlock array }
     ensures lengths { IfOk result (λ p. p.lengths.items ≡ length p.ranks.items ∷ []) }
     ensures axes { IfOk result (λ p. p.axes.items ≡ (index_array_of array.entry).shape) }
-    ensures ranks { IfOk result (λ p. p.ranks.items ≡ true_ranks 0 (index_array_of array.entry).numbers) }
+    ensures ranks { IfOk result (λ p. p.ranks.items ≡ true_ranks 0 (numbers_in array.entry)) }
 {
     let axes = SmallVec::from_slice(alloc, array.layout.shape.as_slice())?;
     let ranks = true_ranks(alloc, array)?;
@@ -91,12 +91,13 @@ pub(crate) fn array_points(
     array: Indices<'_>,
 ) -> Result<PointList, Refusal>
     requires small { All (λ n. n ≤ max_items) axes.now }
-    requires kind { kind (index_array_of array) ≢ NoIndex }
+    requires kind { kind_in array ≢ NoIndex }
     requires lies { LiesInBlock array }
-    requires axes { length axes.now ≡ axes_of_kind (kind (index_array_of array)) (index_array_of array).shape }
-    requires covers { covers_kind (kind (index_array_of array)) (index_array_of array).shape axes.now ≡ true }
-    ensures within { Gives (λ _. tt) result (check (are_places (kind (index_array_of array.entry)) axes.now (index_array_of array.entry).numbers) IndexOutOfRange) }
-    ensures part { IfOk result (λ p. IsPart axes.now p (points_of (kind (index_array_of array.entry)) axes.now (index_array_of array.entry).shape (index_array_of array.entry).numbers)) }
+    requires axes { length axes.now ≡ item_axes (array_item array) }
+    requires covers { covers axes.now (array_item array) ≡ true }
+    ensures within { IsWithin (is_within axes.now (array_item array.entry)) result }
+    ensures part { IfOk result (λ p.
+        IsPart axes.now p (parts_of axes.now (array_item array.entry))) }
 {
     match kind(array) {
         Kind::Mask => Ok(mask_points(alloc, array)?),

@@ -56,8 +56,8 @@ fn go_to(at: &mut RunAt<'_>, rank: usize)
     }
 }
 
-/// The offset of the item that has a rank. It goes on from the last one, and begins again for a lower rank,
-/// so ranks that rise take one walk.
+/// The offset of the item that has a rank. It goes on from the last one, and begins again for a
+/// lower rank, so ranks that rise take one walk.
 fn offset_at(at: &mut RunAt<'_>, rank: usize) -> usize
     requires at { IsAtRun at.old }
     requires rank { rank < count at.old.layout.now.shape }
@@ -86,7 +86,7 @@ fn lead_along(run: Run, ranks: &mut [u32])
     }
 }
 
-/// The same, run by run.
+/// Makes of each rank the offset, run by run.
 fn lead_by_runs(layout: &Layout, ranks: &mut [u32])
     requires some { 0 < count layout.now.shape }
     requires ranks { All (λ rank. rank < count layout.now.shape) ranks.old }

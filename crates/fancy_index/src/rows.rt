@@ -2,7 +2,7 @@
 ghost use Rattle.std.specs.Prelude.{◌≡◌, ◌<◌, ◌≤◌, All};
 ghost use Rattle.shape_strides.specs.Limits.{max_bytes};
 ghost use Rattle.shape_strides.specs.Layouts.{offsets};
-ghost use Rattle.fancy_index.specs.inside.Moved.{moved_offset, IsMoved, AreStarts};
+ghost use Rattle.fancy_index.specs.inside.Moved.{moved_offset, IsMoved, AreStarts, AllStart};
 
 use shape_strides::Layout;
 
@@ -16,7 +16,7 @@ pub struct PlanAxes {
     /// The axes after those of the arrays.
     pub(crate) inner: Layout,
     pub(crate) ghost small: { inner.offset ≤ max_bytes },
-    pub(crate) ghost starts: { All (AreStarts inner.offset (offsets inner) shifts.items) (offsets outer) },
+    pub(crate) ghost starts: { AllStart outer shifts.items inner },
 }
 
 /// The items of the inner axes from a place of the outer ones on, once for each shift.
@@ -54,8 +54,11 @@ impl PlanAxes {
 
     /// The items from a place of the outer axes on.
     pub(crate) fn rows(&self, place: usize) -> Shifted<'_>
-        requires { AreStarts self.now.inner.offset (offsets self.now.inner) self.now.shifts.items place }
-        ensures { shifted_offsets result ≡ shifted_all self.now.inner.offset self.now.shifts.items (offsets self.now.inner) place }
+        requires { let inner = self.now.inner in
+            AreStarts inner.offset (offsets inner) self.now.shifts.items place }
+        ensures { let inner = self.now.inner in
+            shifted_offsets result
+            ≡ shifted_all inner.offset self.now.shifts.items (offsets inner) place }
     {
         Shifted {
             shifts: self.shifts.as_slice(),

@@ -19,7 +19,9 @@ pub(crate) fn moved_run(run: Run, base: usize, start: usize) -> Run
     requires moved { All (IsMoved base start) (run_offsets run) }
     ensures count { result.count ≡ run.count }
     ensures offsets { run_offsets result ≡ map (moved_offset base start) (run_offsets run) }
-    ensures within { (len width : ℕ) → All (λ offset. moved_offset base start offset + width ≤ len) (run_offsets run) → EachWithin len result.offset result.step width result.count }
+    ensures within { (len width : ℕ)
+        → All (λ offset. moved_offset base start offset + width ≤ len) (run_offsets run)
+        → EachWithin len result.offset result.step width result.count }
 {
     Run {
         offset: moved(base, start, run.offset),

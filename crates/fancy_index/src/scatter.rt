@@ -1,8 +1,6 @@
 //! Copies contiguous items to where a plan leads, strictly one after the other.
 ghost use Rattle.std.specs.Prelude.{◌≡◌, ◌+◌, ◌*◌, ◌≤◌, length, All};
-ghost use Rattle.arrays.specs.Assignments.{assigned};
-ghost use Rattle.fancy_index.specs.inside.Kept.{offsets_from, moved_offsets, shifted_offsets};
-ghost use Rattle.arrays.specs.Packed.{row_offsets as packed};
+ghost use Rattle.fancy_index.specs.inside.Kept.{offsets_from, moved_offsets, shifted_offsets, spread};
 
 use crate::rows::{MovedLayout, PlanAxes, Shifted, moved};
 use crate::run_moves::moved_run;
@@ -22,7 +20,7 @@ fn scatter_from(
 ) -> usize
     requires inside { All (λ offset. offset + width ≤ length block.old) (moved_offsets target) }
     requires room { at + length (moved_offsets target) * width ≤ length items.now }
-    ensures written { let to = moved_offsets target.entry in block.new ≡ assigned to (packed at width (length to)) width items.now block.old }
+    ensures written { block.new ≡ spread (moved_offsets target.entry) at width items.now block.old }
     ensures len { length block.new ≡ length block.old }
     ensures end { result ≡ at + length (moved_offsets target.entry) * width }
 {
@@ -42,7 +40,8 @@ fn scatter_from(
     at
 }
 
-/// The same from a place that is shifted by each shift.
+/// Copies items to those of the inner axes, from a place that is shifted by each shift. The result
+/// is where they end.
 fn scatter_runs(
     block: &mut RawBlock,
     rows: Shifted<'_>,
@@ -52,7 +51,7 @@ fn scatter_runs(
 ) -> usize
     requires inside { All (λ offset. offset + width ≤ length block.old) (shifted_offsets rows) }
     requires room { at + length (shifted_offsets rows) * width ≤ length items.now }
-    ensures written { let to = shifted_offsets rows.entry in block.new ≡ assigned to (packed at width (length to)) width items.now block.old }
+    ensures written { block.new ≡ spread (shifted_offsets rows.entry) at width items.now block.old }
     ensures len { length block.new ≡ length block.old }
     ensures end { result ≡ at + length (shifted_offsets rows.entry) * width }
 {
@@ -69,7 +68,7 @@ fn scatter_runs(
     at
 }
 
-/// The same, where a layout of one item needs no walk.
+/// Copies items to those from a place on, once for each shift. Inner axes of one item need no walk.
 fn scatter_shifts(
     block: &mut RawBlock,
     rows: Shifted<'_>,
@@ -79,7 +78,7 @@ fn scatter_shifts(
 ) -> usize
     requires inside { All (λ offset. offset + width ≤ length block.old) (shifted_offsets rows) }
     requires room { at + length (shifted_offsets rows) * width ≤ length items.now }
-    ensures written { let to = shifted_offsets rows.entry in block.new ≡ assigned to (packed at width (length to)) width items.now block.old }
+    ensures written { block.new ≡ spread (shifted_offsets rows.entry) at width items.now block.old }
     ensures len { length block.new ≡ length block.old }
     ensures end { result ≡ at + length (shifted_offsets rows.entry) * width }
 {
@@ -89,11 +88,11 @@ fn scatter_shifts(
     scatter_runs(block, rows, items, at, width)
 }
 
-/// The same from each place of the outer axes, from the items' start on.
+/// Copies the items, from their start on, to all to which the axes lead.
 pub(crate) fn scatter(block: &mut RawBlock, axes: &PlanAxes, items: &RawBlock, width: usize)
     requires inside { All (λ offset. offset + width ≤ length block.old) (offsets_from axes.now) }
     requires room { length (offsets_from axes.now) * width ≤ length items.now }
-    ensures written { let to = offsets_from axes.now in block.new ≡ assigned to (packed 0 width (length to)) width items.now block.old }
+    ensures written { block.new ≡ spread (offsets_from axes.now) 0 width items.now block.old }
     ensures len { length block.new ≡ length block.old }
 {
     let mut at = 0;

@@ -82,7 +82,7 @@ fn push_each<const N: usize>(
     items
 }
 
-/// The same of `width` bytes.
+/// Pushes the `width` bytes at a place that is shifted by each shift.
 fn push_any(items: BlockBuilder, block: &RawBlock, rows: Shifted<'_>, width: usize) -> BlockBuilder
     requires inside { All (λ offset. offset + width ≤ length block.now) (first_offsets rows) }
     requires room { length (first_offsets rows) * width ≤ items.1 }
@@ -99,7 +99,7 @@ fn push_any(items: BlockBuilder, block: &RawBlock, rows: Shifted<'_>, width: usi
     items
 }
 
-/// The same, with a loop of its own for each usual width.
+/// Pushes the items at the shifted places, with a loop of its own for each usual width.
 pub(crate) fn push_singles(
     items: BlockBuilder,
     block: &RawBlock,
@@ -134,7 +134,8 @@ fn scatter_each(
 ) -> usize
     requires inside { All (λ offset. offset + width ≤ length block.old) (first_offsets rows) }
     requires room { at + length rows.shifts.now * width ≤ length items.now }
-    ensures written { block.new ≡ assigned (first_offsets rows.entry) (packed at width (length rows.entry.shifts.now)) width items.now block.old }
+    ensures written { let from = packed at width (length rows.entry.shifts.now) in
+        block.new ≡ assigned (first_offsets rows.entry) from width items.now block.old }
     ensures len { length block.new ≡ length block.old }
     ensures end { result ≡ at + length rows.entry.shifts.now * width }
 {
@@ -148,7 +149,7 @@ fn scatter_each(
     from
 }
 
-/// The same, with a loop of its own for each usual width.
+/// Copies items to the shifted places, with a loop of its own for each usual width.
 pub(crate) fn scatter_singles(
     block: &mut RawBlock,
     rows: Shifted<'_>,
@@ -158,7 +159,8 @@ pub(crate) fn scatter_singles(
 ) -> usize
     requires inside { All (λ offset. offset + width ≤ length block.old) (first_offsets rows) }
     requires room { at + length rows.shifts.now * width ≤ length items.now }
-    ensures written { block.new ≡ assigned (first_offsets rows.entry) (packed at width (length rows.entry.shifts.now)) width items.now block.old }
+    ensures written { let from = packed at width (length rows.entry.shifts.now) in
+        block.new ≡ assigned (first_offsets rows.entry) from width items.now block.old }
     ensures len { length block.new ≡ length block.old }
     ensures end { result ≡ at + length rows.entry.shifts.now * width }
 {
@@ -184,7 +186,7 @@ fn fill_each(block: &mut RawBlock, rows: Shifted<'_>, item: &[u8])
     }
 }
 
-/// The same, with a loop of its own for each usual length.
+/// Writes the item at the shifted places, with a loop of its own for each usual length.
 pub(crate) fn fill_singles(block: &mut RawBlock, rows: Shifted<'_>, item: &[u8])
     requires { All (λ offset. offset + length item.now ≤ length block.old) (first_offsets rows) }
     ensures written { block.new ≡ put_each (first_offsets rows.entry) item.now block.old }

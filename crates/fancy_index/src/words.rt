@@ -1,17 +1,16 @@
 //! Integers at equal steps, read in place, and the positions that they select.
 ghost use Rattle.std.specs.Prelude.{◌≡◌, ◌≢◌, ◌≤◌, ◌<◌, ◌++◌, pos, map, length, slice_index, IfSome, IsTrue, OnOk};
 ghost use Rattle.std.specs.List.{list_all};
-ghost use Rattle.elem_descr.specs.declared.refusal.Refusal.TheVariants.{IndexOutOfRange};
 ghost use Rattle.elem_descr.specs.Items.{item_size};
-ghost use Rattle.elem_descr.specs.Refusals.{Gives, check};
+ghost use Rattle.elem_descr.specs.Refusals.{Gives};
 ghost use Rattle.raw_block.specs.Bytes.{item_at};
 ghost use Rattle.shape_strides.specs.Layouts.{offsets};
 ghost use Rattle.shape_strides.specs.Limits.{max_items};
 ghost use Rattle.shape_strides.specs.Runs.{run_offsets};
 ghost use Rattle.view_ops.specs.Slices.{is_place};
 ghost use Rattle.fancy_index.specs.declared.kind.Kind.TheVariants.{NoIndex};
-ghost use Rattle.fancy_index.specs.IndexArrays.{kind};
-ghost use Rattle.fancy_index.specs.Sources.{index_array_of, LiesInBlock};
+ghost use Rattle.fancy_index.specs.Sources.{LiesInBlock};
+ghost use Rattle.fancy_index.specs.inside.Items.{kind_in, numbers_in, IsWithin};
 ghost use Rattle.fancy_index.specs.inside.PointLists.{place_of, named_place, named_places};
 ghost use Rattle.fancy_index.specs.inside.Words.{word, spread_numbers, AreWords, IsSpread, IsNative};
 
@@ -71,7 +70,8 @@ fn reading_of(descr: &Descr) -> Option<(Reading, usize)>
 fn spread_of<'a>(array: Indices<'a>) -> Option<Spread<'a>>
     requires { LiesInBlock array }
     ensures block { IfSome result (λ items. items.block.now ≡ array.entry.block.now) }
-    ensures offsets { IfSome result (λ items. run_offsets items.run ≡ offsets array.entry.layout.now) }
+    ensures offsets { IfSome result (λ items.
+        run_offsets items.run ≡ offsets array.entry.layout.now) }
     ensures spread { IfSome result (IsSpread (item_size array.entry.descr.now)) }
 {
     let run = array.layout.as_run()?;
@@ -87,7 +87,8 @@ fn item_after<const N: usize>(items: Spread<'_>, steps: usize) -> [u8; N]
     requires few { N ≤ 8 }
     requires spread { IsSpread N items }
     requires steps { steps < items.run.count }
-    ensures { result ≡ item_at (slice_index (run_offsets items.entry.run) steps) N items.entry.block.now }
+    ensures { let offset = slice_index (run_offsets items.entry.run) steps in
+        result ≡ item_at offset N items.entry.block.now }
 {
     array_at::<N>(items.block.bytes(), items.run.offset_after(steps))
 }
@@ -103,7 +104,7 @@ pub(crate) fn named_place(n: usize, at: i128) -> Option<u32>
     Some(from_front(n, at) as u32)
 }
 
-/// The same of a number of 64 bits.
+/// The place of `n` that a number of 64 bits names, if it names one.
 #[inline(always)]
 fn long_place(n: usize, at: i64) -> Option<u32>
     requires { n ≤ max_items }
@@ -117,7 +118,7 @@ fn long_place(n: usize, at: i64) -> Option<u32>
     Some(place as u32)
 }
 
-/// The same of one without a sign.
+/// The place of `n` that a number of 64 bits without a sign names, if it names one.
 #[inline(always)]
 fn natural_place(n: usize, at: u64) -> Option<u32>
     requires { n ≤ max_items }
@@ -129,7 +130,7 @@ fn natural_place(n: usize, at: u64) -> Option<u32>
     Some(at as u32)
 }
 
-/// The same of an integer in so many bytes.
+/// The place of `n` that an integer in so many bytes names, if it names one.
 #[inline(always)]
 fn word_place<const N: usize>(reading: Reading, item: &[u8; N], n: usize) -> Option<u32>
     requires some { 1 ≤ N }
@@ -207,7 +208,7 @@ fn int_places(alloc: Global, numbers: RunI32<'_>, n: usize) -> Result<Vec<u32>, 
     Ok(places)
 }
 
-/// The same of eight bytes, up to the first that names none.
+/// The places of `n` that numbers of eight bytes name, or the refusal of one that names none.
 fn long_places(alloc: Global, numbers: RunI64<'_>, n: usize) -> Result<Vec<u32>, Refusal>
     requires { n ≤ max_items }
     ensures { Gives (λ v. v.items) result (named_places n numbers.entry) }
@@ -236,9 +237,9 @@ fn is_native(reading: Reading, width: usize, run: Run) -> bool
 /// The places of `n` that the numbers of an array name, one by one, or the refusal of one that names none.
 fn places_each(alloc: Global, array: Indices<'_>, n: usize) -> Result<Vec<u32>, Refusal>
     requires small { n ≤ max_items }
-    requires kind { kind (index_array_of array) ≢ NoIndex }
+    requires kind { kind_in array ≢ NoIndex }
     requires lies { LiesInBlock array }
-    ensures { Gives (λ v. v.items) result (named_places n (index_array_of array.entry).numbers) }
+    ensures { Gives (λ v. v.items) result (named_places n (numbers_in array.entry)) }
 {
     let mut places = Vec::new(alloc);
     for offset in Walk::new(array.layout) {
@@ -261,8 +262,10 @@ fn push_places<const N: usize>(
     requires few { N ≤ 8 }
     requires small { n ≤ max_items }
     requires spread { IsSpread N items }
-    ensures within { Gives (λ _. tt) result (check (list_all (is_place n) (spread_numbers reading N items.entry)) IndexOutOfRange) }
-    ensures added { OnOk result (places.new.items ≡ places.old.items ++ map (place_of n) (spread_numbers reading N items.entry)) }
+    ensures within { let numbers = spread_numbers reading N items.entry in
+        IsWithin (list_all (is_place n) numbers) result }
+    ensures added { let more = map (place_of n) (spread_numbers reading N items.entry) in
+        OnOk result (places.new.items ≡ places.old.items ++ more) }
 {
     for k in 0..items.run.count {
         let Some(place) = word_place::<N>(reading, &item_after::<N>(items, k), n) else {
@@ -286,7 +289,7 @@ fn places_by_runs<const N: usize>(
     requires small { n ≤ max_items }
     requires words { AreWords reading N array.descr.now }
     requires lies { LiesInBlock array }
-    ensures { Gives (λ v. v.items) result (named_places n (index_array_of array.entry).numbers) }
+    ensures { Gives (λ v. v.items) result (named_places n (numbers_in array.entry)) }
 {
     let block = array.block;
     let mut places = Vec::with_capacity(alloc, array.layout.shape.items())?;
@@ -296,7 +299,8 @@ fn places_by_runs<const N: usize>(
     Ok(places)
 }
 
-/// The same of integers in so many bytes.
+/// The places of `n` that integers in so many bytes name, read run by run, or the refusal of one
+/// that names none.
 fn places_apart(
     alloc: Global,
     reading: Reading,
@@ -305,10 +309,10 @@ fn places_apart(
     n: usize,
 ) -> Result<Vec<u32>, Refusal>
     requires small { n ≤ max_items }
-    requires kind { kind (index_array_of array) ≢ NoIndex }
+    requires kind { kind_in array ≢ NoIndex }
     requires words { AreWords reading width array.descr.now }
     requires lies { LiesInBlock array }
-    ensures { Gives (λ v. v.items) result (named_places n (index_array_of array.entry).numbers) }
+    ensures { Gives (λ v. v.items) result (named_places n (numbers_in array.entry)) }
 {
     match width {
         1 => places_by_runs::<1>(alloc, reading, array, n),
@@ -323,9 +327,9 @@ fn places_apart(
 /// refusal of one that names none. Native integers that lie one right after another are read as numbers.
 pub(crate) fn places(alloc: Global, array: Indices<'_>, n: usize) -> Result<Vec<u32>, Refusal>
     requires small { n ≤ max_items }
-    requires kind { kind (index_array_of array) ≢ NoIndex }
+    requires kind { kind_in array ≢ NoIndex }
     requires lies { LiesInBlock array }
-    ensures { Gives (λ v. v.items) result (named_places n (index_array_of array.entry).numbers) }
+    ensures { Gives (λ v. v.items) result (named_places n (numbers_in array.entry)) }
 {
     let Some((reading, width)) = reading_of(array.descr) else {
         return places_each(alloc, array, n);

@@ -1,10 +1,11 @@
 -- Bools by the bytes that they stand in.
-use Rattle.std.specs.Prelude.{ℕ, ◌+◌, ◌<◌, ◌≤◌, ℤ, pos, List, [], ◌∷◌, map, length, get_or, All}
+use Rattle.std.specs.Prelude.{ℕ, ◌+◌, ◌<◌, ◌≤◌, ℤ, pos, List, [], ◌∷◌, map, length, get_or, drop, All}
 use Rattle.elem_descr.specs.Encoding.{truth}
 use Rattle.shape_strides.specs.Addresses.{LieWithin}
 use Rattle.shape_strides.specs.Limits.{max_items, max_bytes}
 use Rattle.shape_strides.specs.Runs.{run_offsets}
 use Rattle.fancy_index.specs.declared.bools.Bools.{Bools}
+use Rattle.fancy_index.specs.inside.PointLists.{true_ranks}
 
 -- the number of the bool in the byte at an offset
 abbrev pub bool_at : List ℕ → ℕ → ℤ
@@ -13,6 +14,10 @@ bool_at bytes offset = pos (truth (get_or bytes offset 0))
 -- the bools of a run
 abbrev pub bools_in : Bools → List ℤ
 bools_in bools = map (bool_at bools.bytes.now) (run_offsets bools.run)
+
+-- the ranks of those from one on that are true
+abbrev pub ranks_from : Bools → ℕ → List ℕ
+ranks_from bools from = true_ranks (bools.rank + from) (drop from (bools_in bools))
 
 -- they lie in their bytes, and have ranks within the limit
 pub record LieInBytes (bools : Bools) : Type 0 where

@@ -1,10 +1,12 @@
 -- Where the items lie to which the axes of a plan lead.
-use Rattle.std.specs.Prelude.{ℕ, List, map}
+use Rattle.std.specs.Prelude.{ℕ, List, map, length}
+use Rattle.arrays.specs.Assignments.{assigned}
+use Rattle.arrays.specs.Packed.{row_offsets}
 use Rattle.shape_strides.specs.Layouts.{offsets}
 use Rattle.fancy_index.specs.declared.rows.MovedLayout.{MovedLayout}
 use Rattle.fancy_index.specs.declared.rows.PlanAxes.{PlanAxes}
 use Rattle.fancy_index.specs.declared.rows.Shifted.{Shifted}
-use Rattle.fancy_index.specs.inside.Moved.{moved_offset, shifted_all, moved_all}
+use Rattle.fancy_index.specs.inside.Moved.{moved_offset, shifted_all, laid_offsets}
 
 abbrev pub moved_offsets : MovedLayout → List ℕ
 moved_offsets moved = map (moved_offset moved.layout.now.offset moved.start) (offsets moved.layout.now)
@@ -17,4 +19,8 @@ abbrev pub shifted_offsets : Shifted → List ℕ
 shifted_offsets rows = shifted_all rows.inner.now.offset rows.shifts.now (offsets rows.inner.now) rows.place
 
 abbrev pub offsets_from : PlanAxes → List ℕ
-offsets_from axes = moved_all axes.inner.offset (offsets axes.outer) axes.shifts.items (offsets axes.inner)
+offsets_from axes = laid_offsets axes.outer axes.shifts.items axes.inner
+
+-- a block, with the items that lie one after another from `at` on put to these offsets
+abbrev pub spread : List ℕ → ℕ → ℕ → List ℕ → List ℕ → List ℕ
+spread to at width items block = assigned to (row_offsets at width (length to)) width items block

@@ -16,3 +16,7 @@ pub record IsNext (shape : List ℕ) (items : List (IndexItem IndexArray)) (item
   pub many : is_ellipsis item ≡ false → length axes ≡ item_axes item
   pub placed : placed_arrays shape items ≡ record { item = item; axes = axes } ∷ placed_arrays shape' items'
   pub over : left_over shape items ≡ left_over shape' items'
+
+-- so it does of the items that are left, which leaves others
+abbrev pub IsNextOf : Left → IndexItem IndexArray → List ℕ → Left → Type 0
+IsNextOf old item axes new = IsNext old.axes.now (items_left old) item axes new.axes.now (items_left new)

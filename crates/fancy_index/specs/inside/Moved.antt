@@ -1,6 +1,8 @@
 -- Offsets that are moved to another start, from each place of the outer axes of a plan by each shift.
 use Rattle.std.specs.Prelude.{◌≤◌, ◌<◌, ℕ, ◌+◌, ◌-◌, List, map, All}
 use Rattle.std.specs.List.{flat_map}
+use Rattle.shape_strides.specs.declared.layout.Layout.{Layout}
+use Rattle.shape_strides.specs.Layouts.{offsets}
 use Rattle.shape_strides.specs.Limits.{max_bytes}
 
 -- an offset, where what began at `base` begins at `start`
@@ -30,3 +32,10 @@ pub record IsStart (base : ℕ) (inner : List ℕ) (place shift : ℕ) : Type 0 
 
 abbrev pub AreStarts : ℕ → List ℕ → List ℕ → ℕ → Type 0
 AreStarts base inner shifts place = All (IsStart base inner place) shifts
+
+-- where the items of a plan lie, by its layouts, and that each lies within the limit
+abbrev pub laid_offsets : Layout → List ℕ → Layout → List ℕ
+laid_offsets outer shifts inner = moved_all inner.offset (offsets outer) shifts (offsets inner)
+
+abbrev pub AllStart : Layout → List ℕ → Layout → Type 0
+AllStart outer shifts inner = All (AreStarts inner.offset (offsets inner) shifts) (offsets outer)
