@@ -20,6 +20,7 @@ use Rattle.fancy_index.specs.declared.parts.IndexPart.{IndexPart}
 use Rattle.fancy_index.specs.declared.parts.IndexPart.TheVariants.{Axis as AxisPart, Points as PointsPart, Between as BetweenPart}
 use Rattle.fancy_index.specs.Parts.{other_axes}
 use Rattle.fancy_index.specs.inside.PartLists.{shown_part, rest_picks, IsRest}
+use Rattle.fancy_index.proofs.CutLaws.{only-memory}
 
 -- ---- the shape
 
@@ -68,19 +69,7 @@ gives_rest layout parts picks (Ok rest) is few given =
     is-rest layout rest parts (subst (GivesView layout (Ok rest)) (ap (λ p. picked_view (map pick_shown p)) is ∙ view-ok parts few) given)
 gives_rest layout parts picks (Err e) is few given = tt
 
-only-memory : (e : Refusal) (view : View) → (e ≡ OutOfMemory) ⊎ (Ok view ≡ Err e) → e ≡ OutOfMemory
-only-memory e view (inl memory) = memory
-only-memory e view (inr other) = absurd (false≢true (sym (ap is_ok other)))
-
 pub gives_memory : (layout : Layout) (parts : List IndexPart) (picks : List AxisPick) (result : Result Layout Refusal) → picks ≡ rest_picks parts → length (other_axes (map shown_part parts)) ≤ max_axes → GivesView layout result (picked_view (map pick_shown picks)) → IfErr result (λ e. e ≡ OutOfMemory)
 gives_memory layout parts picks (Ok rest) is few given = tt
 gives_memory layout parts picks (Err e) is few given =
-    only-memory e _ (subst (GivesView layout (Err e)) (ap (λ p. picked_view (map pick_shown p)) is ∙ view-ok parts few) given)
-
--- one more axis of points
-pub zero_more : (axes : List ℕ) (k : ℕ) (picks picks' whole : List AxisPick) → k < length axes → picks' ≡ picks ++ AtAxis 0 ∷ [] → picks ++ map (λ _. AtAxis 0) (drop k axes) ≡ whole → picks' ++ map (λ _. AtAxis 0) (drop (k + 1) axes) ≡ whole
-zero_more axes k picks picks' whole low is so_far =
-    ap (λ p. p ++ map (λ _. AtAxis 0) (drop (k + 1) axes)) is
-    ∙ append_assoc picks (AtAxis 0 ∷ []) (map (λ _. AtAxis 0) (drop (k + 1) axes))
-    ∙ ap (λ l. picks ++ map (λ _. AtAxis 0) l) (sym (drop_more axes k 0 low))
-    ∙ so_far
+    only-memory _ _ e (ap (λ p. picked_view (map pick_shown p)) is ∙ view-ok parts few) given

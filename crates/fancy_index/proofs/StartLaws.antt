@@ -70,14 +70,6 @@ led-number layout axis start lengths p l axes old new begin ready same same' sha
 
 -- ---- points that become 0
 
--- one more axis of points that are 0
-pub origin_more : (axes : List ℕ) (k : ℕ) (numbers numbers' whole : List ℕ) → k < length axes → numbers' ≡ numbers ++ 0 ∷ [] → numbers ++ map (λ _. 0) (drop k axes) ≡ whole → numbers' ++ map (λ _. 0) (drop (k + 1) axes) ≡ whole
-origin_more axes k numbers numbers' whole low is so_far =
-    ap (λ p. p ++ map (λ _. 0) (drop (k + 1) axes)) is
-    ∙ append_assoc numbers (0 ∷ []) (map (λ _. 0) (drop (k + 1) axes))
-    ∙ ap (λ l. numbers ++ map (λ _. 0) l) (sym (drop_more axes k 0 low))
-    ∙ so_far
-
 lower : (shape point axes xs ys : List ℕ) → length point ≡ length axes → ((s : List ℕ) → IsIndex s xs → IsIndex s ys) → IsIndex shape (point ++ xs) → IsIndex shape (map (λ _. 0) axes ++ ys)
 lower shape [] [] xs ys same f in' = f shape in'
 lower shape [] (n ∷ axes) xs ys same f in' = absurd (omega (arith, same))

@@ -21,23 +21,6 @@ fn fill_from(block: &mut RawBlock, target: MovedLayout<'_>, item: &[u8])
     }
 }
 
-/// Writes the item to those of the inner axes, from a place that is shifted by each shift.
-fn fill_runs(block: &mut RawBlock, rows: Shifted<'_>, item: &[u8])
-    requires { All (λ offset. offset + length item.now ≤ length block.old) (shifted_offsets rows) }
-    ensures written { block.new ≡ put_each (shifted_offsets rows.entry) item.now block.old }
-    ensures len { length block.new ≡ length block.old }
-{
-    let inner = rows.inner;
-    for shift in rows.shifts {
-        let start = moved(inner.offset, rows.place, *shift as usize);
-        let target = MovedLayout {
-            layout: inner,
-            start,
-        };
-        fill_from(block, target, item);
-    }
-}
-
 /// Writes the item from a place on, once for each shift. Inner axes of one item need no walk.
 fn fill_shifts(block: &mut RawBlock, rows: Shifted<'_>, item: &[u8])
     requires { All (λ offset. offset + length item.now ≤ length block.old) (shifted_offsets rows) }
@@ -48,7 +31,15 @@ fn fill_shifts(block: &mut RawBlock, rows: Shifted<'_>, item: &[u8])
         fill_singles(block, rows, item);
         return;
     }
-    fill_runs(block, rows, item);
+    let inner = rows.inner;
+    for shift in rows.shifts {
+        let start = moved(inner.offset, rows.place, *shift as usize);
+        let target = MovedLayout {
+            layout: inner,
+            start,
+        };
+        fill_from(block, target, item);
+    }
 }
 
 /// Writes the item to all to which the axes lead.

@@ -29,26 +29,6 @@ fn push_from(
     items
 }
 
-/// Pushes the items of the inner axes, from a place that is shifted by each shift.
-fn push_runs(items: BlockBuilder, block: &RawBlock, rows: Shifted<'_>, width: usize) -> BlockBuilder
-    requires inside { All (λ offset. offset + width ≤ length block.now) (shifted_offsets rows) }
-    requires room { length (shifted_offsets rows) * width ≤ items.1 }
-    ensures bytes { result.0 ≡ items.0 ++ joined_at (shifted_offsets rows.entry) width block.now }
-    ensures left { length (shifted_offsets rows.entry) * width + result.1 ≡ items.1 }
-{
-    let inner = rows.inner;
-    let mut items = items;
-    for shift in rows.shifts {
-        let start = moved(inner.offset, rows.place, *shift as usize);
-        let source = MovedLayout {
-            layout: inner,
-            start,
-        };
-        items = push_from(items, block, source, width);
-    }
-    items
-}
-
 /// Pushes the items from a place on, once for each shift. Inner axes of one item need no walk.
 fn push_shifted(
     items: BlockBuilder,
@@ -64,7 +44,17 @@ fn push_shifted(
     if rows.is_single() {
         return push_singles(items, block, rows, width);
     }
-    push_runs(items, block, rows, width)
+    let inner = rows.inner;
+    let mut items = items;
+    for shift in rows.shifts {
+        let start = moved(inner.offset, rows.place, *shift as usize);
+        let source = MovedLayout {
+            layout: inner,
+            start,
+        };
+        items = push_from(items, block, source, width);
+    }
+    items
 }
 
 /// Pushes all items to which the axes lead.

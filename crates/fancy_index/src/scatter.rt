@@ -1,6 +1,6 @@
 //! Copies contiguous items to where a plan leads, strictly one after the other.
 ghost use Rattle.std.specs.Prelude.{◌≡◌, ◌+◌, ◌*◌, ◌≤◌, length, All};
-ghost use Rattle.fancy_index.specs.inside.Kept.{offsets_from, moved_offsets, shifted_offsets, spread};
+ghost use Rattle.fancy_index.specs.inside.Kept.{offsets_from, moved_offsets, shifted_offsets, put_packed};
 
 use crate::rows::{MovedLayout, PlanAxes, Shifted, moved};
 use crate::run_moves::moved_run;
@@ -20,7 +20,7 @@ fn scatter_from(
 ) -> usize
     requires inside { All (λ offset. offset + width ≤ length block.old) (moved_offsets target) }
     requires room { at + length (moved_offsets target) * width ≤ length items.now }
-    ensures written { block.new ≡ spread (moved_offsets target.entry) at width items.now block.old }
+    ensures written { block.new ≡ put_packed (moved_offsets target.entry) at width items.now block.old }
     ensures len { length block.new ≡ length block.old }
     ensures end { result ≡ at + length (moved_offsets target.entry) * width }
 {
@@ -40,9 +40,8 @@ fn scatter_from(
     at
 }
 
-/// Copies items to those of the inner axes, from a place that is shifted by each shift. The result
-/// is where they end.
-fn scatter_runs(
+/// Copies items to those from a place on, once for each shift. Inner axes of one item need no walk.
+fn scatter_shifts(
     block: &mut RawBlock,
     rows: Shifted<'_>,
     items: &RawBlock,
@@ -51,10 +50,13 @@ fn scatter_runs(
 ) -> usize
     requires inside { All (λ offset. offset + width ≤ length block.old) (shifted_offsets rows) }
     requires room { at + length (shifted_offsets rows) * width ≤ length items.now }
-    ensures written { block.new ≡ spread (shifted_offsets rows.entry) at width items.now block.old }
+    ensures written { block.new ≡ put_packed (shifted_offsets rows.entry) at width items.now block.old }
     ensures len { length block.new ≡ length block.old }
     ensures end { result ≡ at + length (shifted_offsets rows.entry) * width }
 {
+    if rows.is_single() {
+        return scatter_singles(block, rows, items, at, width);
+    }
     let inner = rows.inner;
     let mut at = at;
     for shift in rows.shifts {
@@ -68,31 +70,11 @@ fn scatter_runs(
     at
 }
 
-/// Copies items to those from a place on, once for each shift. Inner axes of one item need no walk.
-fn scatter_shifts(
-    block: &mut RawBlock,
-    rows: Shifted<'_>,
-    items: &RawBlock,
-    at: usize,
-    width: usize,
-) -> usize
-    requires inside { All (λ offset. offset + width ≤ length block.old) (shifted_offsets rows) }
-    requires room { at + length (shifted_offsets rows) * width ≤ length items.now }
-    ensures written { block.new ≡ spread (shifted_offsets rows.entry) at width items.now block.old }
-    ensures len { length block.new ≡ length block.old }
-    ensures end { result ≡ at + length (shifted_offsets rows.entry) * width }
-{
-    if rows.is_single() {
-        return scatter_singles(block, rows, items, at, width);
-    }
-    scatter_runs(block, rows, items, at, width)
-}
-
 /// Copies the items, from their start on, to all to which the axes lead.
 pub(crate) fn scatter(block: &mut RawBlock, axes: &PlanAxes, items: &RawBlock, width: usize)
     requires inside { All (λ offset. offset + width ≤ length block.old) (offsets_from axes.now) }
     requires room { length (offsets_from axes.now) * width ≤ length items.now }
-    ensures written { block.new ≡ spread (offsets_from axes.now) 0 width items.now block.old }
+    ensures written { block.new ≡ put_packed (offsets_from axes.now) 0 width items.now block.old }
     ensures len { length block.new ≡ length block.old }
 {
     let mut at = 0;

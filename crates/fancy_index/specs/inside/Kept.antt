@@ -22,5 +22,5 @@ abbrev pub offsets_from : PlanAxes → List ℕ
 offsets_from axes = laid_offsets axes.outer axes.shifts.items axes.inner
 
 -- a block, with the items that lie one after another from `at` on put to these offsets
-abbrev pub spread : List ℕ → ℕ → ℕ → List ℕ → List ℕ → List ℕ
-spread to at width items block = assigned to (row_offsets at width (length to)) width items block
+abbrev pub put_packed : List ℕ → ℕ → ℕ → List ℕ → List ℕ → List ℕ
+put_packed to at width items block = assigned to (row_offsets at width (length to)) width items block

@@ -4,7 +4,7 @@ use Rattle.arrays.specs.Assignments.{assigned}
 use Rattle.fancy_index.specs.inside.Moved.{shifted_all}
 use Rattle.arrays.specs.Packed.{row_offsets as packed}
 use Rattle.fancy_index.proofs.Passes.{Scattering}
-use Rattle.fancy_index.proofs.scatter.scatter_runs.Given as goal
+use Rattle.fancy_index.proofs.scatter.scatter_shifts.Given as goal
 
 abbrev pub invariant-loop-shift : goal.invariant-loop-shift
 invariant-loop-shift l = record {

@@ -3,7 +3,7 @@ use Rattle.shape_strides.specs.Layouts.{offsets}
 use Rattle.fancy_index.specs.Plans.{put_each}
 use Rattle.fancy_index.specs.inside.Moved.{shifted_all}
 use Rattle.fancy_index.proofs.Passes.{Filling}
-use Rattle.fancy_index.proofs.fill.fill_runs.Given as goal
+use Rattle.fancy_index.proofs.fill.fill_shifts.Given as goal
 
 abbrev pub invariant-loop-shift : goal.invariant-loop-shift
 invariant-loop-shift l = record {
