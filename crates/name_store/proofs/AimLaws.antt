@@ -1,13 +1,14 @@
 -- What a write to places of a name's array is, by the number of its buffer.
-use Rattle.std.proofs.Common.{◌≡◌, ◌+◌, ◌*◌, ◌<◌, ◌≤◌, ℕ, List, [], ◌∷◌, length, map, refl, sym, ap, subst, ◌∙◌, Some, Ok, All, false, arith}
+use Rattle.std.proofs.Common.{◌≡◌, ◌+◌, ◌*◌, ◌<◌, ◌≤◌, ℕ, List, [], ◌∷◌, length, map, refl, sym, ap, subst, ◌∙◌, Option, Some, None, Ok, All, false, arith}
 use Rattle.std.specs.List.{AllByRecursion}
+use Rattle.std.proofs.lemmas.List.{length-set}
 use Rattle.std.proofs.lemmas.List.Elements.{All-from_recursion}
 use Rattle.elem_descr.specs.declared.descr.Descr.{Descr}
 use Rattle.elem_descr.specs.Items.{item_size, decode_item}
 use Rattle.elem_descr.specs.Values.{LeafValue}
 use Rattle.shape_strides.specs.declared.layout.Layout.{Layout}
 use Rattle.shape_strides.specs.Layouts.{offsets, Fits, IsNested, offsets_of}
-use Rattle.arrays.specs.Assignments.{items_at, with_items}
+use Rattle.arrays.specs.Assignments.{items_at}
 use Rattle.name_store.specs.States.{State, Array}
 use Rattle.name_store.specs.Arrays.{find_array, descr_of, written}
 use Rattle.name_store.specs.Calls.{AnswersWrite}
@@ -24,10 +25,11 @@ use Rattle.name_store.specs.declared.target.Source.TheVariants.{One, Block, Buff
 use Rattle.name_store.specs.declared.target.Target.{Target}
 use Rattle.name_store.specs.declared.target.Target.TheVariants.{View, Plan}
 use Rattle.name_store.specs.inside.Homes.{IsHome}
-use Rattle.name_store.specs.inside.Puts.{AreItems, CanPut, MayPut, Puts, block_in, parts_of}
+use Rattle.name_store.specs.inside.Puts.{AreItems, CanPut, CanWrite, MayPut, Puts, parts_of, with_source, without_slot}
 use Rattle.name_store.proofs.BlockLaws.{item-inside}
 use Rattle.name_store.proofs.PartLaws.{part-within}
-use Rattle.name_store.proofs.RewriteLaws.{parts-whole}
+use Rattle.name_store.proofs.RewriteLaws.{lender-is, parts-whole}
+use Rattle.name_store.proofs.SlotLaws.{slot_at-within}
 use Rattle.name_store.proofs.SourceLaws.{map-replicated, alike-items}
 use Rattle.name_store.proofs.ViewLaws.{view-slot, view-fits, view-reads}
 use Rattle.name_store.proofs.WriteLaws.{home-some, size-is, home-fits, within, spread, written-state}
@@ -48,6 +50,9 @@ module _ (es : List (Key × Entry)) (slots : Slots) (name : List ℕ) (number wi
 
   abbrev at : Home
   at = record { number = number; width = width }
+
+  abbrev others : List (Option Slot)
+  others = without_slot slots number
 
   module _ (array : Array) (places : List ℕ) where
     fits : (layout : Layout) → find_array (map named_array es) name ≡ Some array → MayWrite state array (View layout) → Fits layout (length s.block) width
@@ -75,25 +80,25 @@ module _ (es : List (Key × Entry)) (slots : Slots) (name : List ℕ) (number wi
     size : item_size descr ≡ width
     size = size-is es slots name number width home array found
 
-    are-items : (source : Source) (items : List (List LeafValue)) → Supplies state descr n source items → AreItems slots width n source
+    are-items : (source : Source) (items : List (List LeafValue)) → Supplies state descr n source items → AreItems others width s.block n source
     are-items (One bytes) items has = has.0 ∙ size
     are-items (Block owned) items has = (has.0.alike.size ∙ size, has.0.count)
     are-items (Buffer q layout) items has =
         let from = has.0 in
         let slot = view-slot es slots q from.path layout false from has.1.view in (
-          slot.0,
-          slot.1,
-          subst (Fits layout (length slot.0.block)) (has.1.alike.size ∙ size) (view-fits es slots q from.path layout false from has.1.view slot.0 slot.1),
+          omega (arith, length-set slots number None, slot_at-within slots q slot.0 slot.1),
+          subst (λ bytes. Fits layout (length bytes) width) (sym (lender-is slots number s q slot.0 home.there slot.1))
+              (subst (Fits layout (length slot.0.block)) (has.1.alike.size ∙ size) (view-fits es slots q from.path layout false from has.1.view slot.0 slot.1)),
           has.1.count,
         )
 
-    parts-are : (source : Source) (items : List (List LeafValue)) → Supplies state descr n source items → map (decode_item descr) (parts_of slots width n source) ≡ items
+    parts-are : (source : Source) (items : List (List LeafValue)) → Supplies state descr n source items → map (decode_item descr) (parts_of others width s.block n source) ≡ items
     parts-are (One bytes) items has = map-replicated (decode_item descr) n bytes.items ∙ has.1
     parts-are (Block owned) items has = alike-items owned.descr descr width owned.block (offsets owned.layout) has.0.alike size ∙ has.1
     parts-are (Buffer q layout) items has =
         let from = has.0 in
         let slot = view-slot es slots q from.path layout false from has.1.view in
-        ap (λ o. map (decode_item descr) (items_at (offsets layout) width (block_in o))) slot.1
+        ap (λ bytes. map (decode_item descr) (items_at (offsets layout) width bytes)) (lender-is slots number s q slot.0 home.there slot.1)
         ∙ alike-items (descr_of state from) descr width slot.0.block (offsets layout) has.1.alike size
         ∙ sym (view-reads es slots q from.path layout false from has.1.view slot.0 slot.1)
         ∙ has.2
@@ -102,23 +107,25 @@ module _ (es : List (Key × Entry)) (slots : Slots) (name : List ℕ) (number wi
     abbrev n : ℕ
     n = length (target_offsets target)
 
-    pub can-put : CanPut slots at target source
-    can-put = record {
-      slot = s;
-      there = home.there;
+    pub can-here : CanPut others width target source s.block
+    can-here = record {
+      small = s.is_whole.small;
       some = home-some es slots name number width home;
       inside = planned aim.array aim.places target aim.leads;
       may = may-put aim.array aim.places target aim.leads aim.may_write;
       are = are-items aim.array aim.leads.found n source aim.items aim.supplies;
     }
 
-    pub whole-parts : AllByRecursion (λ part. length part ≡ width) (parts_of slots width n source)
-    whole-parts = parts-whole slots width n source can-put.are
+    pub can-put : CanWrite slots at target source
+    can-put = record { slot = s; there = home.there; can = can-here }
+
+    pub whole-parts : AllByRecursion (λ part. length part ≡ width) (parts_of others width s.block n source)
+    whole-parts = parts-whole others width s.block n source can-here.are
 
     pub put-answers : (h : Holds es slots) (after : Slots) → Puts slots at target source after → AnswersWrite state name target source (Ok n) (present es after)
     put-answers h after puts = (
       refl,
       λ array places items leads has.
-          written-state es slots name number width home h (with_items (target_offsets target) (parts_of slots width n source) s.block) after (puts s home.there) target array places leads (parts_of slots width n source) whole-parts refl
+          written-state es slots name number width home h (with_source others width target source s.block) after (puts s home.there) target array places leads (parts_of others width s.block n source) whole-parts refl
           ∙ ap (written state array places) (parts-are array leads.found n source items has),
     )

@@ -1,5 +1,5 @@
 -- Blocks are exchanged: what a copy of all the items would have written.
-use Rattle.std.proofs.Common.{◌≡◌, ◌+◌, ◌*◌, ◌≤◌, ◌<◌, ◌==◌, ℕ, zero, suc, true, List, [], ◌∷◌, length, map, replicate, refl, sym, ap, subst, ◌∙◌, Option, Some, arith, inl, inr}
+use Rattle.std.proofs.Common.{◌≡◌, ◌+◌, ◌*◌, ◌≤◌, ◌<◌, ◌==◌, ℕ, zero, suc, true, List, [], ◌∷◌, length, map, replicate, refl, sym, ap, subst, ◌∙◌, All, arith, inl, inr}
 use Rattle.std.specs.List.{AllByRecursion, range_with_len}
 use Rattle.std.proofs.lemmas.Bool.{cases_lt, eqb-true, and_parts}
 use Rattle.std.proofs.lemmas.List.{get_or_past}
@@ -13,19 +13,11 @@ use Rattle.shape_strides.specs.LayoutLaws.{length-offsets}
 use Rattle.shape_strides.specs.Layouts.{offsets, multiples, Fits}
 use Rattle.arrays.specs.declared.owned.Owned.{Owned}
 use Rattle.arrays.specs.Assignments.{items_at, with_items}
-use Rattle.name_store.specs.declared.table.Home.{Home}
-use Rattle.name_store.specs.declared.old_items.OldItems.{OldItems}
-use Rattle.name_store.specs.declared.slot.Slot.{Slot}
-use Rattle.name_store.specs.declared.target.Source.{Source}
-use Rattle.name_store.specs.declared.target.Target.{Target}
+use Rattle.name_store.specs.declared.change.OldItems.{OldItems}
 use Rattle.name_store.specs.inside.Exchanges.{AreAll, IsPacked}
 use Rattle.name_store.specs.inside.OldItems.{AreOld}
-use Rattle.name_store.specs.inside.Puts.{CanPut, parts_of}
-use Rattle.name_store.specs.Targets.{target_offsets}
-use Rattle.name_store.specs.View.{slot_at}
 use Rattle.name_store.proofs.LaidLaws.{offsets-within}
 use Rattle.name_store.proofs.RestoreLaws.{Within, put-back}
-use Rattle.name_store.proofs.RewriteLaws.{can-inside}
 
 -- Items in C order from the start to the end of a block.
 
@@ -96,29 +88,23 @@ own-packed o width size test = record {
   items = ap (λ os. items_at os width o.block) (sym (own-offsets o width size test));
 }
 
-module _ (slots : List (Option Slot)) (home : Home) (target : Target) (source : Source) (can : CanPut slots home target source) (s : Slot) (there : slot_at slots home.number ≡ Some s) (all : AreAll home.width s.block (target_offsets target)) where
-  abbrev os : List ℕ
-  os = target_offsets target
-
-  abbrev width : ℕ
-  width = home.width
-
-  inside : AllByRecursion (λ o. o + width ≤ length s.block) os
-  inside = recursion_from_All (λ o. o + width ≤ length s.block) os (can-inside slots home target source can s there)
+module _ (width : ℕ) (block os : List ℕ) (within : All (λ o. o + width ≤ length block) os) (all : AreAll width block os) where
+  inside : AllByRecursion (λ o. o + width ≤ length block) os
+  inside = recursion_from_All (λ o. o + width ≤ length block) os within
 
   to-run : os ≡ multiples width (length os)
   to-run = c-packed width os all.order (subst (λ n. AllByRecursion (λ o. o + width ≤ n) os) all.whole inside)
 
   -- a block of new items is what writing all of them would have made
-  pub replaced : (new : List ℕ) → IsPacked (length os) width (parts_of slots width (length os) source) new → new ≡ with_items os (parts_of slots width (length os) source) s.block
-  replaced new packed =
-      sym (ap (λ parts. with_items os parts s.block) (sym packed.items ∙ ap (λ at. items_at at width new) (sym to-run))
-      ∙ all-put width os new s.block to-run (all.whole ∙ sym packed.long) packed.long (subst (λ n. AllByRecursion (λ o. o + width ≤ n) os) (all.whole ∙ sym packed.long) inside))
+  pub replaced : (parts : List (List ℕ)) (new : List ℕ) → IsPacked (length os) width parts new → new ≡ with_items os parts block
+  replaced parts new packed =
+      sym (ap (λ parts. with_items os parts block) (sym packed.items ∙ ap (λ at. items_at at width new) (sym to-run))
+      ∙ all-put width os new block to-run (all.whole ∙ sym packed.long) packed.long (subst (λ n. AllByRecursion (λ o. o + width ≤ n) os) (all.whole ∙ sym packed.long) inside))
 
-  -- and the slot's block has the old ones
-  pub replaced-old : (o : OldItems) → o.width ≡ width → o.block ≡ s.block → AreOld width s.block os o
+  -- and the old block has the old ones
+  pub replaced-old : (o : OldItems) → o.width ≡ width → o.block ≡ block → AreOld width block os o
   replaced-old o width-is block-is = record {
     size = width-is;
     whole = ap length block-is ∙ all.whole ∙ ap (λ n. length os * n) (sym width-is);
-    bytes = (λ i. items_at (multiples (width-is i) (length os)) (width-is i) (block-is i)) ∙ ap (λ from. items_at from width s.block) (sym to-run);
+    bytes = (λ i. items_at (multiples (width-is i) (length os)) (width-is i) (block-is i)) ∙ ap (λ from. items_at from width block) (sym to-run);
   }

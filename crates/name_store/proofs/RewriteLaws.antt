@@ -1,25 +1,28 @@
 -- Items that are put in a slot that was lent.
-use Rattle.std.proofs.Common.{◌≡◌, ◌≢◌, ◌+◌, ◌≤◌, ◌<◌, ℕ, zero, suc, true, false, List, [], ◌∷◌, length, refl, sym, ap, subst, ◌∙◌, cond, Option, Some, nat_eq, slice_set, All}
+use Rattle.std.proofs.Common.{◌≡◌, ◌+◌, ◌≤◌, ◌<◌, ℕ, zero, suc, true, false, List, [], ◌∷◌, length, refl, sym, ap, subst, ◌∙◌, cond, Option, Some, nat_eq, slice_set, All, Result, Ok, Err, IfOk, IfErr, None}
 use Rattle.std.specs.List.{AllByRecursion}
 use Rattle.std.specs.Option.{option_map}
-use Rattle.std.proofs.lemmas.Bool.{eqb-true, ne_eqb}
+use Rattle.std.proofs.lemmas.Bool.{eqb-true}
+use Rattle.std.proofs.lemmas.List.Elements.{recursion_from_All}
 use Rattle.std.proofs.lemmas.Option.{same_Some}
+use Rattle.elem_descr.specs.Items.{item_size}
 use Rattle.shape_strides.specs.Layouts.{offsets, Fits}
 use Rattle.shape_strides.specs.LayoutLaws.{offsets_within}
 use Rattle.arrays.specs.declared.owned.Owned.{Owned}
 use Rattle.name_store.specs.Invariants.{users_of, users_at}
 use Rattle.name_store.specs.Targets.{target_offsets}
 use Rattle.name_store.specs.View.{slot_at}
-use Rattle.name_store.specs.declared.table.Home.{Home}
 use Rattle.name_store.specs.declared.slot.Slot.{Slot}
+use Rattle.name_store.specs.declared.table.Home.{Home}
 use Rattle.name_store.specs.declared.target.Source.{Source}
 use Rattle.name_store.specs.declared.target.Source.TheVariants.{One, Block, Buffer}
 use Rattle.name_store.specs.declared.target.Target.{Target}
 use Rattle.name_store.specs.inside.Homes.{HasNew}
 use Rattle.name_store.specs.inside.Held.{stand}
 use Rattle.name_store.specs.inside.OldItems.{AreSame}
-use Rattle.name_store.specs.inside.Puts.{AreItems, CanPut, MayPut, block_in, parts_of}
+use Rattle.name_store.specs.inside.Puts.{AreItems, CanPut, CanWrite, Puts, block_from, parts_of, with_source, without_slot}
 use Rattle.name_store.proofs.LaidLaws.{offsets-within}
+use Rattle.name_store.proofs.RestoreLaws.{length-with}
 use Rattle.name_store.proofs.SlotLaws.{slot_at-set, slot_at-within}
 use Rattle.name_store.proofs.SourceLaws.{all-replicated, items-whole}
 
@@ -37,10 +40,6 @@ pub set-twice : (slots : List (Option Slot)) (number : ℕ) (first last : Option
 set-twice [] number first last = refl
 set-twice (slot ∷ slots) zero first last = refl
 set-twice (slot ∷ slots) (suc number) first last = ap (λ rest. slot ∷ rest) (set-twice slots number first last)
-
--- no other slot is set
-pub set-other : (slots : List (Option Slot)) (number : ℕ) (put : Option Slot) (other : ℕ) → number < length slots → other ≢ number → slot_at (slice_set slots number put) other ≡ slot_at slots other
-set-other slots number put other inside apart = slot_at-set slots number put other inside ∙ ap (λ t. cond t put (slot_at slots other)) (ne_eqb other number apart)
 
 -- as many hold each buffer
 pub new-users : (slots : List (Option Slot)) (number : ℕ) (s : Slot) (bytes : List ℕ) (after : List (Option Slot)) → slot_at slots number ≡ Some s → HasNew slots number s bytes after → (q : ℕ) → users_at after q ≡ users_at slots q
@@ -63,26 +62,63 @@ kept-same slots number s after there new q = (
   new-users slots number s s.block after there new q,
 )
 
+-- a buffer is among the others, or it is the one that is written
+pub lender-is : (slots : List (Option Slot)) (number : ℕ) (s : Slot) (q : ℕ) (x : Slot) → slot_at slots number ≡ Some s → slot_at slots q ≡ Some x → block_from (slot_at (without_slot slots number) q) s.block ≡ x.block
+lender-is slots number s q x here there =
+    ap (λ o. block_from o s.block) (slot_at-set slots number None q (slot_at-within slots number s here))
+    ∙ elim (nat_eq q number) as (λ t. nat_eq q number ≡ t → block_from (cond t None (slot_at slots q)) s.block ≡ x.block) [
+      | true ↦ λ is. ap (λ (y : Slot). y.block) (same_Some s x (sym here ∙ ap (slot_at slots) (sym (eqb-true q number is)) ∙ there))
+      | false ↦ λ _. ap (λ o. block_from o s.block) there
+    ] refl
+
+-- a number that no other has is that of the one that is written
+pub none-other : (slots : List (Option Slot)) (number : ℕ) (s : Slot) (q : ℕ) (x : Slot) → slot_at slots number ≡ Some s → slot_at slots q ≡ Some x → slot_at (without_slot slots number) q ≡ None → q ≡ number
+none-other slots number s q x here there none =
+    elim (nat_eq q number) as (λ t. nat_eq q number ≡ t → q ≡ number) [
+      | true ↦ λ is. eqb-true q number is
+      | false ↦ λ is.
+          let full = slot_at-set slots number None q (slot_at-within slots number s here) ∙ ap (λ t. cond t None (slot_at slots q)) is ∙ there in
+          let no : ⊥ = cc in absurd no
+    ] refl
+
+pub owned-within : (owned : Owned) (width : ℕ) → item_size owned.descr ≡ width → All (λ offset. offset + width ≤ length owned.block) (offsets owned.layout)
+owned-within owned width size = offsets_within owned.layout (length owned.block) width (subst (Fits owned.layout (length owned.block)) size owned.fills_block.fits)
+
 -- each item has as many bytes as it must
-pub parts-whole : (slots : List (Option Slot)) (width n : ℕ) (source : Source) → AreItems slots width n source → AllByRecursion (λ part. length part ≡ width) (parts_of slots width n source)
-parts-whole slots width n (One item) are = all-replicated (λ part. length part ≡ width) n item.items are
-parts-whole slots width n (Block owned) are = items-whole (offsets owned.layout) width owned.block (offsets-within owned.layout (length owned.block) width (subst (Fits owned.layout (length owned.block)) are.0 owned.fills_block.fits))
-parts-whole slots width n (Buffer number layout) are =
-    items-whole (offsets layout) width (block_in (slot_at slots number)) (subst (λ o. AllByRecursion (λ offset. offset + width ≤ length (block_in o)) (offsets layout)) (sym are.1) (offsets-within layout (length are.0.block) width are.2))
+pub parts-whole : (others : List (Option Slot)) (width : ℕ) (block : List ℕ) (n : ℕ) (source : Source) → AreItems others width block n source → AllByRecursion (λ part. length part ≡ width) (parts_of others width block n source)
+parts-whole others width block n (One item) are = all-replicated (λ part. length part ≡ width) n item.items are
+parts-whole others width block n (Block owned) are = items-whole (offsets owned.layout) width owned.block (offsets-within owned.layout (length owned.block) width (subst (Fits owned.layout (length owned.block)) are.0 owned.fills_block.fits))
+parts-whole others width block n (Buffer number layout) are =
+    let from = block_from (slot_at others number) block in items-whole (offsets layout) width from (offsets-within layout (length from) width are.1)
 
-pub owned-within : (owned : Owned) (width n : ℕ) (slots : List (Option Slot)) → AreItems slots width n (Block owned) → All (λ offset. offset + width ≤ length owned.block) (offsets owned.layout)
-owned-within owned width n slots are = offsets_within owned.layout (length owned.block) width (subst (Fits owned.layout (length owned.block)) are.0 owned.fills_block.fits)
+-- a slot that was taken out is put back with other bytes in its block
+module _ (slots : List (Option Slot)) (home : Home) (target : Target) (source : Source) (can : CanWrite slots home target source) (s : Slot) (there : slot_at slots home.number ≡ Some s) where
+  pub can-slot : CanPut (without_slot slots home.number) home.width target source s.block
+  can-slot = subst (λ (x : Slot). CanPut (without_slot slots home.number) home.width target source x.block) (same_Some can.slot s (sym can.there ∙ there)) can.can
 
-module _ (slots : List (Option Slot)) (home : Home) (target : Target) (source : Source) (can : CanPut slots home target source) where
-  pub can-within : home.number < length slots
-  can-within = slot_at-within slots home.number can.slot can.there
+  module _ (mid : Option Slot) (x : Slot) (descr : x.descr ≡ s.descr) (items : x.items ≡ s.items) (users : x.users ≡ s.users) where
+    abbrev after : List (Option Slot)
+    after = slice_set (slice_set slots home.number mid) home.number (Some x)
 
-  module _ (s : Slot) (there : slot_at slots home.number ≡ Some s) where
-    pub can-slot : can.slot ≡ s
-    can-slot = same_Some can.slot s (sym can.there ∙ there)
+    back : (bytes : Slot → List ℕ) → x.block ≡ bytes s → (old : Slot) → slot_at slots home.number ≡ Some old → HasNew slots home.number old (bytes old) after
+    back bytes block old is =
+        subst (HasNew slots home.number old (bytes old)) (sym (set-twice slots home.number mid (Some x)))
+        (lent-new slots home.number s x old bytes (slot_at-within slots home.number s there) there descr items users block is)
 
-    pub can-inside : All (λ offset. offset + home.width ≤ length s.block) (target_offsets target)
-    can-inside = subst (λ (x : Slot). All (λ offset. offset + home.width ≤ length x.block) (target_offsets target)) can-slot can.inside
+    pub puts-back : x.block ≡ with_source (without_slot slots home.number) home.width target source s.block → Puts slots home target source after
+    puts-back block old is = back (λ y. with_source (without_slot slots home.number) home.width target source y.block) block old is
 
-    pub can-may : MayPut target (length s.block) home.width
-    can-may = subst (λ (x : Slot). MayPut target (length x.block) home.width) can-slot can.may
+    pub keeps-back : x.block ≡ s.block → AreSame slots after
+    keeps-back block = kept-same slots home.number s after there (back (λ y. y.block) block s there)
+
+module _ (others : List (Option Slot)) (width : ℕ) (target : Target) (source : Source) (block : List ℕ) (can : CanPut others width target source block) where
+  -- the block stays as long as it is
+  pub length-put : length (with_source others width target source block) ≡ length block
+  length-put =
+      let os = target_offsets target in
+      length-with width os (parts_of others width block (length os) source) block (parts-whole others width block (length os) source can.are)
+      (recursion_from_All (λ o. o + width ≤ length block) os can.inside)
+
+  pub length-tried : {A E : Type 0} (r : Result A E) (new : List ℕ) → IfOk r (λ _. new ≡ with_source others width target source block) → IfErr r (λ _. new ≡ block) → length new ≡ length block
+  length-tried (Ok a) new written _ = ap length written ∙ length-put
+  length-tried (Err e) new _ kept = ap length kept

@@ -24,26 +24,27 @@ use Rattle.name_store.specs.declared.change.Change.{Change}
 use Rattle.name_store.specs.declared.change.Change.TheVariants.{Write}
 use Rattle.name_store.specs.declared.entry.Entry.{Entry}
 use Rattle.name_store.specs.declared.entry.Key.{Key}
-use Rattle.name_store.specs.declared.old_items.OldItems.{OldItems}
+use Rattle.name_store.specs.declared.change.OldItems.{OldItems}
 use Rattle.name_store.specs.declared.slot.Slot.{Slot}
 use Rattle.name_store.specs.declared.target.Source.{Source}
 use Rattle.name_store.specs.declared.target.Source.TheVariants.{One, Block, Buffer}
 use Rattle.name_store.specs.declared.target.Target.{Target}
 use Rattle.name_store.specs.declared.target.Target.TheVariants.{View, Plan}
 use Rattle.name_store.specs.inside.Homes.{IsHome, HasNew}
-use Rattle.name_store.specs.inside.Puts.{CanPut, NeedsNone, Puts, parts_of}
+use Rattle.name_store.specs.inside.Puts.{CanWrite, NeedsNone, Puts, parts_of, without_slot}
 use Rattle.name_store.specs.inside.Held.{IsLowest, stand}
 use Rattle.name_store.specs.inside.OldItems.{AreOld, AreOldAt, AreSame}
 use Rattle.name_store.proofs.BindLaws.{view-present}
-use Rattle.name_store.proofs.AimLaws.{can-put, put-answers, whole-parts}
+use Rattle.name_store.proofs.AimLaws.{can-here, can-put, put-answers, whole-parts}
 use Rattle.name_store.proofs.HeldLaws.{lowest-same}
 use Rattle.name_store.proofs.KeepLaws.{keep-sound, keep-state, patches-push}
 use Rattle.name_store.proofs.NameLaws.{all-both, found-used, nat_itself}
 use Rattle.name_store.proofs.Needs.{is_needed, made-held, kept-counted}
 use Rattle.name_store.proofs.PastLaws.{Restored, alike-shape, past-alike, content_before, shape, SameShape, lies-shaped, same-buffers, undoable-still, Slots}
 use Rattle.name_store.proofs.RestoreLaws.{restores-moved}
-use Rattle.name_store.proofs.RewriteLaws.{can-inside, new-users}
+use Rattle.name_store.proofs.RewriteLaws.{new-users, none-other}
 use Rattle.name_store.proofs.StateLaws.{Freed}
+use Rattle.name_store.proofs.ViewLaws.{view-slot}
 use Rattle.name_store.proofs.WriteLaws.{size-is, written-holds}
 
 -- What is asked of a state as it is, or with what is kept.
@@ -128,25 +129,27 @@ module _ (es : List (Key × Entry)) (slots : Slots) (ring : Ring Change) (spare 
   now-aim : IsAim (present es slots) name target source
   now-aim = aim-now es slots ring name target source aim
 
-  pub put-can : CanPut slots (record { number = number; width = width }) target source
+  pub put-can : CanWrite slots (record { number = number; width = width }) target source
   put-can = can-put es slots name number width home target source now-aim
 
-  pub none-can : NeedsNoMemory (state_of es slots ring) name target source → NeedsNone (record { number = number; width = width }) target source
-  none-can needs-none = by target source (needs-now es slots ring name target source needs-none)
+  pub none-can : NeedsNoMemory (state_of es slots ring) name target source → NeedsNone (without_slot slots number) width target source
+  none-can needs-none = by target source (descr_of (present es slots) now-aim.array) (length (target_offsets target)) now-aim.items now-aim.supplies (needs-now es slots ring name target source needs-none)
     where
-      by : (target : Target) (source : Source) → NeedsNoMemory (present es slots) name target source → NeedsNone (record { number = number; width = width }) target source
-      by target (One bytes) none = tt
-      by target (Block owned) none = tt
-      by (View to) (Buffer q from) none = λ is.
-          subst (MoveInPlace to from) (size-is es slots name number width home (array_at home.entry) home.found) (none.1 (array_at home.entry) home.found (sym home.number_is ∙ sym is))
-      by (Plan plan) (Buffer q from) none = absurd none.1
+      by : (target : Target) (source : Source) (descr : Descr) (n : ℕ) (items : List (List LeafValue)) → Supplies (present es slots) descr n source items → NeedsNoMemory (present es slots) name target source → NeedsNone (without_slot slots number) width target source
+      by target (One bytes) descr n items has none = tt
+      by target (Block owned) descr n items has none = tt
+      by (View to) (Buffer q from) descr n items has none = λ free.
+          let other = view-slot es slots q has.0.path from false has.0 has.1.view in
+          subst (MoveInPlace to from) (size-is es slots name number width home (array_at home.entry) home.found)
+          (none.1 (array_at home.entry) home.found (sym home.number_is ∙ sym (none-other slots number home.slot q other.0 home.there other.1 free)))
+      by (Plan plan) (Buffer q from) descr n items has none = absurd none.1
 
   module _ (after : Slots) (puts : Puts slots (record { number = number; width = width }) target source after) where
     abbrev n : ℕ
     n = length (target_offsets target)
 
     abbrev parts : List (List ℕ)
-    parts = parts_of slots width n source
+    parts = parts_of (without_slot slots number) width home.slot.block n source
 
     whole' : AllByRecursion (λ part. length part ≡ width) parts
     whole' = whole-parts es slots name number width home target source now-aim
@@ -224,7 +227,7 @@ module _ (es : List (Key × Entry)) (slots : Slots) (ring : Ring Change) (spare 
       c = Write number aside items
 
       all-within : All (λ o. o + width ≤ length s.block) (target_offsets target)
-      all-within = can-inside slots (record { number = number; width = width }) target source put-can s home.there
+      all-within = (can-here es slots name number width home target source now-aim).inside
 
       within : AllByRecursion (λ o. o + width ≤ length s.block) os
       within = recursion_from_All (λ o. o + width ≤ length s.block) os (All-permutation (λ o. o + width ≤ length s.block) (target_offsets target) os moved all-within)

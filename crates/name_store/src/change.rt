@@ -4,10 +4,19 @@ ghost use Rattle.name_store.specs.Invariants.{held_number};
 ghost use Rattle.name_store.specs.Kept.{patch_size};
 
 use crate::entry::{Entry, Key};
-use crate::old_items::OldItems;
 use crate::target::Target;
+use raw_block::RawBlock;
 
-/// A change of the bench, by what is needed to undo it. An array that it has holds its buffer.
+/// Items of `width` bytes, one after another.
+#[derive(Drop)]
+pub struct OldItems {
+    pub block: RawBlock,
+    pub width: usize,
+}
+
+/// A change of the bench, by what is needed to undo it. An array that it has holds its buffer. A
+/// write holds none: a name uses its buffer then, and the later change that ends this use holds the
+/// buffer until after the write is forgotten.
 #[derive(Drop)]
 pub enum Change {
     /// A name was bound: what it was bound to before, if it was.

@@ -1,6 +1,5 @@
-//! Writes the bytes of a block at the offsets of a target: those of one item, or of the items of
-//! a layout.
-ghost use Rattle.std.specs.Prelude.{◌≡◌, ◌+◌, ◌≤◌, length, All, IfOk, IfErr, IsOk, IsTrue};
+//! Reads and writes the bytes of a block at the offsets of a target.
+ghost use Rattle.std.specs.Prelude.{◌≡◌, ◌+◌, ◌*◌, ◌≤◌, length, All, IfOk, IfErr, IsOk, IsTrue};
 ghost use Rattle.std.specs.List.{flat_map};
 ghost use Rattle.raw_block.specs.Bytes.{EachWithin};
 ghost use Rattle.shape_strides.specs.Limits.{max_bytes};
@@ -8,12 +7,15 @@ ghost use Rattle.shape_strides.specs.Layouts.{offsets, Fits};
 ghost use Rattle.shape_strides.specs.Runs.{run_offsets};
 ghost use Rattle.arrays.specs.Assignments.{assigned};
 ghost use Rattle.fancy_index.specs.Plans.{put_each};
+ghost use Rattle.name_store.specs.Kept.{with_old};
 ghost use Rattle.name_store.specs.Memory.{AreShifted};
 ghost use Rattle.name_store.specs.Targets.{target_offsets};
+ghost use Rattle.name_store.specs.inside.OldItems.{AreOld};
 ghost use Rattle.name_store.specs.inside.Puts.{MayPut, InPlace};
 
+use crate::change::OldItems;
 use crate::target::Target;
-use arrays::gather;
+use arrays::{gather, scatter};
 use overlap_copy::{assign, assign_from, assign_shifted, in_any_order};
 use raw_block::RawBlock;
 use shape_strides::{Layout, Runs, lies_in_c_order};
@@ -21,7 +23,8 @@ use std::alloc::{AllocError, Global};
 
 /// Writes the bytes of an item at the offsets of runs.
 fn fill_runs(block: &mut RawBlock, runs: Runs<'_>, item: &[u8])
-    requires { All (λ run. EachWithin (length block.old) run.offset run.step (length item.now) run.count) runs }
+    requires { All (λ run.
+        EachWithin (length block.old) run.offset run.step (length item.now) run.count) runs }
     ensures bytes { block.new ≡ put_each (flat_map run_offsets runs.entry) item.now block.old }
     ensures len { length block.new ≡ length block.old }
 {
@@ -42,7 +45,8 @@ fn fill_each(block: &mut RawBlock, layout: &Layout, item: &[u8])
     }
 }
 
-/// The same, but that they are gone over as they lie in memory where they are apart.
+/// Writes the bytes of an item at the offsets of a layout, which are gone over as they lie in memory
+/// where they are apart.
 fn fill_layout(alloc: Global, block: &mut RawBlock, layout: &Layout, item: &[u8])
     requires { All (λ offset. offset + length item.now ≤ length block.old) (offsets layout.now) }
     ensures bytes { block.new ≡ put_each (offsets layout.now) item.now block.old }
@@ -60,7 +64,8 @@ fn fill_layout(alloc: Global, block: &mut RawBlock, layout: &Layout, item: &[u8]
 
 /// Writes the bytes of an item at the offsets of a target.
 pub(crate) fn fill(alloc: Global, block: &mut RawBlock, target: &Target, item: &[u8])
-    requires { All (λ offset. offset + length item.now ≤ length block.old) (target_offsets target.now) }
+    requires { All (λ offset. offset + length item.now ≤ length block.old)
+        (target_offsets target.now) }
     ensures bytes { block.new ≡ put_each (target_offsets target.now) item.now block.old }
     ensures len { length block.new ≡ length block.old }
 {
@@ -70,7 +75,7 @@ pub(crate) fn fill(alloc: Global, block: &mut RawBlock, target: &Target, item: &
     }
 }
 
-/// Copies the items of a layout in another block to the offsets of a target, strictly in their order.
+/// Copies the items of a layout in another block to the offsets of a target, one after the other.
 pub(crate) fn copy_to(
     alloc: Global,
     block: &mut RawBlock,
@@ -79,10 +84,12 @@ pub(crate) fn copy_to(
     from: &Layout,
     width: usize,
 )
-    requires inside { All (λ offset. offset + width ≤ length block.old) (target_offsets target.now) }
+    requires inside { All (λ offset. offset + width ≤ length block.old)
+        (target_offsets target.now) }
     requires from { All (λ offset. offset + width ≤ length other.now) (offsets from.now) }
     requires count { length (offsets from.now) ≡ length (target_offsets target.now) }
-    ensures bytes { block.new ≡ assigned (target_offsets target.now) (offsets from.now) width other.now block.old }
+    ensures bytes { block.new
+        ≡ assigned (target_offsets target.now) (offsets from.now) width other.now block.old }
     ensures len { length block.new ≡ length block.old }
 {
     match target {
@@ -95,7 +102,8 @@ pub(crate) fn copy_to(
 fn have_same_strides(to: &Layout, from: &Layout) -> bool
     ensures shape { IsTrue result → from.now.shape ≡ to.now.shape }
     ensures strides { IsTrue result → from.now.strides ≡ to.now.strides }
-    ensures found { from.now.shape ≡ to.now.shape → from.now.strides ≡ to.now.strides → IsTrue result }
+    ensures found { from.now.shape ≡ to.now.shape → from.now.strides ≡ to.now.strides
+        → IsTrue result }
 {
     from.shape.as_slice() == to.shape.as_slice() && from.strides.as_slice() == to.strides.as_slice()
 }
@@ -123,7 +131,8 @@ pub(crate) fn move_to(
     requires to { MayPut target.now (length block.old) width }
     requires from { Fits from.now (length block.old) width }
     requires count { length (offsets from.now) ≡ length (target_offsets target.now) }
-    ensures bytes { IfOk result (λ _. block.new ≡ assigned (target_offsets target.now) (offsets from.now) width block.old block.old) }
+    ensures bytes { IfOk result (λ _. block.new
+        ≡ assigned (target_offsets target.now) (offsets from.now) width block.old block.old) }
     ensures kept { IfErr result (λ _. block.new ≡ block.old) }
     ensures len { length block.new ≡ length block.old }
     ensures in_place { InPlace target.now from.now width → IsOk result }
@@ -141,5 +150,36 @@ pub(crate) fn move_to(
             plan.scatter(block, &items, width);
             Ok(())
         }
+    }
+}
+
+/// The items of a target, one after another.
+pub(crate) fn old_items(
+    alloc: Global,
+    block: &RawBlock,
+    width: usize,
+    target: &Target,
+) -> Result<OldItems, AllocError>
+    requires { All (λ offset. offset + width ≤ length block.now) (target_offsets target.now) }
+    ensures { IfOk result (AreOld width block.now (target_offsets target.now)) }
+{
+    let block = match target {
+        Target::View(layout) => gather(alloc, block, layout, width)?,
+        Target::Plan(plan) => plan.gather(alloc, block, width)?,
+    };
+    Ok(OldItems { block, width })
+}
+
+/// Writes items that lie one after another to a target.
+pub(crate) fn put_back(block: &mut RawBlock, target: &Target, items: &OldItems)
+    requires inside { All (λ offset. offset + items.now.width ≤ length block.old)
+        (target_offsets target.now) }
+    requires whole { length items.now.block ≡ length (target_offsets target.now) * items.now.width }
+    ensures len { length block.new ≡ length block.old }
+    ensures bytes { block.new ≡ with_old (target_offsets target.now) items.now block.old }
+{
+    match target {
+        Target::View(layout) => scatter(block, layout, &items.block, items.width),
+        Target::Plan(plan) => plan.scatter(block, &items.block, items.width),
     }
 }

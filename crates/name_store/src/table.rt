@@ -4,10 +4,10 @@ ghost use Rattle.name_store.specs.inside.HeldOnce.{Holds-prop};
 
 use crate::array_ref::ArrayRef;
 use crate::bound::Bound;
-use crate::change::Change;
+use crate::change::{Change, OldItems};
 use crate::entry::{Entry, Key};
-use crate::old_items::{OldItems, put_back};
 use crate::path::Path;
+use crate::rewrite::put_back;
 use crate::slot::Slot;
 use crate::slots::{Slots, slot_mut};
 use crate::target::Target;
@@ -66,12 +66,13 @@ impl Table {
     pub(crate) fn has_room_for(&self, key: &Key) -> bool
         ensures { result ≡ has_room_for (table_state self.now) key.now.bytes.items }
     {
-        self.names.contains_key(key) || self.names.len() < MAX_NAMES
+        self.names.len() < MAX_NAMES || self.names.contains_key(key)
     }
 
     /// The array of a name, if it is bound.
     pub(crate) fn get(&self, key: &Key) -> Option<ArrayRef<'_>>
-        ensures { Finds (table_state self.now) (find_array (table_state self.now).names key.now.bytes.items) result }
+        ensures { Finds (table_state self.now)
+            (find_array (table_state self.now).names key.now.bytes.items) result }
     {
         let entry = self.names.get(key)?;
         let slot = self.slots.slot(entry.number);
@@ -88,7 +89,8 @@ impl Table {
     /// Where the array of a name lies that is bound.
     pub(crate) fn home(&self, key: &Key) -> Home
         requires { is_bound (table_state self.now) key.now.bytes.items ≡ true }
-        ensures { IsHome self.now.names.entries self.now.slots.cells.items key.now.bytes.items result.number result.width }
+        ensures { IsHome self.now.names.entries self.now.slots.cells.items key.now.bytes.items
+            result.number result.width }
     {
         let entry = self.names.get(key).unwrap();
         let slot = self.slots.slot(entry.number);
@@ -101,8 +103,10 @@ impl Table {
     /// Whether the arrays of two names share cells. Arrays in two buffers share none, and only for those
     /// in one is memory asked for.
     pub(crate) fn shares(&self, alloc: Global, left: &Key, right: &Key) -> Result<bool, Refusal>
-        ensures answers { AnswersShares (table_state self.now) left.now.bytes.items right.now.bytes.items result }
-        ensures no_memory { LieInTwo (table_state self.now) left.now.bytes.items right.now.bytes.items → IsOk result }
+        ensures answers { AnswersShares (table_state self.now) left.now.bytes.items
+            right.now.bytes.items result }
+        ensures no_memory { LieInTwo (table_state self.now) left.now.bytes.items
+            right.now.bytes.items → IsOk result }
     {
         let Some(first) = self.names.get(left) else {
             return Err(Refusal::UnknownName);

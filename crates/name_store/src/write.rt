@@ -1,150 +1,402 @@
-//! Writes items to the places of a target in a buffer.
-ghost use Rattle.std.specs.Prelude.{◌≡◌, ◌≢◌, IfOk, IfErr, IsOk};
-ghost use Rattle.name_store.specs.inside.OldItems.{AreSame};
-ghost use Rattle.name_store.specs.inside.Puts.{CanPut, Puts, InPlace, NeedsNone};
-ghost use Rattle.name_store.specs.declared.target.Source.TheVariants.{One, Block, Buffer};
+//! Writes items to the places of a target in a buffer, and hands out the old ones if they are kept.
+ghost use Rattle.std.specs.Prelude.{◌≡◌, ◌≤◌, ◌<◌, ℕ, List, length, replicate, Some, IsTrue, IsOk, IfOk, IfErr, IfSome};
+ghost use Rattle.std.specs.List.Sorted.{IsPermutation};
+ghost use Rattle.elem_descr.specs.Items.{item_size};
+ghost use Rattle.shape_strides.specs.Contiguity.{is_c_contiguous};
+ghost use Rattle.shape_strides.specs.Layouts.{offsets};
+ghost use Rattle.arrays.specs.Assignments.{items_at};
+ghost use Rattle.fancy_index.specs.Plans.{put_each};
+ghost use Rattle.name_store.specs.Targets.{target_offsets};
+ghost use Rattle.name_store.specs.View.{slot_at};
+ghost use Rattle.name_store.specs.declared.target.Source.TheVariants.{Block};
+ghost use Rattle.name_store.specs.inside.Exchanges.{AreAll, IsPacked, are_packed};
+ghost use Rattle.name_store.specs.inside.OldItems.{AreOld, AreOldAt, AreSame};
+ghost use Rattle.name_store.specs.inside.Puts.{AreItems, CanPut, CanWrite, MayPut, NeedsNone, Puts, block_from, with_source, parts_of, without_slot};
 
-use crate::exchange::{are_packed, is_all, replace};
-use crate::rewrite::{copy_to, fill, move_to};
+use crate::change::OldItems;
+use crate::rewrite::{copy_to, fill, move_to, old_items};
 use crate::slot::Slot;
-use crate::slots::{slot_mut, slot_of};
 use crate::table::Home;
 use crate::target::{Source, Target};
-use arrays::Owned;
-use shape_strides::Layout;
+use arrays::{Owned, gather};
+use overlap_copy::exchange;
+use raw_block::{BlockBuilder, RawBlock};
+use shape_strides::{LayoutPair, in_memory_order, lies_in_c_order};
 use std::alloc::{AllocError, Global};
+use std::mem::swap;
 
-/// Writes one item.
-fn write_one(
-    alloc: Global,
-    slots: &mut Vec<Option<Slot>>,
-    home: Home,
-    target: &Target,
-    item: &Vec<u8>,
-)
-    requires { CanPut slots.old.items home target.now (One item.now) }
-    ensures { Puts slots.old.items home target.now (One item.now) slots.new.items }
+/// What a write needs beside the block that it changes: how many bytes an item has, and the other
+/// buffers, from which items may come.
+#[derive(Clone, Copy)]
+pub struct Beside<'a> {
+    pub width: usize,
+    pub others: &'a [Option<Slot>],
+}
+
+/// Whether the items of a target are all those of a block, one after another.
+fn is_all(block: &RawBlock, target: &Target, width: usize) -> bool
+    ensures { IsTrue result → AreAll width block.now (target_offsets target.now) }
 {
-    if let Some(slot) = slot_mut(slots, home.number) {
-        fill(alloc, &mut slot.block, target, item.as_slice());
+    match target {
+        Target::View(layout) => {
+            layout.is_c(width) && layout.shape.items().saturating_mul(width) == block.len()
+        }
+        Target::Plan(_) => false,
     }
 }
 
-/// Copies the items of a block.
-fn copy_block(
-    alloc: Global,
-    slots: &mut Vec<Option<Slot>>,
-    home: Home,
-    target: &Target,
-    owned: &Owned,
-)
-    requires { CanPut slots.old.items home target.now (Block owned.now) }
-    ensures { Puts slots.old.items home target.now (Block owned.now) slots.new.items }
+/// Whether the items lie in a block of their own, one after another.
+fn are_packed(source: &Source, width: usize) -> bool
+    ensures { result ≡ are_packed width source.now }
 {
-    if let Some(slot) = slot_mut(slots, home.number) {
-        copy_to(
-            alloc,
-            &mut slot.block,
-            target,
-            &owned.block,
-            &owned.layout,
-            home.width,
-        );
+    match source {
+        Source::Block(owned) => owned.layout.is_c(width),
+        _ => false,
     }
 }
 
-/// Copies items of another buffer, which is lent while the first is taken out.
-fn copy_across(
-    alloc: Global,
-    slots: &mut Vec<Option<Slot>>,
-    home: Home,
-    target: &Target,
-    number: usize,
-    from: &Layout,
-)
-    requires can { CanPut slots.old.items home target.now (Buffer number from.now) }
-    requires apart { number ≢ home.number }
-    ensures { Puts slots.old.items home target.now (Buffer number from.now) slots.new.items }
+/// A block of one item, over and over.
+fn repeated(alloc: Global, item: &[u8], count: usize) -> Result<RawBlock, AllocError>
+    ensures { IfOk result (IsPacked count (length item.now) (replicate count item.now)) }
 {
-    if let Some(mut slot) = slots[home.number].take() {
-        let other = slot_of(slots.as_slice(), number);
-        copy_to(
-            alloc,
-            &mut slot.block,
-            target,
-            &other.block,
-            from,
-            home.width,
-        );
-        slots[home.number] = Some(slot);
+    let mut items = BlockBuilder::try_new(alloc, count.saturating_mul(item.len()))?;
+    let _filled = items.filled();
+    items.push_repeated(item, count);
+    Ok(items.finish())
+}
+
+/// A block of the items of an array, which is its own where they lie one after another.
+fn own_block(alloc: Global, owned: Owned, width: usize) -> Result<RawBlock, AllocError>
+    requires width { item_size owned.descr ≡ width }
+    ensures packed { IfOk result (IsPacked (length (offsets owned.layout)) width
+        (items_at (offsets owned.layout) width owned.block)) }
+    ensures no_memory { IsTrue (is_c_contiguous width (offsets owned.layout)) → IsOk result }
+{
+    if !owned.layout.is_c(width) {
+        return gather(alloc, &owned.block, &owned.layout, width);
+    }
+    let Owned {
+        block,
+        descr: _,
+        layout: _,
+    } = owned;
+    Ok(block)
+}
+
+/// The block of the buffer with a number: the one that is written is not among the others.
+fn block_of<'a>(others: &'a [Option<Slot>], number: u64, block: &'a RawBlock) -> &'a RawBlock
+    requires { number < length others.now }
+    ensures { result.now ≡ block_from (slot_at others.now number) block.now }
+{
+    match &others[number as usize] {
+        Some(slot) => &slot.block,
+        None => block,
     }
 }
 
-/// Copies items of the same buffer, all of them as they were before. All memory is asked for before the
-/// first change.
-fn copy_within(
+/// A block of so many items, one after another.
+fn packed(
     alloc: Global,
-    slots: &mut Vec<Option<Slot>>,
-    home: Home,
-    target: &Target,
-    from: &Layout,
-) -> Result<(), AllocError>
-    requires { CanPut slots.old.items home target.now (Buffer home.number from.now) }
-    ensures written { IfOk result (λ _. Puts slots.old.items home target.now (Buffer home.number from.now) slots.new.items) }
-    ensures kept { IfErr result (λ _. AreSame slots.old.items slots.new.items) }
-    ensures in_place { InPlace target.now from.now home.width → IsOk result }
+    block: &RawBlock,
+    beside: Beside<'_>,
+    source: Source,
+    count: usize,
+) -> Result<RawBlock, AllocError>
+    requires { AreItems beside.others.now beside.width block.now count source }
+    ensures packed { IfOk result (IsPacked count beside.entry.width
+        (parts_of beside.entry.others.now beside.entry.width block.now count source)) }
+    ensures no_memory { IsTrue (are_packed beside.entry.width source) → IsOk result }
 {
-    if let Some(slot) = slot_mut(slots, home.number) {
-        return move_to(alloc, &mut slot.block, target, from, home.width);
+    match source {
+        Source::One(item) => repeated(alloc, item.as_slice(), count),
+        Source::Block(owned) => own_block(alloc, owned, beside.width),
+        Source::Buffer(number, from) => {
+            let block = block_of(beside.others, number, block);
+            gather(alloc, block, &from, beside.width)
+        }
     }
-    Ok(())
 }
 
-/// Copies the items to the target's places. Only where they are of the same buffer, and cannot move in
-/// place, is memory asked for, and before the first change.
-pub(crate) fn copy_items(
+/// Puts a block of the items in the place of the whole block, and hands this out. Memory is asked
+/// for before the change, and only where the items are in no block of their own.
+fn replace(
     alloc: Global,
-    slots: &mut Vec<Option<Slot>>,
-    home: Home,
+    block: &mut RawBlock,
+    beside: Beside<'_>,
+    target: &Target,
+    source: Source,
+) -> Result<OldItems, AllocError>
+    requires can { CanPut beside.others.now beside.width target.now source block.old }
+    requires all { AreAll beside.width block.old (target_offsets target.now) }
+    ensures written { IfOk result (λ _. block.new
+        ≡ with_source beside.entry.others.now beside.entry.width target.now source block.old) }
+    ensures old { IfOk result (AreOld beside.entry.width block.old (target_offsets target.now)) }
+    ensures kept { IfErr result (λ _. block.new ≡ block.old) }
+    ensures no_memory { IsTrue (are_packed beside.entry.width source) → IsOk result }
+{
+    let mut items = packed(alloc, block, beside, source, target.count())?;
+    swap(block, &mut items);
+    Ok(OldItems {
+        block: items,
+        width: beside.width,
+    })
+}
+
+/// Copies the items to the target's places. Only where they are of the buffer itself, and cannot move
+/// in place, is memory asked for, and before the first change.
+fn copy_items(
+    alloc: Global,
+    block: &mut RawBlock,
+    beside: Beside<'_>,
     target: &Target,
     source: &Source,
 ) -> Result<(), AllocError>
-    requires { CanPut slots.old.items home target.now source.now }
-    ensures written { IfOk result (λ _. Puts slots.old.items home target.now source.now slots.new.items) }
-    ensures kept { IfErr result (λ _. AreSame slots.old.items slots.new.items) }
-    ensures no_memory { NeedsNone home target.now source.now → IsOk result }
+    requires { CanPut beside.others.now beside.width target.now source.now block.old }
+    ensures written { IfOk result (λ _. block.new
+        ≡ with_source beside.entry.others.now beside.entry.width target.now source.now block.old) }
+    ensures kept { IfErr result (λ _. block.new ≡ block.old) }
+    ensures no_memory { NeedsNone beside.entry.others.now beside.entry.width target.now source.now
+        → IsOk result }
 {
+    let width = beside.width;
     match source {
-        Source::One(item) => write_one(alloc, slots, home, target, item),
-        Source::Block(owned) => copy_block(alloc, slots, home, target, owned),
-        Source::Buffer(number, from) => {
-            let number = *number as usize;
-            if number == home.number {
-                return copy_within(alloc, slots, home, target, from);
-            }
-            copy_across(alloc, slots, home, target, number, from);
-        }
+        Source::One(item) => fill(alloc, block, target, item.as_slice()),
+        Source::Block(owned) => copy_to(alloc, block, target, &owned.block, &owned.layout, width),
+        Source::Buffer(number, from) => match &beside.others[*number as usize] {
+            Some(slot) => copy_to(alloc, block, target, &slot.block, from, width),
+            None => return move_to(alloc, block, target, from, width),
+        },
     }
     Ok(())
 }
 
-/// The same, but that nothing is copied where the blocks can be exchanged.
+/// Writes the items to the target's places. Their block takes the place of the whole one if it can.
+fn put_items(
+    alloc: Global,
+    block: &mut RawBlock,
+    beside: Beside<'_>,
+    target: &Target,
+    source: Source,
+) -> Result<(), AllocError>
+    requires { CanPut beside.others.now beside.width target.now source block.old }
+    ensures written { IfOk result (λ _. block.new
+        ≡ with_source beside.entry.others.now beside.entry.width target.now source block.old) }
+    ensures kept { IfErr result (λ _. block.new ≡ block.old) }
+    ensures no_memory { NeedsNone beside.entry.others.now beside.entry.width target.now source
+        → IsOk result }
+{
+    if are_packed(&source, beside.width) && is_all(block, target, beside.width) {
+        let _old = replace(alloc, block, beside, target, source)?;
+        return Ok(());
+    }
+    copy_items(alloc, block, beside, target, &source)
+}
+
+/// The places of a view as they lie in memory, where that is another order.
+fn near(alloc: Global, target: &Target, width: usize) -> Option<Target>
+    ensures moved { IfSome result (λ t.
+        IsPermutation (target_offsets target.now) (target_offsets t)) }
+    ensures may { IfSome result (λ t.
+        (len : ℕ) → MayPut target.now len width → MayPut t len width) }
+    ensures fills { IfSome result (λ t. (item block : List ℕ) → length item ≡ width
+        → MayPut target.now (length block) width
+        → put_each (target_offsets t) item block
+        ≡ put_each (target_offsets target.now) item block) }
+{
+    match target {
+        Target::View(layout) => {
+            if lies_in_c_order(layout) {
+                return None;
+            }
+            match in_memory_order(alloc, layout, layout) {
+                Some(pair) => {
+                    let LayoutPair { target, source: _ } = pair;
+                    Some(Target::View(target))
+                }
+                None => None,
+            }
+        }
+        Target::Plan(_) => None,
+    }
+}
+
+/// Copies the items to the target's places, and hands out copies of the old ones.
+fn copy_over(
+    alloc: Global,
+    block: &mut RawBlock,
+    beside: Beside<'_>,
+    target: &Target,
+    source: &Source,
+) -> Result<OldItems, AllocError>
+    requires { CanPut beside.others.now beside.width target.now source.now block.old }
+    ensures written { IfOk result (λ _. block.new
+        ≡ with_source beside.entry.others.now beside.entry.width target.now source.now block.old) }
+    ensures old { IfOk result (AreOld beside.entry.width block.old (target_offsets target.now)) }
+    ensures kept { IfErr result (λ _. block.new ≡ block.old) }
+{
+    let old = old_items(alloc, block, beside.width, target)?;
+    copy_items(alloc, block, beside, target, source)?;
+    Ok(old)
+}
+
+/// Exchanges the items of a view with those of a block of its own where these lie one after another,
+/// which takes no memory, and copies others.
+fn trade_over(
+    alloc: Global,
+    block: &mut RawBlock,
+    beside: Beside<'_>,
+    target: &Target,
+    owned: Owned,
+) -> Result<OldItems, AllocError>
+    requires { CanPut beside.others.now beside.width target.now (Block owned) block.old }
+    ensures written { IfOk result (λ _. block.new ≡ with_source beside.entry.others.now
+        beside.entry.width target.now (Block owned) block.old) }
+    ensures old { IfOk result (AreOld beside.entry.width block.old (target_offsets target.now)) }
+    ensures kept { IfErr result (λ _. block.new ≡ block.old) }
+{
+    match target {
+        Target::View(to) if owned.layout.is_c(beside.width) => {
+            let Owned {
+                block: items,
+                descr: _,
+                layout,
+            } = owned;
+            let mut items = items;
+            exchange(alloc, block, to, &mut items, &layout, beside.width);
+            Ok(OldItems {
+                block: items,
+                width: beside.width,
+            })
+        }
+        _ => copy_over(alloc, block, beside, target, &Source::Block(owned)),
+    }
+}
+
+/// Writes the items to the target's places, and hands out the old ones: the whole block where they
+/// are all of its items, the block of the new ones where these lie one after another in one of their
+/// own, else copies of them. All memory is asked for before the first change.
+fn put_over(
+    alloc: Global,
+    block: &mut RawBlock,
+    beside: Beside<'_>,
+    target: &Target,
+    source: Source,
+) -> Result<OldItems, AllocError>
+    requires { CanPut beside.others.now beside.width target.now source block.old }
+    ensures written { IfOk result (λ _. block.new
+        ≡ with_source beside.entry.others.now beside.entry.width target.now source block.old) }
+    ensures old { IfOk result (AreOld beside.entry.width block.old (target_offsets target.now)) }
+    ensures kept { IfErr result (λ _. block.new ≡ block.old) }
+{
+    if is_all(block, target, beside.width) {
+        return replace(alloc, block, beside, target, source);
+    }
+    match source {
+        Source::Block(owned) => trade_over(alloc, block, beside, target, owned),
+        source => copy_over(alloc, block, beside, target, &source),
+    }
+}
+
+/// Old items, and the places where they were.
+#[derive(Drop)]
+pub struct Overwritten {
+    pub target: Target,
+    pub items: OldItems,
+}
+
+/// Writes the items to the target's places, and hands these out with the old items, in the order in
+/// which they lie one after another: that of memory, unless they come in exchange for those of a block.
+fn put_near(
+    alloc: Global,
+    block: &mut RawBlock,
+    beside: Beside<'_>,
+    target: Target,
+    source: Source,
+) -> Result<Overwritten, AllocError>
+    requires { CanPut beside.others.now beside.width target source block.old }
+    ensures written { IfOk result (λ _. block.new
+        ≡ with_source beside.entry.others.now beside.entry.width target source block.old) }
+    ensures moved { IfOk result (λ w.
+        IsPermutation (target_offsets target) (target_offsets w.target)) }
+    ensures old { IfOk result (λ w.
+        AreOld beside.entry.width block.old (target_offsets w.target) w.items) }
+    ensures kept { IfErr result (λ _. block.new ≡ block.old) }
+{
+    let Some(aside) = near(alloc, &target, beside.width) else {
+        let items = put_over(alloc, block, beside, &target, source)?;
+        return Ok(Overwritten { target, items });
+    };
+    match source {
+        Source::One(item) => {
+            let items = put_over(alloc, block, beside, &aside, Source::One(item))?;
+            Ok(Overwritten {
+                target: aside,
+                items,
+            })
+        }
+        Source::Block(owned) => {
+            let items = trade_over(alloc, block, beside, &target, owned)?;
+            Ok(Overwritten { target, items })
+        }
+        source => {
+            let items = old_items(alloc, block, beside.width, &aside)?;
+            copy_items(alloc, block, beside, &target, &source)?;
+            Ok(Overwritten {
+                target: aside,
+                items,
+            })
+        }
+    }
+}
+
+/// Writes items to places of a buffer, whose slot is taken out meanwhile. All memory is asked for
+/// before the first change.
 pub(crate) fn write_items(
     alloc: Global,
-    slots: &mut Vec<Option<Slot>>,
+    cells: &mut Vec<Option<Slot>>,
     home: Home,
     target: &Target,
     source: Source,
 ) -> Result<(), AllocError>
-    requires { CanPut slots.old.items home target.now source }
-    ensures written { IfOk result (λ _. Puts slots.old.items home target.now source slots.new.items) }
-    ensures kept { IfErr result (λ _. AreSame slots.old.items slots.new.items) }
-    ensures no_memory { NeedsNone home target.now source → IsOk result }
+    requires { CanWrite cells.old.items home target.now source }
+    ensures written { IfOk result (λ _.
+        Puts cells.old.items home target.now source cells.new.items) }
+    ensures kept { IfErr result (λ _. AreSame cells.old.items cells.new.items) }
+    ensures no_memory { NeedsNone (without_slot cells.old.items home.number) home.width target.now
+        source → IsOk result }
 {
-    let block = &slot_of(slots.as_slice(), home.number).block;
-    if are_packed(&source, home.width) && is_all(block, target, home.width) {
-        let _old = replace(alloc, slots, home, target, source)?;
-        return Ok(());
-    }
-    copy_items(alloc, slots, home, target, &source)
+    let mut slot = cells[home.number].take().unwrap();
+    let beside = Beside {
+        width: home.width,
+        others: cells.as_slice(),
+    };
+    let written = put_items(alloc, &mut slot.block, beside, target, source);
+    cells[home.number] = Some(slot);
+    written
+}
+
+/// Writes items to places of a buffer, whose slot is taken out meanwhile, and hands out the old ones,
+/// with the target's places in their order. All memory is asked for before the first change.
+pub(crate) fn write_over(
+    alloc: Global,
+    cells: &mut Vec<Option<Slot>>,
+    home: Home,
+    target: Target,
+    source: Source,
+) -> Result<Overwritten, AllocError>
+    requires { CanWrite cells.old.items home target source }
+    ensures written { IfOk result (λ _. Puts cells.old.items home target source cells.new.items) }
+    ensures moved { IfOk result (λ w.
+        IsPermutation (target_offsets target) (target_offsets w.target)) }
+    ensures old { IfOk result (λ w. AreOldAt cells.old.items home w.target w.items) }
+    ensures kept { IfErr result (λ _. AreSame cells.old.items cells.new.items) }
+{
+    let mut slot = cells[home.number].take().unwrap();
+    let beside = Beside {
+        width: home.width,
+        others: cells.as_slice(),
+    };
+    let written = put_near(alloc, &mut slot.block, beside, target, source);
+    cells[home.number] = Some(slot);
+    written
 }

@@ -7,7 +7,7 @@ use Rattle.name_store.specs.Invariants.{users_at}
 use Rattle.name_store.specs.Targets.{target_offsets}
 use Rattle.name_store.specs.View.{slot_at}
 use Rattle.name_store.specs.declared.table.Home.{Home}
-use Rattle.name_store.specs.declared.old_items.OldItems.{OldItems}
+use Rattle.name_store.specs.declared.change.OldItems.{OldItems}
 use Rattle.name_store.specs.declared.slot.Slot.{Slot}
 use Rattle.name_store.specs.declared.target.Target.{Target}
 use Rattle.name_store.specs.inside.Held.{stand}

@@ -1,8 +1,9 @@
--- Items that are put in a buffer, by its number.
-use Rattle.std.specs.Prelude.{◌≡◌, ◌+◌, ◌≤◌, ℕ, List, [], length, replicate, Option, Some, None, All}
+-- Items that are put in a block, and in the slot that it stands in.
+use Rattle.std.specs.Prelude.{◌≡◌, ◌+◌, ◌≤◌, ◌<◌, ℕ, List, length, replicate, Option, Some, None, All, slice_set}
 use Rattle.elem_descr.specs.Items.{item_size}
 use Rattle.shape_strides.specs.declared.layout.Layout.{Layout}
 use Rattle.shape_strides.specs.Layouts.{offsets, Fits, IsNested}
+use Rattle.shape_strides.specs.Limits.{max_bytes}
 use Rattle.arrays.specs.Assignments.{items_at, with_items}
 use Rattle.name_store.specs.Memory.{MoveInPlace}
 use Rattle.name_store.specs.Targets.{target_offsets}
@@ -20,37 +21,36 @@ abbrev pub MayPut : Target → ℕ → ℕ → Type 0
 MayPut (View layout) len width = Fits layout len width × IsNested (offsets layout) width
 MayPut (Plan plan) len width = All (λ offset. offset + width ≤ len) plan.offsets
 
+-- the bytes of a buffer that items come from: where it is not among the others it is the one that is written
+abbrev pub block_from : Option Slot → List ℕ → List ℕ
+block_from None block = block
+block_from (Some slot) block = slot.block
+
 -- there are n of them, each of so many bytes
-abbrev pub AreItems : List (Option Slot) → ℕ → ℕ → Source → Type 0
-AreItems slots width n (One item) = length item.items ≡ width
-AreItems slots width n (Block owned) = (item_size owned.descr ≡ width) × (length (offsets owned.layout) ≡ n)
-AreItems slots width n (Buffer number layout) =
-    (s : Slot) × (slot_at slots number ≡ Some s) × Fits layout (length s.block) width × (length (offsets layout) ≡ n)
+abbrev pub AreItems : List (Option Slot) → ℕ → List ℕ → ℕ → Source → Type 0
+AreItems others width block n (One item) = length item.items ≡ width
+AreItems others width block n (Block owned) = (item_size owned.descr ≡ width) × (length (offsets owned.layout) ≡ n)
+AreItems others width block n (Buffer number layout) =
+    (number < length others) × Fits layout (length (block_from (slot_at others number) block)) width × (length (offsets layout) ≡ n)
 
--- items can be put at the offsets of a target in the buffer
-pub record CanPut (slots : List (Option Slot)) (home : Home) (target : Target) (source : Source) : Type 0 where
-  pub slot : Slot
-  pub there : slot_at slots home.number ≡ Some slot
-  pub some : 1 ≤ home.width
-  pub inside : All (λ offset. offset + home.width ≤ length slot.block) (target_offsets target)
-  pub may : MayPut target (length slot.block) home.width
-  pub are : AreItems slots home.width (length (target_offsets target)) source
-
-abbrev pub block_in : Option Slot → List ℕ
-block_in None = []
-block_in (Some slot) = slot.block
+-- items can be put at the offsets of a target in a block
+pub record CanPut (others : List (Option Slot)) (width : ℕ) (target : Target) (source : Source) (block : List ℕ) : Type 0 where
+  pub small : length block ≤ max_bytes
+  pub some : 1 ≤ width
+  pub inside : All (λ offset. offset + width ≤ length block) (target_offsets target)
+  pub may : MayPut target (length block) width
+  pub are : AreItems others width block (length (target_offsets target)) source
 
 -- the bytes of each of n items
-abbrev pub parts_of : List (Option Slot) → ℕ → ℕ → Source → List (List ℕ)
-parts_of slots width n (One item) = replicate n item.items
-parts_of slots width n (Block owned) = items_at (offsets owned.layout) width owned.block
-parts_of slots width n (Buffer number layout) = items_at (offsets layout) width (block_in (slot_at slots number))
+abbrev pub parts_of : List (Option Slot) → ℕ → List ℕ → ℕ → Source → List (List ℕ)
+parts_of others width block n (One item) = replicate n item.items
+parts_of others width block n (Block owned) = items_at (offsets owned.layout) width owned.block
+parts_of others width block n (Buffer number layout) = items_at (offsets layout) width (block_from (slot_at others number) block)
 
--- they are put there, and nothing else changes
-abbrev pub Puts : List (Option Slot) → Home → Target → Source → List (Option Slot) → Type 0
-Puts slots home target source slots' =
-    let os = target_offsets target in
-    (s : Slot) → slot_at slots home.number ≡ Some s → HasNew slots home.number s (with_items os (parts_of slots home.width (length os) source) s.block) slots'
+-- the block once they are put there
+abbrev pub with_source : List (Option Slot) → ℕ → Target → Source → List ℕ → List ℕ
+with_source others width target source block =
+    let os = target_offsets target in with_items os (parts_of others width block (length os) source) block
 
 -- items of a layout can come to a target in the same buffer one by one
 abbrev pub InPlace : Target → Layout → ℕ → Type 0
@@ -58,7 +58,23 @@ InPlace (View to) from width = MoveInPlace to from width
 InPlace (Plan plan) from width = ⊥
 
 -- it takes no memory to put them
-abbrev pub NeedsNone : Home → Target → Source → Type 0
-NeedsNone home target (One item) = Unit {0}
-NeedsNone home target (Block owned) = Unit {0}
-NeedsNone home target (Buffer number from) = number ≡ home.number → InPlace target from home.width
+abbrev pub NeedsNone : List (Option Slot) → ℕ → Target → Source → Type 0
+NeedsNone others width target (One item) = Unit {0}
+NeedsNone others width target (Block owned) = Unit {0}
+NeedsNone others width target (Buffer number from) = slot_at others number ≡ None → InPlace target from width
+
+-- the slots but for the one with a number
+abbrev pub without_slot : List (Option Slot) → ℕ → List (Option Slot)
+without_slot slots number = slice_set slots number None
+
+-- items can be put in the slot where an array lies
+pub record CanWrite (slots : List (Option Slot)) (home : Home) (target : Target) (source : Source) : Type 0 where
+  pub slot : Slot
+  pub there : slot_at slots home.number ≡ Some slot
+  pub can : CanPut (without_slot slots home.number) home.width target source slot.block
+
+-- they are put there, and nothing else changes
+abbrev pub Puts : List (Option Slot) → Home → Target → Source → List (Option Slot) → Type 0
+Puts slots home target source slots' =
+    (s : Slot) → slot_at slots home.number ≡ Some s
+    → HasNew slots home.number s (with_source (without_slot slots home.number) home.width target source s.block) slots'

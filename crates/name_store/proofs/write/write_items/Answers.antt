@@ -1,5 +1,55 @@
-use Rattle.name_store.proofs.RewriteLaws.{can-within}
+use Rattle.std.proofs.Common.{◌≡◌, ◌≤◌, refl, sym, ap, subst, ◌∙◌, is_some, slice_set, Some, arith}
+use Rattle.std.proofs.lemmas.Result.{IfOk-weaker, IfErr-weaker}
+use Rattle.shape_strides.specs.Limits.{max_bytes}
+use Rattle.name_store.specs.View.{slot_at}
+use Rattle.name_store.specs.inside.Puts.{CanPut, with_source, without_slot}
+use Rattle.name_store.proofs.RewriteLaws.{can-slot, puts-back, keeps-back, length-tried}
+use Rattle.name_store.proofs.SlotLaws.{slot_at-get_or, slot_at-within}
+use Rattle.name_store.proofs.write.write_items.Goals.{After-as_slice}
 use Rattle.name_store.proofs.write.write_items.Goals as goal
 
-pub slot_of-requires-clause-within : goal.slot_of-requires-clause-within
-slot_of-requires-clause-within c = rw c.as_slice.ensures.value (can-within c.args.slots.now.items c.args.home c.args.target.now c.args.source c.requires)
+pub index_mut-requires : goal.index_mut-requires
+index_mut-requires c = omega (arith, c.args.cells.now.ok.0, slot_at-within c.args.cells.now.items c.args.home.number c.requires.slot c.requires.there)
+
+pub unwrap-slot-requires : goal.unwrap-slot-requires
+unwrap-slot-requires c =
+    ap is_some (c.take.ensures.value ∙ c.index_mut.ensures.value ∙ slot_at-get_or c.args.cells.now.items c.args.home.number _ (slot_at-within c.args.cells.now.items c.args.home.number c.requires.slot c.requires.there) ∙ c.requires.there)
+
+-- the slot stood there, and the others stand where they did
+there : (c : After-as_slice) → slot_at c.args.cells.now.items c.args.home.number ≡ Some c.unwrap-slot.result
+there c =
+    sym (c.take.ensures.value ∙ c.index_mut.ensures.value ∙ slot_at-get_or c.args.cells.now.items c.args.home.number _ (slot_at-within c.args.cells.now.items c.args.home.number c.requires.slot c.requires.there))
+    ∙ c.unwrap-slot.ensures
+
+others : (c : After-as_slice) → c.as_slice.result.now ≡ without_slot c.args.cells.now.items c.args.home.number
+others c = c.as_slice.ensures.value ∙ ap (slice_set c.args.cells.now.items c.args.home.number) c.take.ensures.after
+
+can : (c : After-as_slice) → CanPut c.as_slice.result.now c.args.home.width c.args.target.now c.args.source c.unwrap-slot.result.block
+can c =
+    subst (λ os. CanPut os c.args.home.width c.args.target.now c.args.source c.unwrap-slot.result.block) (sym (others c))
+    (can-slot c.args.cells.now.items c.args.home c.args.target.now c.args.source c.requires c.unwrap-slot.result (there c))
+
+pub put_items-written-requires : goal.put_items-written-requires
+put_items-written-requires c = can (goal.at.put_items-written-requires c).After-as_slice
+
+pub invariant_of-slot-clause-is_whole : goal.invariant_of-slot-clause-is_whole
+invariant_of-slot-clause-is_whole c =
+    let s = c.unwrap-slot.result in
+    let len = length-tried c.as_slice.result.now c.args.home.width c.args.target.now c.args.source s.block (can (goal.at.invariant_of-slot-clause-is_whole c).After-as_slice) c.put_items-written.result c.put_items-written.new.block c.put_items-written.ensures.written c.put_items-written.ensures.kept in
+    record { legal = s.is_whole.legal; whole = len ∙ s.is_whole.whole; small = subst (λ n. n ≤ max_bytes) (sym len) s.is_whole.small }
+
+pub index_mut-requires-2 : goal.index_mut-requires-2
+index_mut-requires-2 c = omega (arith, c.args.cells.now.ok.0, slot_at-within c.args.cells.now.items c.args.home.number c.requires.slot c.requires.there)
+
+pub returns-clause-written : goal.returns-clause-written
+returns-clause-written c =
+    let s = c.unwrap-slot.result in
+    let h = (goal.at.returns-clause-written c).After-as_slice in
+    IfOk-weaker c.put_items-written.result _ _ (λ _ (bytes : c.put_items-written.new.block ≡ with_source c.as_slice.result.now c.args.home.width c.args.target.now c.args.source s.block).
+    puts-back c.args.cells.now.items c.args.home c.args.target.now c.args.source c.requires s (there h) _ _ refl refl refl
+    (bytes ∙ ap (λ os. with_source os c.args.home.width c.args.target.now c.args.source s.block) (others h))) c.put_items-written.ensures.written
+
+pub returns-clause-kept : goal.returns-clause-kept
+returns-clause-kept c =
+    IfErr-weaker c.put_items-written.result _ _ (λ _ same.
+    keeps-back c.args.cells.now.items c.args.home c.args.target.now c.args.source c.requires c.unwrap-slot.result (there (goal.at.returns-clause-kept c).After-as_slice) _ _ refl refl refl same) c.put_items-written.ensures.kept

@@ -5,7 +5,7 @@ use Rattle.shape_strides.specs.Layouts.{offsets}
 use Rattle.name_store.specs.Targets.{target_offsets}
 use Rattle.name_store.specs.declared.target.Target.{Target}
 use Rattle.name_store.specs.inside.Exchanges.{AreAll}
-use Rattle.name_store.proofs.exchange.is_all.Goals as goal
+use Rattle.name_store.proofs.write.is_all.Goals as goal
 
 pub returns-then-is_c : goal.returns-then-is_c
 returns-then-is_c c same =

@@ -2,7 +2,7 @@ use Rattle.std.proofs.Common.{◌∙◌, sym, subst, length}
 use Rattle.shape_strides.specs.LayoutLaws.{offsets_within}
 use Rattle.shape_strides.specs.Layouts.{Fits}
 use Rattle.name_store.proofs.ExchangeLaws.{own-packed}
-use Rattle.name_store.proofs.exchange.own_block.Goals as goal
+use Rattle.name_store.proofs.write.own_block.Goals as goal
 
 pub gather-requires : goal.gather-requires
 gather-requires c = offsets_within c.args.owned.layout _ _ (subst (Fits c.args.owned.layout (length c.args.owned.block)) c.requires.width c.args.owned.fills_block.fits)

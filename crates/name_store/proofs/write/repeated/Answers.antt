@@ -1,7 +1,7 @@
 use Rattle.std.proofs.Common.{◌∙◌, ◌++◌}
 use Rattle.raw_block.specs.Bytes.{joined}
 use Rattle.name_store.proofs.ExchangeLaws.{repeated-packed}
-use Rattle.name_store.proofs.exchange.repeated.Goals as goal
+use Rattle.name_store.proofs.write.repeated.Goals as goal
 
 pub returns : goal.returns
 returns c =

@@ -6,7 +6,7 @@ use Rattle.name_store.specs.Targets.{target_offsets}
 use Rattle.name_store.specs.declared.target.Target.{Target}
 use Rattle.name_store.specs.inside.Puts.{MayPut}
 use Rattle.name_store.proofs.NearLaws.{near-moved, near-may, near-fills}
-use Rattle.name_store.proofs.write_over.near.Goals as goal
+use Rattle.name_store.proofs.write.near.Goals as goal
 
 pub returns-in-Some-clause-moved : goal.returns-in-Some-clause-moved
 returns-in-Some-clause-moved c =
