@@ -32,11 +32,14 @@ use Rattle.name_store.specs.declared.bound.Bound.TheVariants as bound
 use Rattle.name_store.specs.declared.target.Source.{Source}
 use Rattle.name_store.specs.declared.target.Source.TheVariants as source
 use Rattle.bench_engine.specs.Machine.{viewed, operand_part, argument_items}
-use Rattle.bench_engine.specs.inside.Assigns.{IsTaken, GivesTaken, LiesIn, Stretches, Fitted, cast_from, GivesItems}
+use Rattle.bench_engine.specs.inside.Assigns.{IsTaken, LiesIn, Stretches, Fitted, cast_from}
 use Rattle.bench_engine.specs.inside.Operands.{StandsFor, LiesInBuffer}
 use Rattle.bench_engine.proofs.Assigns.{all-viewed, lies-viewed, stretched-shape}
 use Rattle.bench_engine.proofs.Casts.{cast-none, cast-some}
 use Rattle.bench_engine.proofs.Views.{given-view}
+use Rattle.bench_engine.specs.inside.Meeting.{Meets}
+use Rattle.name_store.specs.Targets.{Supplies}
+use Rattle.bench_engine.proofs.Answered.{met}
 
 pub stretches : (view wide : Layout) (shape : List ℕ) → GivesView view (Ok wide) (stretched_into view.shape shape) → Stretches view shape wide
 stretches view wide shape gives =
@@ -124,18 +127,18 @@ module _ (s : State) (operand : Operand) (descr : Descr) (shape : List ℕ) wher
         sym (map-map (cast_item x.descr.now descr) (item_from x.descr.now x.block.now) (offsets wide))
         ∙ (λ i. map (cast_item (sym stands.descr i) descr) (stands-wide s part x stands wide is.seen is.is i))
 
-    block-given : (number : Option ℕ) (o : Owned) → Fitted x number shape descr (Ok (source.Block o)) → GivesItems s descr (count shape) (Ok (source.Block o)) (argument_items s (argument.Operand operand) descr shape)
+    block-given : (number : Option ℕ) (o : Owned) → Fitted x number shape descr (Ok (source.Block o)) → Meets (Supplies s descr (count shape)) (Ok (source.Block o)) (argument_items s (argument.Operand operand) descr shape)
     block-given number o (wide, is, can, type-is, shape-is, items) =
-        subst (GivesItems s descr (count shape) (Ok (source.Block o))) (sym (done wide is can))
+        subst (Meets (Supplies s descr (count shape)) (Ok (source.Block o))) (sym (done wide is can))
         (record { alike = record { leaves = ap leaves_of type-is; size = ap item_size type-is }; count = length-offsets o.layout ∙ ap count shape-is }, items ∙ cast-read wide is)
 
-    none-given : (number : Option ℕ) (e : Refusal) → Fitted x number shape descr (Err e) → GivesItems s descr (count shape) (Err e) (argument_items s (argument.Operand operand) descr shape)
+    none-given : (number : Option ℕ) (e : Refusal) → Fitted x number shape descr (Err e) → Meets (Supplies s descr (count shape)) (Err e) (argument_items s (argument.Operand operand) descr shape)
     none-given number e (inl lacks) = inl lacks
     none-given number e (inr (inl narrow)) = inr (items-narrow e (ap (λ (l : List ℕ). stretched_into l shape) stands.shape ∙ narrow))
     none-given number e (inr (inr (none, wide, is, cannot))) = inr (items-uncast is.seen (fits wide is) (ap (λ d. can_cast d descr) stands.descr ∙ cannot) ∙ ap Err (sym none))
 
     -- a copy
-    copy-given : (result : Result Source Refusal) → Fitted x None shape descr result → GivesItems s descr (count shape) result (argument_items s (argument.Operand operand) descr shape)
+    copy-given : (result : Result Source Refusal) → Fitted x None shape descr result → Meets (Supplies s descr (count shape)) result (argument_items s (argument.Operand operand) descr shape)
     copy-given (Ok (source.One bytes)) is = absurd is
     copy-given (Ok (source.Buffer number wide)) (same, stretches, can, alike, items) = let no : ⊥ = cc in absurd no
     copy-given (Ok (source.Block o)) is = block-given None o is
@@ -144,11 +147,11 @@ module _ (s : State) (operand : Operand) (descr : Descr) (shape : List ℕ) wher
   -- items that stand in the buffer of an array that is shown
   module _ (b : Array) (r : ArrayRef) (shows : Shows s b r) (lengths places : List ℕ) (good : operand_part s operand ≡ Ok (part_in b lengths places)) (x : Items) (stands : StandsFor s (part_in b lengths places) x)
       (lies : LiesIn s b (part_in b lengths places) x.layout.now) where
-    buffer-given : (number : ℕ) (wide : Layout) → Fitted x (Some r.number) shape descr (Ok (source.Buffer number wide)) → GivesItems s descr (count shape) (Ok (source.Buffer number wide)) (argument_items s (argument.Operand operand) descr shape)
+    buffer-given : (number : ℕ) (wide : Layout) → Fitted x (Some r.number) shape descr (Ok (source.Buffer number wide)) → Meets (Supplies s descr (count shape)) (Ok (source.Buffer number wide)) (argument_items s (argument.Operand operand) descr shape)
     buffer-given number wide (same, is, can, alike, items) =
         let same-number : r.number ≡ number = cc in
         let seen = lies-viewed s b (part_in b lengths places) x.layout.now wide is.seen lies is.is in
-        subst (GivesItems s descr (count shape) (Ok (source.Buffer number wide))) (sym (done (part_in b lengths places) good x stands wide is can)) (
+        subst (Meets (Supplies s descr (count shape)) (Ok (source.Buffer number wide))) (sym (done (part_in b lengths places) good x stands wide is can)) (
           record (viewed (part_in b lengths places) is.seen) { writable = false },
           record {
             view = record {
@@ -170,7 +173,7 @@ module _ (s : State) (operand : Operand) (descr : Descr) (shape : List ℕ) wher
           sym (stands-wide s (part_in b lengths places) x stands wide is.seen is.is) ∙ items ∙ cast-read (part_in b lengths places) good x stands wide is,
         )
 
-    view-given : (result : Result Source Refusal) → Fitted x (Some r.number) shape descr result → GivesItems s descr (count shape) result (argument_items s (argument.Operand operand) descr shape)
+    view-given : (result : Result Source Refusal) → Fitted x (Some r.number) shape descr result → Meets (Supplies s descr (count shape)) result (argument_items s (argument.Operand operand) descr shape)
     view-given (Ok (source.One bytes)) is = absurd is
     view-given (Ok (source.Buffer number wide)) is = buffer-given number wide is
     view-given (Ok (source.Block o)) is = block-given (part_in b lengths places) good x stands (Some r.number) o is
@@ -178,24 +181,19 @@ module _ (s : State) (operand : Operand) (descr : Descr) (shape : List ℕ) wher
 
   -- any part
   pub part-given : (part : Array) (number : Option ℕ) (x : Items) (result : Result Source Refusal) → operand_part s operand ≡ Ok part → StandsFor s part x → LiesInBuffer s part number x.layout.now →
-      Fitted x number shape descr result → GivesItems s descr (count shape) result (argument_items s (argument.Operand operand) descr shape)
+      Fitted x number shape descr result → Meets (Supplies s descr (count shape)) result (argument_items s (argument.Operand operand) descr shape)
   part-given part None x result good stands lies is = copy-given part good x stands result is
   part-given part (Some number) x result good stands (b, r, shows, same, lies) is =
-      subst (λ (p : Array). operand_part s operand ≡ Ok p → StandsFor s p x → LiesIn s b p x.layout.now → GivesItems s descr (count shape) result (argument_items s (argument.Operand operand) descr shape)) (sym lies.part_is)
+      subst (λ (p : Array). operand_part s operand ≡ Ok p → StandsFor s p x → LiesIn s b p x.layout.now → Meets (Supplies s descr (count shape)) result (argument_items s (argument.Operand operand) descr shape)) (sym lies.part_is)
       (λ good stands lies. view-given b r shows _ _ good x stands lies result (subst (λ n. Fitted x (Some n) shape descr result) same is)) good stands lies
 
 -- ---- of whatever is taken
 
-pub given-taken : (s : State) (b : Array) (r : ArrayRef) (plain : Bool) (t : Bound) (there : Result View Refusal) → GivesTaken s b r plain (Ok t) there → (view : View) × (there ≡ Ok view) × IsTaken s b r plain t view
-given-taken s b r plain t (Ok view) is = (view, refl, is)
-given-taken s b r plain t (Err e) is = absurd is
-
--- where it is a view, or a copy
-pub taken-view : (s : State) (b : Array) (r : ArrayRef) (plain : Bool) (what : Bound) (number : ℕ) (path : List ℕ) (layout : Layout) (writable : Bool) (there : Result View Refusal) → what ≡ bound.View number path layout writable → GivesTaken s b r plain (Ok what) there →
+pub taken-view : (s : State) (b : Array) (r : ArrayRef) (plain : Bool) (what : Bound) (number : ℕ) (path : List ℕ) (layout : Layout) (writable : Bool) (there : Result View Refusal) → what ≡ bound.View number path layout writable → Meets (IsTaken s b r plain) (Ok what) there →
     (view : View) × (there ≡ Ok view) × IsTaken s b r plain (bound.View number path layout writable) view
 taken-view s b r plain what number path layout writable there same is =
-    given-taken s b r plain (bound.View number path layout writable) there (subst (λ (x : Bound). GivesTaken s b r plain (Ok x) there) same is)
+    met (IsTaken s b r plain) (bound.View number path layout writable) there (subst (λ (x : Bound). Meets (IsTaken s b r plain) (Ok x) there) same is)
 
-pub taken-copy : (s : State) (b : Array) (r : ArrayRef) (plain : Bool) (what : Bound) (o : Owned) (there : Result View Refusal) → what ≡ bound.Fresh o → GivesTaken s b r plain (Ok what) there →
+pub taken-copy : (s : State) (b : Array) (r : ArrayRef) (plain : Bool) (what : Bound) (o : Owned) (there : Result View Refusal) → what ≡ bound.Fresh o → Meets (IsTaken s b r plain) (Ok what) there →
     (view : View) × (there ≡ Ok view) × IsTaken s b r plain (bound.Fresh o) view
-taken-copy s b r plain what o there same is = given-taken s b r plain (bound.Fresh o) there (subst (λ (x : Bound). GivesTaken s b r plain (Ok x) there) same is)
+taken-copy s b r plain what o there same is = met (IsTaken s b r plain) (bound.Fresh o) there (subst (λ (x : Bound). Meets (IsTaken s b r plain) (Ok x) there) same is)

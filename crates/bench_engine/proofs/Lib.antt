@@ -2,6 +2,7 @@ pub mod Capped
 pub mod Creates
 pub mod Deletes
 pub mod Feeding
+pub mod Answered
 pub mod Assigns
 pub mod Casts
 pub mod Nested

@@ -38,13 +38,14 @@ use Rattle.script_lang.specs.declared.literal.ScalarLiteral.TheVariants.{Integer
 use Rattle.script_lang.specs.declared.literal.Literal.{Literal}
 use Rattle.script_lang.specs.declared.literal.Literal.TheVariants as literal
 use Rattle.bench_engine.specs.Machine.{OperandValues, one_item, literal_value, literal_scalar, operand_of_literal, compared_literal, literal_values, operation_scalar, operation_with}
-use Rattle.bench_engine.specs.inside.Operands.{Stands, OwnStands, GivesStanding}
+use Rattle.bench_engine.specs.inside.Operands.{Stands, OwnStands}
 use Rattle.bench_engine.specs.inside.OwnContents.{held, IsInCOrder}
 use Rattle.bench_engine.proofs.Copies.{made-held}
 use Rattle.bench_engine.proofs.LegalLaws.{legal-common}
 use Rattle.bench_engine.proofs.OperandLaws.{one-stands}
 use Rattle.bench_engine.proofs.StretchLaws.{none-fits}
 use Rattle.bench_engine.proofs.WorkLaws.{same_refusal, worked-done}
+use Rattle.bench_engine.specs.inside.Meeting.{Meets}
 
 -- ---- a comparison with the value of a literal
 
@@ -208,16 +209,12 @@ literal-done op d l s own to item is good typed there = rw (is, good, typed, the
 
 -- the one item of a block stands for the literal
 pub single-gives : (op : BinOp) (d : Descr) (l : Literal) (s own to : Scalar) (result : Result Owned Refusal) → scalar_of d ≡ Ok s → literal_scalar s l ≡ Ok own → promote op s own ≡ Ok to → IfOk result (λ o. o.descr ≡ ScalarDescr own) → IfOk result (λ o. o.layout.shape ≡ []) →
-    IfOk result (λ o. offsets o.layout ≡ 0 ∷ []) → Gives (λ o. item_from o.descr o.block 0) result (item_value (ScalarDescr own) l) → GivesStanding result (operand_of_literal op d l)
+    IfOk result (λ o. offsets o.layout ≡ 0 ∷ []) → Gives (λ o. item_from o.descr o.block 0) result (item_value (ScalarDescr own) l) → Meets OwnStands result (operand_of_literal op d l)
 single-gives op d l s own to (Ok o) is good kind typed shaped laid item =
-    subst (GivesStanding (Ok o)) (sym (literal-done op d l s own to (item_from o.descr o.block 0) is good kind item))
+    subst (Meets OwnStands (Ok o)) (sym (literal-done op d l s own to (item_from o.descr o.block 0) is good kind item))
     (one-stands (ScalarDescr own) (item_from o.descr o.block 0) o typed shaped (ap (map (item_from o.descr o.block)) laid))
 single-gives op d l s own to (Err e) is good kind typed shaped laid (inl lacks) = inl lacks
 single-gives op d l s own to (Err e) is good kind typed shaped laid (inr bad) = inr (literal-range op d l s own to e is good kind bad)
-
-pub given-standing : (o : Owned) (there : Result OperandValues Refusal) → GivesStanding (Ok o) there → (w : OperandValues) × (there ≡ Ok w) × OwnStands w o
-given-standing o (Ok w) is = (w, refl, is)
-given-standing o (Err e) is = absurd is
 
 -- ---- a literal is one item, without axes
 

@@ -45,9 +45,9 @@ use Rattle.name_store.specs.declared.target.Target.{Target}
 use Rattle.name_store.specs.declared.target.Target.TheVariants.{View}
 use Rattle.bench_engine.specs.Machine.{OperandValues, changed_with, literal_values, operand_values, updated_items}
 use Rattle.bench_engine.specs.declared.update.Writing.{Writing}
-use Rattle.bench_engine.specs.inside.Assigns.{GivesItems, IsTarget}
-use Rattle.bench_engine.specs.inside.Operands.{GivesChanged, Stands}
-use Rattle.bench_engine.specs.inside.Writings.{Leaves, GivesWriting, GoTogether}
+use Rattle.bench_engine.specs.inside.Assigns.{IsTarget}
+use Rattle.bench_engine.specs.inside.Operands.{Stands, HoldsItems}
+use Rattle.bench_engine.specs.inside.Writings.{Leaves, GoTogether}
 use Rattle.bench_engine.proofs.Assigns.{all-viewed}
 use Rattle.bench_engine.proofs.LiteralLaws.{IsOneItem, literal-one}
 use Rattle.bench_engine.proofs.OperandLaws.{all-stand}
@@ -58,11 +58,12 @@ use Rattle.bench_engine.proofs.Views.{given-view}
 use Rattle.bench_engine.proofs.Updates.{own_values, stands-own, view-can}
 use Rattle.bench_engine.proofs.WriteOrder.{write-reordered}
 use Rattle.bench_engine.proofs.Written.{old-view}
+use Rattle.bench_engine.specs.inside.Meeting.{Meets}
 
 -- ---- nothing moved
 
 -- the items of a source for a target of the part itself
-pub leaves-itself : (s : State) (name : List ℕ) (a part : Array) (t : Target) (source : Source) (new : List (List LeafValue)) → IsTarget s name a part t → Supplies s (descr_of s a) (count part.shape) source new → Leaves s name a part new t source
+pub leaves-itself : (s : State) (name : List ℕ) (a part : Array) (t : Target) (source : Source) (new : List (List LeafValue)) → IsTarget s name a t part → Supplies s (descr_of s a) (count part.shape) source new → Leaves s name a part (record { target = t; source = source }) new
 leaves-itself s name a part t source new is has =
     let many : length (target_offsets t) ≡ count part.shape = is.counted ∙ ap count (ap (λ (x : Array). x.shape) (sym is.part_is)) in
     record {
@@ -77,7 +78,7 @@ leaves-itself s name a part t source new is has =
 
 -- ---- what is read of a part at its own shape
 
-own-read : (s : State) (name : List ℕ) (a part : Array) (r : ArrayRef) (l : Layout) → Shows s a r → IsTarget s name a part (View l) → (operand_values s part).stretched_to part.shape ≡ read s part
+own-read : (s : State) (name : List ℕ) (a part : Array) (r : ArrayRef) (l : Layout) → Shows s a r → IsTarget s name a (View l) part → (operand_values s part).stretched_to part.shape ≡ read s part
 own-read s name a part r l shows is =
     let shaped : part.shape ≡ l.shape = ap (λ (x : Array). x.shape) is.part_is in
     let reads : read s part ≡ map (item_from r.descr.now r.block.now) (offsets l) = read-part s a part r l shows (record {
@@ -117,7 +118,7 @@ beside-itself os os' same =
     let twice : ℕ → ℕ × ℕ = λ o. (o, o) in
     subst (λ l. IsPermutation l (zip os' os')) (sym (zip-itself os)) (subst (IsPermutation (map twice os)) (sym (zip-itself os')) (IsPermutation-map twice os os' same))
 
-module _ (s : State) (name : List ℕ) (a part : Array) (r : ArrayRef) (shows : Shows s a r) (l l' : Layout) (is : IsTarget s name a part (View l)) (os os' : List ℕ) (long : length os ≡ length (offsets l)) (long' : length os' ≡ length (offsets l')) (same : IsPermutation (zip (offsets l) os) (zip (offsets l') os')) where
+module _ (s : State) (name : List ℕ) (a part : Array) (r : ArrayRef) (shows : Shows s a r) (l l' : Layout) (is : IsTarget s name a (View l) part) (os os' : List ℕ) (long : length os ≡ length (offsets l)) (long' : length os' ≡ length (offsets l')) (same : IsPermutation (zip (offsets l) os) (zip (offsets l') os')) where
   abbrev address_of : ℕ → ℕ
   address_of place = item_size (buffer_of s a).descr * place + start_at (buffer_of s a).descr a.path
 
@@ -152,7 +153,7 @@ module _ (s : State) (name : List ℕ) (a part : Array) (r : ArrayRef) (shows : 
     nested-reordered (item_size (descr_of s a)) (offsets l) (offsets l') moved-offsets is.may_write.1,
   )
 
-  pub moved-target : IsTarget s name a moved_part (View l')
+  pub moved-target : IsTarget s name a (View l') moved_part
   moved-target = record {
     places = places;
     part_is = refl;
@@ -185,8 +186,8 @@ module _ (s : State) (name : List ℕ) (a part : Array) (r : ArrayRef) (shows : 
           (each part.shape os (long ∙ is.counted ∙ ap count (ap (λ (x : Array). x.shape) (sym is.part_is)))) (each l'.shape os' (long' ∙ length-offsets l'))
 
   -- so what is written there leaves the same
-  pub moved-leaves : 1 ≤ item_size r.descr.now → (there there' : Result (List (List LeafValue)) Refusal) (o : Owned) → Reorders is.places places there there' → GivesChanged r.descr.now (count l'.shape) (Ok o) there' →
-      GivesWriting s name a part (Ok (record { target = View l'; source = Block o })) there
+  pub moved-leaves : 1 ≤ item_size r.descr.now → (there there' : Result (List (List LeafValue)) Refusal) (o : Owned) → Reorders is.places places there there' → Meets (HoldsItems r.descr.now (count l'.shape)) (Ok o) there' →
+      Meets (Leaves s name a part) (Ok (record { target = View l'; source = Block o })) there
   moved-leaves some (Ok new) (Ok new') o kept gives = record {
     places = places;
     items = new';
@@ -239,32 +240,28 @@ abbrev pub as_writing : Target → Result Owned Refusal → Result Writing Refus
 as_writing t (Ok o) = Ok (record { target = t; source = Block o })
 as_writing t (Err e) = Err e
 
-pub given-leaves : (s : State) (name : List ℕ) (a part : Array) (w : Writing) (there : Result (List (List LeafValue)) Refusal) → GivesWriting s name a part (Ok w) there → (new : List (List LeafValue)) × (there ≡ Ok new) × Leaves s name a part new w.target w.source
-given-leaves s name a part w (Ok new) is = (new, refl, is)
-given-leaves s name a part w (Err e) is = absurd is
-
 -- as they stand in a source, for a target of the part itself
-pub supplied-gives : (s : State) (name : List ℕ) (a part : Array) (r : ArrayRef) (t : Target) (source : Source) (there : Result (List (List LeafValue)) Refusal) → Shows s a r → IsTarget s name a part t → GivesItems s r.descr.now (count part.shape) (Ok source) there →
-    GivesWriting s name a part (Ok (record { target = t; source = source })) there
+pub supplied-gives : (s : State) (name : List ℕ) (a part : Array) (r : ArrayRef) (t : Target) (source : Source) (there : Result (List (List LeafValue)) Refusal) → Shows s a r → IsTarget s name a t part → Meets (Supplies s r.descr.now (count part.shape)) (Ok source) there →
+    Meets (Leaves s name a part) (Ok (record { target = t; source = source })) there
 supplied-gives s name a part r t source (Ok new) shows is gives = leaves-itself s name a part t source new is (subst (λ (d : Descr). Supplies s d (count part.shape) source new) (sym shows.descr) gives)
 supplied-gives s name a part r t source (Err e) shows is gives = absurd gives
 
-pub unmoved-gives : (s : State) (name : List ℕ) (a part : Array) (r : ArrayRef) (t : Target) (result : Result Owned Refusal) (there : Result (List (List LeafValue)) Refusal) → Shows s a r → IsTarget s name a part t → GivesChanged r.descr.now (count part.shape) result there →
-    GivesWriting s name a part (as_writing t result) there
+pub unmoved-gives : (s : State) (name : List ℕ) (a part : Array) (r : ArrayRef) (t : Target) (result : Result Owned Refusal) (there : Result (List (List LeafValue)) Refusal) → Shows s a r → IsTarget s name a t part → Meets (HoldsItems r.descr.now (count part.shape)) result there →
+    Meets (Leaves s name a part) (as_writing t result) there
 unmoved-gives s name a part r t (Ok o) (Ok new) shows is gives = leaves-itself s name a part t (Block o) new is (subst (λ (d : Descr). Supplies s d (count part.shape) (Block o) new) (sym shows.descr) gives)
 unmoved-gives s name a part r t (Ok o) (Err e) shows is gives = absurd gives
 unmoved-gives s name a part r t (Err e) there shows is gives = gives
 
-module _ (s : State) (name : List ℕ) (a part : Array) (r : ArrayRef) (shows : Shows s a r) (l l' : Layout) (is : IsTarget s name a part (View l)) (some : 1 ≤ item_size r.descr.now) (legal : IsShape l.shape) (legal' : IsShape l'.shape) (x : Items) (block : x.block.now ≡ r.block.now) (laid : x.layout.now ≡ l') (typed : x.descr.now ≡ r.descr.now) where
+module _ (s : State) (name : List ℕ) (a part : Array) (r : ArrayRef) (shows : Shows s a r) (l l' : Layout) (is : IsTarget s name a (View l) part) (some : 1 ≤ item_size r.descr.now) (legal : IsShape l.shape) (legal' : IsShape l'.shape) (x : Items) (block : x.block.now ≡ r.block.now) (laid : x.layout.now ≡ l') (typed : x.descr.now ≡ r.descr.now) where
   shaped : IsShape part.shape
   shaped = subst IsShape (sym (ap (λ (x : Array). x.shape) is.part_is)) legal
 
-  stands : (part' : Array) → IsTarget s name a part' (View l') → Stands (operand_values s part') x
+  stands : (part' : Array) → IsTarget s name a (View l') part' → Stands (operand_values s part') x
   stands part' target = all-stand s part' x (old-view s name a part' r shows l' x target block laid typed)
 
-  pub literal-gives : (op : Operation) (value : Literal) (result : Result Owned Refusal) → IsPermutation (offsets l) (offsets l') → ((v : OperandValues) → Stands v x → GivesChanged x.descr.now (count v.shape) result (changed_with op x.descr.now v (literal_values op x.descr.now value))) →
-      GivesWriting s name a part (as_writing (View l') result) (changed_with op r.descr.now (operand_values s part) (literal_values op r.descr.now value))
-  literal-gives op value result moved gives = by-result result (subst (λ (d : Descr). GivesChanged d (count l'.shape) result (changed_with op d there (literal_values op d value))) typed (gives there (stands _ (moved-target s name a part r shows l l' is (offsets l) (offsets l') refl refl same))))
+  pub literal-gives : (op : Operation) (value : Literal) (result : Result Owned Refusal) → IsPermutation (offsets l) (offsets l') → ((v : OperandValues) → Stands v x → Meets (HoldsItems x.descr.now (count v.shape)) result (changed_with op x.descr.now v (literal_values op x.descr.now value))) →
+      Meets (Leaves s name a part) (as_writing (View l') result) (changed_with op r.descr.now (operand_values s part) (literal_values op r.descr.now value))
+  literal-gives op value result moved gives = by-result result (subst (λ (d : Descr). Meets (HoldsItems d (count l'.shape)) result (changed_with op d there (literal_values op d value))) typed (gives there (stands _ (moved-target s name a part r shows l l' is (offsets l) (offsets l') refl refl same))))
     where
       same : IsPermutation (zip (offsets l) (offsets l)) (zip (offsets l') (offsets l'))
       same = beside-itself (offsets l) (offsets l') moved
@@ -275,16 +272,16 @@ module _ (s : State) (name : List ℕ) (a part : Array) (r : ArrayRef) (shows : 
       kept : Reorders is.places (places s name a part r shows l l' is (offsets l) (offsets l') refl refl same) (changed_with op r.descr.now (operand_values s part) (literal_values op r.descr.now value)) (changed_with op r.descr.now there (literal_values op r.descr.now value))
       kept = moved-literal s name a part r shows l l' is (offsets l) (offsets l') refl refl same op value shaped legal'
 
-      by-result : (result : Result Owned Refusal) → GivesChanged r.descr.now (count l'.shape) result (changed_with op r.descr.now there (literal_values op r.descr.now value)) → GivesWriting s name a part (as_writing (View l') result) (changed_with op r.descr.now (operand_values s part) (literal_values op r.descr.now value))
+      by-result : (result : Result Owned Refusal) → Meets (HoldsItems r.descr.now (count l'.shape)) result (changed_with op r.descr.now there (literal_values op r.descr.now value)) → Meets (Leaves s name a part) (as_writing (View l') result) (changed_with op r.descr.now (operand_values s part) (literal_values op r.descr.now value))
       by-result (Ok o) gives = moved-leaves s name a part r shows l l' is (offsets l) (offsets l') refl refl same some _ _ o kept gives
       by-result (Err e) gives = moved-refused s name a part r shows l l' is (offsets l) (offsets l') refl refl same _ _ e kept gives
 
   pub items-gives : (op : Operation) (y y' : Items) (wide source : Layout) (seen : ViewOf) (w : OperandValues) (result : Result Owned Refusal) → source.shape ≡ l'.shape → stretched y.layout.now.shape l.shape ≡ Ok seen → IsViewOf y.layout.now wide seen →
       IsPermutation (zip (offsets l) (offsets wide)) (zip (offsets l') (offsets source)) → y'.block.now ≡ y.block.now → y'.layout.now ≡ source → y'.descr.now ≡ y.descr.now → Stands w y →
-      ((v w : OperandValues) → Stands v x → Stands w y' → GivesChanged x.descr.now (count v.shape) result (updated_items op x.descr.now v w)) →
-      GivesWriting s name a part (as_writing (View l') result) (updated_items op r.descr.now (operand_values s part) w)
+      ((v w : OperandValues) → Stands v x → Stands w y' → Meets (HoldsItems x.descr.now (count v.shape)) result (updated_items op x.descr.now v w)) →
+      Meets (Leaves s name a part) (as_writing (View l') result) (updated_items op r.descr.now (operand_values s part) w)
   items-gives op y y' wide source seen w result even there is-wide same block-is laid-is typed-is sw gives =
-      by-result result (subst (λ (d : Descr). GivesChanged d (count l'.shape) result (updated_items op d there' w')) typed (gives there' w' (stands _ (moved-target s name a part r shows l l' is (offsets wide) (offsets source) long long' same)) (stands-own y')))
+      by-result result (subst (λ (d : Descr). Meets (HoldsItems d (count l'.shape)) result (updated_items op d there' w')) typed (gives there' w' (stands _ (moved-target s name a part r shows l l' is (offsets wide) (offsets source) long long' same)) (stands-own y')))
     where
       can : can_stretch y.layout.now.shape l.shape ≡ true
       can = view-can y.layout.now.shape l.shape seen there
@@ -328,6 +325,6 @@ module _ (s : State) (name : List ℕ) (a part : Array) (r : ArrayRef) (shows : 
       kept : Reorders is.places (places s name a part r shows l l' is (offsets wide) (offsets source) long long' same) (updated_items op r.descr.now (operand_values s part) w) (updated_items op r.descr.now there' w')
       kept = moved-items s name a part r shows l l' is (offsets wide) (offsets source) long long' same op w w' (item_from y.descr.now y.block.now) (typed-is ∙ sym sw.descr) shaped legal' can-part can' ws ws'
 
-      by-result : (result : Result Owned Refusal) → GivesChanged r.descr.now (count l'.shape) result (updated_items op r.descr.now there' w') → GivesWriting s name a part (as_writing (View l') result) (updated_items op r.descr.now (operand_values s part) w)
+      by-result : (result : Result Owned Refusal) → Meets (HoldsItems r.descr.now (count l'.shape)) result (updated_items op r.descr.now there' w') → Meets (Leaves s name a part) (as_writing (View l') result) (updated_items op r.descr.now (operand_values s part) w)
       by-result (Ok o) gives = moved-leaves s name a part r shows l l' is (offsets wide) (offsets source) long long' same some _ _ o kept gives
       by-result (Err e) gives = moved-refused s name a part r shows l l' is (offsets wide) (offsets source) long long' same _ _ e kept gives

@@ -22,7 +22,7 @@ use Rattle.name_store.specs.declared.array_ref.ArrayRef.{ArrayRef}
 use Rattle.bench_engine.specs.declared.operate.Part.{Part}
 use Rattle.bench_engine.specs.Machine.{OperandValues, operand_values, one_item, viewed}
 use Rattle.bench_engine.specs.inside.Assigns.{Holds}
-use Rattle.bench_engine.specs.inside.Operands.{StandsFor, IsPart, GivesPart, Stands, OwnStands}
+use Rattle.bench_engine.specs.inside.Operands.{StandsFor, Stands, OwnStands}
 use Rattle.bench_engine.proofs.Assigns.{all-viewed, lies-whole, lies-viewed}
 use Rattle.bench_engine.proofs.Sets.{read-part}
 use Rattle.bench_engine.proofs.StretchLaws.{stretched-same, one-stretched, map-replicate}
@@ -56,10 +56,6 @@ copy-stands s part o x holds block laid typed = record {
   items = sym holds.items ∙ λ i. map (item_from (sym typed i) (sym block i)) (offsets (sym laid i));
 }
 
-pub given-part : (s : State) (p : Part) (there : Result Array Refusal) → GivesPart s (Ok p) there → (part : Array) × (there ≡ Ok part) × IsPart s part p
-given-part s p (Ok part) is = (part, refl, is)
-given-part s p (Err refusal) is = absurd is
-
 -- ---- stretched
 
 pub all-stand : (s : State) (part : Array) (x : Items) → StandsFor s part x → Stands (operand_values s part) x
@@ -72,7 +68,7 @@ all-stand s part x h = record {
       (sym h.items) (length-offsets x.layout.now) (ap (λ (shape : List ℕ). can_stretch shape target) (sym h.shape) ∙ can));
 }
 
-pub one-stands : (descr : Descr) (item : List LeafValue) (o : Owned) → o.descr ≡ descr → o.layout.shape ≡ [] → map (item_from o.descr o.block) (offsets o.layout) ≡ item ∷ [] → OwnStands (one_item descr item) o
+pub one-stands : (descr : Descr) (item : List LeafValue) (o : Owned) → o.descr ≡ descr → o.layout.shape ≡ [] → map (item_from o.descr o.block) (offsets o.layout) ≡ item ∷ [] → OwnStands o (one_item descr item)
 one-stands descr item o typed shaped is = record {
   descr = sym typed;
   shape = sym shaped;
@@ -83,7 +79,7 @@ one-stands descr item o typed shaped is = record {
       ∙ sym (stretched-same (item_from o.descr o.block) (λ (at : ℕ). item) (offsets o.layout) (0 ∷ []) o.layout.shape target is (length-offsets o.layout) (ap (λ (shape : List ℕ). can_stretch shape target) shaped ∙ can));
 }
 
-pub own-stands : (v : OperandValues) (o : Owned) (x : Items) → OwnStands v o → x.block.now ≡ o.block → x.layout.now ≡ o.layout → x.descr.now ≡ o.descr → Stands v x
+pub own-stands : (v : OperandValues) (o : Owned) (x : Items) → OwnStands o v → x.block.now ≡ o.block → x.layout.now ≡ o.layout → x.descr.now ≡ o.descr → Stands v x
 own-stands v o x h block laid typed = record {
   descr = h.descr ∙ sym typed;
   shape = h.shape ∙ ap (λ (l : Layout). l.shape) (sym laid);

@@ -19,12 +19,13 @@ use Rattle.bench_engine.specs.Machine.{a_view, a_copy, viewed, part_seen}
 use Rattle.name_store.specs.declared.bound.Bound.{Bound}
 use Rattle.name_store.specs.declared.bound.Bound.TheVariants as bound
 use Rattle.bench_engine.specs.declared.view.Viewed.{Viewed}
-use Rattle.bench_engine.specs.inside.Assigns.{Holds, IsTaken, GivesTaken}
+use Rattle.bench_engine.specs.inside.Assigns.{Holds, IsTaken}
 use Rattle.bench_engine.specs.inside.OwnContents.{held}
-use Rattle.bench_engine.specs.inside.Parts.{IsOf, GivesSeen}
+use Rattle.bench_engine.specs.inside.Parts.{IsOf, IsSeen}
 use Rattle.bench_engine.proofs.Copies.{made-held}
-use Rattle.bench_engine.proofs.GivenLaws.{given-taken}
 use Rattle.bench_engine.proofs.Views.{viewed-part}
+use Rattle.bench_engine.specs.inside.Meeting.{Meets}
+use Rattle.bench_engine.proofs.Answered.{met}
 
 module _ (s : State) (a : Array) (r : ArrayRef) (index : List (IndexItem (List ℕ))) where
   part-viewed : (view : View) → taken s a index ≡ Ok view → list_all is_basic index ≡ true → part_seen s a index ≡ Ok (a_view (viewed a view))
@@ -33,17 +34,17 @@ module _ (s : State) (a : Array) (r : ArrayRef) (index : List (IndexItem (List �
   part-copied : (view : View) → taken s a index ≡ Ok view → list_all is_basic index ≡ false → part_seen s a index ≡ Ok (a_copy (new_contents (descr_of s a) view.shape (read s (viewed a view))))
   part-copied view good arrays = rw (good, arrays) refl
 
-  pub indexed-seen : (x : Viewed) → Shows s a r → GivesTaken s a r (list_all is_basic index) (Ok x.bound) (taken s a index) → x.descr ≡ r.descr → GivesSeen s (Ok x) (part_seen s a index)
+  pub indexed-seen : (x : Viewed) → Shows s a r → Meets (IsTaken s a r (list_all is_basic index)) (Ok x.bound) (taken s a index) → x.descr ≡ r.descr → Meets (IsSeen s) (Ok x) (part_seen s a index)
   indexed-seen x shows gives descr =
-      let is = given-taken s a r (list_all is_basic index) x.bound (taken s a index) gives in
+      let is = met (IsTaken s a r (list_all is_basic index)) x.bound (taken s a index) gives in
       by x.bound refl is.0 is.1 is.2
     where
-      by : (b : Bound) → x.bound ≡ b → (view : View) → taken s a index ≡ Ok view → IsTaken s a r (list_all is_basic index) b view → GivesSeen s (Ok x) (part_seen s a index)
+      by : (b : Bound) → x.bound ≡ b → (view : View) → taken s a index ≡ Ok view → IsTaken s a r (list_all is_basic index) b view → Meets (IsSeen s) (Ok x) (part_seen s a index)
       by (bound.View number path layout writable) same view good is =
-          subst (GivesSeen s (Ok x)) (sym (part-viewed view good is.0))
+          subst (Meets (IsSeen s) (Ok x)) (sym (part-viewed view good is.0))
           (viewed-part s a r a.writable (Ok view) x layout shows (same ∙ λ i. bound.View (is.1 i) (is.2 i) layout ((is.3 ∙ shows.view.laid.writable_is) i)) descr is.4 (λ free. (free, is.5)))
       by (bound.Fresh o) same view good is =
-          subst (GivesSeen s (Ok x)) (sym (part-copied view good is.0)) (
+          subst (Meets (IsSeen s) (Ok x)) (sym (part-copied view good is.0)) (
             subst (λ (b : Bound). IsOf s b (a_copy (new_contents (descr_of s a) view.shape (read s (viewed a view))))) (sym same) (held-is o view is.1),
             shows.descr ∙ ap (λ (d : Bor Descr). d.now) (sym descr),
           )

@@ -20,6 +20,7 @@ use Rattle.name_store.specs.declared.bound.Bound.{Bound}
 use Rattle.name_store.specs.declared.bound.Bound.TheVariants as bound
 use Rattle.bench_engine.specs.inside.Parts.{IsOf, IsSeen}
 use Rattle.bench_engine.specs.Machine.{a_view, seen}
+use Rattle.bench_engine.specs.inside.Meeting.{Meets}
 
 -- one field of an array
 abbrev pub part_of : Array → ℕ → Array
@@ -72,9 +73,9 @@ part-descr : (s : State) (base : Array) (r : ArrayRef) (k : ℕ) → Shows s bas
 part-descr s base r k shows = descr-then (buffer_of s base).descr base.path k ∙ ap (λ (d : Descr). (field_at d k).descr) shows.descr
 
 pub field-part : (s : State) (base : Array) (r : ArrayRef) (name : List ℕ) (what : Bound) (descr : Descr) (path : List ℕ) (layout : Layout) (k : ℕ) → Shows s base r → field_of r.descr.now name ≡ Some k → k < length (fields r.descr.now) → path ≡ r.path.now ++ k ∷ [] →
-    what ≡ bound.View r.number path layout r.writable → descr ≡ (field_at r.descr.now k).descr → GivesField r.layout.now r.descr.now (field_of r.descr.now name) (Ok layout) → IsSeen s what descr (seen (Field name) s base)
+    what ≡ bound.View r.number path layout r.writable → descr ≡ (field_at r.descr.now k).descr → GivesField r.layout.now r.descr.now (field_of r.descr.now name) (Ok layout) → Meets (IsSeen s) (Ok (record { bound = what; descr = record r.descr { now = descr } })) (seen (Field name) s base)
 field-part s base r name what descr path layout k shows there low goes is typed given =
-    subst (λ (o : Option ℕ). IsSeen s what descr (ok_or o NoSuchField >>= (λ k. Ok (a_view (part_of base k))))) (sym (ap (λ (d : Descr). field_of d name) shows.descr ∙ there)) (
+    subst (λ (o : Option ℕ). Meets (IsSeen s) (Ok (record { bound = what; descr = record r.descr { now = descr } })) (ok_or o NoSuchField >>= (λ k. Ok (a_view (part_of base k))))) (sym (ap (λ (d : Descr). field_of d name) shows.descr ∙ there)) (
       subst (λ (b : Bound). IsOf s b (a_view (part_of base k))) (sym is)
           (seen-part s base r path k layout shows low goes (subst (λ (o : Option ℕ). GivesField r.layout.now r.descr.now o (Ok layout)) there given)),
       part-descr s base r k shows ∙ sym typed,

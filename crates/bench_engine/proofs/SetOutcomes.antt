@@ -15,7 +15,6 @@ use Rattle.name_store.specs.Arrays.{find_array, is_bound, descr_of, written}
 use Rattle.name_store.specs.declared.target.Target.{Target}
 use Rattle.bench_engine.specs.IndexLists.{names_in_index}
 use Rattle.bench_engine.specs.Machine.{target_part, new_items, names_in_argument, write_outcome, write_reply, accepted_with}
-use Rattle.bench_engine.specs.inside.Assigns.{IsTarget, GivesTarget}
 use Rattle.bench_engine.specs.inside.Operands.{GivesGiven}
 use Rattle.bench_engine.proofs.GivenLaws.{items-bad}
 
@@ -54,7 +53,3 @@ pub new-items-bad : (s : State) (descr : Descr) (part : Array) (op : Option Oper
 new-items-bad s descr part op value e (inl lacks) = inl lacks
 new-items-bad s descr part None value e (inr (operand, is, bad)) = inr (rw is (items-bad s operand descr part.shape e bad))
 new-items-bad s descr part (Some op) value e (inr (operand, is, bad)) = inr (rw (is, bad) refl)
-
-pub given-target : (s : State) (name : List ℕ) (a : Array) (t : Target) (there : Result Array Refusal) → GivesTarget s name a (Ok t) there → (part : Array) × (there ≡ Ok part) × IsTarget s name a part t
-given-target s name a t (Ok part) is = (part, refl, is)
-given-target s name a t (Err e) is = absurd is

@@ -31,13 +31,14 @@ use Rattle.script_lang.specs.declared.literal.Literal.{Literal}
 use Rattle.script_lang.specs.declared.operation.Operation.{Operation}
 use Rattle.bench_engine.specs.Contents.{Contents}
 use Rattle.bench_engine.specs.Machine.{OperandValues, literal_values, operation_scalar, operation_on, operation_with, updated_items, changed_with}
-use Rattle.bench_engine.specs.inside.Operands.{Stands, GivesChanged}
+use Rattle.bench_engine.specs.inside.Operands.{Stands, HoldsItems}
 use Rattle.bench_engine.specs.inside.OwnContents.{held, IsInCOrder}
 use Rattle.bench_engine.proofs.LegalLaws.{legal-common}
 use Rattle.bench_engine.proofs.LiteralLaws.{IsOneItem, literal-one}
 use Rattle.bench_engine.proofs.Stored.{items-from}
 use Rattle.bench_engine.proofs.StretchLaws.{common-onto, none-fits, stretched-can}
 use Rattle.bench_engine.proofs.WorkLaws.{same_refusal, worked-bad, worked-done}
+use Rattle.bench_engine.specs.inside.Meeting.{Meets}
 
 -- ---- the exits
 
@@ -122,16 +123,16 @@ items-held o order = sym (ap (map (item_from o.descr o.block)) order ∙ items-f
 
 -- what is changed is what is cast
 pub changed-gives : (d : Descr) (n : ℕ) (new : Owned) (result : Result Owned Refusal) (there : Result (List (List LeafValue)) Refusal) → IsInCOrder new → there ≡ Ok (map (cast_item new.descr d) (held new).buffer.items) → n ≡ count new.layout.shape →
-    GivesChanged d (count new.layout.shape) result (Ok (map (cast_item new.descr d) (map (item_from new.descr new.block) (offsets new.layout)))) → GivesChanged d n result there
+    Meets (HoldsItems d (count new.layout.shape)) result (Ok (map (cast_item new.descr d) (map (item_from new.descr new.block) (offsets new.layout)))) → Meets (HoldsItems d n) result there
 changed-gives d n new result there order is counted gives =
-    subst (λ (n : ℕ). GivesChanged d n result there) (sym counted)
-    (subst (GivesChanged d (count new.layout.shape) result) (ap (λ items. Ok (map (cast_item new.descr d) items)) (sym (items-held new order)) ∙ sym is) gives)
+    subst (λ (n : ℕ). Meets (HoldsItems d n) result there) (sym counted)
+    (subst (Meets (HoldsItems d (count new.layout.shape)) result) (ap (λ items. Ok (map (cast_item new.descr d) items)) (sym (items-held new order)) ∙ sym is) gives)
 
 -- new items, cast
 pub cast-changed : (new : Owned) (d : Descr) (result : Result Owned Refusal) → can_cast new.descr d ≡ true → count new.layout.shape * item_size d ≤ max_bytes → IfOk result (λ o. o.descr ≡ d) → IfOk result (λ o. o.layout.shape ≡ new.layout.shape) →
     IfOk result (λ o. map (item_from d o.block) (offsets o.layout) ≡ map (λ offset. cast_item new.descr d (item_from new.descr new.block offset)) (offsets new.layout)) →
     IfErr result (λ e. e ≡ (if can_cast new.descr d then (if nat_le (count new.layout.shape * item_size d) max_bytes then OutOfMemory else TooLarge) else NoSuchCast)) →
-    GivesChanged d (count new.layout.shape) result (Ok (map (cast_item new.descr d) (map (item_from new.descr new.block) (offsets new.layout))))
+    Meets (HoldsItems d (count new.layout.shape)) result (Ok (map (cast_item new.descr d) (map (item_from new.descr new.block) (offsets new.layout))))
 cast-changed new d (Ok o) can few typed shaped items refused = (
   record { alike = record { leaves = ap leaves_of typed; size = ap item_size typed }; count = length-offsets o.layout ∙ ap count shaped },
   ap (λ (d : Descr). map (item_from d o.block) (offsets o.layout)) typed ∙ items ∙ sym (map-map (cast_item new.descr d) (item_from new.descr new.block) (offsets new.layout)),

@@ -15,9 +15,10 @@ use Rattle.name_store.specs.declared.bound.Bound.{Bound}
 use Rattle.name_store.specs.declared.bound.Bound.TheVariants as bound
 use Rattle.name_store.specs.declared.array_ref.ArrayRef.{ArrayRef}
 use Rattle.bench_engine.specs.declared.view.Viewed.{Viewed}
-use Rattle.bench_engine.specs.inside.Parts.{IsOf, GivesSeen, descr_seen, shape_of_bound, origin_of_bound}
+use Rattle.bench_engine.specs.inside.Parts.{IsOf, descr_seen, shape_of_bound, origin_of_bound, IsSeen}
 use Rattle.bench_engine.specs.Contents.{array_over}
 use Rattle.bench_engine.specs.inside.Contract.{CarriesOut, IsRefused}
+use Rattle.bench_engine.specs.inside.Meeting.{Meets}
 use Rattle.bench_engine.specs.declared.replies.Origin.TheVariants as origin
 use Rattle.bench_engine.specs.Replies.{bound_text}
 use Rattle.bench_engine.specs.Machine.{Choice, Outcome, ViewOrCopy, a_view, a_copy, viewed, bound_seen, accepted_with}
@@ -44,7 +45,7 @@ seen s base r view new writable shows is free = let lies = lies-viewed s base ba
 
 -- so do its items that are a view of it
 pub viewed-part : (s : State) (base : Array) (r : ArrayRef) (writable : Bool) (there : Result View Refusal) (x : Viewed) (layout : Layout) → Shows s base r → x.bound ≡ bound.View r.number r.path.now layout writable → x.descr ≡ r.descr →
-    GivesView r.layout.now (Ok layout) there → (IsTrue writable → IsTrue base.writable × KeepsNested r.layout.now layout) → GivesSeen s (Ok x) (there >>= (λ view. Ok (a_view (record (viewed base view) { writable = writable }))))
+    GivesView r.layout.now (Ok layout) there → (IsTrue writable → IsTrue base.writable × KeepsNested r.layout.now layout) → Meets (IsSeen s) (Ok x) (there >>= (λ view. Ok (a_view (record (viewed base view) { writable = writable }))))
 viewed-part s base r writable (Err e) x layout shows is descr given free = absurd given
 viewed-part s base r writable (Ok view) x layout shows is descr given free =
     (subst (λ (b : Bound). IsOf s b (a_view (record (viewed base view) { writable = writable }))) (sym is) (seen s base r view layout writable shows given free), shows.descr ∙ ap (λ (d : Bor Descr). d.now) (sym descr))
@@ -79,11 +80,6 @@ seen-answers s new name may outcome (bound.Fresh o) descr (a_view array) result 
 seen-answers s new name may outcome (bound.Fresh o) descr (a_copy contents) result before after can room is told holds typed binds =
     fresh-answers s new name may outcome o contents result (bound_text name descr o.layout.shape origin.Copy) before after can room holds
     (λ choice. is choice ∙ λ i. accepted_with (bound_to s name (array_over choice.fresh contents) contents.buffer) (bound_text name (typed i) (holds i).shape origin.Copy)) told binds
-
--- what was seen is there
-pub given-seen : (s : State) (x : Viewed) (there : Result ViewOrCopy Refusal) → GivesSeen s (Ok x) there → (it : ViewOrCopy) × (there ≡ Ok it) × IsOf s x.bound it × (descr_seen s it ≡ x.descr.now)
-given-seen s x (Ok it) is = (it, refl, is.0, is.1)
-given-seen s x (Err e) is = absurd is
 
 -- what a call that gives a view answers
 pub given-view : (old new : Layout) (there : Result View Refusal) → GivesView old (Ok new) there → (view : View) × (there ≡ Ok view) × IsViewOf old new view

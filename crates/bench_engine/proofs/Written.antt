@@ -31,7 +31,7 @@ some-inside P item start places some all among =
 module _ (s : State) (name : List ℕ) (a part : Array) (r : ArrayRef) (shows : Shows s a r) where
   -- ---- a view
 
-  lies : (layout : Layout) → IsTarget s name a part (target.View layout) → LiesIn s a part layout
+  lies : (layout : Layout) → IsTarget s name a (target.View layout) part → LiesIn s a part layout
   lies layout is = record {
     places = is.places;
     shape = layout.shape;
@@ -42,24 +42,24 @@ module _ (s : State) (name : List ℕ) (a part : Array) (r : ArrayRef) (shows : 
     fits = is.may_write.0;
   }
 
-  pub old-view : (layout : Layout) (x : Items) → IsTarget s name a part (target.View layout) → x.block.now ≡ r.block.now → x.layout.now ≡ layout → x.descr.now ≡ r.descr.now → StandsFor s part x
+  pub old-view : (layout : Layout) (x : Items) → IsTarget s name a (target.View layout) part → x.block.now ≡ r.block.now → x.layout.now ≡ layout → x.descr.now ≡ r.descr.now → StandsFor s part x
   old-view layout x is block laid typed = record {
     descr = ap (descr_of s) is.part_is ∙ shows.descr ∙ sym typed;
     shape = ap (λ (a : Array). a.shape) is.part_is ∙ ap (λ (l : Layout). l.shape) (sym laid);
     items = read-part s a part r layout shows (lies layout is) ∙ λ i. map (item_from (sym typed i) (sym block i)) (offsets (sym laid i));
   }
 
-  pub view-inside : (layout : Layout) → IsTarget s name a part (target.View layout) → All (λ offset. offset + item_size r.descr.now ≤ length r.block.now) (offsets layout)
+  pub view-inside : (layout : Layout) → IsTarget s name a (target.View layout) part → All (λ offset. offset + item_size r.descr.now ≤ length r.block.now) (offsets layout)
   view-inside layout is = part-inside s a part r layout shows (lies layout is)
 
   -- ---- a plan
 
-  pub plan-inside : (plan : Planned) → IsTarget s name a part (target.Plan plan) → All (λ offset. offset + item_size r.descr.now ≤ length r.block.now) plan.offsets
+  pub plan-inside : (plan : Planned) → IsTarget s name a (target.Plan plan) part → All (λ offset. offset + item_size r.descr.now ≤ length r.block.now) plan.offsets
   plan-inside plan is =
       let P = λ (offset : ℕ). offset + item_size r.descr.now ≤ length r.block.now in
       subst (All P) (sym is.leads.offsets_are) (some-inside P (item_size (buffer_of s a).descr) (start_at (buffer_of s a).descr a.path) a.places is.places (subst (All P) shows.view.laid.places shows.inside) is.leads.among)
 
-  pub old-plan : (plan : Planned) (o : Owned) (x : Items) → IsTarget s name a part (target.Plan plan) → o.descr ≡ r.descr.now → o.layout.shape ≡ plan.shape → map (item_from r.descr.now o.block) (offsets o.layout) ≡ map (item_from r.descr.now r.block.now) plan.offsets →
+  pub old-plan : (plan : Planned) (o : Owned) (x : Items) → IsTarget s name a (target.Plan plan) part → o.descr ≡ r.descr.now → o.layout.shape ≡ plan.shape → map (item_from r.descr.now o.block) (offsets o.layout) ≡ map (item_from r.descr.now r.block.now) plan.offsets →
       x.block.now ≡ o.block → x.layout.now ≡ o.layout → x.descr.now ≡ o.descr → StandsFor s part x
   old-plan plan o x is typed-o shaped items block laid typed = record {
     descr = ap (descr_of s) is.part_is ∙ shows.descr ∙ sym (typed ∙ typed-o);

@@ -16,8 +16,9 @@ ghost use Rattle.elem_descr.specs.Blocks.{item_from};
 ghost use Rattle.shape_strides.specs.IndexItems.{is_basic};
 ghost use Rattle.shape_strides.specs.Indexes.{count};
 ghost use Rattle.shape_strides.specs.Layouts.{offsets};
-ghost use Rattle.bench_engine.specs.inside.Assigns.{GivesTaken};
 ghost use Rattle.bench_engine.specs.inside.OwnContents.{IsInCOrder};
+ghost use Rattle.bench_engine.specs.inside.Meeting.{Meets};
+ghost use Rattle.bench_engine.specs.inside.Assigns.{IsTaken};
 
 use elem_descr::Refusal;
 use fancy_index::{Indices, Plan, plan};
@@ -142,7 +143,7 @@ pub fn take(
     requires bound { list_all (is_bound bench.now.state) (names_in_index index.now) ≡ true }
     requires shown { (a : Array) × Shows bench.now.state a array.now }
     ensures { (a : Array) → Shows bench.now.state a array.now
-        → GivesTaken bench.now.state a array.now (list_all is_basic index.now) result (taken bench.now.state a index.now) }
+        → Meets (IsTaken bench.now.state a array.now (list_all is_basic index.now)) result (taken bench.now.state a index.now) }
 {
     if view_ops::are_basic(index) {
         return Ok(Bound::View {

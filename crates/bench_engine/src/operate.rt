@@ -7,7 +7,7 @@ ghost use Rattle.shape_strides.specs.Layouts.{offsets};
 ghost use Rattle.name_store.specs.Arrays.{is_bound, find_array};
 ghost use Rattle.name_store.specs.States.{State, Array};
 ghost use Rattle.bench_engine.specs.Machine.{operand_part, names_in_operand, names_in_argument, OperandValues, literal_value, literal_scalar, operand_of_literal, compared_literal, literal_values, argument_values, operation_scalar, operation_on, operation_with, operation_contents, transformed, reduced_contents, compute_outcome};
-ghost use Rattle.bench_engine.specs.inside.Operands.{StandsFor, IsPart, GivesPart, LiesInBuffer, buffer_number, IsGiven, Stands, GivesStanding};
+ghost use Rattle.bench_engine.specs.inside.Operands.{StandsFor, IsPart, LiesInBuffer, buffer_number, IsGiven, Stands, OwnStands};
 ghost use Rattle.elem_descr.specs.Refusals.{Gives, Answers};
 ghost use Rattle.elem_descr.specs.declared.descr.Descr.TheVariants.{Scalar as ScalarDescr};
 ghost use Rattle.elem_descr.specs.Blocks.{item_from};
@@ -24,6 +24,7 @@ ghost use Rattle.bench_engine.specs.Memory.{bound_in_computation};
 ghost use Rattle.bench_engine.specs.inside.Computed.{computed_contents, origin_of};
 ghost use Rattle.bench_engine.specs.inside.Parts.{IsShown, Copies, Casts};
 ghost use Rattle.bench_engine.specs.inside.Contract.{CarriesOut};
+ghost use Rattle.bench_engine.specs.inside.Meeting.{Meets};
 
 use crate::create::{bind_new, filled, item_of};
 use crate::index_list::{are_bound, take};
@@ -92,9 +93,9 @@ pub enum Part<'a> {
 impl Part<'_> {
     /// The items of the part.
     pub fn items(&self) -> Items<'_>
-        requires { (s : State) × (part : Array) × IsPart s part self.now }
-        ensures stands { (s : State) (part : Array) → IsPart s part self.now → StandsFor s part result }
-        ensures lies { (s : State) (part : Array) → IsPart s part self.now → LiesInBuffer s part (buffer_number self.now) result.layout.now }
+        requires { (s : State) × (part : Array) × IsPart s self.now part }
+        ensures stands { (s : State) (part : Array) → IsPart s self.now part → StandsFor s part result }
+        ensures lies { (s : State) (part : Array) → IsPart s self.now part → LiesInBuffer s part (buffer_number self.now) result.layout.now }
     {
         match self {
             Part::Whole(array) => items_of_view(array, array.layout),
@@ -122,7 +123,7 @@ pub fn operand_part<'a>(
     operand: &Operand,
 ) -> Result<Part<'a>, Refusal>
     requires { list_all (is_bound bench.now.state) (names_in_operand operand.now) ≡ true }
-    ensures { GivesPart bench.now.state result (operand_part bench.now.state operand.now) }
+    ensures { Meets (IsPart bench.now.state) result (operand_part bench.now.state operand.now) }
 {
     let array = bench.get(&operand.name).unwrap();
     let Some(index) = &operand.index else {
@@ -201,7 +202,7 @@ fn worked_literal(
     descr: &Descr,
     literal: &Literal,
 ) -> Result<Owned, Refusal>
-    ensures { GivesStanding result (operand_of_literal op descr.now literal.now) }
+    ensures { Meets OwnStands result (operand_of_literal op descr.now literal.now) }
 {
     let beside = scalar_of(descr)?;
     let scalar = literal_scalar(&beside, literal)?;

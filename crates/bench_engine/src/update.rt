@@ -15,8 +15,9 @@ ghost use Rattle.name_store.specs.States.{State, Array};
 ghost use Rattle.name_store.specs.declared.target.Target.TheVariants.{View};
 ghost use Rattle.bench_engine.specs.Machine.{OperandValues, argument_values, literal_values, operand_values, updated_items, changed_with, updated};
 ghost use Rattle.bench_engine.specs.inside.Assigns.{IsTarget};
-ghost use Rattle.bench_engine.specs.inside.Operands.{IsGiven, Stands, GivesChanged};
-ghost use Rattle.bench_engine.specs.inside.Writings.{GivesWriting, GoTogether};
+ghost use Rattle.bench_engine.specs.inside.Operands.{IsGiven, Stands, HoldsItems};
+ghost use Rattle.bench_engine.specs.inside.Writings.{GoTogether, Leaves};
+ghost use Rattle.bench_engine.specs.inside.Meeting.{Meets};
 
 use crate::operate::{items_of_view, result_scalar, work, work_literal};
 use crate::write::Given;
@@ -32,7 +33,7 @@ use std::alloc::Global;
 fn as_old(alloc: Global, new: Owned, descr: &Descr) -> Result<Owned, Refusal>
     requires can { can_cast new.descr descr.now ≡ true }
     requires few { count new.layout.shape * item_size descr.now ≤ max_bytes }
-    ensures { GivesChanged descr.now (count new.layout.shape) result
+    ensures { Meets (HoldsItems descr.now (count new.layout.shape)) result
         (Ok (map (cast_item new.descr descr.now) (map (item_from new.descr new.block) (offsets new.layout)))) }
 {
     if keeps_items(&new.block, &new.descr, descr) {
@@ -50,7 +51,7 @@ fn changed_by_items(
 ) -> Result<Owned, Refusal>
     requires few { count old.layout.now.shape * item_size old.descr.now ≤ max_bytes }
     ensures { (v w : OperandValues) → Stands v old.entry → Stands w items.entry
-        → GivesChanged old.entry.descr.now (count v.shape) result (updated_items operation old.entry.descr.now v w) }
+        → Meets (HoldsItems old.entry.descr.now (count v.shape)) result (updated_items operation old.entry.descr.now v w) }
 {
     let scalar = result_scalar(operation, old.descr, items.descr)?;
     same_kind(scalar, scalar_of(old.descr)?)?;
@@ -67,7 +68,7 @@ fn changed_by_literal(
     literal: &Literal,
 ) -> Result<Owned, Refusal>
     requires few { count old.layout.now.shape * item_size old.descr.now ≤ max_bytes }
-    ensures { (v : OperandValues) → Stands v old.entry → GivesChanged old.entry.descr.now (count v.shape) result
+    ensures { (v : OperandValues) → Stands v old.entry → Meets (HoldsItems old.entry.descr.now (count v.shape)) result
         (changed_with operation old.entry.descr.now v (literal_values operation old.entry.descr.now literal.now)) }
 {
     // What is known of a shape comes with this call.
@@ -88,7 +89,7 @@ fn changed(
     requires given { (s : State) × (value : Argument) × IsGiven s value given.now }
     requires few { count old.layout.now.shape * item_size old.descr.now ≤ max_bytes }
     ensures { (s : State) (value : Argument) (v : OperandValues) → IsGiven s value given.now → Stands v old.entry
-        → GivesChanged old.entry.descr.now (count v.shape) result
+        → Meets (HoldsItems old.entry.descr.now (count v.shape)) result
         (changed_with operation old.entry.descr.now v (argument_values s operation old.entry.descr.now value)) }
 {
     match given {
@@ -126,9 +127,9 @@ fn view_by_literal(
     operation: Operation,
     literal: &Literal,
 ) -> Result<Writing, Refusal>
-    requires { (s : State) × (name : List ℕ) × (a : Array) × (part : Array) × Shows s a array.now × IsTarget s name a part (View view) }
-    ensures { (s : State) (name : List ℕ) (a part : Array) → Shows s a array.now → IsTarget s name a part (View view)
-        → GivesWriting s name a part result (updated s array.now.descr.now part operation (LiteralArgument literal.now)) }
+    requires { (s : State) × (name : List ℕ) × (a : Array) × (part : Array) × Shows s a array.now × IsTarget s name a (View view) part }
+    ensures { (s : State) (name : List ℕ) (a part : Array) → Shows s a array.now → IsTarget s name a (View view) part
+        → Meets (Leaves s name a part) result (updated s array.now.descr.now part operation (LiteralArgument literal.now)) }
 {
     // What is known of shapes, and of the size of an item, comes with these calls.
     let _size = array.descr.size();
@@ -165,10 +166,10 @@ fn pair_by_items(
     items: Items<'_>,
 ) -> Result<Writing, Refusal>
     requires { (s : State) × (name : List ℕ) × (a : Array) × (part : Array) × (view : Layout)
-        × Shows s a array.now × IsTarget s name a part (View view) × GoTogether view items.layout.now pair }
-    ensures { (s : State) (name : List ℕ) (a part : Array) (view : Layout) (w : OperandValues) → Shows s a array.now → IsTarget s name a part (View view)
+        × Shows s a array.now × IsTarget s name a (View view) part × GoTogether view items.layout.now pair }
+    ensures { (s : State) (name : List ℕ) (a part : Array) (view : Layout) (w : OperandValues) → Shows s a array.now → IsTarget s name a (View view) part
         → IsShape view.shape → GoTogether view items.entry.layout.now pair → Stands w items.entry
-        → GivesWriting s name a part result (updated_items operation array.now.descr.now (operand_values s part) w) }
+        → Meets (Leaves s name a part) result (updated_items operation array.now.descr.now (operand_values s part) w) }
 {
     let LayoutPair { target, source } = pair;
     // What is known of a shape, and of the size of an item, comes with these calls.
@@ -195,9 +196,9 @@ fn view_by_items(
     operation: Operation,
     items: Items<'_>,
 ) -> Result<Writing, Refusal>
-    requires { (s : State) × (name : List ℕ) × (a : Array) × (part : Array) × Shows s a array.now × IsTarget s name a part (View view) }
-    ensures { (s : State) (name : List ℕ) (a part : Array) (w : OperandValues) → Shows s a array.now → IsTarget s name a part (View view) → Stands w items.entry
-        → GivesWriting s name a part result (updated_items operation array.now.descr.now (operand_values s part) w) }
+    requires { (s : State) × (name : List ℕ) × (a : Array) × (part : Array) × Shows s a array.now × IsTarget s name a (View view) part }
+    ensures { (s : State) (name : List ℕ) (a part : Array) (w : OperandValues) → Shows s a array.now → IsTarget s name a (View view) part → Stands w items.entry
+        → Meets (Leaves s name a part) result (updated_items operation array.now.descr.now (operand_values s part) w) }
 {
     // What is known of a shape comes with this call.
     let _lengths = view.shape.as_slice();
@@ -221,9 +222,9 @@ pub fn updated(
     given: &Given<'_>,
 ) -> Result<Writing, Refusal>
     requires { (s : State) × (value : Argument) × (name : List ℕ) × (a : Array) × (part : Array)
-        × IsGiven s value given.now × Shows s a array.now × IsTarget s name a part target }
-    ensures { (s : State) (value : Argument) (name : List ℕ) (a part : Array) → IsGiven s value given.now → Shows s a array.now → IsTarget s name a part target
-        → GivesWriting s name a part result (updated s array.now.descr.now part operation value) }
+        × IsGiven s value given.now × Shows s a array.now × IsTarget s name a target part }
+    ensures { (s : State) (value : Argument) (name : List ℕ) (a part : Array) → IsGiven s value given.now → Shows s a array.now → IsTarget s name a target part
+        → Meets (Leaves s name a part) result (updated s array.now.descr.now part operation value) }
 {
     match target {
         Target::View(view) => match given {

@@ -8,12 +8,14 @@ ghost use Rattle.name_store.specs.Arrays.{is_bound, find_array};
 ghost use Rattle.name_store.specs.States.{State, Array};
 ghost use Rattle.script_lang.specs.declared.command.Argument.{Argument};
 ghost use Rattle.bench_engine.specs.Machine.{argument_items, names_in_argument, target_part, new_items, write_outcome, write_reply};
-ghost use Rattle.bench_engine.specs.inside.Assigns.{GivesItems, Fitted, GivesTarget, GivesAim, IsTarget};
+ghost use Rattle.bench_engine.specs.inside.Assigns.{Fitted, IsTarget, IsAimed};
 ghost use Rattle.bench_engine.specs.inside.Operands.{IsGiven, GivesGiven};
 ghost use Rattle.name_store.specs.Shown.{Shows};
 ghost use Rattle.bench_engine.specs.IndexLists.{names_in_index, taken};
 ghost use Rattle.bench_engine.specs.inside.Contract.{CarriesOut};
-ghost use Rattle.bench_engine.specs.inside.Writings.{GivesWriting};
+ghost use Rattle.bench_engine.specs.inside.Meeting.{Meets};
+ghost use Rattle.name_store.specs.Targets.{Supplies};
+ghost use Rattle.bench_engine.specs.inside.Writings.{Leaves};
 
 use crate::create::item_of;
 use crate::index_list::{are_bound, planned};
@@ -90,7 +92,7 @@ fn source_of(
     requires given { (s : State) × (value : Argument) × IsGiven s value given.now }
     requires few { count shape.now * item_size descr.now ≤ max_bytes }
     ensures { (s : State) (value : Argument) → IsGiven s value given.now
-        → GivesItems s descr.now (count shape.now) result (argument_items s value descr.now shape.now) }
+        → Meets (Supplies s descr.now (count shape.now)) result (argument_items s value descr.now shape.now) }
 {
     match given {
         Given::Literal(literal) => Ok(Source::One(item_of(alloc, descr, literal)?)),
@@ -106,7 +108,7 @@ fn named_target(
     index: &[IndexItem<Name>],
 ) -> Result<Target, Refusal>
     requires bound { list_all (is_bound bench.now.state) (names_in_index index.now) ≡ true }
-    ensures { (a : Array) → Shows bench.now.state a array.now → GivesAim bench.now.state a array.now result (taken bench.now.state a index.now) }
+    ensures { (a : Array) → Shows bench.now.state a array.now → Meets (IsAimed bench.now.state a array.now) result (taken bench.now.state a index.now) }
 {
     if view_ops::are_basic(index) {
         return Ok(Target::View(view_ops::basic(alloc, array.layout, index)?));
@@ -123,7 +125,7 @@ fn target_of(
 ) -> Result<Target, Refusal>
     requires bound { list_all (is_bound bench.now.state) (names_in_index index.now) ≡ true }
     ensures { (name : List ℕ) (a : Array) → find_array bench.now.state.names name ≡ Some a → Shows bench.now.state a array.now
-        → GivesTarget bench.now.state name a result (target_part bench.now.state a index.now) }
+        → Meets (IsTarget bench.now.state name a) result (target_part bench.now.state a index.now) }
 {
     let target = named_target(alloc, bench, array, index)?;
     if !array.writable {
@@ -170,9 +172,9 @@ fn new_items(
     assignment: Assignment<'_>,
 ) -> Result<Writing, Refusal>
     requires bound { list_all (is_bound bench.now.state) (names_in_argument assignment.value.now) ≡ true }
-    requires target { (name : List ℕ) × (a : Array) × (part : Array) × Shows bench.now.state a array.now × IsTarget bench.now.state name a part target }
-    ensures { (name : List ℕ) (a part : Array) → Shows bench.now.state a array.now → IsTarget bench.now.state name a part target
-        → GivesWriting bench.now.state name a part result (new_items bench.now.state array.now.descr.now part assignment.entry.operation assignment.entry.value.now) }
+    requires target { (name : List ℕ) × (a : Array) × (part : Array) × Shows bench.now.state a array.now × IsTarget bench.now.state name a target part }
+    ensures { (name : List ℕ) (a part : Array) → Shows bench.now.state a array.now → IsTarget bench.now.state name a target part
+        → Meets (Leaves bench.now.state name a part) result (new_items bench.now.state array.now.descr.now part assignment.entry.operation assignment.entry.value.now) }
 {
     let given = given_by(alloc, bench, assignment.value)?;
     match assignment.operation {

@@ -18,7 +18,7 @@ use Rattle.elementwise.specs.Casts.{can_cast, cast_item}
 use Rattle.broadcasting.specs.Broadcasts.{stretched_into}
 use Rattle.name_store.specs.States.{State, Array}
 use Rattle.name_store.specs.Arrays.{addresses, descr_of, read}
-use Rattle.name_store.specs.Targets.{FitsBuffer, Supplies, LeadsTo, MayWrite, target_offsets, target_shape}
+use Rattle.name_store.specs.Targets.{FitsBuffer, LeadsTo, MayWrite, target_offsets, target_shape}
 use Rattle.name_store.specs.declared.array_ref.ArrayRef.{ArrayRef}
 use Rattle.name_store.specs.declared.bound.Bound.{Bound}
 use Rattle.name_store.specs.declared.bound.Bound.TheVariants as bound
@@ -44,12 +44,6 @@ IsTaken s array r plain (bound.View number path layout writable) view =
     (plain ≡ true) × (number ≡ r.number) × (path ≡ r.path.now) × (writable ≡ r.writable) × IsViewOf r.layout.now layout view × KeepsNested r.layout.now layout
 IsTaken s array r plain (bound.Fresh o) view = (plain ≡ false) × Holds s (viewed array view) o
 
--- what is taken is the view that is there; a refusal is the one that is there, unless memory ran out
-abbrev pub GivesTaken : State → Array → ArrayRef → Bool → Result Bound Refusal → Result View Refusal → Type 0
-GivesTaken s array r plain (Ok taken) (Ok view) = IsTaken s array r plain taken view
-GivesTaken s array r plain (Ok taken) (Err refusal) = ⊥
-GivesTaken s array r plain (Err refusal) there = (refusal ≡ OutOfMemory) ⊎ (there ≡ Err refusal)
-
 -- ---- where items are written
 
 -- a target has the items of a part of an array, at most 2^28 bytes of them, and those of a view lie apart where the array's do
@@ -57,34 +51,22 @@ abbrev pub LiesApart : State → Array → ArrayRef → Target → Type 0
 LiesApart s array r (target.View layout) = FitsBuffer s array layout × KeepsNested r.layout.now layout
 LiesApart s array r (target.Plan plan) = length plan.offsets * item_size (descr_of s array) ≤ max_bytes
 
-pub record IsAimed (s : State) (array part : Array) (r : ArrayRef) (target : Target) : Type 0 where
+pub record IsAimed (s : State) (array : Array) (r : ArrayRef) (target : Target) (view : View) : Type 0 where
   pub places : List ℕ
-  pub part_is : part ≡ record array { shape = target_shape target; places = places }
+  pub part_is : viewed array view ≡ record array { shape = target_shape target; places = places }
   pub counted : length (target_offsets target) ≡ count (target_shape target)
   pub offsets_are : target_offsets target ≡ addresses s (record array { places = places })
   pub among : All (Contains array.places) places
   pub apart : LiesApart s array r target
 
--- the target has the items of the view that is there; a refusal is the one that is there, unless memory ran out
-abbrev pub GivesAim : State → Array → ArrayRef → Result Target Refusal → Result View Refusal → Type 0
-GivesAim s array r (Ok target) (Ok view) = IsAimed s array (viewed array view) r target
-GivesAim s array r (Ok target) (Err refusal) = ⊥
-GivesAim s array r (Err refusal) there = (refusal ≡ OutOfMemory) ⊎ (there ≡ Err refusal)
-
 -- a target in a name's array is a part of it that may be written
-pub record IsTarget (s : State) (name : List ℕ) (array part : Array) (target : Target) : Type 0 where
+pub record IsTarget (s : State) (name : List ℕ) (array : Array) (target : Target) (part : Array) : Type 0 where
   pub places : List ℕ
   pub part_is : part ≡ record array { shape = target_shape target; places = places }
   pub counted : length (target_offsets target) ≡ count (target_shape target)
   pub leads : LeadsTo s name target array places
   pub may_write : MayWrite s array target
   pub few : length (target_offsets target) * item_size (descr_of s array) ≤ max_bytes
-
--- the target is the part that is there; a refusal is the one that is there, unless memory ran out
-abbrev pub GivesTarget : State → List ℕ → Array → Result Target Refusal → Result Array Refusal → Type 0
-GivesTarget s name array (Ok target) (Ok part) = IsTarget s name array part target
-GivesTarget s name array (Ok target) (Err refusal) = ⊥
-GivesTarget s name array (Err refusal) there = (refusal ≡ OutOfMemory) ⊎ (there ≡ Err refusal)
 
 -- ---- where they come from
 
@@ -117,9 +99,3 @@ Fitted x number shape to (Ok (source.Block o)) =
     (wide : Layout) × Stretches x.layout.now shape wide × (can_cast x.descr.now to ≡ true) × (o.descr ≡ to) × (o.layout.shape ≡ shape) × (map (item_from o.descr o.block) (offsets o.layout) ≡ cast_from x.block.now x.descr.now wide to)
 Fitted x number shape to (Err refusal) =
     (refusal ≡ OutOfMemory) ⊎ ((stretched_into x.layout.now.shape shape ≡ Err refusal) ⊎ ((refusal ≡ NoSuchCast) × (wide : Layout) × Stretches x.layout.now shape wide × (can_cast x.descr.now to ≡ false)))
-
--- a source has the items that are there; a refusal is the one that is there, unless memory ran out
-abbrev pub GivesItems : State → Descr → ℕ → Result Source Refusal → Result (List (List LeafValue)) Refusal → Type 0
-GivesItems s descr n (Ok source) (Ok items) = Supplies s descr n source items
-GivesItems s descr n (Ok source) (Err refusal) = ⊥
-GivesItems s descr n (Err refusal) there = (refusal ≡ OutOfMemory) ⊎ (there ≡ Err refusal)

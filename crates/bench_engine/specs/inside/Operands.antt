@@ -34,10 +34,10 @@ pub record StandsFor (s : State) (array : Array) (x : Items) : Type 0 where
   pub items : read s array ≡ map (item_from x.descr.now x.block.now) (offsets x.layout.now)
 
 -- an array of the state that is shown, a view of one, or a copy of its items
-abbrev pub IsPart : State → Array → Part → Type 0
-IsPart s a (part.Whole r) = Shows s a r
-IsPart s a (part.View r layout) = (array : Array) × (view : View) × Shows s array r × IsViewOf r.layout.now layout view × (viewed array view ≡ a)
-IsPart s a (part.Copy o) = Holds s a o
+abbrev pub IsPart : State → Part → Array → Type 0
+IsPart s (part.Whole r) a = Shows s a r
+IsPart s (part.View r layout) a = (array : Array) × (view : View) × Shows s array r × IsViewOf r.layout.now layout view × (viewed array view ≡ a)
+IsPart s (part.Copy o) a = Holds s a o
 
 -- the buffer in which its items stand, unless they are copied
 abbrev pub buffer_number : Part → Option ℕ
@@ -50,16 +50,10 @@ abbrev pub LiesInBuffer : State → Array → Option ℕ → Layout → Type 0
 LiesInBuffer s a None layout = Unit {0}
 LiesInBuffer s a (Some number) layout = (array : Array) × (r : ArrayRef) × Shows s array r × (number ≡ r.number) × LiesIn s array a layout
 
--- the part is the one that is there; a refusal is the one that is there, unless memory ran out
-abbrev pub GivesPart : State → Result Part Refusal → Result Array Refusal → Type 0
-GivesPart s (Ok p) (Ok array) = IsPart s array p
-GivesPart s (Ok p) (Err refusal) = ⊥
-GivesPart s (Err refusal) there = (refusal ≡ OutOfMemory) ⊎ (there ≡ Err refusal)
-
 -- a literal, or the part that an operand is
 abbrev pub IsGiven : State → Argument → Given → Type 0
 IsGiven s value (given.Literal literal) = value ≡ argument.Literal literal.now
-IsGiven s value (given.Items p) = (operand : Operand) × (array : Array) × (value ≡ argument.Operand operand) × (operand_part s operand ≡ Ok array) × IsPart s array p
+IsGiven s value (given.Items p) = (operand : Operand) × (array : Array) × (value ≡ argument.Operand operand) × (operand_part s operand ≡ Ok array) × IsPart s p array
 
 -- what an argument gives; a refusal is that of the part that its operand is, unless memory ran out
 abbrev pub GivesGiven : State → Argument → Result Given Refusal → Type 0
@@ -73,20 +67,11 @@ pub record Stands (v : OperandValues) (x : Items) : Type 0 where
   pub items : (target : List ℕ) → IsTrue (can_stretch v.shape target) → v.stretched_to target ≡ stretched_items x.descr.now x.block.now x.layout.now target
 
 -- so are those of a block of its own
-pub record OwnStands (v : OperandValues) (o : Owned) : Type 0 where
+pub record OwnStands (o : Owned) (v : OperandValues) : Type 0 where
   pub descr : v.descr ≡ o.descr
   pub shape : v.shape ≡ o.layout.shape
   pub items : (target : List ℕ) → IsTrue (can_stretch v.shape target) → v.stretched_to target ≡ stretched_items o.descr o.block o.layout target
 
--- the block has the items of the operand that is there; a refusal is the one that is there, unless memory ran out
-abbrev pub GivesStanding : Result Owned Refusal → Result OperandValues Refusal → Type 0
-GivesStanding (Ok o) (Ok v) = OwnStands v o
-GivesStanding (Ok o) (Err refusal) = ⊥
-GivesStanding (Err refusal) there = (refusal ≡ OutOfMemory) ⊎ (there ≡ Err refusal)
-
--- a block has n items of an element type, which are those that are there; a refusal is the one that is there, unless memory
--- ran out
-abbrev pub GivesChanged : Descr → ℕ → Result Owned Refusal → Result (List (List LeafValue)) Refusal → Type 0
-GivesChanged descr n (Ok o) (Ok items) = HasItems o descr n × (map (item_from o.descr o.block) (offsets o.layout) ≡ items)
-GivesChanged descr n (Ok o) (Err refusal) = ⊥
-GivesChanged descr n (Err refusal) there = (refusal ≡ OutOfMemory) ⊎ (there ≡ Err refusal)
+-- a block has n items of an element type, which are these
+abbrev pub HoldsItems : Descr → ℕ → Owned → List (List LeafValue) → Type 0
+HoldsItems descr n o items = HasItems o descr n × (map (item_from o.descr o.block) (offsets o.layout) ≡ items)

@@ -19,6 +19,7 @@ use Rattle.bench_engine.specs.inside.OwnContents.{held}
 use Rattle.bench_engine.specs.Machine.{ViewOrCopy, a_view, a_copy, cast_contents, copied_contents, as_copy, seen}
 use Rattle.bench_engine.specs.declared.replies.Origin.{Origin}
 use Rattle.bench_engine.specs.declared.replies.Origin.TheVariants as origin
+use Rattle.bench_engine.specs.inside.Meeting.{Meets}
 
 -- it is an array of some state
 abbrev pub IsShown : ArrayRef → Type 0
@@ -35,27 +36,21 @@ abbrev pub descr_seen : State → ViewOrCopy → Descr
 descr_seen s (a_view array) = descr_of s array
 descr_seen s (a_copy contents) = contents.buffer.descr
 
--- what is bound is what is there, with this element type
-abbrev pub IsSeen : State → Bound → Descr → Result ViewOrCopy Refusal → Type 0
-IsSeen s what descr (Ok there) = IsOf s what there × (descr_seen s there ≡ descr)
-IsSeen s what descr (Err refusal) = ⊥
-
--- so is what is viewed; a refusal is the one that is there, unless memory ran out
-abbrev pub GivesSeen : State → Result Viewed Refusal → Result ViewOrCopy Refusal → Type 0
-GivesSeen s (Ok x) there = IsSeen s x.bound x.descr.now there
-GivesSeen s (Err refusal) there = (refusal ≡ OutOfMemory) ⊎ (there ≡ Err refusal)
+-- what is viewed is what is there, with its element type
+abbrev pub IsSeen : State → Viewed → ViewOrCopy → Type 0
+IsSeen s x there = IsOf s x.bound there × (descr_seen s there ≡ x.descr.now)
 
 -- what is given is what is seen of the array, in each state that has it
 abbrev pub Sees : Viewing → ArrayRef → Result Viewed Refusal → Type 0
-Sees how r result = (s : State) (array : Array) → Shows s array r → GivesSeen s result (seen how s array)
+Sees how r result = (s : State) (array : Array) → Shows s array r → Meets (IsSeen s) result (seen how s array)
 
 -- so it is in this state
 abbrev pub SeesIn : State → Viewing → ArrayRef → Result Viewed Refusal → Type 0
-SeesIn s how r result = (array : Array) → Shows s array r → GivesSeen s result (seen how s array)
+SeesIn s how r result = (array : Array) → Shows s array r → Meets (IsSeen s) result (seen how s array)
 
 -- so it is the copy of its items under this shape
 abbrev pub Duplicates : List ℕ → ArrayRef → Result Viewed Refusal → Type 0
-Duplicates shape r result = (s : State) (array : Array) → Shows s array r → GivesSeen s result (as_copy s array shape)
+Duplicates shape r result = (s : State) (array : Array) → Shows s array r → Meets (IsSeen s) result (as_copy s array shape)
 
 -- what a block holds is the copy of its items in this order, in each state that has it; a refusal is the one that is there,
 -- unless memory ran out

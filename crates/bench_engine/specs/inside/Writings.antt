@@ -18,20 +18,14 @@ use Rattle.name_store.specs.declared.target.Target.{Target}
 use Rattle.bench_engine.specs.declared.update.Writing.{Writing}
 
 -- They leave what these new items of the part do, one for each of its places, in whatever order both stand.
-pub record Leaves (s : State) (name : List ℕ) (array part : Array) (new : List (List LeafValue)) (target : Target) (source : Source) : Type 0 where
+pub record Leaves (s : State) (name : List ℕ) (array part : Array) (w : Writing) (new : List (List LeafValue)) : Type 0 where
   pub places : List ℕ
   pub items : List (List LeafValue)
-  pub leads : LeadsTo s name target array places
-  pub may_write : MayWrite s array target
-  pub supplies : Supplies s (descr_of s array) (length (target_offsets target)) source items
-  pub counted : length (target_offsets target) ≡ count part.shape
+  pub leads : LeadsTo s name w.target array places
+  pub may_write : MayWrite s array w.target
+  pub supplies : Supplies s (descr_of s array) (length (target_offsets w.target)) w.source items
+  pub counted : length (target_offsets w.target) ≡ count part.shape
   pub same : written s array places items ≡ written s array part.places new
-
--- they leave what the new items that are there do; a refusal is the one that is there, unless memory ran out
-abbrev pub GivesWriting : State → List ℕ → Array → Array → Result Writing Refusal → Result (List (List LeafValue)) Refusal → Type 0
-GivesWriting s name array part (Ok w) (Ok new) = Leaves s name array part new w.target w.source
-GivesWriting s name array part (Ok w) (Err refusal) = ⊥
-GivesWriting s name array part (Err refusal) there = (refusal ≡ OutOfMemory) ⊎ (there ≡ Err refusal)
 
 -- a view and items that are stretched to its shape: in the pair, each place of the one stands beside that of the same item
 pub record GoTogether (view items : Layout) (pair : LayoutPair) : Type 0 where

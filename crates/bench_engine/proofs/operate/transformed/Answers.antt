@@ -3,7 +3,8 @@ use Rattle.std.proofs.lemmas.Result.{err_from_is_err_and}
 use Rattle.bench_engine.specs.Machine.{operand_part, transformed}
 use Rattle.bench_engine.proofs.Computes.{transformed-gives}
 use Rattle.bench_engine.proofs.Makes.{passed}
-use Rattle.bench_engine.proofs.OperandLaws.{given-part}
+use Rattle.bench_engine.specs.inside.Operands.{IsPart}
+use Rattle.bench_engine.proofs.Answered.{met}
 use Rattle.bench_engine.proofs.operate.transformed.Goals as goal
 
 pub returns-in_err-part : goal.returns-in_err-part
@@ -15,12 +16,12 @@ returns-in_err-part c =
 
 pub items-requires : goal.items-requires
 items-requires c =
-    let is = given-part c.args.bench.now.state c.in_ok-part.part (operand_part c.args.bench.now.state c.args.operand.now) c.in_ok-part.ensures in
+    let is = met (IsPart c.args.bench.now.state) c.in_ok-part.part (operand_part c.args.bench.now.state c.args.operand.now) c.in_ok-part.ensures in
     (c.args.bench.now.state, is.0, is.2)
 
 pub returns : goal.returns
 returns c =
     let s = c.args.bench.now.state in
-    let is = given-part s c.in_ok-part.part (operand_part s c.args.operand.now) c.in_ok-part.ensures in
+    let is = met (IsPart s) c.in_ok-part.part (operand_part s c.args.operand.now) c.in_ok-part.ensures in
     let e = c.apply1.ensures in
     transformed-gives s c.args.operation c.args.operand.now is.0 c.items.result c.apply1.result is.1 (c.items.ensures.stands s is.0 is.2) e.gives e.order e.items

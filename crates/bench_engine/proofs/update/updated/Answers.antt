@@ -5,18 +5,19 @@ use Rattle.name_store.specs.declared.target.Target.TheVariants.{Plan}
 use Rattle.elem_descr.specs.declared.descr.Descr.{Descr}
 use Rattle.shape_strides.specs.Indexes.{count}
 use Rattle.bench_engine.specs.declared.write.Given.{Given}
-use Rattle.bench_engine.specs.inside.Operands.{GivesChanged, IsGiven}
+use Rattle.bench_engine.specs.inside.Operands.{IsGiven, HoldsItems}
 use Rattle.bench_engine.specs.Machine.{operand_values, updated}
 use Rattle.bench_engine.specs.inside.Assigns.{IsTarget}
 use Rattle.bench_engine.proofs.Moved.{unmoved-gives}
 use Rattle.bench_engine.proofs.OperandLaws.{all-stand}
 use Rattle.bench_engine.proofs.Written.{plan-inside, old-plan}
+use Rattle.bench_engine.specs.inside.Meeting.{Meets}
 use Rattle.bench_engine.proofs.update.updated.Goals as goal
 
 pub view_by_literal-requires : goal.view_by_literal-requires
 view_by_literal-requires c =
     let t = c.requires in
-    (t.0, t.2, t.3, t.4, t.6, subst (λ (t' : Target). IsTarget t.0 t.2 t.3 t.4 t') c.in-View.is t.7)
+    (t.0, t.2, t.3, t.4, t.6, subst (λ (t' : Target). IsTarget t.0 t.2 t.3 t' t.4) c.in-View.is t.7)
 
 pub items-requires : goal.items-requires
 items-requires c =
@@ -27,36 +28,36 @@ items-requires c =
 pub view_by_items-requires : goal.view_by_items-requires
 view_by_items-requires c =
     let t = c.requires in
-    (t.0, t.2, t.3, t.4, t.6, subst (λ (t' : Target). IsTarget t.0 t.2 t.3 t.4 t') c.in-View.is t.7)
+    (t.0, t.2, t.3, t.4, t.6, subst (λ (t' : Target). IsTarget t.0 t.2 t.3 t' t.4) c.in-View.is t.7)
 
 pub returns-in-Items : goal.returns-in-Items
 returns-in-Items c s value name a part given shows target =
     let is = subst (λ (g : Given). IsGiven s value g) c.in-Items.is given in
-    rw (is.2, is.3) (c.view_by_items.ensures s name a part (operand_values s is.1) shows (subst (λ (t : Target). IsTarget s name a part t) c.in-View.is target) (all-stand s is.1 _ (c.items.ensures.stands s is.1 is.4)))
+    rw (is.2, is.3) (c.view_by_items.ensures s name a part (operand_values s is.1) shows (subst (λ (t : Target). IsTarget s name a t part) c.in-View.is target) (all-stand s is.1 _ (c.items.ensures.stands s is.1 is.4)))
 
 pub gather_owned-requires : goal.gather_owned-requires
 gather_owned-requires c =
     let t = c.requires in
-    let is = subst (λ (t' : Target). IsTarget t.0 t.2 t.3 t.4 t') c.in-Plan.is t.7 in
+    let is = subst (λ (t' : Target). IsTarget t.0 t.2 t.3 t' t.4) c.in-Plan.is t.7 in
     plan-inside t.0 t.2 t.3 t.4 c.args.array.now t.6 _ is
 
 pub returns-in_err-new-in-Plan : goal.returns-in_err-new-in-Plan
 returns-in_err-new-in-Plan c s value name a part given shows target =
     let p = err_from_is_err_and c.from_residual-in_err-new-in-Plan.result c.from_residual-in_err-new-in-Plan.ensures.1 in
-    let is = subst (λ (t : Target). IsTarget s name a part t) c.in-Plan.is target in
+    let is = subst (λ (t : Target). IsTarget s name a t part) c.in-Plan.is target in
     let e = c.in_ok-old-in-Plan.ensures in
     let own = c.items-in-Plan.ensures in
     let stands = all-stand s part c.items-in-Plan.result (old-plan s name a part c.args.array.now shows _ c.in_ok-old-in-Plan.old c.items-in-Plan.result is e.descr e.shape e.items own.block own.layout own.descr) in
     let refused = Err c.in_err-new-in-Plan.field-0.0 in
     rw (p.1, p.2) (unmoved-gives s name a part c.args.array.now (Plan c.in-Plan.plan) refused (updated s c.args.array.now.descr.now part c.args.operation value) shows is
-    (subst (λ (d : Descr). GivesChanged d (count part.shape) refused (updated s d part c.args.operation value)) (own.descr ∙ e.descr) (c.in_err-new-in-Plan.ensures s value (operand_values s part) given stands)))
+    (subst (λ (d : Descr). Meets (HoldsItems d (count part.shape)) refused (updated s d part c.args.operation value)) (own.descr ∙ e.descr) (c.in_err-new-in-Plan.ensures s value (operand_values s part) given stands)))
 
 pub returns-in_ok-new-in-Plan : goal.returns-in_ok-new-in-Plan
 returns-in_ok-new-in-Plan c s value name a part given shows target =
-    let is = subst (λ (t : Target). IsTarget s name a part t) c.in-Plan.is target in
+    let is = subst (λ (t : Target). IsTarget s name a t part) c.in-Plan.is target in
     let e = c.in_ok-old-in-Plan.ensures in
     let own = c.items-in-Plan.ensures in
     let stands = all-stand s part c.items-in-Plan.result (old-plan s name a part c.args.array.now shows _ c.in_ok-old-in-Plan.old c.items-in-Plan.result is e.descr e.shape e.items own.block own.layout own.descr) in
     let new = Ok c.in_ok-new-in-Plan.new in
     unmoved-gives s name a part c.args.array.now (Plan c.in-Plan.plan) new (updated s c.args.array.now.descr.now part c.args.operation value) shows is
-    (subst (λ (d : Descr). GivesChanged d (count part.shape) new (updated s d part c.args.operation value)) (own.descr ∙ e.descr) (c.in_ok-new-in-Plan.ensures s value (operand_values s part) given stands))
+    (subst (λ (d : Descr). Meets (HoldsItems d (count part.shape)) new (updated s d part c.args.operation value)) (own.descr ∙ e.descr) (c.in_ok-new-in-Plan.ensures s value (operand_values s part) given stands))

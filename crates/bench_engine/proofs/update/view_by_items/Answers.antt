@@ -7,10 +7,11 @@ use Rattle.shape_strides.specs.LayoutLaws.{length-offsets}
 use Rattle.shape_strides.specs.Limits.{max_bytes}
 use Rattle.name_store.specs.declared.target.Target.TheVariants.{View}
 use Rattle.bench_engine.specs.Machine.{operand_values, updated_items}
-use Rattle.bench_engine.specs.inside.Operands.{GivesChanged}
 use Rattle.bench_engine.proofs.Moved.{unmoved-gives}
 use Rattle.bench_engine.proofs.OperandLaws.{all-stand}
 use Rattle.bench_engine.proofs.Written.{old-view, view-inside}
+use Rattle.bench_engine.specs.inside.Meeting.{Meets}
+use Rattle.bench_engine.specs.inside.Operands.{HoldsItems}
 use Rattle.bench_engine.proofs.update.view_by_items.Goals as goal
 
 pub items_of_view-requires : goal.items_of_view-requires
@@ -32,14 +33,14 @@ returns-in_err-new c s name a part w shows is sw =
     let old = c.items_of_view.ensures in
     let gives = c.in_err-new.ensures (operand_values s part) w (all-stand s part _ (old-view s name a part c.args.array.now shows _ _ is old.block old.layout old.descr)) sw in
     rw (p.1, p.2) (unmoved-gives s name a part c.args.array.now (View c.args.view) (Err c.in_err-new.field-0.0) (updated_items c.args.operation c.args.array.now.descr.now (operand_values s part) w) shows is
-    (subst (λ (d : Descr). GivesChanged d (count part.shape) (Err c.in_err-new.field-0.0) (updated_items c.args.operation d (operand_values s part) w)) old.descr gives))
+    (subst (λ (d : Descr). Meets (HoldsItems d (count part.shape)) (Err c.in_err-new.field-0.0) (updated_items c.args.operation d (operand_values s part) w)) old.descr gives))
 
 pub returns : goal.returns
 returns c s name a part w shows is sw =
     let old = c.items_of_view.ensures in
     let gives = c.in_ok-new.ensures (operand_values s part) w (all-stand s part _ (old-view s name a part c.args.array.now shows _ _ is old.block old.layout old.descr)) sw in
     unmoved-gives s name a part c.args.array.now (View c.args.view) (Ok c.in_ok-new.new) (updated_items c.args.operation c.args.array.now.descr.now (operand_values s part) w) shows is
-    (subst (λ (d : Descr). GivesChanged d (count part.shape) (Ok c.in_ok-new.new) (updated_items c.args.operation d (operand_values s part) w)) old.descr gives)
+    (subst (λ (d : Descr). Meets (HoldsItems d (count part.shape)) (Ok c.in_ok-new.new) (updated_items c.args.operation d (operand_values s part) w)) old.descr gives)
 
 pub pair_by_items-requires : goal.pair_by_items-requires
 pair_by_items-requires c =

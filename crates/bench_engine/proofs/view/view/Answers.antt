@@ -4,7 +4,9 @@ use Rattle.bench_engine.specs.Machine.{seen}
 use Rattle.name_store.specs.ArrayLaws.{found-array as found}
 use Rattle.bench_engine.proofs.Looks.{unchanged, not_found, bound}
 use Rattle.bench_engine.proofs.Outcomes.{view-unbound, view-unknown, view-many, view-bad, view-done}
-use Rattle.bench_engine.proofs.Views.{refused-or, may-bind-seen, seen-answers, given-seen}
+use Rattle.bench_engine.proofs.Views.{refused-or, may-bind-seen, seen-answers}
+use Rattle.bench_engine.specs.inside.Parts.{IsSeen}
+use Rattle.bench_engine.proofs.Answered.{met}
 use Rattle.bench_engine.proofs.view.view.Goals as goal
 
 pub returns-in_default-clause-answers : goal.returns-in_default-clause-answers
@@ -41,15 +43,15 @@ pub bind-requires : goal.bind-requires
 bind-requires c =
     let s = c.args.bench.now.state in
     let it = found s _ c.in-Some.array c.in-Some.ensures in
-    let is = given-seen s c.in_ok-viewed.viewed (seen c.args.how.now s it.0) (c.in_ok-viewed.ensures it.0 it.2) in
-    may-bind-seen s c.in_ok-viewed.viewed.bound is.0 is.2
+    let is = met (IsSeen s) c.in_ok-viewed.viewed (seen c.args.how.now s it.0) (c.in_ok-viewed.ensures it.0 it.2) in
+    may-bind-seen s c.in_ok-viewed.viewed.bound is.0 is.2.0
 
 pub returns-clause-answers : goal.returns-clause-answers
 returns-clause-answers c =
     let s = c.args.bench.now.state in
     let it = found s _ c.in-Some.array c.in-Some.ensures in
-    let is = given-seen s c.in_ok-viewed.viewed (seen c.args.how.now s it.0) (c.in_ok-viewed.ensures it.0 it.2) in
+    let is = met (IsSeen s) c.in_ok-viewed.viewed (seen c.args.how.now s it.0) (c.in_ok-viewed.ensures it.0 it.2) in
     seen-answers s c.bind.new.self.state c.args.name.now _ _ c.in_ok-viewed.viewed.bound c.in_ok-viewed.viewed.descr.now is.0 c.bind.result c.args.out.now.items c.push_bound_text.new.out.items
     (rw (bound s c.args.source.now it.0 it.1, sym c.if-not-has_bound.ensures) refl) (sym c.if-not-has_room_for.ensures)
     (λ choice. view-done choice s c.args.name.now c.args.source.now c.args.how.now it.0 is.0 (sym c.if-not-has_bound.ensures) it.1 (sym c.if-not-has_room_for.ensures) is.1)
-    (rw (c.shape_of_bound-shape.ensures, c.origin_of_bound.ensures) at c.in_ok-push_bound_text.ensures.ok) is.2 is.3 c.bind.ensures.answers
+    (rw (c.shape_of_bound-shape.ensures, c.origin_of_bound.ensures) at c.in_ok-push_bound_text.ensures.ok) is.2.0 is.2.1 c.bind.ensures.answers

@@ -7,12 +7,14 @@ use Rattle.name_store.specs.ArrayLaws.{found-array as found}
 use Rattle.name_store.specs.States.{Array}
 use Rattle.name_store.specs.Targets.{Supplies}
 use Rattle.bench_engine.specs.Machine.{target_part, new_items, write_reply, accepted_with}
-use Rattle.bench_engine.specs.inside.Assigns.{GivesTarget}
 use Rattle.bench_engine.proofs.Looks.{unchanged, not_found}
-use Rattle.bench_engine.proofs.Moved.{given-leaves}
-use Rattle.bench_engine.proofs.SetOutcomes.{set-unknown, set-unbound, set-target, set-items, set-done, both-bound, all-bound, given-target}
+use Rattle.bench_engine.proofs.SetOutcomes.{set-unknown, set-unbound, set-target, set-items, set-done, both-bound, all-bound}
 use Rattle.bench_engine.proofs.Steps.{spare}
 use Rattle.bench_engine.proofs.Views.{refused-or}
+use Rattle.bench_engine.specs.inside.Meeting.{Meets}
+use Rattle.bench_engine.specs.inside.Assigns.{IsTarget}
+use Rattle.bench_engine.specs.inside.Writings.{Leaves}
+use Rattle.bench_engine.proofs.Answered.{met}
 use Rattle.bench_engine.proofs.write.set.Goals as goal
 
 pub returns-in_default-clause-answers : goal.returns-in_default-clause-answers
@@ -38,7 +40,7 @@ returns-in_err-target-clause-answers c =
     let left = rw c.as_slice.ensures at (sym c.if-not-are_bound.ensures) in
     let right = sym c.if-not-has_bound.ensures in
     let named = both-bound s c.args.assignment.name.now c.args.assignment.index.now c.args.assignment.operation c.args.assignment.value.now _ _ left right in
-    let gives = subst (λ (index : List (IndexItem (List ℕ))). GivesTarget s c.args.assignment.name.now it.0 (Err c.in_err-target.field-0.0) (target_part s it.0 index)) c.as_slice-2.ensures (c.in_err-target.ensures c.args.assignment.name.now it.0 it.1 it.2) in
+    let gives = subst (λ (index : List (IndexItem (List ℕ))). Meets (IsTarget s c.args.assignment.name.now it.0) (Err c.in_err-target.field-0.0) (target_part s it.0 index)) c.as_slice-2.ensures (c.in_err-target.ensures c.args.assignment.name.now it.0 it.1 it.2) in
     rw (p.1, p.2) (
       refl,
       unchanged _,
@@ -50,7 +52,7 @@ pub new_items-requires : goal.new_items-requires
 new_items-requires c =
     let s = c.args.bench.now.state in
     let it = found s _ c.in-Some.array c.in-Some.ensures in
-    let part = given-target s c.args.assignment.name.now it.0 c.in_ok-target.target (target_part s it.0 c.as_slice-2.result.now) (c.in_ok-target.ensures c.args.assignment.name.now it.0 it.1 it.2) in
+    let part = met (IsTarget s c.args.assignment.name.now it.0) c.in_ok-target.target (target_part s it.0 c.as_slice-2.result.now) (c.in_ok-target.ensures c.args.assignment.name.now it.0 it.1 it.2) in
     record { bound = sym c.if-not-has_bound.ensures; target = (c.args.assignment.name.now, it.0, part.0, it.2, part.2) }
 
 pub returns-in_err-writing-clause-answers : goal.returns-in_err-writing-clause-answers
@@ -61,7 +63,7 @@ returns-in_err-writing-clause-answers c =
     let left = rw c.as_slice.ensures at (sym c.if-not-are_bound.ensures) in
     let right = sym c.if-not-has_bound.ensures in
     let named = both-bound s c.args.assignment.name.now c.args.assignment.index.now c.args.assignment.operation c.args.assignment.value.now _ _ left right in
-    let part = given-target s c.args.assignment.name.now it.0 c.in_ok-target.target (target_part s it.0 c.as_slice-2.result.now) (c.in_ok-target.ensures c.args.assignment.name.now it.0 it.1 it.2) in
+    let part = met (IsTarget s c.args.assignment.name.now it.0) c.in_ok-target.target (target_part s it.0 c.as_slice-2.result.now) (c.in_ok-target.ensures c.args.assignment.name.now it.0 it.1 it.2) in
     rw (p.1, p.2) (
       refl,
       unchanged _,
@@ -74,8 +76,8 @@ pub write_items-requires : goal.write_items-requires
 write_items-requires c =
     let s = c.args.bench.now.state in
     let it = found s _ c.in-Some.array c.in-Some.ensures in
-    let part = given-target s c.args.assignment.name.now it.0 c.in_ok-target.target (target_part s it.0 c.as_slice-2.result.now) (c.in_ok-target.ensures c.args.assignment.name.now it.0 it.1 it.2) in
-    let given = given-leaves s c.args.assignment.name.now it.0 part.0 c.in_ok-writing.writing (new_items s c.in-Some.array.descr.now part.0 c.args.assignment.operation c.args.assignment.value.now) (c.in_ok-writing.ensures c.args.assignment.name.now it.0 part.0 it.2 part.2) in
+    let part = met (IsTarget s c.args.assignment.name.now it.0) c.in_ok-target.target (target_part s it.0 c.as_slice-2.result.now) (c.in_ok-target.ensures c.args.assignment.name.now it.0 it.1 it.2) in
+    let given = met (Leaves s c.args.assignment.name.now it.0 part.0) c.in_ok-writing.writing (new_items s c.in-Some.array.descr.now part.0 c.args.assignment.operation c.args.assignment.value.now) (c.in_ok-writing.ensures c.args.assignment.name.now it.0 part.0 it.2 part.2) in
     record { aim = record { array = it.0; places = given.2.places; items = given.2.items; leads = given.2.leads; may_write = given.2.may_write; supplies = given.2.supplies } }
 
 pub returns-in_err-count-clause-answers : goal.returns-in_err-count-clause-answers
@@ -91,8 +93,8 @@ pub push_count-requires-clause-count : goal.push_count-requires-clause-count
 push_count-requires-clause-count c =
     let s = c.args.bench.now.state in
     let it = found s _ c.in-Some.array c.in-Some.ensures in
-    let part = given-target s c.args.assignment.name.now it.0 c.in_ok-target.target (target_part s it.0 c.as_slice-2.result.now) (c.in_ok-target.ensures c.args.assignment.name.now it.0 it.1 it.2) in
-    let given = given-leaves s c.args.assignment.name.now it.0 part.0 c.in_ok-writing.writing (new_items s c.in-Some.array.descr.now part.0 c.args.assignment.operation c.args.assignment.value.now) (c.in_ok-writing.ensures c.args.assignment.name.now it.0 part.0 it.2 part.2) in
+    let part = met (IsTarget s c.args.assignment.name.now it.0) c.in_ok-target.target (target_part s it.0 c.as_slice-2.result.now) (c.in_ok-target.ensures c.args.assignment.name.now it.0 it.1 it.2) in
+    let given = met (Leaves s c.args.assignment.name.now it.0 part.0) c.in_ok-writing.writing (new_items s c.in-Some.array.descr.now part.0 c.args.assignment.operation c.args.assignment.value.now) (c.in_ok-writing.ensures c.args.assignment.name.now it.0 part.0 it.2 part.2) in
     omega (arith, c.in_ok-count.ensures.answers.0, given.2.counted, ap count (ap (λ (a : Array). a.shape) part.2.part_is), ap count c.shape.ensures, c.items-count.ensures.value, c.items-count.ensures.limit)
 
 pub returns-clause-answers : goal.returns-clause-answers
@@ -102,8 +104,8 @@ returns-clause-answers c =
     let left = rw c.as_slice.ensures at (sym c.if-not-are_bound.ensures) in
     let right = sym c.if-not-has_bound.ensures in
     let named = both-bound s c.args.assignment.name.now c.args.assignment.index.now c.args.assignment.operation c.args.assignment.value.now _ _ left right in
-    let part = given-target s c.args.assignment.name.now it.0 c.in_ok-target.target (target_part s it.0 c.as_slice-2.result.now) (c.in_ok-target.ensures c.args.assignment.name.now it.0 it.1 it.2) in
-    let given = given-leaves s c.args.assignment.name.now it.0 part.0 c.in_ok-writing.writing (new_items s c.in-Some.array.descr.now part.0 c.args.assignment.operation c.args.assignment.value.now) (c.in_ok-writing.ensures c.args.assignment.name.now it.0 part.0 it.2 part.2) in
+    let part = met (IsTarget s c.args.assignment.name.now it.0) c.in_ok-target.target (target_part s it.0 c.as_slice-2.result.now) (c.in_ok-target.ensures c.args.assignment.name.now it.0 it.1 it.2) in
+    let given = met (Leaves s c.args.assignment.name.now it.0 part.0) c.in_ok-writing.writing (new_items s c.in-Some.array.descr.now part.0 c.args.assignment.operation c.args.assignment.value.now) (c.in_ok-writing.ensures c.args.assignment.name.now it.0 part.0 it.2 part.2) in
     let n = c.in_ok-count.ensures.answers.0 ∙ given.2.counted in
     let done : c.write_items.new.self.state ≡ written s it.0 part.0.places given.0 =
     c.in_ok-count.ensures.answers.1 it.0 given.2.places given.2.items given.2.leads (subst (λ (k : ℕ). Supplies s (descr_of s it.0) k c.in_ok-writing.writing.source given.2.items) (sym c.in_ok-count.ensures.answers.0) given.2.supplies) ∙ given.2.same in
