@@ -1,5 +1,5 @@
 -- Arrays that are loaded.
-use Rattle.std.proofs.Common.{◌≡◌, ◌∙◌, ℕ, true, false, List, ◌++◌, append_assoc, refl, sym, ap, subst, inl, inr, arith, Option, Some, None, Result, Ok, Err}
+use Rattle.std.proofs.Common.{◌≡◌, ◌∙◌, ℕ, true, false, List, refl, sym, ap, subst, inl, inr, arith, Option, Some, None, Result, Ok, Err}
 use Rattle.std.specs.FinMap.{get}
 use Rattle.elem_descr.specs.declared.refusal.Refusal.{Refusal}
 use Rattle.elem_descr.specs.declared.refusal.Refusal.TheVariants.{TooManyNames, OutOfMemory}
@@ -104,7 +104,3 @@ finds {V} view old new name file answer answer' result same is kept files cause 
   may = may-find view old new file answer kept files cause (subst (λ (n : List ℕ). old.honest ≡ true → IsRead view old.limit (get old.files n) answer) same read);
   loads = subst (λ (a : Result (Option V) StoreFault). Loads result (loaded (as-found view a))) (sym is) loads;
 }
-
--- the end of the reply is there
-pub told-rest : (before text words after after' : List ℕ) → after ≡ before ++ text → after' ≡ after ++ words → after' ≡ before ++ (text ++ words)
-told-rest before text words after after' first then = then ∙ ap (λ t. t ++ words) first ∙ append_assoc before text words

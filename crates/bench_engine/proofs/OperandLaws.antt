@@ -1,6 +1,5 @@
 -- Operands: parts of arrays, and single items.
-use Rattle.std.proofs.Common.{◌≡◌, ◌+◌, ◌≤◌, ℕ, List, [], ◌∷◌, length, map, All, Result, Ok, Err, refl, sym, ap, ◌∙◌}
-use Rattle.elem_descr.specs.declared.refusal.Refusal.{Refusal}
+use Rattle.std.proofs.Common.{◌≡◌, ◌+◌, ◌≤◌, ℕ, List, [], ◌∷◌, length, map, All, sym, ap, ◌∙◌}
 use Rattle.elem_descr.specs.declared.descr.Descr.{Descr}
 use Rattle.elem_descr.specs.Blocks.{item_from}
 use Rattle.elem_descr.specs.Items.{item_size}
@@ -19,7 +18,6 @@ use Rattle.name_store.specs.Arrays.{buffer_of, span_of, placed_item}
 use Rattle.name_store.specs.Parts.{part_at}
 use Rattle.name_store.specs.Shown.{Shows}
 use Rattle.name_store.specs.declared.array_ref.ArrayRef.{ArrayRef}
-use Rattle.bench_engine.specs.declared.operate.Part.{Part}
 use Rattle.bench_engine.specs.Machine.{OperandValues, operand_values, one_item, viewed}
 use Rattle.bench_engine.specs.inside.Assigns.{Holds}
 use Rattle.bench_engine.specs.inside.Operands.{StandsFor, Stands, OwnStands}

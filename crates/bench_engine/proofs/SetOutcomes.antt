@@ -1,5 +1,5 @@
 -- The exits of `set X[ix] = Z` and `upd X[ix] OP Z`.
-use Rattle.std.proofs.Common.{◌≡◌, ◌++◌, ◌∷◌, ◌&&◌, ℕ, Bool, true, false, List, Option, Some, None, refl, ◌∙◌, ◌⊎◌, inl, inr, Result, Ok, Err}
+use Rattle.std.proofs.Common.{◌≡◌, ◌++◌, ◌∷◌, ◌&&◌, ℕ, Bool, true, false, List, Option, Some, None, refl, ◌∙◌, ◌⊎◌, inl, inr, Ok, Err}
 use Rattle.std.specs.List.{list_all}
 use Rattle.std.proofs.lemmas.List.Folds.{list_all-append}
 use Rattle.elem_descr.specs.declared.refusal.Refusal.{Refusal}
@@ -12,7 +12,6 @@ use Rattle.script_lang.specs.declared.command.Argument.{Argument}
 use Rattle.script_lang.specs.declared.operation.Operation.{Operation}
 use Rattle.name_store.specs.States.{State, Array}
 use Rattle.name_store.specs.Arrays.{find_array, is_bound, descr_of, written}
-use Rattle.name_store.specs.declared.target.Target.{Target}
 use Rattle.bench_engine.specs.IndexLists.{names_in_index}
 use Rattle.bench_engine.specs.Machine.{target_part, new_items, names_in_argument, write_outcome, write_reply, accepted_with}
 use Rattle.bench_engine.specs.inside.Operands.{GivesGiven}

@@ -1,21 +1,19 @@
 //! `print X`, `info X`, `format X`, `names`, `shares X Y`: questions, which change nothing.
-ghost use Rattle.std.specs.Prelude.{◌≡◌, ◌≤◌, vec_capacity, ◌++◌, codes, decimal, IfOk, OnOk, string_bytes, true, ◌+◌, ◌&&◌, vec_len};
+ghost use Rattle.std.specs.Prelude.{◌≡◌, ◌≤◌, vec_capacity, ◌++◌, codes, OnOk, true, ◌+◌, ◌&&◌, vec_len};
 ghost use Rattle.name_store.specs.Arrays.{is_bound};
 ghost use Rattle.bench_engine.specs.inside.Contract.{CarriesOut};
 ghost use Rattle.bench_engine.specs.Machine.{print_outcome, info_outcome, format_outcome, accepted_with, shares_outcome};
 ghost use Rattle.std.specs.Io.{StartsWith};
-ghost use Rattle.shape_strides.specs.Contiguity.{printed_strides, strides_text};
 ghost use Rattle.shape_strides.specs.Layouts.{offsets};
 ghost use Rattle.bench_engine.specs.Replies.{info_text, layout_words, order_text, yes_or_no, format_text, names_text};
 
 use crate::replies::push_array_words;
 use array_print::print_into;
 use elem_descr::{Descr, Refusal, format_write};
-use itoa::Buffer;
 use name_store::Bench;
 use script_lang::Name;
 use shape_strides::Layout;
-use std::alloc::{AllocError, Global};
+use std::alloc::AllocError;
 
 /// Prints a name's array.
 pub fn print(bench: &Bench, name: &Name, out: &mut Vec<u8>) -> Result<(), Refusal>
@@ -55,35 +53,6 @@ fn yes_or_no(is: bool) -> &'static [u8]
     if is { b"yes" } else { b"no" }
 }
 
-/// The strides as they are told.
-fn strides_text(alloc: Global, layout: &Layout) -> Result<String, AllocError>
-    ensures { IfOk result (λ text. string_bytes text ≡ strides_text (printed_strides layout.now.shape (offsets layout.now))) }
-{
-    let strides = Layout::printed_strides(alloc, layout)?;
-    format!(in alloc; "{strides}")
-}
-
-/// Appends `strides SHAPE`. Where memory runs out, some of it may stand past the old end.
-fn push_strides(out: &mut Vec<u8>, layout: &Layout) -> Result<(), AllocError>
-    ensures ok { OnOk result (out.new.items ≡ out.old.items ++ (codes "strides " ++ strides_text (printed_strides layout.now.shape (offsets layout.now)))) }
-    ensures kept { StartsWith out.new.items out.old.items }
-    ensures room { vec_capacity out.old ≤ vec_capacity out.new }
-{
-    let text = strides_text(*out.allocator(), layout)?;
-    out.extend_from_slice(b"strides ")?;
-    out.extend_from_slice(text.as_bytes())
-}
-
-/// Appends a number. Where memory runs out, some of it may stand past the old end.
-fn push_number(out: &mut Vec<u8>, number: usize) -> Result<(), AllocError>
-    ensures ok { OnOk result (out.new.items ≡ out.old.items ++ decimal number) }
-    ensures kept { StartsWith out.new.items out.old.items }
-    ensures room { vec_capacity out.old ≤ vec_capacity out.new }
-{
-    let mut buffer = Buffer::new();
-    out.extend_from_slice(buffer.format(number).as_bytes())
-}
-
 /// Appends `strides SHAPE at N order O write W`. Where memory runs out, some of it may stand past the
 /// old end.
 fn push_layout_words(
@@ -96,10 +65,11 @@ fn push_layout_words(
     ensures kept { StartsWith out.new.items out.old.items }
     ensures room { vec_capacity out.old ≤ vec_capacity out.new }
 {
-    push_strides(out, layout)?;
-    out.extend_from_slice(b" at ")?;
-    push_number(out, layout.first_address())?;
-    out.extend_from_slice(b" order ")?;
+    let alloc = *out.allocator();
+    let strides = Layout::printed_strides(alloc, layout)?;
+    let address = layout.first_address();
+    let text = format!(in alloc; "strides {strides} at {address} order ")?;
+    out.extend_from_slice(text.as_bytes())?;
     out.extend_from_slice(order_text(layout, item))?;
     out.extend_from_slice(b" write ")?;
     out.extend_from_slice(yes_or_no(writable))

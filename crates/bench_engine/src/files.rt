@@ -105,17 +105,6 @@ fn find<N: NpyStore>(
     }
 }
 
-/// Appends ` rest N`. Where memory runs out, nothing is appended.
-fn push_rest(out: &mut Vec<u8>, rest: usize) -> Result<(), AllocError>
-    ensures ok { OnOk result (out.new.items ≡ out.old.items ++ (codes " rest " ++ decimal rest)) }
-    ensures kept { StartsWith out.new.items out.old.items }
-    ensures room { vec_capacity out.old ≤ vec_capacity out.new }
-{
-    let alloc = *out.allocator();
-    let text = format!(in alloc; " rest {rest}")?;
-    out.extend_from_slice(text.as_bytes())
-}
-
 /// Appends `ok X DESCR SHAPE new rest N`. Where memory runs out, some of it may stand past the old end.
 fn push_loaded_text(
     out: &mut Vec<u8>,
@@ -129,7 +118,9 @@ fn push_loaded_text(
     ensures room { vec_capacity out.old ≤ vec_capacity out.new }
 {
     push_bound_text(out, name, &owned.descr, &owned.layout.shape, Origin::New)?;
-    push_rest(out, rest)
+    let alloc = *out.allocator();
+    let text = format!(in alloc; " rest {rest}")?;
+    out.extend_from_slice(text.as_bytes())
 }
 
 /// Binds a name, for which there is room, to an array that was loaded. The reply is appended before

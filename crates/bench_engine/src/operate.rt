@@ -1,13 +1,13 @@
 //! `X = copy Y C`, `cast Y D`, `OP operand Z`, `neg operand`, `RED Y [axis] [keep]`: apply an operation to
 //! operands, and bind a name to the result.
-ghost use Rattle.std.specs.Prelude.{◌≡◌, ◌≤◌, ◌+◌, true, length, All, ◌∷◌, [], map, IfOk, ℕ, List, Some, vec_capacity};
+ghost use Rattle.std.specs.Prelude.{◌≡◌, ◌≤◌, ◌+◌, true, length, All, ◌∷◌, [], map, IfOk, Some, vec_capacity};
 ghost use Rattle.std.specs.List.{list_all};
 ghost use Rattle.elem_descr.specs.Items.{item_size};
 ghost use Rattle.shape_strides.specs.Layouts.{offsets};
-ghost use Rattle.name_store.specs.Arrays.{is_bound, find_array};
+ghost use Rattle.name_store.specs.Arrays.{is_bound};
 ghost use Rattle.name_store.specs.States.{State, Array};
-ghost use Rattle.bench_engine.specs.Machine.{operand_part, names_in_operand, names_in_argument, OperandValues, literal_value, literal_scalar, operand_of_literal, compared_literal, literal_values, argument_values, operation_scalar, operation_on, operation_with, operation_contents, transformed, reduced_contents, compute_outcome};
-ghost use Rattle.bench_engine.specs.inside.Operands.{StandsFor, IsPart, LiesInBuffer, buffer_number, IsGiven, Stands, OwnStands};
+ghost use Rattle.bench_engine.specs.Machine.{operand_part, names_in_operand, names_in_argument, OperandValues, literal_value, literal_scalar, operand_of_literal, compared_literal, literal_values, operation_scalar, operation_on, operation_with, operation_contents, transformed, compute_outcome};
+ghost use Rattle.bench_engine.specs.inside.Operands.{StandsFor, IsPart, LiesInBuffer, buffer_number, Stands, OwnStands};
 ghost use Rattle.elem_descr.specs.Refusals.{Gives, Answers};
 ghost use Rattle.elem_descr.specs.declared.descr.Descr.TheVariants.{Scalar as ScalarDescr};
 ghost use Rattle.elem_descr.specs.Blocks.{item_from};
@@ -16,13 +16,11 @@ ghost use Rattle.elementwise.specs.Promotion.{promote};
 ghost use Rattle.elementwise.specs.Results.{integer_compared_result, compared_item};
 ghost use Rattle.literal_items.specs.LiteralItems.{item_value, literal_number};
 ghost use Rattle.script_lang.specs.declared.literal.ScalarLiteral.TheVariants.{Boolean};
-ghost use Rattle.script_lang.specs.declared.command.Argument.{Argument};
 ghost use Rattle.script_lang.specs.declared.operation.Operation.TheVariants as operation;
 ghost use Rattle.bench_engine.specs.inside.OwnContents.{held, IsInCOrder};
-ghost use Rattle.name_store.specs.Shown.{Shows};
 ghost use Rattle.bench_engine.specs.Memory.{bound_in_computation};
 ghost use Rattle.bench_engine.specs.inside.Computed.{computed_contents, origin_of};
-ghost use Rattle.bench_engine.specs.inside.Parts.{IsShown, Copies, Casts};
+ghost use Rattle.bench_engine.specs.inside.Parts.{IsShown, Casts};
 ghost use Rattle.bench_engine.specs.inside.Contract.{CarriesOut};
 ghost use Rattle.bench_engine.specs.inside.Meeting.{Meets};
 
@@ -263,31 +261,6 @@ pub fn work_literal(
     }
 }
 
-/// What an operation gives on items and what an argument gives.
-fn work_given(
-    alloc: Global,
-    operation: Operation,
-    left: Items<'_>,
-    right: &Given<'_>,
-) -> Result<Owned, Refusal>
-    requires { (s : State) × (value : Argument) × IsGiven s value right.now }
-    ensures { (s : State) (value : Argument) (v : OperandValues) → IsGiven s value right.now → Stands v left.entry
-        → Gives held result (operation_with operation v (argument_values s operation v.descr value)) }
-{
-    match right {
-        Given::Literal(literal) => work_literal(alloc, operation, left, literal),
-        Given::Items(part) => work(alloc, operation, left, part.items()),
-    }
-}
-
-/// The items of an array in a block of their own, stored in an order.
-fn copied(alloc: Global, array: &ArrayRef<'_>, order: MemoryOrder) -> Result<Owned, Refusal>
-    requires { IsShown array.now }
-    ensures { Copies order array.now result }
-{
-    arrays::copy(alloc, array.block, array.layout, array.descr, order)
-}
-
 /// The items of an array as items of an element type, in a block of their own.
 fn converted(alloc: Global, array: &ArrayRef<'_>, descr: &Text) -> Result<Owned, Refusal>
     requires { IsShown array.now }
@@ -312,7 +285,11 @@ fn combined(
 {
     let left = operand_part(alloc, bench, left)?;
     let right = given_by(alloc, bench, right)?;
-    work_given(alloc, operation, left.items(), &right)
+    let old = left.items();
+    match &right {
+        Given::Literal(literal) => work_literal(alloc, operation, old, literal),
+        Given::Items(part) => work(alloc, operation, old, part.items()),
+    }
 }
 
 /// What an operation gives on an operand.
@@ -329,22 +306,6 @@ fn transformed(
     apply1(alloc, operation, part.items())
 }
 
-/// What a reduction gives on an array.
-fn reduced(
-    alloc: Global,
-    array: &ArrayRef<'_>,
-    reduction: Red,
-    axis: Option<i128>,
-    keep: bool,
-) -> Result<Owned, Refusal>
-    requires { IsShown array.now }
-    ensures { (s : State) (source : List ℕ) (a : Array) → find_array s.names source ≡ Some a → Shows s a array.now
-        → Gives held result (reduced_contents s reduction source axis keep) }
-{
-    let items = items_of_view(array, array.layout);
-    reductions::reduce(alloc, reduction, items, axis, keep)
-}
-
 /// What a computation gives.
 fn computed(alloc: Global, bench: &Bench, computation: &Computation) -> Result<Owned, Refusal>
     requires bound { list_all (is_bound bench.now.state) (bound_in_computation computation.now) ≡ true }
@@ -352,7 +313,8 @@ fn computed(alloc: Global, bench: &Bench, computation: &Computation) -> Result<O
 {
     match computation {
         Computation::Duplicate { source, order } => {
-            copied(alloc, &bench.get(source).unwrap(), *order)
+            let array = bench.get(source).unwrap();
+            arrays::copy(alloc, array.block, array.layout, array.descr, *order)
         }
         Computation::Cast { source, descr } => {
             converted(alloc, &bench.get(source).unwrap(), descr)
@@ -370,7 +332,11 @@ fn computed(alloc: Global, bench: &Bench, computation: &Computation) -> Result<O
             source,
             axis,
             keep,
-        } => reduced(alloc, &bench.get(source).unwrap(), *reduction, *axis, *keep),
+        } => {
+            let array = bench.get(source).unwrap();
+            let items = items_of_view(&array, array.layout);
+            reductions::reduce(alloc, *reduction, items, *axis, *keep)
+        }
     }
 }
 

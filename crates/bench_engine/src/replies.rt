@@ -1,7 +1,6 @@
 //! Texts that several replies share.
 ghost use Rattle.std.specs.Prelude.{◌≡◌, ◌≤◌, ◌++◌, OnOk, IfOk, vec_capacity};
 ghost use Rattle.std.specs.Io.{StartsWith};
-ghost use Rattle.shape_strides.specs.Shapes.{shape_text};
 ghost use Rattle.bench_engine.specs.Replies.{descr_text, array_words, origin_word, bound_text};
 
 use elem_descr::{Descr, format_write, typestr_write};
@@ -19,27 +18,6 @@ fn descr_text(alloc: Global, descr: &Descr) -> Result<Vec<u8>, AllocError>
     }
 }
 
-/// Appends an element type. Where memory runs out, nothing is appended.
-fn push_descr(out: &mut Vec<u8>, descr: &Descr) -> Result<(), AllocError>
-    ensures ok { OnOk result (out.new.items ≡ out.old.items ++ descr_text descr.now) }
-    ensures kept { StartsWith out.new.items out.old.items }
-    ensures room { vec_capacity out.old ≤ vec_capacity out.new }
-{
-    let text = descr_text(*out.allocator(), descr)?;
-    out.extend_from_slice(text.as_slice())
-}
-
-/// Appends a shape. Where memory runs out, nothing is appended.
-fn push_shape(out: &mut Vec<u8>, shape: &Shape) -> Result<(), AllocError>
-    ensures ok { OnOk result (out.new.items ≡ out.old.items ++ shape_text shape.now) }
-    ensures kept { StartsWith out.new.items out.old.items }
-    ensures room { vec_capacity out.old ≤ vec_capacity out.new }
-{
-    let alloc = *out.allocator();
-    let text = format!(in alloc; "{shape}")?;
-    out.extend_from_slice(text.as_bytes())
-}
-
 /// Appends `X DESCR SHAPE`. Where memory runs out, some of it may stand past the old end.
 pub fn push_array_words(
     out: &mut Vec<u8>,
@@ -51,11 +29,13 @@ pub fn push_array_words(
     ensures kept { StartsWith out.new.items out.old.items }
     ensures room { vec_capacity out.old ≤ vec_capacity out.new }
 {
+    let alloc = *out.allocator();
+    let descr = descr_text(alloc, descr)?;
+    let shape = format!(in alloc; " {shape}")?;
     out.extend_from_slice(name.as_slice())?;
     out.push(b' ')?;
-    push_descr(out, descr)?;
-    out.push(b' ')?;
-    push_shape(out, shape)
+    out.extend_from_slice(descr.as_slice())?;
+    out.extend_from_slice(shape.as_bytes())
 }
 
 /// What a name is bound to: a new array, a view of another, or a copy of its items.

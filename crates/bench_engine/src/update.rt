@@ -1,5 +1,5 @@
 //! Items of an array, changed by an operation, and the places to which they are written.
-ghost use Rattle.std.specs.Prelude.{◌≡◌, ◌≤◌, ◌*◌, ℕ, List, true, map, Ok, IfSome};
+ghost use Rattle.std.specs.Prelude.{◌≡◌, ◌≤◌, ◌*◌, true, map, Ok, IfSome};
 ghost use Rattle.std.specs.List.Sorted.{IsPermutation};
 ghost use Rattle.elem_descr.specs.Blocks.{item_from};
 ghost use Rattle.elem_descr.specs.Items.{item_size};
@@ -10,13 +10,11 @@ ghost use Rattle.shape_strides.specs.Limits.{max_bytes};
 ghost use Rattle.shape_strides.specs.Shapes.{IsShape};
 ghost use Rattle.script_lang.specs.declared.command.Argument.{Argument};
 ghost use Rattle.script_lang.specs.declared.command.Argument.TheVariants.{Literal as LiteralArgument};
-ghost use Rattle.name_store.specs.Shown.{Shows};
-ghost use Rattle.name_store.specs.States.{State, Array};
+ghost use Rattle.name_store.specs.States.{State};
 ghost use Rattle.name_store.specs.declared.target.Target.TheVariants.{View};
 ghost use Rattle.bench_engine.specs.Machine.{OperandValues, argument_values, literal_values, operand_values, updated_items, changed_with, updated};
-ghost use Rattle.bench_engine.specs.inside.Assigns.{IsTarget};
 ghost use Rattle.bench_engine.specs.inside.Operands.{IsGiven, Stands, HoldsItems};
-ghost use Rattle.bench_engine.specs.inside.Writings.{GoTogether, Leaves};
+ghost use Rattle.bench_engine.specs.inside.Writings.{GoTogether, IsTargetIn, IsTargetOf, Writes, WritesIn};
 ghost use Rattle.bench_engine.specs.inside.Meeting.{Meets};
 
 use crate::operate::{items_of_view, result_scalar, work, work_literal};
@@ -127,9 +125,9 @@ fn view_by_literal(
     operation: Operation,
     literal: &Literal,
 ) -> Result<Writing, Refusal>
-    requires { (s : State) × (name : List ℕ) × (a : Array) × (part : Array) × Shows s a array.now × IsTarget s name a (View view) part }
-    ensures { (s : State) (name : List ℕ) (a part : Array) → Shows s a array.now → IsTarget s name a (View view) part
-        → Meets (Leaves s name a part) result (updated s array.now.descr.now part operation (LiteralArgument literal.now)) }
+    requires { IsTargetOf array.now (View view) }
+    ensures { Writes array.now (View view)
+        (λ s part. updated s array.now.descr.now part operation (LiteralArgument literal.now)) result }
 {
     // What is known of shapes, and of the size of an item, comes with these calls.
     let _size = array.descr.size();
@@ -165,11 +163,10 @@ fn pair_by_items(
     operation: Operation,
     items: Items<'_>,
 ) -> Result<Writing, Refusal>
-    requires { (s : State) × (name : List ℕ) × (a : Array) × (part : Array) × (view : Layout)
-        × Shows s a array.now × IsTarget s name a (View view) part × GoTogether view items.layout.now pair }
-    ensures { (s : State) (name : List ℕ) (a part : Array) (view : Layout) (w : OperandValues) → Shows s a array.now → IsTarget s name a (View view) part
-        → IsShape view.shape → GoTogether view items.entry.layout.now pair → Stands w items.entry
-        → Meets (Leaves s name a part) result (updated_items operation array.now.descr.now (operand_values s part) w) }
+    requires { (view : Layout) × GoTogether view items.layout.now pair × IsTargetOf array.now (View view) }
+    ensures { (view : Layout) (w : OperandValues) → IsShape view.shape
+        → GoTogether view items.entry.layout.now pair → Stands w items.entry → Writes array.now (View view)
+        (λ s part. updated_items operation array.now.descr.now (operand_values s part) w) result }
 {
     let LayoutPair { target, source } = pair;
     // What is known of a shape, and of the size of an item, comes with these calls.
@@ -196,9 +193,9 @@ fn view_by_items(
     operation: Operation,
     items: Items<'_>,
 ) -> Result<Writing, Refusal>
-    requires { (s : State) × (name : List ℕ) × (a : Array) × (part : Array) × Shows s a array.now × IsTarget s name a (View view) part }
-    ensures { (s : State) (name : List ℕ) (a part : Array) (w : OperandValues) → Shows s a array.now → IsTarget s name a (View view) part → Stands w items.entry
-        → Meets (Leaves s name a part) result (updated_items operation array.now.descr.now (operand_values s part) w) }
+    requires { IsTargetOf array.now (View view) }
+    ensures { (w : OperandValues) → Stands w items.entry → Writes array.now (View view)
+        (λ s part. updated_items operation array.now.descr.now (operand_values s part) w) result }
 {
     // What is known of a shape comes with this call.
     let _lengths = view.shape.as_slice();
@@ -221,10 +218,9 @@ pub fn updated(
     operation: Operation,
     given: &Given<'_>,
 ) -> Result<Writing, Refusal>
-    requires { (s : State) × (value : Argument) × (name : List ℕ) × (a : Array) × (part : Array)
-        × IsGiven s value given.now × Shows s a array.now × IsTarget s name a target part }
-    ensures { (s : State) (value : Argument) (name : List ℕ) (a part : Array) → IsGiven s value given.now → Shows s a array.now → IsTarget s name a target part
-        → Meets (Leaves s name a part) result (updated s array.now.descr.now part operation value) }
+    requires { (s : State) × (value : Argument) × IsGiven s value given.now × IsTargetIn s array.now target }
+    ensures { (s : State) (value : Argument) → IsGiven s value given.now
+        → WritesIn s array.now target (λ part. updated s array.now.descr.now part operation value) result }
 {
     match target {
         Target::View(view) => match given {

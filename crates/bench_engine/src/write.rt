@@ -15,7 +15,7 @@ ghost use Rattle.bench_engine.specs.IndexLists.{names_in_index, taken};
 ghost use Rattle.bench_engine.specs.inside.Contract.{CarriesOut};
 ghost use Rattle.bench_engine.specs.inside.Meeting.{Meets};
 ghost use Rattle.name_store.specs.Targets.{Supplies};
-ghost use Rattle.bench_engine.specs.inside.Writings.{Leaves};
+ghost use Rattle.bench_engine.specs.inside.Writings.{IsTargetIn, WritesIn};
 
 use crate::create::item_of;
 use crate::index_list::{are_bound, planned};
@@ -172,9 +172,9 @@ fn new_items(
     assignment: Assignment<'_>,
 ) -> Result<Writing, Refusal>
     requires bound { list_all (is_bound bench.now.state) (names_in_argument assignment.value.now) ≡ true }
-    requires target { (name : List ℕ) × (a : Array) × (part : Array) × Shows bench.now.state a array.now × IsTarget bench.now.state name a target part }
-    ensures { (name : List ℕ) (a part : Array) → Shows bench.now.state a array.now → IsTarget bench.now.state name a target part
-        → Meets (Leaves bench.now.state name a part) result (new_items bench.now.state array.now.descr.now part assignment.entry.operation assignment.entry.value.now) }
+    requires target { IsTargetIn bench.now.state array.now target }
+    ensures { WritesIn bench.now.state array.now target (λ part. new_items bench.now.state
+        array.now.descr.now part assignment.entry.operation assignment.entry.value.now) result }
 {
     let given = given_by(alloc, bench, assignment.value)?;
     match assignment.operation {

@@ -1,11 +1,9 @@
 -- Parts of an array that is shown: what is seen of it, in the block of its buffer.
-use Rattle.std.specs.Prelude.{◌≡◌, ◌⊎◌, ℕ, List, Result, Ok, Err}
+use Rattle.std.specs.Prelude.{◌≡◌, ℕ, List, Result}
 use Rattle.elem_descr.specs.declared.descr.Descr.{Descr}
 use Rattle.elem_descr.specs.declared.refusal.Refusal.{Refusal}
 use Rattle.elem_descr.specs.Refusals.{Gives}
-use Rattle.shape_strides.specs.declared.memory_order.MemoryOrder.{MemoryOrder}
 use Rattle.arrays.specs.declared.owned.Owned.{Owned}
-use Rattle.elem_descr.specs.declared.refusal.Refusal.TheVariants.{OutOfMemory}
 use Rattle.script_lang.specs.declared.command.Viewing.{Viewing}
 use Rattle.name_store.specs.States.{State, Array}
 use Rattle.name_store.specs.Arrays.{descr_of}
@@ -16,7 +14,7 @@ use Rattle.name_store.specs.declared.bound.Bound.{Bound}
 use Rattle.name_store.specs.declared.bound.Bound.TheVariants as bound
 use Rattle.bench_engine.specs.declared.view.Viewed.{Viewed}
 use Rattle.bench_engine.specs.inside.OwnContents.{held}
-use Rattle.bench_engine.specs.Machine.{ViewOrCopy, a_view, a_copy, cast_contents, copied_contents, as_copy, seen}
+use Rattle.bench_engine.specs.Machine.{ViewOrCopy, a_view, a_copy, cast_contents, as_copy, seen}
 use Rattle.bench_engine.specs.declared.replies.Origin.{Origin}
 use Rattle.bench_engine.specs.declared.replies.Origin.TheVariants as origin
 use Rattle.bench_engine.specs.inside.Meeting.{Meets}
@@ -51,11 +49,6 @@ SeesIn s how r result = (array : Array) → Shows s array r → Meets (IsSeen s)
 -- so it is the copy of its items under this shape
 abbrev pub Duplicates : List ℕ → ArrayRef → Result Viewed Refusal → Type 0
 Duplicates shape r result = (s : State) (array : Array) → Shows s array r → Meets (IsSeen s) result (as_copy s array shape)
-
--- what a block holds is the copy of its items in this order, in each state that has it; a refusal is the one that is there,
--- unless memory ran out
-abbrev pub Copies : MemoryOrder → ArrayRef → Result Owned Refusal → Type 0
-Copies order r result = (s : State) (array : Array) → Shows s array r → Gives held result (copied_contents s array order array.shape)
 
 -- what a block holds is what its items are as those of another element type, in each state that has it; a refusal is the one that
 -- is there, unless memory ran out

@@ -1,8 +1,7 @@
 -- Items that are written to a part of an array, and the places to which they are.
-use Rattle.std.specs.Prelude.{◌≡◌, ◌⊎◌, ℕ, List, length, Result, Ok, Err}
+use Rattle.std.specs.Prelude.{◌≡◌, ℕ, List, length, Result, Ok}
 use Rattle.std.specs.List.Sorted.{IsPermutation}
 use Rattle.elem_descr.specs.declared.refusal.Refusal.{Refusal}
-use Rattle.elem_descr.specs.declared.refusal.Refusal.TheVariants.{OutOfMemory}
 use Rattle.elem_descr.specs.Values.{LeafValue}
 use Rattle.shape_strides.specs.declared.layout.Layout.{Layout}
 use Rattle.shape_strides.specs.declared.layout_pair.LayoutPair.{LayoutPair}
@@ -13,9 +12,12 @@ use Rattle.broadcasting.specs.Broadcasts.{stretched}
 use Rattle.name_store.specs.States.{State, Array}
 use Rattle.name_store.specs.Arrays.{descr_of, written}
 use Rattle.name_store.specs.Targets.{LeadsTo, MayWrite, Supplies, target_offsets}
-use Rattle.name_store.specs.declared.target.Source.{Source}
 use Rattle.name_store.specs.declared.target.Target.{Target}
 use Rattle.bench_engine.specs.declared.update.Writing.{Writing}
+use Rattle.name_store.specs.Shown.{Shows}
+use Rattle.name_store.specs.declared.array_ref.ArrayRef.{ArrayRef}
+use Rattle.bench_engine.specs.inside.Assigns.{IsTarget}
+use Rattle.bench_engine.specs.inside.Meeting.{Meets}
 
 -- They leave what these new items of the part do, one for each of its places, in whatever order both stand.
 pub record Leaves (s : State) (name : List ℕ) (array part : Array) (w : Writing) (new : List (List LeafValue)) : Type 0 where
@@ -26,6 +28,22 @@ pub record Leaves (s : State) (name : List ℕ) (array part : Array) (w : Writin
   pub supplies : Supplies s (descr_of s array) (length (target_offsets w.target)) w.source items
   pub counted : length (target_offsets w.target) ≡ count part.shape
   pub same : written s array places items ≡ written s array part.places new
+
+-- a target is one of an array that is shown
+abbrev pub IsTargetIn : State → ArrayRef → Target → Type 0
+IsTargetIn s r target = (name : List ℕ) × (a : Array) × (part : Array) × Shows s a r × IsTarget s name a target part
+
+-- so it is in some state
+abbrev pub IsTargetOf : ArrayRef → Target → Type 0
+IsTargetOf r target = (s : State) × (name : List ℕ) × (a : Array) × (part : Array) × Shows s a r × IsTarget s name a target part
+
+-- what is written to a target leaves what these new items of its part do
+abbrev pub WritesIn : State → ArrayRef → Target → (Array → Result (List (List LeafValue)) Refusal) → Result Writing Refusal → Type 0
+WritesIn s r target new result = (name : List ℕ) (a part : Array) → Shows s a r → IsTarget s name a target part → Meets (Leaves s name a part) result (new part)
+
+-- so it does in each state that has the array
+abbrev pub Writes : ArrayRef → Target → (State → Array → Result (List (List LeafValue)) Refusal) → Result Writing Refusal → Type 0
+Writes r target new result = (s : State) → WritesIn s r target (new s) result
 
 -- a view and items that are stretched to its shape: in the pair, each place of the one stands beside that of the same item
 pub record GoTogether (view items : Layout) (pair : LayoutPair) : Type 0 where

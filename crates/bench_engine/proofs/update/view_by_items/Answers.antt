@@ -28,7 +28,7 @@ changed_by_items-requires c =
     }
 
 pub returns-in_err-new : goal.returns-in_err-new
-returns-in_err-new c s name a part w shows is sw =
+returns-in_err-new c w sw s name a part shows is =
     let p = err_from_is_err_and c.from_residual.result c.from_residual.ensures.1 in
     let old = c.items_of_view.ensures in
     let gives = c.in_err-new.ensures (operand_values s part) w (all-stand s part _ (old-view s name a part c.args.array.now shows _ _ is old.block old.layout old.descr)) sw in
@@ -36,7 +36,7 @@ returns-in_err-new c s name a part w shows is sw =
     (subst (λ (d : Descr). Meets (HoldsItems d (count part.shape)) (Err c.in_err-new.field-0.0) (updated_items c.args.operation d (operand_values s part) w)) old.descr gives))
 
 pub returns : goal.returns
-returns c s name a part w shows is sw =
+returns c w sw s name a part shows is =
     let old = c.items_of_view.ensures in
     let gives = c.in_ok-new.ensures (operand_values s part) w (all-stand s part _ (old-view s name a part c.args.array.now shows _ _ is old.block old.layout old.descr)) sw in
     unmoved-gives s name a part c.args.array.now (View c.args.view) (Ok c.in_ok-new.new) (updated_items c.args.operation c.args.array.now.descr.now (operand_values s part) w) shows is
@@ -44,10 +44,9 @@ returns c s name a part w shows is sw =
 
 pub pair_by_items-requires : goal.pair_by_items-requires
 pair_by_items-requires c =
-    let t = c.requires in
-    (t.0, t.1, t.2, t.3, c.args.view, t.4, t.5, c.in-Some.ensures)
+    (c.args.view, c.in-Some.ensures, c.requires)
 
 pub returns-in-Some : goal.returns-in-Some
-returns-in-Some c s name a part w shows is sw =
+returns-in-Some c w sw s name a part shows is =
     let lengths = c.as_slice-lengths.ensures in
-    c.pair_by_items.ensures s name a part c.args.view w shows is (record { axes = lengths.rank; lengths = lengths.lengths; items = lengths.items }) c.in-Some.ensures sw
+    c.pair_by_items.ensures c.args.view w (record { axes = lengths.rank; lengths = lengths.lengths; items = lengths.items }) c.in-Some.ensures sw s name a part shows is

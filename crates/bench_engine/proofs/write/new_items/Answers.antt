@@ -13,5 +13,4 @@ source_of-requires-clause-given c = (c.args.bench.now.state, c.args.assignment.v
 
 pub updated-requires : goal.updated-requires
 updated-requires c =
-    let t = c.requires.target in
-    (c.args.bench.now.state, c.args.assignment.value.now, t.0, t.1, t.2, c.in_ok-given.ensures, t.3, t.4)
+    (c.args.bench.now.state, c.args.assignment.value.now, c.in_ok-given.ensures, c.requires.target)
