@@ -1,9 +1,8 @@
 -- The bytes of a scalar, read and written again.
-use Rattle.std.proofs.Common.{◌≡◌, ℕ, zero, suc, ◌+◌, ◌-◌, ◌*◌, ◌/◌, ◌^◌, ◌<◌, true, false, List, [], ◌∷◌, ◌++◌, length, replicate, refl, sym, ap, ◌∙◌, arith, length-take}
+use Rattle.std.proofs.Common.{◌≡◌, ℕ, zero, suc, ◌+◌, ◌-◌, ◌*◌, ◌/◌, ◌^◌, ◌<◌, List, [], ◌∷◌, ◌++◌, length, replicate, refl, sym, ap, ◌∙◌, arith, length-take}
 use Rattle.std.specs.Prelude.{nat_eq}
 use Rattle.std.specs.Int.{byte_at, bytes_low_first, bytes_high_first}
 use Rattle.std.proofs.Math.Nat.{mod-lt}
-use Rattle.std.proofs.lemmas.Bool.{true≢false}
 use Rattle.std.proofs.lemmas.Nat.{div-mul-add}
 use Rattle.std.proofs.lemmas.List.{append-nil, take_all}
 use Rattle.std.proofs.lemmas.List.Sums.{suffix_len-le-length}
@@ -18,7 +17,7 @@ use Rattle.elem_descr.specs.EncodingLaws.{low_bits-integer}
 use Rattle.elem_descr.specs.NulLaws.{without_nuls-back}
 use Rattle.elem_descr.specs.Nuls.{nuls}
 use Rattle.elem_descr.specs.ByteLaws.{AreBytes, number-lt, truth-twice}
-use Rattle.npy_format.specs.inside.WrittenItems.{is_bool}
+use Rattle.npy_format.specs.inside.WrittenItems.{limit}
 
 -- ---- numbers
 
@@ -86,8 +85,8 @@ text_again n bytes long =
 
 -- ---- scalars
 
-pub scalar_again : (scalar : Scalar) (bytes : List ℕ) → is_bool scalar ≡ false → length bytes ≡ size scalar → AreBytes bytes → encode scalar (decode scalar bytes) ≡ bytes
-scalar_again BoolScalar bytes other long are = absurd (true≢false other)
+pub scalar_again : (scalar : Scalar) (bytes : List ℕ) → limit scalar ≡ 255 → length bytes ≡ size scalar → AreBytes bytes → encode scalar (decode scalar bytes) ≡ bytes
+scalar_again BoolScalar bytes other long are = absurd (omega (arith, other))
 scalar_again (Byte signed) bytes other long are = ap (little_bytes 1) (low_bits-integer signed 1 (little_number 1 bytes) (number-lt Little 1 bytes are)) ∙ again Little 1 bytes long are
 scalar_again (Int signed width order) bytes other long are =
     let n = width_size width in
@@ -97,9 +96,3 @@ scalar_again (Bytes n) bytes other long are = text_again n bytes long
 -- the byte of a bool
 pub bool_again : (b : ℕ) → encode BoolScalar (decode BoolScalar (b ∷ [])) ≡ truth b ∷ []
 bool_again b = let same : b + 256 * 0 ≡ b = omega arith in ap (λ n. truth (truth n) ∷ []) same ∙ ap (λ n. n ∷ []) (truth-twice b)
-
-pub is_bool-true : (scalar : Scalar) → is_bool scalar ≡ true → scalar ≡ BoolScalar
-is_bool-true BoolScalar is = refl
-is_bool-true (Byte signed) is = absurd (true≢false (sym is))
-is_bool-true (Int signed width order) is = absurd (true≢false (sym is))
-is_bool-true (Bytes n) is = absurd (true≢false (sym is))

@@ -1,19 +1,22 @@
 -- Items that are written over their bytes.
-use Rattle.std.proofs.Common.{◌≡◌, ℕ, zero, suc, ◌+◌, ◌-◌, ◌*◌, ◌<◌, ◌≤◌, false, List, [], ◌∷◌, ◌++◌, map, length, get_or, take, drop, replicate, slice_set, refl, sym, ap, subst, ◌∙◌, arith, append_assoc, length-append, length-take, length-drop, drop-cons, zero-mul, suc-mul, mul-le-mul_right}
-use Rattle.std.specs.List.{flat_map}
-use Rattle.std.proofs.Math.Seq.{take-add, take-append_seam, drop-append_seam}
-use Rattle.std.proofs.lemmas.List.{append-nil, take_all, drop_all, take-append-drop, drop-drop, length-replicate}
+use Rattle.std.proofs.Common.{◌≡◌, ℕ, zero, suc, ◌+◌, ◌-◌, ◌*◌, ◌<◌, ◌≤◌, min, inl, inr, List, [], ◌∷◌, ◌++◌, map, length, get_or, take, drop, replicate, slice_set, refl, sym, ap, subst, ◌∙◌, arith, append_assoc, append-nil, length-append, length-take, length-drop, zero-mul, suc-mul, mul-one}
+use Rattle.std.specs.List.{flat_map, repeat}
+use Rattle.std.proofs.Math.Seq.{take-append_seam, drop-append_seam}
+use Rattle.std.proofs.Math.Nat.{mul-le-mul_left, min-zero}
+use Rattle.std.proofs.lemmas.Bool.{cases_lt}
+use Rattle.std.proofs.lemmas.List.{drop_all, take-append-drop, drop-drop, length-replicate}
 use Rattle.raw_block.specs.Bytes.{item_at, put}
-use Rattle.raw_block.specs.BytesLaws.{length-put, front_length}
+use Rattle.raw_block.specs.BytesLaws.{front_length}
 use Rattle.elem_descr.specs.declared.leaf.Leaf.{Leaf}
 use Rattle.elem_descr.specs.declared.scalar.Scalar.{Scalar}
-use Rattle.elem_descr.specs.declared.scalar.Scalar.TheVariants.{Bool as BoolScalar}
-use Rattle.elem_descr.specs.Encoding.{size, decode, encode, truth}
+use Rattle.elem_descr.specs.declared.scalar.Scalar.TheVariants.{Bool as BoolScalar, Byte, Int, Bytes}
+use Rattle.elem_descr.specs.Encoding.{size, decode, encode}
+use Rattle.elem_descr.specs.EncodingLaws.{truth_suc}
 use Rattle.elem_descr.specs.Items.{AreInOrder, encode_from}
 use Rattle.elem_descr.specs.ItemLaws.{AreInOrder-within}
 use Rattle.elem_descr.specs.Blocks.{blocks}
 use Rattle.elem_descr.specs.ByteLaws.{AreBytes, bytes-drop, bytes-take, length-encode}
-use Rattle.npy_format.specs.inside.WrittenItems.{read_leaf, written_item, is_bool, IsPlain}
+use Rattle.npy_format.specs.inside.WrittenItems.{read_leaf, written_item, limit, limits_from, capped, IsPlain}
 use Rattle.npy_format.proofs.ScalarBytes.{scalar_again, bool_again}
 
 -- ---- bytes that are put
@@ -28,95 +31,6 @@ drop-put at item bytes within =
     let rest = drop (at + length item) bytes in
     ap (λ n. drop n (put at item bytes)) (sym (front_length at item bytes within)) ∙ drop-append_seam (take at bytes ++ item) rest
 
-pub put_again : (at n : ℕ) (bytes : List ℕ) → at + n ≤ length bytes → put at (item_at at n bytes) bytes ≡ bytes
-put_again at n bytes within =
-    let long : length (item_at at n bytes) ≡ n = omega (arith, within, length-take n (drop at bytes), length-drop at bytes) in
-    (λ i. (take at bytes ++ item_at at n bytes) ++ drop (at + long i) bytes)
-    ∙ ap (λ front. front ++ drop (at + n) bytes) (sym (take-add at n bytes))
-    ∙ take-append-drop (at + n) bytes
-
--- ---- leaves
-
--- the byte of a bool
-pub bool_written : (at b : ℕ) (scalar : Scalar) (item : List ℕ) → scalar ≡ BoolScalar → at + size scalar ≤ length item → b ≡ truth (get_or item at 0) → slice_set item at b ≡ put at (encode scalar (decode scalar (item_at at (size scalar) item))) item
-bool_written at b scalar item is within e =
-    let fits : at + 1 ≤ length item = subst (λ s. at + size s ≤ length item) is within in
-    let here : item_at at 1 item ≡ get_or item at 0 ∷ [] = ap (take 1) (drop-cons item at 0 (omega (arith, fits))) in
-    let value : truth (get_or item at 0) ∷ [] ≡ encode BoolScalar (decode BoolScalar (item_at at 1 item)) = sym (ap (λ x. encode BoolScalar (decode BoolScalar x)) here ∙ bool_again (get_or item at 0)) in
-    ap (slice_set item at) e
-    ∙ set-put at (truth (get_or item at 0)) item (omega (arith, fits))
-    ∙ ap (λ x. put at x item) value
-    ∙ ap (λ s. put at (encode s (decode s (item_at at (size s) item))) item) (sym is)
-  where
-    set-put : (at b : ℕ) (item : List ℕ) → at < length item → slice_set item at b ≡ put at (b ∷ []) item
-    set-put at b [] below = absurd (omega (arith, below))
-    set-put zero b (x ∷ item) below = refl
-    set-put (suc at) b (x ∷ item) below =
-        let more : suc (at + 1) ≡ suc at + 1 = omega arith in
-        ap (λ xs. x ∷ xs) (set-put at b item (omega (arith, below))) ∙ (λ i. (x ∷ (take at item ++ b ∷ [])) ++ drop (more i) (x ∷ item))
-
--- and of every other leaf
-pub leaf_stays : (at : ℕ) (scalar : Scalar) (item : List ℕ) → is_bool scalar ≡ false → at + size scalar ≤ length item → AreBytes item → item ≡ put at (encode scalar (decode scalar (item_at at (size scalar) item))) item
-leaf_stays at scalar item other within are =
-    let n = size scalar in
-    let long : length (item_at at n item) ≡ n = omega (arith, within, length-take n (drop at item), length-drop at item) in
-    sym (ap (λ x. put at x item) (scalar_again scalar (item_at at n item) other long (bytes-take n (drop at item) (bytes-drop at item are))) ∙ put_again at n item within)
-
--- leaves behind a byte are read of what lies behind it
-read_behind : (from bytes : ℕ) (leaves : List Leaf) (item other : List ℕ) → AreInOrder from leaves bytes → drop from item ≡ drop from other → map (read_leaf item) leaves ≡ map (read_leaf other) leaves
-read_behind from bytes [] item other order same = refl
-read_behind from bytes (leaf ∷ leaves) item other order same =
-    let n = size leaf.scalar in
-    let split : from + (leaf.at - from) ≡ leaf.at = omega (arith, order.0) in
-    let here : drop leaf.at item ≡ drop leaf.at other =
-    ap (λ k. drop k item) (sym split) ∙ sym (drop-drop (leaf.at - from) from item) ∙ ap (drop (leaf.at - from)) same ∙ drop-drop (leaf.at - from) from other ∙ ap (λ k. drop k other) split in
-    let behind : drop (leaf.at + n) item ≡ drop (leaf.at + n) other = sym (drop-drop n leaf.at item) ∙ ap (drop n) here ∙ drop-drop n leaf.at other in
-    λ i. decode leaf.scalar (take n (here i)) ∷ read_behind (leaf.at + n) bytes leaves item other order.2 behind i
-
--- one leaf is written, and the gap before it
-pub leaf_written : (end : ℕ) (leaf : Leaf) (leaves : List Leaf) (item item1 item2 whole : List ℕ) → AreInOrder end (leaf ∷ leaves) (length item) → item1 ≡ put end (replicate (leaf.at - end) 0) item
-    → item2 ≡ put leaf.at (encode leaf.scalar (decode leaf.scalar (item_at leaf.at (size leaf.scalar) item1))) item1
-    → take end item ++ encode_from end (leaf ∷ leaves) (map (read_leaf item) (leaf ∷ leaves)) (length item) ≡ whole
-    → take (leaf.at + size leaf.scalar) item2 ++ encode_from (leaf.at + size leaf.scalar) leaves (map (read_leaf item2) leaves) (length item2) ≡ whole
-leaf_written end leaf leaves item item1 item2 whole order cleared is rest =
-    let at = leaf.at in
-    let n = size leaf.scalar in
-    let zeros : List ℕ = replicate (at - end) 0 in
-    let low : at + n ≤ length item = AreInOrder-within (at + n) leaves (length item) order.2 in
-    let long : length zeros ≡ at - end = length-replicate (at - end) 0 in
-    let there : end + length zeros ≡ at = omega (arith, long, order.0) in
-    let fits : end + length zeros ≤ length item = omega (arith, there, low) in
-    let size1 : length item1 ≡ length item = ap length cleared ∙ length-put end zeros item fits in
-    let front1 : take at item1 ≡ take end item ++ zeros = (λ i. take (sym there i) (cleared i)) ∙ take-put end zeros item fits in
-    let back1 : drop at item1 ≡ drop at item = (λ i. drop (sym there i) (cleared i)) ∙ drop-put end zeros item fits ∙ ap (λ k. drop k item) there in
-    let value = read_leaf item leaf in
-    let bytes = encode leaf.scalar value in
-    let wide : length bytes ≡ n = length-encode leaf.scalar value in
-    let is' : item2 ≡ put at bytes item1 = is ∙ ap (λ b. put at (encode leaf.scalar (decode leaf.scalar (take n b))) item1) back1 in
-    let fits2 : at + length bytes ≤ length item1 = omega (arith, wide, low, size1) in
-    let size2 : length item2 ≡ length item = ap length is' ∙ length-put at bytes item1 fits2 ∙ size1 in
-    let front2 : take (at + n) item2 ≡ (take end item ++ zeros) ++ bytes = (λ i. take (at + sym wide i) (is' i)) ∙ take-put at bytes item1 fits2 ∙ ap (λ front. front ++ bytes) front1 in
-    let back2 : drop (at + n) item2 ≡ drop (at + n) item =
-    (λ i. drop (at + sym wide i) (is' i)) ∙ drop-put at bytes item1 fits2 ∙ ap (λ k. drop (at + k) item1) wide ∙ sym (drop-drop n at item1) ∙ ap (drop n) back1 ∙ drop-drop n at item in
-    let same : map (read_leaf item2) leaves ≡ map (read_leaf item) leaves = read_behind (at + n) (length item) leaves item2 item order.2 back2 in
-    let later = encode_from (at + n) leaves (map (read_leaf item) leaves) (length item) in
-    (λ i. front2 i ++ encode_from (at + n) leaves (same i) (size2 i))
-    ∙ append_assoc (take end item ++ zeros) bytes later ∙ append_assoc (take end item) zeros (bytes ++ later)
-    ∙ ap (λ back. take end item ++ back) (sym (append_assoc zeros bytes later))
-    ∙ rest
-
--- all of them are, and the gap behind the last is cleared
-pub item_written : (end i : ℕ) (leaves : List Leaf) (item item' whole : List ℕ) → length leaves ≤ i → end ≤ length item → item' ≡ put end (replicate (length item - end) 0) item
-    → take end item ++ encode_from end (drop i leaves) (map (read_leaf item) (drop i leaves)) (length item) ≡ whole → item' ≡ whole
-item_written end i leaves item item' whole done low cleared rest =
-    let n = length item - end in
-    let zeros : List ℕ = replicate n 0 in
-    let all : length item ≤ end + length zeros = omega (arith, low, length-replicate {A = ℕ} n 0) in
-    cleared
-    ∙ ap (λ back. (take end item ++ zeros) ++ back) (drop_all (end + length zeros) item all) ∙ append-nil (take end item ++ zeros)
-    ∙ sym (ap (λ left. take end item ++ encode_from end left (map (read_leaf item) left) (length item)) (drop_all i leaves done))
-    ∙ rest
-
 pub length-written : (from : ℕ) (leaves : List Leaf) (item : List ℕ) (bytes : ℕ) → AreInOrder from leaves bytes → length (encode_from from leaves (map (read_leaf item) leaves) bytes) ≡ bytes - from
 length-written from [] item bytes order = length-replicate (bytes - from) 0
 length-written from (leaf ∷ leaves) item bytes order =
@@ -125,6 +39,167 @@ length-written from (leaf ∷ leaves) item bytes order =
     let next = leaf.at + size leaf.scalar in
     let later = encode_from next leaves (map (read_leaf item) leaves) bytes in
     omega (arith, length-append (gap ++ value) later, length-append gap value, length-replicate {A = ℕ} (leaf.at - from) 0, length-encode leaf.scalar (read_leaf item leaf), length-written next leaves item bytes order.2, order.0, AreInOrder-within next leaves bytes order.2)
+
+-- ---- bytes and their limits
+
+pub length-capped : (bytes limits : List ℕ) → length (capped bytes limits) ≡ length bytes
+length-capped [] limits = refl
+length-capped (b ∷ bytes) [] = refl
+length-capped (b ∷ bytes) (l ∷ limits) = ap suc (length-capped bytes limits)
+
+-- bytes in two parts, each with its limits
+pub capped-append : (bytes limits more later : List ℕ) → length bytes ≡ length limits → capped (bytes ++ more) (limits ++ later) ≡ capped bytes limits ++ capped more later
+capped-append [] [] more later same = refl
+capped-append [] (l ∷ limits) more later same = absurd (omega (arith, same))
+capped-append (b ∷ bytes) [] more later same = absurd (omega (arith, same))
+capped-append (b ∷ bytes) (l ∷ limits) more later same = ap (λ xs. min b l ∷ xs) (capped-append bytes limits more later (omega (arith, same)))
+
+-- limits behind the bytes change nothing
+pub capped-enough : (bytes limits later : List ℕ) → length bytes ≤ length limits → capped bytes (limits ++ later) ≡ capped bytes limits
+capped-enough [] limits later low = refl
+capped-enough (b ∷ bytes) [] later low = absurd (omega (arith, low))
+capped-enough (b ∷ bytes) (l ∷ limits) later low = ap (λ xs. min b l ∷ xs) (capped-enough bytes limits later (omega (arith, low)))
+
+capped-zeros : (n : ℕ) (bytes : List ℕ) → length bytes ≡ n → capped bytes (replicate n 0) ≡ replicate n 0
+capped-zeros zero [] long = refl
+capped-zeros zero (b ∷ bytes) long = absurd (omega (arith, long))
+capped-zeros (suc n) [] long = absurd (omega (arith, long))
+capped-zeros (suc n) (b ∷ bytes) long = λ i. min-zero b i ∷ capped-zeros n bytes (omega (arith, long)) i
+
+capped-bytes : (n : ℕ) (bytes : List ℕ) → length bytes ≡ n → AreBytes bytes → capped bytes (replicate n 255) ≡ bytes
+capped-bytes n [] long are = refl
+capped-bytes zero (b ∷ bytes) long are = absurd (omega (arith, long))
+capped-bytes (suc n) (b ∷ bytes) long are =
+    let low : b < 256 = are 0 in
+    let same : min b 255 ≡ b = omega (arith, low) in
+    λ i. same i ∷ capped-bytes n bytes (omega (arith, long)) (λ k. are (suc k)) i
+
+-- the bytes of a scalar are written by their limit
+scalar_capped : (scalar : Scalar) (bytes : List ℕ) → length bytes ≡ size scalar → AreBytes bytes → capped bytes (replicate (size scalar) (limit scalar)) ≡ encode scalar (decode scalar bytes)
+scalar_capped BoolScalar [] long are = absurd (omega (arith, long))
+scalar_capped BoolScalar (zero ∷ []) long are = sym (bool_again 0)
+scalar_capped BoolScalar (suc b ∷ []) long are = let one : min (suc b) 1 ≡ 1 = omega arith in ap (λ n. n ∷ []) one ∙ sym (bool_again (suc b) ∙ ap (λ n. n ∷ []) (truth_suc b))
+scalar_capped BoolScalar (b ∷ c ∷ bytes) long are = absurd (omega (arith, long))
+scalar_capped (Byte signed) bytes long are = capped-bytes 1 bytes long are ∙ sym (scalar_again (Byte signed) bytes refl long are)
+scalar_capped (Int signed width order) bytes long are = capped-bytes (size (Int signed width order)) bytes long are ∙ sym (scalar_again (Int signed width order) bytes refl long are)
+scalar_capped (Bytes n) bytes long are = capped-bytes n bytes long are ∙ sym (scalar_again (Bytes n) bytes refl long are)
+
+-- and so are those of an item
+item_capped : (from : ℕ) (leaves : List Leaf) (bytes : ℕ) (item : List ℕ) → AreInOrder from leaves bytes → length item ≡ bytes → AreBytes item → capped (drop from item) (limits_from from leaves bytes) ≡ encode_from from leaves (map (read_leaf item) leaves) bytes
+item_capped from [] bytes item order long are = capped-zeros (bytes - from) (drop from item) (omega (arith, order, long, length-drop from item))
+item_capped from (leaf ∷ leaves) bytes item order long are =
+    let n = size leaf.scalar in
+    let gap = leaf.at - from in
+    let next = leaf.at + n in
+    let here = item_at leaf.at n item in
+    let low : next ≤ bytes = AreInOrder-within next leaves bytes order.2 in
+    let split : from + gap ≡ leaf.at = omega (arith, order.0) in
+    let empty : length (take gap (drop from item)) ≡ gap = omega (arith, order.0, low, long, length-take gap (drop from item), length-drop from item) in
+    let wide : length here ≡ n = omega (arith, low, long, length-take n (drop leaf.at item), length-drop leaf.at item) in
+    let parts : drop from item ≡ (take gap (drop from item) ++ here) ++ drop next item =
+    sym (take-append-drop gap (drop from item)) ∙ ap (λ back. take gap (drop from item) ++ back) (drop-drop gap from item ∙ ap (λ k. drop k item) split ∙ sym (take-append-drop n (drop leaf.at item)) ∙ ap (λ back. here ++ back) (drop-drop n leaf.at item))
+    ∙ sym (append_assoc (take gap (drop from item)) here (drop next item)) in
+    let zeros : List ℕ = replicate gap 0 in
+    let most = replicate n (limit leaf.scalar) in
+    ap (λ xs. capped xs (limits_from from (leaf ∷ leaves) bytes)) parts
+    ∙ capped-append (take gap (drop from item) ++ here) (zeros ++ most) (drop next item) (limits_from next leaves bytes) (omega (arith, empty, wide, length-append (take gap (drop from item)) here, length-append zeros most, length-replicate {A = ℕ} gap 0, length-replicate n (limit leaf.scalar)))
+    ∙ (λ i. capped-append (take gap (drop from item)) zeros here most (omega (arith, empty, length-replicate {A = ℕ} gap 0)) i ++ item_capped next leaves bytes item order.2 long are i)
+    ∙ (λ i. (capped-zeros gap (take gap (drop from item)) empty i ++ scalar_capped leaf.scalar here wide (bytes-take n (drop leaf.at item) (bytes-drop leaf.at item are)) i) ++ encode_from next leaves (map (read_leaf item) leaves) bytes)
+
+pub length-limits : (from : ℕ) (leaves : List Leaf) (bytes : ℕ) → AreInOrder from leaves bytes → length (limits_from from leaves bytes) ≡ bytes - from
+length-limits from [] bytes order = length-replicate (bytes - from) 0
+length-limits from (leaf ∷ leaves) bytes order =
+    let gap : List ℕ = replicate (leaf.at - from) 0 in
+    let most = replicate (size leaf.scalar) (limit leaf.scalar) in
+    let next = leaf.at + size leaf.scalar in
+    omega (arith, length-append (gap ++ most) (limits_from next leaves bytes), length-append gap most, length-replicate {A = ℕ} (leaf.at - from) 0, length-replicate (size leaf.scalar) (limit leaf.scalar), length-limits next leaves bytes order.2, order.0, AreInOrder-within next leaves bytes order.2)
+
+-- one byte
+pub byte_capped : (k value : ℕ) (bytes limits : List ℕ) → k < length bytes → k < length limits → value ≡ min (get_or bytes k 0) (get_or limits k 0)
+    → take (suc k) (slice_set bytes k value) ++ capped (drop (suc k) (slice_set bytes k value)) (drop (suc k) limits) ≡ take k bytes ++ capped (drop k bytes) (drop k limits)
+byte_capped k value [] limits low low' is = absurd (omega (arith, low))
+byte_capped k value (b ∷ bytes) [] low low' is = absurd (omega (arith, low'))
+byte_capped zero value (b ∷ bytes) (l ∷ limits) low low' is = ap (λ n. n ∷ capped bytes limits) is
+byte_capped (suc k) value (b ∷ bytes) (l ∷ limits) low low' is = ap (λ xs. b ∷ xs) (byte_capped k value bytes limits (omega (arith, low)) (omega (arith, low')) is)
+
+-- items one after another
+items_capped : (leaves : List Leaf) (width count : ℕ) (bytes : List ℕ) → AreInOrder 0 leaves width → length bytes ≡ count * width → AreBytes bytes → capped bytes (repeat count (limits_from 0 leaves width)) ≡ flat_map (written_item leaves width) (blocks width count bytes)
+items_capped leaves width zero bytes order long are = ap (λ xs. capped xs []) (drop_all 0 bytes (omega (arith, long)))
+items_capped leaves width (suc count) bytes order long are =
+    let limits = limits_from 0 leaves width in
+    let total : length bytes ≡ width + count * width = omega (arith, long, suc-mul count width) in
+    let wide : length (take width bytes) ≡ width = omega (arith, total, length-take width bytes) in
+    ap (λ xs. capped xs (limits ++ repeat count limits)) (sym (take-append-drop width bytes))
+    ∙ capped-append (take width bytes) limits (drop width bytes) (repeat count limits) (omega (arith, wide, length-limits 0 leaves width order))
+    ∙ (λ i. item_capped 0 leaves width (take width bytes) order wide (bytes-take width bytes are) i ++ items_capped leaves width count (drop width bytes) order (omega (arith, total, length-drop width bytes)) (bytes-drop width bytes are) i)
+
+-- ---- limits again and again
+
+repeat-add : (m n : ℕ) (xs : List ℕ) → repeat (m + n) xs ≡ repeat m xs ++ repeat n xs
+repeat-add zero n xs = let none : 0 + n ≡ n = omega arith in ap (λ k. repeat k xs) none
+repeat-add (suc m) n xs =
+    let more : suc m + n ≡ suc (m + n) = omega arith in
+    ap (λ k. repeat k xs) more ∙ ap (λ ys. xs ++ ys) (repeat-add m n xs) ∙ sym (append_assoc xs (repeat m xs) (repeat n xs))
+
+repeat-repeat : (m n : ℕ) (xs : List ℕ) → repeat m (repeat n xs) ≡ repeat (m * n) xs
+repeat-repeat zero n xs = sym (ap (λ k. repeat k xs) (zero-mul n))
+repeat-repeat (suc m) n xs =
+    let more : n + m * n ≡ suc m * n = omega (arith, suc-mul m n) in
+    ap (λ ys. repeat n xs ++ ys) (repeat-repeat m n xs) ∙ sym (repeat-add n (m * n) xs) ∙ ap (λ k. repeat k xs) more
+
+pub length-repeat : (n : ℕ) (xs : List ℕ) → length (repeat n xs) ≡ n * length xs
+length-repeat zero xs = sym (zero-mul (length xs))
+length-repeat (suc n) xs = omega (arith, length-append xs (repeat n xs), length-repeat n xs, suc-mul n (length xs))
+
+-- as many as the bytes need are enough
+capped-more : (m n : ℕ) (bytes limits : List ℕ) → m ≤ n → length bytes ≤ m * length limits → capped bytes (repeat n limits) ≡ capped bytes (repeat m limits)
+capped-more m n bytes limits low enough =
+    let split : n ≡ m + (n - m) = omega (arith, low) in
+    ap (λ k. capped bytes (repeat k limits)) split ∙ ap (capped bytes) (repeat-add m (n - m) limits)
+    ∙ capped-enough bytes (repeat m limits) (repeat (n - m) limits) (omega (arith, length-repeat m limits, enough))
+
+-- one band of them
+pub band_capped : (at len many : ℕ) (bytes bytes' limits : List ℕ) → at < length bytes → len ≡ min (length limits) (length bytes - at) → 1 ≤ length limits → length bytes ≤ many → bytes' ≡ put at (capped (item_at at len bytes) limits) bytes
+    → take (at + len) bytes' ++ capped (drop (at + len) bytes') (repeat many limits) ≡ take at bytes ++ capped (drop at bytes) (repeat many limits)
+band_capped at len many bytes bytes' limits low is some enough put_is =
+    let piece = item_at at len bytes in
+    let rest = drop (at + len) bytes in
+    let within : at + len ≤ length bytes = omega (arith, low, is) in
+    let long : length piece ≡ len = omega (arith, within, length-take len (drop at bytes), length-drop at bytes) in
+    let wide : length (capped piece limits) ≡ len = length-capped piece limits ∙ long in
+    let fits : at + length (capped piece limits) ≤ length bytes = omega (arith, wide, within) in
+    let front : take (at + len) bytes' ≡ take at bytes ++ capped piece limits = (λ i. take (at + sym wide i) (put_is i)) ∙ take-put at (capped piece limits) bytes fits in
+    let back : drop (at + len) bytes' ≡ rest = (λ i. drop (at + sym wide i) (put_is i)) ∙ drop-put at (capped piece limits) bytes fits ∙ ap (λ n. drop (at + n) bytes) wide in
+    let parts : drop at bytes ≡ piece ++ rest = sym (take-append-drop len (drop at bytes)) ∙ ap (λ xs. piece ++ xs) (drop-drop len at bytes) in
+    let first : many ≡ suc (many - 1) = omega (arith, low, enough) in
+    let begins : repeat many limits ≡ limits ++ repeat (many - 1) limits = ap (λ n. repeat n limits) first in
+    let left : length rest ≡ length bytes - (at + len) = length-drop (at + len) bytes in
+    let joined : capped piece limits ++ capped rest (repeat many limits) ≡ capped (piece ++ rest) (repeat many limits) = elim (cases_lt (length bytes - at) (length limits)) [
+      | inl last ↦
+          let none : rest ≡ [] = drop_all (at + len) bytes (omega (arith, is, last)) in
+          ap (λ xs. capped piece limits ++ capped xs (repeat many limits)) none ∙ append-nil (capped piece limits)
+          ∙ sym (capped-enough piece limits (repeat (many - 1) limits) (omega (arith, long, is)))
+          ∙ (λ i. capped (sym (append-nil piece) i) (sym begins i)) ∙ ap (λ xs. capped (piece ++ xs) (repeat many limits)) (sym none)
+      | inr more ↦
+          let full : length piece ≡ length limits = omega (arith, long, is, more) in
+          let turns : many - 1 ≤ (many - 1) * length limits = subst (λ n. n ≤ (many - 1) * length limits) (mul-one (many - 1)) (mul-le-mul_left (many - 1) some) in
+          let covers : length rest ≤ (many - 1) * length limits = omega (arith, left, turns, enough, full, long, some) in
+          ap (λ xs. capped piece limits ++ xs) (capped-more (many - 1) many rest limits (omega arith) covers)
+          ∙ sym (capped-append piece limits rest (repeat (many - 1) limits) full) ∙ ap (capped (piece ++ rest)) (sym begins)
+    ] in
+    (λ i. front i ++ capped (back i) (repeat many limits)) ∙ append_assoc (take at bytes) (capped piece limits) (capped rest (repeat many limits))
+    ∙ ap (λ xs. take at bytes ++ xs) (joined ∙ ap (λ xs. capped xs (repeat many limits)) (sym parts))
+
+pub bands_capped : (leaves : List Leaf) (width count copies : ℕ) (bytes bytes' : List ℕ) → AreInOrder 0 leaves width → 1 ≤ width → 1 ≤ copies → length bytes ≡ count * width → AreBytes bytes
+    → bytes' ≡ capped bytes (repeat (length bytes) (repeat copies (limits_from 0 leaves width))) → bytes' ≡ flat_map (written_item leaves width) (blocks width count bytes)
+bands_capped leaves width count copies bytes bytes' order some more long are is =
+    let limits = limits_from 0 leaves width in
+    let wide : length limits ≡ width = omega (arith, length-limits 0 leaves width order) in
+    let many : count ≤ length bytes = subst (λ n. count ≤ n) (sym long) (subst (λ n. n ≤ count * width) (mul-one count) (mul-le-mul_left count some)) in
+    let all : length bytes ≤ length bytes * copies = subst (λ n. n ≤ length bytes * copies) (mul-one (length bytes)) (mul-le-mul_left (length bytes) more) in
+    is ∙ ap (capped bytes) (repeat-repeat (length bytes) copies limits)
+    ∙ capped-more count (length bytes * copies) bytes limits (omega (arith, many, all)) (subst (λ n. length bytes ≤ count * n) (sym wide) (omega (arith, long)))
+    ∙ items_capped leaves width count bytes order long are
 
 -- ---- items that are written as they are
 
@@ -154,52 +229,3 @@ all_again f width (suc n) bytes stays long are =
     let total : length bytes ≡ width + n * width = omega (arith, long, suc-mul n width) in
     sym ((λ i. stays (take width bytes) (omega (arith, total, length-take width bytes)) (bytes-take width bytes are) i ++ sym (all_again f width n (drop width bytes) stays (omega (arith, total, length-drop width bytes)) (bytes-drop width bytes are)) i)
     ∙ take-append-drop width bytes)
-
--- ---- item by item
-
-pub each_written : (leaves : List Leaf) (width count k : ℕ) (bytes bytes' whole : List ℕ) → AreInOrder 0 leaves width → k < count → length bytes ≡ count * width → bytes' ≡ put (k * width) (written_item leaves width (item_at (k * width) width bytes)) bytes
-    → take (k * width) bytes ++ flat_map (written_item leaves width) (blocks width (count - k) (drop (k * width) bytes)) ≡ whole
-    → take ((k + 1) * width) bytes' ++ flat_map (written_item leaves width) (blocks width (count - (k + 1)) (drop ((k + 1) * width) bytes')) ≡ whole
-each_written leaves width count k bytes bytes' whole order low long is rest =
-    let f = written_item leaves width in
-    let at = k * width in
-    let item = f (item_at at width bytes) in
-    let wide : length item ≡ width = length-written 0 leaves (item_at at width bytes) width order ∙ omega arith in
-    let next : at + width ≡ (k + 1) * width = sym (add-mul k width) in
-    let most : suc k * width ≤ count * width = mul-le-mul_right width low in
-    let fits : at + length item ≤ length bytes = omega (arith, wide, most, suc-mul k width, long) in
-    let end : (k + 1) * width ≡ at + length item = omega (arith, next, wide) in
-    let front : take ((k + 1) * width) bytes' ≡ take at bytes ++ item = (λ i. take (end i) (is i)) ∙ take-put at item bytes fits in
-    let back : drop ((k + 1) * width) bytes' ≡ drop width (drop at bytes) = (λ i. drop (end i) (is i)) ∙ drop-put at item bytes fits ∙ ap (λ n. drop (at + n) bytes) wide ∙ sym (drop-drop width at bytes) in
-    let turns : count - k ≡ suc (count - (k + 1)) = omega (arith, low) in
-    (λ i. front i ++ flat_map f (blocks width (count - (k + 1)) (back i)))
-    ∙ append_assoc (take at bytes) item (flat_map f (blocks width (count - (k + 1)) (drop width (drop at bytes))))
-    ∙ sym (ap (λ n. take at bytes ++ flat_map f (blocks width n (drop at bytes))) turns)
-    ∙ rest
-  where
-    add-mul : (k width : ℕ) → (k + 1) * width ≡ k * width + width
-    add-mul k width = let more : k + 1 ≡ suc k = omega arith in ap (λ n. n * width) more ∙ suc-mul k width ∙ omega arith
-
--- before the first
-pub none_written : (f : List ℕ → List ℕ) (width count : ℕ) (bytes : List ℕ) → take (0 * width) bytes ++ flat_map f (blocks width (count - 0) (drop (0 * width) bytes)) ≡ flat_map f (blocks width count bytes)
-none_written f width count bytes =
-    let none : 0 * width ≡ 0 = zero-mul width in
-    let all : count - 0 ≡ count = omega arith in
-    λ i. take (none i) bytes ++ flat_map f (blocks width (all i) (drop (none i) bytes))
-
--- all of them are
-pub all_written : (leaves : List Leaf) (width count k : ℕ) (bytes whole : List ℕ) → k ≡ count → length bytes ≡ count * width → take (k * width) bytes ++ flat_map (written_item leaves width) (blocks width (count - k) (drop (k * width) bytes)) ≡ whole → bytes ≡ whole
-all_written leaves width count k bytes whole done long rest =
-    let none : count - k ≡ 0 = omega (arith, done) in
-    sym (append-nil bytes)
-    ∙ sym (ap (λ front. front ++ []) (ap (λ n. take (n * width) bytes) done ∙ take_all (count * width) bytes (omega (arith, long))))
-    ∙ sym (ap (λ n. take (k * width) bytes ++ flat_map (written_item leaves width) (blocks width n (drop (k * width) bytes))) none)
-    ∙ rest
-
--- ---- bools
-
-pub bools_written : (n : ℕ) (bytes : List ℕ) → length bytes ≡ n * 1 → map truth bytes ≡ flat_map (written_item (record { scalar = BoolScalar; at = 0 } ∷ []) 1) (blocks 1 n bytes)
-bools_written zero [] long = refl
-bools_written zero (b ∷ bytes) long = absurd (omega (arith, long))
-bools_written (suc n) [] long = absurd (omega (arith, long))
-bools_written (suc n) (b ∷ bytes) long = λ i. (sym (bool_again b) i ++ []) ++ bools_written n bytes (omega (arith, long)) i

@@ -1,5 +1,5 @@
 //! Writes files.
-ghost use Rattle.std.specs.Prelude.{◌≡◌, Bool, ◌+◌, ◌*◌, ◌<◌, ◌≤◌, ◌++◌, length, map, take, drop, All, IfOk, Err};
+ghost use Rattle.std.specs.Prelude.{◌≡◌, Bool, ◌+◌, ◌*◌, ◌<◌, ◌≤◌, ◌++◌, length, map, take, drop, All, IfOk, OnOk, Err};
 ghost use Rattle.std.specs.List.{flat_map};
 ghost use Rattle.elem_descr.specs.declared.refusal.Refusal.TheVariants.{TooLarge};
 ghost use Rattle.elem_descr.specs.Refusals.{Gives};
@@ -46,11 +46,17 @@ pub(crate) fn header(
 }
 
 /// Writes the `count` items after the first `start` bytes as a file has them.
-fn write_behind(file: &mut Vec<u8>, start: usize, count: usize, descr: &Descr)
+fn write_behind(
+    alloc: Global,
+    file: &mut Vec<u8>,
+    start: usize,
+    count: usize,
+    descr: &Descr,
+) -> Result<(), AllocError>
     requires { length file.old.items ≡ start + count * item_size descr.now }
-    ensures { file.new.items ≡ take start file.old.items ++ flat_map (λ item. encode_item descr.now (decode_item descr.now item)) (blocks (item_size descr.now) count (drop start file.old.items)) }
+    ensures { OnOk result (file.new.items ≡ take start file.old.items ++ flat_map (λ item. encode_item descr.now (decode_item descr.now item)) (blocks (item_size descr.now) count (drop start file.old.items))) }
 {
-    write_items(&mut file.as_mut_slice()[start..], count, descr);
+    write_items(alloc, &mut file.as_mut_slice()[start..], count, descr)
 }
 
 /// The file of items that have `len` bytes.
@@ -70,7 +76,7 @@ pub(crate) fn written(
     let start = file.len();
     file.reserve_exact(len)?;
     push_items(&mut file, bytes, layout, width)?;
-    write_behind(&mut file, start, layout.shape.items(), descr);
+    write_behind(alloc, &mut file, start, layout.shape.items(), descr)?;
     Ok(file)
 }
 

@@ -1,19 +1,22 @@
 //! Items as a file stores them: a bool is 0 or 1, and padding is zero.
-ghost use Rattle.std.specs.Prelude.{◌≡◌, ◌-◌, ◌+◌, ◌*◌, ◌<◌, ◌≤◌, length, map, replicate, IsTrue};
-ghost use Rattle.std.specs.List.{flat_map};
+ghost use Rattle.std.specs.Prelude.{◌≡◌, ◌+◌, ◌-◌, ◌*◌, ◌≤◌, ◌++◌, length, replicate, IsTrue, IfOk, OnOk};
+ghost use Rattle.std.specs.List.{flat_map, repeat};
 ghost use Rattle.raw_block.specs.Bytes.{item_at, put};
-ghost use Rattle.elem_descr.specs.declared.descr.Descr.TheVariants.{Scalar as ScalarDescr};
-ghost use Rattle.elem_descr.specs.Encoding.{size, decode, encode, truth};
-ghost use Rattle.elem_descr.specs.Items.{item_size, leaves_of, leaves_from, AreInOrder, decode_item, encode_item};
+ghost use Rattle.elem_descr.specs.Items.{item_size, leaves_of, AreInOrder, decode_item, encode_item};
 ghost use Rattle.elem_descr.specs.Blocks.{blocks};
-ghost use Rattle.npy_format.specs.inside.WrittenItems.{written_item, is_bool, IsPlain};
+ghost use Rattle.npy_format.specs.inside.WrittenItems.{limit, limits_from, capped, IsPlain};
 
-use elem_descr::{Descr, Leaf, Record, Scalar};
+use elem_descr::{Descr, Leaf, Scalar};
+use std::alloc::{AllocError, Global};
 
-fn is_bool(scalar: &Scalar) -> bool
-    ensures { result ≡ is_bool scalar.now }
+/// The largest byte that a file has for a scalar.
+fn limit(scalar: &Scalar) -> u8
+    ensures { result ≡ limit scalar.now }
 {
-    matches!(scalar, Scalar::Bool)
+    match scalar {
+        Scalar::Bool => 1,
+        _ => 255,
+    }
 }
 
 /// Whether leaves fill an item of `bytes` bytes, and none is a bool.
@@ -24,105 +27,12 @@ fn is_plain(leaves: &[Leaf], bytes: usize) -> bool
 {
     let mut end = 0;
     for leaf in leaves {
-        if leaf.at != end || is_bool(&leaf.scalar) {
+        if leaf.at != end || limit(&leaf.scalar) != 255 {
             return false;
         }
         end += leaf.scalar.size();
     }
     end == bytes
-}
-
-fn clear(item: &mut [u8], from: usize, to: usize)
-    requires from { from ≤ to }
-    requires to { to ≤ length item.old }
-    ensures { item.new ≡ put from (replicate (to - from) 0) item.old }
-{
-    // (most leaves follow one another, and a call costs more than the question)
-    if from < to {
-        item[from..to].fill(0);
-    }
-}
-
-/// The byte of a bool.
-fn truth(byte: u8) -> u8
-    ensures { result ≡ truth byte }
-{
-    if byte == 0 { 0 } else { 1 }
-}
-
-/// Writes the value of a leaf over its bytes.
-fn write_leaf(item: &mut [u8], leaf: &Leaf)
-    requires { leaf.now.at + size leaf.now.scalar ≤ length item.old }
-    ensures { item.new ≡ put leaf.now.at (encode leaf.now.scalar (decode leaf.now.scalar (item_at leaf.now.at (size leaf.now.scalar) item.old))) item.old }
-{
-    let _size = leaf.scalar.size();
-    if is_bool(&leaf.scalar) {
-        item[leaf.at] = truth(item[leaf.at]);
-    }
-}
-
-fn write_item(item: &mut [u8], leaves: &[Leaf])
-    requires { AreInOrder 0 leaves.now (length item.old) }
-    ensures { item.new ≡ written_item leaves.now (length item.old) item.old }
-{
-    let mut end = 0;
-    for leaf in leaves {
-        clear(item, end, leaf.at);
-        write_leaf(item, leaf);
-        end = leaf.at + leaf.scalar.size();
-    }
-    clear(item, end, item.len());
-}
-
-fn write_item_at(bytes: &mut [u8], at: usize, leaves: &[Leaf], size: usize)
-    requires within { at + size ≤ length bytes.old }
-    requires in_order { AreInOrder 0 leaves.now size }
-    ensures { bytes.new ≡ put at (written_item leaves.now size (item_at at size bytes.old)) bytes.old }
-{
-    write_item(&mut bytes[at..at + size], leaves);
-}
-
-/// Writes the values of the leaves of `count` items of `size` bytes, one after another.
-fn write_each(bytes: &mut [u8], count: usize, leaves: &[Leaf], size: usize)
-    requires whole { length bytes.old ≡ count * size }
-    requires in_order { AreInOrder 0 leaves.now size }
-    ensures { bytes.new ≡ flat_map (written_item leaves.now size) (blocks size count bytes.old) }
-{
-    let _len = bytes.len();
-    for k in 0..count {
-        write_item_at(bytes, k * size, leaves, size);
-    }
-}
-
-fn write_records(bytes: &mut [u8], count: usize, whole: &Record)
-    requires { length bytes.old ≡ count * whole.now.size }
-    ensures { bytes.new ≡ flat_map (written_item (leaves_from 0 whole.now.fields) whole.now.size) (blocks whole.now.size count bytes.old) }
-{
-    let leaves = whole.leaves();
-    let size = whole.size();
-    if is_plain(leaves, size) {
-        return;
-    }
-    write_each(bytes, count, leaves, size);
-}
-
-fn write_bools(bytes: &mut [u8])
-    ensures { bytes.new ≡ map truth bytes.old }
-{
-    for byte in bytes {
-        *byte = truth(*byte);
-    }
-}
-
-fn write_scalars(bytes: &mut [u8], count: usize, scalar: &Scalar)
-    requires { length bytes.old ≡ count * size scalar.now }
-    ensures { bytes.new ≡ flat_map (written_item (leaves_of (ScalarDescr scalar.now)) (size scalar.now)) (blocks (size scalar.now) count bytes.old) }
-{
-    let _len = bytes.len();
-    let _size = scalar.size();
-    if is_bool(scalar) {
-        write_bools(bytes);
-    }
 }
 
 /// Whether items are written as they are: leaves fill them, and none is a bool.
@@ -133,19 +43,105 @@ pub(crate) fn are_plain(descr: &Descr) -> bool
     match descr {
         Descr::Scalar(scalar) => {
             let _size = scalar.size();
-            !is_bool(scalar)
+            limit(scalar) == 255
         }
         Descr::Record(whole) => is_plain(whole.leaves(), whole.size()),
     }
 }
 
-/// Writes `count` adjacent items as a file has them.
-pub(crate) fn write_items(bytes: &mut [u8], count: usize, descr: &Descr)
-    requires { length bytes.old ≡ count * item_size descr.now }
-    ensures { bytes.new ≡ flat_map (λ item. encode_item descr.now (decode_item descr.now item)) (blocks (item_size descr.now) count bytes.old) }
+/// Appends limits up to a length.
+fn pad(limits: &mut Vec<u8>, len: usize, limit: u8) -> Result<(), AllocError>
+    requires { length limits.old.items ≤ len }
+    ensures { OnOk result (limits.new.items ≡ limits.old.items ++ replicate (len - length limits.old.items) limit) }
+{
+    limits.resize(len, limit)?;
+    Ok(())
+}
+
+/// The largest bytes that a file has for an item of `bytes` bytes.
+fn limits(alloc: Global, leaves: &[Leaf], bytes: usize) -> Result<Vec<u8>, AllocError>
+    requires in_order { AreInOrder 0 leaves.now bytes }
+    requires small { bytes ≤ 65536 }
+    ensures { IfOk result (λ limits. limits.items ≡ limits_from 0 leaves.now bytes) }
+{
+    let mut limits = Vec::new(alloc);
+    for leaf in leaves {
+        pad(&mut limits, leaf.at, 0)?;
+        pad(
+            &mut limits,
+            leaf.at + leaf.scalar.size(),
+            limit(&leaf.scalar),
+        )?;
+    }
+    pad(&mut limits, bytes, 0)?;
+    Ok(limits)
+}
+
+/// The largest bytes that a file has for an item of an element type.
+fn item_limits(alloc: Global, descr: &Descr) -> Result<Vec<u8>, AllocError>
+    ensures { IfOk result (λ limits. limits.items ≡ limits_from 0 (leaves_of descr.now) (item_size descr.now)) }
 {
     match descr {
-        Descr::Scalar(scalar) => write_scalars(bytes, count, scalar),
-        Descr::Record(whole) => write_records(bytes, count, whole),
+        Descr::Scalar(scalar) => {
+            let leaf = Leaf {
+                scalar: *scalar,
+                at: 0,
+            };
+            limits(alloc, &[leaf], scalar.size())
+        }
+        Descr::Record(whole) => limits(alloc, whole.leaves(), whole.size()),
     }
+}
+
+/// Makes no byte larger than its limit.
+fn cap(bytes: &mut [u8], limits: &[u8])
+    requires { length bytes.old ≤ length limits.now }
+    ensures { bytes.new ≡ capped bytes.old limits.now }
+{
+    for k in 0..bytes.len() {
+        bytes[k] = bytes[k].min(limits[k]);
+    }
+}
+
+/// Makes none of `len` bytes larger than its limit.
+fn cap_at(bytes: &mut [u8], at: usize, len: usize, limits: &[u8])
+    requires within { at + len ≤ length bytes.old }
+    requires enough { len ≤ length limits.now }
+    ensures { bytes.new ≡ put at (capped (item_at at len bytes.old) limits.now) bytes.old }
+{
+    cap(&mut bytes[at..at + len], limits);
+}
+
+/// Makes no byte larger than its limit, with the same limits again and again.
+fn cap_each(bytes: &mut [u8], limits: &[u8])
+    requires { 1 ≤ length limits.now }
+    ensures { bytes.new ≡ capped bytes.old (repeat (length bytes.old) limits.now) }
+{
+    let mut at = 0;
+    while at < bytes.len() {
+        let len = limits.len().min(bytes.len() - at);
+        cap_at(bytes, at, len, limits);
+        at += len;
+    }
+}
+
+/// Writes `count` adjacent items as a file has them.
+pub(crate) fn write_items(
+    alloc: Global,
+    bytes: &mut [u8],
+    count: usize,
+    descr: &Descr,
+) -> Result<(), AllocError>
+    requires { length bytes.old ≡ count * item_size descr.now }
+    ensures { OnOk result (bytes.new ≡ flat_map (λ item. encode_item descr.now (decode_item descr.now item)) (blocks (item_size descr.now) count bytes.old)) }
+{
+    if are_plain(descr) {
+        return Ok(());
+    }
+    let _len = bytes.len();
+    let limits = item_limits(alloc, descr)?;
+    // (a loop over some hundred bytes at once takes far fewer instructions than one over each item)
+    let many = limits.repeat(alloc, count.min(512 / descr.size()) + 1)?;
+    cap_each(bytes, many.as_slice());
+    Ok(())
 }

@@ -1,5 +1,5 @@
 -- Items as a file has them, from their bytes.
-use Rattle.std.specs.Prelude.{◌≡◌, ℕ, ◌+◌, Bool, true, false, List, [], ◌∷◌, map, if◌then◌else◌}
+use Rattle.std.specs.Prelude.{◌≡◌, ℕ, ◌+◌, ◌-◌, min, List, [], ◌∷◌, ◌++◌, map, replicate, if◌then◌else◌}
 use Rattle.raw_block.specs.Bytes.{item_at}
 use Rattle.elem_descr.specs.declared.leaf.Leaf.{Leaf}
 use Rattle.elem_descr.specs.declared.scalar.Scalar.{Scalar}
@@ -18,16 +18,29 @@ read_leaf item leaf = decode leaf.scalar (item_at leaf.at (size leaf.scalar) ite
 abbrev pub written_item : List Leaf → ℕ → List ℕ → List ℕ
 written_item leaves bytes item = encode_from 0 leaves (map (read_leaf item) leaves) bytes
 
-abbrev pub is_bool : Scalar → Bool
-is_bool BoolScalar = true
-is_bool (Byte signed) = false
-is_bool (Int signed width order) = false
-is_bool (Bytes n) = false
+-- the largest byte that a file has for a scalar: a bool is 0 or 1
+abbrev pub limit : Scalar → ℕ
+limit BoolScalar = 1
+limit (Byte signed) = 255
+limit (Int signed width order) = 255
+limit (Bytes n) = 255
+
+-- the largest bytes of an item from this one on: padding is 0
+abbrev pub limits_from : ℕ → List Leaf → ℕ → List ℕ
+limits_from from [] bytes = replicate (bytes - from) 0
+limits_from from (leaf ∷ leaves) bytes =
+    replicate (leaf.at - from) 0 ++ replicate (size leaf.scalar) (limit leaf.scalar) ++ limits_from (leaf.at + size leaf.scalar) leaves bytes
+
+-- each byte, or its limit if that is less
+abbrev pub capped : List ℕ → List ℕ → List ℕ
+capped [] limits = []
+capped (byte ∷ bytes) [] = byte ∷ bytes
+capped (byte ∷ bytes) (limit ∷ limits) = min byte limit ∷ capped bytes limits
 
 -- from this byte on leaves fill all bytes, and none is a bool: such an item is written as it is
 abbrev pub IsPlain : ℕ → List Leaf → ℕ → Type 0
 IsPlain from [] bytes = from ≡ bytes
-IsPlain from (leaf ∷ leaves) bytes = (leaf.at ≡ from) × (is_bool leaf.scalar ≡ false) × IsPlain (from + size leaf.scalar) leaves bytes
+IsPlain from (leaf ∷ leaves) bytes = (leaf.at ≡ from) × (limit leaf.scalar ≡ 255) × IsPlain (from + size leaf.scalar) leaves bytes
 
 -- the addresses of items in the order in which a file has them
 abbrev pub addresses_in_file : ℕ → List ℕ → List ℕ → List ℕ

@@ -22,7 +22,7 @@ loop-leaf-preserved c =
     let order = subst (λ (leaves : List Leaf). AreInOrder c.loop-leaf.end leaves c.args.bytes) here c.loop-leaf.invariant.order in
     let sized = c.size-end.ensures.value in
     record {
-      plain = λ left. c.loop-leaf.invariant.plain (subst (λ (leaves : List Leaf). IsPlain c.loop-leaf.end leaves c.args.bytes) (sym here) (c.if-leaf-end.false, sym c.is_bool.ensures ∙ c.if-is_bool.false, subst (λ n. IsPlain (c.loop-leaf.end + n) later c.args.bytes) sized left));
+      plain = λ left. c.loop-leaf.invariant.plain (subst (λ (leaves : List Leaf). IsPlain c.loop-leaf.end leaves c.args.bytes) (sym here) (c.if-leaf-end.false, sym c.limit.ensures ∙ c.if-limit.false, subst (λ n. IsPlain (c.loop-leaf.end + n) later c.args.bytes) sized left));
       order = subst (λ n. AreInOrder (c.loop-leaf.end + n) later c.args.bytes) (sym sized) (subst (λ at. AreInOrder (at + size leaf.scalar) later c.args.bytes) c.if-leaf-end.false order.2);
     }
 
