@@ -1,5 +1,5 @@
 //! A disk in memory with a cache: a crash may lose what was not synced.
-ghost use Rattle.std.specs.Prelude.{◌≡◌, ◌≢◌, ◌↔◌, ◌∷◌, true, drop, IsTrue, IfOk, OnOk, OnErr};
+ghost use Rattle.std.specs.Prelude.{◌≡◌, ◌≢◌, ◌↔◌, ◌∷◌, true, drop, IsTrue, IfOk, OnOk, OnErr, MatchOption};
 ghost use Rattle.std.specs.FinMap.{empty, get};
 ghost use Rattle.disk.specs.declared.disk.DiskFault.TheVariants.{Failed};
 ghost use Rattle.disk.specs.Files.{Files, Same, SameBut};
@@ -44,9 +44,10 @@ pub struct CachedMemDisk {
     failing: Failing,
 }
 
-/// The bytes of the file with this name, as a read finds them.
-fn contents(alloc: Global, events: &[Event], name: &[u8]) -> Result<Option<Vec<u8>>, AllocError>
-    ensures { IfOk result (IsFound (get (found events.now) name.now)) }
+/// What the last change of a name left under it, if there was one.
+fn latest<'a>(events: &'a [Event], name: &[u8]) -> Option<&'a Option<Vec<u8>>>
+    ensures { let there = get (found events.now) name.now in
+        MatchOption result (there ≡ None) (λ bytes. there ≡ bytes_of_change bytes.now) }
 {
     let mut rest = events;
     while let [event, older @ ..] = rest {
@@ -57,17 +58,24 @@ fn contents(alloc: Global, events: &[Event], name: &[u8]) -> Result<Option<Vec<u
                 ..
             } => {
                 if name == other.as_slice() {
-                    match bytes {
-                        Some(bytes) => return Ok(Some(bytes.to_vec(alloc)?)),
-                        None => return Ok(None),
-                    }
+                    return Some(bytes);
                 }
             }
             Event::FileSynced { .. } | Event::NamesSynced | Event::Restarted => {}
         }
         rest = older;
     }
-    Ok(None)
+    None
+}
+
+/// The bytes of the file with this name, as a read finds them.
+fn contents(alloc: Global, events: &[Event], name: &[u8]) -> Result<Option<Vec<u8>>, AllocError>
+    ensures { IfOk result (IsFound (get (found events.now) name.now)) }
+{
+    match latest(events, name) {
+        Some(Some(bytes)) => Ok(Some(bytes.to_vec(alloc)?)),
+        Some(None) | None => Ok(None),
+    }
 }
 
 /// Whether the bytes of the file with this name are on the disk.
@@ -114,23 +122,10 @@ fn is_same(left: &Option<Vec<u8>>, right: &Option<Vec<u8>>) -> bool
 fn is_found(events: &[Event], name: &[u8], left: &Option<Vec<u8>>) -> bool
     ensures { IsTrue result ↔ (bytes_of_change left.now ≡ get (found events.now) name.now) }
 {
-    let mut rest = events;
-    while let [event, older @ ..] = rest {
-        match event {
-            Event::Changed {
-                name: other,
-                bytes,
-                ..
-            } => {
-                if name == other.as_slice() {
-                    return is_same(left, bytes);
-                }
-            }
-            Event::FileSynced { .. } | Event::NamesSynced | Event::Restarted => {}
-        }
-        rest = older;
+    match latest(events, name) {
+        Some(bytes) => is_same(left, bytes),
+        None => left.is_none(),
     }
-    left.is_none()
 }
 
 /// Whether a crash may leave this under a name.
@@ -186,7 +181,8 @@ fn change(
 ) -> Result<(), AllocError>
     ensures bound { OnOk result (get (found events.new.items) name.now ≡ bytes_of_change bytes) }
     ensures others { SameBut name.now (found events.old.items) (found events.new.items) }
-    ensures crash { Leaves (SameBut name.now) (cached_history events.old.items) (cached_history events.new.items) }
+    ensures crash { Leaves (SameBut name.now)
+        (cached_history events.old.items) (cached_history events.new.items) }
 {
     let name = Vec::from_slice(alloc, name)?;
     add(
@@ -212,9 +208,13 @@ fn shift(
     requires { to.now ≢ from.now }
     ensures given { OnOk result (get (found events.new.items) to.now ≡ Some bytes.items) }
     ensures synced { OnOk result (is_synced events.new.items to.now ≡ is_whole) }
-    ensures others { Replaces from.now to.now (Some bytes.items) (found events.old.items) (found events.new.items) }
-    ensures whole { is_whole ≡ true → Leaves (Replaces from.now to.now (Some bytes.items)) (cached_history events.old.items) (cached_history events.new.items) }
-    ensures crash { Leaves (SameButBoth from.now to.now) (cached_history events.old.items) (cached_history events.new.items) }
+    ensures others { Replaces from.now to.now (Some bytes.items)
+        (found events.old.items) (found events.new.items) }
+    ensures whole { is_whole ≡ true →
+        Leaves (Replaces from.now to.now (Some bytes.items))
+        (cached_history events.old.items) (cached_history events.new.items) }
+    ensures crash { Leaves (SameButBoth from.now to.now)
+        (cached_history events.old.items) (cached_history events.new.items) }
     ensures err { OnErr result (events.new.items ≡ events.old.items) }
 {
     let to = Vec::from_slice(alloc, to)?;
@@ -250,8 +250,10 @@ impl CachedMemDisk {
 
     /// From now on the call with this number fails, counted from 0, or all from that one on.
     pub fn fail_at(&mut self, call: usize, crashes: bool)
-        ensures files { ⟦<CachedMemDisk as Disk>⟧.files self.new ≡ ⟦<CachedMemDisk as Disk>⟧.files self.old }
-        ensures failures { ⟦<CachedMemDisk as Disk>⟧.failures self.new ≡ ⟦<CachedMemDisk as Disk>⟧.failures self.old }
+        ensures files { let files = ⟦<CachedMemDisk as Disk>⟧.files in
+            files self.new ≡ files self.old }
+        ensures failures { let failures = ⟦<CachedMemDisk as Disk>⟧.failures in
+            failures self.new ≡ failures self.old }
     {
         self.failing.fail_at(call, crashes);
     }
@@ -260,9 +262,13 @@ impl CachedMemDisk {
     /// nothing changes. Under a name for which this is not called, the crash leaves what a read
     /// found. Call `restart` next.
     pub fn crash(&mut self, name: &[u8], left: Option<Vec<u8>>) -> Result<bool, AllocError>
-        ensures may { IfOk result (λ may. IsTrue may ↔ ((files : Files) × MayLeave (⟦<CachedMemDisk as Disk>⟧.history self.old) files × (get files name.now ≡ bytes_of_change left))) }
-        ensures left { result ≡ Ok true → get (⟦<CachedMemDisk as Disk>⟧.files self.new) name.now ≡ bytes_of_change left }
-        ensures others { SameBut name.now (⟦<CachedMemDisk as Disk>⟧.files self.old) (⟦<CachedMemDisk as Disk>⟧.files self.new) }
+        ensures may { IfOk result (λ may. IsTrue may ↔ ((files : Files)
+            × MayLeave (⟦<CachedMemDisk as Disk>⟧.history self.old) files
+            × (get files name.now ≡ bytes_of_change left))) }
+        ensures left { result ≡ Ok true →
+            get (⟦<CachedMemDisk as Disk>⟧.files self.new) name.now ≡ bytes_of_change left }
+        ensures others { let files = ⟦<CachedMemDisk as Disk>⟧.files in
+            SameBut name.now (files self.old) (files self.new) }
     {
         if !may_stand(&self.events, name, &left) {
             return Ok(false);
@@ -273,9 +279,13 @@ impl CachedMemDisk {
 
     /// The disk works again, and has what a read finds.
     pub fn restart(&mut self) -> Result<(), AllocError>
-        ensures files { ⟦<CachedMemDisk as Disk>⟧.files self.new ≡ ⟦<CachedMemDisk as Disk>⟧.files self.old }
-        ensures kept { OnOk result ((files : Files) → MayLeave (⟦<CachedMemDisk as Disk>⟧.history self.new) files → Same (⟦<CachedMemDisk as Disk>⟧.files self.old) files) }
-        ensures failures { ⟦<CachedMemDisk as Disk>⟧.failures self.new ≡ ⟦<CachedMemDisk as Disk>⟧.failures self.old }
+        ensures files { let files = ⟦<CachedMemDisk as Disk>⟧.files in
+            files self.new ≡ files self.old }
+        ensures kept { OnOk result ((files : Files)
+            → MayLeave (⟦<CachedMemDisk as Disk>⟧.history self.new) files
+            → Same (⟦<CachedMemDisk as Disk>⟧.files self.old) files) }
+        ensures failures { let failures = ⟦<CachedMemDisk as Disk>⟧.failures in
+            failures self.new ≡ failures self.old }
     {
         add(&mut self.events, Event::Restarted)?;
         self.failing.restart();

@@ -69,7 +69,8 @@ pub trait Disk {
     /// Whether there is a file of this name. Anything that is not a regular file, such as a folder
     /// or a pipe, is a failure. A link counts as what it leads to.
     fn has_file(&mut self, name: &[u8]) -> Result<bool, DiskFault>
-        ensures found { IsTrue honest → IfOk result (λ found. IsThere found (get (files self.old) name.now)) }
+        ensures found { IsTrue honest →
+            IfOk result (λ found. IsThere found (get (files self.old) name.now)) }
         ensures files { IsTrue honest → files self.new ≡ files self.old }
         ensures crash { IsTrue honest → Leaves Same (history self.old) (history self.new) }
         ensures current { IsTrue honest → StayAll (IsCurrent self.old) (IsCurrent self.new) }
@@ -77,8 +78,10 @@ pub trait Disk {
 
     /// Opens a file for reading, and returns how many bytes it has.
     fn open(&mut self, name: &[u8]) -> Result<(Self::File, u64), DiskFault>
-        ensures found { IsTrue honest → IfOk result (λ opened. get (files self.old) name.now ≡ Some (rest_of opened.0)) }
-        ensures told { IsTrue honest → IfOk result (λ opened. opened.1 ≡ length (rest_of opened.0)) }
+        ensures found { IsTrue honest →
+            IfOk result (λ opened. get (files self.old) name.now ≡ Some (rest_of opened.0)) }
+        ensures told { IsTrue honest →
+            IfOk result (λ opened. opened.1 ≡ length (rest_of opened.0)) }
         ensures files { IsTrue honest → files self.new ≡ files self.old }
         ensures crash { IsTrue honest → Leaves Same (history self.old) (history self.new) }
         ensures opened { IsTrue honest → IfOk result (λ opened. IsCurrent self.new opened.0) }
@@ -90,8 +93,10 @@ pub trait Disk {
     fn read(&mut self, file: &mut Self::File, piece: &mut [u8]) -> Result<usize, DiskFault>
         requires { IsTrue honest → IsCurrent self.old file.old }
         ensures count { IfOk result (λ count. count ≤ length piece.old) }
-        ensures read { IsTrue honest → IfOk result (λ count. rest_of file.old ≡ take count piece.new ++ rest_of file.new) }
-        ensures end { IsTrue honest → IfOk result (λ count. count ≡ 0 → 0 < length piece.old → rest_of file.old ≡ []) }
+        ensures read { IsTrue honest →
+            IfOk result (λ count. rest_of file.old ≡ take count piece.new ++ rest_of file.new) }
+        ensures end { IsTrue honest →
+            IfOk result (λ count. count ≡ 0 → 0 < length piece.old → rest_of file.old ≡ []) }
         ensures files { IsTrue honest → files self.new ≡ files self.old }
         ensures crash { IsTrue honest → Leaves Same (history self.old) (history self.new) }
         ensures own { IsTrue honest → IsCurrent self.new file.new }
@@ -107,21 +112,29 @@ pub trait Disk {
         ensures created { IsTrue honest → OnOk result (get (files self.new) name.now ≡ Some []) }
         ensures name { IsTrue honest → IfOk result (λ file. name_of file ≡ name.now) }
         ensures others { IsTrue honest → SameBut name.now (files self.old) (files self.new) }
-        ensures crash { IsTrue honest → Leaves (SameBut name.now) (history self.old) (history self.new) }
+        ensures crash { IsTrue honest →
+            Leaves (SameBut name.now) (history self.old) (history self.new) }
         ensures opened { IsTrue honest → IfOk result (λ file. IsCurrent self.new file) }
-        ensures current { IsTrue honest → StayOthers name_of name.now (IsCurrent self.old) (IsCurrent self.new) }
+        ensures current { IsTrue honest →
+            StayOthers name_of name.now (IsCurrent self.old) (IsCurrent self.new) }
         ensures cause { HasCause Failed (failures self.old) (failures self.new) result };
 
     /// Writes at the end of a file. Until the file is synced, a crash may leave anything under its
     /// name.
     fn append(&mut self, file: &mut Self::File, bytes: &[u8]) -> Result<(), DiskFault>
         requires { IsTrue honest → IsCurrent self.old file.old }
-        ensures appended { IsTrue honest → OnOk result (Appends bytes.now (get (files self.old) (name_of file.old)) (get (files self.new) (name_of file.old))) }
+        ensures appended { IsTrue honest →
+            OnOk result (Appends bytes.now
+            (get (files self.old) (name_of file.old))
+            (get (files self.new) (name_of file.old))) }
         ensures name { IsTrue honest → name_of file.new ≡ name_of file.old }
-        ensures others { IsTrue honest → SameBut (name_of file.old) (files self.old) (files self.new) }
-        ensures crash { IsTrue honest → Leaves (SameBut (name_of file.old)) (history self.old) (history self.new) }
+        ensures others { IsTrue honest →
+            SameBut (name_of file.old) (files self.old) (files self.new) }
+        ensures crash { IsTrue honest →
+            Leaves (SameBut (name_of file.old)) (history self.old) (history self.new) }
         ensures own { IsTrue honest → IsCurrent self.new file.new }
-        ensures current { IsTrue honest → StayOthers name_of (name_of file.old) (IsCurrent self.old) (IsCurrent self.new) }
+        ensures current { IsTrue honest →
+            StayOthers name_of (name_of file.old) (IsCurrent self.old) (IsCurrent self.new) }
         ensures cause { HasCause Failed (failures self.old) (failures self.new) result };
 
     /// Syncs the bytes of a file to the disk.
@@ -137,33 +150,45 @@ pub trait Disk {
     /// other under that name, if the bytes of the first are on the disk.
     fn rename(&mut self, from: &[u8], to: &[u8]) -> Result<(), DiskFault>
         requires { to.now ≢ from.now }
-        ensures renamed { IsTrue honest → OnOk result (get (files self.new) to.now ≡ get (files self.old) from.now) }
-        ensures synced { IsTrue honest → OnOk result (Synced self.old from.now → Synced self.new to.now) }
-        ensures others { IsTrue honest → Replaces from.now to.now (get (files self.old) from.now) (files self.old) (files self.new) }
-        ensures whole { IsTrue honest → Synced self.old from.now → Leaves (Replaces from.now to.now (get (files self.old) from.now)) (history self.old) (history self.new) }
-        ensures crash { IsTrue honest → Leaves (SameButBoth from.now to.now) (history self.old) (history self.new) }
+        ensures renamed { IsTrue honest →
+            OnOk result (get (files self.new) to.now ≡ get (files self.old) from.now) }
+        ensures synced { IsTrue honest →
+            OnOk result (Synced self.old from.now → Synced self.new to.now) }
+        ensures others { IsTrue honest →
+            Replaces from.now to.now (get (files self.old) from.now)
+            (files self.old) (files self.new) }
+        ensures whole { IsTrue honest → Synced self.old from.now →
+            Leaves (Replaces from.now to.now (get (files self.old) from.now))
+            (history self.old) (history self.new) }
+        ensures crash { IsTrue honest →
+            Leaves (SameButBoth from.now to.now) (history self.old) (history self.new) }
         ensures memory { IsTrue honest → IsErrOf result Memory → files self.new ≡ files self.old }
-        ensures current { IsTrue honest → (other : Self.File) → name_of other ≢ from.now → name_of other ≢ to.now → IsCurrent self.old other → IsCurrent self.new other }
+        ensures current { IsTrue honest → (other : Self.File)
+            → name_of other ≢ from.now → name_of other ≢ to.now
+            → IsCurrent self.old other → IsCurrent self.new other }
         ensures cause { HasCause Failed (failures self.old) (failures self.new) result };
 
     /// Removes the file of this name, if there is one.
     fn remove(&mut self, name: &[u8]) -> Result<(), DiskFault>
         ensures removed { IsTrue honest → OnOk result (get (files self.new) name.now ≡ None) }
         ensures others { IsTrue honest → SameBut name.now (files self.old) (files self.new) }
-        ensures crash { IsTrue honest → Leaves (SameBut name.now) (history self.old) (history self.new) }
-        ensures current { IsTrue honest → StayOthers name_of name.now (IsCurrent self.old) (IsCurrent self.new) }
+        ensures crash { IsTrue honest →
+            Leaves (SameBut name.now) (history self.old) (history self.new) }
+        ensures current { IsTrue honest →
+            StayOthers name_of name.now (IsCurrent self.old) (IsCurrent self.new) }
         ensures cause { HasCause Failed (failures self.old) (failures self.new) result };
 
     /// Syncs the names to the disk: new ones, changed ones and removed ones.
     fn sync_names(&mut self) -> Result<(), DiskFault>
         ensures memory { IsErrOf result Memory → ⊥ }
-        ensures names { IsTrue honest → OnOk result (HasNames (history self.new) (Synced self.old) (files self.old)) }
+        ensures names { IsTrue honest →
+            OnOk result (HasNames (history self.new) (Synced self.old) (files self.old)) }
         ensures files { IsTrue honest → files self.new ≡ files self.old }
         ensures crash { IsTrue honest → Leaves Same (history self.old) (history self.new) }
         ensures current { IsTrue honest → StayAll (IsCurrent self.old) (IsCurrent self.new) }
         ensures cause { HasCause Failed (failures self.old) (failures self.new) result };
 
-    /// A crash may leave what a read finds, so no honest disk has an empty history. Since no call changes the moments
-    /// before it, each call also continues the history that it found.
+    /// A crash may leave what a read finds, so no honest disk has an empty history. Since no call
+    /// changes the moments before it, each call also continues the history that it found.
     ghost stays: { (disk : Self) → IsTrue honest → MayLeave (history disk) (files disk) };
 }

@@ -106,8 +106,9 @@ fn sync_opened<F: OpenFile + Drop>(folder: io::Result<F>) -> io::Result<()>
     where_supported(sync_file(&folder?))
 }
 
-/// Brings the names in a folder to the disk, where its file system can do that. If the folder cannot be opened, that
-/// is a failure, also where its mode forbids it: the names may not last then.
+/// Brings the names in a folder to the disk, where its file system can do that. If the folder
+/// cannot be opened, that is a failure, also where its mode forbids it: the names may not last
+/// then.
 pub(crate) fn sync_folder<R: Files>(rt: &R, dir: Path) -> io::Result<()> {
     sync_opened(open(rt, dir))
 }
@@ -125,14 +126,14 @@ fn lies_at<R: Files<File = File>>(rt: &R, file: &File, path: Path) -> io::Result
     }
 }
 
-/// Takes the lock of an open file. Where another program has it, that is a failure; where the file system
-/// has no locks, it is as if no other program had it.
+/// Takes the lock of an open file. Where another program has it, that is a failure; where the file
+/// system has no locks, it is as if no other program had it.
 fn lock(file: &File) -> io::Result<()> {
     where_supported(uninterrupted(|| Ok(file.try_lock()?)))
 }
 
-/// Opens a file for writing, or for reading where its mode forbids that. An NFS client gives no lock for a file that is
-/// only read (flock(2)).
+/// Opens a file for writing, or for reading where its mode forbids that. An NFS client gives no
+/// lock for a file that is only read (flock(2)).
 fn open_for_lock<R: Files>(rt: &R, path: Path) -> io::Result<R::File> {
     match open_to_write(rt, path) {
         Err(error) if error.kind() == ErrorKind::PermissionDenied => open(rt, path),
@@ -140,8 +141,9 @@ fn open_for_lock<R: Files>(rt: &R, path: Path) -> io::Result<R::File> {
     }
 }
 
-/// Opens a file that was left. Where its mode allows its owner neither to write nor to read it, the owner gives it
-/// another mode for as long as the opening takes, since a program may still be writing it.
+/// Opens a file that was left. Where its mode allows its owner neither to write nor to read it, the
+/// owner gives it another mode for as long as the opening takes, since a program may still be
+/// writing it.
 fn open_leftover<R: Files<File = File>>(rt: &R, path: Path, left: &Metadata) -> io::Result<File> {
     match open_for_lock(rt, path) {
         Err(error) if error.kind() == ErrorKind::PermissionDenied => {}
@@ -171,8 +173,8 @@ fn remove_leftover<R: Files<File = File>>(rt: &R, path: Path) -> io::Result<()> 
     Ok(())
 }
 
-/// Makes a new file and takes its lock, which lasts while the file is open. That no other program has
-/// taken it for a leftover in between is seen from what lies at the path by then.
+/// Makes a new file and takes its lock, which lasts while the file is open. That no other program
+/// has taken it for a leftover in between is seen from what lies at the path by then.
 fn claim_file<R: Files<File = File>>(rt: &R, path: Path, mode: u32) -> io::Result<File> {
     remove_leftover(rt, path)?;
     let mut options = OpenOptions::new();

@@ -25,8 +25,10 @@ impl MemFile {
     /// Moves the next bytes to a piece, as many as fit.
     pub(crate) fn take(&mut self, piece: &mut [u8]) -> usize
         ensures count { result ≤ length piece.old }
-        ensures taken { drop self.old.at self.old.bytes.items ≡ take result piece.new ++ drop self.new.at self.new.bytes.items }
-        ensures end { result ≡ 0 → 0 < length piece.old → drop self.old.at self.old.bytes.items ≡ [] }
+        ensures taken { drop self.old.at self.old.bytes.items
+            ≡ take result piece.new ++ drop self.new.at self.new.bytes.items }
+        ensures end { result ≡ 0 →
+            0 < length piece.old → drop self.old.at self.old.bytes.items ≡ [] }
         ensures name { self.new.name ≡ self.old.name }
     {
         let at = self.at.min(self.bytes.len());

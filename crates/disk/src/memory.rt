@@ -20,8 +20,9 @@ pub struct Change {
     bytes: Option<Vec<u8>>,
 }
 
-/// A disk that keeps its files in memory, as a list of their changes, the newest first. It is honest, and
-/// each change lasts at once. One call can be made to fail, or all calls from one on, as after a crash.
+/// A disk that keeps its files in memory, as a list of their changes, the newest first. It is
+/// honest, and each change lasts at once. One call can be made to fail, or all calls from one on,
+/// as after a crash.
 #[derive(Drop)]
 pub struct MemDisk {
     alloc: Global,
@@ -63,7 +64,8 @@ fn bind(
 ) -> Result<(), AllocError>
     ensures bound { OnOk result (get (after changes.new.items) name.now ≡ bytes_of_change bytes) }
     ensures others { SameBut name.now (after changes.old.items) (after changes.new.items) }
-    ensures crash { Leaves (SameBut name.now) (history_of changes.old.items) (history_of changes.new.items) }
+    ensures crash { Leaves (SameBut name.now)
+        (history_of changes.old.items) (history_of changes.new.items) }
 {
     let change = Change::new(alloc, name, bytes)?;
     changes.insert(0, change)?;
@@ -80,8 +82,10 @@ fn shift(
 ) -> Result<(), AllocError>
     requires { to.now ≢ from.now }
     ensures given { OnOk result (get (after changes.new.items) to.now ≡ Some bytes.items) }
-    ensures others { Replaces from.now to.now (Some bytes.items) (after changes.old.items) (after changes.new.items) }
-    ensures crash { Leaves (Replaces from.now to.now (Some bytes.items)) (history_of changes.old.items) (history_of changes.new.items) }
+    ensures others { Replaces from.now to.now (Some bytes.items)
+        (after changes.old.items) (after changes.new.items) }
+    ensures crash { Leaves (Replaces from.now to.now (Some bytes.items))
+        (history_of changes.old.items) (history_of changes.new.items) }
     ensures err { OnErr result (changes.new.items ≡ changes.old.items) }
 {
     let arrived = Change::new(alloc, to, Some(bytes))?;
@@ -107,16 +111,18 @@ impl MemDisk {
 
     /// From now on the call with this number fails, counted from 0, or all from that one on.
     pub fn fail_at(&mut self, call: usize, crashes: bool)
-        ensures files { ⟦<MemDisk as Disk>⟧.files self.new ≡ ⟦<MemDisk as Disk>⟧.files self.old }
-        ensures failures { ⟦<MemDisk as Disk>⟧.failures self.new ≡ ⟦<MemDisk as Disk>⟧.failures self.old }
+        ensures files { let files = ⟦<MemDisk as Disk>⟧.files in files self.new ≡ files self.old }
+        ensures failures { let failures = ⟦<MemDisk as Disk>⟧.failures in
+            failures self.new ≡ failures self.old }
     {
         self.failing.fail_at(call, crashes);
     }
 
     /// The disk works again.
     pub fn restart(&mut self)
-        ensures files { ⟦<MemDisk as Disk>⟧.files self.new ≡ ⟦<MemDisk as Disk>⟧.files self.old }
-        ensures failures { ⟦<MemDisk as Disk>⟧.failures self.new ≡ ⟦<MemDisk as Disk>⟧.failures self.old }
+        ensures files { let files = ⟦<MemDisk as Disk>⟧.files in files self.new ≡ files self.old }
+        ensures failures { let failures = ⟦<MemDisk as Disk>⟧.failures in
+            failures self.new ≡ failures self.old }
     {
         self.failing.restart();
     }

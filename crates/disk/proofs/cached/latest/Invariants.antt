@@ -1,7 +1,7 @@
 use Rattle.std.proofs.Common.{◌≡◌, length}
 use Rattle.std.specs.FinMap.{get}
 use Rattle.disk.specs.Cached.{found}
-use Rattle.disk.proofs.cached.is_found.Given as goal
+use Rattle.disk.proofs.cached.latest.Given as goal
 
 abbrev pub invariant-loop-rest : goal.invariant-loop-rest
 invariant-loop-rest l = get (found l.rest) l.name ≡ get (found l.events) l.name
