@@ -9,8 +9,8 @@ pub trait Cutter: Drop {
     fn front_len(&self, first: &[u8]) -> usize;
 }
 
-/// Cuts NPY files after their headers, so that the second part is the items, and other files in front
-/// of their first byte.
+/// Cuts NPY files after their headers, so that the second part is the items, and other files in
+/// front of their first byte.
 #[derive(Clone, Copy)]
 pub struct HeaderCutter;
 

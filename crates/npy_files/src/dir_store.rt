@@ -21,7 +21,8 @@ pub type DirStore<'a, R> = FolderStore<HostDisk<'a, R>, HeaderCutter>;
 impl<'a, R: Files<File = File>> FolderStore<HostDisk<'a, R>, HeaderCutter> {
     /// The store that is the folder of this name. The folder isn't looked at.
     pub fn try_new(rt: &'a R, alloc: Global, dir: &str) -> Result<DirStore<'a, R>, AllocError>
-        ensures { IfOk result (λ store. ⟦<FolderStore<HostDisk<'a, R>, HeaderCutter> as NpyStore>⟧.shelf store ≡ folder_shelf empty 0 (2 ^ 29) false) }
+        ensures { let shelf = ⟦<FolderStore<HostDisk<'a, R>, HeaderCutter> as NpyStore>⟧.shelf in
+            IfOk result (λ store. shelf store ≡ folder_shelf empty 0 (2 ^ 29) false) }
     {
         let disk = HostDisk::try_new(rt, alloc, dir)?;
         Ok(FolderStore::new(disk, HeaderCutter, MAX_FILE))

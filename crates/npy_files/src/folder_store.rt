@@ -6,7 +6,7 @@ ghost use Rattle.disk.specs.Crashes.{Leaves};
 ghost use Rattle.disk.specs.Calls as calls;
 ghost use Rattle.npy_files.specs.declared.store.StoreFault.TheVariants.{Device, TooLong};
 ghost use Rattle.npy_files.specs.Names as names;
-ghost use Rattle.npy_files.specs.Stores.{IsSameStore, FaultHasCause, IsRead, IsKept, IsWritten};
+ghost use Rattle.npy_files.specs.Stores.{IsSameStore, FaultHasCause, Reads, IsKept, Writes};
 ghost use Rattle.npy_files.specs.Folders.{folder_shelf, OldOrNew, IsPut};
 
 use crate::cutter::Cutter;
@@ -40,9 +40,14 @@ fn write_file<D: Disk>(
     items: &[u8],
 ) -> Result<(), StoreFault>
     requires { IsTrue (names.is_user_name name.now) }
-    ensures written { IsTrue D.honest → IsPut name.now (front.now ++ items.now) result (D.files disk.old) (D.files disk.new) }
-    ensures lasting { IsTrue D.honest → OnOk result (calls.AlwaysHas (D.history disk.new) name.now (Some (front.now ++ items.now))) }
-    ensures crash { IsTrue D.honest → Leaves (OldOrNew name.now (front.now ++ items.now)) (D.history disk.old) (D.history disk.new) }
+    ensures written { IsTrue D.honest →
+        IsPut name.now (front.now ++ items.now) result (D.files disk.old) (D.files disk.new) }
+    ensures lasting { IsTrue D.honest →
+        OnOk result (calls.AlwaysHas (D.history disk.new) name.now
+        (Some (front.now ++ items.now))) }
+    ensures crash { IsTrue D.honest →
+        Leaves (OldOrNew name.now (front.now ++ items.now))
+        (D.history disk.old) (D.history disk.new) }
     ensures cause { calls.HasCause Device (D.failures disk.old) (D.failures disk.new) result }
     ensures long { ¬ IsErrOf result TooLong }
 {
@@ -67,7 +72,8 @@ impl<D: Disk, C: Cutter> FolderStore<D, C> {
     /// A store on this disk, whose files have at most `limit` bytes and are cut like this when they
     /// are read.
     pub fn new(disk: D, cutter: C, limit: usize) -> FolderStore<D, C>
-        ensures { ⟦<FolderStore<D, C> as NpyStore>⟧.shelf result ≡ folder_shelf (D.files disk) 0 limit D.honest }
+        ensures { ⟦<FolderStore<D, C> as NpyStore>⟧.shelf result
+            ≡ folder_shelf (D.files disk) 0 limit D.honest }
     {
         FolderStore {
             disk,
@@ -92,15 +98,21 @@ impl<D: Disk, C: Cutter> NpyStore for FolderStore<D, C> {
         self.limit
     }
 
-    /// A fault of the device was one of the disk, and no crash leaves anything but what it might have left
-    /// before.
+    /// A fault of the device was one of the disk, and no crash leaves anything but what it might
+    /// have left before.
     fn read_parts(&mut self, alloc: Global, name: &[u8]) -> Result<Option<FileParts>, StoreFault>
-        ensures same { IsSameStore (⟦<FolderStore<D, C> as NpyStore>⟧.shelf self.old) (⟦<FolderStore<D, C> as NpyStore>⟧.shelf self.new) }
-        ensures files { (⟦<FolderStore<D, C> as NpyStore>⟧.shelf self.new).files ≡ (⟦<FolderStore<D, C> as NpyStore>⟧.shelf self.old).files }
-        ensures cause { FaultHasCause (⟦<FolderStore<D, C> as NpyStore>⟧.shelf self.old) (⟦<FolderStore<D, C> as NpyStore>⟧.shelf self.new) result }
-        ensures found { IsTrue D.honest → IsRead (λ parts. parts.front.items ++ parts.block) self.old.limit (get (⟦<FolderStore<D, C> as NpyStore>⟧.shelf self.old).files name.now) result }
-        ensures crash { IsTrue D.honest → Leaves Same (D.history self.old.disk) (D.history self.new.disk) }
-        ensures disk { IsTrue D.honest → calls.HasCause Device (D.failures self.old.disk) (D.failures self.new.disk) result }
+        ensures same { let shelf = ⟦<FolderStore<D, C> as NpyStore>⟧.shelf in
+            IsSameStore (shelf self.old) (shelf self.new) }
+        ensures files { let shelf = ⟦<FolderStore<D, C> as NpyStore>⟧.shelf in
+            (shelf self.new).files ≡ (shelf self.old).files }
+        ensures cause { let shelf = ⟦<FolderStore<D, C> as NpyStore>⟧.shelf in
+            FaultHasCause (shelf self.old) (shelf self.new) result }
+        ensures found { Reads (λ parts. parts.front.items ++ parts.block)
+            (⟦<FolderStore<D, C> as NpyStore>⟧.shelf self.old) name.now result }
+        ensures crash { IsTrue D.honest →
+            Leaves Same (D.history self.old.disk) (D.history self.new.disk) }
+        ensures disk { IsTrue D.honest →
+            calls.HasCause Device (D.failures self.old.disk) (D.failures self.new.disk) result }
     {
         if !is_user_name(name) {
             return Ok(None);
@@ -114,9 +126,9 @@ impl<D: Disk, C: Cutter> NpyStore for FolderStore<D, C> {
         }
     }
 
-    /// A fault of the device was one of the disk, but for a name of no file in it. A crash at any moment leaves
-    /// under each name of a user what a crash before might have left, or for this one name the new bytes, whole.
-    /// After `Ok` it leaves the new bytes.
+    /// A fault of the device was one of the disk, but for a name of no file in it. A crash at any
+    /// moment leaves under each name of a user what a crash before might have left, or for this one
+    /// name the new bytes, whole. After `Ok` it leaves the new bytes.
     fn write_parts(
         &mut self,
         alloc: Global,
@@ -124,13 +136,22 @@ impl<D: Disk, C: Cutter> NpyStore for FolderStore<D, C> {
         front: &[u8],
         items: &[u8],
     ) -> Result<(), StoreFault>
-        ensures same { IsSameStore (⟦<FolderStore<D, C> as NpyStore>⟧.shelf self.old) (⟦<FolderStore<D, C> as NpyStore>⟧.shelf self.new) }
-        ensures cause { FaultHasCause (⟦<FolderStore<D, C> as NpyStore>⟧.shelf self.old) (⟦<FolderStore<D, C> as NpyStore>⟧.shelf self.new) result }
-        ensures kept { IsKept name.now result (⟦<FolderStore<D, C> as NpyStore>⟧.shelf self.old).files (⟦<FolderStore<D, C> as NpyStore>⟧.shelf self.new).files }
-        ensures written { IsTrue D.honest → IsWritten (⟦<FolderStore<D, C> as NpyStore>⟧.shelf self.old) name.now (front.now ++ items.now) result (⟦<FolderStore<D, C> as NpyStore>⟧.shelf self.new).files }
-        ensures crash { IsTrue D.honest → Leaves (OldOrNew name.now (front.now ++ items.now)) (D.history self.old.disk) (D.history self.new.disk) }
-        ensures lasting { IsTrue D.honest → OnOk result (calls.AlwaysHas (D.history self.new.disk) name.now (Some (front.now ++ items.now))) }
-        ensures disk { IsTrue (names.is_user_name name.now) → calls.HasCause Device (D.failures self.old.disk) (D.failures self.new.disk) result }
+        ensures same { let shelf = ⟦<FolderStore<D, C> as NpyStore>⟧.shelf in
+            IsSameStore (shelf self.old) (shelf self.new) }
+        ensures cause { let shelf = ⟦<FolderStore<D, C> as NpyStore>⟧.shelf in
+            FaultHasCause (shelf self.old) (shelf self.new) result }
+        ensures kept { let shelf = ⟦<FolderStore<D, C> as NpyStore>⟧.shelf in
+            IsKept name.now result (shelf self.old).files (shelf self.new).files }
+        ensures written { let shelf = ⟦<FolderStore<D, C> as NpyStore>⟧.shelf in
+            Writes (shelf self.old) name.now (front.now ++ items.now) result (shelf self.new) }
+        ensures crash { IsTrue D.honest →
+            Leaves (OldOrNew name.now (front.now ++ items.now))
+            (D.history self.old.disk) (D.history self.new.disk) }
+        ensures lasting { IsTrue D.honest →
+            OnOk result (calls.AlwaysHas (D.history self.new.disk) name.now
+            (Some (front.now ++ items.now))) }
+        ensures disk { IsTrue (names.is_user_name name.now) →
+            calls.HasCause Device (D.failures self.old.disk) (D.failures self.new.disk) result }
     {
         if is_longer(front.len(), items.len(), self.limit) {
             return Err(StoreFault::TooLong);

@@ -1,7 +1,7 @@
 //! A store whose device fails once.
 ghost use Rattle.std.specs.Prelude.{◌≡◌, ◌++◌, true};
 ghost use Rattle.std.specs.FinMap.{get};
-ghost use Rattle.npy_files.specs.Stores.{IsSameStore, FaultHasCause, IsRead, IsKept, IsWritten};
+ghost use Rattle.npy_files.specs.Stores.{IsSameStore, FaultHasCause, Reads, IsKept, Writes};
 ghost use Rattle.npy_files.specs.declared.store.StoreFault.TheVariants.{Device};
 ghost use Rattle.npy_files.specs.inside.Shelves.{answer_by, calls_after};
 
@@ -63,10 +63,14 @@ impl NpyStore for FuseStore {
     }
 
     fn read_parts(&mut self, alloc: Global, name: &[u8]) -> Result<Option<FileParts>, StoreFault>
-        ensures same { IsSameStore (⟦<FuseStore as NpyStore>⟧.shelf self.old) (⟦<FuseStore as NpyStore>⟧.shelf self.new) }
-        ensures files { (⟦<FuseStore as NpyStore>⟧.shelf self.new).files ≡ (⟦<FuseStore as NpyStore>⟧.shelf self.old).files }
-        ensures cause { FaultHasCause (⟦<FuseStore as NpyStore>⟧.shelf self.old) (⟦<FuseStore as NpyStore>⟧.shelf self.new) result }
-        ensures found { (⟦<FuseStore as NpyStore>⟧.shelf self.old).honest ≡ true → IsRead (λ parts. parts.front.items ++ parts.block) (⟦<FuseStore as NpyStore>⟧.shelf self.old).limit (get (⟦<FuseStore as NpyStore>⟧.shelf self.old).files name.now) result }
+        ensures same { let shelf = ⟦<FuseStore as NpyStore>⟧.shelf in
+            IsSameStore (shelf self.old) (shelf self.new) }
+        ensures files { let shelf = ⟦<FuseStore as NpyStore>⟧.shelf in
+            (shelf self.new).files ≡ (shelf self.old).files }
+        ensures cause { let shelf = ⟦<FuseStore as NpyStore>⟧.shelf in
+            FaultHasCause (shelf self.old) (shelf self.new) result }
+        ensures found { Reads (λ parts. parts.front.items ++ parts.block)
+            (⟦<FuseStore as NpyStore>⟧.shelf self.old) name.now result }
         ensures counted { self.new.calls_left ≡ calls_after self.old.calls_left }
         ensures fused { self.old.calls_left ≡ Some 0 → result ≡ Err Device }
     {
@@ -81,10 +85,14 @@ impl NpyStore for FuseStore {
         front: &[u8],
         items: &[u8],
     ) -> Result<(), StoreFault>
-        ensures same { IsSameStore (⟦<FuseStore as NpyStore>⟧.shelf self.old) (⟦<FuseStore as NpyStore>⟧.shelf self.new) }
-        ensures cause { FaultHasCause (⟦<FuseStore as NpyStore>⟧.shelf self.old) (⟦<FuseStore as NpyStore>⟧.shelf self.new) result }
-        ensures kept { IsKept name.now result (⟦<FuseStore as NpyStore>⟧.shelf self.old).files (⟦<FuseStore as NpyStore>⟧.shelf self.new).files }
-        ensures written { (⟦<FuseStore as NpyStore>⟧.shelf self.old).honest ≡ true → IsWritten (⟦<FuseStore as NpyStore>⟧.shelf self.old) name.now (front.now ++ items.now) result (⟦<FuseStore as NpyStore>⟧.shelf self.new).files }
+        ensures same { let shelf = ⟦<FuseStore as NpyStore>⟧.shelf in
+            IsSameStore (shelf self.old) (shelf self.new) }
+        ensures cause { let shelf = ⟦<FuseStore as NpyStore>⟧.shelf in
+            FaultHasCause (shelf self.old) (shelf self.new) result }
+        ensures kept { let shelf = ⟦<FuseStore as NpyStore>⟧.shelf in
+            IsKept name.now result (shelf self.old).files (shelf self.new).files }
+        ensures written { let shelf = ⟦<FuseStore as NpyStore>⟧.shelf in
+            Writes (shelf self.old) name.now (front.now ++ items.now) result (shelf self.new) }
         ensures counted { self.new.calls_left ≡ calls_after self.old.calls_left }
         ensures fused { self.old.calls_left ≡ Some 0 → result ≡ Err Device }
     {

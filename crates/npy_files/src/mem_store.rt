@@ -38,7 +38,8 @@ fn comes_before(name: &[u8], other: &[u8]) -> bool
 /// Whether a name comes before that of the file at the best place so far, if there is one.
 fn comes_first(files: &[StoredFile], best: Option<usize>, name: &[u8]) -> bool
     requires { IfSome best (λ place. place < length files.now) }
-    ensures { MatchOption best (result ≡ true) (λ place. (first : List ℕ) → IsNamed files.now place first → result ≡ comes_before name.now first) }
+    ensures { MatchOption best (result ≡ true) (λ place. (first : List ℕ)
+        → IsNamed files.now place first → result ≡ comes_before name.now first) }
 {
     match best {
         None => true,
@@ -78,20 +79,20 @@ impl MemStore {
 
     /// The bytes of the file with this name, or `None` if there is no such file.
     pub fn bytes_of(&self, name: &[u8]) -> Option<&[u8]>
-        ensures { MatchOption result
-            (get (⟦<MemStore as NpyStore>⟧.shelf self.now).files name.now ≡ None)
-            (λ bytes. get (⟦<MemStore as NpyStore>⟧.shelf self.now).files name.now ≡ Some bytes.now) }
+        ensures { let found = get (⟦<MemStore as NpyStore>⟧.shelf self.now).files name.now in
+            MatchOption result (found ≡ None) (λ bytes. found ≡ Some bytes.now) }
     {
         let place = place_of(self.files.as_slice(), name)?;
         Some(self.files[place].bytes.as_slice())
     }
 
-    /// The first of the files' names that come after this one, in the order of their bytes. All names come
-    /// after the empty one, so that each call with the name before gives them one by one.
+    /// The first of the files' names that come after this one, in the order of their bytes. All
+    /// names come after the empty one, so that each call with the name before gives them one by
+    /// one.
     pub fn next_name(&self, after: &[u8]) -> Option<&[u8]>
-        ensures { MatchOption result
-            (IsNextName (⟦<MemStore as NpyStore>⟧.shelf self.now).files after.now None)
-            (λ name. IsNextName (⟦<MemStore as NpyStore>⟧.shelf self.now).files after.now (Some name.now)) }
+        ensures { let files = (⟦<MemStore as NpyStore>⟧.shelf self.now).files in
+            MatchOption result (IsNextName files after.now None)
+            (λ name. IsNextName files after.now (Some name.now)) }
     {
         let place = place_after(self.files.as_slice(), after)?;
         Some(self.files[place].name.as_slice())

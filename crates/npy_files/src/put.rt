@@ -16,10 +16,15 @@ fn fill<D: Disk>(
     items: &[u8],
 ) -> Result<(), DiskFault>
     requires { IsTrue D.honest → D.IsCurrent disk.old file.old }
-    ensures filled { IsTrue D.honest → OnOk result (Appends (front.now ++ items.now) (get (D.files disk.old) (D.name_of file.old)) (get (D.files disk.new) (D.name_of file.old))) }
+    ensures filled { IsTrue D.honest →
+        OnOk result (Appends (front.now ++ items.now)
+        (get (D.files disk.old) (D.name_of file.old))
+        (get (D.files disk.new) (D.name_of file.old))) }
     ensures synced { IsTrue D.honest → OnOk result (D.Synced disk.new (D.name_of file.old)) }
-    ensures others { IsTrue D.honest → SameBut (D.name_of file.old) (D.files disk.old) (D.files disk.new) }
-    ensures crash { IsTrue D.honest → Leaves (SameBut (D.name_of file.old)) (D.history disk.old) (D.history disk.new) }
+    ensures others { IsTrue D.honest →
+        SameBut (D.name_of file.old) (D.files disk.old) (D.files disk.new) }
+    ensures crash { IsTrue D.honest →
+        Leaves (SameBut (D.name_of file.old)) (D.history disk.old) (D.history disk.new) }
     ensures cause { HasCause Failed (D.failures disk.old) (D.failures disk.new) result }
 {
     disk.append(file, front)?;
@@ -27,9 +32,9 @@ fn fill<D: Disk>(
     disk.sync(file)
 }
 
-/// Makes a file of two parts that is to take the place of another, and brings its bytes to the disk. It
-/// stays open: while it is, no other program takes it for one that was left. Nothing is left of it where
-/// that fails.
+/// Makes a file of two parts that is to take the place of another, and brings its bytes to the
+/// disk. It stays open: while it is, no other program takes it for one that was left. Nothing is
+/// left of it where that fails.
 fn stage<D: Disk>(
     disk: &mut D,
     name: &[u8],
@@ -37,10 +42,12 @@ fn stage<D: Disk>(
     front: &[u8],
     items: &[u8],
 ) -> Result<D::File, DiskFault>
-    ensures staged { IsTrue D.honest → OnOk result (get (D.files disk.new) name.now ≡ Some (front.now ++ items.now)) }
+    ensures staged { IsTrue D.honest →
+        OnOk result (get (D.files disk.new) name.now ≡ Some (front.now ++ items.now)) }
     ensures synced { IsTrue D.honest → OnOk result (D.Synced disk.new name.now) }
     ensures others { IsTrue D.honest → SameBut name.now (D.files disk.old) (D.files disk.new) }
-    ensures crash { IsTrue D.honest → Leaves (SameBut name.now) (D.history disk.old) (D.history disk.new) }
+    ensures crash { IsTrue D.honest →
+        Leaves (SameBut name.now) (D.history disk.old) (D.history disk.new) }
     ensures cause { HasCause Failed (D.failures disk.old) (D.failures disk.new) result }
 {
     let mut file = disk.create(name, place)?;
@@ -57,11 +64,17 @@ fn stage<D: Disk>(
 fn take_place<D: Disk>(disk: &mut D, from: &[u8], to: &[u8]) -> Result<(), DiskFault>
     requires apart { to.now ≢ from.now }
     requires synced { IsTrue D.honest → D.Synced disk.old from.now }
-    ensures renamed { IsTrue D.honest → OnOk result (get (D.files disk.new) to.now ≡ get (D.files disk.old) from.now) }
+    ensures renamed { IsTrue D.honest →
+        OnOk result (get (D.files disk.new) to.now ≡ get (D.files disk.old) from.now) }
     ensures synced { IsTrue D.honest → OnOk result (D.Synced disk.new to.now) }
-    ensures others { IsTrue D.honest → Replaces from.now to.now (get (D.files disk.old) from.now) (D.files disk.old) (D.files disk.new) }
-    ensures crash { IsTrue D.honest → Leaves (Replaces from.now to.now (get (D.files disk.old) from.now)) (D.history disk.old) (D.history disk.new) }
-    ensures memory { IsTrue D.honest → IsErrOf result Memory → SameBut from.now (D.files disk.old) (D.files disk.new) }
+    ensures others { IsTrue D.honest →
+        Replaces from.now to.now (get (D.files disk.old) from.now)
+        (D.files disk.old) (D.files disk.new) }
+    ensures crash { IsTrue D.honest →
+        Leaves (Replaces from.now to.now (get (D.files disk.old) from.now))
+        (D.history disk.old) (D.history disk.new) }
+    ensures memory { IsTrue D.honest →
+        IsErrOf result Memory → SameBut from.now (D.files disk.old) (D.files disk.new) }
     ensures cause { HasCause Failed (D.failures disk.old) (D.failures disk.new) result }
 {
     match disk.rename(from, to) {
@@ -73,7 +86,8 @@ fn take_place<D: Disk>(disk: &mut D, from: &[u8], to: &[u8]) -> Result<(), DiskF
     }
 }
 
-/// Puts a file of two parts in place of the one with this name. A crash leaves the one or the other.
+/// Puts a file of two parts in place of the one with this name. A crash leaves the one or the
+/// other.
 pub(crate) fn put<D: Disk>(
     disk: &mut D,
     hidden: &[u8],
@@ -82,11 +96,18 @@ pub(crate) fn put<D: Disk>(
     items: &[u8],
 ) -> Result<(), DiskFault>
     requires { name.now ≢ hidden.now }
-    ensures replaced { IsTrue D.honest → OnOk result (get (D.files disk.new) name.now ≡ Some (front.now ++ items.now)) }
-    ensures lasting { IsTrue D.honest → OnOk result (AlwaysHas (D.history disk.new) name.now (Some (front.now ++ items.now))) }
-    ensures others { IsTrue D.honest → Replaces hidden.now name.now (Some (front.now ++ items.now)) (D.files disk.old) (D.files disk.new) }
-    ensures crash { IsTrue D.honest → Leaves (Replaces hidden.now name.now (Some (front.now ++ items.now))) (D.history disk.old) (D.history disk.new) }
-    ensures memory { IsTrue D.honest → IsErrOf result Memory → SameBut hidden.now (D.files disk.old) (D.files disk.new) }
+    ensures replaced { IsTrue D.honest →
+        OnOk result (get (D.files disk.new) name.now ≡ Some (front.now ++ items.now)) }
+    ensures lasting { IsTrue D.honest →
+        OnOk result (AlwaysHas (D.history disk.new) name.now (Some (front.now ++ items.now))) }
+    ensures others { IsTrue D.honest →
+        Replaces hidden.now name.now (Some (front.now ++ items.now))
+        (D.files disk.old) (D.files disk.new) }
+    ensures crash { IsTrue D.honest →
+        Leaves (Replaces hidden.now name.now (Some (front.now ++ items.now)))
+        (D.history disk.old) (D.history disk.new) }
+    ensures memory { IsTrue D.honest →
+        IsErrOf result Memory → SameBut hidden.now (D.files disk.old) (D.files disk.new) }
     ensures cause { HasCause Failed (D.failures disk.old) (D.failures disk.new) result }
 {
     let _file = stage(disk, hidden, name, front, items)?;

@@ -28,12 +28,14 @@ fn fill<D: Disk>(
     requires current { IsTrue D.honest → D.IsCurrent disk.old file.old }
     requires start { start ≤ length bytes.old }
     requires told { IsTrue D.honest → length bytes.old ≤ start + length (D.rest_of file.old) }
-    ensures read { IsTrue D.honest → OnOk result (take start bytes.old ++ D.rest_of file.old ≡ bytes.new ++ D.rest_of file.new) }
+    ensures read { IsTrue D.honest →
+        OnOk result (take start bytes.old ++ D.rest_of file.old ≡ bytes.new ++ D.rest_of file.new) }
     ensures long { ¬ IsErrOf result TooLong }
     ensures files { IsTrue D.honest → D.files disk.new ≡ D.files disk.old }
     ensures crash { IsTrue D.honest → Leaves Same (D.history disk.old) (D.history disk.new) }
     ensures current { IsTrue D.honest → D.IsCurrent disk.new file.new }
-    ensures cause { IsTrue D.honest → HasCause Device (D.failures disk.old) (D.failures disk.new) result }
+    ensures cause { IsTrue D.honest →
+        HasCause Device (D.failures disk.old) (D.failures disk.new) result }
 {
     let mut at = start;
     while at < bytes.len() {
@@ -56,22 +58,24 @@ fn fill_piece<D: Disk>(
     requires current { IsTrue D.honest → D.IsCurrent disk.old file.old }
     requires room { count ≤ block.old.1 }
     requires told { IsTrue D.honest → count ≤ length (D.rest_of file.old) }
-    ensures read { IsTrue D.honest → OnOk result (block.old.0 ++ D.rest_of file.old ≡ block.new.0 ++ D.rest_of file.new) }
+    ensures read { IsTrue D.honest →
+        OnOk result (block.old.0 ++ D.rest_of file.old ≡ block.new.0 ++ D.rest_of file.new) }
     ensures filled { length block.new.0 ≡ length block.old.0 + count }
     ensures left { count + block.new.1 ≡ block.old.1 }
     ensures long { ¬ IsErrOf result TooLong }
     ensures files { IsTrue D.honest → D.files disk.new ≡ D.files disk.old }
     ensures crash { IsTrue D.honest → Leaves Same (D.history disk.old) (D.history disk.new) }
     ensures current { IsTrue D.honest → D.IsCurrent disk.new file.new }
-    ensures cause { IsTrue D.honest → HasCause Device (D.failures disk.old) (D.failures disk.new) result }
+    ensures cause { IsTrue D.honest →
+        HasCause Device (D.failures disk.old) (D.failures disk.new) result }
 {
     let start = block.filled();
     block.push_zeros(count);
     fill(disk, file, block.bytes_mut(), start)
 }
 
-/// Fills the rest of a block of `len` bytes, piece by piece: what a piece held is written over while it
-/// is near.
+/// Fills the rest of a block of `len` bytes, piece by piece: what a piece held is written over
+/// while it is near.
 fn fill_rest<D: Disk>(
     disk: &mut D,
     file: &mut D::File,
@@ -81,14 +85,16 @@ fn fill_rest<D: Disk>(
     requires current { IsTrue D.honest → D.IsCurrent disk.old file.old }
     requires len { length block.old.0 + block.old.1 ≡ len }
     requires told { IsTrue D.honest → length block.old.0 + length (D.rest_of file.old) ≡ len }
-    ensures read { IsTrue D.honest → OnOk result (block.old.0 ++ D.rest_of file.old ≡ block.new.0 ++ D.rest_of file.new) }
+    ensures read { IsTrue D.honest →
+        OnOk result (block.old.0 ++ D.rest_of file.old ≡ block.new.0 ++ D.rest_of file.new) }
     ensures full { OnOk result (block.new.1 ≡ 0) }
     ensures len { OnOk result (length block.new.0 ≡ len) }
     ensures long { ¬ IsErrOf result TooLong }
     ensures files { IsTrue D.honest → D.files disk.new ≡ D.files disk.old }
     ensures crash { IsTrue D.honest → Leaves Same (D.history disk.old) (D.history disk.new) }
     ensures current { IsTrue D.honest → D.IsCurrent disk.new file.new }
-    ensures cause { IsTrue D.honest → HasCause Device (D.failures disk.old) (D.failures disk.new) result }
+    ensures cause { IsTrue D.honest →
+        HasCause Device (D.failures disk.old) (D.failures disk.new) result }
 {
     while block.filled() < len {
         let count = PIECE.min(len - block.filled());
@@ -104,7 +110,8 @@ fn expect_end<D: Disk>(disk: &mut D, file: &mut D::File) -> Result<(), StoreFaul
     ensures long { ¬ IsErrOf result TooLong }
     ensures files { IsTrue D.honest → D.files disk.new ≡ D.files disk.old }
     ensures crash { IsTrue D.honest → Leaves Same (D.history disk.old) (D.history disk.new) }
-    ensures cause { IsTrue D.honest → HasCause Device (D.failures disk.old) (D.failures disk.new) result }
+    ensures cause { IsTrue D.honest →
+        HasCause Device (D.failures disk.old) (D.failures disk.new) result }
 {
     if disk.read(file, &mut [0])? != 0 {
         return Err(StoreFault::Device);
@@ -123,11 +130,13 @@ fn read_block<D: Disk>(
     requires current { IsTrue D.honest → D.IsCurrent disk.old file.old }
     requires len { length begin.now ≤ len }
     requires told { IsTrue D.honest → length begin.now + length (D.rest_of file.old) ≡ len }
-    ensures read { IsTrue D.honest → IfOk result (λ block. block ≡ begin.now ++ D.rest_of file.old) }
+    ensures read { IsTrue D.honest →
+        IfOk result (λ block. block ≡ begin.now ++ D.rest_of file.old) }
     ensures long { ¬ IsErrOf result TooLong }
     ensures files { IsTrue D.honest → D.files disk.new ≡ D.files disk.old }
     ensures crash { IsTrue D.honest → Leaves Same (D.history disk.old) (D.history disk.new) }
-    ensures cause { IsTrue D.honest → HasCause Device (D.failures disk.old) (D.failures disk.new) result }
+    ensures cause { IsTrue D.honest →
+        HasCause Device (D.failures disk.old) (D.failures disk.new) result }
 {
     let mut block = BlockBuilder::try_new(alloc, len)?;
     block.push_bytes(begin);
@@ -145,13 +154,15 @@ fn read_first<D: Disk>(
 ) -> Result<Vec<u8>, StoreFault>
     requires current { IsTrue D.honest → D.IsCurrent disk.old file.old }
     requires told { IsTrue D.honest → length (D.rest_of file.old) ≡ len }
-    ensures read { IsTrue D.honest → IfOk result (λ first. D.rest_of file.old ≡ first.items ++ D.rest_of file.new) }
+    ensures read { IsTrue D.honest →
+        IfOk result (λ first. D.rest_of file.old ≡ first.items ++ D.rest_of file.new) }
     ensures few { IfOk result (λ first. length first.items ≤ len) }
     ensures long { ¬ IsErrOf result TooLong }
     ensures files { IsTrue D.honest → D.files disk.new ≡ D.files disk.old }
     ensures crash { IsTrue D.honest → Leaves Same (D.history disk.old) (D.history disk.new) }
     ensures current { IsTrue D.honest → D.IsCurrent disk.new file.new }
-    ensures cause { IsTrue D.honest → HasCause Device (D.failures disk.old) (D.failures disk.new) result }
+    ensures cause { IsTrue D.honest →
+        HasCause Device (D.failures disk.old) (D.failures disk.new) result }
 {
     let mut first = Vec::new(alloc);
     first.resize(len.min(PIECE), 0)?;
@@ -169,11 +180,13 @@ fn read_cut<D: Disk, C: Cutter>(
 ) -> Result<FileParts, StoreFault>
     requires current { IsTrue D.honest → D.IsCurrent disk.old file.old }
     requires told { IsTrue D.honest → length (D.rest_of file.old) ≡ len }
-    ensures read { IsTrue D.honest → IfOk result (λ parts. parts.front.items ++ parts.block ≡ D.rest_of file.old) }
+    ensures read { IsTrue D.honest →
+        IfOk result (λ parts. parts.front.items ++ parts.block ≡ D.rest_of file.old) }
     ensures long { ¬ IsErrOf result TooLong }
     ensures files { IsTrue D.honest → D.files disk.new ≡ D.files disk.old }
     ensures crash { IsTrue D.honest → Leaves Same (D.history disk.old) (D.history disk.new) }
-    ensures cause { IsTrue D.honest → HasCause Device (D.failures disk.old) (D.failures disk.new) result }
+    ensures cause { IsTrue D.honest →
+        HasCause Device (D.failures disk.old) (D.failures disk.new) result }
 {
     let mut front = read_first(disk, alloc, file, len)?;
     let cut = cutter.front_len(front.as_slice()).min(front.len());
@@ -190,12 +203,17 @@ fn read_found<D: Disk, C: Cutter>(
     name: &[u8],
     limit: usize,
 ) -> Result<FileParts, StoreFault>
-    ensures read { IsTrue D.honest → IfOk result (λ parts. get (D.files disk.old) name.now ≡ Some (parts.front.items ++ parts.block)) }
-    ensures within { IsTrue D.honest → IfOk result (λ parts. length (parts.front.items ++ parts.block) ≤ limit) }
-    ensures long { IsTrue D.honest → IsErrOf result TooLong → (bytes : List ℕ) × (get (D.files disk.old) name.now ≡ Some bytes) × (limit < length bytes) }
+    ensures read { IsTrue D.honest →
+        IfOk result (λ parts. get (D.files disk.old) name.now
+        ≡ Some (parts.front.items ++ parts.block)) }
+    ensures within { IsTrue D.honest →
+        IfOk result (λ parts. length (parts.front.items ++ parts.block) ≤ limit) }
+    ensures long { IsTrue D.honest → IsErrOf result TooLong →
+        (bytes : List ℕ) × (get (D.files disk.old) name.now ≡ Some bytes) × (limit < length bytes) }
     ensures files { IsTrue D.honest → D.files disk.new ≡ D.files disk.old }
     ensures crash { IsTrue D.honest → Leaves Same (D.history disk.old) (D.history disk.new) }
-    ensures cause { IsTrue D.honest → HasCause Device (D.failures disk.old) (D.failures disk.new) result }
+    ensures cause { IsTrue D.honest →
+        HasCause Device (D.failures disk.old) (D.failures disk.new) result }
 {
     let (mut file, told) = disk.open(name)?;
     if told > limit as u64 {
@@ -212,10 +230,13 @@ pub(crate) fn read_file<D: Disk, C: Cutter>(
     name: &[u8],
     limit: usize,
 ) -> Result<Option<FileParts>, StoreFault>
-    ensures found { IsTrue D.honest → IsRead (λ parts. parts.front.items ++ parts.block) limit (get (D.files disk.old) name.now) result }
+    ensures found { IsTrue D.honest →
+        IsRead (λ parts. parts.front.items ++ parts.block) limit
+        (get (D.files disk.old) name.now) result }
     ensures files { IsTrue D.honest → D.files disk.new ≡ D.files disk.old }
     ensures crash { IsTrue D.honest → Leaves Same (D.history disk.old) (D.history disk.new) }
-    ensures cause { IsTrue D.honest → HasCause Device (D.failures disk.old) (D.failures disk.new) result }
+    ensures cause { IsTrue D.honest →
+        HasCause Device (D.failures disk.old) (D.failures disk.new) result }
 {
     if disk.has_file(name)? {
         Ok(Some(read_found(disk, alloc, cutter, name, limit)?))

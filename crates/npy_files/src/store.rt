@@ -1,7 +1,7 @@
 //! Stores of files.
 ghost use Rattle.std.specs.Prelude.{◌≡◌, ◌<◌, ◌≤◌, ◌+◌, ◌++◌, true, false};
 ghost use Rattle.std.specs.FinMap.{get};
-ghost use Rattle.npy_files.specs.Stores.{StoreState, IsSameStore, FaultHasCause, IsRead, IsKept, IsWritten};
+ghost use Rattle.npy_files.specs.Stores.{StoreState, IsSameStore, FaultHasCause, Reads, IsKept, Writes};
 
 use disk::DiskFault;
 use npy_format::FileParts;
@@ -61,8 +61,9 @@ pub(crate) fn is_longer(front: usize, items: usize, limit: usize) -> bool
     front > limit || items > limit - front
 }
 
-/// Where files are kept under their names. Its contracts see a store as its shelf. What a read gives, what a
-/// name has after a write and when a file is too long is said of an honest store alone.
+/// Where files are kept under their names. Its contracts see a store as its shelf. What a read
+/// gives, what a name has after a write and when a file is too long is said of an honest store
+/// alone.
 pub trait NpyStore {
     ghost shelf: { Self → StoreState };
 
@@ -76,10 +77,11 @@ pub trait NpyStore {
         ensures same { IsSameStore (shelf self.old) (shelf self.new) }
         ensures files { (shelf self.new).files ≡ (shelf self.old).files }
         ensures cause { FaultHasCause (shelf self.old) (shelf self.new) result }
-        ensures found { (shelf self.old).honest ≡ true → IsRead (λ parts. parts.front.items ++ parts.block) (shelf self.old).limit (get (shelf self.old).files name.now) result };
+        ensures found { Reads (λ parts. parts.front.items ++ parts.block) (shelf self.old) name.now
+            result };
 
-    /// Writes the file that has these bytes in front and these items after them, over the one with this
-    /// name if there is one.
+    /// Writes the file that has these bytes in front and these items after them, over the one with
+    /// this name if there is one.
     fn write_parts(
         &mut self,
         alloc: Global,
@@ -90,14 +92,15 @@ pub trait NpyStore {
         ensures same { IsSameStore (shelf self.old) (shelf self.new) }
         ensures cause { FaultHasCause (shelf self.old) (shelf self.new) result }
         ensures kept { IsKept name.now result (shelf self.old).files (shelf self.new).files }
-        ensures written { (shelf self.old).honest ≡ true → IsWritten (shelf self.old) name.now (front.now ++ items.now) result (shelf self.new).files };
+        ensures written { Writes (shelf self.old) name.now (front.now ++ items.now) result
+            (shelf self.new) };
 
     /// The bytes of the file that `read_parts` gives.
     fn read(&mut self, alloc: Global, name: &[u8]) -> Result<Option<Vec<u8>>, StoreFault>
         ensures same { IsSameStore (shelf self.old) (shelf self.new) }
         ensures files { (shelf self.new).files ≡ (shelf self.old).files }
         ensures cause { FaultHasCause (shelf self.old) (shelf self.new) result }
-        ensures found { (shelf self.old).honest ≡ true → IsRead (λ bytes. bytes.items) (shelf self.old).limit (get (shelf self.old).files name.now) result }
+        ensures found { Reads (λ bytes. bytes.items) (shelf self.old) name.now result }
     {
         match self.read_parts(alloc, name)? {
             Some(parts) => Ok(Some(parts.joined()?)),
@@ -110,7 +113,7 @@ pub trait NpyStore {
         ensures same { IsSameStore (shelf self.old) (shelf self.new) }
         ensures cause { FaultHasCause (shelf self.old) (shelf self.new) result }
         ensures kept { IsKept name.now result (shelf self.old).files (shelf self.new).files }
-        ensures written { (shelf self.old).honest ≡ true → IsWritten (shelf self.old) name.now bytes.now result (shelf self.new).files }
+        ensures written { Writes (shelf self.old) name.now bytes.now result (shelf self.new) }
     {
         self.write_parts(alloc, name, bytes, &[])
     }
