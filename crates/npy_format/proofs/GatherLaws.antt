@@ -25,12 +25,8 @@ use Rattle.shape_strides.specs.ContiguityLaws.{first_address-entry}
 use Rattle.shape_strides.specs.WalkLaws.{length-run_offsets}
 use Rattle.arrays.specs.RunLaws.{run_offsets-more, place-at, run-ends}
 use Rattle.arrays.specs.FortranLaws.{length-fortran}
-use Rattle.npy_format.specs.inside.WrittenItems.{addresses_in_file}
+use Rattle.npy_format.specs.inside.WrittenItems.{gathered, addresses_in_file}
 use Rattle.elem_descr.specs.NulLaws.{reverse-replicate}
-
--- the items at these offsets
-abbrev pub gathered : ℕ → List ℕ → List ℕ → List ℕ
-gathered width bytes offsets = flat_map (λ offset. item_at offset width bytes) offsets
 
 -- ---- items that lie one right after the other
 

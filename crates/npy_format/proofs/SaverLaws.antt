@@ -15,9 +15,9 @@ use Rattle.elem_descr.specs.ByteLaws.{AreBytes, bytes-drop, bytes-take}
 use Rattle.shape_strides.specs.Limits.{max_bytes}
 use Rattle.npy_format.specs.WrittenFiles.{is_fortran, ordered, file_of, saved}
 use Rattle.npy_format.specs.SavedFiles.{LoadsAs}
-use Rattle.npy_format.specs.inside.WrittenItems.{IsPlain, addresses_in_file}
+use Rattle.npy_format.specs.inside.WrittenItems.{gathered, IsPlain, addresses_in_file}
 use Rattle.npy_format.proofs.WrittenItemLaws.{plain_again, all_again}
-use Rattle.npy_format.proofs.GatherLaws.{gathered, together}
+use Rattle.npy_format.proofs.GatherLaws.{together}
 use Rattle.npy_format.proofs.WriterLaws.{file_written, saved-large, saved-small}
 
 module _ (descr : Descr) (shape offsets bytes : List ℕ) (start len : ℕ) (long : length offsets ≡ count shape) (inside : All (λ offset. offset + item_size descr ≤ length bytes) offsets)

@@ -19,9 +19,9 @@ use Rattle.shape_strides.specs.Indexes.{count, indexes, rank}
 use Rattle.shape_strides.specs.Contiguity.{fortran_order}
 use Rattle.npy_format.specs.Files.{file_order}
 use Rattle.npy_format.specs.WrittenFiles.{is_fortran, ordered, file_of, saved}
-use Rattle.npy_format.specs.inside.WrittenItems.{addresses_in_file}
+use Rattle.npy_format.specs.inside.WrittenItems.{gathered, addresses_in_file}
 use Rattle.arrays.specs.FortranLaws.{length-fortran}
-use Rattle.npy_format.proofs.GatherLaws.{gathered, fortran-entry, fortran-within}
+use Rattle.npy_format.proofs.GatherLaws.{fortran-entry, fortran-within}
 
 -- items that are gathered, item by item
 blocks_gathered : (f : List ℕ → List ℕ) (width : ℕ) (offsets bytes : List ℕ) → All (λ offset. offset + width ≤ length bytes) offsets → flat_map f (blocks width (length offsets) (gathered width bytes offsets)) ≡ flat_map (λ offset. f (item_at offset width bytes)) offsets

@@ -44,7 +44,9 @@ fn push_length(out: &mut Vec<u8>, width: usize, len: usize) -> Result<(), AllocE
 fn push_header(out: &mut Vec<u8>, version: u8, width: usize, text: &[u8]) -> Result<(), AllocError>
     requires width { (width ≡ 2) ⊎ (width ≡ 4) }
     requires short { length text.now < 2 ^ 63 }
-    ensures { OnOk result (out.new.items ≡ out.old.items ++ (magic ++ (version ∷ (0 ∷ with_length width (padded_text (8 + width) text.now))))) }
+    ensures { OnOk result
+        (out.new.items ≡ out.old.items
+        ++ (magic ++ (version ∷ (0 ∷ with_length width (padded_text (8 + width) text.now))))) }
 {
     let spaces = spaces_after(8 + width + text.len());
     out.extend_from_slice(b"\x93NUMPY")?;

@@ -1,11 +1,10 @@
 //! Parses the literals in the text of a header.
 ghost use Rattle.std.specs.Prelude.{◌≡◌, length, option_copied};
 ghost use Rattle.std.specs.Option.{option_map};
-ghost use Rattle.elem_descr.specs.Refusals.{Answers};
 ghost use Rattle.elem_descr.specs.TypeStrings.{value_of};
 ghost use Rattle.npy_format.specs.Tokens.{tokens};
 ghost use Rattle.npy_format.specs.Literals.{symbol_token_at, tuple_in, pair_in, bracketed, literal_in};
-ghost use Rattle.npy_format.specs.inside.Entries.{behind, behind_entries, behind_key, behind_comma, behind_entry};
+ghost use Rattle.npy_format.specs.inside.Entries.{Follows, behind, behind_entries, behind_key, behind_comma, behind_entry};
 ghost use Rattle.npy_format.specs.inside.Places.{value_in};
 ghost use Rattle.npy_format.specs.inside.Scanned.{string_at, integer_at};
 
@@ -13,11 +12,12 @@ use crate::token::{Token, next_token};
 use elem_descr::Refusal;
 
 /// How deep brackets may be nested in a value of a header.
-const MAX_VALUE_DEPTH: usize = 15;
+pub const MAX_VALUE_DEPTH: usize = 15;
 
 /// What follows this symbol, which must come next.
 pub fn symbol(expected: u8, text: &[u8]) -> Option<&[u8]>
-    ensures { option_map tokens (option_copied result) ≡ symbol_token_at expected (tokens text.now) }
+    ensures { option_map tokens (option_copied result)
+        ≡ symbol_token_at expected (tokens text.now) }
 {
     let (first, rest) = next_token(text)?;
     match first {
@@ -28,7 +28,8 @@ pub fn symbol(expected: u8, text: &[u8]) -> Option<&[u8]>
 
 /// The string that comes next, and what follows it.
 pub fn string(text: &[u8]) -> Option<(&[u8], &[u8])>
-    ensures { option_map (λ found. (found.0.now, tokens found.1.now)) result ≡ string_at (tokens text.now) }
+    ensures { option_map (λ found. (found.0.now, tokens found.1.now)) result
+        ≡ string_at (tokens text.now) }
 {
     let (first, rest) = next_token(text)?;
     match first {
@@ -39,7 +40,8 @@ pub fn string(text: &[u8]) -> Option<(&[u8], &[u8])>
 
 /// The digits of the integer that comes next, and what follows it.
 pub fn integer(text: &[u8]) -> Option<(&[u8], &[u8])>
-    ensures { option_map (λ found. (value_of found.0.now, tokens found.1.now)) result ≡ integer_at (tokens text.now) }
+    ensures { option_map (λ found. (value_of found.0.now, tokens found.1.now)) result
+        ≡ integer_at (tokens text.now) }
 {
     let (first, rest) = next_token(text)?;
     match first {
@@ -58,7 +60,7 @@ pub fn skip_comma(text: &[u8]) -> &[u8]
 /// What follows values separated by commas and the symbol that closes them.
 #[cycle(nesting)]
 fn skip_values(depth: usize, closing: u8, text: &[u8]) -> Result<&[u8], Refusal>
-    ensures { Answers (λ rest. tokens rest.now) result (behind_entries (literal_in depth) closing (tokens text.now)) }
+    ensures { Follows result (behind_entries (literal_in depth) closing (tokens text.now)) }
 {
     let mut rest = text;
     loop {
@@ -79,7 +81,7 @@ fn skip_values(depth: usize, closing: u8, text: &[u8]) -> Result<&[u8], Refusal>
 /// What follows the tuple after its bracket.
 #[cycle(nesting)]
 fn skip_tuple(depth: usize, text: &[u8]) -> Result<&[u8], Refusal>
-    ensures { Answers (λ rest. tokens rest.now) result (behind (tuple_in (literal_in depth) (tokens text.now))) }
+    ensures { Follows result (behind (tuple_in (literal_in depth) (tokens text.now))) }
 {
     if let Some(end) = symbol(b')', text) {
         return Ok(end);
@@ -93,8 +95,8 @@ fn skip_tuple(depth: usize, text: &[u8]) -> Result<&[u8], Refusal>
 
 /// What follows a key and its colon.
 #[cycle(nesting)]
-fn skip_key(depth: usize, text: &[u8]) -> Result<&[u8], Refusal>
-    ensures { Answers (λ rest. tokens rest.now) result (behind_key (literal_in depth) (tokens text.now)) }
+pub fn skip_key(depth: usize, text: &[u8]) -> Result<&[u8], Refusal>
+    ensures { Follows result (behind_key (literal_in depth) (tokens text.now)) }
 {
     let after = skip_literal(depth, text)?;
     let Some(value) = symbol(b':', after) else {
@@ -106,7 +108,7 @@ fn skip_key(depth: usize, text: &[u8]) -> Result<&[u8], Refusal>
 /// What follows a key and its value.
 #[cycle(nesting)]
 fn skip_pair(depth: usize, text: &[u8]) -> Result<&[u8], Refusal>
-    ensures { Answers (λ rest. tokens rest.now) result (behind (pair_in (literal_in depth) (tokens text.now))) }
+    ensures { Follows result (behind (pair_in (literal_in depth) (tokens text.now))) }
 {
     let value = skip_key(depth, text)?;
     skip_literal(depth, value)
@@ -114,8 +116,8 @@ fn skip_pair(depth: usize, text: &[u8]) -> Result<&[u8], Refusal>
 
 /// What follows the pairs of a dictionary after its bracket.
 #[cycle(nesting)]
-fn skip_pairs(depth: usize, text: &[u8]) -> Result<&[u8], Refusal>
-    ensures { Answers (λ rest. tokens rest.now) result (behind_entries (pair_in (literal_in depth)) 125 (tokens text.now)) }
+pub fn skip_pairs(depth: usize, text: &[u8]) -> Result<&[u8], Refusal>
+    ensures { Follows result (behind_entries (pair_in (literal_in depth)) 125 (tokens text.now)) }
 {
     let mut rest = text;
     loop {
@@ -136,7 +138,7 @@ fn skip_pairs(depth: usize, text: &[u8]) -> Result<&[u8], Refusal>
 /// What follows the tuple, the list or the dictionary that this symbol opens.
 #[cycle(nesting)]
 fn skip_bracketed(depth: usize, opening: u8, text: &[u8]) -> Result<&[u8], Refusal>
-    ensures { Answers (λ rest. tokens rest.now) result (behind (bracketed (literal_in depth) opening (tokens text.now))) }
+    ensures { Follows result (behind (bracketed (literal_in depth) opening (tokens text.now))) }
 {
     match opening {
         b'(' => skip_tuple(depth, text),
@@ -149,7 +151,7 @@ fn skip_bracketed(depth: usize, opening: u8, text: &[u8]) -> Result<&[u8], Refus
 /// What follows the next literal, in which brackets may be nested to this depth.
 #[cycle(nesting)]
 fn skip_literal(depth: usize, text: &[u8]) -> Result<&[u8], Refusal>
-    ensures { Answers (λ rest. tokens rest.now) result (behind (literal_in depth (tokens text.now))) }
+    ensures { Follows result (behind (literal_in depth (tokens text.now))) }
 {
     let Some((first, rest)) = next_token(text) else {
         return Err(Refusal::BadHeader);
@@ -164,7 +166,7 @@ fn skip_literal(depth: usize, text: &[u8]) -> Result<&[u8], Refusal>
 
 /// What follows a value among others, and the comma after it.
 pub fn behind_value(text: &[u8]) -> Result<&[u8], Refusal>
-    ensures { Answers (λ rest. tokens rest.now) result (behind_entry value_in (tokens text.now)) }
+    ensures { Follows result (behind_entry value_in (tokens text.now)) }
 {
     let after = skip_literal(MAX_VALUE_DEPTH, text)?;
     Ok(skip_comma(after))
@@ -172,22 +174,8 @@ pub fn behind_value(text: &[u8]) -> Result<&[u8], Refusal>
 
 /// What follows a pair among others, and the comma after it.
 pub fn behind_pair(text: &[u8]) -> Result<&[u8], Refusal>
-    ensures { Answers (λ rest. tokens rest.now) result (behind_entry (pair_in value_in) (tokens text.now)) }
+    ensures { Follows result (behind_entry (pair_in value_in) (tokens text.now)) }
 {
     let after = skip_pair(MAX_VALUE_DEPTH, text)?;
     Ok(skip_comma(after))
-}
-
-/// What follows the key of a pair.
-pub fn behind_key(text: &[u8]) -> Result<&[u8], Refusal>
-    ensures { Answers (λ rest. tokens rest.now) result (behind_key value_in (tokens text.now)) }
-{
-    skip_key(MAX_VALUE_DEPTH, text)
-}
-
-/// What follows all pairs of a header.
-pub fn behind_pairs(text: &[u8]) -> Result<&[u8], Refusal>
-    ensures { Answers (λ rest. tokens rest.now) result (behind_entries (pair_in value_in) 125 (tokens text.now)) }
-{
-    skip_pairs(MAX_VALUE_DEPTH, text)
 }

@@ -6,9 +6,11 @@ ghost use Rattle.npy_format.specs.Tokens.{tokens};
 ghost use Rattle.npy_format.specs.Listed.{Literal, Pair};
 ghost use Rattle.npy_format.specs.Headers.{dictionary_of, value_under, lengths_of, header_of, header, HeaderAnyTurns};
 ghost use Rattle.npy_format.specs.inside.Scanned.{string_at, is_string_token, truth_at};
-ghost use Rattle.npy_format.specs.inside.Places.{Stands, HasPairs, HasLengths};
+ghost use Rattle.npy_format.specs.inside.Places.{BeginsWith, Stands, HasPairs, HasLengths};
 
-use crate::grammar::{behind_key, behind_pair, behind_pairs, integer, skip_comma, string, symbol};
+use crate::grammar::{
+    MAX_VALUE_DEPTH, behind_pair, integer, skip_comma, skip_key, skip_pairs, string, symbol,
+};
 use crate::record_list::descr;
 use crate::token::{Token, next_token};
 use elem_descr::digits::capped_value;
@@ -27,14 +29,12 @@ pub struct Header {
 
 /// The pairs of the dictionary that the text is, with nothing after it.
 fn dictionary(text: &[u8]) -> Result<&[u8], Refusal>
-    ensures { MatchResult result
-        (λ pairs. (found : List Pair) × (dictionary_of (tokens text.now) ≡ Ok found) × HasPairs (tokens pairs.now) found)
-        (λ refusal. dictionary_of (tokens text.now) ≡ Err refusal) }
+    ensures { BeginsWith HasPairs result (dictionary_of (tokens text.now)) }
 {
     let Some(pairs) = symbol(b'{', text) else {
         return Err(Refusal::BadHeader);
     };
-    let rest = behind_pairs(pairs)?;
+    let rest = skip_pairs(MAX_VALUE_DEPTH, pairs)?;
     if next_token(rest).is_some() {
         return Err(Refusal::BadHeader);
     }
@@ -66,14 +66,13 @@ fn is_string(bytes: &[u8], text: &[u8]) -> bool
 
 /// The text from the value of a key on.
 fn value_under<'a>(key: &[u8], pairs: &'a [u8]) -> Result<&'a [u8], Refusal>
-    ensures { (found : List Pair) → HasPairs (tokens pairs.now) found → MatchResult result
-        (λ place. (value : Literal) × (value_under key.now found ≡ Ok value) × Stands (tokens place.now) value)
-        (λ refusal. value_under key.now found ≡ Err refusal) }
+    ensures { (found : List Pair) → HasPairs (tokens pairs.now) found →
+        BeginsWith Stands result (value_under key.now found) }
 {
     let mut rest = pairs;
     while symbol(b'}', rest).is_none() {
         if is_string(key, rest) {
-            return behind_key(rest);
+            return skip_key(MAX_VALUE_DEPTH, rest);
         }
         rest = behind_pair(rest)?;
     }
@@ -94,9 +93,8 @@ fn truth(text: &[u8]) -> Result<bool, Refusal>
 
 /// The text from the lengths on, if the value is a tuple of integers.
 fn lengths(text: &[u8]) -> Result<&[u8], Refusal>
-    ensures { (value : Literal) → Stands (tokens text.now) value → MatchResult result
-        (λ place. (found : List ℕ) × (lengths_of value ≡ Ok found) × HasLengths (tokens place.now) found)
-        (λ refusal. lengths_of value ≡ Err refusal) }
+    ensures { (value : Literal) → Stands (tokens text.now) value →
+        BeginsWith HasLengths result (lengths_of value) }
 {
     let Some(inside) = symbol(b'(', text) else {
         return Err(Refusal::BadHeader);
@@ -114,7 +112,8 @@ fn lengths(text: &[u8]) -> Result<&[u8], Refusal>
 /// The shape with these lengths. It holds at most as many as a shape may have, and one more if
 /// there are too many.
 fn shape(alloc: Global, lengths: &[u8]) -> Result<Shape, Refusal>
-    ensures { (found : List ℕ) → HasLengths (tokens lengths.now) found → Gives (λ shape. shape) result (shape_of found) }
+    ensures { (found : List ℕ) →
+        HasLengths (tokens lengths.now) found → Gives (λ shape. shape) result (shape_of found) }
 {
     let mut axes = Vec::new(alloc);
     let mut rest = lengths;
@@ -131,7 +130,8 @@ fn shape(alloc: Global, lengths: &[u8]) -> Result<Shape, Refusal>
 /// What the pairs of a header say.
 #[tactic(auto, unfolding(crate::specs::Headers::header_of))]
 fn header_of(alloc: Global, pairs: &[u8]) -> Result<Header, Refusal>
-    ensures { (found : List Pair) → HasPairs (tokens pairs.now) found → Gives (λ header. header) result (header_of found) }
+    ensures { (found : List Pair) →
+        HasPairs (tokens pairs.now) found → Gives (λ header. header) result (header_of found) }
 {
     if pair_count(pairs)? != 3 {
         return Err(Refusal::BadHeader);

@@ -30,7 +30,8 @@ fn push_quoted(text: &mut Vec<u8>, bytes: &[u8]) -> Result<(), AllocError>
 
 /// An entry as far as its type.
 fn push_name(text: &mut Vec<u8>, is_first: bool, name: &[u8]) -> Result<(), AllocError>
-    ensures { OnOk result (text.new.items ≡ text.old.items ++ (entry_separator is_first ++ opened_entry name.now)) }
+    ensures { OnOk result
+        (text.new.items ≡ text.old.items ++ (entry_separator is_first ++ opened_entry name.now)) }
 {
     push_separator(text, is_first)?;
     text.push(b'(')?;
@@ -41,7 +42,8 @@ fn push_name(text: &mut Vec<u8>, is_first: bool, name: &[u8]) -> Result<(), Allo
 /// The entry for a gap of `bytes` bytes, if there is one. Returns whether the next entry is the
 /// first one.
 fn push_gap(text: &mut Vec<u8>, is_first: bool, bytes: usize) -> Result<bool, AllocError>
-    ensures written { OnOk result (text.new.items ≡ text.old.items ++ separated is_first (gap bytes)) }
+    ensures written { OnOk result
+        (text.new.items ≡ text.old.items ++ separated is_first (gap bytes)) }
     ensures next { IfOk result (λ next. next ≡ (is_first && nat_eq bytes 0)) }
 {
     if bytes == 0 {
@@ -65,7 +67,9 @@ fn push_scalar(alloc: Global, text: &mut Vec<u8>, scalar: &Scalar) -> Result<(),
 /// The list of the fields, and of the gaps before each and after the last.
 #[cycle(written)]
 fn push_record(alloc: Global, text: &mut Vec<u8>, whole: &Record) -> Result<(), AllocError>
-    ensures { OnOk result (text.new.items ≡ text.old.items ++ in_brackets (entries 0 whole.now.fields whole.now.size)) }
+    ensures { OnOk result
+        (text.new.items ≡ text.old.items
+        ++ in_brackets (entries 0 whole.now.fields whole.now.size)) }
 {
     let size = whole.size();
     let mut end = 0;

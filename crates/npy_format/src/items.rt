@@ -7,7 +7,7 @@ ghost use Rattle.shape_strides.specs.Indexes.{count};
 ghost use Rattle.shape_strides.specs.Contiguity.{is_c_contiguous, is_f_contiguous};
 ghost use Rattle.shape_strides.specs.Layouts.{offsets};
 ghost use Rattle.shape_strides.specs.Runs.{run_offsets};
-ghost use Rattle.npy_format.specs.inside.WrittenItems.{addresses_in_file};
+ghost use Rattle.npy_format.specs.inside.WrittenItems.{gathered, addresses_in_file};
 
 use shape_strides::{Layout, Run, Runs};
 use std::alloc::AllocError;
@@ -27,7 +27,8 @@ fn place(run: Run, k: usize) -> usize
 fn push_each(file: &mut Vec<u8>, bytes: &[u8], run: Run, width: usize) -> Result<(), AllocError>
     requires within { EachWithin (length bytes.now) run.offset run.step width run.count }
     requires few { run.count < 2 ^ 63 }
-    ensures { OnOk result (file.new.items ≡ file.old.items ++ flat_map (λ offset. item_at offset width bytes.now) (run_offsets run)) }
+    ensures { OnOk result
+        (file.new.items ≡ file.old.items ++ gathered width bytes.now (run_offsets run)) }
 {
     for k in 0..run.count {
         let at = place(run, k);
@@ -58,7 +59,8 @@ fn push_run(file: &mut Vec<u8>, bytes: &[u8], run: Run, width: usize) -> Result<
     requires some { 1 ≤ run.count }
     requires few { run.count < 2 ^ 63 }
     requires width { width ≤ 65536 }
-    ensures { OnOk result (file.new.items ≡ file.old.items ++ flat_map (λ offset. item_at offset width bytes.now) (run_offsets run)) }
+    ensures { OnOk result
+        (file.new.items ≡ file.old.items ++ gathered width bytes.now (run_offsets run)) }
 {
     if is_adjacent(run, width) {
         return push_stretch(file, bytes, run.offset, run.count * width);
@@ -73,11 +75,14 @@ fn push_runs(
     runs: Runs<'_>,
     width: usize,
 ) -> Result<(), AllocError>
-    requires within { All (λ run. EachWithin (length bytes.now) run.offset run.step width run.count) runs }
+    requires within { All
+        (λ run. EachWithin (length bytes.now) run.offset run.step width run.count) runs }
     requires some { All (λ run. 1 ≤ run.count) runs }
     requires few { All (λ run. run.count < 2 ^ 63) runs }
     requires width { width ≤ 65536 }
-    ensures { OnOk result (file.new.items ≡ file.old.items ++ flat_map (λ offset. item_at offset width bytes.now) (flat_map run_offsets runs.entry)) }
+    ensures { OnOk result
+        (file.new.items ≡ file.old.items
+        ++ gathered width bytes.now (flat_map run_offsets runs.entry)) }
 {
     for run in runs {
         push_run(file, bytes, run, width)?;
@@ -87,7 +92,8 @@ fn push_runs(
 
 /// Whether items of `width` bytes are adjacent in C order or in Fortran order.
 pub(crate) fn are_together(layout: &Layout, width: usize) -> bool
-    ensures { result ≡ (is_c_contiguous width (offsets layout.now) || is_f_contiguous width layout.now.shape (offsets layout.now)) }
+    ensures { result ≡ (is_c_contiguous width (offsets layout.now)
+        || is_f_contiguous width layout.now.shape (offsets layout.now)) }
 {
     layout.is_c(width) || layout.is_f(width)
 }
@@ -101,7 +107,10 @@ pub(crate) fn push_items(
 ) -> Result<(), AllocError>
     requires inside { All (λ offset. offset + width ≤ length bytes.now) (offsets layout.now) }
     requires width { width ≤ 65536 }
-    ensures { OnOk result (file.new.items ≡ file.old.items ++ flat_map (λ offset. item_at offset width bytes.now) (addresses_in_file width layout.now.shape (offsets layout.now))) }
+    ensures { OnOk result
+        (file.new.items ≡ file.old.items
+        ++ gathered width bytes.now
+        (addresses_in_file width layout.now.shape (offsets layout.now))) }
 {
     let count = layout.shape.items();
     if are_together(layout, width) {

@@ -21,7 +21,8 @@ pub const MAX_HEADER: usize = 1 << 20;
 
 /// The first `n` bytes and those after them.
 fn split_front(n: usize, bytes: &[u8]) -> Result<(&[u8], &[u8]), Refusal>
-    ensures answers { Answers (λ parts. (parts.0.now, parts.1.now)) result (split_front n bytes.now) }
+    ensures answers { Answers (λ parts. (parts.0.now, parts.1.now)) result
+        (split_front n bytes.now) }
     ensures len { IfOk result (λ parts. length parts.0.now ≡ n) }
     ensures whole { IfOk result (λ parts. parts.0.now ++ parts.1.now ≡ bytes.now) }
     ensures rest { IfOk result (λ parts. length parts.1.now ≤ length bytes.now) }
@@ -58,7 +59,8 @@ fn length_bytes(version: &[u8]) -> Result<usize, Refusal>
 fn text_behind<'a>(field: &[u8], behind: &'a [u8]) -> Result<(&'a [u8], &'a [u8]), Refusal>
     requires some { 1 ≤ length field.now }
     requires few { length field.now ≤ 4 }
-    ensures answers { Answers (λ parts. (parts.0.now, parts.1.now)) result (text_behind field.now behind.now) }
+    ensures answers { Answers (λ parts. (parts.0.now, parts.1.now)) result
+        (text_behind field.now behind.now) }
     ensures rest { IfOk result (λ parts. length parts.1.now ≤ length behind.now) }
 {
     let len = LittleEndian::read_uint(field, field.len());
@@ -104,14 +106,16 @@ fn order_of(fortran: bool) -> MemoryOrder
     }
 }
 
-/// What a file holds whose header has this text: the header, the bytes of the items, and those left over.
+/// What a file holds whose header has this text: the header, the bytes of the items, and those left
+/// over.
 #[tactic(auto, unfolding(crate::specs::inside::LoadedParts::load_behind))]
 pub(crate) fn contents<'a>(
     alloc: Global,
     text: &[u8],
     behind: &'a [u8],
 ) -> Result<(Header, &'a [u8], &'a [u8]), Refusal>
-    ensures gives { Gives (λ c. record { head = c.0; items = c.1.now; rest = length c.2.now }) result (load_behind text.now behind.now) }
+    ensures gives { Gives (λ c. record { head = c.0; items = c.1.now; rest = length c.2.now })
+        result (load_behind text.now behind.now) }
     ensures whole { IfOk result (λ c. length c.1.now ≡ data_size c.0) }
     ensures small { IfOk result (λ c. length c.1.now ≤ max_bytes) }
     ensures all { IfOk result (λ c. c.1.now ++ c.2.now ≡ behind.now) }

@@ -29,7 +29,8 @@ fn pad_digits(kind: &[u8]) -> Result<&[u8], Refusal>
 
 /// Adds padding.
 fn add_pad(builder: &mut RecordBuilder, kind: &[u8]) -> Result<(), Refusal>
-    ensures answers { Answers (λ _. builder.new) result (pad_at builder.old (string_at (tokens kind.now))) }
+    ensures answers { Answers (λ _. builder.new) result
+        (pad_at builder.old (string_at (tokens kind.now))) }
     ensures levels { builder.new.levels ≡ builder.old.levels }
 {
     let Some((kind, _)) = string(kind) else {
@@ -55,7 +56,8 @@ fn scalar(text: &[u8]) -> Result<Descr, Refusal>
 fn field_type(alloc: Global, levels: usize, leaves: usize, kind: &[u8]) -> Result<Descr, Refusal>
     requires levels { levels ≤ max_depth }
     requires leaves { leaves ≤ max_leaves }
-    ensures gives { (value : Literal) → Stands (tokens kind.now) value → Gives (λ descr. descr) result (type_in (record_in levels leaves) value) }
+    ensures gives { (value : Literal) → Stands (tokens kind.now) value →
+        Gives (λ descr. descr) result (type_in (record_in levels leaves) value) }
     ensures shallow { IfOk result (λ descr. IsShallow levels descr) }
 {
     if let Some((kind, _)) = string(kind) {
@@ -76,7 +78,9 @@ fn add_field(
     name: &[u8],
     kind: &[u8],
 ) -> Result<(), Refusal>
-    ensures gives { (value : Literal) → Stands (tokens kind.now) value → Gives (λ _. builder.new) result (field_in (record_in builder.old.levels) builder.old name.now value) }
+    ensures gives { (value : Literal) → Stands (tokens kind.now) value →
+        Gives (λ _. builder.new) result
+        (field_in (record_in builder.old.levels) builder.old name.now value) }
     ensures levels { builder.new.levels ≡ builder.old.levels }
 {
     if !is_legal_name(name) {
@@ -92,7 +96,8 @@ fn add_field(
 fn entry_parts(entry: &[u8]) -> Option<(&[u8], &[u8])>
     ensures { (value : Literal) → Stands (tokens entry.now) value → MatchOption result
         (entry_parts value ≡ None)
-        (λ parts. (kind : Literal) × (entry_parts value ≡ Some (parts.0.now, kind)) × Stands (tokens parts.1.now) kind) }
+        (λ parts. (kind : Literal) × (entry_parts value ≡ Some (parts.0.now, kind))
+        × Stands (tokens parts.1.now) kind) }
 {
     let inside = symbol(b'(', entry)?;
     let (name, behind) = string(inside)?;
@@ -107,7 +112,9 @@ fn entry_parts(entry: &[u8]) -> Option<(&[u8], &[u8])>
 /// Adds what an entry of the list means: a field or padding.
 #[cycle(record)]
 fn add_entry(alloc: Global, builder: &mut RecordBuilder, entry: &[u8]) -> Result<(), Refusal>
-    ensures gives { (value : Literal) → Stands (tokens entry.now) value → Gives (λ _. builder.new) result (entry_in (record_in builder.old.levels) builder.old value) }
+    ensures gives { (value : Literal) → Stands (tokens entry.now) value →
+        Gives (λ _. builder.new) result
+        (entry_in (record_in builder.old.levels) builder.old value) }
     ensures levels { builder.new.levels ≡ builder.old.levels }
 {
     let Some((name, kind)) = entry_parts(entry) else {
@@ -125,7 +132,8 @@ fn add_entry(alloc: Global, builder: &mut RecordBuilder, entry: &[u8]) -> Result
 fn record(alloc: Global, levels: usize, leaves: usize, entries: &[u8]) -> Result<Record, Refusal>
     requires levels { levels ≤ max_depth }
     requires leaves { leaves ≤ max_leaves }
-    ensures gives { (values : List Literal) → HasValues 93 (tokens entries.now) values → Gives (λ whole. whole) result (record_in levels leaves values) }
+    ensures gives { (values : List Literal) → HasValues 93 (tokens entries.now) values →
+        Gives (λ whole. whole) result (record_in levels leaves values) }
     ensures shallow { IfOk result (λ whole. IsShallow levels (Descr.Record whole)) }
 {
     if levels == 0 {
@@ -142,7 +150,8 @@ fn record(alloc: Global, levels: usize, leaves: usize, entries: &[u8]) -> Result
 
 /// The element type that the value of a header means.
 pub fn descr(alloc: Global, text: &[u8]) -> Result<Descr, Refusal>
-    ensures { (value : Literal) → Stands (tokens text.now) value → Gives (λ descr. descr) result (descr_in value) }
+    ensures { (value : Literal) →
+        Stands (tokens text.now) value → Gives (λ descr. descr) result (descr_in value) }
 {
     if let Some((kind, _)) = string(text) {
         return scalar(kind);

@@ -11,7 +11,7 @@ ghost use Rattle.shape_strides.specs.Contiguity.{is_c_contiguous, is_f_contiguou
 ghost use Rattle.shape_strides.specs.Layouts.{offsets};
 ghost use Rattle.npy_format.specs.WrittenFiles.{is_fortran, file_of, saved};
 ghost use Rattle.npy_format.specs.SavedFiles.{LoadsAs};
-ghost use Rattle.npy_format.specs.inside.WrittenItems.{IsPlain};
+ghost use Rattle.npy_format.specs.inside.WrittenItems.{IsPlain, file_at};
 
 use crate::items::are_together;
 use crate::writer::{header, is_fortran, will_load, written};
@@ -44,12 +44,16 @@ fn uncopied<'a>(
     descr: &Descr,
     len: usize,
 ) -> Result<SavedParts<'a>, AllocError>
-    requires inside { All (λ offset. offset + item_size descr.now ≤ length bytes.now) (offsets layout.now) }
+    requires inside { All (λ offset. offset + item_size descr.now ≤ length bytes.now)
+        (offsets layout.now) }
     requires len { len ≡ count layout.now.shape * item_size descr.now }
     requires plain { IsPlain 0 (leaves_of descr.now) (item_size descr.now) }
     requires in_order { AreInOrder 0 (leaves_of descr.now) (item_size descr.now) }
-    requires together { (is_c_contiguous (item_size descr.now) (offsets layout.now) || is_f_contiguous (item_size descr.now) layout.now.shape (offsets layout.now)) ≡ true }
-    ensures { IfOk result (λ parts. parts.front.items ++ parts.items.now ≡ file_of descr.now (is_fortran (item_size descr.now) layout.now.shape (offsets layout.now)) layout.now.shape (map (item_from descr.now bytes.now) (offsets layout.now))) }
+    requires together { (is_c_contiguous (item_size descr.now) (offsets layout.now)
+        || is_f_contiguous (item_size descr.now) layout.now.shape (offsets layout.now)) ≡ true }
+    ensures { IfOk result
+        (λ parts. parts.front.items ++ parts.items.now
+        ≡ file_at descr.now layout.now.shape (offsets layout.now) bytes.now) }
 {
     let fortran = is_fortran(layout, descr.size());
     let front = header(alloc, descr, fortran, &layout.shape)?;
@@ -65,9 +69,12 @@ fn parts<'a>(
     descr: &Descr,
     len: usize,
 ) -> Result<SavedParts<'a>, AllocError>
-    requires inside { All (λ offset. offset + item_size descr.now ≤ length bytes.now) (offsets layout.now) }
+    requires inside { All (λ offset. offset + item_size descr.now ≤ length bytes.now)
+        (offsets layout.now) }
     requires len { len ≡ count layout.now.shape * item_size descr.now }
-    ensures { IfOk result (λ parts. parts.front.items ++ parts.items.now ≡ file_of descr.now (is_fortran (item_size descr.now) layout.now.shape (offsets layout.now)) layout.now.shape (map (item_from descr.now bytes.now) (offsets layout.now))) }
+    ensures { IfOk result
+        (λ parts. parts.front.items ++ parts.items.now
+        ≡ file_at descr.now layout.now.shape (offsets layout.now) bytes.now) }
 {
     if are_plain(descr) && are_together(layout, descr.size()) {
         return uncopied(alloc, bytes, layout, descr, len);
@@ -84,11 +91,16 @@ pub fn npy_parts<'a>(
     layout: &Layout,
     descr: &Descr,
 ) -> Result<SavedParts<'a>, Refusal>
-    requires inside { All (λ offset. offset + item_size descr.now ≤ length block.now) (offsets layout.now) }
-    ensures gives { Gives (λ parts. parts.front.items ++ parts.items.now) result (saved descr.now layout.now.shape (offsets layout.now) (map (item_from descr.now block.now) (offsets layout.now))) }
-    ensures large { max_bytes < count layout.now.shape * item_size descr.now → result ≡ Err TooLarge }
+    requires inside { All (λ offset. offset + item_size descr.now ≤ length block.now)
+        (offsets layout.now) }
+    ensures gives { Gives (λ parts. parts.front.items ++ parts.items.now) result
+        (saved descr.now layout.now.shape (offsets layout.now)
+        (map (item_from descr.now block.now) (offsets layout.now))) }
+    ensures large { max_bytes < count layout.now.shape * item_size descr.now →
+        result ≡ Err TooLarge }
     ensures loads { let items = map (item_from descr.now block.now) (offsets layout.now) in
-        IfOk (saved descr.now layout.now.shape (offsets layout.now) items) (λ file. LoadsAs file descr.now layout.now.shape items) }
+        IfOk (saved descr.now layout.now.shape (offsets layout.now) items)
+        (λ file. LoadsAs file descr.now layout.now.shape items) }
 {
     let len = layout.shape.items() * descr.size();
     if len > MAX_BYTES {

@@ -155,7 +155,8 @@ fn token_from<'a>(first: u8, rest: &'a [u8], text: &'a [u8]) -> (Token<'a>, &'a 
 
 /// The first token of a text, and what follows it.
 pub fn next_token(text: &[u8]) -> Option<(Token<'_>, &[u8])>
-    ensures { MatchOption result (tokens text.now ≡ []) (λ next. tokens text.now ≡ token_of next.0 ∷ tokens next.1.now) }
+    ensures { MatchOption result (tokens text.now ≡ [])
+        (λ next. tokens text.now ≡ token_of next.0 ∷ tokens next.1.now) }
 {
     let text = unspaced(text);
     let [first, rest @ ..] = text else {

@@ -12,6 +12,7 @@ ghost use Rattle.npy_format.specs.WrittenHeaders.{written_text, written_header};
 ghost use Rattle.npy_format.specs.WrittenFiles.{is_fortran, file_of, saved};
 ghost use Rattle.npy_format.specs.SavedFiles.{LoadsAs};
 ghost use Rattle.npy_format.specs.inside.Sound.{IsSound};
+ghost use Rattle.npy_format.specs.inside.WrittenItems.{as_in_file, file_at};
 
 use crate::file_header::file_header;
 use crate::header_text::header_text;
@@ -39,7 +40,8 @@ pub(crate) fn header(
     fortran: bool,
     shape: &Shape,
 ) -> Result<Vec<u8>, AllocError>
-    ensures { IfOk result (λ file. file.items ≡ written_header (written_text descr.now fortran shape.now)) }
+    ensures { IfOk result
+        (λ file. file.items ≡ written_header (written_text descr.now fortran shape.now)) }
 {
     let text = header_text(alloc, descr, fortran, shape)?;
     file_header(alloc, text.as_slice())
@@ -54,7 +56,9 @@ fn write_behind(
     descr: &Descr,
 ) -> Result<(), AllocError>
     requires { length file.old.items ≡ start + count * item_size descr.now }
-    ensures { OnOk result (file.new.items ≡ take start file.old.items ++ flat_map (λ item. encode_item descr.now (decode_item descr.now item)) (blocks (item_size descr.now) count (drop start file.old.items))) }
+    ensures { OnOk result
+        (file.new.items ≡ take start file.old.items
+        ++ as_in_file descr.now count (drop start file.old.items)) }
 {
     write_items(alloc, &mut file.as_mut_slice()[start..], count, descr)
 }
@@ -67,8 +71,10 @@ pub(crate) fn written(
     descr: &Descr,
     len: usize,
 ) -> Result<Vec<u8>, AllocError>
-    requires inside { All (λ offset. offset + item_size descr.now ≤ length bytes.now) (offsets layout.now) }
-    ensures { IfOk result (λ file. file.items ≡ file_of descr.now (is_fortran (item_size descr.now) layout.now.shape (offsets layout.now)) layout.now.shape (map (item_from descr.now bytes.now) (offsets layout.now))) }
+    requires inside { All (λ offset. offset + item_size descr.now ≤ length bytes.now)
+        (offsets layout.now) }
+    ensures { IfOk result
+        (λ file. file.items ≡ file_at descr.now layout.now.shape (offsets layout.now) bytes.now) }
 {
     let width = descr.size();
     let fortran = is_fortran(layout, width);
@@ -92,9 +98,13 @@ fn look_at(descr: &Descr)
 
 /// What is written for the items of a layout loads again.
 pub(crate) fn will_load(bytes: &[u8], layout: &Layout, descr: &Descr)
-    requires inside { All (λ offset. offset + item_size descr.now ≤ length bytes.now) (offsets layout.now) }
+    requires inside { All (λ offset. offset + item_size descr.now ≤ length bytes.now)
+        (offsets layout.now) }
     requires small { count layout.now.shape * item_size descr.now ≤ max_bytes }
-    ensures { (fortran : Bool) → let items = map (item_from descr.now bytes.now) (offsets layout.now) in LoadsAs (file_of descr.now fortran layout.now.shape items) descr.now layout.now.shape items }
+    ensures { (fortran : Bool) →
+        let items = map (item_from descr.now bytes.now) (offsets layout.now) in
+        LoadsAs (file_of descr.now fortran layout.now.shape items)
+        descr.now layout.now.shape items }
 {
     look_at(descr);
     let _bytes = bytes.len();
@@ -113,11 +123,16 @@ pub fn npy_write(
     layout: &Layout,
     descr: &Descr,
 ) -> Result<Vec<u8>, Refusal>
-    requires inside { All (λ offset. offset + item_size descr.now ≤ length block.now) (offsets layout.now) }
-    ensures gives { Gives (λ file. file.items) result (saved descr.now layout.now.shape (offsets layout.now) (map (item_from descr.now block.now) (offsets layout.now))) }
-    ensures large { max_bytes < count layout.now.shape * item_size descr.now → result ≡ Err TooLarge }
+    requires inside { All (λ offset. offset + item_size descr.now ≤ length block.now)
+        (offsets layout.now) }
+    ensures gives { Gives (λ file. file.items) result
+        (saved descr.now layout.now.shape (offsets layout.now)
+        (map (item_from descr.now block.now) (offsets layout.now))) }
+    ensures large { max_bytes < count layout.now.shape * item_size descr.now →
+        result ≡ Err TooLarge }
     ensures loads { let items = map (item_from descr.now block.now) (offsets layout.now) in
-        IfOk (saved descr.now layout.now.shape (offsets layout.now) items) (λ file. LoadsAs file descr.now layout.now.shape items) }
+        IfOk (saved descr.now layout.now.shape (offsets layout.now) items)
+        (λ file. LoadsAs file descr.now layout.now.shape items) }
 {
     let len = layout.shape.items() * descr.size();
     if len > MAX_BYTES {

@@ -4,7 +4,7 @@ ghost use Rattle.std.specs.List.{flat_map, repeat};
 ghost use Rattle.raw_block.specs.Bytes.{item_at, put};
 ghost use Rattle.elem_descr.specs.Items.{item_size, leaves_of, AreInOrder, decode_item, encode_item};
 ghost use Rattle.elem_descr.specs.Blocks.{blocks};
-ghost use Rattle.npy_format.specs.inside.WrittenItems.{limit, limits_from, capped, IsPlain};
+ghost use Rattle.npy_format.specs.inside.WrittenItems.{limit, limits_from, capped, IsPlain, as_in_file};
 
 use elem_descr::{Descr, Leaf, Scalar};
 use std::alloc::{AllocError, Global};
@@ -52,7 +52,8 @@ pub(crate) fn are_plain(descr: &Descr) -> bool
 /// Appends limits up to a length.
 fn pad(limits: &mut Vec<u8>, len: usize, limit: u8) -> Result<(), AllocError>
     requires { length limits.old.items ≤ len }
-    ensures { OnOk result (limits.new.items ≡ limits.old.items ++ replicate (len - length limits.old.items) limit) }
+    ensures { OnOk result
+        (limits.new.items ≡ limits.old.items ++ replicate (len - length limits.old.items) limit) }
 {
     limits.resize(len, limit)?;
     Ok(())
@@ -79,7 +80,8 @@ fn limits(alloc: Global, leaves: &[Leaf], bytes: usize) -> Result<Vec<u8>, Alloc
 
 /// The largest bytes that a file has for an item of an element type.
 fn item_limits(alloc: Global, descr: &Descr) -> Result<Vec<u8>, AllocError>
-    ensures { IfOk result (λ limits. limits.items ≡ limits_from 0 (leaves_of descr.now) (item_size descr.now)) }
+    ensures { IfOk result
+        (λ limits. limits.items ≡ limits_from 0 (leaves_of descr.now) (item_size descr.now)) }
 {
     match descr {
         Descr::Scalar(scalar) => {
@@ -133,7 +135,7 @@ pub(crate) fn write_items(
     descr: &Descr,
 ) -> Result<(), AllocError>
     requires { length bytes.old ≡ count * item_size descr.now }
-    ensures { OnOk result (bytes.new ≡ flat_map (λ item. encode_item descr.now (decode_item descr.now item)) (blocks (item_size descr.now) count bytes.old)) }
+    ensures { OnOk result (bytes.new ≡ as_in_file descr.now count bytes.old) }
 {
     if are_plain(descr) {
         return Ok(());

@@ -1,12 +1,17 @@
 -- What is left behind what is read.
 use Rattle.std.specs.Prelude.{ℕ, List, length, Result, Ok}
+use Rattle.std.specs.Borrow.{Bor}
 use Rattle.std.specs.Option.{ok_or}
 use Rattle.elem_descr.specs.declared.refusal.Refusal.{Refusal}
 use Rattle.elem_descr.specs.declared.refusal.Refusal.TheVariants.{BadHeader}
-use Rattle.elem_descr.specs.Refusals.{◌>>=◌}
+use Rattle.elem_descr.specs.Refusals.{◌>>=◌, Answers}
 use Rattle.npy_format.specs.Listed.{Literal}
-use Rattle.npy_format.specs.Tokens.{Token}
+use Rattle.npy_format.specs.Tokens.{Token, tokens}
 use Rattle.npy_format.specs.Literals.{Read, symbol_token_at, entries_in, if_read}
+
+-- the text that a call returns has these tokens, or the call is refused as here
+abbrev pub Follows : Result (Bor (List ℕ)) Refusal → Result (List Token) Refusal → Type 0
+Follows result there = Answers (λ rest. tokens rest.now) result there
 
 -- the tokens behind what is read
 abbrev pub behind : {A : Type 0} → Read A → Result (List Token) Refusal

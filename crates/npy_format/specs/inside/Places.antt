@@ -1,8 +1,10 @@
 -- Where in a header its values stand.
-use Rattle.std.specs.Prelude.{◌≡◌, ℕ, List, [], ◌∷◌, Option, Some, None, Ok}
+use Rattle.std.specs.Prelude.{◌≡◌, ℕ, List, [], ◌∷◌, Option, Some, None, Result, Ok, Err, MatchResult}
+use Rattle.std.specs.Borrow.{Bor}
+use Rattle.elem_descr.specs.declared.refusal.Refusal.{Refusal}
 use Rattle.npy_format.specs.Values.{Text, Round}
 use Rattle.npy_format.specs.Listed.{Literal, Plain, Row, Pair, value_literals}
-use Rattle.npy_format.specs.Tokens.{Token}
+use Rattle.npy_format.specs.Tokens.{Token, tokens}
 use Rattle.npy_format.specs.Literals.{Read, entries_in, pair_in, literal_in}
 use Rattle.npy_format.specs.Headers.{max_value_depth, integers_of}
 
@@ -33,6 +35,10 @@ pub record HasLengths (tokens : List Token) (lengths : List ℕ) : Type 0 where
   pub values : List Literal
   pub stand : HasValues 41 tokens values
   pub are : integers_of values ≡ Ok lengths
+
+-- the text that a call returns begins with what is there, or the call is refused as here
+abbrev pub BeginsWith : {A : Type 0} → (List Token → A → Type 0) → Result (Bor (List ℕ)) Refusal → Result A Refusal → Type 0
+BeginsWith {A} Has result there = MatchResult result (λ text. (found : A) × (there ≡ Ok found) × Has (tokens text.now) found) (λ refusal. there ≡ Err refusal)
 
 -- the name and the type of an entry
 abbrev pub name_and_type : List Literal → Option (List ℕ × Literal)

@@ -1,14 +1,17 @@
 -- Items as a file has them, from their bytes.
 use Rattle.std.specs.Prelude.{◌≡◌, ℕ, ◌+◌, ◌-◌, min, List, [], ◌∷◌, ◌++◌, map, replicate, if◌then◌else◌}
+use Rattle.std.specs.List.{flat_map}
 use Rattle.raw_block.specs.Bytes.{item_at}
+use Rattle.elem_descr.specs.declared.descr.Descr.{Descr}
 use Rattle.elem_descr.specs.declared.leaf.Leaf.{Leaf}
 use Rattle.elem_descr.specs.declared.scalar.Scalar.{Scalar}
 use Rattle.elem_descr.specs.declared.scalar.Scalar.TheVariants.{Bool as BoolScalar, Byte, Int, Bytes}
 use Rattle.elem_descr.specs.Values.{LeafValue}
 use Rattle.elem_descr.specs.Encoding.{size, decode}
-use Rattle.elem_descr.specs.Items.{encode_from}
+use Rattle.elem_descr.specs.Items.{item_size, decode_item, encode_item, encode_from}
+use Rattle.elem_descr.specs.Blocks.{blocks, item_from}
 use Rattle.shape_strides.specs.Contiguity.{fortran_order}
-use Rattle.npy_format.specs.WrittenFiles.{is_fortran}
+use Rattle.npy_format.specs.WrittenFiles.{is_fortran, file_of}
 
 -- the value of a leaf of an item
 abbrev pub read_leaf : List ℕ → Leaf → LeafValue
@@ -45,3 +48,15 @@ IsPlain from (leaf ∷ leaves) bytes = (leaf.at ≡ from) × (limit leaf.scalar 
 -- the addresses of items in the order in which a file has them
 abbrev pub addresses_in_file : ℕ → List ℕ → List ℕ → List ℕ
 addresses_in_file item shape addresses = if is_fortran item shape addresses then fortran_order shape addresses else addresses
+
+-- the items of so many bytes at these addresses
+abbrev pub gathered : ℕ → List ℕ → List ℕ → List ℕ
+gathered width bytes addresses = flat_map (λ address. item_at address width bytes) addresses
+
+-- so many adjacent items, as a file has them
+abbrev pub as_in_file : Descr → ℕ → List ℕ → List ℕ
+as_in_file descr count bytes = flat_map (λ item. encode_item descr (decode_item descr item)) (blocks (item_size descr) count bytes)
+
+-- the file of an array whose items have these addresses
+abbrev pub file_at : Descr → List ℕ → List ℕ → List ℕ → List ℕ
+file_at descr shape addresses bytes = file_of descr (is_fortran (item_size descr) shape addresses) shape (map (item_from descr bytes) addresses)

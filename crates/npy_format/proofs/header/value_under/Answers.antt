@@ -11,7 +11,7 @@ pub returns-then-is_string : goal.returns-then-is_string
 returns-then-is_string c = λ pairs s.
     let open' = (symbol_open c.symbol.result (symbol_token_at 125 (tokens c.loop-rest.rest.now)) c.loop-rest-test.ensures c.symbol.ensures) in
     let it = sym c.if-is_string.ensures in
-    answered _ c.behind_key.result _ _ _ c.behind_key.ensures
+    answered _ c.skip_key.result _ _ _ c.skip_key.ensures
     (λ place reads. key_found c.args.key.now pairs (tokens c.loop-rest.rest.now) (c.loop-rest.invariant pairs s) open' it (tokens place.now) reads)
     (λ e fails. absurd (key_no_fault c.args.key.now pairs (tokens c.loop-rest.rest.now) (c.loop-rest.invariant pairs s) open' it e fails))
 

@@ -1,6 +1,6 @@
 use Rattle.std.proofs.Common.{◌≡◌, ◌++◌}
 use Rattle.shape_strides.specs.Runs.{run_offsets}
-use Rattle.npy_format.proofs.GatherLaws.{gathered}
+use Rattle.npy_format.specs.inside.WrittenItems.{gathered}
 use Rattle.npy_format.proofs.items.push_each.Given as goal
 
 -- the items so far are appended

@@ -6,8 +6,8 @@ use Rattle.shape_strides.specs.Layouts.{offsets}
 use Rattle.shape_strides.specs.LayoutLaws.{length-offsets}
 use Rattle.shape_strides.specs.Runs.{run_offsets, runs}
 use Rattle.arrays.specs.RunLaws.{runs-within}
-use Rattle.npy_format.specs.inside.WrittenItems.{addresses_in_file}
-use Rattle.npy_format.proofs.GatherLaws.{gathered, together, in_file-none, few-counts}
+use Rattle.npy_format.specs.inside.WrittenItems.{gathered, addresses_in_file}
+use Rattle.npy_format.proofs.GatherLaws.{together, in_file-none, few-counts}
 use Rattle.npy_format.proofs.items.push_items.Goals as goal
 
 pub push_stretch-requires : goal.push_stretch-requires

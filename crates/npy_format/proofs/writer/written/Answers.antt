@@ -7,8 +7,7 @@ use Rattle.shape_strides.specs.LayoutLaws.{length-offsets}
 use Rattle.npy_format.specs.Files.{file_order}
 use Rattle.npy_format.specs.WrittenHeaders.{written_text, written_header}
 use Rattle.npy_format.specs.WrittenFiles.{is_fortran, ordered, file_of}
-use Rattle.npy_format.specs.inside.WrittenItems.{addresses_in_file}
-use Rattle.npy_format.proofs.GatherLaws.{gathered}
+use Rattle.npy_format.specs.inside.WrittenItems.{gathered, addresses_in_file}
 use Rattle.npy_format.proofs.WriterLaws.{file_length, file_written}
 use Rattle.npy_format.proofs.writer.written.Goals as goal
 
