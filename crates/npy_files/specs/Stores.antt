@@ -44,8 +44,8 @@ IsRead view limit there (Err Device) = Unit {0}
 IsRead view limit there (Err Memory) = Unit {0}
 
 -- a read of an honest store gives the file of this name, as the view shows it
-abbrev pub Reads : {V : Type 0} → (V → List ℕ) → StoreState → List ℕ → Result (Option V) StoreFault → Type 0
-Reads view store name result = store.honest ≡ true → IsRead view store.limit (get store.files name) result
+abbrev pub ReadsFile : {V : Type 0} → (V → List ℕ) → StoreState → List ℕ → Result (Option V) StoreFault → Type 0
+ReadsFile view store name result = store.honest ≡ true → IsRead view store.limit (get store.files name) result
 
 -- What a write leaves of any store, honest or not: a file that is too long and want of memory change nothing, and no
 -- answer changes another name.
@@ -64,8 +64,8 @@ IsWritten old name bytes (Err Device) files = (other : List ℕ) → other ≢ n
 IsWritten old name bytes (Err Memory) files = files ≡ old.files
 
 -- a write of an honest store leaves these bytes under the name
-abbrev pub Writes : StoreState → List ℕ → List ℕ → Result (Unit {0}) StoreFault → StoreState → Type 0
-Writes old name bytes result new = old.honest ≡ true → IsWritten old name bytes result new.files
+abbrev pub WritesFile : StoreState → List ℕ → List ℕ → Result (Unit {0}) StoreFault → StoreState → Type 0
+WritesFile old name bytes result new = old.honest ≡ true → IsWritten old name bytes result new.files
 
 -- one name comes before another, in the order of their bytes
 abbrev pub comes_before : List ℕ → List ℕ → Bool

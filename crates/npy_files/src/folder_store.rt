@@ -6,7 +6,7 @@ ghost use Rattle.disk.specs.Crashes.{Leaves};
 ghost use Rattle.disk.specs.Calls as calls;
 ghost use Rattle.npy_files.specs.declared.store.StoreFault.TheVariants.{Device, TooLong};
 ghost use Rattle.npy_files.specs.Names as names;
-ghost use Rattle.npy_files.specs.Stores.{IsSameStore, FaultHasCause, Reads, IsKept, Writes};
+ghost use Rattle.npy_files.specs.Stores.{IsSameStore, FaultHasCause, ReadsFile, IsKept, WritesFile};
 ghost use Rattle.npy_files.specs.Folders.{folder_shelf, OldOrNew, IsPut};
 
 use crate::cutter::Cutter;
@@ -107,7 +107,7 @@ impl<D: Disk, C: Cutter> NpyStore for FolderStore<D, C> {
             (shelf self.new).files ≡ (shelf self.old).files }
         ensures cause { let shelf = ⟦<FolderStore<D, C> as NpyStore>⟧.shelf in
             FaultHasCause (shelf self.old) (shelf self.new) result }
-        ensures found { Reads (λ parts. parts.front.items ++ parts.block)
+        ensures found { ReadsFile (λ parts. parts.front.items ++ parts.block)
             (⟦<FolderStore<D, C> as NpyStore>⟧.shelf self.old) name.now result }
         ensures crash { IsTrue D.honest →
             Leaves Same (D.history self.old.disk) (D.history self.new.disk) }
@@ -143,7 +143,7 @@ impl<D: Disk, C: Cutter> NpyStore for FolderStore<D, C> {
         ensures kept { let shelf = ⟦<FolderStore<D, C> as NpyStore>⟧.shelf in
             IsKept name.now result (shelf self.old).files (shelf self.new).files }
         ensures written { let shelf = ⟦<FolderStore<D, C> as NpyStore>⟧.shelf in
-            Writes (shelf self.old) name.now (front.now ++ items.now) result (shelf self.new) }
+            WritesFile (shelf self.old) name.now (front.now ++ items.now) result (shelf self.new) }
         ensures crash { IsTrue D.honest →
             Leaves (OldOrNew name.now (front.now ++ items.now))
             (D.history self.old.disk) (D.history self.new.disk) }

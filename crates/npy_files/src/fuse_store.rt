@@ -1,7 +1,7 @@
 //! A store whose device fails once.
 ghost use Rattle.std.specs.Prelude.{◌≡◌, ◌++◌, true};
 ghost use Rattle.std.specs.FinMap.{get};
-ghost use Rattle.npy_files.specs.Stores.{IsSameStore, FaultHasCause, Reads, IsKept, Writes};
+ghost use Rattle.npy_files.specs.Stores.{IsSameStore, FaultHasCause, ReadsFile, IsKept, WritesFile};
 ghost use Rattle.npy_files.specs.declared.store.StoreFault.TheVariants.{Device};
 ghost use Rattle.npy_files.specs.inside.Shelves.{answer_by, calls_after};
 
@@ -69,7 +69,7 @@ impl NpyStore for FuseStore {
             (shelf self.new).files ≡ (shelf self.old).files }
         ensures cause { let shelf = ⟦<FuseStore as NpyStore>⟧.shelf in
             FaultHasCause (shelf self.old) (shelf self.new) result }
-        ensures found { Reads (λ parts. parts.front.items ++ parts.block)
+        ensures found { ReadsFile (λ parts. parts.front.items ++ parts.block)
             (⟦<FuseStore as NpyStore>⟧.shelf self.old) name.now result }
         ensures counted { self.new.calls_left ≡ calls_after self.old.calls_left }
         ensures fused { self.old.calls_left ≡ Some 0 → result ≡ Err Device }
@@ -92,7 +92,7 @@ impl NpyStore for FuseStore {
         ensures kept { let shelf = ⟦<FuseStore as NpyStore>⟧.shelf in
             IsKept name.now result (shelf self.old).files (shelf self.new).files }
         ensures written { let shelf = ⟦<FuseStore as NpyStore>⟧.shelf in
-            Writes (shelf self.old) name.now (front.now ++ items.now) result (shelf self.new) }
+            WritesFile (shelf self.old) name.now (front.now ++ items.now) result (shelf self.new) }
         ensures counted { self.new.calls_left ≡ calls_after self.old.calls_left }
         ensures fused { self.old.calls_left ≡ Some 0 → result ≡ Err Device }
     {

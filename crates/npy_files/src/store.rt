@@ -1,7 +1,7 @@
 //! Stores of files.
 ghost use Rattle.std.specs.Prelude.{◌≡◌, ◌<◌, ◌≤◌, ◌+◌, ◌++◌, true, false};
 ghost use Rattle.std.specs.FinMap.{get};
-ghost use Rattle.npy_files.specs.Stores.{StoreState, IsSameStore, FaultHasCause, Reads, IsKept, Writes};
+ghost use Rattle.npy_files.specs.Stores.{StoreState, IsSameStore, FaultHasCause, ReadsFile, IsKept, WritesFile};
 
 use disk::DiskFault;
 use npy_format::FileParts;
@@ -77,8 +77,8 @@ pub trait NpyStore {
         ensures same { IsSameStore (shelf self.old) (shelf self.new) }
         ensures files { (shelf self.new).files ≡ (shelf self.old).files }
         ensures cause { FaultHasCause (shelf self.old) (shelf self.new) result }
-        ensures found { Reads (λ parts. parts.front.items ++ parts.block) (shelf self.old) name.now
-            result };
+        ensures found { ReadsFile (λ parts. parts.front.items ++ parts.block)
+            (shelf self.old) name.now result };
 
     /// Writes the file that has these bytes in front and these items after them, over the one with
     /// this name if there is one.
@@ -92,7 +92,7 @@ pub trait NpyStore {
         ensures same { IsSameStore (shelf self.old) (shelf self.new) }
         ensures cause { FaultHasCause (shelf self.old) (shelf self.new) result }
         ensures kept { IsKept name.now result (shelf self.old).files (shelf self.new).files }
-        ensures written { Writes (shelf self.old) name.now (front.now ++ items.now) result
+        ensures written { WritesFile (shelf self.old) name.now (front.now ++ items.now) result
             (shelf self.new) };
 
     /// The bytes of the file that `read_parts` gives.
@@ -100,7 +100,7 @@ pub trait NpyStore {
         ensures same { IsSameStore (shelf self.old) (shelf self.new) }
         ensures files { (shelf self.new).files ≡ (shelf self.old).files }
         ensures cause { FaultHasCause (shelf self.old) (shelf self.new) result }
-        ensures found { Reads (λ bytes. bytes.items) (shelf self.old) name.now result }
+        ensures found { ReadsFile (λ bytes. bytes.items) (shelf self.old) name.now result }
     {
         match self.read_parts(alloc, name)? {
             Some(parts) => Ok(Some(parts.joined()?)),
@@ -113,7 +113,7 @@ pub trait NpyStore {
         ensures same { IsSameStore (shelf self.old) (shelf self.new) }
         ensures cause { FaultHasCause (shelf self.old) (shelf self.new) result }
         ensures kept { IsKept name.now result (shelf self.old).files (shelf self.new).files }
-        ensures written { Writes (shelf self.old) name.now bytes.now result (shelf self.new) }
+        ensures written { WritesFile (shelf self.old) name.now bytes.now result (shelf self.new) }
     {
         self.write_parts(alloc, name, bytes, &[])
     }
