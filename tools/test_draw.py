@@ -9,11 +9,10 @@ import re
 import shutil
 import subprocess
 import tempfile
-import time
 import unittest
 import xml.etree.ElementTree
 
-from trials.companion_trials import PROGRAM, TOOL, TOP, environment, needs_program, share
+from trials.companion_trials import PATIENT, PROGRAM, TOOL, TOP, environment, needs_program, processor_seconds, share
 from trials import lines as scripts
 from bench_tool import BenchError, Session
 from bench_tool import page as pages
@@ -240,7 +239,7 @@ class Pictures(unittest.TestCase):
     def test_around_what_changed(self):
         """A long array is drawn around what a line writes or names, and its grids too."""
         lines = ["a = arange <i8 0 16777216 1", "m = reshape a (4096,4096)", "t = transpose m", "set m[2000,3000] = -5", "v = a[9000000:9000003]", "i = array <i8 (2) 77777 5000000", "set a[i] = -1", "print a[0]"]
-        begun = time.process_time()
+        begun = processor_seconds()
         told = look(lines)
         *_, changed, view, _, scattered, _ = told
         values = [(box["text"], box["look"]) for box in rows_of(changed["tables"][:1], "now")[0]["boxes"]]
@@ -252,7 +251,7 @@ class Pictures(unittest.TestCase):
         names = {row["label"]: texts(row) for row in rows_of(view["tables"][:1], "name")}
         self.assertEqual(names["v"], ["0", "1", "2"])
         self.assertEqual([box["text"] for box in rows_of(scattered["tables"][:1], "now")[0]["boxes"] if box["look"] == "x"], ["-1", "-1"])
-        self.assertLess(time.process_time() - begun, 20)
+        self.assertLess(processor_seconds() - begun, 40)
 
     def test_bounds(self):
         """Time grows with what is drawn: many views of a buffer, records of many values, long replies and types."""
@@ -261,9 +260,9 @@ class Pictures(unittest.TestCase):
         big = "T{" + "".join(f"{leaf}:r{j}:" for j in range(32)) + "}"
         records = [f"a = zeros {big} (4)", f"b = zeros {big} (4)", "set a[0] = b[1]", "set b[0] = a[1]"]
         long = "T{" + "".join("T{" + "".join("b:" + f"f{j}{k}_".ljust(28, "x") + ":" for k in range(64)) + f"}}:g{j}:" for j in range(32)) + "}"
-        begun = time.monotonic()
+        begun = processor_seconds()
         told = looks([(lines, 16) for lines in (views, records, [f"a = zeros {long} (2)", "names"], ["a = zeros |u1 (2000,2000)", *["print a"] * 3])])
-        self.assertLess(time.monotonic() - begun, 20)
+        self.assertLess(processor_seconds() - begun, 40)
         self.assertIn("35 more names see it: ", told[0][-1]["tables"][0]["caption"])
         self.assertIn("the last 1792 values of each item are not drawn", told[1][0]["tables"][0]["caption"])
 
@@ -292,7 +291,7 @@ process.stdout.write(JSON.stringify(rows.map((row, k) => [row.hue, row.label, ro
 
     def test_pictures_of_the_docs(self):
         with tempfile.TemporaryDirectory() as folder:
-            subprocess.run(["make", "-s", "-C", str(TOP), "pictures", f"FOLDER={folder}"], check=True, env=environment(), timeout=120)
+            subprocess.run(["make", "-s", "-C", str(TOP), "pictures", f"FOLDER={folder}"], check=True, env=environment(), timeout=PATIENT)
             made = {path.name: path.read_text() for path in pathlib.Path(folder).iterdir()}
         self.assertEqual(made, {path.name: path.read_text() for path in (TOP / "docs/pictures").iterdir()}, "make pictures draws them anew")
 
@@ -332,7 +331,7 @@ class Pages(unittest.TestCase):
 
             def tool(*words, before=""):
                 return subprocess.run(["bash", "-c", f'{before} exec "$@"', "-", str(TOOL), "draw", str(script), f"--dir={folder}", *words],
-                                      capture_output=True, env=environment(), timeout=120)
+                                      capture_output=True, env=environment(), timeout=PATIENT)
             done = tool()
             self.assertEqual((done.stderr, done.returncode, done.stdout.decode()), (b"", 0, pages.drawn(script.name, lines, self.words(dir=folder))))
             self.assertEqual(tool("-o", str(made)).returncode, 0)
@@ -350,7 +349,7 @@ class Pages(unittest.TestCase):
             pages.picture([b"names"], self.words(line=2))
         for script, words, told in ("overlap", ["--undo", "57"], "56 changes, not 57"), ("no", [], "no.bench"):
             words = [str(TOOL), "draw", str(TOP / f"examples/{script}.bench"), *words]
-            done = subprocess.run(words, capture_output=True, env=environment(), timeout=60)
+            done = subprocess.run(words, capture_output=True, env=environment(), timeout=PATIENT)
             self.assertEqual((done.returncode, done.stdout), (3, b""))
             self.assertIn(told, done.stderr.decode())
 

@@ -6,7 +6,7 @@ import stat
 import subprocess
 import unittest
 
-from trials.companion_trials import PROGRAM, InFolder, needs_program
+from trials.companion_trials import PATIENT, PROGRAM, InFolder, needs_compiler, needs_program
 from trials import devices as hostile_devices
 
 FAULT = b"no E27 store fault\n"
@@ -14,7 +14,7 @@ FAULT = b"no E27 store fault\n"
 
 def replies(folder, script, **more):
     """The replies to a script over a folder."""
-    done = subprocess.run([PROGRAM, f"--dir={folder}"], input=script.encode(), capture_output=True, timeout=120, **more)
+    done = subprocess.run([PROGRAM, f"--dir={folder}"], input=script.encode(), capture_output=True, timeout=PATIENT, **more)
     return done.stdout
 
 
@@ -67,12 +67,20 @@ class Saving(InFolder):
         self.assertEqual(replies(self.folder, 'y = load "l.npy"\n'), b"no E34 no such file\n")
 
     def test_what_is_no_plain_file_is_refused(self):
+        """A load and a save of a folder or a pipe, which is not even opened, and a load of a device or of a link that leads to itself."""
         (self.folder / "folder.npy").mkdir()
         os.mkfifo(self.folder / "pipe.npy")
-        for name in ("folder.npy", "pipe.npy"):
+        links = {"zero.npy": "/dev/zero", "null.npy": "/dev/null", "circle.npy": "circle.npy"}
+        for name, target in links.items():
+            (self.folder / name).symlink_to(target)
+        for name in ("folder.npy", "pipe.npy", *links):
             self.assertEqual(self.saved(9, name), FAULT)
             self.assertEqual(replies(self.folder, f'y = load "{name}"\n'), FAULT)
-        self.assertEqual(sorted(os.listdir(self.folder)), ["folder.npy", "pipe.npy"])
+        held = os.open(self.folder / "pipe.npy", os.O_RDWR)
+        self.addCleanup(os.close, held)
+        os.write(held, b"\x93NUMPY")
+        self.assertEqual(replies(self.folder, 'y = load "pipe.npy"\n'), FAULT)
+        self.assertEqual(sorted(os.listdir(self.folder)), sorted(["folder.npy", "pipe.npy", *links]))
 
     def test_what_was_left_goes_with_the_next_save_of_its_name(self):
         other = self.folder / ".b.npy.part"
@@ -107,12 +115,11 @@ class Devices(InFolder):
         """Two programs that save one name."""
         self.tried("writers")
 
-    @unittest.skipUnless(shutil.which("cc"), "there is no C compiler")
+    @needs_compiler
     def test_interrupted(self):
         """Calls that a signal interrupts."""
         self.tried("interrupted")
 
-    @unittest.skipUnless(shutil.which("setpriv"), "there is no setpriv")
     def test_words_and_scripts(self):
         self.tried("words", "scripts")
 

@@ -12,7 +12,7 @@ import tempfile
 import unittest
 import unittest.mock
 
-from trials.companion_trials import InFolder, PROGRAM, TOP, needs_program, share
+from trials.companion_trials import InFolder, PROGRAM, TOP, needs_compiler, needs_program, share, works
 from bench_tool import Session, library
 
 try:
@@ -28,7 +28,6 @@ FLAGS = ["-O1", "-g", "-std=gnu11", "-Wall", "-Wextra", "-Werror", f"-I{TOP / 'l
 WRAPPED = ["-Wl,--wrap=malloc", "-Wl,--wrap=realloc"]
 SANITIZED = [*WRAPPED, "-fsanitize=address,undefined", "-fno-sanitize-recover=all"]
 needs_library = unittest.skipUnless(SHARED.is_file() and ARCHIVE.is_file(), "there is no libbench here")
-needs_c = unittest.skipUnless(shutil.which("cc"), "there is no C compiler")
 
 
 @needs_library
@@ -36,9 +35,10 @@ class Programs(InFolder):
     """Programs that are linked with the library."""
 
     def compiled(self, source, *flags, skips=""):
-        """A program of a C source and the library. If the compiler lacks what the flags want, the test is skipped."""
-        made = self.folder / pathlib.Path(source).stem
-        if skips and subprocess.run(["cc", "-x", "c", "-", *flags[-2:], "-o", made], input=b"int main(void) { return 0; }", stderr=subprocess.DEVNULL).returncode:
+        """A program of a C source and the library. If a program with these flags cannot be made, or does not run here, the test is skipped."""
+        made, least = self.folder / pathlib.Path(source).stem, self.folder / "least"
+        least.with_suffix(".c").write_text("int main(void) { return 0; }")
+        if skips and not (works("cc", least.with_suffix(".c"), *flags[-2:], "-o", least) and works(least)):
             self.skipTest(skips)
         subprocess.run(["cc", *FLAGS, TOP / source, ARCHIVE, *flags, "-o", made], check=True)
         return made
@@ -49,11 +49,11 @@ class Programs(InFolder):
             self.assertEqual(ran.stdout, example.with_suffix(".out").read_bytes(), example.name)
             self.assertIn(ran.returncode, (0, 1))
 
-    @needs_c
+    @needs_compiler
     def test_example_in_c(self):
         self.answers_the_examples(self.compiled("examples/c/script.c"))
 
-    @needs_c
+    @needs_compiler
     def test_example_in_c_with_the_shared_library(self):
         made = self.folder / "script"
         subprocess.run(["cc", *FLAGS, TOP / "examples/c/script.c", SHARED, "-o", made], check=True)
@@ -66,12 +66,12 @@ class Programs(InFolder):
         self.assertEqual((ran.returncode, ran.stderr), (0, ""))
         self.answers_the_examples(made)
 
-    @needs_c
+    @needs_compiler
     def test_calls(self):
         made = self.compiled("tools/trials/library_calls.c", *SANITIZED, skips="there is no AddressSanitizer")
         subprocess.run([made], stdout=subprocess.DEVNULL, check=True)
 
-    @needs_c
+    @needs_compiler
     def test_want_of_memory(self):
         """Each request for memory is refused in turn. One call reports it, and all other calls return what they return without it."""
         made = self.compiled("tools/trials/library_calls.c", *SANITIZED, skips="there is no AddressSanitizer")
@@ -80,13 +80,15 @@ class Programs(InFolder):
                 break
         self.assertGreater(number, 20)
 
-    @needs_c
+    @needs_compiler
     @unittest.skipUnless(shutil.which("valgrind"), "there is no Valgrind")
     def test_calls_under_valgrind(self):
+        if not works("valgrind", "-q", "true"):
+            self.skipTest("Valgrind does not run here")
         made = self.compiled("tools/trials/library_calls.c", *WRAPPED)
         subprocess.run(["valgrind", "-q", "--error-exitcode=9", "--leak-check=full", "--show-leak-kinds=all", made], stdout=subprocess.DEVNULL, check=True)
 
-    @needs_c
+    @needs_compiler
     def test_two_threads(self):
         subprocess.run([self.compiled("tools/trials/library_threads.c", "-fsanitize=thread", "-pthread", skips="there is no ThreadSanitizer")], check=True)
 
@@ -95,7 +97,7 @@ class Programs(InFolder):
 class Installed(InFolder):
     """The library where it was installed."""
 
-    @needs_c
+    @needs_compiler
     @needs_program
     @unittest.skipUnless(shutil.which("pkg-config"), "there is no pkg-config")
     def test_make_install(self):
@@ -147,7 +149,7 @@ class Names(unittest.TestCase):
 
 @needs_program
 @needs_library
-@needs_c
+@needs_compiler
 @unittest.skipUnless(hypothesis, "Hypothesis is not installed")
 class Alike(InFolder):
     """Random scripts get the same replies and leave the same files by pipe, in the process and from C."""

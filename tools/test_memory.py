@@ -8,7 +8,7 @@ import shutil
 import tempfile
 import unittest
 
-from trials.companion_trials import PROGRAM, needs_program
+from trials.companion_trials import PROGRAM, needs_compiler, needs_program
 from trials import memory
 from trials.lines import own_scripts
 from trials.runs import Part, Runner
@@ -20,7 +20,7 @@ add neg sum""".split())
 
 
 @needs_program
-@unittest.skipUnless(shutil.which("cc"), "there is no C compiler")
+@needs_compiler
 class RefusedMemory(unittest.TestCase):
     @classmethod
     def setUpClass(cls):

@@ -17,7 +17,7 @@ import subprocess
 import tempfile
 import unittest
 
-from trials.companion_trials import PROGRAM, TOP, needs_program
+from trials.companion_trials import PATIENT, PROGRAM, TOP, needs_program
 
 ROWS = TOP / "tools/rows"
 
@@ -100,7 +100,7 @@ class Rows(unittest.TestCase):
         put(script, b"".join(line + b"\n" for line in row.script))
         words = [*row.words, *([str(script)] if is_file else [])]
         with open(script, "rb") as given:
-            done = subprocess.run([PROGRAM, *words], cwd=files, stdin=subprocess.DEVNULL if is_file else given, capture_output=True, timeout=60)
+            done = subprocess.run([PROGRAM, *words], cwd=files, stdin=subprocess.DEVNULL if is_file else given, capture_output=True, timeout=PATIENT)
         return done, {path.name: zeros(path.stat().st_size) if path.stat().st_size > 1 << 24 else path.read_bytes() for path in files.iterdir()}
 
     def hold(self, row):
@@ -118,7 +118,7 @@ class Rows(unittest.TestCase):
 class Examples(unittest.TestCase):
     def hold(self, script):
         with tempfile.TemporaryDirectory() as folder:
-            done = subprocess.run([PROGRAM, f"--dir={folder}", script], stdin=subprocess.DEVNULL, capture_output=True, timeout=60)
+            done = subprocess.run([PROGRAM, f"--dir={folder}", script], stdin=subprocess.DEVNULL, capture_output=True, timeout=PATIENT)
         self.assertEqual(done.stdout, script.with_suffix(".out").read_bytes())
         self.assertEqual((done.returncode, done.stderr), (int(b"\nno E" in b"\n" + done.stdout), b""))
 

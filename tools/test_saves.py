@@ -8,15 +8,13 @@ import stat
 import subprocess
 import unittest
 
-from trials.companion_trials import PROGRAM, InFolder, needs_program, share
+from trials.companion_trials import PATIENT, PROGRAM, InFolder, needs_compiler, needs_program, nobody, share, works
 from trials import errors
 from trials.errors import FOLDER, HIDDEN, NAME, NEW, SAVE, Call
 
 FAULT = "no E27 store fault"
 SAVED = "ok save 131"
-NOBODY = 65534
-has_compiler = shutil.which("cc") is not None
-needs_compiler = unittest.skipUnless(has_compiler, "left out: there is no C compiler")
+needs_another_user = unittest.skipUnless(nobody(), "left out: a run as another user wants root's rights")
 
 
 class Folder(InFolder):
@@ -31,7 +29,7 @@ class Folder(InFolder):
         self.dir.mkdir()
 
     def replies(self, script, **more):
-        ran = subprocess.run([self.program, "--dir", self.dir], input=script.encode(), capture_output=True, timeout=120, **more)
+        ran = subprocess.run([self.program, "--dir", self.dir], input=script.encode(), capture_output=True, timeout=PATIENT, **more)
         return ran.stdout.decode().splitlines()
 
     def names(self):
@@ -58,12 +56,11 @@ class Bytes(Folder):
 
 
 @needs_program
-@unittest.skipUnless(has_compiler or shutil.which("strace"), "left out: there is neither a C compiler nor strace")
+@needs_compiler
 class Calls(Folder):
     def setUp(self):
         super().setUp()
-        means = errors.Shim if has_compiler else errors.Strace
-        self.runs = means(self.program, self.folder)
+        self.runs = errors.Runs(self.program, self.folder)
 
     def comes_in_order(self, calls, *wanted):
         """These calls are among the others, each behind the one before it."""
@@ -80,10 +77,9 @@ class Calls(Folder):
             self.comes_in_order(calls, *of_the_part, Call("open", FOLDER), Call("sync", FOLDER))
             self.assertNotIn(Call("write", HIDDEN), calls[calls.index(Call("sync", HIDDEN)) :])
 
-    @needs_compiler
     def test_the_folder_of_an_empty_word_is_synced_too(self):
         env = {**os.environ, "LD_PRELOAD": str(self.runs.library), "STORE_FOLDER": ".", "STORE_LOG": str(self.runs.log)}
-        ran = subprocess.run([self.program, "--dir", ""], input=SAVE.encode(), capture_output=True, cwd=self.dir, env=env, timeout=60)
+        ran = subprocess.run([self.program, "--dir", ""], input=SAVE.encode(), capture_output=True, cwd=self.dir, env=env, timeout=PATIENT)
         self.assertEqual(ran.stdout.decode().splitlines()[-1], SAVED)
         self.assertEqual(self.runs.log.read_text().splitlines()[-2:], ["open .", "sync ."])
 
@@ -101,7 +97,7 @@ class Folders(Folder):
         """The reply to a save of a script that is a file, so that the program holds five files when it syncs the folder."""
         script = self.folder / "save.bench"
         script.write_text(SAVE)
-        ran = subprocess.run([self.program, "--dir", self.dir, script], stdin=subprocess.DEVNULL, capture_output=True, timeout=60, **more)
+        ran = subprocess.run([self.program, "--dir", self.dir, script], stdin=subprocess.DEVNULL, capture_output=True, timeout=PATIENT, **more)
         return ran.stdout.decode().splitlines()[-1]
 
     def test_a_folder_that_no_handle_is_left_for(self):
@@ -111,12 +107,12 @@ class Folders(Folder):
             self.assertEqual((self.dir / NAME).read_bytes(), NEW)
             self.assertEqual(self.names(), [NAME])
 
-    @unittest.skipUnless(os.getuid() == 0, "left out: it wants root's rights")
+    @needs_another_user
     def test_a_folder_that_may_not_be_read(self):
         """It cannot be opened to be synced."""
-        os.chown(self.dir, NOBODY, NOBODY)
+        os.chown(self.dir, nobody()["user"], nobody()["group"])
         self.dir.chmod(0o300)
-        self.assertEqual(self.replies(SAVE, user=NOBODY, group=NOBODY, extra_groups=[])[-1], FAULT)
+        self.assertEqual(self.replies(SAVE, **nobody())[-1], FAULT)
         self.assertEqual((self.dir / NAME).read_bytes(), NEW)
 
 
@@ -128,17 +124,21 @@ class Leftovers(Folder):
 
     def setUp(self):
         super().setUp()
-        self.who = {}
-        if os.getuid() == 0:
-            self.who = {"user": NOBODY, "group": NOBODY, "extra_groups": []}
-            os.chown(self.dir, NOBODY, NOBODY)
+        self.who = nobody()
+        if os.getuid() == 0 and not self.who:
+            self.skipTest("left out: root may open all, and no other user can run this")
+        self.give(self.dir)
+
+    def give(self, path):
+        """Makes a file the one's who runs the program."""
+        if self.who:
+            os.chown(path, self.who["user"], self.who["group"])
 
     def put(self, name, content, mode):
         path = self.dir / name
         path.write_bytes(content)
         path.chmod(mode)
-        if self.who:
-            os.chown(path, NOBODY, NOBODY)
+        self.give(path)
         return path
 
     def mode(self, name):
@@ -164,13 +164,14 @@ class Leftovers(Folder):
             self.assertEqual(self.names(), [NAME])
             (self.dir / NAME).unlink()
 
-    @unittest.skipUnless(shutil.which("strace"), "left out: there is no strace")
     def test_a_save_that_is_killed_over_a_file_that_may_not_be_read(self):
+        if not works("strace", "-qq", "-o", "/dev/null", "true", **self.who):
+            self.skipTest("left out: there is no strace, or it may trace nothing here")
         for mode in (0o200, 0o000):
             self.put(NAME, b"old", mode)
             self.folder.chmod(0o777)
             killed = ["strace", "-qq", "-o", "/dev/null", "-e", "inject=fsync:signal=SIGKILL:when=1", self.program, "--dir", self.dir]
-            subprocess.run(killed, input=SAVE.encode(), capture_output=True, timeout=60, **self.who)
+            subprocess.run(killed, input=SAVE.encode(), capture_output=True, timeout=PATIENT, **self.who)
             self.assertEqual((self.names(), self.mode(HIDDEN)), ([HIDDEN, NAME], mode))
             self.assertEqual(self.replies(SAVE, **self.who)[-1], SAVED)
             self.assertEqual((self.names(), self.mode(NAME)), ([NAME], mode))

@@ -1,4 +1,5 @@
 """`bench-tool shell` in a pseudo-terminal: prompt, history, Tab, help, Ctrl-C, Ctrl-D, long lines."""
+import contextlib
 import os
 import pty
 import random
@@ -12,17 +13,20 @@ import time
 import unittest
 import unittest.mock
 
-from trials.companion_trials import PROGRAM, TOOL, TOP, InFolder, environment, needs_program, share
+from trials.companion_trials import PATIENT, PROGRAM, TOOL, TOP, InFolder, environment, needs_program, share
 from bench_tool.shell import PROMPT, history
 
 UP, TAB, CTRL_C, CTRL_D, ENTER = b"\x1b[A", b"\t", b"\x03", b"\x04", b"\r"
 AT_PROMPT = b"\n" + PROMPT.encode()
 
+# A program that is at work for two seconds on each line that begins with `slow`, and for long on `print slow`, which it writes to a file.
 SLOW = f"""#!{sys.executable}
-import subprocess, sys, time
+import pathlib, subprocess, sys, time
 program = subprocess.Popen([{PROGRAM!r}, *sys.argv[1:]], stdin=subprocess.PIPE)
 for line in sys.stdin.buffer:
-    time.sleep(600 if line == b"print slow\\n" else 2 if line.startswith(b"slow") else 0)
+    if line == b"print slow\\n":
+        pathlib.Path(sys.argv[0]).with_name("at work").touch()
+    time.sleep(6000 if line == b"print slow\\n" else 2 if line.startswith(b"slow") else 0)
     program.stdin.write(line)
     program.stdin.flush()
 program.stdin.close()
@@ -49,7 +53,7 @@ class Terminal:
                 os.write(self.terminal, keys[at:at + 512])
         threading.Thread(target=typing, daemon=True).start()
 
-    def until(self, end, seconds=60, is_last=True):
+    def until(self, end, seconds=PATIENT, is_last=True):
         """What is shown until an end, or until it has been shown; without carriage returns and bells."""
         shown, last = b"", time.monotonic() + seconds
         while not shown.replace(b"\r", b"").endswith(end) and (is_last or end not in shown.replace(b"\r", b"")):
@@ -196,7 +200,7 @@ class Shells(InFolder):
         self.assertEqual(shell.line(b"names"), "names\n")
 
     def slow(self):
-        """A shell of a program that is at work for two seconds on each line that begins with `slow`, and for ten minutes on `print slow`."""
+        """A shell of the slow program."""
         program = self.folder / "program"
         program.write_text(SLOW)
         program.chmod(0o755)
@@ -205,17 +209,20 @@ class Shells(InFolder):
             self.assertIn("ok ", shell.line(line))
         return shell
 
-    def begun(self, shell, line):
-        """Types a line, and Ctrl-C a little later."""
-        shell.type(line + ENTER)
-        shell.until(line + b"\n")
-        time.sleep(0.3)
+    def begun(self, shell):
+        """Types `print slow`, and Ctrl-C once the program is at work on it."""
+        sign, end = self.folder / "at work", time.monotonic() + PATIENT
+        sign.unlink(missing_ok=True)
+        shell.type(b"print slow" + ENTER)
+        shell.until(b"print slow\n")
+        while not sign.exists() and time.monotonic() < end:
+            time.sleep(0.05)
         shell.type(CTRL_C)
 
     def test_ctrl_c_in_a_long_line(self):
         """Its work is stopped, and the names are those of the lines before it."""
         shell = self.slow()
-        self.begun(shell, b"print slow")
+        self.begun(shell)
         self.assertIn("the lines before this one are run again", shell.until(AT_PROMPT))
         self.assertEqual(shell.line(b"print d"), "[1 0]\n")
         self.assertEqual(shell.line(b"undo"), "ok undo\n    (took back: slow = zeros <i4 (2))\n")
@@ -223,7 +230,7 @@ class Shells(InFolder):
     def test_names_are_given_up_only_when_asked(self):
         shell = self.slow()
         for answer, names in ((CTRL_C, "names d slow\n"), (b"y" + ENTER, "names\n")):
-            self.begun(shell, b"print slow")
+            self.begun(shell)
             shell.until(b"are run again)\n")
             shell.type(CTRL_C)
             shell.until(b"(y or n)? ")
@@ -240,9 +247,11 @@ class Shells(InFolder):
             time.sleep(rng.choice([0, 0.0003, 0.001, 0.003]))
             os.write(shell.terminal, CTRL_C)
             time.sleep(rng.choice([0, 0.003, 0.02]))
-        time.sleep(0.5)
-        shell.type(b"\x15print keep" + ENTER)
-        self.assertIn("[0]", shell.until(b"[0]\n" + PROMPT.encode()))
+        for _ in range(20):  # until it has heard all of them
+            shell.type(b"\x15print keep" + ENTER)
+            with contextlib.suppress(AssertionError):
+                shell.until(b"[0]\n" + PROMPT.encode(), 10)
+                break
         shell.end()
         self.assertEqual(shell.status, 0)
 

@@ -1,6 +1,7 @@
 """The trials of tools/trials/ themselves: the scripts of each kind beside NumPy for half a minute, whether a difference is seen and told with few
 lines, types by mypy and style by ruff where these are installed."""
 import json
+import os
 import random
 import re
 import shutil
@@ -11,7 +12,7 @@ from unittest import mock
 
 import test_rows
 from trials import npy_rule
-from trials.companion_trials import PROGRAM, TOP, InFolder, needs_program, numpy_or_none, share
+from trials.companion_trials import PROGRAM, TOP, InFolder, needs_compiler, needs_program, numpy_or_none, share
 from bench_tool import Session, scripts
 
 needs_numpy = unittest.skipUnless(numpy_or_none(), "left out: NumPy is not installed")
@@ -53,7 +54,7 @@ class BesideNumPy(InFolder):
             self.assertLessEqual(len(lines), 6, where)
             self.assertIn(" add ", where)
 
-    @unittest.skipUnless(shutil.which("cc"), "left out: no C compiler is installed")
+    @needs_compiler
     def test_planted_faults(self):
         """A reply and a bit of a file that are wrong in the program are found; without them nothing is."""
         from trials import planted
@@ -103,7 +104,7 @@ class Tools(unittest.TestCase):
 
     @unittest.skipUnless(shutil.which("mypy") and numpy_or_none(), "left out: mypy or NumPy is not installed")
     def test_types(self):
-        self.clean("mypy", "--python-executable", sys.executable)
+        self.clean("mypy", "--cache-dir", os.devnull, "--python-executable", sys.executable)
 
     @unittest.skipUnless(shutil.which("ruff"), "left out: ruff is not installed")
     def test_style(self):

@@ -6,7 +6,7 @@ import subprocess
 import tempfile
 import unittest
 
-from trials.companion_trials import PROGRAM, TOP, needs_program
+from trials.companion_trials import PATIENT, PROGRAM, TOP, needs_program
 from bench_tool import Session, language, main
 from make import words
 
@@ -155,7 +155,7 @@ class Words(unittest.TestCase):
             commands = [f"set runtimepath^={TOP}/editors/vim", "filetype on", "syntax on", "edit a.bench", f"redir! > {folder}/told", *asked, "quitall!"]
             with open(f"{folder}/ask.vim", "w") as script:
                 script.write("\n".join(commands) + "\n")
-            subprocess.run(["vim", "-Nnu", "NONE", "-es", "-S", "ask.vim"], cwd=folder, capture_output=True, timeout=30)
+            subprocess.run(["vim", "-Nnu", "NONE", "-es", "-S", "ask.vim"], cwd=folder, capture_output=True, timeout=PATIENT)
             with open(f"{folder}/told") as told:
                 names = told.read().split()
         if not names:

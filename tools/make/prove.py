@@ -78,10 +78,10 @@ class Crate:
             raise NotBuilt(f"process {process.read_text()} is proving {self.name}")
         (PROVED / self.name).unlink(missing_ok=True)
         self.put_back()
-        self.folder.mkdir(parents=True)
-        process.write_text(str(os.getpid()))
-        before = self.state().splitlines()[:2]
         try:
+            self.folder.mkdir(parents=True)
+            process.write_text(str(os.getpid()))
+            before = self.state().splitlines()[:2]
             self.set_up()
             self.run_rt()
         finally:

@@ -5,6 +5,7 @@ import base64
 import contextlib
 import json
 import os
+import select
 import shutil
 import subprocess
 import sys
@@ -13,6 +14,7 @@ import time
 from pathlib import Path
 from typing import Any, Optional
 
+PATIENT = 120  # seconds for a reply
 CHROMIUM: Optional[str] = next(filter(None, map(shutil.which, ("chromium", "chromium-browser", "google-chrome"))), None)
 
 # The browser reads at 3 and writes at 4, whatever the numbers of our pipes are.
@@ -43,6 +45,11 @@ class Browser(contextlib.ExitStack):
         self.callback(os.close, ours)
         self._from, self._held, self._number = ours, b"", 0
         self.faults: list[str] = []
+        try:
+            self.call("Browser.getVersion")
+        except BaseException:
+            self.close()
+            raise
 
     def call(self, method: str, session: Optional[str] = None, **given: Any) -> Any:
         """A call of the DevTools protocol, and its result."""
@@ -51,6 +58,8 @@ class Browser(contextlib.ExitStack):
         os.write(self._to, json.dumps(told).encode() + b"\0")
         while True:
             while b"\0" not in self._held:
+                if not select.select([self._from], [], [], PATIENT)[0]:
+                    raise TimeoutError(f"{method}: no reply in {PATIENT} seconds")
                 part = os.read(self._from, 1 << 20)
                 if not part:
                     raise RuntimeError("the browser has ended")
@@ -95,7 +104,7 @@ class Page:
             raise RuntimeError(told["exceptionDetails"]["exception"].get("description"))
         return told["result"].get("value")
 
-    def wait(self, text: str, seconds: float = 60) -> Any:
+    def wait(self, text: str, seconds: float = PATIENT) -> Any:
         """Waits until an expression is true."""
         end = time.monotonic() + seconds
         while not (found := self.ask(text)):

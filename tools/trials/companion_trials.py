@@ -1,11 +1,18 @@
-"""What the tests of the companion share: where it and the program are, and how much is tried."""
+"""What the tests share: where the program and the companion are, how much is tried, and what the machine has of what a test wants.
+
+A test holds on any machine: whatever its user has set, whoever that is, however busy it is. So what the environment could change is taken out
+of it here, time is measured as the processor's, and waiting ends only where nothing will come."""
 from __future__ import annotations
 
+import functools
 import os
+import resource
+import shutil
+import subprocess
 import tempfile
 import unittest
 from pathlib import Path
-from typing import Any, TypeVar
+from typing import Any, Iterable, TypeVar
 
 from . import TOP
 
@@ -15,6 +22,14 @@ TOOL = COMPANION / "bench-tool"
 PLACES = (TOP / "crates/bench_main/out/bench_main", TOP / "dist/bench-x86_64-linux")
 PROGRAM = os.environ.get("BENCH") or str(next((path for path in PLACES if os.access(path, os.X_OK)), "none"))
 needs_program = unittest.skipUnless(os.access(PROGRAM, os.X_OK), "no program: none is built or in dist/, and BENCH names none")
+needs_compiler = unittest.skipUnless(shutil.which("cc"), "left out: no C compiler is installed")
+PATIENT = 600  # seconds, after which nothing will come
+SETTINGS = ("BASH_ENV", "BENCH_HISTORY", "CDPATH", "COLUMNS", "ENV", "GLIBC_TUNABLES", "LINES", "MAKEFLAGS", "MAKELEVEL", "MFLAGS",
+            "NO_COLOR", "POSIXLY_CORRECT", "PYTHONIOENCODING", "PYTHONUTF8", "PYTHONWARNINGS")
+
+for setting in SETTINGS:
+    os.environ.pop(setting, None)
+os.umask(0o022)
 
 
 def share(few: T, all_: T) -> T:
@@ -34,6 +49,39 @@ def numpy_or_none() -> Any:
         return numpy
     except ImportError:
         return None
+
+
+def works(*words: str | Path, **more: Any) -> bool:
+    """Whether a command is there, and ends well."""
+    try:
+        return subprocess.run(words, stdin=subprocess.DEVNULL, stdout=subprocess.DEVNULL, stderr=subprocess.DEVNULL, **more).returncode == 0
+    except (OSError, subprocess.SubprocessError):
+        return False
+
+
+@functools.lru_cache(maxsize=None)
+def nobody() -> dict[str, Any]:
+    """Words of `subprocess` for a run as another user, or none where that cannot be: that wants root's rights, and a temporary folder for all."""
+    words = {"user": 65534, "group": 65534, "extra_groups": []}
+    with tempfile.TemporaryDirectory() as folder:
+        os.chmod(folder, 0o755)
+        return words if os.getuid() == 0 and works("ls", folder, **words) else {}
+
+
+def processor_seconds() -> float:
+    """The processor time of this process, and of those below it that have ended."""
+    used = [resource.getrusage(who) for who in (resource.RUSAGE_SELF, resource.RUSAGE_CHILDREN)]
+    return sum(each.ru_utime + each.ru_stime for each in used)
+
+
+def links_to(names: Iterable[str], folder: Path) -> Path:
+    """A folder for a PATH of few commands, of those that are here; `python3` is the one that runs this."""
+    folder.mkdir()
+    for name in names:
+        found = os.path.realpath("/proc/self/exe") if name == "python3" else shutil.which(name)
+        if found:
+            (folder / name).symlink_to(found)
+    return folder
 
 
 class InFolder(unittest.TestCase):

@@ -1,18 +1,13 @@
-"""Each call on the files of a folder failed by each error, one at a time, with the answer that docs/DECISIONS.md has for it.
-
-`strace` fails the calls of the system, with all errors. The tests of the gate do the same with fewer errors by `fail_calls.c`, which stands before
-the C library."""
+"""Each call on the files of a folder failed by each error, one at a time, with the answer that docs/DECISIONS.md has for it. `fail_calls.c`,
+which stands before the C library, fails them. test_saves.py does the same with few errors."""
 from __future__ import annotations
 
-import collections
 import errno
 import os
-import re
-import shutil
 import subprocess
 from argparse import Namespace
 from pathlib import Path
-from typing import NamedTuple, Sequence, Union
+from typing import NamedTuple, Optional, Sequence
 
 from . import TOP
 from .files import FILE
@@ -51,12 +46,7 @@ UNSUPPORTED = {errno.EINVAL, errno.ENOSYS, errno.EOPNOTSUPP}
 FORBIDDEN = {errno.EACCES, errno.EPERM}
 FEW = [errno.EINTR, errno.EIO, errno.ENOENT, errno.EACCES, errno.EINVAL, errno.ENOSYS, errno.EOPNOTSUPP, errno.EROFS, errno.EMFILE, errno.ENOLCK]
 OLD_MODE = 0o640
-# What strace shows of a call, and what it is called here.
-KINDS = {
-    "openat": "open", "statx": "look", "read": "read", "write": "write", "fsync": "sync", "flock": "lock",
-    "fchmod": "mode-open", "chmod": "mode", "rename": "rename", "unlink": "remove",
-}
-SHOWN = re.compile(r"^(?P<call>\w+)\((?:(?P<file>\d+)<(?P<opened>[^>]*)>|[^\"]*\"(?P<path>[^\"]*)\")")
+PATIENT = 600
 
 
 def answer(scenario: Scenario, calls: Sequence[Call], at: int, error: int) -> str:
@@ -87,75 +77,33 @@ def prepare(folder: Path, scenario: Scenario) -> None:
         (folder / name).chmod(OLD_MODE)
 
 
-class Shim:
-    """Runs of a program below `fail_calls.c`."""
-
-    replaced: tuple[str, ...] = ()
+class Runs:
+    """Runs of a program below `fail_calls.c`, which is compiled to a place."""
 
     def __init__(self, program: Path, place: Path) -> None:
         self.program, self.log, self.library = str(program), place / "calls", place / "fail_calls.so"
         subprocess.run(["cc", "-O2", "-shared", "-fPIC", "-o", self.library, TOP / "tools/trials/fail_calls.c"], check=True)
 
+    def in_peace(self, script: str, folder: Path, env: Optional[dict[str, str]] = None) -> str:
+        """The last reply to a script over a folder."""
+        ran = subprocess.run([self.program, "--dir", folder], input=script.encode(), capture_output=True, env=env, timeout=PATIENT)
+        return ran.stdout.decode().splitlines()[-1]
+
     def run(self, script: str, folder: Path, **more: str) -> tuple[str, list[Call]]:
         """What a script is answered over a folder, and the calls on its files."""
         self.log.unlink(missing_ok=True)
         env = {**os.environ, "LD_PRELOAD": str(self.library), "STORE_FOLDER": str(folder), "STORE_LOG": str(self.log), **more}
-        ran = subprocess.run([self.program, "--dir", folder], input=script.encode(), capture_output=True, env=env, timeout=60)
+        reply = self.in_peace(script, folder, env)
         lines = self.log.read_text().splitlines() if self.log.exists() else []
-        return ran.stdout.decode().splitlines()[-1], [Call(*line.split(" ", 1)) for line in lines]
-
-    def failing(self, script: str, folder: Path, _calls: Sequence[Call], at: int, error: int) -> str:
-        return self.run(script, folder, STORE_FAILS=str(at), STORE_ERROR=str(error))[0]
+        return reply, [Call(*line.split(" ", 1)) for line in lines]
 
 
-class Strace:
-    """Runs of a program below strace."""
-
-    # Kinds of calls that the C library makes by another call where the system has them not.
-    replaced = ("look", "look-open")
-
-    def __init__(self, program: Path, place: Path) -> None:
-        self.program, self.log = str(program), place / "traced"
-        self.numbers: list[tuple[str, int]] = []
-
-    def traced(self, script: str, folder: Path, *options: str) -> str:
-        words = ["strace", "-qq", "-y", "-o", str(self.log), *options, self.program, "--dir", str(folder)]
-        ran = subprocess.run(words, input=script.encode(), capture_output=True, timeout=60)
-        return ran.stdout.decode().splitlines()[-1]
-
-    def run(self, script: str, folder: Path) -> tuple[str, list[Call]]:
-        """What a script is answered over a folder, and the calls on its files. Of each call this keeps which call of its kind it is."""
-        reply = self.traced(script, folder, "-e", f"trace={','.join(KINDS)}")
-        calls: list[Call] = []
-        seen: collections.Counter[str] = collections.Counter()
-        self.numbers = []
-        for line in self.log.read_text().splitlines():
-            shown = SHOWN.match(line)
-            if not shown:
-                continue
-            seen[shown["call"]] += 1
-            path = shown["opened"] or shown["path"] or ""
-            if path == str(folder) or path.startswith(f"{folder}/"):
-                kind = "look-open" if shown["file"] and shown["call"] == "statx" else KINDS[shown["call"]]
-                calls.append(Call(kind, path[len(str(folder)) + 1 :] or FOLDER))
-                self.numbers.append((shown["call"], seen[shown["call"]]))
-        return reply, calls
-
-    def failing(self, script: str, folder: Path, _calls: Sequence[Call], at: int, error: int) -> str:
-        call, number = self.numbers[at]
-        return self.traced(script, folder, "-e", f"trace={call}", "-e", f"inject={call}:error={error}:when={number}")
-
-
-Means = Union[Shim, Strace]
-
-
-def one_call(part: Part, runs: Means, folder: Path, scenario: Scenario, calls: Sequence[Call], at: int, error: int) -> None:
+def one_call(part: Part, runs: Runs, folder: Path, scenario: Scenario, calls: Sequence[Call], at: int, error: int) -> None:
     """One call fails with one error; afterwards a save in peace goes well."""
     prepare(folder, scenario)
     where = f"{scenario.name}: {calls[at].kind} {calls[at].name} (call {at}) fails with {errno.errorcode[error]}"
-    reply = runs.failing(scenario.script, folder, calls, at, error)
-    is_replaced = error == errno.ENOSYS and calls[at].kind in runs.replaced
-    should = scenario.reply if is_replaced else answer(scenario, calls, at, error)
+    reply, _ = runs.run(scenario.script, folder, STORE_FAILS=str(at), STORE_ERROR=str(error))
+    should = answer(scenario, calls, at, error)
     part.expect(where, reply, should)
     if scenario.script != SAVE:
         return
@@ -164,12 +112,11 @@ def one_call(part: Part, runs: Means, folder: Path, scenario: Scenario, calls: S
     part.expect(f"{where}: the file", found.get(NAME), whole)
     if reply.startswith("ok") or calls[at].kind in ("write", "sync", "rename", "mode-open"):
         part.expect(f"{where}: what lies beside it", found.keys() - {NAME}, set())
-    ran = subprocess.run([runs.program, "--dir", folder], input=SAVE.encode(), capture_output=True, timeout=60)
-    then = (ran.stdout.decode().splitlines()[-1], sorted(os.listdir(folder)))
+    then = (runs.in_peace(SAVE, folder), sorted(os.listdir(folder)))
     part.expect(f"{where}: a save in peace", then, ("ok save 131", [NAME]))
 
 
-def each_call(part: Part, runs: Means, folder: Path, errors: Sequence[int]) -> None:
+def each_call(part: Part, runs: Runs, folder: Path, errors: Sequence[int]) -> None:
     """Each call of each scenario, with each of these errors."""
     for scenario in SCENARIOS:
         prepare(folder, scenario)
@@ -182,12 +129,8 @@ def each_call(part: Part, runs: Means, folder: Path, errors: Sequence[int]) -> N
 
 
 def all_trials(given: Namespace, folder: Path) -> Part:
-    """All errors that the system knows, by strace."""
+    """All errors that the system knows."""
     part, place = Part(), folder / "errors"
     place.mkdir()
-    if shutil.which("strace") is None:
-        part.note("left out", "there is no strace")
-        return part
-    errors = sorted(number for number in errno.errorcode if number < 134)
-    each_call(part, Strace(given.program, place), place / "files", errors)
+    each_call(part, Runs(given.program, place), place / "files", sorted(errno.errorcode))
     return part

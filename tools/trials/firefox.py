@@ -4,11 +4,13 @@ from __future__ import annotations
 import base64
 import contextlib
 import json
+import os
 import re
 import shutil
 import socket
 import subprocess
 import tempfile
+import threading
 from pathlib import Path
 from typing import Any, Optional, TextIO
 
@@ -25,7 +27,7 @@ class Socket:
     """A WebSocket, as far as it is needed: texts in both directions."""
 
     def __init__(self, port: int):
-        self._socket = socket.create_connection(("127.0.0.1", port))
+        self._socket = socket.create_connection(("127.0.0.1", port), browser.PATIENT)
         self._held = b""
         key = base64.b64encode(b"sixteen letters.").decode()
         head = f"GET /session HTTP/1.1\r\nHost: 127.0.0.1:{port}\r\nUpgrade: websocket\r\nConnection: Upgrade\r\nSec-WebSocket-Key: {key}\r\nSec-WebSocket-Version: 13\r\n\r\n"
@@ -81,9 +83,11 @@ class Browser(contextlib.ExitStack):
         looks = {**LOOKS, "layout.css.prefers-color-scheme.content-override": 0 if is_dark else 1}
         Path(folder, "user.js").write_text("".join(f"user_pref({json.dumps(name)}, {json.dumps(value)});\n" for name, value in looks.items()))
         words = [FIREFOX or "firefox", "--headless", "--no-remote", "--profile", folder, "--remote-debugging-port=0"]
-        process: Any = subprocess.Popen(words, stdout=subprocess.DEVNULL, stderr=subprocess.PIPE, text=True)
+        process: Any = subprocess.Popen(words, stdout=subprocess.DEVNULL, stderr=subprocess.PIPE, text=True, env={**os.environ, "HOME": folder})
         self.callback(process.wait)
-        self.callback(process.terminate)
+        self.callback(process.kill)
+        late = threading.Timer(browser.PATIENT, process.kill)
+        late.start()
         try:
             self._socket = self._connected(self.enter_context(process.stderr))
             self.call("session.new", capabilities={})
@@ -91,12 +95,15 @@ class Browser(contextlib.ExitStack):
         except BaseException:
             self.close()
             raise
+        finally:
+            late.cancel()
 
     def _connected(self, said: TextIO) -> Socket:
         """The socket whose port the browser says."""
         found = next(filter(None, (re.search(r"BiDi listening on ws://127\.0\.0\.1:(\d+)", line) for line in said)), None)
         if not found:
             raise RuntimeError("the browser has ended")
+        threading.Thread(target=said.read, daemon=True).start()  # so that it is never full
         made = Socket(int(found[1]))
         self.callback(made.close)
         return made

@@ -198,11 +198,9 @@ class Reference:
 
     def reshape(self, name: str, source: str, shape: str) -> str:
         array, lengths = self.array(source), numbers(shape)
-        fault = reshapes.refusal(array.size, lengths)
-        reshapes.compare_refusals(array, lengths, fault)
-        if fault:
+        if fault := reshapes.refusal(array.size, lengths):
             raise Refused(fault)
-        return self.bind(name, *reshapes.reshaped(array, reshapes.target(array.size, lengths)), source)
+        return self.bind(name, *reshapes.reshaped(array, lengths), source)
 
     def broadcast(self, name: str, source: str, shape: str) -> str:
         array = self.array(source)

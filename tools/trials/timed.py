@@ -1,12 +1,15 @@
-"""Runs of the program whose processor time and memory are taken, with the environment that `./bench` gives it, in a folder of their own."""
+"""Runs of the program whose processor time and memory are taken, with the environment that `./bench` gives it, in a folder of their own;
+and the rows that are run, which speed.txt and worst.txt have."""
 from __future__ import annotations
 
 import os
+import re
 import resource
+import string
 import subprocess
 import tempfile
 from pathlib import Path
-from typing import IO, NamedTuple, Optional
+from typing import IO, Mapping, NamedTuple, Optional
 
 TUNABLES = {"hugetlb": 1, "mmap_threshold": 2**29, "trim_threshold": 2**29}
 ENVIRONMENT = {"GLIBC_TUNABLES": ":".join(f"glibc.malloc.{name}={value}" for name, value in TUNABLES.items()), **os.environ}
@@ -19,6 +22,39 @@ class Used(NamedTuple):
     seconds: float
     memory: int
     ended: bool
+
+
+class Row(NamedTuple):
+    """A line, what it is, and the lines before it, of the program and of NumPy; and how many bytes it moves for each item, where that is told."""
+
+    name: str
+    moved: float
+    setup: str
+    line: str
+    numpy_setup: str
+    numpy: str
+
+    def with_words(self, words: Mapping[str, object]) -> Row:
+        """The row with what the words in its lines stand for."""
+        return Row(self.name, self.moved, *(string.Template(text).substitute(words) for text in self[2:]))
+
+
+def unfolded(text: str) -> str:
+    """A text with `«text×9»` written nine times, and a line behind `×9 ` nine times, with the number of each in the place of `#`."""
+    text = re.sub("«([^«»]*)×([0-9]+)»", lambda found: found[1] * int(found[2]), text)
+    return re.sub("(?m)^×([0-9]+) (.*)$", lambda found: "\n".join(found[2].replace("#", f"{k:04}") for k in range(int(found[1]))), text)
+
+
+def rows(path: Path) -> list[Row]:
+    """The rows of a file, whose head says what they are."""
+    found = []
+    for text in re.split("(?m)^== ", path.read_text())[1:]:
+        head, *lines = unfolded(text.rstrip("\n")).split("\n")
+        name, _, moved = head.partition(" | ") if re.search(r" \| [\d.]+$", head) else (head, "", "0")
+        ours, numpys = zip(*((re.split("(?:^| ):: ", line, maxsplit=1) + [""])[:2] for line in lines))
+        setup, numpy_setup = ("\n".join(filter(None, each[:-1])) for each in (ours, numpys))
+        found.append(Row(name, float(moved), setup, ours[-1].removeprefix("> "), numpy_setup, numpys[-1]))
+    return found
 
 
 def run(program: Path, text: str, depth: int, limit: Optional[float] = None, out: Optional[IO[bytes]] = None) -> Used:
