@@ -13,7 +13,6 @@ from trials import memory
 from trials.lines import own_scripts
 from trials.runs import Part, Runner
 
-# A script that makes more requests than these is tried with as many of them, evenly spread.
 MOST_REQUESTS = 150
 COMMANDS = set("""zeros full arange array field transpose reshape broadcast copy cast load set upd save del undo names print info format shares
 add neg sum""".split())
@@ -33,9 +32,7 @@ class RefusedMemory(unittest.TestCase):
         for script in own_scripts():
             with Runner(PROGRAM) as runner:
                 trial = memory.Refusing(runner, part, script.asking(), self.library)
-                step = -(-trial.made // MOST_REQUESTS)
-                for request in range(1, trial.made + 1, step):
-                    trial.refuse(request)
+                trial.refuse(MOST_REQUESTS)
         self.assertEqual(part.faults, [])
         self.assertGreater(part.counts["with E40"], 1000, part.counts)
 

@@ -14,7 +14,7 @@ import time
 import unittest
 
 from trials.companion_trials import PROGRAM, TOP, needs_program, share
-from trials import browser, firefox, lines as scripts
+from trials import browsers, lines as scripts
 from bench_tool import Session
 from bench_tool import page as pages
 from test_rows import rows, zeros
@@ -26,8 +26,8 @@ DIST, TRIALS = TOP / "dist", TOP / "tools/trials"
 PAGE = DIST / "bench.html"
 needs_page = unittest.skipUnless(PAGE.is_file(), "left out: `make page` has made no page")
 needs_node = unittest.skipUnless(shutil.which("node"), "left out: Node is not installed (Debian: nodejs)")
-needs_chromium = unittest.skipUnless(browser.CHROMIUM, "left out: no chromium is installed (Debian: chromium)")
-needs_firefox = unittest.skipUnless(firefox.FIREFOX, "left out: no Firefox is installed (Debian: firefox-esr)")
+needs_chromium = unittest.skipUnless(browsers.CHROMIUM, "left out: no chromium is installed (Debian: chromium)")
+needs_firefox = unittest.skipUnless(browsers.FIREFOX, "left out: no Firefox is installed (Debian: firefox-esr)")
 
 
 def coded(data):
@@ -381,13 +381,13 @@ class InBrowser:
 @needs_page
 @needs_chromium
 class InChromium(InBrowser, unittest.TestCase):
-    OPENS = browser.Browser
+    OPENS = browsers.Chromium
 
 
 @needs_page
 @needs_firefox
 class InFirefox(InBrowser, unittest.TestCase):
-    OPENS = firefox.Browser
+    OPENS = browsers.Firefox
 
 
 if __name__ == "__main__":

@@ -51,6 +51,12 @@ def lines_of(text: bytes) -> list[bytes]:
     return text.removesuffix(b"\n").split(b"\n")
 
 
+def entries(text: str) -> list[tuple[str, str]]:
+    """Lines behind `> `, with the replies below them."""
+    found = re.findall(r"(?m)((?:^> .*\n)+)((?:^(?!> ).+\n?)*)", text)
+    return [("\n".join(line[2:] for line in asked.splitlines()), told.rstrip("\n")) for asked, told in found]
+
+
 def marked(lines: Iterable[bytes]) -> bytes:
     """The text of lines, each with one behind it that is no command, whose reply tells the others apart."""
     return text_of([text for line in lines for text in (line, MARK)])

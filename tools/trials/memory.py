@@ -5,23 +5,20 @@ import itertools
 import os
 import struct
 import subprocess
-import time
 from argparse import Namespace
 from pathlib import Path
 from random import Random
 
 from . import TOP
 from .files import reserved_when_idle
-from .lacking import LACK, STOPPED, Lacking
-from .lines import Script, own_scripts, random_script, text_of
+from .lacking import STOPPED, Lacking
+from .lines import Script, entries, own_scripts, random_script, text_of
 from .runs import Part, Runner, contents, fill, in_processes, shown
 
 SOURCE = TOP / "tools/trials/refuse_memory.c"
 ROOM = 2**25
 LONGEST_PRINT = 20000
-FIRST_REQUESTS = 60
-MOST_REQUESTS = 500
-MOST_SECONDS = 15
+MOST_REQUESTS = 300
 RANDOM_SCRIPTS = 200
 
 
@@ -56,27 +53,21 @@ class Refusing(Lacking):
         short = [len(reply) <= LONGEST_PRINT or not line.startswith(b"print") for line, reply in zip(self.lines, self.expected()[0])]
         self.lines, self.without = list(itertools.compress(self.lines, short)), {}
         self.requests = Requests(library, runner.folder)
-        began = time.monotonic()
         self.run(self.lines, env=self.requests.refusing(0))
-        self.seconds, (self.made, _) = time.monotonic() - began, self.requests.counts()
+        self.made, _ = self.requests.counts()
 
-    def chosen(self, every: bool) -> list[int]:
-        """The requests to refuse: the first ones, and of the others so many as there is time for."""
-        most = max(FIRST_REQUESTS, min(MOST_REQUESTS, int(MOST_SECONDS / self.seconds)))
-        step = 1 if every else max(1, -(-(self.made - FIRST_REQUESTS) // max(1, most - FIRST_REQUESTS)))
-        return [n for n in range(1, self.made + 1) if n <= FIRST_REQUESTS or (n - FIRST_REQUESTS) % step == 0]
-
-    def refuse(self, request: int) -> None:
-        """A run with one request refused."""
-        where = f"request {request} of {self.made} refused"
-        where += "" if self.part.faults else f", the script being\n{shown(text_of(self.lines).decode('latin-1'), 3000)}"
-        self.trial(where, env=self.requests.refusing(request))
-        self.part.expect(f"{self.name}, request {request}: requests refused", self.requests.counts()[1], 1)
+    def refuse(self, most: int) -> None:
+        """Runs with one request refused, at most so many, evenly spread."""
+        for request in range(1, self.made + 1, -(-self.made // most)):
+            where = f"request {request} of {self.made} refused"
+            where += "" if self.part.faults else f", the script being\n{shown(text_of(self.lines).decode('latin-1'), 3000)}"
+            self.trial(where, env=self.requests.refusing(request))
+            self.part.expect(f"{self.name}, request {request}: requests refused", self.requests.counts()[1], 1)
 
 
-def trials_of(task: tuple[Path, Path, Script, bool]) -> Part:
+def trials_of(task: tuple[Path, Path, Script, int]) -> Part:
     """All runs over one script."""
-    program, library, script, every = task
+    program, library, script, most = task
     part = Part()
     with Runner(program) as runner:
         trial = Refusing(runner, part, script.asking(), library)
@@ -84,31 +75,8 @@ def trials_of(task: tuple[Path, Path, Script, bool]) -> Part:
         part.count("scripts")
         part.count("commands", len(replies))
         part.count("commands accepted", sum(not reply.startswith(b"no E") and reply != b"" for reply in replies))
-        for request in trial.chosen(every):
-            trial.refuse(request)
+        trial.refuse(most)
     return part
-
-
-LACKING = [
-    ("a = arange <i4 0 1000 1", "ok a <i4 (1000,) new"),
-    ("b = zeros <i8 (16777216)", LACK),
-    ("c = arange <i8 0 16777216 1", LACK),
-    ("d = broadcast a (16000,1000)", "ok d <i4 (16000, 1000) view"),
-    ("e = copy d C", LACK),
-    ("f = cast d <i8", LACK),
-    ("g = add d d", LACK),
-    ("h = reshape d (-1)", LACK),
-    ("i = sum d", "ok i <i8 () new"),
-    ("print i", "7992000000"),
-    ("j = max d 0", "ok j <i4 (1000,) new"),
-    ('save d "d.npy"', LACK),
-    ('x = load "zeros.npy"', LACK),
-    ("print d", LACK),
-    ("set a[:] = j[::-1]", "ok set 1000"),
-    ("x = a[:3]", "ok x <i4 (3,) view"),
-    ("print x", "[999 998 997]"),
-    ("names", "names a d i j x"),
-]
 
 
 def within_bounds(program: Path) -> Part:
@@ -116,11 +84,12 @@ def within_bounds(program: Path) -> Part:
     part = Part()
     with Runner(program) as runner:
         fill(runner.dir, {"zeros.npy": 2**26})
-        text = "".join(f"{line}\n" for line, _ in LACKING).encode()
+        lacking = entries((TOP / "tools/trials/lacking.txt").read_text())
+        text = "".join(f"{line}\n" for line, _ in lacking).encode()
         most = reserved_when_idle(program) + ROOM
         ran = runner.run(text, ["--dir", str(runner.dir)], limits=[("as", most)])
         replies = ran.out.decode().splitlines()
-        for (line, should), reply in itertools.zip_longest(LACKING, replies, fillvalue=("nothing", "nothing")):
+        for (line, should), reply in itertools.zip_longest(lacking, replies, fillvalue=("nothing", "nothing")):
             part.expect(f"{line}, with room for {ROOM:,} bytes", reply, should)
         part.expect("a run that lacks memory", (ran.status, ran.err, contents(runner.dir)), (1, b"", {"zeros.npy": 2**26}))
     return part
@@ -147,7 +116,7 @@ def all_trials(given: Namespace, folder: Path) -> Part:
     scripts = own_scripts() + [random_script(given.program, rng, number) for number in range(RANDOM_SCRIPTS)]
     library, part = built_library(folder), within_bounds(given.program)
     part.add(words_of_the_program(given.program, library))
-    tasks = [(given.program, library, script, given.every) for script in scripts]
+    tasks = [(given.program, library, script, 10**9 if given.every else MOST_REQUESTS) for script in scripts]
     for found in in_processes(given, trials_of, tasks):
         part.add(found)
     return part

@@ -10,6 +10,7 @@ from typing import Iterator
 
 from . import TOP
 from .files import DATA, header_text, padded, with_header
+from .lines import entries
 from .runs import Part, Runner, fill
 
 Trial = tuple[str, str]
@@ -23,9 +24,7 @@ def parts() -> dict[str, list[Trial]]:
     found = {}
     for text in re.split("(?m)^== ", (TOP / "tools/trials/numbers.txt").read_text())[1:]:
         head, _, body = text.partition("\n")
-        blocks = [block.strip("\n").split("\n") for block in re.split(r"\n\n(?=> )", body)]
-        found[head.partition(":")[0]] = [("\n".join(line[2:] for line in block if line.startswith("> ")),
-                                          "\n".join(line for line in block if not line.startswith("> "))) for block in blocks]
+        found[head.partition(":")[0]] = entries(body)
     return found
 
 
