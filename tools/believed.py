@@ -252,7 +252,8 @@ def twice() -> int:
     for name, meanings in sorted(public.items()):
         if len({meaning for _, meaning in meanings}) > 1 and len({crate for crate, _ in meanings}) > 1:
             count += 1
-            print(f"{name} means {len({meaning for _, meaning in meanings})} things: " + ", ".join(sorted({crate for crate, _ in meanings})))
+            crates = ", ".join(sorted({crate for crate, _ in meanings}))
+            print(f"{name} means {len({meaning for _, meaning in meanings})} things: {crates}")
     return count
 
 
@@ -297,7 +298,8 @@ def unnamed(page: str) -> Iterator[str]:
     for file in sorted((TOP / "crates").glob("*/specs/**/*.antt")):
         crate, name = file.relative_to(TOP / "crates").parts[0], "/".join(file.relative_to(TOP / "crates").parts[2:])
         is_for_readers = not name.startswith("inside") and name != "Lib.antt" and not name.endswith("Laws.antt")
-        if is_for_readers and not re.search(rf"`{crate}`[^\n]*`{re.escape(name)}`|## [^\n]*`{crate}`(?:(?!\n## ).|\n(?!## ))*`{re.escape(name)}`", page):
+        row, part = rf"`{crate}`[^\n]*", rf"## [^\n]*`{crate}`(?:(?!\n## ).|\n(?!## ))*"
+        if is_for_readers and not re.search(rf"(?:{row}|{part})`{re.escape(name)}`", page):
             yield f"{crate}/specs/{name}"
 
 
@@ -305,7 +307,8 @@ def counted(found: dict[Path, list[str]]) -> str:
     """How many definitions the headline reaches, and how many lines they have."""
     repository = Repository()
     wholes = {file.relative_to(TOP / "crates"): local for file, local, _, _ in repository.files.values()}
-    lines = sum(len(re.sub(r"(?m)^--.*\n?", "", wholes[file][name]).strip().splitlines()) for file, names in found.items() for name in names)
+    texts = [wholes[file][name] for file, names in found.items() for name in names]
+    lines = sum(len(re.sub(r"(?m)^--.*\n?", "", text).strip().splitlines()) for text in texts)
     return f"{sum(map(len, found.values())):,} definitions, {lines:,} lines"
 
 

@@ -46,7 +46,8 @@ def run_test(name):
 
 def run_tests(words, counts, is_gate):
     """Runs the tests, on all cores, and tells those that failed, and those that were left out."""
-    names = [name for name in names_of(unittest.defaultTestLoader.discover(str(TOOLS), "test_*.py")) if not words or any(word in name for word in words)]
+    found = names_of(unittest.defaultTestLoader.discover(str(TOOLS), "test_*.py"))
+    names = [name for name in found if not words or any(word in name for word in words)]
     with concurrent.futures.ProcessPoolExecutor() as pool:
         for name, fault, reasons, _ in list(pool.map(run_test, names)):
             if fault:  # On a busy machine a signal or a limit of time may come at the wrong moment.

@@ -3,13 +3,14 @@
 
     bench-x86_64-linux           the program
     libbench.so.1, libbench.a    the library
-    SUMS                         the toolchain; the sums of the sources, of the program as the toolchain builds it, and of what is here; what it needs
+    SUMS                         the toolchain; the sums of the sources, of the program as the toolchain builds it, and of what is here;
+                                 and what it needs
 
 bench.html, bench.wasm and bench.mjs are of `make page` (page/build.py); SUMS has their sums.
 
-With --check nothing is written: what the gate has just built is compared with dist/. `rt ci` proves bench_c and builds nothing of it, so the
-library and bench.wasm are made here, over the libraries that `rt ci` built. Where SUMS names another toolchain than is here, that is said, and
-only sums are compared. The status is 1 where something differs, 3 where there is nothing to compare or to write."""
+With --check nothing is written: what the gate has just built is compared with dist/. `rt ci` proves bench_c and builds nothing of it, so
+the library and bench.wasm are made here, over the libraries that `rt ci` built. Where SUMS names another toolchain than is here, that is
+said, and only sums are compared. The status is 1 where something differs, 3 where there is nothing to compare or to write."""
 import pathlib
 import re
 import subprocess

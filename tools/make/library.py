@@ -32,7 +32,8 @@ class Linker:
         """calls.o, of library/bench.c."""
         for name, text in (("stddef.h", STDDEF), ("stdint.h", STDINT)):
             (self.folder / name).write_text(text)
-        words = ["--target=x86_64-unknown-linux-gnu", "-std=c11", "-O2", "-fPIC", "-Wall", "-Wextra", "-Werror", "-nostdinc", "-isystem", "."]
+        warns, alone = ["-Wall", "-Wextra", "-Werror"], ["-nostdinc", "-isystem", "."]
+        words = ["--target=x86_64-unknown-linux-gnu", "-std=c11", "-O2", "-fPIC", *warns, *alone]
         self.run("clang", *words, "-c", sources.LIBRARY / "bench.c", "-o", "calls.o")
 
     def link(self):
@@ -40,7 +41,8 @@ class Linker:
         calls = re.findall(r"^int (bench_\w+)\(", (sources.LIBRARY / "bench.h").read_text(), re.M)
         (self.folder / "calls").write_text("\n".join(calls) + "\n")
         (self.folder / "exports").write_text("{ global: " + " ".join(f"{call};" for call in calls) + " local: *; };\n")
-        proved = ["calls.o", "--whole-archive", self.archive, "--no-whole-archive", self.kit / "c/liblibc_c.a", self.kit / "toolchain/lib/libgcc.a"]
+        below = [self.kit / "c/liblibc_c.a", self.kit / "toolchain/lib/libgcc.a"]
+        proved = ["calls.o", "--whole-archive", self.archive, "--no-whole-archive", *below]
         self.run("ld.lld", *SHARED, "--version-script=exports", "-o", "libbench.so.1", *proved, self.kit / "toolchain/lib/libc.so.6")
         self.run("ld.lld", "-r", "-o", "bench.o", *proved)
         self.run("llvm-objcopy", "--keep-global-symbols=calls", "--strip-debug", "bench.o")

@@ -1,6 +1,8 @@
-"""Builds crates/bench_c over the libraries below it, as they stand in crates/*/out/rlib: its archive, and the LLVM module that the archive is compiled from.
+"""Builds crates/bench_c over the libraries below it, as they stand in crates/*/out/rlib: its archive, and the LLVM module that the archive
+is compiled from.
 
-`make page` takes the libraries that `make` built, and the gate those that `rt ci` has just built: it proves bench_c itself, and builds nothing of it."""
+`make page` takes the libraries that `make` built, and the gate those that `rt ci` has just built: it proves bench_c itself, and builds
+nothing of it."""
 import os
 import pathlib
 import re
@@ -51,12 +53,14 @@ def words(below):
     """The libraries that bench_c uses, in the words of rattle: those of the toolchain, and those of this repository."""
     kit, own = sources.kit_folder(), sources.uses()[CRATE]
     used = re.search(rf"^{CRATE} staticlib:(.*)$", (sources.TOP / "crates.txt").read_text(), re.M)[1].split()
-    externs = [f"{name}={kit}/rlibs/{name}.rlib" for name in ["std", *used] if name not in own] + [f"{name}={rlib(name)}/{name}.rlib" for name in own]
-    return [word for flag, values in (("--extern", externs), ("-L", [f"dependency={folder}" for folder in [kit / "rlibs", *map(rlib, below)]])) for value in values for word in (flag, value)]
+    externs = [f"{name}={kit}/rlibs/{name}.rlib" for name in ["std", *used] if name not in own]
+    externs += [f"{name}={rlib(name)}/{name}.rlib" for name in own]
+    folders = [f"dependency={folder}" for folder in [kit / "rlibs", *map(rlib, below)]]
+    return [word for flag, values in (("--extern", externs), ("-L", folders)) for value in values for word in (flag, value)]
 
 
 def build(out, here):
-    """Has rattle check and compile bench_c, by the toolchain `here`: OUT/libbench_c.a and OUT/module.bc. What earlier checks of it kept is used."""
+    """Has rattle check and compile bench_c, by the toolchain `here`: OUT/libbench_c.a and OUT/module.bc. What earlier checks kept is used."""
     kit, below = sources.kit_folder(), [name for name in sources.made_of(CRATE) if name != CRATE]
     stale = [name for name in below if not is_built(name, here)]
     if stale:
@@ -65,7 +69,8 @@ def build(out, here):
     out.mkdir(parents=True, exist_ok=True)
     for path in (archive, kept):
         path.unlink(missing_ok=True)
-    logic = ["--antt-project", kit / "rattle/logic/antt-project.json", "--logic-built", kit / "logic_built", "--incremental", "out/incremental"]
+    project = kit / "rattle/logic/antt-project.json"
+    logic = ["--antt-project", project, "--logic-built", kit / "logic_built", "--incremental", "out/incremental"]
     made = ["--crate-type", "staticlib", "--toolchain", toolchain(out), "--backend", "llvm", "-o", archive]
     jobs = min(len(os.sched_getaffinity(0)), prove.MOST_JOBS)
     with open(out / "log", "wb") as log:

@@ -1,8 +1,8 @@
 #!/usr/bin/env python3
 """Proves a crate and builds it, for the rules of the Makefile: tools/make/prove.py CRATE KIT.
 
-out/proved/CRATE says of which sources and by which toolchain that was done, and there is nothing to do while these are the same. rt locks the
-crates below the one that it works on. So each is proved in a folder of its own, with links to those, and several side by side."""
+out/proved/CRATE says of which sources and by which toolchain that was done, and there is nothing to do while these are the same. rt locks
+the crates below the one that it works on. So each is proved in a folder of its own, with links to those, and several side by side."""
 import os
 import pathlib
 import re
@@ -122,7 +122,8 @@ def time_left(running):
     began = float(os.environ["BENCH_BEGAN"])
     proved = {path.name: path.stat().st_mtime for path in PROVED.glob("*")}
     wanted = [name for name in sources.made_of() if proved.get(name, began) >= began]
-    done = sum(code(name) for name in wanted if name in proved) + sum(code(name) * int(at[0]) / int(at[1]) for name, at in running.items() if at)
+    done = sum(code(name) for name in wanted if name in proved)
+    done += sum(code(name) * int(at[0]) / int(at[1]) for name, at in running.items() if at)
     minutes = (time.time() - began) * (sum(map(code, wanted)) / done - 1) / 60 if done else 0
     return f"; some {minutes:.0f} minutes left" if minutes >= 1 else ""
 
@@ -139,7 +140,8 @@ def tell(name, is_done=False):
         print(f"{text}; {name} is proved", file=sys.stderr)
         return
     shown = ", ".join(other + (" (%s of %s)" % at if at else "") for other, at in running.items())
-    print("\r\033[K" + f"{text}{'; proving ' * bool(shown)}{shown}{time_left(running)}"[:os.get_terminal_size(2).columns - 1], end="", file=sys.stderr, flush=True)
+    text += f"{'; proving ' * bool(shown)}{shown}{time_left(running)}"
+    print(f"\r\033[K{text[:os.get_terminal_size(2).columns - 1]}", end="", file=sys.stderr, flush=True)
 
 
 def main(name, kit):

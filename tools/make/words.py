@@ -1,5 +1,5 @@
 #!/usr/bin/env python3
-"""Writes the keywords that docs/LANGUAGE.md lists into the help, the manual page and the syntax files, and docs/FILES.md from the sources."""
+"""Writes the keywords that docs/LANGUAGE.md lists into help, manual page and syntax files, and docs/FILES.md from the sources."""
 import pathlib
 import re
 import sys
@@ -39,7 +39,8 @@ def coloured(vim, text_mate):
     of = groups()
     for name, words in of.items():
         vim = re.sub(rf"(syntax keyword bench{name}) .*", rf"\1 {' '.join(words)}", vim)
-    scopes = {"keyword.control": of["Change"] + of["Ask"], "support.function": of["Make"] + of["Reduction"], "keyword.operator.word": of["Operation"]}
+    scopes = {"keyword.control": of["Change"] + of["Ask"], "support.function": of["Make"] + of["Reduction"],
+              "keyword.operator.word": of["Operation"]}
     for name, words in scopes.items():
         text_mate = re.sub(rf'("{name}.bench",\s*"match": "[^"]*\(\?:)[a-z|]*', lambda found: found[1] + "|".join(words), text_mate)
     return vim, text_mate
@@ -53,7 +54,8 @@ def said(source):
 
 def listing():
     """A line for each source file, crate by crate, lowest first."""
-    page = "# Files\n\nWhat each source file holds, by crate, lowest first: the first sentence of its `//!`. `make words` writes this page.\n"
+    page = "# Files\n\nWhat each source file holds, by crate, lowest first: the first sentence of its `//!`."
+    page += " `make words` writes this page.\n"
     for crate in re.findall(r"(?m)^(\w+)(?: staticlib)?:", (TOP / "crates.txt").read_text()):
         folder = TOP / "crates" / crate / "src"
         rows = [f"| `{path.relative_to(folder)}` | {said(path.read_text())} |\n" for path in sorted(folder.rglob("*.rt"))]

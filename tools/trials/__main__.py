@@ -1,8 +1,8 @@
 """What is tried on the built program beside its proofs; the gate runs none of this whole. Each trial reports its counts and what was wrong:
 where, what happened, and what should have. The status is 1 where something was.
 
-The scripts of `hostile` are those of examples/ and tools/trials/scripts/, and random ones. It needs a C compiler, `prlimit` and, for errors,
-`strace`; trials with another user or a full disk need root's rights and are skipped elsewhere. The others need NumPy."""
+The scripts of `hostile` are those of examples/ and tools/trials/scripts/, and random ones. It needs a C compiler and `prlimit`; trials
+with another user or a full disk need root's rights and are left out elsewhere. The others need NumPy."""
 from __future__ import annotations
 
 import argparse

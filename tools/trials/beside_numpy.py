@@ -20,7 +20,6 @@ from bench_tool import scripts
 
 from . import npy_files, npy_rule
 from .reference import Reference
-from .rules import TALLY
 from .runs import Files, Part, Ran, Runner, contents, fill, in_processes
 
 DEPTHS = [0, 1, 3, 16, 64]
@@ -88,7 +87,6 @@ def trial(task: tuple[Path, int, Optional[str], int]) -> Part:
     """Some scripts, by both."""
     program, seed, profile, first = task
     part = Part()
-    TALLY.clear()
     with Runner(program) as runner:
         for number in range(first, first + BATCH):
             reference, lines, files = script(f"{seed} {number}", profile)
@@ -98,7 +96,6 @@ def trial(task: tuple[Path, int, Optional[str], int]) -> Part:
                 part.fault(f"script {number} of seed {seed}, --undo {reference.depth}:\n" + "\n".join(lines), happened, should)
             part.counts.update(reference.counts)
             part.count("scripts")
-    part.counts.update(TALLY)
     return part
 
 

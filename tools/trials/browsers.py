@@ -1,5 +1,5 @@
-"""Headless chromium and Firefox, to which their pages are asked over a WebSocket: the first by the DevTools protocol, the second by WebDriver BiDi.
-Nothing of them is left at the end."""
+"""Headless chromium and Firefox, whose pages are asked over a WebSocket: in the first by the DevTools protocol, in the second by WebDriver
+BiDi. Nothing of them is left at the end."""
 from __future__ import annotations
 
 import base64
@@ -32,8 +32,9 @@ class Socket:
 
     def __init__(self, port: int, path: str):
         self._socket, self._held = socket.create_connection(("127.0.0.1", port), PATIENT), b""
-        lines = [f"GET {path} HTTP/1.1", f"Host: 127.0.0.1:{port}", "Upgrade: websocket", "Connection: Upgrade", "Sec-WebSocket-Version: 13",
-                 f"Sec-WebSocket-Key: {base64.b64encode(b'sixteen letters.').decode()}"]
+        key = base64.b64encode(b"sixteen letters.").decode()
+        lines = [f"GET {path} HTTP/1.1", f"Host: 127.0.0.1:{port}", "Upgrade: websocket", "Connection: Upgrade",
+                 f"Sec-WebSocket-Key: {key}", "Sec-WebSocket-Version: 13"]
         self._socket.sendall("".join(f"{line}\r\n" for line in [*lines, ""]).encode())
         while b"\r\n\r\n" not in self._held:
             self._more()
@@ -154,8 +155,8 @@ class Chromium(Browser):
     SAYS, FIRST = "DevTools listening on", {"Browser.getVersion": {}}
 
     def words(self) -> list[str]:
-        return [CHROMIUM or "chromium", "--headless=new", "--no-sandbox", "--disable-gpu", "--disable-dev-shm-usage", "--remote-debugging-port=0",
-                f"--user-data-dir={self._folder}"]
+        return [CHROMIUM or "chromium", "--headless=new", "--no-sandbox", "--disable-gpu", "--disable-dev-shm-usage",
+                "--remote-debugging-port=0", f"--user-data-dir={self._folder}"]
 
     def open(self, url: str, width: int = 1280, height: int = 900, is_dark: bool = False, folder: Optional[Path] = None) -> ChromiumPage:
         """Opens a page in a tab of its own."""
@@ -214,7 +215,8 @@ class Firefox(Browser):
 
     def words(self) -> list[str]:
         looks = {**SETTINGS, "layout.css.prefers-color-scheme.content-override": 0 if self._is_dark else 1}
-        Path(self._folder, "user.js").write_text("".join(f"user_pref({json.dumps(name)}, {json.dumps(value)});\n" for name, value in looks.items()))
+        lines = [f"user_pref({json.dumps(name)}, {json.dumps(value)});\n" for name, value in looks.items()]
+        Path(self._folder, "user.js").write_text("".join(lines))
         return [FIREFOX or "firefox", "--headless", "--no-remote", "--profile", self._folder, "--remote-debugging-port=0"]
 
     def open(self, url: str, width: int = 1280, height: int = 900, is_dark: bool = False, folder: Optional[Path] = None) -> FirefoxPage:
@@ -237,7 +239,8 @@ class FirefoxPage(Page):
 
     def ask(self, text: str) -> Any:
         expression = f"(async () => JSON.stringify(await ({text}\n)))()"
-        told = self.browser.call("script.evaluate", expression=expression, target={"context": self.context}, awaitPromise=True, userActivation=True)
+        given: dict[str, Any] = {"expression": expression, "target": {"context": self.context}, "awaitPromise": True, "userActivation": True}
+        told = self.browser.call("script.evaluate", **given)
         if told["type"] == "exception":
             raise RuntimeError(told["exceptionDetails"]["text"])
         return json.loads(told["result"]["value"]) if "value" in told["result"] else None

@@ -1,7 +1,7 @@
 """What the tests share: where the program and the companion are, how much is tried, and what the machine has of what a test wants.
 
-A test holds on any machine: whatever its user has set, whoever that is, however busy it is. So what the environment could change is taken out
-of it here, time is measured as the processor's, and waiting ends only where nothing will come."""
+A test holds on any machine: whatever its user has set, whoever that is, however busy it is. So settings that change a reply are taken out
+of the environment here, time is measured as the processor's, and waiting ends only where nothing will come."""
 from __future__ import annotations
 
 import functools
@@ -61,7 +61,7 @@ def works(*words: str | Path, **more: Any) -> bool:
 
 @functools.lru_cache(maxsize=None)
 def nobody() -> dict[str, Any]:
-    """Words of `subprocess` for a run as another user, or none where that cannot be: that wants root's rights, and a temporary folder for all."""
+    """Words of `subprocess` for a run as another user, where that can be: with root's rights, and a temporary folder for all."""
     words = {"user": 65534, "group": 65534, "extra_groups": []}
     with tempfile.TemporaryDirectory() as folder:
         os.chmod(folder, 0o755)

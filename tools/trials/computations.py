@@ -1,4 +1,4 @@
-"""What operations, comparisons, updates and reductions give. Promotion of two arrays, reductions and operations of one array are NumPy's own;
+"""What operations, comparisons, updates and reductions give. Promotion of two arrays, reductions and operations of one array are NumPy's;
 values of two arrays are computed with Python's integers, since NumPy 1 compares signed with unsigned numbers as floats and promotes
 literals by their values. Where several refusals hold, the first of the documented order is raised."""
 from __future__ import annotations

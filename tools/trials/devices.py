@@ -1,5 +1,4 @@
-"""Devices that fail, over real files, folders and pipes. test_files.py has the quick ones in the gate, and what lies in a folder beside plain
-files.
+"""Devices that fail, over real files, folders and pipes. test_files.py has the quick ones in the gate.
 
 What no rule tells, as what a load finds in a file that is being written, is noted as it is found."""
 from __future__ import annotations
@@ -38,7 +37,16 @@ print x
 y = load "b.npy"
 save a "c.npy"
 """
-ON_FULL_DISK = f"ok a <i4 (3,) new\nok save 140\nok b <i4 (30000,) new\n{FAULT}\n{FAULT}\nok x <i4 (3,) new rest 0\n[0 1 2]\n{NO_FILE}\nok save 140\n"
+ON_FULL_DISK = f"""ok a <i4 (3,) new
+ok save 140
+ok b <i4 (30000,) new
+{FAULT}
+{FAULT}
+ok x <i4 (3,) new rest 0
+[0 1 2]
+{NO_FILE}
+ok save 140
+"""
 LOADS, SAVES, MOST_BLOCKS = 3000, 200, 8192
 
 
@@ -114,8 +122,8 @@ class Trials:
         whole, path = self.run(LONG_SCRIPT)[1].encode(), self.folder / "out"
         for most in (0, 1, 100, 65536, len(whole) - 1, len(whole)):
             with open(path, "wb") as out:
-                should = (0, "", "") if most == len(whole) else WRITE
-                self.ends(f"standard output of {most} bytes", should, LONG_SCRIPT, (), limited([("fsize", most)]), program=self.launcher, stdout=out)
+                should, before = (0, "", "") if most == len(whole) else WRITE, limited([("fsize", most)])
+                self.ends(f"standard output of {most} bytes", should, LONG_SCRIPT, (), before, program=self.launcher, stdout=out)
             self.part.expect(f"what was written of {most} bytes", path.read_bytes() == whole[:most], True)
 
     def limited_files(self) -> None:

@@ -1,5 +1,5 @@
-"""Each call on the files of a folder failed by each error, one at a time, with the answer that docs/DECISIONS.md has for it. `fail_calls.c`,
-which stands before the C library, fails them. test_saves.py does the same with few errors."""
+"""Each call on the files of a folder failed by each error, one at a time, with the answer that docs/DECISIONS.md has for it.
+`fail_calls.c`, which stands before the C library, fails them. test_saves.py does the same with few errors."""
 from __future__ import annotations
 
 import errno
@@ -44,7 +44,8 @@ SCENARIOS = [
 # The file system has no such call; the other errors say that the call failed.
 UNSUPPORTED = {errno.EINVAL, errno.ENOSYS, errno.EOPNOTSUPP}
 FORBIDDEN = {errno.EACCES, errno.EPERM}
-FEW = [errno.EINTR, errno.EIO, errno.ENOENT, errno.EACCES, errno.EINVAL, errno.ENOSYS, errno.EOPNOTSUPP, errno.EROFS, errno.EMFILE, errno.ENOLCK]
+FEW = [errno.EINTR, errno.EIO, errno.ENOENT, errno.EACCES, errno.EINVAL, errno.ENOSYS, errno.EOPNOTSUPP, errno.EROFS, errno.EMFILE,
+       errno.ENOLCK]
 OLD_MODE = 0o640
 PATIENT = 600
 

@@ -48,7 +48,7 @@ class Limited(Lacking):
 
 
 def at_each_page(trial: Limited, rng: Random) -> dict[str, list[int]]:
-    """Every page from where the program begins to run to where its memory suffices; where these are many, those at both ends and some between."""
+    """Every page from where the program begins to run to where its memory suffices; of many, those at both ends and some between."""
     first = trial.least(BEFORE_START, PAGE, 2**31)
     last = max(first, trial.least((*BEFORE_START, "stopped at the start", "with E40"), first - PAGE, 2**31))
     pages = range(first - BEFORE, last + BEHIND, PAGE)
@@ -103,5 +103,6 @@ def all_trials(given: Namespace, folder: Path) -> Part:
     found = list(in_processes(given, trials_of, tasks))
     for runs, _ in found:
         part.add(runs)
-    part.note("limits that end a run at its start, above the least under which it runs", f"up to {max(above for _, above in found):,} bytes")
+    most = max(above for _, above in found)
+    part.note("limits that end a run at its start, above the least under which it runs", f"up to {most:,} bytes")
     return part

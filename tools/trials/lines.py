@@ -94,9 +94,12 @@ def long_scripts() -> list[Script]:
     index = b"x = w[" + b",".join([b"0:1"] * 64) + b"]"
     return [
         Script("lines that are too long", [make, b"x" * over, b"#" * over, b" " * over, make.ljust(over), b"\x00" * over]),
-        Script("longest lines", [make.ljust(full), b"#" * full, b" " * full + b"\r", b"b = a".rjust(full), b"print a".ljust(full), b"x" * full]),
-        Script("bytes that are not allowed", [make, b"print\x00a", b"print a\x7f", b"\xff", b"print a\r\r", b"names\x0b", b"b = a\xc3\xa4"]),
-        Script("long lists", [many, b"upd v[:] add v", axes, index, record, b"set r[0] = (" + b"1," * 64 + b")", b'f = field r "field63"', b"format r"]),
+        Script("longest lines", [make.ljust(full), b"#" * full, b" " * full + b"\r", b"b = a".rjust(full), b"print a".ljust(full),
+                                 b"x" * full]),
+        Script("bytes that are not allowed", [make, b"print\x00a", b"print a\x7f", b"\xff", b"print a\r\r", b"names\x0b",
+                                              b"b = a\xc3\xa4"]),
+        Script("long lists", [many, b"upd v[:] add v", axes, index, record, b"set r[0] = (" + b"1," * 64 + b")", b'f = field r "field63"',
+                              b"format r"]),
     ]
 
 

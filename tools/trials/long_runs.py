@@ -52,7 +52,8 @@ def cycles() -> Iterator[tuple[bytes, None]]:
     yield b"b = zeros <i4 (8)\n", None
     for start in range(0, COMMANDS // 10, FIRST // 10):
         yield "".join(
-            f"a = full <i4 (8) {k % 1000}\nset a[1:] = {k % 7}\nupd a[::2] add a[1::2]\nb = a[::-1]\nc = cast b <i8\ndel c\nundo\nundo\nundo\nd = sum a\n"
+            f"a = full <i4 (8) {k % 1000}\nset a[1:] = {k % 7}\nupd a[::2] add a[1::2]\nb = a[::-1]\nc = cast b <i8\n"
+            "del c\nundo\nundo\nundo\nd = sum a\n"
             for k in range(start, start + FIRST // 10)
         ).encode(), None
 
@@ -87,7 +88,8 @@ def full_lines() -> tuple[int, bytes, int]:
 def many_names(rng: Random) -> Iterator[tuple[bytes, int]]:
     """Blocks that bind the greatest number of names, and unbind them in another order."""
     names = [f"n{k:04}" for k in range(NAMES - 1)]
-    replies = (len("ok n0000 |u1 (3,) new\n") + 6 + len("ok del n0000\n")) * len(names) + len("no E07 too many names\n") + 2 * len("names sync\n")
+    replies = (len("ok n0000 |u1 (3,) new\n") + 6 + len("ok del n0000\n")) * len(names)
+    replies += len("no E07 too many names\n") + 2 * len("names sync\n")
     for _ in range(ROUNDS):
         lines = [f"{name} = zeros |u1 (3)" for name in names] + ["more = zeros |u1 (3)", "names"]
         rng.shuffle(names)

@@ -10,7 +10,8 @@ from .rules import LETTERS, MOST_AXES, MOST_BYTES, MOST_ITEMS, Refused, tuple_te
 
 Token = tuple[str, Any]
 
-TOKEN = re.compile(r"""[ \t\n\r]*(?:'([ -&(-\[\]-~]*)'|"([ !#-\[\]-~]*)"|(0|[1-9][0-9]*)L?(?![0-9])|(True|False|None)(?![A-Za-z])|([](){}[:,])|$)""")
+STRING, NUMBER = r"""'([ -&(-\[\]-~]*)'|"([ !#-\[\]-~]*)\"""", "(0|[1-9][0-9]*)L?(?![0-9])"
+TOKEN = re.compile(rf"[ \t\n\r]*(?:{STRING}|{NUMBER}|(True|False|None)(?![A-Za-z])|([](){{}}[:,])|$)")
 HEADER_BYTES = b" '\",:()[]{}LTFN0123456789<>|=biuSVfx\\\n\x00\x7f"
 LITERALS = {"True": True, "False": False, "None": None}
 MOST_DEPTH, MOST_HEADER, MOST_ITEM = 16, 2**20, 65536

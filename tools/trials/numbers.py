@@ -54,8 +54,11 @@ def trials() -> Iterator[Trial]:
 
 def files() -> list[tuple[bytes, str]]:
     """Files with headers that have such numbers, and the replies to their loads."""
-    values = [(*line.split(" ", 1), reply) for line, reply in PARTS["headers"]]
-    return [(with_header(padded(header_text(**{key: with_nines(value, digits)})), DATA), reply) for key, value, reply in values for digits in MORE]
+    found = []
+    for line, reply in PARTS["headers"]:
+        key, value = line.split(" ", 1)
+        found += [(with_header(padded(header_text(**{key: with_nines(value, digits)})), DATA), reply) for digits in MORE]
+    return found
 
 
 def all_trials(given: Namespace, _folder: Path) -> Part:

@@ -33,9 +33,11 @@ FAULTS = [
     Fault("numpy mixed", "ok set 6", "ok set 5"), Fault("numpy mixed", "ok undo", "no E26 nothing to undo"), Fault("numpy mixed", "FILES"),
     Fault("numpy indexes", "no E15 index shapes", "no E11 index out of range"), Fault("numpy masks", "(3,) copy", "(4,) copy"),
     Fault("numpy shares", "shares yes", "shares no"), Fault("numpy computing", "255", "254"), Fault("numpy formats", "T{<h", "T{>h"),
-    Fault("hostile memory", "no E40 out of memory", "no E09 too large"), Fault("hostile limits", "no E40 out of memory", "no E09 too large"),
+    Fault("hostile memory", "no E40 out of memory", "no E09 too large"),
+    Fault("hostile limits", "no E40 out of memory", "no E09 too large"),
     Fault("hostile files", "no E31 truncated", "no E30 bad header"),
-    Fault("hostile numbers", "no E23 literal out of range", "no E33 no such cast"), Fault("hostile devices", "no E27 store fault", "ok save 140"),
+    Fault("hostile numbers", "no E23 literal out of range", "no E33 no such cast"),
+    Fault("hostile devices", "no E27 store fault", "ok save 140"),
     Fault("hostile errors", "no E27 store fault", "no E34 no such file"), Fault("hostile kills", "TORN"),
     Fault("hostile long", "no E07 too many names", "ok more |u1 (3,) new"),
 ]
@@ -65,9 +67,9 @@ def found(fault: Fault, given: Namespace, folder: Path) -> Part:
     own = folder / "planted"
     shutil.rmtree(own, ignore_errors=True)
     own.mkdir(mode=0o755)
-    words = {**vars(given), "program": stand_in(fault, given.program, own), "only": part, "scripts": SCRIPTS, "seconds": None, "every": False}
+    words = {"program": stand_in(fault, given.program, own), "only": part, "scripts": SCRIPTS, "seconds": None, "every": False}
     with mock.patch.dict(vars(module), SMALL[name]):
-        told: Part = module.all_trials(Namespace(**words), own)
+        told: Part = module.all_trials(Namespace(**{**vars(given), **words}), own)
     return told
 
 

@@ -25,7 +25,8 @@ WORDS = {"OP": computations.OPERATIONS + computations.COMPARISONS, "UN": computa
 FORMS = {
     name: re.compile(re.sub(r"OP|UN|RED", lambda word: f"({'|'.join(WORDS[str(word[0])])})", form))
     for name, form in {
-        "set_items": rf"set {NAME}\[(.+?)\] = {PART}", "set_literal": rf"set {NAME}\[(.+?)\] = (.+)", "update": rf"upd {NAME}\[(.+?)\] OP (.+)",
+        "set_items": rf"set {NAME}\[(.+?)\] = {PART}", "set_literal": rf"set {NAME}\[(.+?)\] = (.+)",
+        "update": rf"upd {NAME}\[(.+?)\] OP (.+)",
         "save": rf'save {NAME} "(.+)"', "delete": f"del {NAME}", "undo": "undo", "names": "names", "print": f"print {NAME}",
         "info": f"info {NAME}", "format": f"format {NAME}", "shares": f"shares {NAME} {NAME}", "zeros": f"{NAME} = zeros {TYPE} {SHAPE}",
         "full": f"{NAME} = full {TYPE} {SHAPE} (.+)", "arange": rf"{NAME} = arange {TYPE} (\S+) (\S+) (\S+)",

@@ -1,7 +1,6 @@
 """What docs/LANGUAGE.md says of any reply: limits, refusals, letters of types, shapes."""
 from __future__ import annotations
 
-import collections
 import contextlib
 from typing import Iterable, Iterator
 
@@ -10,8 +9,6 @@ from bench_tool import language
 MOST_AXES, MOST_ITEMS, MOST_BYTES = 64, 2**24, 2**28
 LETTERS = {"b1": "?", "i1": "b", "u1": "B", "i2": "h", "u2": "H", "i4": "i", "u4": "I", "i8": "q", "u8": "Q"}
 CODES = {code: words for code, (words, _) in language.codes().items()}
-# What came of the scripts, beside the replies.
-TALLY: collections.Counter[str] = collections.Counter()
 
 
 class Refused(Exception):

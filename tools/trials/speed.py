@@ -33,7 +33,8 @@ HIGH = 1.5
 KEPT = 17  # blocks that a name's array has in turn, at the default depth
 ROWS = rows(TOP / "tools/trials/speed.txt")
 WORDS = {
-    "record": "T{<i:x:<h:y:2x}", "np_record": "np.dtype({'names': ['x', 'y'], 'formats': ['<i4', '<i2'], 'offsets': [0, 4], 'itemsize': 8})",
+    "record": "T{<i:x:<h:y:2x}",
+    "np_record": "np.dtype({'names': ['x', 'y'], 'formats': ['<i4', '<i2'], 'offsets': [0, 4], 'itemsize': 8})",
     "wide": "T{<q:x:<q:y:}", "np_wide": "[('x', '<i8'), ('y', '<i8')]", "folder": FOLDER.name,
 }
 
@@ -41,8 +42,8 @@ WORDS = {
 def of_size(row: Row, size: int) -> Row:
     """The row for arrays of so many items."""
     cube = next(k for k in itertools.count(1) if (k + 1) ** 3 > size)
-    sizes = {"n": size, "side": math.isqrt(size), "cube": cube, "half": size // 2, "fourth": size // 4, "third": size // 3, "even": size // 2 * 2,
-             "few": min(size, 2**16)}
+    sizes = {"n": size, "side": math.isqrt(size), "cube": cube, "half": size // 2, "fourth": size // 4, "third": size // 3,
+             "even": size // 2 * 2, "few": min(size, 2**16)}
     return row.with_words({**sizes, **WORDS})._replace(moved=row.moved * size)
 
 
@@ -97,7 +98,8 @@ def report(part: Part, size: int, given: Namespace) -> None:
         part.figures.append({"row": row.name, "items": size, **figures})
     for depth, found in ratios.items():
         mean = math.exp(sum(math.log(max(ratio, 0.001)) for ratio in found) / max(1, len(found)))
-        print(f"undo {depth}: geometric mean {mean:.2f} of {len(found)} rows; {sum(ratio > HIGH for ratio in found)} above {HIGH}", flush=True)
+        high = sum(ratio > HIGH for ratio in found)
+        print(f"undo {depth}: geometric mean {mean:.2f} of {len(found)} rows; {high} above {HIGH}", flush=True)
 
 
 def all_trials(given: Namespace, _folder: Path) -> Part:

@@ -25,7 +25,7 @@ class Used(NamedTuple):
 
 
 class Row(NamedTuple):
-    """A line, what it is, and the lines before it, of the program and of NumPy; and how many bytes it moves for each item, where that is told."""
+    """A line, what it is, the lines before it, both for NumPy, and how many bytes it moves for each item, or 0 where none are told."""
 
     name: str
     moved: float

@@ -1,5 +1,5 @@
-"""The worst line that is known for each command, with sizes at the language's limits, as worst.txt has it: its processor time, and the memory
-that it takes beside its arrays and its result.
+"""The worst line that is known for each command, with sizes at the language's limits, as worst.txt has it: its processor time, and the
+memory that it takes beside its arrays and its result.
 
 The time of a line is the difference between a run with it and one without it, the least of several runs. Its memory is the most that the
 run with it held, without what an idle run holds and the bytes of the arrays that the run made. docs/DECISIONS.md has the table; a line that
