@@ -60,7 +60,7 @@ def words(below):
 
 
 def build(out, here):
-    """Has rattle check and compile bench_c, by the toolchain `here`: OUT/libbench_c.a and OUT/module.bc. What earlier checks kept is used."""
+    """Has rattle check and compile bench_c, by the toolchain `here`: OUT/libbench_c.a and OUT/module.bc. It uses what earlier checks kept."""
     kit, below = sources.kit_folder(), [name for name in sources.made_of(CRATE) if name != CRATE]
     stale = [name for name in below if not is_built(name, here)]
     if stale:

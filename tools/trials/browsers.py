@@ -239,8 +239,8 @@ class FirefoxPage(Page):
 
     def ask(self, text: str) -> Any:
         expression = f"(async () => JSON.stringify(await ({text}\n)))()"
-        given: dict[str, Any] = {"expression": expression, "target": {"context": self.context}, "awaitPromise": True, "userActivation": True}
-        told = self.browser.call("script.evaluate", **given)
+        given: dict[str, Any] = {"target": {"context": self.context}, "awaitPromise": True, "userActivation": True}
+        told = self.browser.call("script.evaluate", expression=expression, **given)
         if told["type"] == "exception":
             raise RuntimeError(told["exceptionDetails"]["text"])
         return json.loads(told["result"]["value"]) if "value" in told["result"] else None
