@@ -3,8 +3,8 @@ use Rattle.std.specs.Prelude.{◌≡◌, ◌≤◌, ◌*◌, ◌/◌, ◌||◌, 
 use Rattle.elem_descr.specs.declared.descr.Descr.{Descr}
 use Rattle.elem_descr.specs.Items.{item_size}
 use Rattle.shape_strides.specs.declared.layout.Layout.{Layout}
-use Rattle.shape_strides.specs.declared.memory_order.MemoryOrder.{MemoryOrder}
-use Rattle.shape_strides.specs.declared.memory_order.MemoryOrder.TheVariants.{C, Fortran}
+use Rattle.elem_descr.specs.declared.memory_order.MemoryOrder.{MemoryOrder}
+use Rattle.elem_descr.specs.declared.memory_order.MemoryOrder.TheVariants.{C, Fortran}
 use Rattle.shape_strides.specs.Limits.{max_bytes}
 use Rattle.shape_strides.specs.Indexes.{count}
 use Rattle.shape_strides.specs.Contiguity.{is_c_contiguous, is_f_contiguous}

@@ -12,9 +12,9 @@ ghost use Rattle.arrays.specs.Blocks.{offsets_in};
 
 use crate::owned::Owned;
 use crate::packed::gather;
-use elem_descr::{Descr, Refusal};
+use elem_descr::{Descr, MemoryOrder, Refusal};
 use raw_block::RawBlock;
-use shape_strides::{Layout, MAX_BYTES, MemoryOrder};
+use shape_strides::{Layout, MAX_BYTES};
 use std::alloc::{AllocError, Global};
 
 /// The items of `width` bytes of a layout, one after another in this order in a block of their own.

@@ -2,16 +2,16 @@
 ghost use Rattle.std.specs.Prelude.{◌≡◌, ◌*◌, ◌≤◌, ◌||◌, length, map, nat_le, replicate, if◌then◌else◌, IfOk, IfErr, IsTrue};
 ghost use Rattle.elem_descr.specs.declared.refusal.Refusal.TheVariants.{OutOfMemory, TooLarge};
 ghost use Rattle.elem_descr.specs.Items.{item_size};
-ghost use Rattle.shape_strides.specs.declared.memory_order.MemoryOrder.TheVariants.{C};
+ghost use Rattle.elem_descr.specs.declared.memory_order.MemoryOrder.TheVariants.{C};
 ghost use Rattle.shape_strides.specs.Limits.{max_bytes};
 ghost use Rattle.shape_strides.specs.Indexes.{count};
 ghost use Rattle.shape_strides.specs.Contiguity.{is_c_contiguous, is_f_contiguous};
 ghost use Rattle.shape_strides.specs.Layouts.{offsets, Fits, IsNested};
 ghost use Rattle.arrays.specs.Blocks.{FillsBlock, offsets_in, places_of};
 
-use elem_descr::{Descr, Refusal};
+use elem_descr::{Descr, MemoryOrder, Refusal};
 use raw_block::RawBlock;
-use shape_strides::{Layout, MAX_BYTES, MemoryOrder, Shape};
+use shape_strides::{Layout, MAX_BYTES, Shape};
 use std::alloc::{AllocError, Global};
 
 /// A block with the items that lie in it: of one descriptor, in C order or in Fortran order, from its

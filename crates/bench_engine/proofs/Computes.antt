@@ -7,16 +7,16 @@ use Rattle.elem_descr.specs.declared.refusal.Refusal.TheVariants.{UnknownName, T
 use Rattle.elem_descr.specs.declared.descr.Descr.{Descr}
 use Rattle.elem_descr.specs.Refusals.{Gives, check, ◌>>=◌}
 use Rattle.elem_descr.specs.Blocks.{item_from}
-use Rattle.shape_strides.specs.declared.index_item.IndexItem.{IndexItem}
-use Rattle.shape_strides.specs.declared.memory_order.MemoryOrder.{MemoryOrder}
-use Rattle.shape_strides.specs.declared.memory_order.MemoryOrder.TheVariants.{C}
+use Rattle.elem_descr.specs.declared.index_item.IndexItem.{IndexItem}
+use Rattle.elem_descr.specs.declared.memory_order.MemoryOrder.{MemoryOrder}
+use Rattle.elem_descr.specs.declared.memory_order.MemoryOrder.TheVariants.{C}
 use Rattle.shape_strides.specs.Layouts.{offsets}
 use Rattle.view_ops.specs.Views.{View}
 use Rattle.elementwise.specs.Results.{unary_result, unary_item}
 use Rattle.arrays.specs.declared.items.Items.{Items}
 use Rattle.arrays.specs.declared.owned.Owned.{Owned}
 use Rattle.script_lang.specs.declared.operation.Operation.{Operation}
-use Rattle.machine_numbers.specs.declared.operators.UnOp.{UnOp}
+use Rattle.elem_descr.specs.declared.operators.UnOp.{UnOp}
 use Rattle.script_lang.specs.declared.command.Operand.{Operand}
 use Rattle.script_lang.specs.declared.command.Argument.{Argument}
 use Rattle.script_lang.specs.declared.command.Computation.{Computation}

@@ -8,7 +8,7 @@ use Rattle.elem_descr.specs.declared.descr.Descr.{Descr}
 use Rattle.elem_descr.specs.Items.{item_size}
 use Rattle.elem_descr.specs.Blocks.{items_in, item_from}
 use Rattle.elem_descr.specs.Values.{LeafValue}
-use Rattle.shape_strides.specs.declared.memory_order.MemoryOrder.{MemoryOrder}
+use Rattle.elem_descr.specs.declared.memory_order.MemoryOrder.{MemoryOrder}
 use Rattle.shape_strides.specs.Limits.{max_bytes}
 use Rattle.shape_strides.specs.Indexes.{count}
 use Rattle.shape_strides.specs.Layouts.{offsets}

@@ -15,7 +15,7 @@ use Rattle.elem_descr.specs.RefusalLaws.{same_answer}
 use Rattle.elem_descr.specs.Items.{item_size}
 use Rattle.elem_descr.specs.Blocks.{item_from}
 use Rattle.elem_descr.specs.Values.{LeafValue, number}
-use Rattle.shape_strides.specs.declared.memory_order.MemoryOrder.TheVariants.{C}
+use Rattle.elem_descr.specs.declared.memory_order.MemoryOrder.TheVariants.{C}
 use Rattle.shape_strides.specs.Indexes.{count}
 use Rattle.shape_strides.specs.Layouts.{offsets}
 use Rattle.shape_strides.specs.LayoutLaws.{length-offsets}
@@ -29,8 +29,8 @@ use Rattle.arrays.specs.declared.items.Items.{Items}
 use Rattle.arrays.specs.declared.owned.Owned.{Owned}
 use Rattle.arrays.specs.Blocks.{offsets_in}
 use Rattle.literal_items.specs.LiteralItems.{is_castable, item_value}
-use Rattle.machine_numbers.specs.declared.operators.BinOp.{BinOp}
-use Rattle.machine_numbers.specs.declared.operators.Comparison.{Comparison}
+use Rattle.elem_descr.specs.declared.operators.BinOp.{BinOp}
+use Rattle.elem_descr.specs.declared.operators.Comparison.{Comparison}
 use Rattle.script_lang.specs.declared.operation.Operation.{Operation}
 use Rattle.script_lang.specs.declared.operation.Operation.TheVariants.{Binary, Compare}
 use Rattle.script_lang.specs.declared.literal.ScalarLiteral.{ScalarLiteral}

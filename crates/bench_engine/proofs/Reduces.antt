@@ -10,7 +10,7 @@ use Rattle.elem_descr.specs.Refusals.{Gives}
 use Rattle.elem_descr.specs.Blocks.{item_from}
 use Rattle.elem_descr.specs.Values.{LeafValue}
 use Rattle.elem_descr.specs.RefusalLaws.{check_test, bind_ok}
-use Rattle.shape_strides.specs.declared.memory_order.MemoryOrder.TheVariants.{C}
+use Rattle.elem_descr.specs.declared.memory_order.MemoryOrder.TheVariants.{C}
 use Rattle.shape_strides.specs.Indexes.{count, indexes, rank, IsIndex}
 use Rattle.shape_strides.specs.IndexLaws.{rank-lt, same_on_indexes}
 use Rattle.shape_strides.specs.LayoutLaws.{length-offsets}
@@ -18,7 +18,7 @@ use Rattle.shape_strides.specs.Layouts.{offsets}
 use Rattle.shape_strides.specs.AxisLaws.{axis_below}
 use Rattle.view_ops.specs.Slices.{from_front}
 use Rattle.arrays.specs.declared.owned.Owned.{Owned}
-use Rattle.machine_numbers.specs.declared.operators.Red.{Red}
+use Rattle.elem_descr.specs.declared.operators.Red.{Red}
 use Rattle.reductions.specs.Lists.{lists, named_axis, is_axis, IsAxisOf}
 use Rattle.reductions.specs.ListLaws.{IsIndex-insert}
 use Rattle.reductions.specs.Outcomes as reductions

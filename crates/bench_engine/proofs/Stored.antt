@@ -8,8 +8,8 @@ use Rattle.elem_descr.specs.declared.descr.Descr.{Descr}
 use Rattle.elem_descr.specs.Items.{item_size, decode_item}
 use Rattle.elem_descr.specs.Blocks.{blocks, items_in, item_from}
 use Rattle.elem_descr.specs.Values.{LeafValue}
-use Rattle.shape_strides.specs.declared.memory_order.MemoryOrder.{MemoryOrder}
-use Rattle.shape_strides.specs.declared.memory_order.MemoryOrder.TheVariants.{C, Fortran}
+use Rattle.elem_descr.specs.declared.memory_order.MemoryOrder.{MemoryOrder}
+use Rattle.elem_descr.specs.declared.memory_order.MemoryOrder.TheVariants.{C, Fortran}
 use Rattle.shape_strides.specs.Indexes.{count, indexes, rank, IsIndex}
 use Rattle.shape_strides.specs.IndexLaws.{length-indexes, get_or-indexes, index_at, rank-lt}
 use Rattle.shape_strides.specs.ReverseLaws.{count-reverse, IsIndex-from_reverse}

@@ -10,7 +10,7 @@ use Rattle.elem_descr.specs.Refusals.{Gives, ◌>>=◌}
 use Rattle.elem_descr.specs.RefusalLaws.{same_answer, bind_same}
 use Rattle.elem_descr.specs.Items.{item_size}
 use Rattle.elem_descr.specs.Blocks.{item_from}
-use Rattle.shape_strides.specs.declared.memory_order.MemoryOrder.TheVariants.{C}
+use Rattle.elem_descr.specs.declared.memory_order.MemoryOrder.TheVariants.{C}
 use Rattle.shape_strides.specs.Layouts.{offsets}
 use Rattle.broadcasting.specs.Broadcasts.{can_stretch, common_shape}
 use Rattle.broadcasting.specs.FitLaws.{common-fits}
@@ -19,8 +19,8 @@ use Rattle.elementwise.specs.Results.{scalar_of, binary_result, compared_result,
 use Rattle.arrays.specs.declared.items.Items.{Items}
 use Rattle.arrays.specs.declared.owned.Owned.{Owned}
 use Rattle.arrays.specs.Blocks.{offsets_in}
-use Rattle.machine_numbers.specs.declared.operators.BinOp.{BinOp}
-use Rattle.machine_numbers.specs.declared.operators.Comparison.{Comparison}
+use Rattle.elem_descr.specs.declared.operators.BinOp.{BinOp}
+use Rattle.elem_descr.specs.declared.operators.Comparison.{Comparison}
 use Rattle.script_lang.specs.declared.operation.Operation.{Operation}
 use Rattle.script_lang.specs.declared.operation.Operation.TheVariants.{Binary, Compare}
 use Rattle.bench_engine.specs.Contents.{new_contents}

@@ -9,9 +9,8 @@ ghost use Rattle.bench_engine.specs.Replies.{info_text, layout_words, order_text
 
 use crate::replies::push_array_words;
 use array_print::print_into;
-use elem_descr::{Descr, Refusal, format_write};
+use elem_descr::{Descr, Name, Refusal, format_write};
 use name_store::Bench;
-use script_lang::Name;
 use shape_strides::Layout;
 use std::alloc::AllocError;
 

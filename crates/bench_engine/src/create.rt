@@ -18,12 +18,12 @@ ghost use Rattle.bench_engine.specs.Machine.{bound_new, creation_outcome};
 
 use crate::replies::{Origin, push_bound_text};
 use arrays::Owned;
-use elem_descr::{Descr, Refusal, Scalar, descr_read};
+use elem_descr::{Descr, MemoryOrder, Name, Refusal, Scalar, descr_read};
 use literal_items::{range_block, range_len, write_item, write_items};
 use name_store::{Bench, Bound};
 use raw_block::{BlockBuilder, RawBlock};
-use script_lang::{Lengths, Literal, Literals, Name, NewItems, Text};
-use shape_strides::{MAX_BYTES, MemoryOrder, Shape};
+use script_lang::{Lengths, Literal, Literals, NewItems, Text};
+use shape_strides::{MAX_BYTES, Shape};
 use smallvec::SmallVec;
 use std::alloc::{AllocError, Global};
 

@@ -4,9 +4,8 @@ ghost use Rattle.name_store.specs.Arrays.{is_bound};
 ghost use Rattle.bench_engine.specs.inside.Contract.{CarriesOut};
 ghost use Rattle.bench_engine.specs.Machine.{delete_outcome};
 
-use elem_descr::Refusal;
+use elem_descr::{Name, Refusal};
 use name_store::Bench;
-use script_lang::Name;
 
 /// Unbinds a name. Only to keep the state before does it take memory, which is before the change.
 pub fn delete(bench: &mut Bench, name: &Name, out: &mut Vec<u8>) -> Result<(), Refusal>

@@ -20,10 +20,10 @@ use crate::session::{Line, MAX_LINE_LEN};
 use crate::undo::undo;
 use crate::view::view;
 use crate::write::{Assignment, set};
-use elem_descr::Refusal;
+use elem_descr::{Name, Refusal};
 use name_store::Bench;
 use npy_files::NpyStore;
-use script_lang::{Command, Name, Question, Value, parse, word};
+use script_lang::{Command, Question, Value, parse, word};
 use std::alloc::Global;
 
 /// The most bytes of a refusal's text.

@@ -15,11 +15,11 @@ ghost use Rattle.bench_engine.specs.inside.LoadedFiles.{Finds};
 
 use crate::replies::{Origin, push_bound_text};
 use arrays::Owned;
-use elem_descr::Refusal;
+use elem_descr::{Name, Refusal};
 use itoa::Buffer;
 use name_store::{Bench, Bound};
 use npy_files::{NpyStore, StoreFault, npy_load, npy_parts};
-use script_lang::{FileName, Name};
+use script_lang::FileName;
 use std::alloc::{AllocError, Global};
 
 /// The refusal that reports a fault.

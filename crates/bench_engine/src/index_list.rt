@@ -13,18 +13,17 @@ ghost use Rattle.name_store.specs.States.{Array};
 ghost use Rattle.bench_engine.specs.IndexLists.{names_in_item, names_in_index, array_by_items, gathered, taken};
 ghost use Rattle.bench_engine.specs.inside.Numbers.{Extends};
 ghost use Rattle.elem_descr.specs.Blocks.{item_from};
-ghost use Rattle.shape_strides.specs.IndexItems.{is_basic};
+ghost use Rattle.elem_descr.specs.IndexItems.{is_basic};
 ghost use Rattle.shape_strides.specs.Indexes.{count};
 ghost use Rattle.shape_strides.specs.Layouts.{offsets};
 ghost use Rattle.bench_engine.specs.inside.OwnContents.{IsInCOrder};
 ghost use Rattle.bench_engine.specs.inside.Meeting.{Meets};
 ghost use Rattle.bench_engine.specs.inside.Assigns.{IsTaken};
 
-use elem_descr::Refusal;
+use elem_descr::{IndexItem, Name, Refusal};
 use fancy_index::{Indices, Plan, plan};
 use name_store::{ArrayRef, Bench, Bound};
-use script_lang::Name;
-use shape_strides::{IndexItem, MAX_BYTES};
+use shape_strides::MAX_BYTES;
 use std::alloc::{AllocError, Global};
 
 /// Whether the name in an item is bound.

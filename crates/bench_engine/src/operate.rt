@@ -29,15 +29,14 @@ use crate::index_list::{are_bound, take};
 use crate::replies::Origin;
 use crate::write::{Given, given_by};
 use arrays::Owned;
-use elem_descr::{Descr, Refusal, Scalar, descr_read};
+use elem_descr::{BinOp, Comparison, Descr, MemoryOrder, Name, Red, Refusal, Scalar, UnOp, descr_read};
 use elementwise::{
     Items, apply1, apply2, compare, compare_bytes, compare_integer, compared_type, literal_type,
     promote, scalar_of,
 };
-use machine_numbers::{BinOp, Comparison, Red, UnOp};
 use name_store::{ArrayRef, Bench, Bound};
-use script_lang::{Argument, Computation, Literal, Name, Operand, Operation, ScalarLiteral, Text};
-use shape_strides::{Layout, MemoryOrder, Shape};
+use script_lang::{Argument, Computation, Literal, Operand, Operation, ScalarLiteral, Text};
+use shape_strides::{Layout, Shape};
 use std::alloc::Global;
 
 /// Whether the names in an operand are bound.

@@ -3,8 +3,7 @@ ghost use Rattle.std.specs.Prelude.{◌≡◌, ◌≤◌, ◌++◌, OnOk, IfOk, 
 ghost use Rattle.std.specs.Io.{StartsWith};
 ghost use Rattle.bench_engine.specs.Replies.{descr_text, array_words, origin_word, bound_text};
 
-use elem_descr::{Descr, format_write, typestr_write};
-use script_lang::Name;
+use elem_descr::{Descr, Name, format_write, typestr_write};
 use shape_strides::Shape;
 use std::alloc::{AllocError, Global};
 

@@ -17,10 +17,10 @@ use crate::create::shape_of;
 use crate::index_list::{are_bound, take};
 use crate::replies::{Origin, push_bound_text};
 use arrays::Owned;
-use elem_descr::{Descr, Refusal};
+use elem_descr::{Descr, MemoryOrder, Name, Refusal};
 use name_store::{ArrayRef, Bench, Bound};
-use script_lang::{Index, Lengths, Name, Text, Viewing};
-use shape_strides::{Layout, MemoryOrder, Shape};
+use script_lang::{Index, Lengths, Text, Viewing};
+use shape_strides::{Layout, Shape};
 use std::alloc::Global;
 
 /// What is seen of an array, to be bound: items of the buffer that it lies in, or a copy of its items in

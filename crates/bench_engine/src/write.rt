@@ -21,12 +21,12 @@ use crate::create::item_of;
 use crate::index_list::{are_bound, planned};
 use crate::operate::{Part, has_bound, operand_part};
 use crate::update::{Writing, updated};
-use elem_descr::{Descr, Refusal};
+use elem_descr::{Descr, IndexItem, Name, Refusal};
 use elementwise::Items;
 use itoa::Buffer;
 use name_store::{ArrayRef, Bench, Source, Target};
-use script_lang::{Argument, Index, Literal, Name, Operation};
-use shape_strides::{IndexItem, Shape};
+use script_lang::{Argument, Index, Literal, Operation};
+use shape_strides::Shape;
 use std::alloc::Global;
 
 /// Items, stretched into a shape and cast to an element type. Those of the buffer that has a number stay

@@ -3,9 +3,9 @@
 #![tactic(auto)]
 
 mod aligned;
-pub mod common_shape;
-pub mod shrinking;
-pub mod stretching;
+mod common_shape;
+mod shrinking;
+mod stretching;
 
 pub use common_shape::{common, common_of_two};
 pub use shrinking::{repeats, shrink, shrunk_shape};

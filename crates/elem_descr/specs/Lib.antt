@@ -8,6 +8,7 @@ pub mod Fields
 pub mod Descriptors
 pub mod Items
 pub mod Blocks
+pub mod IndexItems
 pub mod Steps
 pub mod Weights
 pub mod Nuls

@@ -1,26 +1,36 @@
-//! Element types of an array: their descriptors as texts, and their values as bytes.
+//! Element types of an array: their descriptors as texts, and their values as bytes; and the words that
+//! a command is made of: names, operators, the items of index lists, the order of memory.
 #![tactic(auto)]
 
-pub mod descr;
-pub mod descr_text;
-pub mod digits;
+mod array_name;
+mod descr;
+mod descr_text;
+mod digits;
 mod format_text;
-pub mod leaf;
-pub mod name;
-pub mod number;
-pub mod record_builder;
-pub mod refusal;
-pub mod scalar;
-pub mod typestr;
+mod index_item;
+mod leaf;
+mod memory_order;
+mod name;
+mod number;
+mod operators;
+mod record_builder;
+mod refusal;
+mod scalar;
+mod typestr;
 
+pub use array_name::{LONGEST_NAME, Name};
 pub use descr::{Descr, Field, MAX_DEPTH, Record};
 pub use descr_text::descr_read;
+pub use digits::{are_digits, capped_value, digits_len};
 pub use format_text::read::format_read;
 pub use format_text::write::format_write;
+pub use index_item::IndexItem;
 pub use leaf::Leaf;
-pub use name::FieldName;
+pub use memory_order::MemoryOrder;
+pub use name::{FieldName, is_legal_name};
 pub use number::{is_value, num_read, num_write};
+pub use operators::{BinOp, Comparison, Red, UnOp};
 pub use record_builder::RecordBuilder;
 pub use refusal::Refusal;
-pub use scalar::{BytesLen, Order, Scalar, Width};
-pub use typestr::{typestr_read, typestr_write};
+pub use scalar::{BytesLen, MAX_ITEM_SIZE, Order, Scalar, Width};
+pub use typestr::{marked, typestr_read, typestr_write};

@@ -12,8 +12,8 @@ use Rattle.elem_descr.specs.Encoding.{IsNumber, wrap, number_of}
 use Rattle.elem_descr.specs.Blocks.{item_from}
 use Rattle.shape_strides.specs.declared.layout.Layout.{Layout}
 use Rattle.shape_strides.specs.Layouts.{offsets}
-use Rattle.machine_numbers.specs.declared.operators.BinOp.{BinOp}
-use Rattle.machine_numbers.specs.declared.operators.UnOp.{UnOp}
+use Rattle.elem_descr.specs.declared.operators.BinOp.{BinOp}
+use Rattle.elem_descr.specs.declared.operators.UnOp.{UnOp}
 use Rattle.elementwise.specs.Casts.{can_cast, cast_item}
 use Rattle.machine_numbers.specs.Kinds.{little}
 use Rattle.elementwise.specs.Operations.{binary, unary}

@@ -20,7 +20,7 @@ use Rattle.shape_strides.specs.declared.layout.Layout.{Layout}
 use Rattle.shape_strides.specs.Layouts.{offsets}
 use Rattle.view_ops.specs.Views.{view_through}
 use Rattle.broadcasting.specs.Broadcasts.{broadcast_index}
-use Rattle.machine_numbers.specs.declared.operators.Comparison.{Comparison}
+use Rattle.elem_descr.specs.declared.operators.Comparison.{Comparison}
 use Rattle.elementwise.specs.Casts.{cast_item}
 use Rattle.raw_block.specs.Bytes.{place}
 use Rattle.machine_numbers.specs.Sides.{item_in, number_of_side}

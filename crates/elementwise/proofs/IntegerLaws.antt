@@ -23,7 +23,7 @@ use Rattle.shape_strides.specs.LayoutLaws.{length-offsets}
 use Rattle.broadcasting.specs.Broadcasts.{all_stretch, can_stretch, broadcast_index}
 use Rattle.broadcasting.specs.BroadcastLaws.{stretched-self}
 use Rattle.arrays.specs.declared.owned.Owned.{Owned}
-use Rattle.machine_numbers.specs.declared.operators.Comparison.{Comparison}
+use Rattle.elem_descr.specs.declared.operators.Comparison.{Comparison}
 use Rattle.elem_descr.specs.declared.scalar.Scalar.{Scalar}
 use Rattle.elem_descr.specs.declared.scalar.Scalar.TheVariants.{Bool as BoolScalar, Byte, Int, Bytes}
 use Rattle.elem_descr.specs.Encoding.{IsNumber, IsValueOf, FitsBytes, size, width_size, wrap, number_of, decode}

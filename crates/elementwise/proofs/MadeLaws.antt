@@ -10,7 +10,7 @@ use Rattle.elem_descr.specs.Items.{item_size, encode_item}
 use Rattle.elem_descr.specs.Blocks.{item_from}
 use Rattle.elem_descr.specs.Refusals.{Gives}
 use Rattle.elem_descr.specs.declared.scalar.Scalar.TheVariants.{Bool as BoolScalar}
-use Rattle.shape_strides.specs.declared.memory_order.MemoryOrder.TheVariants.{C}
+use Rattle.elem_descr.specs.declared.memory_order.MemoryOrder.TheVariants.{C}
 use Rattle.shape_strides.specs.Indexes.{count}
 use Rattle.shape_strides.specs.Layouts.{offsets, multiples}
 use Rattle.arrays.specs.Blocks.{offsets_in}

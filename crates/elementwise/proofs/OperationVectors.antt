@@ -5,11 +5,11 @@ use Rattle.elem_descr.specs.declared.scalar.Width.TheVariants.{Four, Eight}
 use Rattle.elem_descr.specs.declared.scalar.Scalar.{Scalar}
 use Rattle.elem_descr.specs.declared.scalar.Scalar.TheVariants.{Bool as BoolScalar, Byte, Int}
 use Rattle.elem_descr.specs.Values.{LeafValue, number, text}
-use Rattle.machine_numbers.specs.declared.operators.BinOp.{BinOp}
-use Rattle.machine_numbers.specs.declared.operators.BinOp.TheVariants.{Add, Subtract, Multiply, FloorDivide, Modulo, And, Or, Xor, ShiftLeft, ShiftRight}
-use Rattle.machine_numbers.specs.declared.operators.UnOp.TheVariants.{Negate, Invert}
-use Rattle.machine_numbers.specs.declared.operators.Comparison.{Comparison}
-use Rattle.machine_numbers.specs.declared.operators.Comparison.TheVariants.{Equal, NotEqual, Less, LessOrEqual, Greater, GreaterOrEqual}
+use Rattle.elem_descr.specs.declared.operators.BinOp.{BinOp}
+use Rattle.elem_descr.specs.declared.operators.BinOp.TheVariants.{Add, Subtract, Multiply, FloorDivide, Modulo, And, Or, Xor, ShiftLeft, ShiftRight}
+use Rattle.elem_descr.specs.declared.operators.UnOp.TheVariants.{Negate, Invert}
+use Rattle.elem_descr.specs.declared.operators.Comparison.{Comparison}
+use Rattle.elem_descr.specs.declared.operators.Comparison.TheVariants.{Equal, NotEqual, Less, LessOrEqual, Greater, GreaterOrEqual}
 use Rattle.elementwise.specs.Operations.{binary, unary}
 use Rattle.elementwise.specs.Comparisons.{compared}
 

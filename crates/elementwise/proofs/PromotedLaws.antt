@@ -14,8 +14,8 @@ use Rattle.elem_descr.specs.Refusals.{◌>>=◌, check}
 use Rattle.elem_descr.specs.RefusalLaws.{same_answer, check_passed, check_test}
 use Rattle.elem_descr.specs.Encoding.{IsNumber, size}
 use Rattle.broadcasting.specs.Broadcasts.{common_shape}
-use Rattle.machine_numbers.specs.declared.operators.BinOp.{BinOp}
-use Rattle.machine_numbers.specs.declared.operators.UnOp.{UnOp}
+use Rattle.elem_descr.specs.declared.operators.BinOp.{BinOp}
+use Rattle.elem_descr.specs.declared.operators.UnOp.{UnOp}
 use Rattle.elementwise.specs.Casts.{can_cast}
 use Rattle.machine_numbers.specs.Kinds.{is_bool, is_text, is_signed, little}
 use Rattle.elementwise.specs.Promotion.{integer_type, mixed_type, common_integers, common_type, is_division, promote, promote_one}

@@ -13,7 +13,7 @@ use Rattle.elem_descr.specs.Encoding.{IsNumber, size, width_size, encode}
 use Rattle.elem_descr.specs.Values.{number}
 use Rattle.raw_block.specs.Bytes.{item_at}
 use Rattle.machine_numbers.specs.Kinds.{is_bool}
-use Rattle.machine_numbers.specs.declared.operators.Comparison.{Comparison}
+use Rattle.elem_descr.specs.declared.operators.Comparison.{Comparison}
 use Rattle.elementwise.specs.Comparisons.{text_below, says}
 use Rattle.elementwise.specs.Results.{pairwise}
 use Rattle.elementwise.specs.inside.PairPasses.{number_pair, text_pair, pair_from, says_number}

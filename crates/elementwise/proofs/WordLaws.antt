@@ -11,8 +11,8 @@ use Rattle.elem_descr.specs.declared.scalar.Scalar.TheVariants.{Bool as BoolScal
 use Rattle.elem_descr.specs.Encoding.{IsNumber, width_size, integer, low_bits, wrap, truth}
 use Rattle.elem_descr.specs.EncodingLaws.{low_bits-integer, truth_suc}
 use Rattle.elem_descr.specs.WrapLaws.{integer-differs, integer-fits}
-use Rattle.machine_numbers.specs.declared.operators.BinOp.{BinOp}
-use Rattle.machine_numbers.specs.declared.operators.BinOp.TheVariants.{Add, Subtract, Multiply, FloorDivide, Modulo, And, Or, Xor, ShiftLeft, ShiftRight, Divide}
+use Rattle.elem_descr.specs.declared.operators.BinOp.{BinOp}
+use Rattle.elem_descr.specs.declared.operators.BinOp.TheVariants.{Add, Subtract, Multiply, FloorDivide, Modulo, And, Or, Xor, ShiftLeft, ShiftRight, Divide}
 use Rattle.machine_numbers.specs.Kinds.{is_bool}
 use Rattle.elementwise.specs.Bits.{IsTruth}
 use Rattle.elementwise.specs.Operations.{exact, binary, of_bits}

@@ -9,7 +9,7 @@ use Rattle.elem_descr.specs.Values.{LeafValue, number, text}
 use Rattle.elem_descr.specs.Encoding.{IsNumber, size, width_size, number_of, decode, encode}
 use Rattle.elem_descr.specs.EncodingLaws.{decode_encode}
 use Rattle.elem_descr.specs.NumberLaws.{number_size}
-use Rattle.machine_numbers.specs.declared.operators.Comparison.{Comparison}
+use Rattle.elem_descr.specs.declared.operators.Comparison.{Comparison}
 use Rattle.machine_numbers.specs.Kinds.{little}
 use Rattle.elementwise.specs.Comparisons.{says, compared}
 use Rattle.elementwise.specs.Operations.{exact, exact_one}

@@ -3,10 +3,10 @@ use Rattle.std.specs.Prelude.{ℕ, zero, suc, ◌*◌, ◌^◌, nat_lt, ℤ, pos
 use Rattle.std.specs.Int.{int_div_euclid}
 use Rattle.elem_descr.specs.declared.scalar.Scalar.{Scalar}
 use Rattle.elem_descr.specs.Encoding.{size, wrap, low_bits}
-use Rattle.machine_numbers.specs.declared.operators.BinOp.{BinOp}
-use Rattle.machine_numbers.specs.declared.operators.BinOp.TheVariants.{Add, Subtract, Multiply, FloorDivide, Modulo, And, Or, Xor, ShiftLeft, ShiftRight, Divide}
-use Rattle.machine_numbers.specs.declared.operators.UnOp.{UnOp}
-use Rattle.machine_numbers.specs.declared.operators.UnOp.TheVariants.{Negate, Invert}
+use Rattle.elem_descr.specs.declared.operators.BinOp.{BinOp}
+use Rattle.elem_descr.specs.declared.operators.BinOp.TheVariants.{Add, Subtract, Multiply, FloorDivide, Modulo, And, Or, Xor, ShiftLeft, ShiftRight, Divide}
+use Rattle.elem_descr.specs.declared.operators.UnOp.{UnOp}
+use Rattle.elem_descr.specs.declared.operators.UnOp.TheVariants.{Negate, Invert}
 use Rattle.machine_numbers.specs.Kinds.{is_bool, is_text}
 
 -- ---- division

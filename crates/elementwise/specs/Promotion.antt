@@ -9,9 +9,9 @@ use Rattle.elem_descr.specs.declared.scalar.Scalar.TheVariants.{Bool as BoolScal
 use Rattle.elem_descr.specs.Encoding.{size}
 use Rattle.elem_descr.specs.Refusals.{◌>>=◌, check}
 use Rattle.machine_numbers.specs.Kinds.{is_bool, is_text, is_signed, little}
-use Rattle.machine_numbers.specs.declared.operators.BinOp.{BinOp}
-use Rattle.machine_numbers.specs.declared.operators.BinOp.TheVariants.{Divide}
-use Rattle.machine_numbers.specs.declared.operators.UnOp.{UnOp}
+use Rattle.elem_descr.specs.declared.operators.BinOp.{BinOp}
+use Rattle.elem_descr.specs.declared.operators.BinOp.TheVariants.{Divide}
+use Rattle.elem_descr.specs.declared.operators.UnOp.{UnOp}
 use Rattle.elementwise.specs.Operations.{serves_bools, serves_one}
 
 -- ---- kinds

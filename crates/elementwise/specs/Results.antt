@@ -14,9 +14,9 @@ use Rattle.shape_strides.specs.declared.layout.Layout.{Layout}
 use Rattle.shape_strides.specs.Layouts.{offsets}
 use Rattle.view_ops.specs.Views.{view_through}
 use Rattle.broadcasting.specs.Broadcasts.{common_shape, broadcast_index}
-use Rattle.machine_numbers.specs.declared.operators.BinOp.{BinOp}
-use Rattle.machine_numbers.specs.declared.operators.UnOp.{UnOp}
-use Rattle.machine_numbers.specs.declared.operators.Comparison.{Comparison}
+use Rattle.elem_descr.specs.declared.operators.BinOp.{BinOp}
+use Rattle.elem_descr.specs.declared.operators.UnOp.{UnOp}
+use Rattle.elem_descr.specs.declared.operators.Comparison.{Comparison}
 use Rattle.machine_numbers.specs.Kinds.{is_text}
 use Rattle.elementwise.specs.Promotion.{promote, promote_one, compared_type}
 use Rattle.elementwise.specs.Operations.{binary, unary}

@@ -4,7 +4,7 @@ ghost use Rattle.std.specs.List.{flat_map};
 ghost use Rattle.elem_descr.specs.Refusals.{Gives};
 ghost use Rattle.elem_descr.specs.Items.{item_size, encode_item};
 ghost use Rattle.elem_descr.specs.Blocks.{item_from};
-ghost use Rattle.shape_strides.specs.declared.memory_order.MemoryOrder.TheVariants.{C};
+ghost use Rattle.elem_descr.specs.declared.memory_order.MemoryOrder.TheVariants.{C};
 ghost use Rattle.shape_strides.specs.Layouts.{offsets};
 ghost use Rattle.arrays.specs.Blocks.{offsets_in};
 ghost use Rattle.arrays.specs.ItemLists.{owned_items};
@@ -16,8 +16,7 @@ use crate::promotion::{promote, promote_one, scalar_of};
 use crate::typed::make_cast;
 use arrays::{Items, Owned};
 use broadcasting::common;
-use elem_descr::Refusal;
-use machine_numbers::{BinOp, UnOp};
+use elem_descr::{BinOp, Refusal, UnOp};
 use std::alloc::Global;
 
 /// What an operation gives on the items of two arrays that are broadcast together, in a block of their

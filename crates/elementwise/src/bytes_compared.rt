@@ -9,7 +9,7 @@ ghost use Rattle.elem_descr.specs.Items.{item_size, encode_item};
 ghost use Rattle.elem_descr.specs.Blocks.{item_from};
 ghost use Rattle.elem_descr.specs.Refusals.{Gives};
 ghost use Rattle.elem_descr.specs.Values.{text};
-ghost use Rattle.shape_strides.specs.declared.memory_order.MemoryOrder.TheVariants.{C};
+ghost use Rattle.elem_descr.specs.declared.memory_order.MemoryOrder.TheVariants.{C};
 ghost use Rattle.shape_strides.specs.Layouts.{offsets};
 ghost use Rattle.arrays.specs.Blocks.{offsets_in};
 ghost use Rattle.arrays.specs.ItemLists.{owned_items};
@@ -27,8 +27,7 @@ use crate::shrunk::{spread, without_repeats};
 use crate::text_comparing::without_nuls;
 use arrays::{Items, Owned};
 use broadcasting::repeats;
-use elem_descr::{BytesLen, Refusal, Scalar};
-use machine_numbers::Comparison;
+use elem_descr::{BytesLen, Comparison, Refusal, Scalar};
 use raw_block::{BlockBuilder, RawBlock};
 use std::alloc::{AllocError, Global};
 

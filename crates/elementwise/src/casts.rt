@@ -6,7 +6,7 @@ ghost use Rattle.elem_descr.specs.declared.descr.Descr.TheVariants.{Scalar as Sc
 ghost use Rattle.elem_descr.specs.Encoding.{size};
 ghost use Rattle.elem_descr.specs.Items.{item_size, leaves_of, leaf_at, encode_item};
 ghost use Rattle.elem_descr.specs.Blocks.{item_from};
-ghost use Rattle.shape_strides.specs.declared.memory_order.MemoryOrder.TheVariants.{C};
+ghost use Rattle.elem_descr.specs.declared.memory_order.MemoryOrder.TheVariants.{C};
 ghost use Rattle.shape_strides.specs.Limits.{max_bytes};
 ghost use Rattle.shape_strides.specs.Indexes.{count};
 ghost use Rattle.shape_strides.specs.Layouts.{offsets, multiples};
@@ -23,9 +23,9 @@ use crate::made::made;
 use crate::pairing::{Pairing, Work};
 use crate::rows::{Operand, Operands};
 use arrays::{Items, Owned, copy_run};
-use elem_descr::{Descr, Leaf, Refusal, Scalar};
+use elem_descr::{Descr, Leaf, MemoryOrder, Refusal, Scalar};
 use raw_block::RawBlock;
-use shape_strides::{MAX_BYTES, MemoryOrder, Run};
+use shape_strides::{MAX_BYTES, Run};
 use std::alloc::Global;
 
 /// The leaf with a number.

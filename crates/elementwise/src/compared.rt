@@ -8,7 +8,7 @@ ghost use Rattle.elem_descr.specs.Encoding.{IsNumber};
 ghost use Rattle.elem_descr.specs.Items.{item_size, encode_item};
 ghost use Rattle.elem_descr.specs.Blocks.{item_from};
 ghost use Rattle.elem_descr.specs.Refusals.{Gives};
-ghost use Rattle.shape_strides.specs.declared.memory_order.MemoryOrder.TheVariants.{C};
+ghost use Rattle.elem_descr.specs.declared.memory_order.MemoryOrder.TheVariants.{C};
 ghost use Rattle.shape_strides.specs.Layouts.{offsets};
 ghost use Rattle.arrays.specs.Blocks.{offsets_in};
 ghost use Rattle.arrays.specs.ItemLists.{owned_items};
@@ -28,8 +28,8 @@ use crate::trimmed::trimmed_in;
 use crate::typed::{make_cast, stretched_to};
 use arrays::{Items, Owned};
 use broadcasting::{common, repeats};
-use elem_descr::{Descr, Refusal, Scalar};
-use machine_numbers::{Comparison, is_signed, little};
+use elem_descr::{Comparison, Descr, Refusal, Scalar};
+use machine_numbers::{is_signed, little};
 use std::alloc::Global;
 
 /// How numbers of two scalars are compared: as those of the smallest scalar that holds both, and where there

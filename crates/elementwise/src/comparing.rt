@@ -9,7 +9,8 @@ ghost use Rattle.elementwise.specs.inside.Operands.{pairs_of, made_of_all};
 use crate::bits;
 use crate::kernels::{Kernel, push_made};
 use crate::rows::Operands;
-use machine_numbers::{Comparison, LowFirst, Number, Ordered};
+use elem_descr::Comparison;
+use machine_numbers::{LowFirst, Number, Ordered};
 use raw_block::BlockBuilder;
 
 /// What a comparison says of two values of which it is known whether the first is below or above the second.

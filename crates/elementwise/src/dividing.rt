@@ -3,7 +3,7 @@ ghost use Rattle.std.specs.Prelude.{◌≡◌, ◌+◌, ◌*◌, ◌<◌, ◌≤
 ghost use Rattle.elem_descr.specs.declared.scalar.Order.TheVariants.{Little};
 ghost use Rattle.elem_descr.specs.Encoding.{integer};
 ghost use Rattle.raw_block.specs.Bytes.{joined};
-ghost use Rattle.machine_numbers.specs.declared.operators.BinOp.TheVariants.{FloorDivide};
+ghost use Rattle.elem_descr.specs.declared.operators.BinOp.TheVariants.{FloorDivide};
 ghost use Rattle.machine_numbers.specs.Kinds.{is_bool};
 ghost use Rattle.machine_numbers.specs.Sides.{number_of_side};
 ghost use Rattle.elementwise.specs.Bits.{IsTruth};

@@ -9,7 +9,7 @@ ghost use Rattle.elem_descr.specs.Items.{item_size, encode_item};
 ghost use Rattle.elem_descr.specs.Blocks.{item_from};
 ghost use Rattle.elem_descr.specs.Refusals.{Gives};
 ghost use Rattle.elem_descr.specs.Values.{number};
-ghost use Rattle.shape_strides.specs.declared.memory_order.MemoryOrder.TheVariants.{C};
+ghost use Rattle.elem_descr.specs.declared.memory_order.MemoryOrder.TheVariants.{C};
 ghost use Rattle.shape_strides.specs.Limits.{max_bytes};
 ghost use Rattle.shape_strides.specs.Indexes.{count};
 ghost use Rattle.shape_strides.specs.Layouts.{offsets};
@@ -24,10 +24,10 @@ use crate::comparing::says;
 use crate::operands::{Broadcast, note_bytes};
 use crate::promotion::scalar_of;
 use arrays::{Items, Owned};
-use elem_descr::{Descr, Refusal, Scalar, is_value, num_write};
-use machine_numbers::{Comparison, is_text, little};
+use elem_descr::{Comparison, Descr, MemoryOrder, Refusal, Scalar, is_value, num_write};
+use machine_numbers::{is_text, little};
 use raw_block::RawBlock;
-use shape_strides::{MemoryOrder, Shape};
+use shape_strides::Shape;
 use std::alloc::{AllocError, Global};
 
 /// A number as a block.

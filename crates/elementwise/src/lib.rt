@@ -37,5 +37,5 @@ pub use castable::can_cast;
 pub use casts::cast;
 pub use compared::compare;
 pub use integers::compare_integer;
-pub use machine_numbers::{BinOp, UnOp};
+pub use elem_descr::{BinOp, UnOp};
 pub use promotion::{compared_type, literal_type, promote, promote_one, same_kind, scalar_of};

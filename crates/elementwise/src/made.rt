@@ -13,9 +13,9 @@ use crate::operands::Layouts;
 use crate::pairing::Pairing;
 use crate::rows::{Operand, Operands};
 use arrays::{Owned, gather};
-use elem_descr::{Descr, Refusal};
+use elem_descr::{Descr, MemoryOrder, Refusal};
 use raw_block::BlockBuilder;
-use shape_strides::{Layout, MemoryOrder, Rows};
+use shape_strides::{Layout, Rows};
 use std::alloc::{AllocError, Global};
 
 /// Fewer pairs than these go by rows.

@@ -4,7 +4,7 @@ ghost use Rattle.std.specs.Prelude.{◌≡◌, ◌+◌, ◌*◌, ◌≤◌, ◌+
 ghost use Rattle.elem_descr.specs.declared.scalar.Order.TheVariants.{Little};
 ghost use Rattle.elem_descr.specs.Encoding.{size, integer, wrap};
 ghost use Rattle.elem_descr.specs.Items.{item_size};
-ghost use Rattle.machine_numbers.specs.declared.operators.BinOp.TheVariants.{Add, Subtract, Multiply, FloorDivide, Modulo, And, Or, Xor, ShiftLeft, ShiftRight};
+ghost use Rattle.elem_descr.specs.declared.operators.BinOp.TheVariants.{Add, Subtract, Multiply, FloorDivide, Modulo, And, Or, Xor, ShiftLeft, ShiftRight};
 ghost use Rattle.machine_numbers.specs.Kinds.{is_bool};
 ghost use Rattle.elementwise.specs.Operations.{binary, unary, serves_bools, serves_one};
 ghost use Rattle.elementwise.specs.inside.PairPasses.{number_pair};
@@ -18,8 +18,8 @@ use crate::dividing::Quotients;
 use crate::kernels::{Kernel, push_made};
 use crate::pairing::Work;
 use crate::rows::Operands;
-use elem_descr::Scalar;
-use machine_numbers::{BinOp, LowFirst, Number, NumberTask, Ordered, UnOp, is_bool, is_text};
+use elem_descr::{BinOp, Scalar, UnOp};
+use machine_numbers::{LowFirst, Number, NumberTask, Ordered, is_bool, is_text};
 use raw_block::BlockBuilder;
 use std::marker::PhantomData;
 

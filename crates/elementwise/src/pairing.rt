@@ -10,8 +10,8 @@ use crate::promotion::eight_bytes;
 use crate::rows::Operands;
 use crate::text_pairs::{ComparingTexts, ComparingWith, Cutting};
 use crate::text_words::push_texts;
-use elem_descr::{BytesLen, Scalar};
-use machine_numbers::{BinOp, Comparison, LowFirst, UnOp, is_bool, little, on_number};
+use elem_descr::{BinOp, BytesLen, Comparison, Scalar, UnOp};
+use machine_numbers::{LowFirst, is_bool, little, on_number};
 use raw_block::BlockBuilder;
 
 /// What is made of two numbers.

@@ -10,8 +10,8 @@ ghost use Rattle.elementwise.specs.Operations.{serves_bools};
 ghost use Rattle.elementwise.specs.Results.{scalar_of};
 
 use crate::operations::{serves_bools, serves_one};
-use elem_descr::{Descr, Order, Refusal, Scalar, Width};
-use machine_numbers::{BinOp, UnOp, is_bool, is_signed, is_text, little};
+use elem_descr::{BinOp, Descr, Order, Refusal, Scalar, UnOp, Width};
+use machine_numbers::{is_bool, is_signed, is_text, little};
 
 /// The place of a kind of numbers in their order.
 fn rank_of_kind(scalar: &Scalar) -> usize

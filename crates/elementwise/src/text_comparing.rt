@@ -6,7 +6,7 @@ ghost use Rattle.elementwise.specs.Comparisons.{compared};
 
 use crate::comparing::says;
 use crate::words::{next_word, shared_words, without_nul_words};
-use machine_numbers::Comparison;
+use elem_descr::Comparison;
 
 /// A byte string without the NULs at its end.
 pub(crate) fn without_nuls(item: &[u8]) -> &[u8]

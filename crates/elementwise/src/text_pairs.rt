@@ -11,8 +11,8 @@ ghost use Rattle.std.proofs.Common.{arith};
 use crate::rows::Pass;
 use crate::sides::Pairs;
 use crate::text_comparing::{are_compared, are_items_compared, without_nuls};
-use elem_descr::BytesLen;
-use machine_numbers::{Comparison, LowFirst, Number, Side};
+use elem_descr::{BytesLen, Comparison};
+use machine_numbers::{LowFirst, Number, Side};
 use raw_block::BlockBuilder;
 
 /// A comparison of byte strings of two lengths.

@@ -5,8 +5,8 @@ use Rattle.std.specs.List.{list_all}
 use Rattle.elem_descr.specs.declared.descr.Descr.{Descr}
 use Rattle.elem_descr.specs.declared.descr.Descr.TheVariants.{Scalar as ScalarDescr}
 use Rattle.elem_descr.specs.declared.scalar.Scalar.TheVariants.{Bool as BoolScalar, Byte, Int}
-use Rattle.shape_strides.specs.declared.index_item.IndexItem.{IndexItem}
-use Rattle.shape_strides.specs.declared.index_item.IndexItem.TheVariants.{Integer, Slice, Ellipsis, NewAxis, Array}
+use Rattle.elem_descr.specs.declared.index_item.IndexItem.{IndexItem}
+use Rattle.elem_descr.specs.declared.index_item.IndexItem.TheVariants.{Integer, Slice, Ellipsis, NewAxis, Array}
 use Rattle.view_ops.specs.Slices.{is_place}
 use Rattle.view_ops.specs.Basics.{Placed, is_on_axis}
 use Rattle.fancy_index.specs.declared.kind.Kind.{Kind}

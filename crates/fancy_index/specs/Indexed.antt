@@ -4,7 +4,7 @@ use Rattle.std.specs.List.{list_all}
 use Rattle.elem_descr.specs.declared.refusal.Refusal.{Refusal}
 use Rattle.elem_descr.specs.declared.refusal.Refusal.TheVariants.{NotAnIndexType, TooManyIndices, MaskLengths, ZeroStep, IndexOutOfRange, IndexShapes}
 use Rattle.elem_descr.specs.Refusals.{◌>>=◌, check}
-use Rattle.shape_strides.specs.declared.index_item.IndexItem.{IndexItem}
+use Rattle.elem_descr.specs.declared.index_item.IndexItem.{IndexItem}
 use Rattle.shape_strides.specs.Shapes.{shape_of}
 use Rattle.view_ops.specs.Basics.{has_step}
 use Rattle.view_ops.specs.Views.{View}

@@ -2,8 +2,8 @@
 use Rattle.std.specs.Prelude.{ℕ, ◌+◌, Bool, true, false, not, if◌then◌else◌, ℤ, pos, List, [], ◌∷◌, ◌++◌, map, length, slice_index, get_or}
 use Rattle.std.specs.Ordering.{int_eq}
 use Rattle.std.specs.List.{list_any, flat_map}
-use Rattle.shape_strides.specs.declared.index_item.IndexItem.{IndexItem}
-use Rattle.shape_strides.specs.declared.index_item.IndexItem.TheVariants.{Integer, Ellipsis, Array}
+use Rattle.elem_descr.specs.declared.index_item.IndexItem.{IndexItem}
+use Rattle.elem_descr.specs.declared.index_item.IndexItem.TheVariants.{Integer, Ellipsis, Array}
 use Rattle.shape_strides.specs.Addresses.{natural}
 use Rattle.shape_strides.specs.Indexes.{indexes, rank}
 use Rattle.view_ops.specs.Slices.{from_front}

@@ -12,8 +12,7 @@ ghost use Rattle.fancy_index.specs.inside.PartLists.{IsChecked};
 use crate::kind::Kind;
 use crate::lists::{IndexList, Left, axes_beside};
 use crate::source::{Indices, kind, resolved};
-use elem_descr::Refusal;
-use shape_strides::IndexItem;
+use elem_descr::{IndexItem, Refusal};
 use view_ops::have_steps;
 
 fn is_index(item: IndexItem<Indices<'_>>) -> bool

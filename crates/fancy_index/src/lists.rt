@@ -7,7 +7,7 @@ ghost use Rattle.fancy_index.specs.inside.Items.{index_item_of, axes_taken, Item
 
 use crate::kind::Kind;
 use crate::source::{Indices, kind, resolved};
-use shape_strides::IndexItem;
+use elem_descr::IndexItem;
 
 /// The items of an index list, and the arrays that they name.
 #[derive(Clone, Copy, Drop)]

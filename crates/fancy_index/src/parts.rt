@@ -1,7 +1,7 @@
 //! The parts that the items of an index list stand for.
 ghost use Rattle.std.specs.Prelude.{◌≡◌, ◌≤◌, ◌∷◌, length, map, true, false, All, IfOk, OnOk};
 ghost use Rattle.shape_strides.specs.Limits.{max_items};
-ghost use Rattle.shape_strides.specs.IndexItems.{is_ellipsis};
+ghost use Rattle.elem_descr.specs.IndexItems.{is_ellipsis};
 ghost use Rattle.view_ops.specs.Basics.{has_step};
 ghost use Rattle.fancy_index.specs.IndexArrays.{is_index, item_axes, covers, is_within, are_within};
 ghost use Rattle.fancy_index.specs.Parts.{Between, wholes, parts_of, parts};
@@ -12,8 +12,7 @@ ghost use Rattle.fancy_index.specs.inside.PartLists.{IsChecked, shown_part, AreP
 use crate::lists::Left;
 use crate::points::{PointList, array_points, integer_point};
 use crate::source::Indices;
-use elem_descr::Refusal;
-use shape_strides::IndexItem;
+use elem_descr::{IndexItem, Refusal};
 use std::alloc::{AllocError, Global};
 use view_ops::{AxisPick, pick_of, whole_axis};
 

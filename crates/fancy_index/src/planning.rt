@@ -16,8 +16,8 @@ use crate::plans::Plan;
 use crate::rest::{back, front, rest};
 use crate::shifts::shifts;
 use crate::source::Indices;
-use elem_descr::Refusal;
-use shape_strides::{IndexItem, Layout, Shape};
+use elem_descr::{IndexItem, Refusal};
+use shape_strides::{Layout, Shape};
 use std::alloc::{AllocError, Global};
 
 /// The plan of a shape without items.

@@ -3,7 +3,7 @@ ghost use Rattle.std.specs.Prelude.{◌≡◌, ◌+◌, ◌*◌, ◌<◌, ◌≤
 ghost use Rattle.elem_descr.specs.declared.refusal.Refusal.TheVariants.{OutOfMemory, TooLarge};
 ghost use Rattle.elem_descr.specs.Blocks.{item_from};
 ghost use Rattle.elem_descr.specs.Items.{item_size};
-ghost use Rattle.shape_strides.specs.declared.memory_order.MemoryOrder.TheVariants.{C};
+ghost use Rattle.elem_descr.specs.declared.memory_order.MemoryOrder.TheVariants.{C};
 ghost use Rattle.shape_strides.specs.Limits.{max_bytes, max_items};
 ghost use Rattle.shape_strides.specs.Indexes.{count};
 ghost use Rattle.shape_strides.specs.Layouts.{offsets, multiples};
@@ -18,9 +18,9 @@ use crate::gather::push_all;
 use crate::rows::{PlanAxes, moved};
 use crate::scatter::scatter;
 use arrays::Owned;
-use elem_descr::{Descr, Refusal};
+use elem_descr::{Descr, MemoryOrder, Refusal};
 use raw_block::{BlockBuilder, RawBlock};
-use shape_strides::{Layout, MAX_BYTES, MemoryOrder, Shape, Walk};
+use shape_strides::{Layout, MAX_BYTES, Shape, Walk};
 use std::alloc::{AllocError, Global};
 use std::marker::Model;
 

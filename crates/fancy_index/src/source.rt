@@ -7,9 +7,9 @@ ghost use Rattle.fancy_index.specs.Sources.{number_from, index_array_of, LiesInB
 ghost use Rattle.fancy_index.specs.inside.Items.{index_item_of, ItemsLieInBlock};
 
 use crate::kind::{Kind, kind_of};
-use elem_descr::{Descr, num_read};
+use elem_descr::{Descr, IndexItem, num_read};
 use raw_block::RawBlock;
-use shape_strides::{IndexItem, Layout};
+use shape_strides::Layout;
 
 /// An array that stands in an index list: the items of a layout in a block.
 #[derive(Clone, Copy)]

@@ -1,9 +1,9 @@
 //! Literals of a script, and the numbers of a range, as items of a descriptor.
 #![tactic(auto)]
 
-pub mod item;
+mod item;
 mod leaf;
-pub mod range;
+mod range;
 
 pub use item::{can_be_item, write_item, write_items};
 pub use range::{range_block, range_len};

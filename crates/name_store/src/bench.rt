@@ -12,8 +12,7 @@ use crate::names::Names;
 use crate::table::Table;
 use crate::target::{Source, Target};
 use crate::write::{write_items, write_over};
-use elem_descr::Refusal;
-use script_lang::Name;
+use elem_descr::{Name, Refusal};
 use std::alloc::{AllocError, Global};
 use std::marker::Model;
 

@@ -2,7 +2,7 @@
 ghost use Rattle.std.specs.Prelude.{◌≡◌};
 
 use crate::path::Path;
-use script_lang::Name;
+use elem_descr::Name;
 use shape_strides::Layout;
 use smallvec::SmallVec;
 use std::alloc::Global;

@@ -8,9 +8,9 @@ ghost use Rattle.npy_format.specs.inside.LoadedParts.{load_behind};
 use crate::header::{Header, header_read};
 use arrays::Owned;
 use byteorder::{ByteOrder, LittleEndian};
-use elem_descr::Refusal;
+use elem_descr::{MemoryOrder, Refusal};
 use raw_block::RawBlock;
-use shape_strides::{MAX_BYTES, MemoryOrder};
+use shape_strides::MAX_BYTES;
 use std::alloc::{AllocError, Global};
 
 /// The bytes that every file begins with.

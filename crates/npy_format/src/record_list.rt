@@ -10,10 +10,7 @@ ghost use Rattle.npy_format.specs.inside.Scanned.{string_at, pad_at};
 ghost use Rattle.npy_format.specs.inside.Places.{Stands, HasValues, entry_parts};
 
 use crate::grammar::{behind_value, string, symbol};
-use elem_descr::digits::{are_digits, capped_value};
-use elem_descr::name::is_legal_name;
-use elem_descr::scalar::MAX_ITEM_SIZE;
-use elem_descr::typestr::marked;
+use elem_descr::{MAX_ITEM_SIZE, are_digits, capped_value, is_legal_name, marked};
 use elem_descr::{Descr, FieldName, MAX_DEPTH, Record, RecordBuilder, Refusal, typestr_read};
 use std::alloc::Global;
 

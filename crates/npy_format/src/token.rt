@@ -5,7 +5,7 @@ ghost use Rattle.std.specs.List.{prefix_len};
 ghost use Rattle.npy_format.specs.Tokens.{is_space, unspaced_text, is_quote, is_plain_byte, text_token, is_integer, behind_long, integer_token, word, word_token, token_from, tokens};
 ghost use Rattle.npy_format.specs.inside.Scanned.{token_of};
 
-use elem_descr::digits::digits_len;
+use elem_descr::digits_len;
 
 /// A token of Python.
 #[derive(Clone, Copy)]

@@ -13,7 +13,7 @@ use Rattle.shape_strides.specs.declared.runs.Run.{Run}
 use Rattle.shape_strides.specs.Runs.{run_along, run_offsets}
 use Rattle.shape_strides.specs.WalkLaws.{length-run_offsets}
 use Rattle.arrays.specs.RunLaws.{run_offsets-more}
-use Rattle.machine_numbers.specs.declared.operators.Red.{Red}
+use Rattle.elem_descr.specs.declared.operators.Red.{Red}
 use Rattle.reductions.specs.declared.lines.Lines.{Lines}
 use Rattle.reductions.specs.inside.Numbers.{numbers_at, lines, IsReduced, AreReduced, AddsReduced, IsPushed}
 use Rattle.reductions.specs.inside.Lines.{line_run}

@@ -11,8 +11,8 @@ use Rattle.std.proofs.lemmas.List.Sorted.{IsPermutation-keeps, IsPermutation-map
 use Rattle.std.proofs.lemmas.Bool.{false≢true}
 use Rattle.elem_descr.specs.declared.scalar.Scalar.{Scalar}
 use Rattle.elem_descr.specs.Encoding.{wrap}
-use Rattle.machine_numbers.specs.declared.operators.Red.{Red}
-use Rattle.machine_numbers.specs.declared.operators.Red.TheVariants.{Sum, Product, Minimum, Maximum, Any, All as AllOf, ArgMin, ArgMax}
+use Rattle.elem_descr.specs.declared.operators.Red.{Red}
+use Rattle.elem_descr.specs.declared.operators.Red.TheVariants.{Sum, Product, Minimum, Maximum, Any, All as AllOf, ArgMin, ArgMax}
 use Rattle.raw_block.specs.Bytes.{item_at}
 use Rattle.reductions.proofs.RowLaws.{swapped}
 use Rattle.reductions.specs.inside.Numbers.{AreReduced, IsReduced, IsStored, number_at, numbers_at}

@@ -9,7 +9,7 @@ use Rattle.elem_descr.specs.declared.scalar.Scalar.{Scalar}
 use Rattle.elem_descr.specs.declared.scalar.Scalar.TheVariants.{Bool as BoolScalar, Byte, Int, Bytes}
 use Rattle.elem_descr.specs.Values.{number}
 use Rattle.shape_strides.specs.Shapes.{shape_of}
-use Rattle.machine_numbers.specs.declared.operators.Red.TheVariants.{Sum, Product, Minimum, Maximum, Any, All, ArgMin, ArgMax}
+use Rattle.elem_descr.specs.declared.operators.Red.TheVariants.{Sum, Product, Minimum, Maximum, Any, All, ArgMin, ArgMax}
 use Rattle.reductions.specs.Lists.{lists}
 use Rattle.reductions.specs.Reductions.{reduced, reduced_item}
 use Rattle.reductions.specs.Outcomes.{reduced_type}

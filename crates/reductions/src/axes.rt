@@ -12,8 +12,7 @@ ghost use Rattle.reductions.specs.Reductions.{needs_items};
 ghost use Rattle.reductions.specs.inside.Axes.{shape_after, AreStarts, IsUnlessMemory};
 
 use crate::kinds::needs_items;
-use elem_descr::{Descr, Refusal, Scalar};
-use machine_numbers::Red;
+use elem_descr::{Descr, Red, Refusal, Scalar};
 use shape_strides::{Layout, Shape, Strides};
 use smallvec::SmallVec;
 use std::alloc::{AllocError, Global};

@@ -4,7 +4,7 @@ ghost use Rattle.std.specs.List.{fold};
 ghost use Rattle.elem_descr.specs.declared.scalar.Order.{Order};
 ghost use Rattle.elem_descr.specs.declared.scalar.Order.TheVariants.{Little};
 ghost use Rattle.elem_descr.specs.Encoding.{low_bits, size};
-ghost use Rattle.machine_numbers.specs.declared.operators.Red.{Red};
+ghost use Rattle.elem_descr.specs.declared.operators.Red.{Red};
 ghost use Rattle.reductions.specs.Reductions.{first_place, result_scalar};
 ghost use Rattle.reductions.specs.inside.Numbers.{number_at, numbers_at, numbers_of, TakesIn, IsStored, IsReduced};
 ghost use Rattle.reductions.specs.inside.FoldLaws.{total_of, total, total_is, total_size, truth_of, truth, truth_is, truth_size, is_true_bits};

@@ -12,8 +12,8 @@ ghost use Rattle.reductions.specs.inside.Numbers.{IsStored, IsReduced, AreReduce
 use crate::fills::reduced;
 use crate::folds::{Best, PlaceOf, Truth, Wrapping};
 use crate::lines::Lists;
-use elem_descr::{Order, Scalar, Width};
-use machine_numbers::{LowFirst, Number, NumberTask, Ordered, Red, little};
+use elem_descr::{Order, Red, Scalar, Width};
+use machine_numbers::{LowFirst, Number, NumberTask, Ordered, little};
 use raw_block::{BlockBuilder, RawBlock};
 use std::alloc::{AllocError, Global};
 

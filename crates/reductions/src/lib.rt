@@ -9,5 +9,5 @@ mod kinds;
 mod lines;
 mod reducing;
 
-pub use machine_numbers::Red;
+pub use elem_descr::Red;
 pub use reducing::reduce;

@@ -7,7 +7,7 @@ ghost use Rattle.elem_descr.specs.Blocks.{item_from};
 ghost use Rattle.elem_descr.specs.Encoding.{IsNumber, size};
 ghost use Rattle.elem_descr.specs.Items.{item_size, encode_item};
 ghost use Rattle.elem_descr.specs.Refusals.{Gives};
-ghost use Rattle.shape_strides.specs.declared.memory_order.MemoryOrder.TheVariants.{C};
+ghost use Rattle.elem_descr.specs.declared.memory_order.MemoryOrder.TheVariants.{C};
 ghost use Rattle.shape_strides.specs.Indexes.{count};
 ghost use Rattle.shape_strides.specs.Layouts.{offsets};
 ghost use Rattle.shape_strides.specs.Limits.{max_items};
@@ -24,10 +24,10 @@ use crate::axes::{list_length, named_axis, number_scalar, shape_after, starts_of
 use crate::kinds::{Reducing, empty_block, hangs_on_order, result_scalar};
 use crate::lines::{Lists, Source};
 use arrays::{Items, Owned, copy, goes_by_columns};
-use elem_descr::{Descr, Refusal};
-use machine_numbers::{Red, on_number};
+use elem_descr::{Descr, MemoryOrder, Red, Refusal};
+use machine_numbers::on_number;
 use raw_block::RawBlock;
-use shape_strides::{Layout, MemoryOrder, StridedAxis, in_memory_order, lies_in_c_order};
+use shape_strides::{Layout, StridedAxis, in_memory_order, lies_in_c_order};
 use std::alloc::{AllocError, Global};
 
 /// The axis with a number.

@@ -1,8 +1,8 @@
 //! Reshaping: the shape that a list of lengths means, and whether it needs a copy.
 #![tactic(auto)]
 
-pub mod target_shape;
-pub mod without_copy;
+mod target_shape;
+mod without_copy;
 
 pub use target_shape::target;
 pub use without_copy::no_copy;

@@ -2,14 +2,14 @@
 use Rattle.std.proofs.Common.{◌≡◌, ℕ, ℤ, false, List, Option, Some, None, refl, is_some}
 use Rattle.std.specs.Prelude.{IsTrue, IfSome}
 use Rattle.std.specs.Option.{option_map}
-use Rattle.shape_strides.specs.declared.index_item.IndexItem.{IndexItem}
+use Rattle.elem_descr.specs.declared.index_item.IndexItem.{IndexItem}
 use Rattle.script_lang.specs.declared.command.Operand.{Operand}
 use Rattle.script_lang.specs.declared.command.Viewing.{Viewing}
 use Rattle.script_lang.specs.declared.command.Computation.{Computation}
 use Rattle.script_lang.specs.declared.command.Value.{Value}
 use Rattle.script_lang.specs.declared.command.Command.{Command}
 use Rattle.script_lang.specs.declared.operation.Operation.{Operation}
-use Rattle.machine_numbers.specs.declared.operators.UnOp.{UnOp}
+use Rattle.elem_descr.specs.declared.operators.UnOp.{UnOp}
 use Rattle.script_lang.specs.declared.verb.MakeVerb.{MakeVerb}
 use Rattle.script_lang.specs.declared.verb.ViewVerb.{ViewVerb}
 use Rattle.script_lang.specs.declared.verb.ComputeVerb.{ComputeVerb}

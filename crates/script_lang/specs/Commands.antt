@@ -2,10 +2,10 @@
 -- word, and answers what it reads with the bytes behind it.
 use Rattle.std.specs.Prelude.{ℕ, ℤ, List, codes, Option, Some, None, is_some, if◌then◌else◌}
 use Rattle.std.specs.Option.{option_map}
-use Rattle.shape_strides.specs.declared.index_item.IndexItem.{IndexItem}
+use Rattle.elem_descr.specs.declared.index_item.IndexItem.{IndexItem}
 use Rattle.script_lang.specs.declared.operation.Operation.{Operation}
-use Rattle.machine_numbers.specs.declared.operators.UnOp.{UnOp}
-use Rattle.machine_numbers.specs.declared.operators.Red.{Red}
+use Rattle.elem_descr.specs.declared.operators.UnOp.{UnOp}
+use Rattle.elem_descr.specs.declared.operators.Red.{Red}
 use Rattle.script_lang.specs.declared.verb.Verb.{Verb}
 use Rattle.script_lang.specs.declared.verb.Verb.TheVariants as verb
 use Rattle.script_lang.specs.declared.verb.MakeVerb.{MakeVerb}

@@ -2,16 +2,16 @@
 use Rattle.std.specs.Prelude.{ℕ, Bool, List, [], ◌∷◌, codes, Option, Some, None, ◌||◌, if◌then◌else◌}
 use Rattle.std.specs.Option.{option_and_then}
 use Rattle.std.specs.Str.{bytes_eq}
-use Rattle.shape_strides.specs.declared.memory_order.MemoryOrder.{MemoryOrder}
-use Rattle.shape_strides.specs.declared.memory_order.MemoryOrder.TheVariants.{C, Fortran}
-use Rattle.machine_numbers.specs.declared.operators.BinOp.TheVariants.{Add, Subtract, Multiply, FloorDivide, Modulo, And, Or, Xor, ShiftLeft, ShiftRight, Divide}
-use Rattle.machine_numbers.specs.declared.operators.Comparison.TheVariants.{Equal, NotEqual, Less, LessOrEqual, Greater, GreaterOrEqual}
+use Rattle.elem_descr.specs.declared.memory_order.MemoryOrder.{MemoryOrder}
+use Rattle.elem_descr.specs.declared.memory_order.MemoryOrder.TheVariants.{C, Fortran}
+use Rattle.elem_descr.specs.declared.operators.BinOp.TheVariants.{Add, Subtract, Multiply, FloorDivide, Modulo, And, Or, Xor, ShiftLeft, ShiftRight, Divide}
+use Rattle.elem_descr.specs.declared.operators.Comparison.TheVariants.{Equal, NotEqual, Less, LessOrEqual, Greater, GreaterOrEqual}
 use Rattle.script_lang.specs.declared.operation.Operation.{Operation}
 use Rattle.script_lang.specs.declared.operation.Operation.TheVariants.{Binary, Compare}
-use Rattle.machine_numbers.specs.declared.operators.UnOp.{UnOp}
-use Rattle.machine_numbers.specs.declared.operators.UnOp.TheVariants.{Negate, Invert}
-use Rattle.machine_numbers.specs.declared.operators.Red.{Red}
-use Rattle.machine_numbers.specs.declared.operators.Red.TheVariants.{Sum, Product, Minimum, Maximum, Any, All, ArgMin, ArgMax}
+use Rattle.elem_descr.specs.declared.operators.UnOp.{UnOp}
+use Rattle.elem_descr.specs.declared.operators.UnOp.TheVariants.{Negate, Invert}
+use Rattle.elem_descr.specs.declared.operators.Red.{Red}
+use Rattle.elem_descr.specs.declared.operators.Red.TheVariants.{Sum, Product, Minimum, Maximum, Any, All, ArgMin, ArgMax}
 use Rattle.script_lang.specs.declared.verb.Verb.{Verb}
 use Rattle.script_lang.specs.declared.verb.Verb.TheVariants as verb
 use Rattle.script_lang.specs.declared.verb.MakeVerb.TheVariants as make

@@ -2,12 +2,10 @@
 
 use crate::index::Index;
 use crate::literal::{Literal, Literals};
-use crate::name::Name;
+use elem_descr::{MemoryOrder, Name, Red, UnOp};
 use crate::operation::Operation;
 use crate::shape::{Integers, Lengths};
 use crate::text::{FileName, Text};
-use machine_numbers::{Red, UnOp};
-use shape_strides::MemoryOrder;
 
 /// `Y` or `Y[ix]`
 #[derive(Drop)]

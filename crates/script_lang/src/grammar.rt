@@ -31,10 +31,9 @@ use crate::grammar::statements::{delete, save, set, update};
 use crate::grammar::tokens::{is_at_end, symbol, unspaced, word};
 use crate::grammar::verbs::verb;
 use crate::grammar::views::{plain_view, view};
-use crate::name::Name;
 use crate::text::FileName;
 use crate::verb::Verb;
-use elem_descr::Refusal;
+use elem_descr::{Name, Refusal};
 use std::alloc::Global;
 
 /// Whether a line is blank or a comment, given what follows its blanks.

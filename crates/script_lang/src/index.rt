@@ -1,10 +1,9 @@
 //! Index lists.
 ghost use Rattle.std.specs.Prelude.{◌≡◌, count_by};
-ghost use Rattle.shape_strides.specs.IndexItems.{is_ellipsis};
+ghost use Rattle.elem_descr.specs.IndexItems.{is_ellipsis};
 
-use crate::name::Name;
+use elem_descr::{IndexItem, Name};
 use crate::short_list::ShortList;
-use shape_strides::IndexItem;
 
 /// The items between the brackets: at least one, with `...` at most once. Integers have up to 30
 /// digits, and arrays are given by their names.

@@ -5,7 +5,6 @@ mod command;
 mod grammar;
 mod index;
 mod literal;
-mod name;
 mod operation;
 mod refusal_text;
 mod shape;
@@ -17,7 +16,6 @@ pub use command::{Argument, Command, Computation, NewItems, Operand, Question, V
 pub use grammar::parse;
 pub use index::Index;
 pub use literal::{ByteText, Literal, Literals, RecordLiteral, ScalarLiteral};
-pub use name::Name;
 pub use operation::Operation;
 pub use refusal_text::word;
 pub use shape::{Integers, Lengths};

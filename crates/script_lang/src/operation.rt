@@ -1,5 +1,5 @@
 //! The operators with two operands.
-use machine_numbers::{BinOp, Comparison};
+use elem_descr::{BinOp, Comparison};
 
 /// An operator with two operands: an operation or a comparison.
 #[derive(Clone, Copy, Debug)]

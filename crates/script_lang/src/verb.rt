@@ -4,11 +4,11 @@ use crate::operation::Operation;
 use crate::operation::Operation::{Binary, Compare};
 use crate::verb::ComputeVerb::{Cast, Combine, Duplicate, Reduce, Transform};
 use crate::verb::Verb::Compute;
-use machine_numbers::BinOp::{
+use elem_descr::BinOp::{
     Add, And, Divide, FloorDivide, Modulo, Multiply, Or, ShiftLeft, ShiftRight, Subtract, Xor,
 };
-use machine_numbers::Comparison::{Equal, Greater, GreaterOrEqual, Less, LessOrEqual, NotEqual};
-use machine_numbers::{Red, UnOp};
+use elem_descr::Comparison::{Equal, Greater, GreaterOrEqual, Less, LessOrEqual, NotEqual};
+use elem_descr::{Red, UnOp};
 
 /// A keyword that begins a command or follows `X =`.
 #[derive(Clone, Copy)]

@@ -11,7 +11,6 @@ pub mod PairWalks
 pub mod Contiguity
 pub mod Stacks
 pub mod AddressOrders
-pub mod IndexItems
 pub mod AxisIndexes
 pub mod inside
 pub mod CountLaws

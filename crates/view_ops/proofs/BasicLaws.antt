@@ -7,7 +7,7 @@ use Rattle.elem_descr.specs.declared.refusal.Refusal.{Refusal}
 use Rattle.elem_descr.specs.declared.refusal.Refusal.TheVariants.{OutOfMemory, TooManyAxes, TooManyIndices, ZeroStep, IndexOutOfRange}
 use Rattle.elem_descr.specs.Refusals.{◌>>=◌, check}
 use Rattle.shape_strides.specs.declared.layout.Layout.{Layout}
-use Rattle.shape_strides.specs.declared.index_item.IndexItem.{IndexItem}
+use Rattle.elem_descr.specs.declared.index_item.IndexItem.{IndexItem}
 use Rattle.shape_strides.specs.Limits.{max_axes, max_items}
 use Rattle.shape_strides.specs.Indexes.{count}
 use Rattle.shape_strides.specs.Shapes.{shape_of}

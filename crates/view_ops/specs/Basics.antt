@@ -5,8 +5,8 @@ use Rattle.std.specs.List.{list_all, flat_map, range_with_len}
 use Rattle.elem_descr.specs.declared.refusal.Refusal.{Refusal}
 use Rattle.elem_descr.specs.declared.refusal.Refusal.TheVariants.{TooManyAxes, TooManyIndices, IndexOutOfRange, ZeroStep}
 use Rattle.elem_descr.specs.Refusals.{◌>>=◌, check}
-use Rattle.shape_strides.specs.declared.index_item.IndexItem.{IndexItem}
-use Rattle.shape_strides.specs.declared.index_item.IndexItem.TheVariants.{Integer, Slice, Ellipsis, NewAxis}
+use Rattle.elem_descr.specs.declared.index_item.IndexItem.{IndexItem}
+use Rattle.elem_descr.specs.declared.index_item.IndexItem.TheVariants.{Integer, Slice, Ellipsis, NewAxis}
 use Rattle.shape_strides.specs.Limits.{max_axes}
 use Rattle.shape_strides.specs.Addresses.{natural}
 use Rattle.view_ops.specs.Slices.{from_front, is_place, slice_indices}

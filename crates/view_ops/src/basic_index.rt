@@ -1,15 +1,15 @@
 //! Views by basic indexes: integers, slices, `...` and new axes.
 ghost use Rattle.std.specs.Prelude.{◌≡◌, true, IfOk};
 ghost use Rattle.std.specs.List.{list_all};
-ghost use Rattle.shape_strides.specs.IndexItems.{is_basic};
+ghost use Rattle.elem_descr.specs.IndexItems.{is_basic};
 ghost use Rattle.view_ops.specs.Basics.{basic};
 ghost use Rattle.view_ops.specs.Views.{GivesView, KeepsNested};
 
 use crate::index::{have_steps, taken};
 use crate::pick::{are_in_range, picks_of};
 use crate::picked::with_picks;
-use elem_descr::Refusal;
-use shape_strides::{IndexItem, Layout};
+use elem_descr::{IndexItem, Refusal};
+use shape_strides::Layout;
 use std::alloc::Global;
 
 /// The view that integers, slices, `...` and new axes select, as in NumPy. A negative integer

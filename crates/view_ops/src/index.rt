@@ -1,11 +1,11 @@
 //! The axes that the items of an index take.
 ghost use Rattle.std.specs.Prelude.{◌≡◌, ◌+◌, ◌-◌, ◌<◌, ◌≤◌, length, drop, count_by, slice_index_or, pos};
 ghost use Rattle.std.specs.List.{list_all};
-ghost use Rattle.shape_strides.specs.declared.index_item.IndexItem.TheVariants.{Integer};
-ghost use Rattle.shape_strides.specs.IndexItems.{is_basic};
+ghost use Rattle.elem_descr.specs.declared.index_item.IndexItem.TheVariants.{Integer};
+ghost use Rattle.elem_descr.specs.IndexItems.{is_basic};
 ghost use Rattle.view_ops.specs.Basics.{takes_axis, axes_taken, width, has_step};
 
-use shape_strides::IndexItem;
+use elem_descr::IndexItem;
 
 /// Whether no item is an index array.
 pub fn are_basic<A>(items: &[IndexItem<A>]) -> bool

@@ -2,13 +2,13 @@
 #![tactic(auto)]
 
 mod axes;
-pub mod basic_index;
-pub mod fields;
-pub mod index;
+mod basic_index;
+mod fields;
+mod index;
 mod pick;
 mod picked;
-pub mod slice;
-pub mod transposition;
+mod slice;
+mod transposition;
 
 pub use basic_index::basic;
 pub use fields::field;

@@ -2,16 +2,15 @@
 ghost use Rattle.std.specs.Prelude.{◌≡◌, ℕ, ◌<◌, ◌≤◌, [], ◌∷◌, ◌++◌, map, length, true, false, IfOk, IfErr, OnOk, IsTrue};
 ghost use Rattle.std.specs.List.{list_all};
 ghost use Rattle.elem_descr.specs.declared.refusal.Refusal.TheVariants.{OutOfMemory};
-ghost use Rattle.shape_strides.specs.declared.index_item.IndexItem.TheVariants.{NewAxis};
-ghost use Rattle.shape_strides.specs.IndexItems.{is_basic};
+ghost use Rattle.elem_descr.specs.declared.index_item.IndexItem.TheVariants.{NewAxis};
+ghost use Rattle.elem_descr.specs.IndexItems.{is_basic};
 ghost use Rattle.view_ops.specs.Basics.{takes_axis, axes_taken, has_step, is_on_axis, are_on_axes, whole, picks_of, picks};
 ghost use Rattle.view_ops.specs.inside.Picks.{AddsPicks};
 ghost use Rattle.view_ops.specs.Picks.{pick_shown, ArePicks};
 
 use crate::index::axes_end;
 use crate::slice::{Progression, from_front, is_place, slice_of};
-use elem_descr::Refusal;
-use shape_strides::IndexItem;
+use elem_descr::{IndexItem, Refusal};
 use smallvec::SmallVec;
 use std::alloc::{AllocError, Global};
 

@@ -7,7 +7,7 @@ use Rattle.elem_descr.specs.Values.{LeafValue, number, text}
 use Rattle.elem_descr.specs.declared.descr.Descr.{Descr}
 use Rattle.elem_descr.specs.declared.descr.Descr.TheVariants.{Scalar as ScalarDescr}
 use Rattle.elem_descr.specs.Encoding.{IsNumber, IsValueOf, number_of, decode, encode, without_nuls}
-use Rattle.machine_numbers.specs.declared.operators.Comparison.{Comparison}
+use Rattle.elem_descr.specs.declared.operators.Comparison.{Comparison}
 use Rattle.elementwise.specs.Comparisons.{says, compared}
 use Rattle.raw_block.specs.Bytes.{item_at}
 

@@ -7,7 +7,7 @@ use Rattle.elem_descr.specs.declared.scalar.Scalar.TheVariants.{Bool as BoolScal
 use Rattle.elem_descr.specs.Values.{LeafValue, number, text}
 use Rattle.elem_descr.specs.declared.descr.Descr.{Descr}
 use Rattle.elem_descr.specs.declared.descr.Descr.TheVariants.{Scalar as ScalarDescr}
-use Rattle.machine_numbers.specs.declared.operators.Comparison.{Comparison}
+use Rattle.elem_descr.specs.declared.operators.Comparison.{Comparison}
 use Rattle.elem_descr.specs.Encoding.{IsNumber, number_of, wrap}
 use Rattle.machine_numbers.specs.Kinds.{little}
 use Rattle.elementwise.specs.Casts.{cast_value}

@@ -1,7 +1,7 @@
 -- Parts as the code holds them: slices as runs, points by their ranks.
 use Rattle.std.specs.Prelude.{◌≡◌, ◌<◌, ◌≤◌, true, ℕ, List, [], ◌∷◌, ◌++◌, map, length, get_or}
 use Rattle.std.specs.List.{list_all, flat_map}
-use Rattle.shape_strides.specs.declared.index_item.IndexItem.{IndexItem}
+use Rattle.elem_descr.specs.declared.index_item.IndexItem.{IndexItem}
 use Rattle.shape_strides.specs.declared.layout.Layout.{Layout}
 use Rattle.shape_strides.specs.Indexes.{rank, IsIndex}
 use Rattle.shape_strides.specs.Addresses.{natural}

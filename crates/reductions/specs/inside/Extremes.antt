@@ -13,8 +13,8 @@ use Rattle.elem_descr.specs.declared.scalar.Scalar.{Scalar}
 use Rattle.elem_descr.specs.declared.scalar.Scalar.TheVariants.{Int}
 use Rattle.elem_descr.specs.Encoding.{size, integer}
 use Rattle.machine_numbers.specs.Kinds.{little}
-use Rattle.machine_numbers.specs.declared.operators.Red.{Red}
-use Rattle.machine_numbers.specs.declared.operators.Red.TheVariants.{Minimum, Maximum, ArgMin, ArgMax}
+use Rattle.elem_descr.specs.declared.operators.Red.{Red}
+use Rattle.elem_descr.specs.declared.operators.Red.TheVariants.{Minimum, Maximum, ArgMin, ArgMax}
 use Rattle.reductions.specs.Reductions.{least, greatest, first_place, result_scalar}
 use Rattle.reductions.specs.inside.Numbers.{IsStored, IsReduced}
 use Rattle.reductions.specs.inside.FoldLaws.{wide_total, little_size}

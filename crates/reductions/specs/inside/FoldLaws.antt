@@ -20,8 +20,8 @@ use Rattle.elem_descr.specs.declared.scalar.Scalar.TheVariants.{Bool as BoolScal
 use Rattle.elem_descr.specs.Values.{number}
 use Rattle.elem_descr.specs.Encoding.{size, number_of, number_in, bytes_of, integer, low_bits, wrap}
 use Rattle.elem_descr.specs.EncodingLaws.{low_bits-lt, low_bits-integer}
-use Rattle.machine_numbers.specs.declared.operators.Red.{Red}
-use Rattle.machine_numbers.specs.declared.operators.Red.TheVariants.{Sum, Product, Any, All}
+use Rattle.elem_descr.specs.declared.operators.Red.{Red}
+use Rattle.elem_descr.specs.declared.operators.Red.TheVariants.{Sum, Product, Any, All}
 use Rattle.reductions.specs.Reductions.{wide, sum_of, product_of, is_true, result_scalar}
 use Rattle.reductions.specs.inside.Numbers.{IsStored, IsReduced}
 

@@ -9,7 +9,7 @@ use Rattle.shape_strides.specs.Indexes.{count}
 use Rattle.shape_strides.specs.Layouts.{offsets}
 use Rattle.shape_strides.specs.declared.joined.StridedAxis.{StridedAxis}
 use Rattle.shape_strides.specs.Runs.{run_along, run_offsets}
-use Rattle.machine_numbers.specs.declared.operators.Red.{Red}
+use Rattle.elem_descr.specs.declared.operators.Red.{Red}
 use Rattle.machine_numbers.specs.declared.sides.Side.{Side}
 use Rattle.reductions.specs.Reductions.{result_scalar, reduced}
 

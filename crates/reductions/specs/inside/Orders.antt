@@ -1,7 +1,7 @@
 -- Whether what a reduction makes hangs on the order of the numbers.
 use Rattle.std.specs.Prelude.{Bool, true, false}
-use Rattle.machine_numbers.specs.declared.operators.Red.{Red}
-use Rattle.machine_numbers.specs.declared.operators.Red.TheVariants.{ArgMin, ArgMax}
+use Rattle.elem_descr.specs.declared.operators.Red.{Red}
+use Rattle.elem_descr.specs.declared.operators.Red.TheVariants.{ArgMin, ArgMax}
 
 abbrev pub hangs_on_order : Red → Bool
 hangs_on_order ArgMin = true

@@ -2,7 +2,7 @@
 use Rattle.std.specs.Prelude.{ℕ, List}
 use Rattle.elem_descr.specs.Encoding.{size}
 use Rattle.shape_strides.specs.Layouts.{offsets}
-use Rattle.machine_numbers.specs.declared.operators.Red.{Red}
+use Rattle.elem_descr.specs.declared.operators.Red.{Red}
 use Rattle.reductions.specs.Lists.{lists}
 use Rattle.reductions.specs.Reductions.{result_scalar}
 use Rattle.reductions.specs.inside.Numbers.{AreReduced}

@@ -10,12 +10,10 @@ use crate::grammar::names::{name, owned_name};
 use crate::grammar::numbers::optional_integer;
 use crate::grammar::tokens::{flag, word};
 use crate::grammar::verbs::order;
-use crate::name::Name;
 use crate::operation::Operation;
 use crate::text::Text;
 use crate::verb::ComputeVerb;
-use elem_descr::Refusal;
-use machine_numbers::{Red, UnOp};
+use elem_descr::{Name, Red, Refusal, UnOp};
 use std::alloc::Global;
 
 /// `Y C` or `Y F`, after `copy`.

@@ -11,9 +11,8 @@ use crate::grammar::names::name;
 use crate::grammar::numbers::{integer, optional_integer};
 use crate::grammar::tokens::{byte, bytes_mark, keyword, symbol, unspaced};
 use crate::index::{Index, ellipses};
-use crate::name::Name;
+use elem_descr::{IndexItem, Name};
 use elem_descr::Refusal;
-use shape_strides::IndexItem;
 use std::alloc::Global;
 
 /// The step after the second colon, if there is one, and what follows it.

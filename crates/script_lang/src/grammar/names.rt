@@ -6,7 +6,7 @@ ghost use Rattle.script_lang.specs.Reading.{Scans};
 use crate::grammar::classes::is_name_start;
 use crate::grammar::tokens::word;
 use crate::grammar::verbs::{is_constant, verb};
-use crate::name::{MAX_NAME_LEN, Name};
+use elem_descr::{LONGEST_NAME, Name};
 use std::alloc::Global;
 
 fn starts_name(word: &[u8]) -> bool
@@ -22,7 +22,7 @@ fn starts_name(word: &[u8]) -> bool
 pub fn names_unless_verb(word: &[u8]) -> bool
     ensures { result ≡ names_unless_verb word.now }
 {
-    starts_name(word) && word.len() <= MAX_NAME_LEN && !is_constant(word)
+    starts_name(word) && word.len() <= LONGEST_NAME && !is_constant(word)
 }
 
 fn is_name(word: &[u8]) -> bool

@@ -5,7 +5,7 @@ ghost use Rattle.script_lang.specs.Reading.{Scans};
 
 use crate::command::Question;
 use crate::grammar::names::{name, owned_name};
-use crate::name::Name;
+use elem_descr::Name;
 use crate::verb::AskVerb;
 use std::alloc::Global;
 

@@ -9,9 +9,8 @@ use crate::grammar::names::{name, owned_name};
 use crate::grammar::quotes::file_name;
 use crate::grammar::tokens::{symbol, word};
 use crate::grammar::verbs::operation;
-use crate::name::Name;
 use crate::text::FileName;
-use elem_descr::Refusal;
+use elem_descr::{Name, Refusal};
 use std::alloc::Global;
 
 /// `X[ix] = Z`, after `set`.

@@ -4,7 +4,7 @@ ghost use Rattle.script_lang.specs.Verbs.{beside, verb_of, is_constant, operatio
 
 use crate::operation::Operation;
 use crate::verb::{ComputeVerb, FOUR_LETTERS, MORE_LETTERS, THREE_LETTERS, TWO_LETTERS, Verb};
-use shape_strides::MemoryOrder;
+use elem_descr::MemoryOrder;
 
 /// The verb of the word in a table.
 #[tactic(auto, unfolding(crate::specs::Verbs::beside))]

@@ -10,10 +10,9 @@ use crate::grammar::names::{name, names_unless_verb};
 use crate::grammar::quotes::quoted;
 use crate::grammar::tokens::is_at_end;
 use crate::index::Index;
-use crate::name::Name;
 use crate::text::Text;
 use crate::verb::ViewVerb;
-use elem_descr::Refusal;
+use elem_descr::{Name, Refusal};
 use std::alloc::Global;
 
 fn viewing_of(index: Option<Index>) -> Viewing

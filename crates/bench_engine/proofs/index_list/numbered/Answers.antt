@@ -1,5 +1,5 @@
 use Rattle.std.proofs.Common.{◌≡◌, ap, sym, refl, ◌∙◌, map, get_or, length, arith}
-use Rattle.shape_strides.specs.declared.index_item.IndexItem.TheVariants.{Array as ArrayItem}
+use Rattle.elem_descr.specs.declared.index_item.IndexItem.TheVariants.{Array as ArrayItem}
 use Rattle.fancy_index.specs.IndexArrays.{no_array}
 use Rattle.fancy_index.specs.Sources.{index_array_of, LiesInBlock}
 use Rattle.fancy_index.specs.declared.source.Indices.{Indices}

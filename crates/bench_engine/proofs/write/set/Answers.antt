@@ -1,7 +1,7 @@
 use Rattle.std.proofs.Common.{◌≡◌, ap, sym, refl, ◌∙◌, ◌++◌, inl, inr, arith, subst, List, ℕ, Err}
 use Rattle.std.proofs.lemmas.Result.{err_from_is_err_and}
 use Rattle.shape_strides.specs.Indexes.{count}
-use Rattle.shape_strides.specs.declared.index_item.IndexItem.{IndexItem}
+use Rattle.elem_descr.specs.declared.index_item.IndexItem.{IndexItem}
 use Rattle.name_store.specs.Arrays.{descr_of, written}
 use Rattle.name_store.specs.ArrayLaws.{found-array as found}
 use Rattle.name_store.specs.States.{Array}

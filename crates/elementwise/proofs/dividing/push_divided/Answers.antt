@@ -5,7 +5,7 @@ use Rattle.elem_descr.specs.declared.scalar.Order.TheVariants.{Little}
 use Rattle.elem_descr.specs.Values.{number}
 use Rattle.elem_descr.specs.Encoding.{encode}
 use Rattle.raw_block.specs.Bytes.{joined}
-use Rattle.machine_numbers.specs.declared.operators.BinOp.TheVariants.{FloorDivide}
+use Rattle.elem_descr.specs.declared.operators.BinOp.TheVariants.{FloorDivide}
 use Rattle.elementwise.specs.Operations.{binary}
 use Rattle.elementwise.specs.inside.PairPasses.{number_pair}
 use Rattle.elementwise.specs.inside.Sides.{made_of, pair_count}

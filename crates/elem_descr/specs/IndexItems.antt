@@ -1,7 +1,7 @@
 -- The items of an index list.
 use Rattle.std.specs.Prelude.{Bool, true, false}
-use Rattle.shape_strides.specs.declared.index_item.IndexItem.{IndexItem}
-use Rattle.shape_strides.specs.declared.index_item.IndexItem.TheVariants.{Ellipsis, Array}
+use Rattle.elem_descr.specs.declared.index_item.IndexItem.{IndexItem}
+use Rattle.elem_descr.specs.declared.index_item.IndexItem.TheVariants.{Ellipsis, Array}
 
 -- any item but an array
 abbrev pub is_basic : {A : Type 0} → IndexItem A → Bool

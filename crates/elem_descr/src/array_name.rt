@@ -6,8 +6,8 @@ use smallvec::SmallVec;
 use std::alloc::Global;
 use std::marker::Model;
 
-/// The most bytes of a name.
-pub const MAX_NAME_LEN: usize = 32;
+/// The most bytes of the name of an array.
+pub const LONGEST_NAME: usize = 32;
 
 /// A name in the script: at most 32 bytes, which take no memory of their own.
 #[derive(Drop)]

@@ -1,6 +1,6 @@
 //! The items of an index list.
 ghost use Rattle.std.specs.Prelude.{◌≡◌};
-ghost use Rattle.shape_strides.specs.IndexItems.{is_basic, is_ellipsis};
+ghost use Rattle.elem_descr.specs.IndexItems.{is_basic, is_ellipsis};
 
 /// One item of an index list; an `A` stands for an array.
 #[derive(Clone, Copy, Debug, Default, PartialEq, Eq, Drop)]
