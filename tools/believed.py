@@ -110,6 +110,8 @@ class Repository:
         done: set[Item] = set()
         while todo:
             module, name = todo.pop()
+            if module.endswith(".specs.Words") and module in self.files:  # which only hands on what crates below define
+                module, name = self.files[module][2][name]
             if (module, name) in done:
                 continue
             declared = re.match(r"(\w+)\.specs\.declared\.", module)
@@ -208,7 +210,7 @@ def statements(text: str) -> Iterator[tuple[str, bool, str, str]]:
     start: list[str] | None = None
     for line in [*text.split("\n"), "use "]:
         head = NAMED.match(line)
-        if line.startswith(("use ", "pub use ", "mod ", "pub mod ", "module ", "open ", "infix")):
+        if line.startswith(("use ", "pub use ", "unfoldable pub use ", "mod ", "pub mod ", "module ", "open ", "infix")):
             start = None
         elif head and (head[1] or line.startswith(f"{head[2]} : ")):
             start = [line]
@@ -297,7 +299,7 @@ def unnamed(page: str) -> Iterator[str]:
     """The files of specs/ that are for readers, but for laws, that a page does not name."""
     for file in sorted((TOP / "crates").glob("*/specs/**/*.antt")):
         crate, name = file.relative_to(TOP / "crates").parts[0], "/".join(file.relative_to(TOP / "crates").parts[2:])
-        is_for_readers = not name.startswith("inside") and name != "Lib.antt" and not name.endswith("Laws.antt")
+        is_for_readers = not name.startswith("inside") and name not in ("Lib.antt", "Words.antt") and not name.endswith("Laws.antt")
         row, part = rf"`{crate}`[^\n]*", rf"## [^\n]*`{crate}`(?:(?!\n## ).|\n(?!## ))*"
         if is_for_readers and not re.search(rf"(?:{row}|{part})`{re.escape(name)}`", page):
             yield f"{crate}/specs/{name}"

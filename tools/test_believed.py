@@ -46,13 +46,16 @@ FILES = {
         """,
     "crates/high/specs/Meaning.antt": """
         use Rattle.std.specs.Prelude.{ℕ}
-        use Rattle.low.specs.Sizes.{twice as doubled}
+        use Rattle.high.specs.Words.{twice as doubled}
 
         abbrev pub meant : ℕ → ℕ
         meant n = helped (doubled n)
 
         abbrev helped : ℕ → ℕ
         helped n = n -- unused
+        """,
+    "crates/high/specs/Words.antt": """
+        pub use Rattle.low.specs.Sizes.{twice}
         """,
 }
 

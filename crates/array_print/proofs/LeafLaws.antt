@@ -3,18 +3,9 @@ use Rattle.std.proofs.Common.{◌≡◌, ℕ, zero, suc, ◌+◌, ◌<◌, ◌�
 use Rattle.std.specs.Prelude.{IfSome, slice_get}
 use Rattle.std.proofs.lemmas.List.{take-take, drop-take, drop-drop, take_more, length-take}
 use Rattle.std.proofs.lemmas.Slice.Zip.{AllZip-long}
-use Rattle.elem_descr.specs.declared.scalar.Scalar.{Scalar}
-use Rattle.elem_descr.specs.declared.scalar.Scalar.TheVariants.{Bool as BoolScalar, Byte, Int, Bytes}
-use Rattle.elem_descr.specs.declared.leaf.Leaf.{Leaf}
-use Rattle.elem_descr.specs.declared.descr.Descr.{Descr}
+use Rattle.array_print.specs.Words.{Scalar, Byte, Int, Bytes, Leaf, Descr, Field, Fields, before, listed, length-leaves_from, leaf_value, LeafValue, size, decode, leaves_of}
+use Rattle.elem_descr.specs.declared.scalar.Scalar.TheVariants.{Bool as BoolScalar}
 use Rattle.elem_descr.specs.declared.descr.Descr.TheVariants.{Scalar as ScalarDescr, Record as RecordDescr}
-use Rattle.elem_descr.specs.declared.descr.Field.{Field}
-use Rattle.elem_descr.specs.Fields.{Fields}
-use Rattle.elem_descr.specs.Descriptors.{before, listed}
-use Rattle.elem_descr.specs.ItemLaws.{length-leaves_from, leaf_value}
-use Rattle.elem_descr.specs.Values.{LeafValue}
-use Rattle.elem_descr.specs.Encoding.{size, decode}
-use Rattle.elem_descr.specs.Items.{leaves_of}
 use Rattle.array_print.specs.Printed.{leaf_text, leaf_texts, first_text, later_texts, leaf_width, leaf_widths, widths, right_justified, all_justified, join_texts, in_parentheses, field_texts, structure_text}
 use Rattle.array_print.specs.inside.Shown.{IsWidth, AreWidths, lead}
 

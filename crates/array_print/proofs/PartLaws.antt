@@ -3,17 +3,7 @@ use Rattle.std.proofs.Common.{◌≡◌, ℕ, ◌+◌, ◌*◌, ◌<◌, ◌≤�
 use Rattle.std.proofs.lemmas.Int.{ints}
 use Rattle.std.proofs.lemmas.List.{length-map, length-take, length-drop, get_or-map, get_or-take, get_or-drop, same_lists, drop_more, drop_all}
 use lib.IntN.{+ℤ_assoc, +ℤ_idr, *ℤ-zero}
-use Rattle.shape_strides.specs.declared.layout.Layout.{Layout}
-use Rattle.shape_strides.specs.Indexes.{count, indexes}
-use Rattle.shape_strides.specs.AxisIndexes.{zero_filled}
-use Rattle.shape_strides.specs.AxisLaws.{dot-zeros, IsIndex-first}
-use Rattle.shape_strides.specs.Addresses.{dot, natural, address_at, LieWithin}
-use Rattle.shape_strides.specs.IndexLaws.{length-indexes, get_or-blocks}
-use Rattle.shape_strides.specs.CountLaws.{factors_pos, mul-step}
-use Rattle.shape_strides.specs.Layouts.{offsets}
-use Rattle.shape_strides.specs.Limits.{max_bytes}
-use Rattle.shape_strides.specs.PlaceLaws.{fits-offsets}
-use Rattle.shape_strides.specs.Walks.{offsets_at}
+use Rattle.array_print.specs.Words.{Layout, count, indexes, zero_filled, dot-zeros, IsIndex-first, dot, natural, address_at, LieWithin, length-indexes, get_or-blocks, factors_pos, mul-step, offsets, max_bytes, fits-offsets, offsets_at}
 use Rattle.array_print.specs.inside.Parts.{IsPart, part_offsets}
 
 -- ---- one axis, and those inside it

@@ -2,9 +2,8 @@
 use Rattle.std.proofs.Common.{◌≡◌, ℕ, zero, suc, ◌+◌, ◌-◌, ◌*◌, ◌<◌, ◌≤◌, List, ◌∷◌, ◌++◌, codes, map, length, take, drop, get_or, refl, sym, ◌∙◌, ap, arith, add-one, suc-mul, zero-mul, append_assoc}
 use Rattle.std.proofs.lemmas.List.{append-nil, take_at, drop_at, take-take, take-map, drop-map, drop-drop, drop-take, length-drop, drop_more}
 use Rattle.std.specs.Io.{StartsWith}
-use Rattle.shape_strides.specs.Indexes.{count}
+use Rattle.array_print.specs.Words.{count, blocks}
 use Rattle.array_print.specs.Printed.{join_texts, block_text, separator}
-use Rattle.elem_descr.specs.Blocks.{blocks}
 use Rattle.array_print.specs.inside.Shown.{lead, repeated}
 use Rattle.array_print.specs.StartLaws.{StartsWith-trans}
 

@@ -1,12 +1,9 @@
 -- The definitions at arrays that NumPy prints.
 use Rattle.std.proofs.Common.{◌≡◌, [], ◌∷◌, List, ℕ, true, false, codes, refl}
 use Rattle.std.specs.Fmt.{digits}
-use Rattle.elem_descr.specs.declared.scalar.Order.TheVariants.{Little, Big}
-use Rattle.elem_descr.specs.declared.scalar.Width.TheVariants.{Two, Four, Eight}
-use Rattle.elem_descr.specs.declared.scalar.Scalar.TheVariants.{Bool as BoolScalar, Byte, Int, Bytes}
-use Rattle.elem_descr.specs.declared.descr.Descr.{Descr}
+use Rattle.array_print.specs.Words.{Little, Big, Two, Four, Eight, Byte, Int, Bytes, Descr, no_more, scalar_field, record_field}
+use Rattle.elem_descr.specs.declared.scalar.Scalar.TheVariants.{Bool as BoolScalar}
 use Rattle.elem_descr.specs.declared.descr.Descr.TheVariants.{Scalar as ScalarDescr, Record as RecordDescr}
-use Rattle.elem_descr.specs.Fields.{no_more, scalar_field, record_field}
 use Rattle.array_print.specs.Printed.{array_text, items_from}
 
 -- the items of a block in a shape

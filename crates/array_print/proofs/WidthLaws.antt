@@ -4,10 +4,7 @@ use Rattle.std.specs.Prelude.{IfSome, slice_get}
 use Rattle.std.specs.List.{refill}
 use Rattle.std.proofs.Math.Seq.{take-append_seam}
 use Rattle.std.proofs.lemmas.List.{map-append}
-use Rattle.elem_descr.specs.declared.scalar.Scalar.{Scalar}
-use Rattle.elem_descr.specs.declared.descr.Descr.{Descr}
-use Rattle.elem_descr.specs.Encoding.{size, decode}
-use Rattle.elem_descr.specs.Items.{item_size, leaves_of}
+use Rattle.array_print.specs.Words.{Scalar, Descr, size, decode, item_size, leaves_of}
 use Rattle.array_print.specs.Printed.{leaf_text, leaf_texts, leaf_width, leaf_widths, items_from}
 use Rattle.array_print.specs.inside.Shown.{widths_at}
 use Rattle.array_print.proofs.LeafLaws.{are-leaf-widths, bytes-at, count-widths, leaf-width-at}

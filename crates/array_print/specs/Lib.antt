@@ -1,3 +1,4 @@
 pub mod Printed
 pub mod inside
 pub mod StartLaws
+pub mod Words

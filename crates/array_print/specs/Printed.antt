@@ -1,19 +1,9 @@
 -- The printed text of an array.
 use Rattle.std.specs.Prelude.{ℕ, zero, suc, ◌+◌, ◌-◌, ◌/◌, ◌%◌, ℤ, pos, Bool, ◌&&◌, not, List, [], ◌∷◌, ◌++◌, length, map, replicate, drop, codes, fold, max, flat_map, slice_index, nat_eq, nat_le, if◌then◌else◌}
 use Rattle.std.specs.Fmt.{signed_decimal}
-use Rattle.elem_descr.specs.declared.scalar.Scalar.{Scalar}
-use Rattle.elem_descr.specs.declared.scalar.Scalar.TheVariants.{Bool as BoolScalar, Byte, Int, Bytes}
-use Rattle.elem_descr.specs.declared.leaf.Leaf.{Leaf}
-use Rattle.elem_descr.specs.declared.descr.Descr.{Descr}
+use Rattle.array_print.specs.Words.{Scalar, Byte, Int, Bytes, Leaf, Descr, LeafValue, number_of, text_of, is_one_of, leaves_of, Fields, no_more, scalar_field, record_field, leaf_count, blocks, item_from, count}
+use Rattle.elem_descr.specs.declared.scalar.Scalar.TheVariants.{Bool as BoolScalar}
 use Rattle.elem_descr.specs.declared.descr.Descr.TheVariants.{Scalar as ScalarDescr, Record as RecordDescr}
-use Rattle.elem_descr.specs.Values.{LeafValue}
-use Rattle.elem_descr.specs.Encoding.{number_of, text_of}
-use Rattle.elem_descr.specs.TypeStrings.{is_one_of}
-use Rattle.elem_descr.specs.Items.{leaves_of}
-use Rattle.elem_descr.specs.Fields.{Fields, no_more, scalar_field, record_field}
-use Rattle.elem_descr.specs.Descriptors.{leaf_count}
-use Rattle.elem_descr.specs.Blocks.{blocks, item_from}
-use Rattle.shape_strides.specs.Indexes.{count}
 
 -- a hexadecimal digit, in lower case
 abbrev pub hex_digit : ℕ → ℕ

@@ -1,9 +1,7 @@
 //! The text of an array: items in nested brackets, each value padded to the width of its leaf.
 ghost use Rattle.std.specs.Prelude.{◌≡◌, ◌+◌, ◌^◌, ◌≤◌, ◌<◌, ◌++◌, [], codes, get_or, length, map, drop, vec_capacity, All, IfOk, OnOk, OnErr};
 ghost use Rattle.std.specs.Io.{StartsWith};
-ghost use Rattle.elem_descr.specs.Descriptors.{listed, leaf_count};
-ghost use Rattle.elem_descr.specs.Items.{item_size, leaves_of};
-ghost use Rattle.shape_strides.specs.Layouts.{offsets};
+ghost use Rattle.array_print.specs.Words.{listed, leaf_count, item_size, leaves_of, offsets};
 ghost use Rattle.array_print.specs.Printed.{array_text, block_text, in_parentheses, field_texts, structure_text, items_from};
 ghost use Rattle.array_print.specs.inside.Shown.{AreWidths, texts_at, shown};
 ghost use Rattle.array_print.specs.inside.Parts.{IsPart, part_offsets};

@@ -1,6 +1,6 @@
 //! Steps along an axis.
 ghost use Rattle.std.specs.Prelude.{◌≡◌, ◌↔◌, ◌<◌, ◌≤◌, pos, ◌+ℤ◌, ◌*ℤ◌, ◌≤ℤ◌, length, slice_index_or, IsTrue};
-ghost use Rattle.shape_strides.specs.Limits.{max_items, max_bytes};
+ghost use Rattle.array_print.specs.Words.{max_items, max_bytes};
 
 /// Whether all steps along an axis lead to the same bytes.
 pub fn repeats(strides: &[isize], axis: usize) -> bool

@@ -1,8 +1,6 @@
 //! The widths to which the values of an array are padded.
 ghost use Rattle.std.specs.Prelude.{◌≡◌, ◌+◌, ◌^◌, ◌≤◌, ◌<◌, ◌∷◌, ◌++◌, [], ℕ, List, get_or, length, max, take, drop, All, IfOk};
-ghost use Rattle.elem_descr.specs.Encoding.{IsNumber, size, decode};
-ghost use Rattle.elem_descr.specs.Items.{item_size, leaves_of};
-ghost use Rattle.shape_strides.specs.Layouts.{offsets, Fits};
+ghost use Rattle.array_print.specs.Words.{IsNumber, size, decode, item_size, leaves_of, offsets, Fits};
 ghost use Rattle.array_print.specs.Printed.{widths, leaf_width, leaf_widths, leaf_text, items_from};
 ghost use Rattle.array_print.specs.inside.Shown.{integer_at, widths_at};
 

@@ -6,15 +6,7 @@ use Rattle.std.proofs.lemmas.Int.{ints}
 use Rattle.std.proofs.lemmas.List.{length-map, get_or-map, map-append}
 use lib.IntN.{pos, nat_abs, ◌+ℤ◌, ◌*ℤ◌}
 use lib.Signed.{◌≤ℤ◌}
-use Rattle.raw_block.specs.Bytes.{position, place, item_at, joined, grid_item, grid_items, EachWithin, GridWithin}
-use Rattle.raw_block.specs.BytesLaws.{not_negative, first_position}
-use Rattle.raw_block.specs.JoinedLaws.{joined-same}
-use Rattle.shape_strides.specs.declared.joined.StridedAxis.{StridedAxis}
-use Rattle.shape_strides.specs.declared.runs.Run.{Run}
-use Rattle.shape_strides.specs.Limits.{max_bytes}
-use Rattle.shape_strides.specs.Runs.{run_along, run_offsets}
-use Rattle.shape_strides.specs.WalkLaws.{length-run_offsets, length-first}
-use Rattle.shape_strides.specs.RunPairs.{all_offsets}
+use Rattle.arrays.specs.Words.{position, place, item_at, joined, grid_item, grid_items, EachWithin, GridWithin, not_negative, first_position, joined-same, StridedAxis, Run, max_bytes, run_along, run_offsets, length-run_offsets, length-first, all_offsets}
 use Rattle.arrays.specs.RunLaws.{All-front, All-back, place-at}
 use Rattle.arrays.specs.Joined.{joined_at}
 use Rattle.arrays.specs.inside.Rows.{rows_of, grid_of}

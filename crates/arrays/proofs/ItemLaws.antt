@@ -1,10 +1,7 @@
 -- Items and their bytes.
 use Rattle.std.proofs.Common.{◌≡◌, ℕ, List, map, sym, ap, ◌∙◌}
 use Rattle.std.proofs.lemmas.Simd.{map-map}
-use Rattle.raw_block.specs.Bytes.{item_at}
-use Rattle.elem_descr.specs.declared.descr.Descr.{Descr}
-use Rattle.elem_descr.specs.Items.{item_size, decode_item}
-use Rattle.elem_descr.specs.Blocks.{item_from}
+use Rattle.arrays.specs.Words.{item_at, Descr, item_size, decode_item, item_from}
 
 -- equal bytes are equal items
 pub items-from_bytes : (descr : Descr) (block other to from : List ℕ) → map (λ o. item_at o (item_size descr) block) to ≡ map (λ o. item_at o (item_size descr) other) from → map (item_from descr block) to ≡ map (item_from descr other) from

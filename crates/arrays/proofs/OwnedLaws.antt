@@ -4,9 +4,7 @@ use Rattle.std.proofs.Common.{◌≡◌, ◌+◌, ◌*◌, ◌<◌, ◌≤◌, �
 use Rattle.std.specs.List.{range_with_len}
 use Rattle.std.proofs.Math.Nat.{mul-div_cancel_left, mul-suc}
 use Rattle.std.proofs.lemmas.Bool.{eq-eqb}
-use Rattle.shape_strides.specs.Indexes.{indexes, rank}
-use Rattle.shape_strides.specs.Contiguity.{is_c_contiguous, is_f_contiguous, fortran_order}
-use Rattle.shape_strides.specs.Layouts.{multiples, f_multiples}
+use Rattle.arrays.specs.Words.{indexes, rank, is_c_contiguous, is_f_contiguous, fortran_order, multiples, f_multiples}
 use Rattle.arrays.specs.Blocks.{places_of}
 
 some-bytes : {item : ℕ} → 1 ≤ item → 0 < item

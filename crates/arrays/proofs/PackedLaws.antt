@@ -2,11 +2,7 @@
 use Rattle.std.proofs.Common.{◌≡◌, ◌+◌, ◌*◌, ◌≤◌, ℕ, suc, pos, List, ◌∷◌, ◌++◌, length, sym, ap, ◌∙◌, arith, suc-mul, add-mul, mul-le-mul_right, append_assoc}
 use Rattle.std.proofs.lemmas.Int.{ints}
 use Rattle.std.proofs.lemmas.Grind.{flat_map-append}
-use Rattle.raw_block.specs.Bytes.{item_at, EachWithin}
-use Rattle.shape_strides.specs.declared.runs.Run.{Run}
-use Rattle.shape_strides.specs.Runs.{run_offsets}
-use Rattle.shape_strides.specs.WalkLaws.{length-run_offsets, length-first}
-use Rattle.shape_strides.specs.RunPairs.{all_offsets}
+use Rattle.arrays.specs.Words.{item_at, EachWithin, Run, run_offsets, length-run_offsets, length-first, all_offsets}
 use Rattle.arrays.specs.RunLaws.{assigned-append}
 use Rattle.arrays.specs.Assignments.{assigned}
 use Rattle.arrays.specs.Packed.{packed_run, row_offsets}

@@ -1,11 +1,7 @@
 -- Runs of items that are copied: what the operations of a block do, item by item.
 use Rattle.std.proofs.Common.{◌≡◌, ℕ, zero, suc, List, [], ◌∷◌, length, refl, sym, ap, subst, ◌∙◌}
 use lib.IntN.{ℤ}
-use Rattle.raw_block.specs.Bytes.{put, item_at, place, EachWithin, copied}
-use Rattle.raw_block.specs.BytesLaws.{fewer}
-use Rattle.shape_strides.specs.declared.runs.Run.{Run}
-use Rattle.shape_strides.specs.Runs.{run_offsets}
-use Rattle.shape_strides.specs.WalkLaws.{length-run_offsets}
+use Rattle.arrays.specs.Words.{put, item_at, place, EachWithin, copied, fewer, Run, run_offsets, length-run_offsets}
 use Rattle.arrays.specs.RunLaws.{run_offsets-more, assigned-append}
 use Rattle.arrays.specs.Assignments.{assigned}
 

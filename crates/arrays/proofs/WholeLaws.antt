@@ -5,9 +5,7 @@ use Rattle.std.proofs.lemmas.Bool.{eqb-true, and_parts}
 use Rattle.std.proofs.lemmas.List.{drop-drop, drop-take, take-take}
 use Rattle.std.proofs.lemmas.List.Elements.{All-head, All-tail}
 use Rattle.std.proofs.Math.Nat.{mul-suc}
-use Rattle.raw_block.specs.Bytes.{item_at}
-use Rattle.shape_strides.specs.Contiguity.{first_address, is_c_contiguous}
-use Rattle.shape_strides.specs.Layouts.{multiples}
+use Rattle.arrays.specs.Words.{item_at, first_address, is_c_contiguous, multiples}
 
 -- an item of the stretch is one of the bytes
 stretch-item : (first at width len : ℕ) (bytes : List ℕ) → at + width ≤ len → item_at at width (item_at first len bytes) ≡ item_at (first + at) width bytes

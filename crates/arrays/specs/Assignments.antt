@@ -1,6 +1,6 @@
 -- Assignment: items are read, all of them, and then put in other places.
 use Rattle.std.specs.Prelude.{ℕ, List, ◌∷◌, map}
-use Rattle.raw_block.specs.Bytes.{put, item_at}
+use Rattle.arrays.specs.Words.{put, item_at}
 
 -- the items of `width` bytes that a block has at the offsets
 abbrev pub items_at : List ℕ → ℕ → List ℕ → List (List ℕ)

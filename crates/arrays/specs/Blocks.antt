@@ -1,14 +1,6 @@
 -- Blocks that a layout just fills.
 use Rattle.std.specs.Prelude.{◌≡◌, ◌≤◌, ◌*◌, ◌/◌, ◌||◌, ℕ, List, length, map, IsTrue}
-use Rattle.elem_descr.specs.declared.descr.Descr.{Descr}
-use Rattle.elem_descr.specs.Items.{item_size}
-use Rattle.shape_strides.specs.declared.layout.Layout.{Layout}
-use Rattle.elem_descr.specs.declared.memory_order.MemoryOrder.{MemoryOrder}
-use Rattle.elem_descr.specs.declared.memory_order.MemoryOrder.TheVariants.{C, Fortran}
-use Rattle.shape_strides.specs.Limits.{max_bytes}
-use Rattle.shape_strides.specs.Indexes.{count}
-use Rattle.shape_strides.specs.Contiguity.{is_c_contiguous, is_f_contiguous}
-use Rattle.shape_strides.specs.Layouts.{offsets, multiples, f_multiples, Fits, IsNested}
+use Rattle.arrays.specs.Words.{Descr, item_size, Layout, MemoryOrder, C, Fortran, max_bytes, count, is_c_contiguous, is_f_contiguous, offsets, multiples, f_multiples, Fits, IsNested}
 
 -- the offsets of items of so many bytes, one after another in this order
 abbrev pub offsets_in : MemoryOrder → ℕ → List ℕ → List ℕ

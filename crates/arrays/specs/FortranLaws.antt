@@ -2,12 +2,7 @@
 use Rattle.std.proofs.Common.{◌≡◌, ◌*◌, ◌<◌, ℕ, List, [], length, map, reverse, get_or, All, sym, ap, subst, ◌∙◌, arith}
 use Rattle.std.proofs.lemmas.List.{length-map, get_or-map, same_lists, reverse-reverse}
 use Rattle.std.proofs.lemmas.List.FromFn.{length-map-range_with_len, get_or-map-range_with_len}
-use Rattle.raw_block.specs.Bytes.{item_at}
-use Rattle.shape_strides.specs.Contiguity.{fortran_order}
-use Rattle.shape_strides.specs.Indexes.{count, indexes, rank, IsIndex}
-use Rattle.shape_strides.specs.IndexLaws.{length-indexes, rank-lt, get_or-indexes, index_at}
-use Rattle.shape_strides.specs.Layouts.{multiples, f_multiples}
-use Rattle.shape_strides.specs.ReverseLaws.{count-reverse, IsIndex-reverse, IsIndex-from_reverse}
+use Rattle.arrays.specs.Words.{item_at, fortran_order, count, indexes, rank, IsIndex, length-indexes, rank-lt, get_or-indexes, index_at, multiples, f_multiples, count-reverse, IsIndex-reverse, IsIndex-from_reverse}
 use Rattle.arrays.specs.Assignments.{items_at}
 
 -- a number for each index, at the index's rank

@@ -1,8 +1,6 @@
 -- Items, as lists of their values.
 use Rattle.std.specs.Prelude.{List, map}
-use Rattle.elem_descr.specs.Values.{LeafValue}
-use Rattle.elem_descr.specs.Blocks.{item_from}
-use Rattle.shape_strides.specs.Layouts.{offsets}
+use Rattle.arrays.specs.Words.{LeafValue, item_from, offsets}
 use Rattle.arrays.specs.declared.items.Items.{Items}
 use Rattle.arrays.specs.declared.owned.Owned.{Owned}
 

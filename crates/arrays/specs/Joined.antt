@@ -1,7 +1,7 @@
 -- Items that are joined.
 use Rattle.std.specs.Prelude.{ℕ, List}
 use Rattle.std.specs.List.{flat_map}
-use Rattle.raw_block.specs.Bytes.{item_at}
+use Rattle.arrays.specs.Words.{item_at}
 
 -- the bytes of the items of `width` bytes at these offsets, one item right after another
 abbrev pub joined_at : List ℕ → ℕ → List ℕ → List ℕ

@@ -5,11 +5,7 @@ use Rattle.std.proofs.Math.Nat.{mul-suc}
 use Rattle.std.proofs.Math.Seq.{take-append_seam, drop-append_seam}
 use Rattle.std.proofs.lemmas.Grind.{flat_map-append}
 use Rattle.std.proofs.lemmas.List.Elements.{All-head, All-tail}
-use Rattle.raw_block.specs.Bytes.{place, item_at, joined, EachWithin}
-use Rattle.raw_block.specs.BytesLaws.{length-item_at, fewer}
-use Rattle.shape_strides.specs.declared.runs.Run.{Run}
-use Rattle.shape_strides.specs.Layouts.{multiples}
-use Rattle.shape_strides.specs.Runs.{run_offsets}
+use Rattle.arrays.specs.Words.{place, item_at, joined, EachWithin, length-item_at, fewer, Run, multiples, run_offsets}
 use Rattle.arrays.specs.Joined.{joined_at}
 use Rattle.arrays.specs.RunLaws.{run_offsets-more}
 

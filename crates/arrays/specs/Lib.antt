@@ -9,3 +9,4 @@ pub mod PackedLaws
 pub mod PairLaws
 pub mod RunLaws
 pub mod inside
+pub mod Words

@@ -1,7 +1,6 @@
 -- Items that lie one after another.
 use Rattle.std.specs.Prelude.{ℕ, pos, List}
-use Rattle.shape_strides.specs.declared.runs.Run.{Run}
-use Rattle.shape_strides.specs.Runs.{run_offsets}
+use Rattle.arrays.specs.Words.{Run, run_offsets}
 
 -- n items of so many bytes, from `at` on
 abbrev pub packed_run : ℕ → ℕ → ℕ → Run

@@ -3,14 +3,8 @@ use Rattle.std.proofs.Common.{◌≡◌, ◌+◌, List, ◌∷◌, length, arith
 use Rattle.std.proofs.lemmas.List.{map-append}
 use Rattle.std.specs.List.{range_with_len}
 use Rattle.std.proofs.lemmas.Simd.{map-map}
-use Rattle.shape_strides.specs.declared.runs.Run.{Run}
-use Rattle.shape_strides.specs.WalkLaws.{length-run_offsets, length-first}
-use Rattle.shape_strides.specs.RunPairs.{all_offsets}
-use Rattle.shape_strides.specs.Addresses.{natural}
-use Rattle.shape_strides.specs.Layouts.{multiples}
+use Rattle.arrays.specs.Words.{Run, length-run_offsets, length-first, all_offsets, natural, multiples, numbers_from, numbers-split}
 use Rattle.arrays.specs.Packed.{packed_run, row_offsets}
-use Rattle.elem_descr.specs.Steps.{numbers_from}
-use Rattle.elem_descr.specs.StepLaws.{numbers-split}
 
 pub length-row : (at width n : ℕ) → length (row_offsets at width n) ≡ n
 length-row at width n = length-run_offsets (packed_run at width n)

@@ -4,11 +4,7 @@ use Rattle.std.specs.List.{zip}
 use Rattle.std.specs.List.Sorted.{IsPermutation}
 use Rattle.std.proofs.lemmas.List.Sorted.{IsPermutation-map, All-permutation}
 use Rattle.std.proofs.lemmas.Slice.Zip.{firsts-zip, seconds-zip}
-use Rattle.shape_strides.specs.declared.layout.Layout.{Layout}
-use Rattle.shape_strides.specs.declared.layout_pair.LayoutPair.{LayoutPair}
-use Rattle.shape_strides.specs.Indexes.{count}
-use Rattle.shape_strides.specs.LayoutLaws.{length-offsets}
-use Rattle.shape_strides.specs.Layouts.{offsets}
+use Rattle.arrays.specs.Words.{Layout, LayoutPair, count, length-offsets, offsets}
 
 -- the firsts of pairs in another order, and the seconds
 pub firsts-reordered : (to from to' from' : List ℕ) → length from ≡ length to → length from' ≡ length to' → IsPermutation (zip to from) (zip to' from') → IsPermutation to to'

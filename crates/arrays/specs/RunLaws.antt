@@ -16,15 +16,7 @@ use Rattle.std.proofs.lemmas.List.Elements.{All-head, All-tail, All-from_get_or,
 use Rattle.std.proofs.lemmas.List.FromFn.{length-map-range_with_len, get_or-map-range_with_len}
 use lib.IntN.{ℤ, pos, negsuc, nat_abs, ◌+ℤ◌, ◌*ℤ◌}
 use lib.Signed.{◌≤ℤ◌}
-use Rattle.raw_block.specs.Bytes.{position, place, EachWithin, put, item_at}
-use Rattle.raw_block.specs.BytesLaws.{place_within}
-use Rattle.elem_descr.specs.Steps.{numbers_from}
-use Rattle.shape_strides.specs.declared.runs.Run.{Run}
-use Rattle.shape_strides.specs.Addresses.{natural, LieWithin}
-use Rattle.shape_strides.specs.Limits.{max_bytes}
-use Rattle.shape_strides.specs.Runs.{run_offsets}
-use Rattle.shape_strides.specs.WalkLaws.{length-run_offsets}
-use Rattle.shape_strides.specs.declared.run_pairs.RunPair.{RunPair}
+use Rattle.arrays.specs.Words.{position, place, EachWithin, put, item_at, place_within, numbers_from, Run, natural, LieWithin, max_bytes, run_offsets, length-run_offsets, RunPair}
 use Rattle.arrays.specs.Assignments.{assigned}
 
 -- ---- where an item lies

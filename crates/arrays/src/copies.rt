@@ -1,12 +1,6 @@
 //! The items of a layout, copied to a block of their own.
 ghost use Rattle.std.specs.Prelude.{◌≡◌, ◌+◌, ◌*◌, ◌≤◌, length, map, nat_le, if◌then◌else◌, All, IfOk, IfErr};
-ghost use Rattle.raw_block.specs.Bytes.{item_at};
-ghost use Rattle.elem_descr.specs.declared.refusal.Refusal.TheVariants.{OutOfMemory, TooLarge};
-ghost use Rattle.elem_descr.specs.Items.{item_size};
-ghost use Rattle.elem_descr.specs.Blocks.{item_from};
-ghost use Rattle.shape_strides.specs.Limits.{max_bytes};
-ghost use Rattle.shape_strides.specs.Indexes.{count};
-ghost use Rattle.shape_strides.specs.Layouts.{offsets};
+ghost use Rattle.arrays.specs.Words.{item_at, OutOfMemory, TooLarge, item_size, item_from, max_bytes, count, offsets};
 ghost use Rattle.arrays.specs.Assignments.{items_at};
 ghost use Rattle.arrays.specs.Blocks.{offsets_in};
 

@@ -1,7 +1,6 @@
 //! Items that are lent: where they lie, and that they lie there.
 ghost use Rattle.std.specs.Prelude.{◌≡◌, ◌+◌, ◌≤◌, length, All};
-ghost use Rattle.elem_descr.specs.Items.{item_size};
-ghost use Rattle.shape_strides.specs.Layouts.{offsets};
+ghost use Rattle.arrays.specs.Words.{item_size, offsets};
 
 use crate::owned::Owned;
 use elem_descr::Descr;

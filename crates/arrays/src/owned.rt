@@ -1,12 +1,6 @@
 //! Arrays over a block of their own.
 ghost use Rattle.std.specs.Prelude.{◌≡◌, ◌*◌, ◌≤◌, ◌||◌, length, map, nat_le, replicate, if◌then◌else◌, IfOk, IfErr, IsTrue};
-ghost use Rattle.elem_descr.specs.declared.refusal.Refusal.TheVariants.{OutOfMemory, TooLarge};
-ghost use Rattle.elem_descr.specs.Items.{item_size};
-ghost use Rattle.elem_descr.specs.declared.memory_order.MemoryOrder.TheVariants.{C};
-ghost use Rattle.shape_strides.specs.Limits.{max_bytes};
-ghost use Rattle.shape_strides.specs.Indexes.{count};
-ghost use Rattle.shape_strides.specs.Contiguity.{is_c_contiguous, is_f_contiguous};
-ghost use Rattle.shape_strides.specs.Layouts.{offsets, Fits, IsNested};
+ghost use Rattle.arrays.specs.Words.{OutOfMemory, TooLarge, item_size, C, max_bytes, count, is_c_contiguous, is_f_contiguous, offsets, Fits, IsNested};
 ghost use Rattle.arrays.specs.Blocks.{FillsBlock, offsets_in, places_of};
 
 use elem_descr::{Descr, MemoryOrder, Refusal};

@@ -1,10 +1,7 @@
 //! The items of a layout, one after another in a block of their own.
 ghost use Rattle.std.specs.Prelude.{◌≡◌, ◌+◌, ◌*◌, ◌^◌, ◌<◌, ◌≤◌, ◌++◌, pos, length, All, IfOk, IsTrue};
 ghost use Rattle.std.specs.List.{flat_map};
-ghost use Rattle.raw_block.specs.Bytes.{item_at, EachWithin};
-ghost use Rattle.shape_strides.specs.Contiguity.{is_c_contiguous};
-ghost use Rattle.shape_strides.specs.Layouts.{offsets, multiples};
-ghost use Rattle.shape_strides.specs.Runs.{run_offsets};
+ghost use Rattle.arrays.specs.Words.{item_at, EachWithin, is_c_contiguous, offsets, multiples, run_offsets};
 ghost use Rattle.arrays.specs.Assignments.{items_at, assigned};
 ghost use Rattle.arrays.specs.Packed.{row_offsets};
 ghost use Rattle.arrays.specs.Joined.{joined_at};

@@ -1,6 +1,6 @@
 //! Gathers by columns what has short rows, or rows that lie closer together than its columns.
 ghost use Rattle.std.specs.Prelude.{◌≡◌, ◌+◌, ◌*◌, ◌≤◌, ◌++◌, length, All};
-ghost use Rattle.shape_strides.specs.Layouts.{offsets};
+ghost use Rattle.arrays.specs.Words.{offsets};
 ghost use Rattle.arrays.specs.Joined.{joined_at};
 ghost use Rattle.arrays.specs.inside.Rows.{grid_of};
 

@@ -1,7 +1,6 @@
 //! Copies the items of a run to those of another.
 ghost use Rattle.std.specs.Prelude.{◌≡◌, length};
-ghost use Rattle.raw_block.specs.Bytes.{EachWithin};
-ghost use Rattle.shape_strides.specs.Runs.{run_offsets};
+ghost use Rattle.arrays.specs.Words.{EachWithin, run_offsets};
 ghost use Rattle.arrays.specs.Assignments.{assigned};
 
 use raw_block::RawBlock;

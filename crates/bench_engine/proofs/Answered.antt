@@ -1,6 +1,6 @@
 -- What is there where a call does not refuse.
 use Rattle.std.proofs.Common.{◌≡◌, refl, Result, Ok, Err}
-use Rattle.elem_descr.specs.declared.refusal.Refusal.{Refusal}
+use Rattle.bench_engine.specs.Words.{Refusal}
 use Rattle.bench_engine.specs.inside.Meeting.{Meets}
 
 pub met : {X Y : Type 0} (R : X → Y → Type 0) (x : X) (there : Result Y Refusal) → Meets R (Ok x) there → (y : Y) × (there ≡ Ok y) × R x y

@@ -3,27 +3,11 @@ use Rattle.std.proofs.Common.{◌≡◌, ◌<◌, ◌≤◌, ◌+◌, ◌*◌, �
 use Rattle.std.specs.List.{Contains, list_all}
 use Rattle.std.proofs.lemmas.List.{length-map}
 use Rattle.std.proofs.lemmas.List.Elements.{All-map, Contains-get_or}
-use Rattle.elem_descr.specs.declared.refusal.Refusal.{Refusal}
-use Rattle.elem_descr.specs.declared.refusal.Refusal.TheVariants.{ShapesDoNotBroadcast}
-use Rattle.elem_descr.specs.Refusals.{◌>>=◌, check}
-use Rattle.elem_descr.specs.declared.descr.Descr.{Descr}
-use Rattle.elem_descr.specs.Items.{item_size, AreAlike}
-use Rattle.elem_descr.specs.Encoding.{size, decode}
-use Rattle.elem_descr.specs.Blocks.{item_from}
-use Rattle.elementwise.specs.Casts.{cast_item}
-use Rattle.broadcasting.specs.Broadcasts.{axes_beyond, stretched, stretched_into}
-use Rattle.shape_strides.specs.declared.layout.Layout.{Layout}
-use Rattle.shape_strides.specs.Indexes.{indexes, rank}
-use Rattle.shape_strides.specs.Layouts.{offsets}
-use Rattle.view_ops.specs.Views.{View, view_through, IsViewOf, GivesView}
-use Rattle.name_store.specs.States.{State, Array}
-use Rattle.name_store.specs.Arrays.{buffer_of}
-use Rattle.name_store.specs.Parts.{start_at}
-use Rattle.name_store.specs.Shown.{Shows}
-use Rattle.name_store.specs.declared.array_ref.ArrayRef.{ArrayRef}
+use Rattle.bench_engine.specs.Words.{Refusal, ShapesDoNotBroadcast, ◌>>=◌, check, Descr, item_size, AreAlike, size, decode, item_from, cast_item, axes_beyond, stretched, stretched_into, Layout, indexes, rank, offsets, view_through, IsViewOf, GivesView, State, buffer_of, start_at, Shows, ArrayRef, offsets-at}
+use Rattle.view_ops.specs.Views.{View}
+use Rattle.name_store.specs.States.{Array}
 use Rattle.bench_engine.specs.Machine.{viewed}
 use Rattle.bench_engine.specs.inside.Assigns.{LiesIn}
-use Rattle.name_store.specs.ArrayLaws.{offsets-at}
 
 -- an array that is shown is a part of itself
 pub lies-whole : (s : State) (a : Array) (r : ArrayRef) → Shows s a r → LiesIn s a a r.layout.now

@@ -2,25 +2,8 @@
 use Rattle.std.proofs.Common.{◌≡◌, ◌⊎◌, ◌≤◌, ◌*◌, ℕ, nat_le, true, false, List, map, refl, sym, ap, ◌∙◌, subst, if◌then◌else◌, Result, Ok, Err, IfOk, IfErr, inl, inr}
 use Rattle.std.proofs.lemmas.Bool.{le-leb}
 use Rattle.std.proofs.lemmas.Simd.{map-map}
-use Rattle.elem_descr.specs.declared.refusal.Refusal.{Refusal}
-use Rattle.elem_descr.specs.declared.refusal.Refusal.TheVariants.{OutOfMemory, TooLarge, NoSuchCast}
-use Rattle.elem_descr.specs.Refusals.{Gives}
-use Rattle.elem_descr.specs.DescrTexts.{descriptor}
-use Rattle.elem_descr.specs.declared.descr.Descr.{Descr}
-use Rattle.elem_descr.specs.Items.{item_size}
-use Rattle.elem_descr.specs.Blocks.{item_from}
-use Rattle.elem_descr.specs.Values.{LeafValue}
-use Rattle.elementwise.specs.Casts.{can_cast, cast_item}
-use Rattle.elem_descr.specs.declared.memory_order.MemoryOrder.TheVariants.{C}
-use Rattle.shape_strides.specs.Limits.{max_bytes}
-use Rattle.shape_strides.specs.Indexes.{count}
-use Rattle.shape_strides.specs.Layouts.{offsets}
-use Rattle.arrays.specs.declared.owned.Owned.{Owned}
-use Rattle.arrays.specs.Blocks.{offsets_in}
-use Rattle.name_store.specs.States.{State, Array}
-use Rattle.name_store.specs.Arrays.{descr_of, read}
-use Rattle.name_store.specs.Shown.{Shows}
-use Rattle.name_store.specs.declared.array_ref.ArrayRef.{ArrayRef}
+use Rattle.bench_engine.specs.Words.{Refusal, OutOfMemory, TooLarge, NoSuchCast, Gives, descriptor, Descr, item_size, item_from, LeafValue, can_cast, cast_item, C, max_bytes, count, offsets, Owned, offsets_in, State, descr_of, read, Shows, ArrayRef}
+use Rattle.name_store.specs.States.{Array}
 use Rattle.bench_engine.specs.Contents.{new_contents}
 use Rattle.bench_engine.specs.inside.OwnContents.{held}
 use Rattle.bench_engine.specs.Machine.{cast_items, cast_contents}

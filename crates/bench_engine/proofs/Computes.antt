@@ -2,27 +2,9 @@
 use Rattle.std.proofs.Common.{◌≡◌, ℕ, true, false, Some, None, List, map, IfOk, Option, Result, Ok, Err, refl, sym, ap, ◌∙◌, ◌⊎◌, inl, inr}
 use Rattle.std.specs.List.{list_all}
 use Rattle.std.proofs.lemmas.Simd.{map-map}
-use Rattle.elem_descr.specs.declared.refusal.Refusal.{Refusal}
-use Rattle.elem_descr.specs.declared.refusal.Refusal.TheVariants.{UnknownName, TooManyNames, OutOfMemory}
-use Rattle.elem_descr.specs.declared.descr.Descr.{Descr}
-use Rattle.elem_descr.specs.Refusals.{Gives, check, ◌>>=◌}
-use Rattle.elem_descr.specs.Blocks.{item_from}
-use Rattle.elem_descr.specs.declared.index_item.IndexItem.{IndexItem}
-use Rattle.elem_descr.specs.declared.memory_order.MemoryOrder.{MemoryOrder}
-use Rattle.elem_descr.specs.declared.memory_order.MemoryOrder.TheVariants.{C}
-use Rattle.shape_strides.specs.Layouts.{offsets}
+use Rattle.bench_engine.specs.Words.{Refusal, UnknownName, TooManyNames, OutOfMemory, Descr, Gives, check, ◌>>=◌, item_from, IndexItem, MemoryOrder, C, offsets, unary_result, unary_item, Items, Owned, Operation, UnOp, Operand, Argument, Computation, Duplicate, Cast, Combine, Transform, Reduce, State, find_array, is_bound, has_room_for, descr_of, read}
 use Rattle.view_ops.specs.Views.{View}
-use Rattle.elementwise.specs.Results.{unary_result, unary_item}
-use Rattle.arrays.specs.declared.items.Items.{Items}
-use Rattle.arrays.specs.declared.owned.Owned.{Owned}
-use Rattle.script_lang.specs.declared.operation.Operation.{Operation}
-use Rattle.elem_descr.specs.declared.operators.UnOp.{UnOp}
-use Rattle.script_lang.specs.declared.command.Operand.{Operand}
-use Rattle.script_lang.specs.declared.command.Argument.{Argument}
-use Rattle.script_lang.specs.declared.command.Computation.{Computation}
-use Rattle.script_lang.specs.declared.command.Computation.TheVariants.{Duplicate, Cast, Combine, Transform, Reduce}
-use Rattle.name_store.specs.States.{State, Array}
-use Rattle.name_store.specs.Arrays.{find_array, is_bound, has_room_for, descr_of, read}
+use Rattle.name_store.specs.States.{Array}
 use Rattle.bench_engine.specs.Contents.{Contents, new_contents}
 use Rattle.bench_engine.specs.IndexLists.{taken}
 use Rattle.bench_engine.specs.Memory.{bound_in_computation}

@@ -2,13 +2,7 @@
 use Rattle.std.proofs.Common.{subst, IsTrue, ◌≡◌, ℕ, Bool, true, false, List, ◌++◌, length, refl, sym, ap, ◌∙◌, Result, Ok, Err, ◌⊎◌, inl, inr, take}
 use Rattle.std.specs.Io.{StartsWith}
 use Rattle.std.proofs.Math.Seq.{take-append_seam}
-use Rattle.elem_descr.specs.declared.refusal.Refusal.{Refusal}
-use Rattle.elem_descr.specs.declared.refusal.Refusal.TheVariants.{OutOfMemory, TooManyNames}
-use Rattle.arrays.specs.declared.owned.Owned.{Owned}
-use Rattle.name_store.specs.States.{State}
-use Rattle.name_store.specs.Arrays.{has_room_for, bound_to}
-use Rattle.name_store.specs.Calls.{AnswersBind}
-use Rattle.name_store.specs.declared.bound.Bound.TheVariants.{Fresh}
+use Rattle.bench_engine.specs.Words.{Refusal, OutOfMemory, TooManyNames, Owned, State, has_room_for, bound_to, AnswersBind, Fresh}
 use Rattle.bench_engine.specs.Contents.{Contents, array_over}
 use Rattle.bench_engine.specs.inside.OwnContents.{held}
 use Rattle.bench_engine.specs.inside.Contract.{IsRefused, CarriesOut}

@@ -1,10 +1,7 @@
 -- A name bound no longer.
 use Rattle.std.proofs.Common.{◌≡◌, ◌≤◌, ◌⊎◌, ◌&&◌, ℕ, true, false, inl, inr, nat_lt, List, ◌++◌, codes, refl, Err, IsTrue}
 use Rattle.std.proofs.lemmas.Bool.{lt-ltb}
-use Rattle.elem_descr.specs.declared.refusal.Refusal.{Refusal}
-use Rattle.elem_descr.specs.declared.refusal.Refusal.TheVariants.{UnknownName, OutOfMemory}
-use Rattle.name_store.specs.States.{State}
-use Rattle.name_store.specs.Arrays.{is_bound, unbound}
+use Rattle.bench_engine.specs.Words.{Refusal, UnknownName, OutOfMemory, State, is_bound, unbound}
 use Rattle.bench_engine.specs.Machine.{delete_outcome, accepted_with}
 use Rattle.bench_engine.specs.inside.Contract.{IsRefused}
 

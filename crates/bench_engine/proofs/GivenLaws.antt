@@ -4,32 +4,11 @@ use Rattle.std.specs.FinMap.{get}
 use Rattle.std.proofs.lemmas.Bool.{false≢true, le-leb}
 use Rattle.std.proofs.lemmas.List.{get_or-map, length-map}
 use Rattle.std.proofs.lemmas.Simd.{map-map}
-use Rattle.elem_descr.specs.declared.refusal.Refusal.{Refusal}
-use Rattle.elem_descr.specs.declared.refusal.Refusal.TheVariants.{OutOfMemory, TooLarge, NoSuchCast}
-use Rattle.elem_descr.specs.declared.descr.Descr.{Descr}
-use Rattle.elem_descr.specs.Blocks.{item_from}
-use Rattle.elem_descr.specs.Items.{item_size, leaves_of, AreAlike}
-use Rattle.elem_descr.specs.Values.{LeafValue}
-use Rattle.elementwise.specs.Casts.{can_cast, cast_item}
-use Rattle.shape_strides.specs.declared.layout.Layout.{Layout}
-use Rattle.shape_strides.specs.Indexes.{count, indexes, rank}
-use Rattle.shape_strides.specs.LayoutLaws.{length-offsets}
-use Rattle.shape_strides.specs.Layouts.{offsets}
-use Rattle.shape_strides.specs.Limits.{max_bytes}
-use Rattle.view_ops.specs.Views.{View, IsViewOf, GivesView}
-use Rattle.broadcasting.specs.Broadcasts.{stretched_into}
-use Rattle.arrays.specs.declared.items.Items.{Items}
-use Rattle.arrays.specs.declared.owned.Owned.{Owned}
-use Rattle.script_lang.specs.declared.command.Operand.{Operand}
+use Rattle.bench_engine.specs.Words.{Refusal, OutOfMemory, TooLarge, NoSuchCast, Descr, item_from, item_size, leaves_of, AreAlike, LeafValue, can_cast, cast_item, Layout, count, indexes, rank, length-offsets, offsets, max_bytes, IsViewOf, GivesView, stretched_into, Items, Owned, Operand, State, addresses, buffer_of, descr_of, read, span_of, placed_item, part_at, Shows, ArrayRef, Bound, Source, Supplies}
+use Rattle.view_ops.specs.Views.{View}
 use Rattle.script_lang.specs.declared.command.Argument.TheVariants as argument
-use Rattle.name_store.specs.States.{State, Array}
-use Rattle.name_store.specs.Arrays.{addresses, buffer_of, descr_of, read, span_of, placed_item}
-use Rattle.name_store.specs.Parts.{part_at}
-use Rattle.name_store.specs.Shown.{Shows}
-use Rattle.name_store.specs.declared.array_ref.ArrayRef.{ArrayRef}
-use Rattle.name_store.specs.declared.bound.Bound.{Bound}
+use Rattle.name_store.specs.States.{Array}
 use Rattle.name_store.specs.declared.bound.Bound.TheVariants as bound
-use Rattle.name_store.specs.declared.target.Source.{Source}
 use Rattle.name_store.specs.declared.target.Source.TheVariants as source
 use Rattle.bench_engine.specs.Machine.{viewed, operand_part, argument_items}
 use Rattle.bench_engine.specs.inside.Assigns.{IsTaken, LiesIn, Stretches, Fitted, cast_from}
@@ -38,7 +17,6 @@ use Rattle.bench_engine.proofs.Assigns.{all-viewed, lies-viewed, stretched-shape
 use Rattle.bench_engine.proofs.Casts.{cast-none, cast-some}
 use Rattle.bench_engine.proofs.Views.{given-view}
 use Rattle.bench_engine.specs.inside.Meeting.{Meets}
-use Rattle.name_store.specs.Targets.{Supplies}
 use Rattle.bench_engine.proofs.Answered.{met}
 
 pub stretches : (view wide : Layout) (shape : List ℕ) → GivesView view (Ok wide) (stretched_into view.shape shape) → Stretches view shape wide

@@ -7,32 +7,12 @@ use Rattle.std.proofs.lemmas.List.Elements.{All-map, Contains-get_or, All-push}
 use Rattle.std.proofs.lemmas.List.Folds.{list_all-append}
 use Rattle.std.proofs.lemmas.Simd.{map-map}
 use Rattle.std.proofs.Math.Bool.{and-false}
-use Rattle.elem_descr.specs.declared.refusal.Refusal.{Refusal}
-use Rattle.elem_descr.specs.declared.refusal.Refusal.TheVariants.{TooLarge}
-use Rattle.elem_descr.specs.Blocks.{item_from}
-use Rattle.elem_descr.specs.Items.{item_size}
-use Rattle.elem_descr.specs.declared.index_item.IndexItem.{IndexItem}
-use Rattle.elem_descr.specs.declared.index_item.IndexItem.TheVariants.{Integer, Slice, Ellipsis, NewAxis, Array as ArrayItem}
-use Rattle.shape_strides.specs.declared.layout.Layout.{Layout}
-use Rattle.shape_strides.specs.Indexes.{count, indexes, rank}
-use Rattle.shape_strides.specs.IndexLaws.{length-indexes, rank-lt, get_or-indexes, index_at}
-use Rattle.shape_strides.specs.LayoutLaws.{length-offsets}
-use Rattle.shape_strides.specs.Layouts.{offsets}
-use Rattle.shape_strides.specs.Limits.{max_bytes}
-use Rattle.view_ops.specs.Views.{View, view_through}
-use Rattle.fancy_index.specs.IndexArrays.{IndexArray, no_array, with_array, with_arrays}
-use Rattle.fancy_index.specs.Indexed.{indexed}
-use Rattle.fancy_index.specs.Plans.{Planned, IsPlanOf, GivesPlan}
-use Rattle.fancy_index.specs.Sources.{index_array_of, first_number, IsNamed}
-use Rattle.fancy_index.specs.declared.source.Indices.{Indices}
-use Rattle.name_store.specs.States.{State, Array}
-use Rattle.name_store.specs.Arrays.{is_bound, buffer_of, descr_of, addresses, read}
-use Rattle.name_store.specs.Parts.{start_at}
-use Rattle.name_store.specs.Shown.{Shows}
-use Rattle.name_store.specs.declared.array_ref.ArrayRef.{ArrayRef}
+use Rattle.bench_engine.specs.Words.{Refusal, TooLarge, item_from, item_size, IndexItem, Slice, Ellipsis, NewAxis, Layout, count, indexes, rank, length-indexes, rank-lt, get_or-indexes, index_at, length-offsets, offsets, max_bytes, view_through, IndexArray, no_array, with_array, with_arrays, indexed, Planned, IsPlanOf, GivesPlan, index_array_of, first_number, IsNamed, Indices, State, is_bound, buffer_of, descr_of, addresses, read, start_at, Shows, ArrayRef, offsets-at}
+use Rattle.elem_descr.specs.declared.index_item.IndexItem.TheVariants.{Integer, Array as ArrayItem}
+use Rattle.view_ops.specs.Views.{View}
+use Rattle.name_store.specs.States.{Array}
 use Rattle.bench_engine.specs.IndexLists.{names_in_item, names_in_index, by_items, array_by_items, gathered}
 use Rattle.bench_engine.specs.Machine.{viewed}
-use Rattle.name_store.specs.ArrayLaws.{offsets-at}
 use Rattle.bench_engine.proofs.Makes.{passed}
 
 -- ---- names that are bound

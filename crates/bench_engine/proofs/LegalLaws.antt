@@ -2,11 +2,7 @@
 use Rattle.std.proofs.Common.{◌≡◌, ℕ, true, List, [], ◌∷◌, Result, Ok, Err, sym, ap, ◌∙◌, arith}
 use Rattle.std.specs.Result.{is_ok}
 use Rattle.std.proofs.lemmas.Bool.{false≢true}
-use Rattle.elem_descr.specs.declared.refusal.Refusal.{Refusal}
-use Rattle.elem_descr.specs.Refusals.{◌>>=◌}
-use Rattle.shape_strides.specs.Shapes.{shape_of, IsShape}
-use Rattle.shape_strides.specs.ShapeLaws.{shape_read}
-use Rattle.broadcasting.specs.Broadcasts.{can_stretch, common_shape}
+use Rattle.bench_engine.specs.Words.{Refusal, ◌>>=◌, shape_of, IsShape, shape_read, can_stretch, common_shape}
 use Rattle.bench_engine.proofs.StretchLaws.{common-lengths}
 
 pub none-legal : IsShape []

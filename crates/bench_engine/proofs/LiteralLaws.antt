@@ -4,38 +4,10 @@ use Rattle.std.specs.Result.{is_ok}
 use Rattle.std.proofs.lemmas.Bool.{false≢true}
 use Rattle.std.proofs.lemmas.List.{length-map}
 use Rattle.std.proofs.lemmas.Simd.{map-map}
-use Rattle.elem_descr.specs.declared.refusal.Refusal.{Refusal}
-use Rattle.elem_descr.specs.declared.refusal.Refusal.TheVariants.{OutOfMemory, NotForThisKind}
-use Rattle.elem_descr.specs.declared.descr.Descr.{Descr}
+use Rattle.bench_engine.specs.Words.{Refusal, OutOfMemory, NotForThisKind, Descr, Scalar, Byte, Int, Gives, ◌>>=◌, check, same_answer, item_size, item_from, LeafValue, number, C, count, offsets, length-offsets, IsShape, can_stretch, common_shape, can-itself, stretched-self, is_text, compared_type, promote, scalar_of, integer_compared_result, bytes_compared_result, compared_item, pairwise, Items, Owned, offsets_in, is_castable, item_value, BinOp, Comparison, Operation, Binary, Compare, ScalarLiteral, Boolean, Literal}
 use Rattle.elem_descr.specs.declared.descr.Descr.TheVariants.{Scalar as ScalarDescr, Record as RecordDescr}
-use Rattle.elem_descr.specs.declared.scalar.Scalar.{Scalar}
-use Rattle.elem_descr.specs.declared.scalar.Scalar.TheVariants.{Bool as BoolScalar, Byte, Int, Bytes as BytesScalar}
-use Rattle.elem_descr.specs.Refusals.{Gives, ◌>>=◌, check}
-use Rattle.elem_descr.specs.RefusalLaws.{same_answer}
-use Rattle.elem_descr.specs.Items.{item_size}
-use Rattle.elem_descr.specs.Blocks.{item_from}
-use Rattle.elem_descr.specs.Values.{LeafValue, number}
-use Rattle.elem_descr.specs.declared.memory_order.MemoryOrder.TheVariants.{C}
-use Rattle.shape_strides.specs.Indexes.{count}
-use Rattle.shape_strides.specs.Layouts.{offsets}
-use Rattle.shape_strides.specs.LayoutLaws.{length-offsets}
-use Rattle.shape_strides.specs.Shapes.{IsShape}
-use Rattle.broadcasting.specs.Broadcasts.{can_stretch, common_shape}
-use Rattle.broadcasting.specs.BroadcastLaws.{can-itself, stretched-self}
-use Rattle.machine_numbers.specs.Kinds.{is_text}
-use Rattle.elementwise.specs.Promotion.{compared_type, promote}
-use Rattle.elementwise.specs.Results.{scalar_of, integer_compared_result, bytes_compared_result, compared_item, pairwise}
-use Rattle.arrays.specs.declared.items.Items.{Items}
-use Rattle.arrays.specs.declared.owned.Owned.{Owned}
-use Rattle.arrays.specs.Blocks.{offsets_in}
-use Rattle.literal_items.specs.LiteralItems.{is_castable, item_value}
-use Rattle.elem_descr.specs.declared.operators.BinOp.{BinOp}
-use Rattle.elem_descr.specs.declared.operators.Comparison.{Comparison}
-use Rattle.script_lang.specs.declared.operation.Operation.{Operation}
-use Rattle.script_lang.specs.declared.operation.Operation.TheVariants.{Binary, Compare}
-use Rattle.script_lang.specs.declared.literal.ScalarLiteral.{ScalarLiteral}
-use Rattle.script_lang.specs.declared.literal.ScalarLiteral.TheVariants.{Integer, Boolean, Bytes}
-use Rattle.script_lang.specs.declared.literal.Literal.{Literal}
+use Rattle.elem_descr.specs.declared.scalar.Scalar.TheVariants.{Bool as BoolScalar, Bytes as BytesScalar}
+use Rattle.script_lang.specs.declared.literal.ScalarLiteral.TheVariants.{Integer, Bytes}
 use Rattle.script_lang.specs.declared.literal.Literal.TheVariants as literal
 use Rattle.bench_engine.specs.Machine.{OperandValues, one_item, literal_value, literal_scalar, operand_of_literal, compared_literal, literal_values, operation_scalar, operation_with}
 use Rattle.bench_engine.specs.inside.Operands.{Stands, OwnStands}

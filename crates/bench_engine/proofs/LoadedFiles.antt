@@ -1,21 +1,8 @@
 -- Arrays that are loaded.
 use Rattle.std.proofs.Common.{◌≡◌, ◌∙◌, ℕ, true, false, List, refl, sym, ap, subst, inl, inr, arith, Option, Some, None, Result, Ok, Err}
 use Rattle.std.specs.FinMap.{get}
-use Rattle.elem_descr.specs.declared.refusal.Refusal.{Refusal}
-use Rattle.elem_descr.specs.declared.refusal.Refusal.TheVariants.{TooManyNames, OutOfMemory}
-use Rattle.elem_descr.specs.Items.{item_size}
-use Rattle.elem_descr.specs.Blocks.{items_in}
-use Rattle.shape_strides.specs.Indexes.{count}
-use Rattle.arrays.specs.declared.owned.Owned.{Owned}
-use Rattle.arrays.specs.Blocks.{places_of}
-use Rattle.npy_files.specs.Stores.{StoreState, IsSameStore, FaultHasCause, IsRead}
-use Rattle.npy_files.specs.declared.store.StoreFault.{StoreFault}
-use Rattle.npy_files.specs.declared.store.StoreFault.TheVariants.{Device, TooLong, Memory}
-use Rattle.npy_format.specs.Files.{Loaded, Loads, HoldsFileItems, file_order}
-use Rattle.script_lang.specs.declared.command.Command.TheVariants.{Bind}
+use Rattle.bench_engine.specs.Words.{Refusal, TooManyNames, OutOfMemory, item_size, items_in, count, Owned, places_of, StoreState, IsSameStore, FaultHasCause, IsRead, StoreFault, Device, TooLong, Memory, Loaded, Loads, HoldsFileItems, file_order, Bind, State, has_room_for}
 use Rattle.script_lang.specs.declared.command.Value.TheVariants.{Load as LoadValue}
-use Rattle.name_store.specs.States.{State}
-use Rattle.name_store.specs.Arrays.{has_room_for}
 use Rattle.bench_engine.specs.inside.OwnContents.{held}
 use Rattle.bench_engine.specs.inside.Contract.{CarriesOut, Carried}
 use Rattle.bench_engine.specs.inside.LoadedFiles.{Finds}

@@ -1,14 +1,8 @@
 -- Names that are looked up, and what is answered of their arrays.
 use Rattle.std.proofs.Common.{◌≡◌, ℕ, true, List, length, refl, sym, ap, ◌∙◌, take_all, Option, Some, None, Err, is_some, arith}
 use Rattle.std.specs.Io.{StartsWith}
-use Rattle.elem_descr.specs.declared.refusal.Refusal.TheVariants.{UnknownName}
-use Rattle.elem_descr.specs.declared.descr.Descr.{Descr}
-use Rattle.shape_strides.specs.Layouts.{offsets}
-use Rattle.array_print.specs.Printed.{array_text, items_from}
-use Rattle.name_store.specs.States.{State, Array}
-use Rattle.name_store.specs.Arrays.{find_array, is_bound, descr_of, read}
-use Rattle.name_store.specs.Shown.{Finds, Shows}
-use Rattle.name_store.specs.declared.array_ref.ArrayRef.{ArrayRef}
+use Rattle.bench_engine.specs.Words.{UnknownName, Descr, offsets, array_text, items_from, State, find_array, is_bound, descr_of, read, Finds, Shows, ArrayRef}
+use Rattle.name_store.specs.States.{Array}
 use Rattle.bench_engine.specs.Replies.{format_text}
 use Rattle.bench_engine.specs.Machine.{print_outcome, format_outcome, accepted_with}
 

@@ -2,28 +2,9 @@
 use Rattle.std.proofs.Common.{◌≡◌, ◌≢◌, ◌≤◌, ◌<◌, ◌*◌, ℕ, zero, suc, ℤ, List, [], ◌∷◌, length, drop, map, replicate, refl, sym, ap, ◌∙◌, Result, Ok, Err, IfOk, IfErr, nat_le, if◌then◌else◌, ◌⊎◌, inl, inr, arith}
 use Rattle.std.proofs.lemmas.Bool.{le-leb, lt-leb, ne_eqb, eq-eqb}
 use Rattle.std.proofs.lemmas.List.{length-map}
-use Rattle.elem_descr.specs.declared.refusal.Refusal.{Refusal}
-use Rattle.elem_descr.specs.declared.refusal.Refusal.TheVariants.{OutOfMemory, TooLarge, NumberOfValues}
-use Rattle.elem_descr.specs.declared.scalar.Scalar.{Scalar}
-use Rattle.elem_descr.specs.declared.descr.Descr.{Descr}
+use Rattle.bench_engine.specs.Words.{Refusal, OutOfMemory, TooLarge, NumberOfValues, Scalar, Descr, Gives, Answers, descriptor, size, item_size, decode_item, blocks, items_in, LeafValue, max_bytes, max_items, C, count, offsets, offsets_in, places_of, shape_of, Literal, Owned, item_value, item_values, range_items}
 use Rattle.elem_descr.specs.declared.descr.Descr.TheVariants.{Scalar as ScalarDescr}
-use Rattle.elem_descr.specs.Refusals.{Gives, Answers}
-use Rattle.elem_descr.specs.DescrTexts.{descriptor}
-use Rattle.elem_descr.specs.Encoding.{size}
-use Rattle.elem_descr.specs.Items.{item_size, decode_item}
-use Rattle.elem_descr.specs.Blocks.{blocks, items_in}
-use Rattle.elem_descr.specs.Values.{LeafValue}
-use Rattle.shape_strides.specs.Limits.{max_bytes, max_items}
-use Rattle.elem_descr.specs.declared.memory_order.MemoryOrder.TheVariants.{C}
-use Rattle.shape_strides.specs.Indexes.{count}
-use Rattle.shape_strides.specs.Layouts.{offsets}
-use Rattle.arrays.specs.Blocks.{offsets_in, places_of}
 use Rattle.std.specs.List.{range_with_len}
-use Rattle.shape_strides.specs.Shapes.{shape_of}
-use Rattle.script_lang.specs.declared.literal.Literal.{Literal}
-use Rattle.arrays.specs.declared.owned.Owned.{Owned}
-use Rattle.literal_items.specs.LiteralItems.{item_value, item_values}
-use Rattle.literal_items.specs.RangeItems.{range_items}
 use Rattle.bench_engine.specs.Contents.{new_contents, array_type, zeros_contents, full_contents, array_contents, arange_contents, integer_scalar, range_scalar}
 use Rattle.bench_engine.specs.inside.OwnContents.{held, IsInCOrder}
 use Rattle.bench_engine.proofs.Stored.{divided}

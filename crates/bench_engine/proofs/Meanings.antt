@@ -3,7 +3,7 @@ use Rattle.std.proofs.Common.{◌≡◌, ◌<◌, ◌≤◌, ◌+◌, ℕ, Bool,
 use Rattle.std.specs.List.{ends_with}
 use Rattle.std.proofs.lemmas.Bool.{lt-ltb, le-ltb}
 use Rattle.bench_engine.specs.Headline.{trimmed, too_long, says, meaning_of, limit}
-use Rattle.script_lang.specs.Lines.{line_of}
+use Rattle.bench_engine.specs.Words.{line_of}
 use Rattle.bench_engine.specs.Sessions.{HoldsBytes}
 
 length-trimmed : (piece : List ℕ) → length piece ≤ length (trimmed piece) + 1

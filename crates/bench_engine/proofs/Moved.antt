@@ -8,40 +8,9 @@ use Rattle.std.proofs.lemmas.Bool.{cases_eq, false≢true}
 use Rattle.std.proofs.lemmas.Simd.{splat_is_map}
 use Rattle.std.proofs.lemmas.List.{length-map, get_or-map}
 use Rattle.std.proofs.lemmas.List.Sorted.{IsPermutation-map, All-permutation, length_permutation}
-use Rattle.elem_descr.specs.declared.refusal.Refusal.{Refusal}
-use Rattle.elem_descr.specs.declared.refusal.Refusal.TheVariants.{OutOfMemory}
-use Rattle.elem_descr.specs.declared.descr.Descr.{Descr}
-use Rattle.elem_descr.specs.Items.{item_size}
-use Rattle.elem_descr.specs.Values.{LeafValue}
-use Rattle.shape_strides.specs.declared.layout.Layout.{Layout}
-use Rattle.shape_strides.specs.declared.layout_pair.LayoutPair.{LayoutPair}
-use Rattle.shape_strides.specs.Indexes.{count}
-use Rattle.shape_strides.specs.ItemPairs.{item_pairs}
-use Rattle.shape_strides.specs.LayoutLaws.{length-offsets, offsets_within}
-use Rattle.shape_strides.specs.Layouts.{offsets, IsNested}
-use Rattle.shape_strides.specs.Limits.{max_bytes}
-use Rattle.shape_strides.specs.PlaceLaws.{fits-offsets}
-use Rattle.shape_strides.specs.Shapes.{IsShape}
-use Rattle.broadcasting.specs.Broadcasts.{broadcast_index, can_stretch, stretched}
-use Rattle.broadcasting.specs.BroadcastLaws.{can-itself, stretched-ok, stretched-self}
-use Rattle.view_ops.specs.Views.{View as ViewOf, GivesView, IsViewOf, view_through}
-use Rattle.elem_descr.specs.Blocks.{item_from}
-use Rattle.elem_descr.specs.RefusalLaws.{same_answer}
-use Rattle.arrays.specs.PairLaws.{All-seconds, firsts-reordered, pair_even}
-use Rattle.overlap_copy.specs.OrderLaws.{nested-reordered}
-use Rattle.arrays.specs.declared.items.Items.{Items}
-use Rattle.arrays.specs.declared.owned.Owned.{Owned}
-use Rattle.script_lang.specs.declared.literal.Literal.{Literal}
-use Rattle.script_lang.specs.declared.operation.Operation.{Operation}
-use Rattle.name_store.specs.States.{State, Array}
-use Rattle.name_store.specs.Arrays.{buffer_of, descr_of, keeping, placed_item, read, span_of, written}
-use Rattle.name_store.specs.Parts.{part_at, start_at}
-use Rattle.name_store.specs.Targets.{LeadsTo, MayWrite, Supplies, target_offsets}
-use Rattle.name_store.specs.Shown.{Shows}
-use Rattle.name_store.specs.declared.array_ref.ArrayRef.{ArrayRef}
-use Rattle.name_store.specs.declared.target.Source.{Source}
-use Rattle.name_store.specs.declared.target.Source.TheVariants.{Block}
-use Rattle.name_store.specs.declared.target.Target.{Target}
+use Rattle.bench_engine.specs.Words.{Refusal, OutOfMemory, Descr, item_size, LeafValue, Layout, LayoutPair, count, item_pairs, length-offsets, offsets_within, offsets, IsNested, max_bytes, fits-offsets, IsShape, broadcast_index, can_stretch, stretched, can-itself, stretched-ok, stretched-self, GivesView, IsViewOf, view_through, item_from, same_answer, All-seconds, firsts-reordered, pair_even, nested-reordered, Items, Owned, Literal, Operation, State, buffer_of, descr_of, keeping, placed_item, read, span_of, written, part_at, start_at, LeadsTo, MayWrite, Supplies, target_offsets, Shows, ArrayRef, Source, Block, Target}
+use Rattle.view_ops.specs.Views.{View as ViewOf}
+use Rattle.name_store.specs.States.{Array}
 use Rattle.name_store.specs.declared.target.Target.TheVariants.{View}
 use Rattle.bench_engine.specs.Machine.{OperandValues, changed_with, literal_values, operand_values, updated_items}
 use Rattle.bench_engine.specs.declared.update.Writing.{Writing}

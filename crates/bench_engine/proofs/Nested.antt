@@ -7,7 +7,7 @@ use Rattle.std.proofs.lemmas.Bool.Decides.{eqb_tells}
 use Rattle.std.proofs.lemmas.Map.Steps.{length-le_from_distinct_below}
 use Rattle.std.proofs.Math.Dec.{eqb}
 use Rattle.std.proofs.Math.Nat.{lt-div-mul-add, div-mul-le_self, div-lt_iff_lt-mul, mul-le-mul_left}
-use Rattle.shape_strides.specs.Layouts.{IsNested, distance}
+use Rattle.bench_engine.specs.Words.{IsNested, distance}
 
 -- two places that are one are less than an item apart
 close : (w o p : ℕ) → 1 ≤ w → o / w ≡ p / w → w ≤ distance o p → ⊥

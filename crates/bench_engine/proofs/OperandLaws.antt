@@ -1,23 +1,8 @@
 -- Operands: parts of arrays, and single items.
 use Rattle.std.proofs.Common.{◌≡◌, ◌+◌, ◌≤◌, ℕ, List, [], ◌∷◌, length, map, All, sym, ap, ◌∙◌}
-use Rattle.elem_descr.specs.declared.descr.Descr.{Descr}
-use Rattle.elem_descr.specs.Blocks.{item_from}
-use Rattle.elem_descr.specs.Items.{item_size}
-use Rattle.elem_descr.specs.Values.{LeafValue}
-use Rattle.shape_strides.specs.declared.layout.Layout.{Layout}
-use Rattle.shape_strides.specs.Layouts.{offsets}
-use Rattle.shape_strides.specs.LayoutLaws.{length-offsets, offsets_within}
-use Rattle.shape_strides.specs.Indexes.{count}
-use Rattle.view_ops.specs.Views.{View, view_through, IsViewOf}
-use Rattle.broadcasting.specs.Broadcasts.{can_stretch, broadcast_index}
-use Rattle.elementwise.specs.Results.{stretched_items}
-use Rattle.arrays.specs.declared.items.Items.{Items}
-use Rattle.arrays.specs.declared.owned.Owned.{Owned}
-use Rattle.name_store.specs.States.{State, Array}
-use Rattle.name_store.specs.Arrays.{buffer_of, span_of, placed_item}
-use Rattle.name_store.specs.Parts.{part_at}
-use Rattle.name_store.specs.Shown.{Shows}
-use Rattle.name_store.specs.declared.array_ref.ArrayRef.{ArrayRef}
+use Rattle.bench_engine.specs.Words.{Descr, item_from, item_size, LeafValue, Layout, offsets, length-offsets, offsets_within, count, view_through, IsViewOf, can_stretch, broadcast_index, stretched_items, Items, Owned, State, buffer_of, span_of, placed_item, part_at, Shows, ArrayRef}
+use Rattle.view_ops.specs.Views.{View}
+use Rattle.name_store.specs.States.{Array}
 use Rattle.bench_engine.specs.Machine.{OperandValues, operand_values, one_item, viewed}
 use Rattle.bench_engine.specs.inside.Assigns.{Holds}
 use Rattle.bench_engine.specs.inside.Operands.{StandsFor, Stands, OwnStands}

@@ -1,12 +1,8 @@
 -- What the commands over views come to.
 use Rattle.std.proofs.Common.{◌≡◌, ℕ, true, false, ◌&&◌, is_some, inl, inr, List, refl, sym, ap, ◌∙◌, Option, Some, None, Ok, Err}
 use Rattle.std.specs.List.{list_all}
-use Rattle.elem_descr.specs.declared.refusal.Refusal.{Refusal}
-use Rattle.elem_descr.specs.declared.refusal.Refusal.TheVariants.{UnknownName, TooManyNames}
-use Rattle.script_lang.specs.declared.command.Viewing.{Viewing}
-use Rattle.name_store.specs.States.{State, Array}
-use Rattle.name_store.specs.Arrays.{find_array, is_bound, has_room_for, descr_of, addresses, share_cells}
-use Rattle.name_store.specs.Calls.{AnswersShares}
+use Rattle.bench_engine.specs.Words.{Refusal, UnknownName, TooManyNames, Viewing, State, find_array, is_bound, has_room_for, descr_of, addresses, share_cells, AnswersShares}
+use Rattle.name_store.specs.States.{Array}
 use Rattle.bench_engine.specs.inside.Contract.{IsRefused}
 use Rattle.bench_engine.specs.Machine.{Choice, ViewOrCopy, seen, names_in_viewing, view_outcome, bound_seen, info_outcome, shares_outcome, accepted_with}
 use Rattle.bench_engine.specs.Replies.{info_text, shares_text}

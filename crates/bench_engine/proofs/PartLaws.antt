@@ -1,22 +1,12 @@
 -- What an index list shows of an array.
 use Rattle.std.proofs.Common.{◌≡◌, true, false, ℕ, List, refl, sym, ap, ◌∙◌, subst, Bor, Ok}
 use Rattle.std.specs.List.{list_all}
-use Rattle.elem_descr.specs.declared.index_item.IndexItem.{IndexItem}
-use Rattle.elem_descr.specs.declared.memory_order.MemoryOrder.TheVariants.{C}
-use Rattle.elem_descr.specs.IndexItems.{is_basic}
+use Rattle.bench_engine.specs.Words.{IndexItem, C, is_basic, Descr, item_size, Owned, offsets_in, State, descr_of, read, Shows, ArrayRef, Bound}
 use Rattle.view_ops.specs.Views.{View}
-use Rattle.elem_descr.specs.declared.descr.Descr.{Descr}
-use Rattle.elem_descr.specs.Items.{item_size}
-use Rattle.arrays.specs.declared.owned.Owned.{Owned}
-use Rattle.arrays.specs.Blocks.{offsets_in}
-use Rattle.name_store.specs.States.{State, Array}
-use Rattle.name_store.specs.Arrays.{descr_of, read}
-use Rattle.name_store.specs.Shown.{Shows}
-use Rattle.name_store.specs.declared.array_ref.ArrayRef.{ArrayRef}
+use Rattle.name_store.specs.States.{Array}
 use Rattle.bench_engine.specs.Contents.{new_contents}
 use Rattle.bench_engine.specs.IndexLists.{taken}
 use Rattle.bench_engine.specs.Machine.{a_view, a_copy, viewed, part_seen}
-use Rattle.name_store.specs.declared.bound.Bound.{Bound}
 use Rattle.name_store.specs.declared.bound.Bound.TheVariants as bound
 use Rattle.bench_engine.specs.declared.view.Viewed.{Viewed}
 use Rattle.bench_engine.specs.inside.Assigns.{Holds, IsTaken}

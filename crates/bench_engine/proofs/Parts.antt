@@ -1,22 +1,9 @@
 -- Fields of arrays: names that are bound to them.
 use Rattle.std.proofs.Common.{◌≡◌, ◌<◌, ◌+◌, ◌*◌, ℕ, List, [], ◌∷◌, ◌++◌, length, map, refl, sym, ap, ◌∙◌, subst, Option, Some, Ok, arith}
 use Rattle.std.specs.Option.{ok_or}
-use Rattle.elem_descr.specs.declared.refusal.Refusal.TheVariants.{NoSuchField}
-use Rattle.elem_descr.specs.Refusals.{◌>>=◌}
-use Rattle.elem_descr.specs.declared.descr.Descr.{Descr}
-use Rattle.elem_descr.specs.Items.{item_size, fields, field_at, field_of}
-use Rattle.shape_strides.specs.declared.layout.Layout.{Layout}
-use Rattle.shape_strides.specs.Layouts.{offsets, Fits, IsNested, offsets_of}
-use Rattle.view_ops.specs.FieldViews.{IsFieldOf, GivesField}
-use Rattle.name_store.specs.States.{State, Array}
-use Rattle.name_store.specs.Arrays.{buffer_of, descr_of}
-use Rattle.name_store.specs.Parts.{descr_at, start_at}
-use Rattle.name_store.specs.Shown.{Shows}
-use Rattle.name_store.specs.Views.{IsViewIn}
-use Rattle.name_store.specs.Laws.{path-then, descr-then, start-then}
-use Rattle.name_store.specs.declared.array_ref.ArrayRef.{ArrayRef}
+use Rattle.bench_engine.specs.Words.{NoSuchField, ◌>>=◌, Descr, item_size, fields, field_at, field_of, Layout, offsets, Fits, IsNested, offsets_of, IsFieldOf, GivesField, State, buffer_of, descr_of, descr_at, start_at, Shows, IsViewIn, path-then, descr-then, start-then, ArrayRef, Bound}
+use Rattle.name_store.specs.States.{Array}
 use Rattle.script_lang.specs.declared.command.Viewing.TheVariants.{Field}
-use Rattle.name_store.specs.declared.bound.Bound.{Bound}
 use Rattle.name_store.specs.declared.bound.Bound.TheVariants as bound
 use Rattle.bench_engine.specs.inside.Parts.{IsOf, IsSeen}
 use Rattle.bench_engine.specs.Machine.{a_view, seen}

@@ -3,32 +3,9 @@ use Rattle.std.proofs.Common.{◌≡◌, ◌<◌, ◌≤◌, ◌+◌, ℕ, ℤ, 
 use Rattle.std.specs.List.{insert, remove, range_with_len}
 use Rattle.std.proofs.lemmas.List.{length-map, get_or-map}
 use Rattle.std.proofs.lemmas.Simd.{map-map}
-use Rattle.elem_descr.specs.declared.refusal.Refusal.{Refusal}
-use Rattle.elem_descr.specs.declared.refusal.Refusal.TheVariants.{BadAxis}
-use Rattle.elem_descr.specs.declared.descr.Descr.{Descr}
-use Rattle.elem_descr.specs.Refusals.{Gives}
-use Rattle.elem_descr.specs.Blocks.{item_from}
-use Rattle.elem_descr.specs.Values.{LeafValue}
-use Rattle.elem_descr.specs.RefusalLaws.{check_test, bind_ok}
-use Rattle.elem_descr.specs.declared.memory_order.MemoryOrder.TheVariants.{C}
-use Rattle.shape_strides.specs.Indexes.{count, indexes, rank, IsIndex}
-use Rattle.shape_strides.specs.IndexLaws.{rank-lt, same_on_indexes}
-use Rattle.shape_strides.specs.LayoutLaws.{length-offsets}
-use Rattle.shape_strides.specs.Layouts.{offsets}
-use Rattle.shape_strides.specs.AxisLaws.{axis_below}
-use Rattle.view_ops.specs.Slices.{from_front}
-use Rattle.arrays.specs.declared.owned.Owned.{Owned}
-use Rattle.elem_descr.specs.declared.operators.Red.{Red}
-use Rattle.reductions.specs.Lists.{lists, named_axis, is_axis, IsAxisOf}
-use Rattle.reductions.specs.ListLaws.{IsIndex-insert}
+use Rattle.bench_engine.specs.Words.{Refusal, BadAxis, Descr, Gives, item_from, LeafValue, check_test, bind_ok, C, count, indexes, rank, IsIndex, rank-lt, same_on_indexes, length-offsets, offsets, axis_below, from_front, Owned, Red, lists, named_axis, is_axis, IsAxisOf, IsIndex-insert, outcome_of, number_scalar, reduced_item, reduced_items, State, find_array, buffer_of, descr_of, read, span_of, placed_item, part_at, Shows, ArrayRef}
 use Rattle.reductions.specs.Outcomes as reductions
-use Rattle.reductions.specs.Outcomes.{outcome_of, number_scalar}
-use Rattle.reductions.specs.Reductions.{reduced_item, reduced_items}
-use Rattle.name_store.specs.States.{State, Array}
-use Rattle.name_store.specs.Arrays.{find_array, buffer_of, descr_of, read, span_of, placed_item}
-use Rattle.name_store.specs.Parts.{part_at}
-use Rattle.name_store.specs.Shown.{Shows}
-use Rattle.name_store.specs.declared.array_ref.ArrayRef.{ArrayRef}
+use Rattle.name_store.specs.States.{Array}
 use Rattle.bench_engine.specs.Contents.{new_contents}
 use Rattle.bench_engine.specs.Machine.{reduced_contents}
 use Rattle.bench_engine.specs.inside.OwnContents.{held, IsInCOrder}

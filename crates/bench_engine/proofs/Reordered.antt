@@ -6,20 +6,8 @@ use Rattle.std.proofs.lemmas.List.{length-map}
 use Rattle.std.proofs.lemmas.List.Sorted.{IsPermutation-refl, IsPermutation-trans, IsPermutation-swap, IsPermutation-map, IsPermutation-keeps}
 use Rattle.std.proofs.lemmas.Simd.{map-map}
 use Rattle.std.proofs.lemmas.Slice.Zip.{firsts-zip, seconds-zip}
-use Rattle.elem_descr.specs.declared.refusal.Refusal.{Refusal}
-use Rattle.elem_descr.specs.declared.descr.Descr.{Descr}
+use Rattle.bench_engine.specs.Words.{Refusal, Descr, Scalar, ◌>>=◌, LeafValue, IsShape, map-swap, can_stretch, stretched-ok, cast_item, same_kind, scalar_of, pairwise, Operation}
 use Rattle.elem_descr.specs.declared.descr.Descr.TheVariants.{Scalar as ScalarDescr}
-use Rattle.elem_descr.specs.declared.scalar.Scalar.{Scalar}
-use Rattle.elem_descr.specs.Refusals.{◌>>=◌}
-use Rattle.elem_descr.specs.Values.{LeafValue}
-use Rattle.shape_strides.specs.Shapes.{IsShape}
-use Rattle.shape_strides.specs.PermutationLaws.{map-swap}
-use Rattle.broadcasting.specs.Broadcasts.{can_stretch}
-use Rattle.broadcasting.specs.BroadcastLaws.{stretched-ok}
-use Rattle.elementwise.specs.Casts.{cast_item}
-use Rattle.elementwise.specs.Promotion.{same_kind}
-use Rattle.elementwise.specs.Results.{scalar_of, pairwise}
-use Rattle.script_lang.specs.declared.operation.Operation.{Operation}
 use Rattle.bench_engine.specs.Machine.{OperandValues, operation_scalar, operation_item, updated_items}
 use Rattle.bench_engine.proofs.LegalLaws.{legal-common}
 use Rattle.bench_engine.proofs.Updates.{changed-type, changed-record, changed-kind, changed-done}

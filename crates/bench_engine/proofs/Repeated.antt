@@ -1,9 +1,7 @@
 -- An item over and over.
 use Rattle.std.proofs.Common.{◌≡◌, ℕ, zero, suc, ◌+◌, List, ◌∷◌, ◌++◌, length, replicate, refl, sym, ap, ◌∙◌, arith}
 use Rattle.std.proofs.Math.Seq.{take-append_seam, drop-append_seam}
-use Rattle.elem_descr.specs.Blocks.{blocks}
-use Rattle.raw_block.specs.Bytes.{joined}
-use Rattle.raw_block.specs.JoinedLaws.{joined-add}
+use Rattle.bench_engine.specs.Words.{blocks, joined, joined-add}
 
 pub blocks-repeated : (item : List ℕ) (n : ℕ) → blocks (length item) n (joined (λ _. item) n) ≡ replicate n item
 blocks-repeated item zero = refl

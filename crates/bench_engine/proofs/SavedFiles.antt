@@ -1,16 +1,7 @@
 -- Arrays that are saved.
 use Rattle.std.proofs.Common.{◌≡◌, ◌⊎◌, ◌∙◌, ℕ, true, List, ◌++◌, length, map, codes, decimal, refl, sym, ap, inl, inr, subst, Some, None, Result, Ok, Err}
-use Rattle.elem_descr.specs.declared.refusal.Refusal.{Refusal}
-use Rattle.elem_descr.specs.declared.refusal.Refusal.TheVariants.{UnknownName, OutOfMemory}
-use Rattle.elem_descr.specs.Blocks.{item_from}
-use Rattle.shape_strides.specs.Layouts.{offsets}
-use Rattle.npy_files.specs.Stores.{StoreState, IsSameStore, FaultHasCause, IsKept, IsWritten}
-use Rattle.npy_format.specs.WrittenFiles.{saved}
-use Rattle.script_lang.specs.declared.command.Command.TheVariants.{Save}
-use Rattle.name_store.specs.States.{State, Array}
-use Rattle.name_store.specs.Arrays.{find_array, is_bound, addresses, descr_of, read}
-use Rattle.name_store.specs.Shown.{Shows}
-use Rattle.name_store.specs.declared.array_ref.ArrayRef.{ArrayRef}
+use Rattle.bench_engine.specs.Words.{Refusal, UnknownName, OutOfMemory, item_from, offsets, StoreState, IsSameStore, FaultHasCause, IsKept, IsWritten, saved, Save, State, find_array, is_bound, addresses, descr_of, read, Shows, ArrayRef}
+use Rattle.name_store.specs.States.{Array}
 use Rattle.bench_engine.specs.Replies.{Reply, refusal}
 use Rattle.bench_engine.specs.Steps.{world, store_refusal, Stored, file_of_name, save_reply, SaveStep}
 use Rattle.bench_engine.specs.Memory.{MayAnswer}

@@ -2,16 +2,8 @@
 use Rattle.std.proofs.Common.{◌≡◌, ◌++◌, ◌∷◌, ◌&&◌, ℕ, Bool, true, false, List, Option, Some, None, refl, ◌∙◌, ◌⊎◌, inl, inr, Ok, Err}
 use Rattle.std.specs.List.{list_all}
 use Rattle.std.proofs.lemmas.List.Folds.{list_all-append}
-use Rattle.elem_descr.specs.declared.refusal.Refusal.{Refusal}
-use Rattle.elem_descr.specs.declared.refusal.Refusal.TheVariants.{UnknownName, OutOfMemory}
-use Rattle.elem_descr.specs.declared.descr.Descr.{Descr}
-use Rattle.elem_descr.specs.Values.{LeafValue}
-use Rattle.elem_descr.specs.declared.index_item.IndexItem.{IndexItem}
-use Rattle.shape_strides.specs.Indexes.{count}
-use Rattle.script_lang.specs.declared.command.Argument.{Argument}
-use Rattle.script_lang.specs.declared.operation.Operation.{Operation}
-use Rattle.name_store.specs.States.{State, Array}
-use Rattle.name_store.specs.Arrays.{find_array, is_bound, descr_of, written}
+use Rattle.bench_engine.specs.Words.{Refusal, UnknownName, OutOfMemory, Descr, LeafValue, IndexItem, count, Argument, Operation, State, find_array, is_bound, descr_of, written}
+use Rattle.name_store.specs.States.{Array}
 use Rattle.bench_engine.specs.IndexLists.{names_in_index}
 use Rattle.bench_engine.specs.Machine.{target_part, new_items, names_in_argument, write_outcome, write_reply, accepted_with}
 use Rattle.bench_engine.specs.inside.Operands.{GivesGiven}

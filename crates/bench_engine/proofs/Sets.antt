@@ -4,20 +4,8 @@ use Rattle.std.specs.List.{Contains}
 use Rattle.std.proofs.lemmas.Simd.{map-map}
 use Rattle.std.proofs.lemmas.List.{get_or-map}
 use Rattle.std.proofs.lemmas.List.Elements.{All-contains}
-use Rattle.elem_descr.specs.declared.descr.Descr.{Descr}
-use Rattle.elem_descr.specs.Items.{item_size}
-use Rattle.elem_descr.specs.Blocks.{item_from}
-use Rattle.shape_strides.specs.declared.layout.Layout.{Layout}
-use Rattle.shape_strides.specs.Indexes.{count}
-use Rattle.shape_strides.specs.Limits.{max_bytes}
-use Rattle.shape_strides.specs.Layouts.{offsets, IsNested, offsets_of}
-use Rattle.shape_strides.specs.LayoutLaws.{length-offsets, offsets_within}
-use Rattle.name_store.specs.States.{State, Array}
-use Rattle.name_store.specs.Arrays.{buffer_of, read}
-use Rattle.name_store.specs.Parts.{start_at, part_at}
-use Rattle.name_store.specs.Arrays.{span_of, placed_item}
-use Rattle.name_store.specs.Shown.{Shows}
-use Rattle.name_store.specs.declared.array_ref.ArrayRef.{ArrayRef}
+use Rattle.bench_engine.specs.Words.{Descr, item_size, item_from, Layout, count, max_bytes, offsets, IsNested, offsets_of, length-offsets, offsets_within, State, buffer_of, read, start_at, part_at, span_of, placed_item, Shows, ArrayRef}
+use Rattle.name_store.specs.States.{Array}
 use Rattle.bench_engine.specs.inside.Assigns.{LiesIn}
 use Rattle.bench_engine.proofs.Nested.{nested-fits}
 

@@ -5,13 +5,8 @@ use Rattle.std.specs.declared.cmp.Ordering.TheVariants.{Less, Equal, Greater}
 use Rattle.std.specs.List.{AllByRecursion}
 use Rattle.std.specs.FinMap.{FinMap, get, get-entries, find, entries, nat_cmp-IsAntisymmetric}
 use Rattle.std.proofs.lemmas.List.Elements.{All-from_recursion}
-use Rattle.elem_descr.specs.declared.refusal.Refusal.{Refusal}
-use Rattle.elem_descr.specs.declared.refusal.Refusal.TheVariants.{LineTooLong, OutOfMemory}
-use Rattle.script_lang.specs.declared.command.Command.{Command}
-use Rattle.script_lang.specs.Lines.{Line, silent, bad_byte, misspelt, asks}
-use Rattle.script_lang.specs.Reading.{MayLackRoom, Says, parts_take_memory}
-use Rattle.name_store.specs.States.{State, Array, Buffer}
-use Rattle.npy_files.specs.Stores.{StoreState}
+use Rattle.bench_engine.specs.Words.{Refusal, LineTooLong, OutOfMemory, Command, Line, silent, bad_byte, misspelt, asks, MayLackRoom, Says, parts_take_memory, State, Buffer, StoreState}
+use Rattle.name_store.specs.States.{Array}
 use Rattle.bench_engine.specs.Replies.{Reply, refusal}
 use Rattle.bench_engine.specs.Machine.{Choice, IsAllowed, Outcome, after_outcome}
 use Rattle.bench_engine.specs.Steps.{World, world, Refuses, DoesAlone, Step}

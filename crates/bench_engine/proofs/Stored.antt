@@ -4,19 +4,8 @@ use Rattle.std.specs.List.{range_with_len}
 use Rattle.std.proofs.Math.Nat.{mul-div_cancel_left}
 use Rattle.std.proofs.lemmas.List.{length-map, get_or-map, same_lists, reverse-reverse}
 use Rattle.std.proofs.lemmas.List.FromFn.{length-map-range_with_len, get_or-map-range_with_len}
-use Rattle.elem_descr.specs.declared.descr.Descr.{Descr}
-use Rattle.elem_descr.specs.Items.{item_size, decode_item}
-use Rattle.elem_descr.specs.Blocks.{blocks, items_in, item_from}
-use Rattle.elem_descr.specs.Values.{LeafValue}
-use Rattle.elem_descr.specs.declared.memory_order.MemoryOrder.{MemoryOrder}
-use Rattle.elem_descr.specs.declared.memory_order.MemoryOrder.TheVariants.{C, Fortran}
-use Rattle.shape_strides.specs.Indexes.{count, indexes, rank, IsIndex}
-use Rattle.shape_strides.specs.IndexLaws.{length-indexes, get_or-indexes, index_at, rank-lt}
-use Rattle.shape_strides.specs.ReverseLaws.{count-reverse, IsIndex-from_reverse}
-use Rattle.shape_strides.specs.Layouts.{multiples, f_multiples}
-use Rattle.arrays.specs.Blocks.{offsets_in, places_of}
+use Rattle.bench_engine.specs.Words.{Descr, item_size, decode_item, blocks, items_in, item_from, LeafValue, MemoryOrder, C, Fortran, count, indexes, rank, IsIndex, length-indexes, get_or-indexes, index_at, rank-lt, count-reverse, IsIndex-from_reverse, multiples, f_multiples, offsets_in, places_of, ordered}
 use Rattle.bench_engine.specs.Contents.{places_in}
-use Rattle.npy_format.specs.WrittenFiles.{ordered}
 
 -- ---- places
 

@@ -5,16 +5,7 @@ use Rattle.std.proofs.lemmas.Bool.{false≢true, and_parts}
 use Rattle.std.proofs.lemmas.Bool.Decides.{nat_tests}
 use Rattle.std.proofs.lemmas.List.{length-map, get_or-map}
 use Rattle.std.proofs.lemmas.Simd.{map-map}
-use Rattle.elem_descr.specs.declared.refusal.Refusal.{Refusal}
-use Rattle.elem_descr.specs.Refusals.{◌>>=◌}
-use Rattle.shape_strides.specs.Indexes.{count, indexes, rank, IsIndex}
-use Rattle.shape_strides.specs.IndexLaws.{length-indexes, rank-lt, same_on_indexes}
-use Rattle.shape_strides.specs.Shapes.{shape_of}
-use Rattle.shape_strides.specs.ShapeLaws.{shape_of-same}
-use Rattle.view_ops.specs.Views.{view_through}
-use Rattle.broadcasting.specs.Broadcasts.{aligned, go_together, common_length, all_go_together, common_lengths, common_of_two, common_with, common_shape, stretches, all_stretch, can_stretch, broadcast_index, stretched}
-use Rattle.broadcasting.specs.BroadcastLaws.{IsIndex-broadcast}
-use Rattle.broadcasting.specs.FitLaws.{common-some, few-axes}
+use Rattle.bench_engine.specs.Words.{Refusal, ◌>>=◌, count, indexes, rank, IsIndex, length-indexes, rank-lt, same_on_indexes, shape_of, shape_of-same, view_through, aligned, go_together, common_length, all_go_together, common_lengths, common_of_two, common_with, common_shape, stretches, all_stretch, can_stretch, broadcast_index, stretched, IsIndex-broadcast, common-some, few-axes}
 
 -- ---- items, stretched
 

@@ -2,28 +2,9 @@
 use Rattle.std.proofs.Common.{Some, get_or, slice_index, ◌≡◌, ◌⊎◌, ◌≤◌, ◌+◌, ◌*◌, ℕ, true, false, List, length, map, refl, sym, ap, ◌∙◌, subst, All, Ok, Err}
 use Rattle.std.specs.List.{list_all}
 use Rattle.std.proofs.lemmas.List.Elements.{All-map}
-use Rattle.elem_descr.specs.declared.refusal.Refusal.{Refusal}
-use Rattle.elem_descr.specs.declared.refusal.Refusal.TheVariants.{OutOfMemory, ReadOnly}
-use Rattle.elem_descr.specs.declared.descr.Descr.{Descr}
-use Rattle.elem_descr.specs.Blocks.{item_from}
-use Rattle.elem_descr.specs.Items.{item_size}
-use Rattle.elem_descr.specs.declared.index_item.IndexItem.{IndexItem}
-use Rattle.shape_strides.specs.declared.layout.Layout.{Layout}
-use Rattle.elem_descr.specs.IndexItems.{is_basic}
-use Rattle.shape_strides.specs.Indexes.{count, indexes, rank}
-use Rattle.shape_strides.specs.LayoutLaws.{length-offsets}
-use Rattle.shape_strides.specs.Layouts.{offsets, IsNested}
-use Rattle.shape_strides.specs.Limits.{max_bytes}
-use Rattle.view_ops.specs.Views.{View, view_through, IsViewOf, GivesView, KeepsNested}
-use Rattle.view_ops.specs.Basics.{basic}
-use Rattle.arrays.specs.declared.owned.Owned.{Owned}
-use Rattle.fancy_index.specs.Plans.{Planned, IsPlanOf, GivesPlan}
-use Rattle.name_store.specs.States.{State, Array}
-use Rattle.name_store.specs.Arrays.{find_array, descr_of, read}
-use Rattle.name_store.specs.Shown.{Shows}
-use Rattle.name_store.specs.Targets.{MayWrite, target_offsets}
-use Rattle.name_store.specs.declared.array_ref.ArrayRef.{ArrayRef}
-use Rattle.name_store.specs.declared.target.Target.{Target}
+use Rattle.bench_engine.specs.Words.{Refusal, OutOfMemory, ReadOnly, Descr, item_from, item_size, IndexItem, Layout, is_basic, count, indexes, rank, length-offsets, offsets, IsNested, max_bytes, view_through, IsViewOf, GivesView, KeepsNested, basic, Owned, Planned, IsPlanOf, GivesPlan, State, find_array, descr_of, read, Shows, MayWrite, target_offsets, ArrayRef, Target}
+use Rattle.view_ops.specs.Views.{View}
+use Rattle.name_store.specs.States.{Array}
 use Rattle.name_store.specs.declared.target.Target.TheVariants as target
 use Rattle.bench_engine.specs.IndexLists.{taken, gathered}
 use Rattle.bench_engine.specs.Machine.{viewed, target_part}

@@ -1,9 +1,6 @@
 -- The state before the last change.
 use Rattle.std.proofs.Common.{◌≡◌, true, false, codes, refl, Err}
-use Rattle.elem_descr.specs.declared.refusal.Refusal.{Refusal}
-use Rattle.elem_descr.specs.declared.refusal.Refusal.TheVariants.{NothingToUndo}
-use Rattle.name_store.specs.States.{State}
-use Rattle.name_store.specs.Arrays.{has_kept, undone}
+use Rattle.bench_engine.specs.Words.{Refusal, NothingToUndo, State, has_kept, undone}
 use Rattle.bench_engine.specs.Machine.{undo_outcome, accepted_with}
 
 pub undo-nothing : (s : State) (e : Refusal) → has_kept s ≡ false → e ≡ NothingToUndo → undo_outcome s ≡ Err e

@@ -2,33 +2,12 @@
 use Rattle.std.proofs.Common.{◌≡◌, ◌≤◌, ◌*◌, ℕ, true, nat_le, if◌then◌else◌, IfErr, List, [], ◌∷◌, map, IfOk, Result, Ok, Err, refl, sym, ap, ◌∙◌, subst, inl}
 use Rattle.std.specs.Result.{is_ok}
 use Rattle.std.proofs.lemmas.Bool.{false≢true}
-use Rattle.elem_descr.specs.declared.refusal.Refusal.{Refusal}
-use Rattle.elem_descr.specs.declared.refusal.Refusal.TheVariants.{OutOfMemory, TooLarge, NoSuchCast}
-use Rattle.elem_descr.specs.declared.descr.Descr.{Descr}
+use Rattle.bench_engine.specs.Words.{Refusal, OutOfMemory, TooLarge, NoSuchCast, Descr, Scalar, Byte, Int, same_answer, bind_ok, item_from, item_size, leaves_of, LeafValue, count, max_bytes, offsets, broadcast_index, can_stretch, common_shape, stretched, stretched-ok, can_cast, cast_item, same_kind, scalar_of, stretched_items, Items, length-offsets, IsShape, Owned, Literal, Operation}
 use Rattle.elem_descr.specs.declared.descr.Descr.TheVariants.{Scalar as ScalarDescr}
-use Rattle.elem_descr.specs.declared.scalar.Scalar.{Scalar}
-use Rattle.elem_descr.specs.declared.scalar.Scalar.TheVariants.{Bool as BoolScalar, Byte, Int, Bytes}
-use Rattle.elem_descr.specs.RefusalLaws.{same_answer, bind_ok}
-use Rattle.elem_descr.specs.Blocks.{item_from}
-use Rattle.elem_descr.specs.Items.{item_size, leaves_of}
-use Rattle.elem_descr.specs.Values.{LeafValue}
-use Rattle.shape_strides.specs.Indexes.{count}
-use Rattle.shape_strides.specs.Limits.{max_bytes}
-use Rattle.shape_strides.specs.Layouts.{offsets}
+use Rattle.elem_descr.specs.declared.scalar.Scalar.TheVariants.{Bool as BoolScalar, Bytes}
 use Rattle.view_ops.specs.Views.{View}
-use Rattle.broadcasting.specs.Broadcasts.{broadcast_index, can_stretch, common_shape, stretched}
-use Rattle.broadcasting.specs.BroadcastLaws.{stretched-ok}
-use Rattle.elementwise.specs.Casts.{can_cast, cast_item}
-use Rattle.elementwise.specs.Promotion.{same_kind}
-use Rattle.elementwise.specs.Results.{scalar_of, stretched_items}
-use Rattle.arrays.specs.declared.items.Items.{Items}
-use Rattle.shape_strides.specs.LayoutLaws.{length-offsets}
-use Rattle.shape_strides.specs.Shapes.{IsShape}
 use Rattle.std.proofs.lemmas.Simd.{map-map}
 use Rattle.bench_engine.proofs.GivenLaws.{cast-lacks}
-use Rattle.arrays.specs.declared.owned.Owned.{Owned}
-use Rattle.script_lang.specs.declared.literal.Literal.{Literal}
-use Rattle.script_lang.specs.declared.operation.Operation.{Operation}
 use Rattle.bench_engine.specs.Contents.{Contents}
 use Rattle.bench_engine.specs.Machine.{OperandValues, literal_values, operation_scalar, operation_on, operation_with, updated_items, changed_with}
 use Rattle.bench_engine.specs.inside.Operands.{Stands, HoldsItems}

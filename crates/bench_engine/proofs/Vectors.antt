@@ -1,10 +1,7 @@
 -- What `broadcast` shows of an array, as NumPy's `broadcast_to` has it.
 use Rattle.std.proofs.Common.{◌≡◌, ℕ, Bool, true, false, List, [], ◌∷◌, Ok, Err, refl}
-use Rattle.elem_descr.specs.declared.refusal.Refusal.TheVariants.{TooLarge, ShapesDoNotBroadcast}
-use Rattle.shape_strides.specs.Shapes.{shape_of}
-use Rattle.broadcasting.specs.Broadcasts.{stretched}
-use Rattle.script_lang.specs.declared.command.Viewing.TheVariants.{Broadcast}
-use Rattle.name_store.specs.States.{State, Array}
+use Rattle.bench_engine.specs.Words.{TooLarge, ShapesDoNotBroadcast, shape_of, stretched, Broadcast, State}
+use Rattle.name_store.specs.States.{Array}
 use Rattle.bench_engine.specs.Machine.{a_view, seen}
 
 -- an array over buffer 0 with these places

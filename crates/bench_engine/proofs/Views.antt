@@ -1,19 +1,9 @@
 -- Views of arrays: places for offsets, and names that are bound to them.
 use Rattle.std.proofs.Common.{◌≡◌, ◌⊎◌, ℕ, Bool, true, false, List, ◌++◌, refl, sym, ap, ◌∙◌, subst, Result, Ok, Err, inl, inr, Bor, IsTrue}
-use Rattle.elem_descr.specs.declared.refusal.Refusal.{Refusal}
-use Rattle.elem_descr.specs.declared.refusal.Refusal.TheVariants.{OutOfMemory}
-use Rattle.elem_descr.specs.Refusals.{◌>>=◌}
-use Rattle.elem_descr.specs.declared.descr.Descr.{Descr}
-use Rattle.shape_strides.specs.declared.layout.Layout.{Layout}
-use Rattle.view_ops.specs.Views.{View, IsViewOf, GivesView, KeepsNested}
-use Rattle.name_store.specs.States.{State, Array}
-use Rattle.name_store.specs.Arrays.{has_room_for, bound_to, bound_view, addresses}
-use Rattle.name_store.specs.Calls.{AnswersBind}
-use Rattle.name_store.specs.Views.{IsViewIn, MayBind}
-use Rattle.name_store.specs.Shown.{Shows}
-use Rattle.name_store.specs.declared.bound.Bound.{Bound}
+use Rattle.bench_engine.specs.Words.{Refusal, OutOfMemory, ◌>>=◌, Descr, Layout, IsViewOf, GivesView, KeepsNested, State, has_room_for, bound_to, bound_view, addresses, AnswersBind, IsViewIn, MayBind, Shows, Bound, ArrayRef}
+use Rattle.view_ops.specs.Views.{View}
+use Rattle.name_store.specs.States.{Array}
 use Rattle.name_store.specs.declared.bound.Bound.TheVariants as bound
-use Rattle.name_store.specs.declared.array_ref.ArrayRef.{ArrayRef}
 use Rattle.bench_engine.specs.declared.view.Viewed.{Viewed}
 use Rattle.bench_engine.specs.inside.Parts.{IsOf, descr_seen, shape_of_bound, origin_of_bound, IsSeen}
 use Rattle.bench_engine.specs.Contents.{array_over}

@@ -1,7 +1,7 @@
 -- What a session comes to outside of the run.
 use Rattle.std.proofs.Common.{◌≡◌, ◌≢◌, [], ◌⊎◌, inl, inr, ◌++◌, ap, ◌∙◌, sym, append_assoc, zero-add, ℕ, List, Option, Some, None, Err, subst, IfSome, refl, map}
 use Rattle.std.specs.Io.KnownBytes.{Consumes, IsAtEnd}
-use Rattle.npy_files.specs.Stores.{StoreState}
+use Rattle.bench_engine.specs.Words.{StoreState}
 use Rattle.bench_engine.specs.declared.runner.RunFault.{RunFault}
 use Rattle.bench_engine.specs.declared.runner.RunFault.TheVariants.{Read, Write, Memory}
 use Rattle.bench_engine.specs.declared.session.Session.{Session}

@@ -2,27 +2,8 @@
 use Rattle.std.proofs.Common.{◌≡◌, ◌⊎◌, ℕ, true, List, [], ◌∷◌, map, Result, Ok, Err, IfOk, refl, sym, ap, ◌∙◌, subst, inl, inr, arith}
 use Rattle.std.specs.Result.{is_ok}
 use Rattle.std.proofs.lemmas.Bool.{false≢true}
-use Rattle.elem_descr.specs.declared.refusal.Refusal.{Refusal}
-use Rattle.elem_descr.specs.declared.descr.Descr.{Descr}
+use Rattle.bench_engine.specs.Words.{Refusal, Descr, Scalar, Gives, ◌>>=◌, same_answer, bind_same, item_size, item_from, C, offsets, can_stretch, common_shape, common-fits, promote, compared_type, scalar_of, binary_result, compared_result, binary_item, compared_item, pairwise, stretched_items, Items, Owned, offsets_in, BinOp, Comparison, Operation, Binary, Compare}
 use Rattle.elem_descr.specs.declared.descr.Descr.TheVariants.{Scalar as ScalarDescr}
-use Rattle.elem_descr.specs.declared.scalar.Scalar.{Scalar}
-use Rattle.elem_descr.specs.Refusals.{Gives, ◌>>=◌}
-use Rattle.elem_descr.specs.RefusalLaws.{same_answer, bind_same}
-use Rattle.elem_descr.specs.Items.{item_size}
-use Rattle.elem_descr.specs.Blocks.{item_from}
-use Rattle.elem_descr.specs.declared.memory_order.MemoryOrder.TheVariants.{C}
-use Rattle.shape_strides.specs.Layouts.{offsets}
-use Rattle.broadcasting.specs.Broadcasts.{can_stretch, common_shape}
-use Rattle.broadcasting.specs.FitLaws.{common-fits}
-use Rattle.elementwise.specs.Promotion.{promote, compared_type}
-use Rattle.elementwise.specs.Results.{scalar_of, binary_result, compared_result, binary_item, compared_item, pairwise, stretched_items}
-use Rattle.arrays.specs.declared.items.Items.{Items}
-use Rattle.arrays.specs.declared.owned.Owned.{Owned}
-use Rattle.arrays.specs.Blocks.{offsets_in}
-use Rattle.elem_descr.specs.declared.operators.BinOp.{BinOp}
-use Rattle.elem_descr.specs.declared.operators.Comparison.{Comparison}
-use Rattle.script_lang.specs.declared.operation.Operation.{Operation}
-use Rattle.script_lang.specs.declared.operation.Operation.TheVariants.{Binary, Compare}
 use Rattle.bench_engine.specs.Contents.{new_contents}
 use Rattle.bench_engine.specs.Machine.{OperandValues, operation_scalar, operation_on, operation_item}
 use Rattle.bench_engine.specs.inside.Operands.{Stands}

@@ -8,10 +8,7 @@ use Rattle.std.proofs.lemmas.List.Elements.{Contains-get_or}
 use Rattle.std.proofs.lemmas.List.Sorted.{IsPermutation-sym, Contains-permutation}
 use Rattle.std.proofs.lemmas.Option.{unwrap_or-slice_get}
 use Rattle.std.proofs.lemmas.Slice.Zip.{get_or-zip, length-zip}
-use Rattle.shape_strides.specs.Layouts.{IsNested, distance}
-use Rattle.overlap_copy.specs.OrderLaws.{nested-reordered}
-use Rattle.name_store.specs.Arrays.{write, placed_item}
-use Rattle.name_store.specs.Parts.{with_part}
+use Rattle.bench_engine.specs.Words.{IsNested, distance, nested-reordered, write, placed_item, with_part}
 use Rattle.bench_engine.proofs.Reordered.{Item}
 
 abbrev Placed : Type 0

@@ -3,18 +3,8 @@ use Rattle.std.proofs.Common.{◌≡◌, ◌≤◌, ◌+◌, ◌*◌, ℕ, List,
 use Rattle.std.specs.List.{Contains}
 use Rattle.std.proofs.lemmas.List.{length-map, get_or-map}
 use Rattle.std.proofs.lemmas.List.Elements.{All-map, All-contains}
-use Rattle.elem_descr.specs.Blocks.{item_from}
-use Rattle.elem_descr.specs.Items.{item_size}
-use Rattle.shape_strides.specs.declared.layout.Layout.{Layout}
-use Rattle.shape_strides.specs.Layouts.{offsets, offsets_of}
-use Rattle.arrays.specs.declared.items.Items.{Items}
-use Rattle.arrays.specs.declared.owned.Owned.{Owned}
-use Rattle.fancy_index.specs.Plans.{Planned}
-use Rattle.name_store.specs.States.{State, Array}
-use Rattle.name_store.specs.Arrays.{buffer_of, descr_of, read}
-use Rattle.name_store.specs.Parts.{start_at}
-use Rattle.name_store.specs.Shown.{Shows}
-use Rattle.name_store.specs.declared.array_ref.ArrayRef.{ArrayRef}
+use Rattle.bench_engine.specs.Words.{item_from, item_size, Layout, offsets, offsets_of, Items, Owned, Planned, State, buffer_of, descr_of, read, start_at, Shows, ArrayRef}
+use Rattle.name_store.specs.States.{Array}
 use Rattle.name_store.specs.declared.target.Target.TheVariants as target
 use Rattle.bench_engine.specs.inside.Assigns.{LiesIn, IsTarget}
 use Rattle.bench_engine.specs.inside.Operands.{StandsFor}

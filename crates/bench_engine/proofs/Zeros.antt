@@ -2,18 +2,8 @@
 use Rattle.std.proofs.Common.{◌≡◌, ◌-◌, ℕ, zero, suc, pos, true, false, List, [], ◌∷◌, length, map, take, drop, replicate, get_or, refl, ap, nat_eq, arith}
 use Rattle.std.specs.List.{suffix_len}
 use Rattle.std.proofs.lemmas.List.Sums.{suffix_len_is}
-use Rattle.byteorder.specs.Endian.{little_from, big_from}
-use Rattle.elem_descr.specs.declared.scalar.Scalar.{Scalar}
-use Rattle.elem_descr.specs.declared.scalar.Scalar.TheVariants.{Bool as BoolScalar, Byte, Int, Bytes}
-use Rattle.elem_descr.specs.declared.scalar.Width.TheVariants.{Two, Four, Eight}
-use Rattle.elem_descr.specs.declared.scalar.Order.{Order}
-use Rattle.elem_descr.specs.declared.scalar.Order.TheVariants.{Little, Big}
-use Rattle.elem_descr.specs.declared.leaf.Leaf.{Leaf}
-use Rattle.elem_descr.specs.declared.descr.Descr.{Descr}
-use Rattle.elem_descr.specs.Encoding.{size, decode, number_in, integer, truth, without_nuls}
-use Rattle.elem_descr.specs.Items.{item_size, leaves_of, decode_item}
-use Rattle.elem_descr.specs.Blocks.{blocks, items_in}
-use Rattle.elem_descr.specs.Values.{number, text}
+use Rattle.bench_engine.specs.Words.{little_from, big_from, Scalar, Byte, Int, Two, Four, Eight, Order, Little, Big, Leaf, Descr, size, decode, number_in, integer, truth, without_nuls, item_size, leaves_of, decode_item, blocks, items_in, number, text}
+use Rattle.elem_descr.specs.declared.scalar.Scalar.TheVariants.{Bool as BoolScalar, Bytes}
 use Rattle.bench_engine.specs.Contents.{zero_of, zero_item}
 
 -- every byte is 0

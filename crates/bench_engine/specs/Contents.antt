@@ -1,29 +1,11 @@
 -- What the commands that make an array put into it.
 use Rattle.std.specs.Prelude.{ℕ, ◌*◌, ℤ, pos, true, List, [], ◌∷◌, length, map, replicate, reverse, Result, Ok, Err, nat_eq, nat_le}
 use Rattle.std.specs.List.{range_with_len}
-use Rattle.elem_descr.specs.declared.refusal.Refusal.{Refusal}
-use Rattle.elem_descr.specs.declared.refusal.Refusal.TheVariants.{TooLarge, NotForThisKind, NumberOfValues}
-use Rattle.elem_descr.specs.declared.scalar.Scalar.{Scalar}
-use Rattle.elem_descr.specs.declared.scalar.Scalar.TheVariants.{Byte, Int, Bytes}
-use Rattle.elem_descr.specs.declared.descr.Descr.{Descr}
+use Rattle.bench_engine.specs.Words.{Refusal, TooLarge, NotForThisKind, NumberOfValues, Scalar, Byte, Int, Descr, ◌>>=◌, check, descriptor, item_size, leaves_of, LeafValue, number, text, max_bytes, MemoryOrder, C, Fortran, count, indexes, rank, shape_of, Literal, NewItems, Zeros, Full, Arange, Buffer, item_value, item_values, range_items, ordered}
+use Rattle.elem_descr.specs.declared.scalar.Scalar.TheVariants.{Bytes}
 use Rattle.elem_descr.specs.declared.descr.Descr.TheVariants.{Scalar as ScalarDescr}
-use Rattle.elem_descr.specs.Refusals.{◌>>=◌, check}
-use Rattle.elem_descr.specs.DescrTexts.{descriptor}
-use Rattle.elem_descr.specs.Items.{item_size, leaves_of}
-use Rattle.elem_descr.specs.Values.{LeafValue, number, text}
-use Rattle.shape_strides.specs.Limits.{max_bytes}
-use Rattle.elem_descr.specs.declared.memory_order.MemoryOrder.{MemoryOrder}
-use Rattle.elem_descr.specs.declared.memory_order.MemoryOrder.TheVariants.{C, Fortran}
-use Rattle.shape_strides.specs.Indexes.{count, indexes, rank}
-use Rattle.shape_strides.specs.Shapes.{shape_of}
-use Rattle.script_lang.specs.declared.literal.Literal.{Literal}
-use Rattle.script_lang.specs.declared.command.NewItems.{NewItems}
-use Rattle.script_lang.specs.declared.command.NewItems.TheVariants.{Zeros, Full, Arange, Array}
-use Rattle.name_store.specs.States.{Buffer}
+use Rattle.script_lang.specs.declared.command.NewItems.TheVariants.{Array}
 use Rattle.name_store.specs.States as states
-use Rattle.literal_items.specs.LiteralItems.{item_value, item_values}
-use Rattle.literal_items.specs.RangeItems.{range_items}
-use Rattle.npy_format.specs.WrittenFiles.{ordered}
 
 -- a shape, for each of its indices in C order the place of an item, and a buffer in which the items stand
 pub record Contents : Type 0 where

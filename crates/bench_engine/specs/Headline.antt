@@ -3,10 +3,7 @@
 use Rattle.std.specs.Prelude.{◌≡◌, ◌≢◌, ◌⊎◌, ◌<◌, ◌-◌, ℕ, List, [], ◌∷◌, ◌++◌, length, map, take, count_by, not, nat_eq, nat_lt, if◌then◌else◌, All, Option, IfSome, Result, Ok, Err}
 use Rattle.std.specs.Io.KnownBytes.{Appends, Consumes, IsAtEnd}
 use Rattle.std.specs.List.{ends_with, flat_map}
-use Rattle.elem_descr.specs.declared.refusal.Refusal.TheVariants.{LineTooLong, ByteNotAllowed, Syntax, OutOfMemory}
-use Rattle.script_lang.specs.Lines.{Line, line_of, silent, bad_byte, misspelt, asks}
-use Rattle.name_store.specs.States.{State, start}
-use Rattle.npy_files.specs.Stores.{StoreState}
+use Rattle.bench_engine.specs.Words.{LineTooLong, ByteNotAllowed, Syntax, OutOfMemory, Line, line_of, silent, bad_byte, misspelt, asks, State, start, StoreState}
 use Rattle.bench_engine.specs.declared.session.Summary.{Summary}
 use Rattle.bench_engine.specs.declared.runner.RunFault.{RunFault}
 use Rattle.bench_engine.specs.declared.runner.RunFault.TheVariants.{Read, Write, Memory}

@@ -1,23 +1,10 @@
 -- What an index list takes of an array of a state, where the names in it stand for arrays of the state.
 use Rattle.std.specs.Prelude.{ℕ, ◌*◌, if◌then◌else◌, List, [], ◌∷◌, map, Option, Some, None, Result, Ok, nat_le}
 use Rattle.std.specs.List.{list_all, flat_map}
-use Rattle.elem_descr.specs.declared.refusal.Refusal.{Refusal}
-use Rattle.elem_descr.specs.declared.refusal.Refusal.TheVariants.{TooLarge}
-use Rattle.elem_descr.specs.Refusals.{◌>>=◌, check}
-use Rattle.elem_descr.specs.Items.{item_size}
-use Rattle.elem_descr.specs.declared.index_item.IndexItem.{IndexItem}
-use Rattle.elem_descr.specs.declared.index_item.IndexItem.TheVariants.{Integer, Slice, Ellipsis, NewAxis, Array}
-use Rattle.elem_descr.specs.IndexItems.{is_basic}
-use Rattle.shape_strides.specs.Limits.{max_bytes}
-use Rattle.shape_strides.specs.Indexes.{count}
+use Rattle.bench_engine.specs.Words.{Refusal, TooLarge, ◌>>=◌, check, item_size, IndexItem, Slice, Ellipsis, NewAxis, is_basic, max_bytes, count, basic, IndexArray, no_array, indexed, first_number, State, find_array, descr_of, read}
+use Rattle.elem_descr.specs.declared.index_item.IndexItem.TheVariants.{Integer, Array}
 use Rattle.view_ops.specs.Views.{View}
-use Rattle.view_ops.specs.Basics.{basic}
-use Rattle.fancy_index.specs.IndexArrays.{IndexArray, no_array}
-use Rattle.fancy_index.specs.Indexed.{indexed}
-use Rattle.fancy_index.specs.Sources.{first_number}
-use Rattle.name_store.specs.States.{State}
 use Rattle.name_store.specs.States as states
-use Rattle.name_store.specs.Arrays.{find_array, descr_of, read}
 
 -- the names in an index list
 abbrev pub names_in_item : IndexItem (List ℕ) → List (List ℕ)

@@ -7,3 +7,4 @@ pub mod Replies
 pub mod Sessions
 pub mod Steps
 pub mod inside
+pub mod Words

@@ -1,19 +1,11 @@
 -- Where a command may be refused as out of memory: what `execute` and `answer` promise beyond the machine.
 use Rattle.std.specs.Prelude.{◌⊎◌, ℕ, Bool, true, false, IsTrue, ◌&&◌, ◌++◌, List, [], ◌∷◌, nat_lt}
 use Rattle.std.specs.List.{list_all}
-use Rattle.elem_descr.specs.declared.refusal.Refusal.TheVariants.{OutOfMemory}
-use Rattle.script_lang.specs.declared.command.Computation.{Computation}
+use Rattle.bench_engine.specs.Words.{OutOfMemory, Computation, Value, Question, Command, asks, parts_take_memory, State, is_bound}
 use Rattle.script_lang.specs.declared.command.Computation.TheVariants as computation
-use Rattle.script_lang.specs.declared.command.Value.{Value}
 use Rattle.script_lang.specs.declared.command.Value.TheVariants as value
-use Rattle.script_lang.specs.declared.command.Question.{Question}
 use Rattle.script_lang.specs.declared.command.Question.TheVariants as question
-use Rattle.script_lang.specs.declared.command.Command.{Command}
 use Rattle.script_lang.specs.declared.command.Command.TheVariants as command
-use Rattle.script_lang.specs.Lines.{asks}
-use Rattle.script_lang.specs.Reading.{parts_take_memory}
-use Rattle.name_store.specs.States.{State}
-use Rattle.name_store.specs.Arrays.{is_bound}
 use Rattle.bench_engine.specs.IndexLists.{names_in_index}
 use Rattle.bench_engine.specs.Machine.{names_in_viewing, names_in_operand, names_in_argument}
 use Rattle.bench_engine.specs.Replies.{Reply}

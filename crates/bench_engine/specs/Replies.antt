@@ -1,16 +1,8 @@
 -- The texts of replies.
 use Rattle.std.specs.Prelude.{◌≡◌, ℕ, Bool, false, if◌then◌else◌, List, [], ◌∷◌, ◌++◌, Option, Some, None, codes, decimal}
 use Rattle.std.specs.List.{flat_map}
-use Rattle.elem_descr.specs.declared.refusal.Refusal.{Refusal}
-use Rattle.elem_descr.specs.declared.descr.Descr.{Descr}
+use Rattle.bench_engine.specs.Words.{Refusal, Descr, spelling, written_format, item_size, shape_text, first_address, printed_strides, is_c_contiguous, is_f_contiguous, strides_text, refusal_text, State}
 use Rattle.elem_descr.specs.declared.descr.Descr.TheVariants.{Scalar as ScalarDescr, Record as RecordDescr}
-use Rattle.elem_descr.specs.TypeStrings.{spelling}
-use Rattle.elem_descr.specs.WrittenFormats.{written_format}
-use Rattle.elem_descr.specs.Items.{item_size}
-use Rattle.shape_strides.specs.Shapes.{shape_text}
-use Rattle.shape_strides.specs.Contiguity.{first_address, printed_strides, is_c_contiguous, is_f_contiguous, strides_text}
-use Rattle.elem_descr.specs.RefusalTexts.{refusal_text}
-use Rattle.name_store.specs.States.{State}
 use Rattle.bench_engine.specs.declared.replies.Origin.{Origin}
 use Rattle.bench_engine.specs.declared.replies.Origin.TheVariants.{New, View, Copy}
 

@@ -1,11 +1,10 @@
 -- What a session holds, and what it has done once some bytes have come.
 use Rattle.std.specs.Prelude.{◌≡◌, ◌<◌, ◌+◌, ℕ, Bool, true, false, List, [], ◌++◌, length, map, Option}
 use Rattle.std.specs.Io.KnownBytes.{Appends}
-use Rattle.name_store.specs.States.{start}
+use Rattle.bench_engine.specs.Words.{start, StoreState}
 use Rattle.bench_engine.specs.declared.session.HeldLine.{HeldLine}
 use Rattle.bench_engine.specs.declared.session.Session.{Session}
 use Rattle.bench_engine.specs.Replies.{Reply}
-use Rattle.npy_files.specs.Stores.{StoreState}
 use Rattle.bench_engine.specs.Steps.{World, world}
 use Rattle.bench_engine.specs.Headline.{limit, Run, Splits, trimmed, AreLines, AreWholeLines, output, accepted_count, refused_count, AnswersInPart}
 

@@ -1,22 +1,9 @@
 -- Steps of the machine: what each command comes to, and what it asks of the store of files.
 use Rattle.std.specs.Prelude.{◌≡◌, ℕ, true, List, ◌++◌, length, codes, decimal, MatchBool, Option, Some, None, MatchResult, Result, Ok, Err}
 use Rattle.std.specs.FinMap.{get}
-use Rattle.elem_descr.specs.declared.refusal.Refusal.{Refusal}
-use Rattle.elem_descr.specs.declared.refusal.Refusal.TheVariants.{TooManyNames, NoSuchFile, FileTooLong, OutOfMemory, StoreFault as StoreFailed}
-use Rattle.elem_descr.specs.Refusals.{◌>>=◌}
-use Rattle.elem_descr.specs.Blocks.{items_in}
-use Rattle.shape_strides.specs.Indexes.{count}
-use Rattle.script_lang.specs.declared.command.Value.{Value}
-use Rattle.script_lang.specs.declared.command.Value.TheVariants.{Make, View, Compute, Load}
-use Rattle.script_lang.specs.declared.command.Command.{Command}
-use Rattle.script_lang.specs.declared.command.Command.TheVariants.{Bind, Set, Update, Delete, Ask, Save, Undo}
-use Rattle.name_store.specs.States.{State}
-use Rattle.name_store.specs.Arrays.{has_room_for, bound_to, descr_of, addresses, read}
-use Rattle.npy_format.specs.Files.{Loaded, load, file_order}
-use Rattle.npy_format.specs.WrittenFiles.{saved}
-use Rattle.npy_files.specs.Stores.{StoreState, IsSameStore, FaultHasCause, IsRead, IsKept, IsWritten}
-use Rattle.npy_files.specs.declared.store.StoreFault.{StoreFault}
-use Rattle.npy_files.specs.declared.store.StoreFault.TheVariants.{Device, TooLong, Memory}
+use Rattle.bench_engine.specs.Words.{Refusal, TooManyNames, NoSuchFile, FileTooLong, OutOfMemory, ◌>>=◌, items_in, count, Value, Make, Compute, Load, Command, Bind, Set, Update, Delete, Ask, Save, Undo, State, has_room_for, bound_to, descr_of, addresses, read, Loaded, load, file_order, saved, StoreState, IsSameStore, FaultHasCause, IsRead, IsKept, IsWritten, StoreFault, Device, TooLong, Memory}
+use Rattle.elem_descr.specs.declared.refusal.Refusal.TheVariants.{StoreFault as StoreFailed}
+use Rattle.script_lang.specs.declared.command.Value.TheVariants.{View}
 use Rattle.bench_engine.specs.declared.replies.Origin.TheVariants as origin
 use Rattle.bench_engine.specs.Contents.{Contents, places_in, array_over, contents_of}
 use Rattle.bench_engine.specs.Replies.{Reply, refusal, bound_text}

@@ -1,10 +1,9 @@
 //! `print X`, `info X`, `format X`, `names`, `shares X Y`: questions, which change nothing.
 ghost use Rattle.std.specs.Prelude.{◌≡◌, ◌≤◌, vec_capacity, ◌++◌, codes, OnOk, true, ◌+◌, ◌&&◌, vec_len};
-ghost use Rattle.name_store.specs.Arrays.{is_bound};
+ghost use Rattle.bench_engine.specs.Words.{is_bound, offsets};
 ghost use Rattle.bench_engine.specs.inside.Contract.{CarriesOut};
 ghost use Rattle.bench_engine.specs.Machine.{print_outcome, info_outcome, format_outcome, accepted_with, shares_outcome};
 ghost use Rattle.std.specs.Io.{StartsWith};
-ghost use Rattle.shape_strides.specs.Layouts.{offsets};
 ghost use Rattle.bench_engine.specs.Replies.{info_text, layout_words, order_text, yes_or_no, format_text, names_text};
 
 use crate::replies::push_array_words;

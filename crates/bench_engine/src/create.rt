@@ -1,18 +1,9 @@
 //! `X = zeros ..`, `full`, `arange`, `array`: bind a name to a new array.
 ghost use Rattle.std.specs.Prelude.{◌≡◌, IfOk, vec_len, ◌≤◌, ◌-◌, ◌*◌, ◌^◌, length, map, min, replicate, true, vec_capacity};
-ghost use Rattle.elem_descr.specs.Refusals.{Gives, Answers};
-ghost use Rattle.elem_descr.specs.Items.{item_size, decode_item};
-ghost use Rattle.literal_items.specs.LiteralItems.{item_value, item_values};
-ghost use Rattle.elem_descr.specs.Blocks.{blocks};
-ghost use Rattle.elem_descr.specs.Encoding.{IsNumber, size};
+ghost use Rattle.bench_engine.specs.Words.{Gives, Answers, item_size, decode_item, item_value, item_values, blocks, IsNumber, size, max_bytes, max_items, count, shape_of, range_count, range_items, has_room_for};
 ghost use Rattle.elem_descr.specs.declared.descr.Descr.TheVariants.{Scalar as ScalarDescr};
-ghost use Rattle.shape_strides.specs.Limits.{max_bytes, max_items};
-ghost use Rattle.shape_strides.specs.Indexes.{count};
-ghost use Rattle.shape_strides.specs.Shapes.{shape_of};
-ghost use Rattle.literal_items.specs.RangeItems.{range_count, range_items};
 ghost use Rattle.bench_engine.specs.Contents.{array_type, zeros_contents, full_contents, array_contents, arange_contents, contents_of, integer_scalar, range_scalar};
 ghost use Rattle.bench_engine.specs.inside.OwnContents.{held};
-ghost use Rattle.name_store.specs.Arrays.{has_room_for};
 ghost use Rattle.bench_engine.specs.inside.Contract.{CarriesOut};
 ghost use Rattle.bench_engine.specs.Machine.{bound_new, creation_outcome};
 

@@ -1,6 +1,6 @@
 //! `del X`: unbinds a name.
 ghost use Rattle.std.specs.Prelude.{◌≡◌, ◌≤◌, ◌+◌, ◌&&◌, nat_lt, vec_len, vec_capacity};
-ghost use Rattle.name_store.specs.Arrays.{is_bound};
+ghost use Rattle.bench_engine.specs.Words.{is_bound};
 ghost use Rattle.bench_engine.specs.inside.Contract.{CarriesOut};
 ghost use Rattle.bench_engine.specs.Machine.{delete_outcome};
 

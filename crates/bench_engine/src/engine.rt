@@ -1,8 +1,7 @@
 //! Carries out one line, and appends the reply to `out`.
 ghost use Rattle.std.specs.Prelude.{◌≡◌, ◌≤◌, ◌+◌, ◌++◌, ◌&&◌, [], List, vec_len, vec_capacity};
 ghost use Rattle.std.specs.List.{list_all};
-ghost use Rattle.script_lang.specs.declared.command.Command.TheVariants.{Bind};
-ghost use Rattle.name_store.specs.Arrays.{is_bound};
+ghost use Rattle.bench_engine.specs.Words.{Bind, is_bound};
 ghost use Rattle.bench_engine.specs.inside.Contract.{CarriesOut, Carried};
 ghost use Rattle.bench_engine.specs.Machine.{question_outcome};
 ghost use Rattle.bench_engine.specs.Replies.{Reply, Tells};

@@ -1,15 +1,13 @@
 //! `save X "f"` and `X = load "f"`: write an array to a file, and bind a name to the array in a file.
 ghost use Rattle.std.specs.Prelude.{◌≡◌, ◌≤◌, ◌+◌, ◌++◌, codes, decimal, vec_len, vec_capacity, OnOk, true};
 ghost use Rattle.bench_engine.specs.Steps.{store_refusal, world, bound_loaded};
-ghost use Rattle.script_lang.specs.declared.command.Command.TheVariants.{Save, Bind};
+ghost use Rattle.bench_engine.specs.Words.{Save, Bind, has_room_for, Load};
 ghost use Rattle.bench_engine.specs.Memory.{MayAnswer};
 ghost use Rattle.bench_engine.specs.inside.Contract.{Carried, CarriesOut};
 ghost use Rattle.bench_engine.specs.inside.SavedFiles.{Puts};
 ghost use Rattle.std.specs.Io.{StartsWith};
-ghost use Rattle.name_store.specs.Arrays.{has_room_for};
 ghost use Rattle.bench_engine.specs.declared.replies.Origin.TheVariants as origin;
 ghost use Rattle.bench_engine.specs.Replies.{bound_text};
-ghost use Rattle.script_lang.specs.declared.command.Value.TheVariants.{Load};
 ghost use Rattle.bench_engine.specs.inside.OwnContents.{held};
 ghost use Rattle.bench_engine.specs.inside.LoadedFiles.{Finds};
 

@@ -2,20 +2,10 @@
 //! is named, and a copy otherwise.
 ghost use Rattle.std.specs.Prelude.{◌≡◌, ◌≤◌, ◌*◌, true, length, map, All, IfOk, ◌+◌, Ok, Err};
 ghost use Rattle.std.specs.List.{list_all};
-ghost use Rattle.elem_descr.specs.Items.{item_size};
-ghost use Rattle.shape_strides.specs.Limits.{max_bytes};
-ghost use Rattle.fancy_index.specs.IndexArrays.{with_array, with_arrays};
-ghost use Rattle.fancy_index.specs.Plans.{GivesPlan};
-ghost use Rattle.fancy_index.specs.Sources.{index_array_of, LiesInBlock, IsNamed};
-ghost use Rattle.name_store.specs.Arrays.{is_bound};
-ghost use Rattle.name_store.specs.Shown.{Shows};
+ghost use Rattle.bench_engine.specs.Words.{item_size, max_bytes, with_array, with_arrays, GivesPlan, index_array_of, LiesInBlock, IsNamed, is_bound, Shows, item_from, is_basic, count, offsets};
 ghost use Rattle.name_store.specs.States.{Array};
 ghost use Rattle.bench_engine.specs.IndexLists.{names_in_item, names_in_index, array_by_items, gathered, taken};
 ghost use Rattle.bench_engine.specs.inside.Numbers.{Extends};
-ghost use Rattle.elem_descr.specs.Blocks.{item_from};
-ghost use Rattle.elem_descr.specs.IndexItems.{is_basic};
-ghost use Rattle.shape_strides.specs.Indexes.{count};
-ghost use Rattle.shape_strides.specs.Layouts.{offsets};
 ghost use Rattle.bench_engine.specs.inside.OwnContents.{IsInCOrder};
 ghost use Rattle.bench_engine.specs.inside.Meeting.{Meets};
 ghost use Rattle.bench_engine.specs.inside.Assigns.{IsTaken};

@@ -2,20 +2,12 @@
 //! operands, and bind a name to the result.
 ghost use Rattle.std.specs.Prelude.{◌≡◌, ◌≤◌, ◌+◌, true, length, All, ◌∷◌, [], map, IfOk, Some, vec_capacity};
 ghost use Rattle.std.specs.List.{list_all};
-ghost use Rattle.elem_descr.specs.Items.{item_size};
-ghost use Rattle.shape_strides.specs.Layouts.{offsets};
-ghost use Rattle.name_store.specs.Arrays.{is_bound};
-ghost use Rattle.name_store.specs.States.{State, Array};
+ghost use Rattle.bench_engine.specs.Words.{item_size, offsets, is_bound, State, Gives, Answers, item_from, promote, integer_compared_result, compared_item, item_value, literal_number, Boolean};
+ghost use Rattle.name_store.specs.States.{Array};
 ghost use Rattle.bench_engine.specs.Machine.{operand_part, names_in_operand, names_in_argument, OperandValues, literal_value, literal_scalar, operand_of_literal, compared_literal, literal_values, operation_scalar, operation_on, operation_with, operation_contents, transformed, compute_outcome};
 ghost use Rattle.bench_engine.specs.inside.Operands.{StandsFor, IsPart, LiesInBuffer, buffer_number, Stands, OwnStands};
-ghost use Rattle.elem_descr.specs.Refusals.{Gives, Answers};
 ghost use Rattle.elem_descr.specs.declared.descr.Descr.TheVariants.{Scalar as ScalarDescr};
-ghost use Rattle.elem_descr.specs.Blocks.{item_from};
 ghost use Rattle.elem_descr.specs.Values as leaf;
-ghost use Rattle.elementwise.specs.Promotion.{promote};
-ghost use Rattle.elementwise.specs.Results.{integer_compared_result, compared_item};
-ghost use Rattle.literal_items.specs.LiteralItems.{item_value, literal_number};
-ghost use Rattle.script_lang.specs.declared.literal.ScalarLiteral.TheVariants.{Boolean};
 ghost use Rattle.script_lang.specs.declared.operation.Operation.TheVariants as operation;
 ghost use Rattle.bench_engine.specs.inside.OwnContents.{held, IsInCOrder};
 ghost use Rattle.bench_engine.specs.Memory.{bound_in_computation};

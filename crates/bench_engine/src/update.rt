@@ -1,16 +1,8 @@
 //! Items of an array, changed by an operation, and the places to which they are written.
 ghost use Rattle.std.specs.Prelude.{◌≡◌, ◌≤◌, ◌*◌, true, map, Ok, IfSome};
 ghost use Rattle.std.specs.List.Sorted.{IsPermutation};
-ghost use Rattle.elem_descr.specs.Blocks.{item_from};
-ghost use Rattle.elem_descr.specs.Items.{item_size};
-ghost use Rattle.elementwise.specs.Casts.{can_cast, cast_item};
-ghost use Rattle.shape_strides.specs.Layouts.{offsets};
-ghost use Rattle.shape_strides.specs.Indexes.{count};
-ghost use Rattle.shape_strides.specs.Limits.{max_bytes};
-ghost use Rattle.shape_strides.specs.Shapes.{IsShape};
-ghost use Rattle.script_lang.specs.declared.command.Argument.{Argument};
+ghost use Rattle.bench_engine.specs.Words.{item_from, item_size, can_cast, cast_item, offsets, count, max_bytes, IsShape, Argument, State};
 ghost use Rattle.script_lang.specs.declared.command.Argument.TheVariants.{Literal as LiteralArgument};
-ghost use Rattle.name_store.specs.States.{State};
 ghost use Rattle.name_store.specs.declared.target.Target.TheVariants.{View};
 ghost use Rattle.bench_engine.specs.Machine.{OperandValues, argument_values, literal_values, operand_values, updated_items, changed_with, updated};
 ghost use Rattle.bench_engine.specs.inside.Operands.{IsGiven, Stands, HoldsItems};

@@ -2,10 +2,8 @@
 //! name to items of another name's array, to one field of each, or to a copy of them.
 ghost use Rattle.std.specs.Prelude.{◌≡◌, true, option_copied, ◌≤◌, ◌∷◌, vec_capacity};
 ghost use Rattle.std.specs.List.{list_all};
-ghost use Rattle.shape_strides.specs.Indexes.{count};
-ghost use Rattle.script_lang.specs.declared.command.Viewing.TheVariants.{Whole, Indexed, Field, Transposed, Reshaped, Broadcast};
-ghost use Rattle.name_store.specs.Arrays.{is_bound};
-ghost use Rattle.name_store.specs.Shown.{Shows};
+ghost use Rattle.bench_engine.specs.Words.{count, Whole, Indexed, Transposed, Reshaped, Broadcast, is_bound, Shows};
+ghost use Rattle.script_lang.specs.declared.command.Viewing.TheVariants.{Field};
 ghost use Rattle.name_store.specs.States.{Array};
 ghost use Rattle.name_store.specs.declared.bound.Bound.TheVariants.{View};
 ghost use Rattle.bench_engine.specs.IndexLists.{names_in_index};

@@ -1,20 +1,14 @@
 //! `set X[ix] = Z` and `upd X[ix] OP Z`: write to items of an array.
 ghost use Rattle.std.specs.Prelude.{◌≡◌, ◌≤◌, ◌*◌, true, ℕ, List, Some, ◌<◌, ◌+◌, ◌++◌, ◌∷◌, vec_len, vec_capacity};
 ghost use Rattle.std.specs.List.{list_all};
-ghost use Rattle.elem_descr.specs.Items.{item_size};
-ghost use Rattle.shape_strides.specs.Indexes.{count};
-ghost use Rattle.shape_strides.specs.Limits.{max_bytes, max_items};
-ghost use Rattle.name_store.specs.Arrays.{is_bound, find_array};
-ghost use Rattle.name_store.specs.States.{State, Array};
-ghost use Rattle.script_lang.specs.declared.command.Argument.{Argument};
+ghost use Rattle.bench_engine.specs.Words.{item_size, count, max_bytes, max_items, is_bound, find_array, State, Argument, Shows, Supplies};
+ghost use Rattle.name_store.specs.States.{Array};
 ghost use Rattle.bench_engine.specs.Machine.{argument_items, names_in_argument, target_part, new_items, write_outcome, write_reply};
 ghost use Rattle.bench_engine.specs.inside.Assigns.{Fitted, IsTarget, IsAimed};
 ghost use Rattle.bench_engine.specs.inside.Operands.{IsGiven, GivesGiven};
-ghost use Rattle.name_store.specs.Shown.{Shows};
 ghost use Rattle.bench_engine.specs.IndexLists.{names_in_index, taken};
 ghost use Rattle.bench_engine.specs.inside.Contract.{CarriesOut};
 ghost use Rattle.bench_engine.specs.inside.Meeting.{Meets};
-ghost use Rattle.name_store.specs.Targets.{Supplies};
 ghost use Rattle.bench_engine.specs.inside.Writings.{IsTargetIn, WritesIn};
 
 use crate::create::item_of;

@@ -4,7 +4,7 @@ use Rattle.std.proofs.Math.Nat.{le-max_left, le-max_right}
 use Rattle.std.proofs.Math.ListN.{drop_of_length-le}
 use Rattle.std.proofs.lemmas.Bool.{false_from_ne_true, and_left}
 use Rattle.std.proofs.lemmas.List.{drop_more}
-use Rattle.elem_descr.specs.declared.refusal.Refusal.TheVariants.{ShapesDoNotBroadcast}
+use Rattle.broadcasting.specs.Words.{ShapesDoNotBroadcast}
 use Rattle.broadcasting.specs.Broadcasts.{aligned, go_together, all_go_together, common_lengths, common_of_two, can_stretch}
 use Rattle.broadcasting.specs.FitLaws.{length-aligned, common-none, common-some, few-axes}
 use Rattle.broadcasting.specs.inside.Stretches.{kept_stride, kept_strides}

@@ -2,10 +2,7 @@
 use Rattle.std.proofs.Common.{◌≡◌, ◌⊎◌, inl, inr, Result, Ok, Err, ℕ, ◌+◌, ◌<◌, ◌≤◌, List, [], ◌∷◌, map, length, drop, get_or, Bor, sym, ap, subst, ◌∙◌, arith}
 use Rattle.std.proofs.Math.ListN.{drop_of_length-le}
 use Rattle.std.proofs.lemmas.List.{drop_more, length-map, get_or-map}
-use Rattle.elem_descr.specs.declared.refusal.Refusal.{Refusal}
-use Rattle.elem_descr.specs.declared.refusal.Refusal.TheVariants.{OutOfMemory}
-use Rattle.elem_descr.specs.Refusals.{Gives, ◌>>=◌}
-use Rattle.shape_strides.specs.Shapes.{shape_of}
+use Rattle.broadcasting.specs.Words.{Refusal, OutOfMemory, Gives, ◌>>=◌, shape_of}
 use Rattle.broadcasting.specs.Broadcasts.{common_of_two, common_with, common_shape}
 
 -- the shapes as they are seen

@@ -7,18 +7,7 @@ use Rattle.std.proofs.lemmas.List.{length-drop}
 use Rattle.std.proofs.lemmas.List.Elements.{All-drop}
 use Rattle.std.proofs.lemmas.List.Sums.{list_all-from_AllPass}
 use lib.IntN.{+ℤ_idl, *ℤ-zero}
-use Rattle.elem_descr.specs.declared.refusal.Refusal.{Refusal}
-use Rattle.elem_descr.specs.declared.refusal.Refusal.TheVariants.{OutOfMemory}
-use Rattle.elem_descr.specs.RefusalLaws.{same_answer}
-use Rattle.elem_descr.specs.ListLaws.{slice-rest}
-use Rattle.shape_strides.specs.declared.layout.Layout.{Layout}
-use Rattle.shape_strides.specs.Limits.{max_axes, max_items, max_bytes}
-use Rattle.shape_strides.specs.Indexes.{count, IsIndex}
-use Rattle.shape_strides.specs.Addresses.{dot, LieWithin}
-use Rattle.shape_strides.specs.Shapes.{shape_of}
-use Rattle.shape_strides.specs.ShapeLaws.{shape_of-ok}
-use Rattle.view_ops.specs.Shows.{ShowsThrough}
-use Rattle.view_ops.specs.ViewLaws.{LieWithin-view}
+use Rattle.broadcasting.specs.Words.{Refusal, OutOfMemory, same_answer, slice-rest, Layout, max_axes, max_items, max_bytes, count, IsIndex, dot, LieWithin, shape_of, shape_of-ok, ShowsThrough, LieWithin-view}
 
 -- ---- the axes that are left
 

@@ -3,12 +3,7 @@ use Rattle.std.proofs.Common.{◌≡◌, inl, inr, Result, Ok, Err, ℕ, ◌-◌
 use Rattle.std.specs.List.{list_all}
 use Rattle.std.specs.Result.{is_ok}
 use Rattle.std.proofs.lemmas.Bool.{false≢true, cases_Bool}
-use Rattle.elem_descr.specs.declared.refusal.Refusal.{Refusal}
-use Rattle.elem_descr.specs.declared.refusal.Refusal.TheVariants.{ShapesDoNotBroadcast}
-use Rattle.elem_descr.specs.Refusals.{◌>>=◌}
-use Rattle.shape_strides.specs.declared.layout.Layout.{Layout}
-use Rattle.view_ops.specs.Views.{View, IsViewOf, GivesView}
-use Rattle.view_ops.specs.ViewLaws.{view-twice}
+use Rattle.broadcasting.specs.Words.{Refusal, ShapesDoNotBroadcast, ◌>>=◌, Layout, View, IsViewOf, GivesView, view-twice}
 use Rattle.broadcasting.specs.Broadcasts.{can_stretch, broadcast_index, stretched, axes_beyond, stretched_into}
 use Rattle.broadcasting.proofs.StretchLaws.{stretched-err}
 use Rattle.broadcasting.specs.BroadcastLaws.{stretched-ok}

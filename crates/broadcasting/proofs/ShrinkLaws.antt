@@ -5,19 +5,7 @@ use Rattle.std.proofs.Math.Nat.{mul-le-mul}
 use Rattle.std.proofs.lemmas.Bool.{false≢true, eqb-true}
 use Rattle.std.proofs.lemmas.Bool.Decides.{nat_tests}
 use Rattle.std.proofs.lemmas.List.{get_or_default, get_or_append_left}
-use Rattle.elem_descr.specs.declared.refusal.Refusal.{Refusal}
-use Rattle.elem_descr.specs.declared.refusal.Refusal.TheVariants.{OutOfMemory}
-use Rattle.elem_descr.specs.Refusals.{Gives}
-use Rattle.elem_descr.specs.RefusalLaws.{same_answer}
-use Rattle.shape_strides.specs.declared.layout.Layout.{Layout}
-use Rattle.shape_strides.specs.Limits.{max_axes, max_items, max_bytes}
-use Rattle.shape_strides.specs.Indexes.{count, IsIndex}
-use Rattle.shape_strides.specs.Addresses.{dot, address_at, LieWithin}
-use Rattle.shape_strides.specs.IndexLaws.{rank-lt, length-index, number-lt, IsIndex-from_numbers}
-use Rattle.shape_strides.specs.Shapes.{shape_of}
-use Rattle.shape_strides.specs.ShapeLaws.{shape_of-ok}
-use Rattle.view_ops.specs.Shows.{ShowsThrough}
-use Rattle.view_ops.specs.ViewLaws.{LieWithin-view}
+use Rattle.broadcasting.specs.Words.{Refusal, OutOfMemory, Gives, same_answer, Layout, max_axes, max_items, max_bytes, count, IsIndex, dot, address_at, LieWithin, rank-lt, length-index, number-lt, IsIndex-from_numbers, shape_of, shape_of-ok, ShowsThrough, LieWithin-view}
 use Rattle.broadcasting.specs.Broadcasts.{stretches, all_stretch, can_stretch, within_axes, broadcast_index}
 use Rattle.broadcasting.specs.BroadcastLaws.{broadcast_index-is, IsIndex-broadcast}
 use Rattle.broadcasting.specs.Shrinking.{ShrinksTo, CanShrink, IsStretchOf}

@@ -3,17 +3,7 @@ use Rattle.std.proofs.Common.{◌≡◌, Option, Some, Ok, Err, ℕ, zero, suc, 
 use Rattle.std.specs.Option.{IfSome}
 use Rattle.std.proofs.lemmas.List.{length-replicate}
 use lib.IntN.{+ℤ_idl, *ℤ-zero}
-use Rattle.elem_descr.specs.declared.refusal.Refusal.TheVariants.{ShapesDoNotBroadcast}
-use Rattle.shape_strides.specs.declared.layout.Layout.{Layout}
-use Rattle.shape_strides.specs.Limits.{max_bytes}
-use Rattle.shape_strides.specs.Indexes.{count, IsIndex}
-use Rattle.shape_strides.specs.Addresses.{dot, address_at, LieWithin}
-use Rattle.shape_strides.specs.Layouts.{offsets}
-use Rattle.shape_strides.specs.IndexLaws.{rank-lt}
-use Rattle.shape_strides.specs.AxisLaws.{dot-nil}
-use Rattle.view_ops.specs.Views.{view_through, IsViewOf, GivesView}
-use Rattle.view_ops.specs.Shows.{ShowsThrough, IsView}
-use Rattle.view_ops.specs.ViewLaws.{LieWithin-view, inside-view, offsets-view}
+use Rattle.broadcasting.specs.Words.{ShapesDoNotBroadcast, Layout, max_bytes, count, IsIndex, dot, address_at, LieWithin, offsets, rank-lt, dot-nil, view_through, IsViewOf, GivesView, ShowsThrough, IsView, LieWithin-view, inside-view, offsets-view}
 use Rattle.broadcasting.specs.Broadcasts.{can_stretch, within_axes, broadcast_index, stretched}
 use Rattle.broadcasting.specs.inside.Stretches.{kept_strides}
 use Rattle.broadcasting.specs.BroadcastLaws.{broadcast_index-is, IsIndex-broadcast, stretched-ok}

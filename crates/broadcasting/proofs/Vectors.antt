@@ -1,8 +1,6 @@
 -- The shapes and indexes of NumPy's user guide on broadcasting, and of `broadcast_shapes` and `broadcast_to`.
 use Rattle.std.proofs.Common.{◌≡◌, true, false, [], ◌∷◌, Ok, Err, refl}
-use Rattle.elem_descr.specs.declared.refusal.Refusal.TheVariants.{TooLarge, ShapesDoNotBroadcast}
-use Rattle.shape_strides.specs.Shapes.{shape_of}
-use Rattle.view_ops.specs.Views.{view_through}
+use Rattle.broadcasting.specs.Words.{TooLarge, ShapesDoNotBroadcast, shape_of, view_through}
 use Rattle.broadcasting.specs.Broadcasts.{common_of_two, common_shape, can_stretch, broadcast_index, stretched, stretched_into}
 
 -- `numpy.broadcast_shapes((8, 1, 6, 1), (7, 1, 5))`

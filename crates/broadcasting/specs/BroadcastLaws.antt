@@ -4,17 +4,7 @@ use Rattle.std.specs.List.{list_all}
 use Rattle.std.specs.Result.{is_ok}
 use Rattle.std.proofs.lemmas.Bool.{false≢true, eqb-true, and_parts}
 use Rattle.std.proofs.lemmas.Bool.Decides.{nat_tests}
-use Rattle.elem_descr.specs.declared.refusal.Refusal.{Refusal}
-use Rattle.elem_descr.specs.declared.refusal.Refusal.TheVariants.{ShapesDoNotBroadcast}
-use Rattle.elem_descr.specs.Refusals.{◌>>=◌}
-use Rattle.elem_descr.specs.RefusalLaws.{same_answer, check_passed}
-use Rattle.shape_strides.specs.Indexes.{IsIndex, rank}
-use Rattle.shape_strides.specs.IndexLaws.{length-index, same_on_indexes}
-use Rattle.shape_strides.specs.declared.layout.Layout.{Layout}
-use Rattle.shape_strides.specs.Addresses.{natural}
-use Rattle.shape_strides.specs.Layouts.{address, offsets}
-use Rattle.shape_strides.specs.LayoutLaws.{get_or-offsets}
-use Rattle.view_ops.specs.Views.{View, view_through}
+use Rattle.broadcasting.specs.Words.{Refusal, ShapesDoNotBroadcast, ◌>>=◌, same_answer, check_passed, IsIndex, rank, length-index, same_on_indexes, Layout, natural, address, offsets, get_or-offsets, View, view_through}
 use Rattle.broadcasting.specs.Broadcasts.{stretches, all_stretch, can_stretch, within_axes, broadcast_index, stretched, axes_beyond, stretched_into}
 
 -- ---- a shape and itself

@@ -1,11 +1,7 @@
 -- Broadcasting, as NumPy has it: shapes are lined up at the last axis, and axes of length 1 are stretched.
 use Rattle.std.specs.Prelude.{ℕ, ◌-◌, max, ◌==◌, Bool, true, false, ◌&&◌, ◌||◌, if◌then◌else◌, List, [], ◌∷◌, ◌++◌, length, take, drop, replicate, Result, Ok}
 use Rattle.std.specs.List.{list_all}
-use Rattle.elem_descr.specs.declared.refusal.Refusal.{Refusal}
-use Rattle.elem_descr.specs.declared.refusal.Refusal.TheVariants.{ShapesDoNotBroadcast}
-use Rattle.elem_descr.specs.Refusals.{◌>>=◌, check}
-use Rattle.shape_strides.specs.Shapes.{shape_of}
-use Rattle.view_ops.specs.Views.{View}
+use Rattle.broadcasting.specs.Words.{Refusal, ShapesDoNotBroadcast, ◌>>=◌, check, shape_of, View}
 
 -- a shape lined up at the last of so many axes: those that it lacks come first, with length 1
 abbrev pub aligned : ℕ → List ℕ → List ℕ

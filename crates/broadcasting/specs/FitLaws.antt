@@ -6,12 +6,7 @@ use Rattle.std.proofs.lemmas.Bool.{false≢true, cases_Bool, and_parts}
 use Rattle.std.proofs.lemmas.Bool.Decides.{nat_tests}
 use Rattle.std.proofs.lemmas.List.{append_assoc, replicate-append-replicate, length-replicate}
 use Rattle.std.proofs.lemmas.List.Elements.{All-cons, All-nil}
-use Rattle.elem_descr.specs.RefusalLaws.{same_answer}
-use Rattle.elem_descr.specs.declared.refusal.Refusal.{Refusal}
-use Rattle.elem_descr.specs.declared.refusal.Refusal.TheVariants.{ShapesDoNotBroadcast}
-use Rattle.elem_descr.specs.Refusals.{Gives, ◌>>=◌}
-use Rattle.shape_strides.specs.Shapes.{shape_of}
-use Rattle.shape_strides.specs.ShapeLaws.{shape_of-same}
+use Rattle.broadcasting.specs.Words.{same_answer, Refusal, ShapesDoNotBroadcast, Gives, ◌>>=◌, shape_of, shape_of-same}
 use Rattle.broadcasting.specs.Broadcasts.{aligned, go_together, common_length, all_go_together, common_lengths, common_of_two, common_with, common_shape, stretches, all_stretch, can_stretch}
 use Rattle.broadcasting.specs.BroadcastLaws.{can-itself}
 

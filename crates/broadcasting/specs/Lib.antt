@@ -3,3 +3,4 @@ pub mod BroadcastLaws
 pub mod FitLaws
 pub mod Shrinking
 pub mod inside
+pub mod Words

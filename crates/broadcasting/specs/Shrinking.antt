@@ -1,7 +1,6 @@
 -- Arrays whose items repeat along axes, and the arrays from which they are stretched.
 use Rattle.std.specs.Prelude.{◌≡◌, ◌<◌, ◌⊎◌, ℕ, true, ℤ, pos, List, length, slice_index, slice_index_or}
-use Rattle.shape_strides.specs.declared.layout.Layout.{Layout}
-use Rattle.view_ops.specs.Views.{IsViewOf}
+use Rattle.broadcasting.specs.Words.{Layout, IsViewOf}
 use Rattle.broadcasting.specs.Broadcasts.{can_stretch, broadcast_index}
 
 -- an axis of more items than one, each step along which leads to the same item

@@ -1,6 +1,6 @@
 //! The shape that arrays broadcast to together.
 ghost use Rattle.std.specs.Prelude.{◌≡◌, map, All, IfOk, IsTrue};
-ghost use Rattle.elem_descr.specs.Refusals.{Gives};
+ghost use Rattle.broadcasting.specs.Words.{Gives};
 ghost use Rattle.broadcasting.specs.Broadcasts.{go_together, common_length, common_of_two, common_shape, can_stretch};
 
 use crate::aligned::length_at;

@@ -1,6 +1,6 @@
 //! Layouts whose items repeat, shrunk to the layouts that they were stretched from.
 ghost use Rattle.std.specs.Prelude.{◌≡◌, ◌<◌, ℕ, pos, false, length, slice_index, slice_index_or, IfOk, IfErr, IsTrue};
-ghost use Rattle.elem_descr.specs.declared.refusal.Refusal.TheVariants.{OutOfMemory};
+ghost use Rattle.broadcasting.specs.Words.{OutOfMemory};
 ghost use Rattle.broadcasting.specs.Shrinking.{RepeatsAlong, ShrinksTo, CanShrink, IsStretchOf};
 
 use elem_descr::Refusal;

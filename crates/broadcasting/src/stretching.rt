@@ -1,8 +1,7 @@
 //! Layouts stretched to a larger shape.
 ghost use Rattle.std.specs.Prelude.{◌≡◌, ◌==◌, ◌<◌, ◌≤◌, true, pos, ◌++◌, length, take, drop, replicate, slice_index, slice_index_or, IfOk, IfErr};
 ghost use Rattle.std.specs.List.{list_all};
-ghost use Rattle.elem_descr.specs.declared.refusal.Refusal.TheVariants.{OutOfMemory};
-ghost use Rattle.view_ops.specs.Views.{IsViewOf, GivesView};
+ghost use Rattle.broadcasting.specs.Words.{OutOfMemory, IsViewOf, GivesView};
 ghost use Rattle.broadcasting.specs.Broadcasts.{stretches, can_stretch, stretched, stretched_into};
 ghost use Rattle.broadcasting.specs.inside.Stretches.{kept_stride, kept_strides};
 

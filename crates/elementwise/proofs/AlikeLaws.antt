@@ -1,18 +1,9 @@
 -- Casts that leave items as they are.
 use Rattle.std.proofs.Common.{◌≡◌, ◌<◌, ◌≤◌, ℕ, pos, List, [], ◌∷◌, map, length, take, drop, refl, sym, ap, ◌∙◌, arith, length-take}
 use Rattle.std.proofs.lemmas.List.{ext_get_or}
-use Rattle.elem_descr.specs.declared.leaf.Leaf.{Leaf}
-use Rattle.elem_descr.specs.declared.scalar.Order.TheVariants.{Little}
-use Rattle.elem_descr.specs.declared.scalar.Scalar.{Scalar}
-use Rattle.elem_descr.specs.declared.scalar.Scalar.TheVariants.{Bool as BoolScalar, Byte, Int, Bytes}
-use Rattle.elem_descr.specs.declared.descr.Descr.{Descr}
+use Rattle.elementwise.specs.Words.{Leaf, Little, Scalar, Byte, Int, Bytes, Descr, LeafValue, number, text, size, decode, integer, number_in, width_size, low_bits-integer, item_size, leaves_of, leaf_at, no_leaf, AreAlike, item_from, AreBytes, bytes-drop, bytes-take, number-lt, truth-twice}
+use Rattle.elem_descr.specs.declared.scalar.Scalar.TheVariants.{Bool as BoolScalar}
 use Rattle.elem_descr.specs.declared.descr.Descr.TheVariants.{Scalar as ScalarDescr, Record as RecordDescr}
-use Rattle.elem_descr.specs.Values.{LeafValue, number, text}
-use Rattle.elem_descr.specs.Encoding.{size, decode, integer, number_in, width_size}
-use Rattle.elem_descr.specs.EncodingLaws.{low_bits-integer}
-use Rattle.elem_descr.specs.Items.{item_size, leaves_of, leaf_at, no_leaf, AreAlike}
-use Rattle.elem_descr.specs.Blocks.{item_from}
-use Rattle.elem_descr.specs.ByteLaws.{AreBytes, bytes-drop, bytes-take, number-lt, truth-twice}
 use Rattle.elementwise.specs.Casts.{cast_value, cast_values, cast_item}
 use Rattle.elementwise.proofs.NulLaws.{text_stays}
 

@@ -5,19 +5,12 @@ use Rattle.std.proofs.Math.Seq.{take-append_seam, drop-append-add}
 use Rattle.std.proofs.lemmas.List.Folds.{concat-append}
 use Rattle.std.proofs.lemmas.List.{nil_from_length, length-replicate}
 use Rattle.std.proofs.lemmas.List.Elements.{All-from_recursion}
-use Rattle.raw_block.specs.Bytes.{place, put, item_at, joined, EachWithin}
-use Rattle.shape_strides.specs.declared.runs.Run.{Run}
-use Rattle.shape_strides.specs.declared.run_pairs.RunPair.{RunPair}
-use Rattle.shape_strides.specs.Runs.{run_offsets}
-use Rattle.shape_strides.specs.WalkLaws.{length-run_offsets}
+use Rattle.elementwise.specs.Words.{place, put, item_at, joined, EachWithin, Run, RunPair, run_offsets, length-run_offsets, items_at, with_items, length-row, row-split, row_offsets}
 use Rattle.elementwise.specs.Results.{pairwise}
-use Rattle.arrays.specs.Assignments.{items_at, with_items}
 use Rattle.elementwise.specs.inside.PairPasses.{pair_from}
 use Rattle.elementwise.proofs.PairLaws.{pairwise-append, joined_pairs, firsts, seconds}
 use Rattle.elementwise.proofs.RowLaws.{landed, rows-in, rows-lie}
 use Rattle.elementwise.proofs.TurnedLaws.{AreWide}
-use Rattle.arrays.specs.PackedLaws.{length-row, row-split}
-use Rattle.arrays.specs.Packed.{row_offsets}
 
 -- ---- items put over bytes that are behind others
 

@@ -3,23 +3,13 @@ use Rattle.std.specs.Prelude.{ℤ}
 use Rattle.std.proofs.Common.{◌≡◌, true, ℕ, List, [], ◌∷◌, map, refl, ap, ◌∙◌}
 use Rattle.std.proofs.lemmas.Bool.{false≢true}
 use Rattle.std.proofs.lemmas.Simd.{map-map}
-use Rattle.elem_descr.specs.declared.scalar.Scalar.{Scalar}
-use Rattle.elem_descr.specs.declared.scalar.Scalar.TheVariants.{Bool as BoolScalar, Byte, Int, Bytes}
-use Rattle.elem_descr.specs.declared.descr.Descr.{Descr}
+use Rattle.elementwise.specs.Words.{Scalar, Byte, Int, Bytes, Descr, LeafValue, number, IsNumber, wrap, number_of, item_from, Layout, offsets, BinOp, UnOp, little, stretched-self}
+use Rattle.elem_descr.specs.declared.scalar.Scalar.TheVariants.{Bool as BoolScalar}
 use Rattle.elem_descr.specs.declared.descr.Descr.TheVariants.{Scalar as ScalarDescr, Record as RecordDescr}
-use Rattle.elem_descr.specs.Values.{LeafValue, number}
-use Rattle.elem_descr.specs.Encoding.{IsNumber, wrap, number_of}
-use Rattle.elem_descr.specs.Blocks.{item_from}
-use Rattle.shape_strides.specs.declared.layout.Layout.{Layout}
-use Rattle.shape_strides.specs.Layouts.{offsets}
-use Rattle.elem_descr.specs.declared.operators.BinOp.{BinOp}
-use Rattle.elem_descr.specs.declared.operators.UnOp.{UnOp}
 use Rattle.elementwise.specs.Casts.{can_cast, cast_item}
-use Rattle.machine_numbers.specs.Kinds.{little}
 use Rattle.elementwise.specs.Operations.{binary, unary}
 use Rattle.elementwise.specs.Results.{value_in, number_as, binary_item, unary_item, pairwise, stretched_items}
 use Rattle.elementwise.proofs.LeafLaws.{cast_number}
-use Rattle.broadcasting.specs.BroadcastLaws.{stretched-self}
 
 -- a byte order makes no difference to what is wrapped
 wrap-little : (s : Scalar) (z : ℤ) → wrap s z ≡ wrap (little s) z

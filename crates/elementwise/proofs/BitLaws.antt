@@ -7,9 +7,7 @@ use Rattle.std.proofs.lemmas.Bool.Decides.{nat_tests}
 use Rattle.std.proofs.lemmas.Int.{ints, wrapping_add-bits, wrapping_sub-bits, wrapping_mul-bits, int_wrap-add_left, int_wrap-add_right, int_wrap-sub_right, int_wrap-mul_left, int_wrap-mul_right, of_z-to_z}
 use Rattle.std.proofs.lemmas.Nat.{pow_below}
 use Rattle.std.proofs.Math.Nat.{div-add-mod, mod-lt, mod-eq_of_lt, mul-le-mul_left, mul-le-mul_right, div-div-eq-div-mul}
-use Rattle.elem_descr.specs.Encoding.{integer, low_bits}
-use Rattle.elem_descr.specs.EncodingLaws.{low_bits-lt, low_bits-integer}
-use Rattle.elem_descr.specs.WrapLaws.{int_wrap-low_bits}
+use Rattle.elementwise.specs.Words.{integer, low_bits, low_bits-lt, low_bits-integer, int_wrap-low_bits}
 use Rattle.elementwise.specs.Operations.{floor_quotient, modulo, shifted_left}
 use Rattle.elementwise.specs.Bits.{is_negative}
 

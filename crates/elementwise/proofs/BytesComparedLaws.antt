@@ -1,12 +1,8 @@
 -- Byte strings that are compared with one.
 use Rattle.std.proofs.Common.{◌≡◌, ℕ, true, false, Ok, Err, List, refl}
-use Rattle.elem_descr.specs.declared.refusal.Refusal.{Refusal}
-use Rattle.elem_descr.specs.declared.refusal.Refusal.TheVariants.{NotForThisKind}
-use Rattle.elem_descr.specs.declared.descr.Descr.{Descr}
+use Rattle.elementwise.specs.Words.{Refusal, NotForThisKind, Descr, Scalar, Byte, Int, Bytes, is_text}
 use Rattle.elem_descr.specs.declared.descr.Descr.TheVariants.{Scalar as ScalarDescr}
-use Rattle.elem_descr.specs.declared.scalar.Scalar.{Scalar}
-use Rattle.elem_descr.specs.declared.scalar.Scalar.TheVariants.{Bool as BoolScalar, Byte, Int, Bytes}
-use Rattle.machine_numbers.specs.Kinds.{is_text}
+use Rattle.elem_descr.specs.declared.scalar.Scalar.TheVariants.{Bool as BoolScalar}
 use Rattle.elementwise.specs.Results.{scalar_of, bytes_compared_result}
 
 not_text : (s : Scalar) → ((n : ℕ) → s ≡ Bytes n → ⊥) → is_text s ≡ false

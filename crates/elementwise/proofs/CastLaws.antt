@@ -5,23 +5,12 @@ use Rattle.std.proofs.lemmas.List.{length-map, get_or-map, same_lists, take-take
 use Rattle.std.proofs.lemmas.List.Elements.{All-from_get_or}
 use Rattle.std.proofs.lemmas.List.Sums.{AllPass-from_list_all}
 use Rattle.std.proofs.lemmas.List.FromFn.{length-map-range_with_len, get_or-map-range_with_len}
-use Rattle.elem_descr.specs.declared.leaf.Leaf.{Leaf}
-use Rattle.elem_descr.specs.declared.descr.Descr.{Descr}
+use Rattle.elementwise.specs.Words.{Leaf, Descr, LeafValue, number, size, decode, encode, Fields, no_more, scalar_field, record_field, item_size, leaves_of, leaves_from, leaf_at, no_leaf, LeavesInOrder, item_from, item_at, multiples, with_items, length-row, row_offsets}
 use Rattle.elem_descr.specs.declared.descr.Descr.TheVariants.{Scalar as ScalarDescr, Record as RecordDescr}
-use Rattle.elem_descr.specs.Values.{LeafValue, number}
-use Rattle.elem_descr.specs.Encoding.{size, decode, encode}
-use Rattle.elem_descr.specs.Fields.{Fields, no_more, scalar_field, record_field}
-use Rattle.elem_descr.specs.Items.{item_size, leaves_of, leaves_from, leaf_at, no_leaf, LeavesInOrder}
-use Rattle.elem_descr.specs.Blocks.{item_from}
-use Rattle.raw_block.specs.Bytes.{item_at}
-use Rattle.shape_strides.specs.Layouts.{multiples}
 use Rattle.elementwise.specs.Casts.{can_cast, can_cast_scalar, can_cast_fields, cast_value, cast_values, cast_item}
-use Rattle.arrays.specs.Assignments.{with_items}
 use Rattle.elementwise.specs.inside.LeafCasts.{leaf_from, source, HasSource, IsLeafCast}
 use Rattle.elementwise.proofs.RowLaws.{row-entry, AreBeside, landed, kept, row-in, rows-in, rows-lie, rows-beside}
 use Rattle.elementwise.proofs.LeafLaws.{length-leaf_cast, cast_read_back}
-use Rattle.arrays.specs.PackedLaws.{length-row}
-use Rattle.arrays.specs.Packed.{row_offsets}
 
 -- ---- which leaves are cast to which
 

@@ -4,16 +4,7 @@ use Rattle.std.specs.List.{concat, flat_map}
 use Rattle.std.proofs.lemmas.Bool.{cases_lt}
 use Rattle.std.proofs.lemmas.List.{length-map, length-drop, take_all, drop-drop, drop_all}
 use Rattle.elem_descr.specs.declared.descr.Descr.TheVariants.{Scalar as ScalarDescr}
-use Rattle.elem_descr.specs.declared.scalar.Scalar.{Scalar}
-use Rattle.elem_descr.specs.declared.leaf.Leaf.{Leaf}
-use Rattle.elem_descr.specs.Encoding.{size, decode}
-use Rattle.raw_block.specs.Bytes.{item_at}
-use Rattle.elem_descr.specs.Items.{encode_item}
-use Rattle.elem_descr.specs.Blocks.{item_from}
-use Rattle.elem_descr.specs.ByteLaws.{one-encoded}
-use Rattle.arrays.specs.Assignments.{items_at, with_items, assigned}
-use Rattle.shape_strides.specs.Runs.{run_offsets}
-use Rattle.arrays.specs.Packed.{row_offsets}
+use Rattle.elementwise.specs.Words.{Scalar, Leaf, size, decode, item_at, encode_item, item_from, one-encoded, items_at, with_items, assigned, run_offsets, row_offsets}
 use Rattle.elementwise.specs.Casts.{cast_value, cast_item}
 use Rattle.elementwise.specs.inside.LeafCasts.{leaf_cast, leaf_from}
 use Rattle.elementwise.proofs.AppendedLaws.{rows-read}

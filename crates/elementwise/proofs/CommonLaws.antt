@@ -5,14 +5,8 @@ use Rattle.std.specs.Result.{is_ok}
 use Rattle.std.proofs.Math.Nat.{pow-le-pow_right}
 use Rattle.std.proofs.lemmas.Bool.{false≢true, cases_lt, leb-true}
 use Rattle.std.proofs.lemmas.Int.{ints}
-use Rattle.elem_descr.specs.declared.refusal.Refusal.{Refusal}
-use Rattle.elem_descr.specs.declared.refusal.Refusal.TheVariants.{NeedsFloats}
-use Rattle.elem_descr.specs.declared.scalar.Width.TheVariants.{Two, Four, Eight}
-use Rattle.elem_descr.specs.declared.scalar.Scalar.{Scalar}
-use Rattle.elem_descr.specs.declared.scalar.Scalar.TheVariants.{Bool as BoolScalar, Byte, Int, Bytes}
-use Rattle.elem_descr.specs.Encoding.{IsNumber, IsValueOf, FitsBytes, size, width_size}
-use Rattle.elem_descr.specs.RefusalLaws.{same_answer, check_passed, check_test}
-use Rattle.machine_numbers.specs.Kinds.{is_signed, little}
+use Rattle.elementwise.specs.Words.{Refusal, NeedsFloats, Two, Four, Eight, Scalar, Byte, Int, Bytes, IsNumber, IsValueOf, FitsBytes, size, width_size, same_answer, check_passed, check_test, is_signed, little}
+use Rattle.elem_descr.specs.declared.scalar.Scalar.TheVariants.{Bool as BoolScalar}
 use Rattle.elementwise.specs.Promotion.{integer_type, mixed_type, common_integers, common_type}
 use Rattle.elementwise.specs.inside.PairPasses.{Holds}
 

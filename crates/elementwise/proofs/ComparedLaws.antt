@@ -5,17 +5,10 @@ use Rattle.std.specs.Ordering.{nat_cmp, is_lt, is_gt}
 use Rattle.std.specs.Cmp.Lexicographic.{slice_cmp}
 use Rattle.std.proofs.lemmas.Cmp.{same_from_slice_cmp}
 use Rattle.std.proofs.lemmas.Bool.Decides.{nat_tests}
-use Rattle.elem_descr.specs.declared.refusal.Refusal.{Refusal}
-use Rattle.elem_descr.specs.declared.refusal.Refusal.TheVariants.{NotForThisKind}
-use Rattle.elem_descr.specs.declared.scalar.Scalar.{Scalar}
-use Rattle.elem_descr.specs.declared.scalar.Scalar.TheVariants.{Bool as BoolScalar, Byte, Int, Bytes}
-use Rattle.elem_descr.specs.declared.descr.Descr.{Descr}
+use Rattle.elementwise.specs.Words.{Refusal, NotForThisKind, Scalar, Byte, Int, Bytes, Descr, IsNumber, little, same_answer, check_passed, check_test, common_shape}
+use Rattle.elem_descr.specs.declared.scalar.Scalar.TheVariants.{Bool as BoolScalar}
 use Rattle.elem_descr.specs.declared.descr.Descr.TheVariants.{Scalar as ScalarDescr}
-use Rattle.elem_descr.specs.Encoding.{IsNumber}
-use Rattle.machine_numbers.specs.Kinds.{little}
 use Rattle.elementwise.specs.inside.Works.{AreComparable}
-use Rattle.elem_descr.specs.RefusalLaws.{same_answer, check_passed, check_test}
-use Rattle.broadcasting.specs.Broadcasts.{common_shape}
 use Rattle.elementwise.specs.Comparisons.{text_below}
 use Rattle.elementwise.specs.Promotion.{are_comparable, compared_type}
 use Rattle.elementwise.specs.Results.{scalar_of, compared_result}

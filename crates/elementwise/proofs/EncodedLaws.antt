@@ -3,20 +3,11 @@ use Rattle.std.proofs.Common.{◌≡◌, ◌+◌, ◌-◌, ◌*◌, ◌<◌, ◌
 use Rattle.std.specs.List.{flat_map}
 use Rattle.std.proofs.Math.Seq.{take-add}
 use Rattle.std.proofs.lemmas.List.{length-map, get_or-map, drop-drop, take-replicate, drop-replicate}
-use Rattle.elem_descr.specs.declared.leaf.Leaf.{Leaf}
-use Rattle.elem_descr.specs.declared.descr.Descr.{Descr}
-use Rattle.elem_descr.specs.Values.{LeafValue, number}
-use Rattle.elem_descr.specs.Encoding.{size, encode}
-use Rattle.elem_descr.specs.Items.{item_size, leaves_of, leaf_at, no_leaf, LeavesInOrder, encode_from, encode_item}
-use Rattle.elem_descr.specs.Blocks.{item_from}
-use Rattle.raw_block.specs.Bytes.{item_at, joined}
-use Rattle.raw_block.specs.JoinedLaws.{all_joined, joined_list}
+use Rattle.elementwise.specs.Words.{Leaf, Descr, LeafValue, number, size, encode, item_size, leaves_of, leaf_at, no_leaf, LeavesInOrder, encode_from, encode_item, item_from, item_at, joined, all_joined, joined_list, with_items, row_offsets}
 use Rattle.elementwise.specs.Casts.{can_cast, cast_item}
-use Rattle.arrays.specs.Assignments.{with_items}
 use Rattle.elementwise.specs.inside.LeafCasts.{leaf_from, source, IsLeafCast}
 use Rattle.elementwise.proofs.RowLaws.{AreBeside}
 use Rattle.elementwise.proofs.CastLaws.{row-kept, each-wide, length-cast_item, leaf-encoded}
-use Rattle.arrays.specs.Packed.{row_offsets}
 
 -- ---- leaves and what lies between them
 

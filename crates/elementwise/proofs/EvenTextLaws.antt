@@ -6,9 +6,7 @@ use Rattle.std.proofs.lemmas.Bool.Decides.{nat_tests}
 use Rattle.std.proofs.lemmas.List.{get_or-reverse, get_or-take, length-reverse, length-replicate}
 use Rattle.std.proofs.lemmas.List.Sums.{prefix_len_stops, suffix_len-le-length}
 use Rattle.std.proofs.Math.Bool.{and-false}
-use Rattle.elem_descr.specs.Encoding.{without_nuls}
-use Rattle.elem_descr.specs.NulLaws.{without_nuls-back}
-use Rattle.elem_descr.specs.Nuls.{nuls}
+use Rattle.elementwise.specs.Words.{without_nuls, without_nuls-back, nuls}
 use Rattle.elementwise.specs.Comparisons.{text_below}
 
 -- ---- byte strings that no NUL ends

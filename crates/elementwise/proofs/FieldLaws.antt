@@ -3,12 +3,8 @@ use Rattle.std.proofs.Common.{◌≡◌, ◌+◌, ◌<◌, ◌≤◌, ℕ, Bool,
 use Rattle.std.specs.Prelude.{◌&&◌}
 use Rattle.std.proofs.lemmas.List.{drop_all}
 use Rattle.std.proofs.lemmas.Bool.{and_parts}
-use Rattle.elem_descr.specs.declared.descr.Descr.{Descr}
+use Rattle.elementwise.specs.Words.{Descr, Field, Fields, no_more, Structure, before, listed, fields_of, rest_at, seen_fields}
 use Rattle.elem_descr.specs.declared.descr.Descr.TheVariants.{Scalar as ScalarDescr, Record as RecordDescr}
-use Rattle.elem_descr.specs.declared.descr.Field.{Field}
-use Rattle.elem_descr.specs.Fields.{Fields, no_more, Structure}
-use Rattle.elem_descr.specs.Descriptors.{before, listed, fields_of}
-use Rattle.elem_descr.specs.DescriptorLaws.{rest_at, seen_fields}
 use Rattle.elementwise.specs.Casts.{can_cast_fields}
 use Rattle.elementwise.specs.inside.FieldCasts.{can_cast_field}
 

@@ -3,29 +3,10 @@ use Rattle.std.proofs.Common.{◌≡◌, ◌-◌, ◌*◌, ◌^◌, ◌<◌, ◌
 use Rattle.std.specs.Prelude.{ℤ, pos, negsuc, unsigned_abs}
 use Rattle.std.proofs.Math.Pow.{pow-lt}
 use Rattle.std.proofs.lemmas.Int.{ints}
-use Rattle.elem_descr.specs.declared.scalar.Order.TheVariants.{Little}
-use Rattle.elem_descr.specs.declared.scalar.Width.TheVariants.{Eight}
-use Rattle.elem_descr.specs.declared.scalar.Scalar.{Scalar}
-use Rattle.elem_descr.specs.declared.scalar.Scalar.TheVariants.{Bool as BoolScalar, Byte, Int, Bytes}
-use Rattle.elem_descr.specs.declared.descr.Descr.{Descr}
+use Rattle.elementwise.specs.Words.{Little, Eight, Scalar, Byte, Int, Bytes, Descr, LeafValue, number, IsNumber, IsValueOf, FitsBytes, size, width_size, number_in, truth, number_of, decode, wrap_stays, some_bytes, fits_eight_bytes, integer-fits, truth_suc, item_from, AreBytes, bytes-drop, bytes-take, number-lt, Layout, offsets, view_through, broadcast_index, Comparison, place, item_in, number_of_side, Side, is_signed, is_text, little}
+use Rattle.elem_descr.specs.declared.scalar.Scalar.TheVariants.{Bool as BoolScalar}
 use Rattle.elem_descr.specs.declared.descr.Descr.TheVariants.{Scalar as ScalarDescr}
-use Rattle.elem_descr.specs.Values.{LeafValue, number}
-use Rattle.elem_descr.specs.Encoding.{IsNumber, IsValueOf, FitsBytes, size, width_size, number_in, truth, number_of, decode}
-use Rattle.elem_descr.specs.NumberLaws.{wrap_stays, some_bytes, fits_eight_bytes}
-use Rattle.elem_descr.specs.WrapLaws.{integer-fits}
-use Rattle.elem_descr.specs.EncodingLaws.{truth_suc}
-use Rattle.elem_descr.specs.Blocks.{item_from}
-use Rattle.elem_descr.specs.ByteLaws.{AreBytes, bytes-drop, bytes-take, number-lt}
-use Rattle.shape_strides.specs.declared.layout.Layout.{Layout}
-use Rattle.shape_strides.specs.Layouts.{offsets}
-use Rattle.view_ops.specs.Views.{view_through}
-use Rattle.broadcasting.specs.Broadcasts.{broadcast_index}
-use Rattle.elem_descr.specs.declared.operators.Comparison.{Comparison}
 use Rattle.elementwise.specs.Casts.{cast_item}
-use Rattle.raw_block.specs.Bytes.{place}
-use Rattle.machine_numbers.specs.Sides.{item_in, number_of_side}
-use Rattle.machine_numbers.specs.declared.sides.Side.{Side}
-use Rattle.machine_numbers.specs.Kinds.{is_signed, is_text, little}
 use Rattle.elementwise.specs.Comparisons.{compared}
 use Rattle.elementwise.specs.Results.{value_in, compared_item, stretched_items, pairwise}
 use Rattle.elementwise.specs.inside.PairPasses.{compared_value, Holds, AreHeld}

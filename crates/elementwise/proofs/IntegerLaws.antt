@@ -7,29 +7,9 @@ use Rattle.std.proofs.lemmas.List.{take_all, length-replicate, get_or-replicate,
 use Rattle.std.proofs.lemmas.List.FromFn.{fill_by_all}
 use Rattle.std.specs.List.{range_with_len, flat_map}
 use Rattle.std.proofs.lemmas.Simd.{map-map, splat_is_map}
-use Rattle.elem_descr.specs.declared.refusal.Refusal.{Refusal}
-use Rattle.elem_descr.specs.declared.refusal.Refusal.TheVariants.{NotForThisKind}
-use Rattle.elem_descr.specs.declared.scalar.Order.TheVariants.{Little}
-use Rattle.elem_descr.specs.declared.descr.Descr.{Descr}
+use Rattle.elementwise.specs.Words.{Refusal, NotForThisKind, Little, Descr, LeafValue, number, encode_item, item_from, Layout, count, indexes, rank, length-indexes, offsets, multiples, length-offsets, all_stretch, can_stretch, broadcast_index, stretched-self, Owned, Comparison, Scalar, Byte, Int, Bytes, IsNumber, IsValueOf, FitsBytes, size, width_size, wrap, number_of, decode, wrap_stays, AreBytes, bytes-drop, bytes-take, is_text, little}
 use Rattle.elem_descr.specs.declared.descr.Descr.TheVariants.{Scalar as ScalarDescr}
-use Rattle.elem_descr.specs.Values.{LeafValue, number}
-use Rattle.elem_descr.specs.Items.{encode_item}
-use Rattle.elem_descr.specs.Blocks.{item_from}
-use Rattle.shape_strides.specs.declared.layout.Layout.{Layout}
-use Rattle.shape_strides.specs.Indexes.{count, indexes, rank}
-use Rattle.shape_strides.specs.IndexLaws.{length-indexes}
-use Rattle.shape_strides.specs.Layouts.{offsets, multiples}
-use Rattle.shape_strides.specs.LayoutLaws.{length-offsets}
-use Rattle.broadcasting.specs.Broadcasts.{all_stretch, can_stretch, broadcast_index}
-use Rattle.broadcasting.specs.BroadcastLaws.{stretched-self}
-use Rattle.arrays.specs.declared.owned.Owned.{Owned}
-use Rattle.elem_descr.specs.declared.operators.Comparison.{Comparison}
-use Rattle.elem_descr.specs.declared.scalar.Scalar.{Scalar}
-use Rattle.elem_descr.specs.declared.scalar.Scalar.TheVariants.{Bool as BoolScalar, Byte, Int, Bytes}
-use Rattle.elem_descr.specs.Encoding.{IsNumber, IsValueOf, FitsBytes, size, width_size, wrap, number_of, decode}
-use Rattle.elem_descr.specs.NumberLaws.{wrap_stays}
-use Rattle.elem_descr.specs.ByteLaws.{AreBytes, bytes-drop, bytes-take}
-use Rattle.machine_numbers.specs.Kinds.{is_text, little}
+use Rattle.elem_descr.specs.declared.scalar.Scalar.TheVariants.{Bool as BoolScalar}
 use Rattle.elementwise.specs.Comparisons.{says, compared}
 use Rattle.elementwise.specs.Results.{scalar_of, integer_compared_result, compared_item, truth_item, stretched_items, pairwise}
 use Rattle.elementwise.specs.inside.Made.{IsMade}

@@ -1,16 +1,8 @@
 -- Values of leaves that are cast, and their bytes.
 use Rattle.std.proofs.Common.{◌≡◌, ℕ, Bool, false, List, length, take, refl, sym, ap, ◌∙◌, arith, length-take}
 use Rattle.std.specs.Prelude.{ℤ}
-use Rattle.elem_descr.specs.declared.scalar.Order.{Order}
-use Rattle.elem_descr.specs.declared.scalar.Order.TheVariants.{Little}
-use Rattle.elem_descr.specs.declared.scalar.Width.{Width}
-use Rattle.elem_descr.specs.declared.scalar.Scalar.{Scalar}
-use Rattle.elem_descr.specs.declared.scalar.Scalar.TheVariants.{Bool as BoolScalar, Byte, Int, Bytes}
-use Rattle.elem_descr.specs.Values.{LeafValue, number, text}
-use Rattle.elem_descr.specs.Encoding.{IsNumber, size, width_size, wrap, number_of, text_of, decode, encode}
-use Rattle.elem_descr.specs.EncodingLaws.{decode_encode}
-use Rattle.elem_descr.specs.NumberLaws.{encode_wrap}
-use Rattle.elem_descr.specs.ByteLaws.{length-encode}
+use Rattle.elementwise.specs.Words.{Order, Little, Width, Scalar, Byte, Int, Bytes, LeafValue, number, text, IsNumber, size, width_size, wrap, number_of, text_of, decode, encode, decode_encode, encode_wrap, length-encode}
+use Rattle.elem_descr.specs.declared.scalar.Scalar.TheVariants.{Bool as BoolScalar}
 use Rattle.elementwise.specs.Casts.{cast_value}
 use Rattle.elementwise.proofs.NulLaws.{text_read_back}
 use Rattle.elementwise.specs.inside.LeafCasts.{leaf_cast}

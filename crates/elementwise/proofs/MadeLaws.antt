@@ -1,21 +1,9 @@
 -- Arrays that are made, as the results of calls tell them.
 use Rattle.std.proofs.Common.{inl, ◌≡◌, ℕ, Result, Ok, Err, List, map, IfOk, IfErr, sym, ap, subst, ◌∙◌, Bool, true, false, cond, [], ◌∷◌, refl}
 use Rattle.std.specs.List.{flat_map}
-use Rattle.elem_descr.specs.declared.refusal.Refusal.{Refusal}
-use Rattle.elem_descr.specs.declared.refusal.Refusal.TheVariants.{OutOfMemory}
-use Rattle.elem_descr.specs.declared.descr.Descr.{Descr}
+use Rattle.elementwise.specs.Words.{Refusal, OutOfMemory, Descr, LeafValue, item_size, encode_item, item_from, Gives, C, count, offsets, multiples, offsets_in, owned_items, Owned}
 use Rattle.elem_descr.specs.declared.descr.Descr.TheVariants.{Scalar as ScalarDescr}
-use Rattle.elem_descr.specs.Values.{LeafValue}
-use Rattle.elem_descr.specs.Items.{item_size, encode_item}
-use Rattle.elem_descr.specs.Blocks.{item_from}
-use Rattle.elem_descr.specs.Refusals.{Gives}
 use Rattle.elem_descr.specs.declared.scalar.Scalar.TheVariants.{Bool as BoolScalar}
-use Rattle.elem_descr.specs.declared.memory_order.MemoryOrder.TheVariants.{C}
-use Rattle.shape_strides.specs.Indexes.{count}
-use Rattle.shape_strides.specs.Layouts.{offsets, multiples}
-use Rattle.arrays.specs.Blocks.{offsets_in}
-use Rattle.arrays.specs.ItemLists.{owned_items}
-use Rattle.arrays.specs.declared.owned.Owned.{Owned}
 use Rattle.elementwise.specs.inside.Made.{IsMade}
 use Rattle.elementwise.specs.Results.{truth_item}
 

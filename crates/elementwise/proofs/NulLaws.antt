@@ -5,14 +5,7 @@ use Rattle.std.proofs.Math.Seq.{take-append_seam}
 use Rattle.std.proofs.Math.Nat.{suc-mul}
 use Rattle.std.proofs.lemmas.Int.{ints}
 use Rattle.std.proofs.lemmas.List.{append-nil, length-replicate, take_all, take-take, take-append-le, replicate-append-replicate}
-use Rattle.elem_descr.specs.Encoding.{without_nuls, padded}
-use Rattle.elem_descr.specs.NulLaws.{without_nuls-back, without_nuls-more, without_nuls-twice, length-without_nuls}
-use Rattle.elem_descr.specs.Nuls.{nuls}
-use Rattle.raw_block.specs.Bytes.{place, joined, EachWithin}
-use Rattle.raw_block.specs.BytesLaws.{length-item_at}
-use Rattle.raw_block.specs.JoinedLaws.{length-joined, joined-same, joined_run}
-use Rattle.machine_numbers.specs.Sides.{item_in}
-use Rattle.machine_numbers.specs.declared.sides.Side.{Side}
+use Rattle.elementwise.specs.Words.{without_nuls, padded, without_nuls-back, without_nuls-more, without_nuls-twice, length-without_nuls, nuls, place, joined, EachWithin, length-item_at, length-joined, joined-same, joined_run, item_in, Side}
 
 -- ---- filled up
 

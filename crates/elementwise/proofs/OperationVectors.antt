@@ -1,15 +1,7 @@
 -- Operations and comparisons of single values, as NumPy has them.
 use Rattle.std.specs.Prelude.{◌≡◌, ℤ, pos, negsuc, Bool, true, false, List, [], ◌∷◌, map, refl}
-use Rattle.elem_descr.specs.declared.scalar.Order.TheVariants.{Little}
-use Rattle.elem_descr.specs.declared.scalar.Width.TheVariants.{Four, Eight}
-use Rattle.elem_descr.specs.declared.scalar.Scalar.{Scalar}
-use Rattle.elem_descr.specs.declared.scalar.Scalar.TheVariants.{Bool as BoolScalar, Byte, Int}
-use Rattle.elem_descr.specs.Values.{LeafValue, number, text}
-use Rattle.elem_descr.specs.declared.operators.BinOp.{BinOp}
-use Rattle.elem_descr.specs.declared.operators.BinOp.TheVariants.{Add, Subtract, Multiply, FloorDivide, Modulo, And, Or, Xor, ShiftLeft, ShiftRight}
-use Rattle.elem_descr.specs.declared.operators.UnOp.TheVariants.{Negate, Invert}
-use Rattle.elem_descr.specs.declared.operators.Comparison.{Comparison}
-use Rattle.elem_descr.specs.declared.operators.Comparison.TheVariants.{Equal, NotEqual, Less, LessOrEqual, Greater, GreaterOrEqual}
+use Rattle.elementwise.specs.Words.{Little, Four, Eight, Scalar, Byte, Int, LeafValue, number, text, BinOp, Add, Subtract, Multiply, FloorDivide, Modulo, And, Or, Xor, ShiftLeft, ShiftRight, Negate, Invert, Comparison, Equal, NotEqual, Less, LessOrEqual, Greater, GreaterOrEqual}
+use Rattle.elem_descr.specs.declared.scalar.Scalar.TheVariants.{Bool as BoolScalar}
 use Rattle.elementwise.specs.Operations.{binary, unary}
 use Rattle.elementwise.specs.Comparisons.{compared}
 

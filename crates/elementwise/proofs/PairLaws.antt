@@ -2,13 +2,7 @@
 use Rattle.std.proofs.Common.{◌≡◌, ◌<◌, ℕ, zero, suc, ℤ, List, [], ◌∷◌, ◌++◌, map, length, get_or, refl, sym, ap, ◌∙◌, arith, append_assoc}
 use Rattle.std.specs.List.{concat, flat_map}
 use Rattle.std.proofs.lemmas.List.{append-nil}
-use Rattle.raw_block.specs.Bytes.{place, joined, EachWithin}
-use Rattle.raw_block.specs.BytesLaws.{fewer}
-use Rattle.shape_strides.specs.declared.runs.Run.{Run}
-use Rattle.shape_strides.specs.declared.run_pairs.RunPair.{RunPair}
-use Rattle.shape_strides.specs.Runs.{run_offsets}
-use Rattle.shape_strides.specs.WalkLaws.{length-run_offsets}
-use Rattle.arrays.specs.RunLaws.{run_offsets-more}
+use Rattle.elementwise.specs.Words.{place, joined, EachWithin, fewer, Run, RunPair, run_offsets, length-run_offsets, run_offsets-more}
 use Rattle.elementwise.specs.Results.{pairwise}
 
 -- ---- pairs of two lists

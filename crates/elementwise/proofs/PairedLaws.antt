@@ -4,18 +4,8 @@ use Rattle.std.specs.List.{concat, flat_map, AllByRecursion as Each}
 use Rattle.std.proofs.lemmas.List.{take-take}
 use Rattle.std.proofs.lemmas.Simd.{map-map}
 use Rattle.elem_descr.specs.declared.descr.Descr.TheVariants.{Scalar as ScalarDescr}
-use Rattle.elem_descr.specs.declared.scalar.Scalar.{Scalar}
-use Rattle.elem_descr.specs.Values.{LeafValue}
-use Rattle.elem_descr.specs.Encoding.{size, decode, encode}
-use Rattle.elem_descr.specs.Blocks.{item_from}
-use Rattle.raw_block.specs.Bytes.{item_at}
-use Rattle.shape_strides.specs.Indexes.{count}
-use Rattle.shape_strides.specs.Layouts.{offsets, multiples}
-use Rattle.elem_descr.specs.Items.{item_size, encode_item}
-use Rattle.elem_descr.specs.ByteLaws.{length-encode, one-encoded}
+use Rattle.elementwise.specs.Words.{Scalar, LeafValue, size, decode, encode, item_from, item_at, count, offsets, multiples, item_size, encode_item, length-encode, one-encoded, length-offsets, Owned, row-multiples, row_offsets}
 use Rattle.elementwise.specs.Results.{pairwise, value_in}
-use Rattle.shape_strides.specs.LayoutLaws.{length-offsets}
-use Rattle.arrays.specs.declared.owned.Owned.{Owned}
 use Rattle.elementwise.specs.declared.pairing.Pairing.{Pairing}
 use Rattle.elementwise.specs.declared.rows.Operands.{Operands}
 use Rattle.elementwise.specs.inside.Made.{IsMade}
@@ -27,8 +17,6 @@ use Rattle.elementwise.proofs.MadeLaws.{over-made}
 use Rattle.elementwise.proofs.AppendedLaws.{rows-read}
 use Rattle.elementwise.proofs.TurnedLaws.{length-concat}
 use Rattle.elementwise.proofs.PairLaws.{length-pairwise, map-pairwise, pairwise-map}
-use Rattle.arrays.specs.PackedLaws.{row-multiples}
-use Rattle.arrays.specs.Packed.{row_offsets}
 
 -- the item of a scalar is its value
 pub scalar-item : (scalar : Scalar) (bytes : List ℕ) (o : ℕ) → item_from (ScalarDescr scalar) bytes o ≡ decode scalar (item_at o (size scalar) bytes) ∷ []

@@ -2,22 +2,10 @@
 use Rattle.std.proofs.Common.{◌≡◌, ◌*◌, ℕ, max, nat_le, Bool, true, false, cond, Result, Ok, Err, List, [], ◌∷◌, refl, sym, subst, ◌∙◌, arith}
 use Rattle.std.specs.Prelude.{not, ◌&&◌, ◌||◌, ◌==◌}
 use Rattle.std.proofs.lemmas.Bool.{false≢true, not-true}
-use Rattle.elem_descr.specs.declared.refusal.Refusal.{Refusal}
-use Rattle.elem_descr.specs.declared.refusal.Refusal.TheVariants.{NotForThisKind, NeedsFloats}
-use Rattle.elem_descr.specs.declared.scalar.Order.TheVariants.{Little}
-use Rattle.elem_descr.specs.declared.scalar.Width.TheVariants.{Two, Four, Eight}
-use Rattle.elem_descr.specs.declared.scalar.Scalar.{Scalar}
-use Rattle.elem_descr.specs.declared.scalar.Scalar.TheVariants.{Bool as BoolScalar, Byte, Int, Bytes}
-use Rattle.elem_descr.specs.declared.descr.Descr.{Descr}
+use Rattle.elementwise.specs.Words.{Refusal, NotForThisKind, NeedsFloats, Little, Two, Four, Eight, Scalar, Byte, Int, Bytes, Descr, ◌>>=◌, check, same_answer, check_passed, check_test, IsNumber, size, common_shape, BinOp, UnOp, is_bool, is_text, is_signed, little}
+use Rattle.elem_descr.specs.declared.scalar.Scalar.TheVariants.{Bool as BoolScalar}
 use Rattle.elem_descr.specs.declared.descr.Descr.TheVariants.{Scalar as ScalarDescr}
-use Rattle.elem_descr.specs.Refusals.{◌>>=◌, check}
-use Rattle.elem_descr.specs.RefusalLaws.{same_answer, check_passed, check_test}
-use Rattle.elem_descr.specs.Encoding.{IsNumber, size}
-use Rattle.broadcasting.specs.Broadcasts.{common_shape}
-use Rattle.elem_descr.specs.declared.operators.BinOp.{BinOp}
-use Rattle.elem_descr.specs.declared.operators.UnOp.{UnOp}
 use Rattle.elementwise.specs.Casts.{can_cast}
-use Rattle.machine_numbers.specs.Kinds.{is_bool, is_text, is_signed, little}
 use Rattle.elementwise.specs.Promotion.{integer_type, mixed_type, common_integers, common_type, is_division, promote, promote_one}
 use Rattle.elementwise.specs.Operations.{serves_bools, serves_one}
 use Rattle.elementwise.specs.Results.{scalar_of, binary_result, unary_result}

@@ -1,14 +1,7 @@
 -- The types of results, as NumPy 2 promotes them.
 use Rattle.std.specs.Prelude.{◌≡◌, true, false, List, [], ◌∷◌, map, Result, Ok, Err, refl}
-use Rattle.elem_descr.specs.declared.refusal.Refusal.{Refusal}
-use Rattle.elem_descr.specs.declared.refusal.Refusal.TheVariants.{NotForThisKind, NeedsFloats, NotSameKind}
-use Rattle.elem_descr.specs.declared.scalar.Order.TheVariants.{Little, Big}
-use Rattle.elem_descr.specs.declared.scalar.Width.TheVariants.{Two, Four, Eight}
-use Rattle.elem_descr.specs.declared.scalar.Scalar.{Scalar}
-use Rattle.elem_descr.specs.declared.scalar.Scalar.TheVariants.{Bool as BoolScalar, Byte, Int, Bytes}
-use Rattle.elem_descr.specs.declared.operators.BinOp.{BinOp}
-use Rattle.elem_descr.specs.declared.operators.BinOp.TheVariants.{Add, Subtract, Multiply, FloorDivide, Modulo, And, Or, Xor, ShiftLeft, ShiftRight, Divide}
-use Rattle.elem_descr.specs.declared.operators.UnOp.TheVariants.{Negate, Invert}
+use Rattle.elementwise.specs.Words.{Refusal, NotForThisKind, NeedsFloats, NotSameKind, Little, Big, Two, Four, Eight, Scalar, Byte, Int, Bytes, BinOp, Add, Subtract, Multiply, FloorDivide, Modulo, And, Or, Xor, ShiftLeft, ShiftRight, Divide, Negate, Invert}
+use Rattle.elem_descr.specs.declared.scalar.Scalar.TheVariants.{Bool as BoolScalar}
 use Rattle.elementwise.specs.Promotion.{promote, compared_type, literal_type, promote_one, same_kind}
 
 abbrev b1 : Scalar

@@ -3,13 +3,7 @@ use Rattle.std.proofs.Common.{◌≡◌, ◌+◌, ◌-◌, ◌*◌, ◌<◌, ◌
 use Rattle.std.proofs.lemmas.Bool.{cases_lt}
 use Rattle.std.proofs.lemmas.List.Elements.{All-rest, All-head, All-from_get_or}
 use Rattle.std.proofs.lemmas.Int.{ints}
-use Rattle.raw_block.specs.Bytes.{put, item_at, place, EachWithin}
-use Rattle.raw_block.specs.BytesLaws.{length-put, item_at-put_same, item_at-put_apart}
-use Rattle.shape_strides.specs.declared.runs.Run.{Run}
-use Rattle.arrays.specs.RunLaws.{place-at}
-use Rattle.arrays.specs.PackedLaws.{length-row}
-use Rattle.arrays.specs.Packed.{row_offsets}
-use Rattle.arrays.specs.Assignments.{with_items}
+use Rattle.elementwise.specs.Words.{put, item_at, place, EachWithin, length-put, item_at-put_same, item_at-put_apart, Run, place-at, length-row, row_offsets, with_items}
 
 -- rows of items
 pub row-within : (len at item width n : ℕ) → width ≤ item → at + n * item ≤ len + item - width → EachWithin len at (pos item) width n

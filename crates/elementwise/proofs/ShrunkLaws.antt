@@ -3,24 +3,9 @@ use Rattle.std.proofs.Common.{◌≡◌, ◌+◌, ◌<◌, ◌≤◌, ℕ, pos, 
 use Rattle.std.proofs.lemmas.List.{length-map, get_or-map}
 use Rattle.std.proofs.lemmas.List.Elements.{All-map}
 use Rattle.std.proofs.lemmas.Simd.{map-map}
-use Rattle.elem_descr.specs.declared.descr.Descr.{Descr}
+use Rattle.elementwise.specs.Words.{Descr, Little, LeafValue, number, number_in, item_from, truth-twice, Layout, count, indexes, rank, IsIndex, length-indexes, rank-lt, get_or-indexes, index_at, same_on_indexes, offsets, length-offsets, view_through, can_stretch, broadcast_index, IsIndex-broadcast, stretched-self, IsStretchOf, Owned}
 use Rattle.elem_descr.specs.declared.descr.Descr.TheVariants.{Scalar as ScalarDescr}
 use Rattle.elem_descr.specs.declared.scalar.Scalar.TheVariants.{Bool as BoolScalar}
-use Rattle.elem_descr.specs.declared.scalar.Order.TheVariants.{Little}
-use Rattle.elem_descr.specs.Values.{LeafValue, number}
-use Rattle.elem_descr.specs.Encoding.{number_in}
-use Rattle.elem_descr.specs.Blocks.{item_from}
-use Rattle.elem_descr.specs.ByteLaws.{truth-twice}
-use Rattle.shape_strides.specs.declared.layout.Layout.{Layout}
-use Rattle.shape_strides.specs.Indexes.{count, indexes, rank, IsIndex}
-use Rattle.shape_strides.specs.IndexLaws.{length-indexes, rank-lt, get_or-indexes, index_at, same_on_indexes}
-use Rattle.shape_strides.specs.Layouts.{offsets}
-use Rattle.shape_strides.specs.LayoutLaws.{length-offsets}
-use Rattle.view_ops.specs.Views.{view_through}
-use Rattle.broadcasting.specs.Broadcasts.{can_stretch, broadcast_index}
-use Rattle.broadcasting.specs.BroadcastLaws.{IsIndex-broadcast, stretched-self}
-use Rattle.broadcasting.specs.Shrinking.{IsStretchOf}
-use Rattle.arrays.specs.declared.owned.Owned.{Owned}
 use Rattle.elementwise.specs.Casts.{cast_item}
 use Rattle.elementwise.specs.Results.{stretched_items, pairwise}
 use Rattle.elementwise.specs.inside.Shrunk.{IsShrunk}

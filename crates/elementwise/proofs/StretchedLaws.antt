@@ -3,14 +3,7 @@ use Rattle.std.proofs.Common.{◌≡◌, ◌+◌, ◌<◌, ◌≤◌, inl, inr, 
 use Rattle.std.specs.Result.{is_ok}
 use Rattle.std.proofs.lemmas.Bool.{false≢true}
 use Rattle.std.proofs.lemmas.List.{length-map, get_or-map}
-use Rattle.elem_descr.specs.declared.refusal.Refusal.{Refusal}
-use Rattle.elem_descr.specs.declared.refusal.Refusal.TheVariants.{OutOfMemory}
-use Rattle.shape_strides.specs.declared.layout.Layout.{Layout}
-use Rattle.shape_strides.specs.Indexes.{indexes, rank}
-use Rattle.shape_strides.specs.Layouts.{offsets}
-use Rattle.view_ops.specs.Views.{View, view_through, IsViewOf, GivesView}
-use Rattle.broadcasting.specs.Broadcasts.{can_stretch, broadcast_index, stretched}
-use Rattle.broadcasting.specs.BroadcastLaws.{stretched-self}
+use Rattle.elementwise.specs.Words.{Refusal, OutOfMemory, Layout, indexes, rank, offsets, View, view_through, IsViewOf, GivesView, can_stretch, broadcast_index, stretched, stretched-self}
 use Rattle.elementwise.specs.inside.Shrunk.{IsStretched}
 
 -- the view that there is

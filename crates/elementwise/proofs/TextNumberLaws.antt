@@ -3,17 +3,8 @@ use Rattle.std.proofs.Common.{◌≡◌, ◌+◌, ◌*◌, ◌^◌, ◌<◌, ◌
 use Rattle.std.proofs.lemmas.Bool.{cases_lt, lt-ltb}
 use Rattle.std.proofs.lemmas.Bool.Decides.{nat_tests}
 use Rattle.std.proofs.lemmas.List.Elements.{All-tail}
-use Rattle.byteorder.specs.Endian.{big_number, little_number}
-use Rattle.byteorder.specs.Numbers.{big_from-cons, big_from-lt}
-use Rattle.elem_descr.specs.ByteLaws.{AreBytes, bytes-take, bytes-drop}
-use Rattle.elem_descr.specs.declared.scalar.Order.TheVariants.{Big}
-use Rattle.elem_descr.specs.declared.scalar.Scalar.{Scalar}
-use Rattle.elem_descr.specs.declared.scalar.Scalar.TheVariants.{Bool as BoolScalar, Byte, Int}
-use Rattle.elem_descr.specs.Encoding.{IsNumber, size, width_size, encode}
-use Rattle.elem_descr.specs.Values.{number}
-use Rattle.raw_block.specs.Bytes.{item_at}
-use Rattle.machine_numbers.specs.Kinds.{is_bool}
-use Rattle.elem_descr.specs.declared.operators.Comparison.{Comparison}
+use Rattle.elementwise.specs.Words.{big_number, little_number, big_from-cons, big_from-lt, AreBytes, bytes-take, bytes-drop, Big, Scalar, Byte, Int, IsNumber, size, width_size, encode, number, item_at, is_bool, Comparison}
+use Rattle.elem_descr.specs.declared.scalar.Scalar.TheVariants.{Bool as BoolScalar}
 use Rattle.elementwise.specs.Comparisons.{text_below, says}
 use Rattle.elementwise.specs.Results.{pairwise}
 use Rattle.elementwise.specs.inside.PairPasses.{number_pair, text_pair, pair_from, says_number}

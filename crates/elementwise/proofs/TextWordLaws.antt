@@ -5,9 +5,7 @@ use Rattle.std.proofs.Math.ListN.{get_or-eq_default}
 use Rattle.std.proofs.lemmas.Bool.{cases_lt}
 use Rattle.std.proofs.lemmas.Bool.Decides.{nat_tests}
 use Rattle.std.proofs.lemmas.List.{same_lists, get_or_default, get_or-drop, get_or-take, take-append-drop, take_all}
-use Rattle.byteorder.specs.Endian.{little_from, little_number}
-use Rattle.elem_descr.specs.Encoding.{without_nuls}
-use Rattle.elem_descr.specs.NulLaws.{without_nuls-more}
+use Rattle.elementwise.specs.Words.{little_from, little_number, without_nuls, without_nuls-more}
 use Rattle.elementwise.specs.Comparisons.{text_below}
 
 -- ---- words

@@ -3,21 +3,8 @@ use Rattle.std.proofs.Common.{◌≡◌, ◌+◌, ◌-◌, ◌≤◌, ℕ, true,
 use Rattle.std.proofs.lemmas.List.{take-take, take-replicate, length-replicate}
 use Rattle.std.proofs.lemmas.List.Elements.{All-head, All-tail}
 use Rattle.std.proofs.Math.Seq.{take-append-add}
-use Rattle.elem_descr.specs.declared.descr.Descr.{Descr}
+use Rattle.elementwise.specs.Words.{Descr, Bytes, LeafValue, text, without_nuls, item_size, item_from, without_nuls-back, without_nuls-more, length-without_nuls, nuls, item_at, Layout, offsets, length-offsets, view_through, can_stretch, broadcast_index}
 use Rattle.elem_descr.specs.declared.descr.Descr.TheVariants.{Scalar as ScalarDescr}
-use Rattle.elem_descr.specs.declared.scalar.Scalar.TheVariants.{Bytes}
-use Rattle.elem_descr.specs.Values.{LeafValue, text}
-use Rattle.elem_descr.specs.Encoding.{without_nuls}
-use Rattle.elem_descr.specs.Items.{item_size}
-use Rattle.elem_descr.specs.Blocks.{item_from}
-use Rattle.elem_descr.specs.NulLaws.{without_nuls-back, without_nuls-more, length-without_nuls}
-use Rattle.elem_descr.specs.Nuls.{nuls}
-use Rattle.raw_block.specs.Bytes.{item_at}
-use Rattle.shape_strides.specs.declared.layout.Layout.{Layout}
-use Rattle.shape_strides.specs.Layouts.{offsets}
-use Rattle.shape_strides.specs.LayoutLaws.{length-offsets}
-use Rattle.view_ops.specs.Views.{view_through}
-use Rattle.broadcasting.specs.Broadcasts.{can_stretch, broadcast_index}
 use Rattle.elementwise.specs.Results.{stretched_items, pairwise}
 use Rattle.elementwise.proofs.ShrunkLaws.{all_through}
 

@@ -4,16 +4,7 @@ use Rattle.std.specs.List.{concat, AllByRecursion as Each}
 use Rattle.std.proofs.Math.Seq.{take-append_seam, drop-append-add}
 use Rattle.std.proofs.lemmas.List.{get_or-map}
 use Rattle.std.proofs.lemmas.List.FromFn.{length-map-range_with_len, get_or-map-range_with_len}
-use Rattle.raw_block.specs.Bytes.{item_at}
-use Rattle.raw_block.specs.JoinedLaws.{all_joined}
-use Rattle.shape_strides.specs.declared.layout.Layout.{Layout}
-use Rattle.shape_strides.specs.Contiguity.{fortran_order}
-use Rattle.shape_strides.specs.Indexes.{count, rank}
-use Rattle.shape_strides.specs.IndexLaws.{rank-lt, index_at}
-use Rattle.shape_strides.specs.Layouts.{multiples}
-use Rattle.shape_strides.specs.ReverseLaws.{count-reverse, IsIndex-reverse}
-use Rattle.arrays.specs.Assignments.{items_at}
-use Rattle.arrays.specs.FortranLaws.{length-fortran, fortran-at}
+use Rattle.elementwise.specs.Words.{item_at, all_joined, Layout, fortran_order, count, rank, rank-lt, index_at, multiples, count-reverse, IsIndex-reverse, items_at, length-fortran, fortran-at}
 use Rattle.elementwise.specs.declared.operands.Layouts.{Layouts}
 use Rattle.elementwise.specs.inside.Made.{IsTurned}
 use Rattle.elementwise.specs.Results.{pairwise}

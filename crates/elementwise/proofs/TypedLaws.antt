@@ -4,17 +4,7 @@ use Rattle.std.specs.Prelude.{slice_index}
 use Rattle.std.proofs.lemmas.List.{length-map, get_or-map}
 use Rattle.std.proofs.lemmas.Simd.{map-map}
 use Rattle.std.proofs.lemmas.List.Elements.{All-head, All-rest}
-use Rattle.elem_descr.specs.declared.descr.Descr.{Descr}
-use Rattle.elem_descr.specs.Values.{LeafValue}
-use Rattle.elem_descr.specs.Items.{item_size}
-use Rattle.elem_descr.specs.Blocks.{item_from}
-use Rattle.shape_strides.specs.Layouts.{offsets}
-use Rattle.shape_strides.specs.declared.layout.Layout.{Layout}
-use Rattle.shape_strides.specs.Indexes.{count, indexes, rank}
-use Rattle.shape_strides.specs.IndexLaws.{rank-lt, same_on_indexes}
-use Rattle.shape_strides.specs.LayoutLaws.{length-offsets}
-use Rattle.broadcasting.specs.Broadcasts.{can_stretch, broadcast_index}
-use Rattle.broadcasting.specs.BroadcastLaws.{IsIndex-broadcast}
+use Rattle.elementwise.specs.Words.{Descr, LeafValue, item_size, item_from, offsets, Layout, count, indexes, rank, rank-lt, same_on_indexes, length-offsets, can_stretch, broadcast_index, IsIndex-broadcast}
 use Rattle.elementwise.specs.Casts.{cast_item}
 use Rattle.elementwise.specs.Results.{stretched_items}
 

@@ -6,18 +6,11 @@ use Rattle.std.proofs.Math.Pow.{mod-mod-pow}
 use Rattle.std.proofs.lemmas.Bool.{false≢true, ltb-true}
 use Rattle.std.proofs.lemmas.Int.{ints, int_rem_euclid_is}
 use Rattle.std.proofs.lemmas.Nat.{pow_pos, pow-add}
-use Rattle.elem_descr.specs.declared.scalar.Scalar.{Scalar}
-use Rattle.elem_descr.specs.declared.scalar.Scalar.TheVariants.{Bool as BoolScalar, Byte, Int, Bytes}
-use Rattle.elem_descr.specs.Encoding.{IsNumber, width_size, integer, low_bits, wrap, truth}
-use Rattle.elem_descr.specs.EncodingLaws.{low_bits-integer, truth_suc}
-use Rattle.elem_descr.specs.WrapLaws.{integer-differs, integer-fits}
-use Rattle.elem_descr.specs.declared.operators.BinOp.{BinOp}
-use Rattle.elem_descr.specs.declared.operators.BinOp.TheVariants.{Add, Subtract, Multiply, FloorDivide, Modulo, And, Or, Xor, ShiftLeft, ShiftRight, Divide}
-use Rattle.machine_numbers.specs.Kinds.{is_bool}
+use Rattle.elementwise.specs.Words.{Scalar, Byte, Int, Bytes, IsNumber, width_size, integer, low_bits, wrap, truth, low_bits-integer, truth_suc, integer-differs, integer-fits, BinOp, Add, Subtract, Multiply, FloorDivide, Modulo, And, Or, Xor, ShiftLeft, ShiftRight, Divide, is_bool, AreBits}
+use Rattle.elem_descr.specs.declared.scalar.Scalar.TheVariants.{Bool as BoolScalar}
 use Rattle.elementwise.specs.Bits.{IsTruth}
 use Rattle.elementwise.specs.Operations.{exact, binary, of_bits}
 use Rattle.elementwise.proofs.WorkLaws.{small_width}
-use Rattle.machine_numbers.specs.Bits.{AreBits}
 
 -- bits are those of the number that they are
 pub are_bits : (r : ℕ) → r < 2 ^ 64 → AreBits r (pos r)

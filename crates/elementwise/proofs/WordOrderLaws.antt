@@ -3,11 +3,9 @@ use Rattle.std.proofs.Common.{◌≡◌, ◌+◌, ◌*◌, ◌^◌, ◌<◌, ◌
 use Rattle.std.proofs.lemmas.Bool.{cases_lt, lt-ltb}
 use Rattle.std.proofs.lemmas.Bool.Decides.{nat_tests}
 use Rattle.std.proofs.lemmas.List.{take-append-drop}
-use Rattle.byteorder.specs.Endian.{big_number}
-use Rattle.byteorder.specs.Numbers.{big_from-cons, big_from-lt}
+use Rattle.elementwise.specs.Words.{big_number, big_from-cons, big_from-lt, AreBytes, bytes-take}
 use Rattle.elementwise.specs.Comparisons.{text_below}
 use Rattle.elementwise.proofs.TextWordLaws.{lt-self, eq-self}
-use Rattle.elem_descr.specs.ByteLaws.{AreBytes, bytes-take}
 
 -- a first byte that is the same, and one that is less
 same-first : (a b : ℕ) (xs ys : List ℕ) → a ≡ b → text_below (a ∷ xs) (b ∷ ys) ≡ text_below xs ys

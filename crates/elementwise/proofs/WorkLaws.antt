@@ -1,16 +1,8 @@
 -- Numbers that work gives: how many bytes they have, and that they are read back.
 use Rattle.std.proofs.Common.{◌≡◌, ◌≤◌, true, false, cond, refl, arith}
 use Rattle.std.specs.Prelude.{ℤ, pos, int_lt}
-use Rattle.elem_descr.specs.declared.scalar.Width.{Width}
-use Rattle.elem_descr.specs.declared.scalar.Width.TheVariants.{Two, Four, Eight}
-use Rattle.elem_descr.specs.declared.scalar.Scalar.{Scalar}
-use Rattle.elem_descr.specs.declared.scalar.Scalar.TheVariants.{Bool as BoolScalar, Byte, Int, Bytes}
-use Rattle.elem_descr.specs.Values.{LeafValue, number, text}
-use Rattle.elem_descr.specs.Encoding.{IsNumber, size, width_size, number_of, decode, encode}
-use Rattle.elem_descr.specs.EncodingLaws.{decode_encode}
-use Rattle.elem_descr.specs.NumberLaws.{number_size}
-use Rattle.elem_descr.specs.declared.operators.Comparison.{Comparison}
-use Rattle.machine_numbers.specs.Kinds.{little}
+use Rattle.elementwise.specs.Words.{Width, Two, Four, Eight, Scalar, Byte, Int, Bytes, LeafValue, number, text, IsNumber, size, width_size, number_of, decode, encode, decode_encode, number_size, Comparison, little}
+use Rattle.elem_descr.specs.declared.scalar.Scalar.TheVariants.{Bool as BoolScalar}
 use Rattle.elementwise.specs.Comparisons.{says, compared}
 use Rattle.elementwise.specs.Operations.{exact, exact_one}
 use Rattle.elementwise.specs.inside.PairPasses.{compared_value, truth_value}

@@ -1,15 +1,9 @@
 -- Casts: the items of one element type as items of another, as NumPy's `astype` has them, and an integer never out of range.
 use Rattle.std.specs.Prelude.{pos, Bool, true, false, ◌&&◌, List, [], ◌∷◌, get_or, map, take}
 use Rattle.std.specs.List.{list_all}
-use Rattle.elem_descr.specs.declared.descr.Descr.{Descr}
+use Rattle.elementwise.specs.Words.{Descr, Leaf, Scalar, Byte, Int, Bytes, LeafValue, number, text, wrap, without_nuls, number_of, text_of, Fields, no_more, scalar_field, record_field, leaves_of}
 use Rattle.elem_descr.specs.declared.descr.Descr.TheVariants.{Scalar as ScalarDescr, Record as RecordDescr}
-use Rattle.elem_descr.specs.declared.leaf.Leaf.{Leaf}
-use Rattle.elem_descr.specs.declared.scalar.Scalar.{Scalar}
-use Rattle.elem_descr.specs.declared.scalar.Scalar.TheVariants.{Bool as BoolScalar, Byte, Int, Bytes}
-use Rattle.elem_descr.specs.Values.{LeafValue, number, text}
-use Rattle.elem_descr.specs.Encoding.{wrap, without_nuls, number_of, text_of}
-use Rattle.elem_descr.specs.Fields.{Fields, no_more, scalar_field, record_field}
-use Rattle.elem_descr.specs.Items.{leaves_of}
+use Rattle.elem_descr.specs.declared.scalar.Scalar.TheVariants.{Bool as BoolScalar}
 
 -- Which casts there are
 

@@ -1,8 +1,6 @@
 -- Comparisons: of numbers by their values, and of byte strings byte by byte.
 use Rattle.std.specs.Prelude.{ℕ, nat_lt, ◌==◌, int_lt, Bool, true, false, not, ◌&&◌, ◌||◌, List, [], ◌∷◌}
-use Rattle.elem_descr.specs.Values.{LeafValue, number, text}
-use Rattle.elem_descr.specs.declared.operators.Comparison.{Comparison}
-use Rattle.elem_descr.specs.declared.operators.Comparison.TheVariants.{Equal, NotEqual, Less, LessOrEqual, Greater, GreaterOrEqual}
+use Rattle.elementwise.specs.Words.{LeafValue, number, text, Comparison, Equal, NotEqual, Less, LessOrEqual, Greater, GreaterOrEqual}
 
 -- the first byte in which they differ decides, and a byte string is below a longer one that begins with it
 abbrev pub text_below : List ℕ → List ℕ → Bool

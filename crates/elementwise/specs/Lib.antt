@@ -6,3 +6,4 @@ pub mod Results
 pub mod Bits
 pub mod inside
 pub mod ResultLaws
+pub mod Words

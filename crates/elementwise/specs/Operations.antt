@@ -1,13 +1,7 @@
 -- Operations on numbers by their values, whose results are wrapped to a scalar.
 use Rattle.std.specs.Prelude.{ℕ, zero, suc, ◌*◌, ◌^◌, nat_lt, ℤ, pos, negsuc, ◌+ℤ◌, ◌-ℤ◌, ◌*ℤ◌, neg_ℤ, Bool, true, false, not, ◌&&◌, if◌then◌else◌, bit_and, bit_or, bit_xor}
 use Rattle.std.specs.Int.{int_div_euclid}
-use Rattle.elem_descr.specs.declared.scalar.Scalar.{Scalar}
-use Rattle.elem_descr.specs.Encoding.{size, wrap, low_bits}
-use Rattle.elem_descr.specs.declared.operators.BinOp.{BinOp}
-use Rattle.elem_descr.specs.declared.operators.BinOp.TheVariants.{Add, Subtract, Multiply, FloorDivide, Modulo, And, Or, Xor, ShiftLeft, ShiftRight, Divide}
-use Rattle.elem_descr.specs.declared.operators.UnOp.{UnOp}
-use Rattle.elem_descr.specs.declared.operators.UnOp.TheVariants.{Negate, Invert}
-use Rattle.machine_numbers.specs.Kinds.{is_bool, is_text}
+use Rattle.elementwise.specs.Words.{Scalar, size, wrap, low_bits, BinOp, Add, Subtract, Multiply, FloorDivide, Modulo, And, Or, Xor, ShiftLeft, ShiftRight, Divide, UnOp, Negate, Invert, is_bool, is_text}
 
 -- ---- division
 

@@ -1,17 +1,7 @@
 -- The type of a result, as NumPy 2 promotes the types of two operands.
 use Rattle.std.specs.Prelude.{ℕ, ◌*◌, max, ◌==◌, nat_le, Bool, true, false, not, ◌&&◌, ◌||◌, if◌then◌else◌, Result, Ok}
-use Rattle.elem_descr.specs.declared.refusal.Refusal.{Refusal}
-use Rattle.elem_descr.specs.declared.refusal.Refusal.TheVariants.{NotForThisKind, NeedsFloats, NotSameKind}
-use Rattle.elem_descr.specs.declared.scalar.Order.TheVariants.{Little}
-use Rattle.elem_descr.specs.declared.scalar.Width.TheVariants.{Two, Four, Eight}
-use Rattle.elem_descr.specs.declared.scalar.Scalar.{Scalar}
-use Rattle.elem_descr.specs.declared.scalar.Scalar.TheVariants.{Bool as BoolScalar, Byte, Int}
-use Rattle.elem_descr.specs.Encoding.{size}
-use Rattle.elem_descr.specs.Refusals.{◌>>=◌, check}
-use Rattle.machine_numbers.specs.Kinds.{is_bool, is_text, is_signed, little}
-use Rattle.elem_descr.specs.declared.operators.BinOp.{BinOp}
-use Rattle.elem_descr.specs.declared.operators.BinOp.TheVariants.{Divide}
-use Rattle.elem_descr.specs.declared.operators.UnOp.{UnOp}
+use Rattle.elementwise.specs.Words.{Refusal, NotForThisKind, NeedsFloats, NotSameKind, Little, Two, Four, Eight, Scalar, Byte, Int, size, ◌>>=◌, check, is_bool, is_text, is_signed, little, BinOp, Divide, UnOp}
+use Rattle.elem_descr.specs.declared.scalar.Scalar.TheVariants.{Bool as BoolScalar}
 use Rattle.elementwise.specs.Operations.{serves_bools, serves_one}
 
 -- ---- kinds

@@ -2,10 +2,8 @@
 use Rattle.std.proofs.Common.{◌≡◌, Ok, ap}
 use Rattle.std.specs.Result.{is_ok}
 use Rattle.std.proofs.lemmas.Bool.{false≢true}
-use Rattle.elem_descr.specs.declared.scalar.Scalar.{Scalar}
-use Rattle.elem_descr.specs.declared.descr.Descr.{Descr}
+use Rattle.elementwise.specs.Words.{Scalar, Descr, same_answer}
 use Rattle.elem_descr.specs.declared.descr.Descr.TheVariants.{Scalar as ScalarDescr, Record as RecordDescr}
-use Rattle.elem_descr.specs.RefusalLaws.{same_answer}
 use Rattle.elementwise.specs.Results.{scalar_of}
 
 -- the scalar of an operand

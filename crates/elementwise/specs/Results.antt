@@ -1,23 +1,8 @@
 -- Results of operations and comparisons, of all items of arrays.
 use Rattle.std.specs.Prelude.{ℕ, ℤ, pos, Bool, if◌then◌else◌, not, List, [], ◌∷◌, get_or, map, Result, Ok, Err}
-use Rattle.elem_descr.specs.declared.refusal.Refusal.{Refusal}
-use Rattle.elem_descr.specs.declared.refusal.Refusal.TheVariants.{NotForThisKind}
-use Rattle.elem_descr.specs.declared.descr.Descr.{Descr}
+use Rattle.elementwise.specs.Words.{Refusal, NotForThisKind, Descr, Scalar, LeafValue, number, wrap, number_of, ◌>>=◌, check, item_from, Layout, offsets, view_through, common_shape, broadcast_index, BinOp, UnOp, Comparison, is_text}
 use Rattle.elem_descr.specs.declared.descr.Descr.TheVariants.{Scalar as ScalarDescr, Record as RecordDescr}
-use Rattle.elem_descr.specs.declared.scalar.Scalar.{Scalar}
 use Rattle.elem_descr.specs.declared.scalar.Scalar.TheVariants.{Bool as BoolScalar}
-use Rattle.elem_descr.specs.Values.{LeafValue, number}
-use Rattle.elem_descr.specs.Encoding.{wrap, number_of}
-use Rattle.elem_descr.specs.Refusals.{◌>>=◌, check}
-use Rattle.elem_descr.specs.Blocks.{item_from}
-use Rattle.shape_strides.specs.declared.layout.Layout.{Layout}
-use Rattle.shape_strides.specs.Layouts.{offsets}
-use Rattle.view_ops.specs.Views.{view_through}
-use Rattle.broadcasting.specs.Broadcasts.{common_shape, broadcast_index}
-use Rattle.elem_descr.specs.declared.operators.BinOp.{BinOp}
-use Rattle.elem_descr.specs.declared.operators.UnOp.{UnOp}
-use Rattle.elem_descr.specs.declared.operators.Comparison.{Comparison}
-use Rattle.machine_numbers.specs.Kinds.{is_text}
 use Rattle.elementwise.specs.Promotion.{promote, promote_one, compared_type}
 use Rattle.elementwise.specs.Operations.{binary, unary}
 use Rattle.elementwise.specs.Comparisons.{compared}

@@ -1,7 +1,6 @@
 //! Element types whose items have the same layout in bytes.
 ghost use Rattle.std.specs.Prelude.{◌≡◌, ◌+◌, ◌<◌, ◌≤◌, ◌↔◌, ℕ, length, IsTrue};
-ghost use Rattle.elem_descr.specs.Items.{item_size, leaves_of, leaf_at, AreAlike};
-ghost use Rattle.elem_descr.specs.Blocks.{item_from};
+ghost use Rattle.elementwise.specs.Words.{item_size, leaves_of, leaf_at, AreAlike, item_from};
 ghost use Rattle.elementwise.specs.Casts.{cast_item};
 
 use crate::casts::leaf_of;

@@ -1,13 +1,7 @@
 //! Operations on all items of arrays.
 ghost use Rattle.std.specs.Prelude.{◌≡◌, map, IfOk};
 ghost use Rattle.std.specs.List.{flat_map};
-ghost use Rattle.elem_descr.specs.Refusals.{Gives};
-ghost use Rattle.elem_descr.specs.Items.{item_size, encode_item};
-ghost use Rattle.elem_descr.specs.Blocks.{item_from};
-ghost use Rattle.elem_descr.specs.declared.memory_order.MemoryOrder.TheVariants.{C};
-ghost use Rattle.shape_strides.specs.Layouts.{offsets};
-ghost use Rattle.arrays.specs.Blocks.{offsets_in};
-ghost use Rattle.arrays.specs.ItemLists.{owned_items};
+ghost use Rattle.elementwise.specs.Words.{Gives, item_size, encode_item, item_from, C, offsets, offsets_in, owned_items};
 ghost use Rattle.elementwise.specs.Results.{binary_result, unary_result, binary_item, unary_item, stretched_items, pairwise};
 
 use crate::operands::read_as;

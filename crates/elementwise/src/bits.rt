@@ -1,6 +1,6 @@
 //! Operations on numbers given by their lowest 64 bits; all higher bits repeat the sign.
 ghost use Rattle.std.specs.Prelude.{◌≡◌, ◌≤◌, ◌/◌, ◌^◌, nat_lt, if◌then◌else◌, Bool, int_lt};
-ghost use Rattle.elem_descr.specs.Encoding.{integer, low_bits};
+ghost use Rattle.elementwise.specs.Words.{integer, low_bits};
 ghost use Rattle.elementwise.specs.Operations.{floor_quotient, modulo, shifted_left, shifted_right};
 ghost use Rattle.elementwise.specs.Bits.{is_negative, magnitude_of};
 

@@ -1,7 +1,7 @@
 //! Which casts exist.
 ghost use Rattle.std.specs.Prelude.{◌≡◌};
 ghost use Rattle.std.specs.List.{list_all};
-ghost use Rattle.elem_descr.specs.Descriptors.{listed};
+ghost use Rattle.elementwise.specs.Words.{listed};
 ghost use Rattle.elementwise.specs.Casts.{can_cast_scalar, can_cast_fields, can_cast};
 ghost use Rattle.elementwise.specs.inside.FieldCasts.{can_cast_field};
 

@@ -1,19 +1,8 @@
 //! Casts: the items of an array as items of another element type.
 ghost use Rattle.std.specs.Prelude.{◌≡◌, ◌+◌, ◌*◌, ◌<◌, ◌≤◌, ℕ, true, length, drop, map, nat_le, if◌then◌else◌, IfOk, IfErr};
 ghost use Rattle.std.specs.List.{concat, flat_map};
-ghost use Rattle.elem_descr.specs.declared.refusal.Refusal.TheVariants.{OutOfMemory, TooLarge, NoSuchCast};
+ghost use Rattle.elementwise.specs.Words.{OutOfMemory, TooLarge, NoSuchCast, size, item_size, leaves_of, leaf_at, encode_item, item_from, C, max_bytes, count, offsets, multiples, with_items, offsets_in, owned_items, row_offsets};
 ghost use Rattle.elem_descr.specs.declared.descr.Descr.TheVariants.{Scalar as ScalarDescr};
-ghost use Rattle.elem_descr.specs.Encoding.{size};
-ghost use Rattle.elem_descr.specs.Items.{item_size, leaves_of, leaf_at, encode_item};
-ghost use Rattle.elem_descr.specs.Blocks.{item_from};
-ghost use Rattle.elem_descr.specs.declared.memory_order.MemoryOrder.TheVariants.{C};
-ghost use Rattle.shape_strides.specs.Limits.{max_bytes};
-ghost use Rattle.shape_strides.specs.Indexes.{count};
-ghost use Rattle.shape_strides.specs.Layouts.{offsets, multiples};
-ghost use Rattle.arrays.specs.Assignments.{with_items};
-ghost use Rattle.arrays.specs.Blocks.{offsets_in};
-ghost use Rattle.arrays.specs.ItemLists.{owned_items};
-ghost use Rattle.arrays.specs.Packed.{row_offsets};
 ghost use Rattle.elementwise.specs.Casts.{can_cast_scalar, can_cast, cast_item};
 ghost use Rattle.elementwise.specs.inside.LeafCasts.{leaf_from, source, HasSource};
 ghost use Rattle.elementwise.specs.inside.Made.{IsMade};

@@ -1,17 +1,9 @@
 //! Comparisons of all items of arrays.
 ghost use Rattle.std.specs.Prelude.{◌≡◌, map, IfOk, IfErr};
 ghost use Rattle.std.specs.List.{flat_map};
-ghost use Rattle.elem_descr.specs.declared.refusal.Refusal.TheVariants.{OutOfMemory};
+ghost use Rattle.elementwise.specs.Words.{OutOfMemory, Bytes, IsNumber, item_size, encode_item, item_from, Gives, C, offsets, offsets_in, owned_items};
 ghost use Rattle.elem_descr.specs.declared.descr.Descr.TheVariants.{Scalar as ScalarDescr};
-ghost use Rattle.elem_descr.specs.declared.scalar.Scalar.TheVariants.{Bool as BoolScalar, Bytes};
-ghost use Rattle.elem_descr.specs.Encoding.{IsNumber};
-ghost use Rattle.elem_descr.specs.Items.{item_size, encode_item};
-ghost use Rattle.elem_descr.specs.Blocks.{item_from};
-ghost use Rattle.elem_descr.specs.Refusals.{Gives};
-ghost use Rattle.elem_descr.specs.declared.memory_order.MemoryOrder.TheVariants.{C};
-ghost use Rattle.shape_strides.specs.Layouts.{offsets};
-ghost use Rattle.arrays.specs.Blocks.{offsets_in};
-ghost use Rattle.arrays.specs.ItemLists.{owned_items};
+ghost use Rattle.elem_descr.specs.declared.scalar.Scalar.TheVariants.{Bool as BoolScalar};
 ghost use Rattle.elementwise.specs.Results.{compared_result, compared_item, stretched_items, pairwise};
 ghost use Rattle.elementwise.specs.inside.Works.{AreComparable, IsComparing};
 ghost use Rattle.elementwise.specs.inside.Held.{stretched};

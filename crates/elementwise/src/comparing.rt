@@ -1,7 +1,7 @@
 //! Comparisons of the numbers of operands: which kernel does them.
 ghost use Rattle.std.specs.Prelude.{◌≡◌, ◌+◌, ◌≤◌, ◌++◌, pos, int_lt, if◌then◌else◌};
 ghost use Rattle.elem_descr.specs.declared.scalar.Scalar.TheVariants.{Bool as BoolScalar};
-ghost use Rattle.elem_descr.specs.Items.{item_size};
+ghost use Rattle.elementwise.specs.Words.{item_size};
 ghost use Rattle.elementwise.specs.Comparisons.{says};
 ghost use Rattle.elementwise.specs.inside.PairPasses.{number_pair, said, says_number};
 ghost use Rattle.elementwise.specs.inside.Operands.{pairs_of, made_of_all};

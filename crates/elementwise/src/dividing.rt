@@ -1,11 +1,6 @@
 //! Quotients of pairs of numbers, with a loop of its own for a row that one number divides.
 ghost use Rattle.std.specs.Prelude.{◌≡◌, ◌+◌, ◌*◌, ◌<◌, ◌≤◌, ◌++◌, ◌^◌, ℕ, true, unsigned_abs, IfSome};
-ghost use Rattle.elem_descr.specs.declared.scalar.Order.TheVariants.{Little};
-ghost use Rattle.elem_descr.specs.Encoding.{integer};
-ghost use Rattle.raw_block.specs.Bytes.{joined};
-ghost use Rattle.elem_descr.specs.declared.operators.BinOp.TheVariants.{FloorDivide};
-ghost use Rattle.machine_numbers.specs.Kinds.{is_bool};
-ghost use Rattle.machine_numbers.specs.Sides.{number_of_side};
+ghost use Rattle.elementwise.specs.Words.{Little, integer, joined, FloorDivide, is_bool, number_of_side};
 ghost use Rattle.elementwise.specs.Bits.{IsTruth};
 ghost use Rattle.elementwise.specs.Operations.{binary};
 ghost use Rattle.elementwise.specs.inside.PairPasses.{number_pair};

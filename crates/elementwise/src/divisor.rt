@@ -1,6 +1,6 @@
 //! Division of many numbers by one, through its reciprocal.
 ghost use Rattle.std.specs.Prelude.{◌≡◌, ◌-◌, ◌*◌, ◌/◌, ◌^◌, ◌<◌, ◌≤◌, unsigned_abs, IfSome};
-ghost use Rattle.elem_descr.specs.Encoding.{integer, low_bits};
+ghost use Rattle.elementwise.specs.Words.{integer, low_bits};
 ghost use Rattle.elementwise.specs.Operations.{floor_quotient};
 
 use crate::bits::{is_negative, magnitude};

@@ -1,21 +1,9 @@
 //! Comparisons of all items of arrays of numbers with one integer.
 ghost use Rattle.std.specs.Prelude.{◌≡◌, ◌≢◌, ◌≤◌, [], ◌∷◌, length, map, replicate, if◌then◌else◌, IfOk, IfErr};
 ghost use Rattle.std.specs.List.{flat_map};
-ghost use Rattle.elem_descr.specs.declared.refusal.Refusal.TheVariants.{OutOfMemory};
+ghost use Rattle.elementwise.specs.Words.{OutOfMemory, IsNumber, size, wrap, decode, item_size, encode_item, item_from, Gives, number, C, max_bytes, count, offsets, offsets_in, owned_items, little};
 ghost use Rattle.elem_descr.specs.declared.descr.Descr.TheVariants.{Scalar as ScalarDescr};
 ghost use Rattle.elem_descr.specs.declared.scalar.Scalar.TheVariants.{Bool as BoolScalar};
-ghost use Rattle.elem_descr.specs.Encoding.{IsNumber, size, wrap, decode};
-ghost use Rattle.elem_descr.specs.Items.{item_size, encode_item};
-ghost use Rattle.elem_descr.specs.Blocks.{item_from};
-ghost use Rattle.elem_descr.specs.Refusals.{Gives};
-ghost use Rattle.elem_descr.specs.Values.{number};
-ghost use Rattle.elem_descr.specs.declared.memory_order.MemoryOrder.TheVariants.{C};
-ghost use Rattle.shape_strides.specs.Limits.{max_bytes};
-ghost use Rattle.shape_strides.specs.Indexes.{count};
-ghost use Rattle.shape_strides.specs.Layouts.{offsets};
-ghost use Rattle.arrays.specs.Blocks.{offsets_in};
-ghost use Rattle.arrays.specs.ItemLists.{owned_items};
-ghost use Rattle.machine_numbers.specs.Kinds.{little};
 ghost use Rattle.elementwise.specs.Results.{integer_compared_result, compared_item, truth_item};
 ghost use Rattle.elementwise.specs.inside.Made.{IsMade};
 

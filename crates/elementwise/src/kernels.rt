@@ -1,7 +1,6 @@
 //! Passes over pairs of numbers, which push the results of a kernel.
 ghost use Rattle.std.specs.Prelude.{◌≡◌, ◌+◌, ◌*◌, ◌≤◌, ◌++◌, ℤ};
-ghost use Rattle.elem_descr.specs.Items.{item_size};
-ghost use Rattle.raw_block.specs.Bytes.{joined};
+ghost use Rattle.elementwise.specs.Words.{item_size, joined};
 ghost use Rattle.elementwise.specs.inside.PairPasses.{number_pair};
 ghost use Rattle.elementwise.specs.inside.Operands.{pairs_of, made_of_all};
 ghost use Rattle.elementwise.specs.inside.Sides.{pair_count, made_of};

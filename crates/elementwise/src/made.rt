@@ -1,9 +1,7 @@
 //! Arrays of the results of pairs of items: row by row, or by columns where these lie closer together.
 ghost use Rattle.std.specs.Prelude.{◌≡◌, [], ◌∷◌, ◌*◌, ◌≤◌, IfOk, IfErr, IfSome};
-ghost use Rattle.elem_descr.specs.declared.refusal.Refusal.TheVariants.{OutOfMemory};
+ghost use Rattle.elementwise.specs.Words.{OutOfMemory, size, max_bytes};
 ghost use Rattle.elem_descr.specs.declared.descr.Descr.TheVariants.{Scalar as ScalarDescr};
-ghost use Rattle.elem_descr.specs.Encoding.{size};
-ghost use Rattle.shape_strides.specs.Limits.{max_bytes};
 ghost use Rattle.elementwise.specs.Results.{pairwise, value_in};
 ghost use Rattle.elementwise.specs.inside.Made.{IsMade, IsTurned};
 ghost use Rattle.elementwise.specs.inside.Operands.{operand_items, pairs_of};

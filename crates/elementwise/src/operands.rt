@@ -1,7 +1,6 @@
 //! The operands of operations.
 ghost use Rattle.std.specs.Prelude.{◌≡◌, ℕ, ◌<◌, slice_index_or, IsTrue};
-ghost use Rattle.broadcasting.specs.Broadcasts.{can_stretch};
-ghost use Rattle.machine_numbers.specs.Kinds.{little};
+ghost use Rattle.elementwise.specs.Words.{can_stretch, little};
 
 use arrays::Items;
 use elem_descr::{Descr, Scalar};

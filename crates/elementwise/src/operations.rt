@@ -1,11 +1,7 @@
 //! Work on operands of numbers in the type that their scalar names, and which kernel does it. Each operation is done on
 //! the lowest 64 bits, and a number keeps as many as its type has.
 ghost use Rattle.std.specs.Prelude.{◌≡◌, ◌+◌, ◌*◌, ◌≤◌, ◌++◌, true, ◌-ℤ◌};
-ghost use Rattle.elem_descr.specs.declared.scalar.Order.TheVariants.{Little};
-ghost use Rattle.elem_descr.specs.Encoding.{size, integer, wrap};
-ghost use Rattle.elem_descr.specs.Items.{item_size};
-ghost use Rattle.elem_descr.specs.declared.operators.BinOp.TheVariants.{Add, Subtract, Multiply, FloorDivide, Modulo, And, Or, Xor, ShiftLeft, ShiftRight};
-ghost use Rattle.machine_numbers.specs.Kinds.{is_bool};
+ghost use Rattle.elementwise.specs.Words.{Little, size, integer, wrap, item_size, Add, Subtract, Multiply, FloorDivide, Modulo, And, Or, Xor, ShiftLeft, ShiftRight, is_bool};
 ghost use Rattle.elementwise.specs.Operations.{binary, unary, serves_bools, serves_one};
 ghost use Rattle.elementwise.specs.inside.PairPasses.{number_pair};
 ghost use Rattle.elementwise.specs.inside.Operands.{pairs_of, made_of_all};

@@ -1,7 +1,6 @@
 //! Combines the items of two operands, pair by pair.
 ghost use Rattle.std.specs.Prelude.{◌≡◌, ◌+◌, ◌*◌, ◌≤◌, ◌++◌};
-ghost use Rattle.elem_descr.specs.Encoding.{size};
-ghost use Rattle.elem_descr.specs.Items.{item_size};
+ghost use Rattle.elementwise.specs.Words.{size, item_size};
 ghost use Rattle.elementwise.specs.inside.Operands.{pairs_of, made_of_all};
 
 use crate::comparing::compare;

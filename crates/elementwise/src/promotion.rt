@@ -1,10 +1,6 @@
 //! The types of results, as NumPy 2 promotes the types of operands.
 ghost use Rattle.std.specs.Prelude.{◌≡◌, ◌≤◌, not, ◌&&◌, ◌||◌};
-ghost use Rattle.elem_descr.specs.declared.scalar.Order.TheVariants.{Little};
-ghost use Rattle.elem_descr.specs.declared.scalar.Width.TheVariants.{Eight};
-ghost use Rattle.elem_descr.specs.declared.scalar.Scalar.TheVariants.{Int};
-ghost use Rattle.elem_descr.specs.Refusals.{Answers};
-ghost use Rattle.machine_numbers.specs.Kinds.{is_bool, is_text, is_signed, little};
+ghost use Rattle.elementwise.specs.Words.{Little, Eight, Int, Answers, is_bool, is_text, is_signed, little};
 ghost use Rattle.elementwise.specs.Promotion.{rank_of_kind, same_kind, integer_type, mixed_type, common_integers, common_type, promote, are_comparable, compared_type, literal_type, promote_one};
 ghost use Rattle.elementwise.specs.Operations.{serves_bools};
 ghost use Rattle.elementwise.specs.Results.{scalar_of};

@@ -1,11 +1,7 @@
 //! Combines the items of two operands, row by row.
 ghost use Rattle.std.specs.Prelude.{◌≡◌, ◌+◌, ◌*◌, ◌≤◌, ◌++◌, ℕ, List, length, All, IfSome};
 ghost use Rattle.std.specs.List.{concat};
-ghost use Rattle.elem_descr.specs.Items.{item_size};
-ghost use Rattle.raw_block.specs.Bytes.{joined, EachWithin};
-ghost use Rattle.shape_strides.specs.Layouts.{offsets};
-ghost use Rattle.shape_strides.specs.Runs.{run_offsets};
-ghost use Rattle.arrays.specs.RunLaws.{BeginsWithin};
+ghost use Rattle.elementwise.specs.Words.{item_size, joined, EachWithin, offsets, run_offsets, BeginsWithin};
 ghost use Rattle.elementwise.specs.Results.{pairwise};
 ghost use Rattle.elementwise.specs.inside.PairPasses.{pair_from};
 

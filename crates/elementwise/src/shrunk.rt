@@ -1,9 +1,8 @@
 //! Operands whose items repeat: combines the distinct items, and broadcasts the result.
 ghost use Rattle.std.specs.Prelude.{◌≡◌, IfOk, IfErr, IsTrue};
-ghost use Rattle.elem_descr.specs.declared.refusal.Refusal.TheVariants.{OutOfMemory};
+ghost use Rattle.elementwise.specs.Words.{OutOfMemory, can_stretch};
 ghost use Rattle.elem_descr.specs.declared.descr.Descr.TheVariants.{Scalar as ScalarDescr};
 ghost use Rattle.elem_descr.specs.declared.scalar.Scalar.TheVariants.{Bool as BoolScalar};
-ghost use Rattle.broadcasting.specs.Broadcasts.{can_stretch};
 ghost use Rattle.elementwise.specs.Results.{stretched_items};
 ghost use Rattle.elementwise.specs.inside.Shrunk.{IsShrunk};
 ghost use Rattle.elementwise.specs.inside.Made.{IsMade};

@@ -1,7 +1,6 @@
 //! Comparisons of byte strings.
 ghost use Rattle.std.specs.Prelude.{◌≡◌};
-ghost use Rattle.elem_descr.specs.Encoding.{without_nuls};
-ghost use Rattle.elem_descr.specs.Values.{text};
+ghost use Rattle.elementwise.specs.Words.{without_nuls, text};
 ghost use Rattle.elementwise.specs.Comparisons.{compared};
 
 use crate::comparing::says;

@@ -1,10 +1,7 @@
 //! Comparisons and casts of byte strings, row by row.
 ghost use Rattle.std.specs.Prelude.{◌≡◌, ◌≤◌, take, IfSome};
 ghost use Rattle.elem_descr.specs.declared.scalar.Scalar.TheVariants.{Bool as BoolScalar};
-ghost use Rattle.elem_descr.specs.Values.{text};
-ghost use Rattle.elem_descr.specs.Encoding.{padded, encode, without_nuls};
-ghost use Rattle.raw_block.specs.Bytes.{joined};
-ghost use Rattle.machine_numbers.specs.Sides.{item_in};
+ghost use Rattle.elementwise.specs.Words.{text, padded, encode, without_nuls, joined, item_in};
 ghost use Rattle.elementwise.specs.inside.PairPasses.{text_pair, truth_value};
 ghost use Rattle.std.proofs.Common.{arith};
 

@@ -2,7 +2,7 @@
 ghost use Rattle.std.specs.Prelude.{◌≡◌, ◌+◌, ◌≤◌, ◌++◌, false, IfSome};
 ghost use Rattle.elem_descr.specs.declared.scalar.Order.TheVariants.{Big as BigOrder};
 ghost use Rattle.elem_descr.specs.declared.scalar.Scalar.TheVariants.{Int as IntScalar};
-ghost use Rattle.elem_descr.specs.Items.{item_size};
+ghost use Rattle.elementwise.specs.Words.{item_size};
 ghost use Rattle.elementwise.specs.inside.Operands.{pairs_of, made_of_all};
 ghost use Rattle.elementwise.specs.inside.PairPasses.{text_pair};
 ghost use Rattle.elementwise.specs.inside.Words.{IsWord};

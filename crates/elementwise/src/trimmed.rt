@@ -1,11 +1,7 @@
 //! Byte strings without the trailing NULs that all of them have.
 ghost use Rattle.std.specs.Prelude.{◌≡◌, ◌+◌, ◌≤◌, length, All, IfOk, IfErr, IsTrue};
-ghost use Rattle.elem_descr.specs.declared.refusal.Refusal.TheVariants.{OutOfMemory};
+ghost use Rattle.elementwise.specs.Words.{OutOfMemory, Bytes, without_nuls, item_at, offsets};
 ghost use Rattle.elem_descr.specs.declared.descr.Descr.TheVariants.{Scalar as ScalarDescr};
-ghost use Rattle.elem_descr.specs.declared.scalar.Scalar.TheVariants.{Bytes};
-ghost use Rattle.elem_descr.specs.Encoding.{without_nuls};
-ghost use Rattle.raw_block.specs.Bytes.{item_at};
-ghost use Rattle.shape_strides.specs.Layouts.{offsets};
 
 use crate::shrunk::without_repeats;
 use crate::text_comparing::without_nuls;

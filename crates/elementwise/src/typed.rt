@@ -1,10 +1,7 @@
 //! Casts and broadcasts operands, and combines them.
 ghost use Rattle.std.specs.Prelude.{◌≡◌, [], ◌∷◌, ◌≤◌, true, map, IfOk, IfErr, IsTrue};
-ghost use Rattle.elem_descr.specs.declared.refusal.Refusal.TheVariants.{OutOfMemory};
+ghost use Rattle.elementwise.specs.Words.{OutOfMemory, size, item_size, can_stretch};
 ghost use Rattle.elem_descr.specs.declared.descr.Descr.TheVariants.{Scalar as ScalarDescr};
-ghost use Rattle.elem_descr.specs.Encoding.{size};
-ghost use Rattle.elem_descr.specs.Items.{item_size};
-ghost use Rattle.broadcasting.specs.Broadcasts.{can_stretch};
 ghost use Rattle.elementwise.specs.Casts.{can_cast, cast_item};
 ghost use Rattle.elementwise.specs.Results.{pairwise, value_in};
 ghost use Rattle.elementwise.specs.inside.Held.{stretched, fitted_layout};

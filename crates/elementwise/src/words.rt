@@ -1,6 +1,6 @@
 //! Byte strings eight bytes at a time.
 ghost use Rattle.std.specs.Prelude.{◌≡◌, ◌≤◌, length, take, not, IfSome};
-ghost use Rattle.elem_descr.specs.Encoding.{without_nuls};
+ghost use Rattle.elementwise.specs.Words.{without_nuls};
 ghost use Rattle.elementwise.specs.Comparisons.{text_below};
 
 use machine_numbers::{HighFirst, LowFirst, Ordered};

@@ -4,15 +4,7 @@ use Rattle.std.proofs.lemmas.Int.{ints}
 use Rattle.std.proofs.lemmas.List.{get_or-map, length-map}
 use Rattle.std.proofs.lemmas.List.Elements.{All-drop}
 use lib.IntN.{ℤ, pos, ◌+ℤ◌, *ℤ-zero}
-use Rattle.shape_strides.specs.declared.layout.Layout.{Layout}
-use Rattle.shape_strides.specs.Limits.{max_axes, max_items}
-use Rattle.shape_strides.specs.Indexes.{count, rank, IsIndex}
-use Rattle.shape_strides.specs.Addresses.{dot, natural, address_at}
-use Rattle.shape_strides.specs.Layouts.{address, offsets}
-use Rattle.shape_strides.specs.LayoutLaws.{pos-natural, get_or-offsets}
-use Rattle.shape_strides.specs.Shapes.{shape_of}
-use Rattle.shape_strides.specs.IndexLaws.{length-index, index_at, rank-lt}
-use Rattle.view_ops.specs.Shows.{ShowsThrough}
+use Rattle.fancy_index.specs.Words.{Layout, max_axes, max_items, count, rank, IsIndex, dot, natural, address_at, address, offsets, pos-natural, get_or-offsets, shape_of, length-index, index_at, rank-lt, ShowsThrough}
 use Rattle.fancy_index.specs.inside.PointLists.{tuple}
 use Rattle.fancy_index.specs.inside.Sums.{strides_along, offset_along, BeginAt}
 use Rattle.fancy_index.proofs.CutLaws.{dot-cut, some-behind, few-behind, shape-before}

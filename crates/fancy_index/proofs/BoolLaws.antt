@@ -4,13 +4,9 @@ use Rattle.std.specs.List.{flat_map}
 use Rattle.std.specs.Ordering.{int_eq}
 use Rattle.std.proofs.lemmas.List.{get_or-map, length-map, get_or-drop, drop_more, map-append, take-set, take_more_set}
 use lib.IntN.{ℤ, pos}
-use Rattle.elem_descr.specs.declared.descr.Descr.{Descr}
+use Rattle.fancy_index.specs.Words.{Descr, Byte, Int, Bytes, truth, Run, run_offsets, length-run_offsets}
 use Rattle.elem_descr.specs.declared.descr.Descr.TheVariants.{Scalar as ScalarDescr, Record as RecordDescr}
-use Rattle.elem_descr.specs.declared.scalar.Scalar.TheVariants.{Bool as BoolScalar, Byte, Int, Bytes}
-use Rattle.elem_descr.specs.Encoding.{truth}
-use Rattle.shape_strides.specs.declared.runs.Run.{Run}
-use Rattle.shape_strides.specs.Runs.{run_offsets}
-use Rattle.shape_strides.specs.WalkLaws.{length-run_offsets}
+use Rattle.elem_descr.specs.declared.scalar.Scalar.TheVariants.{Bool as BoolScalar}
 use Rattle.fancy_index.specs.declared.kind.Kind.TheVariants.{Mask}
 use Rattle.fancy_index.specs.IndexArrays.{kind_of, axes_of_kind}
 use Rattle.fancy_index.specs.Sources.{number_from}

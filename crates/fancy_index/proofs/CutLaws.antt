@@ -8,24 +8,7 @@ use Rattle.std.proofs.lemmas.List.{take-append-drop}
 use Rattle.std.proofs.lemmas.List.Elements.{All-take, All-drop}
 use Rattle.std.proofs.lemmas.List.Sums.{list_all-from_AllPass}
 use lib.IntN.{ℤ, pos, ◌+ℤ◌, ◌*ℤ◌, +ℤ_idl, +ℤ_idr, +ℤ_assoc}
-use Rattle.elem_descr.specs.declared.refusal.Refusal.{Refusal}
-use Rattle.elem_descr.specs.declared.refusal.Refusal.TheVariants.{OutOfMemory}
-use Rattle.elem_descr.specs.RefusalLaws.{same_answer}
-use Rattle.elem_descr.specs.ListLaws.{slice-rest}
-use Rattle.shape_strides.specs.declared.layout.Layout.{Layout}
-use Rattle.shape_strides.specs.Limits.{max_axes, max_items, max_bytes}
-use Rattle.shape_strides.specs.Indexes.{count, IsIndex}
-use Rattle.shape_strides.specs.Shapes.{shape_of}
-use Rattle.shape_strides.specs.Addresses.{dot, address_at, LieWithin}
-use Rattle.shape_strides.specs.Layouts.{address}
-use Rattle.shape_strides.specs.AxisIndexes.{zero_filled}
-use Rattle.shape_strides.specs.CountLaws.{factors_pos}
-use Rattle.shape_strides.specs.IndexLaws.{length-index, IsIndex-append}
-use Rattle.shape_strides.specs.AxisLaws.{dot-zeros, IsIndex-first}
-use Rattle.shape_strides.specs.ReverseLaws.{count-append}
-use Rattle.shape_strides.specs.ShapeLaws.{shape_of-ok}
-use Rattle.view_ops.specs.Shows.{ShowsThrough}
-use Rattle.view_ops.specs.ViewLaws.{LieWithin-view}
+use Rattle.fancy_index.specs.Words.{Refusal, OutOfMemory, same_answer, slice-rest, Layout, max_axes, max_items, max_bytes, count, IsIndex, shape_of, dot, address_at, LieWithin, address, zero_filled, factors_pos, length-index, IsIndex-append, dot-zeros, IsIndex-first, count-append, shape_of-ok, ShowsThrough, LieWithin-view}
 
 -- ---- sums
 

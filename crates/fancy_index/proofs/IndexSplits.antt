@@ -4,13 +4,8 @@ use Rattle.std.specs.List.{flat_map, range_with_len}
 use Rattle.std.proofs.lemmas.List.Elements.{All-map, All-head, All-tail}
 use Rattle.std.proofs.lemmas.List.Folds.{flat_map-map}
 use Rattle.std.proofs.lemmas.Simd.{map-map}
-use Rattle.shape_strides.specs.declared.layout.Layout.{Layout}
-use Rattle.shape_strides.specs.Addresses.{natural}
-use Rattle.shape_strides.specs.Indexes.{indexes, IsIndex}
-use Rattle.shape_strides.specs.Layouts.{address, offsets}
-use Rattle.shape_strides.specs.IndexLaws.{length-indexes, get_or-indexes, index_at, same_on_indexes}
+use Rattle.fancy_index.specs.Words.{Layout, natural, indexes, IsIndex, address, offsets, length-indexes, get_or-indexes, index_at, same_on_indexes, flat_map_same, flat_map-flat_map, map-flat_map}
 use Rattle.fancy_index.specs.inside.Moved.{moved_offset, shifted, shifted_all, moved_all}
-use Rattle.elem_descr.specs.ListLaws.{flat_map_same, flat_map-flat_map, map-flat_map}
 
 -- ---- what holds of each index
 

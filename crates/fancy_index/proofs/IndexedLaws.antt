@@ -3,12 +3,7 @@ use Rattle.std.proofs.Common.{◌≡◌, ◌⊎◌, inl, inr, Err, ℕ, ◌<◌,
 use Rattle.std.specs.List.{list_all}
 use Rattle.std.proofs.lemmas.Bool.{le-leb}
 use Rattle.std.proofs.lemmas.Bool.Decides.{nat_tests}
-use Rattle.elem_descr.specs.declared.refusal.Refusal.{Refusal}
-use Rattle.elem_descr.specs.declared.refusal.Refusal.TheVariants.{OutOfMemory, NotAnIndexType, TooManyIndices, MaskLengths, ZeroStep, IndexOutOfRange}
-use Rattle.elem_descr.specs.Refusals.{◌>>=◌, check}
-use Rattle.elem_descr.specs.declared.index_item.IndexItem.{IndexItem}
-use Rattle.elem_descr.specs.declared.index_item.IndexItem.TheVariants.{Integer, Slice, Ellipsis, NewAxis, Array}
-use Rattle.view_ops.specs.Basics.{has_step}
+use Rattle.fancy_index.specs.Words.{Refusal, OutOfMemory, NotAnIndexType, TooManyIndices, MaskLengths, ZeroStep, IndexOutOfRange, ◌>>=◌, check, IndexItem, Integer, Slice, Ellipsis, NewAxis, Array, has_step}
 use Rattle.fancy_index.specs.IndexArrays.{IndexArray, with_array, is_index, array_axes_taken, cover, are_within}
 use Rattle.fancy_index.specs.Parts.{parts}
 use Rattle.fancy_index.specs.Indexed.{parts_view, indexed}

@@ -6,19 +6,7 @@ use Rattle.std.proofs.lemmas.List.{length-map, drop-drop, take-append-drop}
 use Rattle.std.proofs.lemmas.List.Elements.{All-map}
 use Rattle.std.proofs.Math.Seq.{take-append_seam, drop-append_seam}
 use lib.IntN.{ℤ, pos, ◌+ℤ◌, +ℤ_idr}
-use Rattle.shape_strides.specs.declared.layout.Layout.{Layout}
-use Rattle.shape_strides.specs.Limits.{max_bytes}
-use Rattle.shape_strides.specs.Indexes.{count, indexes, rank, IsIndex}
-use Rattle.shape_strides.specs.Addresses.{dot, address_at, natural}
-use Rattle.shape_strides.specs.Layouts.{address, offsets}
-use Rattle.shape_strides.specs.AxisIndexes.{zero_filled}
-use Rattle.shape_strides.specs.CountLaws.{factors_pos}
-use Rattle.shape_strides.specs.IndexLaws.{length-index, length-indexes}
-use Rattle.shape_strides.specs.AxisLaws.{dot-zeros, IsIndex-first}
-use Rattle.shape_strides.specs.LayoutLaws.{pos-natural, get_or-offsets}
-use Rattle.shape_strides.specs.ReverseLaws.{count-append}
-use Rattle.view_ops.specs.Basics.{picked_index}
-use Rattle.view_ops.specs.Views.{view_through}
+use Rattle.fancy_index.specs.Words.{Layout, max_bytes, count, indexes, rank, IsIndex, dot, address_at, natural, address, offsets, zero_filled, factors_pos, length-index, length-indexes, dot-zeros, IsIndex-first, pos-natural, get_or-offsets, count-append, picked_index, view_through}
 use Rattle.fancy_index.specs.declared.parts.IndexPart.{IndexPart}
 use Rattle.fancy_index.specs.Parts.{Part, other_axes, side_by_side, axes_before, points_place, leads}
 use Rattle.fancy_index.specs.Indexed.{all_axes, leads_through}

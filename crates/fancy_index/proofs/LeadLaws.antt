@@ -4,19 +4,8 @@ use Rattle.std.proofs.lemmas.Int.{ints}
 use Rattle.std.proofs.lemmas.List.{get_or-map}
 use Rattle.std.proofs.lemmas.List.Elements.{All-head, All-tail, All-cons, All-nil}
 use lib.IntN.{ℤ, pos, ◌+ℤ◌, ◌*ℤ◌, +ℤ_idl, *ℤ-zero}
-use Rattle.shape_strides.specs.Limits.{max_axes}
-use Rattle.shape_strides.specs.Indexes.{count, rank, IsIndex}
-use Rattle.shape_strides.specs.Addresses.{dot}
-use Rattle.shape_strides.specs.AxisIndexes.{zero_filled}
-use Rattle.shape_strides.specs.CountLaws.{factors_pos}
-use Rattle.shape_strides.specs.IndexLaws.{length-index, IsIndex-append}
-use Rattle.view_ops.specs.declared.pick.AxisPick.{AxisPick}
+use Rattle.fancy_index.specs.Words.{max_axes, count, rank, IsIndex, dot, zero_filled, factors_pos, length-index, IsIndex-append, AxisPick, run_numbers, picked_index, pick_shown, ArePicks, length-run, number_at, first_number, can_stretch, broadcast_index}
 use Rattle.view_ops.specs.declared.pick.AxisPick.TheVariants.{At as AtAxis, Along as AlongAxis, New as NewAxis}
-use Rattle.view_ops.specs.Slices.{run_numbers}
-use Rattle.view_ops.specs.Basics.{picked_index}
-use Rattle.view_ops.specs.Picks.{pick_shown, ArePicks}
-use Rattle.view_ops.specs.PickLaws.{length-run, number_at, first_number}
-use Rattle.broadcasting.specs.Broadcasts.{can_stretch, broadcast_index}
 use Rattle.fancy_index.specs.declared.points.PointList.{PointList}
 use Rattle.fancy_index.specs.declared.parts.IndexPart.{IndexPart}
 use Rattle.fancy_index.specs.declared.parts.IndexPart.TheVariants.{Axis as AxisPart, Points as PointsPart, Between as BetweenPart}

@@ -3,15 +3,8 @@ use Rattle.std.proofs.Common.{◌≡◌, Ok, is_ok, ℕ, ℤ, ◌≤◌, Bool, t
 use Rattle.std.specs.List.{list_all, flat_map}
 use Rattle.std.proofs.lemmas.Bool.{and_parts, false≢true}
 use Rattle.std.proofs.lemmas.List.{map-append}
-use Rattle.elem_descr.specs.declared.refusal.Refusal.{Refusal}
-use Rattle.elem_descr.specs.Refusals.{check}
-use Rattle.elem_descr.specs.declared.index_item.IndexItem.{IndexItem}
-use Rattle.elem_descr.specs.declared.index_item.IndexItem.TheVariants.{Integer}
-use Rattle.view_ops.specs.declared.pick.AxisPick.{AxisPick}
+use Rattle.fancy_index.specs.Words.{Refusal, check, IndexItem, Integer, AxisPick, is_place, whole, has_step, pick_shown, ArePicks}
 use Rattle.view_ops.specs.declared.pick.AxisPick.TheVariants.{At as AtAxis, Along as AlongAxis, New as NewAxis}
-use Rattle.view_ops.specs.Slices.{is_place}
-use Rattle.view_ops.specs.Basics.{whole, has_step}
-use Rattle.view_ops.specs.Picks.{pick_shown, ArePicks}
 use Rattle.fancy_index.specs.declared.points.PointList.{PointList}
 use Rattle.fancy_index.specs.declared.parts.IndexPart.{IndexPart}
 use Rattle.fancy_index.specs.declared.parts.IndexPart.TheVariants.{Axis as AxisPart, Points as PointsPart, Between as BetweenPart}

@@ -4,15 +4,7 @@ use Rattle.std.specs.List.{flat_map}
 use Rattle.std.proofs.lemmas.List.{get_or-map, length-map, map-append, drop_more}
 use Rattle.std.proofs.lemmas.Grind.{flat_map-append}
 use Rattle.std.proofs.lemmas.List.Elements.{All-head, All-tail}
-use Rattle.raw_block.specs.Bytes.{put, item_at}
-use Rattle.shape_strides.specs.declared.runs.Run.{Run}
-use Rattle.shape_strides.specs.Addresses.{LieWithin}
-use Rattle.shape_strides.specs.Limits.{max_bytes}
-use Rattle.shape_strides.specs.Runs.{run_offsets}
-use Rattle.shape_strides.specs.WalkLaws.{length-run_offsets}
-use Rattle.arrays.specs.Assignments.{assigned}
-use Rattle.arrays.specs.Joined.{joined_at}
-use Rattle.arrays.specs.RunLaws.{All-back, All-front, assigned-append}
+use Rattle.fancy_index.specs.Words.{put, item_at, Run, LieWithin, max_bytes, run_offsets, length-run_offsets, assigned, joined_at, All-back, All-front, assigned-append}
 use lib.IntN.{pos}
 use Rattle.fancy_index.specs.Plans.{put_each}
 use Rattle.fancy_index.specs.inside.Moved.{moved_offset, shifted_all, moved_all, IsMoved}

@@ -6,7 +6,7 @@ use Rattle.std.proofs.lemmas.List.Elements.{All-get_or}
 use Rattle.std.proofs.lemmas.Nat.{div-add-mod'}
 use Rattle.std.proofs.lemmas.Bool.{cases_lt}
 use Rattle.std.proofs.Math.Nat.{mul_assoc, mul-le-mul_right}
-use Rattle.shape_strides.specs.CountLaws.{factors_pos}
+use Rattle.fancy_index.specs.Words.{factors_pos}
 use Rattle.fancy_index.specs.inside.Moved.{moved_offset, shifted, shifted_all, moved_all, IsMoved, IsStart, AreStarts}
 
 -- ---- lists of one length, one after another

@@ -8,10 +8,7 @@ use Rattle.std.proofs.lemmas.List.{length-map, drop_more}
 use Rattle.std.proofs.lemmas.List.Elements.{All-cons}
 use Rattle.std.proofs.lemmas.Slice.Eq.{bytes_eq-Decides}
 use lib.IntN.{ℤ, pos}
-use Rattle.shape_strides.specs.Indexes.{count, indexes, rank}
-use Rattle.shape_strides.specs.IndexLaws.{get_or-indexes, length-indexes}
-use Rattle.shape_strides.specs.AxisLaws.{axis_below}
-use Rattle.view_ops.specs.Slices.{from_front, is_place}
+use Rattle.fancy_index.specs.Words.{count, indexes, rank, get_or-indexes, length-indexes, axis_below, from_front, is_place}
 use Rattle.fancy_index.specs.declared.points.PointList.{PointList}
 use Rattle.fancy_index.specs.declared.kind.Kind.{Kind}
 use Rattle.fancy_index.specs.declared.kind.Kind.TheVariants.{Integers, Mask, NoIndex}

@@ -5,12 +5,7 @@ use Rattle.std.proofs.lemmas.Bool.{false≢true}
 use Rattle.std.proofs.lemmas.List.{drop_more, drop_all, append-nil, map-append}
 use Rattle.std.proofs.lemmas.List.Folds.{list_all-append}
 use lib.IntN.{ℤ, pos}
-use Rattle.elem_descr.specs.declared.refusal.Refusal.{Refusal}
-use Rattle.elem_descr.specs.declared.refusal.Refusal.TheVariants.{OutOfMemory, IndexOutOfRange}
-use Rattle.elem_descr.specs.Refusals.{check}
-use Rattle.shape_strides.specs.declared.runs.Run.{Run}
-use Rattle.shape_strides.specs.Runs.{run_offsets}
-use Rattle.view_ops.specs.Slices.{is_place}
+use Rattle.fancy_index.specs.Words.{Refusal, OutOfMemory, IndexOutOfRange, check, Run, run_offsets, is_place}
 use Rattle.fancy_index.specs.inside.PointLists.{place_of, named_place, named_places}
 use Rattle.fancy_index.specs.inside.Words.{ArePushed}
 use Rattle.fancy_index.proofs.WordLaws.{is_named, names_none, one_names_none}

@@ -4,14 +4,9 @@ use Rattle.std.specs.List.{flat_map}
 use Rattle.std.proofs.lemmas.List.{take_all, drop_all, length-map, get_or-append_right, get_or-drop}
 use Rattle.std.proofs.lemmas.List.Elements.{All-head, All-tail}
 use lib.IntN.{pos, ◌+ℤ◌, ◌*ℤ◌}
-use Rattle.shape_strides.specs.Indexes.{count}
-use Rattle.shape_strides.specs.Layouts.{offsets}
-use Rattle.shape_strides.specs.LayoutLaws.{length-offsets}
-use Rattle.shape_strides.specs.Limits.{max_bytes}
-use Rattle.shape_strides.specs.Runs.{run_offsets}
+use Rattle.fancy_index.specs.Words.{count, offsets, length-offsets, max_bytes, run_offsets, BeginsWithin}
 use Rattle.fancy_index.specs.declared.ranks.RunAt.{RunAt}
 use Rattle.fancy_index.specs.inside.Ranks.{IsAtRun}
-use Rattle.arrays.specs.RunLaws.{BeginsWithin}
 use Rattle.fancy_index.proofs.RunLaws.{first-low, steps-low, steps-high, lies-there}
 use Rattle.fancy_index.proofs.SumLaws.{NextRun, next_run}
 

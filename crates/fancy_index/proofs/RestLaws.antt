@@ -3,19 +3,8 @@ use Rattle.std.proofs.Common.{◌≡◌, Result, Ok, Err, ℕ, ◌<◌, ◌≤�
 use Rattle.std.specs.Result.{IfOk, IfErr}
 use Rattle.std.proofs.lemmas.Bool.{le-leb}
 use Rattle.std.proofs.lemmas.List.{get_or-map}
-use Rattle.elem_descr.specs.declared.refusal.Refusal.{Refusal}
-use Rattle.elem_descr.specs.declared.refusal.Refusal.TheVariants.{OutOfMemory}
-use Rattle.shape_strides.specs.declared.layout.Layout.{Layout}
-use Rattle.shape_strides.specs.Limits.{max_axes}
-use Rattle.shape_strides.specs.Indexes.{indexes, rank, IsIndex}
-use Rattle.shape_strides.specs.Layouts.{address, offsets}
-use Rattle.shape_strides.specs.IndexLaws.{length-indexes, rank-lt, get_or-indexes}
-use Rattle.shape_strides.specs.LayoutLaws.{pos-offset}
-use Rattle.view_ops.specs.declared.pick.AxisPick.{AxisPick}
+use Rattle.fancy_index.specs.Words.{Refusal, OutOfMemory, Layout, max_axes, indexes, rank, IsIndex, address, offsets, length-indexes, rank-lt, get_or-indexes, pos-offset, AxisPick, axis_of, picked_shape, picked_index, shape_picked, picked_view, pick_shown, View, IsViewOf, GivesView}
 use Rattle.view_ops.specs.declared.pick.AxisPick.TheVariants.{At as AtAxis}
-use Rattle.view_ops.specs.Basics.{axis_of, picked_shape, picked_index, shape_picked, picked_view}
-use Rattle.view_ops.specs.Picks.{pick_shown}
-use Rattle.view_ops.specs.Views.{View, IsViewOf, GivesView}
 use Rattle.fancy_index.specs.declared.parts.IndexPart.{IndexPart}
 use Rattle.fancy_index.specs.declared.parts.IndexPart.TheVariants.{Axis as AxisPart, Points as PointsPart, Between as BetweenPart}
 use Rattle.fancy_index.specs.Parts.{other_axes}

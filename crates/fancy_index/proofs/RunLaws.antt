@@ -4,14 +4,7 @@ use Rattle.std.proofs.lemmas.Int.{ints}
 use Rattle.std.proofs.lemmas.List.{length-map, get_or-map, get_or_default, same_lists}
 use Rattle.std.proofs.lemmas.List.Elements.{All-get_or}
 use lib.IntN.{ℤ, pos, nat_abs, ◌+ℤ◌, ◌*ℤ◌, zero-*ℤ, *ℤ-zero, +ℤ_idr}
-use Rattle.raw_block.specs.Bytes.{position, place, EachWithin}
-use Rattle.raw_block.specs.BytesLaws.{not_negative}
-use Rattle.shape_strides.specs.declared.runs.Run.{Run}
-use Rattle.shape_strides.specs.Addresses.{natural, LieWithin}
-use Rattle.shape_strides.specs.Limits.{max_bytes}
-use Rattle.shape_strides.specs.Runs.{run_offsets}
-use Rattle.shape_strides.specs.WalkLaws.{length-run_offsets}
-use Rattle.arrays.specs.RunLaws.{nth-offset, place-at, lie-within}
+use Rattle.fancy_index.specs.Words.{position, place, EachWithin, not_negative, Run, natural, LieWithin, max_bytes, run_offsets, length-run_offsets, nth-offset, place-at, lie-within}
 use Rattle.fancy_index.specs.inside.Moved.{moved_offset, IsMoved}
 use Rattle.arrays.specs.Packed.{row_offsets as packed}
 

@@ -1,10 +1,6 @@
 -- Points of an index of the common lengths.
 use Rattle.std.proofs.Common.{◌≡◌, ℕ, ◌<◌, List, [], length, get_or, All, sym, ap, subst, ◌∙◌, arith}
-use Rattle.shape_strides.specs.Indexes.{count, rank, IsIndex}
-use Rattle.shape_strides.specs.IndexLaws.{length-index, rank-lt, get_or-indexes, index_at}
-use Rattle.broadcasting.specs.Broadcasts.{broadcast_index}
-use Rattle.broadcasting.specs.BroadcastLaws.{IsIndex-broadcast}
-use Rattle.broadcasting.specs.FitLaws.{few-axes}
+use Rattle.fancy_index.specs.Words.{count, rank, IsIndex, length-index, rank-lt, get_or-indexes, index_at, broadcast_index, IsIndex-broadcast, few-axes}
 use Rattle.fancy_index.specs.declared.points.PointList.{PointList}
 use Rattle.fancy_index.specs.declared.parts.IndexPart.{IndexPart}
 use Rattle.fancy_index.specs.declared.parts.IndexPart.TheVariants.{Axis as AxisPart, Points as PointsPart, Between as BetweenPart}

@@ -1,12 +1,7 @@
 -- Single items that are gathered, scattered and filled.
 use Rattle.std.proofs.Common.{◌≡◌, ℕ, ◌+◌, ◌-◌, ◌<◌, ◌≤◌, List, [], ◌∷◌, ◌++◌, map, length, get_or, drop, refl, sym, ap, ◌∙◌, arith, append-nil}
 use Rattle.std.proofs.lemmas.List.{drop_more}
-use Rattle.raw_block.specs.Bytes.{put, item_at}
-use Rattle.shape_strides.specs.declared.layout.Layout.{Layout}
-use Rattle.shape_strides.specs.Indexes.{count}
-use Rattle.shape_strides.specs.Layouts.{offsets}
-use Rattle.shape_strides.specs.LayoutLaws.{length-offsets, entry-first}
-use Rattle.arrays.specs.Assignments.{assigned}
+use Rattle.fancy_index.specs.Words.{put, item_at, Layout, count, offsets, length-offsets, entry-first, assigned}
 use Rattle.fancy_index.specs.inside.Moved.{moved_offset, shifted_all}
 use Rattle.arrays.specs.Packed.{row_offsets as packed}
 use Rattle.fancy_index.proofs.GatherLaws.{packed-suc}

@@ -7,19 +7,7 @@ use Rattle.std.proofs.lemmas.Bool.{false≢true, and_parts}
 use Rattle.std.proofs.lemmas.Bool.Decides.{nat_tests}
 use Rattle.std.proofs.lemmas.List.Elements.{All-head, All-tail, All-cons, All-nil, All-take, All-drop}
 use Rattle.std.proofs.lemmas.List.FromFn.{get_or-map-range_with_len}
-use Rattle.elem_descr.specs.declared.refusal.Refusal.{Refusal}
-use Rattle.elem_descr.specs.declared.refusal.Refusal.TheVariants.{OutOfMemory}
-use Rattle.shape_strides.specs.declared.layout.Layout.{Layout}
-use Rattle.shape_strides.specs.Limits.{max_items}
-use Rattle.shape_strides.specs.Indexes.{count, rank}
-use Rattle.shape_strides.specs.Layouts.{offsets, multiples}
-use Rattle.shape_strides.specs.Shapes.{IsShape}
-use Rattle.shape_strides.specs.CountLaws.{factors_pos}
-use Rattle.shape_strides.specs.IndexLaws.{rank-lt, same_on_indexes}
-use Rattle.view_ops.specs.Views.{IsViewOf, GivesView}
-use Rattle.broadcasting.specs.Broadcasts.{stretches, all_stretch, can_stretch, stretched, broadcast_index}
-use Rattle.broadcasting.specs.BroadcastLaws.{stretched-ok}
-use Rattle.broadcasting.specs.FitLaws.{few-axes}
+use Rattle.fancy_index.specs.Words.{Refusal, OutOfMemory, Layout, max_items, count, rank, offsets, multiples, IsShape, factors_pos, rank-lt, same_on_indexes, IsViewOf, GivesView, stretches, all_stretch, can_stretch, stretched, broadcast_index, stretched-ok, few-axes}
 use Rattle.fancy_index.specs.inside.Sums.{stretched_ranks}
 use Rattle.fancy_index.proofs.CutLaws.{some-before, few-before, few-behind, only-memory}
 

@@ -1,11 +1,8 @@
 -- The numbers of arrays, as they are read.
 use Rattle.std.proofs.Common.{◌≡◌, ℕ, ◌-◌, ℤ, List, length, take, drop, sym, ap, ◌∙◌, arith, take_all, length-drop}
 use Rattle.std.proofs.lemmas.List.{take-take}
-use Rattle.elem_descr.specs.declared.descr.Descr.{Descr}
+use Rattle.fancy_index.specs.Words.{Descr, Scalar, number, size, decode, number_of}
 use Rattle.elem_descr.specs.declared.descr.Descr.TheVariants.{Scalar as ScalarDescr}
-use Rattle.elem_descr.specs.declared.scalar.Scalar.{Scalar}
-use Rattle.elem_descr.specs.Values.{number}
-use Rattle.elem_descr.specs.Encoding.{size, decode, number_of}
 use Rattle.fancy_index.specs.Sources.{number_from}
 
 -- the number of an item that is a scalar

@@ -6,17 +6,8 @@ use Rattle.std.proofs.lemmas.Grind.{flat_map-append}
 use Rattle.std.proofs.lemmas.List.{drop_more, take_more, take_all, drop_all, same_lists, get_or-map, length-map, take-append-drop, get_or_default}
 use Rattle.std.proofs.lemmas.List.Elements.{All-head, All-tail, All-take, All-drop}
 use lib.IntN.{ℤ, pos, ◌+ℤ◌}
-use Rattle.shape_strides.specs.declared.layout.Layout.{Layout}
-use Rattle.shape_strides.specs.Limits.{max_bytes}
-use Rattle.shape_strides.specs.Indexes.{count, indexes, rank, IsIndex}
-use Rattle.shape_strides.specs.Addresses.{dot, natural}
-use Rattle.shape_strides.specs.Layouts.{address, offsets}
-use Rattle.shape_strides.specs.IndexLaws.{length-index, length-indexes, index_at, rank-lt, IsIndex-append}
-use Rattle.shape_strides.specs.LayoutLaws.{pos-natural}
-use Rattle.view_ops.specs.Picks.{first_of}
+use Rattle.fancy_index.specs.Words.{Layout, max_bytes, count, indexes, rank, IsIndex, dot, natural, address, offsets, length-index, length-indexes, index_at, rank-lt, IsIndex-append, pos-natural, first_of, can_stretch, broadcast_index, broadcast_index-itself, IsIndex-broadcast}
 use Rattle.view_ops.specs.declared.pick.AxisPick.TheVariants.{At as AtAxis, Along as AlongAxis, New as NewAxis}
-use Rattle.broadcasting.specs.Broadcasts.{can_stretch, broadcast_index}
-use Rattle.broadcasting.specs.BroadcastLaws.{broadcast_index-itself, IsIndex-broadcast}
 use Rattle.fancy_index.specs.declared.points.PointList.{PointList}
 use Rattle.fancy_index.specs.declared.parts.IndexPart.{IndexPart}
 use Rattle.fancy_index.specs.declared.parts.IndexPart.TheVariants.{Axis as AxisPart, Points as PointsPart, Between as BetweenPart}

@@ -1,21 +1,9 @@
 -- Index lists with arrays over items that are numbered in C order: what is taken is what NumPy takes, and refusals come in the order told.
 use Rattle.std.specs.Prelude.{◌≡◌, ℕ, pos, negsuc, true, Some, None, List, [], ◌∷◌, Result, Ok, Err, replicate, refl}
 use Rattle.std.specs.List.{range_with_len}
-use Rattle.elem_descr.specs.declared.refusal.Refusal.{Refusal}
-use Rattle.elem_descr.specs.declared.refusal.Refusal.TheVariants.{TooManyAxes, TooLarge, NotAnIndexType, TooManyIndices, MaskLengths, ZeroStep, IndexOutOfRange, IndexShapes}
-use Rattle.elem_descr.specs.declared.descr.Descr.{Descr}
+use Rattle.fancy_index.specs.Words.{Refusal, TooManyAxes, TooLarge, NotAnIndexType, TooManyIndices, MaskLengths, ZeroStep, IndexOutOfRange, IndexShapes, Descr, Byte, Bytes, ◌>>=◌, stepped, IndexItem, Integer, Slice, Ellipsis, NewAxis, Array, count, shape_of, slice_indices, New, view_through, common_of_two}
 use Rattle.elem_descr.specs.declared.descr.Descr.TheVariants.{Scalar as ScalarDescr}
-use Rattle.elem_descr.specs.declared.scalar.Scalar.TheVariants.{Bool as BoolScalar, Byte, Bytes}
-use Rattle.elem_descr.specs.Refusals.{◌>>=◌}
-use Rattle.elem_descr.specs.Steps.{stepped}
-use Rattle.elem_descr.specs.declared.index_item.IndexItem.{IndexItem}
-use Rattle.elem_descr.specs.declared.index_item.IndexItem.TheVariants.{Integer, Slice, Ellipsis, NewAxis, Array}
-use Rattle.shape_strides.specs.Indexes.{count}
-use Rattle.shape_strides.specs.Shapes.{shape_of}
-use Rattle.view_ops.specs.Slices.{slice_indices}
-use Rattle.view_ops.specs.Basics.{New}
-use Rattle.view_ops.specs.Views.{view_through}
-use Rattle.broadcasting.specs.Broadcasts.{common_of_two}
+use Rattle.elem_descr.specs.declared.scalar.Scalar.TheVariants.{Bool as BoolScalar}
 use Rattle.fancy_index.specs.IndexArrays.{IndexArray, with_arrays}
 use Rattle.fancy_index.specs.Parts.{Axis, Points}
 use Rattle.fancy_index.specs.Indexed.{indexed, parts_view}

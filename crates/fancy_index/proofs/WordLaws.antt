@@ -6,17 +6,7 @@ use Rattle.std.proofs.lemmas.List.{same_lists, get_or-map, length-map, drop_more
 use Rattle.std.proofs.Math.ListN.{length-set}
 use Rattle.std.proofs.Math.Nat.{mul-suc}
 use lib.IntN.{ℤ, pos}
-use Rattle.elem_descr.specs.declared.descr.Descr.{Descr}
-use Rattle.elem_descr.specs.declared.refusal.Refusal.{Refusal}
-use Rattle.elem_descr.specs.declared.refusal.Refusal.TheVariants.{OutOfMemory, IndexOutOfRange}
-use Rattle.elem_descr.specs.Encoding.{integer, number_in}
-use Rattle.elem_descr.specs.Refusals.{check}
-use Rattle.raw_block.specs.Bytes.{item_at}
-use Rattle.raw_block.specs.NumberRuns.{signed_number}
-use Rattle.shape_strides.specs.declared.runs.Run.{Run}
-use Rattle.shape_strides.specs.Runs.{run_offsets}
-use Rattle.shape_strides.specs.WalkLaws.{length-run_offsets}
-use Rattle.view_ops.specs.Slices.{is_place}
+use Rattle.fancy_index.specs.Words.{Descr, Refusal, OutOfMemory, IndexOutOfRange, integer, number_in, check, item_at, signed_number, Run, run_offsets, length-run_offsets, is_place}
 use Rattle.fancy_index.specs.Sources.{number_from}
 use Rattle.fancy_index.specs.declared.words.Reading.{Reading}
 use Rattle.fancy_index.specs.declared.words.Spread.{Spread}

@@ -2,13 +2,9 @@
 use Rattle.std.specs.Prelude.{ℕ, ◌-◌, Bool, true, false, ℤ, List, [], ◌∷◌, map, take, drop, length, sum_by, get_or}
 use Rattle.std.specs.Str.{bytes_eq}
 use Rattle.std.specs.List.{list_all}
-use Rattle.elem_descr.specs.declared.descr.Descr.{Descr}
+use Rattle.fancy_index.specs.Words.{Descr, Byte, Int, IndexItem, Integer, Slice, Ellipsis, NewAxis, Array, is_place, Placed, is_on_axis}
 use Rattle.elem_descr.specs.declared.descr.Descr.TheVariants.{Scalar as ScalarDescr}
-use Rattle.elem_descr.specs.declared.scalar.Scalar.TheVariants.{Bool as BoolScalar, Byte, Int}
-use Rattle.elem_descr.specs.declared.index_item.IndexItem.{IndexItem}
-use Rattle.elem_descr.specs.declared.index_item.IndexItem.TheVariants.{Integer, Slice, Ellipsis, NewAxis, Array}
-use Rattle.view_ops.specs.Slices.{is_place}
-use Rattle.view_ops.specs.Basics.{Placed, is_on_axis}
+use Rattle.elem_descr.specs.declared.scalar.Scalar.TheVariants.{Bool as BoolScalar}
 use Rattle.fancy_index.specs.declared.kind.Kind.{Kind}
 use Rattle.fancy_index.specs.declared.kind.Kind.TheVariants.{Integers, Mask, NoIndex}
 

@@ -1,14 +1,7 @@
 -- What an index list with arrays shows of an array, as NumPy's integer and boolean indexing has it.
 use Rattle.std.specs.Prelude.{ℕ, ◌+◌, nat_le, List, [], ◌++◌, take, drop, length, Result, Ok, Err}
 use Rattle.std.specs.List.{list_all}
-use Rattle.elem_descr.specs.declared.refusal.Refusal.{Refusal}
-use Rattle.elem_descr.specs.declared.refusal.Refusal.TheVariants.{NotAnIndexType, TooManyIndices, MaskLengths, ZeroStep, IndexOutOfRange, IndexShapes}
-use Rattle.elem_descr.specs.Refusals.{◌>>=◌, check}
-use Rattle.elem_descr.specs.declared.index_item.IndexItem.{IndexItem}
-use Rattle.shape_strides.specs.Shapes.{shape_of}
-use Rattle.view_ops.specs.Basics.{has_step}
-use Rattle.view_ops.specs.Views.{View}
-use Rattle.broadcasting.specs.Broadcasts.{common_with}
+use Rattle.fancy_index.specs.Words.{Refusal, NotAnIndexType, TooManyIndices, MaskLengths, ZeroStep, IndexOutOfRange, IndexShapes, ◌>>=◌, check, IndexItem, shape_of, has_step, View, common_with}
 use Rattle.fancy_index.specs.IndexArrays.{IndexArray, is_index, array_axes_taken, cover, are_within}
 use Rattle.fancy_index.specs.Parts.{Part, parts, point_shapes, other_axes, points_place, leads}
 

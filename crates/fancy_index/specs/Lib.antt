@@ -5,3 +5,4 @@ pub mod Sources
 pub mod Plans
 pub mod inside
 pub mod PlanLaws
+pub mod Words

@@ -2,13 +2,7 @@
 use Rattle.std.specs.Prelude.{ℕ, ◌+◌, Bool, true, false, not, if◌then◌else◌, ℤ, pos, List, [], ◌∷◌, ◌++◌, map, length, slice_index, get_or}
 use Rattle.std.specs.Ordering.{int_eq}
 use Rattle.std.specs.List.{list_any, flat_map}
-use Rattle.elem_descr.specs.declared.index_item.IndexItem.{IndexItem}
-use Rattle.elem_descr.specs.declared.index_item.IndexItem.TheVariants.{Integer, Ellipsis, Array}
-use Rattle.shape_strides.specs.Addresses.{natural}
-use Rattle.shape_strides.specs.Indexes.{indexes, rank}
-use Rattle.view_ops.specs.Slices.{from_front}
-use Rattle.view_ops.specs.Basics.{Pick, At, Along, New, whole, picks_of, axis_of}
-use Rattle.broadcasting.specs.Broadcasts.{broadcast_index}
+use Rattle.fancy_index.specs.Words.{IndexItem, Integer, Ellipsis, Array, natural, indexes, rank, from_front, Pick, At, Along, New, whole, picks_of, axis_of, broadcast_index}
 use Rattle.fancy_index.specs.IndexArrays.{IndexArray, kind, placed_arrays, left_over}
 use Rattle.fancy_index.specs.declared.kind.Kind.{Kind}
 use Rattle.fancy_index.specs.declared.kind.Kind.TheVariants.{Integers, Mask}

@@ -1,10 +1,6 @@
 -- Laws of what a plan writes.
 use Rattle.std.proofs.Common.{◌≡◌, ℕ, zero, suc, ℤ, List, [], ◌∷◌, ◌++◌, length, refl, sym, ap, ◌∙◌}
-use Rattle.raw_block.specs.Bytes.{put, place, EachWithin, filled}
-use Rattle.raw_block.specs.BytesLaws.{fewer}
-use Rattle.shape_strides.specs.declared.runs.Run.{Run}
-use Rattle.shape_strides.specs.Runs.{run_offsets}
-use Rattle.arrays.specs.RunLaws.{run_offsets-more}
+use Rattle.fancy_index.specs.Words.{put, place, EachWithin, filled, fewer, Run, run_offsets, run_offsets-more}
 use Rattle.fancy_index.specs.Plans.{put_each}
 
 -- an item written to some offsets, and then to others

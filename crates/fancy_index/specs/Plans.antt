@@ -1,12 +1,6 @@
 -- Plans: the items of a buffer to which an index list with arrays leads.
 use Rattle.std.specs.Prelude.{◌≡◌, ◌⊎◌, ℕ, List, [], ◌∷◌, Result, Ok, Err}
-use Rattle.raw_block.specs.Bytes.{put}
-use Rattle.elem_descr.specs.declared.refusal.Refusal.{Refusal}
-use Rattle.elem_descr.specs.declared.refusal.Refusal.TheVariants.{OutOfMemory}
-use Rattle.shape_strides.specs.declared.layout.Layout.{Layout}
-use Rattle.shape_strides.specs.Indexes.{IsIndex}
-use Rattle.shape_strides.specs.Layouts.{offsets}
-use Rattle.view_ops.specs.Views.{View, view_through}
+use Rattle.fancy_index.specs.Words.{put, Refusal, OutOfMemory, Layout, IsIndex, offsets, View, view_through}
 
 -- what a plan shows: its shape, and the offsets of its items in C order
 pub record Planned : Type 0 where

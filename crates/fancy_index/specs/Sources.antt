@@ -1,13 +1,6 @@
 -- The arrays of an index list, as their items lie in blocks.
 use Rattle.std.specs.Prelude.{ℕ, ◌+◌, ◌<◌, ◌≤◌, ℤ, pos, List, [], ◌∷◌, map, length, All}
-use Rattle.elem_descr.specs.declared.descr.Descr.{Descr}
-use Rattle.elem_descr.specs.Values.{LeafValue}
-use Rattle.elem_descr.specs.Encoding.{number_of}
-use Rattle.elem_descr.specs.Items.{item_size}
-use Rattle.elem_descr.specs.Blocks.{item_from}
-use Rattle.elem_descr.specs.declared.index_item.IndexItem.{IndexItem}
-use Rattle.elem_descr.specs.declared.index_item.IndexItem.TheVariants.{Array}
-use Rattle.shape_strides.specs.Layouts.{offsets}
+use Rattle.fancy_index.specs.Words.{Descr, LeafValue, number_of, item_size, item_from, IndexItem, Array, offsets}
 use Rattle.fancy_index.specs.declared.source.Indices.{Indices}
 use Rattle.fancy_index.specs.IndexArrays.{IndexArray, with_arrays}
 

@@ -1,9 +1,6 @@
 //! The axes of the result: those of the points among the others.
 ghost use Rattle.std.specs.Prelude.{◌≡◌, ◌≤◌, ◌++◌, length, map, IfOk, OnOk};
-ghost use Rattle.elem_descr.specs.Refusals.{Gives};
-ghost use Rattle.shape_strides.specs.Shapes.{shape_of};
-ghost use Rattle.view_ops.specs.Basics.{axis_of};
-ghost use Rattle.view_ops.specs.Picks.{pick_shown};
+ghost use Rattle.fancy_index.specs.Words.{Gives, shape_of, axis_of, pick_shown};
 ghost use Rattle.fancy_index.specs.Parts.{axes_of_part, other_axes, points_place};
 ghost use Rattle.fancy_index.specs.Indexed.{all_axes};
 ghost use Rattle.fancy_index.specs.inside.PartLists.{shown_part};

@@ -1,6 +1,6 @@
 //! The ranks at which masks are true.
 ghost use Rattle.std.specs.Prelude.{◌≡◌, ◌+◌, ◌≤◌, ◌++◌, length, take, drop, IfOk, OnOk};
-ghost use Rattle.elem_descr.specs.Encoding.{truth};
+ghost use Rattle.fancy_index.specs.Words.{truth};
 ghost use Rattle.fancy_index.specs.declared.kind.Kind.TheVariants.{Mask};
 ghost use Rattle.fancy_index.specs.Sources.{LiesInBlock};
 ghost use Rattle.fancy_index.specs.inside.Items.{kind_in, numbers_in};

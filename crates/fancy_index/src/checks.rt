@@ -1,7 +1,7 @@
 //! The checks of an index list with arrays, each of which covers the whole list.
 ghost use Rattle.std.specs.Prelude.{◌≡◌, ◌≤◌, length, nat_le, All, IfOk, IfErr, Err};
 ghost use Rattle.std.specs.List.{list_all};
-ghost use Rattle.shape_strides.specs.Limits.{max_axes};
+ghost use Rattle.fancy_index.specs.Words.{max_axes};
 ghost use Rattle.fancy_index.specs.IndexArrays.{is_index, array_axes_taken, covers, cover};
 ghost use Rattle.fancy_index.specs.Indexed.{indexed};
 ghost use Rattle.fancy_index.specs.Sources.{LiesInBlock, IsNamed, index_items};

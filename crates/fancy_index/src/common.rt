@@ -1,7 +1,6 @@
 //! The common lengths of points.
 ghost use Rattle.std.specs.Prelude.{map};
-ghost use Rattle.elem_descr.specs.Refusals.{Gives};
-ghost use Rattle.broadcasting.specs.Broadcasts.{common_with};
+ghost use Rattle.fancy_index.specs.Words.{Gives, common_with};
 ghost use Rattle.fancy_index.specs.Parts.{shapes_of_part};
 ghost use Rattle.fancy_index.specs.Indexed.{as_index_shapes, points_shape};
 ghost use Rattle.fancy_index.specs.inside.PartLists.{shown_part};

@@ -1,6 +1,6 @@
 //! The items to which a plan leads, pushed to a block where they lie one after another.
 ghost use Rattle.std.specs.Prelude.{◌≡◌, ◌+◌, ◌*◌, ◌≤◌, ◌++◌, length, All};
-ghost use Rattle.arrays.specs.Joined.{joined_at};
+ghost use Rattle.fancy_index.specs.Words.{joined_at};
 ghost use Rattle.fancy_index.specs.inside.Kept.{offsets_from, moved_offsets, shifted_offsets};
 
 use crate::rows::{MovedLayout, PlanAxes, Shifted, moved};

@@ -1,8 +1,6 @@
 //! The parts that the items of an index list stand for.
 ghost use Rattle.std.specs.Prelude.{◌≡◌, ◌≤◌, ◌∷◌, length, map, true, false, All, IfOk, OnOk};
-ghost use Rattle.shape_strides.specs.Limits.{max_items};
-ghost use Rattle.elem_descr.specs.IndexItems.{is_ellipsis};
-ghost use Rattle.view_ops.specs.Basics.{has_step};
+ghost use Rattle.fancy_index.specs.Words.{max_items, is_ellipsis, has_step};
 ghost use Rattle.fancy_index.specs.IndexArrays.{is_index, item_axes, covers, is_within, are_within};
 ghost use Rattle.fancy_index.specs.Parts.{Between, wholes, parts_of, parts};
 ghost use Rattle.fancy_index.specs.inside.Items.{index_item_of, ItemsLieInBlock, IsWithin};

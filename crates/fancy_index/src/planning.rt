@@ -1,7 +1,6 @@
 //! Plans of index lists with arrays.
 ghost use Rattle.std.specs.Prelude.{◌≡◌, ◌<◌, [], length, map, All, IfOk, IfErr};
-ghost use Rattle.elem_descr.specs.declared.refusal.Refusal.TheVariants.{OutOfMemory};
-ghost use Rattle.shape_strides.specs.Indexes.{count};
+ghost use Rattle.fancy_index.specs.Words.{OutOfMemory, count};
 ghost use Rattle.fancy_index.specs.Indexed.{all_axes, view_of, parts_view, indexed};
 ghost use Rattle.fancy_index.specs.Sources.{LiesInBlock, IsNamed, index_items};
 ghost use Rattle.fancy_index.specs.Plans.{IsPlanOf, GivesPlan};

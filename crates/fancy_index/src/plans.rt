@@ -1,14 +1,6 @@
 //! Plans: where in a buffer the items are that an index list with arrays takes.
 ghost use Rattle.std.specs.Prelude.{◌≡◌, ◌+◌, ◌*◌, ◌<◌, ◌≤◌, length, map, nat_le, pos, slice_index, if◌then◌else◌, All, IfOk, IfErr, IsTrue};
-ghost use Rattle.elem_descr.specs.declared.refusal.Refusal.TheVariants.{OutOfMemory, TooLarge};
-ghost use Rattle.elem_descr.specs.Blocks.{item_from};
-ghost use Rattle.elem_descr.specs.Items.{item_size};
-ghost use Rattle.elem_descr.specs.declared.memory_order.MemoryOrder.TheVariants.{C};
-ghost use Rattle.shape_strides.specs.Limits.{max_bytes, max_items};
-ghost use Rattle.shape_strides.specs.Indexes.{count};
-ghost use Rattle.shape_strides.specs.Layouts.{offsets, multiples};
-ghost use Rattle.arrays.specs.Assignments.{items_at, assigned};
-ghost use Rattle.arrays.specs.Blocks.{offsets_in};
+ghost use Rattle.fancy_index.specs.Words.{OutOfMemory, TooLarge, item_from, item_size, C, max_bytes, max_items, count, offsets, multiples, items_at, assigned, offsets_in};
 ghost use Rattle.fancy_index.specs.Plans.{put_each};
 ghost use Rattle.fancy_index.specs.inside.Moved.{laid_offsets, AllStart};
 ghost use Rattle.fancy_index.specs.inside.Kept.{offsets_from};

@@ -1,8 +1,6 @@
 //! Points on some axes: those of an integer, of an array of integers and of a mask.
 ghost use Rattle.std.specs.Prelude.{◌≡◌, ◌≢◌, ◌≤◌, [], ◌∷◌, length, map, pos, true, All, IfOk};
-ghost use Rattle.elem_descr.specs.Refusals.{Gives};
-ghost use Rattle.shape_strides.specs.Limits.{max_items};
-ghost use Rattle.view_ops.specs.Slices.{is_place};
+ghost use Rattle.fancy_index.specs.Words.{Gives, max_items, is_place};
 ghost use Rattle.fancy_index.specs.declared.kind.Kind.TheVariants.{Mask, NoIndex};
 ghost use Rattle.fancy_index.specs.IndexArrays.{item_axes, covers, is_within};
 ghost use Rattle.fancy_index.specs.Parts.{parts_of};

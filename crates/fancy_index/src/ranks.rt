@@ -1,10 +1,6 @@
 //! Ranks of a layout's items that become their offsets.
 ghost use Rattle.std.specs.Prelude.{◌≡◌, ◌+◌, ◌<◌, ◌≤◌, [], ◌∷◌, length, slice_index, All};
-ghost use Rattle.shape_strides.specs.Addresses.{LieWithin};
-ghost use Rattle.shape_strides.specs.Indexes.{count};
-ghost use Rattle.shape_strides.specs.Layouts.{offsets};
-ghost use Rattle.shape_strides.specs.Limits.{max_bytes, max_items};
-ghost use Rattle.shape_strides.specs.Runs.{run_offsets};
+ghost use Rattle.fancy_index.specs.Words.{LieWithin, count, offsets, max_bytes, max_items, run_offsets};
 ghost use Rattle.fancy_index.specs.inside.Ranks.{led, IsAtRun};
 
 use shape_strides::{Layout, Run, Runs};

@@ -1,10 +1,7 @@
 //! The axes other than those of the points, with all points at 0.
 ghost use Rattle.std.specs.Prelude.{◌≡◌, ◌<◌, ◌≤◌, ◌++◌, map, length, take, drop, IfOk, IfErr, OnOk};
-ghost use Rattle.elem_descr.specs.declared.refusal.Refusal.TheVariants.{OutOfMemory};
-ghost use Rattle.shape_strides.specs.Limits.{max_axes};
-ghost use Rattle.shape_strides.specs.Indexes.{count};
+ghost use Rattle.fancy_index.specs.Words.{OutOfMemory, max_axes, count, ArePicks};
 ghost use Rattle.view_ops.specs.declared.pick.AxisPick.TheVariants.{At as AtAxis};
-ghost use Rattle.view_ops.specs.Picks.{ArePicks};
 ghost use Rattle.fancy_index.specs.Parts.{other_axes};
 ghost use Rattle.fancy_index.specs.inside.PartLists.{shown_part, rest_of, rest_picks, IsRest};
 

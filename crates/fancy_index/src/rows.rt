@@ -1,7 +1,6 @@
 //! The axes of a plan, and the items to which they lead, row by row.
 ghost use Rattle.std.specs.Prelude.{◌≡◌, ◌<◌, ◌≤◌, All};
-ghost use Rattle.shape_strides.specs.Limits.{max_bytes};
-ghost use Rattle.shape_strides.specs.Layouts.{offsets};
+ghost use Rattle.fancy_index.specs.Words.{max_bytes, offsets};
 ghost use Rattle.fancy_index.specs.inside.Moved.{moved_offset, IsMoved, AreStarts, AllStart};
 
 use shape_strides::Layout;

@@ -1,9 +1,6 @@
 //! Runs that are moved to another start, and items that are filled, run by run.
 ghost use Rattle.std.specs.Prelude.{◌≡◌, [], ◌∷◌, ◌+◌, ◌≤◌, ℕ, length, map, All};
-ghost use Rattle.raw_block.specs.Bytes.{EachWithin};
-ghost use Rattle.shape_strides.specs.Addresses.{LieWithin};
-ghost use Rattle.shape_strides.specs.Limits.{max_bytes};
-ghost use Rattle.shape_strides.specs.Runs.{run_offsets};
+ghost use Rattle.fancy_index.specs.Words.{EachWithin, LieWithin, max_bytes, run_offsets};
 ghost use Rattle.fancy_index.specs.Plans.{put_each};
 ghost use Rattle.fancy_index.specs.inside.Moved.{moved_offset, IsMoved};
 

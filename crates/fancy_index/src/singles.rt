@@ -1,8 +1,6 @@
 //! Single items, each at a shifted place: read, written and filled, one after the other.
 ghost use Rattle.std.specs.Prelude.{◌≡◌, ◌+◌, ◌*◌, ◌≤◌, ◌++◌, length, map, All};
-ghost use Rattle.raw_block.specs.Bytes.{item_at, put};
-ghost use Rattle.arrays.specs.Assignments.{assigned};
-ghost use Rattle.arrays.specs.Joined.{joined_at};
+ghost use Rattle.fancy_index.specs.Words.{item_at, put, assigned, joined_at};
 ghost use Rattle.fancy_index.specs.Plans.{put_each};
 ghost use Rattle.arrays.specs.Packed.{row_offsets as packed};
 ghost use Rattle.fancy_index.specs.inside.Kept.{first_offsets};

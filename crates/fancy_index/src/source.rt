@@ -1,6 +1,6 @@
 //! Arrays in an index list: their numbers, as they lie in a block.
 ghost use Rattle.std.specs.Prelude.{◌≡◌, ◌≢◌, ◌+◌, ◌≤◌, length, map, All};
-ghost use Rattle.elem_descr.specs.Items.{item_size};
+ghost use Rattle.fancy_index.specs.Words.{item_size};
 ghost use Rattle.fancy_index.specs.declared.kind.Kind.TheVariants.{NoIndex};
 ghost use Rattle.fancy_index.specs.IndexArrays.{kind, with_array};
 ghost use Rattle.fancy_index.specs.Sources.{number_from, index_array_of, LiesInBlock, IsNamed};

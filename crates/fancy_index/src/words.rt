@@ -1,13 +1,7 @@
 //! Integers at equal steps, read in place, and the positions that they select.
 ghost use Rattle.std.specs.Prelude.{◌≡◌, ◌≢◌, ◌≤◌, ◌<◌, ◌++◌, pos, map, length, slice_index, IfSome, IsTrue, OnOk};
 ghost use Rattle.std.specs.List.{list_all};
-ghost use Rattle.elem_descr.specs.Items.{item_size};
-ghost use Rattle.elem_descr.specs.Refusals.{Gives};
-ghost use Rattle.raw_block.specs.Bytes.{item_at};
-ghost use Rattle.shape_strides.specs.Layouts.{offsets};
-ghost use Rattle.shape_strides.specs.Limits.{max_items};
-ghost use Rattle.shape_strides.specs.Runs.{run_offsets};
-ghost use Rattle.view_ops.specs.Slices.{is_place};
+ghost use Rattle.fancy_index.specs.Words.{item_size, Gives, item_at, offsets, max_items, run_offsets, is_place};
 ghost use Rattle.fancy_index.specs.declared.kind.Kind.TheVariants.{NoIndex};
 ghost use Rattle.fancy_index.specs.Sources.{LiesInBlock};
 ghost use Rattle.fancy_index.specs.inside.Items.{kind_in, numbers_in, IsWithin};

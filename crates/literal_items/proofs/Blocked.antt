@@ -2,7 +2,7 @@
 use Rattle.std.proofs.Common.{◌≡◌, ◌+◌, ◌*◌, ◌≤◌, ℕ, zero, suc, List, [], ◌∷◌, ◌++◌, length, take, drop, map, sym, ap, ◌∙◌, refl, arith, length-take}
 use Rattle.std.proofs.Math.Nat.{suc-mul}
 use Rattle.std.proofs.lemmas.List.{drop-drop, drop-take, take-take, take_at, drop_at, map-append}
-use Rattle.elem_descr.specs.Blocks.{blocks}
+use Rattle.literal_items.specs.Words.{blocks}
 
 -- the blocks depend on the bytes in them alone
 pub blocks-front : {A : Type 0} (size n : ℕ) (xs ys : List A) → take (n * size) xs ≡ take (n * size) ys → blocks size n xs ≡ blocks size n ys

@@ -8,22 +8,9 @@ use Rattle.std.proofs.lemmas.Simd.{map-map}
 use Rattle.std.proofs.lemmas.List.FromFn.{map-range_with_len_more, get_or-map-range_with_len}
 use Rattle.std.proofs.lemmas.List.Sums.{AllPass-from_list_all}
 use Rattle.std.proofs.Math.Nat.{mod-lt}
-use Rattle.elem_descr.specs.declared.scalar.Scalar.{Scalar}
-use Rattle.elem_descr.specs.declared.scalar.Scalar.TheVariants.{Bool as BoolScalar, Byte, Int as IntScalar, Bytes as BytesScalar}
+use Rattle.literal_items.specs.Words.{Scalar, Byte, number, IsNumber, IsValueOf, FitsBytes, is_value, size, integer, low_bits, decode, encode, low_bits-lt, decode_encode, integer-low_bits, int_wrap-low_bits, decode_item, blocks, items_in, numbers_from, next_number, length-numbers_from, length-encode, fits_eight_bytes, value_decides, joined, length-joined, AreBits}
+use Rattle.elem_descr.specs.declared.scalar.Scalar.TheVariants.{Bool as BoolScalar, Int as IntScalar, Bytes as BytesScalar}
 use Rattle.elem_descr.specs.declared.descr.Descr.TheVariants.{Scalar as ScalarDescr}
-use Rattle.elem_descr.specs.Values.{number}
-use Rattle.elem_descr.specs.Encoding.{IsNumber, IsValueOf, FitsBytes, is_value, size, integer, low_bits, decode, encode}
-use Rattle.elem_descr.specs.EncodingLaws.{low_bits-lt, decode_encode}
-use Rattle.elem_descr.specs.WrapLaws.{integer-low_bits, int_wrap-low_bits}
-use Rattle.elem_descr.specs.Items.{decode_item}
-use Rattle.elem_descr.specs.Blocks.{blocks, items_in}
-use Rattle.elem_descr.specs.Steps.{numbers_from}
-use Rattle.elem_descr.specs.StepLaws.{next_number, length-numbers_from}
-use Rattle.elem_descr.specs.ByteLaws.{length-encode}
-use Rattle.elem_descr.specs.NumberLaws.{fits_eight_bytes, value_decides}
-use Rattle.raw_block.specs.Bytes.{joined}
-use Rattle.raw_block.specs.JoinedLaws.{length-joined}
-use Rattle.machine_numbers.specs.Bits.{AreBits}
 use Rattle.literal_items.specs.inside.Numbered.{numbered}
 use Rattle.literal_items.proofs.Blocked.{map-blocks-put}
 use Rattle.literal_items.proofs.Scalars.{scalar_read, value_is}

@@ -9,12 +9,8 @@ use Rattle.std.proofs.lemmas.List.Sums.{list_all-from_AllPass}
 use Rattle.std.specs.List.{list_all}
 use Rattle.std.specs.Prelude.{FitsSigned}
 use Rattle.std.specs.Int.{w128}
-use Rattle.elem_descr.specs.declared.scalar.Scalar.{Scalar}
-use Rattle.elem_descr.specs.declared.scalar.Scalar.TheVariants.{Bool as BoolScalar, Byte, Int as IntScalar, Bytes as BytesScalar}
-use Rattle.elem_descr.specs.Encoding.{IsNumber, IsValueOf, FitsBytes, is_value, width_size}
-use Rattle.elem_descr.specs.Steps.{numbers_from}
-use Rattle.elem_descr.specs.NumberLaws.{value_decides}
-use Rattle.elem_descr.specs.StepLaws.{length-numbers_from, number_at}
+use Rattle.literal_items.specs.Words.{Scalar, Byte, IsNumber, IsValueOf, FitsBytes, is_value, width_size, numbers_from, value_decides, length-numbers_from, number_at}
+use Rattle.elem_descr.specs.declared.scalar.Scalar.TheVariants.{Bool as BoolScalar, Int as IntScalar, Bytes as BytesScalar}
 use Rattle.literal_items.proofs.Lists.{all_fails}
 
 bytes_between : (signed : Bool) (n : ℕ) (a z b : ℤ) → a ≤ℤ z → z ≤ℤ b → FitsBytes signed n a → FitsBytes signed n b → FitsBytes signed n z

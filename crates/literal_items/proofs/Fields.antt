@@ -3,28 +3,10 @@ use Rattle.std.proofs.Common.{◌≡◌, ◌+◌, ◌<◌, ◌≤◌, ℕ, Bool,
 use Rattle.std.specs.Prelude.{◌&&◌}
 use Rattle.std.proofs.lemmas.List.{drop_all}
 use Rattle.std.proofs.lemmas.Bool.{and_parts}
-use Rattle.elem_descr.specs.declared.leaf.Leaf.{Leaf}
-use Rattle.elem_descr.specs.declared.scalar.Scalar.{Scalar}
-use Rattle.elem_descr.specs.declared.scalar.Scalar.TheVariants.{Bool as BoolScalar, Byte, Int, Bytes as BytesScalar}
-use Rattle.elem_descr.specs.declared.descr.Descr.{Descr}
+use Rattle.literal_items.specs.Words.{Leaf, Scalar, Byte, Int, Descr, Field, LeafValue, text, width_size, low_bits, wrap, without_nuls, Fields, no_more, scalar_field, record_field, Structure, before, listed, fields_of, InOrder, IsLegal, item_size, moved_leaf, leaves_of, leaves_from, AreInOrder, encode_item, decode_item, decode_encode, rest_at, field_within, seen_fields, leaves_from-before, leaves_from-moved, Little, length-bytes_of, length-padded, ScalarLiteral, Literal, Values, no_values, scalar_value, record_value, value_before, all_values, literals_of, listed_literals_of}
+use Rattle.elem_descr.specs.declared.scalar.Scalar.TheVariants.{Bool as BoolScalar, Bytes as BytesScalar}
 use Rattle.elem_descr.specs.declared.descr.Descr.TheVariants.{Scalar as ScalarDescr, Record as RecordDescr}
-use Rattle.elem_descr.specs.declared.descr.Field.{Field}
-use Rattle.elem_descr.specs.Values.{LeafValue, text}
-use Rattle.elem_descr.specs.Encoding.{width_size, low_bits, wrap, without_nuls}
-use Rattle.elem_descr.specs.Fields.{Fields, no_more, scalar_field, record_field, Structure}
-use Rattle.elem_descr.specs.Descriptors.{before, listed, fields_of, InOrder, IsLegal}
-use Rattle.elem_descr.specs.Items.{item_size, moved_leaf, leaves_of, leaves_from, AreInOrder, encode_item, decode_item}
-use Rattle.elem_descr.specs.EncodingLaws.{decode_encode}
-use Rattle.elem_descr.specs.DescriptorLaws.{rest_at, field_within, seen_fields}
-use Rattle.elem_descr.specs.ItemLaws.{leaves_from-before, leaves_from-moved}
-use Rattle.elem_descr.specs.declared.scalar.Order.TheVariants.{Little}
-use Rattle.elem_descr.specs.ByteLaws.{length-bytes_of, length-padded}
-use Rattle.script_lang.specs.declared.literal.ScalarLiteral.{ScalarLiteral}
-use Rattle.script_lang.specs.declared.literal.Literal.{Literal}
 use Rattle.script_lang.specs.declared.literal.Literal.TheVariants.{Scalar as ScalarOf, Record as RecordOf}
-use Rattle.script_lang.specs.RecordValues.{Values, no_values, scalar_value, record_value}
-use Rattle.script_lang.specs.Listed.{value_before, all_values, literals_of}
-use Rattle.script_lang.specs.RecordLaws.{listed_literals_of}
 use Rattle.literal_items.specs.LiteralItems.{literal_number, literal_bytes, leaf_value, stand_for, can_hold, field_values, can_be_item, values_of}
 use Rattle.literal_items.specs.inside.FieldItems.{stands_for, can_be_field, field_value, put_leaves}
 use Rattle.literal_items.proofs.Nuls.{bytes_encoded, bytes_read_back}

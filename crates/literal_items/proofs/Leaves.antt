@@ -2,12 +2,7 @@
 use Rattle.std.proofs.Common.{◌≡◌, ◌+◌, ◌-◌, ◌≤◌, ℕ, suc, List, [], ◌∷◌, ◌++◌, length, take, drop, map, replicate, refl, sym, ap, ◌∙◌, arith, append_assoc, length-append}
 use Rattle.std.specs.List.{AllZip}
 use Rattle.std.proofs.lemmas.List.{length-replicate, take_at, drop_at, take-replicate, drop-replicate}
-use Rattle.elem_descr.specs.declared.leaf.Leaf.{Leaf}
-use Rattle.elem_descr.specs.declared.scalar.Scalar.{Scalar}
-use Rattle.elem_descr.specs.Values.{LeafValue}
-use Rattle.elem_descr.specs.Encoding.{size, encode, decode}
-use Rattle.elem_descr.specs.Items.{AreInOrder, encode_from}
-use Rattle.elem_descr.specs.ItemLaws.{AreInOrder-within}
+use Rattle.literal_items.specs.Words.{Leaf, Scalar, LeafValue, size, encode, decode, AreInOrder, encode_from, AreInOrder-within}
 use Rattle.literal_items.specs.inside.FieldItems.{put, put_leaves}
 
 -- the bytes of a value are as many as the scalar has, and mean the value

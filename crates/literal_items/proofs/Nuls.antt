@@ -3,9 +3,7 @@ use Rattle.std.proofs.Common.{◌≡◌, ◌+◌, ◌-◌, ◌≤◌, ℕ, min, 
 use Rattle.std.specs.Prelude.{nat_eq}
 use Rattle.std.proofs.lemmas.List.{take_all, take_min, drop-replicate, replicate-append-replicate}
 use Rattle.std.proofs.lemmas.List.Sums.{suffix_len-le-length}
-use Rattle.elem_descr.specs.Encoding.{without_nuls, padded}
-use Rattle.elem_descr.specs.NulLaws.{without_nuls-back, without_nuls-more}
-use Rattle.elem_descr.specs.Nuls.{nuls}
+use Rattle.literal_items.specs.Words.{without_nuls, padded, without_nuls-back, without_nuls-more, nuls}
 
 padded-without_nuls : (n : ℕ) (bytes : List ℕ) → length bytes ≤ n → padded n (without_nuls bytes) ≡ bytes ++ replicate (n - length bytes) 0
 padded-without_nuls n bytes fits =

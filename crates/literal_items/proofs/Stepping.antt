@@ -4,16 +4,7 @@ use Rattle.std.proofs.lemmas.Bool.{cases_lt, cases_Bool}
 use Rattle.std.proofs.lemmas.Bool.Decides.{Decides-int_eq, nat_tests}
 use Rattle.std.specs.Prelude.{FitsSigned, not, nat_le}
 use Rattle.std.specs.List.{list_all}
-use Rattle.elem_descr.specs.declared.refusal.Refusal.{Refusal}
-use Rattle.elem_descr.specs.declared.refusal.Refusal.TheVariants.{LiteralOutOfRange, TooLarge, ZeroStep}
-use Rattle.elem_descr.specs.declared.scalar.Scalar.{Scalar}
-use Rattle.elem_descr.specs.Refusals.{◌>>=◌, check}
-use Rattle.elem_descr.specs.Steps.{is_before, numbers_from, IsGap}
-use Rattle.elem_descr.specs.Values.{LeafValue, number}
-use Rattle.elem_descr.specs.StepCounts.{CountsSteps}
-use Rattle.elem_descr.specs.StepLaws.{steps_end_below, abs_pos, between_back, between_forth, near_before, far_after, counted_within, stepped_first, length-numbers_from}
-use Rattle.elem_descr.specs.Encoding.{is_value}
-use Rattle.shape_strides.specs.Limits.{max_items}
+use Rattle.literal_items.specs.Words.{Refusal, LiteralOutOfRange, TooLarge, ZeroStep, Scalar, ◌>>=◌, check, is_before, numbers_from, IsGap, LeafValue, number, CountsSteps, steps_end_below, abs_pos, between_back, between_forth, near_before, far_after, counted_within, stepped_first, length-numbers_from, is_value, max_items}
 use Rattle.std.specs.Ordering.{int_eq}
 use Rattle.std.proofs.Math.IntN.{*ℤ_comm}
 use Rattle.std.proofs.Math.Nat.{mod-lt}

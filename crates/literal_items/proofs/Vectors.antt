@@ -3,21 +3,11 @@ use Rattle.std.proofs.Common.{◌≡◌, ◌≢◌, ◌<◌, ℕ, true, false, p
 use Rattle.std.specs.Int.{int_max}
 use Rattle.std.specs.List.{list_all}
 use Rattle.std.proofs.lemmas.Int.{ints}
-use Rattle.elem_descr.specs.Steps.{stepped, IsGap}
+use Rattle.literal_items.specs.Words.{stepped, IsGap, LiteralOutOfRange, NoSuchCast, TooLarge, ZeroStep, Little, Big, Four, Eight, Byte, Int, Descr, no_more, scalar_field, record_field, encode_item, number, text, is_value, Integer, Boolean, Bytes, no_values, scalar_value, record_value}
 use Rattle.literal_items.proofs.Stepping.{numbers-divided, count-divided, range_length-large, range_length-ok, range_items-refused, range_items-ok}
-use Rattle.elem_descr.specs.declared.refusal.Refusal.TheVariants.{LiteralOutOfRange, NoSuchCast, TooLarge, ZeroStep}
-use Rattle.elem_descr.specs.declared.scalar.Order.TheVariants.{Little, Big}
-use Rattle.elem_descr.specs.declared.scalar.Width.TheVariants.{Four, Eight}
-use Rattle.elem_descr.specs.declared.scalar.Scalar.TheVariants.{Bool as BoolScalar, Byte, Int, Bytes as BytesScalar}
-use Rattle.elem_descr.specs.declared.descr.Descr.{Descr}
+use Rattle.elem_descr.specs.declared.scalar.Scalar.TheVariants.{Bool as BoolScalar, Bytes as BytesScalar}
 use Rattle.elem_descr.specs.declared.descr.Descr.TheVariants.{Scalar as ScalarDescr, Record as RecordDescr}
-use Rattle.elem_descr.specs.Fields.{no_more, scalar_field, record_field}
-use Rattle.elem_descr.specs.Items.{encode_item}
-use Rattle.elem_descr.specs.Values.{number, text}
-use Rattle.elem_descr.specs.Encoding.{is_value}
-use Rattle.script_lang.specs.declared.literal.ScalarLiteral.TheVariants.{Integer, Boolean, Bytes}
 use Rattle.script_lang.specs.declared.literal.Literal.TheVariants.{Scalar as ScalarOf, Record as RecordOf}
-use Rattle.script_lang.specs.RecordValues.{no_values, scalar_value, record_value}
 use Rattle.literal_items.specs.LiteralItems.{values_of, item_value, item_values}
 use Rattle.literal_items.specs.RangeItems.{range_length, range_items}
 

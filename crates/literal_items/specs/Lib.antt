@@ -1,3 +1,4 @@
 pub mod LiteralItems
 pub mod RangeItems
 pub mod inside
+pub mod Words

@@ -1,22 +1,10 @@
 -- Literals as items of a descriptor.
 use Rattle.std.specs.Prelude.{ℕ, ℤ, pos, Bool, true, false, not, ◌&&◌, List, [], ◌∷◌, ◌++◌, map, take, Result, Ok}
 use Rattle.std.specs.List.{list_all}
-use Rattle.elem_descr.specs.declared.refusal.Refusal.{Refusal}
-use Rattle.elem_descr.specs.declared.refusal.Refusal.TheVariants.{LiteralOutOfRange, NoSuchCast}
-use Rattle.elem_descr.specs.declared.scalar.Scalar.{Scalar}
+use Rattle.literal_items.specs.Words.{Refusal, LiteralOutOfRange, NoSuchCast, Scalar, Descr, ◌>>=◌, check, LeafValue, number, text, is_value, wrap, without_nuls, Fields, no_more, scalar_field, record_field, leaves_of, ScalarLiteral, Integer, Boolean, Bytes, Literal, Values, no_values, scalar_value, record_value}
 use Rattle.elem_descr.specs.declared.scalar.Scalar.TheVariants.{Bool as BoolScalar, Bytes as BytesScalar}
-use Rattle.elem_descr.specs.declared.descr.Descr.{Descr}
 use Rattle.elem_descr.specs.declared.descr.Descr.TheVariants.{Scalar as ScalarDescr, Record as RecordDescr}
-use Rattle.elem_descr.specs.Refusals.{◌>>=◌, check}
-use Rattle.elem_descr.specs.Values.{LeafValue, number, text}
-use Rattle.elem_descr.specs.Encoding.{is_value, wrap, without_nuls}
-use Rattle.elem_descr.specs.Fields.{Fields, no_more, scalar_field, record_field}
-use Rattle.elem_descr.specs.Items.{leaves_of}
-use Rattle.script_lang.specs.declared.literal.ScalarLiteral.{ScalarLiteral}
-use Rattle.script_lang.specs.declared.literal.ScalarLiteral.TheVariants.{Integer, Boolean, Bytes}
-use Rattle.script_lang.specs.declared.literal.Literal.{Literal}
 use Rattle.script_lang.specs.declared.literal.Literal.TheVariants.{Scalar as ScalarOf, Record as RecordOf}
-use Rattle.script_lang.specs.RecordValues.{Values, no_values, scalar_value, record_value}
 
 -- One value
 

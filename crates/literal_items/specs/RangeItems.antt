@@ -2,14 +2,7 @@
 use Rattle.std.specs.Prelude.{ℕ, ℤ, pos, ◌-ℤ◌, unsigned_abs, not, List, [], ◌∷◌, length, map, nat_le, Result, Ok}
 use Rattle.std.specs.Ordering.{int_eq}
 use Rattle.std.specs.List.{list_all}
-use Rattle.elem_descr.specs.declared.refusal.Refusal.{Refusal}
-use Rattle.elem_descr.specs.declared.refusal.Refusal.TheVariants.{TooLarge, ZeroStep, LiteralOutOfRange}
-use Rattle.elem_descr.specs.declared.scalar.Scalar.{Scalar}
-use Rattle.elem_descr.specs.Refusals.{◌>>=◌, check}
-use Rattle.elem_descr.specs.Steps.{stepped}
-use Rattle.elem_descr.specs.Values.{LeafValue, number}
-use Rattle.elem_descr.specs.Encoding.{is_value}
-use Rattle.shape_strides.specs.Limits.{max_items}
+use Rattle.literal_items.specs.Words.{Refusal, TooLarge, ZeroStep, LiteralOutOfRange, Scalar, ◌>>=◌, check, stepped, LeafValue, number, is_value, max_items}
 
 -- the numbers: between the start and the stop there is room for no more than they are apart
 abbrev pub range_numbers : ℤ → ℤ → ℤ → List ℤ

@@ -1,12 +1,8 @@
 //! Literals as items of a descriptor.
 ghost use Rattle.std.specs.Prelude.{◌≡◌, ◌≤◌, ◌+◌, ◌*◌, true, ◌++◌, length, take, drop, map, replicate, Ok, Err, MatchResult, IfOk, OnErr};
 ghost use Rattle.std.specs.List.{list_all};
-ghost use Rattle.elem_descr.specs.declared.refusal.Refusal.TheVariants.{LiteralOutOfRange};
+ghost use Rattle.literal_items.specs.Words.{LiteralOutOfRange, IsLegal, listed, AreInOrder, item_size, leaves_of, leaves_from, moved_leaf, decode_item, encode_item, blocks, all_values};
 ghost use Rattle.elem_descr.specs.declared.descr.Descr.TheVariants.{Record as RecordDescr};
-ghost use Rattle.elem_descr.specs.Descriptors.{IsLegal, listed};
-ghost use Rattle.elem_descr.specs.Items.{AreInOrder, item_size, leaves_of, leaves_from, moved_leaf, decode_item, encode_item};
-ghost use Rattle.elem_descr.specs.Blocks.{blocks};
-ghost use Rattle.script_lang.specs.Listed.{all_values};
 ghost use Rattle.literal_items.specs.LiteralItems.{is_castable, is_in_range, leaf_value, can_hold, are_in_range, field_values, can_be_item, is_item_in_range, values_of, item_value, item_values};
 ghost use Rattle.literal_items.specs.inside.FieldItems.{can_be_field, is_field_in_range, field_value, put_leaves};
 

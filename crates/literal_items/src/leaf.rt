@@ -1,6 +1,6 @@
 //! Literals as the bytes of one leaf.
 ghost use Rattle.std.specs.Prelude.{◌≡◌, true, length, take};
-ghost use Rattle.elem_descr.specs.Encoding.{IsNumber, size, decode, encode, padded, without_nuls};
+ghost use Rattle.literal_items.specs.Words.{IsNumber, size, decode, encode, padded, without_nuls};
 ghost use Rattle.literal_items.specs.LiteralItems.{takes_number, is_castable, is_in_range, leaf_value};
 
 use elem_descr::{Scalar, is_value, num_write};

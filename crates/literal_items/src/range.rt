@@ -3,12 +3,7 @@ ghost use Rattle.std.specs.Prelude.{◌≡◌, ◌<◌, ◌≤◌, ◌↔◌, �
 ghost use Rattle.std.specs.List.{list_all};
 ghost use Rattle.std.specs.Int.{w128};
 ghost use Rattle.elem_descr.specs.declared.descr.Descr.TheVariants.{Scalar as ScalarDescr};
-ghost use Rattle.elem_descr.specs.Refusals.{Gives};
-ghost use Rattle.elem_descr.specs.Encoding.{IsNumber, is_value, low_bits, size};
-ghost use Rattle.elem_descr.specs.Blocks.{items_in};
-ghost use Rattle.elem_descr.specs.Steps.{is_before, numbers_from, IsGap};
-ghost use Rattle.raw_block.specs.Bytes.{joined};
-ghost use Rattle.shape_strides.specs.Limits.{max_items};
+ghost use Rattle.literal_items.specs.Words.{Gives, IsNumber, is_value, low_bits, size, items_in, is_before, numbers_from, IsGap, joined, max_items};
 ghost use Rattle.literal_items.specs.RangeItems.{range_numbers, range_count, range_length, range_items};
 ghost use Rattle.literal_items.specs.inside.Numbered.{numbered};
 

@@ -7,12 +7,8 @@ use Rattle.std.specs.Cmp.{nat_cmp_total}
 use Rattle.std.specs.FinMap.{get, insert, retain_keys, get-insert, get-retain_keys, same_map, nat_cmp-IsAntisymmetric}
 use Rattle.std.proofs.lemmas.Bool.{eqb-true}
 use Rattle.std.proofs.lemmas.List.Elements.{All-from_recursion, recursion_from_All}
-use Rattle.elem_descr.specs.Items.{item_size}
-use Rattle.circular_buffer.specs.Buffer.{Buffer as Ring, buffer, keep_last}
-use Rattle.indexmap.specs.IndexMap.{insert_entry}
-use Rattle.shape_strides.specs.declared.layout.Layout.{Layout}
-use Rattle.shape_strides.specs.Indexes.{count}
-use Rattle.arrays.specs.declared.owned.Owned.{Owned}
+use Rattle.name_store.specs.Words.{item_size, buffer, keep_last, insert_entry, Layout, count, Owned}
+use Rattle.circular_buffer.specs.Buffer.{Buffer as Ring}
 use Rattle.name_store.specs.Arrays.{find_array, put_array, without, is_in_use, has_room_for, keeping}
 use Rattle.name_store.specs.Calls.{Binds, IsUnused, own_array, own_buffer}
 use Rattle.name_store.specs.Invariants.{Holds, IsSound, LiesAt, IsUndoable, one_at, users_of, users_at, users_in, found_at, pins, all_pins}

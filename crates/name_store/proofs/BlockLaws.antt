@@ -3,11 +3,7 @@ use Rattle.std.proofs.Common.{◌≡◌, ◌≤◌, ◌<◌, ◌+◌, ◌*◌, �
 use Rattle.std.proofs.Math.Nat.{mul-suc, suc-mul, mul-le-mul_left}
 use Rattle.std.proofs.Math.Seq.{take-add}
 use Rattle.std.proofs.lemmas.List.{map-set, drop-drop, drop_at}
-use Rattle.elem_descr.specs.declared.descr.Descr.{Descr}
-use Rattle.elem_descr.specs.Items.{item_size, decode_item}
-use Rattle.raw_block.specs.Bytes.{put}
-use Rattle.elem_descr.specs.Blocks.{blocks, items_in, item_from}
-use Rattle.elem_descr.specs.ListLaws.{take_front}
+use Rattle.name_store.specs.Words.{Descr, item_size, decode_item, put, blocks, items_in, item_from, take_front}
 
 pub put-add : (width at : ℕ) (item bytes : List ℕ) → put (width + at) item bytes ≡ take width bytes ++ put at item (drop width bytes)
 put-add width at item bytes =

@@ -5,14 +5,7 @@ use Rattle.std.proofs.lemmas.Bool.{cases_lt, eqb-true, and_parts}
 use Rattle.std.proofs.lemmas.List.{get_or_past}
 use Rattle.std.proofs.lemmas.List.Elements.{recursion_from_All}
 use Rattle.std.proofs.Math.Nat.{mul-suc, mul_comm}
-use Rattle.raw_block.specs.Bytes.{item_at, joined}
-use Rattle.raw_block.specs.JoinedLaws.{length-joined, item_of_joined}
-use Rattle.elem_descr.specs.Items.{item_size}
-use Rattle.shape_strides.specs.Contiguity.{is_c_contiguous}
-use Rattle.shape_strides.specs.LayoutLaws.{length-offsets}
-use Rattle.shape_strides.specs.Layouts.{offsets, multiples, Fits}
-use Rattle.arrays.specs.declared.owned.Owned.{Owned}
-use Rattle.arrays.specs.Assignments.{items_at, with_items}
+use Rattle.name_store.specs.Words.{item_at, joined, length-joined, item_of_joined, item_size, is_c_contiguous, length-offsets, offsets, multiples, Fits, Owned, items_at, with_items}
 use Rattle.name_store.specs.declared.change.OldItems.{OldItems}
 use Rattle.name_store.specs.inside.Exchanges.{AreAll, IsPacked}
 use Rattle.name_store.specs.inside.OldItems.{AreOld}

@@ -1,16 +1,8 @@
 -- The fields of a record: where their bytes and leaves are among those of the record.
 use Rattle.std.proofs.Common.{◌≡◌, ◌+◌, ◌<◌, ◌≤◌, ℕ, zero, suc, List, [], ◌∷◌, ◌++◌, length, take, map, get_or, refl, sym, ap, subst, ◌∙◌, append_assoc, arith, length-append}
 use Rattle.std.proofs.lemmas.List.{append-nil, map-append, length-map}
-use Rattle.elem_descr.specs.declared.descr.Descr.{Descr}
+use Rattle.name_store.specs.Words.{Descr, Field, Leaf, InOrder, AreNamedWithin, fields_of, depth, leaf_count, size, Fields, no_more, scalar_field, record_field, item_size, leaves_of, leaves_from, leaves_in, fields, field_at, no_field, moved_leaf, AreInOrder, leaves_from-in_order, leaves_from-moved, leaves_in_order, length-leaves_from, AreInOrder-earlier, AreInOrder-append, some_leaves, legal_size, InOrder-within, some_depth}
 use Rattle.elem_descr.specs.declared.descr.Descr.TheVariants.{Scalar as ScalarDescr, Record as RecordDescr}
-use Rattle.elem_descr.specs.declared.descr.Field.{Field}
-use Rattle.elem_descr.specs.declared.leaf.Leaf.{Leaf}
-use Rattle.elem_descr.specs.Descriptors.{InOrder, AreNamedWithin, fields_of, depth, leaf_count}
-use Rattle.elem_descr.specs.Encoding.{size}
-use Rattle.elem_descr.specs.Fields.{Fields, no_more, scalar_field, record_field}
-use Rattle.elem_descr.specs.Items.{item_size, leaves_of, leaves_from, leaves_in, fields, field_at, no_field, moved_leaf, AreInOrder}
-use Rattle.elem_descr.specs.ItemLaws.{leaves_from-in_order, leaves_from-moved, leaves_in_order, length-leaves_from, AreInOrder-earlier, AreInOrder-append}
-use Rattle.elem_descr.specs.DescriptorLaws.{some_leaves, legal_size, InOrder-within, some_depth}
 use Rattle.name_store.specs.Places.{IsElementType}
 
 -- ---- leaves in order

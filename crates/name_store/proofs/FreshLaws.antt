@@ -1,13 +1,8 @@
 -- An array that fills a block of its own.
 use Rattle.std.proofs.Common.{◌≡◌, ◌+◌, ◌*◌, map, ℕ, true, List, [], ◌∷◌, refl, sym, ap, subst, ◌∙◌, arith}
-use Rattle.elem_descr.specs.Items.{item_size}
-use Rattle.shape_strides.specs.Indexes.{count}
-use Rattle.shape_strides.specs.Layouts.{offsets, Fits, offsets_of}
-use Rattle.arrays.specs.declared.owned.Owned.{Owned}
+use Rattle.name_store.specs.Words.{item_size, count, offsets, Fits, offsets_of, Owned, items_in, places_of}
 use Rattle.name_store.specs.Calls.{own_array, own_buffer}
-use Rattle.elem_descr.specs.Blocks.{items_in}
 use Rattle.name_store.specs.Invariants.{LiesIn}
-use Rattle.arrays.specs.Blocks.{places_of}
 use Rattle.name_store.specs.View.{array_at, buffer_in}
 use Rattle.name_store.specs.Views.{IsLaidOut}
 use Rattle.name_store.specs.declared.entry.Entry.{Entry}

@@ -4,7 +4,8 @@ use Rattle.std.specs.List.{list_any}
 use Rattle.std.specs.Option.{option_map}
 use Rattle.std.proofs.lemmas.Bool.{ltb-true, ltb-false}
 use Rattle.std.proofs.lemmas.List.{length-map, map-append, drop-map}
-use Rattle.circular_buffer.specs.Buffer.{Buffer as Ring, buffer, keep_last}
+use Rattle.name_store.specs.Words.{buffer, keep_last}
+use Rattle.circular_buffer.specs.Buffer.{Buffer as Ring}
 use Rattle.name_store.specs.Arrays.{is_in_use, keeping}
 use Rattle.name_store.specs.Invariants.{Holds, IsSound, LiesAt, IsUndoable, AreUndoable, one_at, users_at, users_in, held_number, found_at, all_pins}
 use Rattle.name_store.specs.Kept.{Names, names_before, past_buffers, kept_states, patch_size}

@@ -4,11 +4,7 @@ use Rattle.std.specs.List.{AllByRecursion, flat_map, range_with_len}
 use Rattle.std.proofs.lemmas.Bool.{cases_lt}
 use Rattle.std.proofs.lemmas.Int.{ints}
 use Rattle.std.proofs.Math.Nat.{mul_comm, mul-le-mul_left}
-use Rattle.elem_descr.specs.declared.descr.Descr.{Descr}
-use Rattle.elem_descr.specs.Items.{item_size}
-use Rattle.shape_strides.specs.declared.layout.Layout.{Layout}
-use Rattle.shape_strides.specs.Indexes.{indexes, IsIndex}
-use Rattle.shape_strides.specs.Layouts.{address, natural, offsets, Fits, offsets_of}
+use Rattle.name_store.specs.Words.{Descr, item_size, Layout, indexes, IsIndex, address, natural, offsets, Fits, offsets_of}
 use Rattle.name_store.specs.States.{Array}
 use Rattle.name_store.specs.Parts.{descr_at, start_at}
 use Rattle.name_store.specs.Views.{IsLaidOut}

@@ -7,7 +7,7 @@ use Rattle.std.specs.Option.{option_map}
 use Rattle.std.specs.Str.{bytes_eq}
 use Rattle.std.specs.Cmp.{nat_eq_equiv}
 use Rattle.std.proofs.lemmas.Slice.Eq.{bytes_eq-Decides}
-use Rattle.indexmap.specs.IndexMap.{insert_entry, shift_remove_entry}
+use Rattle.name_store.specs.Words.{insert_entry, shift_remove_entry}
 use Rattle.std.specs.Map.{lookup, keys_of}
 use Rattle.name_store.specs.States.{Array}
 use Rattle.name_store.specs.Arrays.{find_array, put_array, without, is_in_use}

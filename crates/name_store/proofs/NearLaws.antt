@@ -2,15 +2,7 @@
 use Rattle.std.proofs.Common.{◌≡◌, ◌+◌, ◌≤◌, ℕ, List, length, refl, sym, subst, ◌∙◌}
 use Rattle.std.specs.List.Sorted.{IsPermutation}
 use Rattle.std.proofs.lemmas.List.Sorted.{All-permutation}
-use Rattle.shape_strides.specs.declared.layout.Layout.{Layout}
-use Rattle.shape_strides.specs.declared.layout_pair.LayoutPair.{LayoutPair}
-use Rattle.shape_strides.specs.ItemPairs.{item_pairs}
-use Rattle.shape_strides.specs.LayoutLaws.{offsets_within}
-use Rattle.shape_strides.specs.Layouts.{offsets}
-use Rattle.shape_strides.specs.PlaceLaws.{fits-offsets}
-use Rattle.arrays.specs.PairLaws.{pair_even, firsts-reordered}
-use Rattle.overlap_copy.specs.OrderLaws.{nested-reordered, filled-reordered}
-use Rattle.fancy_index.specs.Plans.{put_each}
+use Rattle.name_store.specs.Words.{Layout, LayoutPair, item_pairs, offsets_within, offsets, fits-offsets, pair_even, firsts-reordered, nested-reordered, filled-reordered, put_each}
 use Rattle.name_store.specs.declared.target.Target.TheVariants.{View}
 use Rattle.name_store.specs.inside.Puts.{MayPut}
 use Rattle.name_store.proofs.SourceLaws.{put_each-items}

@@ -1,11 +1,9 @@
 -- A writable array has no place twice.
 use Rattle.std.proofs.Common.{◌≡◌, ◌≢◌, ◌+◌, ◌*◌, ◌/◌, ◌<◌, ℕ, List, length, IsTrue, sym, ap, ◌∙◌, slice_index, arith}
 use Rattle.std.proofs.lemmas.List.{length-map}
-use Rattle.elem_descr.specs.Items.{item_size}
-use Rattle.shape_strides.specs.Layouts.{offsets, distance}
+use Rattle.name_store.specs.Words.{item_size, offsets, distance, places_of}
 use Rattle.name_store.specs.Invariants.{LiesIn}
 use Rattle.name_store.specs.Parts.{start_at}
-use Rattle.arrays.specs.Blocks.{places_of}
 use Rattle.name_store.specs.View.{array_at}
 use Rattle.name_store.specs.declared.entry.Entry.{Entry}
 use Rattle.name_store.specs.declared.slot.Slot.{Slot}

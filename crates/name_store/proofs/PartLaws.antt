@@ -2,14 +2,7 @@
 use Rattle.std.proofs.Common.{◌≡◌, ◌+◌, ◌-◌, ◌<◌, ◌≤◌, ℕ, List, [], ◌∷◌, ◌++◌, length, take, drop, map, refl, sym, ap, ◌∙◌, append_assoc, arith, length-take, length-append}
 use Rattle.std.proofs.Math.Seq.{take-append_seam}
 use Rattle.std.proofs.lemmas.List.{take-take, drop-drop, map-append, length-map, take-append-le, drop-append-le, take-append-drop, drop-take, take_at, drop_at}
-use Rattle.elem_descr.specs.declared.descr.Descr.{Descr}
-use Rattle.elem_descr.specs.declared.leaf.Leaf.{Leaf}
-use Rattle.elem_descr.specs.Blocks.{item_from}
-use Rattle.elem_descr.specs.Encoding.{size, decode}
-use Rattle.elem_descr.specs.Items.{item_size, leaves_of, leaves_in, fields, field_at, moved_leaf, AreInOrder, decode_item}
-use Rattle.elem_descr.specs.Values.{LeafValue}
-use Rattle.elem_descr.specs.ItemLaws.{AreInOrder-within, leaf_value}
-use Rattle.raw_block.specs.Bytes.{put}
+use Rattle.name_store.specs.Words.{Descr, Leaf, item_from, size, decode, item_size, leaves_of, leaves_in, fields, field_at, moved_leaf, AreInOrder, decode_item, LeafValue, AreInOrder-within, leaf_value, put}
 use Rattle.name_store.specs.Parts.{IsPathOf, descr_at, start_at, first_at, span_at, part_at, with_part}
 use Rattle.name_store.specs.Places.{IsElementType}
 use Rattle.name_store.proofs.FieldSplits.{Split, split-whole, split-within, records_deep, type-some, type-in_order, type-leaves, type-shallow, fields-deep, field-deep, field-legal, field-split}

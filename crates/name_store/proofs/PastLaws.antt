@@ -5,9 +5,7 @@ use Rattle.std.specs.Option.{option_map}
 use Rattle.std.specs.Cmp.{nat_cmp_total}
 use Rattle.std.specs.FinMap.{get, same_map, nat_cmp-IsAntisymmetric}
 use Rattle.std.proofs.lemmas.Bool.{eqb-true}
-use Rattle.elem_descr.specs.declared.descr.Descr.{Descr}
-use Rattle.elem_descr.specs.Blocks.{items_in}
-use Rattle.elem_descr.specs.Items.{item_size}
+use Rattle.name_store.specs.Words.{Descr, items_in, item_size}
 use Rattle.name_store.specs.States.{Buffer}
 use Rattle.name_store.specs.Arrays.{put_array, is_in_use}
 use Rattle.name_store.specs.Invariants.{LiesAt, GoBackAt, IsUndoable, AreUndoable}

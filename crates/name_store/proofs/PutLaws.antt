@@ -2,18 +2,12 @@
 use Rattle.std.proofs.Common.{◌≡◌, ◌+◌, ◌*◌, ◌<◌, ◌≤◌, ℕ, List, [], ◌∷◌, ◌++◌, length, take, drop, map, refl, sym, ap, ◌∙◌, unwrap_or, slice_set, append_assoc, arith, length-take, length-drop}
 use Rattle.std.specs.List.{AllByRecursion}
 use Rattle.std.proofs.lemmas.List.{drop-drop}
-use Rattle.elem_descr.specs.declared.descr.Descr.{Descr}
-use Rattle.elem_descr.specs.Blocks.{items_in, item_from}
-use Rattle.elem_descr.specs.Items.{item_size, decode_item}
-use Rattle.raw_block.specs.Bytes.{put}
-use Rattle.arrays.specs.Assignments.{with_items}
+use Rattle.name_store.specs.Words.{Descr, items_in, item_from, item_size, decode_item, put, with_items, length-put, offsets_of}
 use Rattle.name_store.specs.Arrays.{placed_item, write}
 use Rattle.name_store.specs.Parts.{IsPathOf, descr_at, start_at, span_at, part_at, with_part}
 use Rattle.name_store.specs.Places.{IsElementType}
-use Rattle.raw_block.specs.BytesLaws.{length-put}
 use Rattle.name_store.proofs.BlockLaws.{put-add, put-item, item-at, item-inside}
 use Rattle.name_store.proofs.PartLaws.{put-front, part-within, part-read, part-put}
-use Rattle.shape_strides.specs.Layouts.{offsets_of}
 
 -- bytes put within an item are the item put, with these bytes in it
 put-part : (width at start : ℕ) (part block : List ℕ) → start + length part ≤ width → at + width ≤ length block →

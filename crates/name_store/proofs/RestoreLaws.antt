@@ -7,9 +7,7 @@ use Rattle.std.proofs.lemmas.List.{get_or_default}
 use Rattle.std.proofs.lemmas.List.Elements.{Contains-get_or}
 use Rattle.std.proofs.lemmas.List.Sorted.{Contains-permutation}
 use Rattle.std.proofs.lemmas.Bool.{cases_lt}
-use Rattle.raw_block.specs.Bytes.{put, item_at}
-use Rattle.raw_block.specs.BytesLaws.{length-put, length-item_at, get_or-put_before, get_or-put_after, item_at-put_same}
-use Rattle.arrays.specs.Assignments.{items_at, with_items}
+use Rattle.name_store.specs.Words.{put, item_at, length-put, length-item_at, get_or-put_before, get_or-put_after, item_at-put_same, items_at, with_items}
 
 -- the byte k is among those of the items, or it is the same in both
 abbrev pub Within : ℕ → List ℕ → ℕ → Type 0

@@ -5,10 +5,7 @@ use Rattle.std.specs.Option.{option_map}
 use Rattle.std.proofs.lemmas.Bool.{eqb-true}
 use Rattle.std.proofs.lemmas.List.Elements.{recursion_from_All}
 use Rattle.std.proofs.lemmas.Option.{same_Some}
-use Rattle.elem_descr.specs.Items.{item_size}
-use Rattle.shape_strides.specs.Layouts.{offsets, Fits}
-use Rattle.shape_strides.specs.LayoutLaws.{offsets_within}
-use Rattle.arrays.specs.declared.owned.Owned.{Owned}
+use Rattle.name_store.specs.Words.{item_size, offsets, Fits, offsets_within, Owned}
 use Rattle.name_store.specs.Invariants.{users_of, users_at}
 use Rattle.name_store.specs.Targets.{target_offsets}
 use Rattle.name_store.specs.View.{slot_at}

@@ -1,11 +1,7 @@
 -- An item that is written at the offsets of runs.
 use Rattle.std.proofs.Common.{◌≡◌, ℕ, List, ◌∷◌, length, sym, ap, ◌∙◌}
 use Rattle.std.specs.List.{flat_map}
-use Rattle.raw_block.specs.Bytes.{filled, EachWithin}
-use Rattle.shape_strides.specs.declared.runs.Run.{Run}
-use Rattle.shape_strides.specs.Runs.{run_offsets}
-use Rattle.fancy_index.specs.Plans.{put_each}
-use Rattle.fancy_index.specs.PlanLaws.{put_each-append, filled-run}
+use Rattle.name_store.specs.Words.{filled, EachWithin, Run, run_offsets, put_each, put_each-append, filled-run}
 
 -- the next run is filled
 pub filled-next : (len : ℕ) (left left' : List Run) (run : Run) (item block block' whole : List ℕ) → left ≡ run ∷ left' → EachWithin len run.offset run.step (length item) run.count →

@@ -6,14 +6,7 @@ use Rattle.std.proofs.lemmas.Int.{ints}
 use Rattle.std.proofs.lemmas.Bool.{eqb-true, eqb-false, ltb-true, ltb-false, lt-ltb, le-ltb, ne_eqb, cases_lt, and_parts}
 use Rattle.std.proofs.Math.Bool.{and-false, and-true}
 use Rattle.std.proofs.lemmas.Bool.Decides.{same_from_decides}
-use Rattle.elem_descr.specs.declared.descr.Descr.{Descr}
-use Rattle.elem_descr.specs.Items.{item_size, leaves_of, leaves_in, fields, field_at}
-use Rattle.shape_strides.specs.declared.layout.Layout.{Layout}
-use Rattle.shape_strides.specs.Limits.{max_bytes}
-use Rattle.shape_strides.specs.Layouts.{address, offsets, Fits, offsets_of}
-use Rattle.arrays.specs.Blocks.{places_of}
-use Rattle.overlap_copy.specs.Overlaps.{have_common_byte}
-use Rattle.shape_strides.specs.CountLaws.{mul-step}
+use Rattle.name_store.specs.Words.{Descr, item_size, leaves_of, leaves_in, fields, field_at, Layout, max_bytes, address, offsets, Fits, offsets_of, places_of, have_common_byte, mul-step}
 use Rattle.name_store.specs.States.{Buffer}
 use Rattle.name_store.specs.Arrays.{buffer_of, share_cells}
 use Rattle.name_store.specs.Invariants.{Holds, LiesIn}

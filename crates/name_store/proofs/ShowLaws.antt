@@ -5,13 +5,9 @@ use Rattle.std.specs.List.{AllByRecursion}
 use Rattle.std.specs.Option.{option_map}
 use Rattle.std.proofs.lemmas.List.Elements.{All-from_recursion}
 use Rattle.std.proofs.Math.Nat.{mul-suc, mul-le-mul_left}
-use Rattle.elem_descr.specs.declared.descr.Descr.{Descr}
-use Rattle.elem_descr.specs.Items.{item_size, fields}
-use Rattle.shape_strides.specs.Layouts.{offsets, offsets_of}
-use Rattle.shape_strides.specs.Limits.{max_bytes}
+use Rattle.name_store.specs.Words.{Descr, item_size, fields, offsets, offsets_of, max_bytes, items_in, item_from}
 use Rattle.name_store.specs.States.{State, Array, Buffer}
 use Rattle.name_store.specs.Arrays.{buffer_of, descr_of, placed_item, no_buffer, read, is_in_use}
-use Rattle.elem_descr.specs.Blocks.{items_in, item_from}
 use Rattle.name_store.specs.Parts.{descr_at, start_at, span_at, part_at}
 use Rattle.name_store.specs.Invariants.{LiesIn}
 use Rattle.name_store.specs.Shown.{Shows, Finds}

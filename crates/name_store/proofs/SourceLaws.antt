@@ -1,14 +1,7 @@
 -- The bytes of items that are written, and the items that they are.
 use Rattle.std.proofs.Common.{◌≡◌, ◌+◌, ◌≤◌, ℕ, zero, suc, List, [], ◌∷◌, length, take, drop, map, replicate, refl, sym, ap, ◌∙◌, arith, length-take, length-drop}
 use Rattle.std.specs.List.{AllByRecursion}
-use Rattle.elem_descr.specs.declared.descr.Descr.{Descr}
-use Rattle.elem_descr.specs.Blocks.{item_from}
-use Rattle.elem_descr.specs.Encoding.{size, decode}
-use Rattle.elem_descr.specs.Items.{item_size, decode_item, AreAlike}
-use Rattle.elem_descr.specs.Values.{LeafValue}
-use Rattle.raw_block.specs.Bytes.{put}
-use Rattle.arrays.specs.Assignments.{items_at, with_items}
-use Rattle.fancy_index.specs.Plans.{put_each}
+use Rattle.name_store.specs.Words.{Descr, item_from, size, decode, item_size, decode_item, AreAlike, LeafValue, put, items_at, with_items, put_each}
 
 -- one item is put, as often as there are offsets
 pub put_each-items : (os item block : List ℕ) → put_each os item block ≡ with_items os (replicate (length os) item) block

@@ -5,8 +5,8 @@ use Rattle.std.specs.Map.{lookup, keys_of}
 use Rattle.std.specs.Option.{option_map}
 use Rattle.std.proofs.lemmas.Bool.{ltb-true}
 use Rattle.std.proofs.lemmas.List.{length-map}
-use Rattle.circular_buffer.specs.Buffer.{Buffer as Ring, buffer, keep_last}
-use Rattle.indexmap.specs.IndexMap.{shift_remove_entry}
+use Rattle.name_store.specs.Words.{buffer, keep_last, shift_remove_entry}
+use Rattle.circular_buffer.specs.Buffer.{Buffer as Ring}
 use Rattle.name_store.specs.Arrays.{find_array, is_in_use, without, unbound}
 use Rattle.name_store.specs.Invariants.{Holds, IsSound, LiesAt, IsUndoable, users_at, users_in, found_at, pins, all_pins}
 use Rattle.name_store.specs.Kept.{Names, names_before, past_buffers, past_buffer, bytes_before}

@@ -4,7 +4,8 @@ use Rattle.std.specs.List.{AllByRecursion, list_any}
 use Rattle.std.specs.Option.{option_map, option_map_or}
 use Rattle.std.proofs.lemmas.List.{length-map, map-append}
 use Rattle.std.proofs.Math.Seq.{take-append_seam}
-use Rattle.circular_buffer.specs.Buffer.{Buffer as Ring, buffer, last_item}
+use Rattle.name_store.specs.Words.{buffer, last_item}
+use Rattle.circular_buffer.specs.Buffer.{Buffer as Ring}
 use Rattle.std.specs.FinMap.{FinMap}
 use Rattle.std.specs.Ordering.{nat_cmp}
 use Rattle.name_store.specs.States.{Buffer}

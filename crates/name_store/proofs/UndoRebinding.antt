@@ -3,8 +3,8 @@ use Rattle.std.proofs.Common.{◌≡◌, ◌+◌, ◌≤◌, ℕ, Bool, List, []
 use Rattle.std.specs.List.{AllByRecursion}
 use Rattle.std.specs.Map.{lookup}
 use Rattle.std.specs.Option.{option_map}
-use Rattle.circular_buffer.specs.Buffer.{Buffer as Ring, buffer}
-use Rattle.indexmap.specs.IndexMap.{insert_entry}
+use Rattle.name_store.specs.Words.{buffer, insert_entry}
+use Rattle.circular_buffer.specs.Buffer.{Buffer as Ring}
 use Rattle.name_store.specs.Arrays.{find_array, put_array}
 use Rattle.name_store.specs.Invariants.{IsSound, LiesAt, one_at, users_at, users_in, found_at}
 use Rattle.name_store.specs.Kept.{Names}

@@ -4,8 +4,8 @@ use Rattle.std.specs.List.{AllByRecursion, position_or_len}
 use Rattle.std.specs.Map.{lookup, keys_of}
 use Rattle.std.specs.Option.{option_map}
 use Rattle.std.proofs.lemmas.List.{length-map}
-use Rattle.circular_buffer.specs.Buffer.{Buffer as Ring, buffer}
-use Rattle.indexmap.specs.IndexMap.{insert_entry, move_index}
+use Rattle.name_store.specs.Words.{buffer, insert_entry, move_index}
+use Rattle.circular_buffer.specs.Buffer.{Buffer as Ring}
 use Rattle.indexmap.proofs.MoveLemmas.{push_moved}
 use Rattle.name_store.specs.Invariants.{IsSound, LiesAt, users_in}
 use Rattle.name_store.specs.Kept.{Names}

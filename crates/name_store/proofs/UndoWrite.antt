@@ -3,7 +3,8 @@ use Rattle.std.proofs.Common.{◌≡◌, ◌<◌, ℕ, true, false, List, [], �
 use Rattle.std.specs.List.{AllByRecursion}
 use Rattle.std.specs.Option.{option_map}
 use Rattle.std.proofs.lemmas.Bool.{eqb-true}
-use Rattle.circular_buffer.specs.Buffer.{Buffer as Ring, buffer}
+use Rattle.name_store.specs.Words.{buffer}
+use Rattle.circular_buffer.specs.Buffer.{Buffer as Ring}
 use Rattle.name_store.specs.Invariants.{IsSound, LiesAt, GoBackAt, users_at}
 use Rattle.name_store.specs.Kept.{with_old}
 use Rattle.name_store.specs.Targets.{target_offsets}

@@ -1,18 +1,12 @@
 -- The definitions at arrays of which NumPy's `shares_memory` and rebinding in Python tell.
 use Rattle.std.proofs.Common.{◌≡◌, ℕ, pos, true, false, List, [], ◌∷◌, Ok, refl}
 use Rattle.std.specs.FinMap.{from_entries}
-use Rattle.elem_descr.specs.declared.descr.Descr.{Descr}
+use Rattle.name_store.specs.Words.{Descr, Byte, Int, Two, Four, Little, Big, no_more, scalar_field, record_field, number, offsets_of}
 use Rattle.elem_descr.specs.declared.descr.Descr.TheVariants.{Scalar as ScalarDescr, Record as RecordDescr}
-use Rattle.elem_descr.specs.declared.scalar.Scalar.TheVariants.{Byte, Int}
-use Rattle.elem_descr.specs.declared.scalar.Width.TheVariants.{Two, Four}
-use Rattle.elem_descr.specs.declared.scalar.Order.TheVariants.{Little, Big}
-use Rattle.elem_descr.specs.Fields.{no_more, scalar_field, record_field}
-use Rattle.elem_descr.specs.Values.{number}
 use Rattle.name_store.specs.States.{Array, State, start}
 use Rattle.name_store.specs.Arrays.{no_buffer, is_in_use, share_cells, bound_view, unbound, written, has_kept, undone, write}
 use Rattle.name_store.specs.Calls.{Counts, CountsUndo}
 use Rattle.name_store.specs.Parts.{descr_at, start_at, span_at, part_at, with_part, have_common, share_leaves}
-use Rattle.shape_strides.specs.Layouts.{offsets_of}
 
 abbrev at_places : ℕ → List ℕ → List ℕ → Array
 at_places buffer path places = record { buffer = buffer; path = path; shape = []; places = places; writable = true }

@@ -1,16 +1,11 @@
 -- A view: places of an array, in a buffer that is there.
 use Rattle.std.proofs.Common.{◌≡◌, ◌<◌, ◌*◌, ℕ, Bool, List, length, map, refl, sym, ap, subst, ◌∙◌, cond, Option, Some, None, is_some, true, false, unwrap_or, arith}
 use Rattle.std.specs.Option.{option_map}
-use Rattle.elem_descr.specs.declared.descr.Descr.{Descr}
-use Rattle.elem_descr.specs.Blocks.{item_from}
-use Rattle.elem_descr.specs.Items.{item_size}
-use Rattle.shape_strides.specs.declared.layout.Layout.{Layout}
-use Rattle.shape_strides.specs.Layouts.{offsets, Fits, offsets_of}
+use Rattle.name_store.specs.Words.{Descr, item_from, item_size, Layout, offsets, Fits, offsets_of, places_of}
 use Rattle.name_store.specs.States.{Array, Buffer}
 use Rattle.name_store.specs.Arrays.{buffer_of, descr_of, is_in_use, no_buffer, placed_item, read}
 use Rattle.name_store.specs.Invariants.{LiesIn}
 use Rattle.name_store.specs.Parts.{descr_at, start_at, span_at, part_at, IsPathOf}
-use Rattle.arrays.specs.Blocks.{places_of}
 use Rattle.name_store.specs.View.{array_at, named_array, buffer_in, slot_at, present}
 use Rattle.name_store.specs.Views.{IsLaidOut, IsViewIn}
 use Rattle.name_store.specs.declared.entry.Entry.{Entry}

@@ -7,11 +7,8 @@ use Rattle.std.specs.Option.{option_map}
 use Rattle.std.proofs.lemmas.Bool.{eqb-true}
 use Rattle.std.proofs.lemmas.List.Elements.{All-from_recursion, recursion_from_All}
 use Rattle.std.proofs.Math.ListN.{drop_of_length-le}
-use Rattle.circular_buffer.specs.Buffer.{Buffer as Ring, buffer, keep_last}
-use Rattle.elem_descr.specs.declared.descr.Descr.{Descr}
-use Rattle.elem_descr.specs.Items.{item_size}
-use Rattle.elem_descr.specs.Values.{LeafValue}
-use Rattle.arrays.specs.Assignments.{items_at, with_items}
+use Rattle.name_store.specs.Words.{buffer, keep_last, Descr, item_size, LeafValue, items_at, with_items}
+use Rattle.circular_buffer.specs.Buffer.{Buffer as Ring}
 use Rattle.name_store.specs.States.{State, Array}
 use Rattle.name_store.specs.Arrays.{is_in_use, keeping, descr_of}
 use Rattle.name_store.specs.Calls.{AnswersWrite, CountsWrite}

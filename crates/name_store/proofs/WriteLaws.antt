@@ -8,12 +8,7 @@ use Rattle.std.specs.Option.{option_map}
 use Rattle.std.proofs.lemmas.Bool.{eqb-true}
 use Rattle.std.proofs.lemmas.List.Elements.{All-contains, All-head, All-tail, All-from_recursion}
 use Rattle.std.proofs.lemmas.Option.{same_Some}
-use Rattle.elem_descr.specs.Blocks.{items_in}
-use Rattle.elem_descr.specs.Items.{item_size, decode_item}
-use Rattle.shape_strides.specs.declared.layout.Layout.{Layout}
-use Rattle.shape_strides.specs.Layouts.{offsets, Fits, offsets_of}
-use Rattle.arrays.specs.Assignments.{with_items}
-use Rattle.arrays.specs.Blocks.{places_of}
+use Rattle.name_store.specs.Words.{items_in, item_size, decode_item, Layout, offsets, Fits, offsets_of, with_items, places_of}
 use Rattle.name_store.specs.States.{State, Array, Buffer}
 use Rattle.name_store.specs.Arrays.{find_array, buffer_of, descr_of, span_of, addresses, write, written, is_in_use, is_bound}
 use Rattle.name_store.specs.Invariants.{Holds, LiesAt, LiesIn}

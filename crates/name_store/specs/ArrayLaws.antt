@@ -2,9 +2,7 @@
 use Rattle.std.proofs.Common.{◌≡◌, ◌+◌, ◌*◌, ◌/◌, ◌<◌, ℕ, zero, suc, List, [], ◌∷◌, length, slice_index, Option, Some, None, refl, ap, ◌∙◌, arith, map, All}
 use Rattle.std.proofs.lemmas.Nat.{div-mul-add}
 use Rattle.std.proofs.Math.Nat.{mul_comm}
-use Rattle.shape_strides.specs.Layouts.{offsets_of}
-use Rattle.shape_strides.specs.Indexes.{rank}
-use Rattle.arrays.specs.Blocks.{places_of}
+use Rattle.name_store.specs.Words.{offsets_of, rank, places_of}
 use Rattle.name_store.specs.States.{State, Array}
 use Rattle.name_store.specs.Shown.{Shows, Finds}
 use Rattle.name_store.specs.declared.array_ref.ArrayRef.{ArrayRef}

@@ -4,17 +4,10 @@ use Rattle.std.specs.List.{list_any}
 use Rattle.std.specs.Option.{option_map_or}
 use Rattle.std.specs.Str.{bytes_eq}
 use Rattle.std.specs.FinMap.{get, insert, retain_keys}
-use Rattle.circular_buffer.specs.Buffer.{keep_last, last_item}
-use Rattle.elem_descr.specs.declared.descr.Descr.{Descr}
+use Rattle.name_store.specs.Words.{keep_last, last_item, Descr, Int, Four, Little, item_size, LeafValue, offsets_of}
 use Rattle.elem_descr.specs.declared.descr.Descr.TheVariants.{Scalar as ScalarDescr}
-use Rattle.elem_descr.specs.declared.scalar.Scalar.TheVariants.{Int}
-use Rattle.elem_descr.specs.declared.scalar.Width.TheVariants.{Four}
-use Rattle.elem_descr.specs.declared.scalar.Order.TheVariants.{Little}
-use Rattle.elem_descr.specs.Items.{item_size}
-use Rattle.elem_descr.specs.Values.{LeafValue}
 use Rattle.name_store.specs.Parts.{descr_at, start_at, span_at, part_at, with_part, have_common, share_leaves}
 use Rattle.name_store.specs.States.{Buffer, Array, State}
-use Rattle.shape_strides.specs.Layouts.{offsets_of}
 
 -- States that are kept
 

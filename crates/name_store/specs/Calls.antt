@@ -1,18 +1,9 @@
 -- What a call that changes a bench answers.
 use Rattle.std.specs.Prelude.{◌≡◌, ◌<◌, ◌≤◌, ◌⊎◌, ◌&&◌, ◌-◌, ◌*◌, ℕ, Bool, true, false, List, [], ◌∷◌, ◌++◌, length, take, Result, Ok, Err, Some, None, All}
 use Rattle.std.specs.FinMap.{get}
-use Rattle.circular_buffer.specs.Buffer.{keep_last}
-use Rattle.elem_descr.specs.declared.refusal.Refusal.{Refusal}
-use Rattle.elem_descr.specs.declared.refusal.Refusal.TheVariants.{OutOfMemory, TooManyNames, UnknownName, NothingToUndo}
-use Rattle.arrays.specs.declared.owned.Owned.{Owned}
-use Rattle.elem_descr.specs.Items.{item_size}
-use Rattle.elem_descr.specs.Values.{LeafValue}
-use Rattle.shape_strides.specs.Indexes.{count}
-use Rattle.shape_strides.specs.Layouts.{offsets}
-use Rattle.arrays.specs.Blocks.{places_of}
+use Rattle.name_store.specs.Words.{keep_last, Refusal, OutOfMemory, TooManyNames, UnknownName, NothingToUndo, Owned, item_size, LeafValue, count, offsets, places_of, items_in}
 use Rattle.name_store.specs.States.{State, Array, BenchValue, Buffer}
 use Rattle.name_store.specs.Arrays.{has_kept, undone, is_bound, has_room_for, bound_to, bound_view, unbound, descr_of, written, find_array, share_cells}
-use Rattle.elem_descr.specs.Blocks.{items_in}
 use Rattle.name_store.specs.Targets.{target_offsets, LeadsTo, Supplies}
 use Rattle.name_store.specs.declared.target.Source.{Source}
 use Rattle.name_store.specs.declared.target.Target.{Target}

@@ -1,7 +1,6 @@
 -- What a name and its array stand for, and the slots by their numbers.
 use Rattle.std.specs.Prelude.{ℕ, zero, suc, List, [], ◌∷◌, Option, None}
-use Rattle.shape_strides.specs.Layouts.{offsets}
-use Rattle.arrays.specs.Blocks.{places_of}
+use Rattle.name_store.specs.Words.{offsets, places_of}
 use Rattle.name_store.specs.States.{Array}
 use Rattle.name_store.specs.declared.entry.Entry.{Entry}
 use Rattle.name_store.specs.declared.entry.Key.{Key}

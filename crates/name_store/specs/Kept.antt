@@ -3,9 +3,7 @@
 use Rattle.std.specs.Prelude.{ℕ, List, [], ◌∷◌, insert, Some, None, nat_eq, if◌then◌else◌, Option, suc, length}
 use Rattle.std.specs.FinMap.{FinMap, from_entries, retain_keys}
 use Rattle.std.specs.Ordering.{nat_cmp}
-use Rattle.elem_descr.specs.Blocks.{items_in}
-use Rattle.shape_strides.specs.Layouts.{multiples}
-use Rattle.arrays.specs.Assignments.{assigned}
+use Rattle.name_store.specs.Words.{items_in, multiples, assigned}
 use Rattle.name_store.specs.States.{Array, Buffer}
 use Rattle.name_store.specs.Arrays.{put_array, without, is_in_use}
 use Rattle.name_store.specs.Targets.{target_offsets}

@@ -1,7 +1,6 @@
 -- What a path that goes on by one field leads to.
 use Rattle.std.proofs.Common.{◌≡◌, ◌<◌, ◌+◌, ℕ, List, [], ◌∷◌, ◌++◌, length, refl, arith}
-use Rattle.elem_descr.specs.declared.descr.Descr.{Descr}
-use Rattle.elem_descr.specs.Items.{fields, field_at}
+use Rattle.name_store.specs.Words.{Descr, fields, field_at}
 use Rattle.name_store.specs.Parts.{IsPathOf, descr_at, start_at}
 
 pub path-then : (descr : Descr) (path : List ℕ) (k : ℕ) → IsPathOf descr path → k < length (fields (descr_at descr path)) → IsPathOf descr (path ++ k ∷ [])

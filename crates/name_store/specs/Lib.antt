@@ -15,3 +15,4 @@ pub mod Memory
 pub mod View
 pub mod Views
 pub mod inside
+pub mod Words

@@ -1,12 +1,6 @@
 -- What takes no memory: writes, where no states are kept, and a question about two buffers.
 use Rattle.std.specs.Prelude.{◌≡◌, ◌≢◌, ◌⊎◌, ℕ, ℤ, List, Some, reverse, IsTrue}
-use Rattle.elem_descr.specs.Items.{item_size}
-use Rattle.shape_strides.specs.declared.layout.Layout.{Layout}
-use Rattle.shape_strides.specs.Contiguity.{is_c_contiguous}
-use Rattle.shape_strides.specs.Layouts.{offsets}
-use Rattle.shape_strides.specs.Stacks.{IsStacked}
-use Rattle.overlap_copy.specs.Apart.{AreApart}
-use Rattle.overlap_copy.specs.Runs.{IsRun}
+use Rattle.name_store.specs.Words.{item_size, Layout, is_c_contiguous, offsets, IsStacked, AreApart, IsRun}
 use Rattle.name_store.specs.States.{State, Array}
 use Rattle.name_store.specs.Arrays.{find_array, descr_of}
 use Rattle.name_store.specs.declared.target.Source.{Source}

@@ -2,9 +2,7 @@
 -- of what those before it lead to.
 use Rattle.std.specs.Prelude.{◌<◌, ℕ, ◌+◌, Bool, List, [], ◌∷◌, ◌++◌, length, take, drop, nat_eq}
 use Rattle.std.specs.List.{list_any, range_with_len}
-use Rattle.elem_descr.specs.declared.descr.Descr.{Descr}
-use Rattle.elem_descr.specs.Items.{leaves_of, leaves_in, fields, field_at}
-use Rattle.elem_descr.specs.Values.{LeafValue}
+use Rattle.name_store.specs.Words.{Descr, leaves_of, leaves_in, fields, field_at, LeafValue}
 
 -- each number of the path is that of a field
 abbrev pub IsPathOf : Descr → List ℕ → Type 0

@@ -1,11 +1,7 @@
 -- Places in a buffer, and the offsets of their items in its block.
 use Rattle.std.specs.Prelude.{◌≡◌, ◌≤◌, ℕ, ◌*◌, List, length}
-use Rattle.elem_descr.specs.declared.descr.Descr.{Descr}
+use Rattle.name_store.specs.Words.{Descr, IsLegal, size, item_size, max_bytes}
 use Rattle.elem_descr.specs.declared.descr.Descr.TheVariants.{Scalar as ScalarDescr, Record as RecordDescr}
-use Rattle.elem_descr.specs.Descriptors.{IsLegal}
-use Rattle.elem_descr.specs.Encoding.{size}
-use Rattle.elem_descr.specs.Items.{item_size}
-use Rattle.shape_strides.specs.Limits.{max_bytes}
 
 -- a scalar of a byte or more, or a legal record
 abbrev pub IsElementType : Descr → Type 0

@@ -1,11 +1,8 @@
 -- What a look-up shows of an array.
 use Rattle.std.specs.Prelude.{◌≡◌, ◌≢◌, ◌<◌, ℕ, ◌*◌, slice_index, map, length, Option, Some, None, IsTrue, All, ◌+◌, ◌≤◌}
-use Rattle.elem_descr.specs.Items.{item_size, fields}
-use Rattle.shape_strides.specs.Layouts.{offsets}
-use Rattle.shape_strides.specs.Limits.{max_bytes}
+use Rattle.name_store.specs.Words.{item_size, fields, offsets, max_bytes, items_in, item_from}
 use Rattle.name_store.specs.States.{State, Array}
 use Rattle.name_store.specs.Arrays.{buffer_of, descr_of, read}
-use Rattle.elem_descr.specs.Blocks.{items_in, item_from}
 use Rattle.name_store.specs.Parts.{start_at}
 use Rattle.name_store.specs.Views.{IsViewIn}
 use Rattle.name_store.specs.declared.array_ref.ArrayRef.{ArrayRef}

@@ -2,8 +2,7 @@
 use Rattle.std.specs.Prelude.{ℕ, Bool, List, []}
 use Rattle.std.specs.Ordering.{nat_cmp}
 use Rattle.std.specs.FinMap.{FinMap, empty}
-use Rattle.elem_descr.specs.declared.descr.Descr.{Descr}
-use Rattle.elem_descr.specs.Values.{LeafValue}
+use Rattle.name_store.specs.Words.{Descr, LeafValue}
 
 -- an element type, and items of it: an item is one value for each leaf
 pub record Buffer : Type 0 where

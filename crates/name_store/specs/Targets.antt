@@ -1,14 +1,7 @@
 -- Places of an array to be written, and what is written to them.
 use Rattle.std.specs.Prelude.{◌≡◌, ◌≤◌, ◌*◌, ℕ, true, false, List, length, map, replicate, Some, All}
 use Rattle.std.specs.List.{Contains}
-use Rattle.elem_descr.specs.declared.descr.Descr.{Descr}
-use Rattle.elem_descr.specs.Items.{item_size, decode_item, AreAlike}
-use Rattle.elem_descr.specs.Blocks.{item_from}
-use Rattle.elem_descr.specs.Values.{LeafValue}
-use Rattle.shape_strides.specs.declared.layout.Layout.{Layout}
-use Rattle.shape_strides.specs.Layouts.{offsets, Fits, IsNested}
-use Rattle.shape_strides.specs.Limits.{max_bytes}
-use Rattle.arrays.specs.declared.owned.Owned.{Owned}
+use Rattle.name_store.specs.Words.{Descr, item_size, decode_item, AreAlike, item_from, LeafValue, Layout, offsets, Fits, IsNested, max_bytes, Owned}
 use Rattle.name_store.specs.States.{State, Array}
 use Rattle.name_store.specs.Arrays.{find_array, buffer_of, descr_of, addresses, read}
 use Rattle.name_store.specs.Views.{IsViewIn}

@@ -2,7 +2,7 @@
 pub use Rattle.name_store.specs.Entries.{array_at, key_bytes, named_array, slot_at}
 use Rattle.std.specs.Prelude.{List, [], map, Option}
 use Rattle.circular_buffer.specs.Buffer.{Buffer as Ring}
-use Rattle.elem_descr.specs.Blocks.{items_in}
+use Rattle.name_store.specs.Words.{items_in}
 use Rattle.name_store.specs.States.{BenchValue, Buffer, State}
 use Rattle.name_store.specs.Kept.{past_buffers, kept_states, patch_size}
 use Rattle.name_store.specs.declared.change.Change.{Change}

@@ -1,10 +1,7 @@
 -- Views: layouts whose items are those of an array, in the block of its buffer.
 use Rattle.std.specs.Prelude.{◌≡◌, ℕ, ◌*◌, true, Bool, List, length, is_some, IsTrue}
 use Rattle.std.specs.FinMap.{get}
-use Rattle.elem_descr.specs.declared.descr.Descr.{Descr}
-use Rattle.elem_descr.specs.Items.{item_size}
-use Rattle.shape_strides.specs.declared.layout.Layout.{Layout}
-use Rattle.shape_strides.specs.Layouts.{offsets, Fits, IsNested, offsets_of}
+use Rattle.name_store.specs.Words.{Descr, item_size, Layout, offsets, Fits, IsNested, offsets_of}
 use Rattle.name_store.specs.States.{State, Array}
 use Rattle.name_store.specs.Arrays.{buffer_of}
 use Rattle.name_store.specs.Parts.{descr_at, start_at, IsPathOf}

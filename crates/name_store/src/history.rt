@@ -1,6 +1,6 @@
 //! The changes that can be undone.
 ghost use Rattle.std.specs.Prelude.{◌≡◌, ◌-◌, ◌<◌, ◌≤◌, ◌^◌, ◌++◌, ◌∷◌, [], length, take, slice_get, option_copied, nat_lt, None, IfOk, IsOk, if◌then◌else◌};
-ghost use Rattle.circular_buffer.specs.Buffer.{buffer, keep_last, last_item};
+ghost use Rattle.name_store.specs.Words.{buffer, keep_last, last_item};
 
 use crate::change::Change;
 use circular_buffer::HeapCircularBuffer;

@@ -1,8 +1,7 @@
 //! Keeps changes, so that they can be undone.
 ghost use Rattle.std.specs.Prelude.{◌≡◌, ◌≤◌, ◌<◌, ◌^◌, ◌+◌, ◌++◌, ◌∷◌, ℕ, [], nat_lt, length, min, None, OnOk, IsOk, if◌then◌else◌};
 ghost use Rattle.std.specs.Option.{option_map};
-ghost use Rattle.circular_buffer.specs.Buffer.{buffer, keep_last};
-ghost use Rattle.indexmap.specs.IndexMap.{spare};
+ghost use Rattle.name_store.specs.Words.{buffer, keep_last, spare};
 ghost use Rattle.name_store.specs.Invariants.{all_pins, users_at};
 ghost use Rattle.name_store.specs.View.{slot_at};
 ghost use Rattle.name_store.specs.inside.Held.{stand};

@@ -1,12 +1,7 @@
 //! Reads and writes the bytes of a block at the offsets of a target.
 ghost use Rattle.std.specs.Prelude.{◌≡◌, ◌+◌, ◌*◌, ◌≤◌, length, All, IfOk, IfErr, IsOk, IsTrue};
 ghost use Rattle.std.specs.List.{flat_map};
-ghost use Rattle.raw_block.specs.Bytes.{EachWithin};
-ghost use Rattle.shape_strides.specs.Limits.{max_bytes};
-ghost use Rattle.shape_strides.specs.Layouts.{offsets, Fits};
-ghost use Rattle.shape_strides.specs.Runs.{run_offsets};
-ghost use Rattle.arrays.specs.Assignments.{assigned};
-ghost use Rattle.fancy_index.specs.Plans.{put_each};
+ghost use Rattle.name_store.specs.Words.{EachWithin, max_bytes, offsets, Fits, run_offsets, assigned, put_each};
 ghost use Rattle.name_store.specs.Kept.{with_old};
 ghost use Rattle.name_store.specs.Memory.{AreShifted};
 ghost use Rattle.name_store.specs.Targets.{target_offsets};

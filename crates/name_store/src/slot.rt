@@ -1,7 +1,6 @@
 //! A buffer.
 ghost use Rattle.std.specs.Prelude.{◌≡◌, ◌≤◌, ◌*◌, length};
-ghost use Rattle.elem_descr.specs.Items.{item_size};
-ghost use Rattle.shape_strides.specs.Limits.{max_bytes};
+ghost use Rattle.name_store.specs.Words.{item_size, max_bytes};
 ghost use Rattle.name_store.specs.Places.{HasJustItems, IsElementType};
 ghost use Rattle.name_store.specs.inside.Props.{IsWhole-prop};
 

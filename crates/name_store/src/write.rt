@@ -1,11 +1,7 @@
 //! Writes items to the places of a target in a buffer, and hands out the old ones if they are kept.
 ghost use Rattle.std.specs.Prelude.{◌≡◌, ◌≤◌, ◌<◌, ℕ, List, length, replicate, Some, IsTrue, IsOk, IfOk, IfErr, IfSome};
 ghost use Rattle.std.specs.List.Sorted.{IsPermutation};
-ghost use Rattle.elem_descr.specs.Items.{item_size};
-ghost use Rattle.shape_strides.specs.Contiguity.{is_c_contiguous};
-ghost use Rattle.shape_strides.specs.Layouts.{offsets};
-ghost use Rattle.arrays.specs.Assignments.{items_at};
-ghost use Rattle.fancy_index.specs.Plans.{put_each};
+ghost use Rattle.name_store.specs.Words.{item_size, is_c_contiguous, offsets, items_at, put_each};
 ghost use Rattle.name_store.specs.Targets.{target_offsets};
 ghost use Rattle.name_store.specs.View.{slot_at};
 ghost use Rattle.name_store.specs.declared.target.Source.TheVariants.{Block};

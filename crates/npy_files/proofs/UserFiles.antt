@@ -4,7 +4,7 @@ use Rattle.std.specs.Cmp.Lexicographic.{texts_ties, nat_list_cmp_total}
 use Rattle.std.specs.FinMap.{empty, get, insert, get-retain_keys, get-insert, same_map}
 use Rattle.std.proofs.lemmas.Bool.{true≢false}
 use Rattle.std.proofs.lemmas.Slice.Eq.{bytes_eq-Decides}
-use Rattle.disk.specs.Files.{Files, SameBut}
+use Rattle.npy_files.specs.Words.{Files, SameBut}
 use Rattle.npy_files.specs.declared.store.StoreFault.{StoreFault}
 use Rattle.npy_files.specs.declared.store.StoreFault.TheVariants.{Device, TooLong, Memory}
 use Rattle.npy_files.specs.Names.{is_user_name}

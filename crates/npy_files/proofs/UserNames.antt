@@ -1,12 +1,9 @@
 -- What a user sees of a file that was put in place by way of a hidden name.
 use Rattle.std.proofs.Common.{◌≡◌, ◌≢◌, ℕ, List, Some, IsTrue, inl, sym, ◌∙◌, subst}
 use Rattle.std.proofs.lemmas.Bool.{true≢false}
-use Rattle.disk.specs.Files.{Files, Same}
-use Rattle.disk.specs.Crashes.{History, Leaves}
-use Rattle.disk.specs.Calls.{Replaces}
+use Rattle.npy_files.specs.Words.{Files, Same, History, Leaves, Replaces, unmoved, weaker}
 use Rattle.npy_files.specs.Names.{is_user_name, hidden_name}
 use Rattle.npy_files.specs.Folders.{OldOrNew}
-use Rattle.disk.specs.CrashLaws.{unmoved, weaker}
 
 -- no user's file has a hidden name
 pub apart : (name other : List ℕ) → IsTrue (is_user_name other) → other ≢ hidden_name name

@@ -1,8 +1,7 @@
 -- A folder on a disk, as a store of files.
 use Rattle.std.specs.Prelude.{◌≡◌, ◌≢◌, ◌⊎◌, ℕ, Bool, List, Some, Result, IsTrue, OnOk, IsErrOf, cond}
 use Rattle.std.specs.FinMap.{empty, get, retain_keys}
-use Rattle.disk.specs.Files.{Files}
-use Rattle.disk.specs.declared.disk.DiskFault.{DiskFault}
+use Rattle.npy_files.specs.Words.{Files, DiskFault}
 use Rattle.disk.specs.declared.disk.DiskFault.TheVariants as disk_fault
 use Rattle.npy_files.specs.declared.store.StoreFault.{StoreFault}
 use Rattle.npy_files.specs.declared.store.StoreFault.TheVariants as store_fault

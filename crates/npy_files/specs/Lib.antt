@@ -2,3 +2,4 @@ pub mod Stores
 pub mod Names
 pub mod Folders
 pub mod inside
+pub mod Words

@@ -1,8 +1,7 @@
 //! A store that is a folder on a disk.
 ghost use Rattle.std.specs.Prelude.{◌≡◌, ◌++◌, ◌≤◌, true, Some, length, IsTrue, OnOk, IsErrOf};
 ghost use Rattle.std.specs.FinMap.{get};
-ghost use Rattle.disk.specs.Files.{Same};
-ghost use Rattle.disk.specs.Crashes.{Leaves};
+ghost use Rattle.npy_files.specs.Words.{Same, Leaves};
 ghost use Rattle.disk.specs.Calls as calls;
 ghost use Rattle.npy_files.specs.declared.store.StoreFault.TheVariants.{Device, TooLong};
 ghost use Rattle.npy_files.specs.Names as names;

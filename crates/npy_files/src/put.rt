@@ -1,10 +1,7 @@
 //! Replaces a file: writes it under a hidden name, then renames it.
 ghost use Rattle.std.specs.Prelude.{◌≡◌, ◌≢◌, ◌++◌, [], IsTrue, IfOk, OnOk, IsErrOf};
 ghost use Rattle.std.specs.FinMap.{get};
-ghost use Rattle.disk.specs.declared.disk.DiskFault.TheVariants.{Failed, Memory};
-ghost use Rattle.disk.specs.Files.{SameBut};
-ghost use Rattle.disk.specs.Crashes.{Leaves};
-ghost use Rattle.disk.specs.Calls.{HasCause, Replaces, Appends, AlwaysHas};
+ghost use Rattle.npy_files.specs.Words.{Failed, Memory, SameBut, Leaves, HasCause, Replaces, Appends, AlwaysHas};
 
 use disk::{Disk, DiskFault};
 

@@ -1,9 +1,7 @@
 //! Reads files in two parts.
 ghost use Rattle.std.specs.Prelude.{◌≡◌, ◌++◌, ◌+◌, ◌<◌, ◌≤◌, [], ℕ, List, length, take, drop, IsTrue, IfOk, OnOk, IsErrOf};
 ghost use Rattle.std.specs.FinMap.{get};
-ghost use Rattle.disk.specs.Files.{Same};
-ghost use Rattle.disk.specs.Crashes.{Leaves};
-ghost use Rattle.disk.specs.Calls.{HasCause};
+ghost use Rattle.npy_files.specs.Words.{Same, Leaves, HasCause};
 ghost use Rattle.npy_files.specs.declared.store.StoreFault.TheVariants.{Device, TooLong};
 ghost use Rattle.npy_files.specs.Stores.{IsRead};
 

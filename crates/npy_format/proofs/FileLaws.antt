@@ -2,7 +2,7 @@
 use Rattle.std.proofs.Common.{◌≡◌, ◌⊎◌, ◌+◌, ℕ, true, List, [], ◌∷◌, ◌++◌, length, take, drop, Ok, refl, sym, ap, ◌∙◌, inl, inr, arith, length-append, append_assoc}
 use Rattle.std.specs.Prelude.{◌≤◌, replicate, codes}
 use Rattle.std.proofs.lemmas.List.{take-replicate, length-replicate}
-use Rattle.byteorder.specs.Endian.{little_bytes}
+use Rattle.npy_format.specs.Words.{little_bytes}
 use Rattle.npy_format.specs.WrittenHeaders.{spaces_after, padded_text, with_length}
 use Rattle.npy_format.specs.Files.{magic, begins_well, split_front, length_bytes, text_behind, split_header}
 

@@ -2,14 +2,8 @@
 use Rattle.std.proofs.Common.{◌≡◌, ℕ, true, false, List, [], ◌∷◌, ◌++◌, Ok, Err, codes, replicate, refl}
 use Rattle.std.specs.Prelude.{pos}
 use Rattle.std.specs.Fmt.{digits}
-use Rattle.elem_descr.specs.declared.refusal.Refusal.TheVariants.{TooLarge}
-use Rattle.elem_descr.specs.declared.scalar.Order.TheVariants.{Little, Big}
-use Rattle.elem_descr.specs.declared.scalar.Width.TheVariants.{Two, Four}
-use Rattle.elem_descr.specs.declared.scalar.Scalar.{Scalar}
-use Rattle.elem_descr.specs.declared.scalar.Scalar.TheVariants.{Byte, Int, Bytes}
+use Rattle.npy_format.specs.Words.{TooLarge, Little, Big, Two, Four, Scalar, Byte, Int, Bytes, no_more, scalar_field, record_field, LeafValue, number}
 use Rattle.elem_descr.specs.declared.descr.Descr.TheVariants.{Scalar as ScalarDescr, Record as RecordDescr}
-use Rattle.elem_descr.specs.Fields.{no_more, scalar_field, record_field}
-use Rattle.elem_descr.specs.Values.{LeafValue, number}
 use Rattle.npy_format.specs.WrittenFiles.{is_fortran, saved}
 
 abbrev int : Scalar

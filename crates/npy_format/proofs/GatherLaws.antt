@@ -7,26 +7,8 @@ use Rattle.std.proofs.lemmas.Bool.{eqb-true, true≢false, cases_lt}
 use Rattle.std.proofs.lemmas.Grind.{flat_map-append}
 use Rattle.std.proofs.lemmas.List.{append-nil, drop-drop, length-map, get_or-map, get_or_past, length-reverse}
 use Rattle.std.proofs.lemmas.List.Elements.{All-head, All-tail, All-from_recursion}
-use Rattle.raw_block.specs.Bytes.{place, item_at, EachWithin}
-use Rattle.raw_block.specs.BytesLaws.{begins_within}
-use Rattle.shape_strides.specs.declared.runs.Run.{Run}
-use Rattle.shape_strides.specs.Indexes.{count, indexes, rank}
-use Rattle.shape_strides.specs.IndexLaws.{length-indexes, rank-lt, get_or-indexes, index_at}
-use Rattle.shape_strides.specs.AxisLaws.{rank-zeros, IsIndex-first}
-use Rattle.shape_strides.specs.AxisIndexes.{zero_filled}
-use Rattle.shape_strides.specs.ReverseLaws.{count-reverse, IsIndex-from_reverse}
-use Rattle.shape_strides.specs.Contiguity.{first_address, fortran_order, is_c_contiguous, is_f_contiguous}
-use Rattle.shape_strides.specs.declared.layout.Layout.{Layout}
-use Rattle.shape_strides.specs.Limits.{max_items}
-use Rattle.shape_strides.specs.Layouts.{offsets}
-use Rattle.shape_strides.specs.LayoutLaws.{length-offsets}
-use Rattle.shape_strides.specs.Runs.{run_offsets, runs}
-use Rattle.shape_strides.specs.ContiguityLaws.{first_address-entry}
-use Rattle.shape_strides.specs.WalkLaws.{length-run_offsets}
-use Rattle.arrays.specs.RunLaws.{run_offsets-more, place-at, run-ends}
-use Rattle.arrays.specs.FortranLaws.{length-fortran}
+use Rattle.npy_format.specs.Words.{place, item_at, EachWithin, begins_within, Run, count, indexes, rank, length-indexes, rank-lt, get_or-indexes, index_at, rank-zeros, IsIndex-first, zero_filled, count-reverse, IsIndex-from_reverse, first_address, fortran_order, is_c_contiguous, is_f_contiguous, Layout, max_items, offsets, length-offsets, run_offsets, runs, first_address-entry, length-run_offsets, run_offsets-more, place-at, run-ends, length-fortran, reverse-replicate}
 use Rattle.npy_format.specs.inside.WrittenItems.{gathered, addresses_in_file}
-use Rattle.elem_descr.specs.NulLaws.{reverse-replicate}
 
 -- ---- items that lie one right after the other
 

@@ -2,9 +2,7 @@
 use Rattle.std.proofs.Common.{◌≡◌, ◌<◌, ◌≤◌, ℕ, zero, suc, Bool, true, false, List, [], ◌∷◌, length, Option, Some, None, Result, Ok, Err, refl, ap, sym, ◌∙◌, arith}
 use Rattle.std.specs.Prelude.{nat_eq, if◌then◌else◌}
 use Rattle.std.specs.Option.{ok_or}
-use Rattle.elem_descr.specs.declared.refusal.Refusal.{Refusal}
-use Rattle.elem_descr.specs.declared.refusal.Refusal.TheVariants.{BadHeader}
-use Rattle.elem_descr.specs.Refusals.{◌>>=◌}
+use Rattle.npy_format.specs.Words.{Refusal, BadHeader, ◌>>=◌}
 use Rattle.npy_format.specs.Tokens.{Token}
 use Rattle.npy_format.specs.Tokens as token
 use Rattle.npy_format.specs.Listed.{Literal}

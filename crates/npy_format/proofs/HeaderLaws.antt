@@ -3,14 +3,7 @@ use Rattle.std.proofs.Common.{◌≡◌, ◌≢◌, ◌≤◌, ◌<◌, ◌+◌,
 use Rattle.std.specs.Prelude.{MatchOption, MatchResult, if◌then◌else◌}
 use Rattle.std.specs.Option.{ok_or, is_some}
 use Rattle.std.proofs.lemmas.List.{append-nil, length-map, map-append}
-use Rattle.elem_descr.specs.declared.refusal.Refusal.{Refusal}
-use Rattle.elem_descr.specs.declared.refusal.Refusal.TheVariants.{BadHeader, TooManyAxes}
-use Rattle.elem_descr.specs.declared.descr.Descr.{Descr}
-use Rattle.elem_descr.specs.Refusals.{◌>>=◌, Answers}
-use Rattle.elem_descr.specs.RefusalLaws.{bind_ok}
-use Rattle.shape_strides.specs.Limits.{max_items}
-use Rattle.shape_strides.specs.Shapes.{shape_of}
-use Rattle.shape_strides.specs.ShapeLaws.{shape_of-many, shape_of-capped}
+use Rattle.npy_format.specs.Words.{Refusal, BadHeader, TooManyAxes, Descr, ◌>>=◌, Answers, bind_ok, max_items, shape_of, shape_of-many, shape_of-capped}
 use Rattle.npy_format.specs.Tokens.{Token}
 use Rattle.npy_format.specs.Listed.{Literal, Pair, Row, all_listed_values}
 use Rattle.npy_format.specs.Values.{Round}

@@ -5,8 +5,7 @@ use Rattle.std.proofs.Math.Seq.{take-append_seam, drop-append_seam}
 use Rattle.std.proofs.Math.Nat.{mod-lt}
 use Rattle.std.proofs.lemmas.Bool.{le-leb, lt-ltb, le-ltb, cases_lt}
 use Rattle.std.proofs.lemmas.List.{append-nil}
-use Rattle.byteorder.specs.Endian.{little_bytes, little_number}
-use Rattle.byteorder.specs.Numbers.{little_number-reads_back, length-bytes_low_first}
+use Rattle.npy_format.specs.Words.{little_bytes, little_number, little_number-reads_back, length-bytes_low_first}
 use Rattle.npy_format.specs.Files.{magic, max_header, split_front, length_bytes, text_behind, split_header}
 use Rattle.npy_format.specs.WrittenHeaders.{max_short_text, spaces_after, padded_text, with_length, written_header}
 use Rattle.npy_format.proofs.FileLaws.{header_split, length-padded}

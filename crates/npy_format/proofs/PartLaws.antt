@@ -5,11 +5,7 @@ use Rattle.std.proofs.lemmas.Bool.{le-leb, leb-true, cases_lt}
 use Rattle.std.proofs.lemmas.Slice.Eq.{bytes_eq-Decides}
 use Rattle.std.proofs.lemmas.List.{take-append-le, drop-append-le, append-nil}
 use Rattle.std.specs.Str.{bytes_eq}
-use Rattle.byteorder.specs.Endian.{little_number}
-use Rattle.elem_descr.specs.declared.refusal.Refusal.{Refusal}
-use Rattle.elem_descr.specs.declared.refusal.Refusal.TheVariants.{BadMagic, Truncated, TooLarge}
-use Rattle.elem_descr.specs.Refusals.{check}
-use Rattle.elem_descr.specs.RefusalLaws.{bind_ok}
+use Rattle.npy_format.specs.Words.{little_number, Refusal, BadMagic, Truncated, TooLarge, check, bind_ok}
 use Rattle.npy_format.specs.Files.{magic, max_header, split_front, begins_well, length_bytes, text_behind, split_header, load}
 use Rattle.npy_format.specs.inside.LoadedParts.{load_behind}
 use Rattle.npy_format.proofs.FileLaws.{header_split}

@@ -3,10 +3,7 @@ use Rattle.std.proofs.Common.{◌≡◌, ◌≢◌, ℕ, zero, suc, Bool, true, 
 use Rattle.std.specs.Prelude.{nat_eq, if◌then◌else◌}
 use Rattle.std.specs.Option.{ok_or}
 use Rattle.std.proofs.lemmas.Bool.{eqb-true}
-use Rattle.elem_descr.specs.declared.refusal.Refusal.{Refusal}
-use Rattle.elem_descr.specs.declared.refusal.Refusal.TheVariants.{BadHeader}
-use Rattle.elem_descr.specs.Refusals.{◌>>=◌}
-use Rattle.elem_descr.specs.RefusalLaws.{bind_ok}
+use Rattle.npy_format.specs.Words.{Refusal, BadHeader, ◌>>=◌, bind_ok}
 use Rattle.npy_format.specs.Tokens.{Token}
 use Rattle.npy_format.specs.Tokens as token
 use Rattle.npy_format.specs.Values.{Text, Integer, Truth, Nothing, Dictionary, Round, Square, no_values}

@@ -3,11 +3,7 @@ use Rattle.std.proofs.Common.{◌≡◌, ℕ, zero, suc, ◌-◌, ◌<◌, ◌�
 use Rattle.std.specs.Char.{is_ascii_digit}
 use Rattle.std.specs.List.{list_all, flat_map}
 use Rattle.std.proofs.lemmas.List.Elements.{All-head, All-tail}
-use Rattle.elem_descr.specs.declared.descr.Descr.{Descr}
-use Rattle.elem_descr.specs.Refusals.{◌>>=◌}
-use Rattle.shape_strides.specs.Limits.{max_items}
-use Rattle.shape_strides.specs.Shapes.{IsShape, shape_text}
-use Rattle.shape_strides.specs.ShapeLaws.{shape_read}
+use Rattle.npy_format.specs.Words.{Descr, ◌>>=◌, max_items, IsShape, shape_text, shape_read}
 use Rattle.npy_format.specs.Tokens.{Token, is_plain_byte, tokens}
 use Rattle.npy_format.specs.Tokens as token
 use Rattle.npy_format.specs.Values.{Round, Text, Integer, Truth}

@@ -5,24 +5,8 @@ use Rattle.std.specs.Str.{bytes_eq}
 use Rattle.std.proofs.lemmas.Bool.{le-leb, ne_eqb, true≢false, and_parts}
 use Rattle.std.proofs.lemmas.Fmt.{decimal_nonempty}
 use Rattle.std.proofs.lemmas.List.{append-nil}
-use Rattle.elem_descr.specs.declared.refusal.Refusal.{Refusal}
-use Rattle.elem_descr.specs.declared.scalar.Scalar.{Scalar}
-use Rattle.elem_descr.specs.declared.descr.Field.{Field}
-use Rattle.elem_descr.specs.declared.descr.Descr.{Descr}
+use Rattle.npy_format.specs.Words.{Refusal, Scalar, Field, Descr, ◌>>=◌, size, Fields, no_more, scalar_field, record_field, Structure, is_legal_name, AreNamedWithin, InOrder, fields_of, names_of, depth, leaf_count, listed-fields_of, InOrder-within, some_depth, item_size, leaves_of, length-leaves_from, spelling, Partial, is_taken, widened, closed_record, packed, field_of, grown, name_ok, added_ok, names, not_taken, digits-decimal, value_of-decimal, reads_spelling}
 use Rattle.elem_descr.specs.declared.descr.Descr.TheVariants.{Scalar as ScalarDescr, Record as RecordDescr}
-use Rattle.elem_descr.specs.Refusals.{◌>>=◌}
-use Rattle.elem_descr.specs.Encoding.{size}
-use Rattle.elem_descr.specs.Fields.{Fields, no_more, scalar_field, record_field, Structure}
-use Rattle.elem_descr.specs.Names.{is_legal_name}
-use Rattle.elem_descr.specs.Descriptors.{AreNamedWithin, InOrder, fields_of, names_of, depth, leaf_count}
-use Rattle.elem_descr.specs.DescriptorLaws.{listed-fields_of, InOrder-within, some_depth}
-use Rattle.elem_descr.specs.Items.{item_size, leaves_of}
-use Rattle.elem_descr.specs.ItemLaws.{length-leaves_from}
-use Rattle.elem_descr.specs.TypeStrings.{spelling}
-use Rattle.elem_descr.specs.RecordBuilding.{Partial, is_taken, widened, closed_record}
-use Rattle.elem_descr.specs.BuildingLaws.{packed, field_of, grown, name_ok, added_ok, names, not_taken}
-use Rattle.elem_descr.specs.DigitLaws.{digits-decimal, value_of-decimal}
-use Rattle.elem_descr.specs.SpellingLaws.{reads_spelling}
 use Rattle.npy_format.specs.Values.{Square, Text}
 use Rattle.npy_format.specs.Listed.{Literal, Plain, Row, all_listed_values}
 use Rattle.npy_format.specs.RecordLists.{pad_kind, type_in, field_in, entry_in, fields_in, record_in, descr_in, Reader}

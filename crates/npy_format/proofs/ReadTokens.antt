@@ -7,9 +7,7 @@ use Rattle.std.proofs.Math.Seq.{take-append_seam, drop-append_seam}
 use Rattle.std.proofs.lemmas.Bool.{ne_eqb, and_parts}
 use Rattle.std.proofs.lemmas.Bool.Decides.{nat_tests}
 use Rattle.std.proofs.lemmas.Fmt.{first_decimal, decimal_nonempty, decimal_digit}
-use Rattle.elem_descr.specs.TypeStrings.{value_of}
-use Rattle.elem_descr.specs.DigitLaws.{digits-decimal, value_of-decimal}
-use Rattle.shape_strides.specs.Limits.{max_items}
+use Rattle.npy_format.specs.Words.{value_of, digits-decimal, value_of-decimal, max_items}
 use Rattle.npy_format.specs.Tokens.{Token, Text, Integer, Symbol, Stray, is_space, is_quote, is_plain_byte, text_token, ended_text, is_integer, behind_long, integer_token, word_token, token_from, unspaced_text, first_token, tokens_in}
 
 -- the tokens of a text, in turns enough for its bytes

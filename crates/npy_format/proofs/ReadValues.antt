@@ -4,23 +4,14 @@ use Rattle.std.specs.List.{list_all}
 use Rattle.std.specs.Char.{is_ascii_digit}
 use Rattle.std.proofs.lemmas.Bool.Decides.{nat_tests}
 use Rattle.std.proofs.lemmas.Bool.{and_parts}
-use Rattle.elem_descr.specs.declared.scalar.Order.TheVariants.{Little, Big}
-use Rattle.elem_descr.specs.declared.scalar.Scalar.{Scalar}
-use Rattle.elem_descr.specs.declared.scalar.Scalar.TheVariants.{Bool as BoolScalar, Byte, Int, Bytes}
-use Rattle.elem_descr.specs.Encoding.{size, width_size}
-use Rattle.elem_descr.specs.Fields.{Fields, no_more, scalar_field, record_field}
-use Rattle.elem_descr.specs.Names.{is_field_name_byte, is_legal_name}
-use Rattle.elem_descr.specs.Descriptors.{InOrder, AreNamedWithin, names_of, depth}
-use Rattle.elem_descr.specs.DescriptorLaws.{InOrder-within, some_depth}
-use Rattle.elem_descr.specs.TypeStrings.{spelling}
-use Rattle.elem_descr.specs.Refusals.{◌>>=◌}
+use Rattle.npy_format.specs.Words.{Little, Big, Scalar, Byte, Int, Bytes, size, width_size, Fields, no_more, scalar_field, record_field, is_field_name_byte, is_legal_name, InOrder, AreNamedWithin, names_of, depth, InOrder-within, some_depth, spelling, ◌>>=◌, digits-decimal}
+use Rattle.elem_descr.specs.declared.scalar.Scalar.TheVariants.{Bool as BoolScalar}
 use Rattle.npy_format.specs.Tokens.{Token, is_plain_byte}
 use Rattle.npy_format.specs.Tokens as token
 use Rattle.npy_format.specs.Values.{Round, Square, Text}
 use Rattle.npy_format.specs.Listed.{Literal, Plain, Row, all_listed_values}
 use Rattle.npy_format.specs.Literals.{symbol_token_at, entries_in, tuple_in, list_in, literal_in}
 use Rattle.npy_format.specs.WrittenHeaders.{quoted, entry, gap, separated, in_brackets, entries}
-use Rattle.elem_descr.specs.DigitLaws.{digits-decimal}
 use Rattle.npy_format.proofs.ReadTokens.{Scans, scan_token, scan_space, scan_quoted}
 
 -- tokens that are read as a value, with those behind it

@@ -1,15 +1,8 @@
 -- The entries of a list, one after the other.
 use Rattle.std.proofs.Common.{◌≡◌, ◌⊎◌, ◌<◌, ◌+◌, ◌-◌, ℕ, suc, Bool, true, false, List, [], ◌∷◌, Option, Some, None, Result, Ok, Err, refl, ap, ⊎_elim, inl, inr, ◌∙◌, arith}
 use Rattle.std.specs.Prelude.{if◌then◌else◌}
-use Rattle.elem_descr.specs.declared.refusal.Refusal.{Refusal}
-use Rattle.elem_descr.specs.declared.refusal.Refusal.TheVariants.{DescriptorLeftOut, OutOfMemory}
-use Rattle.elem_descr.specs.Refusals.{◌>>=◌, Gives, Answers}
-use Rattle.elem_descr.specs.declared.descr.Descr.{Descr}
+use Rattle.npy_format.specs.Words.{Refusal, DescriptorLeftOut, OutOfMemory, ◌>>=◌, Gives, Answers, Descr, Structure, is_legal_name, is_empty, Partial, max_depth, empty, checked_name, added, closed_record}
 use Rattle.elem_descr.specs.declared.descr.Descr.TheVariants.{Record as RecordDescr}
-use Rattle.elem_descr.specs.Fields.{Structure}
-use Rattle.elem_descr.specs.Names.{is_legal_name}
-use Rattle.elem_descr.specs.FormatLetters.{is_empty}
-use Rattle.elem_descr.specs.RecordBuilding.{Partial, max_depth, empty, checked_name, added, closed_record}
 use Rattle.npy_format.specs.Tokens.{Token}
 use Rattle.npy_format.specs.Listed.{Literal, Plain, Row, all_listed_values, value_literals}
 use Rattle.npy_format.specs.Values.{Text, Integer, Truth, Nothing, Dictionary, Round, Square}

@@ -6,32 +6,12 @@ use Rattle.std.proofs.Math.Seq.{take-append_seam, drop-append_seam, drop-append-
 use Rattle.std.proofs.lemmas.Bool.{le-leb}
 use Rattle.std.proofs.lemmas.List.{append-nil, length-map, get_or-map, ext_get_or, length-replicate, reverse-reverse}
 use Rattle.std.proofs.lemmas.List.FromFn.{length-map-range_with_len, get_or-map-range_with_len}
-use Rattle.raw_block.specs.Bytes.{item_at}
-use Rattle.raw_block.specs.BytesLaws.{length-item_at}
-use Rattle.elem_descr.specs.declared.leaf.Leaf.{Leaf}
-use Rattle.elem_descr.specs.declared.scalar.Scalar.{Scalar}
-use Rattle.elem_descr.specs.declared.scalar.Scalar.TheVariants.{Bool as BoolScalar, Byte, Int, Bytes}
-use Rattle.elem_descr.specs.declared.descr.Descr.{Descr}
+use Rattle.npy_format.specs.Words.{item_at, length-item_at, Leaf, Scalar, Byte, Int, Bytes, Descr, Refusal, ◌>>=◌, fortran_order, length-fortran, LeafValue, number, size, decode, encode, truth, item_size, leaves_of, AreInOrder, encode_from, encode_item, decode_item, AreInOrder-within, leaves_in_order, item_from, AreBytes, bytes-drop, bytes-take, truth-twice, length-encode, max_bytes, count, indexes, rank, length-indexes, rank-lt, get_or-indexes, index_at, count-reverse, IsIndex-reverse, IsShape, offsets_in}
+use Rattle.elem_descr.specs.declared.scalar.Scalar.TheVariants.{Bool as BoolScalar}
 use Rattle.elem_descr.specs.declared.descr.Descr.TheVariants.{Scalar as ScalarDescr, Record as RecordDescr}
-use Rattle.elem_descr.specs.declared.refusal.Refusal.{Refusal}
-use Rattle.elem_descr.specs.Refusals.{◌>>=◌}
-use Rattle.shape_strides.specs.Contiguity.{fortran_order}
 use Rattle.npy_format.specs.declared.header.Header.{Header}
-use Rattle.arrays.specs.FortranLaws.{length-fortran}
 use Rattle.npy_format.proofs.GatherLaws.{fortran-within}
 use Rattle.npy_format.proofs.WriterLaws.{ordered-items}
-use Rattle.elem_descr.specs.Values.{LeafValue, number}
-use Rattle.elem_descr.specs.Encoding.{size, decode, encode, truth}
-use Rattle.elem_descr.specs.Items.{item_size, leaves_of, AreInOrder, encode_from, encode_item, decode_item}
-use Rattle.elem_descr.specs.ItemLaws.{AreInOrder-within, leaves_in_order}
-use Rattle.elem_descr.specs.Blocks.{item_from}
-use Rattle.elem_descr.specs.ByteLaws.{AreBytes, bytes-drop, bytes-take, truth-twice, length-encode}
-use Rattle.shape_strides.specs.Limits.{max_bytes}
-use Rattle.shape_strides.specs.Indexes.{count, indexes, rank}
-use Rattle.shape_strides.specs.IndexLaws.{length-indexes, rank-lt, get_or-indexes, index_at}
-use Rattle.shape_strides.specs.ReverseLaws.{count-reverse, IsIndex-reverse}
-use Rattle.shape_strides.specs.Shapes.{IsShape}
-use Rattle.arrays.specs.Blocks.{offsets_in}
 use Rattle.npy_format.specs.Files.{load, file_order, data_size, split_front, split_header}
 use Rattle.npy_format.specs.Headers.{header}
 use Rattle.npy_format.specs.WrittenHeaders.{written_text, written_header}

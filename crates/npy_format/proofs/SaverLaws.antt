@@ -2,17 +2,8 @@
 use Rattle.std.proofs.Common.{◌≡◌, ℕ, ◌+◌, ◌*◌, ◌<◌, ◌≤◌, Bool, true, List, ◌++◌, map, length, drop, All, IfOk, refl, sym, ap, subst, ◌∙◌, arith, ◌||◌}
 use Rattle.std.specs.List.{flat_map}
 use Rattle.std.proofs.Math.Seq.{take-append_seam, drop-append_seam}
-use Rattle.raw_block.specs.Bytes.{item_at}
-use Rattle.raw_block.specs.BytesLaws.{length-item_at}
-use Rattle.elem_descr.specs.declared.descr.Descr.{Descr}
-use Rattle.elem_descr.specs.Items.{item_size, leaves_of, AreInOrder, encode_item, decode_item}
-use Rattle.elem_descr.specs.Blocks.{blocks, item_from}
-use Rattle.shape_strides.specs.Indexes.{count}
-use Rattle.shape_strides.specs.Contiguity.{first_address, is_c_contiguous, is_f_contiguous}
+use Rattle.npy_format.specs.Words.{item_at, length-item_at, Descr, item_size, leaves_of, AreInOrder, encode_item, decode_item, blocks, item_from, count, first_address, is_c_contiguous, is_f_contiguous, LeafValue, AreBytes, bytes-drop, bytes-take, max_bytes}
 use Rattle.npy_format.specs.Files.{file_order}
-use Rattle.elem_descr.specs.Values.{LeafValue}
-use Rattle.elem_descr.specs.ByteLaws.{AreBytes, bytes-drop, bytes-take}
-use Rattle.shape_strides.specs.Limits.{max_bytes}
 use Rattle.npy_format.specs.WrittenFiles.{is_fortran, ordered, file_of, saved}
 use Rattle.npy_format.specs.SavedFiles.{LoadsAs}
 use Rattle.npy_format.specs.inside.WrittenItems.{gathered, IsPlain, addresses_in_file}

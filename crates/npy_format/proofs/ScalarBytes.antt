@@ -6,17 +6,8 @@ use Rattle.std.proofs.Math.Nat.{mod-lt}
 use Rattle.std.proofs.lemmas.Nat.{div-mul-add}
 use Rattle.std.proofs.lemmas.List.{append-nil, take_all}
 use Rattle.std.proofs.lemmas.List.Sums.{suffix_len-le-length}
-use Rattle.byteorder.specs.Endian.{little_from, big_from, little_number, big_number, little_bytes, big_bytes}
-use Rattle.byteorder.specs.Numbers.{little_from-cons, big_from-cons, little_from-lt, big_from-lt, length-bytes_low_first, length-bytes_high_first, little_number-reads_back, big_number-reads_back}
-use Rattle.elem_descr.specs.declared.scalar.Order.{Order}
-use Rattle.elem_descr.specs.declared.scalar.Order.TheVariants.{Little, Big}
-use Rattle.elem_descr.specs.declared.scalar.Scalar.{Scalar}
-use Rattle.elem_descr.specs.declared.scalar.Scalar.TheVariants.{Bool as BoolScalar, Byte, Int, Bytes}
-use Rattle.elem_descr.specs.Encoding.{size, decode, encode, number_in, bytes_of, truth, width_size, without_nuls, padded}
-use Rattle.elem_descr.specs.EncodingLaws.{low_bits-integer}
-use Rattle.elem_descr.specs.NulLaws.{without_nuls-back}
-use Rattle.elem_descr.specs.Nuls.{nuls}
-use Rattle.elem_descr.specs.ByteLaws.{AreBytes, number-lt, truth-twice}
+use Rattle.npy_format.specs.Words.{little_from, big_from, little_number, big_number, little_bytes, big_bytes, little_from-cons, big_from-cons, little_from-lt, big_from-lt, length-bytes_low_first, length-bytes_high_first, little_number-reads_back, big_number-reads_back, Order, Little, Big, Scalar, Byte, Int, Bytes, size, decode, encode, number_in, bytes_of, truth, width_size, without_nuls, padded, low_bits-integer, without_nuls-back, nuls, AreBytes, number-lt, truth-twice}
+use Rattle.elem_descr.specs.declared.scalar.Scalar.TheVariants.{Bool as BoolScalar}
 use Rattle.npy_format.specs.inside.WrittenItems.{limit}
 
 -- ---- numbers

@@ -2,12 +2,7 @@
 use Rattle.std.proofs.Common.{◌≡◌, ◌≢◌, ℕ, true, false, List, [], ◌∷◌, Option, Some, None, Result, Ok, Err, Bor, refl, ap, sym, subst, ◌∙◌, arith}
 use Rattle.std.specs.Option.{is_some, option_map}
 use Rattle.std.specs.Prelude.{option_copied}
-use Rattle.elem_descr.specs.declared.refusal.Refusal.{Refusal}
-use Rattle.elem_descr.specs.declared.refusal.Refusal.TheVariants.{BadHeader, BadDescriptor, DescriptorLeftOut}
-use Rattle.elem_descr.specs.Fields.{Structure}
-use Rattle.elem_descr.specs.Refusals.{◌>>=◌}
-use Rattle.elem_descr.specs.RecordBuilding.{Partial}
-use Rattle.elem_descr.specs.RefusalLaws.{bind_ok}
+use Rattle.npy_format.specs.Words.{Refusal, BadHeader, BadDescriptor, DescriptorLeftOut, Structure, ◌>>=◌, Partial, bind_ok}
 use Rattle.npy_format.specs.Tokens.{Token, tokens}
 use Rattle.npy_format.specs.Tokens as token
 use Rattle.npy_format.specs.Values.{Text, Integer, Round, Square}

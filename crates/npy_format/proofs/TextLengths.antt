@@ -5,19 +5,9 @@ use Rattle.std.proofs.lemmas.Bool.{leb-true, and_parts}
 use Rattle.std.proofs.lemmas.Fmt.{length-decimal-le}
 use Rattle.std.proofs.lemmas.List.Elements.{All-head, All-tail}
 use Rattle.std.proofs.Math.Nat.{mul-add}
-use Rattle.elem_descr.specs.declared.scalar.Order.TheVariants.{Little, Big}
-use Rattle.elem_descr.specs.declared.scalar.Scalar.{Scalar}
-use Rattle.elem_descr.specs.declared.scalar.Scalar.TheVariants.{Bool as BoolScalar, Byte, Int, Bytes}
-use Rattle.elem_descr.specs.declared.descr.Descr.{Descr}
+use Rattle.npy_format.specs.Words.{Little, Big, Scalar, Byte, Int, Bytes, Descr, size, Fields, no_more, scalar_field, record_field, total, is_field_name_byte, is_legal_name, InOrder, AreNamedWithin, names_of, depth, leaf_count, InOrder-within, some_depth, some_leaves, spelling, max_items, IsShape, shape_text}
+use Rattle.elem_descr.specs.declared.scalar.Scalar.TheVariants.{Bool as BoolScalar}
 use Rattle.elem_descr.specs.declared.descr.Descr.TheVariants.{Scalar as ScalarDescr, Record as RecordDescr}
-use Rattle.elem_descr.specs.Encoding.{size}
-use Rattle.elem_descr.specs.Fields.{Fields, no_more, scalar_field, record_field, total}
-use Rattle.elem_descr.specs.Names.{is_field_name_byte, is_legal_name}
-use Rattle.elem_descr.specs.Descriptors.{InOrder, AreNamedWithin, names_of, depth, leaf_count}
-use Rattle.elem_descr.specs.DescriptorLaws.{InOrder-within, some_depth, some_leaves}
-use Rattle.elem_descr.specs.TypeStrings.{spelling}
-use Rattle.shape_strides.specs.Limits.{max_items}
-use Rattle.shape_strides.specs.Shapes.{IsShape, shape_text}
 use Rattle.npy_format.specs.inside.Sound.{IsSound}
 use Rattle.npy_format.specs.WrittenHeaders.{quoted, opened_entry, entry, gap, separated, in_brackets, entries, written_descr, written_truth, written_text}
 

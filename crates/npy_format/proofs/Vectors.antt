@@ -1,17 +1,7 @@
 -- Headers: what NumPy writes and reads, and the order of refusals.
 use Rattle.std.proofs.Common.{◌≡◌, ℕ, Bool, true, false, List, [], ◌∷◌, ◌++◌, Ok, Err, codes, refl, Result}
-use Rattle.elem_descr.specs.declared.refusal.Refusal.{Refusal}
-use Rattle.elem_descr.specs.declared.refusal.Refusal.TheVariants.{BadDescriptor, DescriptorLeftOut, TooLarge, BadHeader}
-use Rattle.elem_descr.specs.declared.scalar.Order.TheVariants.{Little, Big}
-use Rattle.elem_descr.specs.declared.scalar.Width.TheVariants.{Two, Four}
-use Rattle.elem_descr.specs.declared.scalar.Scalar.{Scalar}
-use Rattle.elem_descr.specs.declared.scalar.Scalar.TheVariants.{Byte, Int}
-use Rattle.elem_descr.specs.declared.descr.Descr.{Descr}
+use Rattle.npy_format.specs.Words.{Refusal, BadDescriptor, DescriptorLeftOut, TooLarge, BadHeader, Little, Big, Two, Four, Scalar, Byte, Int, Descr, no_more, scalar_field, record_field, checked_name, added, widened, closed_record, record_type, shape_of}
 use Rattle.elem_descr.specs.declared.descr.Descr.TheVariants.{Scalar as ScalarDescr}
-use Rattle.elem_descr.specs.Fields.{no_more, scalar_field, record_field}
-use Rattle.elem_descr.specs.RecordBuilding.{checked_name, added, widened, closed_record}
-use Rattle.elem_descr.specs.BuildingLaws.{record_type}
-use Rattle.shape_strides.specs.Shapes.{shape_of}
 use Rattle.npy_format.specs.declared.header.Header.{Header}
 use Rattle.npy_format.specs.Tokens.{tokens}
 use Rattle.npy_format.specs.Literals.{entries_in, tuple_in, list_in, pair_in, dictionary_in, literal_in}

@@ -7,20 +7,10 @@ use Rattle.std.proofs.lemmas.Bool.{lt-leb, le-leb}
 use Rattle.std.proofs.lemmas.List.{length-map, get_or-map, ext_get_or}
 use Rattle.std.proofs.lemmas.List.Folds.{flat_map-map}
 use Rattle.std.proofs.lemmas.List.Elements.{All-head, All-tail}
-use Rattle.raw_block.specs.Bytes.{item_at}
-use Rattle.raw_block.specs.BytesLaws.{length-item_at}
-use Rattle.elem_descr.specs.declared.refusal.Refusal.TheVariants.{TooLarge}
-use Rattle.elem_descr.specs.declared.descr.Descr.{Descr}
-use Rattle.elem_descr.specs.Values.{LeafValue}
-use Rattle.elem_descr.specs.Items.{item_size, encode_item, decode_item}
-use Rattle.elem_descr.specs.Blocks.{blocks, item_from}
-use Rattle.shape_strides.specs.Limits.{max_bytes}
-use Rattle.shape_strides.specs.Indexes.{count, indexes, rank}
-use Rattle.shape_strides.specs.Contiguity.{fortran_order}
+use Rattle.npy_format.specs.Words.{item_at, length-item_at, TooLarge, Descr, LeafValue, item_size, encode_item, decode_item, blocks, item_from, max_bytes, count, indexes, rank, fortran_order, length-fortran}
 use Rattle.npy_format.specs.Files.{file_order}
 use Rattle.npy_format.specs.WrittenFiles.{is_fortran, ordered, file_of, saved}
 use Rattle.npy_format.specs.inside.WrittenItems.{gathered, addresses_in_file}
-use Rattle.arrays.specs.FortranLaws.{length-fortran}
 use Rattle.npy_format.proofs.GatherLaws.{fortran-entry, fortran-within}
 
 -- items that are gathered, item by item

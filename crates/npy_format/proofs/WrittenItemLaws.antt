@@ -5,17 +5,8 @@ use Rattle.std.proofs.Math.Seq.{take-append_seam, drop-append_seam}
 use Rattle.std.proofs.Math.Nat.{mul-le-mul_left, min-zero}
 use Rattle.std.proofs.lemmas.Bool.{cases_lt}
 use Rattle.std.proofs.lemmas.List.{drop_all, take-append-drop, drop-drop, length-replicate}
-use Rattle.raw_block.specs.Bytes.{item_at, put}
-use Rattle.raw_block.specs.BytesLaws.{front_length}
-use Rattle.elem_descr.specs.declared.leaf.Leaf.{Leaf}
-use Rattle.elem_descr.specs.declared.scalar.Scalar.{Scalar}
-use Rattle.elem_descr.specs.declared.scalar.Scalar.TheVariants.{Bool as BoolScalar, Byte, Int, Bytes}
-use Rattle.elem_descr.specs.Encoding.{size, decode, encode}
-use Rattle.elem_descr.specs.EncodingLaws.{truth_suc}
-use Rattle.elem_descr.specs.Items.{AreInOrder, encode_from}
-use Rattle.elem_descr.specs.ItemLaws.{AreInOrder-within}
-use Rattle.elem_descr.specs.Blocks.{blocks}
-use Rattle.elem_descr.specs.ByteLaws.{AreBytes, bytes-drop, bytes-take, length-encode}
+use Rattle.npy_format.specs.Words.{item_at, put, front_length, Leaf, Scalar, Byte, Int, Bytes, size, decode, encode, truth_suc, AreInOrder, encode_from, AreInOrder-within, blocks, AreBytes, bytes-drop, bytes-take, length-encode}
+use Rattle.elem_descr.specs.declared.scalar.Scalar.TheVariants.{Bool as BoolScalar}
 use Rattle.npy_format.specs.inside.WrittenItems.{read_leaf, written_item, limit, limits_from, capped, IsPlain}
 use Rattle.npy_format.proofs.ScalarBytes.{scalar_again, bool_again}
 

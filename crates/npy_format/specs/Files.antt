@@ -1,18 +1,7 @@
 -- NPY files: their bytes, read from the front.
 use Rattle.std.specs.Prelude.{◌≡◌, ◌⊎◌, ℕ, ◌*◌, ◌^◌, Bool, List, [], ◌∷◌, length, take, drop, nat_le, if◌then◌else◌, Result, Ok, Err}
 use Rattle.std.specs.Str.{bytes_eq}
-use Rattle.byteorder.specs.Endian.{little_number}
-use Rattle.elem_descr.specs.declared.refusal.Refusal.{Refusal}
-use Rattle.elem_descr.specs.declared.refusal.Refusal.TheVariants.{BadMagic, BadVersion, Truncated, TooLarge, OutOfMemory}
-use Rattle.elem_descr.specs.Refusals.{◌>>=◌, check}
-use Rattle.elem_descr.specs.Items.{item_size}
-use Rattle.elem_descr.specs.declared.memory_order.MemoryOrder.{MemoryOrder}
-use Rattle.elem_descr.specs.declared.memory_order.MemoryOrder.TheVariants.{C, Fortran}
-use Rattle.shape_strides.specs.Limits.{max_bytes}
-use Rattle.shape_strides.specs.Indexes.{count}
-use Rattle.shape_strides.specs.Layouts.{offsets}
-use Rattle.arrays.specs.declared.owned.Owned.{Owned}
-use Rattle.arrays.specs.Blocks.{offsets_in}
+use Rattle.npy_format.specs.Words.{little_number, Refusal, BadMagic, BadVersion, Truncated, TooLarge, OutOfMemory, ◌>>=◌, check, item_size, MemoryOrder, C, Fortran, max_bytes, count, offsets, Owned, offsets_in}
 use Rattle.npy_format.specs.declared.header.Header.{Header}
 use Rattle.npy_format.specs.Headers.{header}
 

@@ -2,10 +2,7 @@
 use Rattle.std.specs.Prelude.{◌≡◌, ◌≤◌, ℕ, Bool, false, List, [], ◌∷◌, codes, length, nat_eq, if◌then◌else◌, Result, Ok, Err}
 use Rattle.std.specs.Option.{ok_or}
 use Rattle.std.specs.Str.{bytes_eq}
-use Rattle.elem_descr.specs.declared.refusal.Refusal.{Refusal}
-use Rattle.elem_descr.specs.declared.refusal.Refusal.TheVariants.{BadHeader}
-use Rattle.elem_descr.specs.Refusals.{◌>>=◌, check}
-use Rattle.shape_strides.specs.Shapes.{shape_of}
+use Rattle.npy_format.specs.Words.{Refusal, BadHeader, ◌>>=◌, check, shape_of}
 use Rattle.npy_format.specs.Tokens.{Token, tokens_in, tokens}
 use Rattle.npy_format.specs.Values.{Round, Text, Integer, Truth}
 use Rattle.npy_format.specs.Listed.{Literal, Plain, Row, Pair, value_literals}

@@ -9,3 +9,4 @@ pub mod WrittenHeaders
 pub mod WrittenFiles
 pub mod SavedFiles
 pub mod inside
+pub mod Words

@@ -2,16 +2,8 @@
 use Rattle.std.specs.Prelude.{ℕ, zero, suc, false, ◌&&◌, not, List, [], ◌∷◌, nat_eq, if◌then◌else◌, Result, Ok, Err}
 use Rattle.std.specs.Char.{is_ascii_digit}
 use Rattle.std.specs.List.{list_all}
-use Rattle.elem_descr.specs.declared.refusal.Refusal.{Refusal}
-use Rattle.elem_descr.specs.declared.refusal.Refusal.TheVariants.{BadDescriptor, DescriptorLeftOut}
-use Rattle.elem_descr.specs.declared.descr.Descr.{Descr}
+use Rattle.npy_format.specs.Words.{Refusal, BadDescriptor, DescriptorLeftOut, Descr, ◌>>=◌, check, Structure, is_legal_name, marked, value_of, typestr, is_empty, Partial, max_depth, empty, checked_name, added, widened, closed_record}
 use Rattle.elem_descr.specs.declared.descr.Descr.TheVariants.{Scalar as ScalarDescr, Record as RecordDescr}
-use Rattle.elem_descr.specs.Refusals.{◌>>=◌, check}
-use Rattle.elem_descr.specs.Fields.{Structure}
-use Rattle.elem_descr.specs.Names.{is_legal_name}
-use Rattle.elem_descr.specs.TypeStrings.{marked, value_of, typestr}
-use Rattle.elem_descr.specs.FormatLetters.{is_empty}
-use Rattle.elem_descr.specs.RecordBuilding.{Partial, max_depth, empty, checked_name, added, widened, closed_record}
 use Rattle.npy_format.specs.Values.{Round, Square, Text}
 use Rattle.npy_format.specs.Listed.{Literal, Plain, Row, value_literals}
 

@@ -1,10 +1,6 @@
 -- What is written of an array, loaded again.
 use Rattle.std.specs.Prelude.{◌≡◌, ℕ, List, map, Ok}
-use Rattle.elem_descr.specs.declared.descr.Descr.{Descr}
-use Rattle.elem_descr.specs.Values.{LeafValue}
-use Rattle.elem_descr.specs.Items.{item_size}
-use Rattle.elem_descr.specs.Blocks.{item_from}
-use Rattle.arrays.specs.Blocks.{offsets_in}
+use Rattle.npy_format.specs.Words.{Descr, LeafValue, item_size, item_from, offsets_in}
 use Rattle.npy_format.specs.Files.{Loaded, load, file_order}
 
 -- a file loads as an array of this element type, this shape and these items, in C order of their indexes, with nothing behind it

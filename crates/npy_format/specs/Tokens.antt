@@ -3,7 +3,7 @@ use Rattle.std.specs.Prelude.{ℕ, zero, suc, Bool, true, false, not, ◌&&◌, 
 use Rattle.std.specs.Char.{is_ascii_digit, is_ascii_alphabetic}
 use Rattle.std.specs.List.{prefix_len}
 use Rattle.std.specs.Str.{bytes_eq}
-use Rattle.elem_descr.specs.TypeStrings.{value_of}
+use Rattle.npy_format.specs.Words.{value_of}
 
 -- a token: the bytes of a string; an integer without sign; a word; any byte that begins no other token; and what stands in no literal
 pub data Token : Type 0 where

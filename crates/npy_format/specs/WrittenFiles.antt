@@ -1,17 +1,7 @@
 -- The file that is written of an array.
 use Rattle.std.specs.Prelude.{ℕ, ◌*◌, Bool, ◌&&◌, not, List, [], ◌++◌, map, get_or, reverse, nat_le, Result, Ok}
 use Rattle.std.specs.List.{flat_map}
-use Rattle.elem_descr.specs.declared.refusal.Refusal.{Refusal}
-use Rattle.elem_descr.specs.declared.refusal.Refusal.TheVariants.{TooLarge}
-use Rattle.elem_descr.specs.declared.descr.Descr.{Descr}
-use Rattle.elem_descr.specs.Refusals.{◌>>=◌, check}
-use Rattle.elem_descr.specs.Values.{LeafValue}
-use Rattle.elem_descr.specs.Items.{item_size, encode_item}
-use Rattle.elem_descr.specs.declared.memory_order.MemoryOrder.{MemoryOrder}
-use Rattle.elem_descr.specs.declared.memory_order.MemoryOrder.TheVariants.{C, Fortran}
-use Rattle.shape_strides.specs.Limits.{max_bytes}
-use Rattle.shape_strides.specs.Indexes.{count, indexes, rank}
-use Rattle.shape_strides.specs.Contiguity.{is_c_contiguous, is_f_contiguous}
+use Rattle.npy_format.specs.Words.{Refusal, TooLarge, Descr, ◌>>=◌, check, LeafValue, item_size, encode_item, MemoryOrder, C, Fortran, max_bytes, count, indexes, rank, is_c_contiguous, is_f_contiguous}
 use Rattle.npy_format.specs.Files.{file_order}
 use Rattle.npy_format.specs.WrittenHeaders.{written_text, written_header}
 

@@ -1,12 +1,7 @@
 -- The header that is written of an array.
 use Rattle.std.specs.Prelude.{ℕ, zero, suc, ◌+◌, ◌-◌, ◌%◌, Bool, true, false, List, [], ◌∷◌, ◌++◌, length, codes, decimal, replicate, nat_lt, if◌then◌else◌}
-use Rattle.byteorder.specs.Endian.{little_bytes}
-use Rattle.elem_descr.specs.declared.descr.Descr.{Descr}
+use Rattle.npy_format.specs.Words.{little_bytes, Descr, size, Fields, no_more, scalar_field, record_field, spelling, shape_text}
 use Rattle.elem_descr.specs.declared.descr.Descr.TheVariants.{Scalar as ScalarDescr, Record as RecordDescr}
-use Rattle.elem_descr.specs.Encoding.{size}
-use Rattle.elem_descr.specs.Fields.{Fields, no_more, scalar_field, record_field}
-use Rattle.elem_descr.specs.TypeStrings.{spelling}
-use Rattle.shape_strides.specs.Shapes.{shape_text}
 use Rattle.npy_format.specs.Files.{magic}
 
 -- a string of Python

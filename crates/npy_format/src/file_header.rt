@@ -1,6 +1,6 @@
 //! The bytes of a file before its items.
 ghost use Rattle.std.specs.Prelude.{◌≡◌, ◌≤◌, ◌<◌, ◌+◌, ◌^◌, ◌⊎◌, ◌∷◌, ◌++◌, [], length, replicate, IfOk, OnOk};
-ghost use Rattle.byteorder.specs.Endian.{little_bytes};
+ghost use Rattle.npy_format.specs.Words.{little_bytes};
 ghost use Rattle.npy_format.specs.Files.{magic};
 ghost use Rattle.npy_format.specs.WrittenHeaders.{spaces_after, padded_text, with_length, written_header};
 

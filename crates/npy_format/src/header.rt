@@ -1,7 +1,6 @@
 //! The header of a file.
 ghost use Rattle.std.specs.Prelude.{◌≡◌, List, ℕ, length, MatchResult, Ok, Err};
-ghost use Rattle.elem_descr.specs.Refusals.{Answers, Gives};
-ghost use Rattle.shape_strides.specs.Shapes.{shape_of};
+ghost use Rattle.npy_format.specs.Words.{Answers, Gives, shape_of};
 ghost use Rattle.npy_format.specs.Tokens.{tokens};
 ghost use Rattle.npy_format.specs.Listed.{Literal, Pair};
 ghost use Rattle.npy_format.specs.Headers.{dictionary_of, value_under, lengths_of, header_of, header, HeaderAnyTurns};

@@ -1,12 +1,7 @@
 //! Appends the bytes of items, one after another.
 ghost use Rattle.std.specs.Prelude.{◌≡◌, ◌+◌, ◌*◌, ◌^◌, ◌<◌, ◌≤◌, ◌||◌, ◌++◌, pos, ◌≤ℤ◌, ◌<ℤ◌, length, All, IsTrue, OnOk};
 ghost use Rattle.std.specs.List.{flat_map};
-ghost use Rattle.raw_block.specs.Bytes.{position, place, item_at, EachWithin};
-ghost use Rattle.shape_strides.specs.Limits.{max_bytes};
-ghost use Rattle.shape_strides.specs.Indexes.{count};
-ghost use Rattle.shape_strides.specs.Contiguity.{is_c_contiguous, is_f_contiguous};
-ghost use Rattle.shape_strides.specs.Layouts.{offsets};
-ghost use Rattle.shape_strides.specs.Runs.{run_offsets};
+ghost use Rattle.npy_format.specs.Words.{position, place, item_at, EachWithin, max_bytes, count, is_c_contiguous, is_f_contiguous, offsets, run_offsets};
 ghost use Rattle.npy_format.specs.inside.WrittenItems.{gathered, addresses_in_file};
 
 use shape_strides::{Layout, Run, Runs};

@@ -1,7 +1,6 @@
 //! Reads files.
 ghost use Rattle.std.specs.Prelude.{◌≡◌, ◌≤◌, ◌^◌, ◌++◌, length, IfOk};
-ghost use Rattle.elem_descr.specs.Refusals.{Answers, Gives};
-ghost use Rattle.shape_strides.specs.Limits.{max_bytes};
+ghost use Rattle.npy_format.specs.Words.{Answers, Gives, max_bytes};
 ghost use Rattle.npy_format.specs.Files.{split_front, begins_well, length_bytes, text_behind, split_header, data_size, file_order, load, HoldsFileItems, Loads};
 ghost use Rattle.npy_format.specs.inside.LoadedParts.{load_behind};
 

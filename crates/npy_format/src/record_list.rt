@@ -1,8 +1,6 @@
 //! Element types in a header.
 ghost use Rattle.std.specs.Prelude.{◌≡◌, ◌≤◌, ℕ, List, IfOk, MatchOption, Some, None};
-ghost use Rattle.elem_descr.specs.Refusals.{Answers, Gives};
-ghost use Rattle.elem_descr.specs.TypeStrings.{value_of};
-ghost use Rattle.elem_descr.specs.RecordBuilding.{max_depth, max_leaves, IsShallow};
+ghost use Rattle.npy_format.specs.Words.{Answers, Gives, value_of, max_depth, max_leaves, IsShallow};
 ghost use Rattle.npy_format.specs.RecordLists.{pad_kind, scalar_in, type_in, field_in, entry_in, record_in, descr_in};
 ghost use Rattle.npy_format.specs.Listed.{Literal};
 ghost use Rattle.npy_format.specs.Tokens.{tokens};

@@ -1,14 +1,6 @@
 //! Saves files in two parts.
 ghost use Rattle.std.specs.Prelude.{◌≡◌, true, ◌+◌, ◌*◌, ◌<◌, ◌≤◌, ◌||◌, ◌++◌, length, map, All, IfOk, Err};
-ghost use Rattle.raw_block.specs.Bytes.{item_at};
-ghost use Rattle.elem_descr.specs.declared.refusal.Refusal.TheVariants.{TooLarge};
-ghost use Rattle.elem_descr.specs.Refusals.{Gives};
-ghost use Rattle.elem_descr.specs.Items.{item_size, leaves_of, AreInOrder};
-ghost use Rattle.elem_descr.specs.Blocks.{item_from};
-ghost use Rattle.shape_strides.specs.Limits.{max_bytes};
-ghost use Rattle.shape_strides.specs.Indexes.{count};
-ghost use Rattle.shape_strides.specs.Contiguity.{is_c_contiguous, is_f_contiguous};
-ghost use Rattle.shape_strides.specs.Layouts.{offsets};
+ghost use Rattle.npy_format.specs.Words.{item_at, TooLarge, Gives, item_size, leaves_of, AreInOrder, item_from, max_bytes, count, is_c_contiguous, is_f_contiguous, offsets};
 ghost use Rattle.npy_format.specs.WrittenFiles.{is_fortran, file_of, saved};
 ghost use Rattle.npy_format.specs.SavedFiles.{LoadsAs};
 ghost use Rattle.npy_format.specs.inside.WrittenItems.{IsPlain, file_at};

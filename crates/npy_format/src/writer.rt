@@ -1,13 +1,7 @@
 //! Writes files.
 ghost use Rattle.std.specs.Prelude.{◌≡◌, Bool, ◌+◌, ◌*◌, ◌<◌, ◌≤◌, ◌++◌, length, map, take, drop, All, IfOk, OnOk, Err};
 ghost use Rattle.std.specs.List.{flat_map};
-ghost use Rattle.elem_descr.specs.declared.refusal.Refusal.TheVariants.{TooLarge};
-ghost use Rattle.elem_descr.specs.Refusals.{Gives};
-ghost use Rattle.elem_descr.specs.Items.{item_size, decode_item, encode_item};
-ghost use Rattle.elem_descr.specs.Blocks.{item_from, blocks};
-ghost use Rattle.shape_strides.specs.Limits.{max_bytes};
-ghost use Rattle.shape_strides.specs.Indexes.{count};
-ghost use Rattle.shape_strides.specs.Layouts.{offsets};
+ghost use Rattle.npy_format.specs.Words.{TooLarge, Gives, item_size, decode_item, encode_item, item_from, blocks, max_bytes, count, offsets};
 ghost use Rattle.npy_format.specs.WrittenHeaders.{written_text, written_header};
 ghost use Rattle.npy_format.specs.WrittenFiles.{is_fortran, file_of, saved};
 ghost use Rattle.npy_format.specs.SavedFiles.{LoadsAs};

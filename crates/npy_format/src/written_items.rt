@@ -1,9 +1,7 @@
 //! Items as a file stores them: a bool is 0 or 1, and padding is zero.
 ghost use Rattle.std.specs.Prelude.{◌≡◌, ◌+◌, ◌-◌, ◌*◌, ◌≤◌, ◌++◌, length, replicate, IsTrue, IfOk, OnOk};
 ghost use Rattle.std.specs.List.{flat_map, repeat};
-ghost use Rattle.raw_block.specs.Bytes.{item_at, put};
-ghost use Rattle.elem_descr.specs.Items.{item_size, leaves_of, AreInOrder, decode_item, encode_item};
-ghost use Rattle.elem_descr.specs.Blocks.{blocks};
+ghost use Rattle.npy_format.specs.Words.{item_at, put, item_size, leaves_of, AreInOrder, decode_item, encode_item, blocks};
 ghost use Rattle.npy_format.specs.inside.WrittenItems.{limit, limits_from, capped, IsPlain, as_in_file};
 
 use elem_descr::{Descr, Leaf, Scalar};

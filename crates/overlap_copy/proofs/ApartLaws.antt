@@ -10,14 +10,8 @@ use Rattle.std.proofs.lemmas.Nat.Gcd.{dvd_refl, dvd-zero, dvd_trans, dvd_antisym
 use Rattle.std.proofs.lemmas.List.{drop_all}
 use Rattle.std.proofs.Math.Nat.{div-add-mod, add-mul-mod_self_left, mod-mod, mod-lt}
 use Rattle.std.proofs.Math.IntN.{*ℤ-zero}
-use Rattle.shape_strides.specs.declared.layout.Layout.{Layout}
-use Rattle.shape_strides.specs.Indexes.{IsIndex}
+use Rattle.overlap_copy.specs.Words.{Layout, IsIndex, address, offsets, axes, index_at, length-offsets, pos-offset, times_of}
 use Rattle.shape_strides.specs.Addresses.{dot}
-use Rattle.shape_strides.specs.Layouts.{address, offsets}
-use Rattle.shape_strides.specs.Stacks.{axes}
-use Rattle.shape_strides.specs.IndexLaws.{index_at}
-use Rattle.shape_strides.specs.LayoutLaws.{length-offsets, pos-offset}
-use Rattle.shape_strides.specs.CountLaws.{times_of}
 use Rattle.overlap_copy.specs.Overlaps.{have_common_byte}
 use Rattle.overlap_copy.specs.Apart.{step_of, steps, IsGreatestDivisor, LieBetween}
 use Rattle.overlap_copy.proofs.OverlapLaws.{common_from_test}

@@ -3,7 +3,7 @@ use Rattle.std.proofs.Common.{◌≡◌, ◌+◌, ◌<◌, ◌≤◌, inl, inr, 
 use Rattle.std.proofs.lemmas.Bool.{both_ways, cases_lt}
 use Rattle.std.proofs.lemmas.List.{get_or_default}
 use Rattle.std.proofs.lemmas.List.Elements.{recursion_from_All}
-use Rattle.shape_strides.specs.Layouts.{distance}
+use Rattle.overlap_copy.specs.Words.{distance}
 use Rattle.overlap_copy.specs.Overlaps.{have_common_byte}
 use Rattle.overlap_copy.specs.inside.Moves.{LiesApart, LieApart}
 use Rattle.overlap_copy.proofs.OverlapLaws.{test_from_common}

@@ -3,15 +3,8 @@ use Rattle.std.proofs.Common.{◌≡◌, ◌+◌, ◌-◌, ◌<◌, ◌≤◌, �
 use Rattle.std.proofs.lemmas.Bool.{cases_lt}
 use Rattle.std.proofs.lemmas.Int.{ints}
 use Rattle.std.proofs.lemmas.List.{length-map, get_or-map, get_or_default}
-use Rattle.raw_block.specs.Bytes.{item_at}
-use Rattle.shape_strides.specs.declared.layout.Layout.{Layout}
-use Rattle.shape_strides.specs.Limits.{max_bytes, max_items}
-use Rattle.shape_strides.specs.Indexes.{rank, IsIndex, count}
-use Rattle.shape_strides.specs.Layouts.{offsets, Fits, IsNested, distance, dot}
-use Rattle.shape_strides.specs.AddressOrders.{IsRising, IsFalling}
-use Rattle.shape_strides.specs.IndexLaws.{index_at}
-use Rattle.shape_strides.specs.LayoutLaws.{length-offsets, pos-offset, offsets_within, entry-first}
-use Rattle.arrays.specs.Assignments.{assigned}
+use Rattle.overlap_copy.specs.Words.{item_at, Layout, max_bytes, max_items, rank, IsIndex, count, offsets, Fits, IsNested, distance, IsRising, IsFalling, index_at, length-offsets, pos-offset, offsets_within, entry-first, assigned}
+use Rattle.shape_strides.specs.Layouts.{dot}
 use Rattle.overlap_copy.specs.inside.Moves.{IsAssigned}
 use Rattle.overlap_copy.specs.inside.Shifts.{source, sources, MayCome}
 use Rattle.overlap_copy.proofs.MoveLaws.{same_assigned, assigned_is}

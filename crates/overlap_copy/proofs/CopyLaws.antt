@@ -2,10 +2,7 @@
 use Rattle.std.proofs.Common.{◌≡◌, ◌+◌, ◌≤◌, ◌⊎◌, inl, inr, ℕ, List, [], ◌∷◌, length, All, refl, sym, subst, ◌∙◌, arith}
 use Rattle.std.proofs.lemmas.Bool.{cases_lt}
 use Rattle.std.proofs.lemmas.List.Elements.{All-rest, All-head}
-use Rattle.raw_block.specs.Bytes.{put, item_at}
-use Rattle.raw_block.specs.BytesLaws.{length-item_at, length-put, item_at-put_apart}
-use Rattle.shape_strides.specs.Layouts.{distance}
-use Rattle.arrays.specs.Assignments.{assigned}
+use Rattle.overlap_copy.specs.Words.{put, item_at, length-item_at, length-put, item_at-put_apart, distance, assigned}
 
 module _ (width : ℕ) (other : List ℕ) where
   abbrev IsIn : List ℕ → ℕ → Type 0

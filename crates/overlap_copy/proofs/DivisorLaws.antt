@@ -6,11 +6,7 @@ use Rattle.std.proofs.lemmas.Bool.{cases_lt}
 use Rattle.std.proofs.Math.Nat.{div-add-mod}
 use Rattle.std.proofs.lemmas.List.{drop_more}
 use Rattle.std.proofs.lemmas.Nat.Gcd.{dvd_trans}
-use Rattle.shape_strides.specs.declared.stacked.Axis.{Axis}
-use Rattle.shape_strides.specs.Indexes.{IsIndex}
-use Rattle.shape_strides.specs.Stacks.{reach, lengths_in}
-use Rattle.shape_strides.specs.PermutationLaws.{reached}
-use Rattle.shape_strides.specs.CountLaws.{times_of}
+use Rattle.overlap_copy.specs.Words.{Axis, IsIndex, reach, lengths_in, reached, times_of}
 use Rattle.overlap_copy.specs.inside.Sums.{reach_of, HasSum}
 use Rattle.overlap_copy.proofs.SearchLaws.{most_sum}
 

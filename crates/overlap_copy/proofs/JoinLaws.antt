@@ -7,10 +7,7 @@ use Rattle.std.proofs.lemmas.List.Elements.{All-cons, All-tail, All-drop}
 use Rattle.std.proofs.lemmas.List.Sums.{sum_by-cons}
 use Rattle.std.proofs.lemmas.List.Sorted.{IsPermutation-sym, All-permutation, sum_by-IsPermutation}
 use Rattle.std.proofs.Math.Nat.{div-add-mod}
-use Rattle.shape_strides.specs.declared.stacked.Axis.{Axis}
-use Rattle.shape_strides.specs.Indexes.{IsIndex}
-use Rattle.shape_strides.specs.Stacks.{reach, lengths_in}
-use Rattle.shape_strides.specs.PermutationLaws.{reached, reordered}
+use Rattle.overlap_copy.specs.Words.{Axis, IsIndex, reach, lengths_in, reached, reordered}
 use Rattle.overlap_copy.specs.inside.Sums.{reach_of, max_reach, AreForward, HasSum}
 use Rattle.overlap_copy.specs.inside.Joins.{GoesOn, SameSums, AreJoined}
 

@@ -6,16 +6,7 @@ use lib.IntN.{one}
 use Rattle.std.proofs.lemmas.Int.{ints}
 use Rattle.std.proofs.lemmas.List.{length-map, length-reverse, get_or-map, get_or-reverse}
 use Rattle.std.proofs.lemmas.List.FromFn.{length-map-range_with_len, get_or-map-range_with_len}
-use Rattle.elem_descr.specs.Steps.{numbers_from}
-use Rattle.raw_block.specs.Bytes.{position, place}
-use Rattle.raw_block.specs.BytesLaws.{not_negative}
-use Rattle.shape_strides.specs.declared.layout.Layout.{Layout}
-use Rattle.shape_strides.specs.declared.runs.Run.{Run}
-use Rattle.shape_strides.specs.Limits.{max_bytes, max_items}
-use Rattle.shape_strides.specs.Addresses.{natural, LieWithin}
-use Rattle.shape_strides.specs.Layouts.{offsets, Fits, IsNested}
-use Rattle.shape_strides.specs.Runs.{run_offsets}
-use Rattle.arrays.specs.Assignments.{assigned}
+use Rattle.overlap_copy.specs.Words.{numbers_from, position, place, not_negative, Layout, Run, max_bytes, max_items, natural, LieWithin, offsets, Fits, IsNested, run_offsets, assigned}
 use Rattle.overlap_copy.specs.inside.Moves.{IsAssigned, IsLine, IsTurned, AreSpaced, IsRunOf, place_in}
 use Rattle.overlap_copy.proofs.MoveLaws.{same_assigned, retold, assigned_is}
 use Rattle.overlap_copy.proofs.TurnLaws.{line_within, turned_position, turned_place}

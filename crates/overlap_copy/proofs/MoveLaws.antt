@@ -3,10 +3,7 @@ use Rattle.std.proofs.Common.{◌≡◌, ◌+◌, ◌-◌, ◌<◌, ◌≤◌, �
 use Rattle.std.proofs.lemmas.Bool.{cases_lt}
 use Rattle.std.proofs.lemmas.List.{ext_get_or, get_or-take, get_or-drop}
 use Rattle.std.proofs.lemmas.List.Elements.{All-rest, All-head}
-use Rattle.raw_block.specs.Bytes.{put, item_at, place, EachWithin, copied_within}
-use Rattle.raw_block.specs.BytesLaws.{length-item_at, length-put, get_or-put_before, get_or-put_after, item_at-put_same, item_at-put_apart, place_within, fewer}
-use Rattle.shape_strides.specs.Layouts.{IsNested, distance}
-use Rattle.arrays.specs.Assignments.{assigned}
+use Rattle.overlap_copy.specs.Words.{put, item_at, place, EachWithin, copied_within, length-item_at, length-put, get_or-put_before, get_or-put_after, item_at-put_same, item_at-put_apart, place_within, fewer, IsNested, distance, assigned}
 use Rattle.overlap_copy.specs.inside.Moves.{IsOutside, IsAssigned}
 
 -- ---- the bytes of items

@@ -3,13 +3,7 @@ use Rattle.std.proofs.Common.{◌≡◌, ◌+◌, ◌-◌, ◌<◌, ◌≤◌, �
 use Rattle.std.specs.List.{AllByRecursion as Each}
 use Rattle.std.proofs.lemmas.List.{get_or_append_left, get_or-append_right}
 use Rattle.std.proofs.lemmas.List.Elements.{All-from_recursion}
-use Rattle.raw_block.specs.Bytes.{item_at, EachWithin, copied_within}
-use Rattle.shape_strides.specs.declared.runs.Run.{Run}
-use Rattle.shape_strides.specs.Layouts.{IsNested, distance}
-use Rattle.shape_strides.specs.Runs.{run_offsets}
-use Rattle.shape_strides.specs.WalkLaws.{length-run_offsets}
-use Rattle.arrays.specs.RunLaws.{place-at, run-ends, All-back, All-front, assigned-append}
-use Rattle.arrays.specs.Assignments.{items_at, with_items, assigned}
+use Rattle.overlap_copy.specs.Words.{item_at, EachWithin, copied_within, Run, IsNested, distance, run_offsets, length-run_offsets, place-at, run-ends, All-back, All-front, assigned-append, items_at, with_items, assigned}
 use Rattle.overlap_copy.specs.inside.Moves.{IsAssigned, LiesApart, LieApart, place_in}
 use Rattle.overlap_copy.proofs.CopyLaws.{kept}
 use Rattle.overlap_copy.proofs.MoveLaws.{same_assigned, retold, assigned_is, passed}

@@ -2,17 +2,7 @@
 use Rattle.std.proofs.Common.{◌≡◌, ℕ, ◌+◌, ◌≤◌, List, [], ◌∷◌, ◌++◌, All, length, sym, ap, subst, ◌∙◌}
 use Rattle.std.specs.List.{flat_map, AllByRecursion as Each}
 use Rattle.std.proofs.lemmas.List.Elements.{All-from_recursion, recursion_from_All}
-use Rattle.raw_block.specs.Bytes.{EachWithin}
-use Rattle.shape_strides.specs.declared.runs.Run.{Run}
-use Rattle.shape_strides.specs.declared.run_pairs.RunPair.{RunPair}
-use Rattle.shape_strides.specs.Runs.{run_offsets}
-use Rattle.shape_strides.specs.WalkLaws.{length-run_offsets}
-use Rattle.shape_strides.specs.declared.layout.Layout.{Layout}
-use Rattle.shape_strides.specs.Indexes.{count}
-use Rattle.shape_strides.specs.Layouts.{offsets}
-use Rattle.shape_strides.specs.LayoutLaws.{length-offsets}
-use Rattle.arrays.specs.RunLaws.{BeginsWithin, run-within, run-ends, assigned-append}
-use Rattle.arrays.specs.Assignments.{assigned}
+use Rattle.overlap_copy.specs.Words.{EachWithin, Run, RunPair, run_offsets, length-run_offsets, Layout, count, offsets, length-offsets, BeginsWithin, run-within, run-ends, assigned-append, assigned}
 
 -- ---- layouts that are runs
 

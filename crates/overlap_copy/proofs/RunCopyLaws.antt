@@ -2,9 +2,7 @@
 use Rattle.std.proofs.Common.{◌≡◌, inl, inr, ◌+◌, ◌*◌, ◌<◌, ◌≤◌, ℕ, zero, suc, ℤ, pos, List, length, get_or, sym, ap, subst, ◌∙◌, arith, suc-mul, mul-le-mul_right, zero-mul}
 use Rattle.std.proofs.lemmas.List.{ext_get_or}
 use Rattle.std.proofs.lemmas.Bool.{cases_lt}
-use Rattle.raw_block.specs.Bytes.{put, item_at, place, EachWithin}
-use Rattle.raw_block.specs.BytesLaws.{length-item_at, length-put, get_or-put_before, get_or-put_after, item_at-put_same, place_within}
-use Rattle.shape_strides.specs.declared.runs.Run.{Run}
+use Rattle.overlap_copy.specs.Words.{put, item_at, place, EachWithin, length-item_at, length-put, get_or-put_before, get_or-put_after, item_at-put_same, place_within, Run}
 use Rattle.overlap_copy.specs.inside.Moves.{IsAssigned, place_in}
 use Rattle.overlap_copy.proofs.MoveLaws.{byte_of}
 

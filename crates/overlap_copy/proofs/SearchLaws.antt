@@ -5,10 +5,7 @@ use Rattle.std.proofs.lemmas.Bool.{cases_lt}
 use Rattle.std.proofs.lemmas.Grind.{div_ceil_times}
 use Rattle.std.proofs.lemmas.List.{take_all}
 use Rattle.std.proofs.lemmas.List.Elements.{recursion_from_All, All-from_recursion}
-use Rattle.shape_strides.specs.Indexes.{IsIndex}
-use Rattle.shape_strides.specs.declared.stacked.Axis.{Axis}
-use Rattle.shape_strides.specs.Stacks.{reach, lengths_in}
-use Rattle.shape_strides.specs.PermutationLaws.{reached}
+use Rattle.overlap_copy.specs.Words.{IsIndex, Axis, reach, lengths_in, reached}
 use Rattle.overlap_copy.specs.inside.Sums.{reach_of, AreForward, HasSum}
 
 -- ---- the first axis and the rest

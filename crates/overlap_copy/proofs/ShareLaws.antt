@@ -6,7 +6,7 @@ use Rattle.std.proofs.lemmas.List.{get_or-replicate, get_or_past, length-replica
 use Rattle.std.proofs.lemmas.List.Folds.{Any-from_list_any, list_any-from_Any}
 use Rattle.overlap_copy.specs.inside.Marks.{holds_byte, IsMarkedUpTo, is_marked, is_end_marked}
 use Rattle.overlap_copy.proofs.OverlapLaws.{all_at, held_from_test, test_from_held}
-use Rattle.elem_descr.specs.ListLaws.{same_test}
+use Rattle.overlap_copy.specs.Words.{same_test}
 
 -- a vector that was written through a slice of it
 pub refilled : (n : ℕ) (xs ws : List Bool) → length ws ≡ n → take n (ws ++ drop (length ws) xs) ≡ ws

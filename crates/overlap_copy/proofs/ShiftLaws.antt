@@ -6,17 +6,7 @@ use Rattle.std.proofs.Math.IntN.{*ℤ_comm}
 use Rattle.std.proofs.lemmas.Int.{ints}
 use Rattle.std.proofs.lemmas.List.{length-map, get_or-map, map-append, get_or_append_left, same_lists}
 use Rattle.std.proofs.lemmas.List.Elements.{recursion_from_All, All-head}
-use Rattle.raw_block.specs.Bytes.{position, place, item_at, put, EachWithin}
-use Rattle.raw_block.specs.BytesLaws.{not_negative}
-use Rattle.shape_strides.specs.declared.runs.Run.{Run}
-use Rattle.shape_strides.specs.Limits.{max_bytes, max_items}
-use Rattle.shape_strides.specs.Addresses.{LieWithin, address_at}
-use Rattle.shape_strides.specs.Indexes.{IsIndex}
-use Rattle.shape_strides.specs.Layouts.{offsets, IsNested, distance}
-use Rattle.shape_strides.specs.Runs.{run_offsets}
-use Rattle.shape_strides.specs.WalkLaws.{length-run_offsets}
-use Rattle.arrays.specs.RunLaws.{place-at, run-ends, lie-within, runs-within, All-back, All-front}
-use Rattle.arrays.specs.Assignments.{assigned}
+use Rattle.overlap_copy.specs.Words.{position, place, item_at, put, EachWithin, not_negative, Run, max_bytes, max_items, LieWithin, address_at, IsIndex, offsets, IsNested, distance, run_offsets, length-run_offsets, place-at, run-ends, lie-within, runs-within, All-back, All-front, assigned}
 use Rattle.overlap_copy.specs.inside.Moves.{IsAssigned, IsLine, IsTurned, AreSpaced, LiesApart, LieApart, place_in}
 use Rattle.overlap_copy.specs.inside.Shifts.{source, sources, source_run, MayCome}
 use Rattle.overlap_copy.proofs.MoveLaws.{reordered, retold}

@@ -2,8 +2,7 @@
 use Rattle.std.proofs.Common.{◌≡◌, ℕ, zero, suc, ◌+◌, ◌-◌, ◌*◌, ◌/◌, ◌<◌, ◌≤◌, inl, inr, List, ◌∷◌, length, get_or, take, drop, sym, subst, ap, ◌∙◌, arith, mul_assoc, mul_comm, mul-zero, mul-add, mul-le-mul_left}
 use Rattle.std.specs.Int.{IsGcd, ◌∣◌}
 use Rattle.std.proofs.lemmas.Bool.{cases_lt}
-use Rattle.shape_strides.specs.declared.stacked.Axis.{Axis}
-use Rattle.shape_strides.specs.CountLaws.{times_of}
+use Rattle.overlap_copy.specs.Words.{Axis, times_of}
 use Rattle.overlap_copy.specs.inside.Sums.{reach_of, max_reach, AreForward, HasSum}
 use Rattle.overlap_copy.specs.inside.Turns.{IsTurn}
 use Rattle.overlap_copy.proofs.SearchLaws.{no_axis, first_rest, with_first, first_of, NoneBelow}

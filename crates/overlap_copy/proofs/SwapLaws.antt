@@ -3,11 +3,7 @@ use Rattle.std.proofs.Common.{◌≡◌, ◌≢◌, ◌+◌, ◌-◌, ◌*◌, �
 use Rattle.std.proofs.Math.Nat.{div-add-mod, mod-lt}
 use Rattle.std.proofs.lemmas.Bool.{cases_lt}
 use Rattle.std.proofs.lemmas.List.{ext_get_or}
-use Rattle.raw_block.specs.Bytes.{item_at, EachWithin, exchanged, swapped}
-use Rattle.raw_block.specs.BytesLaws.{length-item_at, place_within}
-use Rattle.raw_block.specs.ExchangeLaws.{length-exchanged, exchanged-outside, exchanged-items}
-use Rattle.shape_strides.specs.declared.runs.Run.{Run}
-use Rattle.shape_strides.specs.Layouts.{distance}
+use Rattle.overlap_copy.specs.Words.{item_at, EachWithin, exchanged, swapped, length-item_at, place_within, length-exchanged, exchanged-outside, exchanged-items, Run, distance}
 use Rattle.overlap_copy.specs.inside.Moves.{IsAssigned, IsTurned, AreSpaced, place_in}
 use Rattle.overlap_copy.proofs.MoveLaws.{byte_of, retold}
 use Rattle.overlap_copy.proofs.TurnLaws.{turned_place}

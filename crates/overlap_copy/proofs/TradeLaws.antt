@@ -3,15 +3,7 @@ use Rattle.std.proofs.Common.{◌≡◌, ◌+◌, ◌<◌, ◌≤◌, ◌⊎◌,
 use Rattle.std.proofs.lemmas.Bool.{cases_lt}
 use Rattle.std.proofs.lemmas.List.{same_lists, length-map, get_or-map}
 use Rattle.std.proofs.lemmas.List.Elements.{All-head, All-tail}
-use Rattle.raw_block.specs.Bytes.{put, item_at, place, EachWithin, traded}
-use Rattle.raw_block.specs.BytesLaws.{length-item_at, length-put, item_at-put_apart, fewer}
-use Rattle.shape_strides.specs.declared.runs.Run.{Run}
-use Rattle.shape_strides.specs.declared.run_pairs.RunPair.{RunPair}
-use Rattle.shape_strides.specs.Layouts.{IsNested, distance}
-use Rattle.shape_strides.specs.Runs.{run_offsets}
-use Rattle.shape_strides.specs.WalkLaws.{length-run_offsets}
-use Rattle.arrays.specs.RunLaws.{run_offsets-more}
-use Rattle.arrays.specs.Assignments.{items_at, with_items, assigned}
+use Rattle.overlap_copy.specs.Words.{put, item_at, place, EachWithin, traded, length-item_at, length-put, item_at-put_apart, fewer, Run, RunPair, IsNested, distance, run_offsets, length-run_offsets, run_offsets-more, items_at, with_items, assigned}
 use Rattle.overlap_copy.specs.inside.Trades.{traded_at}
 use Rattle.overlap_copy.proofs.MoveLaws.{assigned_is}
 use Rattle.overlap_copy.proofs.PairCopies.{firsts, seconds}

@@ -5,12 +5,7 @@ use Rattle.std.proofs.Math.IntN.{*ℤ_comm, *ℤ-zero, *ℤ-one, pos-*ℤ-negsuc
 use Rattle.std.proofs.lemmas.Bool.{cases_lt, both_ways}
 use lib.IntN.{one}
 use Rattle.std.proofs.lemmas.Int.{ints}
-use Rattle.raw_block.specs.Bytes.{position, place, EachWithin, copied_within}
-use Rattle.raw_block.specs.BytesLaws.{not_negative}
-use Rattle.shape_strides.specs.declared.runs.Run.{Run}
-use Rattle.shape_strides.specs.Limits.{max_bytes}
-use Rattle.shape_strides.specs.Indexes.{IsIndex}
-use Rattle.shape_strides.specs.Layouts.{distance}
+use Rattle.overlap_copy.specs.Words.{position, place, EachWithin, copied_within, not_negative, Run, max_bytes, IsIndex, distance}
 use Rattle.overlap_copy.specs.inside.Moves.{IsAssigned, IsLine, AreSpaced, IsTurned, place_in}
 use Rattle.overlap_copy.proofs.MoveLaws.{reordered, passed}
 

@@ -1,10 +1,7 @@
 -- Layouts in one block that are seen to be apart by their ranges of bytes and their strides.
 use Rattle.std.specs.Prelude.{◌≡◌, ◌+◌, ◌%◌, ◌<◌, ◌≤◌, ◌⊎◌, ℕ, List, ◌++◌, All, map, false, nat_le, if◌then◌else◌}
 use Rattle.std.specs.Int.{◌∣◌}
-use Rattle.shape_strides.specs.declared.layout.Layout.{Layout}
-use Rattle.shape_strides.specs.Layouts.{offsets}
-use Rattle.shape_strides.specs.declared.stacked.Axis.{Axis}
-use Rattle.shape_strides.specs.Stacks.{axes}
+use Rattle.overlap_copy.specs.Words.{Layout, offsets, Axis, axes}
 use Rattle.overlap_copy.specs.Overlaps.{do_ranges_meet}
 
 -- g divides each of the numbers, and what divides each of them divides g

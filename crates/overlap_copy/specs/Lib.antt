@@ -3,3 +3,4 @@ pub mod OrderLaws
 pub mod Overlaps
 pub mod Runs
 pub mod inside
+pub mod Words

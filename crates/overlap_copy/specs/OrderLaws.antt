@@ -11,10 +11,7 @@ use Rattle.std.proofs.lemmas.List.Edits.{length-swap, swapped_from_swap}
 use Rattle.std.proofs.lemmas.List.Elements.{All-head, All-tail, All-from_recursion, Contains-get_or}
 use Rattle.std.proofs.lemmas.List.Sorted.{IsPermutation-map, IsPermutation-sym, IsPermutation-keeps, All-permutation, Contains-permutation}
 use Rattle.std.proofs.lemmas.Slice.Zip.{get_or-zip, length-zip}
-use Rattle.raw_block.specs.Bytes.{put, item_at}
-use Rattle.raw_block.specs.BytesLaws.{length-put, get_or-put_before, get_or-put_after, item_at-put_same, length-item_at, byte_of}
-use Rattle.shape_strides.specs.Layouts.{IsNested, distance}
-use Rattle.arrays.specs.Assignments.{items_at, with_items, assigned}
+use Rattle.overlap_copy.specs.Words.{put, item_at, length-put, get_or-put_before, get_or-put_after, item_at-put_same, length-item_at, byte_of, IsNested, distance, items_at, with_items, assigned}
 
 -- ---- items, each with its place
 

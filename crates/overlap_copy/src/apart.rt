@@ -1,7 +1,6 @@
 //! Decides by byte ranges and strides whether two layouts in one block are disjoint.
 ghost use Rattle.std.specs.Prelude.{◌≡◌, ◌↔◌, ◌+◌, ◌%◌, ◌<◌, ◌≤◌, ◌∷◌, pos, length, slice_index_or, unsigned_abs, nat_le, if◌then◌else◌, false, IsTrue};
-ghost use Rattle.shape_strides.specs.Limits.{max_bytes};
-ghost use Rattle.shape_strides.specs.Layouts.{offsets, Fits};
+ghost use Rattle.overlap_copy.specs.Words.{max_bytes, offsets, Fits};
 ghost use Rattle.overlap_copy.specs.Overlaps.{have_common_byte};
 ghost use Rattle.overlap_copy.specs.Apart.{steps, IsGreatestDivisor, LieBetween, AreApart};
 

@@ -1,12 +1,8 @@
 //! Assignment: the items of a layout become those of another.
 ghost use Rattle.std.specs.Prelude.{◌≡◌, ◌+◌, ◌≤◌, ℤ, length, reverse, false, All, IfOk, IfErr, IfSome, IsOk, IsTrue};
 ghost use Rattle.std.specs.List.Sorted.{IsPermutation};
-ghost use Rattle.shape_strides.specs.Limits.{max_bytes};
-ghost use Rattle.shape_strides.specs.Indexes.{count};
-ghost use Rattle.shape_strides.specs.Layouts.{offsets, Fits, IsNested};
-ghost use Rattle.shape_strides.specs.ItemPairs.{item_pairs};
+ghost use Rattle.overlap_copy.specs.Words.{max_bytes, count, offsets, Fits, IsNested, item_pairs, assigned};
 ghost use Rattle.overlap_copy.specs.Apart.{AreApart};
-ghost use Rattle.arrays.specs.Assignments.{assigned};
 ghost use Rattle.overlap_copy.specs.Runs.{IsRun};
 ghost use Rattle.overlap_copy.specs.Overlaps.{have_common_byte};
 

@@ -1,11 +1,7 @@
 //! Exchanges items of two blocks in one pass.
 ghost use Rattle.std.specs.Prelude.{◌≡◌, ◌+◌, ◌≤◌, length, All};
 ghost use Rattle.std.specs.List.{flat_map};
-ghost use Rattle.raw_block.specs.Bytes.{EachWithin};
-ghost use Rattle.shape_strides.specs.Indexes.{count};
-ghost use Rattle.shape_strides.specs.Layouts.{offsets, IsNested};
-ghost use Rattle.shape_strides.specs.Runs.{run_offsets};
-ghost use Rattle.arrays.specs.Assignments.{assigned, items_at};
+ghost use Rattle.overlap_copy.specs.Words.{EachWithin, count, offsets, IsNested, run_offsets, assigned, items_at};
 ghost use Rattle.overlap_copy.specs.inside.Trades.{traded_at};
 
 use crate::pair_copies::as_runs;

@@ -1,7 +1,6 @@
 //! Axes joined into fewer axes that have the same sums.
 ghost use Rattle.std.specs.Prelude.{◌≡◌, ℕ, ◌+◌, ◌<◌, ◌≤◌, List, ◌∷◌, drop, length, slice_index_or, IsTrue};
-ghost use Rattle.shape_strides.specs.declared.stacked.Axis.{Axis};
-ghost use Rattle.shape_strides.specs.Stacks.{reach};
+ghost use Rattle.overlap_copy.specs.Words.{Axis, reach};
 ghost use Rattle.overlap_copy.specs.inside.Sums.{max_reach, AreForward};
 ghost use Rattle.overlap_copy.specs.inside.Joins.{GoesOn, SameSums, AreJoined};
 

@@ -1,7 +1,6 @@
 //! Whether the byte ranges of two layouts in one block overlap.
 ghost use Rattle.std.specs.Prelude.{◌≡◌, false};
-ghost use Rattle.shape_strides.specs.Limits.{max_bytes};
-ghost use Rattle.shape_strides.specs.Layouts.{offsets, Fits};
+ghost use Rattle.overlap_copy.specs.Words.{max_bytes, offsets, Fits};
 ghost use Rattle.overlap_copy.specs.Overlaps.{have_common_byte, do_ranges_meet};
 
 use shape_strides::Layout;

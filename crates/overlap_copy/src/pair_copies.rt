@@ -1,11 +1,7 @@
 //! Pairs of runs: copies or moves the items of the second one to those of the first.
 ghost use Rattle.std.specs.Prelude.{◌≡◌, ◌*◌, ◌≤◌, length, All, IfSome};
 ghost use Rattle.std.specs.List.{flat_map};
-ghost use Rattle.raw_block.specs.Bytes.{EachWithin};
-ghost use Rattle.shape_strides.specs.Layouts.{offsets, IsNested};
-ghost use Rattle.shape_strides.specs.Runs.{run_offsets};
-ghost use Rattle.arrays.specs.Assignments.{assigned};
-ghost use Rattle.arrays.specs.RunLaws.{BeginsWithin};
+ghost use Rattle.overlap_copy.specs.Words.{EachWithin, offsets, IsNested, run_offsets, assigned, BeginsWithin};
 ghost use Rattle.overlap_copy.specs.inside.Moves.{LieApart};
 
 use arrays::copy_run;

@@ -1,6 +1,6 @@
 //! Moves the items of runs within one block.
 ghost use Rattle.std.specs.Prelude.{◌≡◌, ◌↔◌, ◌≤◌, pos, neg_ℤ, ◌+ℤ◌, ◌*ℤ◌, ◌≤ℤ◌, ◌<ℤ◌, length, IsTrue};
-ghost use Rattle.shape_strides.specs.Limits.{max_bytes, max_items};
+ghost use Rattle.overlap_copy.specs.Words.{max_bytes, max_items};
 ghost use Rattle.overlap_copy.specs.inside.Moves.{IsAssigned, IsLine, IsTurned, AreSpaced, place_in};
 
 use raw_block::RawBlock;

@@ -1,13 +1,7 @@
 //! Assignment between layouts of the same shape and strides, without memory.
 ghost use Rattle.std.specs.Prelude.{◌≡◌, ◌+◌, ◌≤◌, [], ◌∷◌, length, All};
 ghost use Rattle.std.specs.List.{flat_map};
-ghost use Rattle.raw_block.specs.Bytes.{EachWithin};
-ghost use Rattle.shape_strides.specs.Limits.{max_bytes, max_items};
-ghost use Rattle.shape_strides.specs.Addresses.{LieWithin};
-ghost use Rattle.shape_strides.specs.Layouts.{offsets, Fits, IsNested};
-ghost use Rattle.shape_strides.specs.Runs.{run_offsets};
-ghost use Rattle.shape_strides.specs.Stacks.{IsStacked};
-ghost use Rattle.arrays.specs.Assignments.{assigned};
+ghost use Rattle.overlap_copy.specs.Words.{EachWithin, max_bytes, max_items, LieWithin, offsets, Fits, IsNested, run_offsets, IsStacked, assigned};
 ghost use Rattle.overlap_copy.specs.inside.Shifts.{sources, source_run, MayCome};
 
 use crate::run_moves::{move_run, turned};

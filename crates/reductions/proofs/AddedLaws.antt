@@ -3,17 +3,7 @@ use Rattle.std.proofs.Common.{◌≡◌, ◌+◌, ◌*◌, ◌<◌, ◌≤◌, �
 use Rattle.std.proofs.Math.Seq.{drop-append_seam}
 use Rattle.std.proofs.lemmas.Bool.{cases_lt}
 use Rattle.std.proofs.lemmas.List.{map-append, length-map, get_or_append_left, drop-append-le, take-append-le, take_all}
-use Rattle.elem_descr.specs.declared.scalar.Scalar.{Scalar}
-use Rattle.elem_descr.specs.ByteLaws.{length-encode}
-use Rattle.elem_descr.specs.Encoding.{size, encode}
-use Rattle.elem_descr.specs.Values.{number}
-use Rattle.raw_block.specs.Bytes.{place, item_at}
-use Rattle.shape_strides.specs.declared.joined.StridedAxis.{StridedAxis}
-use Rattle.shape_strides.specs.declared.runs.Run.{Run}
-use Rattle.shape_strides.specs.Runs.{run_along, run_offsets}
-use Rattle.shape_strides.specs.WalkLaws.{length-run_offsets}
-use Rattle.arrays.specs.RunLaws.{run_offsets-more}
-use Rattle.elem_descr.specs.declared.operators.Red.{Red}
+use Rattle.reductions.specs.Words.{Scalar, length-encode, size, encode, number, place, item_at, StridedAxis, Run, run_along, run_offsets, length-run_offsets, run_offsets-more, Red}
 use Rattle.reductions.specs.declared.lines.Lines.{Lines}
 use Rattle.reductions.specs.inside.Numbers.{numbers_at, lines, IsReduced, AreReduced, AddsReduced, IsPushed}
 use Rattle.reductions.specs.inside.Lines.{line_run}

@@ -8,22 +8,8 @@ use Rattle.std.proofs.lemmas.List.{length-map, get_or-map, same_lists}
 use Rattle.std.proofs.lemmas.List.Elements.{All-head, All-tail, All-from_get_or}
 use Rattle.std.proofs.lemmas.List.FromFn.{length-map-range_with_len, get_or-map-range_with_len}
 use Rattle.std.proofs.Math.IntN.{*ℤ_comm, zero-*ℤ}
-use Rattle.elem_descr.specs.declared.refusal.Refusal.{Refusal}
-use Rattle.elem_descr.specs.Refusals.{Gives}
-use Rattle.elem_descr.specs.RefusalLaws.{same_answer}
-use Rattle.shape_strides.specs.Shapes.{shape_of}
-use Rattle.shape_strides.specs.ShapeLaws.{shape_of-ok}
+use Rattle.reductions.specs.Words.{Refusal, Gives, same_answer, shape_of, shape_of-ok, position, EachWithin, StridedAxis, Layout, dot, natural, address_at, LieWithin, count, indexes, rank, IsIndex, length-indexes, length-index, rank-lt, get_or-indexes, index_at, address, offsets, length-offsets, pos-offset, max_axes, max_items, max_bytes, run_along, run_offsets}
 use Rattle.reductions.specs.inside.Axes.{AreStarts, IsUnlessMemory}
-use Rattle.raw_block.specs.Bytes.{position, EachWithin}
-use Rattle.shape_strides.specs.declared.joined.StridedAxis.{StridedAxis}
-use Rattle.shape_strides.specs.declared.layout.Layout.{Layout}
-use Rattle.shape_strides.specs.Addresses.{dot, natural, address_at, LieWithin}
-use Rattle.shape_strides.specs.Indexes.{count, indexes, rank, IsIndex}
-use Rattle.shape_strides.specs.IndexLaws.{length-indexes, length-index, rank-lt, get_or-indexes, index_at}
-use Rattle.shape_strides.specs.Layouts.{address, offsets}
-use Rattle.shape_strides.specs.LayoutLaws.{length-offsets, pos-offset}
-use Rattle.shape_strides.specs.Limits.{max_axes, max_items, max_bytes}
-use Rattle.shape_strides.specs.Runs.{run_along, run_offsets}
 use Rattle.reductions.specs.ListLaws.{IsIndex-insert}
 use Rattle.reductions.specs.Lists.{lists}
 use Rattle.reductions.specs.inside.Numbers.{lines}

@@ -5,10 +5,9 @@ use Rattle.std.specs.List.{fold}
 use Rattle.std.proofs.Math.Bool.{beq}
 use Rattle.std.proofs.lemmas.Bool.{false≢true, false_from_ne_true}
 use Rattle.std.proofs.lemmas.Int.{ints}
-use Rattle.elem_descr.specs.declared.scalar.Scalar.{Scalar}
-use Rattle.elem_descr.specs.declared.scalar.Scalar.TheVariants.{Bool as BoolScalar, Byte, Int, Bytes}
-use Rattle.elem_descr.specs.Encoding.{IsValueOf, truth as bit}
-use Rattle.machine_numbers.specs.Kinds.{is_bool}
+use Rattle.reductions.specs.Words.{Scalar, Byte, Int, Bytes, IsValueOf, is_bool}
+use Rattle.elem_descr.specs.declared.scalar.Scalar.TheVariants.{Bool as BoolScalar}
+use Rattle.elem_descr.specs.Encoding.{truth as bit}
 use Rattle.reductions.specs.Reductions.{is_true}
 use Rattle.reductions.specs.inside.Extremes.{better, is_better, better-none}
 use Rattle.reductions.specs.inside.FoundLaws.{HasSought}

@@ -3,19 +3,7 @@ use Rattle.std.proofs.Common.{◌≡◌, ◌+◌, ◌-◌, ◌≤◌, ◌<◌, �
 use Rattle.std.specs.Prelude.{ℤ, pos, ◌+ℤ◌, ◌*ℤ◌, ◌≤ℤ◌, nat_abs}
 use Rattle.std.proofs.lemmas.List.{map-append, length-map}
 use Rattle.std.proofs.Math.IntN.{zero-*ℤ, *ℤ_comm, +ℤ_idr}
-use Rattle.elem_descr.specs.declared.scalar.Scalar.{Scalar}
-use Rattle.elem_descr.specs.Encoding.{size, decode, number_of}
-use Rattle.machine_numbers.specs.declared.sides.Side.{Side}
-use Rattle.machine_numbers.specs.Sides.{number_of_side}
-use Rattle.elem_descr.specs.Steps.{numbers_from}
-use Rattle.elem_descr.specs.StepLaws.{numbers-suc, numbers-split}
-use Rattle.shape_strides.specs.Addresses.{natural}
-use Rattle.raw_block.specs.Bytes.{position, place, item_at, EachWithin}
-use Rattle.raw_block.specs.BytesLaws.{not_negative, position-add}
-use Rattle.shape_strides.specs.declared.runs.Run.{Run}
-use Rattle.shape_strides.specs.Runs.{run_offsets}
-use Rattle.shape_strides.specs.WalkLaws.{length-run_offsets}
-use Rattle.arrays.specs.RunLaws.{run_offsets-more}
+use Rattle.reductions.specs.Words.{Scalar, size, decode, number_of, Side, number_of_side, numbers_from, numbers-suc, numbers-split, natural, position, place, item_at, EachWithin, not_negative, position-add, Run, run_offsets, length-run_offsets, run_offsets-more}
 use Rattle.reductions.specs.Reductions.{first_place}
 use Rattle.reductions.specs.inside.FoundLaws.{found-next}
 use Rattle.reductions.specs.inside.Numbers.{number_at, numbers_at, numbers_of, IsPart, TakesIn}

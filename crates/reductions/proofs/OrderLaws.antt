@@ -9,11 +9,8 @@ use Rattle.std.proofs.lemmas.List.Edits.{swap_is}
 use Rattle.std.proofs.lemmas.List.{get_or_default}
 use Rattle.std.proofs.lemmas.List.Sorted.{IsPermutation-keeps, IsPermutation-map, IsPermutation-sym, Contains-permutation, length_permutation, list_any-IsPermutation}
 use Rattle.std.proofs.lemmas.Bool.{false≢true}
-use Rattle.elem_descr.specs.declared.scalar.Scalar.{Scalar}
-use Rattle.elem_descr.specs.Encoding.{wrap}
-use Rattle.elem_descr.specs.declared.operators.Red.{Red}
-use Rattle.elem_descr.specs.declared.operators.Red.TheVariants.{Sum, Product, Minimum, Maximum, Any, All as AllOf, ArgMin, ArgMax}
-use Rattle.raw_block.specs.Bytes.{item_at}
+use Rattle.reductions.specs.Words.{Scalar, wrap, Red, Sum, Product, Minimum, Maximum, Any, ArgMin, ArgMax, item_at}
+use Rattle.elem_descr.specs.declared.operators.Red.TheVariants.{All as AllOf}
 use Rattle.reductions.proofs.RowLaws.{swapped}
 use Rattle.reductions.specs.inside.Numbers.{AreReduced, IsReduced, IsStored, number_at, numbers_at}
 use Rattle.reductions.specs.Reductions.{reduced, result_scalar, least, greatest, is_true}

@@ -5,29 +5,8 @@ use Rattle.std.specs.Prelude.{nat_eq, Result, ◌&&◌, not, ◌==◌, slice_set
 use Rattle.std.specs.List.{range_with_len, insert, remove, flat_map}
 use Rattle.std.proofs.lemmas.List.{length-map, get_or-map, same_lists, take-take}
 use Rattle.std.proofs.lemmas.List.FromFn.{length-map-range_with_len, get_or-map-range_with_len}
-use Rattle.elem_descr.specs.declared.descr.Descr.{Descr}
+use Rattle.reductions.specs.Words.{Descr, Refusal, EmptyReduction, BadAxis, Scalar, IsNumber, size, decode, encode, number_of, number_size, ◌>>=◌, check, check_passed, shape_of-same, encode_item, number, item_from, one-encoded, item_at, joined, all_joined, joined_list, Layout, count, indexes, rank, length-indexes, offsets, multiples, offsets-none, shape_of, Red}
 use Rattle.elem_descr.specs.declared.descr.Descr.TheVariants.{Scalar as ScalarDescr}
-use Rattle.elem_descr.specs.declared.refusal.Refusal.{Refusal}
-use Rattle.elem_descr.specs.declared.refusal.Refusal.TheVariants.{EmptyReduction, BadAxis}
-use Rattle.elem_descr.specs.declared.scalar.Scalar.{Scalar}
-use Rattle.elem_descr.specs.Encoding.{IsNumber, size, decode, encode, number_of}
-use Rattle.elem_descr.specs.NumberLaws.{number_size}
-use Rattle.elem_descr.specs.Refusals.{◌>>=◌, check}
-use Rattle.elem_descr.specs.RefusalLaws.{check_passed}
-use Rattle.shape_strides.specs.ShapeLaws.{shape_of-same}
-use Rattle.elem_descr.specs.Items.{encode_item}
-use Rattle.elem_descr.specs.Values.{number}
-use Rattle.elem_descr.specs.Blocks.{item_from}
-use Rattle.elem_descr.specs.ByteLaws.{one-encoded}
-use Rattle.raw_block.specs.Bytes.{item_at, joined}
-use Rattle.raw_block.specs.JoinedLaws.{all_joined, joined_list}
-use Rattle.shape_strides.specs.declared.layout.Layout.{Layout}
-use Rattle.shape_strides.specs.Indexes.{count, indexes, rank}
-use Rattle.shape_strides.specs.IndexLaws.{length-indexes}
-use Rattle.shape_strides.specs.Layouts.{offsets, multiples}
-use Rattle.shape_strides.specs.LayoutLaws.{offsets-none}
-use Rattle.shape_strides.specs.Shapes.{shape_of}
-use Rattle.elem_descr.specs.declared.operators.Red.{Red}
 use Rattle.reductions.specs.inside.FoldLaws.{wide_size, little_size}
 use Rattle.reductions.specs.Lists.{lists, reduced_shape, list_length, named_axis, is_axis, IsAxisOf}
 use Rattle.reductions.specs.Outcomes.{has_empty_list, number_scalar, reduced_type, ReducedType}

@@ -2,14 +2,8 @@
 use Rattle.std.proofs.Common.{◌≡◌, ◌<◌, ◌≤◌, ℕ, ℤ, pos, length, sym, ap, subst, ◌∙◌, arith}
 use Rattle.std.specs.Prelude.{◌+ℤ◌, ◌*ℤ◌, ◌≤ℤ◌, nat_abs}
 use Rattle.std.proofs.lemmas.Int.{ints}
-use Rattle.raw_block.specs.Bytes.{position, place, EachWithin}
-use Rattle.raw_block.specs.BytesLaws.{not_negative}
-use Rattle.shape_strides.specs.declared.runs.Run.{Run}
+use Rattle.reductions.specs.Words.{position, place, EachWithin, not_negative, Run, Scalar, size, Side, number_of_side}
 use Rattle.reductions.specs.declared.lines.Lines.{Lines}
-use Rattle.elem_descr.specs.declared.scalar.Scalar.{Scalar}
-use Rattle.elem_descr.specs.Encoding.{size}
-use Rattle.machine_numbers.specs.declared.sides.Side.{Side}
-use Rattle.machine_numbers.specs.Sides.{number_of_side}
 use Rattle.reductions.specs.inside.Lines.{IsRow, line_run}
 use Rattle.reductions.specs.inside.Numbers.{number_at}
 use Rattle.reductions.proofs.LineLaws.{at_first, side_number}

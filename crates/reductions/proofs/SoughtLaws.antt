@@ -3,10 +3,7 @@ use Rattle.std.proofs.Common.{◌≡◌, ◌+◌, ◌-◌, ◌<◌, ◌⊎◌, i
 use Rattle.std.specs.List.{fold}
 use Rattle.std.proofs.lemmas.List.Sums.{fold-append}
 use Rattle.std.proofs.lemmas.List.{append-nil}
-use Rattle.elem_descr.specs.declared.scalar.Scalar.{Scalar}
-use Rattle.machine_numbers.specs.declared.sides.Side.{Side}
-use Rattle.raw_block.specs.Bytes.{place}
-use Rattle.shape_strides.specs.Runs.{run_offsets}
+use Rattle.reductions.specs.Words.{Scalar, Side, place, run_offsets}
 use Rattle.reductions.specs.Reductions.{first_place}
 use Rattle.reductions.specs.inside.Numbers.{numbers_at, numbers_of, IsPart}
 use Rattle.reductions.specs.inside.Extremes.{better, is_better}

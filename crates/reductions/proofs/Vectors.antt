@@ -1,15 +1,8 @@
 -- Reductions as NumPy has them.
 use Rattle.std.proofs.Common.{◌≡◌, true, false, pos, negsuc, [], ◌∷◌, Some, None, Ok, Err, refl}
-use Rattle.elem_descr.specs.declared.descr.Descr.{Descr}
+use Rattle.reductions.specs.Words.{Descr, TooLarge, BadAxis, NotForThisKind, EmptyReduction, Little, Big, Two, Four, Eight, Scalar, Byte, Int, Bytes, number, shape_of, Sum, Product, Minimum, Maximum, Any, All, ArgMin, ArgMax}
 use Rattle.elem_descr.specs.declared.descr.Descr.TheVariants.{Scalar as ScalarDescr}
-use Rattle.elem_descr.specs.declared.refusal.Refusal.TheVariants.{TooLarge, BadAxis, NotForThisKind, EmptyReduction}
-use Rattle.elem_descr.specs.declared.scalar.Order.TheVariants.{Little, Big}
-use Rattle.elem_descr.specs.declared.scalar.Width.TheVariants.{Two, Four, Eight}
-use Rattle.elem_descr.specs.declared.scalar.Scalar.{Scalar}
-use Rattle.elem_descr.specs.declared.scalar.Scalar.TheVariants.{Bool as BoolScalar, Byte, Int, Bytes}
-use Rattle.elem_descr.specs.Values.{number}
-use Rattle.shape_strides.specs.Shapes.{shape_of}
-use Rattle.elem_descr.specs.declared.operators.Red.TheVariants.{Sum, Product, Minimum, Maximum, Any, All, ArgMin, ArgMax}
+use Rattle.elem_descr.specs.declared.scalar.Scalar.TheVariants.{Bool as BoolScalar}
 use Rattle.reductions.specs.Lists.{lists}
 use Rattle.reductions.specs.Reductions.{reduced, reduced_item}
 use Rattle.reductions.specs.Outcomes.{reduced_type}

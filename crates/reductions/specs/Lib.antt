@@ -3,3 +3,4 @@ pub mod Reductions
 pub mod Outcomes
 pub mod ListLaws
 pub mod inside
+pub mod Words

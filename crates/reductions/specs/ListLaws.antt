@@ -1,7 +1,7 @@
 -- Laws of the lists that a reduction goes over.
 use Rattle.std.proofs.Common.{◌<◌, ℕ, zero, suc, List, [], ◌∷◌, length, get_or, arith}
 use Rattle.std.specs.List.{insert, remove}
-use Rattle.shape_strides.specs.Indexes.{IsIndex}
+use Rattle.reductions.specs.Words.{IsIndex}
 
 -- an index of the other axes, with a number on the axis, is an index
 pub IsIndex-insert : (shape index : List ℕ) (a k : ℕ) → a < length shape → IsIndex (remove shape a) index → k < get_or shape a 0 → IsIndex shape (insert index a k)

@@ -1,9 +1,7 @@
 -- The axis that a reduction goes along, and the items that each item of its result stands for.
 use Rattle.std.specs.Prelude.{ℕ, ◌<◌, ℤ, Bool, true, false, Option, Some, None, List, [], ◌∷◌, map, slice_index, slice_set}
 use Rattle.std.specs.List.{range_with_len, insert, remove}
-use Rattle.shape_strides.specs.Addresses.{natural}
-use Rattle.shape_strides.specs.Indexes.{count, indexes, rank}
-use Rattle.view_ops.specs.Slices.{from_front, is_place}
+use Rattle.reductions.specs.Words.{natural, count, indexes, rank, from_front, is_place}
 
 -- the axis that is named, as counted from the front; a negative number counts from the end, and none may be named
 abbrev pub named_axis : ℕ → Option ℤ → Option ℕ

@@ -1,16 +1,8 @@
 -- The array that a reduction gives, or what is refused.
 use Rattle.std.specs.Prelude.{ℕ, ℤ, Bool, not, ◌&&◌, ◌==◌, Option, List, length, Result, Ok, Err}
-use Rattle.elem_descr.specs.declared.descr.Descr.{Descr}
+use Rattle.reductions.specs.Words.{Descr, Refusal, NotForThisKind, BadAxis, EmptyReduction, Scalar, Byte, Int, Bytes, ◌>>=◌, check, count, shape_of, Owned, Red}
 use Rattle.elem_descr.specs.declared.descr.Descr.TheVariants.{Scalar as ScalarDescr, Record as RecordDescr}
-use Rattle.elem_descr.specs.declared.refusal.Refusal.{Refusal}
-use Rattle.elem_descr.specs.declared.refusal.Refusal.TheVariants.{NotForThisKind, BadAxis, EmptyReduction}
-use Rattle.elem_descr.specs.declared.scalar.Scalar.{Scalar}
-use Rattle.elem_descr.specs.declared.scalar.Scalar.TheVariants.{Bool as BoolScalar, Byte, Int, Bytes}
-use Rattle.elem_descr.specs.Refusals.{◌>>=◌, check}
-use Rattle.shape_strides.specs.Indexes.{count}
-use Rattle.shape_strides.specs.Shapes.{shape_of}
-use Rattle.arrays.specs.declared.owned.Owned.{Owned}
-use Rattle.elem_descr.specs.declared.operators.Red.{Red}
+use Rattle.elem_descr.specs.declared.scalar.Scalar.TheVariants.{Bool as BoolScalar}
 use Rattle.reductions.specs.Lists.{named_axis, is_axis, reduced_shape, list_length}
 use Rattle.reductions.specs.Reductions.{result_scalar, needs_items}
 

@@ -2,10 +2,7 @@
 ghost use Rattle.std.specs.Prelude.{◌≡◌, ◌<◌, ◌≤◌, ◌&&◌, ◌==◌, not, true, false, length, slice_index, IfOk, IfErr, Ok, Err};
 ghost use Rattle.std.specs.List.{remove};
 ghost use Rattle.elem_descr.specs.declared.descr.Descr.TheVariants.{Scalar as ScalarDescr};
-ghost use Rattle.elem_descr.specs.declared.refusal.Refusal.TheVariants.{BadAxis, OutOfMemory};
-ghost use Rattle.elem_descr.specs.Encoding.{IsNumber};
-ghost use Rattle.elem_descr.specs.Refusals.{Gives};
-ghost use Rattle.shape_strides.specs.Indexes.{count};
+ghost use Rattle.reductions.specs.Words.{BadAxis, OutOfMemory, IsNumber, Gives, count};
 ghost use Rattle.reductions.specs.Lists.{named_axis, is_axis, reduced_shape, list_length, IsAxisOf};
 ghost use Rattle.reductions.specs.Outcomes.{number_scalar, has_empty_list};
 ghost use Rattle.reductions.specs.Reductions.{needs_items};

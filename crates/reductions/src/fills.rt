@@ -1,11 +1,7 @@
 //! Reduces all items of a layout, or the lines along an axis that start at each of them: one line after
 //! another, or all at once, row by row.
 ghost use Rattle.std.specs.Prelude.{◌≡◌, ◌+◌, ◌*◌, ◌<◌, ◌≤◌, [], ◌∷◌, length, IfOk, OnOk, Some};
-ghost use Rattle.elem_descr.specs.declared.scalar.Order.TheVariants.{Little};
-ghost use Rattle.machine_numbers.specs.Sides.{number_of_side};
-ghost use Rattle.shape_strides.specs.Indexes.{count};
-ghost use Rattle.shape_strides.specs.Layouts.{offsets};
-ghost use Rattle.shape_strides.specs.Runs.{run_offsets};
+ghost use Rattle.reductions.specs.Words.{Little, number_of_side, count, offsets, run_offsets};
 ghost use Rattle.reductions.specs.inside.Numbers.{number_at, numbers_at, lines, lists_from, TakesIn, IsPushed, AreReduced, AddsReduced, HaveItems};
 ghost use Rattle.reductions.specs.inside.Lines.{all_lines, line_run, AreHeld, EachOf, EachPair};
 

@@ -1,10 +1,7 @@
 //! Reductions that visit numbers one by one.
 ghost use Rattle.std.specs.Prelude.{◌≡◌, ◌+◌, ◌<◌, ◌^◌, ℕ, ℤ, pos, Bool, true, false, [], ◌∷◌, ◌++◌, List, length, if◌then◌else◌, is_some, IfSome, IsTrue, refl};
 ghost use Rattle.std.specs.List.{fold};
-ghost use Rattle.elem_descr.specs.declared.scalar.Order.{Order};
-ghost use Rattle.elem_descr.specs.declared.scalar.Order.TheVariants.{Little};
-ghost use Rattle.elem_descr.specs.Encoding.{low_bits, size};
-ghost use Rattle.elem_descr.specs.declared.operators.Red.{Red};
+ghost use Rattle.reductions.specs.Words.{Order, Little, low_bits, size, Red};
 ghost use Rattle.reductions.specs.Reductions.{first_place, result_scalar};
 ghost use Rattle.reductions.specs.inside.Numbers.{number_at, numbers_at, numbers_of, TakesIn, IsStored, IsReduced};
 ghost use Rattle.reductions.specs.inside.FoldLaws.{total_of, total, total_is, total_size, truth_of, truth, truth_is, truth_size, is_true_bits};

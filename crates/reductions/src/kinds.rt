@@ -1,10 +1,7 @@
 //! All that depends on the reduction: the type of its result, whether it needs items, its result without
 //! items, and the loop that computes it.
 ghost use Rattle.std.specs.Prelude.{◌≡◌, ◌*◌, ◌<◌, ◌≤◌, ℕ, [], true, length, IfOk};
-ghost use Rattle.elem_descr.specs.declared.scalar.Order.TheVariants.{Little};
-ghost use Rattle.elem_descr.specs.Encoding.{size};
-ghost use Rattle.raw_block.specs.Bytes.{item_at};
-ghost use Rattle.shape_strides.specs.Limits.{max_items};
+ghost use Rattle.reductions.specs.Words.{Little, size, item_at, max_items};
 ghost use Rattle.reductions.specs.Reductions.{wide, result_scalar, needs_items};
 ghost use Rattle.reductions.specs.inside.Orders.{hangs_on_order};
 ghost use Rattle.reductions.specs.inside.Numbers.{IsStored, IsReduced, AreReduced, lists_from, HaveItems};

@@ -1,8 +1,6 @@
 //! The numbers to reduce, the lists and lines that they form, and the result of a line.
 ghost use Rattle.std.specs.Prelude.{◌≡◌, ◌+◌, ◌^◌, ◌<◌, ◌≤◌, ℕ, length, All, IsTrue};
-ghost use Rattle.elem_descr.specs.Encoding.{size};
-ghost use Rattle.raw_block.specs.Bytes.{place, EachWithin};
-ghost use Rattle.shape_strides.specs.Layouts.{offsets};
+ghost use Rattle.reductions.specs.Words.{size, place, EachWithin, offsets};
 ghost use Rattle.reductions.specs.Reductions.{first_place};
 ghost use Rattle.reductions.specs.inside.Numbers.{numbers_of, TakesIn, IsPart, AreAlong};
 

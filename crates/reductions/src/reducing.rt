@@ -2,17 +2,7 @@
 ghost use Rattle.std.specs.Prelude.{All, ◌≡◌, ◌+◌, ◌*◌, ◌<◌, ◌≤◌, true, false, pos, Some, None, length, map, slice_index, slice_index_or, IfOk, IfErr};
 ghost use Rattle.std.specs.List.{flat_map};
 ghost use Rattle.std.specs.List.Sorted.{IsPermutation};
-ghost use Rattle.elem_descr.specs.declared.refusal.Refusal.TheVariants.{OutOfMemory};
-ghost use Rattle.elem_descr.specs.Blocks.{item_from};
-ghost use Rattle.elem_descr.specs.Encoding.{IsNumber, size};
-ghost use Rattle.elem_descr.specs.Items.{item_size, encode_item};
-ghost use Rattle.elem_descr.specs.Refusals.{Gives};
-ghost use Rattle.elem_descr.specs.declared.memory_order.MemoryOrder.TheVariants.{C};
-ghost use Rattle.shape_strides.specs.Indexes.{count};
-ghost use Rattle.shape_strides.specs.Layouts.{offsets};
-ghost use Rattle.shape_strides.specs.Limits.{max_items};
-ghost use Rattle.arrays.specs.Blocks.{offsets_in};
-ghost use Rattle.arrays.specs.ItemLists.{owned_items};
+ghost use Rattle.reductions.specs.Words.{OutOfMemory, item_from, IsNumber, size, item_size, encode_item, Gives, C, count, offsets, max_items, offsets_in, owned_items};
 ghost use Rattle.reductions.specs.Lists.{named_axis, list_length, lists, IsAxisOf};
 ghost use Rattle.reductions.specs.Outcomes.{reduced_type, outcome_of};
 ghost use Rattle.reductions.specs.Reductions.{needs_items, reduced_items};

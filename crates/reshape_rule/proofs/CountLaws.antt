@@ -3,11 +3,7 @@ use Rattle.std.proofs.Common.{◌≡◌, ℕ, ◌*◌, ◌/◌, ◌%◌, ◌≤�
 use Rattle.std.specs.List.{list_all}
 use Rattle.std.specs.Result.{is_ok, IfOk}
 use Rattle.std.proofs.lemmas.Bool.{cases_lt, cases_Bool, and_parts, eqb-true, false≢true}
-use Rattle.elem_descr.specs.declared.refusal.Refusal.{Refusal}
-use Rattle.elem_descr.specs.Refusals.{Gives}
-use Rattle.shape_strides.specs.Limits.{max_axes}
-use Rattle.shape_strides.specs.Indexes.{count}
-use Rattle.shape_strides.specs.ShapeLaws.{shape_of-same}
+use Rattle.reshape_rule.specs.Words.{Refusal, Gives, max_axes, count, shape_of-same}
 use Rattle.reshape_rule.specs.Targets.{left_open, given, make_up, length_or, target_of}
 use Rattle.reshape_rule.proofs.TargetLaws.{target_of-many, target_of-low, target_of-opened, target_of-made}
 

@@ -3,9 +3,7 @@ use Rattle.std.proofs.Common.{◌≡◌, ℕ, ◌+◌, ◌*◌, ◌/◌, ◌<◌
 use Rattle.std.proofs.lemmas.Bool.{cond-true}
 use Rattle.std.proofs.lemmas.Bool.Decides.{nat_tests}
 use Rattle.std.proofs.lemmas.List.{drop_more, append_assoc}
-use Rattle.shape_strides.specs.Indexes.{count}
-use Rattle.shape_strides.specs.Contiguity.{printed_stride, printed_strides}
-use Rattle.shape_strides.specs.CountLaws.{count-drop, factors_pos}
+use Rattle.reshape_rule.specs.Words.{count, printed_stride, printed_strides, count-drop, factors_pos}
 
 -- the items of the axes after one
 pub record Later (lengths : List ℕ) (k items : ℕ) : Type 0 where

@@ -6,12 +6,7 @@ use Rattle.std.proofs.lemmas.Bool.{cases_lt}
 use Rattle.std.proofs.lemmas.Bool.Decides.{nat_tests}
 use Rattle.std.proofs.lemmas.List.{drop_more}
 use Rattle.std.proofs.lemmas.Simd.{map-map}
-use Rattle.elem_descr.specs.Refusals.{◌>>=◌, check}
-use Rattle.elem_descr.specs.declared.refusal.Refusal.TheVariants.{TooManyAxes, BadReshape}
-use Rattle.shape_strides.specs.Limits.{max_axes, max_items}
-use Rattle.shape_strides.specs.Shapes.{shape_of}
-use Rattle.shape_strides.specs.CountLaws.{min-mul}
-use Rattle.shape_strides.specs.ShapeLaws.{shape_of-capped}
+use Rattle.reshape_rule.specs.Words.{◌>>=◌, check, TooManyAxes, BadReshape, max_axes, max_items, shape_of, min-mul, shape_of-capped}
 use Rattle.reshape_rule.specs.Targets.{left_open, given, make_up, length_or, target_of}
 
 -- ---- the numbers from one on

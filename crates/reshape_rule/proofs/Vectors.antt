@@ -1,8 +1,6 @@
 -- The shapes of NumPy's `reshape`, and where it gives views.
 use Rattle.std.proofs.Common.{◌≡◌, List, ℕ, true, false, pos, negsuc, [], ◌∷◌, Ok, Err, replicate, refl}
-use Rattle.elem_descr.specs.declared.refusal.Refusal.TheVariants.{TooManyAxes, TooLarge, BadReshape}
-use Rattle.shape_strides.specs.Shapes.{shape_of}
-use Rattle.shape_strides.specs.Contiguity.{printed_strides}
+use Rattle.reshape_rule.specs.Words.{TooManyAxes, TooLarge, BadReshape, shape_of, printed_strides}
 use Rattle.reshape_rule.specs.Targets.{target_of}
 use Rattle.reshape_rule.specs.inside.Tests.{is_affine}
 

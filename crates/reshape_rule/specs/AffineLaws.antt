@@ -6,13 +6,7 @@ use Rattle.std.specs.Ordering.{int_eq}
 use Rattle.std.proofs.lemmas.List.Sums.{AllPass-from_list_all, list_all-from_AllPass}
 use Rattle.std.proofs.lemmas.Int.{ints}
 use lib.IntN.{*ℤ-zero, +ℤ_idr}
-use Rattle.shape_strides.specs.Indexes.{count, indexes, rank, IsIndex}
-use Rattle.shape_strides.specs.Addresses.{dot, address_at}
-use Rattle.shape_strides.specs.Contiguity.{first_address, printed_strides}
-use Rattle.shape_strides.specs.IndexLaws.{length-indexes, get_or-indexes, rank-lt, index_at}
-use Rattle.shape_strides.specs.AxisIndexes.{zero_filled, unit}
-use Rattle.shape_strides.specs.AxisLaws.{dot-zeros, rank-zeros, IsIndex-first, IsIndex-unit, rank-unit, dot-unit}
-use Rattle.shape_strides.specs.ContiguityLaws.{first_address-entry, printed-at, length-printed}
+use Rattle.reshape_rule.specs.Words.{count, indexes, rank, IsIndex, dot, address_at, first_address, printed_strides, length-indexes, get_or-indexes, rank-lt, index_at, zero_filled, unit, dot-zeros, rank-zeros, IsIndex-first, IsIndex-unit, rank-unit, dot-unit, first_address-entry, printed-at, length-printed}
 use Rattle.reshape_rule.specs.Reshapes.{IsAffine}
 use Rattle.reshape_rule.specs.inside.Tests.{is_affine}
 

@@ -1,9 +1,6 @@
 -- The same items under another shape, without a copy.
 use Rattle.std.specs.Prelude.{◌≡◌, ℕ, ℤ, pos, ◌+ℤ◌, List, length, slice_index}
-use Rattle.shape_strides.specs.declared.layout.Layout.{Layout}
-use Rattle.shape_strides.specs.Indexes.{rank, IsIndex}
-use Rattle.shape_strides.specs.Addresses.{dot}
-use Rattle.shape_strides.specs.Layouts.{offsets, Fits}
+use Rattle.reshape_rule.specs.Words.{Layout, rank, IsIndex, dot, offsets, Fits}
 
 -- some first place and some strides, one an axis of the shape, lead to each entry of a list, which stands in C order
 pub record IsAffine (list shape : List ℕ) : Type 0 where

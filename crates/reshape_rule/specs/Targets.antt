@@ -1,11 +1,7 @@
 -- The shape that the numbers of a reshape mean, as NumPy has it: one of them may be -1, which stands for what is left.
 use Rattle.std.specs.Prelude.{ℕ, ◌+◌, ◌*◌, ◌/◌, ◌%◌, nat_le, ◌==◌, ℤ, pos, negsuc, int_le, Bool, ◌&&◌, not, if◌then◌else◌, List, [], ◌∷◌, length, map, Result}
 use Rattle.std.specs.List.{list_all}
-use Rattle.elem_descr.specs.declared.refusal.Refusal.{Refusal}
-use Rattle.elem_descr.specs.declared.refusal.Refusal.TheVariants.{TooManyAxes, BadReshape}
-use Rattle.elem_descr.specs.Refusals.{◌>>=◌, check}
-use Rattle.shape_strides.specs.Limits.{max_axes}
-use Rattle.shape_strides.specs.Shapes.{shape_of}
+use Rattle.reshape_rule.specs.Words.{Refusal, TooManyAxes, BadReshape, ◌>>=◌, check, max_axes, shape_of}
 
 -- how many numbers are below 0, and so stand for no length of their own
 abbrev pub left_open : List ℤ → ℕ

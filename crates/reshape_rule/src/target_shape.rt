@@ -1,9 +1,7 @@
 //! The shape that the numbers of a reshape mean.
 ghost use Rattle.std.specs.Prelude.{◌≡◌, ◌+◌, ◌/◌, ◌≤◌, min, map, negsuc, int_le, IfOk};
 ghost use Rattle.std.specs.List.{list_all};
-ghost use Rattle.elem_descr.specs.Refusals.{Gives};
-ghost use Rattle.shape_strides.specs.Limits.{max_items};
-ghost use Rattle.shape_strides.specs.Indexes.{count};
+ghost use Rattle.reshape_rule.specs.Words.{Gives, max_items, count};
 ghost use Rattle.reshape_rule.specs.Targets.{left_open, given, make_up, length_or, target_of};
 
 use elem_descr::Refusal;

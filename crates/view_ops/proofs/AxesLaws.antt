@@ -3,14 +3,11 @@ use Rattle.std.proofs.Common.{◌≡◌, ◌≢◌, ℕ, zero, suc, ◌+◌, ◌
 use Rattle.std.specs.List.{list_any, list_all, range_with_len}
 use Rattle.std.proofs.lemmas.Bool.{cases_Bool, cases_eq, and_parts, false≢true, not-true}
 use Rattle.std.specs.Result.{is_ok}
-use Rattle.elem_descr.specs.declared.refusal.Refusal.{Refusal}
+use Rattle.view_ops.specs.Words.{Refusal, BadAxis, axis_below, same_answer}
 use Rattle.std.proofs.lemmas.Bool.Decides.{nat_tests}
 use Rattle.std.proofs.lemmas.List.{length-map}
 use Rattle.std.proofs.lemmas.List.FromFn.{length-range_with_len}
-use Rattle.elem_descr.specs.declared.refusal.Refusal.TheVariants.{BadAxis}
 use Rattle.shape_strides.specs.Layouts.{natural}
-use Rattle.shape_strides.specs.AxisLaws.{axis_below}
-use Rattle.elem_descr.specs.RefusalLaws.{same_answer}
 use Rattle.view_ops.specs.Slices.{from_front, is_place}
 use Rattle.view_ops.specs.Transposes.{are_distinct, axes_of}
 use Rattle.view_ops.specs.inside.Axes.{AreAxes, AreAllAxes}

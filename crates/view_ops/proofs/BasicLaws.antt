@@ -3,15 +3,7 @@ use Rattle.std.proofs.Common.{◌≡◌, ◌⊎◌, inl, inr, Bool, Ok, Err, ℕ
 use Rattle.std.specs.List.{list_all}
 use Rattle.std.proofs.lemmas.Bool.{cases_lt}
 use Rattle.std.proofs.lemmas.Bool.Decides.{nat_tests}
-use Rattle.elem_descr.specs.declared.refusal.Refusal.{Refusal}
-use Rattle.elem_descr.specs.declared.refusal.Refusal.TheVariants.{OutOfMemory, TooManyAxes, TooManyIndices, ZeroStep, IndexOutOfRange}
-use Rattle.elem_descr.specs.Refusals.{◌>>=◌, check}
-use Rattle.shape_strides.specs.declared.layout.Layout.{Layout}
-use Rattle.elem_descr.specs.declared.index_item.IndexItem.{IndexItem}
-use Rattle.shape_strides.specs.Limits.{max_axes, max_items}
-use Rattle.shape_strides.specs.Indexes.{count}
-use Rattle.shape_strides.specs.Shapes.{shape_of}
-use Rattle.shape_strides.specs.ShapeLaws.{shape_of-many}
+use Rattle.view_ops.specs.Words.{Refusal, OutOfMemory, TooManyAxes, TooManyIndices, ZeroStep, IndexOutOfRange, ◌>>=◌, check, Layout, IndexItem, max_axes, max_items, count, shape_of, shape_of-many}
 use Rattle.view_ops.specs.declared.pick.AxisPick.{AxisPick}
 use Rattle.view_ops.specs.Basics.{axes_taken, has_step, are_on_axes, picks, shape_picked, picked_view, basic}
 use Rattle.view_ops.specs.inside.Picks.{pick_shown, ArePicks}

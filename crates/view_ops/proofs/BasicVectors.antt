@@ -1,11 +1,6 @@
 -- What NumPy's basic indexes give: the shape of the result, and where one of its indexes leads.
 use Rattle.std.proofs.Common.{◌≡◌, ℕ, ◌^◌, pos, negsuc, Some, None, List, [], ◌∷◌, replicate, Result, Ok, Err, refl}
-use Rattle.elem_descr.specs.declared.refusal.Refusal.{Refusal}
-use Rattle.elem_descr.specs.declared.refusal.Refusal.TheVariants.{TooManyAxes, TooManyIndices, IndexOutOfRange, ZeroStep}
-use Rattle.elem_descr.specs.Refusals.{◌>>=◌}
-use Rattle.elem_descr.specs.declared.index_item.IndexItem.{IndexItem}
-use Rattle.elem_descr.specs.declared.index_item.IndexItem.TheVariants.{Integer, Slice, Ellipsis, NewAxis}
-use Rattle.elem_descr.specs.Steps.{stepped}
+use Rattle.view_ops.specs.Words.{Refusal, TooManyAxes, TooManyIndices, IndexOutOfRange, ZeroStep, ◌>>=◌, IndexItem, Integer, Slice, Ellipsis, NewAxis, stepped}
 use Rattle.view_ops.specs.Slices.{slice_indices}
 use Rattle.view_ops.specs.Basics.{shape_picked, picked_view, basic}
 

@@ -3,17 +3,8 @@ use Rattle.std.proofs.Common.{◌≡◌, ℕ, ◌+◌, ◌<◌, ◌≤◌, ℤ, 
 use Rattle.std.proofs.lemmas.Int.{ints}
 use Rattle.std.proofs.lemmas.List.{length-map, get_or-map, same_lists}
 use lib.IntN.{+ℤ_idr}
-use Rattle.elem_descr.specs.declared.descr.Descr.{Descr}
-use Rattle.elem_descr.specs.declared.descr.Field.{Field}
-use Rattle.elem_descr.specs.Items.{item_size, field_at}
-use Rattle.shape_strides.specs.declared.layout.Layout.{Layout}
-use Rattle.shape_strides.specs.Indexes.{count, rank, IsIndex}
+use Rattle.view_ops.specs.Words.{Descr, Field, item_size, field_at, Layout, count, rank, IsIndex, address, offsets, Fits, distance, IsNested, index_at, length-offsets, get_or-offsets, IsIndex-first, dot-zeros, zero_filled}
 use Rattle.shape_strides.specs.Addresses.{natural}
-use Rattle.shape_strides.specs.Layouts.{address, offsets, Fits, distance, IsNested}
-use Rattle.shape_strides.specs.IndexLaws.{index_at}
-use Rattle.shape_strides.specs.LayoutLaws.{length-offsets, get_or-offsets}
-use Rattle.shape_strides.specs.AxisLaws.{IsIndex-first, dot-zeros}
-use Rattle.shape_strides.specs.AxisIndexes.{zero_filled}
 use Rattle.view_ops.specs.FieldViews.{GivesField}
 
 -- the first item stands at the offset

@@ -6,9 +6,8 @@ use Rattle.std.proofs.lemmas.Bool.{and_parts, false≢true}
 use Rattle.std.specs.Result.{is_ok}
 use Rattle.std.proofs.lemmas.List.Folds.{drop_split}
 use Rattle.std.specs.List.{list_all, flat_map, range_with_len}
-use Rattle.elem_descr.specs.declared.index_item.IndexItem.{IndexItem}
-use Rattle.elem_descr.specs.declared.index_item.IndexItem.TheVariants.{Integer, Slice, Ellipsis, NewAxis as NewItem, Array}
-use Rattle.elem_descr.specs.IndexItems.{is_basic}
+use Rattle.view_ops.specs.Words.{IndexItem, Integer, Slice, Ellipsis, Array, is_basic}
+use Rattle.elem_descr.specs.declared.index_item.IndexItem.TheVariants.{NewAxis as NewItem}
 use Rattle.shape_strides.specs.Layouts.{natural}
 use Rattle.view_ops.specs.declared.pick.AxisPick.{AxisPick}
 use Rattle.view_ops.specs.declared.pick.AxisPick.TheVariants.{At as AtAxis, Along as AlongAxis, New as NewAxis}

@@ -8,16 +8,8 @@ use Rattle.std.proofs.lemmas.Int.{ints}
 use Rattle.std.proofs.lemmas.List.{drop_more, drop_all, take_more, append-nil, map-append}
 use Rattle.std.proofs.lemmas.List.Concat.{flat_map-append}
 use lib.IntN.{zero-*ℤ, +ℤ_assoc, +ℤ_idl, +ℤ_idr}
-use Rattle.shape_strides.specs.declared.layout.Layout.{Layout}
-use Rattle.shape_strides.specs.Indexes.{count, IsIndex}
-use Rattle.shape_strides.specs.Shapes.{shape_of}
-use Rattle.shape_strides.specs.Limits.{max_axes, max_items, max_bytes}
-use Rattle.shape_strides.specs.Addresses.{dot, address_at, LieWithin}
-use Rattle.shape_strides.specs.Layouts.{address, offsets}
-use Rattle.shape_strides.specs.IndexLaws.{rank-lt}
-use Rattle.shape_strides.specs.CountLaws.{factors_pos}
-use Rattle.shape_strides.specs.ShapeLaws.{shape_of-ok}
-use Rattle.shape_strides.specs.AxisLaws.{dot-nil, one-step}
+use Rattle.view_ops.specs.Words.{Layout, count, IsIndex, shape_of, max_axes, max_items, max_bytes, address_at, LieWithin, address, offsets, rank-lt, factors_pos, shape_of-ok, dot-nil, one-step}
+use Rattle.shape_strides.specs.Addresses.{dot}
 use Rattle.view_ops.specs.declared.pick.AxisPick.{AxisPick}
 use Rattle.view_ops.specs.declared.pick.AxisPick.TheVariants.{At as AtAxis, Along as AlongAxis, New as NewAxis}
 use Rattle.view_ops.specs.declared.slice.Progression.{Progression}

@@ -3,15 +3,12 @@ use Rattle.std.proofs.Common.{◌≡◌, ◌≢◌, ◌↔◌, ℕ, zero, suc, �
 use Rattle.std.proofs.lemmas.Bool.{cases_Bool}
 use Rattle.std.proofs.lemmas.Bool.Decides.{Decides-int_eq}
 use Rattle.std.specs.Ordering.{int_eq}
-use Rattle.elem_descr.specs.declared.refusal.Refusal.TheVariants.{ZeroStep}
+use Rattle.view_ops.specs.Words.{ZeroStep, stepped, product_back, product_forth, counted_within, stepped_first, pos-natural}
 use Rattle.std.proofs.lemmas.Int.{ints, clamps, by_lt_z}
 use Rattle.std.specs.Int.{int_min, int_max}
 use Rattle.std.specs.List.{range_with_len}
 use lib.IntN.{*ℤ-zero}
-use Rattle.elem_descr.specs.Steps.{stepped}
-use Rattle.elem_descr.specs.StepLaws.{product_back, product_forth, counted_within, stepped_first}
 use Rattle.shape_strides.specs.Layouts.{natural}
-use Rattle.shape_strides.specs.LayoutLaws.{pos-natural}
 use Rattle.view_ops.specs.declared.slice.Progression.{Progression}
 use Rattle.view_ops.specs.Slices.{lowest, highest, start_of, stop_of, slice_indices, run_number, run_numbers, IsRunWithin}
 

@@ -1,7 +1,6 @@
 -- What Python's `list(range(*slice(start, stop, step).indices(n)))` gives.
 use Rattle.std.proofs.Common.{◌≡◌, pos, negsuc, Some, None, [], ◌∷◌, Ok, Err, refl}
-use Rattle.elem_descr.specs.declared.refusal.Refusal.TheVariants.{ZeroStep}
-use Rattle.elem_descr.specs.Steps.{stepped}
+use Rattle.view_ops.specs.Words.{ZeroStep, stepped}
 use Rattle.view_ops.specs.Slices.{slice_indices}
 
 -- n = 5, [-1:-6:3]

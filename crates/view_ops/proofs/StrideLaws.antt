@@ -2,11 +2,9 @@
 use Rattle.std.proofs.Common.{◌≡◌, ℕ, zero, suc, ◌+◌, ◌*◌, ◌<◌, ℤ, pos, negsuc, neg_ℤ, unsigned_abs, ◌+ℤ◌, ◌*ℤ◌, sym, ap, ◌∙◌, arith, zero-mul}
 use Rattle.std.proofs.lemmas.Int.{ints, by_lt_z}
 use lib.IntN.{negsuc-*ℤ-pos, pos-*ℤ-negsuc, negsuc-*ℤ-negsuc}
-use Rattle.shape_strides.specs.LayoutLaws.{pos-natural}
-use Rattle.shape_strides.specs.PermutationLaws.{cancel}
+use Rattle.view_ops.specs.Words.{pos-natural, cancel, product_back, product_forth, abs_pos}
 use Rattle.view_ops.specs.declared.slice.Progression.{Progression}
 use Rattle.view_ops.specs.Slices.{run_number, IsRunWithin}
-use Rattle.elem_descr.specs.StepLaws.{product_back, product_forth, abs_pos}
 
 -- ---- a stride along a run
 

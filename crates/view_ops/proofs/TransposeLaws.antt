@@ -7,9 +7,8 @@ use Rattle.std.proofs.lemmas.List.{length-map, length-replicate, get_or-replicat
 use Rattle.std.proofs.lemmas.Map.Steps.{length-le_from_distinct_below}
 use Rattle.std.specs.List.{list_any, IsDistinct, AllByRecursion}
 use lib.IntN.{*ℤ-zero, +ℤ_assoc}
-use Rattle.shape_strides.specs.Indexes.{count, IsIndex}
+use Rattle.view_ops.specs.Words.{count, IsIndex, length-index, IsIndex-from_numbers}
 use Rattle.shape_strides.specs.Layouts.{dot}
-use Rattle.shape_strides.specs.IndexLaws.{length-index, IsIndex-from_numbers}
 use Rattle.view_ops.specs.Transposes.{transposed_shape, transposed_index, put_at}
 use Rattle.view_ops.specs.inside.Axes.{AreAxes}
 

@@ -1,6 +1,6 @@
 -- The axes, shapes and strides of NumPy's transposes.
 use Rattle.std.proofs.Common.{◌≡◌, pos, negsuc, Some, None, [], ◌∷◌, Ok, Err, refl}
-use Rattle.elem_descr.specs.declared.refusal.Refusal.TheVariants.{BadAxis}
+use Rattle.view_ops.specs.Words.{BadAxis}
 use Rattle.view_ops.specs.Transposes.{axes_of, transposed_shape, transposed_index}
 
 -- `numpy.zeros((2, 3, 4)).T.shape`

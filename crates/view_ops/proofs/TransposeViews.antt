@@ -1,21 +1,12 @@
 -- A transposed layout is a view.
 use Rattle.std.specs.Result.{is_ok, IfOk, IfErr}
 use Rattle.std.proofs.lemmas.Bool.{false≢true}
-use Rattle.elem_descr.specs.declared.refusal.Refusal.{Refusal}
-use Rattle.elem_descr.specs.declared.refusal.Refusal.TheVariants.{OutOfMemory}
+use Rattle.view_ops.specs.Words.{Refusal, OutOfMemory, Layout, count, shape_of, max_axes, max_items, max_bytes, address_at, LieWithin, address, offsets, zeros_are, shape_of-ok, same_answer}
 use Rattle.std.proofs.Common.{◌≡◌, ◌⊎◌, inl, inr, Option, Result, Err, ℕ, ◌<◌, ◌≤◌, nat_le, true, ℤ, pos, ◌+ℤ◌, List, [], ◌∷◌, All, map, length, replicate, get_or, Ok, refl, sym, ap, subst, ◌∙◌, arith}
 use Rattle.std.specs.List.{list_all}
 use Rattle.std.proofs.lemmas.Bool.Decides.{nat_tests}
 use Rattle.std.proofs.lemmas.List.{length-map, get_or-map}
-use Rattle.shape_strides.specs.declared.layout.Layout.{Layout}
-use Rattle.shape_strides.specs.Indexes.{count}
-use Rattle.shape_strides.specs.Shapes.{shape_of}
-use Rattle.shape_strides.specs.Limits.{max_axes, max_items, max_bytes}
-use Rattle.shape_strides.specs.Addresses.{dot, address_at, LieWithin}
-use Rattle.shape_strides.specs.Layouts.{address, offsets}
-use Rattle.shape_strides.specs.AxisLaws.{zeros_are}
-use Rattle.shape_strides.specs.ShapeLaws.{shape_of-ok}
-use Rattle.elem_descr.specs.RefusalLaws.{same_answer}
+use Rattle.shape_strides.specs.Addresses.{dot}
 use Rattle.view_ops.specs.Transposes.{axes_of, transposed, transposed_shape, transposed_index, put_at}
 use Rattle.view_ops.specs.inside.Axes.{AreAxes, AreAllAxes}
 use Rattle.view_ops.specs.Views.{view_through, IsViewOf, GivesView, KeepsNested}

@@ -1,14 +1,8 @@
 -- The items of views lie apart, and what is answered where there is none.
 use Rattle.std.proofs.Common.{◌≡◌, ℕ, ◌<◌, ◌≤◌, ◌⊎◌, Result, Ok, Err, List, length, get_or, inl, inr, sym, ap, ◌∙◌, arith}
 use Rattle.std.proofs.lemmas.Bool.{cases_lt}
-use Rattle.elem_descr.specs.declared.refusal.Refusal.{Refusal}
-use Rattle.elem_descr.specs.declared.refusal.Refusal.TheVariants.{OutOfMemory}
-use Rattle.shape_strides.specs.declared.layout.Layout.{Layout}
-use Rattle.shape_strides.specs.Indexes.{count, rank, IsIndex}
+use Rattle.view_ops.specs.Words.{Refusal, OutOfMemory, Layout, count, rank, IsIndex, offsets, distance, IsNested, rank-lt, rank-same, index_at, length-offsets, get_or-offsets}
 use Rattle.shape_strides.specs.Addresses.{natural}
-use Rattle.shape_strides.specs.Layouts.{offsets, distance, IsNested}
-use Rattle.shape_strides.specs.IndexLaws.{rank-lt, rank-same, index_at}
-use Rattle.shape_strides.specs.LayoutLaws.{length-offsets, get_or-offsets}
 use Rattle.view_ops.specs.Views.{View, GivesView}
 use Rattle.view_ops.specs.Shows.{IsView}
 

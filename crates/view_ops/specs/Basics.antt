@@ -2,12 +2,7 @@
 use Rattle.std.specs.Prelude.{ℕ, ◌-◌, nat_le, Bool, true, false, not, pos, unwrap_or, List, [], ◌∷◌, map, take, drop, length, count_by, slice_index, Result, Ok, Err}
 use Rattle.std.specs.Ordering.{int_eq}
 use Rattle.std.specs.List.{list_all, flat_map, range_with_len}
-use Rattle.elem_descr.specs.declared.refusal.Refusal.{Refusal}
-use Rattle.elem_descr.specs.declared.refusal.Refusal.TheVariants.{TooManyAxes, TooManyIndices, IndexOutOfRange, ZeroStep}
-use Rattle.elem_descr.specs.Refusals.{◌>>=◌, check}
-use Rattle.elem_descr.specs.declared.index_item.IndexItem.{IndexItem}
-use Rattle.elem_descr.specs.declared.index_item.IndexItem.TheVariants.{Integer, Slice, Ellipsis, NewAxis}
-use Rattle.shape_strides.specs.Limits.{max_axes}
+use Rattle.view_ops.specs.Words.{Refusal, TooManyAxes, TooManyIndices, IndexOutOfRange, ZeroStep, ◌>>=◌, check, IndexItem, Integer, Slice, Ellipsis, NewAxis, max_axes}
 use Rattle.shape_strides.specs.Addresses.{natural}
 use Rattle.view_ops.specs.Slices.{from_front, is_place, slice_indices}
 use Rattle.view_ops.specs.Views.{View}

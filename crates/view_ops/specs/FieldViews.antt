@@ -1,12 +1,6 @@
 -- One field of each item.
 use Rattle.std.specs.Prelude.{◌≡◌, ℕ, ◌+◌, map, Option, Some, None, Result, Ok, Err}
-use Rattle.elem_descr.specs.declared.refusal.Refusal.{Refusal}
-use Rattle.elem_descr.specs.declared.refusal.Refusal.TheVariants.{NoSuchField, OutOfMemory}
-use Rattle.elem_descr.specs.declared.descr.Descr.{Descr}
-use Rattle.elem_descr.specs.declared.descr.Field.{Field}
-use Rattle.elem_descr.specs.Items.{item_size, field_at}
-use Rattle.shape_strides.specs.declared.layout.Layout.{Layout}
-use Rattle.shape_strides.specs.Layouts.{offsets, Fits, IsNested}
+use Rattle.view_ops.specs.Words.{Refusal, NoSuchField, OutOfMemory, Descr, Field, item_size, field_at, Layout, offsets, Fits, IsNested}
 
 -- a layout has this field of each item of an older one, whose items have so many bytes
 pub record IsFieldOf (old new : Layout) (item : ℕ) (field : Field) : Type 0 where

@@ -8,3 +8,4 @@ pub mod Shows
 pub mod inside
 pub mod ViewLaws
 pub mod PickLaws
+pub mod Words

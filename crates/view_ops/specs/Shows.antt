@@ -1,9 +1,6 @@
 -- What shows the items of a layout.
 use Rattle.std.proofs.Common.{◌≡◌, ℕ, ℤ, List}
-use Rattle.shape_strides.specs.declared.layout.Layout.{Layout}
-use Rattle.shape_strides.specs.Indexes.{IsIndex}
-use Rattle.shape_strides.specs.Addresses.{address_at}
-use Rattle.shape_strides.specs.Layouts.{address}
+use Rattle.view_ops.specs.Words.{Layout, IsIndex, address_at, address}
 
 -- an array with this shape, these strides and this offset shows the items of a layout through m
 pub record ShowsThrough (old : Layout) (shape : List ℕ) (strides : List ℤ) (offset : ℕ) (m : List ℕ → List ℕ) : Type 0 where

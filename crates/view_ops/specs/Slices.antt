@@ -3,10 +3,7 @@ use Rattle.std.specs.Prelude.{◌≢◌, ℕ, ◌<◌, ◌≤◌, Bool, not, ◌
 use Rattle.std.specs.Int.{int_min, int_max}
 use Rattle.std.specs.Ordering.{int_eq}
 use Rattle.std.specs.List.{range_with_len}
-use Rattle.elem_descr.specs.declared.refusal.Refusal.{Refusal}
-use Rattle.elem_descr.specs.declared.refusal.Refusal.TheVariants.{ZeroStep}
-use Rattle.elem_descr.specs.Refusals.{◌>>=◌, check}
-use Rattle.elem_descr.specs.Steps.{stepped}
+use Rattle.view_ops.specs.Words.{Refusal, ZeroStep, ◌>>=◌, check, stepped}
 use Rattle.shape_strides.specs.Addresses.{natural}
 use Rattle.view_ops.specs.declared.slice.Progression.{Progression}
 

@@ -1,9 +1,7 @@
 -- Transposes, as NumPy has them: axis k of the result is the axis that is named at place k.
 use Rattle.std.specs.Prelude.{ℕ, ◌-◌, ◌==◌, Bool, true, not, ◌&&◌, ℤ, Option, Some, None, List, [], ◌∷◌, map, length, replicate, slice_index, slice_set, Result, Ok}
 use Rattle.std.specs.List.{list_any, list_all, range_with_len}
-use Rattle.elem_descr.specs.declared.refusal.Refusal.{Refusal}
-use Rattle.elem_descr.specs.declared.refusal.Refusal.TheVariants.{BadAxis}
-use Rattle.elem_descr.specs.Refusals.{◌>>=◌, check}
+use Rattle.view_ops.specs.Words.{Refusal, BadAxis, ◌>>=◌, check}
 use Rattle.shape_strides.specs.Addresses.{natural}
 use Rattle.view_ops.specs.Slices.{from_front, is_place}
 use Rattle.view_ops.specs.Views.{View}

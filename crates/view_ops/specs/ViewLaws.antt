@@ -1,12 +1,8 @@
 -- Laws of layouts that show the items of another.
 use Rattle.std.proofs.Common.{◌≡◌, ℕ, ℤ, ◌<◌, List, [], All, length, get_or, sym, ap, subst, ◌∙◌, arith}
 use Rattle.std.proofs.lemmas.List.{get_or-map}
-use Rattle.shape_strides.specs.declared.layout.Layout.{Layout}
-use Rattle.shape_strides.specs.Addresses.{natural, LieWithin}
-use Rattle.shape_strides.specs.Layouts.{address, offsets, Fits}
-use Rattle.shape_strides.specs.Indexes.{indexes, rank, IsIndex}
-use Rattle.shape_strides.specs.IndexLaws.{length-indexes, rank-lt, get_or-indexes, index_at, same_on_indexes}
-use Rattle.shape_strides.specs.LayoutLaws.{length-offsets, get_or-offsets}
+use Rattle.view_ops.specs.Words.{Layout, LieWithin, address, offsets, Fits, indexes, rank, IsIndex, length-indexes, rank-lt, get_or-indexes, index_at, same_on_indexes, length-offsets, get_or-offsets}
+use Rattle.shape_strides.specs.Addresses.{natural}
 use Rattle.view_ops.specs.Views.{View, view_through, IsViewOf}
 use Rattle.view_ops.specs.Shows.{ShowsThrough, IsView}
 

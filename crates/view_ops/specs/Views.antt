@@ -1,10 +1,6 @@
 -- Views: the same items under another shape.
 use Rattle.std.specs.Prelude.{◌≡◌, ◌<◌, ℕ, ◌⊎◌, List, map, length, slice_index, All, Result, Ok, Err}
-use Rattle.elem_descr.specs.declared.refusal.Refusal.{Refusal}
-use Rattle.elem_descr.specs.declared.refusal.Refusal.TheVariants.{OutOfMemory}
-use Rattle.shape_strides.specs.declared.layout.Layout.{Layout}
-use Rattle.shape_strides.specs.Indexes.{indexes, rank, IsIndex}
-use Rattle.shape_strides.specs.Layouts.{offsets, Fits, IsNested}
+use Rattle.view_ops.specs.Words.{Refusal, OutOfMemory, Layout, indexes, rank, IsIndex, offsets, Fits, IsNested}
 
 -- The list of a view of an array that has this list and shape: at each index of the new shape stands
 -- the item at the index of the old one that `leads` gives. It serves byte offsets and places alike.

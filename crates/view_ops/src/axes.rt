@@ -1,7 +1,7 @@
 //! Which axes a list of numbers names.
 ghost use Rattle.std.specs.Prelude.{◌≡◌, ℕ, ◌-◌, ◌<◌, ◌≤◌, ◌^◌, map, length, Some, IfOk, IsTrue, option_copied, true};
 ghost use Rattle.std.specs.List.{list_all, range_with_len};
-ghost use Rattle.elem_descr.specs.Refusals.{Gives};
+ghost use Rattle.view_ops.specs.Words.{Gives};
 ghost use Rattle.shape_strides.specs.Addresses.{natural};
 ghost use Rattle.view_ops.specs.Slices.{from_front, is_place};
 ghost use Rattle.view_ops.specs.Transposes.{are_distinct, axes_of};

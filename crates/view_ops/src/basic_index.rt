@@ -1,7 +1,7 @@
 //! Views by basic indexes: integers, slices, `...` and new axes.
 ghost use Rattle.std.specs.Prelude.{◌≡◌, true, IfOk};
 ghost use Rattle.std.specs.List.{list_all};
-ghost use Rattle.elem_descr.specs.IndexItems.{is_basic};
+ghost use Rattle.view_ops.specs.Words.{is_basic};
 ghost use Rattle.view_ops.specs.Basics.{basic};
 ghost use Rattle.view_ops.specs.Views.{GivesView, KeepsNested};
 

@@ -1,9 +1,6 @@
 //! Views of one field of each item.
 ghost use Rattle.std.specs.Prelude.{◌≡◌, ℕ, ◌+◌, pos, ◌+ℤ◌, List, IfOk};
-ghost use Rattle.elem_descr.specs.Items.{item_size, field_of};
-ghost use Rattle.shape_strides.specs.Limits.{max_bytes};
-ghost use Rattle.shape_strides.specs.Indexes.{IsIndex};
-ghost use Rattle.shape_strides.specs.Layouts.{address, Fits};
+ghost use Rattle.view_ops.specs.Words.{item_size, field_of, max_bytes, IsIndex, address, Fits};
 ghost use Rattle.view_ops.specs.FieldViews.{GivesField};
 
 use elem_descr::{Descr, Refusal};

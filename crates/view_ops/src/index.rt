@@ -1,8 +1,7 @@
 //! The axes that the items of an index take.
 ghost use Rattle.std.specs.Prelude.{◌≡◌, ◌+◌, ◌-◌, ◌<◌, ◌≤◌, length, drop, count_by, slice_index_or, pos};
 ghost use Rattle.std.specs.List.{list_all};
-ghost use Rattle.elem_descr.specs.declared.index_item.IndexItem.TheVariants.{Integer};
-ghost use Rattle.elem_descr.specs.IndexItems.{is_basic};
+ghost use Rattle.view_ops.specs.Words.{Integer, is_basic};
 ghost use Rattle.view_ops.specs.Basics.{takes_axis, axes_taken, width, has_step};
 
 use elem_descr::IndexItem;

@@ -1,9 +1,7 @@
 //! What the items of a basic index select from the axes.
 ghost use Rattle.std.specs.Prelude.{◌≡◌, ℕ, ◌<◌, ◌≤◌, [], ◌∷◌, ◌++◌, map, length, true, false, IfOk, IfErr, OnOk, IsTrue};
 ghost use Rattle.std.specs.List.{list_all};
-ghost use Rattle.elem_descr.specs.declared.refusal.Refusal.TheVariants.{OutOfMemory};
-ghost use Rattle.elem_descr.specs.declared.index_item.IndexItem.TheVariants.{NewAxis};
-ghost use Rattle.elem_descr.specs.IndexItems.{is_basic};
+ghost use Rattle.view_ops.specs.Words.{OutOfMemory, NewAxis, is_basic};
 ghost use Rattle.view_ops.specs.Basics.{takes_axis, axes_taken, has_step, is_on_axis, are_on_axes, whole, picks_of, picks};
 ghost use Rattle.view_ops.specs.inside.Picks.{AddsPicks};
 ghost use Rattle.view_ops.specs.Picks.{pick_shown, ArePicks};

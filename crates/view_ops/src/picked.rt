@@ -1,8 +1,7 @@
 //! The view of what was selected from each axis.
 ghost use Rattle.std.specs.Prelude.{◌≡◌, ℕ, ◌<◌, ◌≤◌, pos, [], ◌++◌, map, length, slice_index_or, IfOk, OnOk};
 ghost use Rattle.std.specs.List.{flat_map};
-ghost use Rattle.elem_descr.specs.Refusals.{Gives};
-ghost use Rattle.shape_strides.specs.Limits.{max_axes};
+ghost use Rattle.view_ops.specs.Words.{Gives, max_axes};
 ghost use Rattle.view_ops.specs.Basics.{axis_of, picked_shape, shape_picked, picked_view};
 ghost use Rattle.view_ops.specs.inside.Picks.{axes_taken, run_stride, stride_of, picked_strides, IsSmallStep, IsSmallPick, HaveSmallSteps};
 ghost use Rattle.view_ops.specs.Picks.{first_of, pick_shown, ArePicks};

@@ -1,7 +1,6 @@
 //! Transposes: the axes of a layout in another order.
 ghost use Rattle.std.specs.Prelude.{◌≡◌, ℕ, ◌<◌, ◌≤◌, pos, map, length, slice_index_or, IfOk, IfErr, All, option_copied};
-ghost use Rattle.elem_descr.specs.declared.refusal.Refusal.TheVariants.{OutOfMemory};
-ghost use Rattle.shape_strides.specs.Limits.{max_axes};
+ghost use Rattle.view_ops.specs.Words.{OutOfMemory, max_axes};
 ghost use Rattle.view_ops.specs.Transposes.{transposed_shape, transposed_index, transposed};
 ghost use Rattle.view_ops.specs.inside.Axes.{AreAxes, AreAllAxes};
 ghost use Rattle.view_ops.specs.Views.{View, IsViewOf, GivesView, KeepsNested};

@@ -1,10 +1,6 @@
 -- Parts of an array: the items that some of its axes lead to.
 use Rattle.std.specs.Prelude.{ℕ, ◌<◌, ◌≤◌, List, length, drop}
-use Rattle.shape_strides.specs.declared.layout.Layout.{Layout}
-use Rattle.shape_strides.specs.Indexes.{count}
-use Rattle.shape_strides.specs.Addresses.{LieWithin}
-use Rattle.shape_strides.specs.Limits.{max_bytes}
-use Rattle.shape_strides.specs.Walks.{offsets_at}
+use Rattle.array_print.specs.Words.{Layout, count, LieWithin, max_bytes, offsets_at}
 
 -- the offsets that the axes from one on lead to, from a first one on
 abbrev pub part_offsets : Layout → ℕ → ℕ → List ℕ

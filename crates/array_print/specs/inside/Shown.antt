@@ -2,13 +2,8 @@
 use Rattle.std.specs.Prelude.{◌≡◌, ℕ, zero, suc, List, [], ◌++◌, map, take, drop}
 use Rattle.std.specs.Fmt.{signed_decimal}
 use Rattle.std.specs.List.{AllZip}
-use Rattle.elem_descr.specs.declared.scalar.Scalar.{Scalar}
-use Rattle.elem_descr.specs.declared.scalar.Scalar.TheVariants.{Bool as BoolScalar, Byte, Int, Bytes}
-use Rattle.elem_descr.specs.declared.leaf.Leaf.{Leaf}
-use Rattle.elem_descr.specs.declared.descr.Descr.{Descr}
-use Rattle.elem_descr.specs.Encoding.{size, decode, number_of}
-use Rattle.elem_descr.specs.Items.{leaves_of}
-use Rattle.elem_descr.specs.Blocks.{item_from}
+use Rattle.array_print.specs.Words.{Scalar, Byte, Int, Bytes, Leaf, Descr, size, decode, number_of, leaves_of, item_from}
+use Rattle.elem_descr.specs.declared.scalar.Scalar.TheVariants.{Bool as BoolScalar}
 use Rattle.array_print.specs.Printed.{leaf_texts, leaf_widths, all_justified, item_text, items_from}
 
 -- the text of the integer whose bytes begin at a place

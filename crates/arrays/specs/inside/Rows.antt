@@ -1,10 +1,7 @@
 -- Rows of items that begin at runs of offsets.
 use Rattle.std.specs.Prelude.{List, map}
 use Rattle.std.specs.List.{flat_map}
-use Rattle.raw_block.specs.declared.grid.Grid.{Grid}
-use Rattle.shape_strides.specs.declared.joined.StridedAxis.{StridedAxis}
-use Rattle.shape_strides.specs.declared.runs.Run.{Run}
-use Rattle.shape_strides.specs.Runs.{run_along, run_offsets}
+use Rattle.arrays.specs.Words.{Grid, StridedAxis, Run, run_along, run_offsets}
 
 -- the rows along an axis from the offsets of runs on
 abbrev pub rows_of : StridedAxis → List Run → List Run

@@ -1,30 +1,11 @@
 -- Items that are written to a name's array, and where they come from.
 use Rattle.std.specs.Prelude.{◌≡◌, ◌≤◌, ◌*◌, ◌⊎◌, ℕ, Bool, true, false, List, length, map, Option, Some, Result, Ok, Err, All}
 use Rattle.std.specs.List.{Contains}
-use Rattle.elem_descr.specs.declared.refusal.Refusal.{Refusal}
-use Rattle.elem_descr.specs.declared.refusal.Refusal.TheVariants.{OutOfMemory, NoSuchCast}
-use Rattle.elem_descr.specs.declared.descr.Descr.{Descr}
-use Rattle.elem_descr.specs.Items.{item_size, AreAlike}
-use Rattle.elem_descr.specs.Blocks.{item_from}
-use Rattle.elem_descr.specs.Values.{LeafValue}
-use Rattle.shape_strides.specs.declared.layout.Layout.{Layout}
-use Rattle.shape_strides.specs.Layouts.{offsets}
-use Rattle.shape_strides.specs.Limits.{max_bytes}
-use Rattle.shape_strides.specs.Indexes.{count}
-use Rattle.view_ops.specs.Views.{View, IsViewOf, KeepsNested}
-use Rattle.arrays.specs.declared.items.Items.{Items}
-use Rattle.arrays.specs.declared.owned.Owned.{Owned}
-use Rattle.elementwise.specs.Casts.{can_cast, cast_item}
-use Rattle.broadcasting.specs.Broadcasts.{stretched_into}
-use Rattle.name_store.specs.States.{State, Array}
-use Rattle.name_store.specs.Arrays.{addresses, descr_of, read}
-use Rattle.name_store.specs.Targets.{FitsBuffer, LeadsTo, MayWrite, target_offsets, target_shape}
-use Rattle.name_store.specs.declared.array_ref.ArrayRef.{ArrayRef}
-use Rattle.name_store.specs.declared.bound.Bound.{Bound}
+use Rattle.bench_engine.specs.Words.{Refusal, OutOfMemory, NoSuchCast, Descr, item_size, AreAlike, item_from, LeafValue, Layout, offsets, max_bytes, count, IsViewOf, KeepsNested, Items, Owned, can_cast, cast_item, stretched_into, State, addresses, descr_of, read, FitsBuffer, LeadsTo, MayWrite, target_offsets, target_shape, ArrayRef, Bound, Source, Target}
+use Rattle.view_ops.specs.Views.{View}
+use Rattle.name_store.specs.States.{Array}
 use Rattle.name_store.specs.declared.bound.Bound.TheVariants as bound
-use Rattle.name_store.specs.declared.target.Source.{Source}
 use Rattle.name_store.specs.declared.target.Source.TheVariants as source
-use Rattle.name_store.specs.declared.target.Target.{Target}
 use Rattle.name_store.specs.declared.target.Target.TheVariants as target
 use Rattle.bench_engine.specs.Machine.{viewed}
 use Rattle.bench_engine.specs.inside.OwnContents.{IsInCOrder}

@@ -1,10 +1,6 @@
 -- What a computation gives, and how it is told.
 use Rattle.std.specs.Prelude.{Result}
-use Rattle.elem_descr.specs.declared.refusal.Refusal.{Refusal}
-use Rattle.elem_descr.specs.Refusals.{◌>>=◌}
-use Rattle.script_lang.specs.declared.command.Computation.{Computation}
-use Rattle.script_lang.specs.declared.command.Computation.TheVariants.{Duplicate, Cast, Combine, Transform, Reduce}
-use Rattle.name_store.specs.States.{State}
+use Rattle.bench_engine.specs.Words.{Refusal, ◌>>=◌, Computation, Duplicate, Cast, Combine, Transform, Reduce, State}
 use Rattle.bench_engine.specs.Contents.{Contents}
 use Rattle.bench_engine.specs.Machine.{array_of, copied_contents, cast_contents, operation_contents, transformed, reduced_contents}
 use Rattle.bench_engine.specs.declared.replies.Origin.{Origin}

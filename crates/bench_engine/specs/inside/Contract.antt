@@ -1,9 +1,7 @@
 -- What a call that carries out a command answers.
 use Rattle.std.specs.Prelude.{◌≡◌, ◌⊎◌, ℕ, Bool, true, IsTrue, List, ◌++◌, Result, Ok, Err}
 use Rattle.std.specs.Io.{StartsWith}
-use Rattle.elem_descr.specs.declared.refusal.Refusal.{Refusal}
-use Rattle.elem_descr.specs.declared.refusal.Refusal.TheVariants.{OutOfMemory}
-use Rattle.name_store.specs.States.{State}
+use Rattle.bench_engine.specs.Words.{Refusal, OutOfMemory, State}
 use Rattle.bench_engine.specs.Replies.{Reply, refusal}
 use Rattle.bench_engine.specs.Machine.{Choice, Outcome, IsAllowed, accepted_with}
 

@@ -1,6 +1,6 @@
 -- Lists of arrays that grow.
 use Rattle.std.specs.Prelude.{◌≡◌, List, ◌++◌}
-use Rattle.fancy_index.specs.declared.source.Indices.{Indices}
+use Rattle.bench_engine.specs.Words.{Indices}
 
 -- more stand behind those that stood
 abbrev pub Extends : List Indices → List Indices → Type 0

@@ -1,25 +1,9 @@
 -- Operands: the items of a layout in a block, which those of an array of the state are.
 use Rattle.std.specs.Prelude.{◌≡◌, ◌⊎◌, ℕ, List, map, IsTrue, Option, Some, None, Result, Ok, Err}
-use Rattle.elem_descr.specs.declared.refusal.Refusal.{Refusal}
-use Rattle.elem_descr.specs.declared.refusal.Refusal.TheVariants.{OutOfMemory}
-use Rattle.elem_descr.specs.Blocks.{item_from}
-use Rattle.shape_strides.specs.declared.layout.Layout.{Layout}
-use Rattle.shape_strides.specs.Layouts.{offsets}
-use Rattle.view_ops.specs.Views.{View, IsViewOf}
-use Rattle.broadcasting.specs.Broadcasts.{can_stretch}
-use Rattle.elementwise.specs.Results.{stretched_items}
-use Rattle.arrays.specs.declared.items.Items.{Items}
-use Rattle.arrays.specs.declared.owned.Owned.{Owned}
-use Rattle.elem_descr.specs.declared.descr.Descr.{Descr}
-use Rattle.elem_descr.specs.Values.{LeafValue}
-use Rattle.name_store.specs.Targets.{HasItems}
-use Rattle.name_store.specs.Shown.{Shows}
-use Rattle.name_store.specs.declared.array_ref.ArrayRef.{ArrayRef}
-use Rattle.name_store.specs.States.{State, Array}
-use Rattle.name_store.specs.Arrays.{descr_of, read}
-use Rattle.script_lang.specs.declared.command.Argument.{Argument}
+use Rattle.bench_engine.specs.Words.{Refusal, OutOfMemory, item_from, Layout, offsets, IsViewOf, can_stretch, stretched_items, Items, Owned, Descr, LeafValue, HasItems, Shows, ArrayRef, State, descr_of, read, Argument, Operand}
+use Rattle.view_ops.specs.Views.{View}
+use Rattle.name_store.specs.States.{Array}
 use Rattle.script_lang.specs.declared.command.Argument.TheVariants as argument
-use Rattle.script_lang.specs.declared.command.Operand.{Operand}
 use Rattle.bench_engine.specs.Machine.{OperandValues, operand_part, viewed}
 use Rattle.bench_engine.specs.declared.write.Given.{Given}
 use Rattle.bench_engine.specs.declared.write.Given.TheVariants as given

@@ -1,11 +1,6 @@
 -- The contents of a block of its own.
 use Rattle.std.specs.Prelude.{◌≡◌}
-use Rattle.arrays.specs.declared.owned.Owned.{Owned}
-use Rattle.elem_descr.specs.Items.{item_size}
-use Rattle.shape_strides.specs.Layouts.{offsets}
-use Rattle.elem_descr.specs.declared.memory_order.MemoryOrder.TheVariants.{C}
-use Rattle.arrays.specs.Blocks.{offsets_in, places_of}
-use Rattle.name_store.specs.Calls.{own_buffer}
+use Rattle.bench_engine.specs.Words.{Owned, item_size, offsets, C, offsets_in, places_of, own_buffer}
 use Rattle.bench_engine.specs.Contents.{Contents}
 
 -- the contents of a block

@@ -1,16 +1,7 @@
 -- Parts of an array that is shown: what is seen of it, in the block of its buffer.
 use Rattle.std.specs.Prelude.{◌≡◌, ℕ, List, Result}
-use Rattle.elem_descr.specs.declared.descr.Descr.{Descr}
-use Rattle.elem_descr.specs.declared.refusal.Refusal.{Refusal}
-use Rattle.elem_descr.specs.Refusals.{Gives}
-use Rattle.arrays.specs.declared.owned.Owned.{Owned}
-use Rattle.script_lang.specs.declared.command.Viewing.{Viewing}
-use Rattle.name_store.specs.States.{State, Array}
-use Rattle.name_store.specs.Arrays.{descr_of}
-use Rattle.name_store.specs.Shown.{Shows}
-use Rattle.name_store.specs.Views.{IsViewIn}
-use Rattle.name_store.specs.declared.array_ref.ArrayRef.{ArrayRef}
-use Rattle.name_store.specs.declared.bound.Bound.{Bound}
+use Rattle.bench_engine.specs.Words.{Descr, Refusal, Gives, Owned, Viewing, State, descr_of, Shows, IsViewIn, ArrayRef, Bound}
+use Rattle.name_store.specs.States.{Array}
 use Rattle.name_store.specs.declared.bound.Bound.TheVariants as bound
 use Rattle.bench_engine.specs.declared.view.Viewed.{Viewed}
 use Rattle.bench_engine.specs.inside.OwnContents.{held}

@@ -1,9 +1,6 @@
 -- What a line means once it is read.
 use Rattle.std.specs.Prelude.{IsErrOf, Option, Result}
-use Rattle.elem_descr.specs.declared.refusal.Refusal.{Refusal}
-use Rattle.elem_descr.specs.declared.refusal.Refusal.TheVariants.{LineTooLong}
-use Rattle.script_lang.specs.declared.command.Command.{Command}
-use Rattle.script_lang.specs.Reading.{Says}
+use Rattle.bench_engine.specs.Words.{Refusal, LineTooLong, Command, Says}
 use Rattle.bench_engine.specs.declared.session.Line.{Line as ReadLine}
 use Rattle.bench_engine.specs.declared.session.Line.TheVariants.{Held, TooLong}
 use Rattle.bench_engine.specs.Headline.{Meaning, too_long, says, meaning_of}

@@ -1,7 +1,6 @@
 -- What is answered where a file is stored.
 use Rattle.std.specs.Prelude.{◌≡◌, ℕ, List, Result, Ok, Err}
-use Rattle.elem_descr.specs.declared.refusal.Refusal.{Refusal}
-use Rattle.npy_files.specs.Stores.{StoreState}
+use Rattle.bench_engine.specs.Words.{Refusal, StoreState}
 use Rattle.bench_engine.specs.Steps.{Stored, MayStore, store_refusal}
 
 abbrev pub refused : Stored → Result (Unit {0}) Refusal

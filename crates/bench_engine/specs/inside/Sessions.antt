@@ -5,7 +5,7 @@ use Rattle.bench_engine.specs.declared.session.Session.{Session}
 use Rattle.bench_engine.specs.declared.runner.RunFault.{RunFault}
 use Rattle.bench_engine.specs.declared.runner.RunFault.TheVariants.{Read, Write, Memory}
 use Rattle.bench_engine.specs.Replies.{Reply, Tells}
-use Rattle.npy_files.specs.Stores.{StoreState}
+use Rattle.bench_engine.specs.Words.{StoreState}
 use Rattle.bench_engine.specs.Steps.{World, world}
 use Rattle.bench_engine.specs.Headline.{AnswersLine, trimmed, AreLines, output, reply_line, accepted_count, refused_count, Outside, first_world, AnswersWholeLines, AnswersFirstLines}
 use Rattle.bench_engine.specs.Sessions.{HoldsPiece, HasTold, Fed}

@@ -1,21 +1,10 @@
 -- Items that are written to a part of an array, and the places to which they are.
 use Rattle.std.specs.Prelude.{◌≡◌, ℕ, List, length, Result, Ok}
 use Rattle.std.specs.List.Sorted.{IsPermutation}
-use Rattle.elem_descr.specs.declared.refusal.Refusal.{Refusal}
-use Rattle.elem_descr.specs.Values.{LeafValue}
-use Rattle.shape_strides.specs.declared.layout.Layout.{Layout}
-use Rattle.shape_strides.specs.declared.layout_pair.LayoutPair.{LayoutPair}
-use Rattle.shape_strides.specs.Indexes.{count}
-use Rattle.shape_strides.specs.ItemPairs.{item_pairs}
-use Rattle.view_ops.specs.Views.{View, IsViewOf}
-use Rattle.broadcasting.specs.Broadcasts.{stretched}
-use Rattle.name_store.specs.States.{State, Array}
-use Rattle.name_store.specs.Arrays.{descr_of, written}
-use Rattle.name_store.specs.Targets.{LeadsTo, MayWrite, Supplies, target_offsets}
-use Rattle.name_store.specs.declared.target.Target.{Target}
+use Rattle.bench_engine.specs.Words.{Refusal, LeafValue, Layout, LayoutPair, count, item_pairs, IsViewOf, stretched, State, descr_of, written, LeadsTo, MayWrite, Supplies, target_offsets, Target, Shows, ArrayRef}
+use Rattle.view_ops.specs.Views.{View}
+use Rattle.name_store.specs.States.{Array}
 use Rattle.bench_engine.specs.declared.update.Writing.{Writing}
-use Rattle.name_store.specs.Shown.{Shows}
-use Rattle.name_store.specs.declared.array_ref.ArrayRef.{ArrayRef}
 use Rattle.bench_engine.specs.inside.Assigns.{IsTarget}
 use Rattle.bench_engine.specs.inside.Meeting.{Meets}
 

@@ -1,6 +1,6 @@
 -- Single fields, and the fields that they are cast to.
 use Rattle.std.specs.Prelude.{Bool, false}
-use Rattle.elem_descr.specs.declared.descr.Descr.{Descr}
+use Rattle.elementwise.specs.Words.{Descr}
 use Rattle.elem_descr.specs.declared.descr.Descr.TheVariants.{Scalar as ScalarDescr, Record as RecordDescr}
 use Rattle.elementwise.specs.Casts.{can_cast_scalar, can_cast_fields}
 

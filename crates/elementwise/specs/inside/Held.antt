@@ -1,10 +1,6 @@
 -- Operands as items of an element type: where they lie, or in a block of their own.
 use Rattle.std.specs.Prelude.{ℕ, List}
-use Rattle.elem_descr.specs.declared.descr.Descr.{Descr}
-use Rattle.elem_descr.specs.Values.{LeafValue}
-use Rattle.arrays.specs.ItemLists.{items, owned_items}
-use Rattle.arrays.specs.declared.items.Items.{Items}
-use Rattle.shape_strides.specs.declared.layout.Layout.{Layout}
+use Rattle.elementwise.specs.Words.{Descr, LeafValue, items, owned_items, Items, Layout}
 use Rattle.elementwise.specs.Results.{stretched_items}
 use Rattle.elementwise.specs.declared.typed.Held.{Held}
 use Rattle.elementwise.specs.declared.typed.Held.TheVariants.{Kept, Made}

@@ -1,14 +1,8 @@
 -- The leaves of items that are cast, one by one.
 use Rattle.std.specs.Prelude.{◌≡◌, ℕ, ◌+◌, ◌<◌, List, length, map}
-use Rattle.elem_descr.specs.declared.descr.Descr.{Descr}
+use Rattle.elementwise.specs.Words.{Descr, Leaf, Scalar, size, decode, encode, item_size, leaves_of, leaf_at, item_at, row_offsets}
 use Rattle.elem_descr.specs.declared.descr.Descr.TheVariants.{Scalar as ScalarDescr, Record as RecordDescr}
-use Rattle.elem_descr.specs.declared.leaf.Leaf.{Leaf}
-use Rattle.elem_descr.specs.declared.scalar.Scalar.{Scalar}
-use Rattle.elem_descr.specs.Encoding.{size, decode, encode}
-use Rattle.elem_descr.specs.Items.{item_size, leaves_of, leaf_at}
-use Rattle.raw_block.specs.Bytes.{item_at}
 use Rattle.elementwise.specs.Casts.{cast_value}
-use Rattle.arrays.specs.Packed.{row_offsets}
 
 -- the bytes of a value of one scalar as those of another
 abbrev pub leaf_cast : Scalar → Scalar → List ℕ → List ℕ

@@ -1,15 +1,7 @@
 -- Arrays that are made.
 use Rattle.std.specs.Prelude.{◌≡◌, ℕ, List, map, reverse}
 use Rattle.std.specs.List.{flat_map}
-use Rattle.elem_descr.specs.declared.descr.Descr.{Descr}
-use Rattle.elem_descr.specs.Values.{LeafValue}
-use Rattle.elem_descr.specs.Items.{item_size, encode_item}
-use Rattle.elem_descr.specs.Blocks.{item_from}
-use Rattle.shape_strides.specs.declared.layout.Layout.{Layout}
-use Rattle.shape_strides.specs.Contiguity.{fortran_order}
-use Rattle.shape_strides.specs.Indexes.{count}
-use Rattle.shape_strides.specs.Layouts.{offsets, multiples}
-use Rattle.arrays.specs.declared.owned.Owned.{Owned}
+use Rattle.elementwise.specs.Words.{Descr, LeafValue, item_size, encode_item, item_from, Layout, fortran_order, count, offsets, multiples, Owned}
 
 -- an array of this element type and shape, in C order, with these items, whose bytes are theirs as they are encoded
 pub record IsMade (descr : Descr) (shape : List ℕ) (values : List (List LeafValue)) (o : Owned) : Type 0 where

@@ -1,11 +1,7 @@
 -- What is made of the items of two operands, one after another.
 use Rattle.std.specs.Prelude.{ℕ, List, map}
 use Rattle.std.specs.List.{concat}
-use Rattle.elem_descr.specs.Values.{LeafValue}
-use Rattle.elem_descr.specs.Items.{item_size}
-use Rattle.elem_descr.specs.Blocks.{item_from}
-use Rattle.shape_strides.specs.Indexes.{count}
-use Rattle.shape_strides.specs.Layouts.{offsets}
+use Rattle.elementwise.specs.Words.{LeafValue, item_size, item_from, count, offsets}
 use Rattle.elementwise.specs.Results.{pairwise}
 use Rattle.elementwise.specs.inside.PairPasses.{pair_from}
 use Rattle.elementwise.specs.declared.rows.Operand.{Operand}

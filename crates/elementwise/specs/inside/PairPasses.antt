@@ -1,15 +1,9 @@
 -- Passes over pairs of items that lie at equal steps.
 use Rattle.std.specs.Prelude.{◌≡◌, ℕ, ℤ, pos, int_lt, Bool, true, false, not, ◌||◌, if◌then◌else◌, List}
-use Rattle.elem_descr.specs.declared.scalar.Order.TheVariants.{Little}
-use Rattle.elem_descr.specs.declared.scalar.Scalar.{Scalar}
-use Rattle.elem_descr.specs.declared.scalar.Scalar.TheVariants.{Bool as BoolScalar, Byte, Int, Bytes}
-use Rattle.elem_descr.specs.Values.{LeafValue, number, text}
-use Rattle.elem_descr.specs.declared.descr.Descr.{Descr}
+use Rattle.elementwise.specs.Words.{Little, Scalar, Byte, Int, Bytes, LeafValue, number, text, Descr, IsNumber, IsValueOf, number_of, decode, encode, without_nuls, Comparison, item_at}
+use Rattle.elem_descr.specs.declared.scalar.Scalar.TheVariants.{Bool as BoolScalar}
 use Rattle.elem_descr.specs.declared.descr.Descr.TheVariants.{Scalar as ScalarDescr}
-use Rattle.elem_descr.specs.Encoding.{IsNumber, IsValueOf, number_of, decode, encode, without_nuls}
-use Rattle.elem_descr.specs.declared.operators.Comparison.{Comparison}
 use Rattle.elementwise.specs.Comparisons.{says, compared}
-use Rattle.raw_block.specs.Bytes.{item_at}
 
 -- the bytes of what f gives on the numbers that bytes of two scalars mean
 abbrev pub number_pair : Scalar → Scalar → Scalar → (ℤ → ℤ → ℤ) → List ℕ → List ℕ → List ℕ

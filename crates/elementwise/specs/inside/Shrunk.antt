@@ -1,9 +1,6 @@
 -- Layouts that are stretched, and those that they are stretched from.
 use Rattle.std.specs.Prelude.{◌≡◌, ◌+◌, ◌≤◌, ℕ, List, All, IsTrue}
-use Rattle.shape_strides.specs.declared.layout.Layout.{Layout}
-use Rattle.shape_strides.specs.Layouts.{offsets}
-use Rattle.view_ops.specs.Views.{view_through}
-use Rattle.broadcasting.specs.Broadcasts.{can_stretch, broadcast_index}
+use Rattle.elementwise.specs.Words.{Layout, offsets, view_through, can_stretch, broadcast_index}
 
 -- a layout of shape `once` shows, stretched to a shape, what another one shows when it is stretched to that shape
 pub record IsShrunk (small layout : Layout) (once shape : List ℕ) : Type 0 where

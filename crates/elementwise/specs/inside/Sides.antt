@@ -1,6 +1,6 @@
 -- Pairs of items at equal steps, and what is made of them.
 use Rattle.std.specs.Prelude.{ℕ, List}
-use Rattle.machine_numbers.specs.Sides.{item_in}
+use Rattle.elementwise.specs.Words.{item_in}
 use Rattle.elementwise.specs.declared.sides.Pairs.{Pairs}
 
 -- how many pairs there are

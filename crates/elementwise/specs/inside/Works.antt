@@ -1,15 +1,8 @@
 -- What is made of the values of two items.
 use Rattle.std.specs.Prelude.{◌≡◌, ℕ, ℤ, List, not, true, false}
-use Rattle.elem_descr.specs.declared.scalar.Order.TheVariants.{Little}
-use Rattle.elem_descr.specs.declared.scalar.Width.TheVariants.{Eight}
-use Rattle.elem_descr.specs.declared.scalar.Scalar.{Scalar}
-use Rattle.elem_descr.specs.declared.scalar.Scalar.TheVariants.{Bool as BoolScalar, Int, Bytes}
-use Rattle.elem_descr.specs.Values.{LeafValue, number, text}
-use Rattle.elem_descr.specs.declared.descr.Descr.{Descr}
+use Rattle.elementwise.specs.Words.{Little, Eight, Scalar, Int, Bytes, LeafValue, number, text, Descr, Comparison, IsNumber, number_of, wrap, little}
+use Rattle.elem_descr.specs.declared.scalar.Scalar.TheVariants.{Bool as BoolScalar}
 use Rattle.elem_descr.specs.declared.descr.Descr.TheVariants.{Scalar as ScalarDescr}
-use Rattle.elem_descr.specs.declared.operators.Comparison.{Comparison}
-use Rattle.elem_descr.specs.Encoding.{IsNumber, number_of, wrap}
-use Rattle.machine_numbers.specs.Kinds.{little}
 use Rattle.elementwise.specs.Casts.{cast_value}
 use Rattle.elementwise.specs.Promotion.{is_division, are_comparable}
 use Rattle.elementwise.specs.Operations.{binary, unary}

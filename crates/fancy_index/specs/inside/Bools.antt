@@ -1,9 +1,6 @@
 -- Bools by the bytes that they stand in.
 use Rattle.std.specs.Prelude.{ℕ, ◌+◌, ◌<◌, ◌≤◌, ℤ, pos, List, [], ◌∷◌, map, length, get_or, drop, All}
-use Rattle.elem_descr.specs.Encoding.{truth}
-use Rattle.shape_strides.specs.Addresses.{LieWithin}
-use Rattle.shape_strides.specs.Limits.{max_items, max_bytes}
-use Rattle.shape_strides.specs.Runs.{run_offsets}
+use Rattle.fancy_index.specs.Words.{truth, LieWithin, max_items, max_bytes, run_offsets}
 use Rattle.fancy_index.specs.declared.bools.Bools.{Bools}
 use Rattle.fancy_index.specs.inside.PointLists.{true_ranks}
 

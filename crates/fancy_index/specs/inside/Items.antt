@@ -1,11 +1,7 @@
 -- Items of an index list with their arrays.
 use Rattle.std.specs.Prelude.{ℕ, ℤ, List, Bool, Result}
 use Rattle.std.specs.Coded.{Unit-prop, le_prop}
-use Rattle.elem_descr.specs.declared.refusal.Refusal.{Refusal}
-use Rattle.elem_descr.specs.declared.refusal.Refusal.TheVariants.{IndexOutOfRange}
-use Rattle.elem_descr.specs.Refusals.{Gives, check}
-use Rattle.elem_descr.specs.declared.index_item.IndexItem.{IndexItem}
-use Rattle.elem_descr.specs.declared.index_item.IndexItem.TheVariants.{Integer, Slice, Ellipsis, NewAxis, Array}
+use Rattle.fancy_index.specs.Words.{Refusal, IndexOutOfRange, Gives, check, IndexItem, Integer, Slice, Ellipsis, NewAxis, Array}
 use Rattle.fancy_index.specs.declared.source.Indices.{Indices}
 use Rattle.fancy_index.specs.declared.kind.Kind.{Kind}
 use Rattle.fancy_index.specs.IndexArrays.{IndexArray, kind, array_axes_taken}

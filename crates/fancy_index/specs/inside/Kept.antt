@@ -1,8 +1,6 @@
 -- Where the items lie to which the axes of a plan lead.
 use Rattle.std.specs.Prelude.{ℕ, List, map, length}
-use Rattle.arrays.specs.Assignments.{assigned}
-use Rattle.arrays.specs.Packed.{row_offsets}
-use Rattle.shape_strides.specs.Layouts.{offsets}
+use Rattle.fancy_index.specs.Words.{assigned, row_offsets, offsets}
 use Rattle.fancy_index.specs.declared.rows.MovedLayout.{MovedLayout}
 use Rattle.fancy_index.specs.declared.rows.PlanAxes.{PlanAxes}
 use Rattle.fancy_index.specs.declared.rows.Shifted.{Shifted}

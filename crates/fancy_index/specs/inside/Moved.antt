@@ -1,9 +1,7 @@
 -- Offsets that are moved to another start, from each place of the outer axes of a plan by each shift.
 use Rattle.std.specs.Prelude.{◌≤◌, ◌<◌, ℕ, ◌+◌, ◌-◌, List, map, All}
 use Rattle.std.specs.List.{flat_map}
-use Rattle.shape_strides.specs.declared.layout.Layout.{Layout}
-use Rattle.shape_strides.specs.Layouts.{offsets}
-use Rattle.shape_strides.specs.Limits.{max_bytes}
+use Rattle.fancy_index.specs.Words.{Layout, offsets, max_bytes}
 
 -- an offset, where what began at `base` begins at `start`
 abbrev pub moved_offset : ℕ → ℕ → ℕ → ℕ

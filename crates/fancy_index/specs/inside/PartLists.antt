@@ -1,18 +1,8 @@
 -- Parts as the code holds them: slices as runs, points by their ranks.
 use Rattle.std.specs.Prelude.{◌≡◌, ◌<◌, ◌≤◌, true, ℕ, List, [], ◌∷◌, ◌++◌, map, length, get_or}
 use Rattle.std.specs.List.{list_all, flat_map}
-use Rattle.elem_descr.specs.declared.index_item.IndexItem.{IndexItem}
-use Rattle.shape_strides.specs.declared.layout.Layout.{Layout}
-use Rattle.shape_strides.specs.Indexes.{rank, IsIndex}
-use Rattle.shape_strides.specs.Addresses.{natural}
-use Rattle.shape_strides.specs.Layouts.{address}
-use Rattle.shape_strides.specs.Limits.{max_axes}
-use Rattle.view_ops.specs.declared.pick.AxisPick.{AxisPick}
+use Rattle.fancy_index.specs.Words.{IndexItem, Layout, rank, IsIndex, natural, address, max_axes, AxisPick, IsRunWithin, has_step, picked_index, pick_shown, first_of, can_stretch, broadcast_index}
 use Rattle.view_ops.specs.declared.pick.AxisPick.TheVariants.{At as AtAxis, Along as AlongAxis, New as NewAxis}
-use Rattle.view_ops.specs.Slices.{IsRunWithin}
-use Rattle.view_ops.specs.Basics.{has_step, picked_index}
-use Rattle.view_ops.specs.Picks.{pick_shown, first_of}
-use Rattle.broadcasting.specs.Broadcasts.{can_stretch, broadcast_index}
 use Rattle.fancy_index.specs.declared.points.PointList.{PointList}
 use Rattle.fancy_index.specs.declared.parts.IndexPart.{IndexPart}
 use Rattle.fancy_index.specs.declared.parts.IndexPart.TheVariants.{Axis as AxisPart, Points as PointsPart, Between as BetweenPart}

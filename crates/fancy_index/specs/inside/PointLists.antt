@@ -2,11 +2,7 @@
 use Rattle.std.specs.Prelude.{◌≡◌, ◌<◌, ℕ, ◌+◌, if◌then◌else◌, ℤ, pos, Option, Some, None, List, [], ◌∷◌, map, length, get_or, All, Result, Ok, Err}
 use Rattle.std.specs.List.{list_all}
 use Rattle.std.specs.Ordering.{int_eq}
-use Rattle.elem_descr.specs.declared.refusal.Refusal.{Refusal}
-use Rattle.elem_descr.specs.declared.refusal.Refusal.TheVariants.{IndexOutOfRange}
-use Rattle.shape_strides.specs.Indexes.{count, indexes}
-use Rattle.shape_strides.specs.Addresses.{natural}
-use Rattle.view_ops.specs.Slices.{from_front, is_place}
+use Rattle.fancy_index.specs.Words.{Refusal, IndexOutOfRange, count, indexes, natural, from_front, is_place}
 use Rattle.fancy_index.specs.declared.points.PointList.{PointList}
 use Rattle.fancy_index.specs.Parts.{Part, Points}
 

@@ -1,10 +1,7 @@
 -- Ranks that become offsets, and how far the runs of a layout were gone through.
 use Rattle.std.specs.Prelude.{◌≡◌, ◌≤◌, ℕ, List, [], ◌∷◌, map, length, get_or, drop, All}
 use Rattle.std.specs.List.{flat_map}
-use Rattle.shape_strides.specs.Addresses.{LieWithin}
-use Rattle.shape_strides.specs.Layouts.{offsets}
-use Rattle.shape_strides.specs.Limits.{max_bytes}
-use Rattle.shape_strides.specs.Runs.{run_offsets}
+use Rattle.fancy_index.specs.Words.{LieWithin, offsets, max_bytes, run_offsets}
 use Rattle.fancy_index.specs.declared.ranks.RunAt.{RunAt}
 
 -- the offsets to which ranks lead

@@ -1,16 +1,7 @@
 -- Integers by the bytes that they stand in.
 use Rattle.std.specs.Prelude.{◌≡◌, ℕ, ◌+◌, ◌<◌, ◌≤◌, Bool, true, ◌&&◌, ℤ, pos, List, [], ◌∷◌, ◌++◌, map, length, get_or, drop, All}
 use Rattle.std.specs.List.{list_all}
-use Rattle.elem_descr.specs.declared.descr.Descr.{Descr}
-use Rattle.elem_descr.specs.declared.scalar.Order.TheVariants.{Little}
-use Rattle.elem_descr.specs.Encoding.{integer, number_in, truth}
-use Rattle.elem_descr.specs.Items.{item_size}
-use Rattle.raw_block.specs.Bytes.{item_at}
-use Rattle.shape_strides.specs.Addresses.{LieWithin}
-use Rattle.shape_strides.specs.Limits.{max_items, max_bytes}
-use Rattle.shape_strides.specs.declared.runs.Run.{Run}
-use Rattle.shape_strides.specs.Runs.{run_offsets}
-use Rattle.view_ops.specs.Slices.{is_place}
+use Rattle.fancy_index.specs.Words.{Descr, Little, integer, number_in, truth, item_size, item_at, LieWithin, max_items, max_bytes, Run, run_offsets, is_place}
 use Rattle.fancy_index.specs.Sources.{number_from}
 use Rattle.fancy_index.specs.declared.words.Reading.{Reading}
 use Rattle.fancy_index.specs.declared.words.Spread.{Spread}

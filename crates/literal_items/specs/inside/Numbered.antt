@@ -1,8 +1,6 @@
 -- The bytes of the numbers of a range.
 use Rattle.std.specs.Prelude.{ℕ, ℤ, pos, ◌+ℤ◌, ◌*ℤ◌, List}
-use Rattle.elem_descr.specs.declared.scalar.Scalar.{Scalar}
-use Rattle.elem_descr.specs.Encoding.{encode}
-use Rattle.elem_descr.specs.Values.{number}
+use Rattle.literal_items.specs.Words.{Scalar, encode, number}
 
 -- those of start + k * step
 abbrev pub numbered : Scalar → ℤ → ℤ → ℕ → List ℕ

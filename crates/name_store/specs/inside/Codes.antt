@@ -3,9 +3,8 @@ use Rattle.std.specs.Prelude.{ℕ, Bool, List, refl}
 use Rattle.std.specs.Ordering.{nat_cmp}
 use Rattle.std.specs.Coded.{Coded, code_by, coded×, coded_ℕ, coded_bool, coded_list}
 use Rattle.std.specs.FinMap.{FinMap, code}
-use Rattle.elem_descr.specs.declared.descr.Descr.{Descr}
+use Rattle.name_store.specs.Words.{Descr, LeafValue, leaf_code}
 use Rattle.elem_descr.specs.contracts.descr.Descr as descr
-use Rattle.elem_descr.specs.Values.{LeafValue, leaf_code}
 use Rattle.name_store.specs.States.{Array, BenchValue, Buffer, State}
 
 abbrev pub buffer_code : Coded Buffer

@@ -1,8 +1,6 @@
 -- Blocks that take the place of others.
 use Rattle.std.specs.Prelude.{◌≡◌, ◌*◌, ℕ, List, length, Bool, false, IsTrue}
-use Rattle.shape_strides.specs.Contiguity.{is_c_contiguous}
-use Rattle.shape_strides.specs.Layouts.{offsets, multiples}
-use Rattle.arrays.specs.Assignments.{items_at}
+use Rattle.name_store.specs.Words.{is_c_contiguous, offsets, multiples, items_at}
 use Rattle.name_store.specs.declared.target.Source.{Source}
 use Rattle.name_store.specs.declared.target.Source.TheVariants.{One, Block, Buffer}
 

@@ -1,7 +1,7 @@
 -- Slots that are taken, and buffers that come.
 use Rattle.std.specs.Prelude.{◌≡◌, ◌<◌, ℕ, true, List, Option, Some, None, is_some, nat_eq, if◌then◌else◌}
 use Rattle.std.proofs.Props.{props}
-use Rattle.elem_descr.specs.declared.descr.Descr.{Descr}
+use Rattle.name_store.specs.Words.{Descr}
 use Rattle.name_store.specs.Entries.{slot_at}
 use Rattle.name_store.specs.declared.slot.Slot.{Slot}
 

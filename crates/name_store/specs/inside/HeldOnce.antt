@@ -3,9 +3,7 @@ use Rattle.std.specs.Prelude.{ℕ, Bool, List, [], ◌∷◌, Option, Some, None
 use Rattle.std.specs.Coded.{Unit-prop, le_prop}
 use Rattle.std.specs.List.{AllByRecursion-prop}
 use Rattle.std.proofs.Props.{props}
-use Rattle.elem_descr.specs.declared.descr.Descr.{Descr}
-use Rattle.elem_descr.specs.Items.{field_at}
-use Rattle.shape_strides.specs.declared.layout.Layout.{Layout}
+use Rattle.name_store.specs.Words.{Descr, field_at, Layout}
 use Rattle.name_store.specs.Invariants.{Holds, LiesAt}
 use Rattle.name_store.specs.Parts.{IsPathOf}
 use Rattle.name_store.specs.States.{Array}

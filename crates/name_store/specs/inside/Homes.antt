@@ -1,6 +1,6 @@
 -- Where the array of a name lies, and slots in which the bytes of one block are new.
 use Rattle.std.specs.Prelude.{◌≡◌, ℕ, List, Option, Some, map, nat_eq, if◌then◌else◌}
-use Rattle.elem_descr.specs.Items.{item_size}
+use Rattle.name_store.specs.Words.{item_size}
 use Rattle.name_store.specs.Arrays.{find_array}
 use Rattle.name_store.specs.Invariants.{LiesIn}
 use Rattle.name_store.specs.Parts.{descr_at}

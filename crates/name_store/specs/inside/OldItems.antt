@@ -1,8 +1,7 @@
 -- Old items, one after another.
 use Rattle.std.specs.Prelude.{◌≡◌, ◌*◌, ℕ, List, length, Option, Some}
 use Rattle.std.specs.Option.{option_map}
-use Rattle.shape_strides.specs.Layouts.{multiples}
-use Rattle.arrays.specs.Assignments.{items_at}
+use Rattle.name_store.specs.Words.{multiples, items_at}
 use Rattle.name_store.specs.Invariants.{users_at}
 use Rattle.name_store.specs.Targets.{target_offsets}
 use Rattle.name_store.specs.View.{slot_at}

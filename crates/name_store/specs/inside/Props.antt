@@ -2,11 +2,8 @@
 use Rattle.std.specs.Prelude.{◌+◌, ℕ, List}
 use Rattle.std.specs.Coded.{Unit-prop, le_prop}
 use Rattle.std.proofs.Props.{props}
-use Rattle.elem_descr.specs.declared.descr.Descr.{Descr}
+use Rattle.name_store.specs.Words.{Descr, IsLegal, InOrder, AreNamed, AreNamedWithin, size, Fields, no_more, scalar_field, record_field, Structure}
 use Rattle.elem_descr.specs.declared.descr.Descr.TheVariants.{Scalar as ScalarDescr, Record as RecordDescr}
-use Rattle.elem_descr.specs.Descriptors.{IsLegal, InOrder, AreNamed, AreNamedWithin}
-use Rattle.elem_descr.specs.Encoding.{size}
-use Rattle.elem_descr.specs.Fields.{Fields, no_more, scalar_field, record_field, Structure}
 use Rattle.name_store.specs.Places.{IsElementType, HasJustItems}
 
 InOrder-prop : (from : ℕ) (fields : Fields) (bytes : ℕ) → IsProp (InOrder from fields bytes)

@@ -1,10 +1,6 @@
 -- Items that are put in a block, and in the slot that it stands in.
 use Rattle.std.specs.Prelude.{◌≡◌, ◌+◌, ◌≤◌, ◌<◌, ℕ, List, length, replicate, Option, Some, None, All, slice_set}
-use Rattle.elem_descr.specs.Items.{item_size}
-use Rattle.shape_strides.specs.declared.layout.Layout.{Layout}
-use Rattle.shape_strides.specs.Layouts.{offsets, Fits, IsNested}
-use Rattle.shape_strides.specs.Limits.{max_bytes}
-use Rattle.arrays.specs.Assignments.{items_at, with_items}
+use Rattle.name_store.specs.Words.{item_size, Layout, offsets, Fits, IsNested, max_bytes, items_at, with_items}
 use Rattle.name_store.specs.Memory.{MoveInPlace}
 use Rattle.name_store.specs.Targets.{target_offsets}
 use Rattle.name_store.specs.View.{slot_at}

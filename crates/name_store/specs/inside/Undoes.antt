@@ -1,7 +1,7 @@
 -- What undoing a change does to names and slots.
 use Rattle.std.specs.Prelude.{◌≡◌, ℕ, List, [], ◌∷◌, ◌++◌, map, Option}
-use Rattle.circular_buffer.specs.Buffer.{Buffer as Ring, buffer}
-use Rattle.indexmap.specs.IndexMap.{spare}
+use Rattle.name_store.specs.Words.{buffer, spare}
+use Rattle.circular_buffer.specs.Buffer.{Buffer as Ring}
 use Rattle.name_store.specs.Invariants.{IsSound}
 use Rattle.name_store.specs.Kept.{kept_states, past_buffers}
 use Rattle.name_store.specs.View.{named_array}

@@ -5,8 +5,7 @@ use Rattle.std.specs.Str.{bytes_eq}
 use Rattle.npy_files.specs.declared.mem_store.StoredFile.{StoredFile}
 use Rattle.npy_files.specs.declared.store.StoreFault.{StoreFault}
 use Rattle.npy_files.specs.declared.store.StoreFault.TheVariants.{Device, TooLong, Memory}
-use Rattle.disk.specs.Files.{Files}
-use Rattle.disk.specs.Calls.{last_count}
+use Rattle.npy_files.specs.Words.{Files, last_count}
 use Rattle.npy_files.specs.Stores.{StoreState, comes_before}
 
 abbrev pub named_bytes : StoredFile → List ℕ × List ℕ

@@ -2,9 +2,7 @@
 use Rattle.std.specs.Prelude.{ℕ, List, length, Result, Ok}
 use Rattle.std.specs.Borrow.{Bor}
 use Rattle.std.specs.Option.{ok_or}
-use Rattle.elem_descr.specs.declared.refusal.Refusal.{Refusal}
-use Rattle.elem_descr.specs.declared.refusal.Refusal.TheVariants.{BadHeader}
-use Rattle.elem_descr.specs.Refusals.{◌>>=◌, Answers}
+use Rattle.npy_format.specs.Words.{Refusal, BadHeader, ◌>>=◌, Answers}
 use Rattle.npy_format.specs.Listed.{Literal}
 use Rattle.npy_format.specs.Tokens.{Token, tokens}
 use Rattle.npy_format.specs.Literals.{Read, symbol_token_at, entries_in, if_read}

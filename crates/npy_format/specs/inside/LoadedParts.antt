@@ -1,9 +1,6 @@
 -- What is loaded of a file behind the text of its header.
 use Rattle.std.specs.Prelude.{ℕ, List, length, nat_le, Result, Ok}
-use Rattle.elem_descr.specs.declared.refusal.Refusal.{Refusal}
-use Rattle.elem_descr.specs.declared.refusal.Refusal.TheVariants.{TooLarge}
-use Rattle.elem_descr.specs.Refusals.{◌>>=◌, check}
-use Rattle.shape_strides.specs.Limits.{max_bytes}
+use Rattle.npy_format.specs.Words.{Refusal, TooLarge, ◌>>=◌, check, max_bytes}
 use Rattle.npy_format.specs.Headers.{header}
 use Rattle.npy_format.specs.Files.{Loaded, split_front, data_size}
 

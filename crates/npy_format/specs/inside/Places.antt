@@ -1,7 +1,7 @@
 -- Where in a header its values stand.
 use Rattle.std.specs.Prelude.{◌≡◌, ℕ, List, [], ◌∷◌, Option, Some, None, Result, Ok, Err, MatchResult}
 use Rattle.std.specs.Borrow.{Bor}
-use Rattle.elem_descr.specs.declared.refusal.Refusal.{Refusal}
+use Rattle.npy_format.specs.Words.{Refusal}
 use Rattle.npy_format.specs.Values.{Text, Round}
 use Rattle.npy_format.specs.Listed.{Literal, Plain, Row, Pair, value_literals}
 use Rattle.npy_format.specs.Tokens.{Token, tokens}

@@ -1,11 +1,7 @@
 -- Tokens as they are read straight off a text.
 use Rattle.std.specs.Prelude.{ℕ, List, ◌∷◌, Option, Some, None, Bool, false, Result, Ok, Err}
 use Rattle.std.specs.Str.{bytes_eq}
-use Rattle.elem_descr.specs.declared.refusal.Refusal.{Refusal}
-use Rattle.elem_descr.specs.declared.refusal.Refusal.TheVariants.{BadHeader, DescriptorLeftOut}
-use Rattle.elem_descr.specs.Refusals.{◌>>=◌}
-use Rattle.elem_descr.specs.TypeStrings.{marked, value_of}
-use Rattle.elem_descr.specs.RecordBuilding.{Partial, widened}
+use Rattle.npy_format.specs.Words.{Refusal, BadHeader, DescriptorLeftOut, ◌>>=◌, marked, value_of, Partial, widened}
 use Rattle.npy_format.specs.RecordLists.{pad_kind}
 use Rattle.npy_format.specs.declared.token.Token.{Token as Scanned}
 use Rattle.npy_format.specs.declared.token.Token.TheVariants as scanned

@@ -1,9 +1,7 @@
 -- What holds of every element type.
 use Rattle.std.specs.Prelude.{◌≤◌}
-use Rattle.elem_descr.specs.declared.descr.Descr.{Descr}
+use Rattle.npy_format.specs.Words.{Descr, size, IsLegal}
 use Rattle.elem_descr.specs.declared.descr.Descr.TheVariants.{Scalar as ScalarDescr, Record as RecordDescr}
-use Rattle.elem_descr.specs.Encoding.{size}
-use Rattle.elem_descr.specs.Descriptors.{IsLegal}
 
 -- a scalar of 1 to 65,536 bytes, or a legal record
 abbrev pub IsSound : Descr → Type 0

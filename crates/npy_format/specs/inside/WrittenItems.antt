@@ -1,16 +1,8 @@
 -- Items as a file has them, from their bytes.
 use Rattle.std.specs.Prelude.{◌≡◌, ℕ, ◌+◌, ◌-◌, min, List, [], ◌∷◌, ◌++◌, map, replicate, if◌then◌else◌}
 use Rattle.std.specs.List.{flat_map}
-use Rattle.raw_block.specs.Bytes.{item_at}
-use Rattle.elem_descr.specs.declared.descr.Descr.{Descr}
-use Rattle.elem_descr.specs.declared.leaf.Leaf.{Leaf}
-use Rattle.elem_descr.specs.declared.scalar.Scalar.{Scalar}
-use Rattle.elem_descr.specs.declared.scalar.Scalar.TheVariants.{Bool as BoolScalar, Byte, Int, Bytes}
-use Rattle.elem_descr.specs.Values.{LeafValue}
-use Rattle.elem_descr.specs.Encoding.{size, decode}
-use Rattle.elem_descr.specs.Items.{item_size, decode_item, encode_item, encode_from}
-use Rattle.elem_descr.specs.Blocks.{blocks, item_from}
-use Rattle.shape_strides.specs.Contiguity.{fortran_order}
+use Rattle.npy_format.specs.Words.{item_at, Descr, Leaf, Scalar, Byte, Int, Bytes, LeafValue, size, decode, item_size, decode_item, encode_item, encode_from, blocks, item_from, fortran_order}
+use Rattle.elem_descr.specs.declared.scalar.Scalar.TheVariants.{Bool as BoolScalar}
 use Rattle.npy_format.specs.WrittenFiles.{is_fortran, file_of}
 
 -- the value of a leaf of an item

@@ -1,6 +1,6 @@
 -- Axes that lead as far as others.
 use Rattle.std.specs.Prelude.{◌≡◌, ℕ, ◌*◌, ◌/◌, ◌≤◌, List}
-use Rattle.shape_strides.specs.declared.stacked.Axis.{Axis}
+use Rattle.overlap_copy.specs.Words.{Axis}
 use Rattle.overlap_copy.specs.inside.Sums.{reach_of, AreForward, HasSum}
 
 -- a step of the wide axis is a number of steps of the narrow one, which has so many items

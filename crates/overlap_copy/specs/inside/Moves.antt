@@ -1,12 +1,7 @@
 -- Moves of items within one block, by index: the k-th item goes to one place from another.
 use Rattle.std.specs.Prelude.{◌≡◌, ℕ, ◌+◌, ◌-◌, ◌<◌, ◌≤◌, ◌⊎◌, pos, neg_ℤ, ◌+ℤ◌, ◌*ℤ◌, List, [], ◌∷◌, length, slice_index}
 use Rattle.std.specs.List.{AllByRecursion as Each}
-use Rattle.raw_block.specs.Bytes.{item_at, place}
-use Rattle.shape_strides.specs.declared.runs.Run.{Run}
-use Rattle.shape_strides.specs.Limits.{max_items, max_bytes}
-use Rattle.shape_strides.specs.Addresses.{LieWithin}
-use Rattle.shape_strides.specs.Layouts.{distance}
-use Rattle.shape_strides.specs.Runs.{run_offsets}
+use Rattle.overlap_copy.specs.Words.{item_at, place, Run, max_items, max_bytes, LieWithin, distance, run_offsets}
 
 -- a byte lies outside of n items
 abbrev pub IsOutside : ℕ → (ℕ → ℕ) → ℕ → ℕ → Type 0

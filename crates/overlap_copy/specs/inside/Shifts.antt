@@ -1,8 +1,6 @@
 -- Items that go from one offset to another, all by as many bytes.
 use Rattle.std.specs.Prelude.{ℕ, ◌+◌, ◌-◌, ◌<◌, ◌≤◌, List, length, map, slice_index, All}
-use Rattle.shape_strides.specs.declared.runs.Run.{Run}
-use Rattle.shape_strides.specs.Limits.{max_bytes, max_items}
-use Rattle.shape_strides.specs.Layouts.{IsNested, distance}
+use Rattle.overlap_copy.specs.Words.{Run, max_bytes, max_items, IsNested, distance}
 
 -- where an item comes from, if that at `to` comes from `from`
 abbrev pub source : ℕ → ℕ → ℕ → ℕ

@@ -1,6 +1,6 @@
 -- Items of two blocks that are exchanged.
 use Rattle.std.specs.Prelude.{ℕ, List, ◌∷◌}
-use Rattle.raw_block.specs.Bytes.{put, item_at}
+use Rattle.overlap_copy.specs.Words.{put, item_at}
 
 -- a block and another one, with the items at these offsets of either in each other's place, one pair after the other
 abbrev pub traded_at : List ℕ → List ℕ → ℕ → List ℕ × List ℕ → List ℕ × List ℕ

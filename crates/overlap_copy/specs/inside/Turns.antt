@@ -1,6 +1,6 @@
 -- Steps along an axis that may be taken back.
 use Rattle.std.specs.Prelude.{ℕ, ◌+◌, ◌-◌, ◌*◌, ◌<◌, ◌≤◌, List}
-use Rattle.shape_strides.specs.declared.stacked.Axis.{Axis}
+use Rattle.overlap_copy.specs.Words.{Axis}
 use Rattle.overlap_copy.specs.inside.Sums.{HasSum}
 
 -- where so many steps were taken along the axis, and the bounds leave less than `far` to the axes after it, these lead on as well with so many steps fewer

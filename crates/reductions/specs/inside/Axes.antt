@@ -1,15 +1,10 @@
 -- Axes by their numbers.
 use Rattle.std.specs.Prelude.{◌≡◌, ℕ, Bool, not, ◌&&◌, List, Option, Result, Ok, Err}
 use Rattle.std.specs.List.{remove}
-use Rattle.elem_descr.specs.declared.refusal.Refusal.{Refusal}
-use Rattle.elem_descr.specs.declared.refusal.Refusal.TheVariants.{OutOfMemory, EmptyReduction}
-use Rattle.elem_descr.specs.Refusals.{◌>>=◌, check}
-use Rattle.shape_strides.specs.Shapes.{shape_of}
-use Rattle.elem_descr.specs.declared.operators.Red.{Red}
+use Rattle.reductions.specs.Words.{Refusal, OutOfMemory, EmptyReduction, ◌>>=◌, check, shape_of, Red, Layout}
 use Rattle.reductions.specs.Lists.{reduced_shape}
 use Rattle.reductions.specs.Outcomes.{has_empty_list}
 use Rattle.reductions.specs.Reductions.{needs_items}
-use Rattle.shape_strides.specs.declared.layout.Layout.{Layout}
 
 -- a layout of the items at 0 on an axis, without it
 pub record AreStarts (layout : Layout) (axis : ℕ) (starts : Layout) : Type 0 where

@@ -7,14 +7,7 @@ use Rattle.std.specs.Ordering.{int_eq}
 use Rattle.std.proofs.lemmas.Bool.{lt-ltb}
 use Rattle.std.proofs.lemmas.Int.{ints, clamps}
 use Rattle.std.proofs.lemmas.List.Sums.{fold-append}
-use Rattle.elem_descr.specs.declared.scalar.Order.TheVariants.{Little}
-use Rattle.elem_descr.specs.declared.scalar.Width.TheVariants.{Eight}
-use Rattle.elem_descr.specs.declared.scalar.Scalar.{Scalar}
-use Rattle.elem_descr.specs.declared.scalar.Scalar.TheVariants.{Int}
-use Rattle.elem_descr.specs.Encoding.{size, integer}
-use Rattle.machine_numbers.specs.Kinds.{little}
-use Rattle.elem_descr.specs.declared.operators.Red.{Red}
-use Rattle.elem_descr.specs.declared.operators.Red.TheVariants.{Minimum, Maximum, ArgMin, ArgMax}
+use Rattle.reductions.specs.Words.{Little, Eight, Scalar, Int, size, integer, little, Red, Minimum, Maximum, ArgMin, ArgMax}
 use Rattle.reductions.specs.Reductions.{least, greatest, first_place, result_scalar}
 use Rattle.reductions.specs.inside.Numbers.{IsStored, IsReduced}
 use Rattle.reductions.specs.inside.FoldLaws.{wide_total, little_size}

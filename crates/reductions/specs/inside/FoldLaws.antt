@@ -11,17 +11,8 @@ use Rattle.std.specs.List.{list_any, list_all}
 use Rattle.std.proofs.lemmas.List.Sums.{fold-append}
 use Rattle.std.specs.Cmp.{signed_Decides}
 use Rattle.std.proofs.lemmas.Bool.{false_from_ne_true, eqb-true}
-use Rattle.machine_numbers.specs.Bits.{AreBits}
-use Rattle.machine_numbers.specs.Kinds.{little}
-use Rattle.elem_descr.specs.declared.scalar.Order.TheVariants.{Little}
-use Rattle.elem_descr.specs.declared.scalar.Width.TheVariants.{Eight}
-use Rattle.elem_descr.specs.declared.scalar.Scalar.{Scalar}
-use Rattle.elem_descr.specs.declared.scalar.Scalar.TheVariants.{Bool as BoolScalar, Byte, Int, Bytes}
-use Rattle.elem_descr.specs.Values.{number}
-use Rattle.elem_descr.specs.Encoding.{size, number_of, number_in, bytes_of, integer, low_bits, wrap}
-use Rattle.elem_descr.specs.EncodingLaws.{low_bits-lt, low_bits-integer}
-use Rattle.elem_descr.specs.declared.operators.Red.{Red}
-use Rattle.elem_descr.specs.declared.operators.Red.TheVariants.{Sum, Product, Any, All}
+use Rattle.reductions.specs.Words.{AreBits, little, Little, Eight, Scalar, Byte, Int, Bytes, number, size, number_of, number_in, bytes_of, integer, low_bits, wrap, low_bits-lt, low_bits-integer, Red, Sum, Product, Any, All}
+use Rattle.elem_descr.specs.declared.scalar.Scalar.TheVariants.{Bool as BoolScalar}
 use Rattle.reductions.specs.Reductions.{wide, sum_of, product_of, is_true, result_scalar}
 use Rattle.reductions.specs.inside.Numbers.{IsStored, IsReduced}
 

@@ -10,7 +10,7 @@ use Rattle.std.proofs.lemmas.List.Elements.{All-head, All-tail}
 use Rattle.std.proofs.lemmas.List.Sums.{fold-append}
 use Rattle.reductions.specs.Reductions.{first_place}
 use Rattle.reductions.specs.inside.Extremes.{better, is_better, better-one, better-none}
-use Rattle.elem_descr.specs.ListLaws.{first_is}
+use Rattle.reductions.specs.Words.{first_is}
 
 -- so far a number is the best one, and this is its first place, where the first number is the one that was given
 pub record HasFound (pick : ℤ → ℤ → ℤ) (best : ℤ) (place : ℕ) (first : ℤ) (seen : List ℤ) : Type 0 where

@@ -1,10 +1,6 @@
 -- Lines along an axis, and the rows across them.
 use Rattle.std.specs.Prelude.{◌<◌, ℕ, ℤ, List, length, slice_index_or}
-use Rattle.elem_descr.specs.declared.scalar.Scalar.{Scalar}
-use Rattle.raw_block.specs.Bytes.{place}
-use Rattle.machine_numbers.specs.declared.sides.Side.{Side}
-use Rattle.shape_strides.specs.declared.runs.Run.{Run}
-use Rattle.shape_strides.specs.Runs.{run_along, run_offsets}
+use Rattle.reductions.specs.Words.{Scalar, place, Side, Run, run_along, run_offsets}
 use Rattle.reductions.specs.declared.lines.Lines.{Lines}
 use Rattle.reductions.specs.inside.Numbers.{number_at, numbers_at, lines, AreAlong}
 

@@ -1,16 +1,6 @@
 -- Numbers that are read where they lie, and reductions of them as bytes.
 use Rattle.std.specs.Prelude.{◌≡◌, ◌*◌, ◌^◌, ◌<◌, ◌≤◌, ℕ, ℤ, Option, Some, None, List, [], ◌∷◌, ◌++◌, ◌+◌, length, map, slice_index_or, All}
-use Rattle.elem_descr.specs.declared.scalar.Scalar.{Scalar}
-use Rattle.elem_descr.specs.Values.{number}
-use Rattle.elem_descr.specs.Encoding.{size, decode, encode, number_of}
-use Rattle.raw_block.specs.Bytes.{place, item_at, EachWithin}
-use Rattle.shape_strides.specs.declared.layout.Layout.{Layout}
-use Rattle.shape_strides.specs.Indexes.{count}
-use Rattle.shape_strides.specs.Layouts.{offsets}
-use Rattle.shape_strides.specs.declared.joined.StridedAxis.{StridedAxis}
-use Rattle.shape_strides.specs.Runs.{run_along, run_offsets}
-use Rattle.elem_descr.specs.declared.operators.Red.{Red}
-use Rattle.machine_numbers.specs.declared.sides.Side.{Side}
+use Rattle.reductions.specs.Words.{Scalar, number, size, decode, encode, number_of, place, item_at, EachWithin, Layout, count, offsets, StridedAxis, run_along, run_offsets, Red, Side}
 use Rattle.reductions.specs.Reductions.{result_scalar, reduced}
 
 -- the number of a scalar that lies at an offset

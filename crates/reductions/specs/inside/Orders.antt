@@ -1,7 +1,6 @@
 -- Whether what a reduction makes hangs on the order of the numbers.
 use Rattle.std.specs.Prelude.{Bool, true, false}
-use Rattle.elem_descr.specs.declared.operators.Red.{Red}
-use Rattle.elem_descr.specs.declared.operators.Red.TheVariants.{ArgMin, ArgMax}
+use Rattle.reductions.specs.Words.{Red, ArgMin, ArgMax}
 
 abbrev pub hangs_on_order : Red → Bool
 hangs_on_order ArgMin = true

@@ -1,8 +1,6 @@
 -- Numbers that are reduced, and what comes of them.
 use Rattle.std.specs.Prelude.{ℕ, List}
-use Rattle.elem_descr.specs.Encoding.{size}
-use Rattle.shape_strides.specs.Layouts.{offsets}
-use Rattle.elem_descr.specs.declared.operators.Red.{Red}
+use Rattle.reductions.specs.Words.{size, offsets, Red}
 use Rattle.reductions.specs.Lists.{lists}
 use Rattle.reductions.specs.Reductions.{result_scalar}
 use Rattle.reductions.specs.inside.Numbers.{AreReduced}

@@ -2,9 +2,7 @@
 use Rattle.std.specs.Prelude.{ℕ, Bool, pos, List, slice_index}
 use Rattle.std.specs.List.{list_all}
 use Rattle.std.specs.Ordering.{int_eq}
-use Rattle.shape_strides.specs.Indexes.{indexes, rank}
-use Rattle.shape_strides.specs.Addresses.{address_at}
-use Rattle.shape_strides.specs.Contiguity.{first_address, printed_strides}
+use Rattle.reshape_rule.specs.Words.{indexes, rank, address_at, first_address, printed_strides}
 
 -- the first entry, and along each axis the step to the entry at index 1, do
 abbrev pub is_affine : List ℕ → List ℕ → Bool

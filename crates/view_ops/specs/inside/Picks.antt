@@ -1,6 +1,6 @@
 -- How the items of a basic index are picked, with slices as runs.
 use Rattle.std.specs.Prelude.{◌≡◌, ◌≤◌, ℕ, nat_lt, if◌then◌else◌, ℤ, pos, neg_ℤ, ◌*ℤ◌, ◌≤ℤ◌, List, [], ◌∷◌, ◌++◌, map}
-use Rattle.shape_strides.specs.Limits.{max_bytes}
+use Rattle.view_ops.specs.Words.{max_bytes}
 use Rattle.view_ops.specs.declared.pick.AxisPick.{AxisPick}
 use Rattle.view_ops.specs.declared.pick.AxisPick.TheVariants.{At as AtAxis, Along as AlongAxis, New as NewAxis}
 use Rattle.view_ops.specs.declared.slice.Progression.{Progression}

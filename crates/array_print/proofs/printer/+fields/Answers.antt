@@ -1,15 +1,8 @@
 use Rattle.std.proofs.Common.{◌≡◌, ◌+◌, ◌<◌, ◌++◌, ℕ, List, [], ◌∷◌, codes, get_or, length, take, drop, sym, ap, ◌∙◌, append_assoc, arith}
 use Rattle.std.proofs.lemmas.List.{take_all, drop-drop, get_or_default}
 use Rattle.std.proofs.lemmas.Result.{on_ok_weaker, IfOk-weaker}
-use Rattle.elem_descr.specs.declared.descr.Descr.{Descr}
-use Rattle.elem_descr.specs.declared.descr.Field.{Field}
+use Rattle.array_print.specs.Words.{Descr, Field, Structure, total, fields_of, listed, leaf_count, leaves_of, weight, rest_at, weight-one, listed-fields_of, leaf_count-before, length-leaves_from}
 use Rattle.elem_descr.specs.declared.descr.Descr.TheVariants.{Record as RecordDescr}
-use Rattle.elem_descr.specs.Fields.{Structure, total}
-use Rattle.elem_descr.specs.Descriptors.{fields_of, listed, leaf_count}
-use Rattle.elem_descr.specs.Items.{leaves_of}
-use Rattle.elem_descr.specs.Weights.{weight}
-use Rattle.elem_descr.specs.DescriptorLaws.{rest_at, weight-one, listed-fields_of}
-use Rattle.elem_descr.specs.ItemLaws.{leaf_count-before, length-leaves_from}
 use Rattle.array_print.specs.Printed.{join_texts, record_end, field_texts, structure_text, in_parentheses, first_text}
 use Rattle.array_print.specs.inside.Shown.{lead, texts_at}
 use Rattle.array_print.proofs.LeafLaws.{joined-take-more, field_texts-before, length-field_texts}

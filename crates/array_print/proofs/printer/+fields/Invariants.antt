@@ -1,7 +1,5 @@
 use Rattle.std.proofs.Common.{◌≡◌, ◌≤◌, ◌+◌, ◌*◌, ◌++◌, codes, take, drop, vec_capacity}
-use Rattle.elem_descr.specs.Descriptors.{listed, leaf_count}
-use Rattle.elem_descr.specs.Fields.{total}
-use Rattle.elem_descr.specs.Weights.{weight}
+use Rattle.array_print.specs.Words.{listed, leaf_count, total, weight}
 use Rattle.array_print.specs.Printed.{join_texts, field_texts}
 use Rattle.array_print.specs.inside.Shown.{texts_at}
 use Rattle.array_print.proofs.printer.+fields.Given as goal

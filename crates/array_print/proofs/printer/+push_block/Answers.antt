@@ -1,7 +1,6 @@
 use Rattle.std.proofs.Common.{◌≡◌, ◌+◌, ◌*◌, ◌-◌, ◌<◌, ◌++◌, pos, ◌+ℤ◌, ◌*ℤ◌, ◌≤ℤ◌, get_or, length, map, drop, refl, sym, ap, subst, ◌∙◌, arith}
 use Rattle.std.proofs.lemmas.List.{take_all}
-use Rattle.shape_strides.specs.Indexes.{count}
-use Rattle.shape_strides.specs.Limits.{max_bytes}
+use Rattle.array_print.specs.Words.{count, max_bytes}
 use Rattle.array_print.specs.Printed.{block_text, separator}
 use Rattle.array_print.specs.StartLaws.{StartsWith-trans}
 use Rattle.array_print.specs.inside.Parts.{part_offsets}

@@ -2,11 +2,7 @@ use Rattle.std.proofs.Common.{true, Result, Ok, Err, is_err, ◌≡◌, ℕ, Lis
 use Rattle.std.proofs.lemmas.Bool.{ne_eqb}
 use Rattle.std.specs.Result.{OnOk}
 use Rattle.std.proofs.lemmas.Result.{on_ok_weaker}
-use Rattle.elem_descr.specs.declared.descr.Descr.{Descr}
-use Rattle.elem_descr.specs.Items.{leaves_of}
-use Rattle.shape_strides.specs.declared.layout.Layout.{Layout}
-use Rattle.shape_strides.specs.Indexes.{count}
-use Rattle.shape_strides.specs.Layouts.{offsets}
+use Rattle.array_print.specs.Words.{Descr, leaves_of, Layout, count, offsets}
 use Rattle.array_print.specs.Printed.{array_text, block_text, item_text, widths, items_from}
 use Rattle.array_print.specs.inside.Shown.{AreWidths, shown}
 use Rattle.array_print.specs.inside.Parts.{part_offsets}

@@ -1,5 +1,5 @@
 use Rattle.std.proofs.Common.{◌≡◌, [], take}
-use Rattle.elem_descr.specs.Items.{leaves_of}
+use Rattle.array_print.specs.Words.{leaves_of}
 use Rattle.array_print.specs.Printed.{leaf_widths}
 use Rattle.array_print.proofs.widths.least_widths.Given as goal
 

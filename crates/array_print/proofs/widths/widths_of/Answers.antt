@@ -1,7 +1,6 @@
 use Rattle.std.proofs.Common.{◌+◌, ◌≤◌, length, ap, ◌∙◌}
 use Rattle.std.proofs.lemmas.List.Elements.{All-rest}
-use Rattle.elem_descr.specs.Items.{item_size}
-use Rattle.shape_strides.specs.Layouts.{offsets}
+use Rattle.array_print.specs.Words.{item_size, offsets}
 use Rattle.array_print.proofs.WidthLaws.{length-widths-at, one-more, refilled}
 use Rattle.array_print.proofs.widths.widths_of.Goals as goal
 

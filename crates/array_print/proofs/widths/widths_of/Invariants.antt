@@ -1,6 +1,5 @@
 use Rattle.std.proofs.Common.{◌+◌, ◌≤◌, length, All}
-use Rattle.elem_descr.specs.Items.{item_size}
-use Rattle.shape_strides.specs.Layouts.{offsets}
+use Rattle.array_print.specs.Words.{item_size, offsets}
 use Rattle.array_print.proofs.WidthLaws.{AreSoFar}
 use Rattle.array_print.proofs.widths.widths_of.Given as goal
 

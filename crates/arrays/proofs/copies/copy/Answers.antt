@@ -1,7 +1,5 @@
 use Rattle.std.proofs.Common.{◌≡◌, map, sym, ap, ◌∙◌}
-use Rattle.raw_block.specs.Bytes.{item_at}
-use Rattle.elem_descr.specs.Items.{item_size}
-use Rattle.shape_strides.specs.Layouts.{offsets}
+use Rattle.arrays.specs.Words.{item_at, item_size, offsets}
 use Rattle.arrays.specs.Blocks.{offsets_in}
 use Rattle.arrays.proofs.ItemLaws.{items-from_bytes}
 use Rattle.arrays.proofs.copies.copy.Goals as goal

@@ -1,9 +1,6 @@
 use Rattle.std.proofs.Common.{◌≡◌, ◌+◌, ◌*◌, ◌≤◌, ℕ, length, All, sym, ap, subst, ◌∙◌}
 use Rattle.std.proofs.lemmas.Result.{IfOk-weaker}
-use Rattle.shape_strides.specs.Indexes.{count}
-use Rattle.shape_strides.specs.Layouts.{offsets, multiples}
-use Rattle.shape_strides.specs.LayoutLaws.{length-offsets}
-use Rattle.shape_strides.specs.ReverseLaws.{count-reverse}
+use Rattle.arrays.specs.Words.{count, offsets, multiples, length-offsets, count-reverse}
 use Rattle.arrays.specs.Assignments.{items_at}
 use Rattle.arrays.specs.Blocks.{offsets_in}
 use Rattle.arrays.specs.FortranLaws.{fortran-all, items-in_fortran}

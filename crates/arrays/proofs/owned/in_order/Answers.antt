@@ -1,7 +1,5 @@
 use Rattle.std.proofs.Common.{ap, ◌∙◌}
-use Rattle.shape_strides.specs.Indexes.{count}
-use Rattle.shape_strides.specs.Contiguity.{fortran_order}
-use Rattle.shape_strides.specs.Layouts.{offsets}
+use Rattle.arrays.specs.Words.{count, fortran_order, offsets}
 use Rattle.arrays.proofs.OwnedLaws.{answered, multiples-whole, f_multiples-whole, c-in_order, f-in_order}
 use Rattle.arrays.proofs.owned.in_order.Goals as goal
 

@@ -1,6 +1,5 @@
 use Rattle.std.proofs.Common.{◌≡◌, ◌*◌, ◌++◌, length, sym, ap, ◌∙◌, arith}
-use Rattle.shape_strides.specs.Layouts.{offsets, multiples}
-use Rattle.shape_strides.specs.LayoutLaws.{length-offsets}
+use Rattle.arrays.specs.Words.{offsets, multiples, length-offsets}
 use Rattle.arrays.specs.Assignments.{items_at}
 use Rattle.arrays.specs.Joined.{joined_at}
 use Rattle.arrays.specs.JoinedLaws.{length-joined_at, joined-items}

@@ -1,9 +1,6 @@
 use Rattle.std.proofs.Common.{◌≡◌, ◌+◌, ◌*◌, ◌≤◌, length, sym, ap, ◌∙◌, arith}
 use Rattle.std.proofs.lemmas.Result.{IfOk-weaker}
-use Rattle.raw_block.specs.Bytes.{item_at}
-use Rattle.shape_strides.specs.Contiguity.{first_address}
-use Rattle.shape_strides.specs.Layouts.{offsets, multiples}
-use Rattle.shape_strides.specs.LayoutLaws.{length-offsets}
+use Rattle.arrays.specs.Words.{item_at, first_address, offsets, multiples, length-offsets}
 use Rattle.arrays.specs.Assignments.{items_at}
 use Rattle.arrays.proofs.WholeLaws.{whole-ends, whole-items}
 use Rattle.arrays.proofs.packed.gather_whole.Goals as goal

@@ -2,10 +2,7 @@ use Rattle.std.proofs.Common.{◌≡◌, ◌++◌, length, All, sym, ap, subst, 
 use Rattle.std.proofs.lemmas.Int.{to_z-of_z}
 use Rattle.std.proofs.lemmas.List.Elements.{All-rest, All-head}
 use mir.Val.{SFits}
-use Rattle.raw_block.specs.Bytes.{place, item_at, joined, EachWithin}
-use Rattle.shape_strides.specs.declared.runs.Run.{Run}
-use Rattle.shape_strides.specs.Runs.{run_offsets}
-use Rattle.shape_strides.specs.RunPairs.{all_offsets}
+use Rattle.arrays.specs.Words.{place, item_at, joined, EachWithin, Run, run_offsets, all_offsets}
 use Rattle.arrays.specs.Joined.{joined_at}
 use Rattle.arrays.proofs.PackedLaws.{parts, joined-next}
 use Rattle.arrays.specs.JoinedLaws.{joined-offsets}

@@ -1,8 +1,7 @@
 use Rattle.std.proofs.Common.{◌≡◌, ◌+◌, ◌*◌, ◌++◌, length, All}
-use Rattle.raw_block.specs.Bytes.{EachWithin}
+use Rattle.arrays.specs.Words.{EachWithin, all_offsets}
 use Rattle.arrays.specs.Joined.{joined_at}
 use Rattle.arrays.proofs.packed.push_runs.Given as goal
-use Rattle.shape_strides.specs.RunPairs.{all_offsets}
 
 abbrev pub invariant-loop-run : goal.invariant-loop-run
 invariant-loop-run l = record {

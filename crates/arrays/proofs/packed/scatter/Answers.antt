@@ -1,8 +1,6 @@
 use Rattle.std.proofs.Common.{◌≡◌, length, ap, ◌∙◌}
 use Rattle.std.specs.List.{flat_map}
-use Rattle.shape_strides.specs.Limits.{max_bytes}
-use Rattle.shape_strides.specs.Layouts.{offsets}
-use Rattle.shape_strides.specs.Runs.{run_offsets}
+use Rattle.arrays.specs.Words.{max_bytes, offsets, run_offsets}
 use Rattle.arrays.specs.Assignments.{assigned}
 use Rattle.arrays.specs.Packed.{row_offsets}
 use Rattle.arrays.specs.PackedLaws.{row-multiples}

@@ -1,6 +1,6 @@
 use Rattle.std.proofs.Common.{◌≤◌, length, ◌∙◌, arith}
 use Rattle.std.proofs.lemmas.List.Elements.{All-rest}
-use Rattle.raw_block.specs.Bytes.{EachWithin}
+use Rattle.arrays.specs.Words.{EachWithin}
 use Rattle.arrays.proofs.PackedLaws.{scattered-next}
 use Rattle.arrays.proofs.packed.scatter_runs.Goals as goal
 use Rattle.arrays.specs.PackedLaws.{room-next}

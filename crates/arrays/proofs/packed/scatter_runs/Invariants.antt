@@ -1,9 +1,8 @@
 use Rattle.std.proofs.Common.{◌≡◌, ◌+◌, ◌*◌, ◌≤◌, length, All}
-use Rattle.raw_block.specs.Bytes.{EachWithin}
+use Rattle.arrays.specs.Words.{EachWithin, all_offsets}
 use Rattle.arrays.specs.Assignments.{assigned}
 use Rattle.arrays.specs.Packed.{row_offsets}
 use Rattle.arrays.proofs.packed.scatter_runs.Given as goal
-use Rattle.shape_strides.specs.RunPairs.{all_offsets}
 
 abbrev pub invariant-loop-run : goal.invariant-loop-run
 invariant-loop-run l = record {

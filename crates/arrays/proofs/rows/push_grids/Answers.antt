@@ -1,13 +1,6 @@
 use Rattle.std.proofs.Common.{◌≡◌, ◌+◌, ◌*◌, ◌≤◌, [], ◌∷◌, ◌++◌, map, length, All, sym, ap, subst, ◌∙◌, append-nil, arith}
 use Rattle.std.proofs.lemmas.List.Elements.{All-rest, All-head}
-use Rattle.raw_block.specs.declared.grid.Grid.{Grid}
-use Rattle.raw_block.specs.Bytes.{grid_items, EachWithin, GridWithin}
-use Rattle.shape_strides.specs.declared.runs.Run.{Run}
-use Rattle.shape_strides.specs.Addresses.{LieWithin}
-use Rattle.shape_strides.specs.Layouts.{offsets}
-use Rattle.shape_strides.specs.Limits.{max_bytes}
-use Rattle.shape_strides.specs.Runs.{run_along, run_offsets}
-use Rattle.shape_strides.specs.RunPairs.{all_offsets}
+use Rattle.arrays.specs.Words.{Grid, grid_items, EachWithin, GridWithin, Run, LieWithin, offsets, max_bytes, run_along, run_offsets, all_offsets}
 use Rattle.arrays.specs.RunLaws.{lie-within, runs-within}
 use Rattle.arrays.specs.Joined.{joined_at}
 use Rattle.arrays.specs.inside.Rows.{rows_of}

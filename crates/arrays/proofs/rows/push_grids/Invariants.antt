@@ -1,9 +1,5 @@
 use Rattle.std.proofs.Common.{◌≡◌, ◌+◌, ◌*◌, ◌≤◌, [], ◌∷◌, ◌++◌, length, All}
-use Rattle.raw_block.specs.Bytes.{EachWithin}
-use Rattle.shape_strides.specs.Addresses.{LieWithin}
-use Rattle.shape_strides.specs.Layouts.{offsets}
-use Rattle.shape_strides.specs.Limits.{max_bytes}
-use Rattle.shape_strides.specs.RunPairs.{all_offsets}
+use Rattle.arrays.specs.Words.{EachWithin, LieWithin, offsets, max_bytes, all_offsets}
 use Rattle.arrays.specs.Joined.{joined_at}
 use Rattle.arrays.specs.inside.Rows.{rows_of}
 use Rattle.arrays.proofs.rows.push_grids.Given as goal

@@ -1,5 +1,5 @@
 use Rattle.std.proofs.Common.{length}
-use Rattle.shape_strides.specs.Limits.{max_bytes}
+use Rattle.arrays.specs.Words.{max_bytes}
 use Rattle.arrays.specs.RunLaws.{walked-within}
 use Rattle.arrays.proofs.rows.push_layout.Goals as goal
 

@@ -1,7 +1,7 @@
 use Rattle.std.proofs.Common.{rules, w64, ◌∙◌}
 use Rattle.std.proofs.lemmas.Int.{to_z-of_z}
 use mir.Val.{SFits}
-use Rattle.raw_block.specs.Bytes.{copied}
+use Rattle.arrays.specs.Words.{copied}
 use Rattle.arrays.proofs.RunCopies.{copied-even}
 use Rattle.arrays.proofs.run_copies.copy_run.Goals as goal
 

@@ -1,6 +1,5 @@
 use Rattle.std.proofs.Common.{◌≡◌, sym, refl, ◌∙◌, inr}
-use Rattle.shape_strides.specs.Layouts.{offsets}
-use Rattle.name_store.specs.Arrays.{addresses}
+use Rattle.bench_engine.specs.Words.{offsets, addresses}
 use Rattle.bench_engine.specs.Replies.{info_text}
 use Rattle.name_store.specs.ArrayLaws.{found-array as found}
 use Rattle.bench_engine.proofs.Looks.{unchanged, not_found}

@@ -1,6 +1,5 @@
 use Rattle.std.proofs.Common.{ap, refl, ◌∙◌, inr, ◌++◌}
-use Rattle.shape_strides.specs.Layouts.{offsets}
-use Rattle.array_print.specs.Printed.{array_text, items_from}
+use Rattle.bench_engine.specs.Words.{offsets, array_text, items_from}
 use Rattle.name_store.specs.ArrayLaws.{found-array as found}
 use Rattle.bench_engine.proofs.Looks.{unchanged, not_found, print-unknown, print-found}
 use Rattle.bench_engine.proofs.Steps.{spare}

@@ -1,5 +1,5 @@
 use Rattle.bench_engine.proofs.Creates.{starts}
-use Rattle.array_print.specs.StartLaws.{StartsWith-trans}
+use Rattle.bench_engine.specs.Words.{StartsWith-trans}
 use Rattle.bench_engine.proofs.ask.push_info_text.Goals as goal
 
 pub returns-clause-kept : goal.returns-clause-kept

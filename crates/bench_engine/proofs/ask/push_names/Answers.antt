@@ -1,5 +1,5 @@
 use Rattle.std.proofs.Common.{◌++◌, ap, sym, ◌∙◌, arith, add-one, append_assoc, codes, drop, suc}
-use Rattle.array_print.specs.StartLaws.{StartsWith-trans}
+use Rattle.bench_engine.specs.Words.{StartsWith-trans}
 use Rattle.bench_engine.proofs.Listings.{listed, listed-next}
 use Rattle.bench_engine.proofs.ask.push_names.Goals as goal
 

@@ -1,8 +1,6 @@
 use Rattle.std.proofs.Common.{◌≡◌, ◌*◌, ◌∙◌, [], ◌∷◌, sym, inl, inr, arith, ap, refl}
 use Rattle.std.proofs.lemmas.Result.{err_from_is_err_and}
-use Rattle.elem_descr.specs.Encoding.{size}
-use Rattle.shape_strides.specs.Indexes.{count}
-use Rattle.literal_items.specs.RangeItems.{range_items}
+use Rattle.bench_engine.specs.Words.{size, count, range_items}
 use Rattle.bench_engine.specs.Contents.{range_scalar, arange_contents}
 use Rattle.bench_engine.proofs.Makes.{passed, range-shape, range-shape-refused, arange-done, in-order}
 use Rattle.bench_engine.proofs.create.arange.Goals as goal

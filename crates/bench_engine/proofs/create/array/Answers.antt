@@ -1,7 +1,6 @@
 use Rattle.std.proofs.Common.{◌≡◌, length, arith, inr, ap, refl}
 use Rattle.std.proofs.lemmas.Result.{err_from_is_err_and}
-use Rattle.shape_strides.specs.Indexes.{count}
-use Rattle.literal_items.specs.LiteralItems.{item_values}
+use Rattle.bench_engine.specs.Words.{count, item_values}
 use Rattle.bench_engine.specs.Contents.{array_type, array_contents}
 use Rattle.bench_engine.proofs.Makes.{passed, array-number, array-done}
 use Rattle.std.proofs.lemmas.Bool.{eq-eqb}

@@ -1,9 +1,6 @@
 use Rattle.std.proofs.Common.{◌≡◌, ◌*◌, inr, arith, refl}
 use Rattle.std.proofs.lemmas.Result.{err_from_is_err_and}
-use Rattle.elem_descr.specs.DescrTexts.{descriptor}
-use Rattle.elem_descr.specs.Items.{item_size}
-use Rattle.shape_strides.specs.Indexes.{count}
-use Rattle.shape_strides.specs.Shapes.{shape_of}
+use Rattle.bench_engine.specs.Words.{descriptor, item_size, count, shape_of}
 use Rattle.bench_engine.proofs.Makes.{passed, type-large, type-done}
 use Rattle.bench_engine.specs.Contents.{array_type}
 use Rattle.bench_engine.proofs.create.array_type.Goals as goal

@@ -1,7 +1,5 @@
 use Rattle.std.proofs.Common.{◌++◌, length, refl, ap, ◌∙◌}
-use Rattle.elem_descr.specs.Blocks.{blocks}
-use Rattle.raw_block.specs.Bytes.{joined}
-use Rattle.raw_block.specs.JoinedLaws.{length-joined}
+use Rattle.bench_engine.specs.Words.{blocks, joined, length-joined}
 use Rattle.bench_engine.proofs.Repeated.{blocks-repeated}
 use Rattle.bench_engine.proofs.create.filled.Goals as goal
 

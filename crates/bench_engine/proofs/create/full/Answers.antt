@@ -1,8 +1,6 @@
 use Rattle.std.proofs.Common.{◌≡◌, ◌∙◌, ap, sym, subst, length, replicate, Ok, arith, refl}
 use Rattle.std.proofs.lemmas.Result.{err_from_is_err_and}
-use Rattle.elem_descr.specs.Items.{item_size, decode_item}
-use Rattle.elem_descr.specs.Blocks.{blocks}
-use Rattle.literal_items.specs.LiteralItems.{item_value}
+use Rattle.bench_engine.specs.Words.{item_size, decode_item, blocks, item_value}
 use Rattle.bench_engine.specs.Contents.{array_type, full_contents}
 use Rattle.bench_engine.proofs.Makes.{passed, full-done}
 use Rattle.bench_engine.proofs.create.full.Goals as goal

@@ -1,6 +1,6 @@
 use Rattle.std.proofs.Common.{refl}
 use Rattle.std.proofs.lemmas.Result.{err_from_is_err_and}
-use Rattle.elem_descr.specs.DescrTexts.{descriptor}
+use Rattle.bench_engine.specs.Words.{descriptor}
 use Rattle.bench_engine.proofs.Makes.{passed, integer-given}
 use Rattle.bench_engine.specs.Contents.{range_scalar}
 use Rattle.bench_engine.proofs.create.integer_type.Goals as goal

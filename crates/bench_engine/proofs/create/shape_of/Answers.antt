@@ -1,6 +1,5 @@
 use Rattle.std.proofs.Common.{ap, ◌∙◌, subst, map, min, ◌-◌, ◌^◌}
-use Rattle.elem_descr.specs.Refusals.{Gives}
-use Rattle.shape_strides.specs.Shapes.{shape_of}
+use Rattle.bench_engine.specs.Words.{Gives, shape_of}
 use Rattle.bench_engine.proofs.Capped.{shape_of-capped}
 use Rattle.bench_engine.proofs.create.shape_of.Goals as goal
 

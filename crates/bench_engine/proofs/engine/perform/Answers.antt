@@ -1,5 +1,5 @@
 use Rattle.std.proofs.Math.Bool.{and-true}
-use Rattle.script_lang.specs.declared.command.Command.TheVariants.{Delete}
+use Rattle.bench_engine.specs.Words.{Delete}
 use Rattle.bench_engine.specs.Machine.{delete_outcome}
 use Rattle.bench_engine.specs.Memory.{may_lack_memory}
 use Rattle.bench_engine.proofs.Steps.{carried}

@@ -1,6 +1,6 @@
 use Rattle.std.proofs.Common.{◌≡◌, true, take}
 use Rattle.std.specs.List.{list_all}
-use Rattle.name_store.specs.Arrays.{is_bound}
+use Rattle.bench_engine.specs.Words.{is_bound}
 use Rattle.bench_engine.specs.IndexLists.{names_in_index}
 use Rattle.bench_engine.proofs.index_list.are_bound.Given as goal
 

@@ -1,9 +1,6 @@
 use Rattle.std.proofs.Common.{◌≡◌, ap, sym, refl, ◌∙◌, map, get_or, length, arith}
 use Rattle.elem_descr.specs.declared.index_item.IndexItem.TheVariants.{Array as ArrayItem}
-use Rattle.fancy_index.specs.IndexArrays.{no_array}
-use Rattle.fancy_index.specs.Sources.{index_array_of, LiesInBlock}
-use Rattle.fancy_index.specs.declared.source.Indices.{Indices}
-use Rattle.name_store.specs.ArrayLaws.{found-array}
+use Rattle.bench_engine.specs.Words.{no_array, index_array_of, LiesInBlock, Indices, found-array}
 use Rattle.bench_engine.specs.IndexLists.{by_items}
 use Rattle.bench_engine.proofs.IndexLaws.{next-array, array-is}
 use Rattle.std.proofs.lemmas.List.Elements.{All-push}

@@ -1,8 +1,6 @@
 use Rattle.std.proofs.Common.{inr, ◌∙◌, subst, length, ◌≤◌, ◌<◌, ◌*◌}
 use Rattle.std.proofs.lemmas.Result.{err_from_is_err_and}
-use Rattle.elem_descr.specs.Items.{item_size}
-use Rattle.fancy_index.specs.Sources.{index_items}
-use Rattle.shape_strides.specs.Limits.{max_bytes}
+use Rattle.bench_engine.specs.Words.{item_size, index_items, max_bytes}
 use Rattle.bench_engine.proofs.IndexLaws.{gathers, refuses, too-large}
 use Rattle.bench_engine.proofs.index_list.planned.Goals as goal
 

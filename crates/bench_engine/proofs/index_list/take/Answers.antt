@@ -1,10 +1,6 @@
 use Rattle.std.proofs.Common.{◌≤◌, ◌*◌, ◌∙◌, refl, sym, ap, subst, map, inl, true}
 use Rattle.std.proofs.lemmas.Result.{err_from_is_err_and}
-use Rattle.elem_descr.specs.declared.descr.Descr.{Descr}
-use Rattle.elem_descr.specs.Blocks.{item_from}
-use Rattle.elem_descr.specs.Items.{item_size}
-use Rattle.shape_strides.specs.Layouts.{offsets}
-use Rattle.shape_strides.specs.Limits.{max_bytes}
+use Rattle.bench_engine.specs.Words.{Descr, item_from, item_size, offsets, max_bytes}
 use Rattle.bench_engine.proofs.GivenLaws.{cast-lacks}
 use Rattle.bench_engine.proofs.Makes.{in-order}
 use Rattle.bench_engine.proofs.TargetLaws.{plan-within, plan-count, takes-copy}

@@ -1,7 +1,6 @@
 use Rattle.std.proofs.Common.{ap, ◌∙◌, List, ℕ}
 use Rattle.std.specs.List.{list_all}
-use Rattle.elem_descr.specs.declared.index_item.IndexItem.{IndexItem}
-use Rattle.name_store.specs.Arrays.{is_bound}
+use Rattle.bench_engine.specs.Words.{IndexItem, is_bound}
 use Rattle.bench_engine.specs.IndexLists.{names_in_item, array_by_items}
 use Rattle.bench_engine.proofs.IndexLaws.{item-added, names-added, each-bound}
 use Rattle.bench_engine.proofs.index_list.with_numbers.Goals as goal

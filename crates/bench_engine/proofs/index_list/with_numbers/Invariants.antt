@@ -1,6 +1,5 @@
 use Rattle.std.proofs.Common.{◌≡◌, All, map, take, length}
-use Rattle.fancy_index.specs.IndexArrays.{with_arrays}
-use Rattle.fancy_index.specs.Sources.{index_array_of, LiesInBlock, IsNamed}
+use Rattle.bench_engine.specs.Words.{with_arrays, index_array_of, LiesInBlock, IsNamed}
 use Rattle.bench_engine.specs.IndexLists.{array_by_items}
 use Rattle.bench_engine.proofs.index_list.with_numbers.Given as goal
 

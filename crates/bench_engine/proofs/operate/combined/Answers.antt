@@ -1,6 +1,6 @@
 use Rattle.std.proofs.Common.{refl, sym, subst}
 use Rattle.std.proofs.lemmas.Result.{err_from_is_err_and}
-use Rattle.elem_descr.specs.Refusals.{Gives}
+use Rattle.bench_engine.specs.Words.{Gives}
 use Rattle.bench_engine.specs.Machine.{operand_part, operand_values, operation_contents}
 use Rattle.bench_engine.specs.inside.OwnContents.{held}
 use Rattle.bench_engine.specs.declared.write.Given.{Given}

@@ -2,8 +2,8 @@ use Rattle.std.proofs.Common.{rules, sym, ◌∙◌, inr, subst}
 use Rattle.std.proofs.lemmas.Int.{to_z-of_z}
 use mir.Val.{SFits}
 use mir.Syntax.{w128}
-use Rattle.elem_descr.specs.Refusals.{Gives}
-use Rattle.script_lang.specs.declared.literal.ScalarLiteral.TheVariants.{Integer, Boolean, Bytes}
+use Rattle.bench_engine.specs.Words.{Gives, Boolean}
+use Rattle.script_lang.specs.declared.literal.ScalarLiteral.TheVariants.{Integer, Bytes}
 use Rattle.bench_engine.proofs.LiteralLaws.{literal-gives, compared-record, integers-are, booleans-are, bytes-are, number-items}
 use Rattle.bench_engine.proofs.operate.compare_literal.Goals as goal
 

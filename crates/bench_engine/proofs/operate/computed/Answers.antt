@@ -1,4 +1,4 @@
-use Rattle.name_store.specs.ArrayLaws.{found-array}
+use Rattle.bench_engine.specs.Words.{found-array}
 use Rattle.bench_engine.proofs.Copies.{copied-gives}
 use Rattle.bench_engine.proofs.Reduces.{reduced-gives}
 use Rattle.bench_engine.proofs.operate.computed.Goals as goal

@@ -1,6 +1,6 @@
 use Rattle.std.proofs.Common.{ap, refl, sym, ◌∙◌}
 use Rattle.std.proofs.lemmas.Result.{err_from_is_err_and}
-use Rattle.elem_descr.specs.DescrTexts.{descriptor}
+use Rattle.bench_engine.specs.Words.{descriptor}
 use Rattle.bench_engine.proofs.Casts.{cast-gives}
 use Rattle.bench_engine.proofs.Makes.{passed}
 use Rattle.bench_engine.specs.Machine.{cast_contents}

@@ -1,8 +1,7 @@
 use Rattle.std.proofs.Common.{refl, sym, subst, Ok}
 use Rattle.std.specs.List.{list_all}
 use Rattle.std.proofs.lemmas.Result.{err_from_is_err_and}
-use Rattle.elem_descr.specs.IndexItems.{is_basic}
-use Rattle.name_store.specs.ArrayLaws.{found-array}
+use Rattle.bench_engine.specs.Words.{is_basic, found-array}
 use Rattle.bench_engine.specs.IndexLists.{taken}
 use Rattle.bench_engine.specs.Machine.{operand_part}
 use Rattle.bench_engine.specs.declared.operate.Part.TheVariants as part

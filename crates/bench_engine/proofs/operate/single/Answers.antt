@@ -1,10 +1,7 @@
 use Rattle.std.proofs.Common.{◌≡◌, ◌*◌, ◌∷◌, [], length, ap, sym, ◌∙◌, inl, inr, arith}
 use Rattle.std.proofs.lemmas.Result.{err_from_is_err_and}
 use Rattle.elem_descr.specs.declared.descr.Descr.TheVariants.{Scalar as ScalarDescr}
-use Rattle.elem_descr.specs.Items.{item_size}
-use Rattle.shape_strides.specs.Indexes.{count}
-use Rattle.shape_strides.specs.Layouts.{multiples}
-use Rattle.shape_strides.specs.ShapeLaws.{shape_of-same}
+use Rattle.bench_engine.specs.Words.{item_size, count, multiples, shape_of-same}
 use Rattle.bench_engine.proofs.LegalLaws.{no-refusal}
 use Rattle.bench_engine.proofs.operate.single.Goals as goal
 

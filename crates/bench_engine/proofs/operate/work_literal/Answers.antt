@@ -1,6 +1,5 @@
 use Rattle.std.proofs.Common.{sym, ap, ◌∙◌, subst}
-use Rattle.elem_descr.specs.Refusals.{Gives}
-use Rattle.script_lang.specs.declared.operation.Operation.TheVariants.{Binary}
+use Rattle.bench_engine.specs.Words.{Gives, Binary}
 use Rattle.bench_engine.specs.Machine.{operand_of_literal, operation_with}
 use Rattle.bench_engine.specs.inside.OwnContents.{held}
 use Rattle.bench_engine.proofs.OperandLaws.{own-stands}

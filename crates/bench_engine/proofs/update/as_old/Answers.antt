@@ -1,9 +1,6 @@
 use Rattle.std.proofs.Common.{refl, sym, ◌∙◌}
 use Rattle.std.proofs.lemmas.Simd.{map-map}
-use Rattle.elem_descr.specs.Blocks.{item_from}
-use Rattle.elementwise.specs.Casts.{cast_item}
-use Rattle.shape_strides.specs.LayoutLaws.{length-offsets}
-use Rattle.shape_strides.specs.Layouts.{offsets}
+use Rattle.bench_engine.specs.Words.{item_from, cast_item, length-offsets, offsets}
 use Rattle.bench_engine.proofs.Assigns.{kept-items}
 use Rattle.bench_engine.proofs.OperandLaws.{own-inside}
 use Rattle.bench_engine.proofs.Updates.{cast-changed}

@@ -1,13 +1,7 @@
 use Rattle.std.proofs.Common.{◌≡◌, ◌≤◌, ◌*◌, List, ℕ, true, sym, ap, ◌∙◌, inr, subst}
 use Rattle.std.proofs.lemmas.Result.{err_from_is_err_and}
-use Rattle.elem_descr.specs.declared.descr.Descr.{Descr}
+use Rattle.bench_engine.specs.Words.{Descr, item_size, count, max_bytes, stretched, can_cast, is_scalar}
 use Rattle.elem_descr.specs.declared.descr.Descr.TheVariants.{Scalar as ScalarDescr}
-use Rattle.elem_descr.specs.Items.{item_size}
-use Rattle.shape_strides.specs.Indexes.{count}
-use Rattle.shape_strides.specs.Limits.{max_bytes}
-use Rattle.broadcasting.specs.Broadcasts.{stretched}
-use Rattle.elementwise.specs.Casts.{can_cast}
-use Rattle.elementwise.specs.ResultLaws.{is_scalar}
 use Rattle.bench_engine.specs.Machine.{operation_scalar, operation_on}
 use Rattle.bench_engine.proofs.Makes.{passed}
 use Rattle.bench_engine.proofs.Updates.{changed-type, changed-record, changed-kind, changed-apart, changed-worked, changed-done, changed-gives, worked-descr, worked-shape, view-can, kind-casts, own_values, stands-own}

@@ -2,18 +2,8 @@ use Rattle.std.proofs.Common.{◌≡◌, ◌≤◌, ◌*◌, List, ℕ, true, sy
 use Rattle.std.specs.Result.{is_ok}
 use Rattle.std.proofs.lemmas.Bool.{false≢true}
 use Rattle.std.proofs.lemmas.Result.{err_from_is_err_and}
-use Rattle.elem_descr.specs.RefusalLaws.{same_answer}
-use Rattle.elem_descr.specs.declared.descr.Descr.{Descr}
+use Rattle.bench_engine.specs.Words.{same_answer, Descr, Scalar, item_size, count, max_bytes, IsShape, can_cast, same_kind, scalar_of, is_scalar}
 use Rattle.elem_descr.specs.declared.descr.Descr.TheVariants.{Scalar as ScalarDescr}
-use Rattle.elem_descr.specs.declared.scalar.Scalar.{Scalar}
-use Rattle.elem_descr.specs.Items.{item_size}
-use Rattle.shape_strides.specs.Indexes.{count}
-use Rattle.shape_strides.specs.Limits.{max_bytes}
-use Rattle.shape_strides.specs.Shapes.{IsShape}
-use Rattle.elementwise.specs.Casts.{can_cast}
-use Rattle.elementwise.specs.Promotion.{same_kind}
-use Rattle.elementwise.specs.Results.{scalar_of}
-use Rattle.elementwise.specs.ResultLaws.{is_scalar}
 use Rattle.bench_engine.specs.Machine.{changed_with, literal_values, operation_with}
 use Rattle.bench_engine.proofs.Makes.{passed}
 use Rattle.bench_engine.proofs.Updates.{changed-record, changed-kind, changed-done, changed-gives, kind-casts, literal-parts, literal-refused, own_values, stands-own}

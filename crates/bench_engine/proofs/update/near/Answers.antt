@@ -1,7 +1,6 @@
 use Rattle.std.proofs.Common.{refl}
 use Rattle.std.proofs.lemmas.List.Sorted.{IsPermutation-refl}
-use Rattle.shape_strides.specs.Layouts.{offsets}
-use Rattle.arrays.specs.PairLaws.{pair_even, firsts-reordered}
+use Rattle.bench_engine.specs.Words.{offsets, pair_even, firsts-reordered}
 use Rattle.bench_engine.proofs.update.near.Goals as goal
 
 pub returns-in-Some : goal.returns-in-Some

@@ -1,9 +1,6 @@
 use Rattle.std.proofs.Common.{subst, ◌∙◌, Ok, Err}
 use Rattle.std.proofs.lemmas.Result.{err_from_is_err_and}
-use Rattle.name_store.specs.declared.target.Target.{Target}
-use Rattle.name_store.specs.declared.target.Target.TheVariants.{Plan}
-use Rattle.elem_descr.specs.declared.descr.Descr.{Descr}
-use Rattle.shape_strides.specs.Indexes.{count}
+use Rattle.bench_engine.specs.Words.{Target, Plan, Descr, count}
 use Rattle.bench_engine.specs.declared.write.Given.{Given}
 use Rattle.bench_engine.specs.inside.Operands.{IsGiven, HoldsItems}
 use Rattle.bench_engine.specs.Machine.{operand_values, updated}

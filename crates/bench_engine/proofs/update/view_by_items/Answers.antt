@@ -1,10 +1,6 @@
 use Rattle.std.proofs.Common.{◌≤◌, ◌*◌, ℕ, sym, subst, ◌∙◌, Ok, Err}
 use Rattle.std.proofs.lemmas.Result.{err_from_is_err_and}
-use Rattle.elem_descr.specs.declared.descr.Descr.{Descr}
-use Rattle.elem_descr.specs.Items.{item_size}
-use Rattle.shape_strides.specs.Indexes.{count}
-use Rattle.shape_strides.specs.LayoutLaws.{length-offsets}
-use Rattle.shape_strides.specs.Limits.{max_bytes}
+use Rattle.bench_engine.specs.Words.{Descr, item_size, count, length-offsets, max_bytes}
 use Rattle.name_store.specs.declared.target.Target.TheVariants.{View}
 use Rattle.bench_engine.specs.Machine.{operand_values, updated_items}
 use Rattle.bench_engine.proofs.Moved.{unmoved-gives}

@@ -1,7 +1,6 @@
 use Rattle.std.proofs.Common.{subst, List, ℕ, Ok, false}
 use Rattle.std.proofs.lemmas.Bool.{false≢true}
-use Rattle.view_ops.specs.Views.{GivesView}
-use Rattle.broadcasting.specs.Broadcasts.{stretched}
+use Rattle.bench_engine.specs.Words.{GivesView, stretched}
 use Rattle.bench_engine.proofs.Views.{viewed-part}
 use Rattle.bench_engine.proofs.view.broadcast.Goals as goal
 

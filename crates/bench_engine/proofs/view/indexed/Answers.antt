@@ -1,7 +1,6 @@
 use Rattle.std.proofs.Common.{List, ℕ, Ok, subst, refl}
 use Rattle.std.specs.List.{list_all}
-use Rattle.elem_descr.specs.declared.index_item.IndexItem.{IndexItem}
-use Rattle.elem_descr.specs.IndexItems.{is_basic}
+use Rattle.bench_engine.specs.Words.{IndexItem, is_basic}
 use Rattle.bench_engine.specs.IndexLists.{taken}
 use Rattle.bench_engine.proofs.PartLaws.{indexed-seen}
 use Rattle.bench_engine.specs.inside.Meeting.{Meets}

@@ -1,6 +1,5 @@
 use Rattle.std.proofs.Common.{subst, ap, ◌∙◌, List, ℕ, Ok, option_copied}
-use Rattle.view_ops.specs.Views.{GivesView}
-use Rattle.view_ops.specs.Transposes.{transposed}
+use Rattle.bench_engine.specs.Words.{GivesView, transposed}
 use Rattle.name_store.specs.declared.bound.Bound.TheVariants.{View}
 use Rattle.bench_engine.proofs.Views.{viewed-part}
 use Rattle.bench_engine.proofs.view.transposed.Goals as goal

@@ -1,9 +1,6 @@
 use Rattle.std.proofs.Common.{sym, ap, ◌∙◌, refl, inl, inr, map}
 use Rattle.std.proofs.lemmas.Result.{err_from_is_err_and}
-use Rattle.shape_strides.specs.Layouts.{offsets}
-use Rattle.elem_descr.specs.declared.descr.Descr.{Descr}
-use Rattle.elem_descr.specs.Blocks.{item_from}
-use Rattle.elem_descr.specs.Items.{item_size}
+use Rattle.bench_engine.specs.Words.{offsets, Descr, item_from, item_size}
 use Rattle.bench_engine.proofs.Assigns.{kept-items}
 use Rattle.bench_engine.proofs.GivenLaws.{stretches, wide-shape, wide-inside, cast-lacks}
 use Rattle.bench_engine.proofs.write.fitted.Goals as goal

@@ -1,11 +1,8 @@
 use Rattle.std.proofs.Common.{◌≡◌, ap, sym, refl, ◌∙◌, ◌++◌, inl, inr, arith, subst, List, ℕ, Err}
 use Rattle.std.proofs.lemmas.Result.{err_from_is_err_and}
-use Rattle.shape_strides.specs.Indexes.{count}
-use Rattle.elem_descr.specs.declared.index_item.IndexItem.{IndexItem}
-use Rattle.name_store.specs.Arrays.{descr_of, written}
+use Rattle.bench_engine.specs.Words.{count, IndexItem, descr_of, written, Supplies}
 use Rattle.name_store.specs.ArrayLaws.{found-array as found}
 use Rattle.name_store.specs.States.{Array}
-use Rattle.name_store.specs.Targets.{Supplies}
 use Rattle.bench_engine.specs.Machine.{target_part, new_items, write_reply, accepted_with}
 use Rattle.bench_engine.proofs.Looks.{unchanged, not_found}
 use Rattle.bench_engine.proofs.SetOutcomes.{set-unknown, set-unbound, set-target, set-items, set-done, both-bound, all-bound}

@@ -1,5 +1,5 @@
 use Rattle.std.proofs.Common.{◌≡◌, ◌<◌, ℕ}
-use Rattle.elem_descr.specs.Items.{leaf_at}
+use Rattle.elementwise.specs.Words.{leaf_at}
 use Rattle.elementwise.proofs.alike.are_alike.Given as goal
 
 -- the leaves so far are the same

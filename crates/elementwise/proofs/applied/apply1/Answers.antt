@@ -1,11 +1,7 @@
 use Rattle.std.proofs.Common.{inr, Ok, map, sym, ◌∙◌}
 use Rattle.std.proofs.lemmas.Result.{err_from_is_err_and}
 use Rattle.elem_descr.specs.declared.descr.Descr.TheVariants.{Scalar as ScalarDescr}
-use Rattle.elem_descr.specs.Blocks.{item_from}
-use Rattle.elem_descr.specs.NumberLaws.{number_size}
-use Rattle.shape_strides.specs.Layouts.{offsets}
-use Rattle.broadcasting.specs.BroadcastLaws.{can-itself}
-use Rattle.machine_numbers.specs.Kinds.{little}
+use Rattle.elementwise.specs.Words.{item_from, number_size, offsets, can-itself, little}
 use Rattle.elementwise.specs.Results.{unary_item}
 use Rattle.elementwise.proofs.WorkLaws.{number_small}
 use Rattle.elementwise.proofs.MadeLaws.{made-gives, made-order, made-items, made-encoded}

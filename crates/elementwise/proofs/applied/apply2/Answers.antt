@@ -1,8 +1,7 @@
 use Rattle.std.proofs.Common.{inl, inr, Ok, sym, ◌∙◌}
 use Rattle.std.proofs.lemmas.Result.{err_from_is_err_and}
 use Rattle.elem_descr.specs.declared.descr.Descr.TheVariants.{Scalar as ScalarDescr}
-use Rattle.elem_descr.specs.NumberLaws.{number_size}
-use Rattle.machine_numbers.specs.Kinds.{little}
+use Rattle.elementwise.specs.Words.{number_size, little}
 use Rattle.elementwise.specs.Results.{pairwise, binary_item, stretched_items}
 use Rattle.elementwise.proofs.WorkLaws.{number_small}
 use Rattle.elementwise.proofs.MadeLaws.{made-gives, made-order, made-items, made-encoded}

@@ -2,11 +2,7 @@ use Rattle.std.proofs.Common.{[], ◌∷◌, map, inr, ap, ◌∙◌}
 use Rattle.std.proofs.lemmas.Result.{err_from_is_err_and}
 use Rattle.elem_descr.specs.declared.descr.Descr.TheVariants.{Scalar as ScalarDescr}
 use Rattle.elem_descr.specs.declared.scalar.Scalar.TheVariants.{Bool as BoolScalar}
-use Rattle.shape_strides.specs.Layouts.{offsets}
-use Rattle.machine_numbers.specs.Kinds.{is_text}
-use Rattle.elem_descr.specs.Values.{text}
-use Rattle.elem_descr.specs.Encoding.{without_nuls}
-use Rattle.elem_descr.specs.Blocks.{item_from}
+use Rattle.elementwise.specs.Words.{offsets, is_text, text, without_nuls, item_from}
 use Rattle.elementwise.specs.Results.{compared_item}
 use Rattle.elementwise.proofs.MadeLaws.{made-gives, made-order, made-items, made-encoded}
 use Rattle.elementwise.proofs.BytesComparedLaws.{operand_refused, number_refused, one_given}

@@ -1,10 +1,7 @@
 use Rattle.std.proofs.Common.{[], ◌∷◌, ◌∙◌, length}
 use Rattle.elem_descr.specs.declared.descr.Descr.TheVariants.{Scalar as ScalarDescr}
 use Rattle.elem_descr.specs.declared.scalar.Scalar.TheVariants.{Bool as BoolScalar}
-use Rattle.elem_descr.specs.Items.{item_size}
-use Rattle.elem_descr.specs.Values.{text}
-use Rattle.broadcasting.specs.Broadcasts.{can_stretch}
-use Rattle.broadcasting.specs.BroadcastLaws.{can-itself}
+use Rattle.elementwise.specs.Words.{item_size, text, can_stretch, can-itself}
 use Rattle.elementwise.specs.Results.{compared_item}
 use Rattle.elementwise.proofs.MadeLaws.{made-as}
 use Rattle.elementwise.proofs.ShrunkLaws.{each_spread}

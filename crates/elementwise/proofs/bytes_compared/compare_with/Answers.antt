@@ -2,10 +2,7 @@ use Rattle.std.proofs.Common.{[], ◌∷◌, map, ap, ◌∙◌, arith}
 use Rattle.std.proofs.lemmas.Simd.{map-map}
 use Rattle.elem_descr.specs.declared.descr.Descr.TheVariants.{Scalar as ScalarDescr}
 use Rattle.elem_descr.specs.declared.scalar.Scalar.TheVariants.{Bool as BoolScalar}
-use Rattle.elem_descr.specs.Values.{text}
-use Rattle.elem_descr.specs.Blocks.{item_from}
-use Rattle.shape_strides.specs.Indexes.{count}
-use Rattle.shape_strides.specs.Layouts.{offsets}
+use Rattle.elementwise.specs.Words.{text, item_from, count, offsets}
 use Rattle.elementwise.specs.Results.{pairwise, compared_item}
 use Rattle.elementwise.proofs.AppliedLaws.{pairwise-same}
 use Rattle.elementwise.proofs.MadeLaws.{made-in}

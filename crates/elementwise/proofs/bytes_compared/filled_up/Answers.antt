@@ -1,6 +1,5 @@
 use Rattle.std.proofs.Common.{◌-◌, ◌++◌, length, replicate, ap, ◌∙◌}
-use Rattle.elem_descr.specs.Encoding.{without_nuls}
-use Rattle.elem_descr.specs.NulLaws.{without_nuls-more}
+use Rattle.elementwise.specs.Words.{without_nuls, without_nuls-more}
 use Rattle.elementwise.proofs.bytes_compared.filled_up.Goals as goal
 
 pub returns-clause-same : goal.returns-clause-same

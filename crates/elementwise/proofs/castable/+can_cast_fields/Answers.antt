@@ -1,8 +1,5 @@
 use Rattle.std.proofs.Common.{◌≡◌, sym, ap, ◌∙◌, arith}
-use Rattle.elem_descr.specs.Fields.{total}
-use Rattle.elem_descr.specs.Weights.{weight}
-use Rattle.elem_descr.specs.DescriptorLaws.{weight-one, seen_fields}
-use Rattle.elem_descr.specs.declared.descr.Field.{Field}
+use Rattle.elementwise.specs.Words.{total, weight, weight-one, seen_fields, Field}
 use Rattle.elementwise.specs.inside.FieldCasts.{can_cast_field}
 use Rattle.elementwise.proofs.FieldLaws.{IsTurn, turn_fails, turn_passes, none_left, records, uneven}
 use Rattle.elementwise.proofs.castable.+can_cast_fields.Goals as goal

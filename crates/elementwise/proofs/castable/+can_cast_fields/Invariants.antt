@@ -1,7 +1,5 @@
 use Rattle.std.proofs.Common.{◌≡◌, ◌+◌, ◌*◌}
-use Rattle.elem_descr.specs.Fields.{total}
-use Rattle.elem_descr.specs.Descriptors.{listed}
-use Rattle.elem_descr.specs.Weights.{weight}
+use Rattle.elementwise.specs.Words.{total, listed, weight}
 use Rattle.elementwise.specs.Casts.{can_cast_fields}
 use Rattle.elementwise.proofs.FieldLaws.{left}
 use Rattle.elementwise.proofs.castable.+can_cast_fields.Given as goal

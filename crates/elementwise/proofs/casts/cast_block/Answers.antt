@@ -1,9 +1,6 @@
 use Rattle.std.proofs.Common.{◌≡◌, ◌*◌, ◌<◌, length, replicate, sym, ap, ◌∙◌, arith}
 use Rattle.std.proofs.lemmas.List.{length-replicate}
-use Rattle.elem_descr.specs.Items.{item_size, leaves_of}
-use Rattle.shape_strides.specs.Indexes.{count}
-use Rattle.shape_strides.specs.Layouts.{offsets}
-use Rattle.shape_strides.specs.LayoutLaws.{length-offsets}
+use Rattle.elementwise.specs.Words.{item_size, leaves_of, count, offsets, length-offsets}
 use Rattle.elementwise.proofs.CastLaws.{has_source, source-within, turn-done, all_items}
 use Rattle.elementwise.proofs.EncodedLaws.{all-zeros, zeros-stay, all-encoded}
 use Rattle.elementwise.proofs.casts.cast_block.Goals as goal

@@ -1,7 +1,5 @@
 use Rattle.std.proofs.Common.{◌≡◌, ◌*◌, ◌<◌, ℕ, length}
-use Rattle.elem_descr.specs.Items.{item_size}
-use Rattle.shape_strides.specs.Indexes.{count}
-use Rattle.shape_strides.specs.Layouts.{offsets}
+use Rattle.elementwise.specs.Words.{item_size, count, offsets}
 use Rattle.elementwise.specs.inside.LeafCasts.{IsLeafCast}
 use Rattle.elementwise.proofs.EncodedLaws.{HaveZeros}
 use Rattle.elementwise.proofs.casts.cast_block.Given as goal

@@ -2,9 +2,7 @@ use Rattle.std.proofs.Common.{◌≡◌, drop, map, ◌∙◌, ap}
 use Rattle.std.specs.List.{flat_map}
 use Rattle.std.proofs.lemmas.Result.{IfOk-weaker}
 use Rattle.elem_descr.specs.declared.descr.Descr.TheVariants.{Scalar as ScalarDescr}
-use Rattle.elem_descr.specs.Items.{encode_item}
-use Rattle.elem_descr.specs.Blocks.{item_from}
-use Rattle.shape_strides.specs.Layouts.{offsets}
+use Rattle.elementwise.specs.Words.{encode_item, item_from, offsets}
 use Rattle.elementwise.specs.Casts.{cast_item}
 use Rattle.elementwise.specs.inside.Made.{IsMade}
 use Rattle.elementwise.proofs.ColumnLaws.{cast-column}

@@ -1,12 +1,7 @@
 use Rattle.std.proofs.Common.{◌≡◌, ◌+◌, ◌*◌, ◌≤◌, pos, w64, length, sym, ap, subst, ◌∙◌, arith, mul_comm, mul-le-mul_right}
 use Rattle.std.proofs.lemmas.Int.{ints}
 use mir.Val.{to_z}
-use Rattle.elem_descr.specs.Encoding.{size}
-use Rattle.elem_descr.specs.Items.{item_size, leaf_at}
-use Rattle.raw_block.specs.Bytes.{EachWithin}
-use Rattle.shape_strides.specs.Indexes.{count}
-use Rattle.shape_strides.specs.Layouts.{offsets}
-use Rattle.shape_strides.specs.LayoutLaws.{length-offsets}
+use Rattle.elementwise.specs.Words.{size, item_size, leaf_at, EachWithin, count, offsets, length-offsets}
 use Rattle.elementwise.specs.Casts.{can_cast_scalar}
 use Rattle.elementwise.specs.inside.LeafCasts.{source}
 use Rattle.elementwise.proofs.CastLaws.{has_source}

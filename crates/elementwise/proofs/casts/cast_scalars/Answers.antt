@@ -1,10 +1,6 @@
 use Rattle.std.proofs.Common.{rules, map, IfOk, sym, subst, refl}
-use Rattle.elem_descr.specs.declared.scalar.Scalar.{Scalar}
-use Rattle.elem_descr.specs.declared.scalar.Scalar.TheVariants.{Bytes}
+use Rattle.elementwise.specs.Words.{Scalar, Bytes, IsNumber, item_from, offsets}
 use Rattle.elem_descr.specs.declared.descr.Descr.TheVariants.{Scalar as ScalarDescr}
-use Rattle.elem_descr.specs.Encoding.{IsNumber}
-use Rattle.elem_descr.specs.Blocks.{item_from}
-use Rattle.shape_strides.specs.Layouts.{offsets}
 use Rattle.elementwise.specs.Casts.{cast_item}
 use Rattle.elementwise.specs.inside.Made.{IsMade}
 use Rattle.elementwise.proofs.CastingLaws.{values_cast}

@@ -1,9 +1,7 @@
 use Rattle.std.proofs.Common.{◌≤◌, [], ◌∷◌, sym, subst, ◌∙◌, IfOk}
 use Rattle.elem_descr.specs.declared.descr.Descr.TheVariants.{Scalar as ScalarDescr}
-use Rattle.elem_descr.specs.declared.scalar.Scalar.{Scalar}
+use Rattle.elementwise.specs.Words.{Scalar, size, number_size}
 use Rattle.elem_descr.specs.declared.scalar.Scalar.TheVariants.{Bool as BoolScalar}
-use Rattle.elem_descr.specs.Encoding.{size}
-use Rattle.elem_descr.specs.NumberLaws.{number_size}
 use Rattle.elementwise.specs.Casts.{cast_item}
 use Rattle.elementwise.specs.Results.{pairwise, value_in}
 use Rattle.elementwise.specs.inside.Held.{stretched}

@@ -1,8 +1,7 @@
 use Rattle.std.proofs.Common.{map, ap, ◌∙◌, length, arith}
 use Rattle.elem_descr.specs.declared.descr.Descr.TheVariants.{Scalar as ScalarDescr}
-use Rattle.elem_descr.specs.declared.scalar.Scalar.TheVariants.{Bool as BoolScalar, Bytes}
-use Rattle.elem_descr.specs.Blocks.{item_from}
-use Rattle.shape_strides.specs.Indexes.{count}
+use Rattle.elementwise.specs.Words.{Bytes, item_from, count}
+use Rattle.elem_descr.specs.declared.scalar.Scalar.TheVariants.{Bool as BoolScalar}
 use Rattle.elementwise.specs.Results.{pairwise, compared_item}
 use Rattle.elementwise.proofs.MadeLaws.{made-in}
 use Rattle.elementwise.proofs.TrimmedLaws.{fewer_inside, trimmed_items}

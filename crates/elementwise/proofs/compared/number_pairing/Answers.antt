@@ -1,9 +1,6 @@
 use Rattle.std.proofs.Common.{sym, ap, subst, refl, ◌∙◌}
 use Rattle.std.specs.Prelude.{not}
-use Rattle.elem_descr.specs.declared.scalar.Order.TheVariants.{Little}
-use Rattle.elem_descr.specs.declared.scalar.Width.TheVariants.{Eight}
-use Rattle.elem_descr.specs.declared.scalar.Scalar.TheVariants.{Int}
-use Rattle.machine_numbers.specs.Kinds.{little}
+use Rattle.elementwise.specs.Words.{Little, Eight, Int, little}
 use Rattle.elementwise.specs.inside.PairPasses.{Holds}
 use Rattle.elementwise.proofs.CommonLaws.{common-held, common-signs}
 use Rattle.elementwise.proofs.HeldLaws.{little-little, holds-wide, number-no_text}

@@ -1,8 +1,6 @@
 use Rattle.std.proofs.Common.{sym, ◌∙◌}
 use Rattle.std.specs.Prelude.{pos}
-use Rattle.elem_descr.specs.declared.scalar.Order.TheVariants.{Little}
-use Rattle.elem_descr.specs.Encoding.{low_bits, integer}
-use Rattle.elem_descr.specs.declared.operators.BinOp.TheVariants.{FloorDivide}
+use Rattle.elementwise.specs.Words.{Little, low_bits, integer, FloorDivide}
 use Rattle.elementwise.specs.Operations.{floor_quotient}
 use Rattle.elementwise.proofs.WordLaws.{are_bits, applied}
 use Rattle.elementwise.proofs.dividing.divided.Goals as goal

@@ -1,13 +1,7 @@
 use Rattle.std.proofs.Common.{◌≡◌, ◌*◌, ◌^◌, ◌<◌, ℕ, Option, Some, None, sym, ap, subst, ◌∙◌, arith, rules}
 use Rattle.std.specs.Prelude.{IfSome, pos, ℤ, ◌+ℤ◌, ◌*ℤ◌, nat_abs, unsigned_abs, Bool, true}
 use Rattle.std.proofs.lemmas.Int.{ints}
-use Rattle.elem_descr.specs.declared.scalar.Order.TheVariants.{Little}
-use Rattle.elem_descr.specs.declared.scalar.Scalar.{Scalar}
-use Rattle.elem_descr.specs.Encoding.{integer, number_of, decode}
-use Rattle.raw_block.specs.Bytes.{place, item_at}
-use Rattle.machine_numbers.specs.Kinds.{is_bool}
-use Rattle.machine_numbers.specs.Sides.{number_of_side}
-use Rattle.machine_numbers.specs.declared.sides.Side.{Side}
+use Rattle.elementwise.specs.Words.{Little, Scalar, integer, number_of, decode, place, item_at, is_bool, number_of_side, Side}
 use Rattle.elementwise.specs.Bits.{IsTruth}
 use Rattle.elementwise.specs.declared.divisor.Divisor.{Divisor}
 use Rattle.elementwise.proofs.HeldLaws.{side-small}

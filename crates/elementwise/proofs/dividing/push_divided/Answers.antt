@@ -1,11 +1,7 @@
 use Rattle.std.proofs.Common.{◌≡◌, ◌+◌, ◌*◌, ◌^◌, ◌<◌, ◌≤◌, ◌++◌, suc, sym, ap, subst, ◌∙◌, append_assoc, arith}
 use Rattle.std.specs.Prelude.{unsigned_abs}
 use Rattle.std.proofs.Math.Nat.{suc-mul, add-mul, mul-le-mul_right}
-use Rattle.elem_descr.specs.declared.scalar.Order.TheVariants.{Little}
-use Rattle.elem_descr.specs.Values.{number}
-use Rattle.elem_descr.specs.Encoding.{encode}
-use Rattle.raw_block.specs.Bytes.{joined}
-use Rattle.elem_descr.specs.declared.operators.BinOp.TheVariants.{FloorDivide}
+use Rattle.elementwise.specs.Words.{Little, number, encode, joined, FloorDivide}
 use Rattle.elementwise.specs.Operations.{binary}
 use Rattle.elementwise.specs.inside.PairPasses.{number_pair}
 use Rattle.elementwise.specs.inside.Sides.{made_of, pair_count}

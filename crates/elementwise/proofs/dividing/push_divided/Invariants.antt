@@ -1,7 +1,5 @@
 use Rattle.std.proofs.Common.{◌≡◌, ◌+◌, ◌*◌, ◌++◌}
-use Rattle.elem_descr.specs.declared.scalar.Order.TheVariants.{Little}
-use Rattle.raw_block.specs.Bytes.{joined}
-use Rattle.elem_descr.specs.declared.operators.BinOp.TheVariants.{FloorDivide}
+use Rattle.elementwise.specs.Words.{Little, joined, FloorDivide}
 use Rattle.elementwise.specs.Operations.{binary}
 use Rattle.elementwise.specs.inside.PairPasses.{number_pair}
 use Rattle.elementwise.specs.inside.Sides.{made_of}

@@ -3,10 +3,7 @@ use Rattle.std.specs.Int.{w128}
 use Rattle.std.proofs.lemmas.Int.{to_z-of_z}
 use Rattle.elem_descr.specs.declared.descr.Descr.TheVariants.{Scalar as ScalarDescr}
 use Rattle.elem_descr.specs.declared.scalar.Scalar.TheVariants.{Bool as BoolScalar}
-use Rattle.elem_descr.specs.Encoding.{IsNumber, wrap}
-use Rattle.elem_descr.specs.Values.{number}
-use Rattle.broadcasting.specs.BroadcastLaws.{can-itself}
-use Rattle.machine_numbers.specs.Kinds.{little}
+use Rattle.elementwise.specs.Words.{IsNumber, wrap, number, can-itself, little}
 use Rattle.elementwise.proofs.WorkLaws.{number-little}
 use Rattle.elementwise.proofs.ComparedLaws.{comparable_scalars, comparable_numbers}
 use Rattle.elementwise.proofs.MadeLaws.{made-as}

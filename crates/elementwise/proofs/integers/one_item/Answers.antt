@@ -2,9 +2,7 @@ use Rattle.std.proofs.Common.{inl, inr, ◌≡◌, ◌*◌, [], sym, ap, ◌∙�
 use Rattle.std.specs.Result.{is_ok}
 use Rattle.std.proofs.lemmas.Result.{err_from_is_err_and}
 use Rattle.std.proofs.lemmas.Bool.{false≢true}
-use Rattle.elem_descr.specs.Encoding.{size}
-use Rattle.shape_strides.specs.Indexes.{count}
-use Rattle.shape_strides.specs.ShapeLaws.{shape_of-ok, shape_of-same}
+use Rattle.elementwise.specs.Words.{size, count, shape_of-ok, shape_of-same}
 use Rattle.elementwise.proofs.IntegerLaws.{one_read}
 use Rattle.elementwise.proofs.integers.one_item.Goals as goal
 

@@ -1,8 +1,6 @@
 use Rattle.std.proofs.Common.{◌≡◌, ◌+◌, ◌*◌, ◌≤◌, ◌++◌, suc, ap, ◌∙◌, append_assoc, arith}
 use Rattle.std.proofs.Math.Nat.{suc-mul, add-mul, mul-le-mul_right}
-use Rattle.elem_descr.specs.Values.{number}
-use Rattle.elem_descr.specs.Encoding.{encode}
-use Rattle.raw_block.specs.Bytes.{joined}
+use Rattle.elementwise.specs.Words.{number, encode, joined}
 use Rattle.elementwise.specs.inside.PairPasses.{number_pair}
 use Rattle.elementwise.specs.inside.Sides.{made_of, pair_count}
 use Rattle.elementwise.proofs.kernels.push_each.Goals as goal

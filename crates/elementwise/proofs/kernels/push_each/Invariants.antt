@@ -1,5 +1,5 @@
 use Rattle.std.proofs.Common.{◌≡◌, ◌+◌, ◌*◌, ◌++◌}
-use Rattle.raw_block.specs.Bytes.{joined}
+use Rattle.elementwise.specs.Words.{joined}
 use Rattle.elementwise.specs.inside.PairPasses.{number_pair}
 use Rattle.elementwise.specs.inside.Sides.{made_of}
 use Rattle.elementwise.proofs.kernels.push_each.Given as goal

@@ -1,11 +1,7 @@
 use Rattle.std.proofs.Common.{map, ap, ◌∙◌, length, arith}
 use Rattle.elem_descr.specs.declared.descr.Descr.TheVariants.{Scalar as ScalarDescr}
 use Rattle.elem_descr.specs.declared.scalar.Scalar.TheVariants.{Bool as BoolScalar}
-use Rattle.elem_descr.specs.Items.{item_size}
-use Rattle.elem_descr.specs.Blocks.{item_from}
-use Rattle.shape_strides.specs.Indexes.{count}
-use Rattle.shape_strides.specs.Layouts.{offsets}
-use Rattle.broadcasting.specs.Broadcasts.{can_stretch}
+use Rattle.elementwise.specs.Words.{item_size, item_from, count, offsets, can_stretch}
 use Rattle.elementwise.specs.Casts.{cast_item}
 use Rattle.elementwise.specs.Results.{stretched_items}
 use Rattle.elementwise.proofs.ShrunkLaws.{bools_again}

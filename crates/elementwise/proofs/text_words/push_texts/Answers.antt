@@ -1,8 +1,7 @@
 use Rattle.std.proofs.Common.{◌++◌, sym, ap, ◌∙◌, arith}
 use Rattle.std.specs.List.{concat}
 use Rattle.elem_descr.specs.declared.scalar.Scalar.TheVariants.{Bool as BoolScalar}
-use Rattle.elem_descr.specs.Items.{item_size}
-use Rattle.shape_strides.specs.Layouts.{offsets}
+use Rattle.elementwise.specs.Words.{item_size, offsets}
 use Rattle.elementwise.specs.inside.PairPasses.{number_pair, text_pair, says_number}
 use Rattle.elementwise.proofs.TextNumberLaws.{words-compared, word-is, pairs-alike}
 use Rattle.elementwise.proofs.text_words.push_texts.Goals as goal

@@ -1,7 +1,6 @@
 use Rattle.std.proofs.Common.{◌+◌, ◌≤◌, length, arith}
 use Rattle.std.proofs.lemmas.List.Elements.{All-cons, All-rest, All-same}
-use Rattle.elem_descr.specs.Encoding.{without_nuls}
-use Rattle.raw_block.specs.Bytes.{item_at}
+use Rattle.elementwise.specs.Words.{without_nuls, item_at}
 use Rattle.elementwise.proofs.TrimmedLaws.{as_sliced, no_longer}
 use Rattle.elementwise.proofs.trimmed.longest.Goals as goal
 

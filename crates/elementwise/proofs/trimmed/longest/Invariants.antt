@@ -1,7 +1,5 @@
 use Rattle.std.proofs.Common.{ℕ, ◌+◌, ◌≤◌, length, All}
-use Rattle.elem_descr.specs.Encoding.{without_nuls}
-use Rattle.raw_block.specs.Bytes.{item_at}
-use Rattle.shape_strides.specs.Layouts.{offsets}
+use Rattle.elementwise.specs.Words.{without_nuls, item_at, offsets}
 use Rattle.elementwise.proofs.trimmed.longest.Given as goal
 
 -- what is long enough for the items that are left is so for all of them

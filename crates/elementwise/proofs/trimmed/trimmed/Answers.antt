@@ -1,9 +1,5 @@
 use Rattle.std.proofs.Common.{◌≡◌, ◌+◌, ◌≤◌, ap, ℕ, List, length, All, subst, rules, arith}
-use Rattle.elem_descr.specs.Encoding.{without_nuls}
-use Rattle.elem_descr.specs.Items.{item_size}
-use Rattle.raw_block.specs.Bytes.{item_at}
-use Rattle.shape_strides.specs.Layouts.{offsets}
-use Rattle.broadcasting.specs.BroadcastLaws.{can-itself}
+use Rattle.elementwise.specs.Words.{without_nuls, item_size, item_at, offsets, can-itself}
 use Rattle.elementwise.proofs.ShrunkLaws.{all_seen}
 use Rattle.elementwise.proofs.TrimmedLaws.{cut_all}
 use Rattle.elementwise.proofs.trimmed.trimmed.Goals as goal

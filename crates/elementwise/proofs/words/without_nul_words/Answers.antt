@@ -1,5 +1,5 @@
 use Rattle.std.proofs.Common.{◌-◌, arith, rules}
-use Rattle.elem_descr.specs.Encoding.{without_nuls}
+use Rattle.elementwise.specs.Words.{without_nuls}
 use Rattle.elementwise.proofs.TextWordLaws.{fewer-nuls}
 use Rattle.elementwise.proofs.words.without_nul_words.Goals as goal
 

@@ -1,5 +1,5 @@
 use Rattle.std.proofs.Common.{◌≡◌, ◌≤◌, length, take}
-use Rattle.elem_descr.specs.Encoding.{without_nuls}
+use Rattle.elementwise.specs.Words.{without_nuls}
 use Rattle.elementwise.proofs.words.without_nul_words.Given as goal
 
 abbrev pub invariant-loop-len : goal.invariant-loop-len

@@ -1,5 +1,5 @@
 use Rattle.std.proofs.Common.{◌++◌, ◌∷◌, [], sym, ap, ◌∙◌}
-use Rattle.view_ops.specs.PickLaws.{length-run}
+use Rattle.fancy_index.specs.Words.{length-run}
 use Rattle.fancy_index.proofs.axes.push_picked.Goals as goal
 
 pub returns-in_ok-push-in-Along : goal.returns-in_ok-push-in-Along

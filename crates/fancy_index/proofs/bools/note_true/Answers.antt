@@ -1,7 +1,7 @@
 use Rattle.std.proofs.Common.{ℕ, ◌+◌, ◌<◌, length, sym, ap, subst, ◌∙◌, arith}
 use Rattle.std.proofs.Math.ListN.{length-set}
 use lib.IntN.{pos}
-use Rattle.shape_strides.specs.WalkLaws.{length-run_offsets}
+use Rattle.fancy_index.specs.Words.{length-run_offsets}
 use Rattle.fancy_index.specs.inside.Bools.{bools_in}
 use Rattle.fancy_index.proofs.BoolLaws.{noted, length-bools, bool-there}
 use Rattle.fancy_index.proofs.RunLaws.{first-low, steps-low, steps-high, lies-there}

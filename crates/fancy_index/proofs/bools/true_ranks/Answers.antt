@@ -1,16 +1,7 @@
 use Rattle.std.proofs.Common.{rules, ◌≡◌, ◌+◌, ◌<◌, ◌≤◌, ℕ, List, [], ◌∷◌, ◌++◌, length, map, All, sym, ap, subst, ◌∙◌, arith, append-nil, length-append}
 use Rattle.std.specs.List.{flat_map}
 use Rattle.std.proofs.lemmas.List.Elements.{All-rest}
-use Rattle.elem_descr.specs.declared.descr.Descr.{Descr}
-use Rattle.elem_descr.specs.Items.{item_size}
-use Rattle.shape_strides.specs.declared.runs.Run.{Run}
-use Rattle.shape_strides.specs.Addresses.{LieWithin}
-use Rattle.shape_strides.specs.Limits.{max_bytes, max_items}
-use Rattle.shape_strides.specs.Layouts.{offsets}
-use Rattle.shape_strides.specs.LayoutLaws.{length-offsets}
-use Rattle.shape_strides.specs.Runs.{run_offsets}
-use Rattle.shape_strides.specs.WalkLaws.{length-run_offsets}
-use Rattle.arrays.specs.RunLaws.{All-front, All-back}
+use Rattle.fancy_index.specs.Words.{Descr, item_size, Run, LieWithin, max_bytes, max_items, offsets, length-offsets, run_offsets, length-run_offsets, All-front, All-back}
 use Rattle.fancy_index.specs.inside.Bools.{bool_at}
 use Rattle.fancy_index.specs.inside.PointLists.{true_ranks}
 use Rattle.fancy_index.proofs.BoolLaws.{mask-bool, numbers-are, found_added, run_noted}

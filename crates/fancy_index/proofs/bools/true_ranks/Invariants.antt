@@ -1,9 +1,6 @@
 use Rattle.std.proofs.Common.{◌≡◌, ◌+◌, ◌<◌, ◌≤◌, [], ◌∷◌, ◌++◌, length, map, All}
 use Rattle.std.specs.List.{flat_map}
-use Rattle.shape_strides.specs.Addresses.{LieWithin}
-use Rattle.shape_strides.specs.Layouts.{offsets}
-use Rattle.shape_strides.specs.Limits.{max_bytes, max_items}
-use Rattle.shape_strides.specs.Runs.{run_offsets}
+use Rattle.fancy_index.specs.Words.{LieWithin, offsets, max_bytes, max_items, run_offsets}
 use Rattle.fancy_index.specs.inside.Bools.{bool_at}
 use Rattle.fancy_index.specs.inside.PointLists.{true_ranks}
 use Rattle.fancy_index.proofs.bools.true_ranks.Given as goal

@@ -1,5 +1,5 @@
 use Rattle.std.proofs.Common.{◌≡◌, map, drop}
-use Rattle.broadcasting.specs.Broadcasts.{common_with}
+use Rattle.fancy_index.specs.Words.{common_with}
 use Rattle.fancy_index.specs.Parts.{point_shapes}
 use Rattle.fancy_index.specs.Indexed.{as_index_shapes, points_shape}
 use Rattle.fancy_index.specs.inside.PartLists.{shown_part}

@@ -1,6 +1,6 @@
 use Rattle.std.proofs.Common.{ap}
 use Rattle.std.proofs.lemmas.List.Elements.{All-rest}
-use Rattle.shape_strides.specs.Layouts.{offsets}
+use Rattle.fancy_index.specs.Words.{offsets}
 use Rattle.fancy_index.specs.inside.Moved.{moved_all, AreStarts}
 use Rattle.fancy_index.proofs.Passes.{push_front, pushed_front, pushed_all, split-places}
 use Rattle.fancy_index.proofs.gather.push_all.Goals as goal

@@ -2,10 +2,7 @@ use Rattle.std.proofs.Common.{rules, w64, ◌≡◌, ◌*◌, ◌+◌, ◌++◌,
 use Rattle.std.specs.List.{flat_map}
 use Rattle.std.proofs.lemmas.Int.{to_z-of_z}
 use mir.Val.{SFits}
-use Rattle.raw_block.specs.Bytes.{place, item_at, joined, EachWithin}
-use Rattle.shape_strides.specs.Runs.{run_offsets}
-use Rattle.arrays.specs.Joined.{joined_at}
-use Rattle.arrays.specs.JoinedLaws.{joined-offsets}
+use Rattle.fancy_index.specs.Words.{place, item_at, joined, EachWithin, run_offsets, joined_at, joined-offsets}
 use Rattle.fancy_index.specs.inside.Moved.{moved_offset}
 use Rattle.fancy_index.proofs.Passes.{RunsLeft, next_run, later_runs, push_run, pushed_run, pushed_all}
 use Rattle.fancy_index.proofs.gather.push_from.Goals as goal

@@ -1,6 +1,6 @@
 use Rattle.std.proofs.Common.{ap, arith}
 use Rattle.std.proofs.lemmas.List.{drop_all}
-use Rattle.shape_strides.specs.Layouts.{offsets}
+use Rattle.fancy_index.specs.Words.{offsets}
 use Rattle.fancy_index.specs.inside.Moved.{shifted_all}
 use Rattle.fancy_index.proofs.Passes.{push_front, pushed_front, pushed_all, split-shifts}
 use Rattle.fancy_index.proofs.gather.push_shifted.Goals as goal

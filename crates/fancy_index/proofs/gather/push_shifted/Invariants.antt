@@ -1,5 +1,5 @@
 use Rattle.std.proofs.Common.{drop}
-use Rattle.shape_strides.specs.Layouts.{offsets}
+use Rattle.fancy_index.specs.Words.{offsets}
 use Rattle.fancy_index.specs.inside.Moved.{shifted_all}
 use Rattle.fancy_index.specs.inside.Kept.{shifted_offsets}
 use Rattle.fancy_index.proofs.Passes.{Pushing}

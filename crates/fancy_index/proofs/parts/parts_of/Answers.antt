@@ -1,7 +1,5 @@
 use Rattle.std.proofs.Common.{◌≤◌, All, subst}
-use Rattle.elem_descr.specs.declared.refusal.Refusal.TheVariants.{IndexOutOfRange}
-use Rattle.shape_strides.specs.Limits.{max_items}
-use Rattle.arrays.specs.RunLaws.{All-back}
+use Rattle.fancy_index.specs.Words.{IndexOutOfRange, max_items, All-back}
 use Rattle.fancy_index.proofs.PartLaws.{parts_on, passed}
 use Rattle.fancy_index.proofs.parts.parts_of.Goals as goal
 

@@ -1,5 +1,5 @@
 use Rattle.std.proofs.Common.{◌≤◌, length, All}
-use Rattle.shape_strides.specs.Limits.{max_items}
+use Rattle.fancy_index.specs.Words.{max_items}
 use Rattle.fancy_index.specs.inside.Lists.{items_left}
 use Rattle.fancy_index.proofs.PartLaws.{HaveParts}
 use Rattle.fancy_index.proofs.parts.parts_of.Given as goal

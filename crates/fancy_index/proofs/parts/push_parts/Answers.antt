@@ -2,9 +2,7 @@ use Rattle.std.proofs.Common.{rules, refl, sym, get_or, [], ◌∷◌, ap, ◌�
 use Rattle.std.proofs.lemmas.Int.{to_z-of_z}
 use mir.Val.{SFits}
 use mir.Syntax.{w128}
-use Rattle.elem_descr.specs.declared.refusal.Refusal.TheVariants.{IndexOutOfRange}
-use Rattle.elem_descr.specs.Refusals.{check}
-use Rattle.view_ops.specs.Slices.{is_place}
+use Rattle.fancy_index.specs.Words.{IndexOutOfRange, check, is_place}
 use Rattle.fancy_index.specs.inside.PointLists.{place_of}
 use Rattle.fancy_index.proofs.PartLaws.{adds_integer, adds_points, passed}
 use Rattle.fancy_index.proofs.parts.push_parts.Goals as goal

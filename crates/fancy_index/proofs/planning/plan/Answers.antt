@@ -1,7 +1,6 @@
 use Rattle.std.proofs.Common.{map, sym, ap, subst, ◌∙◌}
 use Rattle.std.proofs.lemmas.Result.{err_from_is_err_and}
-use Rattle.elem_descr.specs.declared.refusal.Refusal.TheVariants.{IndexOutOfRange}
-use Rattle.elem_descr.specs.Refusals.{◌>>=◌, check}
+use Rattle.fancy_index.specs.Words.{IndexOutOfRange, ◌>>=◌, check}
 use Rattle.fancy_index.specs.IndexArrays.{are_within}
 use Rattle.fancy_index.specs.Indexed.{parts_view}
 use Rattle.fancy_index.specs.Parts.{parts}

@@ -1,6 +1,6 @@
 use Rattle.std.proofs.Common.{map, sym, ap, ◌∙◌}
 use Rattle.std.proofs.lemmas.Result.{err_from_is_err_and}
-use Rattle.shape_strides.specs.Shapes.{shape_of}
+use Rattle.fancy_index.specs.Words.{shape_of}
 use Rattle.fancy_index.specs.Indexed.{all_axes}
 use Rattle.fancy_index.specs.inside.PartLists.{shown_part}
 use Rattle.fancy_index.proofs.AnswerLaws.{gives_no_points, gives_no_shape, shape-made, gives_none, gives_some, points-ready}

@@ -1,9 +1,5 @@
 use Rattle.std.proofs.Common.{◌<◌, ◌/◌, ℕ, List, [], map, length, take, drop, All, sym, ap, subst, ◌∙◌, arith}
-use Rattle.shape_strides.specs.Indexes.{count}
-use Rattle.shape_strides.specs.AxisIndexes.{zero_filled}
-use Rattle.shape_strides.specs.AxisLaws.{IsIndex-first}
-use Rattle.shape_strides.specs.Layouts.{offsets}
-use Rattle.shape_strides.specs.Shapes.{IsShape}
+use Rattle.fancy_index.specs.Words.{count, zero_filled, IsIndex-first, offsets, IsShape}
 use Rattle.fancy_index.specs.Parts.{other_axes}
 use Rattle.fancy_index.specs.inside.Moved.{moved_all, AreStarts}
 use Rattle.fancy_index.specs.inside.PartLists.{shown_part}

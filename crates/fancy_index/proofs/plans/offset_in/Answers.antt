@@ -1,6 +1,5 @@
 use Rattle.std.proofs.Common.{◌≡◌, ◌+◌, ◌*◌, ◌<◌, length, get_or, All, subst, ap, ◌∙◌, sym, arith}
-use Rattle.shape_strides.specs.Layouts.{offsets}
-use Rattle.shape_strides.specs.LayoutLaws.{length-offsets}
+use Rattle.fancy_index.specs.Words.{offsets, length-offsets}
 use Rattle.fancy_index.specs.inside.Moved.{moved_offset, moved_all, IsMoved, AreStarts}
 use Rattle.fancy_index.proofs.PlanLaws.{some_of, place_low, get_or-moved_all, start_at, item_at}
 use Rattle.fancy_index.proofs.plans.offset_in.Goals as goal

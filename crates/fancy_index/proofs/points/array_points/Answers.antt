@@ -1,11 +1,7 @@
 use Rattle.std.proofs.Common.{◌≡◌, ◌≢◌, length, refl, sym, ap, ◌∙◌}
 use Rattle.std.proofs.lemmas.List.{length-map}
 use Rattle.std.proofs.lemmas.Result.{err_from_is_err_and}
-use Rattle.elem_descr.specs.declared.refusal.Refusal.TheVariants.{IndexOutOfRange}
-use Rattle.elem_descr.specs.Refusals.{check}
-use Rattle.shape_strides.specs.Indexes.{count}
-use Rattle.shape_strides.specs.Layouts.{offsets}
-use Rattle.shape_strides.specs.LayoutLaws.{length-offsets}
+use Rattle.fancy_index.specs.Words.{IndexOutOfRange, check, count, offsets, length-offsets}
 use Rattle.fancy_index.specs.declared.kind.Kind.TheVariants.{Mask}
 use Rattle.fancy_index.specs.declared.source.Indices.{Indices}
 use Rattle.fancy_index.specs.IndexArrays.{kind, are_places}

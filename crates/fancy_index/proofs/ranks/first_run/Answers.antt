@@ -1,10 +1,6 @@
 use Rattle.std.proofs.Common.{rules, ◌≡◌, [], length, All, sym, ap, subst, ◌∙◌, arith}
 use Rattle.std.specs.List.{flat_map}
-use Rattle.shape_strides.specs.Layouts.{offsets}
-use Rattle.shape_strides.specs.LayoutLaws.{length-offsets}
-use Rattle.shape_strides.specs.Limits.{max_bytes}
-use Rattle.shape_strides.specs.Runs.{run_offsets}
-use Rattle.arrays.specs.RunLaws.{BeginsWithin}
+use Rattle.fancy_index.specs.Words.{offsets, length-offsets, max_bytes, run_offsets, BeginsWithin}
 use Rattle.fancy_index.proofs.ranks.first_run.Goals as goal
 
 pub unreachable-requires : goal.unreachable-requires

@@ -1,6 +1,5 @@
 use Rattle.std.proofs.Common.{refl, ap, arith}
-use Rattle.shape_strides.specs.declared.layout.Layout.{Layout}
-use Rattle.shape_strides.specs.Indexes.{count}
+use Rattle.fancy_index.specs.Words.{Layout, count}
 use Rattle.fancy_index.proofs.RankLaws.{next-at, not-last}
 use Rattle.fancy_index.proofs.ranks.go_to.Goals as goal
 

@@ -2,7 +2,7 @@ use Rattle.std.proofs.Common.{ℕ, ◌<◌, get_or, slice_set, ap, ◌∙◌, ar
 use Rattle.std.proofs.lemmas.Int.{ints}
 use Rattle.std.proofs.lemmas.List.{get_or_default}
 use Rattle.std.proofs.lemmas.List.Edits.{map_over_more}
-use Rattle.shape_strides.specs.Runs.{run_offsets}
+use Rattle.fancy_index.specs.Words.{run_offsets}
 use Rattle.fancy_index.proofs.RankLaws.{holds_yet, all_changed}
 use Rattle.fancy_index.proofs.RunLaws.{first-low, steps-low, steps-high, lies-there}
 use Rattle.fancy_index.proofs.ranks.lead_along.Goals as goal

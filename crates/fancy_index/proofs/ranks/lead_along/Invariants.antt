@@ -1,5 +1,5 @@
 use Rattle.std.proofs.Common.{◌≡◌, ◌++◌, take, drop}
-use Rattle.shape_strides.specs.Runs.{run_offsets}
+use Rattle.fancy_index.specs.Words.{run_offsets}
 use Rattle.fancy_index.specs.inside.Ranks.{led}
 use Rattle.fancy_index.proofs.ranks.lead_along.Given as goal
 

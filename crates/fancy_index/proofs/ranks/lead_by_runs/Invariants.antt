@@ -1,5 +1,5 @@
 use Rattle.std.proofs.Common.{◌≡◌, ◌++◌, take, drop}
-use Rattle.shape_strides.specs.Layouts.{offsets}
+use Rattle.fancy_index.specs.Words.{offsets}
 use Rattle.fancy_index.specs.inside.Ranks.{led, IsAtRun}
 use Rattle.fancy_index.proofs.ranks.lead_by_runs.Given as goal
 

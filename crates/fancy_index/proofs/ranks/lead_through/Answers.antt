@@ -1,6 +1,5 @@
 use Rattle.std.proofs.Common.{length, ap, arith}
-use Rattle.shape_strides.specs.LayoutLaws.{length-offsets}
-use Rattle.shape_strides.specs.WalkLaws.{length-run_offsets}
+use Rattle.fancy_index.specs.Words.{length-offsets, length-run_offsets}
 use Rattle.fancy_index.proofs.ranks.lead_through.Goals as goal
 
 pub lead_along-requires-clause-few : goal.lead_along-requires-clause-few

@@ -1,7 +1,6 @@
 use Rattle.std.proofs.Common.{◌≡◌, get_or, ap, ◌∙◌, arith}
 use Rattle.std.proofs.lemmas.Int.{ints}
-use Rattle.shape_strides.specs.declared.layout.Layout.{Layout}
-use Rattle.shape_strides.specs.Layouts.{offsets}
+use Rattle.fancy_index.specs.Words.{Layout, offsets}
 use Rattle.fancy_index.specs.declared.ranks.RunAt.{RunAt}
 use Rattle.fancy_index.proofs.RankLaws.{start, low, high, offset-is}
 use Rattle.fancy_index.proofs.ranks.offset_at.Goals as goal

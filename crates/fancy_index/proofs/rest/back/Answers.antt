@@ -1,10 +1,8 @@
 use Rattle.std.proofs.Common.{ap, sym, drop, length, ◌∙◌, arith}
 use Rattle.std.proofs.lemmas.Result.{err_from_is_err_and}
-use Rattle.shape_strides.specs.Indexes.{count}
-use Rattle.shape_strides.specs.Shapes.{shape_of}
+use Rattle.fancy_index.specs.Words.{count, shape_of, slice-rest}
 use Rattle.fancy_index.proofs.CutLaws.{shape-behind, some-behind, only-memory, made-behind, lies-behind, strides-behind}
 use Rattle.fancy_index.proofs.rest.back.Goals as goal
-use Rattle.elem_descr.specs.ListLaws.{slice-rest}
 
 pub returns-in_err-shape-clause-err : goal.returns-in_err-shape-clause-err
 returns-in_err-shape-clause-err c =

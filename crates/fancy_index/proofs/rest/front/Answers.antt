@@ -1,7 +1,6 @@
 use Rattle.std.proofs.Common.{ap, sym, take, length, ◌∙◌, arith}
 use Rattle.std.proofs.lemmas.Result.{err_from_is_err_and}
-use Rattle.shape_strides.specs.Indexes.{count}
-use Rattle.shape_strides.specs.Shapes.{shape_of}
+use Rattle.fancy_index.specs.Words.{count, shape_of}
 use Rattle.fancy_index.proofs.CutLaws.{shape-before, some-before, only-memory, made-before, lies-before, strides-before}
 use Rattle.fancy_index.proofs.rest.front.Goals as goal
 

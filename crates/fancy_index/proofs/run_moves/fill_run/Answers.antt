@@ -1,7 +1,7 @@
 use Rattle.std.proofs.Common.{rules, w64, ap, length, ◌∙◌}
 use Rattle.std.proofs.lemmas.Int.{to_z-of_z}
 use mir.Val.{SFits}
-use Rattle.raw_block.specs.Bytes.{filled}
+use Rattle.fancy_index.specs.Words.{filled}
 use Rattle.fancy_index.proofs.run_moves.fill_run.Goals as goal
 use Rattle.fancy_index.specs.PlanLaws.{filled-run}
 

@@ -1,6 +1,6 @@
 use Rattle.std.proofs.Common.{◌∙◌}
 use Rattle.std.proofs.lemmas.List.Elements.{All-rest}
-use Rattle.shape_strides.specs.Layouts.{offsets}
+use Rattle.fancy_index.specs.Words.{offsets}
 use Rattle.fancy_index.specs.inside.Moved.{moved_all, AreStarts}
 use Rattle.fancy_index.specs.inside.Kept.{shifted_offsets}
 use Rattle.fancy_index.proofs.Passes.{scatter_front, scattered_front, split-places}

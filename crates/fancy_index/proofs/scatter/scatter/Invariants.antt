@@ -1,6 +1,5 @@
 use Rattle.std.proofs.Common.{◌≡◌, ◌+◌, ◌*◌, length, All}
-use Rattle.shape_strides.specs.Layouts.{offsets}
-use Rattle.arrays.specs.Assignments.{assigned}
+use Rattle.fancy_index.specs.Words.{offsets, assigned}
 use Rattle.fancy_index.specs.inside.Kept.{offsets_from}
 use Rattle.fancy_index.specs.inside.Moved.{moved_all, AreStarts}
 use Rattle.arrays.specs.Packed.{row_offsets as packed}

@@ -1,5 +1,5 @@
 use Rattle.std.proofs.Common.{◌≡◌, ◌+◌, ◌*◌, length}
-use Rattle.arrays.specs.Assignments.{assigned}
+use Rattle.fancy_index.specs.Words.{assigned}
 use Rattle.fancy_index.specs.inside.Kept.{moved_offsets}
 use Rattle.arrays.specs.Packed.{row_offsets as packed}
 use Rattle.fancy_index.proofs.Passes.{RunsLeft, Scattering, moved_runs}

@@ -1,5 +1,5 @@
 use Rattle.std.proofs.Common.{◌∙◌, map, drop, ◌+◌}
-use Rattle.shape_strides.specs.Layouts.{offsets}
+use Rattle.fancy_index.specs.Words.{offsets}
 use Rattle.fancy_index.specs.inside.Moved.{moved_offset, shifted_all}
 use Rattle.fancy_index.proofs.Passes.{scatter_front, scattered_front, split-shifts}
 use Rattle.fancy_index.proofs.scatter.scatter_shifts.Goals as goal

@@ -1,8 +1,6 @@
 use Rattle.std.proofs.Common.{◌≡◌, ◌<◌, ◌++◌, ℕ, List, length, take, drop, get_or, sym, ap, subst, ◌∙◌, arith}
 use Rattle.std.proofs.lemmas.List.{length-map}
-use Rattle.shape_strides.specs.Indexes.{count, rank}
-use Rattle.shape_strides.specs.Layouts.{offsets}
-use Rattle.broadcasting.specs.Broadcasts.{broadcast_index}
+use Rattle.fancy_index.specs.Words.{count, rank, offsets, broadcast_index}
 use Rattle.fancy_index.specs.declared.parts.IndexPart.{IndexPart}
 use Rattle.fancy_index.specs.inside.Moved.{IsMoved}
 use Rattle.fancy_index.specs.inside.PointLists.{tuple}

@@ -1,9 +1,6 @@
 use Rattle.std.proofs.Common.{◌≡◌, take, drop, length, sym, ap, ◌∙◌, arith}
 use Rattle.std.proofs.lemmas.Result.{err_from_is_err_and}
-use Rattle.elem_descr.specs.RefusalLaws.{same_answer}
-use Rattle.shape_strides.specs.Indexes.{count}
-use Rattle.shape_strides.specs.Limits.{max_bytes}
-use Rattle.view_ops.specs.ViewLaws.{LieWithin-view}
+use Rattle.fancy_index.specs.Words.{same_answer, count, max_bytes, LieWithin-view}
 use Rattle.fancy_index.specs.inside.Sums.{strides_along}
 use Rattle.fancy_index.proofs.CutLaws.{only-memory}
 use Rattle.fancy_index.proofs.AlongLaws.{axes-within, axes-made, length-along, along-shows}

@@ -1,7 +1,6 @@
 use Rattle.std.proofs.Common.{◌≡◌, ◌+◌, ◌<◌, ℕ, List, length, get_or, slice_set, drop, sym, ap, subst, ◌∙◌, arith}
 use Rattle.std.proofs.lemmas.List.{get_or-drop, get_or_default, drop-drop, drop-set-lt}
-use Rattle.shape_strides.specs.Indexes.{IsIndex}
-use Rattle.shape_strides.specs.Layouts.{address}
+use Rattle.fancy_index.specs.Words.{IsIndex, address}
 use Rattle.fancy_index.specs.declared.parts.IndexPart.{IndexPart}
 use Rattle.fancy_index.specs.inside.PartLists.{IsReady}
 use Rattle.fancy_index.proofs.StartLaws.{start-in, begins, can-add, axis-low, axis-after, added, sums_all}

@@ -1,7 +1,6 @@
 use Rattle.std.proofs.Common.{◌≡◌, ◌++◌, length, map, ap, ◌∙◌, arith}
 use Rattle.std.proofs.lemmas.List.{drop_all}
-use Rattle.raw_block.specs.Bytes.{item_at}
-use Rattle.raw_block.specs.BytesLaws.{length-item_at}
+use Rattle.fancy_index.specs.Words.{item_at, length-item_at}
 use Rattle.fancy_index.specs.inside.Moved.{moved_offset}
 use Rattle.fancy_index.proofs.Passes.{pushed_all}
 use Rattle.fancy_index.proofs.SingleLaws.{push_one, pushed_one}

@@ -1,5 +1,5 @@
 use Rattle.std.proofs.Common.{◌≡◌, ◌+◌, ◌*◌, length, map, drop}
-use Rattle.arrays.specs.Assignments.{assigned}
+use Rattle.fancy_index.specs.Words.{assigned}
 use Rattle.fancy_index.specs.inside.Moved.{moved_offset}
 use Rattle.arrays.specs.Packed.{row_offsets as packed}
 use Rattle.fancy_index.proofs.Passes.{Scattering}

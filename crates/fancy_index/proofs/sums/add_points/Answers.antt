@@ -1,7 +1,5 @@
 use Rattle.std.proofs.Common.{rules, ◌≡◌, [], length, get_or, sym, ap, subst, ◌∙◌, arith}
-use Rattle.shape_strides.specs.Indexes.{count}
-use Rattle.shape_strides.specs.Layouts.{offsets}
-use Rattle.shape_strides.specs.Shapes.{IsShape}
+use Rattle.fancy_index.specs.Words.{count, offsets, IsShape}
 use Rattle.fancy_index.specs.inside.Sums.{stretched_ranks, point_number, HaveGrown}
 use Rattle.fancy_index.proofs.SizeLaws.{stretched-shape}
 use Rattle.fancy_index.proofs.StartLaws.{whole-number, length-places, stretched-number, places-low}

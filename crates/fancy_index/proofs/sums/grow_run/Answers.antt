@@ -1,8 +1,6 @@
 use Rattle.std.proofs.Common.{◌≡◌, ◌+◌, ◌-◌, ◌<◌, ◌≤◌, length, get_or, sym, ap, subst, ◌∙◌, arith}
 use Rattle.std.proofs.lemmas.Int.{ints}
-use Rattle.shape_strides.specs.Limits.{max_bytes}
-use Rattle.shape_strides.specs.Runs.{run_offsets}
-use Rattle.shape_strides.specs.WalkLaws.{length-run_offsets}
+use Rattle.fancy_index.specs.Words.{max_bytes, run_offsets, length-run_offsets}
 use Rattle.fancy_index.specs.inside.Moved.{moved_offset, IsMoved}
 use Rattle.fancy_index.specs.inside.Sums.{HaveGrownFrom, number_along}
 use Rattle.fancy_index.proofs.RunLaws.{first-low, steps-low, steps-high, lies-there}

@@ -2,7 +2,7 @@ use Rattle.std.proofs.Common.{rules, ◌≡◌, w32, length, replicate, ap, ◌�
 use Rattle.std.proofs.lemmas.Int.{to_z-of_z}
 use Rattle.std.proofs.lemmas.List.{length-replicate}
 use mir.Val.{SFits}
-use Rattle.view_ops.specs.Slices.{is_place}
+use Rattle.fancy_index.specs.Words.{is_place}
 use Rattle.fancy_index.specs.inside.PointLists.{place_of}
 use Rattle.fancy_index.specs.inside.Words.{ArePlacesTo}
 use Rattle.fancy_index.proofs.WordLaws.{no_places, one_more_tested, one_refused, all_places}

@@ -1,5 +1,5 @@
 use Rattle.std.proofs.Common.{length, ap, ◌∙◌, arith}
-use Rattle.raw_block.specs.Bytes.{item_at}
+use Rattle.fancy_index.specs.Words.{item_at}
 use Rattle.fancy_index.proofs.RunLaws.{first-low, steps-low, steps-high, lies-there}
 use Rattle.fancy_index.proofs.WordLaws.{ends-there}
 use Rattle.fancy_index.proofs.words.item_after.Goals as goal

@@ -1,6 +1,6 @@
 use Rattle.std.proofs.Common.{◌≡◌, ℕ, refl, ap, subst, ◌∙◌}
 use lib.IntN.{pos}
-use Rattle.elem_descr.specs.Refusals.{Gives}
+use Rattle.fancy_index.specs.Words.{Gives}
 use Rattle.fancy_index.specs.inside.PointLists.{named_places}
 use Rattle.fancy_index.specs.inside.Words.{AreWords, IsSpread, IsNative}
 use Rattle.fancy_index.proofs.WordLaws.{native-end, native-numbers, words-are}

@@ -4,17 +4,7 @@ use Rattle.std.specs.List.{flat_map}
 use Rattle.std.proofs.lemmas.List.{append-nil}
 use Rattle.std.proofs.lemmas.List.Elements.{All-rest}
 use Rattle.std.proofs.lemmas.Result.{err_from_is_err_and}
-use Rattle.elem_descr.specs.declared.refusal.Refusal.TheVariants.{IndexOutOfRange}
-use Rattle.elem_descr.specs.Items.{item_size}
-use Rattle.raw_block.specs.Bytes.{item_at}
-use Rattle.shape_strides.specs.declared.runs.Run.{Run}
-use Rattle.shape_strides.specs.Addresses.{LieWithin}
-use Rattle.shape_strides.specs.Limits.{max_bytes, max_items}
-use Rattle.shape_strides.specs.Layouts.{offsets}
-use Rattle.shape_strides.specs.LayoutLaws.{length-offsets}
-use Rattle.shape_strides.specs.Runs.{run_offsets}
-use Rattle.shape_strides.specs.WalkLaws.{length-run_offsets}
-use Rattle.arrays.specs.RunLaws.{All-front, All-back}
+use Rattle.fancy_index.specs.Words.{IndexOutOfRange, item_size, item_at, Run, LieWithin, max_bytes, max_items, offsets, length-offsets, run_offsets, length-run_offsets, All-front, All-back}
 use Rattle.fancy_index.specs.Sources.{number_from, index_array_of}
 use Rattle.fancy_index.specs.inside.Words.{word, ArePushed}
 use Rattle.fancy_index.proofs.PartLaws.{passed}

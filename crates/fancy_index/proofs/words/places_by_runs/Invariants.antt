@@ -1,9 +1,6 @@
 use Rattle.std.proofs.Common.{◌+◌, ◌≤◌, [], ◌∷◌, length, map, All}
 use Rattle.std.specs.List.{flat_map}
-use Rattle.elem_descr.specs.Items.{item_size}
-use Rattle.shape_strides.specs.Addresses.{LieWithin}
-use Rattle.shape_strides.specs.Limits.{max_bytes, max_items}
-use Rattle.shape_strides.specs.Runs.{run_offsets}
+use Rattle.fancy_index.specs.Words.{item_size, LieWithin, max_bytes, max_items, run_offsets}
 use Rattle.fancy_index.specs.Sources.{number_from, index_array_of}
 use Rattle.fancy_index.specs.inside.Words.{ArePushed}
 use Rattle.fancy_index.proofs.words.places_by_runs.Given as goal

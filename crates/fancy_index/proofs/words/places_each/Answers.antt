@@ -4,8 +4,7 @@ use Rattle.std.proofs.lemmas.Int.{to_z-of_z}
 use Rattle.std.proofs.lemmas.List.Elements.{All-rest}
 use mir.Val.{SFits}
 use mir.Syntax.{w128}
-use Rattle.elem_descr.specs.Items.{item_size}
-use Rattle.view_ops.specs.Slices.{is_place}
+use Rattle.fancy_index.specs.Words.{item_size, is_place}
 use Rattle.fancy_index.specs.Sources.{number_from}
 use Rattle.fancy_index.specs.inside.PointLists.{named_place}
 use Rattle.fancy_index.proofs.NumberLoops.{place_next}

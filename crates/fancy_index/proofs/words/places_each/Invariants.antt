@@ -1,7 +1,6 @@
 use Rattle.std.proofs.Common.{◌≡◌, ◌+◌, ◌≤◌, ◌++◌, length, map, All}
 use Rattle.std.specs.List.{list_all}
-use Rattle.elem_descr.specs.Items.{item_size}
-use Rattle.view_ops.specs.Slices.{is_place}
+use Rattle.fancy_index.specs.Words.{item_size, is_place}
 use Rattle.fancy_index.specs.Sources.{number_from, index_array_of}
 use Rattle.fancy_index.specs.inside.PointLists.{place_of}
 use Rattle.fancy_index.proofs.words.places_each.Given as goal

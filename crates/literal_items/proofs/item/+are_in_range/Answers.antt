@@ -1,7 +1,5 @@
 use Rattle.std.proofs.Common.{sym, ap, ◌∙◌, arith}
-use Rattle.elem_descr.specs.Fields.{total}
-use Rattle.elem_descr.specs.Weights.{weight}
-use Rattle.elem_descr.specs.DescriptorLaws.{weight-one, seen_fields}
+use Rattle.literal_items.specs.Words.{total, weight, weight-one, seen_fields}
 use Rattle.literal_items.specs.LiteralItems.{is_castable, is_in_range}
 use Rattle.literal_items.proofs.Fields.{IsTurn, turn_fails, turn_passes, turn_passed, stand_for-record, stand_for-length}
 use Rattle.literal_items.proofs.item.+are_in_range.Goals as goal

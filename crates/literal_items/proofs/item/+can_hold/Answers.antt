@@ -1,9 +1,5 @@
 use Rattle.std.proofs.Common.{sym, ap, ◌∙◌, arith}
-use Rattle.elem_descr.specs.Fields.{total}
-use Rattle.elem_descr.specs.Descriptors.{listed}
-use Rattle.elem_descr.specs.Weights.{weight}
-use Rattle.elem_descr.specs.DescriptorLaws.{weight-one, seen_fields}
-use Rattle.script_lang.specs.Listed.{all_values}
+use Rattle.literal_items.specs.Words.{total, listed, weight, weight-one, seen_fields, all_values}
 use Rattle.literal_items.specs.LiteralItems.{is_castable, can_hold}
 use Rattle.literal_items.proofs.Lists.{not_true}
 use Rattle.literal_items.proofs.Fields.{IsTurn, turn_fails, turn_passes, none_left, stand_for-record, stand_for-length}

@@ -1,8 +1,5 @@
 use Rattle.std.proofs.Common.{◌≡◌, ◌+◌, ◌*◌, drop}
-use Rattle.elem_descr.specs.Fields.{total}
-use Rattle.elem_descr.specs.Descriptors.{listed}
-use Rattle.elem_descr.specs.Weights.{weight}
-use Rattle.script_lang.specs.Listed.{all_values}
+use Rattle.literal_items.specs.Words.{total, listed, weight, all_values}
 use Rattle.literal_items.specs.LiteralItems.{can_hold}
 use Rattle.literal_items.proofs.item.+can_hold.Given as goal
 

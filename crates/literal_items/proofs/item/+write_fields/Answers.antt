@@ -1,9 +1,5 @@
 use Rattle.std.proofs.Common.{◌+◌, drop, sym, ap, ◌∙◌, arith, rules, refl}
-use Rattle.elem_descr.specs.Fields.{total}
-use Rattle.elem_descr.specs.Items.{item_size, leaves_from}
-use Rattle.elem_descr.specs.Weights.{weight}
-use Rattle.elem_descr.specs.DescriptorLaws.{weight-one, seen_fields}
-use Rattle.script_lang.specs.Listed.{all_values}
+use Rattle.literal_items.specs.Words.{total, item_size, leaves_from, weight, weight-one, seen_fields, all_values}
 use Rattle.literal_items.specs.LiteralItems.{is_castable, can_hold, field_values}
 use Rattle.literal_items.specs.inside.FieldItems.{put_leaves}
 use Rattle.literal_items.proofs.Fields.{IsTurn, turn_passes, turn_passed, stand_for-literals, stand_for-length, turn_within, put_record, put_fields, put_fields-at, put_fields-none}

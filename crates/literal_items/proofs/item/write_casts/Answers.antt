@@ -1,7 +1,7 @@
 use Rattle.std.proofs.Common.{◌≡◌, ◌+◌, ◌-◌, ◌*◌, ◌<◌, ◌≤◌, length, drop, take, map, sym, ap, ◌∙◌, ◌++◌, [], ◌∷◌, arith, add-mul, length-take, length-drop}
 use Rattle.std.proofs.lemmas.List.{map-append}
 use Rattle.std.proofs.Math.Nat.{mul-le-mul_right}
-use Rattle.elem_descr.specs.Items.{item_size, encode_item, decode_item}
+use Rattle.literal_items.specs.Words.{item_size, encode_item, decode_item}
 use Rattle.literal_items.specs.LiteralItems.{values_of}
 use Rattle.literal_items.proofs.Lists.{map_more}
 use Rattle.literal_items.proofs.Blocked.{blocks-put, map-blocks-put}

@@ -1,6 +1,5 @@
 use Rattle.std.proofs.Common.{◌≡◌, map, take}
-use Rattle.elem_descr.specs.Items.{item_size, encode_item, decode_item}
-use Rattle.elem_descr.specs.Blocks.{blocks}
+use Rattle.literal_items.specs.Words.{item_size, encode_item, decode_item, blocks}
 use Rattle.literal_items.specs.LiteralItems.{values_of}
 use Rattle.literal_items.proofs.item.write_casts.Given as goal
 

@@ -1,5 +1,5 @@
 use Rattle.std.proofs.Common.{sym, ◌∙◌}
-use Rattle.elem_descr.specs.declared.refusal.Refusal.TheVariants.{LiteralOutOfRange, NoSuchCast}
+use Rattle.literal_items.specs.Words.{LiteralOutOfRange, NoSuchCast}
 use Rattle.literal_items.specs.LiteralItems.{can_be_item, is_item_in_range, values_of, item_value}
 use Rattle.literal_items.proofs.Decided.{decided_first, decided_second, decided_ok}
 use Rattle.literal_items.proofs.item.write_item.Goals as goal

@@ -2,7 +2,7 @@ use Rattle.std.proofs.Common.{◌-◌, sym, ap, subst, ◌∙◌, arith}
 use Rattle.std.specs.Prelude.{FitsSigned}
 use Rattle.std.specs.Int.{w128}
 use Rattle.std.proofs.lemmas.Int.{to_z-of_z}
-use Rattle.elem_descr.specs.Encoding.{is_value}
+use Rattle.literal_items.specs.Words.{is_value}
 use Rattle.literal_items.proofs.Ends.{first_fits, last_decides, first_fails}
 use Rattle.literal_items.proofs.range.are_values.Goals as goal
 

@@ -1,9 +1,6 @@
 use Rattle.std.proofs.Common.{◌≡◌, ◌+◌, ◌*◌, ◌%◌, ◌^◌, ◌≤◌, ◌++◌, suc, pos, ◌+ℤ◌, ◌*ℤ◌, sym, ap, ◌∙◌, append_assoc, append-nil, arith}
 use Rattle.std.proofs.Math.Nat.{suc-mul, add-mul, zero-mul, mul-le-mul_right}
-use Rattle.elem_descr.specs.Values.{number}
-use Rattle.elem_descr.specs.Encoding.{encode, low_bits}
-use Rattle.elem_descr.specs.StepLaws.{none_more}
-use Rattle.raw_block.specs.Bytes.{joined}
+use Rattle.literal_items.specs.Words.{number, encode, low_bits, none_more, joined}
 use Rattle.literal_items.specs.inside.Numbered.{numbered}
 use Rattle.literal_items.proofs.Counted.{next_bits, bits_of_value, value_at}
 use Rattle.literal_items.proofs.Scalars.{wrap_is}

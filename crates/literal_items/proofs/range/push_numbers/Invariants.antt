@@ -1,6 +1,5 @@
 use Rattle.std.proofs.Common.{◌≡◌, ◌+◌, ◌*◌, ◌++◌, pos, ◌+ℤ◌, ◌*ℤ◌}
-use Rattle.elem_descr.specs.Encoding.{low_bits}
-use Rattle.raw_block.specs.Bytes.{joined}
+use Rattle.literal_items.specs.Words.{low_bits, joined}
 use Rattle.literal_items.specs.inside.Numbered.{numbered}
 use Rattle.literal_items.proofs.range.push_numbers.Given as goal
 

@@ -2,11 +2,7 @@ use Rattle.std.proofs.Common.{◌≡◌, ◌*◌, ◌++◌, true, [], ◌∷◌,
 use Rattle.std.specs.List.{list_all}
 use Rattle.std.proofs.lemmas.Result.{err_from_is_err_and}
 use Rattle.elem_descr.specs.declared.descr.Descr.TheVariants.{Scalar as ScalarDescr}
-use Rattle.elem_descr.specs.Values.{number}
-use Rattle.elem_descr.specs.Encoding.{is_value, size}
-use Rattle.elem_descr.specs.Blocks.{items_in}
-use Rattle.elem_descr.specs.Steps.{numbers_from}
-use Rattle.raw_block.specs.Bytes.{joined}
+use Rattle.literal_items.specs.Words.{number, is_value, size, items_in, numbers_from, joined}
 use Rattle.literal_items.specs.inside.Numbered.{numbered}
 use Rattle.literal_items.proofs.Counted.{numbers_read, length-numbered}
 use Rattle.literal_items.proofs.Stepping.{range_items-refused, range_items-beyond, range_items-ok}

@@ -2,7 +2,7 @@ use Rattle.std.proofs.Common.{◌≡◌, ◌≢◌, pos, sym, ap, ◌∙◌, ari
 use Rattle.std.specs.Prelude.{FitsSigned}
 use Rattle.std.specs.Int.{w128, cast_unsigned, div_ceil}
 use Rattle.std.proofs.lemmas.Int.{ints, to_z-of_z}
-use Rattle.elem_descr.specs.Steps.{numbers_from}
+use Rattle.literal_items.specs.Words.{numbers_from}
 use Rattle.literal_items.specs.RangeItems.{range_count}
 use Rattle.literal_items.proofs.Stepping.{range_length-zero, range_length-large, range_length-ok, count-divided, numbers-counted, counted_before, counted_fits}
 use Rattle.literal_items.proofs.range.range_len.Goals as goal

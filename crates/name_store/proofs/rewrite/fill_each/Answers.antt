@@ -1,12 +1,7 @@
 use Rattle.std.proofs.Common.{rules, ◌+◌, ◌≤◌, sym, ap, subst, ◌∙◌, All, length, w64}
 use Rattle.std.proofs.lemmas.Int.{to_z-of_z}
 use mir.Val.{SFits}
-use Rattle.raw_block.specs.Bytes.{EachWithin, filled}
-use Rattle.shape_strides.specs.Limits.{max_bytes}
-use Rattle.shape_strides.specs.Runs.{runs}
-use Rattle.arrays.specs.RunLaws.{run-within, runs-within}
-use Rattle.fancy_index.specs.Plans.{put_each}
-use Rattle.fancy_index.specs.PlanLaws.{filled-run}
+use Rattle.name_store.specs.Words.{EachWithin, filled, max_bytes, runs, run-within, runs-within, put_each, filled-run}
 use Rattle.name_store.proofs.rewrite.fill_each.Goals as goal
 use Rattle.name_store.proofs.rewrite.fill_each.Goals.{In-Some}
 

@@ -1,7 +1,5 @@
 use Rattle.std.proofs.Common.{◌+◌, ◌≤◌, length, refl, sym, ◌∙◌}
-use Rattle.shape_strides.specs.Layouts.{offsets}
-use Rattle.arrays.specs.PairLaws.{pair_even, All-firsts, firsts-reordered}
-use Rattle.overlap_copy.specs.OrderLaws.{filled-reordered}
+use Rattle.name_store.specs.Words.{offsets, pair_even, All-firsts, firsts-reordered, filled-reordered}
 use Rattle.name_store.proofs.SourceLaws.{put_each-items}
 use Rattle.name_store.proofs.rewrite.fill_layout.Goals as goal
 

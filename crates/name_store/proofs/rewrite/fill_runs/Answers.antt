@@ -2,8 +2,7 @@ use Rattle.std.proofs.Common.{rules, length, All, w64, ap, subst, ◌∙◌}
 use Rattle.std.proofs.lemmas.Int.{to_z-of_z}
 use Rattle.std.proofs.lemmas.List.Elements.{All-rest, All-head}
 use mir.Val.{SFits}
-use Rattle.raw_block.specs.Bytes.{EachWithin, filled}
-use Rattle.shape_strides.specs.declared.runs.Run.{Run}
+use Rattle.name_store.specs.Words.{EachWithin, filled, Run}
 use Rattle.name_store.proofs.RunWrites.{filled-next}
 use Rattle.name_store.proofs.rewrite.fill_runs.Goals as goal
 

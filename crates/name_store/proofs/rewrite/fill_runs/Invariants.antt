@@ -1,8 +1,6 @@
 use Rattle.std.proofs.Common.{◌≡◌, length, All}
 use Rattle.std.specs.List.{flat_map}
-use Rattle.raw_block.specs.Bytes.{EachWithin}
-use Rattle.shape_strides.specs.Runs.{run_offsets}
-use Rattle.fancy_index.specs.Plans.{put_each}
+use Rattle.name_store.specs.Words.{EachWithin, run_offsets, put_each}
 use Rattle.name_store.proofs.rewrite.fill_runs.Given as goal
 
 -- the runs that are left lead to what all of them do

@@ -1,9 +1,6 @@
 use Rattle.std.proofs.Common.{◌+◌, ◌≤◌, length, All, sym, ap, subst, ◌∙◌}
 use Rattle.std.proofs.lemmas.Result.{IfOk-weaker}
-use Rattle.shape_strides.specs.LayoutLaws.{offsets_within}
-use Rattle.shape_strides.specs.Layouts.{offsets, Fits}
-use Rattle.arrays.specs.Assignments.{items_at, with_items}
-use Rattle.fancy_index.specs.Plans.{put_each}
+use Rattle.name_store.specs.Words.{offsets_within, offsets, Fits, items_at, with_items, put_each}
 use Rattle.name_store.specs.Targets.{target_offsets}
 use Rattle.name_store.specs.declared.target.Source.{Source}
 use Rattle.name_store.specs.inside.Puts.{AreItems, NeedsNone, block_from, with_source}

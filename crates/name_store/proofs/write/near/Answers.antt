@@ -1,7 +1,6 @@
 use Rattle.std.proofs.Common.{length, sym, ap, subst, ◌∙◌}
 use Rattle.std.specs.List.Sorted.{IsPermutation}
-use Rattle.shape_strides.specs.Layouts.{offsets}
-use Rattle.fancy_index.specs.Plans.{put_each}
+use Rattle.name_store.specs.Words.{offsets, put_each}
 use Rattle.name_store.specs.Targets.{target_offsets}
 use Rattle.name_store.specs.declared.target.Target.{Target}
 use Rattle.name_store.specs.inside.Puts.{MayPut}

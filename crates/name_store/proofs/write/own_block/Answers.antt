@@ -1,6 +1,5 @@
 use Rattle.std.proofs.Common.{◌∙◌, sym, subst, length}
-use Rattle.shape_strides.specs.LayoutLaws.{offsets_within}
-use Rattle.shape_strides.specs.Layouts.{Fits}
+use Rattle.name_store.specs.Words.{offsets_within, Fits}
 use Rattle.name_store.proofs.ExchangeLaws.{own-packed}
 use Rattle.name_store.proofs.write.own_block.Goals as goal
 

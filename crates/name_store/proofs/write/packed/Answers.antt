@@ -1,6 +1,5 @@
 use Rattle.std.proofs.Common.{◌+◌, ◌≤◌, ℕ, List, length, All, sym, subst}
-use Rattle.shape_strides.specs.LayoutLaws.{offsets_within}
-use Rattle.shape_strides.specs.Layouts.{offsets}
+use Rattle.name_store.specs.Words.{offsets_within, offsets}
 use Rattle.name_store.specs.declared.target.Source.{Source}
 use Rattle.name_store.specs.inside.Puts.{AreItems}
 use Rattle.name_store.proofs.write.packed.Goals as goal

@@ -1,8 +1,5 @@
 use Rattle.std.proofs.Common.{◌≡◌, ◌*◌, refl, sym, ap, ◌∙◌, length, IsTrue, rules}
-use Rattle.shape_strides.specs.Contiguity.{is_c_contiguous}
-use Rattle.shape_strides.specs.LayoutLaws.{length-offsets}
-use Rattle.shape_strides.specs.Layouts.{offsets, multiples}
-use Rattle.arrays.specs.Assignments.{items_at}
+use Rattle.name_store.specs.Words.{is_c_contiguous, length-offsets, offsets, multiples, items_at}
 use Rattle.name_store.specs.Targets.{target_offsets}
 use Rattle.name_store.specs.declared.target.Target.{Target}
 use Rattle.name_store.proofs.ExchangeLaws.{own-packed, own-offsets}

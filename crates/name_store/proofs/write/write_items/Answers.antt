@@ -1,6 +1,6 @@
 use Rattle.std.proofs.Common.{◌≡◌, ◌≤◌, refl, sym, ap, subst, ◌∙◌, is_some, slice_set, Some, arith}
 use Rattle.std.proofs.lemmas.Result.{IfOk-weaker, IfErr-weaker}
-use Rattle.shape_strides.specs.Limits.{max_bytes}
+use Rattle.name_store.specs.Words.{max_bytes}
 use Rattle.name_store.specs.View.{slot_at}
 use Rattle.name_store.specs.inside.Puts.{CanPut, with_source, without_slot}
 use Rattle.name_store.proofs.RewriteLaws.{can-slot, puts-back, keeps-back, length-tried}

@@ -1,9 +1,6 @@
 use Rattle.std.proofs.Common.{◌≡◌, ◌++◌, List, ℕ, Some, ap, ◌∙◌, subst, append_assoc}
 use Rattle.std.specs.FinMap.{get}
-use Rattle.disk.specs.Files.{Files, SameBut}
-use Rattle.disk.specs.Crashes.{Leaves}
-use Rattle.disk.specs.Calls.{Appends}
-use Rattle.disk.specs.CrashLaws.{both_but, but_same, always_ok}
+use Rattle.npy_files.specs.Words.{Files, SameBut, Leaves, Appends, both_but, but_same, always_ok}
 use Rattle.npy_files.proofs.put.fill.Goals as goal
 
 pub returns-in_err-append-2-clause-crash : goal.returns-in_err-append-2-clause-crash

@@ -1,9 +1,6 @@
 use Rattle.std.proofs.Common.{◌++◌, [], subst}
 use Rattle.std.specs.FinMap.{get}
-use Rattle.disk.specs.Files.{SameBut}
-use Rattle.disk.specs.Crashes.{Leaves}
-use Rattle.disk.specs.Calls.{Appends}
-use Rattle.disk.specs.CrashLaws.{both_but}
+use Rattle.npy_files.specs.Words.{SameBut, Leaves, Appends, both_but}
 use Rattle.npy_files.proofs.put.stage.Goals as goal
 
 pub returns-in-Ok-clause-staged : goal.returns-in-Ok-clause-staged

@@ -1,6 +1,5 @@
 use Rattle.std.proofs.Common.{◌≡◌, ◌++◌, ◌+◌, ◌-◌, ◌≤◌, length, take, IsTrue}
-use Rattle.disk.specs.Files.{Same}
-use Rattle.disk.specs.Crashes.{Leaves}
+use Rattle.npy_files.specs.Words.{Same, Leaves}
 use Rattle.npy_files.proofs.read.fill.Given as goal
 
 abbrev pub invariant-loop-at : goal.invariant-loop-at

@@ -1,5 +1,5 @@
 use Rattle.std.proofs.Common.{◌≡◌, ◌+◌, ◌++◌, ℕ, List, length, ap, ◌∙◌, subst, sym}
-use Rattle.disk.specs.CrashLaws.{both_same, unmoved}
+use Rattle.npy_files.specs.Words.{both_same, unmoved}
 use Rattle.npy_files.proofs.Pieces.{none_left, all_read}
 use Rattle.npy_files.proofs.read.read_block.Goals as goal
 

@@ -1,4 +1,4 @@
-use Rattle.disk.specs.CrashLaws.{both_same}
+use Rattle.npy_files.specs.Words.{both_same}
 use Rattle.npy_files.proofs.read.read_file.Goals as goal
 
 pub returns-in_err-read_found-clause-crash : goal.returns-in_err-read_found-clause-crash

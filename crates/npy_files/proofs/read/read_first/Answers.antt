@@ -1,4 +1,4 @@
-use Rattle.disk.specs.CrashLaws.{unmoved}
+use Rattle.npy_files.specs.Words.{unmoved}
 use Rattle.npy_files.proofs.read.read_first.Goals as goal
 
 pub returns-in_err-resize-clause-crash : goal.returns-in_err-resize-clause-crash

@@ -1,4 +1,4 @@
-use Rattle.disk.specs.CrashLaws.{both_same}
+use Rattle.npy_files.specs.Words.{both_same}
 use Rattle.npy_files.proofs.read.read_found.Goals as goal
 
 pub returns-clause-crash : goal.returns-clause-crash

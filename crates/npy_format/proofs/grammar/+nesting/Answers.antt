@@ -3,7 +3,7 @@ use Rattle.npy_format.specs.declared.token.Token.{Token as Scanned}
 use Rattle.npy_format.specs.declared.token.Token.TheVariants as scanned
 use Rattle.std.proofs.Common.{⊎_elim, ◌≡◌, ◌∷◌, ◌∙◌, ap, arith}
 use Rattle.std.proofs.lemmas.Result.{err_from_is_err_and}
-use Rattle.elem_descr.specs.Refusals.{◌>>=◌}
+use Rattle.npy_format.specs.Words.{◌>>=◌}
 use Rattle.npy_format.specs.Tokens.{tokens}
 use Rattle.npy_format.specs.Literals.{pair_in, literal_in}
 use Rattle.npy_format.specs.inside.Entries.{behind}

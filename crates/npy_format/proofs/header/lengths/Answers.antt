@@ -1,5 +1,5 @@
 use Rattle.std.proofs.Common.{◌∙◌}
-use Rattle.elem_descr.specs.TypeStrings.{value_of}
+use Rattle.npy_format.specs.Words.{value_of}
 use Rattle.npy_format.specs.Tokens.{tokens}
 use Rattle.npy_format.specs.Literals.{symbol_token_at}
 use Rattle.npy_format.proofs.StandLaws.{no_tuple, tuple_stands, symbol_open, symbol_closed}

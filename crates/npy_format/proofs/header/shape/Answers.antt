@@ -1,6 +1,5 @@
 use Rattle.std.proofs.Common.{◌∙◌, sym, ap, inr, arith}
-use Rattle.elem_descr.specs.TypeStrings.{value_of}
-use Rattle.shape_strides.specs.Shapes.{shape_of}
+use Rattle.npy_format.specs.Words.{value_of, shape_of}
 use Rattle.npy_format.specs.Tokens.{tokens}
 use Rattle.npy_format.proofs.HeaderLaws.{shape_ends, shape_next, shape_long}
 use Rattle.npy_format.proofs.header.shape.Goals as goal

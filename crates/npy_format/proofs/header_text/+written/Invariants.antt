@@ -1,7 +1,5 @@
 use Rattle.std.proofs.Common.{◌≡◌, ◌+◌, ◌*◌, ◌++◌, true, codes, drop}
-use Rattle.elem_descr.specs.Fields.{total}
-use Rattle.elem_descr.specs.Descriptors.{InOrder, listed}
-use Rattle.elem_descr.specs.Weights.{weight}
+use Rattle.npy_format.specs.Words.{total, InOrder, listed, weight}
 use Rattle.npy_format.specs.WrittenHeaders.{separated, entries}
 use Rattle.npy_format.proofs.header_text.+written.Given as goal
 

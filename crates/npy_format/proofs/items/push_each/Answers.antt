@@ -1,10 +1,9 @@
 use Rattle.std.proofs.Common.{◌++◌, length, sym, ap, ◌∙◌, arith}
 use Rattle.std.proofs.lemmas.List.{append-nil}
-use Rattle.shape_strides.specs.Runs.{run_offsets}
+use Rattle.npy_format.specs.Words.{run_offsets, begins_within}
 use Rattle.npy_format.specs.inside.WrittenItems.{gathered}
 use Rattle.npy_format.proofs.GatherLaws.{item_pushed}
 use Rattle.npy_format.proofs.items.push_each.Goals as goal
-use Rattle.raw_block.specs.BytesLaws.{begins_within}
 
 pub loop-k-init : goal.loop-k-init
 loop-k-init c = sym (append-nil c.args.file.now.items)

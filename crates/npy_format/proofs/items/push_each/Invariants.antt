@@ -1,5 +1,5 @@
 use Rattle.std.proofs.Common.{◌≡◌, ◌++◌}
-use Rattle.shape_strides.specs.Runs.{run_offsets}
+use Rattle.npy_format.specs.Words.{run_offsets}
 use Rattle.npy_format.specs.inside.WrittenItems.{gathered}
 use Rattle.npy_format.proofs.items.push_each.Given as goal
 

@@ -1,11 +1,6 @@
 use Rattle.std.proofs.Common.{◌≡◌, ◌≤◌, ◌<◌, ◌+◌, ◌*◌, ◌^◌, length, All, sym, ap, subst, ◌∙◌, arith, rules}
 use Rattle.std.specs.List.{flat_map}
-use Rattle.raw_block.specs.Bytes.{item_at, EachWithin}
-use Rattle.shape_strides.specs.Limits.{max_bytes}
-use Rattle.shape_strides.specs.Layouts.{offsets}
-use Rattle.shape_strides.specs.LayoutLaws.{length-offsets}
-use Rattle.shape_strides.specs.Runs.{run_offsets, runs}
-use Rattle.arrays.specs.RunLaws.{runs-within}
+use Rattle.npy_format.specs.Words.{item_at, EachWithin, max_bytes, offsets, length-offsets, run_offsets, runs, runs-within}
 use Rattle.npy_format.specs.inside.WrittenItems.{gathered, addresses_in_file}
 use Rattle.npy_format.proofs.GatherLaws.{together, in_file-none, few-counts}
 use Rattle.npy_format.proofs.items.push_items.Goals as goal

@@ -1,6 +1,6 @@
 use Rattle.std.proofs.Common.{◌^◌, ◌<◌, ◌≤◌, length}
 use Rattle.std.proofs.lemmas.List.Elements.{All-rest}
-use Rattle.raw_block.specs.Bytes.{EachWithin}
+use Rattle.npy_format.specs.Words.{EachWithin}
 use Rattle.npy_format.proofs.GatherLaws.{run_pushed}
 use Rattle.npy_format.proofs.items.push_runs.Goals as goal
 

@@ -1,7 +1,6 @@
 use Rattle.std.proofs.Common.{◌≡◌, ◌^◌, ◌<◌, ◌≤◌, ◌++◌, length, All}
 use Rattle.std.specs.List.{flat_map}
-use Rattle.raw_block.specs.Bytes.{EachWithin}
-use Rattle.shape_strides.specs.Runs.{run_offsets}
+use Rattle.npy_format.specs.Words.{EachWithin, run_offsets}
 use Rattle.npy_format.specs.inside.WrittenItems.{gathered}
 use Rattle.npy_format.proofs.items.push_runs.Given as goal
 

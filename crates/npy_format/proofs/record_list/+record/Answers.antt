@@ -1,10 +1,7 @@
 use Rattle.std.proofs.Common.{◌≡◌, ◌∙◌, ⊎_elim, inl, inr, ap, sym, true, false, Ok, arith, rules}
 use Rattle.std.proofs.lemmas.Result.{err_from_is_err_and}
 use Rattle.elem_descr.specs.declared.descr.Descr.TheVariants.{Record as RecordDescr}
-use Rattle.elem_descr.specs.Names.{is_legal_name}
-use Rattle.elem_descr.specs.Refusals.{◌>>=◌}
-use Rattle.elem_descr.specs.FormatLetters.{is_empty}
-use Rattle.elem_descr.specs.RecordBuilding.{Partial}
+use Rattle.npy_format.specs.Words.{is_legal_name, ◌>>=◌, is_empty, Partial}
 use Rattle.npy_format.specs.Tokens.{tokens}
 use Rattle.npy_format.specs.Literals.{symbol_token_at}
 use Rattle.npy_format.specs.RecordLists.{type_in, record_in}

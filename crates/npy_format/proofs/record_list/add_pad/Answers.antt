@@ -1,6 +1,5 @@
 use Rattle.std.proofs.Common.{rules}
-use Rattle.elem_descr.specs.TypeStrings.{value_of}
-use Rattle.elem_descr.specs.BuildingLaws.{widened-capped}
+use Rattle.npy_format.specs.Words.{value_of, widened-capped}
 use Rattle.npy_format.proofs.record_list.add_pad.Goals as goal
 
 pub returns-clause-answers : goal.returns-clause-answers

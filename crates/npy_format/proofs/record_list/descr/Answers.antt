@@ -1,7 +1,7 @@
 use Rattle.std.proofs.Common.{◌∙◌, ⊎_elim, inl, inr, ap, sym, Ok}
 use Rattle.std.proofs.lemmas.Result.{err_from_is_err_and}
 use Rattle.elem_descr.specs.declared.descr.Descr.TheVariants.{Record as RecordDescr}
-use Rattle.elem_descr.specs.Refusals.{◌>>=◌}
+use Rattle.npy_format.specs.Words.{◌>>=◌}
 use Rattle.npy_format.specs.Tokens.{tokens}
 use Rattle.npy_format.specs.RecordLists.{descr_in}
 use Rattle.npy_format.proofs.StandLaws.{string_stands, list_stands, no_type}

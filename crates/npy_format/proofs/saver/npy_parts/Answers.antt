@@ -1,8 +1,5 @@
 use Rattle.std.proofs.Common.{◌≡◌, ◌*◌, ◌++◌, map, inr, sym, ap, ◌∙◌, Ok, arith}
-use Rattle.elem_descr.specs.Items.{item_size}
-use Rattle.elem_descr.specs.Blocks.{item_from}
-use Rattle.shape_strides.specs.Indexes.{count}
-use Rattle.shape_strides.specs.Layouts.{offsets}
+use Rattle.npy_format.specs.Words.{item_size, item_from, count, offsets}
 use Rattle.npy_format.specs.WrittenFiles.{is_fortran, file_of}
 use Rattle.npy_format.proofs.WriterLaws.{saved-large, saved-small}
 use Rattle.npy_format.proofs.SaverLaws.{large-loads, small-loads}

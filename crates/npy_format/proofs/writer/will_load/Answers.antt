@@ -1,6 +1,5 @@
 use Rattle.std.proofs.Common.{◌<◌, ℕ, get_or, refl, rules}
-use Rattle.shape_strides.specs.Layouts.{offsets}
-use Rattle.shape_strides.specs.LayoutLaws.{length-offsets}
+use Rattle.npy_format.specs.Words.{offsets, length-offsets}
 use Rattle.npy_format.proofs.RoundTrip.{file_loads}
 use Rattle.npy_format.proofs.writer.will_load.Goals as goal
 

@@ -1,9 +1,6 @@
 use Rattle.std.proofs.Common.{◌≡◌, ◌+◌, ◌*◌, ◌≤◌, ◌++◌, length, map, All, sym, ap, subst, ◌∙◌, rules}
 use Rattle.std.specs.List.{flat_map}
-use Rattle.elem_descr.specs.Items.{encode_item}
-use Rattle.elem_descr.specs.Blocks.{item_from}
-use Rattle.shape_strides.specs.Layouts.{offsets}
-use Rattle.shape_strides.specs.LayoutLaws.{length-offsets}
+use Rattle.npy_format.specs.Words.{encode_item, item_from, offsets, length-offsets}
 use Rattle.npy_format.specs.Files.{file_order}
 use Rattle.npy_format.specs.WrittenHeaders.{written_text, written_header}
 use Rattle.npy_format.specs.WrittenFiles.{is_fortran, ordered, file_of}

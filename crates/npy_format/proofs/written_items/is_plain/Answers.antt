@@ -1,11 +1,7 @@
 use Rattle.std.proofs.Common.{◌+◌, List, drop, sym, subst, ◌∙◌, arith}
 use Rattle.std.proofs.lemmas.Bool.{eqb-true}
 use Rattle.std.proofs.lemmas.List.{drop_all}
-use Rattle.elem_descr.specs.declared.leaf.Leaf.{Leaf}
-use Rattle.elem_descr.specs.Encoding.{size}
-use Rattle.elem_descr.specs.DescriptorLaws.{rest_at}
-use Rattle.elem_descr.specs.Items.{AreInOrder}
-use Rattle.elem_descr.specs.ItemLaws.{AreInOrder-within}
+use Rattle.npy_format.specs.Words.{Leaf, size, rest_at, AreInOrder, AreInOrder-within}
 use Rattle.npy_format.specs.inside.WrittenItems.{IsPlain}
 use Rattle.npy_format.proofs.written_items.is_plain.Goals as goal
 

@@ -1,5 +1,5 @@
 use Rattle.std.proofs.Common.{drop}
-use Rattle.elem_descr.specs.Items.{AreInOrder}
+use Rattle.npy_format.specs.Words.{AreInOrder}
 use Rattle.npy_format.specs.inside.WrittenItems.{IsPlain}
 use Rattle.npy_format.proofs.written_items.is_plain.Given as goal
 

@@ -1,5 +1,5 @@
 use Rattle.std.proofs.Common.{◌≡◌, ◌++◌, length, drop}
-use Rattle.elem_descr.specs.Items.{AreInOrder}
+use Rattle.npy_format.specs.Words.{AreInOrder}
 use Rattle.npy_format.specs.inside.WrittenItems.{limits_from}
 use Rattle.npy_format.proofs.written_items.limits.Given as goal
 

@@ -1,5 +1,5 @@
 use Rattle.std.proofs.Common.{ℕ, ◌∷◌, map, drop}
-use Rattle.shape_strides.specs.Stacks.{axes}
+use Rattle.overlap_copy.specs.Words.{axes}
 use Rattle.overlap_copy.specs.Apart.{step_of, IsGreatestDivisor}
 use Rattle.overlap_copy.proofs.apart.divisor_with.Given as goal
 

@@ -1,8 +1,6 @@
 use Rattle.std.proofs.Common.{◌≡◌, ◌*◌, length, sym, ap, subst, ◌∙◌, All, ◌+◌, ◌≤◌, arith}
 use Rattle.std.proofs.lemmas.Bool.{both_ways}
-use Rattle.shape_strides.specs.Layouts.{offsets, multiples}
-use Rattle.shape_strides.specs.LayoutLaws.{length-offsets, offsets_within}
-use Rattle.arrays.specs.Assignments.{with_items, assigned}
+use Rattle.overlap_copy.specs.Words.{offsets, multiples, length-offsets, offsets_within, with_items, assigned}
 use Rattle.overlap_copy.proofs.assignment.assign.Goals as goal
 
 pub gather-requires : goal.gather-requires

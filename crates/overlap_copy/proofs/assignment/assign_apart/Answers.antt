@@ -1,8 +1,5 @@
 use Rattle.std.proofs.Common.{length, sym, ap, subst, ◌∙◌}
-use Rattle.shape_strides.specs.Limits.{max_bytes}
-use Rattle.shape_strides.specs.Layouts.{offsets}
-use Rattle.shape_strides.specs.LayoutLaws.{offsets_within}
-use Rattle.arrays.specs.RunLaws.{walked-within}
+use Rattle.overlap_copy.specs.Words.{max_bytes, offsets, offsets_within, walked-within}
 use Rattle.overlap_copy.specs.inside.Moves.{LieApart}
 use Rattle.overlap_copy.proofs.AssignLaws.{lie_apart}
 use Rattle.overlap_copy.proofs.PairCopies.{firsts, seconds}

@@ -1,6 +1,5 @@
 use Rattle.std.proofs.Common.{◌+◌, ◌≤◌, length, ◌∙◌}
-use Rattle.shape_strides.specs.Layouts.{offsets}
-use Rattle.arrays.specs.PairLaws.{even, pair_even, All-firsts, All-seconds}
+use Rattle.overlap_copy.specs.Words.{offsets, even, pair_even, All-firsts, All-seconds}
 use Rattle.overlap_copy.specs.OrderLaws.{assigned-reordered}
 use Rattle.overlap_copy.proofs.assignment.assign_from.Goals as goal
 

@@ -1,6 +1,5 @@
 use Rattle.std.proofs.Common.{length, ◌∙◌}
-use Rattle.shape_strides.specs.Layouts.{offsets}
-use Rattle.arrays.specs.Assignments.{assigned}
+use Rattle.overlap_copy.specs.Words.{offsets, assigned}
 use Rattle.overlap_copy.proofs.PairCopies.{as_many, one-within}
 use Rattle.overlap_copy.proofs.assignment.assign_in_order.Goals as goal
 

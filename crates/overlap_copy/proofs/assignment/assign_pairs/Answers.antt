@@ -1,6 +1,5 @@
 use Rattle.std.proofs.Common.{length}
-use Rattle.shape_strides.specs.Limits.{max_bytes}
-use Rattle.arrays.specs.RunLaws.{walked-within}
+use Rattle.overlap_copy.specs.Words.{max_bytes, walked-within}
 use Rattle.overlap_copy.proofs.assignment.assign_pairs.Goals as goal
 
 pub copy_pairs-requires-clause-to : goal.copy_pairs-requires-clause-to

@@ -1,7 +1,6 @@
 use Rattle.std.proofs.Common.{◌≡◌, length, sym, ◌∙◌, arith}
 use Rattle.std.proofs.lemmas.Bool.{both_ways}
-use Rattle.shape_strides.specs.Layouts.{offsets}
-use Rattle.shape_strides.specs.LayoutLaws.{length-offsets, offsets_within}
+use Rattle.overlap_copy.specs.Words.{offsets, length-offsets, offsets_within}
 use Rattle.overlap_copy.proofs.LineLaws.{run_of, run_length, run_spaced, moved_is_assigned, moved_along, turned_line}
 use Rattle.overlap_copy.proofs.assignment.assign_runs.Goals as goal
 

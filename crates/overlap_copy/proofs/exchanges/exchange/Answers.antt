@@ -1,9 +1,6 @@
 use Rattle.std.proofs.Common.{◌+◌, ◌≤◌, length, sym, ap, ◌∙◌}
-use Rattle.shape_strides.specs.Indexes.{count}
-use Rattle.shape_strides.specs.Layouts.{offsets}
-use Rattle.arrays.specs.Assignments.{items_at}
+use Rattle.overlap_copy.specs.Words.{count, offsets, items_at, even, pair_even, All-firsts, All-seconds, firsts-reordered, seconds-reordered, flipped-reordered}
 use Rattle.overlap_copy.proofs.TradeLaws.{items-assigned}
-use Rattle.arrays.specs.PairLaws.{even, pair_even, All-firsts, All-seconds, firsts-reordered, seconds-reordered, flipped-reordered}
 use Rattle.overlap_copy.specs.OrderLaws.{nested-reordered, assigned-reordered}
 use Rattle.overlap_copy.proofs.exchanges.exchange.Goals as goal
 

@@ -1,11 +1,5 @@
 use Rattle.std.proofs.Common.{◌≡◌, ◌+◌, ◌≤◌, ℕ, List, All, length, ap, ◌∙◌}
-use Rattle.shape_strides.specs.Limits.{max_bytes}
-use Rattle.shape_strides.specs.declared.layout.Layout.{Layout}
-use Rattle.shape_strides.specs.Indexes.{count}
-use Rattle.shape_strides.specs.Layouts.{offsets, IsNested}
-use Rattle.arrays.specs.Assignments.{assigned}
-use Rattle.arrays.specs.RunLaws.{walked-within}
-use Rattle.arrays.specs.PairLaws.{even}
+use Rattle.overlap_copy.specs.Words.{max_bytes, Layout, count, offsets, IsNested, assigned, walked-within, even}
 use Rattle.overlap_copy.specs.inside.Trades.{traded_at}
 use Rattle.overlap_copy.proofs.PairCopies.{as_many, one-within, firsts, seconds}
 use Rattle.overlap_copy.proofs.TradeLaws.{traded-apart}

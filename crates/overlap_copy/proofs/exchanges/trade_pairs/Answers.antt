@@ -1,7 +1,6 @@
 use Rattle.std.proofs.Common.{◌≡◌, length, ap, sym, subst, ◌∙◌}
 use Rattle.std.proofs.lemmas.List.Elements.{All-rest}
-use Rattle.raw_block.specs.Bytes.{EachWithin}
-use Rattle.arrays.specs.RunLaws.{next_pair}
+use Rattle.overlap_copy.specs.Words.{EachWithin, next_pair}
 use Rattle.overlap_copy.specs.inside.Trades.{traded_at}
 use Rattle.overlap_copy.proofs.PairCopies.{firsts, seconds}
 use Rattle.overlap_copy.proofs.TradeLaws.{traded-pair}

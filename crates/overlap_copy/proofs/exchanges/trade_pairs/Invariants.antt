@@ -1,5 +1,5 @@
 use Rattle.std.proofs.Common.{◌≡◌, length, All}
-use Rattle.raw_block.specs.Bytes.{EachWithin}
+use Rattle.overlap_copy.specs.Words.{EachWithin}
 use Rattle.overlap_copy.specs.inside.Trades.{traded_at}
 use Rattle.overlap_copy.proofs.PairCopies.{firsts, seconds}
 use Rattle.overlap_copy.proofs.exchanges.trade_pairs.Given as goal

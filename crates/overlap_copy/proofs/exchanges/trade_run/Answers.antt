@@ -1,7 +1,7 @@
 use Rattle.std.proofs.Common.{rules, w64, ◌∙◌}
 use Rattle.std.proofs.lemmas.Int.{to_z-of_z}
 use mir.Val.{SFits}
-use Rattle.raw_block.specs.Bytes.{traded}
+use Rattle.overlap_copy.specs.Words.{traded}
 use Rattle.overlap_copy.proofs.TradeLaws.{traded-even}
 use Rattle.overlap_copy.proofs.exchanges.trade_run.Goals as goal
 

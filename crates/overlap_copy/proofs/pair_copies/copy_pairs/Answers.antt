@@ -1,10 +1,8 @@
 use Rattle.std.proofs.Common.{◌≡◌, length, ap, sym, subst, ◌∙◌}
 use Rattle.std.proofs.lemmas.List.Elements.{All-rest}
-use Rattle.raw_block.specs.Bytes.{EachWithin}
-use Rattle.arrays.specs.Assignments.{assigned}
+use Rattle.overlap_copy.specs.Words.{EachWithin, assigned, next_pair}
 use Rattle.overlap_copy.proofs.PairCopies.{firsts, seconds, copied-pair}
 use Rattle.overlap_copy.proofs.pair_copies.copy_pairs.Goals as goal
-use Rattle.arrays.specs.RunLaws.{next_pair}
 
 pub copy_run-requires : goal.copy_run-requires
 copy_run-requires c = record {

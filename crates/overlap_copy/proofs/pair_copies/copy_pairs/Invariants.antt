@@ -1,6 +1,5 @@
 use Rattle.std.proofs.Common.{◌≡◌, length, All}
-use Rattle.raw_block.specs.Bytes.{EachWithin}
-use Rattle.arrays.specs.Assignments.{assigned}
+use Rattle.overlap_copy.specs.Words.{EachWithin, assigned}
 use Rattle.overlap_copy.proofs.PairCopies.{firsts, seconds}
 use Rattle.overlap_copy.proofs.pair_copies.copy_pairs.Given as goal
 

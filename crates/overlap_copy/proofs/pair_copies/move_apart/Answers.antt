@@ -1,7 +1,7 @@
 use Rattle.std.proofs.Common.{rules, ◌≡◌, length, w64, sym, subst, ◌∙◌, arith}
 use Rattle.std.proofs.lemmas.Int.{to_z-of_z}
 use mir.Val.{SFits}
-use Rattle.raw_block.specs.Bytes.{EachWithin, copied_within}
+use Rattle.overlap_copy.specs.Words.{EachWithin, copied_within}
 use Rattle.overlap_copy.specs.inside.Moves.{IsAssigned, place_in}
 use Rattle.overlap_copy.proofs.RunCopyLaws.{whole_within, packed_moved}
 use Rattle.overlap_copy.proofs.MovingLaws.{assigned_from_moves, apart_passed}

@@ -1,15 +1,10 @@
 use Rattle.std.proofs.Common.{◌≡◌, ◌++◌, length, All, sym, subst, ◌∙◌}
 use Rattle.std.proofs.lemmas.List.Elements.{All-rest}
-use Rattle.raw_block.specs.Bytes.{EachWithin}
-use Rattle.shape_strides.specs.Layouts.{IsNested}
-use Rattle.shape_strides.specs.Runs.{run_offsets}
-use Rattle.shape_strides.specs.WalkLaws.{length-run_offsets}
-use Rattle.arrays.specs.Assignments.{assigned}
+use Rattle.overlap_copy.specs.Words.{EachWithin, IsNested, run_offsets, length-run_offsets, assigned, next_pair}
 use Rattle.overlap_copy.specs.inside.Moves.{LieApart}
 use Rattle.overlap_copy.proofs.PairCopies.{firsts, seconds, firsts-end, seconds-end}
 use Rattle.overlap_copy.proofs.MovingLaws.{IsMoving, moving_begins, moving_on, nested-front, nested-back, fewer-targets, fewer-sources}
 use Rattle.overlap_copy.proofs.pair_copies.move_pairs.Goals as goal
-use Rattle.arrays.specs.RunLaws.{next_pair}
 
 pub loop-pair-init : goal.loop-pair-init
 loop-pair-init c =

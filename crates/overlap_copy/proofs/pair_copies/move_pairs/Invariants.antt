@@ -1,7 +1,5 @@
 use Rattle.std.proofs.Common.{◌≡◌, length, All}
-use Rattle.raw_block.specs.Bytes.{EachWithin}
-use Rattle.shape_strides.specs.Layouts.{IsNested}
-use Rattle.arrays.specs.Assignments.{assigned}
+use Rattle.overlap_copy.specs.Words.{EachWithin, IsNested, assigned}
 use Rattle.overlap_copy.specs.inside.Moves.{LieApart}
 use Rattle.overlap_copy.proofs.PairCopies.{firsts, seconds}
 use Rattle.overlap_copy.proofs.MovingLaws.{IsMoving}

@@ -1,7 +1,7 @@
 use Rattle.std.proofs.Common.{rules, ◌≡◌, length, arith, w64, refl, sym, subst, ◌∙◌}
 use Rattle.std.proofs.lemmas.Int.{to_z-of_z}
 use mir.Val.{SFits}
-use Rattle.raw_block.specs.Bytes.{EachWithin, copied_within}
+use Rattle.overlap_copy.specs.Words.{EachWithin, copied_within}
 use Rattle.overlap_copy.specs.inside.Moves.{IsAssigned, place_in}
 use Rattle.overlap_copy.proofs.TurnLaws.{alike, line_within, turned_within, moved_forwards, moved_backwards, down_from}
 use Rattle.overlap_copy.proofs.RunCopyLaws.{whole_within, packed_moved}

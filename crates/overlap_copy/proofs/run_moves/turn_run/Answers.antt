@@ -2,7 +2,7 @@ use Rattle.std.proofs.Common.{rules, ◌≡◌, ◌/◌, length, w64, sym, subst
 use Rattle.std.proofs.lemmas.Int.{to_z-of_z}
 use Rattle.std.proofs.Math.Nat.{div-le_self}
 use mir.Val.{SFits}
-use Rattle.raw_block.specs.Bytes.{EachWithin, swapped}
+use Rattle.overlap_copy.specs.Words.{EachWithin, swapped}
 use Rattle.overlap_copy.specs.inside.Moves.{IsAssigned, place_in}
 use Rattle.overlap_copy.proofs.TurnLaws.{line_within, turned_within, fewer_within}
 use Rattle.overlap_copy.proofs.SwapLaws.{turned_by_swaps}

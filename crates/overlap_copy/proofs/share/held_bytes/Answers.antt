@@ -1,6 +1,6 @@
 use Rattle.std.proofs.Common.{◌≡◌, ◌+◌, ◌||◌, false, length, get_or, nat_eq, take, drop, ◌++◌, ap, ◌∙◌, arith}
 use Rattle.std.specs.List.{list_any}
-use Rattle.shape_strides.specs.Layouts.{offsets}
+use Rattle.overlap_copy.specs.Words.{offsets}
 use Rattle.overlap_copy.proofs.ShareLaws.{refilled, held-marks, none-clear}
 use Rattle.overlap_copy.proofs.share.held_bytes.Goals as goal
 

@@ -1,7 +1,6 @@
 use Rattle.std.proofs.Common.{◌+◌, ◌-◌, ◌≤◌, All, ◌∙◌, arith}
 use Rattle.std.specs.List.{list_any}
-use Rattle.shape_strides.specs.Limits.{max_bytes}
-use Rattle.shape_strides.specs.Layouts.{offsets}
+use Rattle.overlap_copy.specs.Words.{max_bytes, offsets}
 use Rattle.overlap_copy.specs.inside.Marks.{is_end_marked}
 use Rattle.overlap_copy.proofs.OverlapLaws.{some_where_meet, common-ends}
 use Rattle.overlap_copy.proofs.ShareLaws.{ends-held}

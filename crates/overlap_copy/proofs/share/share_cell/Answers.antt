@@ -1,5 +1,5 @@
 use Rattle.std.proofs.Common.{◌≡◌, Bool, IfOk, subst}
-use Rattle.shape_strides.specs.Layouts.{offsets}
+use Rattle.overlap_copy.specs.Words.{offsets}
 use Rattle.overlap_copy.proofs.OverlapLaws.{common-turned}
 use Rattle.overlap_copy.proofs.share.share_cell.Goals as goal
 

@@ -1,6 +1,5 @@
 use Rattle.std.proofs.Common.{length, sym, arith}
-use Rattle.shape_strides.specs.Limits.{max_bytes}
-use Rattle.arrays.specs.RunLaws.{lie-within}
+use Rattle.overlap_copy.specs.Words.{max_bytes, lie-within}
 use Rattle.overlap_copy.proofs.MovingLaws.{assigned_from_moves}
 use Rattle.overlap_copy.proofs.ShiftLaws.{line-of, back-line, spaced, back-spaced, back-moved, one-within, one-moved}
 use Rattle.overlap_copy.proofs.shifted.move_any_run.Goals as goal

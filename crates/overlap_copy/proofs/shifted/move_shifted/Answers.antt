@@ -1,11 +1,7 @@
 use Rattle.std.proofs.Common.{◌≤◌, [], ◌∷◌, length, All, sym, ap, subst, ◌∙◌}
 use Rattle.std.specs.List.{flat_map}
 use Rattle.std.proofs.lemmas.List.Elements.{All-rest}
-use Rattle.raw_block.specs.Bytes.{EachWithin}
-use Rattle.shape_strides.specs.Limits.{max_bytes}
-use Rattle.shape_strides.specs.Addresses.{LieWithin}
-use Rattle.shape_strides.specs.Runs.{run_offsets}
-use Rattle.arrays.specs.Assignments.{assigned}
+use Rattle.overlap_copy.specs.Words.{EachWithin, max_bytes, LieWithin, run_offsets, assigned}
 use Rattle.overlap_copy.specs.inside.Shifts.{sources, MayCome}
 use Rattle.overlap_copy.proofs.MovingLaws.{IsMoving, moving_begins}
 use Rattle.overlap_copy.proofs.ShiftLaws.{sources-end, next-come, later-come, next-within, next-start, next-low, next-few, next-source-lies, next-source-within, run-moved}

@@ -1,9 +1,6 @@
 use Rattle.std.proofs.Common.{◌≤◌, [], ◌∷◌, length, All}
 use Rattle.std.specs.List.{flat_map}
-use Rattle.shape_strides.specs.Limits.{max_bytes}
-use Rattle.shape_strides.specs.Addresses.{LieWithin}
-use Rattle.shape_strides.specs.Runs.{run_offsets}
-use Rattle.arrays.specs.Assignments.{assigned}
+use Rattle.overlap_copy.specs.Words.{max_bytes, LieWithin, run_offsets, assigned}
 use Rattle.overlap_copy.specs.inside.Shifts.{sources, MayCome}
 use Rattle.overlap_copy.proofs.MovingLaws.{IsMoving}
 use Rattle.overlap_copy.proofs.shifted.move_shifted.Given as goal

@@ -1,6 +1,5 @@
 use Rattle.std.proofs.Common.{◌≡◌, refl, arith}
-use Rattle.shape_strides.specs.Indexes.{count}
-use Rattle.shape_strides.specs.PermutationLaws.{zero-count}
+use Rattle.reductions.specs.Words.{count, zero-count}
 use Rattle.reductions.proofs.axes.have_items.Goals as goal
 
 pub returns-then-len-eq0 : goal.returns-then-len-eq0

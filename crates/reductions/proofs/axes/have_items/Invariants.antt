@@ -1,5 +1,5 @@
 use Rattle.std.proofs.Common.{◌≡◌, drop}
-use Rattle.shape_strides.specs.Indexes.{count}
+use Rattle.reductions.specs.Words.{count}
 use Rattle.reductions.proofs.axes.have_items.Given as goal
 
 -- no length so far is 0

@@ -1,7 +1,6 @@
 use Rattle.std.proofs.Common.{inr, sym, ap, subst, ◌∙◌}
 use Rattle.std.specs.Prelude.{◌&&◌}
-use Rattle.elem_descr.specs.Refusals.{Gives}
-use Rattle.shape_strides.specs.Shapes.{shape_of}
+use Rattle.reductions.specs.Words.{Gives, shape_of}
 use Rattle.reductions.specs.Lists.{reduced_shape}
 use Rattle.reductions.specs.Outcomes.{has_empty_list}
 use Rattle.reductions.specs.Reductions.{needs_items}

@@ -1,7 +1,6 @@
 use Rattle.std.proofs.Common.{List, ℕ, ap, subst, ◌∙◌}
 use Rattle.std.specs.List.{remove}
-use Rattle.elem_descr.specs.Refusals.{Gives}
-use Rattle.shape_strides.specs.Shapes.{shape_of}
+use Rattle.reductions.specs.Words.{Gives, shape_of}
 use Rattle.reductions.proofs.AxisLaws.{shape-without, is_unless_memory}
 use Rattle.reductions.proofs.axes.shape_without.Goals as goal
 

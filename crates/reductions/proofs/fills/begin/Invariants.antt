@@ -1,6 +1,6 @@
 use Rattle.std.proofs.Common.{◌≡◌, ◌≤◌, [], length}
 use Rattle.std.specs.Prelude.{vec_capacity}
-use Rattle.machine_numbers.specs.Sides.{number_of_side}
+use Rattle.reductions.specs.Words.{number_of_side}
 use Rattle.reductions.specs.inside.Lines.{EachOf}
 use Rattle.reductions.proofs.fills.begin.Given as goal
 

@@ -1,14 +1,7 @@
 use Rattle.std.proofs.Common.{◌≡◌, ◌+◌, ◌≤◌, ℤ, List, [], ◌∷◌, ◌++◌, All, length, drop, refl, sym, ap, subst, ◌∙◌, arith, append_assoc, append-nil, length-append}
 use Rattle.std.proofs.lemmas.List.{map-append}
 use Rattle.std.proofs.lemmas.List.Elements.{All-head, All-rest}
-use Rattle.raw_block.specs.Bytes.{EachWithin}
-use Rattle.arrays.specs.RunLaws.{runs-within}
-use Rattle.shape_strides.specs.Limits.{max_bytes}
-use Rattle.shape_strides.specs.Layouts.{offsets}
-use Rattle.shape_strides.specs.LayoutLaws.{length-offsets, entry-first}
-use Rattle.shape_strides.specs.RunPairs.{all_offsets}
-use Rattle.shape_strides.specs.Runs.{run_offsets, runs}
-use Rattle.shape_strides.specs.WalkLaws.{length-first}
+use Rattle.reductions.specs.Words.{EachWithin, runs-within, max_bytes, offsets, length-offsets, entry-first, all_offsets, run_offsets, runs, length-first}
 use Rattle.reductions.specs.inside.Numbers.{number_at, numbers_at}
 use Rattle.reductions.proofs.LineLaws.{headed, length-numbers}
 use Rattle.reductions.proofs.fills.fold_all.Goals as goal

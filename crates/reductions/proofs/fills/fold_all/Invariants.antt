@@ -1,8 +1,5 @@
 use Rattle.std.proofs.Common.{◌≡◌, ◌+◌, All, length}
-use Rattle.raw_block.specs.Bytes.{EachWithin}
-use Rattle.shape_strides.specs.Indexes.{count}
-use Rattle.shape_strides.specs.Layouts.{offsets}
-use Rattle.shape_strides.specs.RunPairs.{all_offsets}
+use Rattle.reductions.specs.Words.{EachWithin, count, offsets, all_offsets}
 use Rattle.reductions.specs.inside.Numbers.{number_at, numbers_at}
 use Rattle.reductions.proofs.LineLaws.{TakesOn}
 use Rattle.reductions.proofs.fills.fold_all.Given as goal

@@ -1,6 +1,6 @@
 use Rattle.std.proofs.Common.{◌+◌, ◌<◌, [], ◌∷◌, ◌++◌, length, take, drop, sym, ap, subst, ◌∙◌, get_or, arith}
 use Rattle.std.proofs.Math.Seq.{take-append_seam}
-use Rattle.raw_block.specs.Bytes.{place}
+use Rattle.reductions.specs.Words.{place}
 use Rattle.reductions.specs.inside.Lines.{line_first, line_front, line_run}
 use Rattle.reductions.specs.inside.Numbers.{number_at}
 use Rattle.reductions.proofs.LineLaws.{front, numbers-more, length-numbers, at_first}

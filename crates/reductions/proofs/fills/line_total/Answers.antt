@@ -1,9 +1,6 @@
 use Rattle.std.proofs.Common.{◌≡◌, ◌-◌, ℤ, List, ◌∷◌, pos, map, sym, ap, subst, ◌∙◌, arith}
 use Rattle.std.specs.Prelude.{◌+ℤ◌}
-use Rattle.elem_descr.specs.Steps.{numbers_from}
-use Rattle.raw_block.specs.Bytes.{place}
-use Rattle.shape_strides.specs.Addresses.{natural}
-use Rattle.shape_strides.specs.Runs.{run_offsets}
+use Rattle.reductions.specs.Words.{numbers_from, place, natural, run_offsets}
 use Rattle.reductions.specs.inside.Lines.{line_run, line_first}
 use Rattle.reductions.specs.inside.Numbers.{numbers_at}
 use Rattle.reductions.proofs.LineLaws.{numbers-first}

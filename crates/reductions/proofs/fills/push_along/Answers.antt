@@ -1,14 +1,7 @@
 use Rattle.std.proofs.Common.{◌≡◌, ◌+◌, ◌*◌, ◌≤◌, All, length, sym, ap, subst, ◌∙◌, arith, add-mul}
 use Rattle.std.proofs.lemmas.List.{map-append}
 use Rattle.std.proofs.lemmas.List.Elements.{All-head, All-rest}
-use Rattle.raw_block.specs.Bytes.{place, EachWithin}
-use Rattle.arrays.specs.RunLaws.{runs-within, place-at, All-front, All-back}
-use Rattle.shape_strides.specs.Limits.{max_bytes}
-use Rattle.shape_strides.specs.Layouts.{offsets}
-use Rattle.shape_strides.specs.LayoutLaws.{length-offsets}
-use Rattle.shape_strides.specs.RunPairs.{all_offsets}
-use Rattle.shape_strides.specs.Runs.{run_along, run_offsets, runs}
-use Rattle.shape_strides.specs.WalkLaws.{length-run_offsets, length-first}
+use Rattle.reductions.specs.Words.{place, EachWithin, runs-within, place-at, All-front, All-back, max_bytes, offsets, length-offsets, all_offsets, run_along, run_offsets, runs, length-run_offsets, length-first}
 use Rattle.reductions.specs.inside.Numbers.{lines, AddsReduced}
 use Rattle.reductions.proofs.AddedLaws.{adds_none, adds_all, length-lines}
 use Rattle.reductions.proofs.fills.push_along.Goals as goal

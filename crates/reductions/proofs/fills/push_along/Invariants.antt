@@ -1,7 +1,5 @@
 use Rattle.std.proofs.Common.{◌*◌, ◌<◌, ◌≤◌, ◌^◌, ℕ, List, All, length}
-use Rattle.raw_block.specs.Bytes.{EachWithin}
-use Rattle.shape_strides.specs.RunPairs.{all_offsets}
-use Rattle.shape_strides.specs.Layouts.{offsets}
+use Rattle.reductions.specs.Words.{EachWithin, all_offsets, offsets}
 use Rattle.reductions.specs.inside.Numbers.{lines, AddsReduced}
 use Rattle.reductions.proofs.fills.push_along.Given as goal
 

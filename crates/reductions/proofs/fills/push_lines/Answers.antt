@@ -1,8 +1,5 @@
 use Rattle.std.proofs.Common.{◌<◌, ◌^◌, length, subst, arith}
-use Rattle.elem_descr.specs.declared.scalar.Order.TheVariants.{Little}
-use Rattle.elem_descr.specs.Encoding.{encode}
-use Rattle.elem_descr.specs.Values.{number}
-use Rattle.shape_strides.specs.Runs.{run_offsets}
+use Rattle.reductions.specs.Words.{Little, encode, number, run_offsets}
 use Rattle.reductions.specs.inside.Lines.{line_run}
 use Rattle.reductions.specs.inside.Numbers.{numbers_at, lines, IsStored, AddsReduced}
 use Rattle.reductions.proofs.LineLaws.{front, length-numbers}

@@ -1,4 +1,4 @@
-use Rattle.shape_strides.specs.Runs.{run_offsets}
+use Rattle.reductions.specs.Words.{run_offsets}
 use Rattle.reductions.specs.inside.Numbers.{lines, AddsReduced}
 use Rattle.reductions.proofs.LineLaws.{front}
 use Rattle.reductions.proofs.fills.push_lines.Given as goal

@@ -1,11 +1,6 @@
 use Rattle.std.proofs.Common.{◌≡◌, ◌*◌, ◌<◌, ◌^◌, [], ◌∷◌, length, sym, subst, ◌∙◌, arith}
 use Rattle.std.proofs.lemmas.List.{length-map}
-use Rattle.elem_descr.specs.declared.scalar.Order.TheVariants.{Little}
-use Rattle.elem_descr.specs.Encoding.{encode}
-use Rattle.elem_descr.specs.Values.{number}
-use Rattle.shape_strides.specs.Layouts.{offsets}
-use Rattle.shape_strides.specs.LayoutLaws.{length-offsets}
-use Rattle.shape_strides.specs.Runs.{run_along, run_offsets}
+use Rattle.reductions.specs.Words.{Little, encode, number, offsets, length-offsets, run_along, run_offsets}
 use Rattle.reductions.specs.inside.Numbers.{number_at, numbers_at, lines, lists_from, IsStored, AreReduced}
 use Rattle.reductions.proofs.AddedLaws.{adds_one, whole, full}
 use Rattle.reductions.proofs.fills.reduced.Goals as goal

@@ -1,6 +1,6 @@
 use Rattle.std.proofs.Common.{◌<◌, ℕ, [], ◌∷◌, ◌++◌, length, refl, sym, subst, ◌∙◌, arith}
 use Rattle.std.proofs.lemmas.List.{length-set, get_or_default}
-use Rattle.machine_numbers.specs.Sides.{number_of_side}
+use Rattle.reductions.specs.Words.{number_of_side}
 use Rattle.reductions.specs.inside.Numbers.{TakesIn}
 use Rattle.reductions.proofs.HeldLaws.{pair_set, later_set}
 use Rattle.reductions.proofs.fills.take_each.Goals as goal

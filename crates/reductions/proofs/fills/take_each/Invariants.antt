@@ -1,5 +1,5 @@
 use Rattle.std.proofs.Common.{◌≡◌, ◌≤◌, [], ◌∷◌, length}
-use Rattle.machine_numbers.specs.Sides.{number_of_side}
+use Rattle.reductions.specs.Words.{number_of_side}
 use Rattle.reductions.specs.inside.Lines.{EachPair}
 use Rattle.reductions.specs.inside.Numbers.{TakesIn}
 use Rattle.reductions.proofs.fills.take_each.Given as goal

@@ -1,6 +1,6 @@
 use Rattle.std.proofs.Common.{◌≡◌, false, [], inl, inr, refl, sym, ap, ◌∙◌, rules}
 use Rattle.std.specs.Prelude.{nat_eq, not}
-use Rattle.shape_strides.specs.Runs.{run_offsets}
+use Rattle.reductions.specs.Words.{run_offsets}
 use Rattle.reductions.specs.inside.Extremes.{is_better}
 use Rattle.reductions.proofs.DecidedLaws.{sought-none}
 use Rattle.reductions.proofs.folds.seek_in.Goals as goal

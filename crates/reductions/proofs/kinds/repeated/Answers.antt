@@ -1,9 +1,6 @@
 use Rattle.std.proofs.Common.{◌≡◌, ◌*◌, ◌++◌, [], ◌∷◌, length, take, drop, ap, subst, sym, ◌∙◌}
 use Rattle.std.proofs.Math.Seq.{take-append_seam}
-use Rattle.elem_descr.specs.ByteLaws.{length-encode}
-use Rattle.raw_block.specs.Bytes.{item_at, joined}
-use Rattle.raw_block.specs.JoinedLaws.{length-joined, item_of_joined}
-use Rattle.elem_descr.specs.declared.scalar.Order.TheVariants.{Little}
+use Rattle.reductions.specs.Words.{length-encode, item_at, joined, length-joined, item_of_joined, Little}
 use Rattle.reductions.specs.inside.Numbers.{IsStored}
 use Rattle.reductions.proofs.kinds.repeated.Goals as goal
 

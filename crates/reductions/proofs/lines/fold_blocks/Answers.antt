@@ -1,7 +1,5 @@
 use Rattle.std.proofs.Common.{◌≡◌, ◌+◌, ◌-◌, ◌++◌, map, pos, ◌+ℤ◌, ◌*ℤ◌, sym, ap, subst, ◌∙◌, arith, append_assoc, length-append}
-use Rattle.elem_descr.specs.Steps.{numbers_from}
-use Rattle.shape_strides.specs.Addresses.{natural}
-use Rattle.shape_strides.specs.Runs.{run_offsets}
+use Rattle.reductions.specs.Words.{numbers_from, natural, run_offsets}
 use Rattle.reductions.specs.inside.Numbers.{numbers_at, numbers_of}
 use Rattle.reductions.proofs.LineLaws.{front, length-numbers, numbers-cut, part_numbers}
 use Rattle.reductions.proofs.lines.fold_blocks.Goals as goal

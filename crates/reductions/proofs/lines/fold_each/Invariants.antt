@@ -1,5 +1,5 @@
 use Rattle.reductions.specs.inside.Numbers.{numbers_at, TakesIn}
-use Rattle.shape_strides.specs.Runs.{run_offsets}
+use Rattle.reductions.specs.Words.{run_offsets}
 use Rattle.reductions.proofs.LineLaws.{front}
 use Rattle.reductions.proofs.lines.fold_each.Given as goal
 

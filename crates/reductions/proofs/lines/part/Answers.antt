@@ -1,6 +1,5 @@
 use Rattle.std.proofs.Common.{subst, length, sym, ap, ◌∙◌, arith}
-use Rattle.raw_block.specs.Bytes.{EachWithin}
-use Rattle.shape_strides.specs.Runs.{run_along}
+use Rattle.reductions.specs.Words.{EachWithin, run_along}
 use Rattle.reductions.proofs.LineLaws.{part_within}
 use Rattle.reductions.proofs.lines.part.Goals as goal
 

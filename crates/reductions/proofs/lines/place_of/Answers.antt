@@ -1,6 +1,5 @@
 use Rattle.std.proofs.Common.{◌≡◌, ◌+◌, ◌∷◌, [], ◌++◌, length, sym, ap, ◌∙◌}
-use Rattle.elem_descr.specs.Encoding.{integer, low_bits}
-use Rattle.shape_strides.specs.Runs.{run_offsets}
+use Rattle.reductions.specs.Words.{integer, low_bits, run_offsets}
 use Rattle.reductions.specs.Reductions.{first_place}
 use Rattle.reductions.specs.inside.FoundLaws.{absent-next}
 use Rattle.reductions.specs.inside.Numbers.{numbers_at}

@@ -2,13 +2,7 @@ use Rattle.std.proofs.Common.{◌≡◌, ◌+◌, ◌*◌, ◌≤◌, All, inl, 
 use Rattle.std.specs.List.{flat_map}
 use Rattle.std.proofs.lemmas.Result.{err_from_is_err_and}
 use Rattle.elem_descr.specs.declared.descr.Descr.TheVariants.{Scalar as ScalarDescr}
-use Rattle.elem_descr.specs.Blocks.{item_from}
-use Rattle.elem_descr.specs.Encoding.{size}
-use Rattle.elem_descr.specs.Items.{item_size, encode_item}
-use Rattle.elem_descr.specs.Refusals.{Gives}
-use Rattle.shape_strides.specs.Indexes.{count}
-use Rattle.shape_strides.specs.Limits.{max_items}
-use Rattle.shape_strides.specs.Layouts.{offsets, multiples}
+use Rattle.reductions.specs.Words.{item_from, size, item_size, encode_item, Gives, count, max_items, offsets, multiples}
 use Rattle.reductions.specs.Lists.{named_axis, is_axis, lists}
 use Rattle.reductions.specs.Outcomes.{reduced_type, outcome_of}
 use Rattle.reductions.specs.Reductions.{result_scalar, reduced_items}

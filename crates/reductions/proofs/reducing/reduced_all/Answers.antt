@@ -1,6 +1,5 @@
 use Rattle.std.proofs.Common.{refl}
-use Rattle.shape_strides.specs.Layouts.{offsets}
-use Rattle.arrays.specs.PairLaws.{pair_even, firsts-reordered}
+use Rattle.reductions.specs.Words.{offsets, pair_even, firsts-reordered}
 use Rattle.reductions.proofs.reducing.reduced_all.Goals as goal
 
 pub reduced_near-requires-clause-same : goal.reduced_near-requires-clause-same

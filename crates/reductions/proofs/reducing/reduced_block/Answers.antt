@@ -1,8 +1,6 @@
 use Rattle.std.proofs.Common.{◌*◌, ◌≤◌, Some, length, sym, ap, subst, ◌∙◌, arith}
 use Rattle.std.specs.Prelude.{slice_index}
-use Rattle.elem_descr.specs.Encoding.{size}
-use Rattle.raw_block.specs.Bytes.{item_at}
-use Rattle.shape_strides.specs.Layouts.{offsets}
+use Rattle.reductions.specs.Words.{size, item_at, offsets}
 use Rattle.reductions.specs.Lists.{lists, list_length, IsAxisOf}
 use Rattle.reductions.specs.Reductions.{result_scalar}
 use Rattle.reductions.specs.inside.Numbers.{numbers_at, lines, IsReduced, HaveItems}

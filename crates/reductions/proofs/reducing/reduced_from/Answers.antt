@@ -1,7 +1,6 @@
 use Rattle.std.proofs.Common.{◌+◌, ◌≤◌, All, length, sym, subst}
 use Rattle.std.specs.Prelude.{IfOk}
-use Rattle.elem_descr.specs.Encoding.{size}
-use Rattle.shape_strides.specs.Layouts.{offsets}
+use Rattle.reductions.specs.Words.{size, offsets}
 use Rattle.reductions.specs.Reductions.{result_scalar}
 use Rattle.reductions.specs.inside.Numbers.{AreReduced}
 use Rattle.reductions.proofs.reducing.reduced_from.Goals as goal

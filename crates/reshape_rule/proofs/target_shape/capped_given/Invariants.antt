@@ -1,5 +1,5 @@
 use Rattle.std.proofs.Common.{◌≡◌, ◌+◌, ◌*◌, ◌≤◌, min, drop}
-use Rattle.shape_strides.specs.Limits.{max_items}
+use Rattle.reshape_rule.specs.Words.{max_items}
 use Rattle.reshape_rule.specs.Targets.{given}
 use Rattle.reshape_rule.proofs.target_shape.capped_given.Given as goal
 

@@ -1,5 +1,5 @@
 use Rattle.std.proofs.Common.{◌≡◌, ◌+◌, min, map, take}
-use Rattle.shape_strides.specs.Limits.{max_items}
+use Rattle.reshape_rule.specs.Words.{max_items}
 use Rattle.reshape_rule.specs.Targets.{length_or}
 use Rattle.reshape_rule.proofs.target_shape.lengths.Given as goal
 

@@ -1,6 +1,5 @@
 use Rattle.std.proofs.Common.{◌/◌, inr, sym, ap, subst, ◌∙◌, arith}
-use Rattle.elem_descr.specs.Refusals.{Gives}
-use Rattle.shape_strides.specs.Indexes.{count}
+use Rattle.reshape_rule.specs.Words.{Gives, count}
 use Rattle.reshape_rule.specs.Targets.{make_up}
 use Rattle.reshape_rule.proofs.CountLaws.{given-count}
 use Rattle.reshape_rule.proofs.TargetLaws.{Passes, target_of-many, target_of-low, target_of-opened, target_of-unmade, target_of-ok}

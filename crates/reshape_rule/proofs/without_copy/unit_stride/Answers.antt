@@ -1,9 +1,7 @@
 use Rattle.std.proofs.Common.{◌≡◌, pos, ◌-ℤ◌, ◌∙◌, arith, rules, to_z, of_z, w64}
 use Rattle.std.proofs.lemmas.Int.{ints}
-use Rattle.shape_strides.specs.Layouts.{offsets}
-use Rattle.shape_strides.specs.LayoutLaws.{entry-first}
+use Rattle.reshape_rule.specs.Words.{offsets, entry-first, offset_low}
 use Rattle.reshape_rule.proofs.RankLaws.{stride-long}
-use Rattle.shape_strides.specs.PlaceLaws.{offset_low}
 use Rattle.reshape_rule.proofs.without_copy.unit_stride.Goals as goal
 
 pub overflow_cast-result-2 : goal.overflow_cast-result-2

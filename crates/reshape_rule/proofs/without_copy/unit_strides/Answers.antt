@@ -1,8 +1,6 @@
 use Rattle.std.proofs.Common.{ap, sym, drop, ◌+◌, ◌∙◌, ◌∷◌, ◌++◌, [], ◌≡◌, rules, arith}
 use Rattle.std.proofs.lemmas.Int.{to_z-of_z}
-use Rattle.shape_strides.specs.Layouts.{offsets}
-use Rattle.shape_strides.specs.Indexes.{count}
-use Rattle.shape_strides.specs.Contiguity.{printed_strides}
+use Rattle.reshape_rule.specs.Words.{offsets, count, printed_strides}
 use Rattle.reshape_rule.proofs.RankLaws.{later, later-below, printed-more, pushed_onto}
 use Rattle.reshape_rule.proofs.without_copy.unit_strides.Goals as goal
 

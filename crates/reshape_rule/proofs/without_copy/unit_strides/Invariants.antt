@@ -1,7 +1,5 @@
 use Rattle.std.proofs.Common.{◌≡◌, ◌<◌, ◌≤◌, ◌++◌, drop}
-use Rattle.shape_strides.specs.Indexes.{count}
-use Rattle.shape_strides.specs.Layouts.{offsets}
-use Rattle.shape_strides.specs.Contiguity.{printed_strides}
+use Rattle.reshape_rule.specs.Words.{count, offsets, printed_strides}
 use Rattle.reshape_rule.proofs.without_copy.unit_strides.Given as goal
 
 abbrev pub invariant-loop-len : goal.invariant-loop-len

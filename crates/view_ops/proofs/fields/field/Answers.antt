@@ -1,5 +1,5 @@
 use Rattle.std.proofs.Common.{sym}
-use Rattle.elem_descr.specs.Items.{field_of}
+use Rattle.view_ops.specs.Words.{field_of}
 use Rattle.view_ops.proofs.FieldLaws.{gives_field}
 use Rattle.view_ops.proofs.fields.field.Goals as goal
 

@@ -1,7 +1,5 @@
 use Rattle.std.proofs.Common.{◌+◌, ap, arith}
-use Rattle.shape_strides.specs.Limits.{max_bytes}
-use Rattle.shape_strides.specs.Indexes.{count}
-use Rattle.shape_strides.specs.IndexLaws.{rank-lt}
+use Rattle.view_ops.specs.Words.{max_bytes, count, rank-lt}
 use Rattle.view_ops.proofs.FieldLaws.{offset-within}
 use Rattle.view_ops.proofs.fields.moved.Goals as goal
 

@@ -1,6 +1,6 @@
 use Rattle.std.proofs.Common.{pos}
 use Rattle.std.proofs.lemmas.List.{get_or_read}
-use Rattle.elem_descr.specs.declared.index_item.IndexItem.TheVariants.{Integer}
+use Rattle.view_ops.specs.Words.{Integer}
 use Rattle.view_ops.proofs.PickLaws.{picked_more, can_pick}
 use Rattle.view_ops.proofs.pick.picks_of.Goals as goal
 

@@ -1,6 +1,5 @@
 use Rattle.std.proofs.Common.{ap, subst, ◌∙◌}
-use Rattle.shape_strides.specs.Shapes.{shape_of}
-use Rattle.elem_descr.specs.Refusals.{Gives}
+use Rattle.view_ops.specs.Words.{shape_of, Gives}
 use Rattle.view_ops.proofs.BasicLaws.{shape_of-picked}
 use Rattle.view_ops.proofs.picked.shape_picked.Goals as goal
 

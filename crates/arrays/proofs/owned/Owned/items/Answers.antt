@@ -1,6 +1,5 @@
 use Rattle.std.proofs.Common.{length}
-use Rattle.elem_descr.specs.Items.{item_size}
-use Rattle.shape_strides.specs.LayoutLaws.{offsets_within}
+use Rattle.arrays.specs.Words.{item_size, offsets_within}
 use Rattle.arrays.proofs.owned.Owned.items.Goals as goal
 
 pub invariant_of-result : goal.invariant_of-result

@@ -1,9 +1,7 @@
 use Rattle.std.proofs.Common.{ℕ, ◌+◌, ◌%◌, ◌^◌, sym, ◌∙◌, arith}
 use Rattle.std.specs.Prelude.{pos, ◌+ℤ◌}
 use Rattle.std.proofs.Math.Nat.{mod-lt}
-use Rattle.elem_descr.specs.declared.scalar.Order.TheVariants.{Little}
-use Rattle.elem_descr.specs.Encoding.{low_bits}
-use Rattle.elem_descr.specs.declared.operators.BinOp.TheVariants.{Add}
+use Rattle.elementwise.specs.Words.{Little, low_bits, Add}
 use Rattle.elementwise.proofs.BitLaws.{sum_low}
 use Rattle.elementwise.proofs.WordLaws.{are_bits, applied}
 use Rattle.elementwise.proofs.operations.AddingKernel.make.Goals as goal

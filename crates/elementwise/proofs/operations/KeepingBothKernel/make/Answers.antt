@@ -1,7 +1,7 @@
 use Rattle.std.proofs.Common.{arith}
 use Rattle.std.specs.Prelude.{pos, bit_and}
 use Rattle.std.proofs.lemmas.Nat.{and_mod, and_le_l}
-use Rattle.elem_descr.specs.declared.scalar.Order.TheVariants.{Little}
+use Rattle.elementwise.specs.Words.{Little}
 use Rattle.elementwise.proofs.WordLaws.{are_bits, bits_applied}
 use Rattle.elementwise.proofs.operations.KeepingBothKernel.make.Goals as goal
 

@@ -1,6 +1,6 @@
 use Rattle.std.specs.Prelude.{pos, bit_or}
 use Rattle.std.proofs.lemmas.Nat.{or_mod, or_lt}
-use Rattle.elem_descr.specs.declared.scalar.Order.TheVariants.{Little}
+use Rattle.elementwise.specs.Words.{Little}
 use Rattle.elementwise.proofs.WordLaws.{are_bits, bits_applied}
 use Rattle.elementwise.proofs.operations.KeepingEitherKernel.make.Goals as goal
 

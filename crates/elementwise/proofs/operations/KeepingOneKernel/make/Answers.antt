@@ -1,6 +1,6 @@
 use Rattle.std.specs.Prelude.{pos, bit_xor}
 use Rattle.std.proofs.lemmas.Nat.{xor_mod, xor_lt}
-use Rattle.elem_descr.specs.declared.scalar.Order.TheVariants.{Little}
+use Rattle.elementwise.specs.Words.{Little}
 use Rattle.elementwise.proofs.WordLaws.{are_bits, bits_applied}
 use Rattle.elementwise.proofs.operations.KeepingOneKernel.make.Goals as goal
 

@@ -1,8 +1,6 @@
 use Rattle.std.proofs.Common.{sym, ◌∙◌}
 use Rattle.std.specs.Prelude.{pos}
-use Rattle.elem_descr.specs.declared.scalar.Order.TheVariants.{Little}
-use Rattle.elem_descr.specs.Encoding.{low_bits, integer}
-use Rattle.elem_descr.specs.declared.operators.BinOp.TheVariants.{Modulo}
+use Rattle.elementwise.specs.Words.{Little, low_bits, integer, Modulo}
 use Rattle.elementwise.specs.Operations.{modulo}
 use Rattle.elementwise.proofs.WordLaws.{are_bits, applied}
 use Rattle.elementwise.proofs.operations.LeavingRestsKernel.make.Goals as goal

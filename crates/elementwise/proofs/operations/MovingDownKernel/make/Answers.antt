@@ -1,8 +1,6 @@
 use Rattle.std.proofs.Common.{sym, ◌∙◌}
 use Rattle.std.specs.Prelude.{pos, ◌*◌}
-use Rattle.elem_descr.specs.declared.scalar.Order.TheVariants.{Little}
-use Rattle.elem_descr.specs.Encoding.{size, low_bits, integer}
-use Rattle.elem_descr.specs.declared.operators.BinOp.TheVariants.{ShiftRight}
+use Rattle.elementwise.specs.Words.{Little, size, low_bits, integer, ShiftRight}
 use Rattle.elementwise.specs.Operations.{shifted_right}
 use Rattle.elementwise.proofs.WordLaws.{are_bits, applied}
 use Rattle.elementwise.proofs.operations.MovingDownKernel.make.Goals as goal

@@ -1,8 +1,6 @@
 use Rattle.std.proofs.Common.{sym, ◌∙◌}
 use Rattle.std.specs.Prelude.{pos, ◌*◌}
-use Rattle.elem_descr.specs.declared.scalar.Order.TheVariants.{Little}
-use Rattle.elem_descr.specs.Encoding.{low_bits}
-use Rattle.elem_descr.specs.declared.operators.BinOp.TheVariants.{ShiftLeft}
+use Rattle.elementwise.specs.Words.{Little, low_bits, ShiftLeft}
 use Rattle.elementwise.specs.Operations.{shifted_left}
 use Rattle.elementwise.proofs.WordLaws.{are_bits, applied}
 use Rattle.elementwise.proofs.operations.MovingUpKernel.make.Goals as goal

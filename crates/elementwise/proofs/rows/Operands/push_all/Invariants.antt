@@ -1,7 +1,6 @@
 use Rattle.std.proofs.Common.{◌≡◌, ◌+◌, ◌*◌, ◌≤◌, ◌++◌, All, length}
 use Rattle.std.specs.List.{concat}
-use Rattle.elem_descr.specs.Items.{item_size}
-use Rattle.raw_block.specs.Bytes.{EachWithin}
+use Rattle.elementwise.specs.Words.{item_size, EachWithin}
 use Rattle.elementwise.specs.Results.{pairwise}
 use Rattle.elementwise.specs.inside.PairPasses.{pair_from}
 use Rattle.elementwise.specs.inside.Operands.{pairs_of, made_of_all}

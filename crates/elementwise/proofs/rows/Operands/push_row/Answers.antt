@@ -1,5 +1,5 @@
 use Rattle.std.proofs.Common.{refl}
-use Rattle.elem_descr.specs.Items.{item_size}
+use Rattle.elementwise.specs.Words.{item_size}
 use Rattle.elementwise.proofs.AppendedLaws.{row-made}
 use Rattle.elementwise.proofs.rows.Operands.push_row.Goals as goal
 

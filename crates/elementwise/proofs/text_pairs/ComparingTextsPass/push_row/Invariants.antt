@@ -1,5 +1,5 @@
 use Rattle.std.proofs.Common.{◌≡◌, ◌+◌, ◌++◌}
-use Rattle.raw_block.specs.Bytes.{joined}
+use Rattle.elementwise.specs.Words.{joined}
 use Rattle.elementwise.specs.inside.PairPasses.{text_pair}
 use Rattle.elementwise.specs.inside.Sides.{made_of}
 use Rattle.elementwise.proofs.text_pairs.ComparingTextsPass.push_row.Given as goal

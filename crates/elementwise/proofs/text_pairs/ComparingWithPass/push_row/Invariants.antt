@@ -1,8 +1,6 @@
 use Rattle.std.proofs.Common.{◌≡◌, ◌+◌, ◌++◌}
 use Rattle.elem_descr.specs.declared.scalar.Scalar.TheVariants.{Bool as BoolScalar}
-use Rattle.elem_descr.specs.Values.{text}
-use Rattle.elem_descr.specs.Encoding.{encode, without_nuls}
-use Rattle.raw_block.specs.Bytes.{joined}
+use Rattle.elementwise.specs.Words.{text, encode, without_nuls, joined}
 use Rattle.elementwise.specs.inside.PairPasses.{truth_value}
 use Rattle.elementwise.specs.inside.Sides.{made_of}
 use Rattle.elementwise.proofs.text_pairs.ComparingWithPass.push_row.Given as goal

@@ -1,7 +1,6 @@
 use Rattle.std.proofs.Common.{◌≡◌, ◌+◌, ◌-◌, ◌*◌, ◌++◌, ℕ, List, suc, length, take, replicate, ap, ◌∙◌, append_assoc, length-take, arith}
 use Rattle.std.proofs.Math.Nat.{add-mul}
-use Rattle.elem_descr.specs.Encoding.{padded, without_nuls}
-use Rattle.raw_block.specs.Bytes.{joined}
+use Rattle.elementwise.specs.Words.{padded, without_nuls, joined}
 use Rattle.elementwise.specs.inside.Sides.{made_of}
 use Rattle.elementwise.proofs.NulLaws.{text_pushed, all-long, all-whole}
 use Rattle.elementwise.proofs.text_pairs.CuttingPass.push_row.Goals as goal

@@ -1,6 +1,5 @@
 use Rattle.std.proofs.Common.{◌≡◌, ◌+◌, ◌*◌, ◌++◌, take}
-use Rattle.elem_descr.specs.Encoding.{padded, without_nuls}
-use Rattle.raw_block.specs.Bytes.{joined}
+use Rattle.elementwise.specs.Words.{padded, without_nuls, joined}
 use Rattle.elementwise.specs.inside.Sides.{made_of}
 use Rattle.elementwise.proofs.text_pairs.CuttingPass.push_row.Given as goal
 

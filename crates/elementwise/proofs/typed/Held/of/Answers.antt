@@ -1,7 +1,6 @@
 use Rattle.std.proofs.Common.{refl, sym, ◌∙◌, map}
 use Rattle.std.proofs.lemmas.Simd.{map-map}
-use Rattle.elem_descr.specs.Blocks.{item_from}
-use Rattle.shape_strides.specs.Layouts.{offsets}
+use Rattle.elementwise.specs.Words.{item_from, offsets}
 use Rattle.elementwise.specs.Casts.{cast_item}
 use Rattle.elementwise.proofs.TypedLaws.{kept}
 use Rattle.elementwise.proofs.typed.Held.of.Goals as goal

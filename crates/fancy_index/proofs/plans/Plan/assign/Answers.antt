@@ -1,5 +1,5 @@
 use Rattle.std.proofs.Common.{◌+◌, ◌≤◌, length, subst, ap, ◌∙◌, All, arith}
-use Rattle.shape_strides.specs.Layouts.{multiples}
+use Rattle.fancy_index.specs.Words.{multiples}
 use Rattle.fancy_index.proofs.GatherLaws.{packed-end}
 use Rattle.fancy_index.proofs.Passes.{copied_one}
 use Rattle.fancy_index.proofs.plans.Plan.assign.Goals as goal

@@ -1,6 +1,5 @@
 use Rattle.std.proofs.Common.{◌≡◌, length}
-use Rattle.shape_strides.specs.Layouts.{offsets}
-use Rattle.arrays.specs.Assignments.{assigned}
+use Rattle.fancy_index.specs.Words.{offsets, assigned}
 use Rattle.fancy_index.proofs.Passes.{Copying}
 use Rattle.fancy_index.proofs.plans.Plan.assign.Given as goal
 

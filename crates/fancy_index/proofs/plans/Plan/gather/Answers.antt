@@ -1,8 +1,5 @@
 use Rattle.std.proofs.Common.{◌≡◌, ℕ, ◌*◌, ◌++◌, List, length, ap, sym, ◌∙◌, arith}
-use Rattle.shape_strides.specs.Layouts.{multiples}
-use Rattle.arrays.specs.Assignments.{items_at}
-use Rattle.arrays.specs.Joined.{joined_at}
-use Rattle.arrays.specs.JoinedLaws.{length-joined_at, joined-items}
+use Rattle.fancy_index.specs.Words.{multiples, items_at, joined_at, length-joined_at, joined-items}
 use Rattle.fancy_index.specs.Plans.{Planned}
 use Rattle.fancy_index.proofs.plans.Plan.gather.Goals as goal
 use Rattle.fancy_index.proofs.plans.Plan.gather.Goals.{After-axes, After-finish}

@@ -1,11 +1,6 @@
 use Rattle.std.proofs.Common.{◌≡◌, length, map, sym, ap, ◌∙◌}
 use Rattle.std.proofs.lemmas.Simd.{map-map}
-use Rattle.elem_descr.specs.Blocks.{item_from}
-use Rattle.elem_descr.specs.Items.{item_size, decode_item}
-use Rattle.raw_block.specs.Bytes.{item_at}
-use Rattle.shape_strides.specs.Indexes.{count}
-use Rattle.shape_strides.specs.Layouts.{offsets, multiples}
-use Rattle.arrays.specs.Assignments.{items_at}
+use Rattle.fancy_index.specs.Words.{item_from, item_size, decode_item, item_at, count, offsets, multiples, items_at}
 use Rattle.fancy_index.specs.Plans.{Planned}
 use Rattle.fancy_index.proofs.plans.Plan.gather_owned.Goals as goal
 

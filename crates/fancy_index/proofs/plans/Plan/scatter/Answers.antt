@@ -1,6 +1,5 @@
 use Rattle.std.proofs.Common.{length, ◌∙◌}
-use Rattle.arrays.specs.Assignments.{assigned}
-use Rattle.arrays.specs.PackedLaws.{row-multiples}
+use Rattle.fancy_index.specs.Words.{assigned, row-multiples}
 use Rattle.fancy_index.proofs.plans.Plan.scatter.Goals as goal
 
 pub returns-clause-written : goal.returns-clause-written

@@ -1,5 +1,5 @@
 use Rattle.std.proofs.Common.{ap, sym, ◌∙◌, subst, arith, List}
-use Rattle.indexmap.specs.IndexMap.{spare}
+use Rattle.name_store.specs.Words.{spare}
 use Rattle.name_store.specs.Arrays.{has_room_for}
 use Rattle.name_store.specs.Calls.{Binds}
 use Rattle.name_store.specs.Invariants.{IsSound}

@@ -2,7 +2,7 @@ use Rattle.std.proofs.Common.{◌≡◌, ap, sym, subst, ◌∙◌, refl, arith,
 use Rattle.std.specs.Option.{option_map}
 use Rattle.std.proofs.lemmas.Bool.{false≢true}
 use Rattle.std.proofs.lemmas.Result.{err_from_is_err_and}
-use Rattle.indexmap.specs.IndexMap.{spare}
+use Rattle.name_store.specs.Words.{spare}
 use Rattle.name_store.specs.Arrays.{unbound}
 use Rattle.name_store.specs.Invariants.{Holds, IsSound}
 use Rattle.name_store.specs.View.{state_of, bench_value}

@@ -1,6 +1,6 @@
 use Rattle.std.proofs.Common.{◌∙◌, ap, refl, sym, subst}
 use Rattle.circular_buffer.specs.Buffer.{Buffer as Ring}
-use Rattle.indexmap.specs.IndexMap.{spare}
+use Rattle.name_store.specs.Words.{spare}
 use Rattle.name_store.specs.Invariants.{IsSound}
 use Rattle.name_store.specs.View.{state_of, bench_value}
 use Rattle.name_store.specs.declared.change.Change.{Change}

@@ -1,7 +1,7 @@
 use Rattle.std.proofs.Common.{ℕ, ap, sym, ◌∙◌, refl, subst, arith, List}
 use Rattle.std.proofs.lemmas.Bool.{false≢true}
 use Rattle.std.proofs.lemmas.Result.{err_from_is_err_and}
-use Rattle.indexmap.specs.IndexMap.{spare}
+use Rattle.name_store.specs.Words.{spare}
 use Rattle.name_store.specs.Invariants.{IsSound}
 use Rattle.name_store.specs.Memory.{NeedsNoMemory}
 use Rattle.name_store.specs.States.{BenchValue}

@@ -1,6 +1,6 @@
 use Rattle.std.proofs.Common.{◌≡◌, ◌+◌, ◌<◌, ℕ, List, ◌∷◌, length, drop, sym, ap, subst, ◌∙◌, slice_index_or, arith, add-one, drop-cons, refl}
 use Rattle.std.proofs.lemmas.List.{drop_all}
-use Rattle.elem_descr.specs.declared.descr.Field.{Field}
+use Rattle.name_store.specs.Words.{Field}
 use Rattle.name_store.specs.Parts.{IsPathOf, descr_at}
 use Rattle.name_store.proofs.path.Path.descr_in.Goals as goal
 

@@ -1,6 +1,6 @@
 use Rattle.std.proofs.Common.{◌∙◌, ap, sym, subst, refl, true}
 use Rattle.std.proofs.lemmas.Option.{same_Some}
-use Rattle.elem_descr.specs.Items.{item_size}
+use Rattle.name_store.specs.Words.{item_size}
 use Rattle.name_store.specs.View.{present}
 use Rattle.name_store.specs.Views.{MayBind}
 use Rattle.name_store.specs.declared.bound.Bound.{Bound}

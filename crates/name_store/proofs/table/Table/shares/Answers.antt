@@ -2,10 +2,7 @@ use Rattle.std.proofs.Common.{◌≡◌, ◌&&◌, Bool, true, false, refl, sym,
 use Rattle.std.proofs.lemmas.Result.{err_from_is_err_and}
 use Rattle.std.specs.Option.{option_copied}
 use Rattle.std.proofs.lemmas.Option.{same_Some}
-use Rattle.elem_descr.specs.Items.{item_size}
-use Rattle.shape_strides.specs.Limits.{max_bytes}
-use Rattle.shape_strides.specs.Layouts.{offsets, Fits}
-use Rattle.overlap_copy.specs.Overlaps.{have_common_byte}
+use Rattle.name_store.specs.Words.{item_size, max_bytes, offsets, Fits, have_common_byte}
 use Rattle.name_store.specs.States.{Array}
 use Rattle.name_store.specs.View.{array_at, slot_at}
 use Rattle.name_store.proofs.StateLaws.{bound-found, found-slot, none-found}

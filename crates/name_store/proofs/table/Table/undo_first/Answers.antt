@@ -1,5 +1,5 @@
 use Rattle.std.proofs.Common.{◌∙◌, refl, sym, arith}
-use Rattle.indexmap.specs.IndexMap.{spare}
+use Rattle.name_store.specs.Words.{spare}
 use Rattle.name_store.proofs.StateLaws.{found-held}
 use Rattle.name_store.proofs.UndoFirst.{undo-first-some, undo-first-none}
 use Rattle.name_store.proofs.table.Table.undo_first.Goals as goal

@@ -1,5 +1,5 @@
 use Rattle.std.proofs.Common.{◌∙◌, sym, ap, length}
-use Rattle.shape_strides.specs.LayoutLaws.{length-offsets}
+use Rattle.name_store.specs.Words.{length-offsets}
 use Rattle.name_store.specs.Targets.{target_offsets}
 use Rattle.name_store.specs.declared.target.Target.{Target}
 use Rattle.name_store.proofs.target.Target.count.Goals as goal

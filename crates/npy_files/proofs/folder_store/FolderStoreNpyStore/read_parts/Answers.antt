@@ -1,7 +1,6 @@
 use Rattle.std.proofs.Common.{◌≡◌, ◌++◌, IsTrue, false, Ok, Err, None, rules}
-use Rattle.npy_format.specs.declared.file_parts.FileParts.{FileParts}
+use Rattle.npy_files.specs.Words.{FileParts, unmoved}
 use Rattle.npy_files.specs.Names.{is_user_name}
-use Rattle.disk.specs.CrashLaws.{unmoved}
 use Rattle.npy_files.proofs.UserFiles.{user_reads, no_user_file, told_read, told_same}
 use Rattle.npy_files.proofs.folder_store.FolderStoreNpyStore.read_parts.Goals as goal
 

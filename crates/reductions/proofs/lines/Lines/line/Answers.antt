@@ -1,6 +1,5 @@
 use Rattle.std.proofs.Common.{sym, ap, subst, length, ◌∙◌}
-use Rattle.raw_block.specs.Bytes.{EachWithin}
-use Rattle.shape_strides.specs.Runs.{run_along}
+use Rattle.reductions.specs.Words.{EachWithin, run_along}
 use Rattle.reductions.proofs.lines.Lines.line.Goals as goal
 
 pub items_along-requires-clause-within : goal.items_along-requires-clause-within

@@ -1,6 +1,5 @@
 use Rattle.std.proofs.Common.{sym, ap, subst, ◌∙◌, length, arith}
-use Rattle.raw_block.specs.Bytes.{EachWithin}
-use Rattle.shape_strides.specs.Runs.{run_along}
+use Rattle.reductions.specs.Words.{EachWithin, run_along}
 use Rattle.reductions.proofs.RowLaws.{row_offset, row_within}
 use Rattle.reductions.proofs.lines.Lines.row.Goals as goal
 

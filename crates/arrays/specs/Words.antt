@@ -1,0 +1,35 @@
+-- The words of the crates below, for this crate's clauses, definitions and proofs.
+pub use Rattle.elem_descr.specs.Blocks.{item_from}
+pub use Rattle.elem_descr.specs.Items.{decode_item, item_size}
+pub use Rattle.elem_descr.specs.StepLaws.{numbers-split}
+pub use Rattle.elem_descr.specs.Steps.{numbers_from}
+pub use Rattle.elem_descr.specs.Values.{LeafValue}
+pub use Rattle.elem_descr.specs.declared.descr.Descr.{Descr}
+pub use Rattle.elem_descr.specs.declared.memory_order.MemoryOrder.{MemoryOrder}
+pub use Rattle.elem_descr.specs.declared.memory_order.MemoryOrder.TheVariants.{C, Fortran}
+pub use Rattle.elem_descr.specs.declared.refusal.Refusal.TheVariants.{OutOfMemory, TooLarge}
+pub use Rattle.raw_block.specs.Bytes.{EachWithin, GridWithin, copied, grid_item, grid_items}
+pub use Rattle.raw_block.specs.Bytes.{item_at, joined, place, position, put}
+pub use Rattle.raw_block.specs.BytesLaws.{fewer, first_position, length-item_at, not_negative}
+pub use Rattle.raw_block.specs.BytesLaws.{place_within}
+pub use Rattle.raw_block.specs.JoinedLaws.{joined-same}
+pub use Rattle.raw_block.specs.declared.grid.Grid.{Grid}
+pub use Rattle.shape_strides.specs.Addresses.{LieWithin, natural}
+pub use Rattle.shape_strides.specs.Contiguity.{first_address, fortran_order, is_c_contiguous}
+pub use Rattle.shape_strides.specs.Contiguity.{is_f_contiguous}
+pub use Rattle.shape_strides.specs.IndexLaws.{get_or-indexes, index_at, length-indexes, rank-lt}
+pub use Rattle.shape_strides.specs.Indexes.{IsIndex, count, indexes, rank}
+pub use Rattle.shape_strides.specs.LayoutLaws.{length-offsets, offsets_within}
+pub use Rattle.shape_strides.specs.Layouts.{Fits, IsNested, f_multiples, multiples}
+unfoldable pub use Rattle.shape_strides.specs.Layouts.{offsets}
+pub use Rattle.shape_strides.specs.Limits.{max_bytes}
+pub use Rattle.shape_strides.specs.ReverseLaws.{IsIndex-from_reverse, IsIndex-reverse}
+pub use Rattle.shape_strides.specs.ReverseLaws.{count-reverse}
+pub use Rattle.shape_strides.specs.RunPairs.{all_offsets}
+pub use Rattle.shape_strides.specs.Runs.{run_along, run_offsets}
+pub use Rattle.shape_strides.specs.WalkLaws.{length-first, length-run_offsets}
+pub use Rattle.shape_strides.specs.declared.joined.StridedAxis.{StridedAxis}
+pub use Rattle.shape_strides.specs.declared.layout.Layout.{Layout}
+pub use Rattle.shape_strides.specs.declared.layout_pair.LayoutPair.{LayoutPair}
+pub use Rattle.shape_strides.specs.declared.run_pairs.RunPair.{RunPair}
+pub use Rattle.shape_strides.specs.declared.runs.Run.{Run}

@@ -1,0 +1,23 @@
+-- The words of the crates below, for this crate's clauses, definitions and proofs.
+pub use Rattle.elem_descr.specs.ListLaws.{slice-rest}
+pub use Rattle.elem_descr.specs.RefusalLaws.{check_passed, same_answer}
+pub use Rattle.elem_descr.specs.Refusals.{Gives, check, ◌>>=◌}
+pub use Rattle.elem_descr.specs.declared.refusal.Refusal.{Refusal}
+pub use Rattle.elem_descr.specs.declared.refusal.Refusal.TheVariants.{OutOfMemory}
+pub use Rattle.elem_descr.specs.declared.refusal.Refusal.TheVariants.{ShapesDoNotBroadcast}
+pub use Rattle.elem_descr.specs.declared.refusal.Refusal.TheVariants.{TooLarge}
+pub use Rattle.shape_strides.specs.Addresses.{LieWithin, address_at, dot, natural}
+pub use Rattle.shape_strides.specs.AxisLaws.{dot-nil}
+pub use Rattle.shape_strides.specs.IndexLaws.{IsIndex-from_numbers, length-index, number-lt}
+pub use Rattle.shape_strides.specs.IndexLaws.{rank-lt, same_on_indexes}
+pub use Rattle.shape_strides.specs.Indexes.{IsIndex, count, rank}
+pub use Rattle.shape_strides.specs.LayoutLaws.{get_or-offsets}
+pub use Rattle.shape_strides.specs.Layouts.{address}
+unfoldable pub use Rattle.shape_strides.specs.Layouts.{offsets}
+pub use Rattle.shape_strides.specs.Limits.{max_axes, max_bytes, max_items}
+pub use Rattle.shape_strides.specs.ShapeLaws.{shape_of-ok, shape_of-same}
+unfoldable pub use Rattle.shape_strides.specs.Shapes.{shape_of}
+pub use Rattle.shape_strides.specs.declared.layout.Layout.{Layout}
+pub use Rattle.view_ops.specs.Shows.{IsView, ShowsThrough}
+pub use Rattle.view_ops.specs.ViewLaws.{LieWithin-view, inside-view, offsets-view, view-twice}
+pub use Rattle.view_ops.specs.Views.{GivesView, IsViewOf, View, view_through}

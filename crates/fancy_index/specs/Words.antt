@@ -1,0 +1,74 @@
+-- The words of the crates below, for this crate's clauses, definitions and proofs.
+pub use Rattle.elem_descr.specs.Blocks.{item_from}
+pub use Rattle.elem_descr.specs.Encoding.{decode, integer, number_in, number_of, size, truth}
+pub use Rattle.elem_descr.specs.IndexItems.{is_ellipsis}
+pub use Rattle.elem_descr.specs.Items.{decode_item, item_size}
+pub use Rattle.elem_descr.specs.ListLaws.{flat_map-flat_map, flat_map_same, map-flat_map}
+pub use Rattle.elem_descr.specs.ListLaws.{slice-rest}
+pub use Rattle.elem_descr.specs.RefusalLaws.{same_answer}
+pub use Rattle.elem_descr.specs.Refusals.{Gives, check, ◌>>=◌}
+unfoldable pub use Rattle.elem_descr.specs.Steps.{stepped}
+pub use Rattle.elem_descr.specs.Values.{LeafValue, number}
+pub use Rattle.elem_descr.specs.declared.descr.Descr.{Descr}
+pub use Rattle.elem_descr.specs.declared.index_item.IndexItem.{IndexItem}
+pub use Rattle.elem_descr.specs.declared.index_item.IndexItem.TheVariants.{Array, Ellipsis, Integer}
+pub use Rattle.elem_descr.specs.declared.index_item.IndexItem.TheVariants.{NewAxis, Slice}
+pub use Rattle.elem_descr.specs.declared.memory_order.MemoryOrder.TheVariants.{C}
+pub use Rattle.elem_descr.specs.declared.refusal.Refusal.{Refusal}
+pub use Rattle.elem_descr.specs.declared.refusal.Refusal.TheVariants.{IndexOutOfRange, IndexShapes}
+pub use Rattle.elem_descr.specs.declared.refusal.Refusal.TheVariants.{MaskLengths, NotAnIndexType}
+pub use Rattle.elem_descr.specs.declared.refusal.Refusal.TheVariants.{OutOfMemory, TooLarge}
+pub use Rattle.elem_descr.specs.declared.refusal.Refusal.TheVariants.{TooManyAxes, TooManyIndices}
+pub use Rattle.elem_descr.specs.declared.refusal.Refusal.TheVariants.{ZeroStep}
+pub use Rattle.elem_descr.specs.declared.scalar.Order.TheVariants.{Little}
+pub use Rattle.elem_descr.specs.declared.scalar.Scalar.{Scalar}
+pub use Rattle.elem_descr.specs.declared.scalar.Scalar.TheVariants.{Byte, Bytes, Int}
+pub use Rattle.raw_block.specs.Bytes.{EachWithin, filled, item_at, joined, place, position, put}
+pub use Rattle.raw_block.specs.BytesLaws.{fewer, length-item_at, not_negative}
+pub use Rattle.raw_block.specs.NumberRuns.{signed_number}
+pub use Rattle.shape_strides.specs.Addresses.{LieWithin, address_at, dot, natural}
+pub use Rattle.shape_strides.specs.AxisIndexes.{zero_filled}
+pub use Rattle.shape_strides.specs.AxisLaws.{IsIndex-first, axis_below, dot-zeros}
+pub use Rattle.shape_strides.specs.CountLaws.{factors_pos}
+pub use Rattle.shape_strides.specs.IndexLaws.{IsIndex-append, get_or-indexes, index_at}
+pub use Rattle.shape_strides.specs.IndexLaws.{length-index, length-indexes, rank-lt}
+pub use Rattle.shape_strides.specs.IndexLaws.{same_on_indexes}
+pub use Rattle.shape_strides.specs.Indexes.{IsIndex, count, indexes, rank}
+pub use Rattle.shape_strides.specs.LayoutLaws.{entry-first, get_or-offsets, length-offsets}
+pub use Rattle.shape_strides.specs.LayoutLaws.{pos-natural, pos-offset}
+pub use Rattle.shape_strides.specs.Layouts.{address, multiples}
+unfoldable pub use Rattle.shape_strides.specs.Layouts.{offsets}
+pub use Rattle.shape_strides.specs.Limits.{max_axes, max_bytes, max_items}
+pub use Rattle.shape_strides.specs.ReverseLaws.{count-append}
+pub use Rattle.shape_strides.specs.Runs.{run_offsets}
+pub use Rattle.shape_strides.specs.ShapeLaws.{shape_of-ok, shape_of-same, shape_read}
+pub use Rattle.shape_strides.specs.Shapes.{IsShape}
+unfoldable pub use Rattle.shape_strides.specs.Shapes.{shape_of}
+pub use Rattle.shape_strides.specs.WalkLaws.{length-run_offsets}
+pub use Rattle.shape_strides.specs.declared.layout.Layout.{Layout}
+pub use Rattle.shape_strides.specs.declared.runs.Run.{Run}
+pub use Rattle.view_ops.specs.Basics.{Along, At, New, Pick, Placed, axis_of, has_step, is_on_axis}
+pub use Rattle.view_ops.specs.Basics.{picked_index, picked_shape, picks_of, whole}
+unfoldable pub use Rattle.view_ops.specs.Basics.{picked_view, shape_picked}
+pub use Rattle.view_ops.specs.PickLaws.{first_number, length-run, number_at}
+pub use Rattle.view_ops.specs.Picks.{ArePicks, first_of, pick_shown}
+pub use Rattle.view_ops.specs.Shows.{ShowsThrough}
+pub use Rattle.view_ops.specs.Slices.{IsRunWithin, from_front, is_place, run_numbers}
+unfoldable pub use Rattle.view_ops.specs.Slices.{slice_indices}
+pub use Rattle.view_ops.specs.ViewLaws.{LieWithin-view}
+pub use Rattle.view_ops.specs.Views.{GivesView, IsViewOf, View, view_through}
+pub use Rattle.view_ops.specs.declared.pick.AxisPick.{AxisPick}
+pub use Rattle.broadcasting.specs.BroadcastLaws.{IsIndex-broadcast, broadcast_index-itself}
+pub use Rattle.broadcasting.specs.BroadcastLaws.{stretched-ok}
+pub use Rattle.broadcasting.specs.Broadcasts.{all_stretch, broadcast_index, can_stretch}
+pub use Rattle.broadcasting.specs.Broadcasts.{common_with, stretches}
+unfoldable pub use Rattle.broadcasting.specs.Broadcasts.{common_of_two, stretched}
+pub use Rattle.broadcasting.specs.FitLaws.{few-axes, with-fits}
+pub use Rattle.arrays.specs.Assignments.{assigned, items_at}
+pub use Rattle.arrays.specs.Blocks.{offsets_in}
+pub use Rattle.arrays.specs.Joined.{joined_at}
+pub use Rattle.arrays.specs.JoinedLaws.{joined-items, joined-offsets, length-joined_at}
+pub use Rattle.arrays.specs.Packed.{row_offsets}
+pub use Rattle.arrays.specs.PackedLaws.{row-multiples}
+pub use Rattle.arrays.specs.RunLaws.{All-back, All-front, BeginsWithin, assigned-append, lie-within}
+pub use Rattle.arrays.specs.RunLaws.{nth-offset, place-at, run_offsets-more}

@@ -1,0 +1,35 @@
+-- The words of the crates below, for this crate's clauses, definitions and proofs.
+pub use Rattle.elem_descr.specs.ListLaws.{same_test}
+pub use Rattle.elem_descr.specs.Steps.{numbers_from}
+pub use Rattle.raw_block.specs.Bytes.{EachWithin, copied_within, exchanged, item_at, place}
+pub use Rattle.raw_block.specs.Bytes.{position, put, swapped, traded}
+pub use Rattle.raw_block.specs.BytesLaws.{byte_of, fewer, get_or-put_after, get_or-put_before}
+pub use Rattle.raw_block.specs.BytesLaws.{item_at-put_apart, item_at-put_same, length-item_at}
+pub use Rattle.raw_block.specs.BytesLaws.{length-put, not_negative, place_within}
+pub use Rattle.raw_block.specs.ExchangeLaws.{exchanged-items, exchanged-outside, length-exchanged}
+pub use Rattle.shape_strides.specs.AddressOrders.{IsFalling, IsRising}
+pub use Rattle.shape_strides.specs.Addresses.{LieWithin, address_at, natural}
+pub use Rattle.shape_strides.specs.CountLaws.{factors_pos, times_of}
+pub use Rattle.shape_strides.specs.IndexLaws.{index_at}
+pub use Rattle.shape_strides.specs.Indexes.{IsIndex, count, rank}
+pub use Rattle.shape_strides.specs.ItemPairs.{item_pairs}
+pub use Rattle.shape_strides.specs.LayoutLaws.{entry-first, length-offsets, offsets_within}
+pub use Rattle.shape_strides.specs.LayoutLaws.{pos-offset}
+pub use Rattle.shape_strides.specs.Layouts.{Fits, IsNested, address, distance, multiples}
+unfoldable pub use Rattle.shape_strides.specs.Layouts.{offsets}
+pub use Rattle.shape_strides.specs.Limits.{max_axes, max_bytes, max_items}
+pub use Rattle.shape_strides.specs.PermutationLaws.{reached, reordered}
+pub use Rattle.shape_strides.specs.Reaches.{LieAbove, LieBelow}
+pub use Rattle.shape_strides.specs.Runs.{GoesBy, run_offsets}
+pub use Rattle.shape_strides.specs.Stacks.{IsStacked, axes, lengths_in, reach}
+pub use Rattle.shape_strides.specs.WalkLaws.{length-run_offsets}
+pub use Rattle.shape_strides.specs.declared.layout.Layout.{Layout}
+pub use Rattle.shape_strides.specs.declared.run_pairs.RunPair.{RunPair}
+pub use Rattle.shape_strides.specs.declared.runs.Run.{Run}
+pub use Rattle.shape_strides.specs.declared.stacked.Axis.{Axis}
+pub use Rattle.arrays.specs.Assignments.{assigned, items_at, with_items}
+pub use Rattle.arrays.specs.PairLaws.{All-firsts, All-seconds, even, firsts-reordered}
+pub use Rattle.arrays.specs.PairLaws.{flipped-reordered, pair_even, seconds-reordered}
+pub use Rattle.arrays.specs.RunLaws.{All-back, All-front, BeginsWithin, assigned-append, lie-within}
+pub use Rattle.arrays.specs.RunLaws.{next_pair, place-at, run-ends, run-within, run_offsets-more}
+pub use Rattle.arrays.specs.RunLaws.{runs-within, walked-within}

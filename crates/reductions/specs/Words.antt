@@ -1,0 +1,60 @@
+-- The words of the crates below, for this crate's clauses, definitions and proofs.
+pub use Rattle.elem_descr.specs.Blocks.{item_from}
+pub use Rattle.elem_descr.specs.ByteLaws.{length-encode, one-encoded}
+pub use Rattle.elem_descr.specs.Encoding.{IsNumber, IsValueOf, bytes_of, decode, encode, integer}
+pub use Rattle.elem_descr.specs.Encoding.{low_bits, number_in, number_of, size, wrap}
+pub use Rattle.elem_descr.specs.EncodingLaws.{low_bits-integer, low_bits-lt}
+pub use Rattle.elem_descr.specs.Items.{encode_item, item_size}
+pub use Rattle.elem_descr.specs.ListLaws.{first_is}
+pub use Rattle.elem_descr.specs.NumberLaws.{number_size}
+pub use Rattle.elem_descr.specs.RefusalLaws.{check_passed, same_answer}
+pub use Rattle.elem_descr.specs.Refusals.{Gives, check, ◌>>=◌}
+pub use Rattle.elem_descr.specs.StepLaws.{numbers-split, numbers-suc}
+pub use Rattle.elem_descr.specs.Steps.{numbers_from}
+pub use Rattle.elem_descr.specs.Values.{LeafValue, number}
+pub use Rattle.elem_descr.specs.declared.descr.Descr.{Descr}
+pub use Rattle.elem_descr.specs.declared.memory_order.MemoryOrder.TheVariants.{C}
+pub use Rattle.elem_descr.specs.declared.operators.Red.{Red}
+pub use Rattle.elem_descr.specs.declared.operators.Red.TheVariants.{All, Any, ArgMax, ArgMin}
+pub use Rattle.elem_descr.specs.declared.operators.Red.TheVariants.{Maximum, Minimum, Product, Sum}
+pub use Rattle.elem_descr.specs.declared.refusal.Refusal.{Refusal}
+pub use Rattle.elem_descr.specs.declared.refusal.Refusal.TheVariants.{BadAxis, EmptyReduction}
+pub use Rattle.elem_descr.specs.declared.refusal.Refusal.TheVariants.{NotForThisKind, OutOfMemory}
+pub use Rattle.elem_descr.specs.declared.refusal.Refusal.TheVariants.{TooLarge}
+pub use Rattle.elem_descr.specs.declared.scalar.Order.{Order}
+pub use Rattle.elem_descr.specs.declared.scalar.Order.TheVariants.{Big, Little}
+pub use Rattle.elem_descr.specs.declared.scalar.Scalar.{Scalar}
+pub use Rattle.elem_descr.specs.declared.scalar.Scalar.TheVariants.{Byte, Bytes, Int}
+pub use Rattle.elem_descr.specs.declared.scalar.Width.TheVariants.{Eight, Four, Two}
+pub use Rattle.raw_block.specs.Bytes.{EachWithin, item_at, joined, place, position}
+pub use Rattle.raw_block.specs.BytesLaws.{not_negative, position-add}
+pub use Rattle.raw_block.specs.JoinedLaws.{all_joined, item_of_joined, joined_list, length-joined}
+pub use Rattle.shape_strides.specs.Addresses.{LieWithin, address_at, dot, natural}
+pub use Rattle.shape_strides.specs.IndexLaws.{get_or-indexes, index_at, length-index}
+pub use Rattle.shape_strides.specs.IndexLaws.{length-indexes, rank-lt}
+pub use Rattle.shape_strides.specs.Indexes.{IsIndex, count, indexes, rank}
+pub use Rattle.shape_strides.specs.LayoutLaws.{entry-first, length-offsets, offsets-none}
+pub use Rattle.shape_strides.specs.LayoutLaws.{pos-offset}
+pub use Rattle.shape_strides.specs.Layouts.{address, multiples}
+unfoldable pub use Rattle.shape_strides.specs.Layouts.{offsets}
+pub use Rattle.shape_strides.specs.Limits.{max_axes, max_bytes, max_items}
+pub use Rattle.shape_strides.specs.PermutationLaws.{zero-count}
+pub use Rattle.shape_strides.specs.RunPairs.{all_offsets}
+pub use Rattle.shape_strides.specs.Runs.{run_along, run_offsets}
+unfoldable pub use Rattle.shape_strides.specs.Runs.{runs}
+pub use Rattle.shape_strides.specs.ShapeLaws.{shape_of-ok, shape_of-same}
+unfoldable pub use Rattle.shape_strides.specs.Shapes.{shape_of}
+pub use Rattle.shape_strides.specs.WalkLaws.{length-first, length-run_offsets}
+pub use Rattle.shape_strides.specs.declared.joined.StridedAxis.{StridedAxis}
+pub use Rattle.shape_strides.specs.declared.layout.Layout.{Layout}
+pub use Rattle.shape_strides.specs.declared.runs.Run.{Run}
+pub use Rattle.machine_numbers.specs.Bits.{AreBits}
+pub use Rattle.machine_numbers.specs.Kinds.{is_bool, little}
+pub use Rattle.machine_numbers.specs.Sides.{number_of_side}
+pub use Rattle.machine_numbers.specs.declared.sides.Side.{Side}
+pub use Rattle.view_ops.specs.Slices.{from_front, is_place}
+pub use Rattle.arrays.specs.Blocks.{offsets_in}
+pub use Rattle.arrays.specs.ItemLists.{owned_items}
+pub use Rattle.arrays.specs.PairLaws.{firsts-reordered, pair_even}
+pub use Rattle.arrays.specs.RunLaws.{All-back, All-front, place-at, run_offsets-more, runs-within}
+pub use Rattle.arrays.specs.declared.owned.Owned.{Owned}
