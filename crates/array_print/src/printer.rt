@@ -129,8 +129,10 @@ fn push_block(
     offset: usize,
 ) -> Result<(), AllocError>
     requires widths { AreWidths (leaves_of items.now.descr.now) items.now.widths.now }
-    requires part { IsPart layout.now axis offset (length items.now.block.now) (item_size items.now.descr.now) }
-    ensures ok { OnOk result (out.new.items ≡ out.old.items ++ block_text axis (drop axis layout.now.shape)
+    requires part { IsPart layout.now axis offset (length items.now.block.now)
+        (item_size items.now.descr.now) }
+    ensures ok { OnOk result (out.new.items ≡ out.old.items
+        ++ block_text axis (drop axis layout.now.shape)
         (map (shown items.now.descr.now items.now.widths.now items.now.block.now) (part_offsets layout.now axis offset))) }
     ensures kept { StartsWith out.new.items out.old.items }
     ensures room { vec_capacity out.old ≤ vec_capacity out.new }
@@ -170,7 +172,8 @@ pub fn print_into(
     layout: &Layout,
     descr: &Descr,
 ) -> Result<(), AllocError>
-    requires inside { All (λ offset. offset + item_size descr.now ≤ length block.now) (offsets layout.now) }
+    requires inside { All (λ offset. offset + item_size descr.now ≤ length block.now)
+        (offsets layout.now) }
     ensures ok { OnOk result (out.new.items ≡ out.old.items
         ++ array_text descr.now layout.now.shape (items_from descr.now block.now (offsets layout.now))) }
     ensures err { OnErr result (out.new.items ≡ out.old.items) }

@@ -63,7 +63,8 @@ fn without_nuls(bytes: &[u8]) -> &[u8]
 
 /// Appends the text of a byte string, without the NULs at its end.
 fn push_byte_string(out: &mut Vec<u8>, bytes: &[u8]) -> Result<(), AllocError>
-    ensures ok { OnOk result (out.new.items ≡ out.old.items ++ byte_string_text (without_nuls bytes.now)) }
+    ensures ok { OnOk result (out.new.items ≡ out.old.items
+        ++ byte_string_text (without_nuls bytes.now)) }
     ensures kept { StartsWith out.new.items out.old.items }
     ensures room { vec_capacity out.old ≤ vec_capacity out.new }
 {

@@ -66,7 +66,8 @@ fn widened(width: usize, scalar: &Scalar, block: &[u8], place: usize) -> usize
 fn widen(widths: &mut [usize], descr: &Descr, block: &[u8], offset: usize)
     requires leaves { length widths.old ≡ length (leaves_of descr.now) }
     requires inside { offset + item_size descr.now ≤ length block.now }
-    ensures { (seen : List ℕ) → widths.old ≡ widths_at descr.now block.now seen → widths.new ≡ widths_at descr.now block.now (seen ++ offset ∷ []) }
+    ensures { (seen : List ℕ) → widths.old ≡ widths_at descr.now block.now seen
+        → widths.new ≡ widths_at descr.now block.now (seen ++ offset ∷ []) }
 {
     for k in 0..widths.len() {
         let (scalar, at) = descr.leaf_at(k);
@@ -81,7 +82,8 @@ pub fn widths_of(
     layout: &Layout,
     descr: &Descr,
 ) -> Result<SmallVec<usize, 8>, AllocError>
-    requires inside { All (λ offset. offset + item_size descr.now ≤ length block.now) (offsets layout.now) }
+    requires inside { All (λ offset. offset + item_size descr.now ≤ length block.now)
+        (offsets layout.now) }
     ensures { IfOk result (λ v. v.items
         ≡ widths descr.now layout.now.shape (items_from descr.now block.now (offsets layout.now))) }
 {

@@ -21,7 +21,9 @@ fn gather_in(
 ) -> Result<RawBlock, AllocError>
     requires { All (λ offset. offset + width ≤ length block.now) (offsets layout.now) }
     ensures len { IfOk result (λ items. length items ≡ count layout.now.shape * width) }
-    ensures items { IfOk result (λ items. items_at (offsets_in order width layout.now.shape) width items ≡ items_at (offsets layout.now) width block.now) }
+    ensures items { IfOk result
+        (λ items. items_at (offsets_in order width layout.now.shape) width items
+        ≡ items_at (offsets layout.now) width block.now) }
 {
     match order {
         MemoryOrder::C => gather(alloc, block, layout, width),
@@ -41,11 +43,14 @@ pub fn copy(
     descr: &Descr,
     order: MemoryOrder,
 ) -> Result<Owned, Refusal>
-    requires inside { All (λ offset. offset + item_size descr.now ≤ length block.now) (offsets layout.now) }
+    requires inside { All (λ offset. offset + item_size descr.now ≤ length block.now)
+        (offsets layout.now) }
     ensures descr { IfOk result (λ o. o.descr ≡ descr.now) }
     ensures shape { IfOk result (λ o. o.layout.shape ≡ layout.now.shape) }
-    ensures order { IfOk result (λ o. offsets o.layout ≡ offsets_in order (item_size descr.now) layout.now.shape) }
-    ensures bytes { IfOk result (λ o. map (λ offset. item_at offset (item_size descr.now) o.block) (offsets o.layout)
+    ensures order { IfOk result
+        (λ o. offsets o.layout ≡ offsets_in order (item_size descr.now) layout.now.shape) }
+    ensures bytes { IfOk result
+        (λ o. map (λ offset. item_at offset (item_size descr.now) o.block) (offsets o.layout)
         ≡ map (λ offset. item_at offset (item_size descr.now) block.now) (offsets layout.now)) }
     ensures items { IfOk result (λ o. map (item_from descr.now o.block) (offsets o.layout)
         ≡ map (item_from descr.now block.now) (offsets layout.now)) }

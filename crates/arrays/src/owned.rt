@@ -30,8 +30,11 @@ fn in_order(
     requires bytes { count shape.now * item ≤ max_bytes }
     ensures shape { IfOk result (λ l. l.shape ≡ shape.now) }
     ensures offsets { IfOk result (λ l. offsets l ≡ offsets_in order item shape.now) }
-    ensures whole { IfOk result (λ l. offsets l ≡ map (λ place. item * place) (places_of item (offsets l))) }
-    ensures in_order { IfOk result (λ l. IsTrue (is_c_contiguous item (offsets l) || is_f_contiguous item l.shape (offsets l))) }
+    ensures whole { IfOk result
+        (λ l. offsets l ≡ map (λ place. item * place) (places_of item (offsets l))) }
+    ensures in_order { IfOk result
+        (λ l. IsTrue
+        (is_c_contiguous item (offsets l) || is_f_contiguous item l.shape (offsets l))) }
     ensures nested { IfOk result (λ l. IsNested (offsets l) item) }
     ensures fits { IfOk result (λ l. Fits l (count shape.now * item) item) }
 {
@@ -46,8 +49,10 @@ impl Owned {
     pub fn zeroed(alloc: Global, descr: Descr, shape: &Shape) -> Result<Owned, Refusal>
         ensures descr { IfOk result (λ o. o.descr ≡ descr) }
         ensures shape { IfOk result (λ o. o.layout.shape ≡ shape.now) }
-        ensures order { IfOk result (λ o. offsets o.layout ≡ offsets_in C (item_size descr) shape.now) }
-        ensures zeros { IfOk result (λ o. o.block ≡ replicate (count shape.now * item_size descr) 0) }
+        ensures order { IfOk result
+            (λ o. offsets o.layout ≡ offsets_in C (item_size descr) shape.now) }
+        ensures zeros { IfOk result
+            (λ o. o.block ≡ replicate (count shape.now * item_size descr) 0) }
         ensures within { IfOk result (λ _. count shape.now * item_size descr ≤ max_bytes) }
         ensures refused { IfErr result (λ refusal. refusal
             ≡ (if nat_le (count shape.now * item_size descr) max_bytes then OutOfMemory else TooLarge)) }
@@ -73,7 +78,8 @@ impl Owned {
         requires small { length block ≤ max_bytes }
         ensures descr { IfOk result (λ o. o.descr ≡ descr) }
         ensures shape { IfOk result (λ o. o.layout.shape ≡ shape.now) }
-        ensures order { IfOk result (λ o. offsets o.layout ≡ offsets_in order (item_size descr) shape.now) }
+        ensures order { IfOk result
+            (λ o. offsets o.layout ≡ offsets_in order (item_size descr) shape.now) }
         ensures block { IfOk result (λ o. o.block ≡ block) }
     {
         let layout = in_order(alloc, shape, descr.size(), order)?;

@@ -30,9 +30,11 @@ pub fn packed_run(at: usize, width: usize, count: usize, len: usize) -> Run
 
 /// Fills the next bytes of a block with the items of `width` bytes of runs, one after another.
 pub(crate) fn push_runs(items: &mut BlockBuilder, runs: Runs<'_>, block: &RawBlock, width: usize)
-    requires from { All (λ run. EachWithin (length block.now) run.offset run.step width run.count) runs }
+    requires from { All (λ run.
+        EachWithin (length block.now) run.offset run.step width run.count) runs }
     requires room { length (flat_map run_offsets runs) * width ≤ items.old.1 }
-    ensures bytes { items.new.0 ≡ items.old.0 ++ joined_at (flat_map run_offsets runs.entry) width block.now }
+    ensures bytes { items.new.0 ≡ items.old.0
+        ++ joined_at (flat_map run_offsets runs.entry) width block.now }
     ensures left { length (flat_map run_offsets runs.entry) * width + items.new.1 ≡ items.old.1 }
 {
     for run in runs {
@@ -43,9 +45,12 @@ pub(crate) fn push_runs(items: &mut BlockBuilder, runs: Runs<'_>, block: &RawBlo
 /// Copies items that lie one after another from a block's start on to those of runs.
 fn scatter_runs(block: &mut RawBlock, runs: Runs<'_>, items: &RawBlock, width: usize)
     requires some { All (λ run. 1 ≤ run.count) runs }
-    requires to { All (λ run. EachWithin (length block.old) run.offset run.step width run.count) runs }
+    requires to { All (λ run.
+        EachWithin (length block.old) run.offset run.step width run.count) runs }
     requires room { length (flat_map run_offsets runs) * width ≤ length items.now }
-    ensures written { block.new ≡ assigned (flat_map run_offsets runs.entry) (row_offsets 0 width (length (flat_map run_offsets runs.entry))) width items.now block.old }
+    ensures written { block.new
+        ≡ assigned (flat_map run_offsets runs.entry)
+        (row_offsets 0 width (length (flat_map run_offsets runs.entry))) width items.now block.old }
     ensures len { length block.new ≡ length block.old }
 {
     let len = items.len();
@@ -81,7 +86,9 @@ fn gather_whole(
     requires order { IsTrue (is_c_contiguous width (offsets layout.now)) }
     requires inside { All (λ offset. offset + width ≤ length block.now) (offsets layout.now) }
     ensures len { IfOk result (λ items. length items ≡ length (offsets layout.now) * width) }
-    ensures items { IfOk result (λ items. items_at (multiples width (length (offsets layout.now))) width items ≡ items_at (offsets layout.now) width block.now) }
+    ensures items { IfOk result
+        (λ items. items_at (multiples width (length (offsets layout.now))) width items
+        ≡ items_at (offsets layout.now) width block.now) }
 {
     // For the prover alone: the block is within its limit.
     let _len = block.len();
@@ -99,7 +106,9 @@ fn gather_each(
 ) -> Result<RawBlock, AllocError>
     requires inside { All (λ offset. offset + width ≤ length block.now) (offsets layout.now) }
     ensures len { IfOk result (λ items. length items ≡ length (offsets layout.now) * width) }
-    ensures items { IfOk result (λ items. items_at (multiples width (length (offsets layout.now))) width items ≡ items_at (offsets layout.now) width block.now) }
+    ensures items { IfOk result
+        (λ items. items_at (multiples width (length (offsets layout.now))) width items
+        ≡ items_at (offsets layout.now) width block.now) }
 {
     // More bytes than there can be are refused as any others.
     let bytes = layout.shape.items().saturating_mul(width);
@@ -119,7 +128,9 @@ pub fn gather(
 ) -> Result<RawBlock, AllocError>
     requires { All (λ offset. offset + width ≤ length block.now) (offsets layout.now) }
     ensures len { IfOk result (λ items. length items ≡ length (offsets layout.now) * width) }
-    ensures items { IfOk result (λ items. items_at (multiples width (length (offsets layout.now))) width items ≡ items_at (offsets layout.now) width block.now) }
+    ensures items { IfOk result
+        (λ items. items_at (multiples width (length (offsets layout.now))) width items
+        ≡ items_at (offsets layout.now) width block.now) }
 {
     if layout.is_c(width) {
         return gather_whole(alloc, block, layout, width);
@@ -132,7 +143,9 @@ pub fn gather(
 pub fn scatter(block: &mut RawBlock, layout: &Layout, items: &RawBlock, width: usize)
     requires inside { All (λ offset. offset + width ≤ length block.old) (offsets layout.now) }
     requires items { length (offsets layout.now) * width ≤ length items.now }
-    ensures written { block.new ≡ assigned (offsets layout.now) (multiples width (length (offsets layout.now))) width items.now block.old }
+    ensures written { block.new
+        ≡ assigned (offsets layout.now)
+        (multiples width (length (offsets layout.now))) width items.now block.old }
     ensures len { length block.new ≡ length block.old }
 {
     scatter_runs(block, Runs::new(layout), items, width);

@@ -11,7 +11,8 @@ pub fn copy_run(block: &mut RawBlock, to: Run, other: &RawBlock, from: Run, widt
     requires count { to.count ≡ from.count }
     requires to { EachWithin (length block.old) to.offset to.step width to.count }
     requires from { EachWithin (length other.now) from.offset from.step width from.count }
-    ensures written { block.new ≡ assigned (run_offsets to) (run_offsets from) width other.now block.old }
+    ensures written { block.new
+        ≡ assigned (run_offsets to) (run_offsets from) width other.now block.old }
     ensures len { length block.new ≡ length block.old }
 {
     block.copy_strided(

@@ -91,7 +91,8 @@ pub extern "C" fn bench_c_put(
     items: &[u8],
 ) -> u8
     requires { IsSome handle.old.value }
-    ensures { PutsBehind handle.old.value name.now (front.now ++ items.now) handle.new.value result }
+    ensures { PutsBehind handle.old.value name.now
+        (front.now ++ items.now) handle.new.value result }
 {
     let mut bench = mem::replace(handle, Handle::closed(alloc)).into_box();
     let status = bench.put(alloc, name, front, items);

@@ -68,14 +68,17 @@ impl OpenBench {
 
     /// Copies the bytes of a file, and sets their number.
     pub fn copy_file(&self, name: &[u8], out: &mut [u8], len: &mut usize) -> Status
-        ensures { CopiesOutIfAny (get (world_of self.now).shelf.files name.now) out.old out.new len.new result }
+        ensures { CopiesOutIfAny
+            (get (world_of self.now).shelf.files name.now) out.old out.new len.new result }
     {
         copy_if_any(self.files.bytes_of(name), out, len)
     }
 
     /// Copies the first of the files' names that come after this one, and sets its length.
     pub fn copy_next_name(&self, after: &[u8], out: &mut [u8], len: &mut usize) -> Status
-        ensures { (next : Option (List ℕ)) × IsNextName (world_of self.now).shelf.files after.now next × CopiesOutIfAny next out.old out.new len.new result }
+        ensures { (next : Option (List ℕ))
+            × IsNextName (world_of self.now).shelf.files after.now next
+            × CopiesOutIfAny next out.old out.new len.new result }
     {
         copy_if_any(self.files.next_name(after), out, len)
     }

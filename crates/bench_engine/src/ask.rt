@@ -16,7 +16,8 @@ use std::alloc::AllocError;
 /// Prints a name's array.
 pub fn print(bench: &Bench, name: &Name, out: &mut Vec<u8>) -> Result<(), Refusal>
     ensures room { vec_capacity out.old ≤ vec_capacity out.new }
-    ensures answers { CarriesOut (is_bound bench.now.state name.now) (λ choice. print_outcome bench.now.state name.now)
+    ensures answers { CarriesOut (is_bound bench.now.state name.now)
+        (λ choice. print_outcome bench.now.state name.now)
         bench.now.state bench.now.state out.old.items out.new.items result }
 {
     let Some(array) = bench.get(name) else {
@@ -59,7 +60,8 @@ fn push_layout_words(
     item: usize,
     writable: bool,
 ) -> Result<(), AllocError>
-    ensures ok { OnOk result (out.new.items ≡ out.old.items ++ layout_words item layout.now.shape (offsets layout.now) writable) }
+    ensures ok { OnOk result (out.new.items ≡ out.old.items
+        ++ layout_words item layout.now.shape (offsets layout.now) writable) }
     ensures kept { StartsWith out.new.items out.old.items }
     ensures room { vec_capacity out.old ≤ vec_capacity out.new }
 {
@@ -81,7 +83,8 @@ fn push_info_text(
     layout: &Layout,
     writable: bool,
 ) -> Result<(), AllocError>
-    ensures ok { OnOk result (out.new.items ≡ out.old.items ++ info_text name.now descr.now layout.now.shape (offsets layout.now) writable) }
+    ensures ok { OnOk result (out.new.items ≡ out.old.items
+        ++ info_text name.now descr.now layout.now.shape (offsets layout.now) writable) }
     ensures kept { StartsWith out.new.items out.old.items }
     ensures room { vec_capacity out.old ≤ vec_capacity out.new }
 {
@@ -94,7 +97,8 @@ fn push_info_text(
 /// Tells where the items of a name's array lie in its buffer, in bytes.
 pub fn info(bench: &Bench, name: &Name, out: &mut Vec<u8>) -> Result<(), Refusal>
     ensures room { vec_capacity out.old ≤ vec_capacity out.new }
-    ensures answers { CarriesOut (is_bound bench.now.state name.now) (λ choice. info_outcome bench.now.state name.now)
+    ensures answers { CarriesOut (is_bound bench.now.state name.now)
+        (λ choice. info_outcome bench.now.state name.now)
         bench.now.state bench.now.state out.old.items out.new.items result }
 {
     let Some(array) = bench.get(name) else {
@@ -119,7 +123,8 @@ fn push_format_text(out: &mut Vec<u8>, descr: &Descr) -> Result<(), AllocError>
 /// Tells the format text of a name's array.
 pub fn format(bench: &Bench, name: &Name, out: &mut Vec<u8>) -> Result<(), Refusal>
     ensures room { vec_capacity out.old ≤ vec_capacity out.new }
-    ensures answers { CarriesOut (is_bound bench.now.state name.now) (λ choice. format_outcome bench.now.state name.now)
+    ensures answers { CarriesOut (is_bound bench.now.state name.now)
+        (λ choice. format_outcome bench.now.state name.now)
         bench.now.state bench.now.state out.old.items out.new.items result }
 {
     let Some(array) = bench.get(name) else {
@@ -155,7 +160,8 @@ fn push_names(bench: &Bench, out: &mut Vec<u8>) -> Result<(), AllocError>
 /// Tells the names in the order in which they were first bound.
 pub fn names(bench: &Bench, out: &mut Vec<u8>) -> Result<(), Refusal>
     ensures room { vec_capacity out.old ≤ vec_capacity out.new }
-    ensures answers { CarriesOut true (λ choice. accepted_with bench.now.state (names_text bench.now.state))
+    ensures answers { CarriesOut true
+        (λ choice. accepted_with bench.now.state (names_text bench.now.state))
         bench.now.state bench.now.state out.old.items out.new.items result }
 {
     push_names(bench, out)?;
@@ -166,7 +172,9 @@ pub fn names(bench: &Bench, out: &mut Vec<u8>) -> Result<(), Refusal>
 pub fn shares(bench: &Bench, left: &Name, right: &Name, out: &mut Vec<u8>) -> Result<(), Refusal>
     requires room { vec_len out.old + 64 ≤ vec_capacity out.old }
     ensures room { vec_capacity out.old ≤ vec_capacity out.new }
-    ensures answers { CarriesOut (is_bound bench.now.state left.now && is_bound bench.now.state right.now) (λ choice. shares_outcome bench.now.state left.now right.now)
+    ensures answers { CarriesOut
+        (is_bound bench.now.state left.now && is_bound bench.now.state right.now)
+        (λ choice. shares_outcome bench.now.state left.now right.now)
         bench.now.state bench.now.state out.old.items out.new.items result }
 {
     let yes = bench.shares(*out.allocator(), left, right)?;

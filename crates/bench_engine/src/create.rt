@@ -20,7 +20,8 @@ use std::alloc::{AllocError, Global};
 
 /// The bytes of the item that a literal is.
 pub fn item_of(alloc: Global, descr: &Descr, literal: &Literal) -> Result<Vec<u8>, Refusal>
-    ensures value { Gives (λ item. decode_item descr.now item.items) result (item_value descr.now literal.now) }
+    ensures value { Gives (λ item. decode_item descr.now item.items) result
+        (item_value descr.now literal.now) }
     ensures len { IfOk result (λ item. vec_len item ≡ item_size descr.now) }
 {
     let mut item = vec![in alloc; 0u8; descr.size()]?;
@@ -72,7 +73,8 @@ fn zeros(alloc: Global, descr: &Text, lengths: &Lengths) -> Result<Owned, Refusa
 pub fn filled(alloc: Global, item: &[u8], items: usize) -> Result<RawBlock, AllocError>
     requires bytes { items * length item.now ≤ max_bytes }
     ensures whole { IfOk result (λ block. length block ≡ items * length item.now) }
-    ensures items { IfOk result (λ block. blocks (length item.now) items block ≡ replicate items item.now) }
+    ensures items { IfOk result (λ block. blocks (length item.now) items block
+        ≡ replicate items item.now) }
 {
     let mut block = BlockBuilder::try_new(alloc, items * item.len())?;
     block.push_repeated(item, items);
@@ -94,8 +96,11 @@ fn full(alloc: Global, descr: &Text, lengths: &Lengths, literal: &Literal) -> Re
 /// A block of the items that these literals are, one after another.
 fn listed(alloc: Global, descr: &Descr, literals: &[Literal]) -> Result<RawBlock, Refusal>
     requires bytes { length literals.now * item_size descr.now ≤ max_bytes }
-    ensures whole { IfOk result (λ block. length block ≡ length literals.now * item_size descr.now) }
-    ensures items { Gives (λ block. map (decode_item descr.now) (blocks (item_size descr.now) (length literals.now) block)) result (item_values descr.now literals.now) }
+    ensures whole { IfOk result
+        (λ block. length block ≡ length literals.now * item_size descr.now) }
+    ensures items { Gives (λ block.
+        map (decode_item descr.now) (blocks (item_size descr.now) (length literals.now) block))
+        result (item_values descr.now literals.now) }
 {
     let mut block = RawBlock::try_zeroed(alloc, literals.len() * descr.size())?;
     write_items(descr, literals, block.bytes_mut())?;
@@ -185,7 +190,8 @@ pub fn bind_new(
 ) -> Result<(), Refusal>
     requires room { has_room_for bench.old.state name.now ≡ true }
     ensures room { vec_capacity out.old ≤ vec_capacity out.new }
-    ensures answers { CarriesOut true (λ choice. bound_new choice bench.old.state name.now origin (held owned))
+    ensures answers { CarriesOut true
+        (λ choice. bound_new choice bench.old.state name.now origin (held owned))
         bench.old.state bench.new.state out.old.items out.new.items result }
 {
     push_bound_text(out, name, &owned.descr, &owned.layout.shape, origin)?;
@@ -201,7 +207,9 @@ pub fn make(
     out: &mut Vec<u8>,
 ) -> Result<(), Refusal>
     ensures room { vec_capacity out.old ≤ vec_capacity out.new }
-    ensures answers { CarriesOut true (λ choice. creation_outcome choice bench.old.state name.now (contents_of descr.now items.now))
+    ensures answers { CarriesOut true
+        (λ choice.
+        creation_outcome choice bench.old.state name.now (contents_of descr.now items.now))
         bench.old.state bench.new.state out.old.items out.new.items result }
 {
     if !bench.has_room_for(name) {

@@ -11,7 +11,9 @@ use name_store::Bench;
 pub fn delete(bench: &mut Bench, name: &Name, out: &mut Vec<u8>) -> Result<(), Refusal>
     requires room { vec_len out.old + 64 ≤ vec_capacity out.old }
     ensures room { vec_capacity out.old ≤ vec_capacity out.new }
-    ensures answers { CarriesOut (nat_lt 0 bench.old.state.depth && is_bound bench.old.state name.now) (λ choice. delete_outcome bench.old.state name.now)
+    ensures answers { CarriesOut
+        (nat_lt 0 bench.old.state.depth && is_bound bench.old.state name.now)
+        (λ choice. delete_outcome bench.old.state name.now)
         bench.old.state bench.new.state out.old.items out.new.items result }
 {
     bench.unbind(*out.allocator(), name)?;

@@ -36,7 +36,8 @@ fn bind<N: NpyStore>(
     value: &Value,
     out: &mut Vec<u8>,
 ) -> Result<(), Refusal>
-    ensures answers { Carried (MayAnswer (world bench.old.state (N.shelf store.old)) (Bind name.now value.now) (world bench.new.state (N.shelf store.new)))
+    ensures answers { Carried (MayAnswer (world bench.old.state (N.shelf store.old))
+        (Bind name.now value.now) (world bench.new.state (N.shelf store.new)))
         out.old.items out.new.items result }
     ensures room { vec_capacity out.old ≤ vec_capacity out.new }
 {
@@ -51,7 +52,8 @@ fn bind<N: NpyStore>(
 /// Appends what is asked.
 fn reply(bench: &Bench, question: &Question, out: &mut Vec<u8>) -> Result<(), Refusal>
     requires room { vec_len out.old + 64 ≤ vec_capacity out.old }
-    ensures answers { CarriesOut (list_all (is_bound bench.now.state) (bound_in_question question.now))
+    ensures answers { CarriesOut
+        (list_all (is_bound bench.now.state) (bound_in_question question.now))
         (λ choice. question_outcome bench.now.state question.now) bench.now.state bench.now.state out.old.items out.new.items result }
     ensures room { vec_capacity out.old ≤ vec_capacity out.new }
 {
@@ -73,7 +75,8 @@ fn perform<N: NpyStore>(
     out: &mut Vec<u8>,
 ) -> Result<(), Refusal>
     requires room { vec_len out.old + 64 ≤ vec_capacity out.old }
-    ensures answers { Carried (MayAnswer (world bench.old.state (N.shelf store.old)) command.now (world bench.new.state (N.shelf store.new)))
+    ensures answers { Carried (MayAnswer (world bench.old.state (N.shelf store.old)) command.now
+        (world bench.new.state (N.shelf store.new)))
         out.old.items out.new.items result }
     ensures room { vec_capacity out.old ≤ vec_capacity out.new }
 {

@@ -39,7 +39,8 @@ fn put<N: NpyStore>(
     front: &[u8],
     items: &[u8],
 ) -> Result<(), Refusal>
-    ensures { Puts (N.shelf store.old) (N.shelf store.new) file.now (front.now ++ items.now) result }
+    ensures { Puts (N.shelf store.old) (N.shelf store.new) file.now
+        (front.now ++ items.now) result }
 {
     match store.write_parts(alloc, file.as_slice(), front, items) {
         Ok(()) => Ok(()),
@@ -70,7 +71,8 @@ pub fn save<N: NpyStore>(
 ) -> Result<(), Refusal>
     requires room { vec_len out.old + 64 ≤ vec_capacity out.old }
     ensures room { vec_capacity out.old ≤ vec_capacity out.new }
-    ensures answers { Carried (MayAnswer (world bench.now.state (N.shelf store.old)) (Save name.now file.now) (world bench.now.state (N.shelf store.new)))
+    ensures answers { Carried (MayAnswer (world bench.now.state (N.shelf store.old))
+        (Save name.now file.now) (world bench.now.state (N.shelf store.new)))
         out.old.items out.new.items result }
 {
     let Some(array) = bench.get(name) else {
@@ -132,7 +134,8 @@ fn bind_loaded(
 ) -> Result<(), Refusal>
     requires room { has_room_for bench.old.state name.now ≡ true }
     ensures room { vec_capacity out.old ≤ vec_capacity out.new }
-    ensures answers { CarriesOut true (λ choice. bound_loaded choice bench.old.state name.now rest (held owned))
+    ensures answers { CarriesOut true
+        (λ choice. bound_loaded choice bench.old.state name.now rest (held owned))
         bench.old.state bench.new.state out.old.items out.new.items result }
 {
     push_loaded_text(out, name, &owned, rest)?;
@@ -148,7 +151,8 @@ pub fn load<N: NpyStore>(
     out: &mut Vec<u8>,
 ) -> Result<(), Refusal>
     ensures room { vec_capacity out.old ≤ vec_capacity out.new }
-    ensures answers { Carried (MayAnswer (world bench.old.state (N.shelf store.old)) (Bind name.now (Load file.now)) (world bench.new.state (N.shelf store.new)))
+    ensures answers { Carried (MayAnswer (world bench.old.state (N.shelf store.old))
+        (Bind name.now (Load file.now)) (world bench.new.state (N.shelf store.new)))
         out.old.items out.new.items result }
 {
     if !bench.has_room_for(name) {

@@ -47,7 +47,8 @@ fn numbered<'a>(
 ) -> Result<IndexItem<usize>, AllocError>
     requires bound { list_all (is_bound bench.now.state) (names_in_item item.now) ≡ true }
     requires lie { All LiesInBlock arrays.old.items }
-    ensures item { IfOk result (λ k. with_array (map index_array_of arrays.new.items) k ≡ array_by_items bench.now.state item.now) }
+    ensures item { IfOk result (λ k. with_array (map index_array_of arrays.new.items) k
+        ≡ array_by_items bench.now.state item.now) }
     ensures named { IfOk result (IsNamed (length arrays.new.items)) }
     ensures kept { Extends arrays.old.items arrays.new.items }
     ensures lie { All LiesInBlock arrays.new.items }
@@ -88,8 +89,11 @@ fn with_numbers<'a>(
     index: &[IndexItem<Name>],
 ) -> Result<NumberedList<'a>, AllocError>
     requires bound { list_all (is_bound bench.now.state) (names_in_index index.now) ≡ true }
-    ensures items { IfOk result (λ list. with_arrays (map index_array_of list.arrays.items) list.items.items ≡ map (array_by_items bench.now.state) index.now) }
-    ensures named { IfOk result (λ list. All (IsNamed (length list.arrays.items)) list.items.items) }
+    ensures items { IfOk result
+        (λ list. with_arrays (map index_array_of list.arrays.items) list.items.items
+        ≡ map (array_by_items bench.now.state) index.now) }
+    ensures named { IfOk result
+        (λ list. All (IsNamed (length list.arrays.items)) list.items.items) }
     ensures lie { IfOk result (λ list. All LiesInBlock list.arrays.items) }
 {
     let mut arrays = Vec::new(alloc);
@@ -109,8 +113,10 @@ pub fn planned(
     index: &[IndexItem<Name>],
 ) -> Result<Plan, Refusal>
     requires bound { list_all (is_bound bench.now.state) (names_in_index index.now) ≡ true }
-    ensures plan { (a : Array) → Shows bench.now.state a array.now → GivesPlan array.now.layout.now result (gathered bench.now.state a index.now) }
-    ensures few { IfOk result (λ plan. length plan.offsets * item_size array.now.descr.now ≤ max_bytes) }
+    ensures plan { (a : Array) → Shows bench.now.state a array.now
+        → GivesPlan array.now.layout.now result (gathered bench.now.state a index.now) }
+    ensures few { IfOk result (λ plan. length plan.offsets * item_size array.now.descr.now
+        ≤ max_bytes) }
 {
     let list = with_numbers(alloc, bench, index)?;
     let items = list.items.as_slice();

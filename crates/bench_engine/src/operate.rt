@@ -21,7 +21,9 @@ use crate::index_list::{are_bound, take};
 use crate::replies::Origin;
 use crate::write::{Given, given_by};
 use arrays::Owned;
-use elem_descr::{BinOp, Comparison, Descr, MemoryOrder, Name, Red, Refusal, Scalar, UnOp, descr_read};
+use elem_descr::{
+    BinOp, Comparison, Descr, MemoryOrder, Name, Red, Refusal, Scalar, UnOp, descr_read,
+};
 use elementwise::{
     Items, apply1, apply2, compare, compare_bytes, compare_integer, compared_type, literal_type,
     promote, scalar_of,
@@ -56,7 +58,8 @@ pub fn has_bound(bench: &Bench, value: &Argument) -> bool
 
 /// The items that a layout shows of the buffer of an array.
 pub fn items_of_view<'a>(array: &'a ArrayRef<'_>, view: &'a Layout) -> Items<'a>
-    requires inside { All (λ offset. offset + item_size array.now.descr.now ≤ length array.now.block.now) (offsets view.now) }
+    requires inside { All (λ offset. offset + item_size array.now.descr.now
+        ≤ length array.now.block.now) (offsets view.now) }
     ensures block { result.block.now ≡ array.now.block.now }
     ensures layout { result.layout.now ≡ view.now }
     ensures descr { result.descr.now ≡ array.now.descr.now }
@@ -83,8 +86,10 @@ impl Part<'_> {
     /// The items of the part.
     pub fn items(&self) -> Items<'_>
         requires { (s : State) × (part : Array) × IsPart s self.now part }
-        ensures stands { (s : State) (part : Array) → IsPart s self.now part → StandsFor s part result }
-        ensures lies { (s : State) (part : Array) → IsPart s self.now part → LiesInBuffer s part (buffer_number self.now) result.layout.now }
+        ensures stands { (s : State) (part : Array) → IsPart s self.now part
+            → StandsFor s part result }
+        ensures lies { (s : State) (part : Array) → IsPart s self.now part
+            → LiesInBuffer s part (buffer_number self.now) result.layout.now }
     {
         match self {
             Part::Whole(array) => items_of_view(array, array.layout),
@@ -143,7 +148,8 @@ pub fn work(
     left: Items<'_>,
     right: Items<'_>,
 ) -> Result<Owned, Refusal>
-    ensures gives { (v w : OperandValues) → Stands v left.entry → Stands w right.entry → Gives held result (operation_on operation v w) }
+    ensures gives { (v w : OperandValues) → Stands v left.entry → Stands w right.entry
+        → Gives held result (operation_on operation v w) }
     ensures order { IfOk result IsInCOrder }
 {
     match operation {
@@ -157,7 +163,8 @@ fn single(alloc: Global, scalar: &Scalar, literal: &Literal) -> Result<Owned, Re
     ensures descr { IfOk result (λ o. o.descr ≡ ScalarDescr scalar.now) }
     ensures shape { IfOk result (λ o. o.layout.shape ≡ []) }
     ensures offsets { IfOk result (λ o. offsets o.layout ≡ 0 ∷ []) }
-    ensures item { Gives (λ o. item_from o.descr o.block 0) result (item_value (ScalarDescr scalar.now) literal.now) }
+    ensures item { Gives (λ o. item_from o.descr o.block 0) result
+        (item_value (ScalarDescr scalar.now) literal.now) }
 {
     let descr = Descr::Scalar(*scalar);
     // What is known of the size of an item comes with this call.
@@ -213,7 +220,9 @@ fn compare_literal(
     left: Items<'_>,
     literal: &Literal,
 ) -> Result<Owned, Refusal>
-    ensures gives { (v : OperandValues) → Stands v left.entry → Gives held result (operation_with (operation.Compare comparison) v (compared_literal v.descr literal.now)) }
+    ensures gives { (v : OperandValues) → Stands v left.entry
+        → Gives held result
+        (operation_with (operation.Compare comparison) v (compared_literal v.descr literal.now)) }
     ensures order { IfOk result IsInCOrder }
 {
     let Literal::Scalar(literal) = literal else {
@@ -240,7 +249,9 @@ pub fn work_literal(
     left: Items<'_>,
     literal: &Literal,
 ) -> Result<Owned, Refusal>
-    ensures gives { (v : OperandValues) → Stands v left.entry → Gives held result (operation_with operation v (literal_values operation v.descr literal.now)) }
+    ensures gives { (v : OperandValues) → Stands v left.entry
+        → Gives held result
+        (operation_with operation v (literal_values operation v.descr literal.now)) }
     ensures order { IfOk result IsInCOrder }
 {
     match operation {
@@ -299,7 +310,8 @@ fn transformed(
 
 /// What a computation gives.
 fn computed(alloc: Global, bench: &Bench, computation: &Computation) -> Result<Owned, Refusal>
-    requires bound { list_all (is_bound bench.now.state) (bound_in_computation computation.now) ≡ true }
+    requires bound { list_all (is_bound bench.now.state)
+        (bound_in_computation computation.now) ≡ true }
     ensures { Gives held result (computed_contents bench.now.state computation.now) }
 {
     match computation {
@@ -362,7 +374,8 @@ pub fn compute(
     computation: &Computation,
     out: &mut Vec<u8>,
 ) -> Result<(), Refusal>
-    ensures answers { CarriesOut (list_all (is_bound bench.old.state) (bound_in_computation computation.now))
+    ensures answers { CarriesOut
+        (list_all (is_bound bench.old.state) (bound_in_computation computation.now))
         (λ choice. compute_outcome choice bench.old.state name.now computation.now) bench.old.state bench.new.state out.old.items out.new.items result }
     ensures room { vec_capacity out.old ≤ vec_capacity out.new }
 {

@@ -24,7 +24,8 @@ pub fn push_array_words(
     descr: &Descr,
     shape: &Shape,
 ) -> Result<(), AllocError>
-    ensures ok { OnOk result (out.new.items ≡ out.old.items ++ array_words name.now descr.now shape.now) }
+    ensures ok { OnOk result (out.new.items ≡ out.old.items
+        ++ array_words name.now descr.now shape.now) }
     ensures kept { StartsWith out.new.items out.old.items }
     ensures room { vec_capacity out.old ≤ vec_capacity out.new }
 {
@@ -65,7 +66,8 @@ pub fn push_bound_text(
     shape: &Shape,
     origin: Origin,
 ) -> Result<(), AllocError>
-    ensures ok { OnOk result (out.new.items ≡ out.old.items ++ bound_text name.now descr.now shape.now origin) }
+    ensures ok { OnOk result (out.new.items ≡ out.old.items
+        ++ bound_text name.now descr.now shape.now origin) }
     ensures kept { StartsWith out.new.items out.old.items }
     ensures room { vec_capacity out.old ≤ vec_capacity out.new }
 {

@@ -100,7 +100,8 @@ fn take_turn<S: ScriptSource, W: Write, N: NpyStore>(
     requires size { length chunk.old ≤ 65538 }
     requires may { S.MayRead source.old (W.contents writer.old) }
     requires few { session.old.accepted + session.old.refused + length chunk.old < 2 ^ 50 }
-    ensures few { session.new.accepted + session.new.refused ≤ session.old.accepted + session.old.refused + length chunk.old }
+    ensures few { session.new.accepted + session.new.refused
+        ≤ session.old.accepted + session.old.refused + length chunk.old }
     ensures counted { S.reads source.new ≤ S.reads source.old + 1 }
     ensures well { OnOk result (S.failures source.new ≡ S.failures source.old) }
     ensures memory { ¬ IsErrOf result RunFault.Memory }
@@ -142,7 +143,8 @@ pub fn run_within<S: ScriptSource, W: Write, N: NpyStore>(
         (outside (S.remaining source.old) (W.contents writer.old) (N.shelf store.old)) }
     // Each line was answered by a step of the machine, up to the end of what there was to read; or a read or a write failed, or
     // no memory was found to begin with.
-    ensures comes_to { let before = outside (S.remaining source.old) (W.contents writer.old) (N.shelf store.old) in
+    ensures comes_to { let before
+        = outside (S.remaining source.old) (W.contents writer.old) (N.shelf store.old) in
         let after = outside (S.remaining source.new) (W.contents writer.new) (N.shelf store.new) in
         ComesTo limits.depth before after result }
     // No memory was found to begin with: nothing was read, written or stored.
@@ -152,7 +154,8 @@ pub fn run_within<S: ScriptSource, W: Write, N: NpyStore>(
     ensures reads_well { OnOk result (S.failures source.new ≡ S.failures source.old) }
     // So many reads are made at most.
     ensures reads { S.reads source.new ≤ S.reads source.old + limits.reads }
-    ensures counts { IfOk result (λ summary. summary.accepted + summary.refused ≤ 65538 * limits.reads) }
+    ensures counts { IfOk result (λ summary. summary.accepted + summary.refused
+        ≤ 65538 * limits.reads) }
 {
     let mut session = Session::new(alloc, limits.depth)?;
     let mut chunk = vec![in alloc; 0u8; limits.size]?;
@@ -185,7 +188,8 @@ pub fn run<S: ScriptSource, W: Write, N: NpyStore>(
         (outside (S.remaining source.old) (W.contents writer.old) (N.shelf store.old)) }
     // Each line was answered by a step of the machine, up to the end of what there was to read; or a read or a write failed, or
     // no memory was found to begin with.
-    ensures comes_to { let before = outside (S.remaining source.old) (W.contents writer.old) (N.shelf store.old) in
+    ensures comes_to { let before
+        = outside (S.remaining source.old) (W.contents writer.old) (N.shelf store.old) in
         let after = outside (S.remaining source.new) (W.contents writer.new) (N.shelf store.new) in
         ComesTo depth before after result }
     // No memory was found to begin with: nothing was read, written or stored.

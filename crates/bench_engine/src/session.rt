@@ -33,8 +33,10 @@ fn send<W: Write>(writer: &mut W, bytes: &[u8]) -> Result<(), WriteFault>
 
 /// Writes a text and a newline: in one piece where the room of the text has a byte left.
 fn send_line<W: Write>(writer: &mut W, text: &mut Vec<u8>) -> Result<(), WriteFault>
-    ensures ok { OnOk result (Appends (W.contents writer.old) (W.contents writer.new) (text.old.items ++ 10 ∷ [])) }
-    ensures err { OnErr result ((gone missing : List ℕ) × (text.old.items ++ 10 ∷ [] ≡ gone ++ missing)
+    ensures ok { OnOk result
+        (Appends (W.contents writer.old) (W.contents writer.new) (text.old.items ++ 10 ∷ [])) }
+    ensures err { OnErr result ((gone missing : List ℕ)
+        × (text.old.items ++ 10 ∷ [] ≡ gone ++ missing)
         × (0 < length missing) × Appends (W.contents writer.old) (W.contents writer.new) gone) }
     ensures room { vec_capacity text.old ≤ vec_capacity text.new }
 {
@@ -83,7 +85,8 @@ impl HeldLine {
 
     /// Adds bytes to the line.
     pub fn hold(&mut self, more: &[u8])
-        ensures { (piece : List ℕ) → HoldsPiece self.old piece → HoldsPiece self.new (piece ++ more.now) }
+        ensures { (piece : List ℕ) → HoldsPiece self.old piece
+            → HoldsPiece self.new (piece ++ more.now) }
     {
         let left = (MAX_LINE_LEN + 1).saturating_sub(self.bytes.len());
         if more.len() > left {
@@ -102,7 +105,8 @@ impl HeldLine {
 
     /// The line without one carriage return at its end.
     pub fn line(&self) -> Line<'_>
-        ensures { (piece : List ℕ) → HoldsPiece self.now piece → meaning_of_read result ≡ meaning_of (trimmed piece) }
+        ensures { (piece : List ℕ) → HoldsPiece self.now piece
+            → meaning_of_read result ≡ meaning_of (trimmed piece) }
     {
         if self.is_long {
             return Line::TooLong;
@@ -152,8 +156,10 @@ impl Session {
     fn answer_line<N: NpyStore>(&mut self, store: &mut N) -> Option<bool>
         requires few { self.old.accepted + self.old.refused < 2 ^ 50 }
         ensures next { HoldsPiece self.new.line [] }
-        ensures few { self.new.accepted + self.new.refused ≤ self.old.accepted + self.old.refused + 1 }
-        ensures answered { AnswersHeld (N.shelf store.old) (N.shelf store.new) self.old self.new result }
+        ensures few { self.new.accepted + self.new.refused
+            ≤ self.old.accepted + self.old.refused + 1 }
+        ensures answered { AnswersHeld (N.shelf store.old)
+            (N.shelf store.new) self.old self.new result }
     {
         self.out.clear();
         let answered = answer_read(&mut self.bench, store, self.line.line(), &mut self.out);
@@ -174,9 +180,16 @@ impl Session {
     ) -> Result<(), WriteFault>
         requires few { self.old.accepted + self.old.refused < 2 ^ 50 }
         ensures next { HoldsPiece self.new.line [] }
-        ensures few { self.new.accepted + self.new.refused ≤ self.old.accepted + self.old.refused + 1 }
-        ensures ok { OnOk result (Told (world self.old.bench.state (N.shelf store.old)) (world self.new.bench.state (N.shelf store.new)) (W.contents writer.old) (W.contents writer.new) self.old self.new) }
-        ensures err { OnErr result (ToldInPart (world self.old.bench.state (N.shelf store.old)) (world self.new.bench.state (N.shelf store.new)) (W.contents writer.old) (W.contents writer.new) self.old) }
+        ensures few { self.new.accepted + self.new.refused
+            ≤ self.old.accepted + self.old.refused + 1 }
+        ensures ok { OnOk result
+            (Told (world self.old.bench.state (N.shelf store.old))
+            (world self.new.bench.state (N.shelf store.new)) (W.contents writer.old)
+            (W.contents writer.new) self.old self.new) }
+        ensures err { OnErr result
+            (ToldInPart (world self.old.bench.state (N.shelf store.old))
+            (world self.new.bench.state (N.shelf store.new)) (W.contents writer.old)
+            (W.contents writer.new) self.old) }
     {
         if self.answer_line(store).is_none() {
             return Ok(());
@@ -193,11 +206,15 @@ impl Session {
     ) -> Result<(), WriteFault>
         requires few { self.old.accepted + self.old.refused < 2 ^ 50 }
         requires one { IsUnbroken piece.now }
-        ensures few { self.new.accepted + self.new.refused ≤ self.old.accepted + self.old.refused + 1 }
-        ensures ok { OnOk result ((first : World) (before : Option (List ℕ)) (read : List ℕ) (accepted refused : ℕ) →
+        ensures few { self.new.accepted + self.new.refused
+            ≤ self.old.accepted + self.old.refused + 1 }
+        ensures ok { OnOk result
+            ((first : World) (before : Option (List ℕ)) (read : List ℕ) (accepted refused : ℕ) →
             Fed first (world self.old.bench.state (N.shelf store.old)) before (W.contents writer.old) read accepted refused self.old →
             Fed first (world self.new.bench.state (N.shelf store.new)) before (W.contents writer.new) (read ++ piece.now ++ 10 ∷ []) accepted refused self.new) }
-        ensures err { OnErr result ((first : World) (before : Option (List ℕ)) (read more : List ℕ) (accepted refused : ℕ) →
+        ensures err { OnErr result
+            ((first : World) (before : Option (List ℕ)) (read more : List ℕ) (accepted refused : ℕ)
+            →
             Fed first (world self.old.bench.state (N.shelf store.old)) before (W.contents writer.old) read accepted refused self.old →
             FedInPart first (N.shelf store.new) before (W.contents writer.new) (read ++ piece.now ++ 10 ∷ more)) }
     {
@@ -214,11 +231,14 @@ impl Session {
         bytes: &[u8],
     ) -> Result<(), WriteFault>
         requires few { self.old.accepted + self.old.refused + length bytes.now < 2 ^ 50 }
-        ensures few { self.new.accepted + self.new.refused ≤ self.old.accepted + self.old.refused + length bytes.now }
+        ensures few { self.new.accepted + self.new.refused
+            ≤ self.old.accepted + self.old.refused + length bytes.now }
         // What is held of a line is whole, or is only known to be too long.
-        ensures told { OnOk result ((held : List ℕ) → IsUnbroken held → HoldsPiece self.old.line held →
+        ensures told { OnOk result ((held : List ℕ) → IsUnbroken held
+            → HoldsPiece self.old.line held →
             Feeds (N.shelf store.old) (N.shelf store.new) (W.contents writer.old) (W.contents writer.new) held bytes.now self.old self.new) }
-        ensures told_in_part { OnErr result ((held : List ℕ) → IsUnbroken held → HoldsPiece self.old.line held →
+        ensures told_in_part { OnErr result ((held : List ℕ) → IsUnbroken held
+            → HoldsPiece self.old.line held →
             FedInPart (world self.old.bench.state (N.shelf store.old)) (N.shelf store.new) (W.contents writer.old) (W.contents writer.new) (held ++ bytes.now)) }
     {
         let mut rest = bytes;
@@ -254,12 +274,15 @@ impl Session {
         store: &mut N,
     ) -> Result<(), WriteFault>
         requires few { self.old.accepted + self.old.refused < 2 ^ 50 }
-        ensures few { self.new.accepted + self.new.refused ≤ self.old.accepted + self.old.refused + 1 }
+        ensures few { self.new.accepted + self.new.refused
+            ≤ self.old.accepted + self.old.refused + 1 }
         // The next line has not begun.
         ensures next { HoldsPiece self.new.line [] }
-        ensures told { OnOk result ((held : List ℕ) → IsUnbroken held → HoldsPiece self.old.line held →
+        ensures told { OnOk result ((held : List ℕ) → IsUnbroken held
+            → HoldsPiece self.old.line held →
             Ends (N.shelf store.old) (N.shelf store.new) (W.contents writer.old) (W.contents writer.new) held self.old self.new) }
-        ensures told_in_part { OnErr result ((held : List ℕ) → IsUnbroken held → HoldsPiece self.old.line held →
+        ensures told_in_part { OnErr result ((held : List ℕ) → IsUnbroken held
+            → HoldsPiece self.old.line held →
             EndsInPart (world self.old.bench.state (N.shelf store.old)) (N.shelf store.new) (W.contents writer.old) (W.contents writer.new) held) }
     {
         if self.line.is_empty() {

@@ -58,7 +58,8 @@ fn changed_by_literal(
     literal: &Literal,
 ) -> Result<Owned, Refusal>
     requires few { count old.layout.now.shape * item_size old.descr.now ≤ max_bytes }
-    ensures { (v : OperandValues) → Stands v old.entry → Meets (HoldsItems old.entry.descr.now (count v.shape)) result
+    ensures { (v : OperandValues) → Stands v old.entry
+        → Meets (HoldsItems old.entry.descr.now (count v.shape)) result
         (changed_with operation old.entry.descr.now v (literal_values operation old.entry.descr.now literal.now)) }
 {
     // What is known of a shape comes with this call.
@@ -78,7 +79,8 @@ fn changed(
 ) -> Result<Owned, Refusal>
     requires given { (s : State) × (value : Argument) × IsGiven s value given.now }
     requires few { count old.layout.now.shape * item_size old.descr.now ≤ max_bytes }
-    ensures { (s : State) (value : Argument) (v : OperandValues) → IsGiven s value given.now → Stands v old.entry
+    ensures { (s : State) (value : Argument) (v : OperandValues) → IsGiven s value given.now
+        → Stands v old.entry
         → Meets (HoldsItems old.entry.descr.now (count v.shape)) result
         (changed_with operation old.entry.descr.now v (argument_values s operation old.entry.descr.now value)) }
 {
@@ -155,7 +157,8 @@ fn pair_by_items(
     operation: Operation,
     items: Items<'_>,
 ) -> Result<Writing, Refusal>
-    requires { (view : Layout) × GoTogether view items.layout.now pair × IsTargetOf array.now (View view) }
+    requires { (view : Layout) × GoTogether view items.layout.now pair
+        × IsTargetOf array.now (View view) }
     ensures { (view : Layout) (w : OperandValues) → IsShape view.shape
         → GoTogether view items.entry.layout.now pair → Stands w items.entry → Writes array.now (View view)
         (λ s part. updated_items operation array.now.descr.now (operand_values s part) w) result }
@@ -210,7 +213,8 @@ pub fn updated(
     operation: Operation,
     given: &Given<'_>,
 ) -> Result<Writing, Refusal>
-    requires { (s : State) × (value : Argument) × IsGiven s value given.now × IsTargetIn s array.now target }
+    requires { (s : State) × (value : Argument) × IsGiven s value given.now
+        × IsTargetIn s array.now target }
     ensures { (s : State) (value : Argument) → IsGiven s value given.now
         → WritesIn s array.now target (λ part. updated s array.now.descr.now part operation value) result }
 {

@@ -218,7 +218,9 @@ pub fn view(
     out: &mut Vec<u8>,
 ) -> Result<(), Refusal>
     ensures room { vec_capacity out.old ≤ vec_capacity out.new }
-    ensures answers { CarriesOut (list_all (is_bound bench.old.state) (source.now ∷ names_in_viewing how.now)) (λ choice. view_outcome choice bench.old.state name.now source.now how.now)
+    ensures answers { CarriesOut
+        (list_all (is_bound bench.old.state) (source.now ∷ names_in_viewing how.now))
+        (λ choice. view_outcome choice bench.old.state name.now source.now how.now)
         bench.old.state bench.new.state out.old.items out.new.items result }
 {
     let Some(array) = bench.get(source) else {

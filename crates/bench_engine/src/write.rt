@@ -102,7 +102,8 @@ fn named_target(
     index: &[IndexItem<Name>],
 ) -> Result<Target, Refusal>
     requires bound { list_all (is_bound bench.now.state) (names_in_index index.now) ≡ true }
-    ensures { (a : Array) → Shows bench.now.state a array.now → Meets (IsAimed bench.now.state a array.now) result (taken bench.now.state a index.now) }
+    ensures { (a : Array) → Shows bench.now.state a array.now
+        → Meets (IsAimed bench.now.state a array.now) result (taken bench.now.state a index.now) }
 {
     if view_ops::are_basic(index) {
         return Ok(Target::View(view_ops::basic(alloc, array.layout, index)?));
@@ -118,7 +119,8 @@ fn target_of(
     index: &[IndexItem<Name>],
 ) -> Result<Target, Refusal>
     requires bound { list_all (is_bound bench.now.state) (names_in_index index.now) ≡ true }
-    ensures { (name : List ℕ) (a : Array) → find_array bench.now.state.names name ≡ Some a → Shows bench.now.state a array.now
+    ensures { (name : List ℕ) (a : Array) → find_array bench.now.state.names name ≡ Some a
+        → Shows bench.now.state a array.now
         → Meets (IsTarget bench.now.state name a) result (target_part bench.now.state a index.now) }
 {
     let target = named_target(alloc, bench, array, index)?;
@@ -165,7 +167,8 @@ fn new_items(
     target: Target,
     assignment: Assignment<'_>,
 ) -> Result<Writing, Refusal>
-    requires bound { list_all (is_bound bench.now.state) (names_in_argument assignment.value.now) ≡ true }
+    requires bound { list_all (is_bound bench.now.state)
+        (names_in_argument assignment.value.now) ≡ true }
     requires target { IsTargetIn bench.now.state array.now target }
     ensures { WritesIn bench.now.state array.now target (λ part. new_items bench.now.state
         array.now.descr.now part assignment.entry.operation assignment.entry.value.now) result }
@@ -185,7 +188,10 @@ fn new_items(
 pub fn set(bench: &mut Bench, assignment: Assignment<'_>, out: &mut Vec<u8>) -> Result<(), Refusal>
     requires room { vec_len out.old + 64 ≤ vec_capacity out.old }
     ensures room { vec_capacity out.old ≤ vec_capacity out.new }
-    ensures answers { CarriesOut (list_all (is_bound bench.old.state) (assignment.entry.name.now ∷ names_in_index assignment.entry.index.now ++ names_in_argument assignment.entry.value.now))
+    ensures answers { CarriesOut
+        (list_all (is_bound bench.old.state)
+        (assignment.entry.name.now ∷ names_in_index assignment.entry.index.now
+        ++ names_in_argument assignment.entry.value.now))
         (λ choice. write_outcome bench.old.state assignment.entry.name.now assignment.entry.index.now assignment.entry.operation assignment.entry.value.now) bench.old.state bench.new.state out.old.items out.new.items result }
 {
     let alloc = *out.allocator();

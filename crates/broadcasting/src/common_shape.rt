@@ -49,7 +49,8 @@ pub fn common_of_two(
 /// `TooLarge`. Without shapes the result has no axes. Each of the shapes stretches to the result.
 pub fn common(alloc: Global, shapes: &[&Shape]) -> Result<Shape, Refusal>
     ensures value { Gives (λ s. s) result (common_shape (map (λ s. s.now) shapes.now)) }
-    ensures fits { IfOk result (λ common. All (λ shape. IsTrue (can_stretch shape common)) (map (λ s. s.now) shapes.now)) }
+    ensures fits { IfOk result
+        (λ common. All (λ shape. IsTrue (can_stretch shape common)) (map (λ s. s.now) shapes.now)) }
 {
     let mut lengths = SmallVec::new(alloc);
     for shape in shapes {

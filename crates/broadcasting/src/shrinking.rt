@@ -28,8 +28,10 @@ fn shrunk_length(lengths: &[usize], strides: &[isize], others: &[isize], axis: u
     requires axis { axis < length lengths.now }
     requires stride { axis < length strides.now }
     requires other { axis < length others.now }
-    ensures first { ShrinksTo (slice_index lengths.now axis) (slice_index_or strides.now axis (pos 0)) result }
-    ensures second { ShrinksTo (slice_index lengths.now axis) (slice_index_or others.now axis (pos 0)) result }
+    ensures first { ShrinksTo (slice_index lengths.now axis)
+        (slice_index_or strides.now axis (pos 0)) result }
+    ensures second { ShrinksTo (slice_index lengths.now axis)
+        (slice_index_or others.now axis (pos 0)) result }
 {
     if lengths[axis] > 1 && strides[axis] == 0 && others[axis] == 0 {
         return 1;

@@ -46,7 +46,8 @@ fn zeros(alloc: Global, count: usize) -> Result<Strides, AllocError>
 fn kept_stride(lengths: &[usize], strides: &[isize], axis: usize) -> isize
     requires axis { axis < length lengths.now }
     requires stride { axis < length strides.now }
-    ensures { result ≡ kept_stride (slice_index lengths.now axis) (slice_index_or strides.now axis (pos 0)) }
+    ensures { result
+        ≡ kept_stride (slice_index lengths.now axis) (slice_index_or strides.now axis (pos 0)) }
 {
     if lengths[axis] == 1 {
         return 0;
@@ -62,7 +63,8 @@ fn stretched_strides(
     more: usize,
 ) -> Result<Strides, AllocError>
     requires { length strides.now ≡ length lengths.now }
-    ensures { IfOk result (λ s. s ≡ replicate more (pos 0) ++ kept_strides lengths.now strides.now) }
+    ensures { IfOk result (λ s. s ≡ replicate more (pos 0)
+        ++ kept_strides lengths.now strides.now) }
 {
     let mut made = zeros(alloc, more)?;
     for axis in 0..lengths.len() {
@@ -99,7 +101,13 @@ fn are_single(lengths: &[usize]) -> bool
 fn without_first(alloc: Global, layout: &Layout, count: usize) -> Result<Layout, Refusal>
     requires count { count ≤ length layout.now.shape }
     requires single { list_all (λ n. n == 1) (take count layout.now.shape) ≡ true }
-    ensures ok { IfOk result (λ rest. IsViewOf layout.now rest (record { shape = drop count layout.now.shape; leads = λ index. replicate count 0 ++ index })) }
+    ensures ok { IfOk result
+        (λ rest. IsViewOf layout.now rest
+        (record {
+          shape = drop count layout.now.shape;
+          leads = λ index. replicate count 0
+              ++ index;
+        })) }
     ensures err { IfErr result (λ refusal. refusal ≡ OutOfMemory) }
 {
     let shape = Shape::try_new(alloc, &layout.shape.as_slice()[count..])?;

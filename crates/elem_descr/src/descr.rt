@@ -95,7 +95,8 @@ fn push_moved(
 /// Appends the leaves of a field.
 fn push_field(leaves: &mut Vec<Leaf>, field: &Field) -> Result<(), AllocError>
     requires small { field.now.at + item_size field.now.descr ≤ 65536 }
-    ensures { OnOk result (leaves.new.items ≡ leaves.old.items ++ map (moved_leaf field.now.at) (leaves_of field.now.descr)) }
+    ensures { OnOk result (leaves.new.items ≡ leaves.old.items
+        ++ map (moved_leaf field.now.at) (leaves_of field.now.descr)) }
 {
     match &field.descr {
         Descr::Scalar(scalar) => leaves.push(Leaf {
@@ -171,7 +172,8 @@ impl Record {
     /// A record of these fields, whose items have `size` bytes.
     pub fn try_new(alloc: Global, size: usize, fields: Vec<Field>) -> Result<Record, AllocError>
         requires { IsLegal (record { size = size; fields = listed fields.items }) }
-        ensures { IfOk result (λ made. made ≡ record { size = size; fields = listed fields.items }) }
+        ensures { IfOk result
+            (λ made. made ≡ record { size = size; fields = listed fields.items }) }
     {
         let leaves = leaves_in(alloc, fields.as_slice(), size)?;
         Ok(Record {
@@ -214,7 +216,8 @@ impl Record {
     /// The scalar of the k-th leaf, and its offset.
     fn leaf_at(&self, k: usize) -> (Scalar, usize)
         requires { k < length (leaves_from 0 self.now.fields) }
-        ensures leaf { IfSome (slice_get (leaves_from 0 self.now.fields) k) (λ leaf. (result.0 ≡ leaf.scalar) × (result.1 ≡ leaf.at)) }
+        ensures leaf { IfSome (slice_get (leaves_from 0 self.now.fields) k)
+            (λ leaf. (result.0 ≡ leaf.scalar) × (result.1 ≡ leaf.at)) }
         ensures within { result.1 + size result.0 ≤ self.now.size }
         ensures small { result.1 < 65536 }
     {
@@ -266,7 +269,8 @@ impl Descr {
     /// The scalar of the k-th value of an item, and the offset of its bytes.
     pub fn leaf_at(&self, k: usize) -> (Scalar, usize)
         requires { k < length (leaves_of self.now) }
-        ensures leaf { IfSome (slice_get (leaves_of self.now) k) (λ leaf. (result.0 ≡ leaf.scalar) × (result.1 ≡ leaf.at)) }
+        ensures leaf { IfSome (slice_get (leaves_of self.now) k)
+            (λ leaf. (result.0 ≡ leaf.scalar) × (result.1 ≡ leaf.at)) }
         ensures within { result.1 + size result.0 ≤ item_size self.now }
         ensures small { result.1 < 65536 }
     {
@@ -280,7 +284,9 @@ impl Descr {
     pub fn fields(&self) -> &[Field]
         ensures value { result.now ≡ fields self.now }
         ensures few { length (leaves_of self.now) ≤ 2048 }
-        ensures within { (k : ℕ) → k < length (fields self.now) → (field_at self.now k).at + item_size (field_at self.now k).descr ≤ item_size self.now }
+        ensures within { (k : ℕ) → k < length (fields self.now)
+            → (field_at self.now k).at + item_size (field_at self.now k).descr
+            ≤ item_size self.now }
     {
         match self {
             Descr::Scalar(_) => &[],
@@ -311,7 +317,9 @@ impl Descr {
         ensures value { result ≡ field_leaves self.now field }
         ensures some { 1 ≤ result.1 }
         ensures within { result.0 + result.1 ≤ length (leaves_of self.now) }
-        ensures leaves { let there = field_at self.now field in take result.1 (drop result.0 (leaves_of self.now)) ≡ map (moved_leaf there.at) (leaves_of there.descr) }
+        ensures leaves { let there = field_at self.now field
+            in take result.1 (drop result.0 (leaves_of self.now))
+            ≡ map (moved_leaf there.at) (leaves_of there.descr) }
     {
         let fields = self.fields();
         let before = leaf_sum(&fields[..field]);

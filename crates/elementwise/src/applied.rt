@@ -17,8 +17,11 @@ use std::alloc::Global;
 /// own in C order, of the type that `promote` tells. Refused as `promote` refuses, records as
 /// `NotForThisKind`; then as `common` refuses: `ShapesDoNotBroadcast`, `TooLarge`.
 pub fn apply2(alloc: Global, op: BinOp, left: Items<'_>, right: Items<'_>) -> Result<Owned, Refusal>
-    ensures gives { Gives (λ o. (o.descr, o.layout.shape)) result (binary_result op left.entry.descr.now left.entry.layout.now.shape right.entry.descr.now right.entry.layout.now.shape) }
-    ensures order { IfOk result (λ o. offsets o.layout ≡ offsets_in C (item_size o.descr) o.layout.shape) }
+    ensures gives { Gives (λ o. (o.descr, o.layout.shape)) result
+        (binary_result op left.entry.descr.now left.entry.layout.now.shape right.entry.descr.now
+        right.entry.layout.now.shape) }
+    ensures order { IfOk result
+        (λ o. offsets o.layout ≡ offsets_in C (item_size o.descr) o.layout.shape) }
     ensures items { IfOk result (λ o. map (item_from o.descr o.block) (offsets o.layout)
         ≡ pairwise (binary_item op o.descr) (stretched_items left.entry.descr.now left.entry.block.now left.entry.layout.now o.layout.shape)
         (stretched_items right.entry.descr.now right.entry.block.now right.entry.layout.now o.layout.shape)) }
@@ -39,8 +42,10 @@ pub fn apply2(alloc: Global, op: BinOp, left: Items<'_>, right: Items<'_>) -> Re
 /// What an operation gives on the items of an array, in a block of their own in C order. Refused as
 /// `promote_one` refuses, and records as `NotForThisKind`.
 pub fn apply1(alloc: Global, op: UnOp, operand: Items<'_>) -> Result<Owned, Refusal>
-    ensures gives { Gives (λ o. (o.descr, o.layout.shape)) result (unary_result op operand.entry.descr.now operand.entry.layout.now.shape) }
-    ensures order { IfOk result (λ o. offsets o.layout ≡ offsets_in C (item_size o.descr) o.layout.shape) }
+    ensures gives { Gives (λ o. (o.descr, o.layout.shape)) result
+        (unary_result op operand.entry.descr.now operand.entry.layout.now.shape) }
+    ensures order { IfOk result
+        (λ o. offsets o.layout ≡ offsets_in C (item_size o.descr) o.layout.shape) }
     ensures items { IfOk result (λ o. map (item_from o.descr o.block) (offsets o.layout)
         ≡ map (λ offset. unary_item op o.descr (item_from operand.entry.descr.now operand.entry.block.now offset)) (offsets operand.entry.layout.now)) }
     ensures encoded { IfOk result (λ o. o.block ≡ flat_map (encode_item o.descr) (owned_items o)) }

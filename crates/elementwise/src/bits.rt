@@ -23,7 +23,8 @@ pub(crate) fn magnitude(negative: bool, bits: u64) -> u64
 /// The bits of a quotient that is rounded down, 0 by 0.
 #[inline(always)]
 pub(crate) fn quotient(signed: bool, left: u64, right: u64) -> u64
-    ensures { result ≡ low_bits 8 (floor_quotient (integer signed 8 left) (integer signed 8 right)) }
+    ensures { result
+        ≡ low_bits 8 (floor_quotient (integer signed 8 left) (integer signed 8 right)) }
 {
     let below = is_negative(signed, left);
     let over = is_negative(signed, right);
@@ -53,7 +54,9 @@ pub(crate) fn rest(signed: bool, left: u64, right: u64) -> u64
 #[inline(always)]
 pub(crate) fn moved_up(width: u64, left: u64, right: u64) -> u64
     requires { width ≤ 64 }
-    ensures { (signed : Bool) → result ≡ low_bits 8 (shifted_left width (integer signed 8 left) (integer signed 8 right)) }
+    ensures { (signed : Bool)
+        → result
+        ≡ low_bits 8 (shifted_left width (integer signed 8 left) (integer signed 8 right)) }
 {
     if right < width { left << right } else { 0 }
 }
@@ -71,7 +74,8 @@ fn kept_bits(width: u64, bits: u64, by: u64) -> u64
 #[inline(always)]
 pub(crate) fn moved_down(signed: bool, width: u64, left: u64, right: u64) -> u64
     requires { width ≤ 64 }
-    ensures { result ≡ low_bits 8 (shifted_right width (integer signed 8 left) (integer signed 8 right)) }
+    ensures { result
+        ≡ low_bits 8 (shifted_right width (integer signed 8 left) (integer signed 8 right)) }
 {
     if is_negative(signed, left) {
         return !kept_bits(width, !left, right);

@@ -31,7 +31,11 @@ fn compare_with(
     other: &[u8],
 ) -> Result<Owned, Refusal>
     requires { operand.descr.now ≡ ScalarDescr (Bytes width) }
-    ensures made { IfOk result (IsMade (ScalarDescr BoolScalar) operand.entry.layout.now.shape (map (λ offset. compared_item comparison (item_from operand.entry.descr.now operand.entry.block.now offset) (text other.now ∷ [])) (offsets operand.entry.layout.now))) }
+    ensures made { IfOk result
+        (IsMade (ScalarDescr BoolScalar) operand.entry.layout.now.shape
+        (map (λ offset.
+        compared_item comparison (item_from operand.entry.descr.now operand.entry.block.now offset)
+        (text other.now ∷ [])) (offsets operand.entry.layout.now))) }
     ensures refused { IfErr result (λ refusal. refusal ≡ OutOfMemory) }
 {
     let operands = Operands {
@@ -56,7 +60,11 @@ fn compare_once(
     other: &[u8],
 ) -> Result<Owned, Refusal>
     requires { operand.descr.now ≡ ScalarDescr (Bytes width) }
-    ensures made { IfOk result (IsMade (ScalarDescr BoolScalar) operand.entry.layout.now.shape (map (λ offset. compared_item comparison (item_from operand.entry.descr.now operand.entry.block.now offset) (text other.now ∷ [])) (offsets operand.entry.layout.now))) }
+    ensures made { IfOk result
+        (IsMade (ScalarDescr BoolScalar) operand.entry.layout.now.shape
+        (map (λ offset.
+        compared_item comparison (item_from operand.entry.descr.now operand.entry.block.now offset)
+        (text other.now ∷ [])) (offsets operand.entry.layout.now))) }
     ensures refused { IfErr result (λ refusal. refusal ≡ OutOfMemory) }
 {
     let layout = operand.layout;
@@ -96,7 +104,11 @@ fn compare_with_item(
 ) -> Result<Owned, Refusal>
     requires from { operand.descr.now ≡ ScalarDescr (Bytes width) }
     requires held { length bytes.now ≤ width }
-    ensures made { IfOk result (IsMade (ScalarDescr BoolScalar) operand.entry.layout.now.shape (map (λ offset. compared_item comparison (item_from operand.entry.descr.now operand.entry.block.now offset) (text (without_nuls bytes.now) ∷ [])) (offsets operand.entry.layout.now))) }
+    ensures made { IfOk result
+        (IsMade (ScalarDescr BoolScalar) operand.entry.layout.now.shape
+        (map (λ offset.
+        compared_item comparison (item_from operand.entry.descr.now operand.entry.block.now offset)
+        (text (without_nuls bytes.now) ∷ [])) (offsets operand.entry.layout.now))) }
     ensures refused { IfErr result (λ refusal. refusal ≡ OutOfMemory) }
 {
     let block = filled_up(alloc, width, bytes)?;
@@ -118,8 +130,10 @@ pub fn compare_bytes(
     operand: Items<'_>,
     bytes: &[u8],
 ) -> Result<Owned, Refusal>
-    ensures gives { Gives (λ o. (o.descr, o.layout.shape)) result (bytes_compared_result operand.entry.descr.now operand.entry.layout.now.shape) }
-    ensures order { IfOk result (λ o. offsets o.layout ≡ offsets_in C (item_size o.descr) o.layout.shape) }
+    ensures gives { Gives (λ o. (o.descr, o.layout.shape)) result
+        (bytes_compared_result operand.entry.descr.now operand.entry.layout.now.shape) }
+    ensures order { IfOk result
+        (λ o. offsets o.layout ≡ offsets_in C (item_size o.descr) o.layout.shape) }
     ensures items { IfOk result (λ o. map (item_from o.descr o.block) (offsets o.layout)
         ≡ map (λ offset. compared_item comparison (item_from operand.entry.descr.now operand.entry.block.now offset) (text (without_nuls bytes.now) ∷ [])) (offsets operand.entry.layout.now)) }
     ensures encoded { IfOk result (λ o. o.block ≡ flat_map (encode_item o.descr) (owned_items o)) }

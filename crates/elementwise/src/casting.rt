@@ -32,7 +32,10 @@ pub(crate) fn cast<S: Number, P: Ordered>(
     requires left { item_size operands.left.descr.now ≡ S.WIDTH }
     requires right { item_size operands.right.descr.now ≡ S.WIDTH }
     requires room { pairs_of operands * size scalar.now ≤ block.1 }
-    ensures bytes { result.0 ≡ block.0 ++ made_of_all (number_pair (S.scalar P.order) (S.scalar P.order) scalar.now (λ a _. wrap scalar.now a)) operands.entry }
+    ensures bytes { result.0 ≡ block.0
+        ++ made_of_all
+        (number_pair (S.scalar P.order) (S.scalar P.order) scalar.now (λ a _. wrap scalar.now a))
+        operands.entry }
     ensures left { pairs_of operands.entry * size scalar.now + result.1 ≡ block.1 }
 {
     match scalar {

@@ -49,7 +49,12 @@ pub(crate) fn cast_scalars(
     requires from { from.descr.now ≡ ScalarDescr scalar.now }
     requires can { can_cast_scalar scalar.now to.now ≡ true }
     requires few { count from.layout.now.shape * size to.now ≤ max_bytes }
-    ensures made { IfOk result (IsMade (ScalarDescr to.now) from.entry.layout.now.shape (map (λ offset. cast_item from.entry.descr.now (ScalarDescr to.now) (item_from from.entry.descr.now from.entry.bytes.now offset)) (offsets from.entry.layout.now))) }
+    ensures made { IfOk result
+        (IsMade (ScalarDescr to.now) from.entry.layout.now.shape
+        (map (λ offset.
+        cast_item from.entry.descr.now (ScalarDescr to.now)
+        (item_from from.entry.descr.now from.entry.bytes.now offset))
+        (offsets from.entry.layout.now))) }
     ensures refused { IfErr result (λ refusal. refusal ≡ OutOfMemory) }
 {
     let operands = Operands {
@@ -86,7 +91,10 @@ fn cast_column(alloc: Global, from: Items<'_>, leaf: Leaf, to: &Scalar) -> Resul
     requires can { can_cast_scalar leaf.scalar to.now ≡ true }
     requires within { leaf.at + size leaf.scalar ≤ item_size from.descr.now }
     requires few { count from.layout.now.shape * size to.now ≤ max_bytes }
-    ensures bytes { IfOk result (λ o. o.block ≡ concat (map (leaf_from leaf to.now from.entry.block.now) (offsets from.entry.layout.now))) }
+    ensures bytes { IfOk result
+        (λ o. o.block
+        ≡ concat (map (leaf_from leaf to.now from.entry.block.now)
+        (offsets from.entry.layout.now))) }
     ensures refused { IfErr result (λ refusal. refusal ≡ OutOfMemory) }
 {
     let descr = Descr::Scalar(leaf.scalar);
@@ -110,7 +118,11 @@ fn cast_leaf(
     requires k { k < length (leaves_of to.now) }
     requires room { length block.old ≡ count from.layout.now.shape * item_size to.now }
     requires few { length block.old ≤ max_bytes }
-    ensures written { IfOk result (λ _. block.new ≡ with_items (row_offsets (leaf_at to.now k).at (item_size to.now) (length (offsets from.entry.layout.now)))
+    ensures written { IfOk result
+        (λ _. block.new
+        ≡ with_items
+        (row_offsets (leaf_at to.now k).at (item_size to.now)
+        (length (offsets from.entry.layout.now)))
         (map (leaf_from (source from.entry.descr.now k) (leaf_at to.now k).scalar from.entry.block.now) (offsets from.entry.layout.now)) block.old) }
     ensures len { length block.new ≡ length block.old }
     ensures refused { IfErr result (λ refusal. refusal ≡ OutOfMemory) }
@@ -138,10 +150,19 @@ fn cast_leaf(
 fn cast_block(alloc: Global, from: Items<'_>, to: &Descr) -> Result<RawBlock, Refusal>
     requires can { can_cast from.descr.now to.now ≡ true }
     requires few { count from.layout.now.shape * item_size to.now ≤ max_bytes }
-    ensures len { IfOk result (λ cast. length cast ≡ count from.entry.layout.now.shape * item_size to.now) }
-    ensures items { IfOk result (λ cast. map (item_from to.now cast) (multiples (item_size to.now) (count from.entry.layout.now.shape))
+    ensures len { IfOk result
+        (λ cast. length cast ≡ count from.entry.layout.now.shape * item_size to.now) }
+    ensures items { IfOk result
+        (λ cast. map (item_from to.now cast)
+        (multiples (item_size to.now) (count from.entry.layout.now.shape))
         ≡ map (λ offset. cast_item from.entry.descr.now to.now (item_from from.entry.descr.now from.entry.block.now offset)) (offsets from.entry.layout.now)) }
-    ensures encoded { IfOk result (λ cast. cast ≡ flat_map (encode_item to.now) (map (λ offset. cast_item from.entry.descr.now to.now (item_from from.entry.descr.now from.entry.block.now offset)) (offsets from.entry.layout.now))) }
+    ensures encoded { IfOk result
+        (λ cast. cast
+        ≡ flat_map (encode_item to.now)
+        (map (λ offset.
+        cast_item from.entry.descr.now to.now
+        (item_from from.entry.descr.now from.entry.block.now offset))
+        (offsets from.entry.layout.now))) }
     ensures refused { IfErr result (λ refusal. refusal ≡ OutOfMemory) }
 {
     let _from_item = from.descr.size();
@@ -156,7 +177,12 @@ fn cast_block(alloc: Global, from: Items<'_>, to: &Descr) -> Result<RawBlock, Re
 fn cast_records(alloc: Global, from: Items<'_>, to: &Descr) -> Result<Owned, Refusal>
     requires can { can_cast from.descr.now to.now ≡ true }
     requires few { count from.layout.now.shape * item_size to.now ≤ max_bytes }
-    ensures made { IfOk result (IsMade to.now from.entry.layout.now.shape (map (λ offset. cast_item from.entry.descr.now to.now (item_from from.entry.descr.now from.entry.block.now offset)) (offsets from.entry.layout.now))) }
+    ensures made { IfOk result
+        (IsMade to.now from.entry.layout.now.shape
+        (map (λ offset.
+        cast_item from.entry.descr.now to.now
+        (item_from from.entry.descr.now from.entry.block.now offset))
+        (offsets from.entry.layout.now))) }
     ensures refused { IfErr result (λ refusal. refusal ≡ OutOfMemory) }
 {
     let cast = cast_block(alloc, from, to)?;
@@ -169,7 +195,12 @@ fn cast_records(alloc: Global, from: Items<'_>, to: &Descr) -> Result<Owned, Ref
 fn cast_items(alloc: Global, from: Items<'_>, to: &Descr) -> Result<Owned, Refusal>
     requires can { can_cast from.descr.now to.now ≡ true }
     requires few { count from.layout.now.shape * item_size to.now ≤ max_bytes }
-    ensures made { IfOk result (IsMade to.now from.entry.layout.now.shape (map (λ offset. cast_item from.entry.descr.now to.now (item_from from.entry.descr.now from.entry.block.now offset)) (offsets from.entry.layout.now))) }
+    ensures made { IfOk result
+        (IsMade to.now from.entry.layout.now.shape
+        (map (λ offset.
+        cast_item from.entry.descr.now to.now
+        (item_from from.entry.descr.now from.entry.block.now offset))
+        (offsets from.entry.layout.now))) }
     ensures refused { IfErr result (λ refusal. refusal ≡ OutOfMemory) }
 {
     match (from.descr, to) {
@@ -185,12 +216,14 @@ fn cast_items(alloc: Global, from: Items<'_>, to: &Descr) -> Result<Owned, Refus
 pub fn cast(alloc: Global, from: Items<'_>, to: &Descr) -> Result<Owned, Refusal>
     ensures descr { IfOk result (λ o. o.descr ≡ to.now) }
     ensures shape { IfOk result (λ o. o.layout.shape ≡ from.entry.layout.now.shape) }
-    ensures order { IfOk result (λ o. offsets o.layout ≡ offsets_in C (item_size to.now) from.entry.layout.now.shape) }
+    ensures order { IfOk result
+        (λ o. offsets o.layout ≡ offsets_in C (item_size to.now) from.entry.layout.now.shape) }
     ensures items { IfOk result (λ o. map (item_from to.now o.block) (offsets o.layout)
         ≡ map (λ offset. cast_item from.entry.descr.now to.now (item_from from.entry.descr.now from.entry.block.now offset)) (offsets from.entry.layout.now)) }
     ensures encoded { IfOk result (λ o. o.block ≡ flat_map (encode_item o.descr) (owned_items o)) }
     ensures can { IfOk result (λ _. can_cast from.entry.descr.now to.now ≡ true) }
-    ensures within { IfOk result (λ _. count from.entry.layout.now.shape * item_size to.now ≤ max_bytes) }
+    ensures within { IfOk result (λ _. count from.entry.layout.now.shape * item_size to.now
+        ≤ max_bytes) }
     ensures refused { IfErr result (λ refusal. refusal ≡ (if can_cast from.entry.descr.now to.now
         then (if nat_le (count from.entry.layout.now.shape * item_size to.now) max_bytes then OutOfMemory else TooLarge) else NoSuchCast)) }
 {

@@ -64,7 +64,10 @@ fn compare_numbers(
     requires other { both.right.descr.now ≡ ScalarDescr right.now }
     requires left { IsNumber left.now }
     requires right { IsNumber right.now }
-    ensures made { IfOk result (IsMade (ScalarDescr BoolScalar) both.entry.shape.now (pairwise (compared_item comparison) (stretched both.entry.left both.entry.shape.now) (stretched both.entry.right both.entry.shape.now))) }
+    ensures made { IfOk result
+        (IsMade (ScalarDescr BoolScalar) both.entry.shape.now
+        (pairwise (compared_item comparison) (stretched both.entry.left both.entry.shape.now)
+        (stretched both.entry.right both.entry.shape.now))) }
     ensures refused { IfErr result (λ refusal. refusal ≡ OutOfMemory) }
 {
     note_bytes(both.left.block);
@@ -82,7 +85,10 @@ fn compare_texts(
 ) -> Result<Owned, Refusal>
     requires left { both.left.descr.now ≡ ScalarDescr (Bytes texts.width) }
     requires right { both.right.descr.now ≡ ScalarDescr (Bytes texts.other_width) }
-    ensures made { IfOk result (IsMade (ScalarDescr BoolScalar) both.entry.shape.now (pairwise (compared_item texts.comparison) (stretched both.entry.left both.entry.shape.now) (stretched both.entry.right both.entry.shape.now))) }
+    ensures made { IfOk result
+        (IsMade (ScalarDescr BoolScalar) both.entry.shape.now
+        (pairwise (compared_item texts.comparison) (stretched both.entry.left both.entry.shape.now)
+        (stretched both.entry.right both.entry.shape.now))) }
     ensures refused { IfErr result (λ refusal. refusal ≡ OutOfMemory) }
 {
     let Broadcast { left, right, shape } = both;
@@ -120,7 +126,10 @@ fn compare_scalars(
     both: Broadcast<'_>,
 ) -> Result<Owned, Refusal>
     requires { AreComparable both.left.descr.now both.right.descr.now }
-    ensures made { IfOk result (IsMade (ScalarDescr BoolScalar) both.entry.shape.now (pairwise (compared_item comparison) (stretched both.entry.left both.entry.shape.now) (stretched both.entry.right both.entry.shape.now))) }
+    ensures made { IfOk result
+        (IsMade (ScalarDescr BoolScalar) both.entry.shape.now
+        (pairwise (compared_item comparison) (stretched both.entry.left both.entry.shape.now)
+        (stretched both.entry.right both.entry.shape.now))) }
     ensures refused { IfErr result (λ refusal. refusal ≡ OutOfMemory) }
 {
     match (both.left.descr, both.right.descr) {
@@ -146,7 +155,10 @@ pub(crate) fn compare_once(
     both: Broadcast<'_>,
 ) -> Result<Owned, Refusal>
     requires { AreComparable both.left.descr.now both.right.descr.now }
-    ensures made { IfOk result (IsMade (ScalarDescr BoolScalar) both.entry.shape.now (pairwise (compared_item comparison) (stretched both.entry.left both.entry.shape.now) (stretched both.entry.right both.entry.shape.now))) }
+    ensures made { IfOk result
+        (IsMade (ScalarDescr BoolScalar) both.entry.shape.now
+        (pairwise (compared_item comparison) (stretched both.entry.left both.entry.shape.now)
+        (stretched both.entry.right both.entry.shape.now))) }
     ensures refused { IfErr result (λ refusal. refusal ≡ OutOfMemory) }
 {
     let Broadcast { left, right, shape } = both;
@@ -181,8 +193,11 @@ pub fn compare(
     left: Items<'_>,
     right: Items<'_>,
 ) -> Result<Owned, Refusal>
-    ensures gives { Gives (λ o. (o.descr, o.layout.shape)) result (compared_result left.entry.descr.now left.entry.layout.now.shape right.entry.descr.now right.entry.layout.now.shape) }
-    ensures order { IfOk result (λ o. offsets o.layout ≡ offsets_in C (item_size o.descr) o.layout.shape) }
+    ensures gives { Gives (λ o. (o.descr, o.layout.shape)) result
+        (compared_result left.entry.descr.now left.entry.layout.now.shape right.entry.descr.now
+        right.entry.layout.now.shape) }
+    ensures order { IfOk result
+        (λ o. offsets o.layout ≡ offsets_in C (item_size o.descr) o.layout.shape) }
     ensures items { IfOk result (λ o. map (item_from o.descr o.block) (offsets o.layout)
         ≡ pairwise (compared_item comparison) (stretched_items left.entry.descr.now left.entry.block.now left.entry.layout.now o.layout.shape)
         (stretched_items right.entry.descr.now right.entry.block.now right.entry.layout.now o.layout.shape)) }

@@ -57,7 +57,10 @@ pub(crate) fn compare<A: Number, B: Number, O: Ordered>(
     requires left { item_size operands.left.descr.now ≡ A.WIDTH }
     requires right { item_size operands.right.descr.now ≡ B.WIDTH }
     requires room { pairs_of operands ≤ block.1 }
-    ensures bytes { result.0 ≡ block.0 ++ made_of_all (number_pair (A.scalar O.order) (B.scalar O.order) BoolScalar (says_number comparison)) operands.entry }
+    ensures bytes { result.0 ≡ block.0
+        ++ made_of_all
+        (number_pair (A.scalar O.order) (B.scalar O.order) BoolScalar (says_number comparison))
+        operands.entry }
     ensures left { pairs_of operands.entry + result.1 ≡ block.1 }
 {
     match comparison {

@@ -23,9 +23,12 @@ const FEW: usize = 4;
 fn divisor_of<N: Number, O: Ordered>(pairs: Pairs<'_, '_>) -> Option<Divisor>
     requires { pairs.right.width ≡ N.WIDTH }
     ensures signed { IfSome result (λ d. d.signed ≡ N.SIGNED) }
-    ensures truth { IfSome result (λ d. is_bool (N.scalar Little) ≡ true → IsTruth (integer N.SIGNED 8 d.bits)) }
-    ensures small { IfSome result (λ d. unsigned_abs (integer N.SIGNED 8 d.bits) < 2 ^ (8 * N.WIDTH)) }
-    ensures each { IfSome result (λ d. (k : ℕ) → k < pair_count pairs.entry → number_of_side (N.scalar O.order) pairs.entry.right k ≡ integer N.SIGNED 8 d.bits) }
+    ensures truth { IfSome result (λ d. is_bool (N.scalar Little) ≡ true
+        → IsTruth (integer N.SIGNED 8 d.bits)) }
+    ensures small { IfSome result (λ d. unsigned_abs (integer N.SIGNED 8 d.bits)
+        < 2 ^ (8 * N.WIDTH)) }
+    ensures each { IfSome result (λ d. (k : ℕ) → k < pair_count pairs.entry
+        → number_of_side (N.scalar O.order) pairs.entry.right k ≡ integer N.SIGNED 8 d.bits) }
 {
     note_slice(pairs.right.bytes);
     match pairs.right.run.step {
@@ -44,7 +47,8 @@ fn divided<N: Number>(left: N, divisor: Divisor) -> N
     requires truth { is_bool (N.scalar Little) ≡ true → IsTruth (integer N.SIGNED 8 divisor.bits) }
     requires small { unsigned_abs (N.value left) < 2 ^ (8 * N.WIDTH) }
     requires also { unsigned_abs (integer N.SIGNED 8 divisor.bits) < 2 ^ (8 * N.WIDTH) }
-    ensures { N.value result ≡ binary FloorDivide (N.scalar Little) (N.value left) (integer N.SIGNED 8 divisor.bits) }
+    ensures { N.value result
+        ≡ binary FloorDivide (N.scalar Little) (N.value left) (integer N.SIGNED 8 divisor.bits) }
 {
     N::of_bits(divisor.quotient(N::SIGNED, N::WIDTH, left.bits()))
 }
@@ -60,9 +64,13 @@ fn push_divided<N: Number, O: Ordered>(
     requires signed { divisor.signed ≡ N.SIGNED }
     requires truth { is_bool (N.scalar Little) ≡ true → IsTruth (integer N.SIGNED 8 divisor.bits) }
     requires small { unsigned_abs (integer N.SIGNED 8 divisor.bits) < 2 ^ (8 * N.WIDTH) }
-    requires each { (k : ℕ) → k < pair_count pairs → number_of_side (N.scalar O.order) pairs.right k ≡ integer N.SIGNED 8 divisor.bits }
+    requires each { (k : ℕ) → k < pair_count pairs
+        → number_of_side (N.scalar O.order) pairs.right k ≡ integer N.SIGNED 8 divisor.bits }
     requires room { pair_count pairs * N.WIDTH ≤ block.1 }
-    ensures bytes { result.0 ≡ block.0 ++ joined (made_of (number_pair (N.scalar O.order) (N.scalar O.order) (N.scalar Little) (binary FloorDivide (N.scalar Little))) pairs.entry) (pair_count pairs.entry) }
+    ensures bytes { result.0 ≡ block.0
+        ++ joined (made_of
+        (number_pair (N.scalar O.order) (N.scalar O.order) (N.scalar Little)
+        (binary FloorDivide (N.scalar Little))) pairs.entry) (pair_count pairs.entry) }
     ensures left { pair_count pairs.entry * N.WIDTH + result.1 ≡ block.1 }
 {
     note_slice(pairs.left.bytes);

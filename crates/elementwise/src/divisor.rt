@@ -101,7 +101,8 @@ impl Divisor {
         requires signed { self.signed ≡ signed }
         requires left { unsigned_abs (integer signed 8 left) < 2 ^ (8 * width) }
         requires divisor { unsigned_abs (integer signed 8 self.bits) < 2 ^ (8 * width) }
-        ensures { result ≡ low_bits 8 (floor_quotient (integer signed 8 left) (integer signed 8 self.bits)) }
+        ensures { result
+            ≡ low_bits 8 (floor_quotient (integer signed 8 left) (integer signed 8 self.bits)) }
     {
         let over = is_negative(signed, self.bits);
         let turned = magnitude(over, left);

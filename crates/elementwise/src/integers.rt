@@ -55,7 +55,11 @@ fn compare_with_value(
     requires from { operand.descr.now ≡ ScalarDescr from.now }
     requires number { IsNumber from.now }
     requires held { wrap (little from.now) integer ≡ integer }
-    ensures made { IfOk result (IsMade (ScalarDescr BoolScalar) operand.entry.layout.now.shape (map (λ offset. compared_item comparison (item_from operand.entry.descr.now operand.entry.block.now offset) (number integer ∷ [])) (offsets operand.entry.layout.now))) }
+    ensures made { IfOk result
+        (IsMade (ScalarDescr BoolScalar) operand.entry.layout.now.shape
+        (map (λ offset.
+        compared_item comparison (item_from operand.entry.descr.now operand.entry.block.now offset)
+        (number integer ∷ [])) (offsets operand.entry.layout.now))) }
     ensures refused { IfErr result (λ refusal. refusal ≡ OutOfMemory) }
 {
     let scalar = little(from);
@@ -80,7 +84,9 @@ fn bool_block(alloc: Global, holds: bool, len: usize) -> Result<RawBlock, AllocE
 
 /// One bool for all items of a shape.
 fn all_alike(alloc: Global, holds: bool, shape: &Shape) -> Result<Owned, Refusal>
-    ensures made { IfOk result (IsMade (ScalarDescr BoolScalar) shape.now (replicate (count shape.now) (truth_item holds))) }
+    ensures made { IfOk result
+        (IsMade (ScalarDescr BoolScalar) shape.now
+        (replicate (count shape.now) (truth_item holds))) }
     ensures refused { IfErr result (λ refusal. refusal ≡ OutOfMemory) }
 {
     let block = bool_block(alloc, holds, shape.items())?;
@@ -100,7 +106,11 @@ fn compare_beyond(
     requires from { operand.descr.now ≡ ScalarDescr from.now }
     requires number { IsNumber from.now }
     requires beyond { wrap (little from.now) integer ≢ integer }
-    ensures made { IfOk result (IsMade (ScalarDescr BoolScalar) operand.entry.layout.now.shape (map (λ offset. compared_item comparison (item_from operand.entry.descr.now operand.entry.block.now offset) (number integer ∷ [])) (offsets operand.entry.layout.now))) }
+    ensures made { IfOk result
+        (IsMade (ScalarDescr BoolScalar) operand.entry.layout.now.shape
+        (map (λ offset.
+        compared_item comparison (item_from operand.entry.descr.now operand.entry.block.now offset)
+        (number integer ∷ [])) (offsets operand.entry.layout.now))) }
     ensures refused { IfErr result (λ refusal. refusal ≡ OutOfMemory) }
 {
     note_bytes(operand.block);
@@ -118,8 +128,10 @@ pub fn compare_integer(
     operand: Items<'_>,
     integer: i128,
 ) -> Result<Owned, Refusal>
-    ensures gives { Gives (λ o. (o.descr, o.layout.shape)) result (integer_compared_result operand.entry.descr.now operand.entry.layout.now.shape) }
-    ensures order { IfOk result (λ o. offsets o.layout ≡ offsets_in C (item_size o.descr) o.layout.shape) }
+    ensures gives { Gives (λ o. (o.descr, o.layout.shape)) result
+        (integer_compared_result operand.entry.descr.now operand.entry.layout.now.shape) }
+    ensures order { IfOk result
+        (λ o. offsets o.layout ≡ offsets_in C (item_size o.descr) o.layout.shape) }
     ensures items { IfOk result (λ o. map (item_from o.descr o.block) (offsets o.layout)
         ≡ map (λ offset. compared_item comparison (item_from operand.entry.descr.now operand.entry.block.now offset) (number integer ∷ [])) (offsets operand.entry.layout.now)) }
     ensures encoded { IfOk result (λ o. o.block ≡ flat_map (encode_item o.descr) (owned_items o)) }

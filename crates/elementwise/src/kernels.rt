@@ -29,7 +29,10 @@ fn push_each<K: Kernel<A, B, T>, A: Number, B: Number, T: Number, O: Ordered, Q:
     requires left { pairs.left.width ≡ A.WIDTH }
     requires right { pairs.right.width ≡ B.WIDTH }
     requires room { pair_count pairs * T.WIDTH ≤ block.1 }
-    ensures bytes { result.0 ≡ block.0 ++ joined (made_of (number_pair (A.scalar O.order) (B.scalar O.order) (T.scalar Q.order) K.makes) pairs.entry) (pair_count pairs.entry) }
+    ensures bytes { result.0 ≡ block.0
+        ++ joined (made_of
+        (number_pair (A.scalar O.order) (B.scalar O.order) (T.scalar Q.order) K.makes) pairs.entry)
+        (pair_count pairs.entry) }
     ensures left { pair_count pairs.entry * T.WIDTH + result.1 ≡ block.1 }
 {
     let mut block = block;
@@ -90,7 +93,10 @@ pub(crate) fn push_made<
     requires left { item_size operands.left.descr.now ≡ A.WIDTH }
     requires right { item_size operands.right.descr.now ≡ B.WIDTH }
     requires room { pairs_of operands * T.WIDTH ≤ block.1 }
-    ensures bytes { result.0 ≡ block.0 ++ made_of_all (number_pair (A.scalar O.order) (B.scalar O.order) (T.scalar Q.order) K.makes) operands.entry }
+    ensures bytes { result.0 ≡ block.0
+        ++ made_of_all
+        (number_pair (A.scalar O.order) (B.scalar O.order) (T.scalar Q.order) K.makes)
+        operands.entry }
     ensures left { pairs_of operands.entry * T.WIDTH + result.1 ≡ block.1 }
 {
     operands.push_all(&Numbers::<K, A, B, T, O, Q>(PhantomData), block)

@@ -36,6 +36,6 @@ pub use bytes_compared::compare_bytes;
 pub use castable::can_cast;
 pub use casts::cast;
 pub use compared::compare;
-pub use integers::compare_integer;
 pub use elem_descr::{BinOp, UnOp};
+pub use integers::compare_integer;
 pub use promotion::{compared_type, literal_type, promote, promote_one, same_kind, scalar_of};

@@ -53,7 +53,10 @@ pub(crate) fn made(
     requires left { operands.left.descr.now ≡ ScalarDescr (left_of pairing.now) }
     requires right { operands.right.descr.now ≡ ScalarDescr (right_of pairing.now) }
     requires few { pairs_of operands * size (target_of pairing.now) ≤ max_bytes }
-    ensures made { IfOk result (IsMade (ScalarDescr (target_of pairing.now)) operands.entry.left.layout.now.shape (pairwise (λ x y. gives pairing.now (value_in x) (value_in y) ∷ []) (operand_items operands.entry.left) (operand_items operands.entry.right))) }
+    ensures made { IfOk result
+        (IsMade (ScalarDescr (target_of pairing.now)) operands.entry.left.layout.now.shape
+        (pairwise (λ x y. gives pairing.now (value_in x) (value_in y) ∷ [])
+        (operand_items operands.entry.left) (operand_items operands.entry.right))) }
     ensures refused { IfErr result (λ refusal. refusal ≡ OutOfMemory) }
 {
     let Operands { left, right } = operands;

@@ -65,7 +65,8 @@ pub(crate) trait Pass {
     fn push_row(&self, block: BlockBuilder, pairs: Pairs<'_, '_>) -> BlockBuilder
         requires reads { Reads self.now pairs.left.width pairs.right.width }
         requires room { pair_count pairs * width self.now ≤ block.1 }
-        ensures bytes { result.0 ≡ block.0 ++ joined (made_of (makes self.now) pairs.entry) (pair_count pairs.entry) }
+        ensures bytes { result.0 ≡ block.0
+            ++ joined (made_of (makes self.now) pairs.entry) (pair_count pairs.entry) }
         ensures left { pair_count pairs.entry * width self.now + result.1 ≡ block.1 };
 
     ghost not_empty: { (pass : Self) → 1 ≤ width pass };
@@ -76,8 +77,10 @@ impl<'a, 'b> Operands<'a, 'b> {
 
     /// The row that all pairs of items make, if they make one.
     fn as_row(self) -> Option<RunPair>
-        ensures first { IfSome result (λ row. run_offsets row.first ≡ offsets self.entry.left.layout.now) }
-        ensures second { IfSome result (λ row. run_offsets row.second ≡ offsets self.entry.right.layout.now) }
+        ensures first { IfSome result
+            (λ row. run_offsets row.first ≡ offsets self.entry.left.layout.now) }
+        ensures second { IfSome result
+            (λ row. run_offsets row.second ≡ offsets self.entry.right.layout.now) }
         ensures first_lies { IfSome result (λ row. BeginsWithin row.first) }
         ensures second_lies { IfSome result (λ row. BeginsWithin row.second) }
     {
@@ -88,12 +91,19 @@ impl<'a, 'b> Operands<'a, 'b> {
 
     /// Pushes what is made of each pair of items of a row.
     fn push_row<P: Pass>(self, pass: &P, block: BlockBuilder, row: RunPair) -> BlockBuilder
-        requires reads { P.Reads pass.now (item_size self.left.descr.now) (item_size self.right.descr.now) }
+        requires reads { P.Reads pass.now (item_size self.left.descr.now)
+            (item_size self.right.descr.now) }
         requires room { row.first.count * P.width pass.now ≤ block.1 }
         requires even { row.first.count ≡ row.second.count }
-        requires first { EachWithin (length self.left.bytes.now) row.first.offset row.first.step (item_size self.left.descr.now) row.first.count }
-        requires second { EachWithin (length self.right.bytes.now) row.second.offset row.second.step (item_size self.right.descr.now) row.second.count }
-        ensures bytes { result.0 ≡ block.0 ++ concat (pairwise (pair_from (P.makes pass.now) (item_size self.entry.left.descr.now) (item_size self.entry.right.descr.now) self.entry.left.bytes.now self.entry.right.bytes.now) (run_offsets row.first) (run_offsets row.second)) }
+        requires first { EachWithin (length self.left.bytes.now) row.first.offset row.first.step
+            (item_size self.left.descr.now) row.first.count }
+        requires second { EachWithin (length self.right.bytes.now) row.second.offset row.second.step
+            (item_size self.right.descr.now) row.second.count }
+        ensures bytes { result.0 ≡ block.0
+            ++ concat (pairwise
+            (pair_from (P.makes pass.now) (item_size self.entry.left.descr.now)
+            (item_size self.entry.right.descr.now) self.entry.left.bytes.now
+            self.entry.right.bytes.now) (run_offsets row.first) (run_offsets row.second)) }
         ensures left { row.first.count * P.width pass.now + result.1 ≡ block.1 }
     {
         let _filled = block.filled();
@@ -114,7 +124,8 @@ impl<'a, 'b> Operands<'a, 'b> {
 
     /// Pushes what is made of each pair of items, in C order. The block is moved into each row and back.
     pub(crate) fn push_all<P: Pass>(self, pass: &P, block: BlockBuilder) -> BlockBuilder
-        requires reads { P.Reads pass.now (item_size self.left.descr.now) (item_size self.right.descr.now) }
+        requires reads { P.Reads pass.now (item_size self.left.descr.now)
+            (item_size self.right.descr.now) }
         requires room { pairs_of self * P.width pass.now ≤ block.1 }
         ensures bytes { result.0 ≡ block.0 ++ made_of_all (P.makes pass.now) self.entry }
         ensures left { pairs_of self.entry * P.width pass.now + result.1 ≡ block.1 }

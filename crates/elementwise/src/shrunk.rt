@@ -54,7 +54,9 @@ pub(crate) fn without_repeats(
 pub(crate) fn spread(alloc: Global, made: &Owned, shape: &Shape) -> Result<Owned, Refusal>
     requires bools { made.now.descr ≡ ScalarDescr BoolScalar }
     requires stretches { IsTrue (can_stretch made.now.layout.shape shape.now) }
-    ensures made { IfOk result (IsMade (ScalarDescr BoolScalar) shape.now (stretched_items made.now.descr made.now.block made.now.layout shape.now)) }
+    ensures made { IfOk result
+        (IsMade (ScalarDescr BoolScalar) shape.now
+        (stretched_items made.now.descr made.now.block made.now.layout shape.now)) }
     ensures refused { IfErr result (λ refusal. refusal ≡ OutOfMemory) }
 {
     let _items = shape.items();

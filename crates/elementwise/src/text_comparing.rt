@@ -31,7 +31,8 @@ pub(crate) fn are_compared(comparison: Comparison, left: &[u8], right: &[u8]) ->
 /// What a comparison says of two items that are byte strings, whose NULs at the end do not count. Where they
 /// have one length, these decide nothing.
 pub(crate) fn are_items_compared(comparison: Comparison, left: &[u8], right: &[u8]) -> bool
-    ensures { result ≡ compared comparison (text (without_nuls left.now)) (text (without_nuls right.now)) }
+    ensures { result
+        ≡ compared comparison (text (without_nuls left.now)) (text (without_nuls right.now)) }
 {
     if left.len() == right.len() {
         return are_compared(comparison, left, right);

@@ -78,7 +78,8 @@ impl<'a> Pass for ComparingWith<'a> {
 
 /// The bytes of items that lie one right after another.
 fn adjacent_bytes(items: Side<'_>) -> Option<&[u8]>
-    ensures { IfSome result (λ bytes. bytes.now ≡ joined (item_in items.entry) items.entry.run.count) }
+    ensures { IfSome result
+        (λ bytes. bytes.now ≡ joined (item_in items.entry) items.entry.run.count) }
 {
     let run = items.run;
     if run.count == 0 || !run.is_packed(items.width) {

@@ -55,7 +55,8 @@ pub(crate) fn push_texts(
     requires left { item_size operands.left.descr.now ≡ texts.now.width }
     requires right { item_size operands.right.descr.now ≡ texts.now.other_width }
     requires room { pairs_of operands ≤ block.1 }
-    ensures bytes { result.0 ≡ block.0 ++ made_of_all (text_pair texts.now.comparison) operands.entry }
+    ensures bytes { result.0 ≡ block.0
+        ++ made_of_all (text_pair texts.now.comparison) operands.entry }
     ensures left { pairs_of operands.entry + result.1 ≡ block.1 }
 {
     note_slice(operands.left.bytes);

@@ -17,7 +17,8 @@ fn longest(block: &[u8], layout: &Layout, width: usize) -> usize
     requires inside { All (λ offset. offset + width ≤ length block.now) (offsets layout.now) }
     ensures some { 1 ≤ result }
     ensures within { result ≤ width }
-    ensures least { All (λ offset. length (without_nuls (item_at offset width block.now)) ≤ result) (offsets layout.now) }
+    ensures least { All (λ offset. length (without_nuls (item_at offset width block.now)) ≤ result)
+        (offsets layout.now) }
 {
     let mut most = 1;
     for offset in Walk::new(layout) {
@@ -30,7 +31,10 @@ fn longest(block: &[u8], layout: &Layout, width: usize) -> usize
 fn trimmed(alloc: Global, items: Items<'_>, width: BytesLen) -> Result<BytesLen, Refusal>
     requires { items.descr.now ≡ ScalarDescr (Bytes width) }
     ensures within { IfOk result (λ n. n ≤ width) }
-    ensures same { IfOk result (λ n. All (λ offset. without_nuls (item_at offset n items.entry.block.now) ≡ without_nuls (item_at offset width items.entry.block.now)) (offsets items.entry.layout.now)) }
+    ensures same { IfOk result
+        (λ n. All (λ offset. without_nuls (item_at offset n items.entry.block.now)
+        ≡ without_nuls (item_at offset width items.entry.block.now))
+        (offsets items.entry.layout.now)) }
     ensures refused { IfErr result (λ refusal. refusal ≡ OutOfMemory) }
 {
     let layout = items.layout;
@@ -50,7 +54,10 @@ pub(crate) fn trimmed_in(
 ) -> Result<BytesLen, Refusal>
     requires { items.descr.now ≡ ScalarDescr (Bytes width) }
     ensures within { IfOk result (λ n. n ≤ width) }
-    ensures same { IfOk result (λ n. All (λ offset. without_nuls (item_at offset n items.entry.block.now) ≡ without_nuls (item_at offset width items.entry.block.now)) (offsets items.entry.layout.now)) }
+    ensures same { IfOk result
+        (λ n. All (λ offset. without_nuls (item_at offset n items.entry.block.now)
+        ≡ without_nuls (item_at offset width items.entry.block.now))
+        (offsets items.entry.layout.now)) }
     ensures refused { IfErr result (λ refusal. refusal ≡ OutOfMemory) }
 {
     let shown_again = repeats(items.layout) || items.layout.shape.items() < shape.items();

@@ -37,7 +37,8 @@ impl<'a> Held<'a> {
         requires small { item_size to.now ≤ 8 }
         ensures descr { IfOk result (λ h. held_descr h ≡ to.now) }
         ensures shape { IfOk result (λ h. held_shape h ≡ from.entry.layout.now.shape) }
-        ensures items { IfOk result (λ h. held_items h ≡ map (cast_item from.entry.descr.now to.now) (items from.entry)) }
+        ensures items { IfOk result
+            (λ h. held_items h ≡ map (cast_item from.entry.descr.now to.now) (items from.entry)) }
         ensures refused { IfErr result (λ refusal. refusal ≡ OutOfMemory) }
     {
         if keeps_items(from.block, from.descr, to) {
@@ -83,7 +84,8 @@ pub(crate) enum Fitted<'a> {
 impl<'a> Fitted<'a> {
     fn to(alloc: Global, layout: &'a Layout, shape: &Shape) -> Result<Fitted<'a>, Refusal>
         requires { IsTrue (can_stretch layout.now.shape shape.now) }
-        ensures stretched { IfOk result (λ fitted. IsStretched (fitted_layout fitted) layout.now shape.now) }
+        ensures stretched { IfOk result
+            (λ fitted. IsStretched (fitted_layout fitted) layout.now shape.now) }
         ensures refused { IfErr result (λ refusal. refusal ≡ OutOfMemory) }
     {
         if layout.shape.as_slice() == shape.as_slice() {
@@ -111,12 +113,19 @@ pub(crate) fn make_cast(
     shape: &Shape,
 ) -> Result<Owned, Refusal>
     requires can { CanPair pairing.now }
-    requires small { (size (left_of pairing.now) ≤ 8) × (size (right_of pairing.now) ≤ 8) × (size (target_of pairing.now) ≤ 8) }
+    requires small { (size (left_of pairing.now) ≤ 8) × (size (right_of pairing.now) ≤ 8)
+        × (size (target_of pairing.now) ≤ 8) }
     requires left { can_cast left.descr.now (ScalarDescr (left_of pairing.now)) ≡ true }
     requires right { can_cast right.descr.now (ScalarDescr (right_of pairing.now)) ≡ true }
     requires stretches { IsTrue (can_stretch left.layout.now.shape shape.now) }
     requires also { IsTrue (can_stretch right.layout.now.shape shape.now) }
-    ensures made { IfOk result (IsMade (ScalarDescr (target_of pairing.now)) shape.now (pairwise (λ x y. gives pairing.now (value_in (cast_item left.entry.descr.now (ScalarDescr (left_of pairing.now)) x)) (value_in (cast_item right.entry.descr.now (ScalarDescr (right_of pairing.now)) y)) ∷ []) (stretched left.entry shape.now) (stretched right.entry shape.now))) }
+    ensures made { IfOk result
+        (IsMade (ScalarDescr (target_of pairing.now)) shape.now
+        (pairwise (λ x y.
+        gives pairing.now
+        (value_in (cast_item left.entry.descr.now (ScalarDescr (left_of pairing.now)) x))
+        (value_in (cast_item right.entry.descr.now (ScalarDescr (right_of pairing.now)) y)) ∷ [])
+        (stretched left.entry shape.now) (stretched right.entry shape.now))) }
     ensures refused { IfErr result (λ refusal. refusal ≡ OutOfMemory) }
 {
     let _items = shape.items();

@@ -25,7 +25,8 @@ pub(crate) fn shared_words(left: &[u8], right: &[u8]) -> usize
 
 /// Whether the first of two byte strings is below the other, where a word at the front of both tells.
 pub(crate) fn next_word(left: &[u8], right: &[u8]) -> Option<bool>
-    ensures { IfSome result (λ is_below. (text_below left.now right.now ≡ is_below) × (text_below right.now left.now ≡ not is_below)) }
+    ensures { IfSome result (λ is_below. (text_below left.now right.now ≡ is_below)
+        × (text_below right.now left.now ≡ not is_below)) }
 {
     if left.len() < 8 || right.len() < 8 {
         return None;

@@ -20,7 +20,8 @@ fn scatter_from(
 ) -> usize
     requires inside { All (λ offset. offset + width ≤ length block.old) (moved_offsets target) }
     requires room { at + length (moved_offsets target) * width ≤ length items.now }
-    ensures written { block.new ≡ put_packed (moved_offsets target.entry) at width items.now block.old }
+    ensures written { block.new
+        ≡ put_packed (moved_offsets target.entry) at width items.now block.old }
     ensures len { length block.new ≡ length block.old }
     ensures end { result ≡ at + length (moved_offsets target.entry) * width }
 {
@@ -50,7 +51,8 @@ fn scatter_shifts(
 ) -> usize
     requires inside { All (λ offset. offset + width ≤ length block.old) (shifted_offsets rows) }
     requires room { at + length (shifted_offsets rows) * width ≤ length items.now }
-    ensures written { block.new ≡ put_packed (shifted_offsets rows.entry) at width items.now block.old }
+    ensures written { block.new
+        ≡ put_packed (shifted_offsets rows.entry) at width items.now block.old }
     ensures len { length block.new ≡ length block.old }
     ensures end { result ≡ at + length (shifted_offsets rows.entry) * width }
 {

@@ -125,7 +125,9 @@ fn is_item_in_range(descr: &Descr, literal: &Literal) -> bool
 fn write_field(descr: &Descr, literal: &Literal, at: usize, item: &mut [u8])
     requires castable { can_be_field descr.now literal.now ≡ true }
     requires within { at + item_size descr.now ≤ length item.old }
-    ensures { item.new ≡ put_leaves item.old (map (moved_leaf at) (leaves_of descr.now)) (field_value descr.now literal.now) }
+    ensures { item.new
+        ≡ put_leaves item.old (map (moved_leaf at) (leaves_of descr.now))
+        (field_value descr.now literal.now) }
 {
     match (descr, literal) {
         (Descr::Scalar(scalar), Literal::Scalar(value)) => {
@@ -143,7 +145,9 @@ fn write_field(descr: &Descr, literal: &Literal, at: usize, item: &mut [u8])
 fn write_fields(structure: &Record, literals: &[Literal], from: usize, item: &mut [u8])
     requires castable { can_hold structure.now.fields (all_values literals.now) ≡ true }
     requires within { from + structure.now.size ≤ length item.old }
-    ensures written { item.new ≡ put_leaves item.old (leaves_from from structure.now.fields) (field_values structure.now.fields (all_values literals.now)) }
+    ensures written { item.new
+        ≡ put_leaves item.old (leaves_from from structure.now.fields)
+        (field_values structure.now.fields (all_values literals.now)) }
     ensures legal { IsLegal structure.now }
 {
     let fields = structure.fields();
@@ -157,7 +161,9 @@ fn write_fields(structure: &Record, literals: &[Literal], from: usize, item: &mu
 fn write_leaves(leaves: &[Leaf], literal: &ScalarLiteral, item: &mut [u8])
     requires castable { list_all (λ leaf. is_castable leaf.scalar literal.now) leaves.now ≡ true }
     requires order { AreInOrder 0 leaves.now (length item.old) }
-    ensures { item.new ≡ put_leaves item.old leaves.now (map (λ leaf. leaf_value leaf.scalar literal.now) leaves.now) }
+    ensures { item.new
+        ≡ put_leaves item.old leaves.now
+        (map (λ leaf. leaf_value leaf.scalar literal.now) leaves.now) }
 {
     for leaf in leaves {
         let end = leaf.at + leaf.scalar.size();
@@ -169,8 +175,10 @@ fn write_leaves(leaves: &[Leaf], literal: &ScalarLiteral, item: &mut [u8])
 fn write_record(structure: &Record, literal: &Literal, item: &mut [u8])
     requires castable { can_be_item (RecordDescr structure.now) literal.now ≡ true }
     requires whole { length item.old ≡ structure.now.size }
-    ensures encoded { let descr = RecordDescr structure.now in item.new ≡ encode_item descr (values_of descr literal.now) }
-    ensures reads_back { let descr = RecordDescr structure.now in decode_item descr item.new ≡ values_of descr literal.now }
+    ensures encoded { let descr = RecordDescr structure.now in item.new
+        ≡ encode_item descr (values_of descr literal.now) }
+    ensures reads_back { let descr = RecordDescr structure.now in decode_item descr item.new
+        ≡ values_of descr literal.now }
 {
     item.fill(0);
     match literal {
@@ -201,7 +209,8 @@ pub fn write_item(descr: &Descr, literal: &Literal, item: &mut [u8]) -> Result<(
     ensures value { MatchResult result
         (λ _. item_value descr.now literal.now ≡ Ok (decode_item descr.now item.new))
         (λ refusal. item_value descr.now literal.now ≡ Err refusal) }
-    ensures bytes { IfOk result (λ _. item.new ≡ encode_item descr.now (decode_item descr.now item.new)) }
+    ensures bytes { IfOk result
+        (λ _. item.new ≡ encode_item descr.now (decode_item descr.now item.new)) }
     ensures kept { OnErr result (item.new ≡ item.old) }
 {
     if !can_be_item(descr, literal) {
@@ -238,8 +247,11 @@ fn are_items_in_range(descr: &Descr, literals: &[Literal]) -> bool
 fn write_casts(descr: &Descr, literals: &[Literal], block: &mut [u8])
     requires castable { list_all (can_be_item descr.now) literals.now ≡ true }
     requires whole { length block.old ≡ length literals.now * item_size descr.now }
-    ensures encoded { blocks (item_size descr.now) (length literals.now) block.new ≡ map (encode_item descr.now) (map (values_of descr.now) literals.now) }
-    ensures reads_back { map (decode_item descr.now) (blocks (item_size descr.now) (length literals.now) block.new) ≡ map (values_of descr.now) literals.now }
+    ensures encoded { blocks (item_size descr.now) (length literals.now) block.new
+        ≡ map (encode_item descr.now) (map (values_of descr.now) literals.now) }
+    ensures reads_back { map (decode_item descr.now)
+        (blocks (item_size descr.now) (length literals.now) block.new)
+        ≡ map (values_of descr.now) literals.now }
 {
     let size = descr.size();
     for (k, literal) in literals.iter().enumerate() {
@@ -255,7 +267,9 @@ pub fn write_items(descr: &Descr, literals: &[Literal], block: &mut [u8]) -> Res
     ensures value { MatchResult result
         (λ _. item_values descr.now literals.now ≡ Ok (map (decode_item descr.now) (blocks (item_size descr.now) (length literals.now) block.new)))
         (λ refusal. item_values descr.now literals.now ≡ Err refusal) }
-    ensures bytes { IfOk result (λ _. let items = blocks (item_size descr.now) (length literals.now) block.new in items ≡ map (encode_item descr.now) (map (decode_item descr.now) items)) }
+    ensures bytes { IfOk result
+        (λ _. let items = blocks (item_size descr.now) (length literals.now) block.new in items
+        ≡ map (encode_item descr.now) (map (decode_item descr.now) items)) }
     ensures kept { OnErr result (block.new ≡ block.old) }
 {
     if !can_be_items(descr, literals) {

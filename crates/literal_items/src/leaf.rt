@@ -19,7 +19,8 @@ pub(crate) fn is_castable(scalar: &Scalar, literal: &ScalarLiteral) -> bool
 
 /// Writes bytes as an item: cuts off those that do not fit, and fills up with NULs.
 fn write_bytes(bytes: &[u8], item: &mut [u8])
-    ensures encoded { item.new ≡ padded (length item.old) (without_nuls (take (length item.old) bytes.now)) }
+    ensures encoded { item.new
+        ≡ padded (length item.old) (without_nuls (take (length item.old) bytes.now)) }
     ensures reads_back { without_nuls item.new ≡ without_nuls (take (length item.old) bytes.now) }
 {
     let kept = bytes.len().min(item.len());

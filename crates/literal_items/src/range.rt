@@ -34,10 +34,13 @@ fn distance(start: &i128, stop: &i128, step: &i128) -> u128
 pub fn range_len(start: &i128, stop: &i128, step: &i128) -> Result<usize, Refusal>
     ensures value { result ≡ range_length start.now stop.now step.now }
     ensures count { IfOk result (λ n. n ≡ range_count start.now stop.now step.now) }
-    ensures numbers { IfOk result (λ n. range_numbers start.now stop.now step.now ≡ numbers_from start.now step.now n) }
+    ensures numbers { IfOk result (λ n. range_numbers start.now stop.now step.now
+        ≡ numbers_from start.now step.now n) }
     ensures few { IfOk result (λ n. n ≤ max_items) }
-    ensures before { IfOk result (λ n. (k : ℕ) → (k < n) ↔ IsTrue (is_before step.now stop.now (start.now +ℤ step.now *ℤ pos k))) }
-    ensures fits { IfOk result (λ n. (k : ℕ) → k < n → FitsSigned w128 (start.now +ℤ step.now *ℤ pos k)) }
+    ensures before { IfOk result (λ n. (k : ℕ) → (k < n)
+        ↔ IsTrue (is_before step.now stop.now (start.now +ℤ step.now *ℤ pos k))) }
+    ensures fits { IfOk result (λ n. (k : ℕ) → k < n
+        → FitsSigned w128 (start.now +ℤ step.now *ℤ pos k)) }
 {
     if *step == 0 {
         return Err(Refusal::ZeroStep);
@@ -85,9 +88,11 @@ fn push_numbers<N: Number, O: Ordered>(
     step: &i128,
     count: usize,
 ) -> BlockBuilder
-    requires values { list_all (is_value (N.scalar O.order)) (numbers_from start.now step.now count) ≡ true }
+    requires values { list_all (is_value (N.scalar O.order))
+        (numbers_from start.now step.now count) ≡ true }
     requires room { count * N.WIDTH ≤ block.1 }
-    ensures bytes { result.0 ≡ block.0 ++ joined (numbered (N.scalar O.order) start.now step.now) count }
+    ensures bytes { result.0 ≡ block.0
+        ++ joined (numbered (N.scalar O.order) start.now step.now) count }
     ensures left { count * N.WIDTH + result.1 ≡ block.1 }
 {
     let mut block = block;
@@ -137,8 +142,11 @@ pub fn range_block(
     step: &i128,
 ) -> Result<RawBlock, Refusal>
     requires number { IsNumber scalar.now }
-    ensures whole { IfOk result (λ block. length block ≡ range_count start.now stop.now step.now * size scalar.now) }
-    ensures items { Gives (λ block. items_in (ScalarDescr scalar.now) (range_count start.now stop.now step.now) block) result (range_items scalar.now start.now stop.now step.now) }
+    ensures whole { IfOk result
+        (λ block. length block ≡ range_count start.now stop.now step.now * size scalar.now) }
+    ensures items { Gives (λ block.
+        items_in (ScalarDescr scalar.now) (range_count start.now stop.now step.now) block) result
+        (range_items scalar.now start.now stop.now step.now) }
 {
     let count = range_len(start, stop, step)?;
     if !are_values(scalar, start, step, count) {

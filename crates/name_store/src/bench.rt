@@ -204,7 +204,8 @@ impl Bench {
     /// The name that was bound as the k-th, counted from 0.
     pub fn name_at(&self, k: usize) -> &[u8]
         requires { k < length self.now.state.names }
-        ensures { option_map (λ entry. entry.0) (slice_get self.now.state.names k) ≡ Some result.now }
+        ensures { option_map (λ entry. entry.0) (slice_get self.now.state.names k)
+            ≡ Some result.now }
     {
         self.table.names.get_index(k).unwrap().0.bytes.as_slice()
     }

@@ -71,8 +71,12 @@ impl History {
 
     /// Keeps one more. Where as many are kept as can be, the oldest is handed out.
     pub(crate) fn push(&mut self, change: Change) -> Option<Change>
-        ensures items { self.new ≡ buffer (keep_last self.old.capacity (self.old.items ++ change ∷ [])) self.old.capacity }
-        ensures value { result ≡ (if nat_lt (length self.old.items) self.old.capacity then None else slice_get (self.old.items ++ change ∷ []) 0) }
+        ensures items { self.new
+            ≡ buffer (keep_last self.old.capacity (self.old.items ++ change ∷ []))
+            self.old.capacity }
+        ensures value { result
+            ≡ (if nat_lt (length self.old.items) self.old.capacity then None
+            else slice_get (self.old.items ++ change ∷ []) 0) }
     {
         match &mut self.ring {
             None => Some(change),
@@ -83,7 +87,8 @@ impl History {
     /// Hands out the last.
     pub(crate) fn pop(&mut self) -> Option<Change>
         ensures value { result ≡ last_item self.old.items }
-        ensures items { self.new ≡ buffer (take (length self.old.items - 1) self.old.items) self.old.capacity }
+        ensures items { self.new
+            ≡ buffer (take (length self.old.items - 1) self.old.items) self.old.capacity }
     {
         match &mut self.ring {
             None => None,

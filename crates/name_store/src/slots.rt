@@ -22,7 +22,8 @@ fn first_free(cells: &[Option<Slot>], from: usize) -> usize
     requires { from ≤ length cells.now }
     ensures free { slot_at cells.now result ≡ None }
     ensures within { result ≤ length cells.now }
-    ensures taken { (number : ℕ) → from ≤ number → number < result → is_some (slot_at cells.now number) ≡ true }
+    ensures taken { (number : ℕ) → from ≤ number → number < result
+        → is_some (slot_at cells.now number) ≡ true }
 {
     for number in from..cells.len() {
         if cells[number].is_none() {
@@ -83,7 +84,8 @@ impl Slots {
 
     /// Puts a buffer in the first slot that is free, and answers its number.
     pub(crate) fn add(&mut self, slot: Slot) -> Result<usize, AllocError>
-        ensures adds { IfOk result (λ number. Adds self.old.cells.items slot number self.new.cells.items) }
+        ensures adds { IfOk result
+            (λ number. Adds self.old.cells.items slot number self.new.cells.items) }
         ensures kept { OnErr result (self.new.cells.items ≡ self.old.cells.items) }
     {
         self.cells.reserve(1)?;
@@ -105,8 +107,10 @@ impl Slots {
     pub(crate) fn share(&mut self, number: usize)
         requires there { 1 ≤ users_at self.old.cells.items number }
         requires few { users_at self.old.cells.items number < usize.MAX }
-        ensures users { (other : ℕ) → users_at self.new.cells.items other ≡ users_at self.old.cells.items other + one_at other number }
-        ensures stays { (other : ℕ) → option_map stand (slot_at self.new.cells.items other) ≡ option_map stand (slot_at self.old.cells.items other) }
+        ensures users { (other : ℕ) → users_at self.new.cells.items other
+            ≡ users_at self.old.cells.items other + one_at other number }
+        ensures stays { (other : ℕ) → option_map stand (slot_at self.new.cells.items other)
+            ≡ option_map stand (slot_at self.old.cells.items other) }
     {
         if let Some(slot) = slot_mut(&mut self.cells, number) {
             slot.users += 1;
@@ -126,7 +130,8 @@ impl Slots {
     /// One fewer holds the buffer with this number. One that nothing holds any more is freed.
     pub(crate) fn release(&mut self, number: usize)
         requires { 1 ≤ users_at self.old.cells.items number }
-        ensures users { (other : ℕ) → users_at self.new.cells.items other + one_at other number ≡ users_at self.old.cells.items other }
+        ensures users { (other : ℕ) → users_at self.new.cells.items other + one_at other number
+            ≡ users_at self.old.cells.items other }
         ensures swept { (other : ℕ) → option_map stand (slot_at self.new.cells.items other)
             ≡ (if nat_lt 0 (users_at self.new.cells.items other) then option_map stand (slot_at self.old.cells.items other) else None) }
     {

@@ -133,7 +133,8 @@ impl Table {
     fn lodge(&mut self, bound: Bound) -> Result<Entry, AllocError>
         requires may { MayBind (table_state self.old) bound }
         requires few { (q : ℕ) → users_at self.old.slots.cells.items q < usize.MAX }
-        ensures lodges { IfOk result (λ entry. Lodges self.old.names.entries self.old.slots.cells.items bound entry
+        ensures lodges { IfOk result
+            (λ entry. Lodges self.old.names.entries self.old.slots.cells.items bound entry
             self.new.slots.cells.items) }
         ensures names { self.new.names ≡ self.old.names }
         ensures kept { OnErr result (self.new.slots.cells.items ≡ self.old.slots.cells.items) }
@@ -182,9 +183,12 @@ impl Table {
         requires spare { 0 < spare self.old.names }
         requires may { MayBind (table_state self.old) bound }
         requires few { (q : ℕ) → users_at self.old.slots.cells.items q < usize.MAX }
-        ensures done { IfOk result (λ earlier. Rebinds self.old.names.entries self.old.slots.cells.items key.bytes.items bound
+        ensures done { IfOk result
+            (λ earlier.
+            Rebinds self.old.names.entries self.old.slots.cells.items key.bytes.items bound
             earlier self.new.names.entries self.new.slots.cells.items) }
-        ensures kept { OnErr result ((self.new.names.entries ≡ self.old.names.entries) × (self.new.slots.cells.items ≡ self.old.slots.cells.items)) }
+        ensures kept { OnErr result ((self.new.names.entries ≡ self.old.names.entries)
+            × (self.new.slots.cells.items ≡ self.old.slots.cells.items)) }
         ensures spare { spare self.old.names ≤ spare self.new.names + 1 }
     {
         let entry = self.lodge(bound)?;

@@ -12,8 +12,7 @@ use crate::grammar::{
 };
 use crate::record_list::descr;
 use crate::token::{Token, next_token};
-use elem_descr::capped_value;
-use elem_descr::{Descr, Refusal};
+use elem_descr::{Descr, Refusal, capped_value};
 use shape_strides::{MAX_AXES, MAX_ITEMS, Shape};
 use std::alloc::Global;
 

@@ -8,8 +8,10 @@ ghost use Rattle.npy_format.specs.inside.Scanned.{string_at, pad_at};
 ghost use Rattle.npy_format.specs.inside.Places.{Stands, HasValues, entry_parts};
 
 use crate::grammar::{behind_value, string, symbol};
-use elem_descr::{MAX_ITEM_SIZE, are_digits, capped_value, is_legal_name, marked};
-use elem_descr::{Descr, FieldName, MAX_DEPTH, Record, RecordBuilder, Refusal, typestr_read};
+use elem_descr::{
+    Descr, FieldName, MAX_DEPTH, MAX_ITEM_SIZE, Record, RecordBuilder, Refusal, are_digits,
+    capped_value, is_legal_name, marked, typestr_read,
+};
 use std::alloc::Global;
 
 /// The digits of the bytes of padding that a type string without its mark counts: `V` and digits.

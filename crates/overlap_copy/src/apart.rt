@@ -11,7 +11,8 @@ use shape_strides::Layout;
 /// How many bytes an axis steps over, either way: 0 where it has no two items.
 fn step_along(strides: &[isize], axis: usize, len: usize) -> usize
     requires { axis < length strides.now }
-    ensures { result ≡ (if nat_le 2 len then unsigned_abs (slice_index_or strides.now axis (pos 0)) else 0) }
+    ensures { result
+        ≡ (if nat_le 2 len then unsigned_abs (slice_index_or strides.now axis (pos 0)) else 0) }
 {
     if len < 2 {
         return 0;
@@ -68,7 +69,8 @@ pub fn may_overlap(a: &Layout, a_item: usize, b: &Layout, b_item: usize) -> bool
     requires a_fits { Fits a.now max_bytes a_item }
     requires b_fits { Fits b.now max_bytes b_item }
     ensures exact { result ≡ false ↔ AreApart a.now a_item b.now b_item }
-    ensures sound { result ≡ false → have_common_byte (offsets a.now) a_item (offsets b.now) b_item ≡ false }
+    ensures sound { result ≡ false
+        → have_common_byte (offsets a.now) a_item (offsets b.now) b_item ≡ false }
 {
     if !overlap::ranges_meet(a, a_item, b, b_item) {
         return false;

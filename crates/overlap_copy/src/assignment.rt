@@ -20,7 +20,8 @@ fn assign_in_order(block: &mut RawBlock, dst: &Layout, other: &RawBlock, src: &L
     requires dst { All (λ offset. offset + width ≤ length block.old) (offsets dst.now) }
     requires src { All (λ offset. offset + width ≤ length other.now) (offsets src.now) }
     requires count { count dst.now.shape ≡ count src.now.shape }
-    ensures written { block.new ≡ assigned (offsets dst.now) (offsets src.now) width other.now block.old }
+    ensures written { block.new
+        ≡ assigned (offsets dst.now) (offsets src.now) width other.now block.old }
     ensures len { length block.new ≡ length block.old }
 {
     match as_runs(dst, src) {
@@ -34,7 +35,8 @@ fn assign_pairs(block: &mut RawBlock, dst: &Layout, other: &RawBlock, src: &Layo
     requires dst { All (λ offset. offset + width ≤ length block.old) (offsets dst.now) }
     requires src { All (λ offset. offset + width ≤ length other.now) (offsets src.now) }
     requires count { count dst.now.shape ≡ count src.now.shape }
-    ensures written { block.new ≡ assigned (offsets dst.now) (offsets src.now) width other.now block.old }
+    ensures written { block.new
+        ≡ assigned (offsets dst.now) (offsets src.now) width other.now block.old }
     ensures len { length block.new ≡ length block.old }
 {
     copy_pairs(block, RunPairs::new(dst, src), other, width);
@@ -43,7 +45,8 @@ fn assign_pairs(block: &mut RawBlock, dst: &Layout, other: &RawBlock, src: &Layo
 /// The same pairs of items in the order of the target's in memory, where that is another order, and
 /// the target's places are apart, so that it does not matter.
 pub fn in_any_order(alloc: Global, dst: &Layout, src: &Layout, width: usize) -> Option<LayoutPair>
-    ensures pairs { IfSome result (λ pair. IsPermutation (item_pairs dst.now src.now) (item_pairs pair.target pair.source)) }
+    ensures pairs { IfSome result
+        (λ pair. IsPermutation (item_pairs dst.now src.now) (item_pairs pair.target pair.source)) }
     ensures nested { IfSome result (λ _. IsNested (offsets dst.now) width) }
 {
     let pair = in_memory_order(alloc, dst, src)?;
@@ -67,7 +70,8 @@ pub fn assign_from(
     requires dst { All (λ offset. offset + width ≤ length block.old) (offsets dst.now) }
     requires src { All (λ offset. offset + width ≤ length other.now) (offsets src.now) }
     requires count { count dst.now.shape ≡ count src.now.shape }
-    ensures written { block.new ≡ assigned (offsets dst.now) (offsets src.now) width other.now block.old }
+    ensures written { block.new
+        ≡ assigned (offsets dst.now) (offsets src.now) width other.now block.old }
     ensures len { length block.new ≡ length block.old }
 {
     if lies_in_c_order(dst) {
@@ -88,7 +92,8 @@ fn assign_apart(block: &mut RawBlock, dst: &Layout, src: &Layout, width: usize)
     requires nested { IsNested (offsets dst.now) width }
     requires count { count dst.now.shape ≡ count src.now.shape }
     requires apart { have_common_byte (offsets dst.now) width (offsets src.now) width ≡ false }
-    ensures written { block.new ≡ assigned (offsets dst.now) (offsets src.now) width block.old block.old }
+    ensures written { block.new
+        ≡ assigned (offsets dst.now) (offsets src.now) width block.old block.old }
     ensures len { length block.new ≡ length block.old }
 {
     move_pairs(block, RunPairs::new(dst, src), width);
@@ -101,10 +106,12 @@ fn assign_runs(block: &mut RawBlock, dst: &Layout, src: &Layout, width: usize) -
     requires src { Fits src.now (length block.old) width }
     requires nested { IsNested (offsets dst.now) width }
     requires count { count dst.now.shape ≡ count src.now.shape }
-    ensures written { IsTrue result → block.new ≡ assigned (offsets dst.now) (offsets src.now) width block.old block.old }
+    ensures written { IsTrue result
+        → block.new ≡ assigned (offsets dst.now) (offsets src.now) width block.old block.old }
     ensures kept { result ≡ false → block.new ≡ block.old }
     ensures len { length block.new ≡ length block.old }
-    ensures same_step { (step : ℤ) → IsRun step (offsets dst.now) → IsRun step (offsets src.now) → IsTrue result }
+    ensures same_step { (step : ℤ) → IsRun step (offsets dst.now) → IsRun step (offsets src.now)
+        → IsTrue result }
     ensures turned { (step other : ℤ) → IsRun step (offsets dst.now) → IsRun other (offsets src.now)
         → offsets src.now ≡ reverse (offsets dst.now) → IsTrue result }
 {
@@ -144,11 +151,13 @@ pub fn assign(
     requires src_small { Fits src.now max_bytes width }
     requires nested { IsNested (offsets dst.now) width }
     requires count { count dst.now.shape ≡ count src.now.shape }
-    ensures written { IfOk result (λ _. block.new ≡ assigned (offsets dst.now) (offsets src.now) width block.old block.old) }
+    ensures written { IfOk result
+        (λ _. block.new ≡ assigned (offsets dst.now) (offsets src.now) width block.old block.old) }
     ensures kept { IfErr result (λ _. block.new ≡ block.old) }
     ensures len { length block.new ≡ length block.old }
     ensures apart { AreApart dst.now width src.now width → IsOk result }
-    ensures runs { (step : ℤ) → IsRun step (offsets dst.now) → IsRun step (offsets src.now) → IsOk result }
+    ensures runs { (step : ℤ) → IsRun step (offsets dst.now) → IsRun step (offsets src.now)
+        → IsOk result }
     ensures turned { (step other : ℤ) → IsRun step (offsets dst.now) → IsRun other (offsets src.now)
         → offsets src.now ≡ reverse (offsets dst.now) → IsOk result }
 {

@@ -14,7 +14,8 @@ fn trade_run(block: &mut RawBlock, to: Run, other: &mut RawBlock, from: Run, wid
     requires count { to.count ≡ from.count }
     requires to { EachWithin (length block.old) to.offset to.step width to.count }
     requires from { EachWithin (length other.old) from.offset from.step width from.count }
-    ensures traded { (block.new, other.new) ≡ traded_at (run_offsets to) (run_offsets from) width (block.old, other.old) }
+    ensures traded { (block.new, other.new)
+        ≡ traded_at (run_offsets to) (run_offsets from) width (block.old, other.old) }
     ensures len { length block.new ≡ length block.old }
     ensures other_len { length other.new ≡ length other.old }
 {
@@ -32,9 +33,14 @@ fn trade_run(block: &mut RawBlock, to: Run, other: &mut RawBlock, from: Run, wid
 /// The same pair by pair, the first run of each with the second one, of `other`.
 fn trade_pairs(block: &mut RawBlock, pairs: RunPairs<'_>, other: &mut RawBlock, width: usize)
     requires counts { All (λ pair. pair.first.count ≡ pair.second.count) pairs }
-    requires to { All (λ pair. EachWithin (length block.old) pair.first.offset pair.first.step width pair.first.count) pairs }
-    requires from { All (λ pair. EachWithin (length other.old) pair.second.offset pair.second.step width pair.second.count) pairs }
-    ensures traded { (block.new, other.new) ≡ traded_at (flat_map (λ pair. run_offsets pair.first) pairs.entry)
+    requires to { All (λ pair.
+        EachWithin (length block.old) pair.first.offset pair.first.step width pair.first.count)
+        pairs }
+    requires from { All (λ pair.
+        EachWithin (length other.old) pair.second.offset pair.second.step width pair.second.count)
+        pairs }
+    ensures traded { (block.new, other.new)
+        ≡ traded_at (flat_map (λ pair. run_offsets pair.first) pairs.entry)
         (flat_map (λ pair. run_offsets pair.second) pairs.entry) width (block.old, other.old) }
     ensures len { length block.new ≡ length block.old }
     ensures other_len { length other.new ≡ length other.old }
@@ -58,8 +64,10 @@ fn exchange_pairs(
     requires count { count dst.now.shape ≡ count src.now.shape }
     requires nested { IsNested (offsets dst.now) width }
     requires other_nested { IsNested (offsets src.now) width }
-    ensures written { block.new ≡ assigned (offsets dst.now) (offsets src.now) width other.old block.old }
-    ensures old { other.new ≡ assigned (offsets src.now) (offsets dst.now) width block.old other.old }
+    ensures written { block.new
+        ≡ assigned (offsets dst.now) (offsets src.now) width other.old block.old }
+    ensures old { other.new
+        ≡ assigned (offsets src.now) (offsets dst.now) width block.old other.old }
     ensures len { length block.new ≡ length block.old }
     ensures other_len { length other.new ≡ length other.old }
 {
@@ -85,8 +93,10 @@ pub fn exchange(
     requires count { count dst.now.shape ≡ count src.now.shape }
     requires nested { IsNested (offsets dst.now) width }
     requires other_nested { IsNested (offsets src.now) width }
-    ensures written { block.new ≡ assigned (offsets dst.now) (offsets src.now) width other.old block.old }
-    ensures old { items_at (offsets src.now) width other.new ≡ items_at (offsets dst.now) width block.old }
+    ensures written { block.new
+        ≡ assigned (offsets dst.now) (offsets src.now) width other.old block.old }
+    ensures old { items_at (offsets src.now) width other.new
+        ≡ items_at (offsets dst.now) width block.old }
     ensures len { length block.new ≡ length block.old }
     ensures other_len { length other.new ≡ length other.old }
 {

@@ -43,7 +43,8 @@ fn put_before(axes: &mut [Axis], from: usize, wide: Axis) -> usize
     ensures low { from ≤ result + 1 }
     ensures high { result ≤ length axes.new }
     ensures joined { AreJoined (wide ∷ drop from axes.old) (drop result axes.new) }
-    ensures others { (k : ℕ) (d : Axis) → k + 1 < from → slice_index_or axes.new k d ≡ slice_index_or axes.old k d }
+    ensures others { (k : ℕ) (d : Axis) → k + 1 < from
+        → slice_index_or axes.new k d ≡ slice_index_or axes.old k d }
 {
     if from < axes.len() && goes_on(wide, axes[from]) {
         axes[from] = joined(wide, axes[from]);

@@ -12,7 +12,8 @@ pub fn ranges_meet(a: &Layout, a_item: usize, b: &Layout, b_item: usize) -> bool
     requires a_fits { Fits a.now max_bytes a_item }
     requires b_fits { Fits b.now max_bytes b_item }
     ensures value { result ≡ do_ranges_meet (offsets a.now) a_item (offsets b.now) b_item }
-    ensures sound { result ≡ false → have_common_byte (offsets a.now) a_item (offsets b.now) b_item ≡ false }
+    ensures sound { result ≡ false
+        → have_common_byte (offsets a.now) a_item (offsets b.now) b_item ≡ false }
 {
     let a = a.span(a_item);
     let b = b.span(b_item);

@@ -24,8 +24,12 @@ pub(crate) fn as_runs(first: &Layout, second: &Layout) -> Option<RunPair>
 /// first.
 pub(crate) fn copy_pairs(block: &mut RawBlock, pairs: RunPairs<'_>, other: &RawBlock, width: usize)
     requires counts { All (λ pair. pair.first.count ≡ pair.second.count) pairs }
-    requires to { All (λ pair. EachWithin (length block.old) pair.first.offset pair.first.step width pair.first.count) pairs }
-    requires from { All (λ pair. EachWithin (length other.now) pair.second.offset pair.second.step width pair.second.count) pairs }
+    requires to { All (λ pair.
+        EachWithin (length block.old) pair.first.offset pair.first.step width pair.first.count)
+        pairs }
+    requires from { All (λ pair.
+        EachWithin (length other.now) pair.second.offset pair.second.step width pair.second.count)
+        pairs }
     ensures written { block.new ≡ assigned (flat_map (λ pair. run_offsets pair.first) pairs.entry)
         (flat_map (λ pair. run_offsets pair.second) pairs.entry) width other.now block.old }
     ensures len { length block.new ≡ length block.old }
@@ -43,7 +47,8 @@ fn move_apart(block: &mut RawBlock, to: Run, from: Run, width: usize)
     requires from { EachWithin (length block.old) from.offset from.step width from.count }
     requires nested { IsNested (run_offsets to) width }
     requires apart { LieApart width (run_offsets to) (run_offsets from) }
-    ensures written { block.new ≡ assigned (run_offsets to) (run_offsets from) width block.old block.old }
+    ensures written { block.new
+        ≡ assigned (run_offsets to) (run_offsets from) width block.old block.old }
     ensures len { length block.new ≡ length block.old }
 {
     if to.count > 0 && to.is_packed(width) && from.is_packed(width) {
@@ -59,10 +64,15 @@ fn move_apart(block: &mut RawBlock, to: Run, from: Run, width: usize)
 /// that is written has a byte in common with one that is read.
 pub(crate) fn move_pairs(block: &mut RawBlock, pairs: RunPairs<'_>, width: usize)
     requires counts { All (λ pair. pair.first.count ≡ pair.second.count) pairs }
-    requires to { All (λ pair. EachWithin (length block.old) pair.first.offset pair.first.step width pair.first.count) pairs }
-    requires from { All (λ pair. EachWithin (length block.old) pair.second.offset pair.second.step width pair.second.count) pairs }
+    requires to { All (λ pair.
+        EachWithin (length block.old) pair.first.offset pair.first.step width pair.first.count)
+        pairs }
+    requires from { All (λ pair.
+        EachWithin (length block.old) pair.second.offset pair.second.step width pair.second.count)
+        pairs }
     requires nested { IsNested (flat_map (λ pair. run_offsets pair.first) pairs) width }
-    requires apart { LieApart width (flat_map (λ pair. run_offsets pair.first) pairs) (flat_map (λ pair. run_offsets pair.second) pairs) }
+    requires apart { LieApart width (flat_map (λ pair. run_offsets pair.first) pairs)
+        (flat_map (λ pair. run_offsets pair.second) pairs) }
     ensures written { block.new ≡ assigned (flat_map (λ pair. run_offsets pair.first) pairs.entry)
         (flat_map (λ pair. run_offsets pair.second) pairs.entry) width block.old block.old }
     ensures len { length block.new ≡ length block.old }

@@ -61,7 +61,8 @@ pub(crate) fn move_run(block: &mut RawBlock, to: Run, from: Run, width: usize)
     requires step { from.step ≡ to.step }
     requires count { from.count ≡ to.count }
     requires spaced { AreSpaced width to }
-    ensures moved { IsAssigned to.count (place_in to) (place_in from) width block.old block.old block.new }
+    ensures moved { IsAssigned to.count (place_in to)
+        (place_in from) width block.old block.old block.new }
     ensures len { length block.new ≡ length block.old }
 {
     if to.is_packed(width) {
@@ -84,7 +85,8 @@ pub(crate) fn turn_run(block: &mut RawBlock, run: Run, back: Run, width: usize)
     requires run { IsLine (length block.old) width run }
     requires back { IsTurned run back }
     requires spaced { AreSpaced width run }
-    ensures moved { IsAssigned run.count (place_in run) (place_in back) width block.old block.old block.new }
+    ensures moved { IsAssigned run.count (place_in run)
+        (place_in back) width block.old block.old block.new }
     ensures len { length block.new ≡ length block.old }
 {
     block.swap_strided(

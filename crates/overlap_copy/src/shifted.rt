@@ -33,7 +33,8 @@ fn move_any_run(block: &mut RawBlock, to: Run, from: Run, width: usize)
     requires to { EachWithin (length block.old) to.offset to.step width to.count }
     requires from { EachWithin (length block.old) from.offset from.step width from.count }
     requires nested { IsNested (run_offsets to) width }
-    ensures written { block.new ≡ assigned (run_offsets to) (run_offsets from) width block.old block.old }
+    ensures written { block.new
+        ≡ assigned (run_offsets to) (run_offsets from) width block.old block.old }
     ensures len { length block.new ≡ length block.old }
 {
     if to.count < 2 {
@@ -54,9 +55,12 @@ fn move_any_run(block: &mut RawBlock, to: Run, from: Run, width: usize)
 fn move_shifted(block: &mut RawBlock, runs: Runs<'_>, to: usize, from: usize, width: usize)
     requires from { from ≤ max_bytes }
     requires some { All (λ run. 1 ≤ run.count) runs }
-    requires begin { All (λ run. LieWithin (run.count ∷ []) (run.step ∷ []) run.offset max_bytes 1) runs }
+    requires begin { All (λ run.
+        LieWithin (run.count ∷ []) (run.step ∷ []) run.offset max_bytes 1) runs }
     requires come { MayCome (length block.old) width to from (flat_map run_offsets runs) }
-    ensures written { block.new ≡ assigned (flat_map run_offsets runs.entry) (sources to from (flat_map run_offsets runs.entry)) width block.old block.old }
+    ensures written { block.new
+        ≡ assigned (flat_map run_offsets runs.entry)
+        (sources to from (flat_map run_offsets runs.entry)) width block.old block.old }
     ensures len { length block.new ≡ length block.old }
 {
     for run in runs {
@@ -75,7 +79,8 @@ pub fn assign_shifted(block: &mut RawBlock, dst: &Layout, src: &Layout, width: u
     requires shape { src.now.shape ≡ dst.now.shape }
     requires strides { src.now.strides ≡ dst.now.strides }
     requires stacked { IsStacked dst.now width }
-    ensures written { block.new ≡ assigned (offsets dst.now) (offsets src.now) width block.old block.old }
+    ensures written { block.new
+        ≡ assigned (offsets dst.now) (offsets src.now) width block.old block.old }
     ensures len { length block.new ≡ length block.old }
 {
     if dst.offset <= src.offset {

@@ -88,7 +88,8 @@ impl RawBlock {
     pub fn bytes_mut(&mut self) -> &mut [u8]
         ensures* writes_back { sem 𝓛 (lends_block self.entry result) }
         ensures value { result.now ≡ self.old }
-        ensures same_len { (ws : List ℕ) → length ws ≡ length self.old → refill (length self.old) self.old ws ≡ ws }
+        ensures same_len { (ws : List ℕ) → length ws ≡ length self.old
+            → refill (length self.old) self.old ws ≡ ws }
     {
         self.bytes.as_mut_slice(self.base, self.len)
     }
@@ -97,7 +98,8 @@ impl RawBlock {
     pub fn run_i32(&self, at: usize, n: usize) -> RunI32<'_>
         requires { at + 4 * n ≤ length self.now }
         ensures len { length result ≡ n }
-        ensures numbers { (k : ℕ) → k < n → slice_index_or result k (pos 0) ≡ signed_number 4 (item_at (at + 4 * k) 4 self.now) }
+        ensures numbers { (k : ℕ) → k < n → slice_index_or result k (pos 0)
+            ≡ signed_number 4 (item_at (at + 4 * k) 4 self.now) }
     {
         RunI32::over(items_at::<4>(self.bytes(), at, n))
     }
@@ -109,8 +111,10 @@ impl RawBlock {
         ensures len { length result.now ≡ n }
         ensures items { result.now ≡ adjacent_items 4 at n self.old }
         ensures before { signed_numbers 4 result.now ≡ adjacent_numbers 4 at n self.old }
-        ensures after { (items : List (List ℕ)) → AreArrays 4 n items → adjacent_numbers 4 at n (with_run at items self.old) ≡ signed_numbers 4 items }
-        ensures others { (items : List (List ℕ)) → AreArrays 4 n items → SameBeside at (4 * n) self.old (with_run at items self.old) }
+        ensures after { (items : List (List ℕ)) → AreArrays 4 n items
+            → adjacent_numbers 4 at n (with_run at items self.old) ≡ signed_numbers 4 items }
+        ensures others { (items : List (List ℕ)) → AreArrays 4 n items
+            → SameBeside at (4 * n) self.old (with_run at items self.old) }
     {
         self.bytes.run_mut::<4>(self.base, at, n)
     }
@@ -119,7 +123,8 @@ impl RawBlock {
     pub fn run_i64(&self, at: usize, n: usize) -> RunI64<'_>
         requires { at + 8 * n ≤ length self.now }
         ensures len { length result ≡ n }
-        ensures numbers { (k : ℕ) → k < n → slice_index_or result k (pos 0) ≡ signed_number 8 (item_at (at + 8 * k) 8 self.now) }
+        ensures numbers { (k : ℕ) → k < n → slice_index_or result k (pos 0)
+            ≡ signed_number 8 (item_at (at + 8 * k) 8 self.now) }
     {
         RunI64::over(items_at::<8>(self.bytes(), at, n))
     }
@@ -131,8 +136,10 @@ impl RawBlock {
         ensures len { length result.now ≡ n }
         ensures items { result.now ≡ adjacent_items 8 at n self.old }
         ensures before { signed_numbers 8 result.now ≡ adjacent_numbers 8 at n self.old }
-        ensures after { (items : List (List ℕ)) → AreArrays 8 n items → adjacent_numbers 8 at n (with_run at items self.old) ≡ signed_numbers 8 items }
-        ensures others { (items : List (List ℕ)) → AreArrays 8 n items → SameBeside at (8 * n) self.old (with_run at items self.old) }
+        ensures after { (items : List (List ℕ)) → AreArrays 8 n items
+            → adjacent_numbers 8 at n (with_run at items self.old) ≡ signed_numbers 8 items }
+        ensures others { (items : List (List ℕ)) → AreArrays 8 n items
+            → SameBeside at (8 * n) self.old (with_run at items self.old) }
     {
         self.bytes.run_mut::<8>(self.base, at, n)
     }
@@ -274,7 +281,8 @@ impl RawBlock {
     )
         requires a { EachWithin (length self.old) a a_step width n }
         requires b { EachWithin (length other.old) b b_step width n }
-        ensures traded { (self.new, other.new) ≡ traded a a_step b b_step width n self.old other.old }
+        ensures traded { (self.new, other.new)
+            ≡ traded a a_step b b_step width n self.old other.old }
         ensures len { (length self.new ≡ length self.old) × (length other.new ≡ length other.old) }
     {
         let (a, b) = (Steps::new(a, a_step), Steps::new(b, b_step));

@@ -12,7 +12,8 @@ pub(crate) fn items_at<const N: usize>(bytes: &[u8], at: usize, n: usize) -> &[[
     requires some { 0 < N }
     requires within { at + N * n ≤ length bytes.now }
     ensures len { length result.now ≡ n }
-    ensures items { (k : ℕ) → k < n → slice_index_or result.now k [] ≡ item_at (at + N * k) N bytes.now }
+    ensures items { (k : ℕ) → k < n → slice_index_or result.now k []
+        ≡ item_at (at + N * k) N bytes.now }
 {
     bytes[at..at + N * n].as_chunks::<N>().0
 }

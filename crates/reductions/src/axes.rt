@@ -17,7 +17,8 @@ use view_ops::{from_front, is_place};
 
 /// The scalar of items that are numbers.
 pub(crate) fn number_scalar(descr: &Descr) -> Result<Scalar, Refusal>
-    ensures ok { IfOk result (λ scalar. (number_scalar descr.now ≡ Ok scalar) × IsNumber scalar × (descr.now ≡ ScalarDescr scalar)) }
+    ensures ok { IfOk result (λ scalar. (number_scalar descr.now ≡ Ok scalar) × IsNumber scalar
+        × (descr.now ≡ ScalarDescr scalar)) }
     ensures err { IfErr result (λ refusal. number_scalar descr.now ≡ Err refusal) }
 {
     match descr {
@@ -29,7 +30,8 @@ pub(crate) fn number_scalar(descr: &Descr) -> Result<Scalar, Refusal>
 
 /// The axis that is named, as counted from the front.
 pub(crate) fn named_axis(rank: usize, axis: Option<i128>) -> Result<Option<usize>, Refusal>
-    ensures ok { IfOk result (λ named. (is_axis rank axis ≡ true) × (named ≡ named_axis rank axis) × IsAxisOf rank named) }
+    ensures ok { IfOk result (λ named. (is_axis rank axis ≡ true) × (named ≡ named_axis rank axis)
+        × IsAxisOf rank named) }
     ensures err { IfErr result (λ refusal. (refusal ≡ BadAxis) × (is_axis rank axis ≡ false)) }
 {
     let Some(axis) = axis else { return Ok(None) };

@@ -24,7 +24,9 @@ fn number_at<S: Number, O: Ordered>(bytes: &[u8], at: usize) -> S
 fn fold_all<S: Number, O: Ordered, F: Fold<S>>(lists: Lists<'_>) -> F::Total
     requires width { lists.width ≡ S.WIDTH }
     requires some { 0 < count lists.starts.now.shape }
-    ensures { F.Total.value result ≡ F.meaning (numbers_at (S.scalar O.order) lists.entry.bytes.now (offsets lists.entry.starts.now)) }
+    ensures { F.Total.value result
+        ≡ F.meaning
+        (numbers_at (S.scalar O.order) lists.entry.bytes.now (offsets lists.entry.starts.now)) }
 {
     let _items = lists.starts.shape.items();
     let mut held = F::start(number_at::<S, O>(lists.bytes, lists.starts.offset));
@@ -48,7 +50,9 @@ fn begin<S: Number, O: Ordered, F: Fold<S>>(
 ) -> Result<Vec<F::Held>, AllocError>
     requires { firsts.width ≡ S.WIDTH }
     ensures len { IfOk result (λ v. length v.items ≡ firsts.entry.run.count) }
-    ensures held { IfOk result (λ v. EachOf firsts.entry.run.count v.items (λ j one. F.holds one (number_of_side (S.scalar O.order) firsts.entry j) [])) }
+    ensures held { IfOk result
+        (λ v. EachOf firsts.entry.run.count v.items
+        (λ j one. F.holds one (number_of_side (S.scalar O.order) firsts.entry j) [])) }
 {
     let mut held = Vec::with_capacity(alloc, firsts.run.count)?;
     for j in 0..firsts.run.count {
@@ -63,7 +67,9 @@ fn take_each<S: Number, O: Ordered, F: Fold<S>>(held: &mut [F::Held], row: Side<
     requires width { row.width ≡ S.WIDTH }
     requires even { length held.old ≡ row.run.count }
     ensures len { length held.new ≡ length held.old }
-    ensures held { EachPair row.entry.run.count held.old held.new (λ j one after. TakesIn F.holds one seen (number_of_side (S.scalar O.order) row.entry j ∷ []) after) }
+    ensures held { EachPair row.entry.run.count held.old held.new
+        (λ j one after.
+        TakesIn F.holds one seen (number_of_side (S.scalar O.order) row.entry j ∷ []) after) }
 {
     for j in 0..row.run.count {
         held[j] = F::step(held[j], row.number::<S, O>(j), seen);
@@ -75,7 +81,9 @@ fn take_row<S: Number, O: Ordered, F: Fold<S>>(held: &mut [F::Held], row: Side<'
     requires width { row.width ≡ S.WIDTH }
     requires even { length held.old ≡ row.run.count }
     ensures len { length held.new ≡ length held.old }
-    ensures held { EachPair row.entry.run.count held.old held.new (λ j one after. TakesIn F.holds one seen (number_of_side (S.scalar O.order) row.entry j ∷ []) after) }
+    ensures held { EachPair row.entry.run.count held.old held.new
+        (λ j one after.
+        TakesIn F.holds one seen (number_of_side (S.scalar O.order) row.entry j ∷ []) after) }
 {
     if row.run.step == S::WIDTH as isize {
         return take_each::<S, O, F>(held, row.with_step(S::WIDTH as isize), seen);
@@ -90,7 +98,8 @@ fn held_by_rows<S: Number, O: Ordered, F: Fold<S>>(
 ) -> Result<Vec<F::Held>, AllocError>
     requires width { lines.starts.width ≡ S.WIDTH }
     requires some { 1 ≤ lines.axis.len }
-    ensures { IfOk result (λ v. AreHeld F.holds (S.scalar O.order) lines.entry lines.entry.axis.len v.items) }
+    ensures { IfOk result
+        (λ v. AreHeld F.holds (S.scalar O.order) lines.entry lines.entry.axis.len v.items) }
 {
     if !lines.goes_by_rows() {
         return Ok(Vec::new(alloc));
@@ -112,7 +121,10 @@ fn line_total<S: Number, O: Ordered, F: Fold<S>>(
     requires some { 1 ≤ lines.axis.len }
     requires line { j < lines.starts.run.count }
     requires held { AreHeld F.holds (S.scalar O.order) lines lines.axis.len held.now }
-    ensures { F.Total.value result ≡ F.meaning (numbers_at (S.scalar O.order) lines.entry.starts.bytes.now (run_offsets (line_run lines.entry j))) }
+    ensures { F.Total.value result
+        ≡ F.meaning
+        (numbers_at (S.scalar O.order) lines.entry.starts.bytes.now
+        (run_offsets (line_run lines.entry j))) }
 {
     if j < held.len() {
         return F::finish(held[j]);
@@ -141,7 +153,9 @@ fn push_lines<S: Number, O: Ordered, F: Fold<S>>(
     requires width { lines.starts.width ≡ S.WIDTH }
     requires some { 1 ≤ lines.axis.len }
     requires room { lines.starts.run.count * F.Total.WIDTH ≤ block.old.1 }
-    ensures { OnOk result (AddsReduced F.reduction (S.scalar O.order) lines.entry.starts.bytes.now F.Total.WIDTH (all_lines lines.entry) block.old block.new) }
+    ensures { OnOk result
+        (AddsReduced F.reduction (S.scalar O.order) lines.entry.starts.bytes.now F.Total.WIDTH
+        (all_lines lines.entry) block.old block.new) }
 {
     let held = held_by_rows::<S, O, F>(alloc, lines)?;
     for j in 0..lines.starts.run.count {
@@ -160,7 +174,9 @@ fn push_along<S: Number, O: Ordered, F: Fold<S>>(
     requires width { lists.width ≡ S.WIDTH }
     requires items { HaveItems (length lists.bytes.now) S.WIDTH lists.starts.now (Some axis) }
     requires room { count lists.starts.now.shape * F.Total.WIDTH ≤ block.old.1 }
-    ensures { OnOk result (AddsReduced F.reduction (S.scalar O.order) lists.entry.bytes.now F.Total.WIDTH (lines axis (offsets lists.entry.starts.now)) block.old block.new) }
+    ensures { OnOk result
+        (AddsReduced F.reduction (S.scalar O.order) lists.entry.bytes.now F.Total.WIDTH
+        (lines axis (offsets lists.entry.starts.now)) block.old block.new) }
 {
     let _items = lists.starts.shape.items();
     for run in Runs::new(lists.starts) {
@@ -182,7 +198,9 @@ pub(crate) fn reduced<S: Number, O: Ordered, F: Fold<S>>(
 ) -> Result<RawBlock, AllocError>
     requires width { lists.width ≡ S.WIDTH }
     requires items { HaveItems (length lists.bytes.now) S.WIDTH lists.starts.now lists.axis }
-    ensures { IfOk result (AreReduced F.reduction (S.scalar O.order) lists.entry.bytes.now F.Total.WIDTH (lists_from lists.entry.starts.now lists.entry.axis)) }
+    ensures { IfOk result
+        (AreReduced F.reduction (S.scalar O.order) lists.entry.bytes.now F.Total.WIDTH
+        (lists_from lists.entry.starts.now lists.entry.axis)) }
 {
     let width = <F::Total as Number>::WIDTH;
     let items = lists.starts.shape.items();

@@ -32,15 +32,18 @@ pub(crate) trait Fold<S: Number> {
 
     /// One number more, which has so many before it.
     fn step(held: Self::Held, item: S, place: usize) -> Self::Held
-        ensures { (first : ℤ) (seen : List ℤ) → place ≡ length seen → holds held first seen → holds result first (seen ++ S.value item ∷ []) };
+        ensures { (first : ℤ) (seen : List ℤ) → place ≡ length seen → holds held first seen
+            → holds result first (seen ++ S.value item ∷ []) };
 
     fn finish(held: Self::Held) -> Self::Total
-        ensures { (first : ℤ) (rest : List ℤ) → holds held first (first ∷ rest) → Self.Total.value result ≡ meaning (first ∷ rest) };
+        ensures { (first : ℤ) (rest : List ℤ) → holds held first (first ∷ rest)
+            → Self.Total.value result ≡ meaning (first ∷ rest) };
 
     /// Whether no number more changes what is held.
     #[inline(always)]
     fn is_decided(held: Self::Held) -> bool
-        ensures { IsTrue result → (order : Order) (first : ℤ) (seen : List ℤ) (bytes offsets : List ℕ)
+        ensures { IsTrue result
+            → (order : Order) (first : ℤ) (seen : List ℤ) (bytes offsets : List ℕ)
             → holds held first seen → holds held first (seen ++ numbers_at (S.scalar order) bytes offsets) }
     {
         false
@@ -57,7 +60,8 @@ pub(crate) trait Fold<S: Number> {
     fn fold_near<O: Ordered>(held: Self::Held, seen: usize, near: Side<'_>) -> Option<Self::Held>
         requires width { near.width ≡ S.WIDTH }
         requires few { seen + near.run.count < 2 ^ 63 }
-        ensures { IfSome result (TakesIn holds held seen (numbers_of (S.scalar O.order) near.entry)) }
+        ensures { IfSome result
+            (TakesIn holds held seen (numbers_of (S.scalar O.order) near.entry)) }
     {
         None
     }
@@ -119,7 +123,8 @@ fn is_better<S: Number, const GREATEST: bool>(item: S, best: S) -> bool
 /// Whether no number of the type is better; asked only for bools.
 #[inline(always)]
 fn is_last<S: Number, const GREATEST: bool>(best: S) -> bool
-    ensures { IsTrue result → (order : Order) (bytes : List ℕ) (offset : ℕ) → is_better GREATEST (number_at (S.scalar order) bytes offset) (S.value best) ≡ false }
+    ensures { IsTrue result → (order : Order) (bytes : List ℕ) (offset : ℕ)
+        → is_better GREATEST (number_at (S.scalar order) bytes offset) (S.value best) ≡ false }
 {
     if !S::are_bools() {
         return false;
@@ -229,7 +234,8 @@ fn seek_in<S: Number, O: Ordered, const GREATEST: bool>(
 ) -> Sought<S>
     requires width { block.width ≡ S.WIDTH }
     requires few { block.run.count < 2 ^ 63 }
-    ensures { HasSought GREATEST (numbers_of (S.scalar O.order) block.entry) (S.value held.best) held.before before (S.value result.best) result.before }
+    ensures { HasSought GREATEST (numbers_of (S.scalar O.order) block.entry)
+        (S.value held.best) held.before before (S.value result.best) result.before }
 {
     if is_last::<S, GREATEST>(held.best) {
         return held;

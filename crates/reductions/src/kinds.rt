@@ -66,7 +66,8 @@ pub(crate) fn hangs_on_order(reduction: Red) -> bool
 /// A block of one number, `count` times.
 fn repeated<T: Number>(alloc: Global, total: T, count: usize) -> Result<RawBlock, AllocError>
     requires { count ≤ max_items }
-    ensures items { IfOk result (λ b. (k : ℕ) → k < count → IsStored (T.scalar Little) (T.value total) (item_at (k * T.WIDTH) T.WIDTH b)) }
+    ensures items { IfOk result (λ b. (k : ℕ) → k < count
+        → IsStored (T.scalar Little) (T.value total) (item_at (k * T.WIDTH) T.WIDTH b)) }
     ensures len { IfOk result (λ b. length b ≡ count * T.WIDTH) }
 {
     let mut item = [0; 8];

@@ -159,7 +159,8 @@ pub(crate) fn fold_blocks<S: Number, O: Ordered, F: Fold<S>>(
 #[inline(always)]
 pub(crate) fn place_of<S: Number, O: Ordered>(number: S, side: Side<'_>) -> usize
     requires { side.width ≡ S.WIDTH }
-    ensures place { result ≡ first_place (S.value number) (numbers_of (S.scalar O.order) side.entry) }
+    ensures place { result
+        ≡ first_place (S.value number) (numbers_of (S.scalar O.order) side.entry) }
     ensures within { result ≤ side.entry.run.count }
 {
     let bits = number.bits();

@@ -23,7 +23,12 @@ use std::alloc::{AllocError, Global};
 /// The axis with a number.
 fn axis_at(layout: &Layout, axis: usize) -> StridedAxis
     requires { axis < length layout.now.shape }
-    ensures value { result ≡ record { len = slice_index layout.now.shape axis; stride = slice_index_or layout.now.strides axis (pos 0) } }
+    ensures value { result
+        ≡ record {
+          len = slice_index layout.now.shape axis;
+          stride
+              = slice_index_or layout.now.strides axis (pos 0);
+        } }
     ensures limit { result.len ≤ max_items }
 {
     StridedAxis {
@@ -41,7 +46,8 @@ fn reduced_from(
     axis: Option<StridedAxis>,
 ) -> Result<RawBlock, AllocError>
     requires number { IsNumber source.scalar.now }
-    requires inside { All (λ offset. offset + size source.scalar.now ≤ length source.bytes.now) (offsets starts.now) }
+    requires inside { All (λ offset. offset + size source.scalar.now ≤ length source.bytes.now)
+        (offsets starts.now) }
     requires items { HaveItems (length source.bytes.now) (size source.scalar.now) starts.now axis }
     requires lists { lists_of source ≡ lists_from starts.now axis }
     ensures { IfOk result (AreResults reduction source.entry) }
@@ -111,7 +117,8 @@ fn reduced_block(
     requires axis { IsAxisOf (length source.layout.now.shape) source.axis }
     requires items { items ≡ length (lists_of source) }
     requires few { items ≤ max_items }
-    requires some { needs_items reduction ≡ true → list_length source.layout.now.shape source.axis ≡ 0 → items ≡ 0 }
+    requires some { needs_items reduction ≡ true
+        → list_length source.layout.now.shape source.axis ≡ 0 → items ≡ 0 }
     ensures items { IfOk result (AreResults reduction source.entry) }
     ensures err { IfErr result (λ refusal. refusal ≡ OutOfMemory) }
 {
@@ -135,8 +142,10 @@ fn reduce_items(
     axis: Option<i128>,
     keep: bool,
 ) -> Result<Owned, Refusal>
-    ensures array { Gives outcome_of result (reduced_type reduction items.entry.descr.now items.entry.layout.now.shape axis keep) }
-    ensures order { IfOk result (λ o. offsets o.layout ≡ offsets_in C (item_size o.descr) o.layout.shape) }
+    ensures array { Gives outcome_of result
+        (reduced_type reduction items.entry.descr.now items.entry.layout.now.shape axis keep) }
+    ensures order { IfOk result
+        (λ o. offsets o.layout ≡ offsets_in C (item_size o.descr) o.layout.shape) }
     ensures items { IfOk result (λ o. map (item_from o.descr o.block) (offsets o.layout)
         ≡ reduced_items reduction o.descr items.entry.descr.now items.entry.block.now (lists items.entry.layout.now.shape (named_axis (length items.entry.layout.now.shape) axis) (offsets items.entry.layout.now))) }
     ensures bytes { IfOk result (λ o. o.block ≡ flat_map (encode_item o.descr) (owned_items o)) }
@@ -173,8 +182,10 @@ pub fn reduce(
     axis: Option<i128>,
     keep: bool,
 ) -> Result<Owned, Refusal>
-    ensures array { Gives outcome_of result (reduced_type reduction items.entry.descr.now items.entry.layout.now.shape axis keep) }
-    ensures order { IfOk result (λ o. offsets o.layout ≡ offsets_in C (item_size o.descr) o.layout.shape) }
+    ensures array { Gives outcome_of result
+        (reduced_type reduction items.entry.descr.now items.entry.layout.now.shape axis keep) }
+    ensures order { IfOk result
+        (λ o. offsets o.layout ≡ offsets_in C (item_size o.descr) o.layout.shape) }
     ensures items { IfOk result (λ o. map (item_from o.descr o.block) (offsets o.layout)
         ≡ reduced_items reduction o.descr items.entry.descr.now items.entry.block.now (lists items.entry.layout.now.shape (named_axis (length items.entry.layout.now.shape) axis) (offsets items.entry.layout.now))) }
     ensures bytes { IfOk result (λ o. o.block ≡ flat_map (encode_item o.descr) (owned_items o)) }

@@ -2,10 +2,10 @@
 
 use crate::index::Index;
 use crate::literal::{Literal, Literals};
-use elem_descr::{MemoryOrder, Name, Red, UnOp};
 use crate::operation::Operation;
 use crate::shape::{Integers, Lengths};
 use crate::text::{FileName, Text};
+use elem_descr::{MemoryOrder, Name, Red, UnOp};
 
 /// `Y` or `Y[ix]`
 #[derive(Drop)]

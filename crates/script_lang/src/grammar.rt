@@ -58,7 +58,8 @@ fn load(alloc: Global, bytes: &[u8]) -> Option<(Value, &[u8])>
 
 /// The value that the verb begins.
 fn verb_value(alloc: Global, verb: Verb, bytes: &[u8]) -> Result<(Value, &[u8]), Refusal>
-    ensures { Reads (λ r. (r.0, r.1.now)) (λ r. value_room r.0) result (verb_value_at verb bytes.now) }
+    ensures { Reads (λ r. (r.0, r.1.now)) (λ r. value_room r.0) result
+        (verb_value_at verb bytes.now) }
 {
     match verb {
         Verb::Make(verb) => make(alloc, verb, bytes),
@@ -84,7 +85,8 @@ fn value(alloc: Global, bytes: &[u8]) -> Result<(Value, &[u8]), Refusal>
 /// `X = ..`, given the word `X` and what follows it.
 #[tactic(auto, unfolding(crate::specs::Commands::bind_at), using(crate::proofs::Commands::bind_room))]
 fn bind<'a>(alloc: Global, word: &[u8], bytes: &'a [u8]) -> Result<(Command, &'a [u8]), Refusal>
-    ensures { Reads (λ r. (r.0, r.1.now)) (λ r. parts_take_memory r.0) result (bind_at (word.now, bytes.now)) }
+    ensures { Reads (λ r. (r.0, r.1.now)) (λ r. parts_take_memory r.0) result
+        (bind_at (word.now, bytes.now)) }
 {
     if !names_unless_verb(word) {
         return Err(Refusal::Syntax);
@@ -98,7 +100,8 @@ fn bind<'a>(alloc: Global, word: &[u8], bytes: &'a [u8]) -> Result<(Command, &'a
 /// The command that the verb begins.
 #[tactic(auto, unfolding(crate::specs::Commands::ask_at))]
 fn verb_command(alloc: Global, verb: Verb, bytes: &[u8]) -> Result<(Command, &[u8]), Refusal>
-    ensures { Reads (λ r. (r.0, r.1.now)) (λ r. parts_take_memory r.0) result (verb_command_at verb bytes.now) }
+    ensures { Reads (λ r. (r.0, r.1.now)) (λ r. parts_take_memory r.0) result
+        (verb_command_at verb bytes.now) }
 {
     match verb {
         Verb::Set => set(alloc, bytes),

@@ -2,8 +2,8 @@
 ghost use Rattle.std.specs.Prelude.{◌≡◌, count_by};
 ghost use Rattle.elem_descr.specs.IndexItems.{is_ellipsis};
 
-use elem_descr::{IndexItem, Name};
 use crate::short_list::ShortList;
+use elem_descr::{IndexItem, Name};
 
 /// The items between the brackets: at least one, with `...` at most once. Integers have up to 30
 /// digits, and arrays are given by their names.

@@ -17,7 +17,8 @@ fn steps_over(strides: &[isize], axis: usize, len: usize, bytes: u128) -> bool
     requires axis { axis < length strides.now }
     requires bytes { bytes ≤ max_reach }
     ensures yes { IsTrue result → 2 ≤ len → slice_index_or strides.now axis (pos 0) ≡ pos bytes }
-    ensures no { IsFalse result → (len ≢ 1) × (slice_index_or strides.now axis (pos 0) ≢ pos bytes) }
+    ensures no { IsFalse result → (len ≢ 1)
+        × (slice_index_or strides.now axis (pos 0) ≢ pos bytes) }
 {
     len == 1 || strides[axis] as i128 == bytes as i128
 }
@@ -43,9 +44,11 @@ impl Layout {
         requires bytes { count shape.now * item ≤ max_bytes }
         ensures shape { IfOk result (λ l. l.shape ≡ shape.now) }
         ensures offset { IfOk result (λ l. l.offset ≡ 0) }
-        ensures strides { IfOk result (λ l. 0 < count shape.now → l.strides ≡ f_strides item shape.now) }
+        ensures strides { IfOk result (λ l. 0 < count shape.now
+            → l.strides ≡ f_strides item shape.now) }
         ensures offsets { IfOk result (λ l. offsets l ≡ f_multiples item shape.now) }
-        ensures order { IfOk result (λ l. fortran_order shape.now (offsets l) ≡ multiples item (count shape.now)) }
+        ensures order { IfOk result (λ l. fortran_order shape.now (offsets l)
+            ≡ multiples item (count shape.now)) }
         ensures count { IfOk result (λ l. length (offsets l) ≡ count shape.now) }
         ensures nested { IfOk result (λ l. IsNested (offsets l) item) }
         ensures fits { IfOk result (λ l. Fits l (count shape.now * item) item) }
@@ -63,7 +66,8 @@ impl Layout {
     /// order.
     pub fn reversed(alloc: Global, layout: &Layout) -> Result<Layout, AllocError>
         ensures shape { IfOk result (λ l. l.shape ≡ reverse layout.now.shape) }
-        ensures offsets { IfOk result (λ l. offsets l ≡ fortran_order layout.now.shape (offsets layout.now)) }
+        ensures offsets { IfOk result
+            (λ l. offsets l ≡ fortran_order layout.now.shape (offsets layout.now)) }
     {
         let shape = Shape::try_copy(alloc, &layout.shape)?;
         let strides = Strides::from_slice(alloc, layout.strides.as_slice())?;

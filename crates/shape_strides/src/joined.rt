@@ -58,7 +58,8 @@ pub(crate) fn joined_axes(
     layout: &Layout,
 ) -> Result<SmallVec<StridedAxis, 8>, AllocError>
     requires { 0 < count layout.now.shape }
-    ensures { IfOk result (λ axes. reverse axes.items ≡ all_joined (strided_axes layout.now.strides layout.now.shape)) }
+    ensures { IfOk result (λ axes. reverse axes.items
+        ≡ all_joined (strided_axes layout.now.strides layout.now.shape)) }
 {
     let lengths = layout.shape.as_slice();
     let strides = layout.strides.as_slice();

@@ -80,7 +80,8 @@ impl Layout {
         requires bytes { count shape.now * item ≤ max_bytes }
         ensures shape { IfOk result (λ l. l.shape ≡ shape.now) }
         ensures offset { IfOk result (λ l. l.offset ≡ 0) }
-        ensures strides { IfOk result (λ l. 0 < count shape.now → l.strides ≡ c_strides item shape.now) }
+        ensures strides { IfOk result (λ l. 0 < count shape.now
+            → l.strides ≡ c_strides item shape.now) }
         ensures offsets { IfOk result (λ l. offsets l ≡ multiples item (count shape.now)) }
         ensures count { IfOk result (λ l. length (offsets l) ≡ count shape.now) }
         ensures nested { IfOk result (λ l. IsNested (offsets l) item) }

@@ -22,9 +22,12 @@ impl Layout {
     /// The items in C order as rows, each of which is a run; the rows that begin in one run of
     /// starts are at equal steps. It takes no memory.
     pub fn rows(&self) -> Rows<'_>
-        ensures offsets { flat_map run_offsets (map (run_along result.along) (flat_map run_offsets result.starts)) ≡ offsets self.now }
-        ensures lie { All (λ run. LieWithin (run.count ∷ []) (run.step ∷ []) run.offset max_bytes 1) (map (run_along result.along) (flat_map run_offsets result.starts)) }
-        ensures begin { All (λ run. LieWithin (run.count ∷ []) (run.step ∷ []) run.offset max_bytes 1) result.starts }
+        ensures offsets { flat_map run_offsets
+            (map (run_along result.along) (flat_map run_offsets result.starts)) ≡ offsets self.now }
+        ensures lie { All (λ run. LieWithin (run.count ∷ []) (run.step ∷ []) run.offset max_bytes 1)
+            (map (run_along result.along) (flat_map run_offsets result.starts)) }
+        ensures begin { All (λ run.
+            LieWithin (run.count ∷ []) (run.step ∷ []) run.offset max_bytes 1) result.starts }
         ensures some { All (λ run. 1 ≤ run.count) result.starts }
     {
         let items = self.shape.items();

@@ -85,12 +85,23 @@ impl<'a> RunPairs<'a> {
     pub fn new(first: &'a Layout, second: &'a Layout) -> RunPairs<'a>
         requires { count first.now.shape ≡ count second.now.shape }
         ensures pairs { result ≡ run_pairs first.now second.now }
-        ensures first { flat_map (λ pair. run_offsets pair.first) (run_pairs first.now second.now) ≡ offsets first.now }
-        ensures second { flat_map (λ pair. run_offsets pair.second) (run_pairs first.now second.now) ≡ offsets second.now }
-        ensures first_lie { (len item : ℕ) → Fits first.now len item → All (λ pair. LieWithin (pair.first.count ∷ []) (pair.first.step ∷ []) pair.first.offset len item) (run_pairs first.now second.now) }
-        ensures second_lie { (len item : ℕ) → Fits second.now len item → All (λ pair. LieWithin (pair.second.count ∷ []) (pair.second.step ∷ []) pair.second.offset len item) (run_pairs first.now second.now) }
-        ensures counts { All (λ pair. pair.first.count ≡ pair.second.count) (run_pairs first.now second.now) }
-        ensures alone { (step other : ℤ) → 0 < count first.now.shape → GoesBy step (offsets first.now) → GoesBy other (offsets second.now) → length (run_pairs first.now second.now) ≡ 1 }
+        ensures first { flat_map (λ pair. run_offsets pair.first) (run_pairs first.now second.now)
+            ≡ offsets first.now }
+        ensures second { flat_map (λ pair. run_offsets pair.second) (run_pairs first.now second.now)
+            ≡ offsets second.now }
+        ensures first_lie { (len item : ℕ) → Fits first.now len item
+            → All (λ pair.
+            LieWithin (pair.first.count ∷ []) (pair.first.step ∷ []) pair.first.offset len item)
+            (run_pairs first.now second.now) }
+        ensures second_lie { (len item : ℕ) → Fits second.now len item
+            → All (λ pair.
+            LieWithin (pair.second.count ∷ []) (pair.second.step ∷ []) pair.second.offset len item)
+            (run_pairs first.now second.now) }
+        ensures counts { All (λ pair. pair.first.count ≡ pair.second.count)
+            (run_pairs first.now second.now) }
+        ensures alone { (step other : ℤ) → 0 < count first.now.shape
+            → GoesBy step (offsets first.now) → GoesBy other (offsets second.now)
+            → length (run_pairs first.now second.now) ≡ 1 }
     {
         // For the prover alone: there are no more items than the limit.
         let _lengths = first.shape.as_slice();

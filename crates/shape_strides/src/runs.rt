@@ -75,9 +75,13 @@ impl<'a> Runs<'a> {
     pub fn new(layout: &'a Layout) -> Runs<'a>
         ensures runs { result ≡ runs layout.now }
         ensures offsets { flat_map run_offsets (runs layout.now) ≡ offsets layout.now }
-        ensures alone { (step : ℤ) → 0 < count layout.now.shape → GoesBy step (offsets layout.now) → length (runs layout.now) ≡ 1 }
-        ensures within { (len item : ℕ) → Fits layout.now len item → All (λ offset. offset + item ≤ len) (offsets layout.now) }
-        ensures lie { (len item : ℕ) → Fits layout.now len item → All (λ run. LieWithin (run.count ∷ []) (run.step ∷ []) run.offset len item) (runs layout.now) }
+        ensures alone { (step : ℤ) → 0 < count layout.now.shape → GoesBy step (offsets layout.now)
+            → length (runs layout.now) ≡ 1 }
+        ensures within { (len item : ℕ) → Fits layout.now len item
+            → All (λ offset. offset + item ≤ len) (offsets layout.now) }
+        ensures lie { (len item : ℕ) → Fits layout.now len item
+            → All (λ run. LieWithin (run.count ∷ []) (run.step ∷ []) run.offset len item)
+            (runs layout.now) }
         ensures some { All (λ run. 1 ≤ run.count) (runs layout.now) }
     {
         Runs::over(
@@ -99,7 +103,8 @@ impl<'a> Runs<'a> {
         requires few { length lengths.now ≤ max_axes }
         requires items { items ≡ count lengths.now }
         requires most { items ≤ max_items }
-        ensures { (l : Layout) → l.shape ≡ lengths.now → l.strides ≡ strides.now → l.offset ≡ offset → result ≡ runs l }
+        ensures { (l : Layout) → l.shape ≡ lengths.now → l.strides ≡ strides.now → l.offset ≡ offset
+            → result ≡ runs l }
     {
         if items == 0 {
             return Runs {

@@ -20,7 +20,8 @@ fn one_of(outer: StridedAxis, inner: StridedAxis) -> Option<StridedAxis>
     requires items { outer.len * inner.len ≤ max_items }
     ensures joined { MatchOption result (join_outside outer (if_long inner) ≡ outer ∷ inner ∷ [])
         (λ one. (join_outside outer (if_long inner) ≡ if_long one) × (one.len ≡ outer.len * inner.len)) }
-    ensures long { MatchOption result (2 ≤ outer.len) (λ one. one.len ≡ 1 → one.stride ≡ inner.stride) }
+    ensures long { MatchOption result (2 ≤ outer.len)
+        (λ one. one.len ≡ 1 → one.stride ≡ inner.stride) }
 {
     if outer.len == 1 {
         return Some(inner);
@@ -75,7 +76,9 @@ impl Layout {
     /// takes no memory.
     pub fn as_one_run(&self) -> Option<Run>
         ensures items { IfSome result (λ run. run_offsets run ≡ offsets self.now) }
-        ensures lie { (len item : ℕ) → Fits self.now len item → IfSome result (λ run. LieWithin (run.count ∷ []) (run.step ∷ []) run.offset len item) }
+        ensures lie { (len item : ℕ) → Fits self.now len item
+            → IfSome result
+            (λ run. LieWithin (run.count ∷ []) (run.step ∷ []) run.offset len item) }
     {
         if self.shape.items() == 0 {
             return None;
@@ -96,8 +99,11 @@ impl Layout {
         ensures items { IfSome result (λ run. run_offsets run ≡ offsets self.now) }
         ensures two { IfSome result (λ run. 2 ≤ run.count) }
         ensures few { IfSome result (λ run. run.count ≤ max_items) }
-        ensures lie { (len item : ℕ) → Fits self.now len item → IfSome result (λ run. LieWithin (run.count ∷ []) (run.step ∷ []) run.offset len item) }
-        ensures found { (step : ℤ) → 2 ≤ length (offsets self.now) → GoesBy step (offsets self.now) → MatchOption result ⊥ (λ run. run.step ≡ step) }
+        ensures lie { (len item : ℕ) → Fits self.now len item
+            → IfSome result
+            (λ run. LieWithin (run.count ∷ []) (run.step ∷ []) run.offset len item) }
+        ensures found { (step : ℤ) → 2 ≤ length (offsets self.now) → GoesBy step (offsets self.now)
+            → MatchOption result ⊥ (λ run. run.step ≡ step) }
     {
         if self.shape.items() < 2 {
             return None;

@@ -17,7 +17,8 @@ impl Layout {
         ensures low { All (λ offset. result.start ≤ offset) (offsets self.now) }
         ensures high { All (λ offset. offset + item ≤ result.end) (offsets self.now) }
         ensures first { 0 < length (offsets self.now) → Contains (offsets self.now) result.start }
-        ensures last { 0 < length (offsets self.now) → Any (λ offset. offset + item ≡ result.end) (offsets self.now) }
+        ensures last { 0 < length (offsets self.now)
+            → Any (λ offset. offset + item ≡ result.end) (offsets self.now) }
         ensures limit { result.end ≤ max_bytes }
     {
         if self.shape.items() == 0 {

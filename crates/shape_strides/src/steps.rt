@@ -16,7 +16,8 @@ pub(crate) fn forward(from: usize, strides: &[isize], axis: usize, steps: usize)
     requires start { from ≤ max_bytes }
     requires steps { steps ≤ max_items }
     requires low { pos 0 ≤ℤ (pos from +ℤ slice_index_or strides.now axis (pos 0) *ℤ pos steps) }
-    requires high { (pos from +ℤ slice_index_or strides.now axis (pos 0) *ℤ pos steps) ≤ℤ pos max_bytes }
+    requires high { (pos from +ℤ slice_index_or strides.now axis (pos 0) *ℤ pos steps) ≤ℤ
+        pos max_bytes }
     ensures { pos result ≡ pos from +ℤ slice_index_or strides.now axis (pos 0) *ℤ pos steps }
 {
     (from as isize + strides[axis] * steps as isize) as usize
@@ -28,7 +29,8 @@ pub(crate) fn back(from: usize, strides: &[isize], axis: usize, steps: usize) ->
     requires start { from ≤ max_bytes }
     requires steps { steps ≤ max_items }
     requires low { pos 0 ≤ℤ (pos from -ℤ slice_index_or strides.now axis (pos 0) *ℤ pos steps) }
-    requires high { (pos from -ℤ slice_index_or strides.now axis (pos 0) *ℤ pos steps) ≤ℤ pos max_bytes }
+    requires high { (pos from -ℤ slice_index_or strides.now axis (pos 0) *ℤ pos steps) ≤ℤ
+        pos max_bytes }
     ensures { pos result ≡ pos from -ℤ slice_index_or strides.now axis (pos 0) *ℤ pos steps }
 {
     (from as isize - strides[axis] * steps as isize) as usize

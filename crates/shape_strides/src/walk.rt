@@ -42,7 +42,8 @@ impl<'a> Walk<'a> {
     pub fn new(layout: &'a Layout) -> Walk<'a>
         ensures items { result ≡ offsets layout.now }
         ensures count { length (offsets layout.now) ≡ count layout.now.shape }
-        ensures within { (len item : ℕ) → Fits layout.now len item → All (λ offset. offset + item ≤ len) (offsets layout.now) }
+        ensures within { (len item : ℕ) → Fits layout.now len item
+            → All (λ offset. offset + item ≤ len) (offsets layout.now) }
     {
         Walk::over(
             layout.shape.as_slice(),
@@ -88,7 +89,8 @@ fn advance(
     requires index { IsIndex lengths.now index.old }
     requires offset { pos offset ≡ address_at strides.now start index.old }
     ensures index { IsIndex lengths.now index.new }
-    ensures rank { rank lengths.now index.old + 1 < count lengths.now → rank lengths.now index.new ≡ rank lengths.now index.old + 1 }
+    ensures rank { rank lengths.now index.old + 1 < count lengths.now
+        → rank lengths.now index.new ≡ rank lengths.now index.old + 1 }
     ensures offset { pos result ≡ address_at strides.now start index.new }
 {
     let mut offset = offset;

@@ -11,7 +11,8 @@ use std::alloc::{AllocError, Global};
 fn moved(alloc: Global, layout: &Layout, by: usize) -> Result<Layout, AllocError>
     requires { Fits layout.now max_bytes (by + 1) }
     ensures shape { IfOk result (λ l. l.shape ≡ layout.now.shape) }
-    ensures addresses { IfOk result (λ l. (index : List ℕ) → IsIndex layout.now.shape index → address l index ≡ address layout.now index +ℤ pos by) }
+    ensures addresses { IfOk result (λ l. (index : List ℕ) → IsIndex layout.now.shape index
+        → address l index ≡ address layout.now index +ℤ pos by) }
 {
     let mut moved = Layout::try_copy(alloc, layout)?;
     if moved.shape.items() == 0 {

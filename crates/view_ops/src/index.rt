@@ -31,7 +31,9 @@ pub(crate) fn axes_end<A>(rank: usize, axis: usize, items: &[IndexItem<A>], k: u
     requires item { k < length items.now }
     requires axis { axis ≤ rank }
     requires enough { axes_taken (drop k items.now) ≤ rank - axis }
-    ensures value { result ≡ axis + width (rank - axis) (slice_index_or items.now k (Integer (pos 0))) (drop (k + 1) items.now) }
+    ensures value { result
+        ≡ axis + width (rank - axis) (slice_index_or items.now k (Integer (pos 0)))
+        (drop (k + 1) items.now) }
     ensures from { axis ≤ result }
     ensures within { result ≤ rank }
     ensures enough { axes_taken (drop (k + 1) items.now) ≤ rank - result }

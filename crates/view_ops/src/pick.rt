@@ -52,7 +52,8 @@ pub fn pick_of<A>(n: usize, item: &IndexItem<A>) -> Result<AxisPick, Refusal>
     requires basic { is_basic item.now ≡ true }
     requires step { has_step item.now ≡ true }
     requires in_range { is_on_axis (n ∷ []) item.now ≡ true }
-    ensures ok { IfOk result (λ pick. ArePicks (n ∷ []) (pick ∷ []) × (picks_of (n ∷ []) item.now ≡ pick_shown pick ∷ [])) }
+    ensures ok { IfOk result (λ pick. ArePicks (n ∷ []) (pick ∷ [])
+        × (picks_of (n ∷ []) item.now ≡ pick_shown pick ∷ [])) }
     ensures err { IfErr result (λ _. ⊥) }
 {
     match item {
@@ -77,7 +78,8 @@ pub fn whole_axis(n: usize) -> AxisPick
 }
 
 fn push_whole(picks: &mut SmallVec<AxisPick, 4>, axes: &[usize]) -> Result<(), AllocError>
-    ensures { OnOk result (AddsPicks picks.old.items picks.new.items axes.now (map whole axes.now)) }
+    ensures { OnOk result
+        (AddsPicks picks.old.items picks.new.items axes.now (map whole axes.now)) }
 {
     for n in axes {
         picks.push(whole_axis(*n))?;
@@ -95,7 +97,8 @@ fn push_picks<A>(
     requires basic { is_basic item.now ≡ true }
     requires step { has_step item.now ≡ true }
     requires in_range { is_on_axis axes.now item.now ≡ true }
-    ensures ok { OnOk result (AddsPicks picks.old.items picks.new.items axes.now (picks_of axes.now item.now)) }
+    ensures ok { OnOk result
+        (AddsPicks picks.old.items picks.new.items axes.now (picks_of axes.now item.now)) }
     ensures err { IfErr result (λ refusal. refusal ≡ OutOfMemory) }
 {
     match item {

@@ -68,7 +68,8 @@ fn axes_taken(pick: AxisPick) -> usize
 /// The stride of a run along an axis; 0 if it has fewer than two numbers.
 fn run_stride(strides: &[isize], axis: usize, run: Progression) -> isize
     requires axis { axis < length strides.now }
-    requires small { 2 ≤ run.count → IsSmallStep (slice_index_or strides.now axis (pos 0)) run.step }
+    requires small { 2 ≤ run.count
+        → IsSmallStep (slice_index_or strides.now axis (pos 0)) run.step }
     ensures { result ≡ run_stride (slice_index_or strides.now axis (pos 0)) run }
 {
     if run.count < 2 {
@@ -85,7 +86,8 @@ fn push_stride(
 ) -> Result<(), AllocError>
     requires axis { axes_taken pick ≡ 1 → axis < length strides.now }
     requires small { IsSmallPick (slice_index_or strides.now axis (pos 0)) pick }
-    ensures { OnOk result (made.new ≡ made.old ++ stride_of (slice_index_or strides.now axis (pos 0)) pick) }
+    ensures { OnOk result
+        (made.new ≡ made.old ++ stride_of (slice_index_or strides.now axis (pos 0)) pick) }
 {
     match pick {
         AxisPick::At(_) => Ok(()),

@@ -106,7 +106,9 @@ pub fn slice_of(
     stop: Option<i128>,
     step: Option<i128>,
 ) -> Result<Progression, Refusal>
-    ensures value { MatchResult result (λ run. slice_indices n start stop step ≡ Ok (run_numbers run)) (λ refusal. slice_indices n start stop step ≡ Err refusal) }
+    ensures value { MatchResult result
+        (λ run. slice_indices n start stop step ≡ Ok (run_numbers run))
+        (λ refusal. slice_indices n start stop step ≡ Err refusal) }
     ensures within { IfOk result (λ run. IsRunWithin run n) }
 {
     let step = step.unwrap_or(1);

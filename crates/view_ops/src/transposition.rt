@@ -34,7 +34,8 @@ fn transposed_strides(
 ) -> Result<Strides, AllocError>
     requires axes { AreAxes (length strides.now) axes.now }
     requires few { length strides.now ≤ max_axes }
-    ensures { IfOk result (λ s. s ≡ map (λ axis. slice_index_or strides.now axis (pos 0)) axes.now) }
+    ensures { IfOk result
+        (λ s. s ≡ map (λ axis. slice_index_or strides.now axis (pos 0)) axes.now) }
 {
     let mut transposed = Strides::new(alloc);
     for axis in axes {
@@ -46,7 +47,13 @@ fn transposed_strides(
 /// The layout with these axes.
 fn with_axes(alloc: Global, layout: &Layout, axes: &[usize]) -> Result<Layout, Refusal>
     requires { AreAllAxes (length layout.now.shape) axes.now }
-    ensures ok { IfOk result (λ view. IsViewOf layout.now view (record { shape = transposed_shape axes.now layout.now.shape; leads = transposed_index axes.now })) }
+    ensures ok { IfOk result
+        (λ view. IsViewOf layout.now view
+        (record {
+          shape = transposed_shape axes.now layout.now.shape;
+          leads
+              = transposed_index axes.now;
+        })) }
     ensures nested { IfOk result (KeepsNested layout.now) }
     ensures err { IfErr result (λ refusal. refusal ≡ OutOfMemory) }
 {
@@ -65,7 +72,8 @@ fn with_axes(alloc: Global, layout: &Layout, axes: &[usize]) -> Result<Layout, R
 /// range and a repeated axis are refused as `BadAxis`. A view without items has strides and offset
 /// 0.
 pub fn transpose(alloc: Global, layout: &Layout, axes: Option<&[i128]>) -> Result<Layout, Refusal>
-    ensures view { GivesView layout.now result (transposed layout.now.shape (option_copied axes.entry)) }
+    ensures view { GivesView layout.now result
+        (transposed layout.now.shape (option_copied axes.entry)) }
     ensures nested { IfOk result (KeepsNested layout.now) }
 {
     let axes = axes_of(alloc, layout.shape.rank(), axes)?;

@@ -41,7 +41,8 @@ pub fn add_scalar<'a>(
     value: Option<Scalar>,
     rest: &'a [u8],
 ) -> Result<(Mark, &'a [u8]), Refusal>
-    ensures gives { Gives (λ m. (builder.new, m.0, m.1.now)) result (scalar_in mark builder.old value rest.now) }
+    ensures gives { Gives (λ m. (builder.new, m.0, m.1.now)) result
+        (scalar_in mark builder.old value rest.now) }
     ensures levels { builder.new.levels ≡ builder.old.levels }
 {
     let (name, rest) = named(alloc, builder.len(), rest)?;
@@ -62,7 +63,8 @@ pub fn add_pad<'a>(
     count: usize,
     rest: &'a [u8],
 ) -> Result<(Mark, &'a [u8]), Refusal>
-    ensures gives { Answers (λ m. (builder.new, m.0, m.1.now)) result (pad_in mark builder.old count rest.now) }
+    ensures gives { Answers (λ m. (builder.new, m.0, m.1.now)) result
+        (pad_in mark builder.old count rest.now) }
     ensures levels { builder.new.levels ≡ builder.old.levels }
 {
     builder.pad(count)?;
@@ -82,7 +84,8 @@ pub fn add_body<'a>(
     rest: &'a [u8],
 ) -> Result<(Mark, &'a [u8]), Refusal>
     requires { IsBody builder.old.levels body }
-    ensures gives { Gives (λ m. (builder.new, m.0, m.1.now)) result (body_in mark builder.old body rest.now) }
+    ensures gives { Gives (λ m. (builder.new, m.0, m.1.now)) result
+        (body_in mark builder.old body rest.now) }
     ensures levels { builder.new.levels ≡ builder.old.levels }
 {
     let (name, rest) = named(alloc, builder.len(), rest)?;

@@ -77,7 +77,8 @@ fn text_member(digits: &[u8]) -> Result<Member, Refusal>
 
 /// A record has no count.
 fn opened(digits: &[u8]) -> Result<Member, Refusal>
-    ensures { result ≡ (if is_empty digits.now then Ok Member.Opened else Err Refusal.DescriptorLeftOut) }
+    ensures { result
+        ≡ (if is_empty digits.now then Ok Member.Opened else Err Refusal.DescriptorLeftOut) }
 {
     if digits.is_empty() {
         return Ok(Member::Opened);

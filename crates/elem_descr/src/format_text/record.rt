@@ -67,7 +67,8 @@ fn field_at<'a>(
     builder: &mut RecordBuilder,
     text: &'a [u8],
 ) -> Result<(Mark, &'a [u8]), Refusal>
-    ensures gives { Gives (λ m. (builder.new, m.0, m.1.now)) result (next_field (record_within builder.old.levels) mark builder.old text.now) }
+    ensures gives { Gives (λ m. (builder.new, m.0, m.1.now)) result
+        (next_field (record_within builder.old.levels) mark builder.old text.now) }
     ensures levels { builder.new.levels ≡ builder.old.levels }
 {
     match member_at(mark, text) {

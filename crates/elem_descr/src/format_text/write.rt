@@ -100,7 +100,8 @@ fn push_name(text: &mut Vec<u8>, name: &[u8]) -> Result<(), AllocError>
 /// The fields, and the padding before each and after the last.
 #[cycle(written)]
 fn push_fields(text: &mut Vec<u8>, whole: &Record) -> Result<(), AllocError>
-    ensures spelled { OnOk result (text.new.items ≡ text.old.items ++ written_fields 0 whole.now.fields whole.now.size) }
+    ensures spelled { OnOk result (text.new.items ≡ text.old.items
+        ++ written_fields 0 whole.now.fields whole.now.size) }
     ensures legal { IsLegal whole.now }
 {
     let size = whole.size();

@@ -47,7 +47,8 @@ fn combine(
     operation: Operation,
     bytes: &[u8],
 ) -> Result<(Computation, &[u8]), Refusal>
-    ensures { Reads (λ r. (r.0, r.1.now)) (λ r. computation_room r.0) result (combine_at operation bytes.now) }
+    ensures { Reads (λ r. (r.0, r.1.now)) (λ r. computation_room r.0) result
+        (combine_at operation bytes.now) }
 {
     let (left, rest) = operand(alloc, bytes)?;
     let (right, rest) = argument(alloc, rest)?;
@@ -62,7 +63,8 @@ fn combine(
 /// An operand, after `neg` or `not`.
 #[tactic(auto, unfolding(crate::specs::Commands::transform_at), using(crate::proofs::Commands::transform_room))]
 fn transform(alloc: Global, operation: UnOp, bytes: &[u8]) -> Result<(Computation, &[u8]), Refusal>
-    ensures { Reads (λ r. (r.0, r.1.now)) (λ r. computation_room r.0) result (transform_at operation bytes.now) }
+    ensures { Reads (λ r. (r.0, r.1.now)) (λ r. computation_room r.0) result
+        (transform_at operation bytes.now) }
 {
     let (operand, rest) = operand(alloc, bytes)?;
     Ok((Computation::Transform { operation, operand }, rest))
@@ -90,7 +92,8 @@ fn computation(
     verb: ComputeVerb,
     bytes: &[u8],
 ) -> Result<(Computation, &[u8]), Refusal>
-    ensures { Reads (λ r. (r.0, r.1.now)) (λ r. computation_room r.0) result (computation_at verb bytes.now) }
+    ensures { Reads (λ r. (r.0, r.1.now)) (λ r. computation_room r.0) result
+        (computation_at verb bytes.now) }
 {
     match verb {
         ComputeVerb::Duplicate => copy(alloc, bytes).ok_or(Refusal::Syntax),

@@ -11,8 +11,7 @@ use crate::grammar::names::name;
 use crate::grammar::numbers::{integer, optional_integer};
 use crate::grammar::tokens::{byte, bytes_mark, keyword, symbol, unspaced};
 use crate::index::{Index, ellipses};
-use elem_descr::{IndexItem, Name};
-use elem_descr::Refusal;
+use elem_descr::{IndexItem, Name, Refusal};
 use std::alloc::Global;
 
 /// The step after the second colon, if there is one, and what follows it.
@@ -70,7 +69,8 @@ fn item(alloc: Global, bytes: &[u8]) -> Option<(IndexItem<Name>, &[u8])>
 
 /// Items separated by commas, up to the closing bracket, and what follows it.
 fn items(alloc: Global, bytes: &[u8]) -> Result<(Index, &[u8]), Refusal>
-    ensures { Reads (λ r. (r.0, r.1.now)) (λ r. index_room r.0) result (by_rule (one_or_more index_item_at 93) bytes.now) }
+    ensures { Reads (λ r. (r.0, r.1.now)) (λ r. index_room r.0) result
+        (by_rule (one_or_more index_item_at 93) bytes.now) }
 {
     let mut index = Index::new(alloc);
     let mut rest = bytes;
@@ -114,7 +114,8 @@ pub fn bracket(alloc: Global, bytes: &[u8]) -> Result<(Index, &[u8]), Refusal>
 /// follows.
 #[tactic(auto, unfolding(crate::specs::Indexes::optional_index_at), using(crate::proofs::Rooms::optional_index_list_room))]
 pub fn optional_index(alloc: Global, bytes: &[u8]) -> Result<(Option<Index>, &[u8]), Refusal>
-    ensures { Reads (λ r. (r.0, r.1.now)) (λ r. optional_index_room r.0) result (optional_index_at bytes.now) }
+    ensures { Reads (λ r. (r.0, r.1.now)) (λ r. optional_index_room r.0) result
+        (optional_index_at bytes.now) }
 {
     let Some(inside) = byte(b'[', bytes) else {
         return Ok((None, bytes));
@@ -131,7 +132,8 @@ fn operand_named<'a>(
     bytes: &'a [u8],
 ) -> Result<(Operand, &'a [u8]), Refusal>
     requires { length name.now ≤ 32 }
-    ensures { Reads (λ r. (r.0, r.1.now)) (λ r. operand_room r.0) result (operand_named (name.now, bytes.now)) }
+    ensures { Reads (λ r. (r.0, r.1.now)) (λ r. operand_room r.0) result
+        (operand_named (name.now, bytes.now)) }
 {
     let (index, rest) = optional_index(alloc, bytes)?;
     let name = Name::from_slice(alloc, name);

@@ -13,7 +13,8 @@ use std::alloc::Global;
 
 /// Lengths separated by commas, up to the closing parenthesis, and what follows it.
 fn lengths(alloc: Global, bytes: &[u8]) -> Result<(Lengths, &[u8]), Refusal>
-    ensures { Reads (λ r. (r.0, r.1.now)) (λ _. true) result (by_rule (none_or_more length_at 41) bytes.now) }
+    ensures { Reads (λ r. (r.0, r.1.now)) (λ _. true) result
+        (by_rule (none_or_more length_at 41) bytes.now) }
 {
     let mut lengths = Lengths::new(alloc);
     let mut rest = bytes;
@@ -37,7 +38,8 @@ fn lengths(alloc: Global, bytes: &[u8]) -> Result<(Lengths, &[u8]), Refusal>
 
 /// Integers separated by commas, up to the closing parenthesis, and what follows it.
 fn integers(alloc: Global, bytes: &[u8]) -> Result<(Integers, &[u8]), Refusal>
-    ensures { Reads (λ r. (r.0, r.1.now)) (λ _. true) result (by_rule (none_or_more integer_at 41) bytes.now) }
+    ensures { Reads (λ r. (r.0, r.1.now)) (λ _. true) result
+        (by_rule (none_or_more integer_at 41) bytes.now) }
 {
     let mut integers = Integers::new(alloc);
     let mut rest = bytes;

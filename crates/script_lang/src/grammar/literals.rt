@@ -75,7 +75,8 @@ fn text_byte(bytes: &[u8]) -> Option<(u8, &[u8])>
 
 /// The bytes up to the apostrophe, and what follows it.
 fn byte_row(alloc: Global, bytes: &[u8]) -> Result<(ByteText, &[u8]), Refusal>
-    ensures { Reads (λ r. (r.0, r.1.now)) (λ _. true) result (by_rule (row text_byte_at (byte_at 39)) bytes.now) }
+    ensures { Reads (λ r. (r.0, r.1.now)) (λ _. true) result
+        (by_rule (row text_byte_at (byte_at 39)) bytes.now) }
 {
     let mut text = ByteText::new(alloc);
     let mut rest = bytes;
@@ -132,7 +133,8 @@ fn scalar(alloc: Global, bytes: &[u8]) -> Result<(ScalarLiteral, &[u8]), Refusal
 /// follows it.
 #[cycle(nesting)]
 fn values(alloc: Global, depth: usize, bytes: &[u8]) -> Result<(RecordLiteral, &[u8]), Refusal>
-    ensures { Reads (λ r. (literals_of r.0, r.1.now)) (λ _. true) result (by_rule (none_or_more (literal_within depth) 41) bytes.now) }
+    ensures { Reads (λ r. (literals_of r.0, r.1.now)) (λ _. true) result
+        (by_rule (none_or_more (literal_within depth) 41) bytes.now) }
 {
     let mut values = RecordLiteral::new(alloc);
     let mut rest = bytes;
@@ -156,7 +158,8 @@ fn values(alloc: Global, depth: usize, bytes: &[u8]) -> Result<(RecordLiteral, &
 #[tactic(auto, unfolding(crate::specs::Literals::record_at), using(crate::proofs::Rooms::record_room))]
 #[cycle(nesting)]
 fn record(alloc: Global, depth: usize, bytes: &[u8]) -> Result<(Literal, &[u8]), Refusal>
-    ensures { Reads (λ r. (r.0, r.1.now)) (λ r. literal_room r.0) result (record_at (literal_within depth) bytes.now) }
+    ensures { Reads (λ r. (r.0, r.1.now)) (λ r. literal_room r.0) result
+        (record_at (literal_within depth) bytes.now) }
 {
     let (values, rest) = values(alloc, depth, bytes)?;
     if values.is_empty() {
@@ -169,7 +172,8 @@ fn record(alloc: Global, depth: usize, bytes: &[u8]) -> Result<(Literal, &[u8]),
 #[tactic(auto, unfolding(crate::specs::Literals::literal_within), using(crate::proofs::Rooms::scalar_literal_room))]
 #[cycle(nesting)]
 fn literal_within(alloc: Global, depth: usize, bytes: &[u8]) -> Result<(Literal, &[u8]), Refusal>
-    ensures { Reads (λ r. (r.0, r.1.now)) (λ r. literal_room r.0) result (literal_within depth bytes.now) }
+    ensures { Reads (λ r. (r.0, r.1.now)) (λ r. literal_room r.0) result
+        (literal_within depth bytes.now) }
 {
     let bytes = unspaced(bytes);
     if depth > 0
@@ -191,7 +195,8 @@ pub fn literal(alloc: Global, bytes: &[u8]) -> Result<(Literal, &[u8]), Refusal>
 
 /// The literals up to the end of the line, and the blanks that are left there.
 pub fn literals(alloc: Global, bytes: &[u8]) -> Result<(Literals, &[u8]), Refusal>
-    ensures { Reads (λ r. (r.0, r.1.now)) (λ _. true) result (by_rule (row literal_at line_end_at) bytes.now) }
+    ensures { Reads (λ r. (r.0, r.1.now)) (λ _. true) result
+        (by_rule (row literal_at line_end_at) bytes.now) }
 {
     let mut literals = Literals::new(alloc);
     let mut rest = bytes;

@@ -5,8 +5,8 @@ ghost use Rattle.script_lang.specs.Reading.{Scans};
 
 use crate::command::Question;
 use crate::grammar::names::{name, owned_name};
-use elem_descr::Name;
 use crate::verb::AskVerb;
+use elem_descr::Name;
 use std::alloc::Global;
 
 /// `X Y`, after `shares`.

@@ -35,7 +35,8 @@ pub fn set(alloc: Global, bytes: &[u8]) -> Result<(Command, &[u8]), Refusal>
 /// `X[ix] OP Z`, after `upd`.
 #[tactic(auto, unfolding(crate::specs::Commands::update_at), using(crate::proofs::Commands::update_index_room, crate::proofs::Commands::update_value_room))]
 pub fn update(alloc: Global, bytes: &[u8]) -> Result<(Command, &[u8]), Refusal>
-    ensures { Reads (λ r. (r.0, r.1.now)) (λ r. parts_take_memory r.0) result (update_at bytes.now) }
+    ensures { Reads (λ r. (r.0, r.1.now)) (λ r. parts_take_memory r.0) result
+        (update_at bytes.now) }
 {
     let (name, rest) = name(bytes).ok_or(Refusal::Syntax)?;
     let (index, rest) = match bracket(alloc, rest) {

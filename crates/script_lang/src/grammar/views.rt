@@ -31,7 +31,8 @@ pub fn plain_view<'a>(
     word: &[u8],
     bytes: &'a [u8],
 ) -> Result<(Value, &'a [u8]), Refusal>
-    ensures { Reads (λ r. (r.0, r.1.now)) (λ r. value_room r.0) result (plain_view_at (word.now, bytes.now)) }
+    ensures { Reads (λ r. (r.0, r.1.now)) (λ r. value_room r.0) result
+        (plain_view_at (word.now, bytes.now)) }
 {
     if !names_unless_verb(word) {
         return Err(Refusal::Syntax);
@@ -86,7 +87,8 @@ fn broadcast(alloc: Global, bytes: &[u8]) -> Result<(Viewing, &[u8]), Refusal>
 
 /// How the items are viewed, after the name.
 fn viewing(alloc: Global, verb: ViewVerb, bytes: &[u8]) -> Result<(Viewing, &[u8]), Refusal>
-    ensures { Reads (λ r. (r.0, r.1.now)) (λ r. viewing_room r.0) result (viewing_at verb bytes.now) }
+    ensures { Reads (λ r. (r.0, r.1.now)) (λ r. viewing_room r.0) result
+        (viewing_at verb bytes.now) }
 {
     match verb {
         ViewVerb::Field => field(alloc, bytes),
