@@ -43,7 +43,7 @@ fn share(rt: &impl Abort, alloc: Global, a: &View, b: &View, wanted: (bool, bool
     check(rt, (may, shares) == wanted, "bytes in common");
 }
 
-/// The same of a view and another, and of the other and the view.
+/// `share` of two views, and of the second and the first.
 fn share_both(rt: &impl Abort, alloc: Global, first: Axis, second: Axis, wanted: (bool, bool)) {
     let a = view_of(rt, alloc, first);
     let b = view_of(rt, alloc, second);

@@ -145,7 +145,7 @@ runs-within {X} len width run_of xs begin ends = All-from_recursion (λ x. EachW
           each xs (All-tail begins x xs begin) (All-back ends-in (run_offsets (run_of x)) rest ends),
         )
 
--- the same of what is walked over
+-- so are the runs of a walk that gives these
 pub walked-within : {X : Type 0} (len width : ℕ) (run_of : X → Run) (walked xs : List X) (offsets : List ℕ) → walked ≡ xs → BeginWithin run_of xs →
     flat_map (λ x. run_offsets (run_of x)) xs ≡ offsets → All (λ offset. offset + width ≤ len) offsets → AreWithin len width run_of walked
 walked-within {X} len width run_of walked xs offsets are begin is ends =

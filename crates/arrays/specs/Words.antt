@@ -5,8 +5,6 @@ pub use Rattle.elem_descr.specs.StepLaws.{numbers-split}
 pub use Rattle.elem_descr.specs.Steps.{numbers_from}
 pub use Rattle.elem_descr.specs.Values.{LeafValue}
 pub use Rattle.elem_descr.specs.declared.descr.Descr.{Descr}
-pub use Rattle.elem_descr.specs.declared.memory_order.MemoryOrder.{MemoryOrder}
-pub use Rattle.elem_descr.specs.declared.memory_order.MemoryOrder.TheVariants.{C, Fortran}
 pub use Rattle.elem_descr.specs.declared.refusal.Refusal.TheVariants.{OutOfMemory, TooLarge}
 pub use Rattle.raw_block.specs.Bytes.{EachWithin, GridWithin, copied, grid_item, grid_items}
 pub use Rattle.raw_block.specs.Bytes.{item_at, joined, place, position, put}
@@ -31,5 +29,7 @@ pub use Rattle.shape_strides.specs.WalkLaws.{length-first, length-run_offsets}
 pub use Rattle.shape_strides.specs.declared.joined.StridedAxis.{StridedAxis}
 pub use Rattle.shape_strides.specs.declared.layout.Layout.{Layout}
 pub use Rattle.shape_strides.specs.declared.layout_pair.LayoutPair.{LayoutPair}
+pub use Rattle.elem_descr.specs.declared.memory_order.MemoryOrder.{MemoryOrder}
+pub use Rattle.elem_descr.specs.declared.memory_order.MemoryOrder.TheVariants.{C, Fortran}
 pub use Rattle.shape_strides.specs.declared.run_pairs.RunPair.{RunPair}
 pub use Rattle.shape_strides.specs.declared.runs.Run.{Run}

@@ -76,7 +76,7 @@ fn stretch(bytes: &[u8], at: usize, len: usize) -> &[u8]
     &bytes[at..at + len]
 }
 
-/// The same as `gather` of items that lie one right after another.
+/// `gather` of items that lie one right after another: they are copied as one stretch.
 fn gather_whole(
     alloc: Global,
     block: &RawBlock,
@@ -97,7 +97,7 @@ fn gather_whole(
     RawBlock::try_copied(alloc, whole)
 }
 
-/// The same run by run, or by columns.
+/// `gather` of items that lie otherwise: run by run, or by columns.
 fn gather_each(
     alloc: Global,
     block: &RawBlock,

@@ -55,7 +55,7 @@ fn push_grids<const N: usize>(items: &mut BlockBuilder, layout: &Layout, block: 
     }
 }
 
-/// The same for items of any width: those of unusual ones, and long rows, go run by run.
+/// Appends the items of a layout, of any width: those of unusual widths, and long rows, go run by run.
 pub(crate) fn push_layout(items: &mut BlockBuilder, layout: &Layout, block: &RawBlock, width: usize)
     requires inside { All (λ offset. offset + width ≤ length block.now) (offsets layout.now) }
     requires room { length (offsets layout.now) * width ≤ items.old.1 }

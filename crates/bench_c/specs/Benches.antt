@@ -41,7 +41,7 @@ pub record CopiesOut (bytes old new : List ℕ) (len : ℕ) (status : Status) : 
   pub whole : length bytes ≤ length old → (status ≡ Done) × (new ≡ bytes ++ drop (length bytes) old)
   pub short : length old < length bytes → (status ≡ NoRoom) × (new ≡ old)
 
--- the same of bytes that may not be there
+-- Bytes are copied as above if there are any; if not, their number is 0.
 abbrev pub CopiesOutIfAny : Option (List ℕ) → List ℕ → List ℕ → ℕ → Status → Type 0
 CopiesOutIfAny (Some bytes) old new len status = CopiesOut bytes old new len status
 CopiesOutIfAny None old new len status = (status ≡ NoFile) × (new ≡ old) × (len ≡ 0)

@@ -18,7 +18,7 @@ pub fn copy_out(bytes: &[u8], out: &mut [u8], len: &mut usize) -> Status
     Status::Done
 }
 
-/// The same of bytes that may not be there.
+/// Copies bytes to where there is room for them, if there are any, and sets their number, else 0.
 pub fn copy_if_any(bytes: Option<&[u8]>, out: &mut [u8], len: &mut usize) -> Status
     ensures { CopiesOutIfAny (option_map (λ b. b.now) bytes.entry) out.old out.new len.new result }
 {

@@ -17,7 +17,7 @@ go_together m n = (m == n) || (m == 1) || (n == 1)
 abbrev pub common_length : ℕ → ℕ → ℕ
 common_length m n = if m == 1 then n else m
 
--- the same for each axis
+-- the lengths of two shapes go together axis by axis
 abbrev pub all_go_together : List ℕ → List ℕ → Bool
 all_go_together (m ∷ left) (n ∷ right) = go_together m n && all_go_together left right
 all_go_together _ _ = true

@@ -35,7 +35,7 @@ pub fn in_pieces(script: &[u8], most: usize) -> Pieces<'_> {
     }
 }
 
-/// The same, but the read after so many fails.
+/// The script in pieces of at most `most` bytes; after so many reads, the next one fails.
 pub fn failing(script: &[u8], most: usize, reads: usize) -> Pieces<'_> {
     Pieces {
         rest: script,

@@ -30,7 +30,7 @@ fn assign_in_order(block: &mut RawBlock, dst: &Layout, other: &RawBlock, src: &L
     }
 }
 
-/// The same where one of them is more than one run.
+/// `assign_in_order` where one of the layouts is more than one run.
 fn assign_pairs(block: &mut RawBlock, dst: &Layout, other: &RawBlock, src: &Layout, width: usize)
     requires dst { All (λ offset. offset + width ≤ length block.old) (offsets dst.now) }
     requires src { All (λ offset. offset + width ≤ length other.now) (offsets src.now) }
@@ -42,8 +42,8 @@ fn assign_pairs(block: &mut RawBlock, dst: &Layout, other: &RawBlock, src: &Layo
     copy_pairs(block, RunPairs::new(dst, src), other, width);
 }
 
-/// The same pairs of items in the order of the target's in memory, where that is another order, and
-/// the target's places are apart, so that it does not matter.
+/// The pairs of items of two layouts in the order in which the target's lie in memory, where that is not
+/// C order, and the target's places are apart, so that the order does not matter.
 pub fn in_any_order(alloc: Global, dst: &Layout, src: &Layout, width: usize) -> Option<LayoutPair>
     ensures pairs { IfSome result
         (λ pair. IsPermutation (item_pairs dst.now src.now) (item_pairs pair.target pair.source)) }
@@ -84,8 +84,8 @@ pub fn assign_from(
     }
 }
 
-/// The same within one block, where no item of one layout has a byte in common with one of the
-/// other.
+/// Copies the items of `src` to those of `dst` within one block, where no item of one layout has a byte
+/// in common with one of the other.
 fn assign_apart(block: &mut RawBlock, dst: &Layout, src: &Layout, width: usize)
     requires dst { Fits dst.now (length block.old) width }
     requires src { Fits src.now (length block.old) width }
@@ -99,8 +99,8 @@ fn assign_apart(block: &mut RawBlock, dst: &Layout, src: &Layout, width: usize)
     move_pairs(block, RunPairs::new(dst, src), width);
 }
 
-/// The same within one block, where both layouts are runs, either of the same step or each the
-/// other from its last item to its first. The answer is whether they are.
+/// Copies the items of `src` to those of `dst` within one block, if both layouts are runs, either of the
+/// same step or each the other from its last item to its first. Returns whether they are.
 fn assign_runs(block: &mut RawBlock, dst: &Layout, src: &Layout, width: usize) -> bool
     requires dst { Fits dst.now (length block.old) width }
     requires src { Fits src.now (length block.old) width }

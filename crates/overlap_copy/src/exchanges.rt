@@ -30,7 +30,7 @@ fn trade_run(block: &mut RawBlock, to: Run, other: &mut RawBlock, from: Run, wid
     );
 }
 
-/// The same pair by pair, the first run of each with the second one, of `other`.
+/// Exchanges the items of the first run of each pair with those of its second run, of `other`.
 fn trade_pairs(block: &mut RawBlock, pairs: RunPairs<'_>, other: &mut RawBlock, width: usize)
     requires counts { All (λ pair. pair.first.count ≡ pair.second.count) pairs }
     requires to { All (λ pair.

@@ -14,7 +14,7 @@ fn opposite(step: isize) -> isize
     -step
 }
 
-/// The same items from the last to the first.
+/// The items of a run from the last to the first.
 pub(crate) fn turned(run: Run) -> Run
     requires { IsLine max_bytes 1 run }
     ensures { IsTurned run result }

@@ -13,10 +13,6 @@ pub use Rattle.elem_descr.specs.StepLaws.{numbers-split, numbers-suc}
 pub use Rattle.elem_descr.specs.Steps.{numbers_from}
 pub use Rattle.elem_descr.specs.Values.{LeafValue, number}
 pub use Rattle.elem_descr.specs.declared.descr.Descr.{Descr}
-pub use Rattle.elem_descr.specs.declared.memory_order.MemoryOrder.TheVariants.{C}
-pub use Rattle.elem_descr.specs.declared.operators.Red.{Red}
-pub use Rattle.elem_descr.specs.declared.operators.Red.TheVariants.{All, Any, ArgMax, ArgMin}
-pub use Rattle.elem_descr.specs.declared.operators.Red.TheVariants.{Maximum, Minimum, Product, Sum}
 pub use Rattle.elem_descr.specs.declared.refusal.Refusal.{Refusal}
 pub use Rattle.elem_descr.specs.declared.refusal.Refusal.TheVariants.{BadAxis, EmptyReduction}
 pub use Rattle.elem_descr.specs.declared.refusal.Refusal.TheVariants.{NotForThisKind, OutOfMemory}
@@ -47,10 +43,15 @@ unfoldable pub use Rattle.shape_strides.specs.Shapes.{shape_of}
 pub use Rattle.shape_strides.specs.WalkLaws.{length-first, length-run_offsets}
 pub use Rattle.shape_strides.specs.declared.joined.StridedAxis.{StridedAxis}
 pub use Rattle.shape_strides.specs.declared.layout.Layout.{Layout}
+pub use Rattle.elem_descr.specs.declared.memory_order.MemoryOrder.TheVariants.{C}
 pub use Rattle.shape_strides.specs.declared.runs.Run.{Run}
 pub use Rattle.machine_numbers.specs.Bits.{AreBits}
 pub use Rattle.machine_numbers.specs.Kinds.{is_bool, little}
 pub use Rattle.machine_numbers.specs.Sides.{number_of_side}
+pub use Rattle.elem_descr.specs.declared.operators.Red.{Red}
+pub use Rattle.elem_descr.specs.declared.operators.Red.TheVariants.{All, Any, ArgMax, ArgMin}
+pub use Rattle.elem_descr.specs.declared.operators.Red.TheVariants.{Maximum, Minimum, Product}
+pub use Rattle.elem_descr.specs.declared.operators.Red.TheVariants.{Sum}
 pub use Rattle.machine_numbers.specs.declared.sides.Side.{Side}
 pub use Rattle.view_ops.specs.Slices.{from_front, is_place}
 pub use Rattle.arrays.specs.Blocks.{offsets_in}

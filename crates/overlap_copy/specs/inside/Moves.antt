@@ -27,7 +27,7 @@ place_in run k = place run.offset run.step k
 pub record AreSpaced (width : ℕ) (run : Run) : Type 0 where
   pub apart : (j k : ℕ) → j < k → k < run.count → width ≤ distance (place_in run j) (place_in run k)
 
--- the same items from the last to the first
+-- the items of a run from the last to the first
 pub record IsTurned (run back : Run) : Type 0 where
   pub offset : pos back.offset ≡ pos run.offset +ℤ run.step *ℤ pos (run.count - 1)
   pub step : back.step ≡ neg_ℤ run.step
