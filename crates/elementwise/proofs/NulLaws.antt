@@ -1,5 +1,5 @@
 -- Byte strings with NULs behind them, cut and filled up again.
-use Rattle.std.proofs.Common.{◌≡◌, ◌+◌, ◌-◌, ◌*◌, ◌<◌, ◌≤◌, inl, inr, ℕ, zero, suc, ℤ, pos, List, ◌++◌, length, take, drop, min, replicate, subst, sym, ap, ◌∙◌, arith, append_assoc, length-take, length-append}
+use Rattle.std.proofs.Common.{◌≡◌, ◌+◌, ◌-◌, ◌*◌, ◌<◌, ◌≤◌, inl, inr, ℕ, zero, suc, pos, List, ◌++◌, length, take, drop, min, replicate, subst, sym, ap, ◌∙◌, arith, append_assoc, length-take, length-append}
 use Rattle.std.proofs.lemmas.Bool.{cases_lt}
 use Rattle.std.proofs.Math.Seq.{take-append_seam}
 use Rattle.std.proofs.Math.Nat.{suc-mul}
@@ -101,12 +101,15 @@ pub all-whole : (side : Side) (n : ℕ) → side.width ≡ n → joined (item_in
 all-whole side n wide =
     joined-same (item_in side) (λ k. padded n (without_nuls (take n (without_nuls (item_in side k))))) side.run.count (λ k low. cut-whole n (item_in side k) (item-long side k low ∙ wide))
 
--- items one right after another
-pub adjacent-within : (len at : ℕ) (step : ℤ) (width n : ℕ) → 0 < n → step ≡ pos width → EachWithin len at step width n → at + n * width ≤ len
-adjacent-within len at step width zero some is within = absurd (omega (arith, some))
-adjacent-within len at step width (suc n) some is within =
-    let last = (subst (λ s. EachWithin len at s width (suc n)) is within).each n (omega arith) in
-    omega (arith, ints, last.1, suc-mul n width)
+-- items one right after another end within the bytes
+pub adjacent-within : (side : Side) → 0 < side.run.count → side.run.step ≡ pos side.width → side.run.offset + side.run.count * side.width ≤ length side.bytes.now
+adjacent-within side some is = ends side.run.count some (subst (λ step. EachWithin (length side.bytes.now) side.run.offset step side.width side.run.count) is side.within)
+  where
+    ends : (n : ℕ) → 0 < n → EachWithin (length side.bytes.now) side.run.offset (pos side.width) side.width n → side.run.offset + n * side.width ≤ length side.bytes.now
+    ends zero some within = absurd (omega (arith, some))
+    ends (suc n) some within =
+        let last = within.each n (omega arith) in
+        omega (arith, ints, last.1, suc-mul n side.width)
 
 pub adjacent-joined : (side : Side) → side.run.step ≡ pos side.width → take (side.run.offset + side.run.count * side.width - side.run.offset) (drop side.run.offset side.bytes.now) ≡ joined (item_in side) side.run.count
 adjacent-joined side is =

@@ -43,8 +43,8 @@ fn trimmed(alloc: Global, items: Items<'_>, width: BytesLen) -> Result<BytesLen,
     Ok(BytesLen::try_new(most).unwrap())
 }
 
-/// The same where the array shows more places in a shape than it has items, and is compared with byte strings
-/// of another length; else the length that it has.
+/// `trimmed`, if the array shows more places in a shape than it has items, and is compared with byte strings
+/// of another length; if not, the length that it has.
 pub(crate) fn trimmed_in(
     alloc: Global,
     items: Items<'_>,

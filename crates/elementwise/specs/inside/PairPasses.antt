@@ -38,7 +38,7 @@ said false false holds below above = not holds
 abbrev pub says_number : Comparison → ℤ → ℤ → ℤ
 says_number comparison a b = if says comparison (int_lt a b) (int_lt b a) then pos 1 else pos 0
 
--- the same of the values of two items
+-- what it says of the values of two items
 abbrev pub compared_value : Comparison → LeafValue → LeafValue → LeafValue
 compared_value comparison x y = number (says_number comparison (number_of x) (number_of y))
 

@@ -1,4 +1,4 @@
-use Rattle.std.proofs.Common.{rules, ◌≡◌, pos, length, arith}
+use Rattle.std.proofs.Common.{rules, ◌≡◌, pos, arith}
 use Rattle.elementwise.proofs.NulLaws.{adjacent-within, adjacent-joined}
 use Rattle.elementwise.proofs.text_pairs.adjacent_bytes.Goals as goal
 
@@ -6,7 +6,7 @@ pub slice_bounds-result-end : goal.slice_bounds-result-end
 slice_bounds-result-end c =
     let items = c.args.items in
     let packed : items.run.step ≡ pos items.width = search rules in
-    let ends = adjacent-within (length items.bytes.now) items.run.offset items.run.step items.width items.run.count (omega (arith, c.if-run-eq0.false)) packed items.within in
+    let ends = adjacent-within items (omega (arith, c.if-run-eq0.false)) packed in
     omega (arith, ends)
 
 pub returns : goal.returns
