@@ -56,7 +56,7 @@ bytes_compared_result left shape = do
 abbrev pub value_in : List LeafValue → LeafValue
 value_in item = get_or item 0 (number (pos 0))
 
--- the result as a number of another scalar: the operands are cast to the type of the result first
+-- that value as a number of another scalar: operands are cast to the type of the result first
 abbrev pub number_as : Scalar → List LeafValue → ℤ
 number_as scalar item = wrap scalar (number_of (value_in item))
 
