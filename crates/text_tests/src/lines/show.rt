@@ -1,6 +1,9 @@
 //! What was read, compared with the texts of the tables.
 use elem_descr::{IndexItem, MemoryOrder, Name, Refusal};
-use script_lang::{Argument, Command, Computation, Index, Integers, Lengths, Literal, NewItems, Operand, Question, ScalarLiteral, Text, Value, Viewing};
+use script_lang::{
+    Argument, Command, Computation, Index, Integers, Lengths, Literal, NewItems, Operand, Question,
+    ScalarLiteral, Text, Value, Viewing,
+};
 use std::alloc::{AllocError, Global};
 use std::fmt::Debug;
 
