@@ -70,11 +70,19 @@ impl Shape {
         if !are_within_limit(lengths) {
             return Err(Refusal::TooLarge);
         }
-        let items = capped_count(lengths);
-        if items > MAX_ITEMS {
+        if capped_count(lengths) > MAX_ITEMS {
             return Err(Refusal::TooLarge);
         }
+        Ok(Shape::from_lengths(alloc, lengths)?)
+    }
+
+    /// The shape with these lengths, which are known to be those of a shape.
+    pub fn from_lengths(alloc: Global, lengths: &[usize]) -> Result<Shape, AllocError>
+        requires { IsShape lengths.now }
+        ensures { IfOk result (λ s. s ≡ lengths.now) }
+    {
         let axes = SmallVec::from_slice(alloc, lengths)?;
+        let items = capped_count(lengths);
         Ok(Shape { axes, items })
     }
 

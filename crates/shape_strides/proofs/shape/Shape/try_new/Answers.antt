@@ -8,8 +8,8 @@ returns-then-lengths-gt-MAX_AXES c = inr (shape_of-many c.args.lengths.now (omeg
 pub returns-then-not-are_within_limit : goal.returns-then-not-are_within_limit
 returns-then-not-are_within_limit c = inr (shape_of-long c.args.lengths.now (omega arith) (sym c.if-not-are_within_limit.ensures.value))
 
-pub returns-then-items-gt-MAX_ITEMS : goal.returns-then-items-gt-MAX_ITEMS
-returns-then-items-gt-MAX_ITEMS c = inr (shape_of-large c.args.lengths.now (omega arith) (sym c.if-not-are_within_limit.ensures.value) (omega (arith, c.capped_count-items.ensures)))
+pub returns-then-capped_count-gt-MAX_ITEMS : goal.returns-then-capped_count-gt-MAX_ITEMS
+returns-then-capped_count-gt-MAX_ITEMS c = inr (shape_of-large c.args.lengths.now (omega arith) (sym c.if-not-are_within_limit.ensures.value) (omega (arith, c.capped_count.ensures)))
 
 pub returns : goal.returns
-returns c = shape_of-ok c.args.lengths.now (omega arith) (sym c.if-not-are_within_limit.ensures.value) (omega (arith, c.capped_count-items.ensures)) ∙ ap Ok (sym c.in_ok-axes.ensures.ok)
+returns c = shape_of-ok c.args.lengths.now (omega arith) (sym c.if-not-are_within_limit.ensures.value) (omega (arith, c.capped_count.ensures)) ∙ ap Ok (sym c.in_ok-from_lengths.ensures)
