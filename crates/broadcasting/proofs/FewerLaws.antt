@@ -1,13 +1,11 @@
 -- A layout without its first axes, each of which has length 1, is a view.
-use Rattle.std.proofs.Common.{◌≡◌, ◌⊎◌, inl, inr, Ok, Err, ℕ, zero, suc, ◌-◌, ◌*◌, ◌≤◌, ◌==◌, nat_le, true, ℤ, pos, ◌+ℤ◌, List, [], ◌∷◌, ◌++◌, All, length, get_or, take, drop, replicate, refl, sym, ap, subst, ◌∙◌, arith, one-mul}
+use Rattle.std.proofs.Common.{◌≡◌, ℕ, zero, suc, ◌-◌, ◌*◌, ◌≤◌, ◌==◌, true, ℤ, pos, ◌+ℤ◌, List, [], ◌∷◌, ◌++◌, length, take, drop, replicate, refl, sym, ap, subst, ◌∙◌, arith, one-mul}
 use Rattle.std.specs.List.{list_all}
-use Rattle.std.specs.Result.{is_ok}
-use Rattle.std.proofs.lemmas.Bool.{false≢true, eqb-true, and_parts, le-leb}
+use Rattle.std.proofs.lemmas.Bool.{eqb-true, and_parts}
 use Rattle.std.proofs.lemmas.List.{length-drop}
 use Rattle.std.proofs.lemmas.List.Elements.{All-drop}
-use Rattle.std.proofs.lemmas.List.Sums.{list_all-from_AllPass}
 use lib.IntN.{+ℤ_idl, *ℤ-zero}
-use Rattle.broadcasting.specs.Words.{Refusal, OutOfMemory, same_answer, slice-rest, Layout, max_axes, max_items, max_bytes, count, IsIndex, dot, LieWithin, shape_of, shape_of-ok, ShowsThrough, LieWithin-view}
+use Rattle.broadcasting.specs.Words.{Layout, max_items, max_bytes, count, IsIndex, dot, LieWithin, IsShape, slice-rest, ShowsThrough, LieWithin-view}
 
 -- ---- the axes that are left
 
@@ -18,12 +16,12 @@ count-rest (suc k) (n ∷ shape) single =
     let both = and_parts (n == 1) (list_all (λ m. m == 1) (take k shape)) single in
     count-rest k shape both.1 ∙ sym (ap (λ m. m * count shape) (eqb-true n 1 both.0) ∙ one-mul (count shape))
 
-pub all_short : (shape : List ℕ) → All (λ n. n ≤ max_items) shape → list_all (λ n. nat_le n max_items) shape ≡ true
-all_short shape short = list_all-from_AllPass (λ n. nat_le n max_items) shape (λ k d below. le-leb (get_or shape k d) max_items (short k d below))
-
-shape_of-rest : (k : ℕ) (shape : List ℕ) → list_all (λ n. n == 1) (take k shape) ≡ true → length shape ≤ max_axes → All (λ n. n ≤ max_items) shape → count shape ≤ max_items → shape_of (drop k shape) ≡ Ok (drop k shape)
-shape_of-rest k shape single few short small =
-    shape_of-ok (drop k shape) (omega (arith, length-drop k shape)) (all_short (drop k shape) (All-drop (λ n. n ≤ max_items) k shape short)) (omega (arith, count-rest k shape single))
+pub IsShape-rest : (k : ℕ) (shape : List ℕ) → list_all (λ n. n == 1) (take k shape) ≡ true → IsShape shape → IsShape (drop k shape)
+IsShape-rest k shape single is = record {
+  axes = omega (arith, length-drop k shape, is.axes);
+  lengths = All-drop (λ n. n ≤ max_items) k shape is.lengths;
+  items = omega (arith, count-rest k shape single, is.items);
+}
 
 -- ---- where an index leads
 
@@ -63,18 +61,12 @@ pub rest-lies : (old : Layout) (k : ℕ) (shape : List ℕ) (strides : List ℤ)
 rest-lies old k shape strides made =
     LieWithin-view old shape strides old.offset (λ index. replicate k 0 ++ index) max_bytes 1 (rest-shows old k shape strides made) old.within_limit
 
--- what the exits of `without_first` have to give
-pub only-memory : (k : ℕ) (shape seen : List ℕ) (e : Refusal) → seen ≡ shape → list_all (λ n. n == 1) (take k shape) ≡ true → length shape ≤ max_axes → All (λ n. n ≤ max_items) shape → count shape ≤ max_items → (e ≡ OutOfMemory) ⊎ (shape_of (take (length seen - k) (drop k seen)) ≡ Err e) → e ≡ OutOfMemory
-only-memory k shape seen e is single few short small (inl memory) = memory
-only-memory k shape seen e is single few short small (inr there) =
-    absurd (false≢true (ap is_ok (sym there ∙ ap shape_of (slice-rest k seen ∙ ap (drop k) is) ∙ shape_of-rest k shape single few short small)))
-
-pub rest-made : (old : Layout) (k : ℕ) (seen shape : List ℕ) (seen-strides strides : List ℤ) → k ≤ length old.shape → list_all (λ n. n == 1) (take k old.shape) ≡ true → seen ≡ old.shape → length old.shape ≤ max_axes → All (λ n. n ≤ max_items) old.shape → count old.shape ≤ max_items → shape_of (take (length seen - k) (drop k seen)) ≡ Ok shape → seen-strides ≡ old.strides → strides ≡ take (length seen-strides - k) (drop k seen-strides) → IsRest old k shape strides
-rest-made old k seen shape seen-strides strides few single is axes short small there strides-is are = record {
+pub rest-made : {old : Layout} {k : ℕ} {seen shape : List ℕ} {steps strides : List ℤ} → k ≤ length old.shape → list_all (λ n. n == 1) (take k old.shape) ≡ true → seen ≡ old.shape → shape ≡ take (length seen - k) (drop k seen) → steps ≡ old.strides → strides ≡ take (length steps - k) (drop k steps) → IsRest old k shape strides
+rest-made {k = k} {seen = seen} {steps = steps} few single seen-is is steps-are are = record {
   few = few;
   single = single;
-  shape_is = same_answer shape (drop k old.shape) (sym there ∙ ap shape_of (slice-rest k seen ∙ ap (drop k) is) ∙ shape_of-rest k old.shape single axes short small);
-  strides_are = are ∙ slice-rest k seen-strides ∙ ap (drop k) strides-is;
+  shape_is = is ∙ slice-rest k seen ∙ ap (drop k) seen-is;
+  strides_are = are ∙ slice-rest k steps ∙ ap (drop k) steps-are;
 }
 
 pub rest-moved : (old : Layout) (k : ℕ) (shape : List ℕ) (strides : List ℤ) → IsRest old k shape strides → ShowsThrough old (drop k old.shape) strides old.offset (λ index. replicate k 0 ++ index)

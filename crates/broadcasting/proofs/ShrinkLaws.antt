@@ -1,16 +1,14 @@
 -- A layout is stretched from the one that it shrinks to.
-use Rattle.std.proofs.Common.{◌≡◌, inl, inr, Result, Ok, Err, ℕ, suc, ◌-◌, ◌<◌, ◌≤◌, ◌==◌, ◌&&◌, true, false, if◌then◌else◌, ℤ, pos, ◌+ℤ◌, ◌*ℤ◌, List, [], ◌∷◌, ◌++◌, All, IfOk, IfErr, length, get_or, drop, replicate, refl, sym, ap, subst, ◌∙◌, arith, zero-mul, ◌+◌, below_more, get_or-append-add}
-use Rattle.std.specs.Result.{is_ok}
+use Rattle.std.proofs.Common.{◌≡◌, inl, inr, ℕ, suc, ◌-◌, ◌<◌, ◌≤◌, ◌==◌, ◌&&◌, true, false, if◌then◌else◌, ℤ, pos, ◌+ℤ◌, ◌*ℤ◌, List, [], ◌∷◌, ◌++◌, All, length, get_or, drop, replicate, refl, sym, ap, subst, ◌∙◌, arith, zero-mul, ◌+◌, below_more, get_or-append-add}
 use Rattle.std.proofs.Math.Nat.{mul-le-mul}
-use Rattle.std.proofs.lemmas.Bool.{false≢true, eqb-true}
+use Rattle.std.proofs.lemmas.Bool.{eqb-true}
 use Rattle.std.proofs.lemmas.Bool.Decides.{nat_tests}
 use Rattle.std.proofs.lemmas.List.{get_or_default, get_or_append_left}
-use Rattle.broadcasting.specs.Words.{Refusal, OutOfMemory, Gives, same_answer, Layout, max_axes, max_items, max_bytes, count, IsIndex, dot, address_at, LieWithin, rank-lt, length-index, number-lt, IsIndex-from_numbers, shape_of, shape_of-ok, ShowsThrough, LieWithin-view}
+use Rattle.broadcasting.specs.Words.{Layout, max_items, max_bytes, count, IsIndex, dot, address_at, LieWithin, rank-lt, length-index, number-lt, IsIndex-from_numbers, IsShape, ShowsThrough, LieWithin-view}
 use Rattle.broadcasting.specs.Broadcasts.{stretches, all_stretch, can_stretch, within_axes, broadcast_index}
 use Rattle.broadcasting.specs.BroadcastLaws.{broadcast_index-is, IsIndex-broadcast}
 use Rattle.broadcasting.specs.Shrinking.{ShrinksTo, CanShrink, IsStretchOf}
 use Rattle.broadcasting.proofs.StretchLaws.{HasNumbers, numbers-view}
-use Rattle.broadcasting.proofs.FewerLaws.{all_short}
 
 -- ---- one axis
 
@@ -93,26 +91,15 @@ short-shrunk shape small strides can short k d below =
     let limit : get_or shape k 0 ≤ max_items = short k 0 low in
     subst (λ n. n ≤ max_items) (get_or_default small k 0 d below) (omega arith)
 
-pub shape_of-shrunk : (shape small : List ℕ) (strides : List ℤ) → length strides ≡ length shape → CanShrink shape strides small → length shape ≤ max_axes → All (λ n. n ≤ max_items) shape → count shape ≤ max_items → shape_of small ≡ Ok small
-shape_of-shrunk shape small strides same can few short items =
-    shape_of-ok small (omega (arith, can.axes)) (all_short small (short-shrunk shape small strides can short)) (omega (arith, count-shrunk shape small strides same can))
+pub IsShape-shrunk : (shape small : List ℕ) (strides : List ℤ) → length strides ≡ length shape → CanShrink shape strides small → IsShape shape → IsShape small
+IsShape-shrunk shape small strides same can is = record {
+  axes = omega (arith, can.axes, is.axes);
+  lengths = short-shrunk shape small strides can is.lengths;
+  items = omega (arith, count-shrunk shape small strides same can, is.items);
+}
 
 pub moved : (shape shape' : List ℕ) (strides strides' : List ℤ) (small : List ℕ) → shape ≡ shape' → strides ≡ strides' → CanShrink shape strides small → CanShrink shape' strides' small
 moved shape shape' strides strides' small is are can = subst (λ x. CanShrink x strides' small) is (subst (λ x. CanShrink shape x small) are can)
-
--- what the exits of `shrunk_shape` have to give
-module _ (layout : Layout) (small seen : List ℕ) (can : CanShrink layout.shape layout.strides small) (is : seen ≡ small) (few : length layout.shape ≤ max_axes) (short : All (λ n. n ≤ max_items) layout.shape) (items : count layout.shape ≤ max_items) where
-  shape-ok : shape_of seen ≡ Ok small
-  shape-ok = ap shape_of is ∙ shape_of-shrunk layout.shape small layout.strides layout.one_stride_an_axis can few short items
-
-  pub shrunk-made : (shape : List ℕ) (strides : List ℤ) (result : Result (List ℕ) Refusal) → CanShrink shape strides small → Gives (λ s. s) result (shape_of seen) → IfOk result (λ s. CanShrink shape strides s)
-  shrunk-made shape strides (Ok made) so gives = subst (CanShrink shape strides) (sym (same_answer made small (sym gives ∙ shape-ok))) so
-  shrunk-made shape strides (Err e) so gives = tt
-
-  pub shrunk-refused : (result : Result (List ℕ) Refusal) → Gives (λ s. s) result (shape_of seen) → IfErr result (λ refusal. refusal ≡ OutOfMemory)
-  shrunk-refused (Ok made) gives = tt
-  shrunk-refused (Err e) (inl memory) = memory
-  shrunk-refused (Err e) (inr there) = absurd (false≢true (ap is_ok (sym there ∙ shape-ok)))
 
 -- ---- its layout
 

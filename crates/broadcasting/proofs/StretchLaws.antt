@@ -1,12 +1,12 @@
 -- A stretched layout is a view.
-use Rattle.std.proofs.Common.{◌≡◌, Option, Some, Ok, Err, ℕ, zero, suc, ◌-◌, ◌<◌, ◌==◌, Bool, true, false, if◌then◌else◌, ℤ, pos, ◌+ℤ◌, ◌*ℤ◌, List, [], ◌∷◌, ◌++◌, length, drop, replicate, refl, sym, ap, subst, ◌∙◌, arith, zero-mul, length-append}
+use Rattle.std.proofs.Common.{◌≡◌, Option, Some, Err, ℕ, zero, suc, ◌-◌, ◌<◌, ◌==◌, Bool, true, false, if◌then◌else◌, ℤ, pos, ◌+ℤ◌, ◌*ℤ◌, List, [], ◌∷◌, ◌++◌, length, drop, replicate, refl, sym, ap, subst, ◌∙◌, arith, zero-mul, length-append}
 use Rattle.std.specs.Option.{IfSome}
 use Rattle.std.proofs.lemmas.List.{length-replicate}
 use lib.IntN.{+ℤ_idl, *ℤ-zero}
-use Rattle.broadcasting.specs.Words.{ShapesDoNotBroadcast, Layout, max_bytes, count, IsIndex, dot, address_at, LieWithin, offsets, rank-lt, dot-nil, view_through, IsViewOf, GivesView, ShowsThrough, IsView, LieWithin-view, inside-view, offsets-view}
+use Rattle.broadcasting.specs.Words.{ShapesDoNotBroadcast, Layout, max_bytes, count, IsIndex, dot, address_at, LieWithin, offsets, rank-lt, dot-nil, view_through, IsViewOf, ShowsThrough, IsView, LieWithin-view, inside-view, offsets-view}
 use Rattle.broadcasting.specs.Broadcasts.{can_stretch, within_axes, broadcast_index, stretched}
-use Rattle.broadcasting.specs.inside.Stretches.{kept_strides}
-use Rattle.broadcasting.specs.BroadcastLaws.{broadcast_index-is, IsIndex-broadcast, stretched-ok}
+use Rattle.broadcasting.specs.inside.Stretches.{kept_strides, AreStretched}
+use Rattle.broadcasting.specs.BroadcastLaws.{broadcast_index-is, IsIndex-broadcast}
 use Rattle.broadcasting.specs.FitLaws.{few-axes}
 
 -- ---- addresses
@@ -31,17 +31,12 @@ dot-behind (suc more) strides (k ∷ index) =
 
 -- ---- the view
 
--- how the new strides were made
-pub record IsStretched (old : Layout) (target : List ℕ) (strides : List ℤ) : Type 0 where
-  pub can : can_stretch old.shape target ≡ true
-  pub strides_are : strides ≡ replicate (length target - length old.shape) (pos 0) ++ kept_strides old.shape old.strides
-
-stretched-dot : (old : Layout) (target : List ℕ) (strides : List ℤ) (index : List ℕ) → IsStretched old target strides → IsIndex target index → dot strides index ≡ dot old.strides (broadcast_index old.shape index)
+stretched-dot : (old : Layout) (target : List ℕ) (strides : List ℤ) (index : List ℕ) → AreStretched old target strides → IsIndex target index → dot strides index ≡ dot old.strides (broadcast_index old.shape index)
 stretched-dot old target strides index made in' =
     let more = length target - length old.shape in
     ap (λ s. dot s index) made.strides_are ∙ dot-behind more (kept_strides old.shape old.strides) index ∙ dot-kept old.shape old.strides (drop more index) old.one_stride_an_axis ∙ sym (ap (dot old.strides) (broadcast_index-is old.shape target index in'))
 
-pub stretched-shows : (old : Layout) (target : List ℕ) (strides : List ℤ) → IsStretched old target strides → ShowsThrough old target strides old.offset (broadcast_index old.shape)
+pub stretched-shows : (old : Layout) (target : List ℕ) (strides : List ℤ) → AreStretched old target strides → ShowsThrough old target strides old.offset (broadcast_index old.shape)
 stretched-shows old target strides made = record {
   leads = λ index in'. IsIndex-broadcast old.shape target index made.can in';
   same = λ index in'. ap (λ z. pos old.offset +ℤ z) (stretched-dot old target strides index made in');
@@ -53,13 +48,13 @@ length-kept [] (s ∷ strides) same = absurd (omega arith)
 length-kept (n ∷ shape) [] same = absurd (omega arith)
 length-kept (n ∷ shape) (s ∷ strides) same = ap suc (length-kept shape strides (omega arith))
 
-pub stretched-length : (old : Layout) (target : List ℕ) (strides : List ℤ) → IsStretched old target strides → length strides ≡ length target
+pub stretched-length : (old : Layout) (target : List ℕ) (strides : List ℤ) → AreStretched old target strides → length strides ≡ length target
 stretched-length old target strides made =
     let more = length target - length old.shape in
     let kept = kept_strides old.shape old.strides in
     omega (arith, ap length made.strides_are, length-append (replicate more (pos 0)) kept, length-replicate {A = ℤ} more (pos 0), length-kept old.shape old.strides old.one_stride_an_axis, few-axes old.shape target made.can)
 
-pub stretched-lies : (old : Layout) (target : List ℕ) (strides : List ℤ) → IsStretched old target strides → LieWithin target strides old.offset max_bytes 1
+pub stretched-lies : (old : Layout) (target : List ℕ) (strides : List ℤ) → AreStretched old target strides → LieWithin target strides old.offset max_bytes 1
 stretched-lies old target strides made =
     LieWithin-view old target strides old.offset (broadcast_index old.shape) max_bytes 1 (stretched-shows old target strides made) old.within_limit
 
@@ -90,13 +85,7 @@ numbers-view old new shape strides offset m shows has =
       fits = λ len item fits. LieWithin-view old new.shape new.strides new.offset m len item view fits;
     }
 
--- what the exits of `stretch` have to give
-pub made_stretched : (old : Layout) (lengths target seen-target : List ℕ) (seen strides : List ℤ) (can : Bool) (more : ℕ) → lengths ≡ old.shape → seen-target ≡ target → can ≡ can_stretch lengths seen-target → can ≡ true → more ≡ length target - length lengths → seen ≡ old.strides → strides ≡ replicate more (pos 0) ++ kept_strides lengths seen → IsStretched old target strides
-made_stretched old lengths target seen-target seen strides can more is target-is tested good more-is seen-is are = record {
-  can = ap (λ s. can_stretch s target) (sym is) ∙ ap (can_stretch lengths) (sym target-is) ∙ sym tested ∙ good;
-  strides_are = are ∙ ap (λ m. replicate m (pos 0) ++ kept_strides lengths seen) more-is ∙ ap (λ s. replicate (length target - length lengths) (pos 0) ++ kept_strides lengths s) seen-is ∙ ap (λ l. replicate (length target - length l) (pos 0) ++ kept_strides l old.strides) is;
-}
-
+-- what the exits of `stretch` and `stretched_to` have to give
 pub made_numbers : (result : Option Layout) (new : Layout) (shape target : List ℕ) (strides : List ℤ) (offset : ℕ) → result ≡ Some new → shape ≡ target → IfSome result (λ l. l.shape ≡ shape) → IfSome result (λ l. 0 < count shape → l.strides ≡ strides) → IfSome result (λ l. 0 < count shape → l.offset ≡ offset) → HasNumbers new target strides offset
 made_numbers result new shape target strides offset is same shape-is strides-are offset-is = record {
   shape_is = subst (λ r. IfSome r (λ l. l.shape ≡ shape)) is shape-is ∙ same;
@@ -108,10 +97,5 @@ pub stretched-err : (shape target : List ℕ) → can_stretch shape target ≡ f
 unfolding stretched
 stretched-err shape target cannot = rw cannot
 
-pub not_stretched : (shape lengths target seen-target : List ℕ) (can : Bool) → lengths ≡ shape → seen-target ≡ target → can ≡ can_stretch lengths seen-target → can ≡ false → stretched shape target ≡ Err ShapesDoNotBroadcast
-not_stretched shape lengths target seen-target can is target-is tested bad =
-    stretched-err shape target (ap (λ s. can_stretch s target) (sym is) ∙ ap (can_stretch lengths) (sym target-is) ∙ sym tested ∙ bad)
-
-pub gives_stretched : (old new : Layout) (target : List ℕ) (strides : List ℤ) → IsStretched old target strides → HasNumbers new target strides old.offset → GivesView old (Ok new) (stretched old.shape target)
-gives_stretched old new target strides made has =
-    rw (stretched-ok old.shape target made.can) (numbers-view old new target strides old.offset (broadcast_index old.shape) (stretched-shows old target strides made) has)
+pub stretched-view : (old new : Layout) (target : List ℕ) (strides : List ℤ) → AreStretched old target strides → HasNumbers new target strides old.offset → IsViewOf old new (record { shape = target; leads = broadcast_index old.shape })
+stretched-view old new target strides made has = numbers-view old new target strides old.offset (broadcast_index old.shape) (stretched-shows old target strides made) has

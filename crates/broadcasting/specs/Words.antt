@@ -14,8 +14,9 @@ pub use Rattle.shape_strides.specs.Indexes.{IsIndex, count, rank}
 pub use Rattle.shape_strides.specs.LayoutLaws.{get_or-offsets}
 pub use Rattle.shape_strides.specs.Layouts.{address}
 unfoldable pub use Rattle.shape_strides.specs.Layouts.{offsets}
-pub use Rattle.shape_strides.specs.Limits.{max_axes, max_bytes, max_items}
-pub use Rattle.shape_strides.specs.ShapeLaws.{shape_of-ok, shape_of-same}
+pub use Rattle.shape_strides.specs.Limits.{max_bytes, max_items}
+pub use Rattle.shape_strides.specs.ShapeLaws.{shape_of-same}
+pub use Rattle.shape_strides.specs.Shapes.{IsShape}
 unfoldable pub use Rattle.shape_strides.specs.Shapes.{shape_of}
 pub use Rattle.shape_strides.specs.declared.layout.Layout.{Layout}
 pub use Rattle.view_ops.specs.Shows.{IsView, ShowsThrough}

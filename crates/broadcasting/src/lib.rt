@@ -9,4 +9,4 @@ mod stretching;
 
 pub use common_shape::{common, common_of_two};
 pub use shrinking::{repeats, shrink, shrunk_shape};
-pub use stretching::{stretch, stretch_into};
+pub use stretching::{stretch, stretch_into, stretched_to};

@@ -1,9 +1,7 @@
 //! Layouts whose items repeat, shrunk to the layouts that they were stretched from.
-ghost use Rattle.std.specs.Prelude.{◌≡◌, ◌<◌, ℕ, pos, false, length, slice_index, slice_index_or, IfOk, IfErr, IsTrue};
-ghost use Rattle.broadcasting.specs.Words.{OutOfMemory};
+ghost use Rattle.std.specs.Prelude.{◌≡◌, ◌<◌, ℕ, pos, false, length, slice_index, slice_index_or, IfOk, IsTrue};
 ghost use Rattle.broadcasting.specs.Shrinking.{RepeatsAlong, ShrinksTo, CanShrink, IsStretchOf};
 
-use elem_descr::Refusal;
 use shape_strides::{Layout, Shape, Strides};
 use smallvec::SmallVec;
 use std::alloc::{AllocError, Global};
@@ -61,16 +59,15 @@ fn shrunk_lengths(
 
 /// The shape of two layouts of one shape with length 1 on each axis along which the items of both
 /// repeat.
-pub fn shrunk_shape(alloc: Global, first: &Layout, second: &Layout) -> Result<Shape, Refusal>
+pub fn shrunk_shape(alloc: Global, first: &Layout, second: &Layout) -> Result<Shape, AllocError>
     requires even { second.now.shape ≡ first.now.shape }
     ensures first { IfOk result (λ s. CanShrink first.now.shape first.now.strides s) }
     ensures second { IfOk result (λ s. CanShrink second.now.shape second.now.strides s) }
-    ensures refused { IfErr result (λ refusal. refusal ≡ OutOfMemory) }
 {
     let lengths = first.shape.as_slice();
     let strides = first.strides.as_slice();
     let shrunk = shrunk_lengths(alloc, lengths, strides, second.strides.as_slice())?;
-    Shape::try_new(alloc, shrunk.as_slice())
+    Shape::from_lengths(alloc, shrunk.as_slice())
 }
 
 /// The layout of a shape from which a layout is stretched.

@@ -1,9 +1,9 @@
 //! Layouts stretched to a larger shape.
-ghost use Rattle.std.specs.Prelude.{◌≡◌, ◌==◌, ◌<◌, ◌≤◌, true, pos, ◌++◌, length, take, drop, replicate, slice_index, slice_index_or, IfOk, IfErr};
+ghost use Rattle.std.specs.Prelude.{◌≡◌, ◌==◌, ◌<◌, ◌≤◌, true, pos, ◌++◌, length, take, drop, replicate, slice_index, slice_index_or, IfOk, IsTrue};
 ghost use Rattle.std.specs.List.{list_all};
-ghost use Rattle.broadcasting.specs.Words.{OutOfMemory, IsViewOf, GivesView};
-ghost use Rattle.broadcasting.specs.Broadcasts.{stretches, can_stretch, stretched, stretched_into};
-ghost use Rattle.broadcasting.specs.inside.Stretches.{kept_stride, kept_strides};
+ghost use Rattle.broadcasting.specs.Words.{IsViewOf, GivesView};
+ghost use Rattle.broadcasting.specs.Broadcasts.{stretches, can_stretch, broadcast_index, stretched, stretched_into};
+ghost use Rattle.broadcasting.specs.inside.Stretches.{kept_stride, AreStretched};
 
 use crate::aligned::length_at;
 use elem_descr::Refusal;
@@ -55,17 +55,15 @@ fn kept_stride(lengths: &[usize], strides: &[isize], axis: usize) -> isize
     strides[axis]
 }
 
-/// The strides of an array with `more` axes in front, none of which steps to another item.
-fn stretched_strides(
-    alloc: Global,
-    lengths: &[usize],
-    strides: &[isize],
-    more: usize,
-) -> Result<Strides, AllocError>
-    requires { length strides.now ≡ length lengths.now }
-    ensures { IfOk result (λ s. s ≡ replicate more (pos 0)
-        ++ kept_strides lengths.now strides.now) }
+/// The strides of a layout in a larger shape to which it stretches: those of new axes, none of which
+/// steps to another item, come first.
+fn stretched_strides(alloc: Global, layout: &Layout, target: &Shape) -> Result<Strides, AllocError>
+    requires { IsTrue (can_stretch layout.now.shape target.now) }
+    ensures { IfOk result (AreStretched layout.now target.now) }
 {
+    let lengths = layout.shape.as_slice();
+    let strides = layout.strides.as_slice();
+    let more = target.rank() - lengths.len();
     let mut made = zeros(alloc, more)?;
     for axis in 0..lengths.len() {
         made.push(kept_stride(lengths, strides, axis))?;
@@ -73,21 +71,29 @@ fn stretched_strides(
     Ok(made)
 }
 
-/// The layout in a larger shape. The two are aligned at the last axis, and each index of `target`
-/// leads to the item with its numbers on the axes of the layout, but 0 on those of length 1. A
-/// shape that does not broadcast to exactly `target` is refused as `ShapesDoNotBroadcast`. New axes
-/// and axes of length 1 have stride 0; a view without items has strides and offset 0.
+/// The layout in a larger shape to which it stretches. The two are aligned at the last axis, and
+/// each index of `target` leads to the item with its numbers on the axes of the layout, but 0 on
+/// those of length 1. New axes and axes of length 1 have stride 0; a view without items has strides
+/// and offset 0.
+pub fn stretched_to(alloc: Global, layout: &Layout, target: &Shape) -> Result<Layout, AllocError>
+    requires { IsTrue (can_stretch layout.now.shape target.now) }
+    ensures { IfOk result (λ view. IsViewOf layout.now view
+        (record { shape = target.now; leads = broadcast_index layout.now.shape })) }
+{
+    let strides = stretched_strides(alloc, layout, target)?;
+    let shape = Shape::try_copy(alloc, target)?;
+    Ok(Layout::new(shape, strides, layout.offset).unwrap())
+}
+
+/// The layout in a larger shape, as `stretched_to` makes it. A shape that does not broadcast to
+/// exactly `target` is refused as `ShapesDoNotBroadcast`.
 pub fn stretch(alloc: Global, layout: &Layout, target: &Shape) -> Result<Layout, Refusal>
     ensures { GivesView layout.now result (stretched layout.now.shape target.now) }
 {
-    let lengths = layout.shape.as_slice();
-    if !can_stretch(lengths, target.as_slice()) {
+    if !can_stretch(layout.shape.as_slice(), target.as_slice()) {
         return Err(Refusal::ShapesDoNotBroadcast);
     }
-    let more = target.rank() - lengths.len();
-    let strides = stretched_strides(alloc, lengths, layout.strides.as_slice(), more)?;
-    let shape = Shape::try_copy(alloc, target)?;
-    Ok(Layout::new(shape, strides, layout.offset).unwrap())
+    Ok(stretched_to(alloc, layout, target)?)
 }
 
 /// Whether each axis has one item.
@@ -98,19 +104,18 @@ fn are_single(lengths: &[usize]) -> bool
 }
 
 /// The layout without its first `count` axes, each of which has length 1.
-fn without_first(alloc: Global, layout: &Layout, count: usize) -> Result<Layout, Refusal>
+fn without_first(alloc: Global, layout: &Layout, count: usize) -> Result<Layout, AllocError>
     requires count { count ≤ length layout.now.shape }
     requires single { list_all (λ n. n == 1) (take count layout.now.shape) ≡ true }
-    ensures ok { IfOk result
+    ensures { IfOk result
         (λ rest. IsViewOf layout.now rest
         (record {
           shape = drop count layout.now.shape;
           leads = λ index. replicate count 0
               ++ index;
         })) }
-    ensures err { IfErr result (λ refusal. refusal ≡ OutOfMemory) }
 {
-    let shape = Shape::try_new(alloc, &layout.shape.as_slice()[count..])?;
+    let shape = Shape::from_lengths(alloc, &layout.shape.as_slice()[count..])?;
     let strides = Strides::from_slice(alloc, &layout.strides.as_slice()[count..])?;
     Ok(Layout::new(shape, strides, layout.offset).unwrap())
 }
