@@ -64,7 +64,7 @@ fn push_parts(
             Ok(parts.push(IndexPart::Points(point))?)
         }
         IndexItem::Slice { .. } => {
-            let pick = pick_of(axes[0], &item)?;
+            let pick = pick_of(axes[0], &item);
             Ok(parts.push(IndexPart::Axis(pick))?)
         }
         IndexItem::Ellipsis => Ok(push_between(parts, axes)?),

@@ -1,10 +1,6 @@
 -- A transposed layout is a view.
-use Rattle.std.specs.Result.{is_ok, IfOk, IfErr}
-use Rattle.std.proofs.lemmas.Bool.{false≢true}
-use Rattle.view_ops.specs.Words.{Refusal, OutOfMemory, Layout, count, shape_of, max_axes, max_items, max_bytes, address_at, LieWithin, address, offsets, zeros_are, shape_of-ok, same_answer}
-use Rattle.std.proofs.Common.{◌≡◌, ◌⊎◌, inl, inr, Option, Result, Err, ℕ, ◌<◌, ◌≤◌, nat_le, true, ℤ, pos, ◌+ℤ◌, List, [], ◌∷◌, All, map, length, replicate, get_or, Ok, refl, sym, ap, subst, ◌∙◌, arith}
-use Rattle.std.specs.List.{list_all}
-use Rattle.std.proofs.lemmas.Bool.Decides.{nat_tests}
+use Rattle.view_ops.specs.Words.{Refusal, OutOfMemory, Layout, count, IsShape, max_items, max_bytes, address_at, LieWithin, address, offsets, zeros_are}
+use Rattle.std.proofs.Common.{◌≡◌, ◌⊎◌, inl, inr, Option, Err, ℕ, ◌<◌, ◌≤◌, ℤ, pos, ◌+ℤ◌, List, map, length, replicate, get_or, Ok, refl, sym, ap, subst, ◌∙◌, arith}
 use Rattle.std.proofs.lemmas.List.{length-map, get_or-map}
 use Rattle.shape_strides.specs.Addresses.{dot}
 use Rattle.view_ops.specs.Transposes.{axes_of, transposed, transposed_shape, transposed_index, put_at}
@@ -18,16 +14,16 @@ use Rattle.view_ops.proofs.AxesLaws.{axis-lt}
 
 -- ---- the shape
 
-all_short : (n : ℕ) (axes shape : List ℕ) → length shape ≡ n → AreAxes n axes → All (λ m. m ≤ max_items) shape → list_all (λ m. nat_le m max_items) (transposed_shape axes shape) ≡ true
-all_short n [] shape size are low = refl
-all_short n (a ∷ axes) shape size are low =
-    let short : get_or shape a 0 ≤ max_items = low a 0 (omega (arith, are.0)) in
-    let test : nat_le (get_or shape a 0) max_items ≡ true = grind (arith, nat_tests) in
-    rw test (all_short n axes shape size are.2 low)
-
-pub shape_of-transposed : (axes shape : List ℕ) → AreAllAxes (length shape) axes → length shape ≤ max_axes → All (λ m. m ≤ max_items) shape → count shape ≤ max_items → shape_of (transposed_shape axes shape) ≡ Ok (transposed_shape axes shape)
-shape_of-transposed axes shape all few low small =
-    shape_of-ok (transposed_shape axes shape) (omega (arith, length-map axes (λ a. get_or shape a 0), all.size)) (all_short (length shape) axes shape refl all.are low) (omega (arith, count-transposed axes shape all.size all.are))
+pub IsShape-transposed : (axes shape : List ℕ) → AreAllAxes (length shape) axes → IsShape shape → IsShape (transposed_shape axes shape)
+IsShape-transposed axes shape all is =
+    let size = length-map axes (λ a. get_or shape a 0) in
+    record {
+      axes = omega (arith, size, all.size, is.axes);
+      lengths = λ k d below.
+          let inside : k < length axes = omega (arith, below, size) in
+          subst (λ m. m ≤ max_items) (sym (get_or-map (λ a. get_or shape a 0) axes k 0 d inside)) (is.lengths (get_or axes k 0) 0 (axis-lt (length shape) axes k all.are inside));
+      items = omega (arith, count-transposed axes shape all.size all.are, is.items);
+    }
 
 -- ---- the view
 
@@ -87,24 +83,12 @@ turned-nested old new axes turned same item nested =
 
 -- ---- exits
 
-pub made_lengths : (lengths items l shape axes : List ℕ) → lengths ≡ items → items ≡ transposed_shape axes l → l ≡ shape → lengths ≡ transposed_shape axes shape
-made_lengths lengths items l shape axes first second third = first ∙ second ∙ ap (λ s. transposed_shape axes s) third
-
-pub made_shape : (axes shape lengths made : List ℕ) → lengths ≡ transposed_shape axes shape → AreAllAxes (length shape) axes → length shape ≤ max_axes → All (λ m. m ≤ max_items) shape → count shape ≤ max_items → shape_of lengths ≡ Ok made → made ≡ transposed_shape axes shape
-made_shape axes shape lengths made is all few low small there =
-    same_answer made (transposed_shape axes shape) (sym there ∙ ap shape_of is ∙ shape_of-transposed axes shape all few low small)
-
-pub turned_as : (old : Layout) (axes lengths items l made : List ℕ) (seen strides : List ℤ) → lengths ≡ items → items ≡ transposed_shape axes l → l ≡ old.shape → AreAllAxes (length old.shape) axes → length old.shape ≤ max_axes → All (λ m. m ≤ max_items) old.shape → count old.shape ≤ max_items → shape_of lengths ≡ Ok made → strides ≡ map (λ a. get_or seen a (pos 0)) axes → seen ≡ old.strides → IsTurned old made strides axes
-turned_as old axes lengths items l made seen strides first second third all few low small there are is = record {
+pub turned_as : {old : Layout} {axes lengths items seen shape : List ℕ} {steps strides : List ℤ} → lengths ≡ items → items ≡ transposed_shape axes seen → seen ≡ old.shape → AreAllAxes (length old.shape) axes → shape ≡ lengths → strides ≡ map (λ a. get_or steps a (pos 0)) axes → steps ≡ old.strides → IsTurned old shape strides axes
+turned_as {axes = axes} first second third all made are is = record {
   all = all;
-  shape_is = made_shape axes old.shape lengths made (made_lengths lengths items l old.shape axes first second third) all few low small there;
+  shape_is = made ∙ first ∙ second ∙ ap (λ s. transposed_shape axes s) third;
   strides_are = are ∙ ap (λ s. map (λ a. get_or s a (pos 0)) axes) is;
 }
-
-pub only_memory : (axes shape lengths : List ℕ) (e : Refusal) → lengths ≡ transposed_shape axes shape → AreAllAxes (length shape) axes → length shape ≤ max_axes → All (λ m. m ≤ max_items) shape → count shape ≤ max_items → (e ≡ OutOfMemory) ⊎ (shape_of lengths ≡ Err e) → e ≡ OutOfMemory
-only_memory axes shape lengths e is all few low small (inl memory) = memory
-only_memory axes shape lengths e is all few low small (inr there) =
-    absurd (false≢true (ap is_ok (sym there ∙ ap shape_of is ∙ shape_of-transposed axes shape all few low small)))
 
 pub transposed-ok : (shape : List ℕ) (named : Option (List ℤ)) (axes : List ℕ) → axes_of (length shape) named ≡ Ok axes → transposed shape named ≡ Ok (record { shape = transposed_shape axes shape; leads = transposed_index axes })
 unfolding transposed
@@ -114,9 +98,8 @@ pub transposed-err : (shape : List ℕ) (named : Option (List ℤ)) (e : Refusal
 unfolding transposed
 transposed-err shape named e is = rw is
 
-pub gives_transposed : (old : Layout) (named : Option (List ℤ)) (axes : List ℕ) (result : Result Layout Refusal) → axes_of (length old.shape) named ≡ Ok axes → IfOk result (λ view. IsViewOf old view (record { shape = transposed_shape axes old.shape; leads = transposed_index axes })) → IfErr result (λ e. e ≡ OutOfMemory) → GivesView old result (transposed old.shape named)
-gives_transposed old named axes (Ok view) is good bad = rw (transposed-ok old.shape named axes is) good
-gives_transposed old named axes (Err e) is good bad = gives_refusal old (transposed old.shape named) e (inl bad)
+pub gives_transposed : (old new : Layout) (named : Option (List ℤ)) (axes : List ℕ) → axes_of (length old.shape) named ≡ Ok axes → IsViewOf old new (record { shape = transposed_shape axes old.shape; leads = transposed_index axes }) → GivesView old (Ok new) (transposed old.shape named)
+gives_transposed old new named axes is view = rw (transposed-ok old.shape named axes is) view
 
 pub gives_no_axes : (old : Layout) (named : Option (List ℤ)) (e : Refusal) → (e ≡ OutOfMemory) ⊎ (axes_of (length old.shape) named ≡ Err e) → GivesView old (Err e) (transposed old.shape named)
 gives_no_axes old named e (inl memory) = gives_refusal old (transposed old.shape named) e (inl memory)

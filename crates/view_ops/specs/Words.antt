@@ -28,6 +28,7 @@ unfoldable pub use Rattle.shape_strides.specs.Layouts.{offsets}
 pub use Rattle.shape_strides.specs.Limits.{max_axes, max_bytes, max_items}
 pub use Rattle.shape_strides.specs.PermutationLaws.{cancel}
 pub use Rattle.shape_strides.specs.ShapeLaws.{shape_of-many, shape_of-ok}
+pub use Rattle.shape_strides.specs.Shapes.{IsShape}
 unfoldable pub use Rattle.shape_strides.specs.Shapes.{shape_of}
 pub use Rattle.elem_descr.specs.declared.index_item.IndexItem.{IndexItem}
 pub use Rattle.elem_descr.specs.declared.index_item.IndexItem.TheVariants.{Array, Ellipsis}

@@ -1,14 +1,14 @@
 //! What the items of a basic index select from the axes.
-ghost use Rattle.std.specs.Prelude.{◌≡◌, ℕ, ◌<◌, ◌≤◌, [], ◌∷◌, ◌++◌, map, length, true, false, IfOk, IfErr, OnOk, IsTrue};
+ghost use Rattle.std.specs.Prelude.{◌≡◌, ℕ, ◌<◌, ◌≤◌, [], ◌∷◌, ◌++◌, map, length, true, false, IfOk, OnOk, IsTrue};
 ghost use Rattle.std.specs.List.{list_all};
-ghost use Rattle.view_ops.specs.Words.{OutOfMemory, NewAxis, is_basic};
+ghost use Rattle.view_ops.specs.Words.{NewAxis, is_basic};
 ghost use Rattle.view_ops.specs.Basics.{takes_axis, axes_taken, has_step, is_on_axis, are_on_axes, whole, picks_of, picks};
 ghost use Rattle.view_ops.specs.inside.Picks.{AddsPicks};
 ghost use Rattle.view_ops.specs.Picks.{pick_shown, ArePicks};
 
 use crate::index::axes_end;
 use crate::slice::{Progression, from_front, is_place, slice_of};
-use elem_descr::{IndexItem, Refusal};
+use elem_descr::IndexItem;
 use smallvec::SmallVec;
 use std::alloc::{AllocError, Global};
 
@@ -47,19 +47,18 @@ pub(crate) fn are_in_range<A>(lengths: &[usize], items: &[IndexItem<A>]) -> bool
 }
 
 /// What an integer or a slice picks from its axis.
-pub fn pick_of<A>(n: usize, item: &IndexItem<A>) -> Result<AxisPick, Refusal>
+pub fn pick_of<A>(n: usize, item: &IndexItem<A>) -> AxisPick
     requires axis { takes_axis item.now ≡ true }
     requires basic { is_basic item.now ≡ true }
     requires step { has_step item.now ≡ true }
     requires in_range { is_on_axis (n ∷ []) item.now ≡ true }
-    ensures ok { IfOk result (λ pick. ArePicks (n ∷ []) (pick ∷ [])
-        × (picks_of (n ∷ []) item.now ≡ pick_shown pick ∷ [])) }
-    ensures err { IfErr result (λ _. ⊥) }
+    ensures within { ArePicks (n ∷ []) (result ∷ []) }
+    ensures shown { picks_of (n ∷ []) item.now ≡ pick_shown result ∷ [] }
 {
     match item {
-        IndexItem::Integer(at) => Ok(AxisPick::At(from_front(n, *at) as usize)),
+        IndexItem::Integer(at) => AxisPick::At(from_front(n, *at) as usize),
         IndexItem::Slice { start, stop, step } => {
-            Ok(AxisPick::Along(slice_of(n, *start, *stop, *step)?))
+            AxisPick::Along(slice_of(n, *start, *stop, *step).unwrap())
         }
         _ => unreachable!(),
     }
@@ -91,23 +90,19 @@ fn push_picks<A>(
     picks: &mut SmallVec<AxisPick, 4>,
     axes: &[usize],
     item: &IndexItem<A>,
-) -> Result<(), Refusal>
+) -> Result<(), AllocError>
     requires axis { takes_axis item.now ≡ true → length axes.now ≡ 1 }
     requires none { item.now ≡ NewAxis → axes.now ≡ [] }
     requires basic { is_basic item.now ≡ true }
     requires step { has_step item.now ≡ true }
     requires in_range { is_on_axis axes.now item.now ≡ true }
-    ensures ok { OnOk result
+    ensures { OnOk result
         (AddsPicks picks.old.items picks.new.items axes.now (picks_of axes.now item.now)) }
-    ensures err { IfErr result (λ refusal. refusal ≡ OutOfMemory) }
 {
     match item {
-        IndexItem::Ellipsis => Ok(push_whole(picks, axes)?),
+        IndexItem::Ellipsis => push_whole(picks, axes),
         IndexItem::NewAxis => Ok(picks.push(AxisPick::New)?),
-        _ => {
-            let pick = pick_of(axes[0], item)?;
-            Ok(picks.push(pick)?)
-        }
+        _ => Ok(picks.push(pick_of(axes[0], item))?),
     }
 }
 
@@ -116,14 +111,13 @@ pub(crate) fn picks_of<A>(
     alloc: Global,
     lengths: &[usize],
     items: &[IndexItem<A>],
-) -> Result<SmallVec<AxisPick, 4>, Refusal>
+) -> Result<SmallVec<AxisPick, 4>, AllocError>
     requires taken { axes_taken items.now ≤ length lengths.now }
     requires basic { list_all is_basic items.now ≡ true }
     requires steps { list_all has_step items.now ≡ true }
     requires in_range { are_on_axes lengths.now items.now ≡ true }
     ensures are { IfOk result (λ v. ArePicks lengths.now v.items) }
     ensures shown { IfOk result (λ v. map pick_shown v.items ≡ picks lengths.now items.now) }
-    ensures err { IfErr result (λ refusal. refusal ≡ OutOfMemory) }
 {
     let mut picks = SmallVec::new(alloc);
     let mut axis = 0;

@@ -1,6 +1,6 @@
 //! Transposes: the axes of a layout in another order.
-ghost use Rattle.std.specs.Prelude.{◌≡◌, ℕ, ◌<◌, ◌≤◌, pos, map, length, slice_index_or, IfOk, IfErr, All, option_copied};
-ghost use Rattle.view_ops.specs.Words.{OutOfMemory, max_axes};
+ghost use Rattle.std.specs.Prelude.{◌≡◌, ℕ, ◌<◌, ◌≤◌, pos, map, length, slice_index_or, IfOk, All, option_copied};
+ghost use Rattle.view_ops.specs.Words.{max_axes};
 ghost use Rattle.view_ops.specs.Transposes.{transposed_shape, transposed_index, transposed};
 ghost use Rattle.view_ops.specs.inside.Axes.{AreAxes, AreAllAxes};
 ghost use Rattle.view_ops.specs.Views.{View, IsViewOf, GivesView, KeepsNested};
@@ -45,7 +45,7 @@ fn transposed_strides(
 }
 
 /// The layout with these axes.
-fn with_axes(alloc: Global, layout: &Layout, axes: &[usize]) -> Result<Layout, Refusal>
+fn with_axes(alloc: Global, layout: &Layout, axes: &[usize]) -> Result<Layout, AllocError>
     requires { AreAllAxes (length layout.now.shape) axes.now }
     ensures ok { IfOk result
         (λ view. IsViewOf layout.now view
@@ -55,10 +55,9 @@ fn with_axes(alloc: Global, layout: &Layout, axes: &[usize]) -> Result<Layout, R
               = transposed_index axes.now;
         })) }
     ensures nested { IfOk result (KeepsNested layout.now) }
-    ensures err { IfErr result (λ refusal. refusal ≡ OutOfMemory) }
 {
     let lengths = transposed_lengths(alloc, layout.shape.as_slice(), axes)?;
-    let shape = Shape::try_new(alloc, lengths.as_slice())?;
+    let shape = Shape::from_lengths(alloc, lengths.as_slice())?;
     let strides = transposed_strides(alloc, layout.strides.as_slice(), axes)?;
     Ok(Layout {
         shape,
@@ -77,5 +76,5 @@ pub fn transpose(alloc: Global, layout: &Layout, axes: Option<&[i128]>) -> Resul
     ensures nested { IfOk result (KeepsNested layout.now) }
 {
     let axes = axes_of(alloc, layout.shape.rank(), axes)?;
-    with_axes(alloc, layout, axes.as_slice())
+    Ok(with_axes(alloc, layout, axes.as_slice())?)
 }

@@ -12,5 +12,5 @@ push_picks-requires-clause-none g c =
 pub loop-k-preserved : goal.loop-k-preserved
 loop-k-preserved g c =
     let item = get_or_read c.args.items.now c.loop-k.k c.index-items-k.result c.loop-k-test.true c.index-items-k.is (Integer (pos 0)) in
-    let adds = rw item at c.in_ok-push_picks.ensures.ok in
+    let adds = rw item at c.in_ok-push_picks.ensures in
     picked_more c.args.lengths.now c.args.items.now c.loop-k.picks.items c.push_picks.new.picks.items c.loop-k.k c.loop-k.axis c.axes_end-end.result c.loop-k-test.true c.axes_end-end.ensures.from c.axes_end-end.ensures.within c.axes_end-end.ensures.enough c.axes_end-end.ensures.value c.loop-k.invariant adds

@@ -15,4 +15,4 @@ with_axes-requires c =
 
 pub returns-clause-view : goal.returns-clause-view
 returns-clause-view c =
-    gives_transposed c.args.layout.now (option_copied c.args.axes) c.as_slice.result.now c.with_axes.result (rw (← c.rank.ensures.value) (c.in_ok-axes.ensures ∙ ap Ok (sym c.as_slice.ensures))) c.with_axes.ensures.ok c.with_axes.ensures.err
+    gives_transposed c.args.layout.now c.in_ok-with_axes.field-0 (option_copied c.args.axes) c.as_slice.result.now (rw (← c.rank.ensures.value) (c.in_ok-axes.ensures ∙ ap Ok (sym c.as_slice.ensures))) c.in_ok-with_axes.ensures.ok
