@@ -1,15 +1,14 @@
 -- Lists along an axis, and the items where they begin.
-use Rattle.std.proofs.Common.{◌≡◌, ◌+◌, ◌*◌, ◌<◌, ◌≤◌, ℕ, zero, suc, ℤ, pos, ◌+ℤ◌, ◌*ℤ◌, true, Some, List, [], ◌∷◌, map, replicate, length, get_or, All, refl, sym, ap, subst, ◌∙◌, arith, mul_comm, mul_assoc, mul-zero, mul-le-mul_right, nat_le, false, inl, inr, Ok, Err}
-use Rattle.std.specs.Prelude.{◌≤ℤ◌, Result, is_ok}
-use Rattle.std.specs.List.{insert, remove, range_with_len, list_all}
-use Rattle.std.proofs.lemmas.Bool.{le-leb}
+use Rattle.std.proofs.Common.{◌≡◌, ◌+◌, ◌*◌, ◌<◌, ◌≤◌, ℕ, zero, suc, ℤ, pos, ◌+ℤ◌, ◌*ℤ◌, Some, List, [], ◌∷◌, map, replicate, length, get_or, All, refl, sym, ap, subst, ◌∙◌, arith, mul_comm, mul_assoc, mul-zero, mul-le-mul_right}
+use Rattle.std.specs.Prelude.{◌≤ℤ◌}
+use Rattle.std.specs.List.{insert, remove, range_with_len}
 use Rattle.std.proofs.lemmas.Int.{ints}
 use Rattle.std.proofs.lemmas.List.{length-map, get_or-map, same_lists}
-use Rattle.std.proofs.lemmas.List.Elements.{All-head, All-tail, All-from_get_or}
+use Rattle.std.proofs.lemmas.List.Elements.{All-head, All-tail, All-cons, All-from_get_or}
 use Rattle.std.proofs.lemmas.List.FromFn.{length-map-range_with_len, get_or-map-range_with_len}
 use Rattle.std.proofs.Math.IntN.{*ℤ_comm, zero-*ℤ}
-use Rattle.reductions.specs.Words.{Refusal, Gives, same_answer, shape_of, shape_of-ok, position, EachWithin, StridedAxis, Layout, dot, natural, address_at, LieWithin, count, indexes, rank, IsIndex, length-indexes, length-index, rank-lt, get_or-indexes, index_at, address, offsets, length-offsets, pos-offset, max_axes, max_items, max_bytes, run_along, run_offsets}
-use Rattle.reductions.specs.inside.Axes.{AreStarts, IsUnlessMemory}
+use Rattle.reductions.specs.Words.{IsShape, position, EachWithin, StridedAxis, Layout, dot, natural, address_at, LieWithin, count, indexes, rank, IsIndex, length-indexes, length-index, rank-lt, get_or-indexes, index_at, address, offsets, length-offsets, pos-offset, max_items, max_bytes, run_along, run_offsets}
+use Rattle.reductions.specs.inside.Axes.{AreStarts}
 use Rattle.reductions.specs.ListLaws.{IsIndex-insert}
 use Rattle.reductions.specs.Lists.{lists}
 use Rattle.reductions.specs.inside.Numbers.{lines}
@@ -39,15 +38,11 @@ count-remove [] a low = absurd (omega (arith, low))
 count-remove (n ∷ shape) zero low = refl
 count-remove (n ∷ shape) (suc a) low = ap (λ c. n * c) (count-remove shape a (omega (arith, low))) ∙ turned n (get_or shape a 0) (count (remove shape a))
 
-pub small-remove : (shape : List ℕ) (a : ℕ) → All (λ n. n ≤ max_items) shape → list_all (λ n. nat_le n max_items) (remove shape a) ≡ true
-small-remove [] zero small = refl
-small-remove [] (suc a) small = refl
-small-remove (n ∷ shape) zero small = all-small shape (All-tail (λ n. n ≤ max_items) n shape small)
-  where
-    all-small : (shape : List ℕ) → All (λ n. n ≤ max_items) shape → list_all (λ n. nat_le n max_items) shape ≡ true
-    all-small [] small = refl
-    all-small (n ∷ shape) small = rw (le-leb n max_items (All-head (λ n. n ≤ max_items) n shape small)) (all-small shape (All-tail (λ n. n ≤ max_items) n shape small))
-small-remove (n ∷ shape) (suc a) small = rw (le-leb n max_items (All-head (λ n. n ≤ max_items) n shape small)) (small-remove shape a (All-tail (λ n. n ≤ max_items) n shape small))
+All-remove : {X : Type 0} (p : X → Type 0) (xs : List X) (a : ℕ) → All p xs → All p (remove xs a)
+All-remove p [] zero all = all
+All-remove p [] (suc a) all = all
+All-remove p (x ∷ xs) zero all = All-tail p x xs all
+All-remove p (x ∷ xs) (suc a) all = All-cons p x (remove xs a) (All-head p x xs all) (All-remove p xs a (All-tail p x xs all))
 
 -- ---- indexes, and addresses
 
@@ -101,18 +96,14 @@ module _ (l : Layout) (a : ℕ) (low : a < length l.shape) where
 
 -- ---- a shape without an axis
 
-pub shape-without : (shape : List ℕ) (a : ℕ) → a < length shape → 1 ≤ get_or shape a 0 → length shape ≤ max_axes → All (λ n. n ≤ max_items) shape → count shape ≤ max_items → shape_of (remove shape a) ≡ Ok (remove shape a)
-shape-without shape a low some few small items =
+pub IsShape-remove : (shape : List ℕ) (a : ℕ) → a < length shape → 1 ≤ get_or shape a 0 → IsShape shape → IsShape (remove shape a)
+IsShape-remove shape a low some is =
     let part : 1 * count (remove shape a) ≤ get_or shape a 0 * count (remove shape a) = mul-le-mul_right (count (remove shape a)) some in
-    shape_of-ok (remove shape a) (omega (arith, few, length-remove shape a low)) (small-remove shape a small) (omega (arith, part, items, count-remove shape a low))
-
-pub is_unless_memory : (shape : List ℕ) (result : Result (List ℕ) Refusal) → shape_of shape ≡ Ok shape → Gives (λ s. s) result (shape_of shape) → IsUnlessMemory shape result
-is_unless_memory shape (Ok s) found gives = same_answer s shape (sym gives ∙ found)
-is_unless_memory shape (Err refusal) found (inl lacked) = lacked
-is_unless_memory shape (Err refusal) found (inr refused) = absurd (no_ok shape refusal (sym found ∙ refused))
-  where
-    no_ok : (shape : List ℕ) (refusal : Refusal) → Ok shape ≡ Err refusal → ⊥
-    no_ok shape refusal same = let is : true ≡ false = ap is_ok same in absurd (cc)
+    record {
+      axes = omega (arith, is.axes, length-remove shape a low);
+      lengths = All-remove (λ n. n ≤ max_items) shape a is.lengths;
+      items = omega (arith, part, is.items, count-remove shape a low);
+    }
 
 pub layout_without : (l : Layout) (a : ℕ) (shape : List ℕ) (strides : List ℤ) → a < length l.shape → 0 < get_or l.shape a 0 → shape ≡ remove l.shape a → strides ≡ remove l.strides a →
     (length strides ≡ length shape) × (LieWithin shape strides l.offset max_bytes 1) × (count shape ≡ 0 → (l.offset ≡ 0) × (strides ≡ map (λ _. pos 0) shape))

@@ -7,7 +7,7 @@ pub use Rattle.elem_descr.specs.EncodingLaws.{low_bits-integer, low_bits-lt}
 pub use Rattle.elem_descr.specs.Items.{encode_item, item_size}
 pub use Rattle.elem_descr.specs.ListLaws.{first_is}
 pub use Rattle.elem_descr.specs.NumberLaws.{number_size}
-pub use Rattle.elem_descr.specs.RefusalLaws.{check_passed, same_answer}
+pub use Rattle.elem_descr.specs.RefusalLaws.{check_passed}
 pub use Rattle.elem_descr.specs.Refusals.{Gives, check, ◌>>=◌}
 pub use Rattle.elem_descr.specs.StepLaws.{numbers-split, numbers-suc}
 pub use Rattle.elem_descr.specs.Steps.{numbers_from}
@@ -15,7 +15,7 @@ pub use Rattle.elem_descr.specs.Values.{LeafValue, number}
 pub use Rattle.elem_descr.specs.declared.descr.Descr.{Descr}
 pub use Rattle.elem_descr.specs.declared.refusal.Refusal.{Refusal}
 pub use Rattle.elem_descr.specs.declared.refusal.Refusal.TheVariants.{BadAxis, EmptyReduction}
-pub use Rattle.elem_descr.specs.declared.refusal.Refusal.TheVariants.{NotForThisKind, OutOfMemory}
+pub use Rattle.elem_descr.specs.declared.refusal.Refusal.TheVariants.{NotForThisKind}
 pub use Rattle.elem_descr.specs.declared.refusal.Refusal.TheVariants.{TooLarge}
 pub use Rattle.elem_descr.specs.declared.scalar.Order.{Order}
 pub use Rattle.elem_descr.specs.declared.scalar.Order.TheVariants.{Big, Little}
@@ -33,12 +33,13 @@ pub use Rattle.shape_strides.specs.LayoutLaws.{entry-first, length-offsets, offs
 pub use Rattle.shape_strides.specs.LayoutLaws.{pos-offset}
 pub use Rattle.shape_strides.specs.Layouts.{address, multiples}
 unfoldable pub use Rattle.shape_strides.specs.Layouts.{offsets}
-pub use Rattle.shape_strides.specs.Limits.{max_axes, max_bytes, max_items}
+pub use Rattle.shape_strides.specs.Limits.{max_bytes, max_items}
 pub use Rattle.shape_strides.specs.PermutationLaws.{zero-count}
 pub use Rattle.shape_strides.specs.RunPairs.{all_offsets}
 pub use Rattle.shape_strides.specs.Runs.{run_along, run_offsets}
 unfoldable pub use Rattle.shape_strides.specs.Runs.{runs}
-pub use Rattle.shape_strides.specs.ShapeLaws.{shape_of-ok, shape_of-same}
+pub use Rattle.shape_strides.specs.ShapeLaws.{shape_of-same}
+pub use Rattle.shape_strides.specs.Shapes.{IsShape}
 unfoldable pub use Rattle.shape_strides.specs.Shapes.{shape_of}
 pub use Rattle.shape_strides.specs.WalkLaws.{length-first, length-run_offsets}
 pub use Rattle.shape_strides.specs.declared.joined.StridedAxis.{StridedAxis}

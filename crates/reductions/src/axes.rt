@@ -2,11 +2,11 @@
 ghost use Rattle.std.specs.Prelude.{◌≡◌, ◌<◌, ◌≤◌, ◌&&◌, ◌==◌, not, true, false, length, slice_index, IfOk, IfErr, Ok, Err};
 ghost use Rattle.std.specs.List.{remove};
 ghost use Rattle.elem_descr.specs.declared.descr.Descr.TheVariants.{Scalar as ScalarDescr};
-ghost use Rattle.reductions.specs.Words.{BadAxis, OutOfMemory, IsNumber, Gives, count};
+ghost use Rattle.reductions.specs.Words.{BadAxis, IsNumber, Gives, count};
 ghost use Rattle.reductions.specs.Lists.{named_axis, is_axis, reduced_shape, list_length, IsAxisOf};
 ghost use Rattle.reductions.specs.Outcomes.{number_scalar, has_empty_list};
 ghost use Rattle.reductions.specs.Reductions.{needs_items};
-ghost use Rattle.reductions.specs.inside.Axes.{shape_after, AreStarts, IsUnlessMemory};
+ghost use Rattle.reductions.specs.inside.Axes.{shape_after, AreStarts};
 
 use crate::kinds::needs_items;
 use elem_descr::{Descr, Red, Refusal, Scalar};
@@ -130,21 +130,20 @@ pub(crate) fn shape_after(
 }
 
 /// A shape without an axis of 1 item or more.
-fn shape_without(alloc: Global, shape: &Shape, axis: usize) -> Result<Shape, Refusal>
+fn shape_without(alloc: Global, shape: &Shape, axis: usize) -> Result<Shape, AllocError>
     requires axis { axis < length shape.now }
     requires some { 1 ≤ slice_index shape.now axis }
-    ensures { IsUnlessMemory (remove shape.now axis) result }
+    ensures { IfOk result (λ s. s ≡ remove shape.now axis) }
 {
     let lengths = without(alloc, shape.as_slice(), axis)?;
-    Shape::try_new(alloc, lengths.as_slice())
+    Shape::from_lengths(alloc, lengths.as_slice())
 }
 
 /// The items where the lists along an axis begin: those at 0 on it.
-pub(crate) fn starts_of(alloc: Global, layout: &Layout, axis: usize) -> Result<Layout, Refusal>
+pub(crate) fn starts_of(alloc: Global, layout: &Layout, axis: usize) -> Result<Layout, AllocError>
     requires axis { axis < length layout.now.shape }
     requires some { 1 ≤ slice_index layout.now.shape axis }
-    ensures starts { IfOk result (AreStarts layout.now axis) }
-    ensures err { IfErr result (λ refusal. refusal ≡ OutOfMemory) }
+    ensures { IfOk result (AreStarts layout.now axis) }
 {
     let shape = shape_without(alloc, &layout.shape, axis)?;
     let steps = without(alloc, layout.strides.as_slice(), axis)?;

@@ -1,8 +1,8 @@
 //! Reductions of the items of an array.
-ghost use Rattle.std.specs.Prelude.{All, ◌≡◌, ◌+◌, ◌*◌, ◌<◌, ◌≤◌, true, false, pos, Some, None, length, map, slice_index, slice_index_or, IfOk, IfErr};
+ghost use Rattle.std.specs.Prelude.{All, ◌≡◌, ◌+◌, ◌*◌, ◌<◌, ◌≤◌, true, false, pos, Some, None, length, map, slice_index, slice_index_or, IfOk};
 ghost use Rattle.std.specs.List.{flat_map};
 ghost use Rattle.std.specs.List.Sorted.{IsPermutation};
-ghost use Rattle.reductions.specs.Words.{OutOfMemory, item_from, IsNumber, size, item_size, encode_item, Gives, C, count, offsets, max_items, offsets_in, owned_items};
+ghost use Rattle.reductions.specs.Words.{item_from, IsNumber, size, item_size, encode_item, Gives, C, count, offsets, max_items, offsets_in, owned_items};
 ghost use Rattle.reductions.specs.Lists.{named_axis, list_length, lists, IsAxisOf};
 ghost use Rattle.reductions.specs.Outcomes.{reduced_type, outcome_of};
 ghost use Rattle.reductions.specs.Reductions.{needs_items, reduced_items};
@@ -112,26 +112,25 @@ fn reduced_block(
     items: usize,
     reduction: Red,
     source: Source<'_>,
-) -> Result<RawBlock, Refusal>
+) -> Result<RawBlock, AllocError>
     requires number { IsNumber source.scalar.now }
     requires axis { IsAxisOf (length source.layout.now.shape) source.axis }
     requires items { items ≡ length (lists_of source) }
     requires few { items ≤ max_items }
     requires some { needs_items reduction ≡ true
         → list_length source.layout.now.shape source.axis ≡ 0 → items ≡ 0 }
-    ensures items { IfOk result (AreResults reduction source.entry) }
-    ensures err { IfErr result (λ refusal. refusal ≡ OutOfMemory) }
+    ensures { IfOk result (AreResults reduction source.entry) }
 {
     if list_length(&source.layout.shape, source.axis) == 0 {
         let block = empty_block(alloc, reduction, source.scalar, items)?;
         return Ok(block);
     }
     let Some(axis) = source.axis else {
-        return Ok(reduced_all(alloc, reduction, source)?);
+        return reduced_all(alloc, reduction, source);
     };
     let starts = starts_of(alloc, source.layout, axis)?;
     let along = axis_at(source.layout, axis);
-    Ok(reduced_from(alloc, reduction, source, &starts, Some(along))?)
+    reduced_from(alloc, reduction, source, &starts, Some(along))
 }
 
 /// The same as `reduce`, however the items lie.

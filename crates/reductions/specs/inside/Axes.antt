@@ -1,7 +1,7 @@
 -- Axes by their numbers.
-use Rattle.std.specs.Prelude.{◌≡◌, ℕ, Bool, not, ◌&&◌, List, Option, Result, Ok, Err}
+use Rattle.std.specs.Prelude.{◌≡◌, ℕ, Bool, not, ◌&&◌, List, Option, Result}
 use Rattle.std.specs.List.{remove}
-use Rattle.reductions.specs.Words.{Refusal, OutOfMemory, EmptyReduction, ◌>>=◌, check, shape_of, Red, Layout}
+use Rattle.reductions.specs.Words.{Refusal, EmptyReduction, ◌>>=◌, check, shape_of, Red, Layout}
 use Rattle.reductions.specs.Lists.{reduced_shape}
 use Rattle.reductions.specs.Outcomes.{has_empty_list}
 use Rattle.reductions.specs.Reductions.{needs_items}
@@ -11,11 +11,6 @@ pub record AreStarts (layout : Layout) (axis : ℕ) (starts : Layout) : Type 0 w
   pub shape : starts.shape ≡ remove layout.shape axis
   pub strides : starts.strides ≡ remove layout.strides axis
   pub offset : starts.offset ≡ layout.offset
-
--- an answer is this, unless memory ran out
-abbrev pub IsUnlessMemory : {X : Type 0} → X → Result X Refusal → Type 0
-IsUnlessMemory x (Ok y) = y ≡ x
-IsUnlessMemory x (Err refusal) = refusal ≡ OutOfMemory
 
 -- the shape of the result, or the first refusal once the axis is found
 unfoldable pub shape_after : Red → List ℕ → Option ℕ → Bool → Result (List ℕ) Refusal

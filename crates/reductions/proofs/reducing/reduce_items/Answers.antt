@@ -59,7 +59,7 @@ reduced_block-requires-clause-some c needs none =
 pub over-requires-clause-whole : goal.over-requires-clause-whole
 over-requires-clause-whole c =
     let many = many_lists c.args.reduction c.args.items.layout.now.shape c.in_ok-axis.axis c.args.keep c.in_ok-shape.shape (offsets c.args.items.layout.now) c.rank.result c.rank.ensures.value c.in_ok-axis.ensures.ok.2 c.in_ok-shape.ensures in
-    c.in_ok-out.ensures.items.len ∙ (λ i. sym many i * size (sym c.result_scalar.ensures i))
+    c.in_ok-out.ensures.len ∙ (λ i. sym many i * size (sym c.result_scalar.ensures i))
 
 pub over-requires-clause-small : goal.over-requires-clause-small
 over-requires-clause-small c =
@@ -87,7 +87,7 @@ returns-clause-items c =
     let ls = lists shape c.in_ok-axis.axis (offsets c.args.items.layout.now) in
     let many = many_lists c.args.reduction shape c.in_ok-axis.axis c.args.keep c.in_ok-shape.shape (offsets c.args.items.layout.now) c.rank.result c.rank.ensures.value c.in_ok-axis.ensures.ok.2 c.in_ok-shape.ensures in
     (λ i. map (item_from (typed i) (c.in_ok-owned.ensures.block i)) (placed i))
-    ∙ items_are c.args.reduction scalar to c.args.items.block.now c.in_ok-out.out ls (count c.in_ok-shape.shape) refl many (subst (λ b. AreReduced c.args.reduction scalar b (size to) ls c.in_ok-out.out) c.bytes.ensures c.in_ok-out.ensures.items)
+    ∙ items_are c.args.reduction scalar to c.args.items.block.now c.in_ok-out.out ls (count c.in_ok-shape.shape) refl many (subst (λ b. AreReduced c.args.reduction scalar b (size to) ls c.in_ok-out.out) c.bytes.ensures c.in_ok-out.ensures)
     ∙ (λ i. reduced_items c.args.reduction (sym typed i) (sym c.in_ok-scalar.ensures.ok.2 i) c.args.items.block.now (lists shape (sym named i) (offsets c.args.items.layout.now)))
 
 pub returns-clause-bytes : goal.returns-clause-bytes
@@ -99,7 +99,7 @@ returns-clause-bytes c =
     let typed = c.in_ok-owned.ensures.descr ∙ ap ScalarDescr c.result_scalar.ensures in
     let ls = lists shape c.in_ok-axis.axis (offsets c.args.items.layout.now) in
     let many = many_lists c.args.reduction shape c.in_ok-axis.axis c.args.keep c.in_ok-shape.shape (offsets c.args.items.layout.now) c.rank.result c.rank.ensures.value c.in_ok-axis.ensures.ok.2 c.in_ok-shape.ensures in
-    let are = subst (λ b. AreReduced c.args.reduction scalar b (size to) ls c.in_ok-out.out) c.bytes.ensures c.in_ok-out.ensures.items in
+    let are = subst (λ b. AreReduced c.args.reduction scalar b (size to) ls c.in_ok-out.out) c.bytes.ensures c.in_ok-out.ensures in
     c.in_ok-owned.ensures.block
     ∙ bytes_are c.args.reduction scalar to c.args.items.block.now c.in_ok-out.out ls (count c.in_ok-shape.shape) refl many are
     ∙ (λ i. flat_map (encode_item (sym typed i)) (reduced_items c.args.reduction (sym typed i) (sym c.in_ok-scalar.ensures.ok.2 i) c.args.items.block.now (lists shape (sym named i) (offsets c.args.items.layout.now))))

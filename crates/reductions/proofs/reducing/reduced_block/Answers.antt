@@ -8,8 +8,8 @@ use Rattle.reductions.proofs.AxisLaws.{lists_are, within_lines, starts_within}
 use Rattle.reductions.proofs.OutcomeLaws.{no_items}
 use Rattle.reductions.proofs.reducing.reduced_block.Goals as goal
 
-pub returns-then-list_length-eq0-clause-items : goal.returns-then-list_length-eq0-clause-items
-returns-then-list_length-eq0-clause-items c =
+pub returns-then-list_length-eq0 : goal.returns-then-list_length-eq0
+returns-then-list_length-eq0 c =
     let scalar = c.args.source.scalar.now in
     let width = size (result_scalar c.args.reduction scalar) in
     record {
@@ -25,7 +25,7 @@ reduced_from-requires-clause-inside c =
     let s = c.args.source in
     let low = subst (IsAxisOf (length s.layout.now.shape)) c.in-Some.is c.requires.axis in
     let some : 1 ≤ slice_index s.layout.now.shape c.in-Some.axis = omega (arith, c.if-list_length-eq0.false, c.list_length.ensures ∙ ap (list_length s.layout.now.shape) c.in-Some.is) in
-    starts_within s.layout.now c.in-Some.axis c.in_ok-starts.starts low c.in_ok-starts.ensures.starts (length s.bytes.now) (size s.scalar.now) some s.inside
+    starts_within s.layout.now c.in-Some.axis c.in_ok-starts.starts low c.in_ok-starts.ensures (length s.bytes.now) (size s.scalar.now) some s.inside
 
 pub reduced_from-requires-clause-items : goal.reduced_from-requires-clause-items
 reduced_from-requires-clause-items c =
@@ -38,7 +38,7 @@ reduced_from-requires-clause-items c =
     subst (λ axis. HaveItems len width starts (Some axis)) (sym c.axis_at-along.ensures.value) (
       some,
       omega (arith, c.axis_at-along.ensures.limit, ap (λ axis. axis.len) c.axis_at-along.ensures.value),
-      within_lines s.layout.now c.in-Some.axis starts low c.in_ok-starts.ensures.starts len width s.inside,
+      within_lines s.layout.now c.in-Some.axis starts low c.in_ok-starts.ensures len width s.inside,
     )
 
 pub reduced_from-requires-clause-lists : goal.reduced_from-requires-clause-lists
@@ -47,4 +47,4 @@ reduced_from-requires-clause-lists c =
     let l = s.layout.now in
     let low = subst (IsAxisOf (length s.layout.now.shape)) c.in-Some.is c.requires.axis in
     let starts = c.in_ok-starts.starts in
-    ap (λ axis. lists l.shape axis (offsets l)) c.in-Some.is ∙ lists_are l c.in-Some.axis starts low c.in_ok-starts.ensures.starts ∙ ap (λ axis. lines axis (offsets starts)) (sym c.axis_at-along.ensures.value)
+    ap (λ axis. lists l.shape axis (offsets l)) c.in-Some.is ∙ lists_are l c.in-Some.axis starts low c.in_ok-starts.ensures ∙ ap (λ axis. lines axis (offsets starts)) (sym c.axis_at-along.ensures.value)
