@@ -1,15 +1,17 @@
 -- Which answer each exit of a plan has to give.
-use Rattle.std.proofs.Common.{◌≡◌, ◌⊎◌, inl, inr, Result, Ok, Err, ℕ, ◌≤◌, IsTrue, List, [], map, length, get_or, All, refl, sym, ap, subst, ◌∙◌, arith}
+use Rattle.std.proofs.Common.{◌≡◌, ◌⊎◌, inl, inr, Result, Ok, Err, ℕ, ◌≤◌, Bool, true, false, IsTrue, List, [], map, length, get_or, All, refl, sym, ap, subst, ◌∙◌, arith}
 use Rattle.std.specs.Result.{is_ok, IfOk, IfErr}
 use Rattle.std.proofs.lemmas.Bool.{false≢true}
 use Rattle.std.proofs.lemmas.List.{nil_from_length, length-map}
-use Rattle.fancy_index.specs.Words.{Refusal, OutOfMemory, Layout, max_axes, count, indexes, rank, shape_of, shape_of-same, offsets, length-indexes, rank-lt, common_with, can_stretch, with-fits}
+use Rattle.fancy_index.specs.Words.{Refusal, OutOfMemory, IndexOutOfRange, check, ◌>>=◌, Layout, max_axes, count, indexes, rank, shape_of, shape_of-same, offsets, length-indexes, rank-lt, common_with, can_stretch, with-fits}
 use Rattle.fancy_index.specs.declared.parts.IndexPart.{IndexPart}
 use Rattle.fancy_index.specs.Parts.{Part, point_shapes}
 use Rattle.fancy_index.specs.Indexed.{as_index_shapes, points_shape, all_axes, leads_through, parts_view}
 use Rattle.fancy_index.specs.Plans.{Planned, IsPlanOf, GivesPlan}
-use Rattle.fancy_index.specs.inside.PartLists.{shown_part, AreParts, IsReady}
+use Rattle.fancy_index.specs.inside.Items.{IsWithin, IsOutside}
+use Rattle.fancy_index.specs.inside.PartLists.{shown_part, all_named, view_if_named, AreParts, IsReady}
 use Rattle.fancy_index.proofs.LeadLaws.{all_ready}
+use Rattle.fancy_index.proofs.PartLaws.{passed}
 
 -- ---- the definition, by cases
 
@@ -27,13 +29,13 @@ seen parts points shape found there = rw (found, there)
 
 -- ---- refusals
 
-pub gives_no_points : (layout : Layout) (parts : List Part) (e : Refusal) → (e ≡ OutOfMemory) ⊎ (points_shape parts ≡ Err e) → GivesPlan layout (Err e) (parts_view parts)
-gives_no_points layout parts e (inl memory) = inl memory
-gives_no_points layout parts e (inr there) = inr (no-points parts e there)
+pub view_no_points : (parts : List Part) (e : Refusal) → (e ≡ OutOfMemory) ⊎ (points_shape parts ≡ Err e) → (e ≡ OutOfMemory) ⊎ (parts_view parts ≡ Err e)
+view_no_points parts e (inl memory) = inl memory
+view_no_points parts e (inr there) = inr (no-points parts e there)
 
-pub gives_no_shape : (layout : Layout) (parts : List Part) (points used : List ℕ) (e : Refusal) → points_shape parts ≡ Ok points → used ≡ points → (e ≡ OutOfMemory) ⊎ (shape_of (all_axes used parts) ≡ Err e) → GivesPlan layout (Err e) (parts_view parts)
-gives_no_shape layout parts points used e found is (inl memory) = inl memory
-gives_no_shape layout parts points used e found is (inr there) = inr (no-shape parts points e found (ap (λ p. shape_of (all_axes p parts)) (sym is) ∙ there))
+pub view_no_shape : (parts : List Part) (points used : List ℕ) (e : Refusal) → points_shape parts ≡ Ok points → used ≡ points → (e ≡ OutOfMemory) ⊎ (shape_of (all_axes used parts) ≡ Err e) → (e ≡ OutOfMemory) ⊎ (parts_view parts ≡ Err e)
+view_no_shape parts points used e found is (inl memory) = inl memory
+view_no_shape parts points used e found is (inr there) = inr (no-shape parts points e found (ap (λ p. shape_of (all_axes p parts)) (sym is) ∙ there))
 
 -- ---- plans
 
@@ -51,13 +53,28 @@ gives_none layout parts points used shape plan found is there none shape-is offs
       places = offsets-are ∙ sym (nil_from_length _ (length-map (indexes shape) (λ index. get_or (offsets layout) (rank layout.shape (leads_through (length points) parts index)) 0) ∙ length-indexes shape ∙ none));
     })
 
+-- ---- numbers that are not read yet
+
+pub gives_named : (layout : Layout) (parts : List IndexPart) (result : Result Planned Refusal) → all_named parts ≡ true → GivesPlan layout result (parts_view (map shown_part parts)) → GivesPlan layout result (view_if_named parts)
+gives_named layout parts result named gives = subst (λ t. GivesPlan layout result (check t IndexOutOfRange >>= λ _. parts_view (map shown_part parts))) (sym named) gives
+
+pub gives_outside : (layout : Layout) (parts : List IndexPart) (e : Refusal) → IsOutside (all_named parts) e → GivesPlan layout (Err e) (view_if_named parts)
+gives_outside layout parts e (inl memory) = inl memory
+gives_outside layout parts e (inr out) = inr (ap (λ r. r >>= λ _. parts_view (map shown_part parts)) out)
+
+-- what parts show of an index list
+pub named-view : (parts : List IndexPart) (list : List Part) (test : Bool) → all_named parts ≡ test → (test ≡ true → map shown_part parts ≡ list) → view_if_named parts ≡ (check test IndexOutOfRange >>= λ _. parts_view list)
+named-view parts list true named shown = (λ i. check (named i) IndexOutOfRange >>= λ _. parts_view (map shown_part parts)) ∙ ap parts_view (shown refl)
+named-view parts list false named shown = λ i. check (named i) IndexOutOfRange >>= λ _. parts_view (map shown_part parts)
+
 -- the plan of the items
-pub gives_some : (layout : Layout) (parts : List Part) (points used shape : List ℕ) (result : Result Planned Refusal) → points_shape parts ≡ Ok points → used ≡ points → shape_of (all_axes used parts) ≡ Ok shape →
-    IfOk result (λ plan. IsPlanOf layout plan (record { shape = all_axes used parts; leads = leads_through (length used) parts })) → IfErr result (λ e. e ≡ OutOfMemory) → GivesPlan layout result (parts_view parts)
-gives_some layout parts points used shape (Ok plan) found is there ok err =
+pub gives_some : (layout : Layout) (list : List IndexPart) (points used shape : List ℕ) (result : Result Planned Refusal) → points_shape (map shown_part list) ≡ Ok points → used ≡ points → shape_of (all_axes used (map shown_part list)) ≡ Ok shape →
+    IfOk result (λ plan. IsPlanOf layout plan (record { shape = all_axes used (map shown_part list); leads = leads_through (length used) (map shown_part list) })) → IsWithin (all_named list) result → GivesPlan layout result (view_if_named list)
+gives_some layout list points used shape (Ok plan) found is there ok within =
+    let parts = map shown_part list in
     let view = seen parts points (all_axes used parts) found (ap (λ p. shape_of (all_axes p parts)) (sym is) ∙ there ∙ ap Ok (shape-made parts used shape there)) in
-    subst (GivesPlan layout (Ok plan)) (sym view) (subst (λ p. IsPlanOf layout plan (record { shape = all_axes used parts; leads = leads_through (length p) parts })) is ok)
-gives_some layout parts points used shape (Err e) found is there ok err = inl err
+    gives_named layout list (Ok plan) (passed (all_named list) IndexOutOfRange within) (subst (GivesPlan layout (Ok plan)) (sym view) (subst (λ p. IsPlanOf layout plan (record { shape = all_axes used parts; leads = leads_through (length p) parts })) is ok))
+gives_some layout list points used shape (Err e) found is there ok within = gives_outside layout list e within
 
 -- ---- points that stretch to what they have in common
 

@@ -10,7 +10,7 @@ use Rattle.fancy_index.specs.declared.points.PointList.{PointList}
 use Rattle.fancy_index.specs.declared.parts.IndexPart.{IndexPart}
 use Rattle.fancy_index.specs.declared.parts.IndexPart.TheVariants.{Axis as AxisPart, Points as PointsPart, Between as BetweenPart}
 use Rattle.fancy_index.specs.Parts.{point_shapes, other_axes, leads}
-use Rattle.fancy_index.specs.inside.PointLists.{tuple}
+use Rattle.fancy_index.specs.inside.PointLists.{tuple, ranks_of}
 use Rattle.fancy_index.specs.inside.PartLists.{shown_part, AreParts, IsReady, HasPointAt, IsReadyAt, point_of, first_at, rest_picks}
 use Rattle.fancy_index.proofs.CutLaws.{dot-cut}
 use Rattle.fancy_index.proofs.ShiftLaws.{rank-low, point-low, tuple-in}
@@ -36,8 +36,8 @@ all_ready (n ∷ shape) points (AxisPart (AlongAxis run) ∷ parts) are few fit 
 
 module _ (at : List ℕ) where
   -- the point is that of the definition
-  lead-point : (p : PointList) → HasPointAt at p → get_or (map (tuple p.axes.items) p.ranks.items) (rank p.lengths.items (broadcast_index p.lengths.items at)) [] ≡ point_of p at
-  lead-point p has = get_or-map (tuple p.axes.items) p.ranks.items (rank p.lengths.items (broadcast_index p.lengths.items at)) 0 [] (rank-low at p has)
+  lead-point : (p : PointList) → HasPointAt at p → get_or (map (tuple p.axes.items) (ranks_of p.ranks)) (rank p.lengths.items (broadcast_index p.lengths.items at)) [] ≡ point_of p at
+  lead-point p has = get_or-map (tuple p.axes.items) (ranks_of p.ranks) (rank p.lengths.items (broadcast_index p.lengths.items at)) 0 [] (rank-low at p has)
 
   point-in : (p : PointList) → HasPointAt at p → IsIndex p.axes.items (point_of p at)
   point-in p has = tuple-in p.axes.items _ (point-low at p 0 has)
@@ -130,7 +130,7 @@ module _ (at : List ℕ) where
   split strides shape (BetweenPart ∷ parts) i j are ready in-i in-j = split strides shape parts i j are (tail BetweenPart parts ready) in-i in-j
   split strides shape (PointsPart p ∷ parts) i j are ready in-i in-j =
       let has = head (PointsPart p) parts ready in
-      let point = get_or (map (tuple p.axes.items) p.ranks.items) (rank p.lengths.items (broadcast_index p.lengths.items at)) [] in
+      let point = get_or (map (tuple p.axes.items) (ranks_of p.ranks)) (rank p.lengths.items (broadcast_index p.lengths.items at)) [] in
       let size : length point ≡ length p.axes.items = ap length (lead-point p has) ∙ length-index p.axes.items (point_of p at) (point-in p has) in
       let left = drop (length p.axes.items) strides in
       let first = dot (take (length point) strides) point in

@@ -1,9 +1,11 @@
 -- The parts that items come to, item by item.
-use Rattle.std.proofs.Common.{◌≡◌, Ok, is_ok, ℕ, ℤ, ◌≤◌, Bool, true, false, ◌&&◌, List, [], ◌∷◌, ◌++◌, map, length, get_or, refl, sym, ap, subst, ◌∙◌, arith, append_assoc, append-nil}
+use Rattle.std.proofs.Common.{◌≡◌, inl, inr, Ok, is_ok, ℕ, ◌+◌, ℤ, ◌<◌, ◌≤◌, Bool, true, false, ◌&&◌, List, [], ◌∷◌, ◌++◌, map, length, get_or, take, refl, sym, ap, subst, ◌∙◌, arith, append_assoc, append-nil}
 use Rattle.std.specs.List.{list_all, flat_map}
+use Rattle.std.proofs.Math.Bool.{and-true, and-false}
 use Rattle.std.proofs.lemmas.Bool.{and_parts, false≢true}
-use Rattle.std.proofs.lemmas.List.{map-append}
-use Rattle.fancy_index.specs.Words.{Refusal, check, IndexItem, Integer, AxisPick, is_place, whole, has_step, pick_shown, ArePicks}
+use Rattle.std.proofs.lemmas.List.{map-append, take_all}
+use Rattle.std.proofs.lemmas.List.Folds.{list_all-append, list_all_at, list_all_more}
+use Rattle.fancy_index.specs.Words.{Refusal, IndexOutOfRange, check, IndexItem, Integer, AxisPick, is_place, whole, has_step, pick_shown, ArePicks}
 use Rattle.view_ops.specs.declared.pick.AxisPick.TheVariants.{At as AtAxis, Along as AlongAxis, New as NewAxis}
 use Rattle.fancy_index.specs.declared.points.PointList.{PointList}
 use Rattle.fancy_index.specs.declared.parts.IndexPart.{IndexPart}
@@ -11,9 +13,11 @@ use Rattle.fancy_index.specs.declared.parts.IndexPart.TheVariants.{Axis as AxisP
 use Rattle.fancy_index.specs.IndexArrays.{IndexArray, is_index, array_axes_taken, placed_arrays, left_over, covers, cover, is_within, are_within}
 use Rattle.fancy_index.specs.Parts.{Part, Axis, wholes, parts_of, parts}
 use Rattle.fancy_index.specs.inside.Lists.{IsNext}
-use Rattle.fancy_index.specs.inside.PointLists.{place_of, IsPart}
+use Rattle.fancy_index.specs.inside.Items.{IsOutside}
+use Rattle.fancy_index.specs.inside.PointLists.{place_of, ranks_of, are_named, IsPart}
 use Rattle.fancy_index.proofs.PointLaws.{integer-part}
-use Rattle.fancy_index.specs.inside.PartLists.{IsChecked, shown_part, AreParts, AddsParts}
+use Rattle.fancy_index.proofs.WordLaws.{and_assoc}
+use Rattle.fancy_index.specs.inside.PartLists.{IsChecked, shown_part, is_named, all_named, AreParts, AddsParts}
 
 -- ---- parts of axes
 
@@ -39,23 +43,42 @@ AreParts-axis (n ∷ m ∷ axes) (AtAxis number) are = absurd are.1
 AreParts-axis (n ∷ []) (AlongAxis run) are = (are.0, tt)
 AreParts-axis (n ∷ m ∷ axes) (AlongAxis run) are = absurd are.1
 
+-- ---- tests
+
+-- a test that fails where another does
+outside-by : (test other : Bool) (e : Refusal) → (test ≡ false → other ≡ false) → IsOutside test e → IsOutside other e
+outside-by test other e fails (inl memory) = inl memory
+outside-by true other e fails (inr out) = absurd (false≢true (sym (ap is_ok out)))
+outside-by false other e fails (inr out) = inr (ap (λ t. check t IndexOutOfRange) (fails refl) ∙ out)
+
+pub named_more : (parts : List IndexPart) (k : ℕ) (part : IndexPart) → k < length parts → get_or parts k part ≡ part → all_named (take k parts) ≡ true → is_named part ≡ true → all_named (take (k + 1) parts) ≡ true
+named_more parts k part low is before here = list_all_more is_named parts k part low ∙ (λ i. before i && is_named (is i)) ∙ here
+
+pub outside-at : (parts : List IndexPart) (k : ℕ) (part : IndexPart) (e : Refusal) → k < length parts → get_or parts k part ≡ part → IsOutside (is_named part) e → IsOutside (all_named parts) e
+outside-at parts k part e low is outside = outside-by (is_named part) (all_named parts) e (λ fails. list_all_at is_named parts k part low (ap is_named is ∙ fails)) outside
+
+pub named-all : (parts : List IndexPart) (k : ℕ) → length parts ≤ k → all_named (take k parts) ≡ true → check (all_named parts) IndexOutOfRange ≡ Ok tt
+named-all parts k all named = ap (λ t. check t IndexOutOfRange) (ap all_named (sym (take_all k parts all)) ∙ named)
+
 -- ---- what is added
 
-pub adds_points : (old new : List IndexPart) (axes : List ℕ) (p : PointList) (parts : List Part) → IsPart axes p parts → new ≡ old ++ PointsPart p ∷ [] → AddsParts old new axes parts
-adds_points old new axes p parts is after = record {
+pub adds_points : (old new : List IndexPart) (axes : List ℕ) (p : PointList) (parts : List Part) → (test : Bool) → IsPart axes test p parts → new ≡ old ++ PointsPart p ∷ [] → AddsParts old new axes test parts
+adds_points old new axes p parts test is after = record {
   added = PointsPart p ∷ [];
   after = after;
   are = (is.list, [], sym is.axes ∙ sym (append-nil p.axes.items), tt);
-  show = sym is.shows;
+  named = and-true (are_named p.ranks) ∙ is.named;
+  show = λ all. sym (is.shows all);
 }
 
 -- one more whole axis
-pub whole_more : (old new : List IndexPart) (axes : List ℕ) (n : ℕ) (pick : AxisPick) → ArePicks (n ∷ []) (pick ∷ []) → pick_shown pick ≡ whole n → AddsParts old new axes (wholes axes) → AddsParts old (new ++ AxisPart pick ∷ []) (axes ++ n ∷ []) (wholes (axes ++ n ∷ []))
+pub whole_more : (old new : List IndexPart) (axes : List ℕ) (n : ℕ) (pick : AxisPick) → ArePicks (n ∷ []) (pick ∷ []) → pick_shown pick ≡ whole n → AddsParts old new axes true (wholes axes) → AddsParts old (new ++ AxisPart pick ∷ []) (axes ++ n ∷ []) true (wholes (axes ++ n ∷ []))
 whole_more old new axes n pick within is adds = record {
   added = adds.added ++ AxisPart pick ∷ [];
   after = ap (λ l. l ++ AxisPart pick ∷ []) adds.after ∙ append_assoc old adds.added (AxisPart pick ∷ []);
   are = AreParts-append axes (n ∷ []) adds.added (AxisPart pick ∷ []) adds.are (AreParts-axis (n ∷ []) pick within);
-  show = map-append shown_part adds.added (AxisPart pick ∷ []) ∙ ap (λ l. l ++ Axis (pick_shown pick) ∷ []) adds.show ∙ ap (λ p. wholes axes ++ Axis p ∷ []) is ∙ sym (map-append (λ n. Axis (whole n)) axes (n ∷ []));
+  named = list_all-append is_named adds.added (AxisPart pick ∷ []) ∙ ap (λ b. b && true) adds.named;
+  show = λ all. map-append shown_part adds.added (AxisPart pick ∷ []) ∙ ap (λ l. l ++ Axis (pick_shown pick) ∷ []) (adds.show all) ∙ ap (λ p. wholes axes ++ Axis p ∷ []) is ∙ sym (map-append (λ n. Axis (whole n)) axes (n ∷ []));
 }
 
 -- ---- items over axes
@@ -63,9 +86,9 @@ whole_more old new axes n pick within is adds = record {
 -- the parts so far, with what is left
 pub record HaveParts (shape : List ℕ) (items : List (IndexItem IndexArray)) (done : List IndexPart) (axes : List ℕ) (left : List (IndexItem IndexArray)) : Type 0 where
   pub checked : IsChecked axes left
-  pub in_range : are_within axes left ≡ are_within shape items
+  pub in_range : (all_named done && are_within axes left) ≡ are_within shape items
   pub are : (more : List IndexPart) → AreParts axes more → AreParts shape (done ++ more)
-  pub show : map shown_part done ++ parts axes left ≡ parts shape items
+  pub show : are_within shape items ≡ true → map shown_part done ++ parts axes left ≡ parts shape items
 
 module _ (shape axes axes' taken : List ℕ) (items left left' : List (IndexItem IndexArray)) (item : IndexItem IndexArray) (done : List IndexPart) (next : IsNext axes left item taken axes' left') (have : HaveParts shape items done axes left) where
   -- what holds of all that is left holds of the next, and of all after it
@@ -78,8 +101,12 @@ module _ (shape axes axes' taken : List ℕ) (items left left' : List (IndexItem
   within_more : are_within axes left ≡ (is_within taken item && are_within axes' left')
   within_more = ap (list_all (λ p. is_within p.axes p.item)) next.placed
 
-  pub parts_on : (new : List IndexPart) → array_axes_taken left' ≤ length axes' → is_within taken item ≡ true → AddsParts done new taken (parts_of taken item) → HaveParts shape items new axes' left'
-  parts_on new enough here adds =
+  -- the tests of the parts so far, of the next item, and of those behind it
+  pub tested : (all_named done && (is_within taken item && are_within axes' left')) ≡ are_within shape items
+  tested = sym (ap (λ b. all_named done && b) within_more) ∙ have.in_range
+
+  pub parts_on : (new : List IndexPart) → array_axes_taken left' ≤ length axes' → AddsParts done new taken (is_within taken item) (parts_of taken item) → HaveParts shape items new axes' left'
+  parts_on new enough adds =
       let later = flat_map (λ p. parts_of p.axes p.item) (placed_arrays axes' left') in
       record {
         checked = record {
@@ -88,18 +115,27 @@ module _ (shape axes axes' taken : List ℕ) (items left left' : List (IndexItem
           covers = covered.1;
           steps = (parted has_step have.checked.steps).1;
         };
-        in_range = sym (within_more ∙ ap (λ b. b && are_within axes' left') here) ∙ have.in_range;
+        in_range =
+            ap (λ l. all_named l && are_within axes' left') adds.after
+            ∙ ap (λ b. b && are_within axes' left') (list_all-append is_named done adds.added ∙ ap (λ b. all_named done && b) adds.named)
+            ∙ and_assoc (all_named done) (is_within taken item) (are_within axes' left')
+            ∙ tested;
         are = λ more are-more.
             rw (adds.after, append_assoc done adds.added more) (have.are (adds.added ++ more) (subst (λ (s : List ℕ). AreParts s (adds.added ++ more)) (sym next.cut) (AreParts-append taken axes' adds.added more adds.are are-more)));
-        show =
+        show = λ all.
+            let here = (and_parts (is_within taken item) (are_within axes' left') (and_parts (all_named done) _ (tested ∙ all)).1).0 in
             ap (λ l. map shown_part l ++ parts axes' left') adds.after
             ∙ ap (λ l. l ++ parts axes' left') (map-append shown_part done adds.added)
-            ∙ ap (λ l. (map shown_part done ++ l) ++ parts axes' left') adds.show
+            ∙ ap (λ l. (map shown_part done ++ l) ++ parts axes' left') (adds.show here)
             ∙ append_assoc (map shown_part done) (parts_of taken item) (parts axes' left')
             ∙ ap (λ l. map shown_part done ++ l) (sym (append_assoc (parts_of taken item) later (wholes (left_over axes' left'))))
             ∙ sym (λ i. map shown_part done ++ (flat_map (λ p. parts_of p.axes p.item) (next.placed i) ++ wholes (next.over i)))
-            ∙ have.show;
+            ∙ have.show all;
       }
+
+  -- a refusal of the next item is one of all
+  pub outside_more : (e : Refusal) → IsOutside (is_within taken item) e → IsOutside (are_within shape items) e
+  outside_more e outside = outside-by (is_within taken item) (are_within shape items) e (λ fails. sym tested ∙ ap (λ b. all_named done && (b && are_within axes' left')) fails ∙ and-false (all_named done)) outside
 
 -- ---- what a test says
 
@@ -109,9 +145,9 @@ passed false refusal is = absurd (false≢true (ap is_ok is))
 
 -- ---- one item
 
-pub adds_integer : (old new : List IndexPart) (axes : List ℕ) (at : ℤ) (p : PointList) (n : ℕ) → length axes ≡ 1 → n ≡ get_or axes 0 0 → is_place n at ≡ true → p.lengths.items ≡ [] → p.axes.items ≡ n ∷ [] → p.ranks.items ≡ place_of n at ∷ [] → new ≡ old ++ PointsPart p ∷ [] →
-    AddsParts old new axes (parts_of axes (Integer at))
-adds_integer old new [] at p n one first place lengths axes_are ranks after = absurd (omega arith)
-adds_integer old new (m ∷ m' ∷ axes) at p n one first place lengths axes_are ranks after = absurd (omega arith)
-adds_integer old new (m ∷ []) at p n one first place lengths axes_are ranks after =
-    adds_points old new (m ∷ []) p (parts_of (m ∷ []) (Integer at)) (rw (← first) (integer-part n at p place lengths axes_are ranks)) after
+pub adds_integer : (old new : List IndexPart) (axes : List ℕ) (at : ℤ) (p : PointList) (n : ℕ) → length axes ≡ 1 → n ≡ get_or axes 0 0 → is_place n at ≡ true → p.lengths.items ≡ [] → p.axes.items ≡ n ∷ [] → are_named p.ranks ≡ true → ranks_of p.ranks ≡ place_of n at ∷ [] → new ≡ old ++ PointsPart p ∷ [] →
+    AddsParts old new axes (is_within axes (Integer at)) (parts_of axes (Integer at))
+adds_integer old new [] at p n one first place lengths axes_are named ranks after = absurd (omega arith)
+adds_integer old new (m ∷ m' ∷ axes) at p n one first place lengths axes_are named ranks after = absurd (omega arith)
+adds_integer old new (m ∷ []) at p n one first place lengths axes_are named ranks after =
+    adds_points old new (m ∷ []) p (parts_of (m ∷ []) (Integer at)) (is_place m at) (rw (← first) (integer-part n at p place lengths axes_are named ranks)) after

@@ -1,20 +1,22 @@
 -- Points on axes are those of the definitions.
-use Rattle.std.proofs.Common.{◌≡◌, ℕ, ◌+◌, ◌<◌, Bool, true, false, cond, List, [], ◌∷◌, map, length, get_or, drop, All, refl, sym, ap, subst, ◌∙◌, arith}
+use Rattle.std.proofs.Common.{◌≡◌, inl, inr, Result, Ok, Err, IfOk, ℕ, ◌+◌, ◌<◌, Bool, true, false, cond, ◌&&◌, List, [], ◌∷◌, map, length, get_or, drop, All, refl, sym, ap, subst, ◌∙◌, arith}
 use Rattle.std.specs.List.{list_all}
 use Rattle.std.specs.Ordering.{int_eq}
 use Rattle.std.specs.Str.{bytes_eq}
 use Rattle.std.proofs.lemmas.Bool.{and_parts}
+use Rattle.std.proofs.Math.Nat.{mod-eq_of_lt, mod-lt}
 use Rattle.std.proofs.lemmas.List.{length-map, drop_more}
 use Rattle.std.proofs.lemmas.List.Elements.{All-cons}
 use Rattle.std.proofs.lemmas.Slice.Eq.{bytes_eq-Decides}
 use lib.IntN.{ℤ, pos}
-use Rattle.fancy_index.specs.Words.{count, indexes, rank, get_or-indexes, length-indexes, axis_below, from_front, is_place}
+use Rattle.fancy_index.specs.Words.{Refusal, Gives, count, indexes, rank, get_or-indexes, length-indexes, axis_below, from_front, is_place}
 use Rattle.fancy_index.specs.declared.points.PointList.{PointList}
 use Rattle.fancy_index.specs.declared.kind.Kind.{Kind}
 use Rattle.fancy_index.specs.declared.kind.Kind.TheVariants.{Integers, Mask, NoIndex}
 use Rattle.fancy_index.specs.IndexArrays.{axes_of_kind, covers_kind, are_places}
 use Rattle.fancy_index.specs.Parts.{Points, true_indexes, point_at, points_of}
-use Rattle.fancy_index.specs.inside.PointLists.{place_of, true_ranks, tuple, IsPart}
+use Rattle.fancy_index.specs.inside.PointLists.{place_of, named_places, rank_on, HavePlaces, true_ranks, tuple, ranks_of, are_named, IsPart}
+use Rattle.fancy_index.proofs.WordLaws.{places-named}
 
 pub place-low : (n : ℕ) (at : ℤ) → is_place n at ≡ true → place_of n at < n
 place-low n at test = axis_below n (from_front n at) test
@@ -33,22 +35,40 @@ points-along n (number ∷ numbers) all =
     let later = points-along n numbers both.1 in
     λ i. first i ∷ later i
 
-places-low : (n : ℕ) (numbers : List ℤ) → list_all (is_place n) numbers ≡ true → All (λ rank. rank < count (n ∷ [])) (map (place_of n) numbers)
-places-low n [] all = λ k d below. absurd (omega arith)
-places-low n (number ∷ numbers) all =
+-- the ranks of numbers that name places are these
+pub ranks-named : (n : ℕ) (numbers : List ℤ) → list_all (is_place n) numbers ≡ true → map (rank_on n) numbers ≡ map (place_of n) numbers
+ranks-named n [] all = refl
+ranks-named n (number ∷ numbers) all =
     let both = and_parts (is_place n number) (list_all (is_place n) numbers) all in
-    All-cons (λ rank. rank < count (n ∷ [])) (place_of n number) (map (place_of n) numbers) (omega (arith, place-low n number both.0)) (places-low n numbers both.1)
+    λ i. mod-eq_of_lt (place-low n number both.0) i ∷ ranks-named n numbers both.1 i
+
+pub ranks-read : {X : Type 0} (view : X → List ℕ) (n : ℕ) (numbers : List ℤ) (r : Result X Refusal) → Gives view r (named_places n numbers) → IfOk r (λ x. view x ≡ map (rank_on n) numbers)
+ranks-read view n numbers (Ok x) read =
+    let named = places-named n numbers (view x) read in
+    named.1 ∙ sym (ranks-named n numbers named.0)
+ranks-read view n numbers (Err e) read = tt
+
+ranks-on : (n : ℕ) (numbers : List ℤ) → HavePlaces n numbers → All (λ rank. rank < count (n ∷ [])) (map (rank_on n) numbers)
+ranks-on n [] have = λ k d below. absurd (omega arith)
+ranks-on n (number ∷ numbers) (inl some) = All-cons (λ rank. rank < count (n ∷ [])) (rank_on n number) (map (rank_on n) numbers) (omega (arith, mod-lt (place_of n number) some)) (ranks-on n numbers (inl some))
+ranks-on n (number ∷ numbers) (inr none) = absurd (omega (arith, ap length none))
+
+-- numbers name no places where there are none
+pub none-named : (n : ℕ) (numbers : List ℤ) → n ≡ 0 → 0 < length numbers → list_all (is_place n) numbers ≡ false
+none-named n [] none some = absurd (omega (arith, some))
+none-named n (number ∷ numbers) none some = ap (λ b. b && list_all (is_place n) numbers) (elim (is_place n number) as (λ b. is_place n number ≡ b → b ≡ false) [ true ↦ λ is. absurd (omega (arith, place-low n number is, none)) | false ↦ λ is. refl ] refl)
 
 -- ---- an integer
 
-pub integer-part : (n : ℕ) (at : ℤ) (p : PointList) → is_place n at ≡ true → p.lengths.items ≡ [] → p.axes.items ≡ n ∷ [] → p.ranks.items ≡ place_of n at ∷ [] → IsPart (n ∷ []) p (Points [] (point_at n at ∷ []) ∷ [])
-integer-part n at p is-place lengths axes ranks = record {
+pub integer-part : (n : ℕ) (at : ℤ) (p : PointList) → is_place n at ≡ true → p.lengths.items ≡ [] → p.axes.items ≡ n ∷ [] → are_named p.ranks ≡ true → ranks_of p.ranks ≡ place_of n at ∷ [] → IsPart (n ∷ []) (is_place n at) p (Points [] (point_at n at ∷ []) ∷ [])
+integer-part n at p is-place lengths axes named ranks = record {
   axes = axes;
   list = record {
     within = subst (All (λ rank. rank < count p.axes.items)) (sym ranks) (rw axes (All-cons (λ rank. rank < count (n ∷ [])) (place_of n at) [] (omega (arith, place-low n at is-place)) (λ k d below. absurd (omega arith))));
     many = ap length ranks ∙ sym (ap count lengths);
   };
-  shows =
+  named = named ∙ sym is-place;
+  shows = λ _.
       let one = tuple-one n (place_of n at) (place-low n at is-place) in
       (λ i. Points [] (sym one i ∷ []) ∷ [])
       ∙ (λ i. Points (sym lengths i) (map (tuple (sym axes i)) (sym ranks i)) ∷ []);
@@ -56,15 +76,18 @@ integer-part n at p is-place lengths axes ranks = record {
 
 -- ---- an array of integers
 
-pub integers-part : (n : ℕ) (shape : List ℕ) (numbers : List ℤ) (p : PointList) → list_all (is_place n) numbers ≡ true → length numbers ≡ count shape → p.lengths.items ≡ shape → p.axes.items ≡ n ∷ [] → p.ranks.items ≡ map (place_of n) numbers → IsPart (n ∷ []) p (points_of Integers (n ∷ []) shape numbers)
-integers-part n shape numbers p within many lengths axes ranks = record {
+pub integers-part : (n : ℕ) (shape : List ℕ) (numbers : List ℤ) (p : PointList) → HavePlaces n numbers → length numbers ≡ count shape → p.lengths.items ≡ shape → p.axes.items ≡ n ∷ [] → are_named p.ranks ≡ list_all (is_place n) numbers → ranks_of p.ranks ≡ map (rank_on n) numbers →
+    IsPart (n ∷ []) (list_all (is_place n) numbers) p (points_of Integers (n ∷ []) shape numbers)
+integers-part n shape numbers p have many lengths axes named ranks = record {
   axes = axes;
   list = record {
-    within = subst (All (λ rank. rank < count p.axes.items)) (sym ranks) (rw axes (places-low n numbers within));
-    many = ap length ranks ∙ length-map numbers (place_of n) ∙ many ∙ sym (ap count lengths);
+    within = subst (All (λ rank. rank < count p.axes.items)) (sym ranks) (rw axes (ranks-on n numbers have));
+    many = ap length ranks ∙ length-map numbers (rank_on n) ∙ many ∙ sym (ap count lengths);
   };
-  shows =
+  named = named;
+  shows = λ within.
       (λ i. Points shape (sym (points-along n numbers within) i) ∷ [])
+      ∙ (λ i. Points shape (map (tuple (n ∷ [])) (sym (ranks-named n numbers within) i)) ∷ [])
       ∙ (λ i. Points (sym lengths i) (map (tuple (sym axes i)) (sym ranks i)) ∷ []);
 }
 
@@ -104,16 +127,17 @@ module _ (shape : List ℕ) where
         | false ↦ All-cons (λ r. r < count shape) rank (true_ranks (rank + 1) numbers) (omega (arith, long)) later
       ])
 
-pub mask-part : (axes shape : List ℕ) (numbers : List ℤ) (p : PointList) → bytes_eq shape axes ≡ true → length numbers ≡ count shape → p.lengths.items ≡ length p.ranks.items ∷ [] → p.axes.items ≡ shape → p.ranks.items ≡ true_ranks 0 numbers → IsPart axes p (points_of Mask axes shape numbers)
-mask-part axes shape numbers p covers many lengths axes_are ranks = record {
+pub mask-part : (axes shape : List ℕ) (numbers : List ℤ) (p : PointList) → bytes_eq shape axes ≡ true → length numbers ≡ count shape → p.lengths.items ≡ length (ranks_of p.ranks) ∷ [] → p.axes.items ≡ shape → are_named p.ranks ≡ true → ranks_of p.ranks ≡ true_ranks 0 numbers → IsPart axes true p (points_of Mask axes shape numbers)
+mask-part axes shape numbers p covers many lengths axes_are named ranks = record {
   axes = axes_are ∙ (bytes_eq-Decides shape axes).0 covers;
   list = record {
     within = subst (All (λ rank. rank < count p.axes.items)) (sym ranks) (rw axes_are (ranks-low shape numbers 0 (omega (arith, many))));
-    many = one (length p.ranks.items) ∙ sym (ap count lengths);
+    many = one (length (ranks_of p.ranks)) ∙ sym (ap count lengths);
   };
-  shows =
+  named = named;
+  shows = λ _.
       let points = true-from shape numbers 0 (omega (arith, many)) in
-      let count-same : length (map (tuple shape) (true_ranks 0 numbers)) ≡ length p.ranks.items = length-map (true_ranks 0 numbers) (tuple shape) ∙ ap length (sym ranks) in
+      let count-same : length (map (tuple shape) (true_ranks 0 numbers)) ≡ length (ranks_of p.ranks) = length-map (true_ranks 0 numbers) (tuple shape) ∙ ap length (sym ranks) in
       (λ i. Points (length (points i) ∷ []) (points i) ∷ [])
       ∙ (λ i. Points (count-same i ∷ []) (map (tuple shape) (true_ranks 0 numbers)) ∷ [])
       ∙ (λ i. Points (sym lengths i) (map (tuple (sym axes_are i)) (sym ranks i)) ∷ []);
@@ -124,18 +148,19 @@ mask-part axes shape numbers p covers many lengths axes_are ranks = record {
 
 -- ---- an array
 
-pub part-of_mask : (k : Kind) (axes shape : List ℕ) (numbers : List ℤ) (p : PointList) → k ≡ Mask → covers_kind k shape axes ≡ true → length numbers ≡ count shape → p.lengths.items ≡ length p.ranks.items ∷ [] → p.axes.items ≡ shape → p.ranks.items ≡ true_ranks 0 numbers → IsPart axes p (points_of k axes shape numbers)
-part-of_mask k axes shape numbers p is covers many lengths axes_are ranks =
-    subst (λ k. IsPart axes p (points_of k axes shape numbers)) (sym is) (mask-part axes shape numbers p (sym (ap (λ k. covers_kind k shape axes) is) ∙ covers) many lengths axes_are ranks)
+pub part-of_mask : (k : Kind) (axes shape : List ℕ) (numbers : List ℤ) (p : PointList) → k ≡ Mask → covers_kind k shape axes ≡ true → length numbers ≡ count shape → p.lengths.items ≡ length (ranks_of p.ranks) ∷ [] → p.axes.items ≡ shape → are_named p.ranks ≡ true → ranks_of p.ranks ≡ true_ranks 0 numbers →
+    IsPart axes (are_places k axes numbers) p (points_of k axes shape numbers)
+part-of_mask k axes shape numbers p is covers many lengths axes_are named ranks =
+    subst (λ k. IsPart axes (are_places k axes numbers) p (points_of k axes shape numbers)) (sym is) (mask-part axes shape numbers p (sym (ap (λ k. covers_kind k shape axes) is) ∙ covers) many lengths axes_are named ranks)
 
-pub part-of_integers : (k : Kind) (axes shape : List ℕ) (numbers : List ℤ) (p : PointList) (n : ℕ) → (k ≡ NoIndex → ⊥) → (k ≡ Mask → ⊥) → length axes ≡ axes_of_kind k shape → are_places k axes numbers ≡ true → length numbers ≡ count shape → n ≡ get_or axes 0 0 →
-    p.lengths.items ≡ shape → p.axes.items ≡ n ∷ [] → p.ranks.items ≡ map (place_of n) numbers → IsPart axes p (points_of k axes shape numbers)
-part-of_integers NoIndex axes shape numbers p n index mask one within many first lengths axes_are ranks = absurd (index refl)
-part-of_integers Mask axes shape numbers p n index mask one within many first lengths axes_are ranks = absurd (mask refl)
-part-of_integers Integers [] shape numbers p n index mask one within many first lengths axes_are ranks = absurd (omega arith)
-part-of_integers Integers (m ∷ m' ∷ axes) shape numbers p n index mask one within many first lengths axes_are ranks = absurd (omega arith)
-part-of_integers Integers (m ∷ []) shape numbers p n index mask one within many first lengths axes_are ranks =
-    integers-part m shape numbers p within many lengths (axes_are ∙ ap (λ n. n ∷ []) first) (ranks ∙ ap (λ n. map (place_of n) numbers) first)
+pub part-of_integers : (k : Kind) (axes shape : List ℕ) (numbers : List ℤ) (p : PointList) (n : ℕ) → (k ≡ NoIndex → ⊥) → (k ≡ Mask → ⊥) → length axes ≡ axes_of_kind k shape → HavePlaces n numbers → length numbers ≡ count shape → n ≡ get_or axes 0 0 →
+    p.lengths.items ≡ shape → p.axes.items ≡ n ∷ [] → are_named p.ranks ≡ list_all (is_place n) numbers → ranks_of p.ranks ≡ map (rank_on n) numbers → IsPart axes (are_places k axes numbers) p (points_of k axes shape numbers)
+part-of_integers NoIndex axes shape numbers p n index mask one have many first lengths axes_are named ranks = absurd (index refl)
+part-of_integers Mask axes shape numbers p n index mask one have many first lengths axes_are named ranks = absurd (mask refl)
+part-of_integers Integers [] shape numbers p n index mask one have many first lengths axes_are named ranks = absurd (omega arith)
+part-of_integers Integers (m ∷ m' ∷ axes) shape numbers p n index mask one have many first lengths axes_are named ranks = absurd (omega arith)
+part-of_integers Integers (m ∷ []) shape numbers p n index mask one have many first lengths axes_are named ranks =
+    integers-part m shape numbers p (subst (λ n. HavePlaces n numbers) first have) many lengths (axes_are ∙ ap (λ n. n ∷ []) first) (named ∙ ap (λ n. list_all (is_place n) numbers) first) (ranks ∙ ap (λ n. map (rank_on n) numbers) first)
 
 -- an axis for an array of integers
 pub one_axis : (k : Kind) (axes shape : List ℕ) → (k ≡ NoIndex → ⊥) → (k ≡ Mask → ⊥) → length axes ≡ axes_of_kind k shape → 0 < length axes

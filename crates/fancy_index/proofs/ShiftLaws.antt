@@ -4,16 +4,16 @@ use Rattle.fancy_index.specs.Words.{count, rank, IsIndex, length-index, rank-lt,
 use Rattle.fancy_index.specs.declared.points.PointList.{PointList}
 use Rattle.fancy_index.specs.declared.parts.IndexPart.{IndexPart}
 use Rattle.fancy_index.specs.declared.parts.IndexPart.TheVariants.{Axis as AxisPart, Points as PointsPart, Between as BetweenPart}
-use Rattle.fancy_index.specs.inside.PointLists.{tuple}
+use Rattle.fancy_index.specs.inside.PointLists.{tuple, ranks_of}
 use Rattle.fancy_index.specs.inside.PartLists.{IsReady, HasPointAt, IsReadyAt}
 
 -- ---- points
 
 -- the rank of a point is one of the ranks
-pub rank-low : (at : List ℕ) (p : PointList) → HasPointAt at p → rank p.lengths.items (broadcast_index p.lengths.items at) < length p.ranks.items
+pub rank-low : (at : List ℕ) (p : PointList) → HasPointAt at p → rank p.lengths.items (broadcast_index p.lengths.items at) < length (ranks_of p.ranks)
 rank-low at p has = omega (arith, rank-lt p.lengths.items (broadcast_index p.lengths.items at) has.within, has.list.many)
 
-pub point-low : (at : List ℕ) (p : PointList) (d : ℕ) → HasPointAt at p → get_or p.ranks.items (rank p.lengths.items (broadcast_index p.lengths.items at)) d < count p.axes.items
+pub point-low : (at : List ℕ) (p : PointList) (d : ℕ) → HasPointAt at p → get_or (ranks_of p.ranks) (rank p.lengths.items (broadcast_index p.lengths.items at)) d < count p.axes.items
 point-low at p d has = has.list.within (rank p.lengths.items (broadcast_index p.lengths.items at)) d (rank-low at p has)
 
 pub tuple-is : (axes index : List ℕ) (r : ℕ) → IsIndex axes index → rank axes index ≡ r → index ≡ tuple axes r

@@ -12,7 +12,7 @@ use Rattle.fancy_index.specs.declared.points.PointList.{PointList}
 use Rattle.fancy_index.specs.declared.parts.IndexPart.{IndexPart}
 use Rattle.fancy_index.specs.declared.parts.IndexPart.TheVariants.{Axis as AxisPart, Points as PointsPart, Between as BetweenPart}
 use Rattle.fancy_index.specs.inside.Moved.{moved_offset, IsMoved}
-use Rattle.fancy_index.specs.inside.PointLists.{tuple}
+use Rattle.fancy_index.specs.inside.PointLists.{tuple, ranks_of}
 use Rattle.fancy_index.specs.inside.Ranks.{led}
 use Rattle.fancy_index.specs.inside.PartLists.{AreParts, IsReady, HasPointAt, IsReadyAt, point_of, numbers_at, first_at, first_offset, LeadInto}
 use Rattle.fancy_index.specs.inside.Sums.{stretched_ranks, point_number, start_of, starts, strides_along, part_offset, BeginAt, BeginsAt, CanGrow, HaveGrown, partly, AreSums}
@@ -26,38 +26,38 @@ rank-itself lengths r low =
     let found = index_at lengths r low in
     ap (rank lengths) (broadcast_index-itself lengths (tuple lengths r) (tuple-in lengths r low) ∙ sym (tuple-is lengths found.0 r found.1 found.2)) ∙ found.2
 
-module _ (p : PointList) (lengths : List ℕ) where
+module _ (own numbers lengths : List ℕ) where
   -- points for each index of the common lengths
-  pub whole-number : (ranks : List ℕ) (k : ℕ) → p.lengths.items ≡ lengths → ranks ≡ p.ranks.items → k < count lengths → get_or ranks k 0 ≡ point_number lengths p k
+  pub whole-number : (ranks : List ℕ) (k : ℕ) → own ≡ lengths → ranks ≡ numbers → k < count lengths → get_or ranks k 0 ≡ point_number lengths own numbers k
   whole-number ranks k is same low =
-      ap (λ l. get_or l k 0) same ∙ ap (λ j. get_or p.ranks.items j 0) (sym (ap (λ (s : List ℕ). rank s (broadcast_index s (tuple lengths k))) is ∙ rank-itself lengths k low))
+      ap (λ l. get_or l k 0) same ∙ ap (λ j. get_or numbers j 0) (sym (ap (λ (s : List ℕ). rank s (broadcast_index s (tuple lengths k))) is ∙ rank-itself lengths k low))
 
-  module _ (places : List ℕ) (are : places ≡ stretched_ranks p.lengths.items lengths) where
-    place-at : (k d : ℕ) → k < count lengths → get_or places k d ≡ rank p.lengths.items (broadcast_index p.lengths.items (tuple lengths k))
+  module _ (places : List ℕ) (are : places ≡ stretched_ranks own lengths) where
+    place-at : (k d : ℕ) → k < count lengths → get_or places k d ≡ rank own (broadcast_index own (tuple lengths k))
     place-at k d low =
-        ap (λ l. get_or l k d) are ∙ get_or-map (λ index. rank p.lengths.items (broadcast_index p.lengths.items index)) (indexes lengths) k [] d (omega (arith, low, length-indexes lengths))
+        ap (λ l. get_or l k d) are ∙ get_or-map (λ index. rank own (broadcast_index own index)) (indexes lengths) k [] d (omega (arith, low, length-indexes lengths))
 
     pub length-places : length places ≡ count lengths
-    length-places = ap length are ∙ length-map (indexes lengths) (λ index. rank p.lengths.items (broadcast_index p.lengths.items index)) ∙ length-indexes lengths
+    length-places = ap length are ∙ length-map (indexes lengths) (λ index. rank own (broadcast_index own index)) ∙ length-indexes lengths
 
-    pub stretched-number : (ranks : List ℕ) (k : ℕ) → ranks ≡ p.ranks.items → k < count lengths → get_or ranks (get_or places k 0) 0 ≡ point_number lengths p k
+    pub stretched-number : (ranks : List ℕ) (k : ℕ) → ranks ≡ numbers → k < count lengths → get_or ranks (get_or places k 0) 0 ≡ point_number lengths own numbers k
     stretched-number ranks k same low = λ i. get_or (same i) (place-at k 0 low i) 0
 
-    pub places-low : (ranks : List ℕ) → ranks ≡ p.ranks.items → length p.ranks.items ≡ count p.lengths.items → can_stretch p.lengths.items lengths ≡ true → All (λ place. place < length ranks) places
+    pub places-low : (ranks : List ℕ) → ranks ≡ numbers → length numbers ≡ count own → can_stretch own lengths ≡ true → All (λ place. place < length ranks) places
     places-low ranks same many fit = λ k d below.
         let low : k < count lengths = omega (arith, below, length-places) in
-        let in' = IsIndex-broadcast p.lengths.items lengths (tuple lengths k) fit (tuple-in lengths k low) in
-        omega (arith, rank-lt p.lengths.items _ in', many, ap length same, place-at k d low)
+        let in' = IsIndex-broadcast own lengths (tuple lengths k) fit (tuple-in lengths k low) in
+        omega (arith, rank-lt own _ in', many, ap length same, place-at k d low)
 
 -- points whose ranks were led to offsets
-pub led-number : (layout : Layout) (axis start : ℕ) (lengths : List ℕ) (p : PointList) (l : Layout) (axes old new : List ℕ) → BeginAt layout axis start p.axes.items → IsReady lengths (PointsPart p) → axes ≡ p.axes.items → old ≡ p.ranks.items →
+pub led-number : (layout : Layout) (axis start : ℕ) (lengths : List ℕ) (p : PointList) (l : Layout) (axes old new : List ℕ) → BeginAt layout axis start p.axes.items → IsReady lengths (PointsPart p) → axes ≡ p.axes.items → old ≡ ranks_of p.ranks →
     l.shape ≡ axes → l.strides ≡ strides_along layout axis axes → l.offset ≡ start → new ≡ led (offsets l) old → (k : ℕ) → k < count lengths → get_or new (rank p.lengths.items (broadcast_index p.lengths.items (tuple lengths k))) 0 ≡ part_offset layout axis start lengths (PointsPart p) k
 led-number layout axis start lengths p l axes old new begin ready same same' shape strides offset is k low =
     let at = tuple lengths k in
     let j = rank p.lengths.items (broadcast_index p.lengths.items at) in
     let has : HasPointAt at p = ready_at lengths at (tuple-in lengths k low) (PointsPart p) ready in
     ap (λ x. get_or x j 0) (is ∙ ap (led (offsets l)) same')
-    ∙ led-along layout axis start p.axes.items begin l p.ranks.items j (shape ∙ same) (strides ∙ ap (strides_along layout axis) same) offset (rank-low at p has) (point-low at p 0 has)
+    ∙ led-along layout axis start p.axes.items begin l (ranks_of p.ranks) j (shape ∙ same) (strides ∙ ap (strides_along layout axis) same) offset (rank-low at p has) (point-low at p 0 has)
 
 -- ---- points that become 0
 
@@ -224,7 +224,7 @@ module _ (layout : Layout) (parts : List IndexPart) (lengths : List ℕ) (ready 
         let has : HasPointAt at p = subst (IsReadyAt at) is (ready-at r below k (PointsPart p) low) in
         let adds = along-adds layout p.axes.items front (point_of p at) back axis (front-length k r below ∙ sym axes) (point-length at p has) in
         further _ _ _ start _ (ap (address layout) (next k r (PointsPart p) low is) ∙ adds ∙ ap (λ l. address layout l +ℤ dot (strides_along layout axis p.axes.items) (point_of p at)) (sym (here k r (PointsPart p) low is)))
-        (pos-along layout axis start p.axes.items begin (point_number lengths p r) (point-low at p 0 has))
+        (pos-along layout axis start p.axes.items begin (point_number lengths p.lengths.items (ranks_of p.ranks) r) (point-low at p 0 has))
 
     pub sums_none : AreSums layout parts lengths start [] 0 0
     sums_none = record { many = inl refl; axes = refl; each = λ r low. ap natural start-is }

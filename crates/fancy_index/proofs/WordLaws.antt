@@ -86,8 +86,8 @@ by_all : (test : Bool) (all places : List ℕ) → cond test (Ok all) (Err Index
 by_all true all places is = (refl, subst (λ r. IfOk r (λ p. p ≡ all)) is refl)
 by_all false all places is = absurd (false≢true (ap is_ok is))
 
-pub are_named : (n : ℕ) (numbers : List ℤ) (places : List ℕ) → named_places n numbers ≡ Ok places → (list_all (is_place n) numbers ≡ true) × (places ≡ map (place_of n) numbers)
-are_named n numbers places is = by_all (list_all (is_place n) numbers) (map (place_of n) numbers) places is
+pub places-named : (n : ℕ) (numbers : List ℤ) (places : List ℕ) → named_places n numbers ≡ Ok places → (list_all (is_place n) numbers ≡ true) × (places ≡ map (place_of n) numbers)
+places-named n numbers places is = by_all (list_all (is_place n) numbers) (map (place_of n) numbers) places is
 
 by_none : (test : Bool) (all : List ℕ) (e : Refusal) → cond test (Ok all) (Err IndexOutOfRange) ≡ Err e → check test IndexOutOfRange ≡ Err e
 by_none true all e is = absurd (false≢true (sym (ap is_ok is)))
@@ -105,7 +105,7 @@ no_places n numbers places many = record { many = many; done = λ j low. absurd 
 left_more : (n k : ℕ) (numbers : List ℤ) → k < length numbers → list_all (is_place n) (drop k numbers) ≡ (is_place n (get_or numbers k (pos 0)) && list_all (is_place n) (drop (k + 1) numbers))
 left_more n k numbers low = ap (list_all (is_place n)) (drop_more numbers k (pos 0) low)
 
-and_assoc : (a b c : Bool) → ((a && b) && c) ≡ (a && (b && c))
+pub and_assoc : (a b c : Bool) → ((a && b) && c) ≡ (a && (b && c))
 and_assoc true b c = refl
 and_assoc false b c = refl
 

@@ -23,7 +23,7 @@ fn push_picked(lengths: &mut SmallVec<usize, 8>, pick: AxisPick) -> Result<(), A
     }
 }
 
-fn push_axis(lengths: &mut SmallVec<usize, 8>, part: &IndexPart) -> Result<(), AllocError>
+fn push_axis(lengths: &mut SmallVec<usize, 8>, part: &IndexPart<'_>) -> Result<(), AllocError>
     ensures { let more = axes_of_part (shown_part part.now) in
         OnOk result (lengths.new.items ≡ lengths.old.items ++ more) }
 {
@@ -34,7 +34,7 @@ fn push_axis(lengths: &mut SmallVec<usize, 8>, part: &IndexPart) -> Result<(), A
 }
 
 /// The lengths of all axes but those of the points.
-fn other_axes(alloc: Global, parts: &[IndexPart]) -> Result<SmallVec<usize, 8>, AllocError>
+fn other_axes(alloc: Global, parts: &[IndexPart<'_>]) -> Result<SmallVec<usize, 8>, AllocError>
     ensures { IfOk result (λ v. v.items ≡ other_axes (map shown_part parts.now)) }
 {
     let mut lengths = SmallVec::new(alloc);
@@ -47,7 +47,7 @@ fn other_axes(alloc: Global, parts: &[IndexPart]) -> Result<SmallVec<usize, 8>, 
 /// The lengths of all axes: those of the points at their place among the others.
 fn all_axes(
     alloc: Global,
-    parts: &[IndexPart],
+    parts: &[IndexPart<'_>],
     points: &[usize],
 ) -> Result<SmallVec<usize, 8>, AllocError>
     ensures { IfOk result (λ v. v.items ≡ all_axes points.now (map shown_part parts.now)) }
@@ -63,7 +63,7 @@ fn all_axes(
 /// The shape of the result, or its refusal.
 pub(crate) fn shape_of_all(
     alloc: Global,
-    parts: &[IndexPart],
+    parts: &[IndexPart<'_>],
     points: &[usize],
 ) -> Result<Shape, Refusal>
     ensures { Gives (λ s. s) result (shape_of (all_axes points.now (map shown_part parts.now))) }

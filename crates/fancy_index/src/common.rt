@@ -15,7 +15,7 @@ use std::alloc::Global;
 fn common_with_part(
     alloc: Global,
     lengths: SmallVec<usize, 8>,
-    part: &IndexPart,
+    part: &IndexPart<'_>,
 ) -> Result<SmallVec<usize, 8>, Refusal>
     ensures { let shapes = shapes_of_part (shown_part part.now) in
         Gives (λ v. v.items) result (as_index_shapes (common_with lengths.items shapes)) }
@@ -36,7 +36,7 @@ fn common_with_part(
 /// refused as `IndexShapes`.
 pub(crate) fn points_shape(
     alloc: Global,
-    parts: &[IndexPart],
+    parts: &[IndexPart<'_>],
 ) -> Result<SmallVec<usize, 8>, Refusal>
     ensures { Gives (λ v. v.items) result (points_shape (map shown_part parts.now)) }
 {

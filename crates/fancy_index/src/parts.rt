@@ -1,15 +1,16 @@
 //! The parts that the items of an index list stand for.
-ghost use Rattle.std.specs.Prelude.{◌≡◌, ◌≤◌, ◌∷◌, length, map, true, false, All, IfOk, OnOk};
+ghost use Rattle.std.specs.Prelude.{◌≡◌, ◌≤◌, ◌∷◌, length, map, true, false, All, IfErr, IfOk, OnOk};
 ghost use Rattle.fancy_index.specs.Words.{max_items, is_ellipsis, has_step};
 ghost use Rattle.fancy_index.specs.IndexArrays.{is_index, item_axes, covers, is_within, are_within};
 ghost use Rattle.fancy_index.specs.Parts.{Between, wholes, parts_of, parts};
-ghost use Rattle.fancy_index.specs.inside.Items.{index_item_of, ItemsLieInBlock, IsWithin};
+ghost use Rattle.fancy_index.specs.inside.Items.{index_item_of, ItemsLieInBlock, IsWithin, IsOutside};
 ghost use Rattle.fancy_index.specs.inside.Lists.{items_left};
-ghost use Rattle.fancy_index.specs.inside.PartLists.{IsChecked, shown_part, AreParts, AddsParts};
+ghost use Rattle.fancy_index.specs.inside.PartLists.{IsChecked, shown_part, is_named, all_named, AreParts, AddsParts};
 
 use crate::lists::Left;
-use crate::points::{PointList, array_points, integer_point};
+use crate::points::{PointList, Ranks, array_points, integer_point};
 use crate::source::Indices;
+use crate::words::places;
 use elem_descr::{IndexItem, Refusal};
 use std::alloc::{AllocError, Global};
 use view_ops::{AxisPick, pick_of, whole_axis};
@@ -17,14 +18,15 @@ use view_ops::{AxisPick, pick_of, whole_axis};
 /// A part: an axis that is picked as by a basic index, or a new one; points on some axes; or what a
 /// written `...` leaves behind, which stands between what is before and after it.
 #[derive(Drop)]
-pub(crate) enum IndexPart {
+pub(crate) enum IndexPart<'a> {
     Axis(AxisPick),
-    Points(PointList),
+    Points(PointList<'a>),
     Between,
 }
 
-fn push_wholes(parts: &mut Vec<IndexPart>, axes: &[usize]) -> Result<(), AllocError>
-    ensures { OnOk result (AddsParts parts.old.items parts.new.items axes.now (wholes axes.now)) }
+fn push_wholes(parts: &mut Vec<IndexPart<'_>>, axes: &[usize]) -> Result<(), AllocError>
+    ensures { let there = wholes axes.now in
+        OnOk result (AddsParts parts.old.items parts.new.items axes.now true there) }
 {
     for n in axes {
         parts.push(IndexPart::Axis(whole_axis(*n)))?;
@@ -32,20 +34,21 @@ fn push_wholes(parts: &mut Vec<IndexPart>, axes: &[usize]) -> Result<(), AllocEr
     Ok(())
 }
 
-fn push_between(parts: &mut Vec<IndexPart>, axes: &[usize]) -> Result<(), AllocError>
+fn push_between(parts: &mut Vec<IndexPart<'_>>, axes: &[usize]) -> Result<(), AllocError>
     ensures { let there = Between ∷ wholes axes.now in
-        OnOk result (AddsParts parts.old.items parts.new.items axes.now there) }
+        OnOk result (AddsParts parts.old.items parts.new.items axes.now true there) }
 {
     parts.push(IndexPart::Between)?;
     push_wholes(parts, axes)
 }
 
-/// Adds what an item comes to on the axes that it takes, or refuses a number of it.
-fn push_parts(
+/// Adds what an item comes to on the axes that it takes, with an array of integers not read yet, or
+/// refuses a number of it.
+fn push_parts<'a>(
     alloc: Global,
-    parts: &mut Vec<IndexPart>,
+    parts: &mut Vec<IndexPart<'a>>,
     axes: &[usize],
-    item: IndexItem<Indices<'_>>,
+    item: IndexItem<Indices<'a>>,
 ) -> Result<(), Refusal>
     requires small { All (λ n. n ≤ max_items) axes.now }
     requires lies { ItemsLieInBlock item }
@@ -54,9 +57,10 @@ fn push_parts(
         → length axes.now ≡ item_axes (index_item_of item) }
     requires covers { covers axes.now (index_item_of item) ≡ true }
     requires step { has_step (index_item_of item) ≡ true }
-    ensures within { IsWithin (is_within axes.now (index_item_of item.entry)) result }
-    ensures added { let there = parts_of axes.now (index_item_of item.entry) in
-        OnOk result (AddsParts parts.old.items parts.new.items axes.now there) }
+    ensures added { let test = is_within axes.now (index_item_of item.entry) in
+        let there = parts_of axes.now (index_item_of item.entry) in
+        OnOk result (AddsParts parts.old.items parts.new.items axes.now test there) }
+    ensures err { IfErr result (IsOutside (is_within axes.now (index_item_of item.entry))) }
 {
     match item {
         IndexItem::Integer(at) => {
@@ -76,14 +80,18 @@ fn push_parts(
     }
 }
 
-/// The parts that the items come to over the axes, or the refusal of a number.
-pub(crate) fn parts_of(alloc: Global, left: Left<'_>) -> Result<Vec<IndexPart>, Refusal>
+/// The parts that the items come to over the axes, with arrays of integers not read yet, or the refusal
+/// of a number.
+pub(crate) fn parts_of<'a>(alloc: Global, left: Left<'a>) -> Result<Vec<IndexPart<'a>>, Refusal>
     requires small { All (λ n. n ≤ max_items) left.axes.now }
     requires checked { IsChecked left.axes.now (items_left left) }
-    ensures within { IsWithin (are_within left.entry.axes.now (items_left left.entry)) result }
     ensures are { IfOk result (λ v. AreParts left.entry.axes.now v.items) }
-    ensures shown { IfOk result (λ v.
-        map shown_part v.items ≡ parts left.entry.axes.now (items_left left.entry)) }
+    ensures named { IfOk result (λ v.
+        all_named v.items ≡ are_within left.entry.axes.now (items_left left.entry)) }
+    ensures shown { IfOk result (λ v. all_named v.items ≡ true
+        → map shown_part v.items ≡ parts left.entry.axes.now (items_left left.entry)) }
+    ensures err { IfErr result
+        (IsOutside (are_within left.entry.axes.now (items_left left.entry))) }
 {
     let mut parts = Vec::new(alloc);
     let mut left = left;
@@ -92,4 +100,32 @@ pub(crate) fn parts_of(alloc: Global, left: Left<'_>) -> Result<Vec<IndexPart>, 
     }
     push_wholes(&mut parts, left.axes)?;
     Ok(parts)
+}
+
+/// Refuses a number of a part that names no place.
+fn check_part(alloc: Global, part: &IndexPart<'_>) -> Result<(), Refusal>
+    ensures { IsWithin (is_named part.now) result }
+{
+    match part {
+        IndexPart::Points(
+            PointList {
+                ranks: Ranks::Unread(named),
+                ..
+            },
+        ) => {
+            places(alloc, named.array, named.n)?;
+            Ok(())
+        }
+        _ => Ok(()),
+    }
+}
+
+/// Refuses a number that names no place. Each array is read for itself.
+pub(crate) fn check_numbers(alloc: Global, parts: &[IndexPart<'_>]) -> Result<(), Refusal>
+    ensures { IsWithin (all_named parts.now) result }
+{
+    for part in parts {
+        check_part(alloc, part)?;
+    }
+    Ok(())
 }

@@ -15,7 +15,7 @@ enum Stretch {
     After,
 }
 
-impl IndexPart {
+impl IndexPart<'_> {
     pub(crate) fn is_points(&self) -> bool
         ensures { result ≡ are_points (shown_part self.now) }
     {
@@ -47,7 +47,7 @@ fn gone_on(stretch: Stretch, is_points: bool) -> Option<Stretch>
 }
 
 /// Whether all points stand side by side.
-fn side_by_side(parts: &[IndexPart]) -> bool
+fn side_by_side(parts: &[IndexPart<'_>]) -> bool
     ensures { result ≡ side_by_side (map shown_part parts.now) }
 {
     let mut stretch = Stretch::Before;
@@ -61,7 +61,7 @@ fn side_by_side(parts: &[IndexPart]) -> bool
 }
 
 /// How many other axes stand before the first points.
-fn axes_before(parts: &[IndexPart]) -> usize
+fn axes_before(parts: &[IndexPart<'_>]) -> usize
     ensures { result ≡ axes_before (map shown_part parts.now) }
 {
     let mut axes = 0;
@@ -76,7 +76,7 @@ fn axes_before(parts: &[IndexPart]) -> usize
 
 /// How many other axes stand before those of the points: where the points are not side by side, theirs
 /// come first.
-pub(crate) fn points_place(parts: &[IndexPart]) -> usize
+pub(crate) fn points_place(parts: &[IndexPart<'_>]) -> usize
     ensures value { result ≡ points_place (map shown_part parts.now) }
     ensures within { result ≤ length (other_axes (map shown_part parts.now)) }
 {

@@ -1,15 +1,16 @@
 //! Plans of index lists with arrays.
-ghost use Rattle.std.specs.Prelude.{◌≡◌, ◌<◌, [], length, map, All, IfOk, IfErr};
-ghost use Rattle.fancy_index.specs.Words.{OutOfMemory, count};
-ghost use Rattle.fancy_index.specs.Indexed.{all_axes, view_of, parts_view, indexed};
+ghost use Rattle.std.specs.Prelude.{◌≡◌, ◌⊎◌, ◌<◌, [], length, map, All, Ok, Err, IfOk, IfErr};
+ghost use Rattle.fancy_index.specs.Words.{OutOfMemory, count, shape_of};
+ghost use Rattle.fancy_index.specs.Indexed.{points_shape, all_axes, view_of, parts_view, indexed};
 ghost use Rattle.fancy_index.specs.Sources.{LiesInBlock, IsNamed, index_items};
 ghost use Rattle.fancy_index.specs.Plans.{IsPlanOf, GivesPlan};
-ghost use Rattle.fancy_index.specs.inside.PartLists.{shown_part, AreParts, IsReady};
+ghost use Rattle.fancy_index.specs.inside.Items.{IsWithin};
+ghost use Rattle.fancy_index.specs.inside.PartLists.{shown_part, all_named, AreParts, IsReady, view_if_named};
 
 use crate::axes::shape_of_all;
 use crate::checks::check;
 use crate::common::points_shape;
-use crate::parts::{IndexPart, parts_of};
+use crate::parts::{IndexPart, check_numbers, parts_of};
 use crate::place::points_place;
 use crate::plans::Plan;
 use crate::rest::{back, front, rest};
@@ -17,6 +18,7 @@ use crate::shifts::shifts;
 use crate::source::Indices;
 use elem_descr::{IndexItem, Refusal};
 use shape_strides::{Layout, Shape};
+use smallvec::SmallVec;
 use std::alloc::{AllocError, Global};
 
 /// The plan of a shape without items.
@@ -30,11 +32,24 @@ fn plan_of_none(alloc: Global, shape: Shape) -> Result<Plan, AllocError>
     Plan::try_new(alloc, shape, outer, Vec::new(alloc), inner)
 }
 
-/// The plan of a shape with items.
+/// The lengths that the points have in common, and the shape of the result, or its refusal.
+fn shapes(alloc: Global, parts: &[IndexPart<'_>]) -> Result<(SmallVec<usize, 8>, Shape), Refusal>
+    ensures points { IfOk result (λ r. points_shape (map shown_part parts.now) ≡ Ok r.0.items) }
+    ensures shape { IfOk result (λ r.
+        shape_of (all_axes r.0.items (map shown_part parts.now)) ≡ Ok r.1) }
+    ensures err { let there = parts_view (map shown_part parts.now) in
+        IfErr result (λ e. (e ≡ OutOfMemory) ⊎ (there ≡ Err e)) }
+{
+    let points = points_shape(alloc, parts)?;
+    let shape = shape_of_all(alloc, parts, points.as_slice())?;
+    Ok((points, shape))
+}
+
+/// The plan of a shape with items, or the refusal of a number.
 fn plan_of_some(
     alloc: Global,
     layout: &Layout,
-    parts: &mut [IndexPart],
+    parts: &mut [IndexPart<'_>],
     points: &[usize],
     shape: Shape,
 ) -> Result<Plan, Refusal>
@@ -44,7 +59,7 @@ fn plan_of_some(
     requires some { 0 < count shape }
     ensures ok { IfOk result (λ plan.
         IsPlanOf layout.now plan (view_of points.now (map shown_part parts.old))) }
-    ensures err { IfErr result (λ refusal. refusal ≡ OutOfMemory) }
+    ensures within { IsWithin (all_named parts.old) result }
 {
     let _lengths = shape.as_slice();
     let rest = rest(alloc, layout, parts)?;
@@ -56,18 +71,30 @@ fn plan_of_some(
     Ok(Plan::try_new(alloc, shape, outer, shifts, inner)?)
 }
 
-/// The plan of what parts show, or its refusal.
-fn plan_of_parts(alloc: Global, layout: &Layout, parts: &mut [IndexPart]) -> Result<Plan, Refusal>
+/// The plan of what parts show, or its refusal. A number that names no place is refused before the shapes
+/// are.
+fn plan_of_parts(
+    alloc: Global,
+    layout: &Layout,
+    parts: &mut [IndexPart<'_>],
+) -> Result<Plan, Refusal>
     requires { AreParts layout.now.shape parts.old }
-    ensures { GivesPlan layout.now result (parts_view (map shown_part parts.old)) }
+    ensures { GivesPlan layout.now result (view_if_named parts.old) }
 {
     let _lengths = layout.shape.as_slice();
-    let points = points_shape(alloc, parts)?;
-    let shape = shape_of_all(alloc, parts, points.as_slice())?;
-    if shape.items() == 0 {
-        return Ok(plan_of_none(alloc, shape)?);
+    match shapes(alloc, parts) {
+        Ok((points, shape)) => {
+            if shape.items() > 0 {
+                return plan_of_some(alloc, layout, parts, points.as_slice(), shape);
+            }
+            check_numbers(alloc, parts)?;
+            Ok(plan_of_none(alloc, shape)?)
+        }
+        Err(refusal) => {
+            check_numbers(alloc, parts)?;
+            Err(refusal)
+        }
     }
-    plan_of_some(alloc, layout, parts, points.as_slice(), shape)
 }
 
 /// Where the items lie that an index list with arrays takes, as NumPy's integer and boolean indexing

@@ -1,36 +1,64 @@
 //! Points on some axes: those of an integer, of an array of integers and of a mask.
-ghost use Rattle.std.specs.Prelude.{◌≡◌, ◌≢◌, ◌≤◌, [], ◌∷◌, length, map, pos, true, All, IfOk};
-ghost use Rattle.fancy_index.specs.Words.{Gives, max_items, is_place};
+ghost use Rattle.std.specs.Prelude.{◌≡◌, ◌≢◌, ◌≤◌, [], ◌∷◌, length, map, true, All, IfErr, IfOk};
+ghost use Rattle.std.specs.List.{list_all};
+ghost use Rattle.fancy_index.specs.Words.{max_items, is_place};
 ghost use Rattle.fancy_index.specs.declared.kind.Kind.TheVariants.{Mask, NoIndex};
 ghost use Rattle.fancy_index.specs.IndexArrays.{item_axes, covers, is_within};
 ghost use Rattle.fancy_index.specs.Parts.{parts_of};
 ghost use Rattle.fancy_index.specs.Sources.{index_array_of, LiesInBlock};
-ghost use Rattle.fancy_index.specs.inside.Items.{kind_in, numbers_in, array_item, IsWithin};
-ghost use Rattle.fancy_index.specs.inside.PointLists.{place_of, named_places, true_ranks, IsPart};
+ghost use Rattle.fancy_index.specs.inside.Items.{kind_in, numbers_in, array_item, IsWithin, IsOutside};
+ghost use Rattle.fancy_index.specs.inside.PointLists.{place_of, rank_on, HavePlaces, true_ranks, ranks_of, are_named, IsPart};
 
 use crate::bools::true_ranks;
 use crate::kind::Kind;
-use crate::source::{Indices, kind};
+use crate::source::{Indices, Named, kind};
 use crate::words::{named_place, places};
 use elem_descr::Refusal;
 use smallvec::SmallVec;
 use std::alloc::{AllocError, Global};
+use std::mem;
+
+/// The ranks of points: those that are held, or the places that the numbers of an array name, which
+/// is read when they are wanted.
+#[derive(Drop)]
+pub(crate) enum Ranks<'a> {
+    Held(Vec<u32>),
+    Unread(Named<'a>),
+}
 
 /// Points in a shape of their own, each on the same axes: its rank along these.
 #[derive(Drop)]
-pub(crate) struct PointList {
+pub(crate) struct PointList<'a> {
     pub lengths: SmallVec<usize, 8>,
     pub axes: SmallVec<usize, 8>,
-    pub ranks: Vec<u32>,
+    pub ranks: Ranks<'a>,
+}
+
+impl Ranks<'_> {
+    /// Takes the ranks, which are read unless they are held, or refuses a number that names no place.
+    pub(crate) fn take(&mut self, alloc: Global) -> Result<Vec<u32>, Refusal>
+        ensures within { IsWithin (are_named self.old) result }
+        ensures ranks { IfOk result (λ v. v.items ≡ ranks_of self.old) }
+    {
+        match self {
+            Ranks::Held(ranks) => Ok(mem::replace(ranks, Vec::new(alloc))),
+            Ranks::Unread(named) => places(alloc, named.array, named.n),
+        }
+    }
 }
 
 /// The one point of an integer, or its refusal.
-pub(crate) fn integer_point(alloc: Global, n: usize, at: i128) -> Result<PointList, Refusal>
+pub(crate) fn integer_point(
+    alloc: Global,
+    n: usize,
+    at: i128,
+) -> Result<PointList<'static>, Refusal>
     requires { n ≤ max_items }
     ensures within { IsWithin (is_place n at) result }
     ensures lengths { IfOk result (λ p. p.lengths.items ≡ []) }
     ensures axes { IfOk result (λ p. p.axes.items ≡ n ∷ []) }
-    ensures ranks { IfOk result (λ p. p.ranks.items ≡ place_of n at ∷ []) }
+    ensures named { IfOk result (λ p. are_named p.ranks ≡ true) }
+    ensures ranks { IfOk result (λ p. ranks_of p.ranks ≡ place_of n at ∷ []) }
 {
     let Some(place) = named_place(n, at) else {
         return Err(Refusal::IndexOutOfRange);
@@ -41,36 +69,45 @@ pub(crate) fn integer_point(alloc: Global, n: usize, at: i128) -> Result<PointLi
     Ok(PointList {
         lengths: SmallVec::new(alloc),
         axes,
-        ranks,
+        ranks: Ranks::Held(ranks),
     })
 }
 
-/// The points of an array of integers along an axis of `n`, or the refusal of a number.
-fn integer_points(alloc: Global, n: usize, array: Indices<'_>) -> Result<PointList, Refusal>
+/// The points of an array of integers along an axis of `n`, which are not read yet. Where the axis has no
+/// place, a number is refused.
+fn integer_points<'a>(alloc: Global, n: usize, array: Indices<'a>) -> Result<PointList<'a>, Refusal>
     requires small { n ≤ max_items }
     requires kind { kind_in array ≢ NoIndex }
     requires lies { LiesInBlock array }
+    ensures places { IfOk result (λ _. HavePlaces n (numbers_in array.entry)) }
     ensures lengths { IfOk result (λ p. p.lengths.items ≡ (index_array_of array.entry).shape) }
     ensures axes { IfOk result (λ p. p.axes.items ≡ n ∷ []) }
-    ensures ranks { Gives (λ p. p.ranks.items) result (named_places n (numbers_in array.entry)) }
+    ensures named { let test = list_all (is_place n) (numbers_in array.entry) in
+        IfOk result (λ p. are_named p.ranks ≡ test) }
+    ensures ranks { let ranks = map (rank_on n) (numbers_in array.entry) in
+        IfOk result (λ p. ranks_of p.ranks ≡ ranks) }
+    ensures err { IfErr result (IsOutside (list_all (is_place n) (numbers_in array.entry))) }
 {
+    if n == 0 && array.layout.shape.items() > 0 {
+        return Err(Refusal::IndexOutOfRange);
+    }
     let lengths = SmallVec::from_slice(alloc, array.layout.shape.as_slice())?;
     let axes = SmallVec::from_slice(alloc, &[n])?;
-    let ranks = places(alloc, array, n)?;
     Ok(PointList {
         lengths,
         axes,
-        ranks,
+        ranks: Ranks::Unread(Named { array, n }),
     })
 }
 
 /// The points at which a mask is true.
-fn mask_points(alloc: Global, array: Indices<'_>) -> Result<PointList, AllocError>
+fn mask_points(alloc: Global, array: Indices<'_>) -> Result<PointList<'static>, AllocError>
     requires kind { kind_in array ≡ Mask }
     requires lies { LiesInBlock array }
-    ensures lengths { IfOk result (λ p. p.lengths.items ≡ length p.ranks.items ∷ []) }
+    ensures lengths { IfOk result (λ p. p.lengths.items ≡ length (ranks_of p.ranks) ∷ []) }
     ensures axes { IfOk result (λ p. p.axes.items ≡ (index_array_of array.entry).shape) }
-    ensures ranks { IfOk result (λ p. p.ranks.items ≡ true_ranks 0 (numbers_in array.entry)) }
+    ensures named { IfOk result (λ p. are_named p.ranks ≡ true) }
+    ensures ranks { IfOk result (λ p. ranks_of p.ranks ≡ true_ranks 0 (numbers_in array.entry)) }
 {
     let axes = SmallVec::from_slice(alloc, array.layout.shape.as_slice())?;
     let ranks = true_ranks(alloc, array)?;
@@ -78,24 +115,24 @@ fn mask_points(alloc: Global, array: Indices<'_>) -> Result<PointList, AllocErro
     Ok(PointList {
         lengths,
         axes,
-        ranks,
+        ranks: Ranks::Held(ranks),
     })
 }
 
-/// The points of an array on the axes that it takes, or the refusal of a number.
-pub(crate) fn array_points(
+/// The points of an array on the axes that it takes, or a refusal of its numbers.
+pub(crate) fn array_points<'a>(
     alloc: Global,
     axes: &[usize],
-    array: Indices<'_>,
-) -> Result<PointList, Refusal>
+    array: Indices<'a>,
+) -> Result<PointList<'a>, Refusal>
     requires small { All (λ n. n ≤ max_items) axes.now }
     requires kind { kind_in array ≢ NoIndex }
     requires lies { LiesInBlock array }
     requires axes { length axes.now ≡ item_axes (array_item array) }
     requires covers { covers axes.now (array_item array) ≡ true }
-    ensures within { IsWithin (is_within axes.now (array_item array.entry)) result }
-    ensures part { IfOk result (λ p.
-        IsPart axes.now p (parts_of axes.now (array_item array.entry))) }
+    ensures part { let item = array_item array.entry in
+        IfOk result (λ p. IsPart axes.now (is_within axes.now item) p (parts_of axes.now item)) }
+    ensures err { IfErr result (IsOutside (is_within axes.now (array_item array.entry))) }
 {
     match kind(array) {
         Kind::Mask => Ok(mask_points(alloc, array)?),

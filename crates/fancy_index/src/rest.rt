@@ -21,7 +21,7 @@ fn push_zeros(picks: &mut SmallVec<AxisPick, 8>, axes: &[usize]) -> Result<(), A
     Ok(())
 }
 
-fn push_rest(picks: &mut SmallVec<AxisPick, 8>, part: &IndexPart) -> Result<(), AllocError>
+fn push_rest(picks: &mut SmallVec<AxisPick, 8>, part: &IndexPart<'_>) -> Result<(), AllocError>
     ensures { OnOk result (picks.new.items ≡ picks.old.items ++ rest_of part.now) }
 {
     match part {
@@ -31,7 +31,7 @@ fn push_rest(picks: &mut SmallVec<AxisPick, 8>, part: &IndexPart) -> Result<(), 
     }
 }
 
-fn rest_picks(alloc: Global, parts: &[IndexPart]) -> Result<SmallVec<AxisPick, 8>, AllocError>
+fn rest_picks(alloc: Global, parts: &[IndexPart<'_>]) -> Result<SmallVec<AxisPick, 8>, AllocError>
     ensures { IfOk result (λ v. v.items ≡ rest_picks parts.now) }
 {
     let mut picks = SmallVec::new(alloc);
@@ -42,7 +42,11 @@ fn rest_picks(alloc: Global, parts: &[IndexPart]) -> Result<SmallVec<AxisPick, 8
 }
 
 /// What is picked of the axes of a layout where all points are 0.
-pub(crate) fn rest(alloc: Global, layout: &Layout, parts: &[IndexPart]) -> Result<Layout, Refusal>
+pub(crate) fn rest(
+    alloc: Global,
+    layout: &Layout,
+    parts: &[IndexPart<'_>],
+) -> Result<Layout, Refusal>
     requires picks { ArePicks layout.now.shape (rest_picks parts.now) }
     requires few { length (other_axes (map shown_part parts.now)) ≤ max_axes }
     ensures ok { IfOk result (λ rest. IsRest layout.now parts.now rest) }

@@ -1,10 +1,10 @@
 //! Arrays in an index list: their numbers, as they lie in a block.
 ghost use Rattle.std.specs.Prelude.{◌≡◌, ◌≢◌, ◌+◌, ◌≤◌, length, map, All};
-ghost use Rattle.fancy_index.specs.Words.{item_size};
+ghost use Rattle.fancy_index.specs.Words.{item_size, max_items};
 ghost use Rattle.fancy_index.specs.declared.kind.Kind.TheVariants.{NoIndex};
 ghost use Rattle.fancy_index.specs.IndexArrays.{kind, with_array};
 ghost use Rattle.fancy_index.specs.Sources.{number_from, index_array_of, LiesInBlock, IsNamed};
-ghost use Rattle.fancy_index.specs.inside.Items.{index_item_of, ItemsLieInBlock};
+ghost use Rattle.fancy_index.specs.inside.Items.{index_item_of, kind_in, ItemsLieInBlock};
 
 use crate::kind::{Kind, kind_of};
 use elem_descr::{Descr, IndexItem, num_read};
@@ -17,6 +17,16 @@ pub struct Indices<'a> {
     pub block: &'a RawBlock,
     pub layout: &'a Layout,
     pub descr: &'a Descr,
+}
+
+/// An array each of whose numbers is to name a place of `n`.
+#[derive(Clone, Copy, Drop)]
+pub(crate) struct Named<'a> {
+    pub array: Indices<'a>,
+    pub n: usize,
+    pub ghost small: { n ≤ max_items },
+    pub ghost kind: { kind_in array ≢ NoIndex },
+    pub ghost lies: { LiesInBlock array },
 }
 
 /// What an array stands for.

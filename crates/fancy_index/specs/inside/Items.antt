@@ -1,7 +1,7 @@
 -- Items of an index list with their arrays.
-use Rattle.std.specs.Prelude.{ℕ, ℤ, List, Bool, Result}
+use Rattle.std.specs.Prelude.{◌≡◌, ◌⊎◌, ℕ, ℤ, List, Bool, Result, Err}
 use Rattle.std.specs.Coded.{Unit-prop, le_prop}
-use Rattle.fancy_index.specs.Words.{Refusal, IndexOutOfRange, Gives, check, IndexItem, Integer, Slice, Ellipsis, NewAxis, Array}
+use Rattle.fancy_index.specs.Words.{Refusal, OutOfMemory, IndexOutOfRange, Gives, check, IndexItem, Integer, Slice, Ellipsis, NewAxis, Array}
 use Rattle.fancy_index.specs.declared.source.Indices.{Indices}
 use Rattle.fancy_index.specs.declared.kind.Kind.{Kind}
 use Rattle.fancy_index.specs.IndexArrays.{IndexArray, kind, array_axes_taken}
@@ -37,6 +37,10 @@ axes_taken arrays items = array_axes_taken (index_items arrays items)
 -- a number is refused as outside its axis unless the test holds, and nothing else but memory is
 abbrev pub IsWithin : {X : Type 0} → Bool → Result X Refusal → Type 0
 IsWithin test result = Gives (λ _. tt) result (check test IndexOutOfRange)
+
+-- such a refusal
+abbrev pub IsOutside : Bool → Refusal → Type 0
+IsOutside test refusal = (refusal ≡ OutOfMemory) ⊎ (check test IndexOutOfRange ≡ Err refusal)
 
 -- that an item names an array holds in one way
 pub IsNamed-prop : (n : ℕ) (item : IndexItem ℕ) → IsProp (IsNamed n item)

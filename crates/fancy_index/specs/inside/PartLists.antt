@@ -1,14 +1,15 @@
 -- Parts as the code holds them: slices as runs, points by their ranks.
-use Rattle.std.specs.Prelude.{◌≡◌, ◌<◌, ◌≤◌, true, ℕ, List, [], ◌∷◌, ◌++◌, map, length, get_or}
+use Rattle.std.specs.Prelude.{◌≡◌, ◌<◌, ◌≤◌, Bool, true, Result, ℕ, List, [], ◌∷◌, ◌++◌, map, length, get_or}
 use Rattle.std.specs.List.{list_all, flat_map}
-use Rattle.fancy_index.specs.Words.{IndexItem, Layout, rank, IsIndex, natural, address, max_axes, AxisPick, IsRunWithin, has_step, picked_index, pick_shown, first_of, can_stretch, broadcast_index}
+use Rattle.fancy_index.specs.Words.{Refusal, IndexOutOfRange, check, ◌>>=◌, View, IndexItem, Layout, rank, IsIndex, natural, address, max_axes, AxisPick, IsRunWithin, has_step, picked_index, pick_shown, first_of, can_stretch, broadcast_index}
 use Rattle.view_ops.specs.declared.pick.AxisPick.TheVariants.{At as AtAxis, Along as AlongAxis, New as NewAxis}
 use Rattle.fancy_index.specs.declared.points.PointList.{PointList}
 use Rattle.fancy_index.specs.declared.parts.IndexPart.{IndexPart}
 use Rattle.fancy_index.specs.declared.parts.IndexPart.TheVariants.{Axis as AxisPart, Points as PointsPart, Between as BetweenPart}
 use Rattle.fancy_index.specs.IndexArrays.{IndexArray, is_index, array_axes_taken, cover}
 use Rattle.fancy_index.specs.Parts.{Part, Axis, Between, other_axes}
-use Rattle.fancy_index.specs.inside.PointLists.{tuple, shown_points, IsPointList}
+use Rattle.fancy_index.specs.Indexed.{parts_view}
+use Rattle.fancy_index.specs.inside.PointLists.{tuple, ranks_of, are_named, shown_points, IsPointList}
 
 -- an index list of which nothing is refused before its numbers
 pub record IsChecked (shape : List ℕ) (items : List (IndexItem IndexArray)) : Type 0 where
@@ -32,12 +33,25 @@ AreParts (n ∷ shape) (AxisPart (AtAxis number) ∷ parts) = (number < n) × Ar
 AreParts (n ∷ shape) (AxisPart (AlongAxis run) ∷ parts) = IsRunWithin run n × AreParts shape parts
 AreParts _ _ = ⊥
 
--- these parts of these axes come after the old ones
-pub record AddsParts (old new : List IndexPart) (axes : List ℕ) (parts : List Part) : Type 0 where
+-- whether each number that is not read yet names a place
+abbrev pub is_named : IndexPart → Bool
+is_named (PointsPart p) = are_named p.ranks
+is_named _ = true
+
+abbrev pub all_named : List IndexPart → Bool
+all_named parts = list_all is_named parts
+
+-- these parts of these axes come after the old ones, if the test of their numbers holds
+pub record AddsParts (old new : List IndexPart) (axes : List ℕ) (test : Bool) (parts : List Part) : Type 0 where
   pub added : List IndexPart
   pub after : new ≡ old ++ added
   pub are : AreParts axes added
-  pub show : map shown_part added ≡ parts
+  pub named : all_named added ≡ test
+  pub show : test ≡ true → map shown_part added ≡ parts
+
+-- what parts show, unless a number that is not read yet names no place
+abbrev pub view_if_named : List IndexPart → Result View Refusal
+view_if_named parts = check (all_named parts) IndexOutOfRange >>= λ _. parts_view (map shown_part parts)
 
 -- points of a part that stretch to a shape
 abbrev pub IsReady : List ℕ → IndexPart → Type 0
@@ -57,7 +71,7 @@ IsReadyAt at _ = Unit {0}
 
 -- the point of an index of the common lengths
 abbrev pub point_of : PointList → List ℕ → List ℕ
-point_of p at = tuple p.axes.items (get_or p.ranks.items (rank p.lengths.items (broadcast_index p.lengths.items at)) 0)
+point_of p at = tuple p.axes.items (get_or (ranks_of p.ranks) (rank p.lengths.items (broadcast_index p.lengths.items at)) 0)
 
 -- the numbers of that point on the axes of a part, or the first number that is picked there
 abbrev pub numbers_at : List ℕ → IndexPart → List ℕ

@@ -1,9 +1,12 @@
 -- Points on axes as the code holds them: by their ranks along these.
-use Rattle.std.specs.Prelude.{◌≡◌, ◌<◌, ℕ, ◌+◌, if◌then◌else◌, ℤ, pos, Option, Some, None, List, [], ◌∷◌, map, length, get_or, All, Result, Ok, Err}
+use Rattle.std.specs.Prelude.{◌≡◌, ◌⊎◌, ◌<◌, ℕ, ◌+◌, ◌%◌, Bool, true, if◌then◌else◌, ℤ, pos, Option, Some, None, List, [], ◌∷◌, map, length, get_or, All, Result, Ok, Err}
 use Rattle.std.specs.List.{list_all}
 use Rattle.std.specs.Ordering.{int_eq}
 use Rattle.fancy_index.specs.Words.{Refusal, IndexOutOfRange, count, indexes, natural, from_front, is_place}
 use Rattle.fancy_index.specs.declared.points.PointList.{PointList}
+use Rattle.fancy_index.specs.declared.points.Ranks.{Ranks}
+use Rattle.fancy_index.specs.declared.points.Ranks.TheVariants.{Held, Unread}
+use Rattle.fancy_index.specs.inside.Items.{numbers_in}
 use Rattle.fancy_index.specs.Parts.{Part, Points}
 
 -- the place of n that a number names
@@ -18,6 +21,13 @@ named_place n at = if is_place n at then Some (place_of n at) else None
 abbrev pub named_places : ℕ → List ℤ → Result (List ℕ) Refusal
 named_places n numbers = if list_all (is_place n) numbers then Ok (map (place_of n) numbers) else Err IndexOutOfRange
 
+-- its rank along an axis of n that has a place, whatever the number
+abbrev pub rank_on : ℕ → ℤ → ℕ
+rank_on n at = place_of n at % n
+
+abbrev pub HavePlaces : ℕ → List ℤ → Type 0
+HavePlaces n numbers = (0 < n) ⊎ (numbers ≡ [])
+
 -- the ranks of the numbers that are not 0, the first of which has this one
 abbrev pub true_ranks : ℕ → List ℤ → List ℕ
 true_ranks rank [] = []
@@ -27,16 +37,26 @@ true_ranks rank (number ∷ numbers) = if int_eq number (pos 0) then true_ranks 
 abbrev pub tuple : List ℕ → ℕ → List ℕ
 tuple axes rank = get_or (indexes axes) rank []
 
+-- the ranks of points, and whether each number that is not read yet names a place
+abbrev pub ranks_of : Ranks → List ℕ
+ranks_of (Held ranks) = ranks.items
+ranks_of (Unread named) = map (rank_on named.n) (numbers_in named.array)
+
+abbrev pub are_named : Ranks → Bool
+are_named (Held ranks) = true
+are_named (Unread named) = list_all (is_place named.n) (numbers_in named.array)
+
 abbrev pub shown_points : PointList → Part
-shown_points p = Points p.lengths.items (map (tuple p.axes.items) p.ranks.items)
+shown_points p = Points p.lengths.items (map (tuple p.axes.items) (ranks_of p.ranks))
 
 -- a point for each item of their shape, each within the axes
 pub record IsPointList (p : PointList) : Type 0 where
-  pub within : All (λ rank. rank < count p.axes.items) p.ranks.items
-  pub many : length p.ranks.items ≡ count p.lengths.items
+  pub within : All (λ rank. rank < count p.axes.items) (ranks_of p.ranks)
+  pub many : length (ranks_of p.ranks) ≡ count p.lengths.items
 
--- points on these axes are the part that is there
-pub record IsPart (taken : List ℕ) (p : PointList) (parts : List Part) : Type 0 where
+-- points on these axes are the part that is there, if the test of their numbers holds
+pub record IsPart (taken : List ℕ) (test : Bool) (p : PointList) (parts : List Part) : Type 0 where
   pub axes : p.axes.items ≡ taken
   pub list : IsPointList p
-  pub shows : parts ≡ shown_points p ∷ []
+  pub named : are_named p.ranks ≡ test
+  pub shows : test ≡ true → parts ≡ shown_points p ∷ []

@@ -16,9 +16,9 @@ returns-in_ok-push-in-Integer-clause-added c =
     let named = to_z-of_z w128 at fits in
     let within = passed (is_place n at) IndexOutOfRange (ap (λ z. check (is_place n z) IndexOutOfRange) (sym named) ∙ point.ensures.within) in
     let ranks = point.ensures.ranks ∙ ap (λ z. place_of n z ∷ []) named in
-    rw c.in-Integer.is (adds_integer _ _ c.args.axes.now at point.point n (rw c.in-Integer.is at c.requires.axes refl) refl within point.ensures.lengths point.ensures.axes ranks c.in_ok-push-in-Integer.ensures.items)
+    rw c.in-Integer.is (adds_integer _ _ c.args.axes.now at point.point n (rw c.in-Integer.is at c.requires.axes refl) refl within point.ensures.lengths point.ensures.axes point.ensures.named ranks c.in_ok-push-in-Integer.ensures.items)
 
 pub returns-in_ok-push-in-Array-clause-added : goal.returns-in_ok-push-in-Array-clause-added
 returns-in_ok-push-in-Array-clause-added c =
     let points = c.in_ok-points-in-Array in
-    rw c.in-Array.is (adds_points _ _ c.args.axes.now points.points _ points.ensures.part c.in_ok-push-in-Array.ensures.items)
+    rw c.in-Array.is (adds_points _ _ c.args.axes.now points.points _ _ points.ensures.part c.in_ok-push-in-Array.ensures.items)

@@ -1,9 +1,11 @@
 use Rattle.std.proofs.Common.{◌≡◌, ◌+◌, ◌<◌, ℕ, List, length, get_or, slice_set, drop, sym, ap, subst, ◌∙◌, arith}
+use Rattle.std.proofs.lemmas.Result.{err_from_is_err_and}
 use Rattle.std.proofs.lemmas.List.{get_or-drop, get_or_default, drop-drop, drop-set-lt}
-use Rattle.fancy_index.specs.Words.{IsIndex, address}
+use Rattle.fancy_index.specs.Words.{IndexOutOfRange, IsIndex, address}
 use Rattle.fancy_index.specs.declared.parts.IndexPart.{IndexPart}
 use Rattle.fancy_index.specs.inside.PartLists.{IsReady}
 use Rattle.fancy_index.proofs.StartLaws.{start-in, begins, can-add, axis-low, axis-after, added, sums_all}
+use Rattle.fancy_index.proofs.PartLaws.{passed, named_more, outside-at}
 use Rattle.fancy_index.proofs.shifts.shifts.Goals as goal
 
 -- the part that is next, in the parts that are left as they were
@@ -58,9 +60,17 @@ loop-part-preserved c =
     let is = is-here it.part-index it.parts c.args.parts.now c.part-item.result c.loop-part-test.true it.invariant.left in
     let begin = begins c.args.layout.now c.args.parts.now c.args.lengths.now c.requires.ready c.requires.leads c.at-start.result start it.part-index it.axis _ c.loop-part-test.true is it.invariant.sums.axes c.requires.are c.requires.some in
     record {
+      named = named_more c.args.parts.now it.part-index _ c.loop-part-test.true is it.invariant.named (passed _ IndexOutOfRange c.in_ok-add_part.ensures.within);
       left = left-behind it.part-index it.parts c.args.parts.now c.add_part.new.part it.invariant.left;
       sums = added c.args.layout.now c.args.parts.now c.args.lengths.now c.requires.ready c.requires.leads c.at-start.result start it.part-index it.axis _ c.loop-part-test.true is begin it.shifts.items it.invariant.sums c.add_part.new.shifts.items _ (ap (λ n. it.axis + n) c.axes_of-axes.ensures) c.in_ok-add_part.ensures.ok;
     }
+
+pub returns-in_err-add_part-clause-within : goal.returns-in_err-add_part-clause-within
+returns-in_err-add_part-clause-within c =
+    let it = c.loop-part in
+    let is = is-here it.part-index it.parts c.args.parts.now c.part-item.result c.loop-part-test.true it.invariant.left in
+    let p = err_from_is_err_and c.from_residual-in_err-add_part.result c.from_residual-in_err-add_part.ensures.1 in
+    rw (p.1, p.2) (outside-at c.args.parts.now it.part-index _ c.in_err-add_part.field-0.0 c.loop-part-test.true is c.in_err-add_part.ensures.within)
 
 pub returns-clause-ok : goal.returns-clause-ok
 returns-clause-ok c =
