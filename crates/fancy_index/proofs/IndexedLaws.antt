@@ -3,9 +3,10 @@ use Rattle.std.proofs.Common.{◌≡◌, ◌⊎◌, inl, inr, Err, ℕ, ◌<◌,
 use Rattle.std.specs.List.{list_all}
 use Rattle.std.proofs.lemmas.Bool.{le-leb}
 use Rattle.std.proofs.lemmas.Bool.Decides.{nat_tests}
-use Rattle.fancy_index.specs.Words.{Refusal, OutOfMemory, NotAnIndexType, TooManyIndices, MaskLengths, ZeroStep, IndexOutOfRange, ◌>>=◌, check, IndexItem, Integer, Slice, Ellipsis, NewAxis, Array, has_step}
-use Rattle.fancy_index.specs.IndexArrays.{IndexArray, with_array, is_index, array_axes_taken, cover, are_within}
+use Rattle.fancy_index.specs.Words.{Refusal, OutOfMemory, NotAnIndexType, TooManyIndices, MaskLengths, ZeroStep, IndexOutOfRange, ◌>>=◌, check, IndexItem, Integer, Slice, Ellipsis, NewAxis, Array, has_step, Items}
+use Rattle.fancy_index.specs.IndexArrays.{IndexArray, is_index, array_axes_taken, cover, are_within}
 use Rattle.fancy_index.specs.Parts.{parts}
+use Rattle.fancy_index.specs.Sources.{index_item_of, index_items}
 use Rattle.fancy_index.specs.Indexed.{parts_view, indexed}
 use Rattle.fancy_index.specs.inside.PartLists.{IsChecked}
 
@@ -41,13 +42,13 @@ refused-range shape items e c (inl none) = inl none
 refused-range shape items e c (inr out) = inr (indexed-parts shape items c ∙ ap (λ r. r >>= λ _. parts_view (parts shape items)) out)
 
 -- an array takes no step
-same_step : (arrays : List IndexArray) (item : IndexItem ℕ) → has_step (with_array arrays item) ≡ has_step item
-same_step arrays (Integer at) = refl
-same_step arrays (Slice start stop step) = refl
-same_step arrays Ellipsis = refl
-same_step arrays NewAxis = refl
-same_step arrays (Array k) = refl
+same_step : (item : IndexItem Items) → has_step (index_item_of item) ≡ has_step item
+same_step (Integer at) = refl
+same_step (Slice start stop step) = refl
+same_step Ellipsis = refl
+same_step NewAxis = refl
+same_step (Array a) = refl
 
-pub same_steps : (arrays : List IndexArray) (items : List (IndexItem ℕ)) → list_all has_step (map (with_array arrays) items) ≡ list_all has_step items
-same_steps arrays [] = refl
-same_steps arrays (item ∷ items) = λ i. same_step arrays item i && same_steps arrays items i
+pub same_steps : (items : List (IndexItem Items)) → list_all has_step (index_items items) ≡ list_all has_step items
+same_steps [] = refl
+same_steps (item ∷ items) = λ i. same_step item i && same_steps items i

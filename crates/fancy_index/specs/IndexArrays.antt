@@ -24,22 +24,9 @@ kind_of _ _ = NoIndex
 abbrev pub kind : IndexArray → Kind
 kind array = kind_of array.descr array.shape
 
--- ---- arrays by their numbers
-
--- what stands for a number that no array has: no index
+-- what stands for no array: no index
 abbrev pub no_array : IndexArray
 no_array = record { descr = ScalarDescr BoolScalar; shape = []; numbers = [] }
-
-abbrev pub with_array : List IndexArray → IndexItem ℕ → IndexItem IndexArray
-with_array arrays (Integer at) = Integer at
-with_array arrays (Slice start stop step) = Slice start stop step
-with_array arrays Ellipsis = Ellipsis
-with_array arrays NewAxis = NewAxis
-with_array arrays (Array k) = Array (get_or arrays k no_array)
-
--- the items of an index, with the arrays in the place of their numbers
-abbrev pub with_arrays : List IndexArray → List (IndexItem ℕ) → List (IndexItem IndexArray)
-with_arrays arrays items = map (with_array arrays) items
 
 -- ---- which axes an item takes
 

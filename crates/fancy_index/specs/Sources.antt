@@ -1,8 +1,7 @@
 -- The arrays of an index list, as their items lie in blocks.
-use Rattle.std.specs.Prelude.{ℕ, ◌+◌, ◌<◌, ◌≤◌, ℤ, pos, List, [], ◌∷◌, map, length, All}
-use Rattle.fancy_index.specs.Words.{Descr, LeafValue, number_of, item_size, item_from, IndexItem, Array, offsets}
-use Rattle.fancy_index.specs.declared.source.Indices.{Indices}
-use Rattle.fancy_index.specs.IndexArrays.{IndexArray, with_arrays}
+use Rattle.std.specs.Prelude.{ℕ, ℤ, pos, List, [], ◌∷◌, map}
+use Rattle.fancy_index.specs.Words.{Descr, LeafValue, number_of, item_from, IndexItem, Integer, Slice, Ellipsis, NewAxis, Array, offsets, Items}
+use Rattle.fancy_index.specs.IndexArrays.{IndexArray}
 
 -- the number that is the first value of an item
 abbrev pub first_number : List LeafValue → ℤ
@@ -14,18 +13,16 @@ abbrev pub number_from : Descr → List ℕ → ℕ → ℤ
 number_from descr bytes offset = first_number (item_from descr bytes offset)
 
 -- an array by its items
-abbrev pub index_array_of : Indices → IndexArray
+abbrev pub index_array_of : Items → IndexArray
 index_array_of a = record { descr = a.descr.now; shape = a.layout.now.shape; numbers = map (number_from a.descr.now a.block.now) (offsets a.layout.now) }
 
--- each item lies in the block
-abbrev pub LiesInBlock : Indices → Type 0
-LiesInBlock a = All (λ offset. offset + item_size a.descr.now ≤ length a.block.now) (offsets a.layout.now)
+-- an item of an index list, with its array by the items
+abbrev pub index_item_of : IndexItem Items → IndexItem IndexArray
+index_item_of (Integer at) = Integer at
+index_item_of (Slice start stop step) = Slice start stop step
+index_item_of Ellipsis = Ellipsis
+index_item_of NewAxis = NewAxis
+index_item_of (Array a) = Array (index_array_of a)
 
--- an item names one of so many arrays
-abbrev pub IsNamed : ℕ → IndexItem ℕ → Type 0
-IsNamed n (Array k) = k < n
-IsNamed n _ = Unit {0}
-
--- the items of an index list, with arrays in the place of their numbers
-abbrev pub index_items : List Indices → List (IndexItem ℕ) → List (IndexItem IndexArray)
-index_items arrays items = with_arrays (map index_array_of arrays) items
+abbrev pub index_items : List (IndexItem Items) → List (IndexItem IndexArray)
+index_items items = map index_item_of items

@@ -72,3 +72,4 @@ pub use Rattle.arrays.specs.Packed.{row_offsets}
 pub use Rattle.arrays.specs.PackedLaws.{row-multiples}
 pub use Rattle.arrays.specs.RunLaws.{All-back, All-front, BeginsWithin, assigned-append, lie-within}
 pub use Rattle.arrays.specs.RunLaws.{nth-offset, place-at, run_offsets-more}
+pub use Rattle.arrays.specs.declared.items.Items.{Items}

@@ -2,12 +2,11 @@
 ghost use Rattle.std.specs.Prelude.{◌≡◌, ◌+◌, ◌≤◌, ◌++◌, length, take, drop, IfOk, OnOk};
 ghost use Rattle.fancy_index.specs.Words.{truth};
 ghost use Rattle.fancy_index.specs.declared.kind.Kind.TheVariants.{Mask};
-ghost use Rattle.fancy_index.specs.Sources.{LiesInBlock};
 ghost use Rattle.fancy_index.specs.inside.Items.{kind_in, numbers_in};
 ghost use Rattle.fancy_index.specs.inside.PointLists.{true_ranks};
 ghost use Rattle.fancy_index.specs.inside.Bools.{bools_in, ranks_from, LieInBytes};
 
-use crate::source::Indices;
+use arrays::Items;
 use shape_strides::{Run, Runs};
 use std::alloc::{AllocError, Global};
 
@@ -68,9 +67,8 @@ fn push_true(
 }
 
 /// The ranks at which a mask is true.
-pub(crate) fn true_ranks(alloc: Global, mask: Indices<'_>) -> Result<Vec<u32>, AllocError>
+pub(crate) fn true_ranks(alloc: Global, mask: Items<'_>) -> Result<Vec<u32>, AllocError>
     requires kind { kind_in mask ≡ Mask }
-    requires lies { LiesInBlock mask }
     ensures { IfOk result (λ v. v.items ≡ true_ranks 0 (numbers_in mask.entry)) }
 {
     let _items = mask.layout.shape.items();

@@ -1,21 +1,21 @@
 //! The checks of an index list with arrays, each of which covers the whole list.
-ghost use Rattle.std.specs.Prelude.{◌≡◌, ◌≤◌, length, nat_le, All, IfOk, IfErr, Err};
+ghost use Rattle.std.specs.Prelude.{◌≡◌, ◌≤◌, length, nat_le, IfOk, IfErr, Err};
 ghost use Rattle.std.specs.List.{list_all};
 ghost use Rattle.fancy_index.specs.Words.{max_axes};
 ghost use Rattle.fancy_index.specs.IndexArrays.{is_index, array_axes_taken, covers, cover};
 ghost use Rattle.fancy_index.specs.Indexed.{indexed};
-ghost use Rattle.fancy_index.specs.Sources.{LiesInBlock, IsNamed, index_items};
-ghost use Rattle.fancy_index.specs.inside.Items.{index_item_of};
+ghost use Rattle.fancy_index.specs.Sources.{index_item_of, index_items};
 ghost use Rattle.fancy_index.specs.inside.Lists.{items_left};
 ghost use Rattle.fancy_index.specs.inside.PartLists.{IsChecked};
 
 use crate::kind::Kind;
-use crate::lists::{IndexList, Left, axes_beside};
-use crate::source::{Indices, kind, resolved};
+use crate::lists::{Left, axes_beside};
+use crate::source::kind;
+use arrays::Items;
 use elem_descr::{IndexItem, Refusal};
 use view_ops::have_steps;
 
-fn is_index(item: IndexItem<Indices<'_>>) -> bool
+fn is_index(item: IndexItem<Items<'_>>) -> bool
     ensures { result ≡ is_index (index_item_of item.entry) }
 {
     match item {
@@ -25,18 +25,18 @@ fn is_index(item: IndexItem<Indices<'_>>) -> bool
 }
 
 /// Whether each array in the list stands for some index.
-fn are_indexes(list: IndexList<'_>) -> bool
-    ensures { result ≡ list_all is_index (index_items list.entry.arrays.now list.entry.items.now) }
+fn are_indexes(items: &[IndexItem<Items<'_>>]) -> bool
+    ensures { result ≡ list_all is_index (index_items items.now) }
 {
-    for item in list.items {
-        if !is_index(resolved(item, list.arrays)) {
+    for item in items {
+        if !is_index(*item) {
             return false;
         }
     }
     true
 }
 
-fn covers(axes: &[usize], item: IndexItem<Indices<'_>>) -> bool
+fn covers(axes: &[usize], item: IndexItem<Items<'_>>) -> bool
     ensures { result ≡ covers axes.now (index_item_of item.entry) }
 {
     match item {
@@ -64,25 +64,21 @@ fn cover(left: Left<'_>) -> bool
 /// An index list along the axes that it takes, or its first refusal before its numbers and its shapes.
 pub(crate) fn check<'a>(
     axes: &'a [usize],
-    items: &'a [IndexItem<usize>],
-    arrays: &'a [Indices<'a>],
+    items: &'a [IndexItem<Items<'a>>],
 ) -> Result<Left<'a>, Refusal>
-    requires named { All (IsNamed (length arrays.now)) items.now }
-    requires lie { All LiesInBlock arrays.now }
     ensures axes { IfOk result (λ left. left.axes.now ≡ axes.now) }
-    ensures items { IfOk result (λ left. items_left left ≡ index_items arrays.now items.now) }
+    ensures items { IfOk result (λ left. items_left left ≡ index_items items.now) }
     ensures ok { IfOk result (λ left. IsChecked left.axes.now (items_left left)) }
     ensures err { IfErr result (λ refusal.
-        indexed axes.now (index_items arrays.now items.now) ≡ Err refusal) }
+        indexed axes.now (index_items items.now) ≡ Err refusal) }
 {
-    let list = IndexList { items, arrays };
-    if !are_indexes(list) {
+    if !are_indexes(items) {
         return Err(Refusal::NotAnIndexType);
     }
-    let Some(_) = axes_beside(list, axes.len()) else {
+    let Some(_) = axes_beside(items, axes.len()) else {
         return Err(Refusal::TooManyIndices);
     };
-    let left = Left { axes, list };
+    let left = Left { axes, items };
     if !cover(left) {
         return Err(Refusal::MaskLengths);
     }

@@ -3,14 +3,15 @@ ghost use Rattle.std.specs.Prelude.{◌≡◌, ◌≤◌, ◌∷◌, length, map
 ghost use Rattle.fancy_index.specs.Words.{max_items, is_ellipsis, has_step};
 ghost use Rattle.fancy_index.specs.IndexArrays.{is_index, item_axes, covers, is_within, are_within};
 ghost use Rattle.fancy_index.specs.Parts.{Between, wholes, parts_of, parts};
-ghost use Rattle.fancy_index.specs.inside.Items.{index_item_of, ItemsLieInBlock, IsWithin, IsOutside};
+ghost use Rattle.fancy_index.specs.Sources.{index_item_of};
+ghost use Rattle.fancy_index.specs.inside.Items.{IsWithin, IsOutside};
 ghost use Rattle.fancy_index.specs.inside.Lists.{items_left};
 ghost use Rattle.fancy_index.specs.inside.PartLists.{IsChecked, shown_part, is_named, all_named, AreParts, AddsParts};
 
 use crate::lists::Left;
 use crate::points::{PointList, Ranks, array_points, integer_point};
-use crate::source::Indices;
 use crate::words::places;
+use arrays::Items;
 use elem_descr::{IndexItem, Refusal};
 use std::alloc::{AllocError, Global};
 use view_ops::{AxisPick, pick_of, whole_axis};
@@ -48,10 +49,9 @@ fn push_parts<'a>(
     alloc: Global,
     parts: &mut Vec<IndexPart<'a>>,
     axes: &[usize],
-    item: IndexItem<Indices<'a>>,
+    item: IndexItem<Items<'a>>,
 ) -> Result<(), Refusal>
     requires small { All (λ n. n ≤ max_items) axes.now }
-    requires lies { ItemsLieInBlock item }
     requires index { is_index (index_item_of item) ≡ true }
     requires axes { is_ellipsis (index_item_of item) ≡ false
         → length axes.now ≡ item_axes (index_item_of item) }

@@ -1,8 +1,8 @@
 //! Plans of index lists with arrays.
-ghost use Rattle.std.specs.Prelude.{◌≡◌, ◌⊎◌, ◌<◌, [], length, map, All, Ok, Err, IfOk, IfErr};
+ghost use Rattle.std.specs.Prelude.{◌≡◌, ◌⊎◌, ◌<◌, [], map, All, Ok, Err, IfOk, IfErr};
 ghost use Rattle.fancy_index.specs.Words.{OutOfMemory, count, shape_of};
 ghost use Rattle.fancy_index.specs.Indexed.{points_shape, all_axes, view_of, parts_view, indexed};
-ghost use Rattle.fancy_index.specs.Sources.{LiesInBlock, IsNamed, index_items};
+ghost use Rattle.fancy_index.specs.Sources.{index_items};
 ghost use Rattle.fancy_index.specs.Plans.{IsPlanOf, GivesPlan};
 ghost use Rattle.fancy_index.specs.inside.Items.{IsWithin};
 ghost use Rattle.fancy_index.specs.inside.PartLists.{shown_part, all_named, AreParts, IsReady, view_if_named};
@@ -15,7 +15,7 @@ use crate::place::points_place;
 use crate::plans::Plan;
 use crate::rest::{back, front, rest};
 use crate::shifts::shifts;
-use crate::source::Indices;
+use arrays::Items;
 use elem_descr::{IndexItem, Refusal};
 use shape_strides::{Layout, Shape};
 use smallvec::SmallVec;
@@ -98,8 +98,7 @@ fn plan_of_parts(
 }
 
 /// Where the items lie that an index list with arrays takes, as NumPy's integer and boolean indexing
-/// has it; an item of the list names an array by its place in `arrays`. Integers count as arrays of
-/// no axes. All arrays broadcast together, with a mask as the list of the indexes at which it is true.
+/// has it. Integers count as arrays of no axes. All arrays broadcast together, with a mask as the list of the indexes at which it is true.
 /// Where they stand side by side, their axes stand in their place; where a slice, `...` or a new axis
 /// separates them, their axes come first.
 ///
@@ -109,19 +108,11 @@ fn plan_of_parts(
 /// number of an array outside its axis, also where nothing is taken, as `IndexOutOfRange`; arrays that do
 /// not broadcast together, as `IndexShapes`; then a result of more than 64 axes, as `TooManyAxes`, and
 /// one of too many items, as `TooLarge`.
-pub fn plan(
-    alloc: Global,
-    layout: &Layout,
-    items: &[IndexItem<usize>],
-    arrays: &[Indices<'_>],
-) -> Result<Plan, Refusal>
-    requires named { All (IsNamed (length arrays.now)) items.now }
-    requires lie { All LiesInBlock arrays.now }
-    ensures { let there = indexed layout.now.shape (index_items arrays.now items.now) in
-        GivesPlan layout.now result there }
+pub fn plan(alloc: Global, layout: &Layout, items: &[IndexItem<Items<'_>>]) -> Result<Plan, Refusal>
+    ensures { GivesPlan layout.now result (indexed layout.now.shape (index_items items.now)) }
 {
     let lengths = layout.shape.as_slice();
-    let left = check(lengths, items, arrays)?;
+    let left = check(lengths, items)?;
     let mut parts = parts_of(alloc, left)?;
     plan_of_parts(alloc, layout, parts.as_mut_slice())
 }

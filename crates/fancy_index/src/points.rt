@@ -5,14 +5,15 @@ ghost use Rattle.fancy_index.specs.Words.{max_items, is_place};
 ghost use Rattle.fancy_index.specs.declared.kind.Kind.TheVariants.{Mask, NoIndex};
 ghost use Rattle.fancy_index.specs.IndexArrays.{item_axes, covers, is_within};
 ghost use Rattle.fancy_index.specs.Parts.{parts_of};
-ghost use Rattle.fancy_index.specs.Sources.{index_array_of, LiesInBlock};
+ghost use Rattle.fancy_index.specs.Sources.{index_array_of};
 ghost use Rattle.fancy_index.specs.inside.Items.{kind_in, numbers_in, array_item, IsWithin, IsOutside};
 ghost use Rattle.fancy_index.specs.inside.PointLists.{place_of, rank_on, HavePlaces, true_ranks, ranks_of, are_named, IsPart};
 
 use crate::bools::true_ranks;
 use crate::kind::Kind;
-use crate::source::{Indices, Named, kind};
+use crate::source::{Named, kind};
 use crate::words::{named_place, places};
+use arrays::Items;
 use elem_descr::Refusal;
 use smallvec::SmallVec;
 use std::alloc::{AllocError, Global};
@@ -75,10 +76,9 @@ pub(crate) fn integer_point(
 
 /// The points of an array of integers along an axis of `n`, which are not read yet. Where the axis has no
 /// place, a number is refused.
-fn integer_points<'a>(alloc: Global, n: usize, array: Indices<'a>) -> Result<PointList<'a>, Refusal>
+fn integer_points<'a>(alloc: Global, n: usize, array: Items<'a>) -> Result<PointList<'a>, Refusal>
     requires small { n ≤ max_items }
     requires kind { kind_in array ≢ NoIndex }
-    requires lies { LiesInBlock array }
     ensures places { IfOk result (λ _. HavePlaces n (numbers_in array.entry)) }
     ensures lengths { IfOk result (λ p. p.lengths.items ≡ (index_array_of array.entry).shape) }
     ensures axes { IfOk result (λ p. p.axes.items ≡ n ∷ []) }
@@ -101,9 +101,8 @@ fn integer_points<'a>(alloc: Global, n: usize, array: Indices<'a>) -> Result<Poi
 }
 
 /// The points at which a mask is true.
-fn mask_points(alloc: Global, array: Indices<'_>) -> Result<PointList<'static>, AllocError>
+fn mask_points(alloc: Global, array: Items<'_>) -> Result<PointList<'static>, AllocError>
     requires kind { kind_in array ≡ Mask }
-    requires lies { LiesInBlock array }
     ensures lengths { IfOk result (λ p. p.lengths.items ≡ length (ranks_of p.ranks) ∷ []) }
     ensures axes { IfOk result (λ p. p.axes.items ≡ (index_array_of array.entry).shape) }
     ensures named { IfOk result (λ p. are_named p.ranks ≡ true) }
@@ -123,11 +122,10 @@ fn mask_points(alloc: Global, array: Indices<'_>) -> Result<PointList<'static>, 
 pub(crate) fn array_points<'a>(
     alloc: Global,
     axes: &[usize],
-    array: Indices<'a>,
+    array: Items<'a>,
 ) -> Result<PointList<'a>, Refusal>
     requires small { All (λ n. n ≤ max_items) axes.now }
     requires kind { kind_in array ≢ NoIndex }
-    requires lies { LiesInBlock array }
     requires axes { length axes.now ≡ item_axes (array_item array) }
     requires covers { covers axes.now (array_item array) ≡ true }
     ensures part { let item = array_item array.entry in

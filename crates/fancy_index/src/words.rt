@@ -3,13 +3,13 @@ ghost use Rattle.std.specs.Prelude.{◌≡◌, ◌≢◌, ◌≤◌, ◌<◌, �
 ghost use Rattle.std.specs.List.{list_all};
 ghost use Rattle.fancy_index.specs.Words.{item_size, Gives, item_at, offsets, max_items, run_offsets, is_place};
 ghost use Rattle.fancy_index.specs.declared.kind.Kind.TheVariants.{NoIndex};
-ghost use Rattle.fancy_index.specs.Sources.{LiesInBlock};
 ghost use Rattle.fancy_index.specs.inside.Items.{kind_in, numbers_in, IsWithin};
 ghost use Rattle.fancy_index.specs.inside.PointLists.{place_of, named_place, named_places};
 ghost use Rattle.fancy_index.specs.inside.Words.{word, spread_numbers, AreWords, IsSpread, IsNative};
 
 use crate::singles::array_at;
-use crate::source::{Indices, number_at};
+use crate::source::number_at;
+use arrays::Items;
 use byteorder::{BigEndian, ByteOrder, LittleEndian};
 use elem_descr::{Descr, Order, Refusal, Scalar};
 use raw_block::{RawBlock, RunI32, RunI64};
@@ -61,8 +61,7 @@ fn reading_of(descr: &Descr) -> Option<(Reading, usize)>
 }
 
 /// The items of an array, if they lie at equal steps.
-fn spread_of<'a>(array: Indices<'a>) -> Option<Spread<'a>>
-    requires { LiesInBlock array }
+fn spread_of<'a>(array: Items<'a>) -> Option<Spread<'a>>
     ensures block { IfSome result (λ items. items.block.now ≡ array.entry.block.now) }
     ensures offsets { IfSome result (λ items.
         run_offsets items.run ≡ offsets array.entry.layout.now) }
@@ -229,10 +228,9 @@ fn is_native(reading: Reading, width: usize, run: Run) -> bool
 }
 
 /// The places of `n` that the numbers of an array name, one by one, or the refusal of one that names none.
-fn places_each(alloc: Global, array: Indices<'_>, n: usize) -> Result<Vec<u32>, Refusal>
+fn places_each(alloc: Global, array: Items<'_>, n: usize) -> Result<Vec<u32>, Refusal>
     requires small { n ≤ max_items }
     requires kind { kind_in array ≢ NoIndex }
-    requires lies { LiesInBlock array }
     ensures { Gives (λ v. v.items) result (named_places n (numbers_in array.entry)) }
 {
     let mut places = Vec::new(alloc);
@@ -275,14 +273,13 @@ fn push_places<const N: usize>(
 fn places_by_runs<const N: usize>(
     alloc: Global,
     reading: Reading,
-    array: Indices<'_>,
+    array: Items<'_>,
     n: usize,
 ) -> Result<Vec<u32>, Refusal>
     requires some { 1 ≤ N }
     requires few { N ≤ 8 }
     requires small { n ≤ max_items }
     requires words { AreWords reading N array.descr.now }
-    requires lies { LiesInBlock array }
     ensures { Gives (λ v. v.items) result (named_places n (numbers_in array.entry)) }
 {
     let block = array.block;
@@ -299,13 +296,12 @@ fn places_apart(
     alloc: Global,
     reading: Reading,
     width: usize,
-    array: Indices<'_>,
+    array: Items<'_>,
     n: usize,
 ) -> Result<Vec<u32>, Refusal>
     requires small { n ≤ max_items }
     requires kind { kind_in array ≢ NoIndex }
     requires words { AreWords reading width array.descr.now }
-    requires lies { LiesInBlock array }
     ensures { Gives (λ v. v.items) result (named_places n (numbers_in array.entry)) }
 {
     match width {
@@ -319,10 +315,9 @@ fn places_apart(
 
 /// The places of `n` that the numbers of an array name, whatever their type and wherever they lie, or the
 /// refusal of one that names none. Native integers that lie one right after another are read as numbers.
-pub(crate) fn places(alloc: Global, array: Indices<'_>, n: usize) -> Result<Vec<u32>, Refusal>
+pub(crate) fn places(alloc: Global, array: Items<'_>, n: usize) -> Result<Vec<u32>, Refusal>
     requires small { n ≤ max_items }
     requires kind { kind_in array ≢ NoIndex }
-    requires lies { LiesInBlock array }
     ensures { Gives (λ v. v.items) result (named_places n (numbers_in array.entry)) }
 {
     let Some((reading, width)) = reading_of(array.descr) else {

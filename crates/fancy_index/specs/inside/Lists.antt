@@ -6,7 +6,7 @@ use Rattle.fancy_index.specs.Sources.{index_items}
 use Rattle.fancy_index.specs.declared.lists.Left.{Left}
 
 abbrev pub items_left : Left → List (IndexItem IndexArray)
-items_left left = index_items left.list.arrays.now left.list.items.now
+items_left left = index_items left.items.now
 
 -- an item of a list takes these axes of a shape, and others are left to the items behind it
 pub record IsNext (shape : List ℕ) (items : List (IndexItem IndexArray)) (item : IndexItem IndexArray) (axes shape' : List ℕ) (items' : List (IndexItem IndexArray)) : Type 0 where

@@ -24,7 +24,7 @@ loop-run-init c =
     let ens = c.new-run-items.ensures in
     let are = c.into_iter-run-iterator.ensures.into_iter_gives ∙ ens.runs in
     let all : flat_map run_offsets c.into_iter-run-iterator.result ≡ offsets mask.layout.now = ap (flat_map run_offsets) are ∙ ens.offsets in
-    let lies = subst (λ (d : Descr). All (λ offset. offset + item_size d ≤ length mask.block.now) (offsets mask.layout.now)) (mask-bool mask.descr.now mask.layout.now.shape c.requires.kind) c.requires.lies in
+    let lies = subst (λ (d : Descr). All (λ offset. offset + item_size d ≤ length mask.block.now) (offsets mask.layout.now)) (mask-bool mask.descr.now mask.layout.now.shape c.requires.kind) mask.inside in
     record {
       lie = subst (All (λ (run : Run). LieWithin (run.count ∷ []) (run.step ∷ []) run.offset max_bytes 1)) (sym are) (ens.lie max_bytes 1 (search rules));
       few = omega (arith, ap length all, length-offsets mask.layout.now, c.items-items.ensures.value, c.items-items.ensures.limit);

@@ -5,4 +5,4 @@ use Rattle.fancy_index.specs.Sources.{index_items}
 use Rattle.fancy_index.proofs.checks.are_indexes.Given as goal
 
 abbrev pub invariant-loop-item : goal.invariant-loop-item
-invariant-loop-item l = list_all is_index (index_items l.list.arrays.now (drop l.item-index l.list.items.now)) ≡ list_all is_index (index_items l.list.arrays.now l.list.items.now)
+invariant-loop-item l = list_all is_index (index_items (drop l.item-index l.items)) ≡ list_all is_index (index_items l.items)

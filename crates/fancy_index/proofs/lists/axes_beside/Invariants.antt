@@ -4,4 +4,4 @@ use Rattle.fancy_index.specs.Sources.{index_items}
 use Rattle.fancy_index.proofs.lists.axes_beside.Given as goal
 
 abbrev pub invariant-loop-item : goal.invariant-loop-item
-invariant-loop-item l = l.left + array_axes_taken (index_items l.list.arrays.now l.list.items.now) ≡ l.axes + array_axes_taken (index_items l.list.arrays.now (drop l.item-index l.list.items.now))
+invariant-loop-item l = l.left + array_axes_taken (index_items l.items) ≡ l.axes + array_axes_taken (index_items (drop l.item-index l.items))

@@ -11,4 +11,4 @@ invariant-loop-item l = record {
 }
 
 abbrev pub decreases-loop-item : goal.decreases-loop-item
-decreases-loop-item l = length l.left.list.items.now
+decreases-loop-item l = length l.left.items.now

@@ -18,7 +18,7 @@ returns-in_err-parts c =
 pub returns : goal.returns
 returns c =
     let shape = c.args.layout.now.shape in
-    let items = index_items c.args.arrays.now c.args.items.now in
+    let items = index_items c.args.items.now in
     let lengths = c.in_ok-left.ensures.axes ∙ c.as_slice-lengths.ensures.value in
     let listed = c.in_ok-left.ensures.items in
     let made = c.in_ok-parts.ensures in

@@ -1,16 +1,15 @@
 use Rattle.std.proofs.Common.{◌≡◌, ◌≢◌, length, refl, sym, ap, subst, ◌∙◌}
 use Rattle.std.proofs.lemmas.List.{length-map}
 use Rattle.std.proofs.lemmas.Result.{err_from_is_err_and}
-use Rattle.fancy_index.specs.Words.{count, offsets, length-offsets}
+use Rattle.fancy_index.specs.Words.{count, offsets, length-offsets, Items}
 use Rattle.fancy_index.specs.declared.kind.Kind.TheVariants.{Mask}
-use Rattle.fancy_index.specs.declared.source.Indices.{Indices}
 use Rattle.fancy_index.specs.IndexArrays.{kind}
 use Rattle.fancy_index.specs.Sources.{number_from, index_array_of}
 use Rattle.fancy_index.specs.inside.Items.{IsOutside}
 use Rattle.fancy_index.proofs.PointLaws.{part-of_mask, part-of_integers, places_tested}
 use Rattle.fancy_index.proofs.points.array_points.Goals as goal
 
-many : (array : Indices) → length (index_array_of array).numbers ≡ count (index_array_of array).shape
+many : (array : Items) → length (index_array_of array).numbers ≡ count (index_array_of array).shape
 many array = length-map (offsets array.layout.now) (number_from array.descr.now array.block.now) ∙ length-offsets array.layout.now
 
 pub returns-in_ok-mask_points-in-Mask-clause-part : goal.returns-in_ok-mask_points-in-Mask-clause-part

@@ -1,14 +1,13 @@
 use Rattle.std.proofs.Common.{◌≡◌, inl, inr, ℤ, List, length, ap, ◌∙◌, arith}
 use Rattle.std.proofs.lemmas.List.{length-map, nil_from_length}
-use Rattle.fancy_index.specs.Words.{IndexOutOfRange, check, count, offsets, length-offsets}
-use Rattle.fancy_index.specs.declared.source.Indices.{Indices}
+use Rattle.fancy_index.specs.Words.{IndexOutOfRange, check, count, offsets, length-offsets, Items}
 use Rattle.fancy_index.specs.Sources.{number_from}
 use Rattle.fancy_index.specs.inside.Items.{numbers_in}
 use Rattle.fancy_index.proofs.PointLaws.{none-named}
 use Rattle.fancy_index.proofs.points.integer_points.Goals as goal
 use Rattle.fancy_index.proofs.points.integer_points.Goals.{else-n-eq0-via-then-n-eq0+else-items-gt0, else-n-eq0-via-else-n-eq0}
 
-many : (array : Indices) → length (numbers_in array) ≡ count array.layout.now.shape
+many : (array : Items) → length (numbers_in array) ≡ count array.layout.now.shape
 many array = length-map (offsets array.layout.now) (number_from array.descr.now array.block.now) ∙ length-offsets array.layout.now
 
 pub returns-then-items-gt0-clause-err : goal.returns-then-items-gt0-clause-err

@@ -76,7 +76,7 @@ loop-run-init g c =
       some = subst (All (λ (run : Run). 1 ≤ run.count)) (sym are) ens.some;
       lie = subst (All (λ (run : Run). LieWithin (run.count ∷ []) (run.step ∷ []) run.offset max_bytes 1)) (sym are) (ens.lie max_bytes 1 (search rules));
       few = omega (arith, ap length all, length-offsets a.layout.now, c.items.ensures.value, c.items.ensures.limit);
-      inside = subst (All (λ offset. offset + item_size a.descr.now ≤ length a.block.now)) (sym all) c.requires.lies;
+      inside = subst (All (λ offset. offset + item_size a.descr.now ≤ length a.block.now)) (sym all) a.inside;
       pushed = subst (λ l. ArePushed c.args.n (map (number_from a.descr.now a.block.now) l) numbers [] c.in_ok-places.places.items) (sym all)
           (subst (ArePushed c.args.n numbers numbers []) (sym c.in_ok-places.ensures.items) (none_pushed c.args.n numbers []));
     }
