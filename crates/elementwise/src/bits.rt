@@ -1,7 +1,8 @@
 //! Operations on numbers given by their lowest 64 bits; all higher bits repeat the sign.
 ghost use Rattle.std.specs.Prelude.{◌≡◌, ◌≤◌, ◌/◌, ◌^◌, nat_lt, if◌then◌else◌, Bool, int_lt};
-ghost use Rattle.elementwise.specs.Words.{integer, low_bits};
-ghost use Rattle.elementwise.specs.Operations.{floor_quotient, modulo, shifted_left, shifted_right};
+ghost use Rattle.elementwise.specs.Words.{Scalar, integer, low_bits};
+ghost use Rattle.elementwise.specs.Operations.{exact, floor_quotient, modulo, shifted_left, shifted_right};
+ghost use Rattle.elementwise.specs.inside.PairPasses.{division_op};
 ghost use Rattle.elementwise.specs.Bits.{is_negative, magnitude_of};
 
 /// Whether bits are those of a number below 0.
@@ -22,7 +23,7 @@ pub(crate) fn magnitude(negative: bool, bits: u64) -> u64
 
 /// The bits of a quotient that is rounded down, 0 by 0.
 #[inline(always)]
-pub(crate) fn quotient(signed: bool, left: u64, right: u64) -> u64
+fn quotient(signed: bool, left: u64, right: u64) -> u64
     ensures { result
         ≡ low_bits 8 (floor_quotient (integer signed 8 left) (integer signed 8 right)) }
 {
@@ -41,13 +42,28 @@ pub(crate) fn quotient(signed: bool, left: u64, right: u64) -> u64
 
 /// The bits of what is left of a number by another, 0 by 0.
 #[inline(always)]
-pub(crate) fn rest(signed: bool, left: u64, right: u64) -> u64
+fn rest(signed: bool, left: u64, right: u64) -> u64
     ensures { result ≡ low_bits 8 (modulo (integer signed 8 left) (integer signed 8 right)) }
 {
     if right == 0 {
         return 0;
     }
     left.wrapping_sub(right.wrapping_mul(quotient(signed, left, right)))
+}
+
+/// The bits of a quotient, or of what is left.
+#[inline(always)]
+pub(crate) fn division(leaves: bool, signed: bool, left: u64, right: u64) -> u64
+    ensures { (scalar : Scalar)
+        → result
+        ≡ low_bits 8
+        (exact (division_op leaves) scalar (integer signed 8 left) (integer signed 8 right)) }
+{
+    if leaves {
+        rest(signed, left, right)
+    } else {
+        quotient(signed, left, right)
+    }
 }
 
 /// The bits of a number that is moved up by so many of the `width` bits of a scalar.

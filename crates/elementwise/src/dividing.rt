@@ -1,9 +1,9 @@
-//! Quotients of pairs of numbers, with a loop of its own for a row that one number divides.
+//! Divisions of pairs of numbers, with a loop of its own for a row that one number divides.
 ghost use Rattle.std.specs.Prelude.{◌≡◌, ◌+◌, ◌*◌, ◌<◌, ◌≤◌, ◌++◌, ◌^◌, ℕ, true, unsigned_abs, IfSome};
-ghost use Rattle.elementwise.specs.Words.{Little, integer, joined, FloorDivide, is_bool, number_of_side};
+ghost use Rattle.elementwise.specs.Words.{Little, integer, joined, is_bool, number_of_side};
 ghost use Rattle.elementwise.specs.Bits.{IsTruth};
 ghost use Rattle.elementwise.specs.Operations.{binary};
-ghost use Rattle.elementwise.specs.inside.PairPasses.{number_pair};
+ghost use Rattle.elementwise.specs.inside.PairPasses.{division_op, number_pair};
 ghost use Rattle.elementwise.specs.inside.Sides.{pair_count, made_of};
 
 use crate::divisor::Divisor;
@@ -40,22 +40,24 @@ fn divisor_of<N: Number, O: Ordered>(pairs: Pairs<'_, '_>) -> Option<Divisor>
     }
 }
 
-/// A number, divided.
+/// The quotient of a number, or what is left of it.
 #[inline(always)]
-fn divided<N: Number>(left: N, divisor: Divisor) -> N
+fn divided<const LEAVES: bool, N: Number>(left: N, divisor: Divisor) -> N
     requires signed { divisor.signed ≡ N.SIGNED }
     requires truth { is_bool (N.scalar Little) ≡ true → IsTruth (integer N.SIGNED 8 divisor.bits) }
     requires small { unsigned_abs (N.value left) < 2 ^ (8 * N.WIDTH) }
     requires also { unsigned_abs (integer N.SIGNED 8 divisor.bits) < 2 ^ (8 * N.WIDTH) }
     ensures { N.value result
-        ≡ binary FloorDivide (N.scalar Little) (N.value left) (integer N.SIGNED 8 divisor.bits) }
+        ≡ binary (division_op LEAVES) (N.scalar Little) (N.value left)
+        (integer N.SIGNED 8 divisor.bits) }
 {
-    N::of_bits(divisor.quotient(N::SIGNED, N::WIDTH, left.bits()))
+    N::of_bits(divisor.division(LEAVES, N::SIGNED, N::WIDTH, left.bits()))
 }
 
-/// Pushes the quotients of the first numbers of pairs, where each second one is this divisor.
+/// Pushes the quotients of the first numbers of pairs, or what is left of them, where each second one is
+/// this divisor.
 #[inline(always)]
-fn push_divided<N: Number, O: Ordered>(
+fn push_divided<const LEAVES: bool, N: Number, O: Ordered>(
     block: BlockBuilder,
     pairs: Pairs<'_, '_>,
     divisor: Divisor,
@@ -70,24 +72,24 @@ fn push_divided<N: Number, O: Ordered>(
     ensures bytes { result.0 ≡ block.0
         ++ joined (made_of
         (number_pair (N.scalar O.order) (N.scalar O.order) (N.scalar Little)
-        (binary FloorDivide (N.scalar Little))) pairs.entry) (pair_count pairs.entry) }
+        (binary (division_op LEAVES) (N.scalar Little))) pairs.entry) (pair_count pairs.entry) }
     ensures left { pair_count pairs.entry * N.WIDTH + result.1 ≡ block.1 }
 {
     note_slice(pairs.left.bytes);
     let mut block = block;
     for k in 0..pairs.left.run.count {
         let left = pairs.left.number::<N, O>(k);
-        divided(left, divisor).push::<LowFirst>(&mut block);
+        divided::<LEAVES, N>(left, divisor).push::<LowFirst>(&mut block);
     }
     block
 }
 
-/// Quotients of numbers that are read in a byte order.
+/// Quotients of numbers that are read in a byte order, or what the divisions leave.
 #[derive_where(Clone, Copy)]
-pub(crate) struct Quotients<N, O>(pub(crate) PhantomData<(N, O)>);
+pub(crate) struct Divisions<const LEAVES: bool, N, O>(pub(crate) PhantomData<(N, O)>);
 
-impl<N: Number, O: Ordered> Pass for Quotients<N, O> {
-    ghost makes = { λ _. number_pair (N.scalar O.order) (N.scalar O.order) (N.scalar Little) (binary FloorDivide (N.scalar Little)) };
+impl<const LEAVES: bool, N: Number, O: Ordered> Pass for Divisions<LEAVES, N, O> {
+    ghost makes = { λ _. number_pair (N.scalar O.order) (N.scalar O.order) (N.scalar Little) (binary (division_op LEAVES) (N.scalar Little)) };
 
     ghost Reads = { λ _ width width'. (width ≡ N.WIDTH) × (width' ≡ N.WIDTH) };
 
@@ -100,11 +102,13 @@ impl<N: Number, O: Ordered> Pass for Quotients<N, O> {
         match divisor_of::<N, O>(pairs) {
             Some(divisor) if pairs.left.run.step == near => {
                 let pairs = pairs.with_steps(N::WIDTH as isize, pairs.right.run.step);
-                push_divided::<N, O>(block, pairs, divisor)
+                push_divided::<LEAVES, N, O>(block, pairs, divisor)
             }
-            Some(divisor) => push_divided::<N, O>(block, pairs, divisor),
+            Some(divisor) => push_divided::<LEAVES, N, O>(block, pairs, divisor),
             None => {
-                Numbers::<Dividing, N, N, N, O, LowFirst>(PhantomData).push_row(block, pairs)
+                Numbers::<Dividing<LEAVES>, N, N, N, O, LowFirst>(PhantomData).push_row(
+                    block, pairs,
+                )
             }
         }
     }

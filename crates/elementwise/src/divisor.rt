@@ -1,7 +1,8 @@
 //! Division of many numbers by one, through its reciprocal.
 ghost use Rattle.std.specs.Prelude.{◌≡◌, ◌-◌, ◌*◌, ◌/◌, ◌^◌, ◌<◌, ◌≤◌, unsigned_abs, IfSome};
-ghost use Rattle.elementwise.specs.Words.{integer, low_bits};
-ghost use Rattle.elementwise.specs.Operations.{floor_quotient};
+ghost use Rattle.elementwise.specs.Words.{Scalar, integer, low_bits};
+ghost use Rattle.elementwise.specs.Operations.{exact, floor_quotient};
+ghost use Rattle.elementwise.specs.inside.PairPasses.{division_op};
 
 use crate::bits::{is_negative, magnitude};
 
@@ -97,7 +98,7 @@ impl Divisor {
     /// The bits of the quotient of a number of so many bytes, rounded down. Each step is the same for all
     /// numbers, so that one instruction does it for many.
     #[inline(always)]
-    pub(crate) fn quotient(self, signed: bool, width: usize, left: u64) -> u64
+    fn quotient(self, signed: bool, width: usize, left: u64) -> u64
         requires signed { self.signed ≡ signed }
         requires left { unsigned_abs (integer signed 8 left) < 2 ^ (8 * width) }
         requires divisor { unsigned_abs (integer signed 8 self.bits) < 2 ^ (8 * width) }
@@ -111,5 +112,24 @@ impl Divisor {
         let size = if below { !turned } else { turned };
         let whole = self.divided(width, size);
         if below { !whole } else { whole }
+    }
+
+    /// The bits of the quotient of a number of so many bytes, or of what is left of it.
+    #[inline(always)]
+    pub(crate) fn division(self, leaves: bool, signed: bool, width: usize, left: u64) -> u64
+        requires signed { self.signed ≡ signed }
+        requires left { unsigned_abs (integer signed 8 left) < 2 ^ (8 * width) }
+        requires divisor { unsigned_abs (integer signed 8 self.bits) < 2 ^ (8 * width) }
+        ensures { (scalar : Scalar)
+            → result
+            ≡ low_bits 8
+            (exact (division_op leaves) scalar (integer signed 8 left) (integer signed 8 self.bits)) }
+    {
+        let quotient = self.quotient(signed, width, left);
+        if leaves {
+            left.wrapping_sub(self.bits.wrapping_mul(quotient))
+        } else {
+            quotient
+        }
     }
 }

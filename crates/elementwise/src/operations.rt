@@ -1,16 +1,16 @@
 //! Work on operands of numbers in the type that their scalar names, and which kernel does it. Each operation is done on
 //! the lowest 64 bits, and a number keeps as many as its type has.
 ghost use Rattle.std.specs.Prelude.{◌≡◌, ◌+◌, ◌*◌, ◌≤◌, ◌++◌, true, ◌-ℤ◌};
-ghost use Rattle.elementwise.specs.Words.{Little, size, integer, wrap, item_size, Add, Subtract, Multiply, FloorDivide, Modulo, And, Or, Xor, ShiftLeft, ShiftRight, is_bool};
+ghost use Rattle.elementwise.specs.Words.{Little, size, integer, wrap, item_size, Add, Subtract, Multiply, And, Or, Xor, ShiftLeft, ShiftRight, is_bool};
 ghost use Rattle.elementwise.specs.Operations.{binary, unary, serves_bools, serves_one};
-ghost use Rattle.elementwise.specs.inside.PairPasses.{number_pair};
+ghost use Rattle.elementwise.specs.inside.PairPasses.{division_op, number_pair};
 ghost use Rattle.elementwise.specs.inside.Operands.{pairs_of, made_of_all};
 ghost use Rattle.elementwise.specs.inside.Works.{target, meaning, IsWork};
 
 use crate::bits;
 use crate::casting::cast;
 use crate::comparing::compare;
-use crate::dividing::Quotients;
+use crate::dividing::Divisions;
 use crate::kernels::{Kernel, push_made};
 use crate::pairing::Work;
 use crate::rows::Operands;
@@ -52,25 +52,15 @@ impl<N: Number> Kernel<N, N, N> for Multiplying {
     }
 }
 
-pub(crate) struct Dividing;
+/// Gives quotients, or what the divisions leave.
+pub(crate) struct Dividing<const LEAVES: bool>;
 
-impl<N: Number> Kernel<N, N, N> for Dividing {
-    ghost makes = { binary FloorDivide (N.scalar Little) };
-
-    #[inline(always)]
-    fn make(left: N, right: N) -> N {
-        N::of_bits(bits::quotient(N::SIGNED, left.bits(), right.bits()))
-    }
-}
-
-struct LeavingRests;
-
-impl<N: Number> Kernel<N, N, N> for LeavingRests {
-    ghost makes = { binary Modulo (N.scalar Little) };
+impl<const LEAVES: bool, N: Number> Kernel<N, N, N> for Dividing<LEAVES> {
+    ghost makes = { binary (division_op LEAVES) (N.scalar Little) };
 
     #[inline(always)]
     fn make(left: N, right: N) -> N {
-        N::of_bits(bits::rest(N::SIGNED, left.bits(), right.bits()))
+        N::of_bits(bits::division(LEAVES, N::SIGNED, left.bits(), right.bits()))
     }
 }
 
@@ -169,8 +159,11 @@ impl<'a, 'b> NumberTask for Working<'a, 'b> {
                 BinOp::Add => push_made::<Adding, N, N, N, O, LowFirst>(block, operands),
                 BinOp::Subtract => push_made::<Subtracting, N, N, N, O, LowFirst>(block, operands),
                 BinOp::Multiply => push_made::<Multiplying, N, N, N, O, LowFirst>(block, operands),
-                BinOp::FloorDivide => { operands.push_all(&Quotients::<N, O>(PhantomData), block) }
-                BinOp::Modulo => push_made::<LeavingRests, N, N, N, O, LowFirst>(block, operands),
+                BinOp::FloorDivide => operands.push_all(
+                    &Divisions::<false, N, O>(PhantomData),
+                    block,
+                ),
+                BinOp::Modulo => operands.push_all(&Divisions::<true, N, O>(PhantomData), block),
                 BinOp::And => push_made::<KeepingBoth, N, N, N, O, LowFirst>(block, operands),
                 BinOp::Or => push_made::<KeepingEither, N, N, N, O, LowFirst>(block, operands),
                 BinOp::Xor => push_made::<KeepingOne, N, N, N, O, LowFirst>(block, operands),

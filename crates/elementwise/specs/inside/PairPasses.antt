@@ -1,6 +1,6 @@
 -- Passes over pairs of items that lie at equal steps.
 use Rattle.std.specs.Prelude.{◌≡◌, ℕ, ℤ, pos, int_lt, Bool, true, false, not, ◌||◌, if◌then◌else◌, List}
-use Rattle.elementwise.specs.Words.{Little, Scalar, Byte, Int, Bytes, LeafValue, number, text, Descr, IsNumber, IsValueOf, number_of, decode, encode, without_nuls, Comparison, item_at}
+use Rattle.elementwise.specs.Words.{Little, BinOp, FloorDivide, Modulo, Scalar, Byte, Int, Bytes, LeafValue, number, text, Descr, IsNumber, IsValueOf, number_of, decode, encode, without_nuls, Comparison, item_at}
 use Rattle.elem_descr.specs.declared.scalar.Scalar.TheVariants.{Bool as BoolScalar}
 use Rattle.elem_descr.specs.declared.descr.Descr.TheVariants.{Scalar as ScalarDescr}
 use Rattle.elementwise.specs.Comparisons.{says, compared}
@@ -15,6 +15,11 @@ IsNative BoolScalar = Unit {0}
 IsNative (Byte signed) = Unit {0}
 IsNative (Int signed width order) = order ≡ Little
 IsNative (Bytes n) = ⊥
+
+-- the operation that gives quotients, or what divisions leave
+abbrev pub division_op : Bool → BinOp
+division_op false = FloorDivide
+division_op true = Modulo
 
 -- the bytes of what f gives on the values that bytes of two scalars mean
 abbrev pub value_pair : Scalar → Scalar → Scalar → (LeafValue → LeafValue → LeafValue) → List ℕ → List ℕ → List ℕ

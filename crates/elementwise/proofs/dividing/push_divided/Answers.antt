@@ -1,9 +1,9 @@
 use Rattle.std.proofs.Common.{◌≡◌, ◌+◌, ◌*◌, ◌^◌, ◌<◌, ◌≤◌, ◌++◌, suc, sym, ap, subst, ◌∙◌, append_assoc, arith}
-use Rattle.std.specs.Prelude.{unsigned_abs}
+use Rattle.std.specs.Prelude.{unsigned_abs, not, ◌==◌}
 use Rattle.std.proofs.Math.Nat.{suc-mul, add-mul, mul-le-mul_right}
-use Rattle.elementwise.specs.Words.{Little, number, encode, joined, FloorDivide}
+use Rattle.elementwise.specs.Words.{Little, number, encode, joined}
 use Rattle.elementwise.specs.Operations.{binary}
-use Rattle.elementwise.specs.inside.PairPasses.{number_pair}
+use Rattle.elementwise.specs.inside.PairPasses.{division_op, number_pair}
 use Rattle.elementwise.specs.inside.Sides.{made_of, pair_count}
 use Rattle.elementwise.proofs.HeldLaws.{side-small}
 use Rattle.elementwise.proofs.dividing.push_divided.Goals as goal
@@ -25,8 +25,8 @@ loop-k-preserved g c =
     let k = c.loop-k.k in
     let scalar = g.N.Number.scalar g.O.Ordered.order in
     let to = g.N.Number.scalar Little in
-    let made = made_of (number_pair scalar scalar to (binary FloorDivide to)) c.args.pairs in
-    let is = ap (λ z. encode to (number z)) (c.divided.ensures ∙ λ i. binary FloorDivide to (c.number-left.ensures i) (sym (c.requires.each k c.loop-k-test.true) i)) in
+    let made = made_of (number_pair scalar scalar to (binary (division_op (not (g.row.LEAVES == 0))) to)) c.args.pairs in
+    let is = ap (λ z. encode to (number z)) (c.divided.ensures ∙ λ i. binary (division_op (not (g.row.LEAVES == 0))) to (c.number-left.ensures i) (sym (c.requires.each k c.loop-k-test.true) i)) in
     let next : suc k ≡ k + 1 = omega arith in
     record {
       bytes = c.push.ensures.bytes ∙ (λ i. c.loop-k.invariant.bytes i ++ is i) ∙ append_assoc c.args.block.0 (joined made k) (made k) ∙ ap (λ m. c.args.block.0 ++ joined made m) next;

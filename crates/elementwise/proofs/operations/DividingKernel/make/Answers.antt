@@ -1,14 +1,17 @@
 use Rattle.std.proofs.Common.{sym, ◌∙◌}
-use Rattle.std.specs.Prelude.{pos}
-use Rattle.elementwise.specs.Words.{Little, low_bits, integer, FloorDivide}
-use Rattle.elementwise.specs.Operations.{floor_quotient}
+use Rattle.std.specs.Prelude.{pos, not, ◌==◌}
+use Rattle.elementwise.specs.Words.{Little, low_bits, integer}
+use Rattle.elementwise.specs.Operations.{exact}
+use Rattle.elementwise.specs.inside.PairPasses.{division_op}
 use Rattle.elementwise.proofs.WordLaws.{are_bits, applied}
 use Rattle.elementwise.proofs.operations.DividingKernel.make.Goals as goal
 
 pub returns : goal.returns
 returns g c =
-    applied FloorDivide (g.N.Number.scalar Little) _ _ _ c.quotient.result (g.met.N.Number.is_number Little) (g.met.N.Number.is_truth Little c.args.left) (g.met.N.Number.is_truth Little c.args.right)
-    (c.of_bits.ensures Little (pos c.quotient.result) (are_bits c.quotient.result c.quotient.type_inv))
-    (c.quotient.ensures
-    ∙ (λ i. low_bits 8 (floor_quotient (integer (c.SIGNED.ensures i) 8 c.bits.result) (integer (c.SIGNED.ensures i) 8 c.bits-2.result)))
-    ∙ λ i. low_bits 8 (floor_quotient (sym c.bits.ensures.exact i) (sym c.bits-2.ensures.exact i)))
+    let op = division_op (not (g.row.LEAVES == 0)) in
+    let scalar = g.N.Number.scalar Little in
+    applied op scalar _ _ _ c.division.result (g.met.N.Number.is_number Little) (g.met.N.Number.is_truth Little c.args.left) (g.met.N.Number.is_truth Little c.args.right)
+    (c.of_bits.ensures Little (pos c.division.result) (are_bits c.division.result c.division.type_inv))
+    (c.division.ensures scalar
+    ∙ (λ i. low_bits 8 (exact op scalar (integer (c.SIGNED.ensures i) 8 c.bits.result) (integer (c.SIGNED.ensures i) 8 c.bits-2.result)))
+    ∙ λ i. low_bits 8 (exact op scalar (sym c.bits.ensures.exact i) (sym c.bits-2.ensures.exact i)))
