@@ -83,6 +83,19 @@ rest_low signed x y q fits fits' some is =
 
 -- ---- quotients by a product
 
+quotient-is : (n d q : ℕ) → q * d ≤ n → n < q * d + d → q ≡ n / d
+quotient-is n d q low high =
+    let parts = div-add-mod n d in
+    let some : 1 ≤ d = omega (arith, low, high) in
+    let left : n % d < d = mod-lt n some in
+    elim (cases_lt q (n / d)) as (λ _. q ≡ n / d) [
+      | inl under ↦ let most : (q + 1) * d ≤ n / d * d = mul-le-mul_right d (omega (arith, under)) in absurd (omega (arith, most, parts, high))
+      | inr from ↦ elim (cases_lt (n / d) q) as (λ _. q ≡ n / d) [
+        | inl over ↦ let most : (n / d + 1) * d ≤ q * d = mul-le-mul_right d (omega (arith, over)) in absurd (omega (arith, most, parts, low, left))
+        | inr to ↦ omega (arith, from, to)
+      ]
+    ]
+
 -- the product with a reciprocal that is rounded down, less its lowest bits, is the quotient or one less
 module _ (v n d m low near : ℕ) (few : n ≤ v) (some : 1 ≤ d) (is : m ≡ v / d) (fits : low ≤ v) (split : low + near * (v + 1) ≡ n * m) where
   whole : d * m + v % d ≡ v
@@ -100,7 +113,7 @@ module _ (v n d m low near : ℕ) (few : n ≤ v) (some : 1 ≤ d) (is : m ≡ v
     | inr under ↦ under
   ]
 
-  pub near-high : n < near * d + 2 * d
+  near-high : n < near * d + 2 * d
   near-high = elim (cases_lt n (near * d + 2 * d)) as (λ _. n < near * d + 2 * d) [
     | inl under ↦ under
     | inr over ↦
@@ -113,18 +126,12 @@ module _ (v n d m low near : ℕ) (few : n ≤ v) (some : 1 ≤ d) (is : m ≡ v
         absurd (omega (arith, times, parts, all, rest, most, lows, some))
   ]
 
-pub quotient-is : (n d q : ℕ) → q * d ≤ n → n < q * d + d → q ≡ n / d
-quotient-is n d q low high =
-    let parts = div-add-mod n d in
-    let some : 1 ≤ d = omega (arith, low, high) in
-    let left : n % d < d = mod-lt n some in
-    elim (cases_lt q (n / d)) as (λ _. q ≡ n / d) [
-      | inl under ↦ let most : (q + 1) * d ≤ n / d * d = mul-le-mul_right d (omega (arith, under)) in absurd (omega (arith, most, parts, high))
-      | inr from ↦ elim (cases_lt (n / d) q) as (λ _. q ≡ n / d) [
-        | inl over ↦ let most : (n / d + 1) * d ≤ q * d = mul-le-mul_right d (omega (arith, over)) in absurd (omega (arith, most, parts, low, left))
-        | inr to ↦ omega (arith, from, to)
-      ]
-    ]
+  -- which one the rest tells
+  pub near-is : n < near * d + d → near ≡ n / d
+  near-is under = quotient-is n d near near-low under
+
+  pub next-is : near * d + d ≤ n → near + 1 ≡ n / d
+  next-is over = quotient-is n d (near + 1) (omega (arith, over)) (omega (arith, near-high))
 
 -- the highest bits of a reciprocal are the reciprocal of fewer bits
 pub reciprocal-high : (v k w d : ℕ) → v / k ≡ w → v / d / k ≡ w / d
