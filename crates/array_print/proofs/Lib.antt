@@ -1,5 +1,6 @@
 pub mod LeafLaws
 pub mod WidthLaws
 pub mod PartLaws
+pub mod WholeLaws
 pub mod PrintLaws
 pub mod Vectors

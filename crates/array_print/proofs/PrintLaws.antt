@@ -1,10 +1,12 @@
 -- Laws of printed text: blocks, what joins them, and what stays in front.
-use Rattle.std.proofs.Common.{◌≡◌, ℕ, zero, suc, ◌+◌, ◌-◌, ◌*◌, ◌<◌, ◌≤◌, List, ◌∷◌, ◌++◌, codes, map, length, take, drop, get_or, refl, sym, ◌∙◌, ap, arith, add-one, suc-mul, zero-mul, append_assoc}
+use Rattle.std.proofs.Common.{Option, ◌≡◌, ℕ, zero, suc, ◌+◌, ◌-◌, ◌*◌, ◌<◌, ◌≤◌, List, [], ◌∷◌, ◌++◌, codes, map, length, length-append, take_all, take, drop, get_or, refl, sym, ◌∙◌, ap, arith, add-one, suc-mul, zero-mul, append_assoc}
 use Rattle.std.proofs.lemmas.List.{append-nil, take_at, drop_at, take-take, take-map, drop-map, drop-drop, drop-take, length-drop, drop_more}
 use Rattle.std.specs.Io.{StartsWith}
 use Rattle.array_print.specs.Words.{count, blocks}
 use Rattle.array_print.specs.Printed.{join_texts, block_text, separator}
 use Rattle.array_print.specs.inside.Shown.{lead, repeated}
+use Rattle.array_print.specs.Sending.{Sends, SendsPart}
+use Rattle.array_print.specs.inside.Opened.{opened}
 use Rattle.array_print.specs.StartLaws.{StartsWith-trans}
 
 -- ---- a list that begins with another
@@ -59,11 +61,6 @@ blocks-map-take f c n xs = ap (blocks c n) (sym (take-map f (n * c) xs)) ∙ blo
 
 -- ---- the loop over an axis
 
--- the first k blocks of an axis, as they stand behind its bracket
-abbrev pub opened : (ℕ → List ℕ) → List ℕ → ℕ → ℕ → List ℕ → List ℕ
-opened f axes axis k offsets =
-    codes "[" ++ join_texts (separator axis (length axes - axis - 1)) (map (block_text (axis + 1) (drop (axis + 1) axes)) (blocks (count (drop (axis + 1) axes)) k (map f offsets)))
-
 -- the parts of a longer text, grouped from the left and from the right
 pub regroup : (old bracket so_far leads next : List ℕ) → old ++ (bracket ++ so_far) ++ leads ++ next ≡ old ++ (bracket ++ (so_far ++ leads ++ next))
 regroup old bracket so_far leads next = simp append_assoc
@@ -98,37 +95,112 @@ opened-all f axes axis k offsets old out out' below all pushed closed =
     ∙ ap (λ bs. old ++ (codes "[" ++ body bs (length rest) ++ codes "]")) (sym (blocks-map-take f c n offsets))
     ∙ ap (λ s. old ++ block_text axis s (map f (take (count s) offsets))) (sym (drop_more axes axis 0 below))
 
--- ---- blocks that are all the same
+-- ---- what an axis is made of
 
--- the first, and copies of it
-joined-same : (sep : List ℕ) (text : List (List ℕ) → List ℕ) (f : ℕ → List ℕ) (c m : ℕ) (xs one : List ℕ) → ((j : ℕ) → j < suc m → text (map f (take c (drop (j * c) xs))) ≡ one) → join_texts sep (map text (blocks c (suc m) (map f xs))) ≡ one ++ repeated (sep ++ one) m
-joined-same sep text f c zero xs one same = joined-map-more sep text f c zero xs ∙ same zero (omega arith) ∙ sym (append-nil one)
-joined-same sep text f c (suc m) xs one same =
-    joined-map-more sep text f c (suc m) xs
-    ∙ ap (λ l. l ++ sep ++ text (map f (take c (drop (suc m * c) xs)))) (joined-same sep text f c m xs one (λ j low. same j (omega arith)))
-    ∙ ap (λ l. (one ++ repeated (sep ++ one) m) ++ sep ++ l) (same (suc m) (omega arith))
-    ∙ append_assoc (one ++ repeated (sep ++ one) m) sep one
-    ∙ append_assoc one (repeated (sep ++ one) m) (sep ++ one)
+module _ (f : ℕ → List ℕ) (axes : List ℕ) (axis : ℕ) where
+  -- the text of the k-th block
+  abbrev pub block_at : ℕ → List ℕ → List ℕ
+  block_at k offsets = block_text (axis + 1) (drop (axis + 1) axes) (map f (take (count (drop (axis + 1) axes)) (drop (k * count (drop (axis + 1) axes)) offsets)))
+
+  -- what stands between two blocks
+  abbrev between : List ℕ
+  between = separator axis (length axes - axis - 1)
+
+  -- one block more
+  pub opened-next : (k : ℕ) (offsets : List ℕ) → opened f axes axis (k + 1) offsets ≡ opened f axes axis k offsets ++ (lead k between ++ block_at k offsets)
+  opened-next k offsets =
+      let text = block_text (axis + 1) (drop (axis + 1) axes) in
+      let c = count (drop (axis + 1) axes) in
+      let joined : ℕ → List ℕ = λ m. join_texts between (map text (blocks c m (map f offsets))) in
+      ap (λ l. codes "[" ++ l) (ap joined (add-one k) ∙ joined-map-more between text f c k offsets ∙ append_assoc (joined k) (lead k between) (block_at k offsets))
+
+  -- some blocks more that are all the same
+  pub opened-run : (k more : ℕ) (offsets one : List ℕ) → ((j : ℕ) → j < k + (more + 1) → k ≤ j → block_at j offsets ≡ one) →
+      opened f axes axis (k + (more + 1)) offsets ≡ opened f axes axis k offsets ++ ((lead k between ++ one) ++ repeated (between ++ one) more)
+  opened-run k zero offsets one same =
+      opened-next k offsets ∙ ap (λ t. opened f axes axis k offsets ++ (lead k between ++ t)) (same k (omega arith) (omega arith)) ∙ ap (λ t. opened f axes axis k offsets ++ t) (sym (append-nil (lead k between ++ one)))
+  opened-run k (suc more) offsets one same =
+      let j = k + (more + 1) in
+      let next : k + (suc more + 1) ≡ j + 1 = omega arith in
+      let later : j ≡ suc (k + more) = omega arith in
+      let first = lead k between ++ one in
+      ap (λ m. opened f axes axis m offsets) next
+      ∙ opened-next j offsets
+      ∙ ap (λ t. opened f axes axis j offsets ++ (lead j between ++ t)) (same j (omega arith) (omega arith))
+      ∙ ap (λ m. opened f axes axis j offsets ++ (lead m between ++ one)) later
+      ∙ ap (λ l. l ++ (between ++ one)) (opened-run k more offsets one (λ i low high. same i (omega arith) high))
+      ∙ append_assoc (opened f axes axis k offsets) (first ++ repeated (between ++ one) more) (between ++ one)
+      ∙ ap (λ t. opened f axes axis k offsets ++ t) (append_assoc first (repeated (between ++ one) more) (between ++ one))
+
+  -- all blocks
+  pub opened-end : (k : ℕ) (offsets : List ℕ) → axis < length axes → k ≡ get_or axes axis 0 → length offsets ≡ count (drop axis axes) → opened f axes axis k offsets ++ codes "]" ≡ block_text axis (drop axis axes) (map f offsets)
+  opened-end k offsets below all many =
+      opened-all f axes axis k offsets [] _ _ below all refl refl ∙ ap (λ os. block_text axis (drop axis axes) (map f os)) (take_all (count (drop axis axes)) offsets (omega (arith, many)))
+
+  -- the first blocks, and what follows them
+  pub opened-rest : (d k : ℕ) (offsets : List ℕ) → axis < length axes → k + d ≡ get_or axes axis 0 → length offsets ≡ count (drop axis axes) → (rest : List ℕ) × (block_text axis (drop axis axes) (map f offsets) ≡ opened f axes axis k offsets ++ rest)
+  opened-rest zero k offsets below all many = (codes "]", sym (opened-end k offsets below (omega (arith, all)) many))
+  opened-rest (suc d) k offsets below all many =
+      let r = opened-rest d (k + 1) offsets below (omega (arith, all)) many in (
+        (lead k between ++ block_at k offsets) ++ r.0,
+        r.1 ∙ ap (λ o. o ++ r.0) (opened-next k offsets) ∙ append_assoc (opened f axes axis k offsets) (lead k between ++ block_at k offsets) r.0,
+      )
+
+-- a block that is made, and copies of it
+pub made-again : (sep led one old o1 o2 o3 : List ℕ) (first times : ℕ) → first ≡ length o1 → o1 ≡ old ++ led → o2 ≡ o1 ++ one → o3 ≡ o2 ++ repeated (sep ++ drop first o2) times → o3 ≡ old ++ ((led ++ one) ++ repeated (sep ++ one) times)
+made-again sep led one old o1 o2 o3 first times length-is leads made again =
+    let left : drop first o2 ≡ one = ap (drop first) made ∙ ap (λ m. drop m (o1 ++ one)) length-is ∙ drop_at o1 one (length o1) refl in
+    again
+    ∙ ap (λ l. o2 ++ repeated (sep ++ l) times) left
+    ∙ ap (λ l. l ++ repeated (sep ++ one) times) (made ∙ ap (λ l. l ++ one) leads ∙ append_assoc old led one)
+    ∙ append_assoc old (led ++ one) (repeated (sep ++ one) times)
+
+-- the first copy stands where it was made
+pub first-copy : (old unit : List ℕ) (n from to : ℕ) (out : List ℕ) → 1 ≤ n → out ≡ old ++ repeated unit n → from ≡ length old → to ≡ length (old ++ unit) → (to ≤ length out) × (take (to - from) (drop from out) ≡ unit)
+first-copy old unit zero from to out some is start end = absurd (omega arith)
+first-copy old unit (suc n) from to out some is start end =
+    let front : repeated unit (suc n) ≡ unit ++ repeated unit n = repeated-front n in
+    let whole : out ≡ (old ++ unit) ++ repeated unit n = is ∙ ap (λ l. old ++ l) front ∙ sym (append_assoc old unit (repeated unit n)) in
+    let size : to - from ≡ length unit = omega (arith, start, end, length-append old unit) in (
+      omega (arith, end, ap length whole, length-append (old ++ unit) (repeated unit n)),
+      ap (λ l. take (to - from) (drop from l)) (whole ∙ append_assoc old unit (repeated unit n))
+          ∙ ap (λ m. take (to - from) (drop m (old ++ (unit ++ repeated unit n)))) start
+          ∙ ap (take (to - from)) (drop_at old (unit ++ repeated unit n) (length old) refl)
+          ∙ ap (λ m. take m (unit ++ repeated unit n)) size
+          ∙ take_at unit (repeated unit n) (length unit) refl,
+    )
+  where
+    repeated-front : (m : ℕ) → repeated unit (suc m) ≡ unit ++ repeated unit m
+    repeated-front zero = sym (append-nil unit)
+    repeated-front (suc m) = ap (λ l. l ++ unit) (repeated-front m) ∙ append_assoc unit (repeated unit m) unit
 
 -- the whole axis, of which one block is made
-pub opened-again : (f : ℕ → List ℕ) (axes : List ℕ) (axis first times inner : ℕ) (offsets old o1 o2 o3 o4 one : List ℕ) → axis < length axes → times + 1 ≡ get_or axes axis 0 → inner ≡ length axes - axis - 1 →
-    ((j : ℕ) → j < get_or axes axis 0 → block_text (axis + 1) (drop (axis + 1) axes) (map f (take (count (drop (axis + 1) axes)) (drop (j * count (drop (axis + 1) axes)) offsets))) ≡ one) →
+pub opened-again : (f : ℕ → List ℕ) (axes : List ℕ) (axis first times inner : ℕ) (offsets old o1 o2 o3 o4 one : List ℕ) → axis < length axes → times + 1 ≡ get_or axes axis 0 → inner ≡ length axes - axis - 1 → length offsets ≡ count (drop axis axes) →
+    ((j : ℕ) → j < get_or axes axis 0 → block_at f axes axis j offsets ≡ one) →
     first ≡ length o1 → o1 ≡ old ++ codes "[" → o2 ≡ o1 ++ one → o3 ≡ o2 ++ repeated (separator axis inner ++ drop first o2) times → o4 ≡ o3 ++ codes "]" →
-    o4 ≡ old ++ block_text axis (drop axis axes) (map f (take (count (drop axis axes)) offsets))
-opened-again f axes axis first times inner offsets old o1 o2 o3 o4 one below all inside same length-is opens made again closes =
+    o4 ≡ old ++ block_text axis (drop axis axes) (map f offsets)
+opened-again f axes axis first times inner offsets old o1 o2 o3 o4 one below all inside many same length-is opens made again closes =
     let sep = separator axis (length axes - axis - 1) in
-    let c = count (drop (axis + 1) axes) in
-    let text = block_text (axis + 1) (drop (axis + 1) axes) in
-    let n : times + 1 ≡ suc times = omega arith in
-    let left : drop first o2 ≡ one = ap (drop first) made ∙ ap (λ m. drop m (o1 ++ one)) length-is ∙ drop_at o1 one (length o1) refl in
-    let joined : join_texts sep (map text (blocks c (times + 1) (map f offsets))) ≡ one ++ repeated (sep ++ one) times =
-    ap (λ m. join_texts sep (map text (blocks c m (map f offsets)))) n ∙ joined-same sep text f c times offsets one (λ j low. same j (omega (arith, all))) in
-    let pushed : o3 ≡ old ++ opened f axes axis (times + 1) offsets =
-    again
-    ∙ ap (λ m. o2 ++ repeated (separator axis m ++ drop first o2) times) inside
-    ∙ ap (λ l. o2 ++ repeated (sep ++ l) times) left
-    ∙ ap (λ l. l ++ repeated (sep ++ one) times) (made ∙ ap (λ l. l ++ one) opens)
-    ∙ ap (λ l. l ++ repeated (sep ++ one) times) (append_assoc old (codes "[") one)
-    ∙ append_assoc old (codes "[" ++ one) (repeated (sep ++ one) times)
-    ∙ ap (λ l. old ++ (codes "[" ++ l)) (sym joined) in
-    opened-all f axes axis (times + 1) offsets old o3 o4 below all pushed closes
+    let text = one ++ repeated (sep ++ one) times in
+    let from : times + 1 ≡ 0 + (times + 1) = omega arith in
+    let run : opened f axes axis (times + 1) offsets ≡ codes "[" ++ text = ap (λ m. opened f axes axis m offsets) from ∙ opened-run f axes axis 0 times offsets one (λ j low high. same j (omega (arith, all))) in
+    closes
+    ∙ ap (λ l. l ++ codes "]") (made-again sep [] one o1 o1 o2 o3 first times length-is (sym (append-nil o1)) made (again ∙ ap (λ m. o2 ++ repeated (separator axis m ++ drop first o2) times) inside))
+    ∙ ap (λ l. (l ++ text) ++ codes "]") opens
+    ∙ ap (λ l. l ++ codes "]") (append_assoc old (codes "[") text ∙ ap (λ l. old ++ l) (sym run))
+    ∙ append_assoc old (opened f axes axis (times + 1) offsets) (codes "]")
+    ∙ ap (λ l. old ++ l) (opened-end f axes axis (times + 1) offsets below all many)
+
+-- ---- an axis that is sent
+
+-- more of it is made
+pub sends-grown : (w w' : Option (List ℕ)) (rest rest' old head head' more : List ℕ) → Sends w w' rest (old ++ head) → rest' ≡ rest ++ more → head' ≡ head ++ more → Sends w w' rest' (old ++ head')
+sends-grown w w' rest rest' old head head' more sent made grown =
+    (sent.0, ap (λ h. old ++ h) grown ∙ sym (append_assoc old head more) ∙ ap (λ t. t ++ more) sent.1 ∙ append_assoc sent.0 rest more ∙ ap (λ r. sent.0 ++ r) (sym made), sent.2)
+
+-- and no more will be
+pub sends-cut : (f : ℕ → List ℕ) (axes : List ℕ) (axis k : ℕ) (offsets : List ℕ) (w w' : Option (List ℕ)) (rest old : List ℕ) → axis < length axes → k ≤ get_or axes axis 0 → length offsets ≡ count (drop axis axes) →
+    Sends w w' rest (old ++ opened f axes axis k offsets) → SendsPart w w' (old ++ block_text axis (drop axis axes) (map f offsets))
+sends-cut f axes axis k offsets w w' rest old below within many sent =
+    let r = opened-rest f axes axis (get_or axes axis 0 - k) k offsets below (omega arith) many in
+    (rest ++ r.0, sends-grown w w' rest (rest ++ r.0) old _ _ r.0 sent refl r.1)

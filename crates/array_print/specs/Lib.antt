@@ -1,4 +1,6 @@
 pub mod Printed
 pub mod inside
+pub mod Sending
+pub mod SendingLaws
 pub mod StartLaws
 pub mod Words

@@ -52,7 +52,7 @@ fn push_separator(out: &mut Vec<u8>, brackets: usize, inner: usize) -> Result<()
 }
 
 /// Appends the text from `start` on `times` more times, each after what comes between two blocks.
-/// It asks for the memory for all of it first.
+/// The copies are made in place.
 pub fn push_again(
     out: &mut Vec<u8>,
     start: usize,
@@ -70,12 +70,13 @@ pub fn push_again(
     if times == 0 {
         return Ok(());
     }
-    let mut again = Vec::new(*out.allocator());
-    push_separator(&mut again, brackets, inner)?;
-    again.extend_from_slice(&out.as_slice()[start..])?;
-    out.reserve(again.len().saturating_mul(times))?;
-    for _i in 0..times {
-        out.extend_from_slice(again.as_slice())?;
+    let from = out.len();
+    push_separator(out, brackets, inner)?;
+    out.extend_from_within(start..from)?;
+    let to = out.len();
+    out.reserve((to - from).saturating_mul(times - 1))?;
+    for _i in 1..times {
+        out.extend_from_within(from..to)?;
     }
     Ok(())
 }

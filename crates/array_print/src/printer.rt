@@ -17,10 +17,10 @@ use std::alloc::{AllocError, Global};
 /// Items of one descriptor in a block of bytes, and the widths to which the texts of their values
 /// are padded.
 #[derive(Clone, Copy)]
-struct Items<'a> {
-    descr: &'a Descr,
-    block: &'a [u8],
-    widths: &'a [usize],
+pub struct Items<'a> {
+    pub descr: &'a Descr,
+    pub block: &'a [u8],
+    pub widths: &'a [usize],
 }
 
 /// Appends the text of the `k`-th value of the item at an offset.
@@ -121,7 +121,7 @@ fn push_item(out: &mut Vec<u8>, items: &Items<'_>, offset: usize) -> Result<(), 
 /// Appends the text of the items that the axes from `axis` on lead to, starting at an offset. One
 /// bracket is open before it for each axis before `axis`. Blocks along an axis of stride 0 are all
 /// the same, so the text of one is made and copied.
-fn push_block(
+pub fn push_block(
     out: &mut Vec<u8>,
     items: &Items<'_>,
     layout: &Layout,

@@ -48,10 +48,9 @@ returns-then-repeats-clause-ok t c =
     let inner-is : inner ≡ length l.shape - c.args.axis - 1 = ap (λ m. m - c.args.axis - 1) lens in
     let first-is : c.len-first.result ≡ length c.push.new.self.items = omega (arith, c.len-first.ensures, c.push.new.self.ok) in
     let none : get_or l.strides c.args.axis (pos 0) ≡ pos 0 = ap (λ s. get_or s c.args.axis (pos 0)) (sym c.as_slice-strides.ensures) ∙ c.repeats.ensures.0 c.if-repeats.true in
-    opened-again f l.shape c.args.axis c.len-first.result times inner offsets c.args.out.now.items _ _ _ _ (text (map f (part_offsets l (c.args.axis + 1) start))) below times-is inner-is
+    opened-again f l.shape c.args.axis c.len-first.result times inner offsets c.args.out.now.items _ _ _ _ (text (map f (part_offsets l (c.args.axis + 1) start))) below times-is inner-is (length-part l c.args.axis start)
     (λ j low. ap (λ os. text (map f os)) (part-block l c.args.axis start _ _ below c.requires.part j start low (stays _ start j none)))
     first-is c.in_ok-push.ensures.items c.in_ok-push_block.ensures.ok c.in_ok-push_again.ensures.ok c.in_ok-push-2.ensures.items
-    ∙ ap (λ os. c.args.out.now.items ++ block_text c.args.axis (drop c.args.axis l.shape) (map f os)) (take_all (count (drop c.args.axis l.shape)) offsets (omega (arith, length-part l c.args.axis start)))
 
 pub step_along-requires-clause-start : goal.step_along-requires-clause-start
 step_along-requires-clause-start t c =

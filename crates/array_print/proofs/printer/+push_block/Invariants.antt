@@ -1,7 +1,7 @@
 use Rattle.std.proofs.Common.{◌≡◌, ◌-◌, ◌≤◌, ◌++◌, length, vec_capacity}
 use Rattle.array_print.specs.inside.Shown.{shown}
 use Rattle.array_print.specs.inside.Parts.{part_offsets}
-use Rattle.array_print.proofs.PrintLaws.{opened}
+use Rattle.array_print.specs.inside.Opened.{opened}
 use Rattle.array_print.proofs.printer.+push_block.Given as goal
 
 -- the blocks so far stand behind their bracket

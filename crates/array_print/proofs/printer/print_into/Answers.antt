@@ -1,35 +1,14 @@
-use Rattle.std.proofs.Common.{true, Result, Ok, Err, is_err, ◌≡◌, ℕ, List, [], ◌∷◌, ◌++◌, cond, codes, map, drop, refl, sym, subst, ◌∙◌, ap, arith, zero, suc, ◌<◌}
-use Rattle.std.proofs.lemmas.Bool.{ne_eqb}
+use Rattle.std.proofs.Common.{true, Result, Ok, Err, is_err, ◌≡◌, ◌++◌, sym, subst, ◌∙◌, ap}
 use Rattle.std.specs.Result.{OnOk}
 use Rattle.std.proofs.lemmas.Result.{on_ok_weaker}
-use Rattle.array_print.specs.Words.{Descr, leaves_of, Layout, count, offsets}
-use Rattle.array_print.specs.Printed.{array_text, block_text, item_text, widths, items_from}
-use Rattle.array_print.specs.inside.Shown.{AreWidths, shown}
-use Rattle.array_print.specs.inside.Parts.{part_offsets}
+use Rattle.array_print.specs.Words.{leaves_of, count, offsets}
+use Rattle.array_print.specs.Printed.{items_from}
+use Rattle.array_print.specs.inside.Shown.{AreWidths}
 use Rattle.array_print.proofs.LeafLaws.{are-widths}
-use Rattle.array_print.proofs.PartLaws.{whole-part, whole-offsets}
+use Rattle.array_print.proofs.PartLaws.{whole-part}
+use Rattle.array_print.proofs.WholeLaws.{above, whole-text}
 use Rattle.array_print.proofs.printer.print_into.Goals.{then-is_err, else-is_err}
 use Rattle.array_print.proofs.printer.print_into.Goals as goal
-
-texts-shown : (descr : Descr) (ws block offs : List ℕ) → map (shown descr ws block) offs ≡ map (item_text descr ws) (items_from descr block offs)
-texts-shown descr ws block [] = refl
-texts-shown descr ws block (offset ∷ offs) = ap (λ l. shown descr ws block offset ∷ l) (texts-shown descr ws block offs)
-
-above : (n : ℕ) → (n ≡ 0 → ⊥) → 0 < n
-above zero some = absurd (some refl)
-above (suc n) some = omega arith
-
--- the whole layout is printed as one block, inside no bracket
-printed : (descr : Descr) (l : Layout) (block ws out out' : List ℕ) → (count l.shape ≡ 0 → ⊥) → ws ≡ widths descr l.shape (items_from descr block (offsets l)) →
-    out' ≡ out ++ block_text 0 (drop 0 l.shape) (map (shown descr ws block) (part_offsets l 0 l.offset)) → out' ≡ out ++ array_text descr l.shape (items_from descr block (offsets l))
-printed descr l block ws out out' some wide pushed =
-    let items = items_from descr block (offsets l) in
-    let texts = map (item_text descr (widths descr l.shape items)) items in
-    pushed
-    ∙ ap (λ os. out ++ block_text 0 l.shape (map (shown descr ws block) os)) (whole-offsets l)
-    ∙ ap (λ ts. out ++ block_text 0 l.shape ts) (texts-shown descr ws block (offsets l))
-    ∙ ap (λ w. out ++ block_text 0 l.shape (map (item_text descr w) items)) wide
-    ∙ ap (λ b. out ++ cond b (codes "[]") (block_text 0 l.shape texts)) (sym (ne_eqb (count l.shape) 0 some))
 
 pub push_block-printed-requires-clause-widths : goal.push_block-printed-requires-clause-widths
 push_block-printed-requires-clause-widths c =
@@ -52,6 +31,6 @@ returns-clause-ok c =
       | then-is_err w ↦ failed c.push_block-printed.result _ (sym c.is_err.ensures.value ∙ w.if-is_err.true)
       | else-is_err w ↦
           on_ok_weaker c.push_block-printed.result
-          (λ pushed. printed c.args.descr.now c.args.layout.now c.args.block.now c.as_slice.result.now _ _ some (c.as_slice.ensures ∙ c.in_ok-widths.ensures) (ap (λ out. out.items) w.out-is ∙ pushed))
+          (λ pushed. ap (λ out. out.items) w.out-is ∙ pushed ∙ ap (λ text. c.args.out.now.items ++ text) (whole-text c.args.descr.now c.args.layout.now c.args.block.now c.as_slice.result.now some (c.as_slice.ensures ∙ c.in_ok-widths.ensures)))
           c.push_block-printed.ensures.ok
     ]

@@ -1,0 +1,27 @@
+-- The whole text of an array, as the block that all its axes lead to.
+use Rattle.std.proofs.Common.{◌≡◌, ℕ, List, [], ◌∷◌, cond, codes, map, drop, refl, sym, ◌∙◌, ap, arith, zero, suc, ◌<◌}
+use Rattle.std.proofs.lemmas.Bool.{ne_eqb}
+use Rattle.array_print.specs.Words.{Descr, Layout, count, offsets}
+use Rattle.array_print.specs.Printed.{array_text, block_text, item_text, widths, items_from}
+use Rattle.array_print.specs.inside.Shown.{shown}
+use Rattle.array_print.specs.inside.Parts.{part_offsets}
+use Rattle.array_print.proofs.PartLaws.{whole-offsets}
+
+texts-shown : (descr : Descr) (ws block offs : List ℕ) → map (shown descr ws block) offs ≡ map (item_text descr ws) (items_from descr block offs)
+texts-shown descr ws block [] = refl
+texts-shown descr ws block (offset ∷ offs) = ap (λ l. shown descr ws block offset ∷ l) (texts-shown descr ws block offs)
+
+pub above : (n : ℕ) → (n ≡ 0 → ⊥) → 0 < n
+above zero some = absurd (some refl)
+above (suc n) some = omega arith
+
+-- the whole layout is printed as one block, inside no bracket
+pub whole-text : (descr : Descr) (l : Layout) (block ws : List ℕ) → (count l.shape ≡ 0 → ⊥) → ws ≡ widths descr l.shape (items_from descr block (offsets l)) →
+    block_text 0 (drop 0 l.shape) (map (shown descr ws block) (part_offsets l 0 l.offset)) ≡ array_text descr l.shape (items_from descr block (offsets l))
+whole-text descr l block ws some wide =
+    let items = items_from descr block (offsets l) in
+    let texts = map (item_text descr (widths descr l.shape items)) items in
+    ap (λ os. block_text 0 l.shape (map (shown descr ws block) os)) (whole-offsets l)
+    ∙ ap (λ ts. block_text 0 l.shape ts) (texts-shown descr ws block (offsets l))
+    ∙ ap (λ w. block_text 0 l.shape (map (item_text descr w) items)) wide
+    ∙ ap (λ b. cond b (codes "[]") (block_text 0 l.shape texts)) (sym (ne_eqb (count l.shape) 0 some))

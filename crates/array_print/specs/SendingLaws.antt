@@ -1,0 +1,35 @@
+-- Laws of texts that go out by and by.
+use Rattle.std.proofs.Common.{◌≡◌, ℕ, List, [], ◌++◌, Option, Some, None, append_assoc, take, drop, length, take_all, length-drop, arith, ◌-◌, ◌≤◌, refl, ap, sym, ◌∙◌}
+use Rattle.std.proofs.lemmas.List.{append-nil, take-append-drop}
+use Rattle.std.specs.Io.KnownBytes.{Appends}
+use Rattle.array_print.specs.Sending.{Sends}
+
+pub appends_then : (a b c : Option (List ℕ)) (x y : List ℕ) → Appends a b x → Appends b c y → Appends a c (x ++ y)
+appends_then None b c x y p q = tt
+appends_then (Some xs) None c x y p q = absurd p
+appends_then (Some xs) (Some ys) None x y p q = absurd q
+appends_then (Some xs) (Some ys) (Some zs) x y p q = q ∙ ap (λ t. t ++ y) p ∙ append_assoc xs x y
+
+pub appends_nothing : (a : Option (List ℕ)) → Appends a a []
+appends_nothing None = tt
+appends_nothing (Some xs) = sym (append-nil xs)
+
+-- what is left of a slice once its first n elements are gone
+pub rest_of : (xs : List ℕ) (n : ℕ) → take (length xs - n) (drop n xs) ≡ drop n xs
+rest_of xs n = let short : length (drop n xs) ≤ length xs - n = omega (arith, length-drop n xs) in take_all _ _ short
+
+pub split_later : (all gone rest : List ℕ) (n : ℕ) → all ≡ gone ++ rest → all ≡ (gone ++ take n rest) ++ take (length rest - n) (drop n rest)
+split_later all gone rest n e = e ∙ ap (λ r. gone ++ r) (sym (take-append-drop n rest)) ∙ sym (append_assoc gone (take n rest) (drop n rest)) ∙ ap (λ r. (gone ++ take n rest) ++ r) (sym (rest_of rest n))
+
+-- nothing has gone out yet
+pub sends-none : (w : Option (List ℕ)) (text : List ℕ) → Sends w w text text
+sends-none w text = ([], refl, appends_nothing w)
+
+-- the text grows
+pub sends-more : (w w' : Option (List ℕ)) (rest text more : List ℕ) → Sends w w' rest text → Sends w w' (rest ++ more) (text ++ more)
+sends-more w w' rest text more sent = (sent.0, ap (λ t. t ++ more) sent.1 ∙ append_assoc sent.0 rest more, sent.2)
+
+-- and more of it goes out
+pub sends-then : (a b c : Option (List ℕ)) (rest rest' text : List ℕ) → Sends a b rest text → Sends b c rest' rest → Sends a c rest' text
+sends-then a b c rest rest' text first second =
+    (first.0 ++ second.0, first.1 ∙ ap (λ t. first.0 ++ t) second.1 ∙ sym (append_assoc first.0 second.0 rest'), appends_then a b c first.0 second.0 first.2 second.2)

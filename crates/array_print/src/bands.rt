@@ -1,0 +1,213 @@
+//! The text of an array that is sent as it is made: of a long one little more is held than a band.
+ghost use Rattle.std.specs.Prelude.{◌≡◌, ◌+◌, ◌≤◌, ◌<◌, ◌++◌, length, map, drop, get_or, vec_capacity, All, List, ℕ, IfOk, OnOk, OnErr, IsErrOf};
+ghost use Rattle.std.specs.Io.{StartsWith};
+ghost use Rattle.array_print.specs.Words.{item_size, leaves_of, offsets};
+ghost use Rattle.array_print.specs.Printed.{array_text, block_text, items_from};
+ghost use Rattle.array_print.specs.Sending.{Sends, SendsPart};
+ghost use Rattle.array_print.specs.inside.Shown.{AreWidths, shown};
+ghost use Rattle.array_print.specs.inside.Parts.{IsPart, part_offsets};
+ghost use Rattle.array_print.specs.inside.Opened.{Grows};
+ghost use Rattle.array_print.specs.declared.bands.PrintFault.TheVariants.{Memory, Write as WriteOut};
+
+use crate::padding::{push_again, push_lead};
+use crate::printer::{Items, push_block};
+use crate::sending::{BAND, WriteFault, send_band};
+use crate::steps::{repeats, step_along};
+use crate::widths::widths_of;
+use elem_descr::Descr;
+use shape_strides::Layout;
+use std::alloc::AllocError;
+use std::io::Write;
+
+/// Why an array is not printed.
+#[derive(Clone, Copy, Debug, PartialEq, Eq)]
+pub enum PrintFault {
+    /// Memory ran out before the first byte.
+    Memory,
+    /// A write failed or took nothing.
+    Write,
+}
+
+impl From<AllocError> for PrintFault {
+    ghost from_gives = { λ _ fault. fault ≡ Memory };
+
+    fn from(_error: AllocError) -> PrintFault {
+        PrintFault::Memory
+    }
+}
+
+impl From<WriteFault> for PrintFault {
+    ghost from_gives = { λ _ fault. fault ≡ WriteOut };
+
+    fn from(_fault: WriteFault) -> PrintFault {
+        PrintFault::Write
+    }
+}
+
+/// An array whose text is sent in bands. Blocks along an axis before `small` may be longer than a
+/// band; one that the axes from `small` on lead to has at most `room` bytes.
+#[derive(Clone, Copy)]
+struct Bands<'a> {
+    items: Items<'a>,
+    layout: &'a Layout,
+    small: usize,
+    room: usize,
+}
+
+/// The most bytes of an item's text.
+fn item_room(items: &Items<'_>) -> usize {
+    let mut room = items.descr.size() * 4;
+    for width in items.widths {
+        room = room.saturating_add(*width).saturating_add(16);
+    }
+    room
+}
+
+/// The most bytes of the text of an axis with blocks of at most so many bytes.
+fn axis_room(room: usize, layout: &Layout, axis: usize) -> usize
+    requires { axis < length layout.now.shape }
+{
+    let lengths = layout.shape.as_slice();
+    room.saturating_add(lengths.len())
+        .saturating_mul(lengths[axis])
+        .saturating_add(2)
+}
+
+/// The first axis with blocks that are made whole, since a band has room for each, and the most bytes
+/// of such a block. There may be no such axis: then each item is made whole.
+fn small_blocks(items: &Items<'_>, layout: &Layout) -> (usize, usize)
+    ensures { result.0 ≤ length layout.now.shape }
+{
+    let mut small = layout.shape.rank();
+    let mut room = item_room(items);
+    while small > 0 && axis_room(room, layout, small - 1) <= BAND {
+        small -= 1;
+        room = axis_room(room, layout, small);
+    }
+    (small, room)
+}
+
+/// Appends block `k` of an axis behind what comes before it and, where they are the same, as many of
+/// the next blocks as a band has room for. Returns how many blocks these are.
+fn push_run(
+    out: &mut Vec<u8>,
+    bands: &Bands<'_>,
+    axis: usize,
+    offset: usize,
+    k: usize,
+) -> Result<usize, AllocError>
+    requires axis { axis < length bands.now.layout.now.shape }
+    requires block { k < get_or bands.now.layout.now.shape axis 0 }
+    requires widths { AreWidths (leaves_of bands.now.items.descr.now) bands.now.items.widths.now }
+    requires part { IsPart bands.now.layout.now axis offset (length bands.now.items.block.now)
+        (item_size bands.now.items.descr.now) }
+    ensures grows { IfOk result (λ n. Grows
+        (shown bands.now.items.descr.now bands.now.items.widths.now bands.now.items.block.now)
+        bands.now.layout.now.shape axis k n (part_offsets bands.now.layout.now axis offset)
+        out.old.items out.new.items) }
+    ensures room { vec_capacity out.old ≤ vec_capacity out.new }
+{
+    let lengths = bands.layout.shape.as_slice();
+    let strides = bands.layout.strides.as_slice();
+    let inner = lengths.len() - axis - 1;
+    push_lead(out, k, axis, inner)?;
+    let first = out.len();
+    push_block(
+        out,
+        &bands.items,
+        bands.layout,
+        axis + 1,
+        step_along(offset, strides, axis, k),
+    )?;
+    if repeats(strides, axis) {
+        let copies = (BAND / bands.room.max(1)).min(lengths[axis] - k - 1);
+        push_again(out, first, copies, axis, inner)?;
+        return Ok(copies + 1);
+    }
+    Ok(1)
+}
+
+/// Sends the text of the items that the axes from `axis` on lead to, starting at an offset, but for
+/// a last part of it.
+fn send_block<W: Write>(
+    writer: &mut W,
+    out: &mut Vec<u8>,
+    bands: &Bands<'_>,
+    axis: usize,
+    offset: usize,
+) -> Result<(), WriteFault>
+    requires axis { axis < bands.now.small }
+    requires small { bands.now.small ≤ length bands.now.layout.now.shape }
+    requires widths { AreWidths (leaves_of bands.now.items.descr.now) bands.now.items.widths.now }
+    requires part { IsPart bands.now.layout.now axis offset (length bands.now.items.block.now)
+        (item_size bands.now.items.descr.now) }
+    ensures ok { OnOk result
+        (Sends (W.contents writer.old) (W.contents writer.new) out.new.items (out.old.items
+        ++ block_text axis (drop axis bands.now.layout.now.shape) (map (shown bands.now.items.descr.now bands.now.items.widths.now bands.now.items.block.now) (part_offsets bands.now.layout.now axis offset)))) }
+    ensures err { OnErr result
+        (SendsPart (W.contents writer.old) (W.contents writer.new) (out.old.items
+        ++ block_text axis (drop axis bands.now.layout.now.shape) (map (shown bands.now.items.descr.now bands.now.items.widths.now bands.now.items.block.now) (part_offsets bands.now.layout.now axis offset)))) }
+    ensures room { vec_capacity out.old ≤ vec_capacity out.new }
+{
+    let lengths = bands.layout.shape.as_slice();
+    let strides = bands.layout.strides.as_slice();
+    let mut k = 0;
+    out.extend_from_slice(b"[")?;
+    while k < lengths[axis] {
+        if axis + 1 == bands.small {
+            k += push_run(out, bands, axis, offset, k)?;
+            send_band(writer, out)?;
+        } else {
+            push_lead(out, k, axis, lengths.len() - axis - 1)?;
+            let next = step_along(offset, strides, axis, k);
+            send_block(writer, out, bands, axis + 1, next)?;
+            k += 1;
+        }
+    }
+    Ok(out.extend_from_slice(b"]")?)
+}
+
+/// Appends the text of an array whose items are at the layout's offsets in a block, and sends what comes
+/// before, band by band: the rest is left to be sent. All memory is asked for before the first
+/// byte goes out.
+pub fn print_by_bands<'a, W: Write>(
+    writer: &mut W,
+    out: &mut Vec<u8>,
+    block: &'a [u8],
+    layout: &'a Layout,
+    descr: &'a Descr,
+) -> Result<(), PrintFault>
+    requires inside { All (λ offset. offset + item_size descr.now ≤ length block.now)
+        (offsets layout.now) }
+    ensures ok { OnOk result
+        (Sends (W.contents writer.old) (W.contents writer.new) out.new.items (out.old.items
+        ++ array_text descr.now layout.now.shape (items_from descr.now block.now (offsets layout.now)))) }
+    ensures write { IsErrOf result PrintFault.Write →
+        SendsPart (W.contents writer.old) (W.contents writer.new) (out.old.items
+        ++ array_text descr.now layout.now.shape (items_from descr.now block.now (offsets layout.now))) }
+    ensures memory { IsErrOf result PrintFault.Memory →
+        (writer.new ≡ writer.old) × StartsWith out.new.items out.old.items }
+    ensures room { vec_capacity out.old ≤ vec_capacity out.new }
+{
+    if layout.shape.items() == 0 {
+        return Ok(out.extend_from_slice(b"[]")?);
+    }
+    let widths = widths_of(*out.allocator(), block, layout, descr)?;
+    let items = Items {
+        descr,
+        block,
+        widths: widths.as_slice(),
+    };
+    let (small, room) = small_blocks(&items, layout);
+    if small == 0 {
+        return Ok(push_block(out, &items, layout, 0, layout.offset)?);
+    }
+    out.reserve(room.saturating_add(BAND * 4))?;
+    let bands = Bands {
+        items,
+        layout,
+        small,
+        room,
+    };
+    Ok(send_block(writer, out, &bands, 0, layout.offset)?)
+}
