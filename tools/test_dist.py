@@ -36,18 +36,15 @@ class MadeAnew(unittest.TestCase):
         for name, data in self.files.items():
             (self.dist / name).write_bytes(data)
 
-    def run_tool(self, *words):
-        subprocess.run([words[0], *map(str, words[1:])], executable=sources.kit_folder() / "toolchain/bin/clang", check=True)
-
     def stands_in(self, *_):
         """An archive and an LLVM module in the place of those of bench_c."""
         code, built, archive = (self.folder / name for name in ("calls.c", "calls.bc", "calls.a"))
         code.write_text(CALLS)
         target = ["--target=x86_64-unknown-linux-gnu", "-O2", "-fPIC", "-c", code]
-        self.run_tool("clang", *target, "-emit-llvm", "-o", built)
-        self.run_tool("clang", *target, "-o", self.folder / "calls.o")
+        sources.llvm("clang", *target, "-emit-llvm", "-o", built)
+        sources.llvm("clang", *target, "-o", self.folder / "calls.o")
         archive.unlink(missing_ok=True)
-        self.run_tool("llvm-ar", "rcsD", archive, self.folder / "calls.o")
+        sources.llvm("llvm-ar", "rcsD", archive, self.folder / "calls.o")
         return archive, built
 
     def test_the_same(self):

@@ -11,41 +11,38 @@ bench.html, bench.wasm and bench.mjs are of `make page` (page/build.py); SUMS ha
 With --check nothing is written: what the gate has just built is compared with dist/. `rt ci` proves bench_c and builds nothing of it, so
 the library and bench.wasm are made here, over the libraries that `rt ci` built. Where SUMS names another toolchain than is here, that is
 said, and only sums are compared. The status is 1 where something differs, 3 where there is nothing to compare or to write."""
-import pathlib
 import re
 import subprocess
 import sys
 import tempfile
+from pathlib import Path
 
-sys.path[:0] = [str(pathlib.Path(__file__).resolve().parent), str(pathlib.Path(__file__).resolve().parents[2] / "page")]
-import library as libraries  # noqa: E402
-import module as modules  # noqa: E402
-import sources  # noqa: E402
+import library as libraries
+import module as modules
+import prove
+import sources
 
 DIST = sources.TOP / "dist"
 NAME = "bench-x86_64-linux"
 HAS_LIBRARY = "bench_c" in sources.uses()
 PAGE = ("bench.html", "bench.mjs", "bench.wasm") if (sources.TOP / "page").is_dir() else ()
 if PAGE:
+    sys.path.insert(0, str(sources.TOP / "page"))
     import build as page
-
-
-class NotMade(Exception):
-    """Why there is nothing to write or to compare."""
 
 
 def kit():
     """What the toolchain says of itself."""
     if sources.kit_folder() is None:
-        raise NotMade("this needs the command rt of the toolchain")
+        raise sources.NotBuilt("this needs the command rt of the toolchain")
     return subprocess.run(["rt", "version"], capture_output=True, text=True, check=True).stdout.strip()
 
 
 def stripped(program):
-    """The program without its symbols, by the toolchain's own LLVM, which does what its name says."""
+    """The program without its symbols."""
     with tempfile.TemporaryDirectory() as folder:
-        made = pathlib.Path(folder, NAME)
-        subprocess.run(["llvm-strip", "-o", made, program], executable=sources.kit_folder() / "toolchain/bin/clang", check=True)
+        made = Path(folder, NAME)
+        sources.llvm("llvm-strip", "-o", made, program)
         return made.read_bytes()
 
 
@@ -69,33 +66,25 @@ def library():
     return files, f"library sources: {sources.library_sum()}\n{sums}library needs: {needs(files['libbench.so.1'])}\n"
 
 
-def is_proved(crate, here):
-    """Whether what `make` built of a crate is of these sources."""
-    proved, built = sources.TOP / "out/proved" / crate, sources.BUILT[crate]
-    return proved.is_file() and built.is_file() and proved.read_text().splitlines() == [here, sources.sum_of(crate), sources.digest(built)]
-
-
 def page_lines():
     """The lines of SUMS for the page, which `make page` has written."""
     made = page.OUT / "state"
     if not (DIST / "bench.wasm").is_file() or not made.is_file() or made.read_text() != page.state():
-        raise NotMade("the page is not of these sources: run `make page`")
+        raise sources.NotBuilt("the page is not of these sources: run `make page`")
     return f"page program sources: {page.program_sum()}\n" + "".join(f"{name}: {sources.digest(DIST / name)}\n" for name in PAGE)
 
 
 def write():
     here = kit()
-    if not is_proved("bench_main", here):
-        raise NotMade("the program is not what `make` builds of these sources: run `make`")
-    if HAS_LIBRARY and not (is_proved("bench_c", here) and sources.is_library_linked()):
-        raise NotMade("the library is not what `make` builds of these sources: run `make`")
+    if not prove.Crate("bench_main", here).stands():
+        raise sources.NotBuilt("the program is not what `make` builds of these sources: run `make`")
+    if HAS_LIBRARY and not (prove.Crate("bench_c", here).stands() and sources.is_library_linked()):
+        raise sources.NotBuilt("the library is not what `make` builds of these sources: run `make`")
     text, of_page = f"toolchain: {here}\n", page_lines() if PAGE else ""
-    DIST.mkdir(exist_ok=True)
     for files, lines in [program(), *([library()] if HAS_LIBRARY else [])]:
         text += lines
+        sources.put(DIST, files)
         for name, data in files.items():
-            (DIST / name).write_bytes(data)
-            (DIST / name).chmod(0o644 if name.endswith(".a") else 0o755)
             print(f"bench: dist/{name} is that of these sources: {len(data):,} bytes")
     (DIST / "SUMS").write_text(text + of_page)
     return 0
@@ -105,7 +94,7 @@ def made_anew(here):
     """What differs in dist/ from what is made of bench_c now: the library, and the program in WebAssembly."""
     try:
         archive, module = modules.build(sources.TOP / "out/gate", here)
-    except modules.NotBuilt as why:
+    except sources.NotBuilt as why:
         yield f"the library and the page are not compared: {why}"
         return
     for name, data in {**libraries.linked(archive), **({"bench.wasm": page.program(module)} if PAGE else {})}.items():
@@ -149,6 +138,6 @@ def check():
 if __name__ == "__main__":
     try:
         sys.exit(check() if sys.argv[1:] == ["--check"] else write())
-    except NotMade as why:
+    except sources.NotBuilt as why:
         print(f"bench: {why}", file=sys.stderr)
         sys.exit(3)

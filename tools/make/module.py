@@ -4,17 +4,15 @@ is compiled from.
 `make page` takes the libraries that `make` built, and the gate those that `rt ci` has just built: it proves bench_c itself, and builds
 nothing of it."""
 import os
-import pathlib
 import re
 import shutil
 import subprocess
-import sys
 
-sys.path.insert(0, str(pathlib.Path(__file__).resolve().parent))
-import prove  # noqa: E402
-import sources  # noqa: E402
+import prove
+import sources
+from sources import NotBuilt
 
-CRATE = "bench_c"
+CRATE, JOBS = "bench_c", str(min(len(os.sched_getaffinity(0)), prove.MOST_JOBS))
 # (rattle starts clang with no environment)
 CLANG = """#!/bin/sh
 for word in "$@"; do case $word in *.bc) [ ! -f "$word" ] || cp "$word" "{out}/module.bc" ;; esac; done
@@ -22,21 +20,14 @@ exec "{real}/bin/clang" "$@"
 """
 
 
-class NotBuilt(Exception):
-    """Why there is no module."""
-
-
 def toolchain(out):
     """A folder of links to the toolchain's LLVM, with a clang that first copies each module that it is given to out/module.bc."""
     real, made = sources.kit_folder() / "toolchain", out / "toolchain"
     shutil.rmtree(made, ignore_errors=True)
-    (made / "bin").mkdir(parents=True)
+    sources.put(made / "bin", {"clang": CLANG.format(out=out, real=real).encode()})
     for path in [*real.iterdir(), *(real / "bin").iterdir()]:
         if path.name not in ("bin", "clang"):
             (made / path.relative_to(real)).symlink_to(path)
-    clang = made / "bin/clang"
-    clang.write_text(CLANG.format(out=out, real=real))
-    clang.chmod(0o755)
     return made
 
 
@@ -53,10 +44,9 @@ def words(below):
     """The libraries that bench_c uses, in the words of rattle: those of the toolchain, and those of this repository."""
     kit, own = sources.kit_folder(), sources.uses()[CRATE]
     used = re.search(rf"^{CRATE} staticlib:(.*)$", (sources.TOP / "crates.txt").read_text(), re.M)[1].split()
-    externs = [f"{name}={kit}/rlibs/{name}.rlib" for name in ["std", *used] if name not in own]
-    externs += [f"{name}={rlib(name)}/{name}.rlib" for name in own]
-    folders = [f"dependency={folder}" for folder in [kit / "rlibs", *map(rlib, below)]]
-    return [word for flag, values in (("--extern", externs), ("-L", folders)) for value in values for word in (flag, value)]
+    places = {name: kit / "rlibs" for name in ["std", *used] if name not in own} | {name: rlib(name) for name in own}
+    externs = [word for name, folder in places.items() for word in ("--extern", f"{name}={folder}/{name}.rlib")]
+    return externs + [word for folder in [kit / "rlibs", *map(rlib, below)] for word in ("-L", f"dependency={folder}")]
 
 
 def build(out, here):
@@ -72,9 +62,8 @@ def build(out, here):
     project = kit / "rattle/logic/antt-project.json"
     logic = ["--antt-project", project, "--logic-built", kit / "logic_built", "--incremental", "out/incremental"]
     made = ["--crate-type", "staticlib", "--toolchain", toolchain(out), "--backend", "llvm", "-o", archive]
-    jobs = min(len(os.sched_getaffinity(0)), prove.MOST_JOBS)
     with open(out / "log", "wb") as log:
-        command = [kit / "bin/rattle", "build", "--crate-name", CRATE, "src/lib.rt", *words(below), *logic, "--jobs", str(jobs), *made]
+        command = [kit / "bin/rattle", "build", "--crate-name", CRATE, "src/lib.rt", *words(below), *logic, "--jobs", JOBS, *made]
         done = subprocess.run(command, cwd=sources.TOP / "crates" / CRATE, stdin=subprocess.DEVNULL, stdout=log, stderr=log)
     if done.returncode or not kept.is_file():
         raise NotBuilt(f"bench_c was not built: {out}/log has all that rattle said")

@@ -4,23 +4,19 @@
 out/proved/CRATE says of which sources and by which toolchain that was done, and there is nothing to do while these are the same. rt locks
 the crates below the one that it works on. So each is proved in a folder of its own, with links to those, and several side by side."""
 import os
-import pathlib
 import re
 import shutil
 import signal
 import subprocess
 import sys
 import time
+from pathlib import Path
 
-sys.path.insert(0, str(pathlib.Path(__file__).resolve().parent))
-import sources  # noqa: E402
+import sources
+from sources import NotBuilt
 
 BUILD, PROVED = sources.TOP / "out/build", sources.TOP / "out/proved"
 MOST_JOBS, CODE_FOR_A_JOB = 4, 600
-
-
-class NotBuilt(Exception):
-    """Why there is no program."""
 
 
 def link(old, new):
@@ -74,7 +70,7 @@ class Crate:
         if not self.kit:
             raise NotBuilt("building needs the command rt of the toolchain")
         process = self.folder / "process"
-        if process.is_file() and pathlib.Path("/proc", process.read_text()).exists():
+        if process.is_file() and Path("/proc", process.read_text()).exists():
             raise NotBuilt(f"process {process.read_text()} is proving {self.name}")
         (PROVED / self.name).unlink(missing_ok=True)
         self.put_back()

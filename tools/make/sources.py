@@ -4,12 +4,17 @@ import hashlib
 import pathlib
 import re
 import shutil
+import subprocess
 
 TOP = pathlib.Path(__file__).resolve().parents[2]
 # What rt builds of the two crates on top, and what tools/make/library.py links of the second.
 PROGRAM, ARCHIVE = TOP / "crates/bench_main/out/bench_main", TOP / "crates/bench_c/out/libbench_c.a"
 BUILT = {"bench_main": PROGRAM, "bench_c": ARCHIVE}
 LIBRARY, LINKED, LIBRARIES = TOP / "library", TOP / "out/library", ("libbench.so.1", "libbench.a")
+
+
+class NotBuilt(Exception):
+    """Why there is no program, library or module."""
 
 
 def kit_folder():
@@ -37,6 +42,19 @@ def made_of(*tops):
 def files(crate):
     """The files of a crate that a proof of it reads, in a fixed order."""
     return sorted(path for part in ("src", "specs", "proofs") for path in (TOP / "crates" / crate / part).rglob("*") if path.is_file())
+
+
+def llvm(tool, *words, **more):
+    """Runs a tool of the toolchain's LLVM, which does what its name says."""
+    subprocess.run([tool, *map(str, words)], executable=kit_folder() / "toolchain/bin/clang", check=True, **more)
+
+
+def put(folder, files):
+    """Writes what was built into a folder; what runs, or is loaded to run, may be run."""
+    folder.mkdir(parents=True, exist_ok=True)
+    for name, data in files.items():
+        (folder / name).write_bytes(data)
+        (folder / name).chmod(0o644 if name.endswith(".a") else 0o755)
 
 
 def sum_of_bytes(data):
