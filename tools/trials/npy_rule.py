@@ -1,6 +1,8 @@
 """What the program replies to the load of a file, worked out from the bytes of the file by the rules of NPY files; and damaged files."""
 from __future__ import annotations
 
+import ast
+import collections
 import math
 import re
 from random import Random
@@ -8,93 +10,50 @@ from typing import Any
 
 from .rules import LETTERS, MOST_AXES, MOST_BYTES, MOST_ITEMS, Refused, tuple_text
 
-Token = tuple[str, Any]
-
-STRING, NUMBER = r"""'([ -&(-\[\]-~]*)'|"([ !#-\[\]-~]*)\"""", "(0|[1-9][0-9]*)L?(?![0-9])"
-TOKEN = re.compile(rf"[ \t\n\r]*(?:{STRING}|{NUMBER}|(True|False|None)(?![A-Za-z])|([](){{}}[:,])|$)")
+# What a header is made of: literals, of whose numbers an `L` is part, and brackets, colons and commas, with blanks between.
+LITERAL = r"""'[ -&(-\[\]-~]*'|"[ !#-\[\]-~]*"|(?:0|[1-9][0-9]*)L?(?![0-9])|(?:True|False|None)(?![A-Za-z])"""
+TOKEN, BLANKS = re.compile(rf"{LITERAL}|[](){{}}[:,]"), " \t\n\r"
 HEADER_BYTES = b" '\",:()[]{}LTFN0123456789<>|=biuSVfx\\\n\x00\x7f"
-LITERALS = {"True": True, "False": False, "None": None}
 MOST_DEPTH, MOST_HEADER, MOST_ITEM = 16, 2**20, 65536
 MOST_FIELDS, MOST_LEAVES, MOST_RECORDS = 64, 2048, 4
 NAME = re.compile(r"[ !#-&(-9;-\[\]-~]{1,64}")
 BAD_HEADER, BAD_TYPE, LEFT_OUT, TOO_LARGE, TRUNCATED = map(Refused, ("E30", "E04", "E05", "E09", "E31"))
 
 
-def tokens(text: str) -> list[Token]:
-    """The tokens of a header: symbols as (`,`, None), literals as ("literal", value)."""
-    found: list[Token] = []
-    at = 0
-    while True:
-        token = TOKEN.match(text, at)
-        if not token:
-            raise BAD_HEADER
-        at = token.end()
-        single, double, digits, word, symbol = token.groups()
-        if not token[0].strip():
-            return [*found, ("end", None)]
-        if symbol:
-            found.append((symbol, None))
-        elif digits:
-            found.append(("literal", int(digits[:40])))
-        else:
-            found.append(("literal", LITERALS[word] if word else single if single is not None else double))
+def parsed(header: str) -> ast.expr:
+    """A header as Python parses it. Each of its literals stands alone, and each pair of parentheses is a tuple's."""
+    tokens = TOKEN.findall(header)
+    if TOKEN.sub("", header).strip(BLANKS):
+        raise BAD_HEADER
+    try:
+        whole = ast.parse(" ".join(token[:40].rstrip("L") if token[0].isdigit() else token for token in tokens), mode="eval").body
+    except SyntaxError:
+        raise BAD_HEADER from None
+    kinds = collections.Counter(map(type, ast.walk(whole)))
+    if kinds[ast.Constant] != sum(token not in "()[]{}:," for token in tokens) or kinds[ast.Tuple] != tokens.count("("):
+        raise BAD_HEADER
+    return whole
 
 
-class Grammar:
-    """Reads literals from tokens: a tuple is a tuple, a list a list, a dictionary a list of pairs within `Entries`."""
-
-    def __init__(self, found: list[Token]) -> None:
-        self.tokens, self.at = found, 0
-
-    def take(self, *kinds: str) -> Token:
-        kind, value = self.tokens[self.at]
-        if kinds and kind not in kinds:
-            raise BAD_HEADER
-        self.at += 1
-        return kind, value
-
-    def literal(self, depth: int) -> Any:
-        kind, value = self.take("literal", "(", "[", "{")
-        if kind == "literal":
-            return value
-        if depth > MOST_DEPTH:
-            raise BAD_HEADER
-        close = {"(": ")", "[": "]", "{": "}"}[kind]
-        items: list[Any] = []
-        ended_by_comma = False
-        while self.tokens[self.at][0] != close:
-            if items and not ended_by_comma:
-                raise BAD_HEADER
-            item = self.literal(depth + 1)
-            if kind == "{":
-                self.take(":")
-                item = (item, self.literal(depth + 1))
-            items.append(item)
-            ended_by_comma = self.tokens[self.at][0] == ","
-            self.at += ended_by_comma
-        self.take(close)
-        if kind == "(" and len(items) == 1 and not ended_by_comma:
-            raise BAD_HEADER
-        return tuple(items) if kind == "(" else items if kind == "[" else Entries(items)
-
-
-class Entries:
-    """The entries of a dictionary, in their order."""
-
-    def __init__(self, items: list[Any]) -> None:
-        self.items = items
+def value(node: ast.AST, depth: int = 1) -> Any:
+    """What a literal means; of a dictionary all pairs, by their numbers."""
+    if isinstance(node, ast.Constant):
+        return node.value
+    if depth > MOST_DEPTH or not isinstance(node, (ast.Dict, ast.List, ast.Tuple)):
+        raise BAD_HEADER
+    inner = [value(each, depth + 1) for each in ast.iter_child_nodes(node) if not isinstance(each, ast.Load)]
+    if isinstance(node, ast.Dict):
+        return dict(enumerate(zip(inner[:len(node.keys)], inner[len(node.keys):])))
+    return tuple(inner) if isinstance(node, ast.Tuple) else inner
 
 
 def header_values(text: str) -> tuple[Any, bool, tuple[int, ...]]:
     """The three values of a header."""
-    grammar = Grammar(tokens(text))
-    whole = grammar.literal(1)
-    grammar.take("end")
-    keys = [key for key, _ in whole.items] if isinstance(whole, Entries) else []
-    if not all(isinstance(key, str) for key in keys) or sorted(keys) != ["descr", "fortran_order", "shape"]:
+    whole = value(parsed(text))
+    pairs = list(whole.values()) if isinstance(whole, dict) else []
+    if not all(isinstance(key, str) for key, _ in pairs) or sorted(key for key, _ in pairs) != ["descr", "fortran_order", "shape"]:
         raise BAD_HEADER
-    values = dict(whole.items)
-    descr, fortran, shape = values["descr"], values["fortran_order"], values["shape"]
+    descr, fortran, shape = (found for _, found in sorted(pairs, key=lambda pair: pair[0]))
     if not isinstance(fortran, bool) or not isinstance(shape, tuple) or not all(type(length) is int for length in shape):
         raise BAD_HEADER
     return descr, fortran, shape
