@@ -11,7 +11,7 @@ import unittest
 from trials.companion_trials import PROGRAM, needs_compiler, needs_program
 from trials import memory
 from trials.lines import own_scripts
-from trials.runs import Part, Runner
+from trials.runs import Part, Runner, compiled
 
 MOST_REQUESTS = 150
 COMMANDS = set("""zeros full arange array field transpose reshape broadcast copy cast load set upd save del undo names print info format shares
@@ -25,7 +25,7 @@ class RefusedMemory(unittest.TestCase):
     def setUpClass(cls):
         cls.folder = pathlib.Path(tempfile.mkdtemp())
         cls.addClassCleanup(shutil.rmtree, cls.folder)
-        cls.library = memory.built_library(cls.folder)
+        cls.library = compiled("refuse_memory.c", cls.folder / "refuse_memory.so")
 
     def test_each_request_of_each_script(self):
         part = Part()

@@ -9,7 +9,6 @@ import argparse
 import importlib
 import json
 import os
-import shutil
 import sys
 import time
 from pathlib import Path
@@ -78,17 +77,15 @@ def report(name: str, part: Part, seconds: float) -> None:
 
 
 def main(words: Optional[Sequence[str]] = None) -> int:
-    given, folder, found = arguments(words), temporary_folder(), []
+    given, found = arguments(words), []
     print(f"{given.program}, seed {given.seed}", flush=True)
-    try:
+    with temporary_folder() as folder:
         for name in given.modules:
             began = time.monotonic()
-            part: Part = importlib.import_module(f"trials.{name}").all_trials(given, folder)
+            part: Part = importlib.import_module(f"trials.{name}").all_trials(given, Path(folder))
             seconds = time.monotonic() - began
             report(name, part, seconds)
             found.append({"part": name, "seconds": round(seconds, 1), **part.summary()})
-    finally:
-        shutil.rmtree(folder, ignore_errors=True)
     if given.json:
         given.json.write_text(json.dumps({"program": str(given.program), "seed": given.seed, "parts": found}, indent=1) + "\n")
     return int(any(part["wrong"] for part in found))

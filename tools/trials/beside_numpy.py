@@ -20,7 +20,7 @@ from bench_tool import scripts
 
 from . import npy_files, npy_rule
 from .reference import Reference
-from .runs import Files, Part, Ran, Runner, contents, fill, in_processes
+from .runs import Part, Runner, in_processes
 
 DEPTHS = [0, 1, 3, 16, 64]
 BATCH = 25
@@ -43,16 +43,9 @@ def script(seed: str, profile: Optional[str], size: Optional[int] = None) -> tup
     return reference, lines, files
 
 
-def ran(runner: Runner, lines: list[str], depth: int, files: dict[str, bytes]) -> tuple[Ran, Files]:
-    """What the program makes of a script, and the files that it leaves."""
-    fill(runner.dir, files)
-    text = "".join(f"{line}\n" for line in lines).encode()
-    return runner.run(text, ["--undo", str(depth), "--dir", str(runner.dir)]), contents(runner.dir)
-
-
 def difference(runner: Runner, reference: Reference, lines: list[str], files: dict[str, bytes]) -> Optional[tuple[object, object]]:
     """What the program does and what NumPy does, where they differ first."""
-    done, left = ran(runner, lines, reference.depth, files)
+    done, left = runner.over(files, "".join(f"{line}\n" for line in lines).encode(), ["--undo", str(reference.depth)])
     replies, wanted = done.out.decode("latin-1"), "".join(f"{reply}\n" for reply in reference.replies)
     pairs = itertools.zip_longest(replies.split("\n"), wanted.split("\n"), fillvalue="nothing")
     if replies != wanted:

@@ -3,6 +3,7 @@
 What no rule tells, as what a load finds in a file that is being written, is noted as it is found."""
 from __future__ import annotations
 
+import concurrent.futures
 import os
 import shutil
 import signal
@@ -11,42 +12,22 @@ from argparse import Namespace
 from pathlib import Path
 from typing import Any, Optional, Sequence
 
-from . import TOP
 from .companion_trials import PATIENT, nobody
 from .files import FILE
-from .runs import Part, Word, limited, with_launcher
+from .lines import entries, parts
+from .runs import Part, Word, compiled, limited, with_launcher
 
 # The status, the output and what is said on standard error.
 Ended = tuple[int, str, str]
 
-SCRIPT = "a = arange <i4 0 3 1\nsave a \"a.npy\"\nx = load \"a.npy\"\nprint a\n"
-REPLIES = "ok a <i4 (3,) new\nok save 140\nok x <i4 (3,) new rest 0\n[0 1 2]\n"
+SCRIPTS = {name: entries(text) for name, text in parts("devices.txt").items()}
+ASKED = {name: "".join(f"{line}\n" for line, _ in lines) for name, lines in SCRIPTS.items()}
+TOLD = {name: "".join(f"{reply}\n" for _, reply in lines) for name, lines in SCRIPTS.items()}
+SCRIPT, REPLIES, NO_FOLDER = ASKED["plain"], TOLD["plain"], (1, TOLD["no folder"], "")
 FAULT, NO_FILE = "no E27 store fault", "no E34 no such file"
-NO_FOLDER = REPLIES.replace("ok save 140", FAULT).replace("ok x <i4 (3,) new rest 0", NO_FILE)
-NO_LOAD = NO_FOLDER.replace(NO_FILE, FAULT)
 READ, WRITE, MISSING = ((3, "", f"bench: {what}\n") for what in ("read fault", "write fault", "no script"))
 LONG_SCRIPT = "a = zeros |u1 (30000)\n" + "print a\n" * 40
 TWO_SAVES = 'a = zeros |u1 (100000)\nsave a "big.npy"\nb = zeros |u1 (3)\nsave b "small.npy"\n'
-FULL_DISK = """a = arange <i4 0 3 1
-save a "a.npy"
-b = zeros <i4 (30000)
-save b "a.npy"
-save b "b.npy"
-x = load "a.npy"
-print x
-y = load "b.npy"
-save a "c.npy"
-"""
-ON_FULL_DISK = f"""ok a <i4 (3,) new
-ok save 140
-ok b <i4 (30000,) new
-{FAULT}
-{FAULT}
-ok x <i4 (3,) new rest 0
-[0 1 2]
-{NO_FILE}
-ok save 140
-"""
 LOADS, SAVES, MOST_BLOCKS = 3000, 200, 8192
 
 
@@ -54,66 +35,41 @@ class Trials:
     """The trials of one program, with a folder for their files."""
 
     def __init__(self, program: Path, folder: Path) -> None:
-        self.part, self.folder, self.program, self.dir = Part(), folder, folder / "bench", folder / "files"
+        self.part, self.folder, self.program, self.dir, self.script = Part(), folder, folder / "bench", folder / "files", folder / "plain.bench"
         shutil.copy(program, self.program)
         self.program.chmod(0o755)
         self.launcher = with_launcher(program, folder)
         self.dir.mkdir()
+        self.script.write_text(SCRIPT)
 
-    def start(self, words: Sequence[Word] = (), before: Sequence[Word] = (), program: Optional[Path] = None, **more: Any) -> Any:
-        """A run of the program or of the launcher, perhaps by another command."""
-        streams: dict[str, Any] = {"stdin": subprocess.PIPE, "stdout": subprocess.PIPE, "stderr": subprocess.PIPE, **more}
-        return subprocess.Popen([*map(str, before), str(program or self.program), *words], cwd=self.folder, **streams)
-
-    def run(self, text: str, words: Sequence[Word] = (), before: Sequence[Word] = (), **more: Any) -> Ended:
-        """What a run over a script comes to."""
-        with self.start(words, before, **more) as process:
-            out, err = process.communicate(text.encode() if process.stdin else None, PATIENT)
-        return process.returncode, (out or b"").decode(), (err or b"").decode()
+    def run(self, text: str, words: Sequence[Word] = (), before: Sequence[Word] = (), program: Optional[Path] = None, **more: Any) -> Ended:
+        """What a run of the program or of the launcher comes to over a script, perhaps by another command."""
+        streams = {"stdout": subprocess.PIPE, "stderr": subprocess.PIPE, **({} if "stdin" in more else {"input": text.encode()}), **more}
+        ended = subprocess.run([*map(str, before), str(program or self.program), *words], cwd=self.folder, timeout=PATIENT, **streams)
+        return ended.returncode, (ended.stdout or b"").decode(), (ended.stderr or b"").decode()
 
     def ends(self, where: str, should: Ended, text: str, words: Sequence[Word] = (), before: Sequence[Word] = (), **more: Any) -> None:
         """A run that should come to this."""
         self.part.expect(where, self.run(text, words, before, **more), should)
 
-    def plain_script(self) -> Path:
-        """The script as a file."""
-        path = self.folder / "plain.bench"
-        path.write_text(SCRIPT)
-        return path
-
     def outputs(self) -> None:
-        """Standard output that takes nothing, or not all."""
+        """Standard output that takes nothing, or not all; or a pipe whose reader goes after one reply, with the signal of that on or off."""
         with open("/dev/full", "wb") as full:
             self.ends("/dev/full as standard output", WRITE, SCRIPT, ["--dir", self.dir], stdout=full)
             self.ends("/dev/full and nothing to say", (0, "", ""), "# nothing\n", stdout=full)
             self.ends("/dev/full and help", WRITE, "", ["--help"], stdout=full)
             self.ends("/dev/full for what is wrong with words", (2, "", ""), "", ["--unknown"], stderr=full)
-        for name, handler in (("ended by it", signal.SIG_DFL), ("told of it", signal.SIG_IGN)):
-            self.closed_pipe(name, handler)
+        for name, trap in (("ended by it", ""), ("told of it", "trap '' PIPE; ")):
+            before = ["sh", "-c", trap + '{ "$@"; echo $? >&2; } | head -1', "sh"]
+            self.ends(f"a closed pipe ({name})", (0, "names\n", f"{WRITE[2]}3\n"), "names\n" + LONG_SCRIPT * 20, (), before)
         self.closed_streams()
         self.limited_output()
 
-    def closed_pipe(self, name: str, handler: Any) -> None:
-        """Standard output is a pipe whose reader goes after one reply; the signal of it is left on or off."""
-        process = self.start(preexec_fn=lambda: signal.signal(signal.SIGPIPE, handler), restore_signals=False)
-        process.stdin.write(b"names\n")
-        process.stdin.flush()
-        first = process.stdout.readline()
-        process.stdout.close()
-        try:
-            process.stdin.write(LONG_SCRIPT.encode() * 20)
-            process.stdin.close()
-        except BrokenPipeError:
-            pass
-        ended = process.wait(PATIENT), first.decode(), process.stderr.read().decode()
-        self.part.expect(f"a closed pipe ({name})", ended, (3, "names\n", WRITE[2]))
-
     def closed_streams(self) -> None:
         """A stream that is closed from the start, of which files that are opened may take the number."""
-        script, none = self.plain_script(), ["--dir", str(self.folder / "none")]
-        refused = (1, NO_FOLDER, "")
-        for closed, piped, named in (("<&-", READ, refused), (">&-", WRITE, WRITE), ("2>&-", (1, f"{NO_FILE}\n{NO_FOLDER}", ""), refused)):
-            for where, words, should in (("without SCRIPT", none, piped), ("with SCRIPT", [*none, str(script)], named)):
+        none, whole = ["--dir", str(self.folder / "none")], (1, f"{NO_FILE}\n{NO_FOLDER[1]}", "")
+        for closed, piped, named in (("<&-", READ, NO_FOLDER), (">&-", WRITE, WRITE), ("2>&-", whole, NO_FOLDER)):
+            for where, words, should in (("without SCRIPT", none, piped), ("with SCRIPT", [*none, str(self.script)], named)):
                 self.ends(f"{closed} {where}", should, f'x = load "a.npy"\n{SCRIPT}', words, ["sh", "-c", f'exec "$@" {closed}', "sh"])
         self.ends("2>&- with no SCRIPT", (3, "", ""), SCRIPT, [self.folder / "none.bench"], ["sh", "-c", 'exec "$@" 2>&-', "sh"])
 
@@ -146,31 +102,27 @@ class Trials:
 
     def interrupted(self) -> None:
         """Reads, writes, looks, syncs and renames that a signal interrupts are made again; a stream with nothing to give yet is a fault."""
-        library = self.folder / "interrupt_calls.so"
-        subprocess.run(["cc", "-O2", "-shared", "-fPIC", "-o", library, TOP / "tools/trials/interrupt_calls.c"], check=True)
-        script, folder = self.plain_script(), self.folder / "interrupted"
-        folder.mkdir()
-        words = ["--dir", str(folder)]
+        library = compiled("interrupt_calls.c", self.folder / "interrupt_calls.so")
+        words = ["--dir", str(self.dir)]
         for times in (1, 2, 100):
             before = ["env", f"LD_PRELOAD={library}", f"INTERRUPT_TIMES={times}"]
             self.ends(f"each call of standard streams interrupted {times} times", (0, REPLIES, ""), SCRIPT, words, before)
-            self.ends(f"each call of SCRIPT interrupted {times} times", (0, REPLIES, ""), "", [*words, str(script)], before)
+            self.ends(f"each call of SCRIPT interrupted {times} times", (0, REPLIES, ""), "", [*words, str(self.script)], before)
         self.ends("nothing to read yet", READ, SCRIPT, words, ["env", f"LD_PRELOAD={library}", "INTERRUPT_TIMES=1", "INTERRUPT_AGAIN=1"])
 
     def writers(self) -> None:
         """Two programs that save one name leave one of the two files, whole, and nothing beside it."""
         folder, sizes = self.folder / "writers", {1: 100_000, 2: 300_000}
         folder.mkdir()
-        running = [self.start(["--dir", folder]) for _ in sizes]
-        for process, (value, size) in zip(running, sizes.items()):
-            process.stdin.write((f"a = full |u1 ({size}) {value}\n" + 'save a "a.npy"\n' * SAVES).encode())
-            process.stdin.close()
-        for process, size in zip(running, sizes.values()):
-            replies = process.stdout.read().decode().splitlines()[1:]
+        scripts = [f"a = full |u1 ({size}) {value}\n" + 'save a "a.npy"\n' * SAVES for value, size in sizes.items()]
+        with concurrent.futures.ThreadPoolExecutor() as both:
+            ended = list(both.map(lambda script: self.run(script, ["--dir", folder]), scripts))
+        for (status, out, err), size in zip(ended, sizes.values()):
+            replies = out.splitlines()[1:]
             self.part.count("saves beside another program's", len(replies))
             self.part.count("of them refused", replies.count(FAULT))
-            told = (len(replies), set(replies) <= {FAULT, f"ok save {size + 128}"}, process.stderr.read(), process.wait())
-            self.part.expect("two programs that save one name", told, (SAVES, True, b"", int(FAULT in replies)))
+            told = (len(replies), set(replies) <= {FAULT, f"ok save {size + 128}"}, err, status)
+            self.part.expect("two programs that save one name", told, (SAVES, True, "", int(FAULT in replies)))
         found = (folder / "a.npy").read_bytes()
         self.part.expect("the file that two programs leave", found[128:] in [bytes([value]) * size for value, size in sizes.items()], True)
         self.part.expect("what lies beside it", os.listdir(folder), ["a.npy"])
@@ -192,16 +144,16 @@ class Trials:
 
     def folders(self) -> None:
         """Folders that are not there, that may not be used, or that are full."""
-        self.ends("DIR that is not there", (1, NO_FOLDER, ""), SCRIPT, ["--dir", self.folder / "none"])
+        self.ends("DIR that is not there", NO_FOLDER, SCRIPT, ["--dir", self.folder / "none"])
         self.ends("an empty name as DIR", (0, REPLIES, ""), SCRIPT, ["--dir", ""])
-        self.ends("a file as DIR", (1, NO_LOAD, ""), SCRIPT, ["--dir", self.program])
+        self.ends("a file as DIR", (1, TOLD["no load"], ""), SCRIPT, ["--dir", self.program])
         if not nobody():
             return self.part.note("left out, as they want root's rights", "another user and a full disk")
         locked = self.folder / "locked"
         locked.mkdir(mode=0o700)
-        self.ends("DIR without rights", (1, NO_LOAD, ""), SCRIPT, ["--dir", locked], **nobody())
+        self.ends("DIR without rights", (1, TOLD["no load"], ""), SCRIPT, ["--dir", locked], **nobody())
         locked.chmod(0o555)
-        self.ends("DIR that may be read alone", (1, NO_FOLDER, ""), SCRIPT, ["--dir", locked], **nobody())
+        self.ends("DIR that may be read alone", NO_FOLDER, SCRIPT, ["--dir", locked], **nobody())
         self.part.expect("what is left in DIR without rights", os.listdir(locked), [])
         self.full_disk()
 
@@ -211,7 +163,7 @@ class Trials:
         disk.mkdir()
         mounted = 'mount -t tmpfs -o size=64k tmpfs disk && "$@"; status=$?; ls -A disk >left; umount disk; exit $status'
         before = ["unshare", "--mount", "sh", "-c", mounted, "sh"]
-        self.ends("a full disk as DIR", (1, ON_FULL_DISK, ""), FULL_DISK, ["--dir", disk], before)
+        self.ends("a full disk as DIR", (1, TOLD["full disk"], ""), ASKED["full disk"], ["--dir", disk], before)
         self.part.expect("what is left on the full disk", (self.folder / "left").read_text().split(), ["a.npy", "c.npy"])
 
     def changing_file(self, what: str, command: str) -> list[str]:

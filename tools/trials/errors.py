@@ -9,9 +9,8 @@ from argparse import Namespace
 from pathlib import Path
 from typing import NamedTuple, Optional, Sequence
 
-from . import TOP
 from .files import FILE
-from .runs import Part, fill
+from .runs import Part, compiled, fill
 
 
 class Call(NamedTuple):
@@ -82,8 +81,7 @@ class Runs:
     """Runs of a program below `fail_calls.c`, which is compiled to a place."""
 
     def __init__(self, program: Path, place: Path) -> None:
-        self.program, self.log, self.library = str(program), place / "calls", place / "fail_calls.so"
-        subprocess.run(["cc", "-O2", "-shared", "-fPIC", "-o", self.library, TOP / "tools/trials/fail_calls.c"], check=True)
+        self.program, self.log, self.library = str(program), place / "calls", compiled("fail_calls.c", place / "fail_calls.so")
 
     def in_peace(self, script: str, folder: Path, env: Optional[dict[str, str]] = None) -> str:
         """The last reply to a script over a folder."""

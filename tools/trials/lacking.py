@@ -7,7 +7,7 @@ from __future__ import annotations
 from typing import Any, Optional, Sequence
 
 from .lines import Script, marked, replies_of
-from .runs import Files, Part, Ran, Runner, contents, fill, shown
+from .runs import Files, Part, Ran, Runner, shown
 
 Numbers = tuple[int, ...]
 
@@ -25,13 +25,12 @@ class Lacking:
     def __init__(self, runner: Runner, part: Part, name: str, script: Script, most: Optional[int] = None) -> None:
         self.runner, self.part, self.name, self.script = runner, part, name, script
         self.lines, self.most = script.lines, len(script.lines) if most is None else most
-        self.words = ["--dir", str(runner.dir)] + ([] if script.depth is None else ["--undo", str(script.depth)])
+        self.words = [] if script.depth is None else ["--undo", str(script.depth)]
         self.without: dict[Numbers, tuple[list[bytes], Files]] = {}
 
     def run(self, lines: Sequence[bytes], **bounds: Any) -> tuple[Ran, Files]:
         """What a run comes to, and the files that it leaves."""
-        fill(self.runner.dir, self.script.files)
-        return self.runner.run(marked(lines), self.words, **bounds), contents(self.runner.dir)
+        return self.runner.over(self.script.files, marked(lines), self.words, **bounds)
 
     def expected(self, refused: Numbers = ()) -> tuple[list[bytes], Files]:
         """Replies and files of the script without some lines, in a run with all memory."""
@@ -44,10 +43,8 @@ class Lacking:
     def judged(self, ran: Ran, files: Files) -> tuple[str, Optional[str]]:
         """What a run comes to: a word for the count, and what should have happened, or none."""
         if not ran.out and ran.status not in (0, 1):
-            fill(self.runner.dir, self.script.files)
-            alike = files == contents(self.runner.dir)
             word = "stopped at the start" if ran == STOPPED else "ended at the start" if ran.status < 0 else "not started"
-            return word, None if alike else "the files as before"
+            return word, None if files == self.script.files else "the files as before"
         if ran.status != 1 or ran.err:
             return "ended otherwise", "status 1 and nothing on standard error"
         replies = replies_of(ran.out, self.lines)

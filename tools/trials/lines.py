@@ -12,6 +12,7 @@ from typing import Iterable, Iterator, Optional, Sequence, Union
 from bench_tool import Session, scripts
 
 from . import TOP
+from .timed import unfolded
 
 Named = Union[str, "os.PathLike[str]"]
 NAME = re.compile(rb"\s*([A-Za-z_]\w*)\s*=")
@@ -55,6 +56,12 @@ def entries(text: str) -> list[tuple[str, str]]:
     """Lines behind `> `, with the replies below them."""
     found = re.findall(r"(?m)((?:^> .*\n)+)((?:^(?!> ).+\n?)*)", text)
     return [("\n".join(line[2:] for line in asked.splitlines()), told.rstrip("\n")) for asked, told in found]
+
+
+def parts(name: str) -> dict[str, str]:
+    """The parts of a text file of this folder, by the first words of their heads."""
+    texts = re.split("(?m)^== ", unfolded((TOP / "tools/trials" / name).read_text()))[1:]
+    return {head.partition(":")[0]: body.rstrip("\n") + "\n" for head, _, body in (text.partition("\n") for text in texts)}
 
 
 def marked(lines: Iterable[bytes]) -> bytes:

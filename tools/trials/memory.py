@@ -4,7 +4,6 @@ from __future__ import annotations
 import itertools
 import os
 import struct
-import subprocess
 from argparse import Namespace
 from pathlib import Path
 from random import Random
@@ -13,24 +12,16 @@ from . import TOP
 from .files import reserved_when_idle
 from .lacking import STOPPED, Lacking
 from .lines import Script, entries, own_scripts, random_script, text_of
-from .runs import Part, Runner, contents, fill, in_processes, shown
+from .runs import Part, Runner, compiled, in_processes, shown
 
-SOURCE = TOP / "tools/trials/refuse_memory.c"
 ROOM = 2**25
 LONGEST_PRINT = 20000
 MOST_REQUESTS = 300
 RANDOM_SCRIPTS = 200
 
 
-def built_library(folder: Path) -> Path:
-    """The `malloc` that refuses, compiled."""
-    library = folder / "refuse_memory.so"
-    subprocess.run(["cc", "-O2", "-shared", "-fPIC", "-o", library, SOURCE], check=True)
-    return library
-
-
 class Requests:
-    """The requests for memory of a run: with one refused, how many were made and refused."""
+    """The requests for memory of a run below `refuse_memory.c`: with one refused, how many were made and refused."""
 
     def __init__(self, library: Path, folder: Path) -> None:
         self.library, self.told = library, folder / "told"
@@ -83,15 +74,13 @@ def within_bounds(program: Path) -> Part:
     """A run in an address space with room for 32 MB: what takes more is refused, and all else goes on."""
     part = Part()
     with Runner(program) as runner:
-        fill(runner.dir, {"zeros.npy": 2**26})
-        lacking = entries((TOP / "tools/trials/lacking.txt").read_text())
+        lacking, files = entries((TOP / "tools/trials/lacking.txt").read_text()), {"zeros.npy": 2**26}
         text = "".join(f"{line}\n" for line, _ in lacking).encode()
-        most = reserved_when_idle(program) + ROOM
-        ran = runner.run(text, ["--dir", str(runner.dir)], limits=[("as", most)])
+        ran, left = runner.over(files, text, limits=[("as", reserved_when_idle(program) + ROOM)])
         replies = ran.out.decode().splitlines()
         for (line, should), reply in itertools.zip_longest(lacking, replies, fillvalue=("nothing", "nothing")):
             part.expect(f"{line}, with room for {ROOM:,} bytes", reply, should)
-        part.expect("a run that lacks memory", (ran.status, ran.err, contents(runner.dir)), (1, b"", {"zeros.npy": 2**26}))
+        part.expect("a run that lacks memory", (ran.status, ran.err, left), (1, b"", files))
     return part
 
 
@@ -114,7 +103,7 @@ def all_trials(given: Namespace, folder: Path) -> Part:
     """The refused requests over all scripts."""
     rng = Random(given.seed)
     scripts = own_scripts() + [random_script(given.program, rng, number) for number in range(RANDOM_SCRIPTS)]
-    library, part = built_library(folder), within_bounds(given.program)
+    library, part = compiled("refuse_memory.c", folder / "refuse_memory.so"), within_bounds(given.program)
     part.add(words_of_the_program(given.program, library))
     tasks = [(given.program, library, script, 10**9 if given.every else MOST_REQUESTS) for script in scripts]
     for found in in_processes(given, trials_of, tasks):

@@ -8,9 +8,8 @@ from argparse import Namespace
 from pathlib import Path
 from typing import Iterator
 
-from . import TOP
 from .files import DATA, header_text, padded, with_header
-from .lines import entries
+from .lines import entries, parts
 from .runs import Part, Runner, fill
 
 Trial = tuple[str, str]
@@ -19,16 +18,7 @@ SYNTAX = "no E03 syntax"
 MORE = (30, 31, 1000)
 
 
-def parts() -> dict[str, list[Trial]]:
-    """The parts of numbers.txt by the first words of their heads: lines, each with their replies."""
-    found = {}
-    for text in re.split("(?m)^== ", (TOP / "tools/trials/numbers.txt").read_text())[1:]:
-        head, _, body = text.partition("\n")
-        found[head.partition(":")[0]] = entries(body)
-    return found
-
-
-PARTS = parts()
+PARTS = {name: entries(text) for name, text in parts("numbers.txt").items()}
 SETUP = PARTS["arrays"][0][0].split("\n")
 
 

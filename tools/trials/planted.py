@@ -3,17 +3,15 @@ from __future__ import annotations
 
 import importlib
 import shutil
-import subprocess
 from argparse import Namespace
 from pathlib import Path
 from typing import Any, NamedTuple
 from unittest import mock
 
-from . import TOP, errors
+from . import errors
 from .lines import own_scripts
-from .runs import Part
+from .runs import Part, compiled
 
-SOURCE = TOP / "tools/trials/change_replies.c"
 SCRIPTS = 200  # beside NumPy
 OTHERS = {"FILES": "the last bit of a saved file is another", "TORN": "a save writes over the old file"}
 
@@ -52,11 +50,9 @@ SMALL: dict[str, dict[str, Any]] = {
 
 def stand_in(fault: Fault, program: Path, folder: Path) -> Path:
     """The program with that fault, in a folder of its own."""
-    made, library = folder / "bench", folder / "planted.so"
     words = [f"-D{fault.said}"] if fault.said in OTHERS else [f'-DSAID="{fault.said}"', f'-DINSTEAD="{fault.instead}"']
-    subprocess.run(["cc", "-O2", "-shared", "-fPIC", *words, "-o", library, SOURCE], check=True)
-    subprocess.run(["cc", "-O2", "-static", f'-DPROGRAM="{program}"', f'-DLIBRARY="{library}"', "-o", made, SOURCE], check=True)
-    return made
+    library = compiled("change_replies.c", folder / "planted.so", "-shared", "-fPIC", *words)
+    return compiled("change_replies.c", folder / "bench", "-static", f'-DPROGRAM="{program}"', f'-DLIBRARY="{library}"')
 
 
 def found(fault: Fault, given: Namespace, folder: Path) -> Part:

@@ -2,6 +2,7 @@
 from __future__ import annotations
 
 import collections
+import contextlib
 import multiprocessing
 import os
 import re
@@ -12,7 +13,7 @@ import tempfile
 import threading
 from argparse import Namespace
 from pathlib import Path
-from typing import Callable, Iterable, Iterator, Mapping, NamedTuple, Optional, Sequence, TypeVar, Union
+from typing import Any, Callable, Iterable, Iterator, Mapping, NamedTuple, Optional, Sequence, TypeVar, Union
 
 from . import TOP
 
@@ -83,9 +84,16 @@ def shown(value: object, length: int = 400) -> str:
     return text if len(text) <= length else f"{text[:length]}.. ({len(text)} characters)"
 
 
-def temporary_folder() -> Path:
+def temporary_folder() -> tempfile.TemporaryDirectory[str]:
     """A folder for files that are soon gone, in memory where that can be had."""
-    return Path(tempfile.mkdtemp(prefix="hostile", dir=IN_MEMORY))
+    return tempfile.TemporaryDirectory(prefix="hostile", dir=IN_MEMORY)
+
+
+def compiled(source: str, made: Path, *words: str) -> Path:
+    """A library of a C file of this folder, which stands before the C library in a run with `LD_PRELOAD`; or what else the words ask for."""
+    kind = words or ("-shared", "-fPIC")
+    subprocess.run(["cc", "-O2", *kind, "-o", made, TOP / "tools/trials" / source], check=True)
+    return made
 
 
 def fill(folder: Path, files: Mapping[str, Union[bytes, int]]) -> None:
@@ -126,32 +134,31 @@ def in_processes(given: Namespace, trial: Callable[[T], U], tasks: Iterable[T]) 
         yield from pool.imap_unordered(trial, tasks)
 
 
-class Runner:
+class Runner(contextlib.ExitStack):
     """Runs a program over scripts, with a folder of its own for its streams and for the files of `--dir`."""
 
     def __init__(self, program: Word) -> None:
-        self.program = str(program)
-        self.folder = temporary_folder()
+        super().__init__()
+        self.program, self.folder = str(program), Path(self.enter_context(temporary_folder()))
         self.dir = self.folder / "dir"
         self.dir.mkdir()
-        self.streams = [self.folder / name for name in ("in", "out", "err")]
-
-    def __enter__(self) -> Runner:
-        return self
-
-    def __exit__(self, *_: object) -> None:
-        shutil.rmtree(self.folder, ignore_errors=True)
 
     def run(self, text: bytes, words: Sequence[Word] = (), env: Optional[Mapping[str, str]] = None,
             limits: Sequence[tuple[str, int]] = (), seconds: int = MOST_SECONDS) -> Ran:
         """What a run over a script comes to. It may take so many seconds of processor time, and keeps within limits from its start."""
-        self.streams[0].write_bytes(text)
+        into, out, err = (self.folder / name for name in ("in", "out", "err"))
+        into.write_bytes(text)
         called: list[Word] = [*limited(limits), self.program, *words]
-        with open(self.streams[0], "rb") as given, open(self.streams[1], "wb") as out, open(self.streams[2], "wb") as err:
-            started = subprocess.Popen(called, stdin=given, stdout=out, stderr=err, env=env, close_fds=False)
+        with open(into, "rb") as stdin, open(out, "wb") as stdout, open(err, "wb") as stderr:
+            started = subprocess.Popen(called, stdin=stdin, stdout=stdout, stderr=stderr, env=env, close_fds=False)
             resource.prlimit(started.pid, resource.RLIMIT_CPU, (seconds, seconds))
             status = started.wait()
-        return Ran(status, self.streams[1].read_bytes(), self.streams[2].read_bytes())
+        return Ran(status, out.read_bytes(), err.read_bytes())
+
+    def over(self, files: Mapping[str, Union[bytes, int]], text: bytes, words: Sequence[Word] = (), **bounds: Any) -> tuple[Ran, Files]:
+        """What a run over a script comes to in a folder with these files alone, and the files that it leaves."""
+        fill(self.dir, files)
+        return self.run(text, ["--dir", self.dir, *words], **bounds), contents(self.dir)
 
 
 class Talk:
