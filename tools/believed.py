@@ -22,14 +22,13 @@ from __future__ import annotations
 import collections
 import re
 import sys
-from collections.abc import Iterable, Iterator
+from collections.abc import Iterator
 from pathlib import Path
 
 TOP = Path(__file__).resolve().parent.parent
 HEADLINE = ("crates/bench_engine/src/runner.rt", "run")
-# A definition: its module, or none for the file at hand, and its name. What a text imports: these by name, and modules by alias.
+# A definition: its module, and its name.
 Item = tuple[str, str]
-Uses = tuple[dict[str, Item], dict[str, str]]
 # A verdict carries its proof, so that its type says all, whatever the test is that finds it.
 VERDICT = re.compile(r"→ \w+OrNot\b")
 WORD = re.compile(r"[^\s(){}\[\],;]+")
@@ -44,57 +43,54 @@ def types(text: str) -> dict[str, str]:
     return found
 
 
-def uses(text: str) -> Uses:
-    """What a file imports: the crate's module and the name there, by the name in this file; and modules by their alias."""
-    names: dict[str, Item] = {}
-    modules: dict[str, str] = {}
-    for path, group in re.findall(r"use Rattle\.([\w.«»]+)\.\{([^}]*)\}", text):
-        for item in group.split(","):
-            there, _, here = item.strip().partition(" as ")
-            names[here.strip() or there] = (path, there)
-    for path, alias in re.findall(r"use Rattle\.([\w.«»]+) as (\w+)", text):
-        modules[alias] = path
-    return names, modules
+class Source:
+    """A file: what it defines, if it is a module of definitions, and what it imports, by name, and modules by alias."""
+
+    def __init__(self, path: Path, module: str = ""):
+        self.path, self.text, self.module = path, path.read_text(), module
+        self.local = {name: whole for name, _, _, whole in statements(self.text)} if module else {}
+        self.names: dict[str, Item] = {}
+        self.modules: dict[str, str] = {}
+        for where, group, alias in re.findall(r"use Rattle\.([\w.«»]+)(?:\.\{([^}]*)\}| as (\w+))", self.text):
+            if alias:
+                self.modules[alias] = where
+            for item in filter(None, group.split(",")):
+                there, _, here = item.strip().partition(" as ")
+                self.names[here.strip() or there] = (where, there)
+
+    def cites(self, text: str) -> set[Item]:
+        """The definitions, and the types with a view, that a text of the file cites."""
+        found: set[Item] = set()
+        for word in WORD.findall(re.sub(r"--.*", "", text)):
+            first, dot, rest = word.partition(".")
+            found |= {self.names[start] for start in (word, first) if start in self.names}
+            if word in self.local:
+                found.add((self.module, word))
+            if dot and first in self.modules:
+                found.add((self.modules[first], rest.partition(".")[0]))
+        symbols = {name: name.replace("◌", "") for name in self.names if "◌" in name}
+        has_do = re.search(r"\bdo\b", text)
+        return found | {self.names[name] for name, symbol in symbols.items() if symbol in text or symbol == ">>=" and has_do}
 
 
 class Repository:
-    """The definitions of specs/ by module and name, the views of types, and the fields of types without one."""
+    """The modules of specs/, the code of each crate, the views of types, and the fields of types without one."""
 
     def __init__(self, top: Path = TOP):
-        self.crates = sorted((top / "crates").iterdir())
-        self.files: dict[str, tuple[Path, dict[str, str], dict[str, Item], dict[str, str]]] = {}
-        self.models: dict[Item, tuple[str, dict[str, Item], dict[str, str]]] = {}
+        self.modules: dict[str, Source] = {}
+        self.code: dict[str, list[Source]] = {}
+        self.models: dict[Item, tuple[str, Source]] = {}
         self.fields: dict[Item, tuple[str, dict[str, str]]] = {}
-        for crate in self.crates:
+        for crate in sorted((top / "crates").iterdir()):
             for file in sorted(crate.glob("specs/**/*.antt")):
-                text = file.read_text()
-                module = f"{crate.name}.specs.{'.'.join(file.relative_to(crate / 'specs').with_suffix('').parts)}"
-                self.files[module] = (file, {name: whole for name, _, _, whole in statements(text)}, *uses(text))
-            for file in sorted(crate.glob("src/**/*.rt")):
-                text = file.read_text()
-                for name, body in re.findall(r"impl(?:<[^>]*>)? Model for (\w+)[^{]*\{(.*?)\n\}", text, re.S):
-                    view = re.findall(r"ghost view = \{(.*?)\};", body, re.S)
-                    self.models[crate.name, name] = (" ".join(view), *uses(text))
-                for name, body in re.findall(r"(?m)^(?:pub )?(?:struct|enum) (\w+)([^{;]*(?:\{[^}]*\}|;))", text):
-                    self.fields[crate.name, name] = (body, types(text))
-
-    def cited(self, text: str, local: Iterable[str], names: dict[str, Item], modules: dict[str, str]) -> set[Item]:
-        """The definitions, and the types with a view, that a text cites."""
-        here: set[Item] = set()
-        for word in WORD.findall(re.sub(r"--.*", "", text)):
-            parts = word.split(".")
-            if word in local:
-                here.add(("", word))
-            for start in {word, parts[0]}:
-                if start in names:
-                    here.add(names[start])
-            if parts[0] in modules and len(parts) > 1:
-                here.add((modules[parts[0]], parts[1]))
-        for name, target in names.items():
-            symbol = name.replace("◌", "")
-            if "◌" in name and (symbol in text or (symbol == ">>=" and re.search(r"\bdo\b", text))):
-                here.add(target)
-        return here
+                module = ".".join((crate.name, *file.relative_to(crate).with_suffix("").parts))
+                self.modules[module] = Source(file, module)
+            self.code[crate.name] = [Source(file) for file in sorted(crate.glob("src/**/*.rt"))]
+            for source in self.code[crate.name]:
+                for name, body in re.findall(r"impl(?:<[^>]*>)? Model for (\w+)[^{]*\{(.*?)\n\}", source.text, re.S):
+                    self.models[crate.name, name] = (" ".join(re.findall(r"ghost view = \{(.*?)\};", body, re.S)), source)
+                for name, body in re.findall(r"(?m)^(?:pub )?(?:struct|enum) (\w+)([^{;]*(?:\{[^}]*\}|;))", source.text):
+                    self.fields[crate.name, name] = (body, types(source.text))
 
     def fields_of(self, crate: str, name: str) -> Iterator[Item]:
         """The types in the fields of a type that has no view."""
@@ -110,75 +106,57 @@ class Repository:
         done: set[Item] = set()
         while todo:
             module, name = todo.pop()
-            if module.endswith(".specs.Words") and module in self.files:  # which only hands on what crates below define
-                module, name = self.files[module][2][name]
+            if module.endswith(".specs.Words") and module in self.modules:  # which only hands on what crates below define
+                module, name = self.modules[module].names[name]
             if (module, name) in done:
                 continue
-            declared = re.match(r"(\w+)\.specs\.declared\.", module)
-            if declared:
+            if declared := re.match(r"(\w+)\.specs\.declared\.", module):
                 done.add((module, name))
-                if (declared[1], name) in self.models:
-                    text, names, modules = self.models[declared[1], name]
-                    todo |= {it for it in self.cited(text, {}, names, modules) if it[0]}
-                else:
-                    todo |= set(self.fields_of(declared[1], name))
-            elif module in self.files and name in self.files[module][1]:
+                view, source = self.models.get((declared[1], name), ("", None))
+                todo |= source.cites(view) if source else set(self.fields_of(declared[1], name))
+            elif module in self.modules and name in self.modules[module].local:
                 done.add((module, name))
-                _, local, names, modules = self.files[module]
-                text = local[name].partition(f"\n{name} ")[0] if VERDICT.search(local[name]) else local[name]
-                todo |= {(it[0] or module, it[1]) for it in self.cited(text, local, names, modules)}
+                whole = self.modules[module].local[name]
+                todo |= self.modules[module].cites(whole.partition(f"\n{name} ")[0] if VERDICT.search(whole) else whole)
         return {it for it in done if ".declared." not in it[0]}
 
 
-def exported(crate: Path) -> set[str]:
-    """The names that a crate's lib.rt makes public."""
-    root = crate / "src/lib.rt"
-    if not root.is_file():
-        return set()
-    groups = re.findall(r"pub use [\w:]+::(?:\{([^}]*)\}|(\w+));", root.read_text())
-    return {it.strip().split(" as ")[-1] for group in groups for it in ",".join(group).split(",") if it.strip()}
-
-
-def public_clauses(crate: Path, with_invariants: bool) -> Iterator[tuple[str, str]]:
-    """The clauses of the public functions and types of a crate, each with the file that they stand in."""
-    names = exported(crate)
+def public_clauses(code: list[Source], with_invariants: bool) -> Iterator[tuple[Source, str]]:
+    """The clauses of the public functions and types of a crate, those that its lib.rt names, each with the file that they stand in."""
+    roots = [source.text for source in code if source.path.name == "lib.rt"]
+    groups = [group for root in roots for found in re.findall(r"pub use [\w:]+::(?:\{([^}]*)\}|(\w+));", root) for group in found]
+    names = {it.strip().split(" as ")[-1] for it in ",".join(groups).split(",") if it.strip()}
     wanted = r" *ghost (Value|view|invariant)\b" if with_invariants else r" *ghost (Value|view)\b"
-    for file in sorted(crate.glob("src/**/*.rt")):
-        text = file.read_text()
-        for header in re.findall(r"(?m)^pub fn (?:.|\n)*?\n?\{$", text):
+    for source in code:
+        for header in re.findall(r"(?m)^pub fn (?:.|\n)*?\n?\{$", source.text):
             if re.findall(r"pub fn (\w+)", header)[0] in names:
-                yield text, header
-        for of_trait, owner, body in re.findall(r"(?ms)^impl(?:<[^>]*>)? (?:([\w<>', ]+) for )?(\w+)[^{\n]*\{(.*?)^\}", text):
+                yield source, header
+        for of_trait, owner, body in re.findall(r"(?ms)^impl(?:<[^>]*>)? (?:([\w<>', ]+) for )?(\w+)[^{\n]*\{(.*?)^\}", source.text):
+            headers = re.findall(r"(?m)^    (?:pub |final )*fn (?:.|\n)*?\n?    \{$|^    ghost [^\n]*;$", body) if owner in names else []
+            for header in headers:
+                if (of_trait or header.lstrip().startswith("pub")) and (of_trait != "Model" or re.match(wanted, header)):
+                    yield source, header
+        for owner, body in re.findall(r"(?ms)^pub (?:struct|enum|trait) (\w+)(.*?)^\}", source.text):
             if owner in names:
-                for header in re.findall(r"(?m)^    (?:pub |final )*fn (?:.|\n)*?\n?    \{$|^    ghost [^\n]*;$", body):
-                    if of_trait != "Model" or re.match(wanted, header):
-                        if of_trait or header.lstrip().startswith("pub"):
-                            yield text, header
-        for owner, body in re.findall(r"(?ms)^pub (?:struct|enum|trait) (\w+)(.*?)^\}", text):
-            if owner in names:
-                yield text, " ".join(re.findall(r"(?m)^ *(?:pub )?ghost .*$", body)) + (body if " fn " in body else "")
+                yield source, " ".join(re.findall(r"(?m)^ *(?:pub )?ghost .*$", body)) + (body if " fn " in body else "")
 
 
-def inside() -> None:
+def inside() -> Iterator[str]:
     """By file, the definitions outside specs/inside/ that no public contract of any crate reaches, and those inside that one does.
 
     Laws that other crates cite stand in specs/ as well, in files whose names end in Laws."""
     repository = Repository()
 
     def reached(with_invariants: bool) -> set[Item]:
-        roots: set[Item] = set()
-        for crate in repository.crates:
-            for text, clauses in public_clauses(crate, with_invariants):
-                names, modules = uses(text)
-                roots |= {it for it in repository.cited(clauses, {}, names, modules) if it[0]}
-        return repository.reached(roots)
+        clauses = (found for code in repository.code.values() for found in public_clauses(code, with_invariants))
+        return repository.reached({it for source, text in clauses for it in source.cites(text)})
 
     at_least, at_most = reached(False), reached(True)
-    for module, (file, local, _, _) in sorted(repository.files.items()):
+    for module, source in sorted(repository.modules.items()):
         is_inside = ".specs.inside." in module
-        astray = [name for name in local if (is_inside and (module, name) in at_least) or (not is_inside and (module, name) not in at_most)]
-        if astray and not file.stem.endswith("Laws"):
-            print(f"{file.relative_to(TOP / 'crates')}: {'all' if len(astray) == len(local) else ' '.join(astray)}")
+        astray = [name for name in source.local if ((module, name) in at_least if is_inside else (module, name) not in at_most)]
+        if astray and not source.path.stem.endswith("Laws"):
+            yield f"{source.path.relative_to(TOP / 'crates')}: {'all' if len(astray) == len(source.local) else ' '.join(astray)}"
 
 
 BINDER = re.compile(r"[({]([^(){}:]+?) : ")
@@ -223,52 +201,44 @@ def statements(text: str) -> Iterator[tuple[str, bool, str, str]]:
         yield name, is_public, "\n".join(stated), "\n".join(lines)
 
 
-def twice() -> int:
-    """Prints what stands twice; answers how much that is."""
+def twice() -> Iterator[str]:
+    """What stands twice."""
     proved: dict[str, set[Item]] = collections.defaultdict(set)
     defined: dict[str, set[Item]] = collections.defaultdict(set)
     public: dict[str, set[Item]] = collections.defaultdict(set)
-    for crate in sorted((TOP / "crates").iterdir()):
-        for part in ("specs", "proofs"):
-            for file in sorted(crate.glob(f"{part}/**/*.antt")):
-                if file.name in ("Answers.antt", "Invariants.antt", "Proof.antt", "Lib.antt"):
-                    continue
-                where = str(file.relative_to(TOP / "crates"))
-                is_law = part == "proofs" or file.stem.endswith("Laws")
-                for name, is_public, stated, whole in statements(file.read_text()):
-                    result = stated.rpartition("→")[2] if "→" in stated else stated.partition(" : ")[2]
-                    if is_law and ":" in stated and not VALUE.match(result):
-                        proved[renamed(stated.partition(":")[2], name)].add((where, name))
-                    else:
-                        meaning = renamed(whole, name)
-                        if not LIMIT.fullmatch(meaning):
-                            defined[meaning].add((where, name))
-                        if is_public and name != BIND and part == "specs" and not is_law and "/inside/" not in where:
-                            public[name].add((crate.name, meaning))
-    count = 0
+    for file in [file for part in ("specs", "proofs") for file in (TOP / "crates").glob(f"*/{part}/**/*.antt")]:
+        if file.name in ("Answers.antt", "Invariants.antt", "Proof.antt", "Lib.antt"):
+            continue
+        where = str(file.relative_to(TOP / "crates"))
+        crate, part, *_ = where.split("/")
+        is_law = part == "proofs" or file.stem.endswith("Laws")
+        for name, is_public, stated, whole in statements(file.read_text()):
+            result = stated.rpartition("→")[2] if "→" in stated else stated.partition(" : ")[2]
+            if is_law and ":" in stated and not VALUE.match(result):
+                proved[renamed(stated.partition(":")[2], name)].add((where, name))
+                continue
+            meaning = renamed(whole, name)
+            if not LIMIT.fullmatch(meaning):
+                defined[meaning].add((where, name))
+            if is_public and name != BIND and part == "specs" and not is_law and "/inside/" not in where:
+                public[name].add((crate, meaning))
     for what, found in (("stated", proved), ("defined", defined)):
         for meaning, places in sorted(found.items(), key=lambda it: sorted(it[1])):
             if len(places) > 1 and len(meaning) > 12:
-                count += 1
-                print(f"{what} {len(places)} times: " + ", ".join(f"{file}: {name}" for file, name in sorted(places)))
-    for name, meanings in sorted(public.items()):
-        if len({meaning for _, meaning in meanings}) > 1 and len({crate for crate, _ in meanings}) > 1:
-            count += 1
-            crates = ", ".join(sorted({crate for crate, _ in meanings}))
-            print(f"{name} means {len({meaning for _, meaning in meanings})} things: {crates}")
-    return count
+                yield f"{what} {len(places)} times: " + ", ".join(f"{file}: {name}" for file, name in sorted(places))
+    for name, pairs in sorted(public.items()):
+        crates, meanings = map(set, zip(*pairs))
+        if len(meanings) > 1 and len(crates) > 1:
+            yield f"{name} means {len(meanings)} things: {', '.join(sorted(crates))}"
 
 
 def believed(top: Path = TOP, headline: tuple[str, str] = HEADLINE) -> dict[Path, list[str]]:
     """By file, the definitions that the contract of a function reaches, in their order."""
-    repository, text = Repository(top), (top / headline[0]).read_text()
-    contract = re.findall(rf"pub fn {headline[1]}\b.*?\n\{{", text, re.S)[0]
-    names, modules = uses(text)
-    by_file: dict[Path, list[Item]] = collections.defaultdict(list)
-    for module, name in repository.reached({it for it in repository.cited(contract, (), names, modules) if it[0]}):
-        by_file[repository.files[module][0].relative_to(top / "crates")].append((module, name))
-    order = {module: list(found[1]) for module, found in repository.files.items()}
-    return {file: [name for _, name in sorted(items, key=lambda it: order[it[0]].index(it[1]))] for file, items in sorted(by_file.items())}
+    repository, source = Repository(top), Source(top / headline[0])
+    contract = re.findall(rf"pub fn {headline[1]}\b.*?\n\{{", source.text, re.S)[0]
+    reached = repository.reached(source.cites(contract))
+    found = {it.path.relative_to(top / "crates"): [name for name in it.local if (module, name) in reached] for module, it in repository.modules.items()}
+    return {file: names for file, names in sorted(found.items()) if names}
 
 
 def listed(found: dict[Path, list[str]]) -> str:
@@ -276,20 +246,18 @@ def listed(found: dict[Path, list[str]]) -> str:
     return "".join(f"{file}: {' '.join(names)}\n" for file, names in found.items())
 
 
-def unlisted(found: dict[Path, list[str]]) -> Iterator[str]:
+def unlisted() -> Iterator[str]:
     """What the kept list lacks or has too much, and the files of it that stand in no table."""
-    kept = dict(line.split(": ", 1) for line in (TOP / "docs/believed.txt").read_text().splitlines())
-    there = {file: names.split() for file, names in kept.items()}
-    here = {str(file): names for file, names in found.items()}
-    page = (TOP / "docs/DEFINITIONS.md").read_text()
-    for file in sorted(here.keys() | there.keys()):
-        old, new = there.get(file, []), here.get(file, [])
-        yield from (f"{file}: {name} is reached, and the list does not have it" for name in new if name not in old)
-        yield from (f"{file}: the list has {name}, which is not reached" for name in old if name not in new)
+    found, page = believed(), (TOP / "docs/DEFINITIONS.md").read_text()
+    kept, here = ({(file, name) for file, _, names in (line.partition(": ") for line in text.splitlines()) for name in names.split()}
+                  for text in ((TOP / "docs/believed.txt").read_text(), listed(found)))
+    yield from (f"{file}: {name} is reached, and the list does not have it" for file, name in sorted(here - kept))
+    yield from (f"{file}: the list has {name}, which is not reached" for file, name in sorted(kept - here))
+    for file in sorted({file for file, _ in here | kept}):
         if f"`{file.partition('/specs/')[2]}`" not in page or f"`{file.partition('/')[0]}`" not in page:
             yield f"{file}: no table of DEFINITIONS.md names it"
     for file in unnamed(page):
-        if file not in here:
+        if Path(file) not in found:
             yield f"{file}: DEFINITIONS.md does not name it"
     if counted(found) not in page:
         yield f"DEFINITIONS.md should say that the headline reaches {counted(found)}"
@@ -298,7 +266,7 @@ def unlisted(found: dict[Path, list[str]]) -> Iterator[str]:
 def unnamed(page: str) -> Iterator[str]:
     """The files of specs/ that are for readers, but for laws, that a page does not name."""
     for file in sorted((TOP / "crates").glob("*/specs/**/*.antt")):
-        crate, name = file.relative_to(TOP / "crates").parts[0], "/".join(file.relative_to(TOP / "crates").parts[2:])
+        crate, _, name = file.relative_to(TOP / "crates").as_posix().split("/", 2)
         is_for_readers = not name.startswith("inside") and name not in ("Lib.antt", "Words.antt") and not name.endswith("Laws.antt")
         row, part = rf"`{crate}`[^\n]*", rf"## [^\n]*`{crate}`(?:(?!\n## ).|\n(?!## ))*"
         if is_for_readers and not re.search(rf"(?:{row}|{part})`{re.escape(name)}`", page):
@@ -307,30 +275,26 @@ def unnamed(page: str) -> Iterator[str]:
 
 def counted(found: dict[Path, list[str]]) -> str:
     """How many definitions the headline reaches, and how many lines they have."""
-    repository = Repository()
-    wholes = {file.relative_to(TOP / "crates"): local for file, local, _, _ in repository.files.values()}
-    texts = [wholes[file][name] for file, names in found.items() for name in names]
+    sources = {source.path.relative_to(TOP / "crates"): source for source in Repository().modules.values()}
+    texts = [sources[file].local[name] for file, names in found.items() for name in names]
     lines = sum(len(re.sub(r"(?m)^--.*\n?", "", text).strip().splitlines()) for text in texts)
-    return f"{sum(map(len, found.values())):,} definitions, {lines:,} lines"
+    return f"{len(texts):,} definitions, {lines:,} lines"
 
 
-def main() -> int:
-    if sys.argv[1:] == ["--inside"]:
-        inside()
-        return 0
-    if sys.argv[1:] == ["--twice"]:
-        return 1 if twice() else 0
+def whole() -> Iterator[str]:
+    """The list of what is reached, and how much that is."""
     found = believed()
-    if sys.argv[1:] == ["--write"]:
-        (TOP / "docs/believed.txt").write_text(listed(found))
-    elif sys.argv[1:] == ["--check"]:
-        faults = list(unlisted(found))
-        print("\n".join(faults), end="\n" * bool(faults))
-        return 1 if faults else 0
-    else:
-        print(f"{listed(found)}{counted(found)}")
-    return 0
+    yield listed(found) + counted(found)
+
+
+def main(word: str = "") -> int:
+    if word == "--write":
+        (TOP / "docs/believed.txt").write_text(listed(believed()))
+        return 0
+    told = list({"--inside": inside, "--twice": twice, "--check": unlisted}.get(word, whole)())
+    print("\n".join(told), end="\n" * bool(told))
+    return int(bool(told) and word in ("--twice", "--check"))
 
 
 if __name__ == "__main__":
-    sys.exit(main())
+    sys.exit(main(*sys.argv[1:]))

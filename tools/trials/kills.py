@@ -3,14 +3,14 @@
 After each kill the file is the old one or the new one, whole. A save in peace then removes what the kill left, and of no other name."""
 from __future__ import annotations
 
+import contextlib
 import subprocess
 import time
 from argparse import Namespace
 from pathlib import Path
 from random import Random
-from typing import Sequence
 
-from .runs import Part, Runner, Word, contents
+from .runs import Part, Runner, contents
 
 KILLS = 200
 SIZE = 2**24 - 2**12
@@ -18,23 +18,12 @@ SCRIPT = "x = full |u1 ({}) {}\nsave x \"a.npy\"\n"
 OLD, NEW = SCRIPT.format(SIZE, 7).encode(), SCRIPT.format(SIZE, 9).encode()
 
 
-def killed(runner: Runner, words: Sequence[Word], seconds: float) -> None:
-    """Kills a run after a while."""
-    process = subprocess.Popen([runner.program, *words], stdin=subprocess.PIPE, stdout=subprocess.DEVNULL)
-    assert process.stdin
-    process.stdin.write(NEW)
-    process.stdin.close()
-    time.sleep(seconds)
-    process.kill()
-    process.wait()
-
-
 def all_trials(given: Namespace, _folder: Path) -> Part:
     """So many kills, each over the old file."""
     part, rng = Part(), Random(given.seed)
     files: dict[object, object] = {}
     with Runner(given.program) as runner:
-        words: list[Word] = ["--dir", str(runner.dir)]
+        words = ["--dir", str(runner.dir)]
         for name, text in (("new", NEW), ("old", OLD)):
             began = time.monotonic()
             runner.run(text, words)
@@ -43,7 +32,8 @@ def all_trials(given: Namespace, _folder: Path) -> Part:
         (runner.dir / ".b.npy.part").write_bytes(b"left of another name")
         for turn in range(KILLS):
             runner.run(OLD, words)
-            killed(runner, words, rng.uniform(0.1, 1.1) * whole_run)
+            with contextlib.suppress(subprocess.TimeoutExpired):
+                subprocess.run([runner.program, *words], input=NEW, stdout=subprocess.DEVNULL, timeout=rng.uniform(0.1, 1.1) * whole_run)
             found = contents(runner.dir)
             left = files.get(found["a.npy"], "neither")
             part.count("kills")

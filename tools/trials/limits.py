@@ -11,7 +11,7 @@ from random import Random
 from typing import Sequence
 
 from .lacking import Lacking
-from .lines import Script, own_scripts, random_script
+from .lines import Script, own_scripts, scripts_of
 from .runs import Part, Runner, in_processes, with_launcher
 
 PAGE = 4096
@@ -60,7 +60,7 @@ def at_each_page(trial: Limited, rng: Random) -> dict[str, list[int]]:
     return words
 
 
-def trials_of(task: tuple[Path, int, Script, float]) -> tuple[Part, int]:
+def trials_of(task: tuple[Path, int, Script, str]) -> tuple[Part, int]:
     """All runs over one script."""
     program, number, script, seed = task
     part, rng = Part(), Random(seed)
@@ -96,13 +96,11 @@ def stacks(program: Path, folder: Path) -> Part:
 
 def all_trials(given: Namespace, folder: Path) -> Part:
     """All limits over all scripts."""
-    rng = Random(given.seed)
-    scripts = own_scripts() + [random_script(given.program, rng, number) for number in range(RANDOM_SCRIPTS)]
     part = stacks(given.program, folder)
-    tasks = [(given.program, number, script, rng.random()) for number, script in enumerate(scripts)]
-    found = list(in_processes(given, trials_of, tasks))
-    for runs, _ in found:
+    tasks = [(given.program, number, script, f"{given.seed} {number}") for number, script in enumerate(scripts_of(given, RANDOM_SCRIPTS))]
+    most = 0
+    for runs, above in in_processes(given, trials_of, tasks):
         part.add(runs)
-    most = max(above for _, above in found)
+        most = max(most, above)
     part.note("limits that end a run at its start, above the least under which it runs", f"up to {most:,} bytes")
     return part

@@ -5,6 +5,7 @@ import dataclasses
 import os
 import re
 import tempfile
+from argparse import Namespace
 from pathlib import Path
 from random import Random
 from typing import Iterable, Iterator, Optional, Sequence, Union
@@ -113,6 +114,12 @@ def long_scripts() -> list[Script]:
 def own_scripts() -> list[Script]:
     """The scripts of the repository."""
     return [*scripts_in(TOP / "examples"), *scripts_in(TOP / "tools/trials/scripts"), *long_scripts()]
+
+
+def scripts_of(given: Namespace, count: int) -> list[Script]:
+    """The scripts of the repository, and so many random ones."""
+    rng = Random(given.seed)
+    return own_scripts() + [random_script(given.program, rng, number) for number in range(count)]
 
 
 def random_script(program: Named, rng: Random, number: int, depths: Sequence[int] = (0, 1, 2, 16, 64)) -> Script:

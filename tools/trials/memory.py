@@ -6,12 +6,11 @@ import os
 import struct
 from argparse import Namespace
 from pathlib import Path
-from random import Random
 
 from . import TOP
 from .files import reserved_when_idle
 from .lacking import STOPPED, Lacking
-from .lines import Script, entries, own_scripts, random_script, text_of
+from .lines import Script, entries, scripts_of, text_of
 from .runs import Part, Runner, compiled, in_processes, shown
 
 ROOM = 2**25
@@ -101,11 +100,10 @@ def words_of_the_program(program: Path, library: Path) -> Part:
 
 def all_trials(given: Namespace, folder: Path) -> Part:
     """The refused requests over all scripts."""
-    rng = Random(given.seed)
-    scripts = own_scripts() + [random_script(given.program, rng, number) for number in range(RANDOM_SCRIPTS)]
     library, part = compiled("refuse_memory.c", folder / "refuse_memory.so"), within_bounds(given.program)
     part.add(words_of_the_program(given.program, library))
-    tasks = [(given.program, library, script, 10**9 if given.every else MOST_REQUESTS) for script in scripts]
+    most = 10**9 if given.every else MOST_REQUESTS
+    tasks = [(given.program, library, script, most) for script in scripts_of(given, RANDOM_SCRIPTS)]
     for found in in_processes(given, trials_of, tasks):
         part.add(found)
     return part

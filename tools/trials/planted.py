@@ -43,7 +43,7 @@ FAULTS = [
 SMALL: dict[str, dict[str, Any]] = {
     "beside_numpy": {}, "numbers": {}, "devices": {}, "files": {"ALTERED": 1000}, "kills": {},
     "errors": {"SCENARIOS": errors.SCENARIOS[:1]}, "limits": {"RANDOM_SCRIPTS": 0, "STACKS": [2**20], "MOST_STEPS": 40, "FILLED_LIMITS": 5},
-    "memory": {"RANDOM_SCRIPTS": 0, "MOST_REQUESTS": 60, "own_scripts": lambda: own_scripts()[:3]},
+    "memory": {"MOST_REQUESTS": 60, "scripts_of": lambda *_: own_scripts()[:3]},
     "long_runs": {"COMMANDS": 40_000, "SCRIPT_BYTES": 5 * 10**6, "LINES": 40, "ROUNDS": 4},
 }
 
