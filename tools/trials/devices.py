@@ -44,7 +44,7 @@ class Trials:
 
     def run(self, text: str, words: Sequence[Word] = (), before: Sequence[Word] = (), program: Optional[Path] = None, **more: Any) -> Ended:
         """What a run of the program or of the launcher comes to over a script, perhaps by another command."""
-        streams = {"stdout": subprocess.PIPE, "stderr": subprocess.PIPE, **({} if "stdin" in more else {"input": text.encode()}), **more}
+        streams: dict[str, Any] = {"stdout": subprocess.PIPE, "stderr": subprocess.PIPE, **({} if "stdin" in more else {"input": text.encode()}), **more}
         ended = subprocess.run([*map(str, before), str(program or self.program), *words], cwd=self.folder, timeout=PATIENT, **streams)
         return ended.returncode, (ended.stdout or b"").decode(), (ended.stderr or b"").decode()
 

@@ -8,7 +8,7 @@ from __future__ import annotations
 
 import ast
 import re
-from typing import Any
+from typing import Any, Sequence
 
 import numpy as np
 from numpy.core._internal import _dtype_from_pep3118  # type: ignore[attr-defined]
@@ -18,21 +18,15 @@ from .rules import LETTERS, Refused
 Array = np.ndarray[Any, Any]
 Dtype = np.dtype[Any]
 
-CODES = {letter: code for code, letter in LETTERS.items()}
-SCALAR = re.compile(r"([<>=|]?)(?:([biu][1248])|([?bBhHiIqQ])|S(\d+)|(\d+)s)")
+TYPE_STRING = re.compile(r"[<>=|]?(?:[biu][1248]|S\d+)")
 REFUSED = {"<i3": "E04", "<f4": "E05", "|S65537": "E09"}
 
 
 def read(text: str) -> Dtype:
-    """The type that a text means: of a record's format text, what NumPy reads in it."""
+    """The type that a text means: a type string of NumPy, or a format text, as NumPy reads it."""
     if text in REFUSED:
         raise Refused(REFUSED[text])
-    found = SCALAR.fullmatch(text)
-    if not found:
-        return np.dtype(_dtype_from_pep3118(text))
-    mark, code, letter, *lengths = found.groups()
-    length = next(filter(None, lengths), None)
-    return np.dtype(f"S{length}" if length else f"{mark}{code or CODES[letter]}")
+    return np.dtype(text if TYPE_STRING.fullmatch(text) else _dtype_from_pep3118(text))
 
 
 def fields(dtype: Dtype) -> list[tuple[str, Dtype, int]]:
@@ -97,6 +91,11 @@ def item(value: Any, dtype: Dtype) -> Any:
     if not all(map(is_value, numbers(whole), leaves(dtype))):
         raise Refused("E23")
     return whole
+
+
+def full(shape: Sequence[int], value: str, dtype: Dtype) -> Array:
+    """An array whose items are all what a literal means."""
+    return np.full(shape, np.array(item(literal(value), dtype), dtype), dtype)
 
 
 def can_cast(source: Dtype, target: Dtype, in_record: bool = False) -> bool:

@@ -14,6 +14,7 @@ from .rules import LETTERS, MOST_AXES, MOST_BYTES, MOST_ITEMS, Refused, tuple_te
 LITERAL = r"""'[ -&(-\[\]-~]*'|"[ !#-\[\]-~]*"|(?:0|[1-9][0-9]*)L?(?![0-9])|(?:True|False|None)(?![A-Za-z])"""
 TOKEN, BLANKS = re.compile(rf"{LITERAL}|[](){{}}[:,]"), " \t\n\r"
 HEADER_BYTES = b" '\",:()[]{}LTFN0123456789<>|=biuSVfx\\\n\x00\x7f"
+KEYS = ["descr", "fortran_order", "shape"]
 MOST_DEPTH, MOST_HEADER, MOST_ITEM = 16, 2**20, 65536
 MOST_FIELDS, MOST_LEAVES, MOST_RECORDS = 64, 2048, 4
 NAME = re.compile(r"[ !#-&(-9;-\[\]-~]{1,64}")
@@ -51,9 +52,9 @@ def header_values(text: str) -> tuple[Any, bool, tuple[int, ...]]:
     """The three values of a header."""
     whole = value(parsed(text))
     pairs = list(whole.values()) if isinstance(whole, dict) else []
-    if not all(isinstance(key, str) for key, _ in pairs) or sorted(key for key, _ in pairs) != ["descr", "fortran_order", "shape"]:
+    if not all(isinstance(key, str) for key, _ in pairs) or sorted(key for key, _ in pairs) != KEYS:
         raise BAD_HEADER
-    descr, fortran, shape = (found for _, found in sorted(pairs, key=lambda pair: pair[0]))
+    descr, fortran, shape = (dict(pairs)[key] for key in KEYS)
     if not isinstance(fortran, bool) or not isinstance(shape, tuple) or not all(type(length) is int for length in shape):
         raise BAD_HEADER
     return descr, fortran, shape

@@ -15,7 +15,7 @@ from typing import Any, Optional
 
 import numpy as np
 
-from . import computations, dtypes, indexing, npy_files, npy_rule, reshapes
+from . import computations, dtypes, indexing, npy_files, npy_rule
 from .dtypes import Array, type_text
 from .rules import MOST_AXES, MOST_ITEMS, Refused, refusing, tuple_text
 
@@ -68,6 +68,24 @@ def sized(text: str) -> list[int]:
     if max([0, *lengths]) > MOST_ITEMS or math.prod(lengths) > MOST_ITEMS:
         raise Refused("E09")
     return lengths
+
+
+def reshaped(array: Array, lengths: list[int]) -> tuple[Array, str]:
+    """The array in a shape, of which a length may be left open, and whether that is a view or a copy: NumPy sets the shape of a view, or
+    cannot."""
+    given, left_open = math.prod(length for length in lengths if length >= 0), sum(length < 0 for length in lengths)
+    if len(lengths) > MOST_AXES:
+        raise Refused("E08")
+    if min([0, *lengths]) < -1 or left_open > 1 or (given == 0 or array.size % given if left_open else given != array.size):
+        raise Refused("E18")
+    if max([0, *lengths]) > MOST_ITEMS:
+        raise Refused("E09")
+    shape, view = tuple(array.size // given if length < 0 else length for length in lengths), array.view()
+    try:
+        view.shape = shape
+    except AttributeError:
+        return array.copy().reshape(shape), "copy"
+    return view, "view"
 
 
 class Reference:
@@ -161,8 +179,7 @@ class Reference:
 
     def full(self, name: str, type_: str, shape: str, value: str) -> str:
         dtype = dtypes.read(type_)
-        lengths = sized(shape)
-        return self.bind(name, np.full(lengths, np.array(dtypes.item(dtypes.literal(value), dtype), dtype), dtype), "new")
+        return self.bind(name, dtypes.full(sized(shape), value, dtype), "new")
 
     def arange(self, name: str, type_: str, begin: str, end: str, step: str) -> str:
         dtype = dtypes.read(type_)
@@ -198,10 +215,7 @@ class Reference:
             return self.bind(name, array.transpose(order), "view", source)
 
     def reshape(self, name: str, source: str, shape: str) -> str:
-        array, lengths = self.array(source), numbers(shape)
-        if fault := reshapes.refusal(array.size, lengths):
-            raise Refused(fault)
-        return self.bind(name, *reshapes.reshaped(array, lengths), source)
+        return self.bind(name, *reshaped(self.array(source), numbers(shape)), source)
 
     def broadcast(self, name: str, source: str, shape: str) -> str:
         array = self.array(source)
@@ -232,7 +246,7 @@ class Reference:
     def set_literal(self, name: str, items: str, value: str) -> str:
         target = self.target(name, items)
         dtype, shape = target.array.dtype, target.read().shape
-        target.write(np.full(shape, np.array(dtypes.item(dtypes.literal(value), dtype), dtype), dtype))
+        target.write(dtypes.full(shape, value, dtype))
         return f"ok set {math.prod(shape)}"
 
     def set_items(self, name: str, items: str, source: str, taken: Optional[str]) -> str:
