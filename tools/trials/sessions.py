@@ -1,7 +1,7 @@
 """How long the calls of a session take behind a pipe and in the process, beside `array.copy()`: the best of several runs."""
 from __future__ import annotations
 
-import time
+import timeit
 from argparse import Namespace
 from pathlib import Path
 from typing import Callable, Iterator
@@ -16,13 +16,7 @@ from .runs import Part
 
 def best(call: Callable[[], object], runs: int = 7, calls: int = 1) -> float:
     """The least time of a call, in seconds."""
-    found = []
-    for _ in range(runs):
-        began = time.perf_counter()
-        for _ in range(calls):
-            call()
-        found.append((time.perf_counter() - began) / calls)
-    return min(found)
+    return min(timeit.repeat(call, repeat=runs, number=calls)) / calls
 
 
 def times(session: Session, array: Array) -> Iterator[tuple[str, str, float]]:

@@ -14,6 +14,7 @@ from __future__ import annotations
 import itertools
 import math
 import os
+import statistics
 import sys
 import time
 import timeit
@@ -24,7 +25,7 @@ import numpy as np
 
 from . import TOP
 from .runs import Part
-from .timed import FOLDER, Row, refusal, rows, seconds
+from .timed import FOLDER, Row, rows, run
 
 MOST_REPEATS = 2**18
 BEFORE = 24
@@ -50,7 +51,7 @@ def of_size(row: Row, size: int) -> Row:
 def bench_time(program: Path, row: Row, depth: int, runs: int) -> float:
     """The seconds that one line of the program takes, of so many repeats that these can be timed."""
     def repeated(times: int) -> float:
-        return seconds(program, f"{row.setup}\n" + f"{row.line}\n" * times, depth)
+        return run(program, f"{row.setup}\n" + f"{row.line}\n" * times, depth).seconds
 
     repeats, start = 4, repeated(BEFORE)
     while repeats < MOST_REPEATS and repeated(BEFORE + repeats) - start < LONG_ENOUGH:
@@ -59,9 +60,9 @@ def bench_time(program: Path, row: Row, depth: int, runs: int) -> float:
     return (min(long for long, _ in pairs) - min(short for _, short in pairs)) / repeats
 
 
-def numpy_time(row: Row, runs: int) -> float:
-    """The seconds that NumPy's statement takes."""
-    timer = timeit.Timer(row.numpy, row.numpy_setup or "pass", time.process_time, {"np": np, "os": os})
+def numpy_time(statement: str, setup: str, runs: int) -> float:
+    """The seconds that a statement for NumPy takes."""
+    timer = timeit.Timer(statement, setup or "pass", time.process_time, {"np": np, "os": os, "itertools": itertools})
     loops, _ = timer.autorange()
     return min(timer.repeat(runs, loops)) / loops
 
@@ -70,9 +71,7 @@ def copy_time(size: float, runs: int) -> float:
     """The seconds that it takes to copy, so that so many bytes are read and written: half of them, to one block after the other."""
     length = math.ceil(size / 2)
     setup = f"source = np.ones({length}, '|u1'); blocks = itertools.cycle([source.copy() for _ in range({KEPT})])"
-    timer = timeit.Timer("np.copyto(next(blocks), source)", setup, time.process_time, {"np": np, "itertools": itertools})
-    loops, _ = timer.autorange()
-    return min(timer.repeat(runs, loops)) / loops
+    return numpy_time("np.copyto(next(blocks), source)", setup, runs)
 
 
 def report(part: Part, size: int, given: Namespace) -> None:
@@ -83,10 +82,11 @@ def report(part: Part, size: int, given: Namespace) -> None:
     print(f"\n{f'{size:,} items':{width}}  " + "  ".join(f"{head:>10}" for head in heads))
     ratios: dict[int, list[float]] = {depth: [] for depth in given.undo}
     for row in chosen:
-        if refused := refusal(given.program, f"{row.setup}\n{row.line}\n", 16):
-            part.fault(f"{row.name}: {row.line}", refused, "accepted")
+        replies = run(given.program, f"{row.setup}\n{row.line}\n", 16, is_kept=True).replies
+        if refused := [reply for reply in replies if reply.startswith("no E")]:
+            part.fault(f"{row.name}: {row.line}", refused[0], "accepted")
             continue
-        theirs = numpy_time(row, given.runs)
+        theirs = numpy_time(row.numpy, row.numpy_setup, given.runs)
         figures = {"NumPy us": theirs * 1e6}
         for depth in given.undo:
             ours = bench_time(given.program, row, depth, given.runs)
@@ -97,7 +97,7 @@ def report(part: Part, size: int, given: Namespace) -> None:
         print(f"{row.name:{width}}  " + "  ".join(f"{value:10.2f}" for value in figures.values()), flush=True)
         part.figures.append({"row": row.name, "items": size, **figures})
     for depth, found in ratios.items():
-        mean = math.exp(sum(math.log(max(ratio, 0.001)) for ratio in found) / max(1, len(found)))
+        mean = statistics.geometric_mean(max(ratio, 0.001) for ratio in found or [1])
         high = sum(ratio > HIGH for ratio in found)
         print(f"undo {depth}: geometric mean {mean:.2f} of {len(found)} rows; {high} above {HIGH}", flush=True)
 

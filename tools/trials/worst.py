@@ -9,13 +9,12 @@ from __future__ import annotations
 
 import math
 import re
-import tempfile
 from argparse import Namespace
 from pathlib import Path
 
 from . import TOP, dtypes
 from .runs import Part
-from .timed import Row, replies, rows, run
+from .timed import Row, rows, run
 
 MOST_SECONDS, MOST_MEMORY = 10, 1.5 * 10**9
 MADE = re.compile(r"ok \w+ (.+) \(([\d, ]*)\) (?:new|copy)")
@@ -44,10 +43,8 @@ def measured(program: Path, row: Row, runs: int, limit: float) -> tuple[float, i
     """The seconds of a line, the bytes that it takes beside its arrays and its result, and what is to be said of it."""
     before = f"{row.setup}\n"
     whole, is_printed = f"{before}{row.line}\n", row.line.startswith(("print", "names"))
-    with tempfile.TemporaryFile() as out:
-        used = [run(program, whole, 1, limit, None if is_printed else out)]
-        out.seek(0)
-        size, reply = held(replies(program, before, 1) if is_printed else out.read().decode("latin-1").split("\n"))
+    used = [run(program, whole, 1, limit, not is_printed)]
+    size, reply = held(run(program, before, 1, is_kept=True).replies if is_printed else used[0].replies)
     if not used[0].ended:
         return used[0].seconds, used[0].memory, f"stopped after {limit:.0f} s"
     if used[0].seconds < 5:
