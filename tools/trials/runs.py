@@ -10,7 +10,7 @@ import resource
 import shutil
 import subprocess
 import tempfile
-import threading
+import time
 from argparse import Namespace
 from pathlib import Path
 from typing import Any, Callable, Iterable, Iterator, Mapping, NamedTuple, Optional, Sequence, TypeVar, Union
@@ -162,40 +162,33 @@ class Runner(contextlib.ExitStack):
 
 
 class Talk:
-    """A run that is spoken to through pipes, so that its memory can be looked at before it ends."""
+    """A run that is spoken to through a pipe, so that its memory can be looked at before it ends; a file takes its replies."""
 
-    def __init__(self, program: Word, words: Sequence[Word] = (), env: Optional[Mapping[str, str]] = None) -> None:
+    def __init__(self, program: Word, words: Sequence[Word] = ()) -> None:
+        self.replies = tempfile.TemporaryFile(dir=IN_MEMORY)
         called: list[Word] = [str(program), *words]
-        self.process = subprocess.Popen(called, stdin=subprocess.PIPE, stdout=subprocess.PIPE, stderr=subprocess.DEVNULL, env=env)
-        assert self.process.stdin and self.process.stdout
-        self.into, self.out = self.process.stdin, self.process.stdout
-        self.tail, self.length = b"", 0
-        self.changed = threading.Condition()
-        self.reader = threading.Thread(target=self.read, daemon=True)
-        self.reader.start()
-
-    def read(self) -> None:
-        """Takes replies until they end, and keeps the last of them."""
-        while True:
-            piece = os.read(self.out.fileno(), 2**16)
-            with self.changed:
-                self.tail = (self.tail + piece)[-4096:]
-                self.length += len(piece)
-                self.changed.notify_all()
-            if not piece:
-                return
+        self.process = subprocess.Popen(called, stdin=subprocess.PIPE, stdout=self.replies, stderr=subprocess.DEVNULL)
+        assert self.process.stdin
+        self.into = self.process.stdin
 
     def say(self, text: bytes) -> None:
         self.into.write(text)
 
-    def answered(self, line: bytes, reply: bytes) -> bool:
-        """Says a line and waits for the reply to it, which answers all lines before."""
-        with self.changed:
-            self.tail = b""
+    def length(self) -> int:
+        """The bytes of the replies so far."""
+        return os.fstat(self.replies.fileno()).st_size
+
+    def answered(self, line: bytes, reply: bytes) -> bytes:
+        """Says a line and waits for the reply to it, which answers all lines before: what was said since, up to that."""
+        begin, end = self.length(), time.monotonic() + MOST_WAIT
         self.say(line + b"\n")
         self.into.flush()
-        with self.changed:
-            return self.changed.wait_for(lambda: self.tail.endswith(reply + b"\n"), MOST_WAIT)
+        while time.monotonic() < end and self.process.poll() is None:
+            said = os.pread(self.replies.fileno(), self.length() - begin, begin)
+            if said.endswith(reply + b"\n"):
+                return said
+            time.sleep(0.002)
+        raise TimeoutError(f"no reply {reply!r} in time")
 
     def memory(self, what: str = "VmHWM") -> int:
         """The bytes of memory: `VmHWM` is the most that was in use, `VmPeak` the most that was reserved."""
@@ -205,7 +198,5 @@ class Talk:
     def end(self) -> int:
         """Ends the script, and answers the status."""
         self.into.close()
-        status = self.process.wait(MOST_WAIT)
-        self.reader.join()
-        self.out.close()
-        return status
+        self.replies.close()
+        return self.process.wait(MOST_WAIT)
