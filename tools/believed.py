@@ -51,7 +51,8 @@ class Source:
         self.local = {name: whole for name, _, _, whole in statements(self.text)} if module else {}
         self.names: dict[str, Item] = {}
         self.modules: dict[str, str] = {}
-        for where, group, alias in re.findall(r"use Rattle\.([\w.«»]+)(?:\.\{([^}]*)\}| as (\w+))", self.text):
+        imports: list[tuple[str, str, str]] = re.findall(r"use Rattle\.([\w.«»]+)(?:\.\{([^}]*)\}| as (\w+))", self.text)
+        for where, group, alias in imports:
             if alias:
                 self.modules[alias] = where
             for item in filter(None, group.split(",")):
@@ -227,7 +228,7 @@ def twice() -> Iterator[str]:
             if len(places) > 1 and len(meaning) > 12:
                 yield f"{what} {len(places)} times: " + ", ".join(f"{file}: {name}" for file, name in sorted(places))
     for name, pairs in sorted(public.items()):
-        crates, meanings = map(set, zip(*pairs))
+        crates, meanings = {crate for crate, _ in pairs}, {meaning for _, meaning in pairs}
         if len(meanings) > 1 and len(crates) > 1:
             yield f"{name} means {len(meanings)} things: {', '.join(sorted(crates))}"
 

@@ -63,7 +63,7 @@ def run(program: Path, text: str, depth: int, limit: Optional[float] = None, is_
     with tempfile.TemporaryFile() as script, tempfile.TemporaryFile() as out:
         script.write(text.encode())
         script.seek(0)
-        words, sink = [str(program), "--undo", str(depth)], out if is_kept else subprocess.DEVNULL
+        words, sink = [str(program), "--undo", str(depth)], out.fileno() if is_kept else subprocess.DEVNULL
         process = subprocess.Popen(words, stdin=script, stdout=sink, env=ENVIRONMENT, cwd=FOLDER.name)
         if limit:
             resource.prlimit(process.pid, resource.RLIMIT_CPU, (int(limit), int(limit)))
