@@ -39,13 +39,13 @@ class BesideNumPy(InFolder):
     def test_a_difference_is_told_with_few_lines(self):
         """An addition that is one too high is found, and its script has no line that is not needed."""
         from trials import beside_numpy, computations, runs
-        right = computations.result_of
+        right = computations.worked
 
-        def too_high(word, dtype, a, b):
-            found = right(word, dtype, a, b)
-            return computations.wrapped(found + 1, dtype) if word == "add" else found
+        def too_high(word, left, other):
+            found = right(word, left, other)
+            return (found + 1).astype(found.dtype) if word == "add" else found
 
-        with mock.patch.object(computations, "result_of", too_high):
+        with mock.patch.object(computations, "worked", too_high):
             parts = [beside_numpy.trial((runs.Path(PROGRAM), 1, "mixed", first)) for first in range(0, 100, beside_numpy.BATCH)]
         faults = [fault for part in parts for fault in part.faults]
         self.assertTrue(faults)

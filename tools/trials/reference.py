@@ -234,14 +234,14 @@ class Reference:
 
     def operation(self, name: str, word: str, left: str, items: Optional[str], right: str) -> str:
         one, other = self.part(left, items).read(), self.operand(right)
-        return self.bind(name, computations.made(*computations.worked(word, one, other)), "new")
+        return self.bind(name, computations.worked(word, one, other), "new")
 
     def unary(self, name: str, word: str, source: str, items: Optional[str]) -> str:
-        return self.bind(name, computations.made(*computations.transformed(word, self.part(source, items).read())), "new")
+        return self.bind(name, computations.transformed(word, self.part(source, items).read()), "new")
 
     def reduction(self, name: str, word: str, source: str, axis: Optional[str], keep: Optional[str]) -> str:
         found = computations.reduced(word, self.array(source), None if axis is None else int(axis), keep is not None)
-        return self.bind(name, computations.made(*found), "new")
+        return self.bind(name, found, "new")
 
     def set_literal(self, name: str, items: str, value: str) -> str:
         target = self.target(name, items)
@@ -265,10 +265,9 @@ class Reference:
 
     def update(self, name: str, items: str, word: str, right: str) -> str:
         target = self.target(name, items)
-        dtype, shape = target.array.dtype, target.read().shape
         values = computations.updated(word, target.read(), self.operand(right))
-        target.write(computations.made(dtype, shape, [computations.wrapped(value, dtype) for value in values]))
-        return f"ok upd {math.prod(shape)}"
+        target.write(values)
+        return f"ok upd {values.size}"
 
     def save(self, name: str, file: str) -> str:
         array = self.array(name)
