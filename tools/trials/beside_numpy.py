@@ -12,7 +12,7 @@ import time
 from argparse import Namespace
 from pathlib import Path
 from random import Random
-from typing import Optional
+from typing import NamedTuple, Optional
 
 import numpy as np
 
@@ -32,7 +32,22 @@ def first_files(rng: Random) -> dict[str, bytes]:
     return {name: npy_rule.cut(rng, file) if rng.random() < 0.1 else file for name, file in made.items()}
 
 
-def script(seed: str, profile: Optional[str], size: Optional[int] = None) -> tuple[Reference, list[str], dict[str, bytes]]:
+class Script(NamedTuple):
+    """A script, carried out by NumPy, and the files that are there first."""
+
+    reference: Reference
+    lines: list[str]
+    files: dict[str, bytes]
+
+    def shorter(self, lines: list[str]) -> Script:
+        """Other lines, carried out anew."""
+        reference = Reference(self.reference.depth, self.files)
+        for line in lines:
+            reference.ask(line)
+        return Script(reference, lines, self.files)
+
+
+def script(seed: str, profile: Optional[str], size: Optional[int] = None) -> Script:
     """A random script, carried out by NumPy: that, its lines, and the files that were there first. Of five, one is of computations alone
     and one of format texts."""
     rng = Random(seed)
@@ -40,11 +55,12 @@ def script(seed: str, profile: Optional[str], size: Optional[int] = None) -> tup
     files = first_files(rng) if chosen == "mixed" else {}
     reference = Reference(rng.choice(DEPTHS), files)
     lines = scripts.write(rng, reference.ask, scripts.PROFILES[chosen], size or rng.randint(5, 40), list(files))
-    return reference, lines, files
+    return Script(reference, lines, files)
 
 
-def difference(runner: Runner, reference: Reference, lines: list[str], files: dict[str, bytes]) -> Optional[tuple[object, object]]:
+def difference(runner: Runner, script: Script) -> Optional[tuple[object, object]]:
     """What the program does and what NumPy does, where they differ first."""
+    reference, lines, files = script
     done, left = runner.over(files, "".join(f"{line}\n" for line in lines).encode(), ["--undo", str(reference.depth)])
     replies, wanted = done.out.decode("latin-1"), "".join(f"{reply}\n" for reply in reference.replies)
     pairs = itertools.zip_longest(replies.split("\n"), wanted.split("\n"), fillvalue="nothing")
@@ -56,24 +72,16 @@ def difference(runner: Runner, reference: Reference, lines: list[str], files: di
     return None if left == reference.files else ("other files are left", "those that NumPy would leave")
 
 
-def again(runner: Runner, lines: list[str], depth: int, files: dict[str, bytes]) -> Optional[tuple[object, object]]:
-    """The difference that these lines show."""
-    reference = Reference(depth, files)
-    for line in lines:
-        reference.ask(line)
-    return difference(runner, reference, lines, files)
-
-
-def fewest(runner: Runner, lines: list[str], depth: int, files: dict[str, bytes]) -> list[str]:
-    """The lines without all that can be left out while a difference stays."""
-    size = len(lines)
+def fewest(runner: Runner, script: Script) -> Script:
+    """The script without all lines that can be left out while a difference stays."""
+    size = len(script.lines)
     while size:
-        for at in range(len(lines) - size, -1, -size):
-            fewer = lines[:at] + lines[at + size:]
-            if again(runner, fewer, depth, files):
-                lines = fewer
-        size = min(size // 2, len(lines))
-    return lines
+        for at in range(len(script.lines) - size, -1, -size):
+            fewer = script.shorter(script.lines[:at] + script.lines[at + size:])
+            if difference(runner, fewer):
+                script = fewer
+        size = min(size // 2, len(script.lines))
+    return script
 
 
 def trial(task: tuple[Path, int, Optional[str], int]) -> Part:
@@ -82,12 +90,12 @@ def trial(task: tuple[Path, int, Optional[str], int]) -> Part:
     part = Part()
     with Runner(program) as runner:
         for number in range(first, first + BATCH):
-            reference, lines, files = script(f"{seed} {number}", profile)
-            if difference(runner, reference, lines, files):
-                lines = fewest(runner, lines, reference.depth, files)
-                happened, should = again(runner, lines, reference.depth, files) or ("no difference when run again", "")
-                part.fault(f"script {number} of seed {seed}, --undo {reference.depth}:\n" + "\n".join(lines), happened, should)
-            part.counts.update(reference.counts)
+            tried = script(f"{seed} {number}", profile)
+            if difference(runner, tried):
+                few = fewest(runner, tried)
+                happened, should = difference(runner, few) or ("no difference when run again", "")
+                part.fault(f"script {number} of seed {seed}, --undo {few.reference.depth}:\n" + "\n".join(few.lines), happened, should)
+            part.counts.update(tried.reference.counts)
             part.count("scripts")
     return part
 

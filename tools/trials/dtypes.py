@@ -13,6 +13,8 @@ from typing import Any, Sequence
 import numpy as np
 from numpy.core._internal import _dtype_from_pep3118  # type: ignore[attr-defined]
 
+from bench_tool import scripts
+
 from .rules import LETTERS, Refused
 
 Array = np.ndarray[Any, Any]
@@ -98,12 +100,9 @@ def full(shape: Sequence[int], value: str, dtype: Dtype) -> Array:
     return np.full(shape, np.array(item(literal(value), dtype), dtype), dtype)
 
 
-def can_cast(source: Dtype, target: Dtype, in_record: bool = False) -> bool:
-    """Whether there is a cast of one type to another, or of one field to another."""
-    if source.names is None:
-        return not (in_record and target.names) and all((source.kind == "S") == (leaf.kind == "S") for leaf in leaves(target))
-    pairs = zip(fields(source), fields(target)) if target.names else ()
-    return len(source.names) == len(target.names or ()) and all(can_cast(m, n, True) for (_, m, _), (_, n, _) in pairs)
+def can_cast(source: Dtype, target: Dtype) -> bool:
+    """Whether there is a cast of one type to another."""
+    return scripts.can_cast(type_text(source), type_text(target))
 
 
 def fill(target: Array, source: Array) -> None:

@@ -18,8 +18,9 @@ from .timed import unfolded
 Named = Union[str, "os.PathLike[str]"]
 NAME = re.compile(rb"\s*([A-Za-z_]\w*)\s*=")
 LONGEST_LINE = 65536
-# A line that takes no memory.
+# A line that takes no memory, and its reply behind that to another line, which is a line or more.
 MARK, MARKED = b"\x7f", b"no E02 byte not allowed\n"
+SILENCE, REPLY = re.compile(b"()" + MARKED), re.compile(b"(.*\n(?:(?!%b).*\n)*)%b" % (MARKED, MARKED))
 
 
 @dataclasses.dataclass
@@ -70,18 +71,16 @@ def marked(lines: Iterable[bytes]) -> bytes:
     return text_of([text for line in lines for text in (line, MARK)])
 
 
-def replies_of(out: bytes, lines: Sequence[bytes]) -> Optional[list[bytes]]:
+def replies_of(out: bytes, lines: Iterable[bytes]) -> Optional[list[bytes]]:
     """The replies to marked lines, one for each, or none where they are not told apart."""
     found: list[bytes] = []
     at = 0
     for line in lines:
-        end = at if is_silent(line) else out.find(b"\n", at) + 1
-        while end and not out.startswith(MARKED, end):
-            end = out.find(b"\n", end) + 1
-        if not end and not (at == end and is_silent(line)):
+        told = (SILENCE if is_silent(line) else REPLY).match(out, at)
+        if not told:
             return None
-        found.append(out[at:end])
-        at = end + len(MARKED)
+        found.append(told[1])
+        at = told.end()
     return found if at == len(out) else None
 
 

@@ -11,7 +11,7 @@ from numpy.lib import format as untyped
 from bench_tool import scripts
 
 from . import dtypes
-from .dtypes import Array, Dtype
+from .dtypes import Array
 
 npy: Any = untyped
 LONGEST_SHORT_TEXT = 65525
@@ -44,20 +44,10 @@ def is_loaded_as(file: bytes, array: Array) -> bool:
     return (found.dtype, found.shape, is_fortran(found), found.tolist()) == (array.dtype, array.shape, is_fortran(array), array.tolist())
 
 
-def value_bytes(dtype: Dtype, start: int = 0) -> set[int]:
-    """Which bytes of an item hold values."""
-    if dtype.names is None:
-        return set(range(start, start + dtype.itemsize))
-    return {byte for _, inner, at in dtypes.fields(dtype) for byte in value_bytes(inner, start + at)}
-
-
 def with_marked_padding(array: Array, order: Any) -> Array:
     """The items of an array in an order, with other bytes than zero for padding."""
-    items: Array = np.zeros(array.shape, array.dtype, order)
+    items: Array = np.ndarray(array.shape, array.dtype, bytearray(b"\xee" * array.nbytes), order=order)
     dtypes.fill(items, array)
-    padding = [byte for byte in range(array.dtype.itemsize) if byte not in value_bytes(array.dtype)]
-    flat = items.reshape(-1, order=order)
-    flat.view("u1").reshape(array.size, array.dtype.itemsize)[:, padding] = 0xEE
     return items
 
 

@@ -9,11 +9,12 @@ from argparse import Namespace
 from dataclasses import replace
 from pathlib import Path
 from random import Random
-from typing import Iterator, NamedTuple
+from typing import Iterator
 
 from bench_tool.scripts import PROFILES, Profile, write
 
 from . import beside_numpy, npy_files, npy_rule
+from .beside_numpy import Script
 from .reference import Reference
 from .runs import Part, Runner
 
@@ -30,14 +31,6 @@ WEIGHTS: dict[str, dict[str, int]] = {
     "npy headers": {},
 }
 BASES = {"index arrays": "indexes", "masks": "masks"}
-
-
-class Script(NamedTuple):
-    """A script, carried out by NumPy, and the files that are there first."""
-
-    reference: Reference
-    lines: list[str]
-    files: dict[str, bytes]
 
 
 def profile(family: str) -> Profile:
@@ -91,7 +84,7 @@ def all_trials(given: Namespace, _folder: Path) -> Part:
         for family in WEIGHTS:
             text = ""
             for number, script in enumerate(scripts(family, given.each), 1):
-                if found := beside_numpy.difference(runner, *script):
+                if found := beside_numpy.difference(runner, script):
                     part.fault(f"{family} {number}:\n{written(number, script)}", *found)
                 text += written(number, script)
             (given.to / f"{family.replace(' ', '_')}.txt").write_text(text)
