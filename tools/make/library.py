@@ -20,8 +20,8 @@ SHARED = ["-shared", "--soname=libbench.so.1", "--gc-sections", "--strip-all", "
 
 
 def linked(archive):
-    """The bytes of the library's files, linked from an archive of bench_c by the toolchain's LLVM: libbench.so.1, and libbench.a with all of
-    it as one object, so that no other name can clash with one of the program's."""
+    """The bytes of the library's files, linked from an archive of bench_c: libbench.so.1, and libbench.a with all of it as one object, so
+    that no other name can clash with one of the program's."""
     kit, header = sources.kit_folder(), (sources.LIBRARY / "bench.h").read_text()
     calls = re.findall(r"^int (bench_\w+)\(", header, re.M)
     below = [kit / "c/liblibc_c.a", kit / "toolchain/lib/libgcc.a"]

@@ -50,7 +50,7 @@ def words(below):
 
 
 def build(out, here):
-    """Has rattle check and compile bench_c, by the toolchain `here`: OUT/libbench_c.a and OUT/module.bc. It uses what earlier checks kept."""
+    """Has rattle check and compile bench_c, by the toolchain `here`, with what earlier checks kept: OUT/libbench_c.a and OUT/module.bc."""
     kit, below = sources.kit_folder(), [name for name in sources.made_of(CRATE) if name != CRATE]
     stale = [name for name in below if not is_built(name, here)]
     if stale:

@@ -70,7 +70,7 @@ def worked(word: str, left: Array, right: Operand) -> Array:
     """What a word gives on an array and an array or a literal."""
     dtype = type_beside(word, left, right)
     other = right if isinstance(right, np.ndarray) else np.array(right, object)
-    operands = object if word in COMPARISONS else dtype
+    operands: Any = object if word in COMPARISONS else dtype
     with refusing("E16"):
         one, other = np.broadcast_arrays(left.astype(operands), other.astype(operands))
     with np.errstate(all="ignore"):

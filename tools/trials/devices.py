@@ -35,8 +35,8 @@ class Trials:
     """The trials of one program, with a folder for their files."""
 
     def __init__(self, program: Path, folder: Path) -> None:
-        self.part, self.folder, self.program, self.dir, self.script = Part(), folder, folder / "bench", folder / "files", folder / "plain.bench"
-        shutil.copy(program, self.program)
+        self.part, self.folder, self.dir, self.script = Part(), folder, folder / "files", folder / "plain.bench"
+        self.program = Path(shutil.copy(program, folder / "bench"))
         self.program.chmod(0o755)
         self.launcher = with_launcher(program, folder)
         self.dir.mkdir()
@@ -44,16 +44,18 @@ class Trials:
 
     def run(self, text: str, words: Sequence[Word] = (), before: Sequence[Word] = (), program: Optional[Path] = None, **more: Any) -> Ended:
         """What a run of the program or of the launcher comes to over a script, perhaps by another command."""
-        streams: dict[str, Any] = {"stdout": subprocess.PIPE, "stderr": subprocess.PIPE, **({} if "stdin" in more else {"input": text.encode()}), **more}
-        ended = subprocess.run([*map(str, before), str(program or self.program), *words], cwd=self.folder, timeout=PATIENT, **streams)
-        return ended.returncode, (ended.stdout or b"").decode(), (ended.stderr or b"").decode()
+        given: dict[str, Any] = {} if "stdin" in more else {"input": text}
+        streams = {"stdout": subprocess.PIPE, "stderr": subprocess.PIPE, **given, **more}
+        called = [*map(str, before), str(program or self.program), *words]
+        ended = subprocess.run(called, cwd=self.folder, timeout=PATIENT, text=True, **streams)
+        return ended.returncode, ended.stdout or "", ended.stderr or ""
 
     def ends(self, where: str, should: Ended, text: str, words: Sequence[Word] = (), before: Sequence[Word] = (), **more: Any) -> None:
         """A run that should come to this."""
         self.part.expect(where, self.run(text, words, before, **more), should)
 
     def outputs(self) -> None:
-        """Standard output that takes nothing, or not all; or a pipe whose reader goes after one reply, with the signal of that on or off."""
+        """Standard output that takes nothing, or not all; a pipe whose reader goes after one reply, with the signal of that on or off."""
         with open("/dev/full", "wb") as full:
             self.ends("/dev/full as standard output", WRITE, SCRIPT, ["--dir", self.dir], stdout=full)
             self.ends("/dev/full and nothing to say", (0, "", ""), "# nothing\n", stdout=full)

@@ -23,7 +23,7 @@ Word = Union[str, bytes, Path]
 Files = dict[str, Union[bytes, int]]
 
 IN_MEMORY = "/dev/shm" if os.access("/dev/shm", os.W_OK) else None
-MOST_SECONDS = 60
+MOST_SECONDS = 60  # of processor time for a run
 MOST_WAIT = 300
 
 
@@ -90,7 +90,7 @@ def temporary_folder() -> tempfile.TemporaryDirectory[str]:
 
 
 def compiled(source: str, made: Path, *words: str) -> Path:
-    """A library of a C file of this folder, which stands before the C library in a run with `LD_PRELOAD`; or what else the words ask for."""
+    """What C code of this folder gives: a library to stand before the C library in a run, by `LD_PRELOAD`, if no words ask for more."""
     kind = words or ("-shared", "-fPIC")
     subprocess.run(["cc", "-O2", *kind, "-o", made, TOP / "tools/trials" / source], check=True)
     return made
@@ -144,14 +144,14 @@ class Runner(contextlib.ExitStack):
         self.dir.mkdir()
 
     def run(self, text: bytes, words: Sequence[Word] = (), env: Optional[Mapping[str, str]] = None,
-            limits: Sequence[tuple[str, int]] = (), seconds: int = MOST_SECONDS) -> Ran:
-        """What a run over a script comes to. It may take so many seconds of processor time, and keeps within limits from its start."""
+            limits: Sequence[tuple[str, int]] = ()) -> Ran:
+        """What a run over a script comes to, which keeps within limits from its start."""
         into, out, err = (self.folder / name for name in ("in", "out", "err"))
         into.write_bytes(text)
         called: list[Word] = [*limited(limits), self.program, *words]
         with open(into, "rb") as stdin, open(out, "wb") as stdout, open(err, "wb") as stderr:
             started = subprocess.Popen(called, stdin=stdin, stdout=stdout, stderr=stderr, env=env, close_fds=False)
-            resource.prlimit(started.pid, resource.RLIMIT_CPU, (seconds, seconds))
+            resource.prlimit(started.pid, resource.RLIMIT_CPU, (MOST_SECONDS, MOST_SECONDS))
             status = started.wait()
         return Ran(status, out.read_bytes(), err.read_bytes())
 
