@@ -82,14 +82,6 @@ class Saving(InFolder):
         self.assertEqual(replies(self.folder, 'y = load "pipe.npy"\n'), FAULT)
         self.assertEqual(sorted(os.listdir(self.folder)), sorted(["folder.npy", "pipe.npy", *links]))
 
-    def test_what_was_left_goes_with_the_next_save_of_its_name(self):
-        other = self.folder / ".b.npy.part"
-        for path in (self.folder / ".a.npy.part", other):
-            path.write_bytes(b"left")
-        self.save(1)
-        self.assertEqual(sorted(os.listdir(self.folder)), [".b.npy.part", "a.npy"])
-        self.assertEqual(other.read_bytes(), b"left")
-
 
 @needs_program
 class Devices(InFolder):

@@ -44,10 +44,15 @@ class Piped(unittest.TestCase):
         self.assertEqual([reply.text for reply in bench.run("a = zeros <i4 (2)\n\nb = a[2]\n#\nundo\r\nundo")],
                          ["ok a <i4 (2,) new", "", "no E11 index out of range", "", "ok undo", "no E26 nothing to undo"])
         self.assertEqual(bench.send("names").text, "names")
-        parts = []
-        bench.send("a = zeros |u1 (9,9)")
-        self.assertLessEqual(len(bench.send("print a", parts.append).text), 256)
-        self.assertEqual(b"".join(parts).decode(), bench.ask("print a") + "\n")
+
+    def test_parts(self):
+        """A long reply comes in parts, and of its text there is the beginning."""
+        bench, parts = self.session(), []
+        bench.send("a = zeros |u1 (50000)")
+        text = bench.send("print a", parts.append).text
+        self.assertTrue(text.startswith("[0 0") and len(text) <= 256)
+        self.assertEqual(b"".join(parts), b"[" + b" ".join([b"0"] * 50000) + b"]\n")
+        self.assertEqual(bench.ask("print a").encode() + b"\n", b"".join(parts))
 
     def test_refused(self):
         with self.assertRaises(Refused) as caught:
@@ -62,8 +67,8 @@ class Piped(unittest.TestCase):
                                                                                      "no E02 byte not allowed", "no E06 unknown name"])
         self.assertEqual(replies[7:], ["info a <i4 (9,) strides (4,) at 0 order CF write yes"] * 3000)
         self.assertEqual(bench.batch([]), [])
-        with self.assertRaises(ValueError):
-            bench.batch(["names\nnames"])
+        for call in (lambda: bench.batch(["names\nnames"]), lambda: bench.send("names\nnames")):
+            self.assertRaises(ValueError, call)
 
     def test_names(self):
         bench = self.session()

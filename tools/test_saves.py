@@ -144,12 +144,13 @@ class Leftovers(Folder):
     def mode(self, name):
         return stat.S_IMODE(os.lstat(self.dir / name).st_mode)
 
-    def test_the_next_save_removes_it(self):
+    def test_the_next_save_of_its_name_removes_it(self):
+        other = self.put(".b.npy.part", b"left of another", 0o600)
         for mode in self.MODES:
             self.put(NAME, b"old", mode)
             self.put(HIDDEN, b"left", mode)
             self.assertEqual(self.replies(SAVE + 'save a "a.npy"\n', **self.who)[1:], [SAVED, SAVED], oct(mode))
-            self.assertEqual((self.names(), self.mode(NAME)), ([NAME], mode))
+            self.assertEqual((self.names(), self.mode(NAME), other.read_bytes()), ([other.name, NAME], mode, b"left of another"))
             (self.dir / NAME).unlink()
 
     def test_one_that_a_program_still_writes_stays(self):

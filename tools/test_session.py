@@ -51,13 +51,6 @@ class Sessions(unittest.TestCase):
         self.assertEqual(items_of("[[ True False]\n [False  True]]"), (True, False, False, True))
         self.assertEqual(items_of("(1, (2,), b'a\\x00(')"), ((1, (2,), b"a\0("),))
 
-    def test_parts(self):
-        bench, parts = self.session(), []
-        bench.send("a = zeros |u1 (50000)")
-        reply = bench.send("print a", parts.append)
-        self.assertEqual(b"".join(parts), b"[" + b" ".join([b"0"] * 50000) + b"]\n")
-        self.assertTrue(reply.text.startswith("[0 0") and len(reply.text) <= 256)
-
     def test_words(self):
         with tempfile.TemporaryDirectory() as folder:
             bench = self.session(undo=1, dir=folder)
@@ -70,10 +63,6 @@ class Sessions(unittest.TestCase):
             self.session().array("nowhere")
         self.assertEqual(caught.exception.reply.code, "E06")
 
-    def test_one_line_at_a_time(self):
-        with self.assertRaises(ValueError):
-            self.session().send("names\nnames")
-
     def test_program_missing(self):
         with self.assertRaises(ProgramMissing):
             Session("/nowhere/bench")
@@ -84,12 +73,6 @@ class Sessions(unittest.TestCase):
         self.assertEqual(caught.exception.status, 0)
         bench = self.session()
         bench._process.kill()
-        with self.assertRaises(ProgramEnded):
-            bench.send("names")
-
-    def test_closed(self):
-        bench = self.session()
-        self.assertEqual(bench.close(), bench.close())
         with self.assertRaises(ProgramEnded):
             bench.send("names")
 
