@@ -11,7 +11,7 @@ use Rattle.name_store.specs.Words.{insert_entry, shift_remove_entry}
 use Rattle.std.specs.Map.{lookup, keys_of}
 use Rattle.name_store.specs.States.{Array}
 use Rattle.name_store.specs.Arrays.{find_array, put_array, without, is_in_use}
-use Rattle.name_store.specs.View.{array_at, named_array, key_bytes}
+use Rattle.name_store.specs.View.{array_at, named_array}
 use Rattle.name_store.specs.declared.entry.Entry.{Entry}
 use Rattle.name_store.specs.declared.entry.Key.{Key}
 
@@ -125,11 +125,6 @@ used-put (e ∷ names) name array =
       | true ↦ ap (λ t. t || is_in_use names array.buffer) (nat_itself array.buffer)
       | false ↦ in_tail (nat_eq e.1.buffer array.buffer) (is_in_use (put_array names name array) array.buffer) (used-put names name array)
     ]
-
--- the names are the texts of the keys
-pub texts-names : (es : List (Key × Entry)) → map key_bytes (keys_of es) ≡ map (λ entry. entry.0) (map named_array es)
-texts-names [] = refl
-texts-names (e ∷ es) = ap (λ texts. key_bytes e.0 ∷ texts) (texts-names es)
 
 -- the buffer of an array that is found is in use
 pub found-used : (names : List (List ℕ × Array)) (name : List ℕ) (array : Array) → find_array names name ≡ Some array → is_in_use names array.buffer ≡ true

@@ -1,5 +1,5 @@
 //! The bench.
-ghost use Rattle.std.specs.Prelude.{◌≡◌, ◌≤◌, ◌<◌, length, map, [], Some, slice_get, IfOk, IsOk};
+ghost use Rattle.std.specs.Prelude.{◌≡◌, ◌≤◌, ◌<◌, length, [], Some, slice_get, IfOk, IsOk};
 ghost use Rattle.std.specs.Option.{option_map};
 
 use crate::array_ref::ArrayRef;
@@ -8,7 +8,6 @@ use crate::change::Change;
 use crate::entry::Key;
 use crate::history::History;
 use crate::keep::{keep, make_room};
-use crate::names::Names;
 use crate::table::Table;
 use crate::target::{Source, Target};
 use crate::write::{write_items, write_over};
@@ -190,15 +189,6 @@ impl Bench {
         ensures few { result ≤ 1024 }
     {
         self.table.names.len()
-    }
-
-    /// The names, in the order in which they were first bound. No memory is taken.
-    pub fn names(&self) -> Names<'_>
-        ensures { result ≡ map (λ entry. entry.0) self.now.state.names }
-    {
-        Names {
-            keys: self.table.names.keys(),
-        }
     }
 
     /// The name that was bound as the k-th, counted from 0.

@@ -44,17 +44,8 @@ impl Change {
         ensures { result ≡ patch_size self.now }
     {
         match self {
-            Change::Bind { key: _, earlier: _ } => 0,
-            Change::Unbind {
-                place: _,
-                key: _,
-                entry: _,
-            } => 0,
-            Change::Write {
-                number: _,
-                target: _,
-                items,
-            } => items.block.len(),
+            Change::Write { items, .. } => items.block.len(),
+            _ => 0,
         }
     }
 
@@ -64,23 +55,11 @@ impl Change {
     {
         match self {
             Change::Bind {
-                key: _,
-                earlier: None,
-            } => None,
-            Change::Bind {
-                key: _,
                 earlier: Some(entry),
-            } => Some(entry.number),
-            Change::Unbind {
-                place: _,
-                key: _,
-                entry,
-            } => Some(entry.number),
-            Change::Write {
-                number: _,
-                target: _,
-                items: _,
-            } => None,
+                ..
+            }
+            | Change::Unbind { entry, .. } => Some(entry.number),
+            _ => None,
         }
     }
 }

@@ -9,7 +9,6 @@ mod change;
 mod entry;
 mod history;
 mod keep;
-mod names;
 mod path;
 mod rewrite;
 mod slot;
@@ -21,7 +20,6 @@ mod write;
 pub use array_ref::ArrayRef;
 pub use bench::Bench;
 pub use bound::Bound;
-pub use names::Names;
 pub use path::Path;
 pub use target::{Source, Target};
 
