@@ -1,9 +1,15 @@
 //! Names of arrays.
 ghost use Rattle.std.specs.Prelude.{◌≡◌, ◌≤◌, length};
+ghost use Rattle.std.specs.Cmp.{partial_equiv_from_equiv};
+ghost use Rattle.std.specs.Cmp.Lexicographic.{nat_list_eq_equiv};
+ghost use Rattle.std.specs.Cmp.Rules.{hashing};
+ghost use Rattle.std.specs.Hash as fed;
 ghost use Rattle.std.specs.Str.{bytes_eq};
+ghost use Rattle.std.proofs.Common.{rules};
 
 use smallvec::SmallVec;
 use std::alloc::Global;
+use std::hash::{Hash, Hasher};
 use std::marker::Model;
 
 /// The most bytes of the name of an array.
@@ -23,6 +29,30 @@ impl Model for Name {
     ghost view = { λ n. n.bytes.items };
 
     ghost invariant = { λ n. length n.bytes.items ≤ 32 };
+}
+
+impl PartialEq for Name {
+    ghost eq = { λ name other. bytes_eq name other };
+
+    ghost laws = { partial_equiv_from_equiv nat_list_eq_equiv };
+
+    fn eq(&self, other: &Name) -> bool {
+        self.as_slice() == other.as_slice()
+    }
+}
+
+impl Eq for Name {
+    ghost laws = { nat_list_eq_equiv };
+}
+
+impl Hash for Name {
+    ghost hash_input = { λ name. fed.slice fed.u8 name };
+
+    ghost respects_eq = { Prim.search (hashing, rules) };
+
+    fn hash<H: Hasher>(&self, state: &mut H) {
+        self.as_slice().hash(state);
+    }
 }
 
 impl Name {
@@ -47,11 +77,5 @@ impl Name {
         ensures short { length result.now ≤ 32 }
     {
         self.bytes.as_slice()
-    }
-
-    pub fn is(&self, other: &Name) -> bool
-        ensures { result ≡ bytes_eq self.now other.now }
-    {
-        self.bytes.as_slice() == other.bytes.as_slice()
     }
 }
