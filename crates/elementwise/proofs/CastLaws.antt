@@ -4,11 +4,10 @@ use Rattle.std.proofs.lemmas.Bool.{and_parts, cases_lt}
 use Rattle.std.proofs.lemmas.List.{length-map, get_or-map, same_lists, take-take, drop-take, drop-drop}
 use Rattle.std.proofs.lemmas.List.Elements.{All-from_get_or}
 use Rattle.std.proofs.lemmas.List.Sums.{AllPass-from_list_all}
-use Rattle.std.proofs.lemmas.List.FromFn.{length-map-range_with_len, get_or-map-range_with_len}
-use Rattle.elementwise.specs.Words.{Leaf, Descr, LeafValue, number, size, decode, encode, Fields, no_more, scalar_field, record_field, item_size, leaves_of, leaves_from, leaf_at, no_leaf, LeavesInOrder, item_from, item_at, multiples, with_items, length-row, row_offsets}
+use Rattle.elementwise.specs.Words.{Leaf, Descr, LeafValue, number, size, decode, encode, Fields, no_more, scalar_field, record_field, item_size, leaves_of, leaves_from, leaf_at, no_leaf, LeavesInOrder, item_from, item_at, with_items, length-row, row_offsets}
 use Rattle.elem_descr.specs.declared.descr.Descr.TheVariants.{Scalar as ScalarDescr, Record as RecordDescr}
 use Rattle.elementwise.specs.Casts.{can_cast, can_cast_scalar, can_cast_fields, cast_value, cast_values, cast_item}
-use Rattle.elementwise.specs.inside.LeafCasts.{leaf_from, source, HasSource, IsLeafCast}
+use Rattle.elementwise.specs.inside.LeafCasts.{leaf_from, source, HasSource, with_leaf, IsLeafCast}
 use Rattle.elementwise.proofs.RowLaws.{row-entry, AreBeside, landed, kept, row-in, rows-in, rows-lie, rows-beside}
 use Rattle.elementwise.proofs.LeafLaws.{length-leaf_cast, cast_read_back}
 
@@ -127,7 +126,7 @@ leaf-encoded from to other offsets bytes j k low can here cast within =
     ∙ ap (encode leaf.scalar) (sym (cast_item-at from to other o k (number (pos 0)) can here))
 
 -- one item
-one_item : (from to : Descr) (other offsets bytes : List ℕ) (j : ℕ) → can_cast from to ≡ true → j < length offsets → ((k : ℕ) → k < length (leaves_of to) → IsLeafCast from to other offsets bytes k) →
+pub one_item : (from to : Descr) (other offsets bytes : List ℕ) (j : ℕ) → can_cast from to ≡ true → j < length offsets → ((k : ℕ) → k < length (leaves_of to) → IsLeafCast from to other offsets bytes k) →
     ((k : ℕ) → k < length (leaves_of to) → (leaf_at to k).at + size (leaf_at to k).scalar ≤ item_size to) → ((k : ℕ) → k < length (leaves_of to) → (source from k).at + size (source from k).scalar ≤ item_size from) →
     item_from to bytes (item_size to * j) ≡ cast_item from to (item_from from other (get_or offsets j 0))
 one_item from to other offsets bytes j can low cast within within' =
@@ -144,25 +143,6 @@ one_item from to other offsets bytes j can low cast within within' =
     ∙ ap (λ b. cast_value leaf.scalar (decode (source from k).scalar b)) (sym (part o (source from k).at (size (source from k).scalar) (item_size from) other (within' k here)))
     ∙ sym (cast_item-at from to other o k d can here))
 
--- all of them
-pub all_items : (from to : Descr) (other offsets bytes : List ℕ) (n : ℕ) → n ≡ length offsets → can_cast from to ≡ true → ((k : ℕ) → k < length (leaves_of to) → IsLeafCast from to other offsets bytes k) →
-    ((k : ℕ) → k < length (leaves_of to) → (leaf_at to k).at + size (leaf_at to k).scalar ≤ item_size to) → ((k : ℕ) → k < length (leaves_of to) → (source from k).at + size (source from k).scalar ≤ item_size from) →
-    map (item_from to bytes) (multiples (item_size to) n) ≡ map (λ offset. cast_item from to (item_from from other offset)) offsets
-all_items from to other offsets bytes n many can cast within within' =
-    let place = λ (k : ℕ). item_size to * k in
-    let make = λ (o : ℕ). cast_item from to (item_from from other o) in
-    let rows = multiples (item_size to) n in
-    let counted : length rows ≡ n = length-map-range_with_len place 0 n in
-    let long = length-map rows (item_from to bytes) in
-    let long' = length-map offsets make in
-    same_lists (map (item_from to bytes) rows) (map make offsets) (omega (arith, long, long', counted, many)) (λ j d inside.
-    let low : j < n = omega (arith, inside, long, counted) in
-    let near : j < length offsets = omega (arith, low, many) in
-    get_or-map (item_from to bytes) rows j 0 d (omega (arith, low, counted))
-    ∙ ap (item_from to bytes) (get_or-map-range_with_len place 0 n j j 0 low (omega arith))
-    ∙ one_item from to other offsets bytes j can near cast within within'
-    ∙ sym (get_or-map make offsets j 0 d near))
-
 -- ---- leaf after leaf
 
 -- the bytes of each are as many
@@ -175,7 +155,7 @@ each-wide from to other offsets k =
 
 -- a leaf is cast
 pub leaf-done : (from to : Descr) (other offsets bytes bytes' : List ℕ) (k : ℕ) → length offsets * item_size to ≤ length bytes → (leaf_at to k).at + size (leaf_at to k).scalar ≤ item_size to →
-    bytes' ≡ with_items (row_offsets (leaf_at to k).at (item_size to) (length offsets)) (map (leaf_from (source from k) (leaf_at to k).scalar other) offsets) bytes → IsLeafCast from to other offsets bytes' k
+    bytes' ≡ with_leaf from to other offsets k bytes → IsLeafCast from to other offsets bytes' k
 leaf-done from to other offsets bytes bytes' k room fits wrote =
     let leaf = leaf_at to k in
     let n = length offsets in
@@ -198,7 +178,7 @@ row-kept to n at width k items bytes room fits fits' beside wide j low =
 
 -- so do those that were cast
 leaf-kept : (from to : Descr) (other offsets bytes bytes' : List ℕ) (i k : ℕ) → length offsets * item_size to ≤ length bytes → (leaf_at to i).at + size (leaf_at to i).scalar ≤ (leaf_at to k).at → (leaf_at to k).at + size (leaf_at to k).scalar ≤ item_size to →
-    bytes' ≡ with_items (row_offsets (leaf_at to k).at (item_size to) (length offsets)) (map (leaf_from (source from k) (leaf_at to k).scalar other) offsets) bytes → IsLeafCast from to other offsets bytes i → IsLeafCast from to other offsets bytes' i
+    bytes' ≡ with_leaf from to other offsets k bytes → IsLeafCast from to other offsets bytes i → IsLeafCast from to other offsets bytes' i
 leaf-kept from to other offsets bytes bytes' i k room before fits wrote is =
     let leaf = leaf_at to i in
     let n = length offsets in
@@ -217,7 +197,7 @@ leaf-kept from to other offsets bytes bytes' i k room before fits wrote is =
     record { written = ap (λ all. map (read all) rows) wrote ∙ same ∙ is.written }
 
 pub turn-done : (from to : Descr) (other offsets bytes bytes' : List ℕ) (k : ℕ) → k < length (leaves_of to) → length offsets * item_size to ≤ length bytes → LeavesInOrder to →
-    bytes' ≡ with_items (row_offsets (leaf_at to k).at (item_size to) (length offsets)) (map (leaf_from (source from k) (leaf_at to k).scalar other) offsets) bytes → ((i : ℕ) → i < k → IsLeafCast from to other offsets bytes i) → (i : ℕ) → i < k + 1 → IsLeafCast from to other offsets bytes' i
+    bytes' ≡ with_leaf from to other offsets k bytes → ((i : ℕ) → i < k → IsLeafCast from to other offsets bytes i) → (i : ℕ) → i < k + 1 → IsLeafCast from to other offsets bytes' i
 turn-done from to other offsets bytes bytes' k low room apart wrote done i below = elim (cases_lt i k) [
   | inl before ↦ leaf-kept from to other offsets bytes bytes' i k room (apart.apart i k before low) (apart.within k low) wrote (done i before)
   | inr from_k ↦ subst (IsLeafCast from to other offsets bytes') (let is : k ≡ i = omega (arith, from_k, below) in is) (leaf-done from to other offsets bytes bytes' k room (apart.within k low) wrote)

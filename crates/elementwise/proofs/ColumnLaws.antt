@@ -1,18 +1,16 @@
--- One leaf of all items, read from where it begins, cast, and put where it lies.
-use Rattle.std.proofs.Common.{◌≡◌, ◌+◌, ◌*◌, ◌-◌, min, ℕ, ℤ, pos, inl, inr, List, [], ◌∷◌, ◌++◌, map, length, drop, take, refl, sym, ap, ◌∙◌, arith}
-use Rattle.std.specs.List.{concat, flat_map}
+-- One leaf of the items of a run, read from where it begins, cast, and put where it lies.
+use Rattle.std.proofs.Common.{◌≡◌, ◌+◌, ◌*◌, ◌-◌, ◌<◌, ◌≤◌, min, ℕ, ℤ, zero, suc, pos, inl, inr, List, [], ◌∷◌, ◌++◌, map, length, drop, take, refl, sym, ap, subst, ◌∙◌, arith, ◌+ℤ◌, ◌*ℤ◌}
 use Rattle.std.proofs.lemmas.Bool.{cases_lt}
-use Rattle.std.proofs.lemmas.List.{length-map, length-drop, take_all, drop-drop, drop_all}
-use Rattle.elem_descr.specs.declared.descr.Descr.TheVariants.{Scalar as ScalarDescr}
-use Rattle.elementwise.specs.Words.{Scalar, Leaf, size, decode, item_at, encode_item, item_from, one-encoded, items_at, with_items, assigned, run_offsets, row_offsets}
-use Rattle.elementwise.specs.Casts.{cast_value, cast_item}
-use Rattle.elementwise.specs.inside.LeafCasts.{leaf_cast, leaf_from}
-use Rattle.elementwise.proofs.AppendedLaws.{rows-read}
-use Rattle.elementwise.proofs.LeafLaws.{length-leaf_cast}
-use Rattle.elementwise.proofs.PairedLaws.{scalar-item}
-use Rattle.elementwise.proofs.TurnedLaws.{AreWide, length-concat}
-
--- ---- a leaf in a block of its own
+use Rattle.std.proofs.lemmas.Int.{ints}
+use Rattle.std.proofs.Math.IntN.{*ℤ_comm}
+use Rattle.std.proofs.lemmas.Simd.{map-map}
+use lib.Signed.{◌≤ℤ◌}
+use Rattle.std.proofs.lemmas.List.{length-map, map-append, length-drop, take_all, drop-drop, drop_all}
+use Rattle.elementwise.specs.Words.{Descr, Leaf, size, item_size, item_from, decode_item, items_at, put, item_at, position, place, EachWithin, not_negative, position-add, numbers_from, numbers-split, natural, Side, with_items, Run, run_offsets, row_offsets, length-row, length-run_offsets, run_offsets-more}
+use Rattle.elementwise.specs.inside.Columns.{with_leaves}
+use Rattle.elementwise.specs.inside.LeafCasts.{leaf_cast, leaf_from, run_part, cast_items}
+use Rattle.elementwise.specs.Casts.{cast_item}
+use Rattle.elementwise.proofs.RowLaws.{row-within}
 
 -- bytes from a place on, or none where there are fewer
 pub dropped : (n : ℕ) (bytes : List ℕ) (m : ℕ) → m ≡ min n (length bytes) → take (length bytes - m) (drop m bytes) ≡ drop n bytes
@@ -23,41 +21,78 @@ dropped n bytes m is =
       | inr high ↦ drop_all m bytes (omega (arith, is, high)) ∙ sym (drop_all n bytes high)
     ]
 
-pub cast-column : (leaf : Leaf) (to : Scalar) (block os : List ℕ) →
-    flat_map (encode_item (ScalarDescr to)) (map (λ offset. cast_item (ScalarDescr leaf.scalar) (ScalarDescr to) (item_from (ScalarDescr leaf.scalar) (drop leaf.at block) offset)) os) ≡ concat (map (leaf_from leaf to block) os)
-cast-column leaf to block [] = refl
-cast-column leaf to block (o ∷ os) =
-    let s = leaf.scalar in
-    let there : drop o (drop leaf.at block) ≡ drop (o + leaf.at) block = drop-drop o leaf.at block ∙ ap (λ n. drop n block) (omega arith) in
-    let here : encode_item (ScalarDescr to) (cast_item (ScalarDescr s) (ScalarDescr to) (item_from (ScalarDescr s) (drop leaf.at block) o)) ≡ leaf_from leaf to block o =
-    ap (λ item. encode_item (ScalarDescr to) (cast_item (ScalarDescr s) (ScalarDescr to) item)) (scalar-item s (drop leaf.at block) o)
-    ∙ one-encoded to (cast_value to (decode s (item_at o (size s) (drop leaf.at block))))
-    ∙ ap (λ bytes. leaf_cast s to (take (size s) bytes)) there in
-    λ i. here i ++ cast-column leaf to block os i
+-- leaves lie within them, where the items lie within all bytes
+pub leaves-within : (at width item offset n : ℕ) (step : ℤ) (bytes : List ℕ) → at + width ≤ item → EachWithin (length bytes) offset step item n → EachWithin (length (drop at bytes)) offset step width n
+leaves-within at width item offset n step bytes fits within = record { each = λ k low. let lies = within.each k low in (lies.0, omega (arith, ints, lies.0, lies.1, fits, length-drop at bytes)) }
 
-module _ (leaf : Leaf) (to : Scalar) (block os : List ℕ) where
-  abbrev make : ℕ → List ℕ
-  make = leaf_from leaf to block
+-- one item more
+with_items-more : (ats : List ℕ) (items : List (List ℕ)) (at : ℕ) (item rows : List ℕ) → length ats ≡ length items → with_items (ats ++ at ∷ []) (items ++ item ∷ []) rows ≡ put at item (with_items ats items rows)
+with_items-more [] [] at item rows even = refl
+with_items-more [] (other ∷ items) at item rows even = absurd (omega (arith, even))
+with_items-more (first ∷ ats) [] at item rows even = absurd (omega (arith, even))
+with_items-more (first ∷ ats) (other ∷ items) at item rows even = with_items-more ats items at item (put first other rows) (omega (arith, even))
 
-  each : (os : List ℕ) → AreWide (size to) (map make os)
-  each [] = tt
-  each (o ∷ os) = (length-leaf_cast leaf.scalar to (item_at (o + leaf.at) (size leaf.scalar) block), each os)
+module _ (make : ℕ → List ℕ) (run : Run) (len width at row : ℕ) (within : EachWithin len run.offset run.step width run.count) (rows : List ℕ) where
+  abbrev first : ℕ → Run
+  first n = record { offset = run.offset; count = n; step = run.step }
 
-  pub column-long : length (concat (map make os)) ≡ length os * size to
-  column-long = length-concat (size to) (map make os) (each os) ∙ ap (λ n. n * size to) (length-map os make)
-
-  -- its items are read back
-  pub column-items : items_at (row_offsets 0 (size to) (length os)) (size to) (concat (map make os)) ≡ map make os
-  column-items = (λ i. items_at (row_offsets 0 (size to) (sym (length-map os make) i)) (size to) (concat (map make os))) ∙ rows-read (size to) (map make os) (each os)
+  -- leaves that are put, as items that are
+  leaves-put : (n : ℕ) → n ≤ run.count → with_leaves (λ k. make (place run.offset run.step k)) at row n rows ≡ with_items (row_offsets at row n) (map make (run_offsets (first n))) rows
+  leaves-put zero few = refl
+  leaves-put (suc n) few =
+      let ats = row_offsets at row n in
+      let os = run_offsets (first n) in
+      let o = place run.offset run.step n in
+      let here = run_offsets-more _ at (pos row) 0 n (row-within (at + suc n * row) at row 0 (suc n) (omega arith) (omega arith)) in
+      let there = run_offsets-more len run.offset run.step width n (record { each = λ k low. within.each k (omega (arith, low, few)) }) in
+      ap (put (at + n * row) (make o)) (leaves-put n (omega (arith, few)))
+      ∙ sym (with_items-more ats (map make os) (at + n * row) (make o) rows (length-row at row n ∙ sym (length-map os make ∙ length-run_offsets (first n))))
+      ∙ (λ i. with_items (sym here i) ((sym (map-append make os (o ∷ [])) ∙ ap (map make) (sym there)) i) rows)
 
 -- they are put where the leaf lies, as the code has it
-pub leaf-put : (leaf leaf' first first' : Leaf) (other os column bytes bytes' : List ℕ) (n w item item' : ℕ) (far near : ℤ) → leaf' ≡ leaf → first' ≡ first → n ≡ length os → w ≡ size leaf'.scalar → item' ≡ item → far ≡ pos item' → near ≡ pos w →
-    column ≡ concat (map (leaf_from first' leaf'.scalar other) os) →
-    bytes' ≡ assigned (run_offsets (record { offset = leaf'.at; count = n; step = far })) (run_offsets (record { offset = 0; count = n; step = near })) w column bytes →
-    bytes' ≡ with_items (row_offsets leaf.at item (length os)) (map (leaf_from first leaf.scalar other) os) bytes
-leaf-put leaf leaf' first first' other os column bytes bytes' n w item item' far near same there many wide sized far-is near-is made wrote =
+pub leaf-put : (run : Run) (source source' leaf leaf' : Leaf) (len wide width row item : ℕ) (bytes other rows rows' : List ℕ) → EachWithin len run.offset run.step wide run.count → source' ≡ source → leaf' ≡ leaf → bytes ≡ drop source'.at other → width ≡ size source'.scalar → row ≡ item →
+    rows' ≡ with_leaves (λ k. leaf_cast source'.scalar leaf'.scalar (item_at (place run.offset run.step k) width bytes)) leaf'.at row run.count rows →
+    rows' ≡ with_items (row_offsets leaf.at item (length (run_offsets run))) (map (leaf_from source leaf.scalar other) (run_offsets run)) rows
+leaf-put run source source' leaf leaf' len wide width row item bytes other rows rows' within first same cut sized long wrote =
+    let make = λ (o : ℕ). leaf_cast source'.scalar leaf'.scalar (item_at o width bytes) in
+    let each : (o : ℕ) → item_at o width bytes ≡ item_at (o + source'.at) (size source'.scalar) other = λ o. (λ i. take (sized i) (drop o (cut i))) ∙ ap (take (size source'.scalar)) (drop-drop o source'.at other ∙ ap (λ n. drop n other) (omega arith)) in
     wrote
-    ∙ (λ i. assigned (run_offsets (record { offset = leaf'.at; count = many i; step = far-is i })) (run_offsets (record { offset = 0; count = many i; step = near-is i })) w (made i) bytes)
-    ∙ (λ i. with_items (row_offsets leaf'.at item' (length os)) (items_at (row_offsets 0 (wide i) (length os)) (wide i) (concat (map (leaf_from first' leaf'.scalar other) os))) bytes)
-    ∙ ap (λ items. with_items (row_offsets leaf'.at item' (length os)) items bytes) (column-items first' leaf'.scalar other os)
-    ∙ (λ i. with_items (row_offsets (same i).at (sized i) (length os)) (map (leaf_from (there i) (same i).scalar other) os) bytes)
+    ∙ leaves-put make run len wide leaf'.at row within rows run.count (omega arith)
+    ∙ (λ i. with_items (row_offsets leaf'.at (long i) (sym (length-run_offsets run) i)) (map (λ o. leaf_cast source'.scalar leaf'.scalar (each o i)) (run_offsets run)) rows)
+    ∙ λ i. with_items (row_offsets (same i).at item (length (run_offsets run))) (map (leaf_from (first i) (same i).scalar other) (run_offsets run)) rows
+
+-- ---- the parts of a run
+
+-- where a part begins
+part-at : (side : Side) (k : ℕ) → k < side.run.count → pos (place side.run.offset side.run.step k) ≡ pos side.run.offset +ℤ side.run.step *ℤ pos k
+part-at side k low = not_negative (position side.run.offset side.run.step k) (side.within.each k low).0 ∙ ap (λ z. pos side.run.offset +ℤ z) (*ℤ_comm (pos k) side.run.step)
+
+-- some of the first items, and then those of a part
+pub run-parts : (side : Side) (k n : ℕ) → k < side.run.count → run_offsets (record { offset = side.run.offset; count = k + n; step = side.run.step }) ≡ run_offsets (record { offset = side.run.offset; count = k; step = side.run.step }) ++ run_offsets (run_part side.run k n)
+run-parts side k n low =
+    let front = numbers_from (pos side.run.offset) side.run.step k in
+    ap (map natural) (numbers-split (pos side.run.offset) side.run.step k n)
+    ∙ map-append natural front (numbers_from (pos side.run.offset +ℤ side.run.step *ℤ pos k) side.run.step n)
+    ∙ ap (λ z. map natural front ++ map natural (numbers_from z side.run.step n)) (sym (part-at side k low))
+
+-- a part lies within the bytes
+pub part-within : (side : Side) (k n : ℕ) → k < side.run.count → k + n ≤ side.run.count → EachWithin (length side.bytes.now) (place side.run.offset side.run.step k) side.run.step side.width n
+part-within side k n low ends = record {
+  each = λ j below.
+      let lies = side.within.each (k + j) (omega (arith, below, ends)) in
+      let at = position-add side.run.offset side.run.step k j (side.within.each k low).0 in
+      (subst (λ z. pos 0 ≤ℤ z) (sym at) lies.0, subst (λ z. (z +ℤ pos side.width) ≤ℤ pos (length side.bytes.now)) (sym at) lies.1);
+}
+
+-- ---- items that are cast
+
+pub length-cast_items : (from to : Descr) (other os : List ℕ) → length (cast_items from to other os) ≡ length os
+length-cast_items from to other os = length-map os (λ o. cast_item from to (item_from from other o))
+
+-- of items with the same bytes
+pub same-cast : (from to : Descr) (width : ℕ) (other bytes os os' : List ℕ) → width ≡ item_size from → items_at os width other ≡ items_at os' width bytes → cast_items from to other os ≡ cast_items from to bytes os'
+same-cast from to width other bytes os os' wide same =
+    let make = λ (item : List ℕ). cast_item from to (decode_item from item) in
+    sym (map-map make (λ o. item_at o (item_size from) other) os)
+    ∙ ap (map make) (subst (λ w. items_at os w other ≡ items_at os' w bytes) wide same)
+    ∙ map-map make (λ o. item_at o (item_size from) bytes) os'

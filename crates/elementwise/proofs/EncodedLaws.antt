@@ -1,13 +1,16 @@
 -- Items that are written leaf by leaf over zeros: their bytes are those that their values are encoded as.
-use Rattle.std.proofs.Common.{◌≡◌, ◌+◌, ◌-◌, ◌*◌, ◌<◌, ◌≤◌, inl, inr, ℕ, zero, suc, true, pos, List, [], ◌∷◌, ◌++◌, map, length, get_or, take, drop, replicate, sym, ap, ◌∙◌, arith, append_assoc, suc-mul, mul-le-mul_right}
-use Rattle.std.specs.List.{flat_map}
+use Rattle.std.proofs.Common.{◌≡◌, ◌+◌, ◌-◌, ◌*◌, ◌<◌, ◌≤◌, inl, inr, ℕ, zero, suc, true, pos, List, [], ◌∷◌, ◌++◌, map, length, get_or, take, drop, replicate, sym, ap, ◌∙◌, arith, append_assoc, length-append, refl, mul_comm, zero-mul, suc-mul, add-mul, mul-le-mul_right}
 use Rattle.std.proofs.Math.Seq.{take-add}
-use Rattle.std.proofs.lemmas.List.{length-map, get_or-map, drop-drop, take-replicate, drop-replicate}
-use Rattle.elementwise.specs.Words.{Leaf, Descr, LeafValue, number, size, encode, item_size, leaves_of, leaf_at, no_leaf, LeavesInOrder, encode_from, encode_item, item_from, item_at, joined, all_joined, joined_list, with_items, row_offsets}
+use Rattle.std.proofs.lemmas.Grind.{flat_map-append}
+use Rattle.std.proofs.lemmas.List.{length-map, get_or-map, same_lists, drop-drop, take-replicate, drop-replicate}
+use Rattle.std.proofs.lemmas.List.Elements.{All-from_get_or, All-append}
+use Rattle.std.proofs.lemmas.List.FromFn.{length-map-range_with_len, get_or-map-range_with_len}
+use Rattle.elementwise.specs.Words.{Leaf, Descr, LeafValue, number, size, encode, item_size, leaves_of, no_leaf, LeavesInOrder, encode_from, decode_item, encode_item, item_from, item_at, length-item_at, joined, all_joined, joined_list, item_of_joined, multiples}
 use Rattle.elementwise.specs.Casts.{can_cast, cast_item}
-use Rattle.elementwise.specs.inside.LeafCasts.{leaf_from, source, IsLeafCast}
+use Rattle.elementwise.specs.inside.LeafCasts.{source, with_leaf, cast_items, IsLeafCast}
+use Rattle.elementwise.specs.inside.Made.{AreItems}
 use Rattle.elementwise.proofs.RowLaws.{AreBeside}
-use Rattle.elementwise.proofs.CastLaws.{row-kept, each-wide, length-cast_item, leaf-encoded}
+use Rattle.elementwise.proofs.CastLaws.{row-kept, each-wide, length-cast_item, leaf-encoded, one_item}
 
 -- ---- leaves and what lies between them
 
@@ -86,7 +89,7 @@ all-zeros to n bytes room are = record {
 
 -- so they do once a leaf is cast
 pub zeros-stay : (from to : Descr) (other offsets bytes bytes' : List ℕ) (k : ℕ) → k < length (leaves_of to) → length offsets * item_size to ≤ length bytes → LeavesInOrder to →
-    bytes' ≡ with_items (row_offsets (leaf_at to k).at (item_size to) (length offsets)) (map (leaf_from (source from k) (leaf_at to k).scalar other) offsets) bytes → HaveZeros to (length offsets) bytes → HaveZeros to (length offsets) bytes'
+    bytes' ≡ with_leaf from to other offsets k bytes → HaveZeros to (length offsets) bytes → HaveZeros to (length offsets) bytes'
 zeros-stay from to other offsets bytes bytes' k low room apart wrote have = record {
   zeros = λ at width fits gap j inside.
       ap (item_at (at + j * item_size to) width) wrote
@@ -94,28 +97,78 @@ zeros-stay from to other offsets bytes bytes' k low room apart wrote have = reco
       ∙ have.zeros at width fits gap j inside;
 }
 
-pub all-encoded : (from to : Descr) (other offsets bytes : List ℕ) → length bytes ≡ length offsets * item_size to → can_cast from to ≡ true → ((k : ℕ) → k < length (leaves_of to) → IsLeafCast from to other offsets bytes k) →
-    HaveZeros to (length offsets) bytes → LeavesInOrder to → ((k : ℕ) → k < length (leaves_of to) → (source from k).at + size (source from k).scalar ≤ item_size from) →
-    bytes ≡ flat_map (encode_item to) (map (λ offset. cast_item from to (item_from from other offset)) offsets)
-all-encoded from to other offsets bytes long can cast have apart within =
-    let item = item_size to in
-    let make = λ (o : ℕ). cast_item from to (item_from from other o) in
-    let items = map make offsets in
-    let d = make 0 in
-    all_joined (λ j. encode_item to (get_or items j d)) item (length offsets) bytes long (λ j low.
-    let values = make (get_or offsets j 0) in
-    let none : 0 + j * item ≡ j * item = omega arith in
-    let whole : item - 0 ≡ item = omega arith in
-    (λ i. item_at (sym none i) (sym whole i) bytes)
-    ∙ encoded-from bytes (j * item) item 0 (leaves_of to) values (record {
-      ends = omega arith;
-      even = length-cast_item from to other (get_or offsets j 0) can;
-      from = λ k inside. omega arith;
-      within = apart.within;
-      apart = apart.apart;
-      wrote = λ k inside. leaf-encoded from to other offsets bytes j k low can inside (cast k inside) (within k inside);
-      zeros = λ at width _ fits gap. have.zeros at width fits gap j low;
-    })
-    ∙ ap (encode_item to) (sym (get_or-map make offsets j 0 d low)))
-    ∙ ap (joined (λ j. encode_item to (get_or items j d))) (sym (length-map offsets make))
-    ∙ joined_list (encode_item to) d items
+module _ (from to : Descr) (other offsets bytes : List ℕ) (long : length bytes ≡ length offsets * item_size to) (can : can_cast from to ≡ true) (cast : (k : ℕ) → k < length (leaves_of to) → IsLeafCast from to other offsets bytes k)
+    (have : HaveZeros to (length offsets) bytes) (apart : LeavesInOrder to) (within : (k : ℕ) → k < length (leaves_of to) → (source from k).at + size (source from k).scalar ≤ item_size from) where
+  abbrev make : ℕ → List LeafValue
+  make o = cast_item from to (item_from from other o)
+
+  abbrev row : ℕ → List ℕ
+  row j = item_at (j * item_size to) (item_size to) bytes
+
+  row-encoded : (j : ℕ) → j < length offsets → row j ≡ encode_item to (make (get_or offsets j 0))
+  row-encoded j low =
+      let none : 0 + j * item_size to ≡ j * item_size to = omega arith in
+      let whole : item_size to - 0 ≡ item_size to = omega arith in
+      (λ i. item_at (sym none i) (sym whole i) bytes)
+      ∙ encoded-from bytes (j * item_size to) (item_size to) 0 (leaves_of to) (make (get_or offsets j 0)) (record {
+        ends = omega arith;
+        even = length-cast_item from to other (get_or offsets j 0) can;
+        from = λ k inside. omega arith;
+        within = apart.within;
+        apart = apart.apart;
+        wrote = λ k inside. leaf-encoded from to other offsets bytes j k low can inside (cast k inside) (within k inside);
+        zeros = λ at width _ fits gap. have.zeros at width fits gap j low;
+      })
+
+  row-wide : (j : ℕ) → j < length offsets → length (row j) ≡ item_size to
+  row-wide j low =
+      let most : suc j * item_size to ≤ length offsets * item_size to = mul-le-mul_right (item_size to) low in
+      length-item_at (j * item_size to) (item_size to) bytes (omega (arith, long, most, suc-mul j (item_size to)))
+
+  row-back : (j : ℕ) → j < length offsets → decode_item to (row j) ≡ make (get_or offsets j 0)
+  row-back j low = ap (item_from to bytes) (mul_comm j (item_size to)) ∙ one_item from to other offsets bytes j can low cast (λ k inside. apart.within k inside) within
+
+  pub all-encoded : AreItems to (cast_items from to other offsets) bytes
+  all-encoded =
+      let values = map make offsets in
+      let d = make 0 in
+      let value = λ (j : ℕ). get_or values j d in
+      let many : length values ≡ length offsets = length-map offsets make in
+      let each : (j : ℕ) → j < length offsets → row j ≡ encode_item to (value j) = λ j low. row-encoded j low ∙ ap (encode_item to) (sym (get_or-map make offsets j 0 d low)) in
+      let inside = λ (j : ℕ) (low : j < length values). let in_offsets : j < length offsets = omega (arith, low, many) in in_offsets in
+      record {
+        long = long ∙ ap (λ n. n * item_size to) (sym many);
+        encoded = all_joined (λ j. encode_item to (value j)) (item_size to) (length offsets) bytes long each ∙ ap (joined (λ j. encode_item to (value j))) (sym many) ∙ joined_list (encode_item to) d values;
+        wide = All-from_get_or (λ v. length (encode_item to v) ≡ item_size to) values d (λ j low. ap length (sym (each j (inside j low))) ∙ row-wide j (inside j low));
+        back = All-from_get_or (λ v. decode_item to (encode_item to v) ≡ v) values d (λ j low.
+            ap (decode_item to) (sym (each j (inside j low))) ∙ row-back j (inside j low) ∙ sym (get_or-map make offsets j 0 d (inside j low)));
+      }
+
+-- ---- items one after another
+
+pub no-items : (d : Descr) → AreItems d [] []
+no-items d = record { long = sym (zero-mul (item_size d)); encoded = refl; wide = λ k e low. absurd (omega (arith, low)); back = λ k e low. absurd (omega (arith, low)) }
+
+pub items-append : (d : Descr) (xs ys : List (List LeafValue)) (bytes more : List ℕ) → AreItems d xs bytes → AreItems d ys more → AreItems d (xs ++ ys) (bytes ++ more)
+items-append d xs ys bytes more are are' = record {
+  long = omega (arith, length-append bytes more, are.long, are'.long, ap (λ n. n * item_size d) (length-append xs ys), add-mul (length xs) (length ys) (item_size d));
+  encoded = (λ i. are.encoded i ++ are'.encoded i) ∙ sym (flat_map-append (encode_item d) xs ys);
+  wide = All-append (λ v. length (encode_item d v) ≡ item_size d) xs ys are.wide are'.wide;
+  back = All-append (λ v. decode_item d (encode_item d v) ≡ v) xs ys are.back are'.back;
+}
+
+pub items-read : (d : Descr) (values : List (List LeafValue)) (bytes : List ℕ) → AreItems d values bytes → map (item_from d bytes) (multiples (item_size d) (length values)) ≡ values
+items-read d values bytes are =
+    let w = item_size d in
+    let n = length values in
+    let place = λ (k : ℕ). w * k in
+    let counted : length (multiples w n) ≡ n = length-map-range_with_len place 0 n in
+    let long = length-map (multiples w n) (item_from d bytes) in
+    same_lists (map (item_from d bytes) (multiples w n)) values (long ∙ counted) (λ j v inside.
+    let low : j < n = omega (arith, inside, long, counted) in
+    let value = λ (k : ℕ). get_or values k v in
+    get_or-map (item_from d bytes) (multiples w n) j 0 v (omega (arith, low, counted))
+    ∙ ap (item_from d bytes) (get_or-map-range_with_len place 0 n j j 0 low (omega arith) ∙ mul_comm w j)
+    ∙ ap (λ b. decode_item d (item_at (j * w) w b)) (are.encoded ∙ sym (joined_list (encode_item d) v values))
+    ∙ ap (decode_item d) (item_of_joined (λ k. encode_item d (value k)) w n j (λ k below. are.wide k v below) low)
+    ∙ are.back j v low)

@@ -11,7 +11,8 @@ pub use Rattle.elem_descr.specs.EncodingLaws.{decode_encode, low_bits-integer, l
 pub use Rattle.elem_descr.specs.EncodingLaws.{truth_suc}
 pub use Rattle.elem_descr.specs.Fields.{Fields, Structure, no_more, record_field, scalar_field}
 pub use Rattle.elem_descr.specs.Fields.{total}
-pub use Rattle.elem_descr.specs.Items.{AreAlike, LeavesInOrder, encode_from, encode_item, item_size}
+pub use Rattle.elem_descr.specs.Items.{AreAlike, LeavesInOrder, decode_item, encode_from, encode_item}
+pub use Rattle.elem_descr.specs.Items.{item_size}
 pub use Rattle.elem_descr.specs.Items.{leaf_at, leaves_from, leaves_of, no_leaf}
 pub use Rattle.elem_descr.specs.NulLaws.{length-without_nuls, without_nuls-back, without_nuls-more}
 pub use Rattle.elem_descr.specs.NulLaws.{without_nuls-twice}
@@ -48,11 +49,14 @@ pub use Rattle.elem_descr.specs.declared.scalar.Scalar.{Scalar}
 pub use Rattle.elem_descr.specs.declared.scalar.Scalar.TheVariants.{Byte, Bytes, Int}
 pub use Rattle.elem_descr.specs.declared.scalar.Width.{Width}
 pub use Rattle.elem_descr.specs.declared.scalar.Width.TheVariants.{Eight, Four, Two}
-pub use Rattle.raw_block.specs.Bytes.{EachWithin, item_at, joined, place, put}
+pub use Rattle.raw_block.specs.Bytes.{EachWithin, item_at, joined, place, position, put}
 pub use Rattle.raw_block.specs.BytesLaws.{fewer, item_at-put_apart, item_at-put_same}
-pub use Rattle.raw_block.specs.BytesLaws.{length-item_at, length-put}
+pub use Rattle.raw_block.specs.BytesLaws.{length-item_at, length-put, not_negative, position-add}
 pub use Rattle.raw_block.specs.JoinedLaws.{all_joined, joined-same, joined_list, joined_run}
-pub use Rattle.raw_block.specs.JoinedLaws.{length-joined}
+pub use Rattle.raw_block.specs.JoinedLaws.{item_of_joined, length-joined}
+pub use Rattle.elem_descr.specs.StepLaws.{numbers-split}
+pub use Rattle.elem_descr.specs.Steps.{numbers_from}
+pub use Rattle.shape_strides.specs.Addresses.{natural}
 pub use Rattle.shape_strides.specs.Contiguity.{fortran_order}
 pub use Rattle.shape_strides.specs.IndexLaws.{get_or-indexes, index_at, length-indexes, rank-lt}
 pub use Rattle.shape_strides.specs.IndexLaws.{same_on_indexes}

@@ -8,3 +8,4 @@ pub mod Held
 pub mod Works
 pub mod Made
 pub mod Words
+pub mod Columns

@@ -1,21 +1,29 @@
 //! Casts: the items of an array as items of another element type.
 ghost use Rattle.std.specs.Prelude.{◌≡◌, ◌+◌, ◌*◌, ◌<◌, ◌≤◌, ℕ, true, length, drop, map, nat_le, if◌then◌else◌, IfOk, IfErr};
-ghost use Rattle.std.specs.List.{concat, flat_map};
-ghost use Rattle.elementwise.specs.Words.{OutOfMemory, TooLarge, NoSuchCast, size, item_size, leaves_of, leaf_at, encode_item, item_from, C, max_bytes, count, offsets, multiples, with_items, offsets_in, owned_items, row_offsets};
+ghost use Rattle.std.specs.List.{flat_map};
+ghost use Rattle.elementwise.specs.Words.{OutOfMemory, TooLarge, NoSuchCast, size, item_size, leaves_of, leaf_at, encode_item, item_from, C, max_bytes, count, offsets, place, run_offsets, offsets_in, owned_items};
 ghost use Rattle.elem_descr.specs.declared.descr.Descr.TheVariants.{Scalar as ScalarDescr};
 ghost use Rattle.elementwise.specs.Casts.{can_cast_scalar, can_cast, cast_item};
-ghost use Rattle.elementwise.specs.inside.LeafCasts.{leaf_from, source, HasSource};
-ghost use Rattle.elementwise.specs.inside.Made.{IsMade};
+ghost use Rattle.elementwise.specs.inside.LeafCasts.{source, HasSource, with_leaf, cast_items};
+ghost use Rattle.elementwise.specs.inside.Made.{IsMade, AreItems};
 
 use crate::castable::can_cast;
+use crate::leaf_casts::{Column, Places};
 use crate::made::made;
 use crate::pairing::{Pairing, Work};
 use crate::rows::{Operand, Operands};
-use arrays::{Items, Owned, copy_run};
+use arrays::{Items, Owned, gather};
 use elem_descr::{Descr, Leaf, MemoryOrder, Refusal, Scalar};
-use raw_block::RawBlock;
+use machine_numbers::{Side, place};
+use raw_block::{BlockBuilder, RawBlock};
 use shape_strides::{MAX_BYTES, Run};
 use std::alloc::Global;
+
+/// How many bytes stay near while a band is cast.
+const NEAR: usize = 8192;
+
+/// The fewest items of a band.
+const FEW: usize = 32;
 
 /// The leaf with a number.
 pub(crate) fn leaf_of(descr: &Descr, k: usize) -> Leaf
@@ -86,91 +94,159 @@ fn bytes_from(bytes: &[u8], at: usize) -> &[u8]
     &bytes[at.min(bytes.len())..]
 }
 
-/// A leaf of all items as one of another scalar, in a block of its own.
-fn cast_column(alloc: Global, from: Items<'_>, leaf: Leaf, to: &Scalar) -> Result<Owned, Refusal>
-    requires can { can_cast_scalar leaf.scalar to.now ≡ true }
-    requires within { leaf.at + size leaf.scalar ≤ item_size from.descr.now }
-    requires few { count from.layout.now.shape * size to.now ≤ max_bytes }
-    ensures bytes { IfOk result
-        (λ o. o.block
-        ≡ concat (map (leaf_from leaf to.now from.entry.block.now)
-        (offsets from.entry.layout.now))) }
-    ensures refused { IfErr result (λ refusal. refusal ≡ OutOfMemory) }
-{
-    let descr = Descr::Scalar(leaf.scalar);
-    let column = Operand {
-        bytes: bytes_from(from.block.bytes(), leaf.at),
-        layout: from.layout,
-        descr: &descr,
-    };
-    cast_scalars(alloc, column, &leaf.scalar, to)
+/// A run of items of an element type.
+#[derive(Clone, Copy, Drop)]
+struct ItemRun<'a, 'b> {
+    items: Side<'a>,
+    descr: &'b Descr,
+    ghost wide: { items.width ≡ item_size descr.now },
 }
 
-/// Casts a leaf of all items, and puts it where it lies in items that just fill a block.
-fn cast_leaf(
-    alloc: Global,
-    block: &mut RawBlock,
-    to: &Descr,
-    k: usize,
-    from: Items<'_>,
-) -> Result<(), Refusal>
+impl<'a, 'b> ItemRun<'a, 'b> {
+    ghost use Rattle.elementwise.specs.inside.LeafCasts.{run_part};
+
+    /// So many of the items, from one of them on.
+    fn part(self, first: usize, count: usize) -> ItemRun<'a, 'b>
+        requires some { 1 ≤ count }
+        requires within { first + count ≤ self.items.run.count }
+        ensures run { result.items.run ≡ run_part self.entry.items.run first count }
+        ensures bytes { result.items.bytes.now ≡ self.entry.items.bytes.now }
+        ensures descr { result.descr.now ≡ self.entry.descr.now }
+    {
+        let items = self.items;
+        let run = Run {
+            offset: place(items.run, first),
+            count,
+            step: items.run.step,
+        };
+        ItemRun {
+            items: Side {
+                bytes: items.bytes,
+                run,
+                width: items.width,
+            },
+            descr: self.descr,
+        }
+    }
+}
+
+/// Casts a leaf of each item of a run, and puts it where it lies in rows of items. The block is taken
+/// and given back.
+fn cast_leaf(rows: RawBlock, from: ItemRun<'_, '_>, to: &Descr, k: usize) -> RawBlock
     requires can { can_cast from.descr.now to.now ≡ true }
     requires k { k < length (leaves_of to.now) }
-    requires room { length block.old ≡ count from.layout.now.shape * item_size to.now }
-    requires few { length block.old ≤ max_bytes }
-    ensures written { IfOk result
-        (λ _. block.new
-        ≡ with_items
-        (row_offsets (leaf_at to.now k).at (item_size to.now)
-        (length (offsets from.entry.layout.now)))
-        (map (leaf_from (source from.entry.descr.now k) (leaf_at to.now k).scalar from.entry.block.now) (offsets from.entry.layout.now)) block.old) }
-    ensures len { length block.new ≡ length block.old }
-    ensures refused { IfErr result (λ refusal. refusal ≡ OutOfMemory) }
+    requires room { from.items.run.count * item_size to.now ≤ length rows }
+    ensures written { result
+        ≡ with_leaf from.entry.descr.now to.now from.entry.items.bytes.now
+        (run_offsets from.entry.items.run) k rows }
+    ensures len { length result ≡ length rows }
 {
     let leaf = leaf_of(to, k);
     let source = source_of(from.descr, k);
-    let column = cast_column(alloc, from, source, &leaf.scalar)?;
-    let count = from.layout.shape.items();
-    let width = leaf.scalar.size();
-    let rows = Run {
-        offset: leaf.at,
-        count,
-        step: to.size() as isize,
+    let column = Column {
+        from: Side {
+            bytes: bytes_from(from.items.bytes, source.at),
+            run: from.items.run,
+            width: source.scalar.size(),
+        },
+        to: Places {
+            at: leaf.at,
+            width: leaf.scalar.size(),
+            row: to.size(),
+        },
+        rows,
     };
-    let packed = Run {
-        offset: 0,
-        count,
-        step: width as isize,
-    };
-    copy_run(block, rows, &column.block, packed, width);
-    Ok(())
+    column.cast(&source.scalar, &leaf.scalar)
 }
 
-/// A block that items, cast leaf by leaf, just fill.
-fn cast_block(alloc: Global, from: Items<'_>, to: &Descr) -> Result<RawBlock, Refusal>
+/// A block that the items of a run, cast leaf by leaf, just fill.
+fn cast_band(alloc: Global, from: ItemRun<'_, '_>, to: &Descr) -> Result<RawBlock, Refusal>
     requires can { can_cast from.descr.now to.now ≡ true }
-    requires few { count from.layout.now.shape * item_size to.now ≤ max_bytes }
-    ensures len { IfOk result
-        (λ cast. length cast ≡ count from.entry.layout.now.shape * item_size to.now) }
-    ensures items { IfOk result
-        (λ cast. map (item_from to.now cast)
-        (multiples (item_size to.now) (count from.entry.layout.now.shape))
-        ≡ map (λ offset. cast_item from.entry.descr.now to.now (item_from from.entry.descr.now from.entry.block.now offset)) (offsets from.entry.layout.now)) }
-    ensures encoded { IfOk result
-        (λ cast. cast
-        ≡ flat_map (encode_item to.now)
-        (map (λ offset.
-        cast_item from.entry.descr.now to.now
-        (item_from from.entry.descr.now from.entry.block.now offset))
-        (offsets from.entry.layout.now))) }
+    requires few { from.items.run.count * item_size to.now ≤ max_bytes }
+    ensures cast { IfOk result
+        (AreItems to.now
+        (cast_items from.entry.descr.now to.now from.entry.items.bytes.now
+        (run_offsets from.entry.items.run))) }
     ensures refused { IfErr result (λ refusal. refusal ≡ OutOfMemory) }
 {
     let _from_item = from.descr.size();
-    let mut cast = RawBlock::try_zeroed(alloc, from.layout.shape.items() * to.size())?;
+    let mut rows = RawBlock::try_zeroed(alloc, from.items.run.count * to.size())?;
     for k in 0..to.leaf_count() {
-        cast_leaf(alloc, &mut cast, to, k, from)?;
+        rows = cast_leaf(rows, from, to, k);
     }
-    Ok(cast)
+    Ok(rows)
+}
+
+/// A block that the items of a run, cast, just fill. They are cast in bands that stay near, so that each
+/// line of the block is written once.
+fn cast_run(alloc: Global, from: ItemRun<'_, '_>, to: &Descr) -> Result<RawBlock, Refusal>
+    requires can { can_cast from.descr.now to.now ≡ true }
+    requires few { from.items.run.count * item_size to.now ≤ max_bytes }
+    ensures cast { IfOk result
+        (AreItems to.now
+        (cast_items from.entry.descr.now to.now from.entry.items.bytes.now
+        (run_offsets from.entry.items.run))) }
+    ensures refused { IfErr result (λ refusal. refusal ≡ OutOfMemory) }
+{
+    let count = from.items.run.count;
+    let size = to.size();
+    let most = FEW.max(NEAR / size);
+    let mut cast = BlockBuilder::try_new(alloc, count * size)?;
+    let mut done = 0;
+    while done < count {
+        let next = most.min(count - done);
+        let band = cast_band(alloc, from.part(done, next), to)?;
+        cast.push_bytes(band.bytes());
+        done += next;
+    }
+    Ok(cast.finish())
+}
+
+/// A block that items, cast, just fill. Items that make no one run are first put one after another.
+fn cast_block(alloc: Global, from: Items<'_>, to: &Descr) -> Result<RawBlock, Refusal>
+    requires can { can_cast from.descr.now to.now ≡ true }
+    requires few { count from.layout.now.shape * item_size to.now ≤ max_bytes }
+    ensures cast { IfOk result
+        (AreItems to.now
+        (cast_items from.entry.descr.now to.now from.entry.block.now
+        (offsets from.entry.layout.now))) }
+    ensures refused { IfErr result (λ refusal. refusal ≡ OutOfMemory) }
+{
+    let width = from.descr.size();
+    let count = from.layout.shape.items();
+    if let Some(run) = from.layout.as_one_run() {
+        let items = Side {
+            bytes: from.block.bytes(),
+            run,
+            width,
+        };
+        return cast_run(
+            alloc,
+            ItemRun {
+                items,
+                descr: from.descr,
+            },
+            to,
+        );
+    }
+    let packed = gather(alloc, from.block, from.layout, width)?;
+    let items = Side {
+        bytes: packed.bytes(),
+        run: Run {
+            offset: 0,
+            count,
+            step: width as isize,
+        },
+        width,
+    };
+    cast_run(
+        alloc,
+        ItemRun {
+            items,
+            descr: from.descr,
+        },
+        to,
+    )
 }
 
 /// Items, cast leaf by leaf, in a block of their own in C order.

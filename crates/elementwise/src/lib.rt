@@ -14,6 +14,7 @@ mod dividing;
 mod divisor;
 mod integers;
 mod kernels;
+mod leaf_casts;
 mod made;
 mod operands;
 mod operations;

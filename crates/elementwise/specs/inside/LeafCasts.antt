@@ -1,8 +1,8 @@
 -- The leaves of items that are cast, one by one.
 use Rattle.std.specs.Prelude.{◌≡◌, ℕ, ◌+◌, ◌<◌, List, length, map}
-use Rattle.elementwise.specs.Words.{Descr, Leaf, Scalar, size, decode, encode, item_size, leaves_of, leaf_at, item_at, row_offsets}
+use Rattle.elementwise.specs.Words.{Descr, Leaf, LeafValue, Scalar, size, decode, encode, item_size, leaves_of, leaf_at, item_from, item_at, with_items, row_offsets, place, Run}
 use Rattle.elem_descr.specs.declared.descr.Descr.TheVariants.{Scalar as ScalarDescr, Record as RecordDescr}
-use Rattle.elementwise.specs.Casts.{cast_value}
+use Rattle.elementwise.specs.Casts.{cast_value, cast_item}
 
 -- the bytes of a value of one scalar as those of another
 abbrev pub leaf_cast : Scalar → Scalar → List ℕ → List ℕ
@@ -25,3 +25,16 @@ HasSource (RecordDescr structure) k = k < length (leaves_of (RecordDescr structu
 -- the k-th leaf of all items is cast from the items at these offsets
 pub record IsLeafCast (from to : Descr) (other offsets bytes : List ℕ) (k : ℕ) : Type 0 where
   pub written : map (λ o. item_at o (size (leaf_at to k).scalar) bytes) (row_offsets (leaf_at to k).at (item_size to) (length offsets)) ≡ map (leaf_from (source from k) (leaf_at to k).scalar other) offsets
+
+-- rows of items with their k-th leaf cast from the items at these offsets
+abbrev pub with_leaf : Descr → Descr → List ℕ → List ℕ → ℕ → List ℕ → List ℕ
+with_leaf from to other offsets k rows =
+    with_items (row_offsets (leaf_at to k).at (item_size to) (length offsets)) (map (leaf_from (source from k) (leaf_at to k).scalar other) offsets) rows
+
+-- the items at these offsets, cast
+abbrev pub cast_items : Descr → Descr → List ℕ → List ℕ → List (List LeafValue)
+cast_items from to other offsets = map (λ offset. cast_item from to (item_from from other offset)) offsets
+
+-- so many items of a run, from one of them on
+abbrev pub run_part : Run → ℕ → ℕ → Run
+run_part run first n = record { offset = place run.offset run.step first; count = n; step = run.step }

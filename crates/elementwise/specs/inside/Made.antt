@@ -1,7 +1,7 @@
 -- Arrays that are made.
-use Rattle.std.specs.Prelude.{◌≡◌, ℕ, List, map, reverse}
+use Rattle.std.specs.Prelude.{◌≡◌, ◌*◌, ℕ, List, length, map, reverse, All}
 use Rattle.std.specs.List.{flat_map}
-use Rattle.elementwise.specs.Words.{Descr, LeafValue, item_size, encode_item, item_from, Layout, fortran_order, count, offsets, multiples, Owned}
+use Rattle.elementwise.specs.Words.{Descr, LeafValue, item_size, decode_item, encode_item, item_from, Layout, fortran_order, count, offsets, multiples, Owned}
 
 -- an array of this element type and shape, in C order, with these items, whose bytes are theirs as they are encoded
 pub record IsMade (descr : Descr) (shape : List ℕ) (values : List (List LeafValue)) (o : Owned) : Type 0 where
@@ -15,3 +15,10 @@ pub record IsMade (descr : Descr) (shape : List ℕ) (values : List (List LeafVa
 pub record IsTurned (turned layout : Layout) : Type 0 where
   pub shape_is : turned.shape ≡ reverse layout.shape
   pub places : offsets turned ≡ fortran_order layout.shape (offsets layout)
+
+-- bytes are those of these values, one after another; and each of them is read back
+pub record AreItems (descr : Descr) (values : List (List LeafValue)) (bytes : List ℕ) : Type 0 where
+  pub long : length bytes ≡ length values * item_size descr
+  pub encoded : bytes ≡ flat_map (encode_item descr) values
+  pub wide : All (λ value. length (encode_item descr value) ≡ item_size descr) values
+  pub back : All (λ value. decode_item descr (encode_item descr value) ≡ value) values

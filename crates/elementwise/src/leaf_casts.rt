@@ -1,0 +1,187 @@
+//! Casts of leaves that lie at equal steps, each of them to its place in a row of its own.
+ghost use Rattle.std.specs.Prelude.{◌≡◌, ◌+◌, ◌*◌, ◌≤◌, ℕ, List, length, take};
+ghost use Rattle.elementwise.specs.Words.{IsNumber, size, put, padded, without_nuls, item_in};
+ghost use Rattle.elementwise.specs.inside.LeafCasts.{leaf_cast};
+ghost use Rattle.elementwise.specs.inside.Columns.{HasRoom, with_leaves, AreRows};
+
+use crate::text_pairs::Cutting;
+use elem_descr::Scalar;
+use machine_numbers::{Number, NumberTask, Ordered, Side, on_number};
+use raw_block::RawBlock;
+use std::marker::PhantomData;
+
+/// How the bytes of a leaf become those of another.
+pub(crate) trait LeafCast {
+    // The bytes that are made.
+    ghost makes: { Self → List ℕ → List ℕ };
+
+    // How many bytes there may be.
+    ghost Reads: { Self → ℕ → Type 0 };
+
+    // How many are made.
+    ghost width: { Self → ℕ };
+
+    fn cast(&self, item: &[u8], place: &mut [u8])
+        requires item { Reads self.now (length item.now) }
+        requires place { length place.old ≡ width self.now }
+        ensures { place.new ≡ makes self.now item.now };
+}
+
+/// A number as one of another type.
+struct CastingNumbers<S, P, T, Q>(PhantomData<(S, P, T, Q)>);
+
+impl<S: Number, P: Ordered, T: Number, Q: Ordered> LeafCast for CastingNumbers<S, P, T, Q> {
+    ghost makes = { λ _. leaf_cast (S.scalar P.order) (T.scalar Q.order) };
+
+    ghost Reads = { λ _ width. width ≡ S.WIDTH };
+
+    ghost width = { λ _. T.WIDTH };
+
+    #[inline(always)]
+    fn cast(&self, item: &[u8], place: &mut [u8]) {
+        T::of_bits(S::read::<P>(item).bits()).write::<Q>(place);
+    }
+}
+
+impl LeafCast for Cutting {
+    ghost makes = { λ t item. padded t.width (without_nuls (take t.width (without_nuls item))) };
+
+    ghost Reads = { λ _ _. Unit {0} };
+
+    ghost width = { λ t. t.width };
+
+    fn cast(&self, item: &[u8], place: &mut [u8]) {
+        let kept = item.len().min(self.width);
+        let (front, back) = place.split_at_mut(kept);
+        front.copy_from_slice(&item[..kept]);
+        back.fill(0);
+    }
+}
+
+/// Where a leaf lies in each of many rows, one right after another.
+#[derive(Clone, Copy, Drop)]
+pub(crate) struct Places {
+    pub(crate) at: usize,
+    pub(crate) width: usize,
+    /// How many bytes a row has.
+    pub(crate) row: usize,
+}
+
+/// Casts a leaf, and writes it to the bytes from a place on.
+#[inline(always)]
+fn put_one<C: LeafCast>(cast: &C, item: &[u8], at: usize, width: usize, bytes: &mut [u8])
+    requires reads { C.Reads cast.now (length item.now) }
+    requires width { width ≡ C.width cast.now }
+    requires room { at + width ≤ length bytes.old }
+    ensures { bytes.new ≡ put at (C.makes cast.now item.now) bytes.old }
+{
+    cast.cast(item, &mut bytes[at..at + width]);
+}
+
+/// Casts each leaf of a run, and writes it to its row.
+#[inline(always)]
+fn put_each<C: LeafCast>(cast: &C, from: Side<'_>, to: Places, bytes: &mut [u8])
+    requires reads { C.Reads cast.now from.width }
+    requires width { to.width ≡ C.width cast.now }
+    requires room { HasRoom from to (length bytes.old) }
+    ensures { bytes.new
+        ≡ with_leaves (λ k. C.makes cast.now (item_in from.entry k)) to.at to.row
+        from.entry.run.count bytes.old }
+{
+    for k in 0..from.run.count {
+        put_one(cast, from.item(k), to.at + k * to.row, to.width, bytes);
+    }
+}
+
+/// A run of leaves, and the rows that they are cast to.
+#[derive(Drop)]
+pub(crate) struct Column<'a> {
+    pub(crate) from: Side<'a>,
+    pub(crate) to: Places,
+    pub(crate) rows: RawBlock,
+}
+
+impl<'a> Column<'a> {
+    /// The rows, once the leaves are cast. The block is taken and given back.
+    fn cast_by<C: LeafCast>(self, cast: &C) -> RawBlock
+        requires reads { C.Reads cast.now self.from.width }
+        requires width { self.to.width ≡ C.width cast.now }
+        requires room { HasRoom self.from self.to (length self.rows) }
+        ensures { AreRows (C.makes cast.now) self.entry result }
+    {
+        let Column { from, to, rows } = self;
+        let mut rows = rows;
+        put_each(cast, from, to, rows.bytes_mut());
+        rows
+    }
+}
+
+/// A column of numbers that are cast to those of a scalar.
+struct CastingTo<'a> {
+    column: Column<'a>,
+    to: Scalar,
+}
+
+/// A column of numbers of a known type that are cast.
+struct CastingFrom<'a, S, P> {
+    column: Column<'a>,
+    numbers: PhantomData<(S, P)>,
+}
+
+impl<'a> NumberTask for CastingTo<'a> {
+    type Out = RawBlock;
+
+    ghost Needs = { λ t scalar. IsNumber t.to × (t.column.from.width ≡ size scalar) × (t.column.to.width ≡ size t.to) × HasRoom t.column.from t.column.to (length t.column.rows) };
+
+    ghost Gives = { λ t scalar rows. AreRows (leaf_cast scalar t.to) t.column rows };
+
+    fn run<S: Number, P: Ordered>(self) -> RawBlock {
+        let CastingTo { column, to } = self;
+        let task = CastingFrom::<S, P> {
+            column,
+            numbers: PhantomData,
+        };
+        on_number(&to, task)
+    }
+}
+
+impl<'a, S: Number, P: Ordered> NumberTask for CastingFrom<'a, S, P> {
+    type Out = RawBlock;
+
+    ghost Needs = { λ t scalar. (t.column.from.width ≡ S.WIDTH) × (t.column.to.width ≡ size scalar) × HasRoom t.column.from t.column.to (length t.column.rows) };
+
+    ghost Gives = { λ t scalar rows. AreRows (leaf_cast (S.scalar P.order) scalar) t.column rows };
+
+    fn run<T: Number, Q: Ordered>(self) -> RawBlock {
+        let CastingFrom { column, numbers: _ } = self;
+        column.cast_by(&CastingNumbers::<S, P, T, Q>(PhantomData))
+    }
+}
+
+impl<'a> Column<'a> {
+    ghost use Rattle.elementwise.specs.Casts.{can_cast_scalar};
+    ghost use Rattle.std.specs.Prelude.{true};
+
+    /// The rows, once the leaves of one scalar are cast to those of another.
+    pub(crate) fn cast(self, scalar: &Scalar, to: &Scalar) -> RawBlock
+        requires can { can_cast_scalar scalar.now to.now ≡ true }
+        requires from { self.from.width ≡ size scalar.now }
+        requires to { self.to.width ≡ size to.now }
+        requires room { HasRoom self.from self.to (length self.rows) }
+        ensures { AreRows (leaf_cast scalar.now to.now) self.entry result }
+    {
+        match (scalar, to) {
+            (Scalar::Bytes(_), Scalar::Bytes(width)) => {
+                let width = width.get();
+                self.cast_by(&Cutting { width })
+            }
+            _ => {
+                let task = CastingTo {
+                    column: self,
+                    to: *to,
+                };
+                on_number(scalar, task)
+            }
+        }
+    }
+}
