@@ -75,6 +75,11 @@ module _ (es : List (Key × Entry)) (slots : Slots) (ring : Ring Change) where
     supplies = supplies-now (descr_of now aim.array) (length (target_offsets target)) source aim.items aim.supplies;
   }
 
+  -- where no memory is needed, no states are kept
+  pub needs-shallow : (name : List ℕ) (target : Target) (source : Source) → NeedsNoMemory whole name target source → ring.capacity ≡ 0
+  needs-shallow name (View to) source needs-none = needs-none.0
+  needs-shallow name (Plan plan) source needs-none = needs-none.0
+
   pub needs-now : (name : List ℕ) (target : Target) (source : Source) → NeedsNoMemory whole name target source → NeedsNoMemory now name target source
   needs-now name (View to) (One bytes) needs-none = (refl, needs-none.1)
   needs-now name (View to) (Block owned) needs-none = (refl, needs-none.1)

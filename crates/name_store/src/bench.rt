@@ -10,7 +10,7 @@ use crate::history::History;
 use crate::keep::{keep, make_room};
 use crate::table::Table;
 use crate::target::{Source, Target};
-use crate::write::{write_items, write_over};
+use crate::write::write_items;
 use elem_descr::{Name, Refusal};
 use std::alloc::{AllocError, Global};
 use std::marker::Model;
@@ -117,18 +117,17 @@ impl Bench {
     {
         let home = self.table.home(&Key::of(alloc, name));
         let count = target.count();
-        if self.history.capacity() == 0 {
-            write_items(alloc, &mut self.table.slots.cells, home, &target, source)?;
-            return Ok(count);
-        }
+        let keeps = self.history.capacity() > 0;
         make_room(&mut self.table.names, &self.history, 0)?;
-        let written = write_over(alloc, &mut self.table.slots.cells, home, target, source)?;
-        let change = Change::Write {
-            number: home.number,
-            target: written.target,
-            items: written.items,
-        };
-        keep(&mut self.table.slots, &mut self.history, change);
+        let cells = &mut self.table.slots.cells;
+        if let Some(over) = write_items(alloc, cells, home, target, source, keeps)? {
+            let change = Change::Write {
+                number: home.number,
+                target: over.target,
+                items: over.items,
+            };
+            keep(&mut self.table.slots, &mut self.history, change);
+        }
         Ok(count)
     }
 

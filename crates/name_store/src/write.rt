@@ -1,5 +1,5 @@
 //! Writes items to the places of a target in a buffer, and hands out the old ones if they are kept.
-ghost use Rattle.std.specs.Prelude.{◌≡◌, ◌≤◌, ◌<◌, ℕ, List, length, replicate, Some, IsTrue, IsOk, IfOk, IfErr, IfSome};
+ghost use Rattle.std.specs.Prelude.{◌≡◌, ◌≤◌, ◌<◌, ℕ, List, length, replicate, Some, is_some, IsTrue, IsFalse, IsOk, IfOk, IfErr, IfSome};
 ghost use Rattle.std.specs.List.Sorted.{IsPermutation};
 ghost use Rattle.name_store.specs.Words.{item_size, is_c_contiguous, offsets, items_at, put_each};
 ghost use Rattle.name_store.specs.Targets.{target_offsets};
@@ -300,99 +300,88 @@ pub struct Overwritten {
     pub items: OldItems,
 }
 
-/// Writes the items to the target's places, and hands these out with the old items, in the order in
-/// which they lie one after another: that of memory, unless they come in exchange for those of a block.
+/// Writes the items to the target's places. If the old ones are to be kept, hands out these with the
+/// places in the order in which they lie one after another: that of memory, unless they come in
+/// exchange for those of a block.
 fn put_near(
     alloc: Global,
     block: &mut RawBlock,
     beside: Beside<'_>,
     target: Target,
     source: Source,
-) -> Result<Overwritten, AllocError>
+    keeps: bool,
+) -> Result<Option<Overwritten>, AllocError>
     requires { CanPut beside.others.now beside.width target source block.old }
     ensures written { IfOk result (λ _. block.new
         ≡ with_source beside.entry.others.now beside.entry.width target source block.old) }
-    ensures moved { IfOk result (λ w.
-        IsPermutation (target_offsets target) (target_offsets w.target)) }
-    ensures old { IfOk result (λ w.
-        AreOld beside.entry.width block.old (target_offsets w.target) w.items) }
+    ensures keeps { IfOk result (λ over. is_some over ≡ keeps) }
+    ensures moved { IfOk result (λ over. IfSome over (λ w.
+        IsPermutation (target_offsets target) (target_offsets w.target))) }
+    ensures old { IfOk result (λ over. IfSome over (λ w.
+        AreOld beside.entry.width block.old (target_offsets w.target) w.items)) }
     ensures kept { IfErr result (λ _. block.new ≡ block.old) }
+    ensures no_memory { IsFalse keeps
+        → NeedsNone beside.entry.others.now beside.entry.width target source → IsOk result }
 {
+    if !keeps {
+        put_items(alloc, block, beside, &target, source)?;
+        return Ok(None);
+    }
     let Some(aside) = near(alloc, &target, beside.width) else {
         let items = put_over(alloc, block, beside, &target, source)?;
-        return Ok(Overwritten { target, items });
+        return Ok(Some(Overwritten { target, items }));
     };
     match source {
         Source::One(item) => {
             let items = put_over(alloc, block, beside, &aside, Source::One(item))?;
-            Ok(Overwritten {
+            Ok(Some(Overwritten {
                 target: aside,
                 items,
-            })
+            }))
         }
         Source::Block(owned) => {
             let items = trade_over(alloc, block, beside, &target, owned)?;
-            Ok(Overwritten { target, items })
+            Ok(Some(Overwritten { target, items }))
         }
         source => {
             let items = old_items(alloc, block, beside.width, &aside)?;
             copy_items(alloc, block, beside, &target, &source)?;
-            Ok(Overwritten {
+            Ok(Some(Overwritten {
                 target: aside,
                 items,
-            })
+            }))
         }
     }
 }
 
-/// Writes items to places of a buffer, whose slot is taken out meanwhile. All memory is asked for
-/// before the first change.
+/// Writes items to places of a buffer, whose slot is taken out meanwhile. If the old ones are to be
+/// kept, hands out these, with the target's places in their order. All memory is asked for before the
+/// first change.
 pub(crate) fn write_items(
-    alloc: Global,
-    cells: &mut Vec<Option<Slot>>,
-    home: Home,
-    target: &Target,
-    source: Source,
-) -> Result<(), AllocError>
-    requires { CanWrite cells.old.items home target.now source }
-    ensures written { IfOk result (λ _.
-        Puts cells.old.items home target.now source cells.new.items) }
-    ensures kept { IfErr result (λ _. AreSame cells.old.items cells.new.items) }
-    ensures no_memory { NeedsNone (without_slot cells.old.items home.number) home.width target.now
-        source → IsOk result }
-{
-    let mut slot = cells[home.number].take().unwrap();
-    let beside = Beside {
-        width: home.width,
-        others: cells.as_slice(),
-    };
-    let written = put_items(alloc, &mut slot.block, beside, target, source);
-    cells[home.number] = Some(slot);
-    written
-}
-
-/// Writes items to places of a buffer, whose slot is taken out meanwhile, and hands out the old ones,
-/// with the target's places in their order. All memory is asked for before the first change.
-pub(crate) fn write_over(
     alloc: Global,
     cells: &mut Vec<Option<Slot>>,
     home: Home,
     target: Target,
     source: Source,
-) -> Result<Overwritten, AllocError>
+    keeps: bool,
+) -> Result<Option<Overwritten>, AllocError>
     requires { CanWrite cells.old.items home target source }
     ensures written { IfOk result (λ _. Puts cells.old.items home target source cells.new.items) }
-    ensures moved { IfOk result (λ w.
-        IsPermutation (target_offsets target) (target_offsets w.target)) }
-    ensures old { IfOk result (λ w. AreOldAt cells.old.items home w.target w.items) }
+    ensures keeps { IfOk result (λ over. is_some over ≡ keeps) }
+    ensures moved { IfOk result (λ over. IfSome over (λ w.
+        IsPermutation (target_offsets target) (target_offsets w.target))) }
+    ensures old { IfOk result (λ over. IfSome over (λ w.
+        AreOldAt cells.old.items home w.target w.items)) }
     ensures kept { IfErr result (λ _. AreSame cells.old.items cells.new.items) }
+    ensures no_memory { IsFalse keeps → NeedsNone (without_slot cells.old.items home.number)
+        home.width target source → IsOk result }
 {
     let mut slot = cells[home.number].take().unwrap();
     let beside = Beside {
         width: home.width,
         others: cells.as_slice(),
     };
-    let written = put_near(alloc, &mut slot.block, beside, target, source);
+    let written = put_near(alloc, &mut slot.block, beside, target, source, keeps);
     cells[home.number] = Some(slot);
     written
 }
