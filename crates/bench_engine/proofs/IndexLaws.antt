@@ -7,7 +7,7 @@ use Rattle.std.proofs.lemmas.List.Elements.{All-map, Contains-get_or, All-push}
 use Rattle.std.proofs.lemmas.List.Folds.{list_all-append}
 use Rattle.std.proofs.lemmas.Simd.{map-map}
 use Rattle.std.proofs.Math.Bool.{and-false}
-use Rattle.bench_engine.specs.Words.{Refusal, TooLarge, item_from, item_size, IndexItem, Slice, Ellipsis, NewAxis, Layout, count, indexes, rank, length-indexes, rank-lt, get_or-indexes, index_at, length-offsets, offsets, max_bytes, view_through, IndexArray, no_array, with_array, with_arrays, indexed, Planned, IsPlanOf, GivesPlan, index_array_of, first_number, IsNamed, Indices, State, is_bound, buffer_of, descr_of, addresses, read, start_at, Shows, ArrayRef, offsets-at}
+use Rattle.bench_engine.specs.Words.{Refusal, TooLarge, item_from, item_size, IndexItem, Slice, Ellipsis, NewAxis, Layout, count, indexes, rank, length-indexes, rank-lt, get_or-indexes, index_at, length-offsets, offsets, max_bytes, view_through, IndexArray, indexed, Planned, IsPlanOf, GivesPlan, index_array_of, index_item_of, index_items, first_number, Items, State, is_bound, buffer_of, descr_of, addresses, read, start_at, Shows, ArrayRef, offsets-at}
 use Rattle.elem_descr.specs.declared.index_item.IndexItem.TheVariants.{Integer, Array as ArrayItem}
 use Rattle.view_ops.specs.Views.{View}
 use Rattle.name_store.specs.States.{Array}
@@ -36,7 +36,7 @@ none-bound s index k item below is none = here s index k item below (ap (λ (i :
 
 -- ---- arrays in the place of names
 
-pub array-is : (s : State) (a : Array) (r : ArrayRef) (indices : Indices) → Shows s a r → indices.descr.now ≡ r.descr.now → indices.layout.now ≡ r.layout.now → indices.block.now ≡ r.block.now → index_array_of indices ≡ by_items s (Some a)
+pub array-is : (s : State) (a : Array) (r : ArrayRef) (indices : Items) → Shows s a r → indices.descr.now ≡ r.descr.now → indices.layout.now ≡ r.layout.now → indices.block.now ≡ r.block.now → index_array_of indices ≡ by_items s (Some a)
 array-is s a r indices shows descr layout block = λ i. record {
   descr = (descr ∙ sym shows.descr) i;
   shape = (ap (λ (l : Layout). l.shape) layout ∙ shows.view.laid.shape) i;
@@ -49,47 +49,15 @@ array-is s a r indices shows descr layout block = λ i. record {
         ∙ sym (map-map first_number (item_from r.descr.now r.block.now) (offsets r.layout.now))
         ∙ ap (map first_number) (sym shows.reads)
 
-pub next-array : (arrays : List Indices) (x : Indices) → get_or (map index_array_of (arrays ++ x ∷ [])) (length arrays) no_array ≡ index_array_of x
-next-array [] x = refl
-next-array (a ∷ arrays) x = next-array arrays x
-
--- an item names the same array where more stand behind
-with-more : (arrays more : List Indices) (item : IndexItem ℕ) → IsNamed (length arrays) item → with_array (map index_array_of (arrays ++ more)) item ≡ with_array (map index_array_of arrays) item
-with-more arrays more (Integer at) named = refl
-with-more arrays more (Slice start stop step) named = refl
-with-more arrays more Ellipsis named = refl
-with-more arrays more NewAxis named = refl
-with-more arrays more (ArrayItem k) named =
-    ap ArrayItem (ap (λ l. get_or l k no_array) (map-append index_array_of arrays more) ∙ get_or_append_left (map index_array_of arrays) (map index_array_of more) no_array k (subst (λ n. k < n) (sym (length-map arrays index_array_of)) named))
-
-pub all-with-more : (arrays more : List Indices) (items : List (IndexItem ℕ)) → All (IsNamed (length arrays)) items → with_arrays (map index_array_of (arrays ++ more)) items ≡ with_arrays (map index_array_of arrays) items
-all-with-more arrays more [] named = refl
-all-with-more arrays more (item ∷ items) named = λ i. with-more arrays more item (named 0 item (omega arith)) i ∷ all-with-more arrays more items (λ k d below. named (suc k) d (omega (arith, below))) i
-
-named-more : (arrays more : List Indices) (item : IndexItem ℕ) → IsNamed (length arrays) item → IsNamed (length (arrays ++ more)) item
-named-more arrays more (Integer at) named = tt
-named-more arrays more (Slice start stop step) named = tt
-named-more arrays more Ellipsis named = tt
-named-more arrays more NewAxis named = tt
-named-more arrays more (ArrayItem k) named = omega (arith, named, length-append arrays more)
-
-pub all-named-more : (arrays more : List Indices) (items : List (IndexItem ℕ)) → All (IsNamed (length arrays)) items → All (IsNamed (length (arrays ++ more))) items
-all-named-more arrays more items named = λ k d below. named-more arrays more (get_or items k d) (named k d below)
-
--- one more item, with its array behind the others
-pub item-added : (s : State) (arrays more now : List Indices) (items pushed : List (IndexItem ℕ)) (index : List (IndexItem (List ℕ))) (k : ℕ) (item : IndexItem ℕ) (d : IndexItem (List ℕ)) → now ≡ arrays ++ more → pushed ≡ items ++ item ∷ [] → k < length index →
-    All (IsNamed (length arrays)) items → with_arrays (map index_array_of arrays) items ≡ map (array_by_items s) (take k index) → with_array (map index_array_of now) item ≡ array_by_items s (get_or index k d) → with_arrays (map index_array_of now) pushed ≡ map (array_by_items s) (take (k + 1) index)
-item-added s arrays more now items pushed index k item d grown put below named before is =
-    (λ i. with_arrays (map index_array_of now) (put i))
-    ∙ map_push (with_array (map index_array_of now)) items item
-    ∙ (λ i. ((λ j. with_arrays (map index_array_of (grown j)) items) ∙ all-with-more arrays more items named ∙ before) i ++ is i ∷ [])
+-- one more item, with its array
+pub item-added : (s : State) (items pushed : List (IndexItem Items)) (index : List (IndexItem (List ℕ))) (k : ℕ) (item : IndexItem Items) (d : IndexItem (List ℕ)) → pushed ≡ items ++ item ∷ [] → k < length index →
+    index_items items ≡ map (array_by_items s) (take k index) → index_item_of item ≡ array_by_items s (get_or index k d) → index_items pushed ≡ map (array_by_items s) (take (k + 1) index)
+item-added s items pushed index k item d put below before is =
+    ap index_items put
+    ∙ map_push index_item_of items item
+    ∙ (λ i. before i ++ is i ∷ [])
     ∙ sym (map_push (array_by_items s) (take k index) (get_or index k d))
     ∙ ap (map (array_by_items s)) (sym (take_more index k d below))
-
-pub names-added : (arrays more now : List Indices) (items pushed : List (IndexItem ℕ)) (item : IndexItem ℕ) → now ≡ arrays ++ more → pushed ≡ items ++ item ∷ [] → All (IsNamed (length arrays)) items → IsNamed (length now) item → All (IsNamed (length now)) pushed
-names-added arrays more now items pushed item grown put named is =
-    subst (All (IsNamed (length now))) (sym put)
-    (All-push (IsNamed (length now)) items item (subst (λ (l : List Indices). All (IsNamed (length l)) items) (sym grown) (all-named-more arrays more items named)) is)
 
 -- the names in each item are bound
 pub each-bound : (s : State) (index : List (IndexItem (List ℕ))) (k : ℕ) (d : IndexItem (List ℕ)) → list_all (is_bound s) (names_in_index index) ≡ true → k < length index → list_all (is_bound s) (names_in_item (get_or index k d)) ≡ true

@@ -104,12 +104,11 @@ pub use Rattle.arrays.specs.Blocks.{offsets_in, places_of}
 pub use Rattle.arrays.specs.PairLaws.{All-seconds, firsts-reordered, pair_even}
 pub use Rattle.arrays.specs.declared.items.Items.{Items}
 pub use Rattle.arrays.specs.declared.owned.Owned.{Owned}
-pub use Rattle.fancy_index.specs.IndexArrays.{IndexArray, no_array, with_array, with_arrays}
+pub use Rattle.fancy_index.specs.IndexArrays.{IndexArray, no_array}
 unfoldable pub use Rattle.fancy_index.specs.Indexed.{indexed}
 pub use Rattle.fancy_index.specs.Plans.{GivesPlan, IsPlanOf, Planned}
-pub use Rattle.fancy_index.specs.Sources.{IsNamed, LiesInBlock, first_number, index_array_of}
+pub use Rattle.fancy_index.specs.Sources.{first_number, index_array_of, index_item_of}
 pub use Rattle.fancy_index.specs.Sources.{index_items}
-pub use Rattle.fancy_index.specs.declared.source.Indices.{Indices}
 pub use Rattle.literal_items.specs.LiteralItems.{is_castable, literal_number}
 unfoldable pub use Rattle.literal_items.specs.LiteralItems.{item_value, item_values}
 pub use Rattle.literal_items.specs.RangeItems.{range_count}

@@ -1,17 +1,17 @@
 //! Index lists, in which names stand for arrays, and what they select from an array: a view if no array
 //! is named, and a copy otherwise.
-ghost use Rattle.std.specs.Prelude.{◌≡◌, ◌≤◌, ◌*◌, true, length, map, All, IfOk, ◌+◌, Ok, Err};
+ghost use Rattle.std.specs.Prelude.{◌≡◌, ◌≤◌, ◌*◌, true, length, map, IfOk, ◌+◌, Ok, Err};
 ghost use Rattle.std.specs.List.{list_all};
-ghost use Rattle.bench_engine.specs.Words.{item_size, max_bytes, with_array, with_arrays, GivesPlan, index_array_of, LiesInBlock, IsNamed, is_bound, Shows, item_from, is_basic, count, offsets};
+ghost use Rattle.bench_engine.specs.Words.{item_size, max_bytes, GivesPlan, index_item_of, index_items, is_bound, Shows, item_from, is_basic, count, offsets};
 ghost use Rattle.name_store.specs.States.{Array};
 ghost use Rattle.bench_engine.specs.IndexLists.{names_in_item, names_in_index, array_by_items, gathered, taken};
-ghost use Rattle.bench_engine.specs.inside.Numbers.{Extends};
 ghost use Rattle.bench_engine.specs.inside.OwnContents.{IsInCOrder};
 ghost use Rattle.bench_engine.specs.inside.Meeting.{Meets};
 ghost use Rattle.bench_engine.specs.inside.Assigns.{IsTaken};
 
+use arrays::Items;
 use elem_descr::{IndexItem, Name, Refusal};
-use fancy_index::{Indices, Plan, plan};
+use fancy_index::{Plan, plan};
 use name_store::{ArrayRef, Bench, Bound};
 use shape_strides::MAX_BYTES;
 use std::alloc::{AllocError, Global};
@@ -38,70 +38,42 @@ pub fn are_bound(bench: &Bench, index: &[IndexItem<Name>]) -> bool
     true
 }
 
-/// An item with a number in the place of its name: that of the name's array, which comes after the
-/// others.
-fn numbered<'a>(
-    bench: &'a Bench,
-    item: &IndexItem<Name>,
-    arrays: &mut Vec<Indices<'a>>,
-) -> Result<IndexItem<usize>, AllocError>
-    requires bound { list_all (is_bound bench.now.state) (names_in_item item.now) ≡ true }
-    requires lie { All LiesInBlock arrays.old.items }
-    ensures item { IfOk result (λ k. with_array (map index_array_of arrays.new.items) k
-        ≡ array_by_items bench.now.state item.now) }
-    ensures named { IfOk result (IsNamed (length arrays.new.items)) }
-    ensures kept { Extends arrays.old.items arrays.new.items }
-    ensures lie { All LiesInBlock arrays.new.items }
+/// An item with the array in the place of its name.
+fn with_array<'a>(bench: &'a Bench, item: &IndexItem<Name>) -> IndexItem<Items<'a>>
+    requires { list_all (is_bound bench.now.state) (names_in_item item.now) ≡ true }
+    ensures { index_item_of result ≡ array_by_items bench.now.state item.now }
 {
-    match item {
-        IndexItem::Array(name) => {
+    match *item {
+        IndexItem::Array(ref name) => {
             let array = bench.get(name).unwrap();
-            let number = arrays.len();
-            arrays.push(Indices {
+            IndexItem::Array(Items {
                 block: array.block,
                 layout: array.layout,
                 descr: array.descr,
-            })?;
-            Ok(IndexItem::Array(number))
+            })
         }
-        IndexItem::Integer(at) => Ok(IndexItem::Integer(*at)),
-        IndexItem::Slice { start, stop, step } => Ok(IndexItem::Slice {
-            start: *start,
-            stop: *stop,
-            step: *step,
-        }),
-        IndexItem::Ellipsis => Ok(IndexItem::Ellipsis),
-        IndexItem::NewAxis => Ok(IndexItem::NewAxis),
+        IndexItem::Integer(at) => IndexItem::Integer(at),
+        IndexItem::Slice { start, stop, step } => IndexItem::Slice { start, stop, step },
+        IndexItem::Ellipsis => IndexItem::Ellipsis,
+        IndexItem::NewAxis => IndexItem::NewAxis,
     }
 }
 
-/// An index list with numbers in the place of names, and the arrays with these numbers.
-#[derive(Drop)]
-struct NumberedList<'a> {
-    items: Vec<IndexItem<usize>>,
-    arrays: Vec<Indices<'a>>,
-}
-
-/// An index list with the arrays that its names stand for.
-fn with_numbers<'a>(
+/// An index list with the arrays in the place of their names.
+fn with_arrays<'a>(
     alloc: Global,
     bench: &'a Bench,
     index: &[IndexItem<Name>],
-) -> Result<NumberedList<'a>, AllocError>
-    requires bound { list_all (is_bound bench.now.state) (names_in_index index.now) ≡ true }
-    ensures items { IfOk result
-        (λ list. with_arrays (map index_array_of list.arrays.items) list.items.items
-        ≡ map (array_by_items bench.now.state) index.now) }
-    ensures named { IfOk result
-        (λ list. All (IsNamed (length list.arrays.items)) list.items.items) }
-    ensures lie { IfOk result (λ list. All LiesInBlock list.arrays.items) }
+) -> Result<Vec<IndexItem<Items<'a>>>, AllocError>
+    requires { list_all (is_bound bench.now.state) (names_in_index index.now) ≡ true }
+    ensures { IfOk result (λ v.
+        index_items v.items ≡ map (array_by_items bench.now.state) index.now) }
 {
-    let mut arrays = Vec::new(alloc);
     let mut items = Vec::new(alloc);
     for item in index {
-        items.push(numbered(bench, item, &mut arrays)?)?;
+        items.push(with_array(bench, item))?;
     }
-    Ok(NumberedList { items, arrays })
+    Ok(items)
 }
 
 /// Where the items lie that an index list takes of an array, by the arrays that it names. More than
@@ -118,9 +90,8 @@ pub fn planned(
     ensures few { IfOk result (λ plan. length plan.offsets * item_size array.now.descr.now
         ≤ max_bytes) }
 {
-    let list = with_numbers(alloc, bench, index)?;
-    let items = list.items.as_slice();
-    let plan = plan(alloc, array.layout, items, list.arrays.as_slice())?;
+    let items = with_arrays(alloc, bench, index)?;
+    let plan = plan(alloc, array.layout, items.as_slice())?;
     if plan.len() * array.descr.size() > MAX_BYTES {
         return Err(Refusal::TooLarge);
     }
