@@ -52,7 +52,7 @@ pub use Rattle.elem_descr.specs.declared.scalar.Width.TheVariants.{Eight, Four, 
 pub use Rattle.raw_block.specs.Bytes.{EachWithin, item_at, joined, place, position, put}
 pub use Rattle.raw_block.specs.BytesLaws.{fewer, item_at-put_apart, item_at-put_same}
 pub use Rattle.raw_block.specs.BytesLaws.{length-item_at, length-put, not_negative, position-add}
-pub use Rattle.raw_block.specs.JoinedLaws.{all_joined, joined-same, joined_list, joined_run}
+pub use Rattle.raw_block.specs.JoinedLaws.{all_joined, joined-add, joined-same, joined_list, joined_run}
 pub use Rattle.raw_block.specs.JoinedLaws.{item_of_joined, length-joined}
 pub use Rattle.elem_descr.specs.StepLaws.{numbers-split}
 pub use Rattle.elem_descr.specs.Steps.{numbers_from}

@@ -1,5 +1,5 @@
 //! Passes over pairs of numbers, which push the results of a kernel.
-ghost use Rattle.std.specs.Prelude.{◌≡◌, ◌+◌, ◌*◌, ◌≤◌, ◌++◌, ℤ};
+ghost use Rattle.std.specs.Prelude.{◌≡◌, ◌+◌, ◌*◌, ◌≤◌, ◌++◌, ◌/◌, ℕ, ℤ, List};
 ghost use Rattle.elementwise.specs.Words.{item_size, joined};
 ghost use Rattle.elementwise.specs.inside.PairPasses.{number_pair};
 ghost use Rattle.elementwise.specs.inside.Operands.{pairs_of, made_of_all};
@@ -19,8 +19,91 @@ pub(crate) trait Kernel<A: Number, B: Number, T: Number> {
         ensures { T.value result ≡ makes (A.value left) (B.value right) };
 }
 
-/// Pushes what is made of each pair. The block is taken and given back, so that how far it is filled
-/// stays in a register.
+/// Pushes what is made of the pairs from one on. The block is taken and given back, so that how far it is
+/// filled stays in a register.
+#[inline(always)]
+fn push_from<K: Kernel<A, B, T>, A: Number, B: Number, T: Number, O: Ordered, Q: Ordered>(
+    block: BlockBuilder,
+    pairs: Pairs<'_, '_>,
+    from: usize,
+) -> BlockBuilder
+    requires left { pairs.left.width ≡ A.WIDTH }
+    requires right { pairs.right.width ≡ B.WIDTH }
+    requires from { from ≤ pair_count pairs }
+    requires room { pair_count pairs * T.WIDTH ≤ from * T.WIDTH + block.1 }
+    ensures bytes { (start : List ℕ)
+        → block.0
+        ≡ start
+        ++ joined (made_of
+        (number_pair (A.scalar O.order) (B.scalar O.order) (T.scalar Q.order) K.makes) pairs.entry) from
+        → result.0
+        ≡ start
+        ++ joined (made_of
+        (number_pair (A.scalar O.order) (B.scalar O.order) (T.scalar Q.order) K.makes) pairs.entry)
+        (pair_count pairs.entry) }
+    ensures left { pair_count pairs.entry * T.WIDTH + result.1 ≡ from * T.WIDTH + block.1 }
+{
+    let mut block = block;
+    for k in from..pairs.left.run.count {
+        let left = pairs.left.number::<A, O>(k);
+        let right = pairs.right.number::<B, O>(k);
+        K::make(left, right).push::<Q>(&mut block);
+    }
+    block
+}
+
+/// What is made of sixteen pairs from one on, a byte each.
+#[inline(always)]
+fn made_sixteen<K: Kernel<A, B, T>, A: Number, B: Number, T: Number, O: Ordered, Q: Ordered>(
+    pairs: Pairs<'_, '_>,
+    from: usize,
+) -> [u8; 16]
+    requires left { pairs.left.width ≡ A.WIDTH }
+    requires right { pairs.right.width ≡ B.WIDTH }
+    requires byte { T.WIDTH ≡ 1 }
+    requires from { from + 16 ≤ pair_count pairs }
+    ensures { result
+        ≡ joined (λ j. made_of
+        (number_pair (A.scalar O.order) (B.scalar O.order) (T.scalar Q.order) K.makes) pairs.entry
+        (from + j)) 16 }
+{
+    let mut made = [0; 16];
+    for j in 0..16 {
+        let left = pairs.left.number::<A, O>(from + j);
+        let right = pairs.right.number::<B, O>(from + j);
+        let mut item = [0; 1];
+        K::make(left, right).write::<Q>(&mut item);
+        made[j] = item[0];
+    }
+    made
+}
+
+/// Pushes what is made of the first pairs, a byte each, as far as it goes by sixteens. Each sixteen fill a
+/// vector, however wide the numbers are.
+#[inline(always)]
+fn push_sixteens<K: Kernel<A, B, T>, A: Number, B: Number, T: Number, O: Ordered, Q: Ordered>(
+    block: BlockBuilder,
+    pairs: Pairs<'_, '_>,
+) -> BlockBuilder
+    requires left { pairs.left.width ≡ A.WIDTH }
+    requires right { pairs.right.width ≡ B.WIDTH }
+    requires byte { T.WIDTH ≡ 1 }
+    requires room { pair_count pairs ≤ block.1 }
+    ensures bytes { result.0 ≡ block.0
+        ++ joined (made_of
+        (number_pair (A.scalar O.order) (B.scalar O.order) (T.scalar Q.order) K.makes) pairs.entry)
+        (16 * (pair_count pairs.entry / 16)) }
+    ensures left { 16 * (pair_count pairs.entry / 16) + result.1 ≡ block.1 }
+{
+    let mut block = block;
+    for group in 0..pairs.left.run.count / 16 {
+        let made = made_sixteen::<K, A, B, T, O, Q>(pairs, 16 * group);
+        block.push_array::<16>(made);
+    }
+    block
+}
+
+/// Pushes what is made of each pair.
 #[inline(always)]
 fn push_each<K: Kernel<A, B, T>, A: Number, B: Number, T: Number, O: Ordered, Q: Ordered>(
     block: BlockBuilder,
@@ -35,13 +118,11 @@ fn push_each<K: Kernel<A, B, T>, A: Number, B: Number, T: Number, O: Ordered, Q:
         (pair_count pairs.entry) }
     ensures left { pair_count pairs.entry * T.WIDTH + result.1 ≡ block.1 }
 {
-    let mut block = block;
-    for k in 0..pairs.left.run.count {
-        let left = pairs.left.number::<A, O>(k);
-        let right = pairs.right.number::<B, O>(k);
-        K::make(left, right).push::<Q>(&mut block);
+    if T::WIDTH > 1 || A::WIDTH == 1 {
+        return push_from::<K, A, B, T, O, Q>(block, pairs, 0);
     }
-    block
+    let block = push_sixteens::<K, A, B, T, O, Q>(block, pairs);
+    push_from::<K, A, B, T, O, Q>(block, pairs, 16 * (pairs.left.run.count / 16))
 }
 
 /// A kernel over numbers that are read in a byte order, and pushed in one.
@@ -76,7 +157,7 @@ impl<K: Kernel<A, B, T>, A: Number, B: Number, T: Number, O: Ordered, Q: Ordered
                 block,
                 pairs.with_steps(0, B::WIDTH as isize),
             ),
-            _ => push_each::<K, A, B, T, O, Q>(block, pairs),
+            _ => push_from::<K, A, B, T, O, Q>(block, pairs, 0),
         }
     }
 }

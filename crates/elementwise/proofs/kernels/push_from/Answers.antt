@@ -3,7 +3,7 @@ use Rattle.std.proofs.Math.Nat.{suc-mul, add-mul, mul-le-mul_right}
 use Rattle.elementwise.specs.Words.{number, encode, joined}
 use Rattle.elementwise.specs.inside.PairPasses.{number_pair}
 use Rattle.elementwise.specs.inside.Sides.{made_of, pair_count}
-use Rattle.elementwise.proofs.kernels.push_each.Goals as goal
+use Rattle.elementwise.proofs.kernels.push_from.Goals as goal
 
 pub push-requires : goal.push-requires
 push-requires g c =
@@ -18,6 +18,7 @@ loop-k-preserved g c =
     let is = ap (λ z. encode to (number z)) (c.make.ensures ∙ λ i. g.K.Kernel.makes (c.number-left.ensures i) (c.number-right.ensures i)) in
     let next : suc k ≡ k + 1 = omega arith in
     record {
-      bytes = c.push.ensures.bytes ∙ (λ i. c.loop-k.invariant.bytes i ++ is i) ∙ append_assoc c.args.block.0 (joined made k) (made k) ∙ ap (λ m. c.args.block.0 ++ joined made m) next;
+      bytes = λ start begun. c.push.ensures.bytes ∙ (λ i. c.loop-k.invariant.bytes start begun i ++ is i) ∙ append_assoc start (joined made k) (made k) ∙ ap (λ m. start ++ joined made m) next;
       left = let parts = add-mul k 1 g.T.Number.WIDTH in omega (arith, parts, c.push.ensures.left, c.loop-k.invariant.left);
+      low = omega (arith, c.loop-k.invariant.low);
     }

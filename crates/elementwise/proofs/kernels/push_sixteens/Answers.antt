@@ -1,0 +1,15 @@
+use Rattle.std.proofs.Common.{◌≡◌, ◌+◌, ◌*◌, ◌++◌, ap, ◌∙◌, append_assoc, arith}
+use Rattle.elementwise.specs.Words.{joined, joined-add}
+use Rattle.elementwise.specs.inside.PairPasses.{number_pair}
+use Rattle.elementwise.specs.inside.Sides.{made_of}
+use Rattle.elementwise.proofs.kernels.push_sixteens.Goals as goal
+
+pub loop-group-preserved : goal.loop-group-preserved
+loop-group-preserved g c =
+    let begun = 16 * c.loop-group.group in
+    let made = made_of (number_pair (g.A.Number.scalar g.O.Ordered.order) (g.B.Number.scalar g.O.Ordered.order) (g.T.Number.scalar g.Q.Ordered.order) g.K.Kernel.makes) c.args.pairs in
+    let next : begun + 16 ≡ 16 * (c.loop-group.group + 1) = omega arith in
+    record {
+      bytes = c.push_array.ensures.bytes ∙ (λ i. c.loop-group.invariant.bytes i ++ c.made_sixteen-made.ensures i) ∙ append_assoc c.args.block.0 (joined made begun) (joined (λ j. made (begun + j)) 16) ∙ ap (λ bytes. c.args.block.0 ++ bytes) (joined-add made begun 16 ∙ ap (joined made) next);
+      left = omega (arith, c.push_array.ensures.left, c.loop-group.invariant.left);
+    }
