@@ -82,7 +82,7 @@ pub use Rattle.broadcasting.specs.BroadcastLaws.{IsIndex-broadcast, can-itself, 
 pub use Rattle.broadcasting.specs.Broadcasts.{all_stretch, broadcast_index, can_stretch}
 unfoldable pub use Rattle.broadcasting.specs.Broadcasts.{common_shape, stretched}
 pub use Rattle.broadcasting.specs.Shrinking.{IsStretchOf}
-pub use Rattle.arrays.specs.Assignments.{assigned, items_at, with_items}
+pub use Rattle.arrays.specs.Assignments.{items_at, with_items}
 pub use Rattle.arrays.specs.Blocks.{offsets_in}
 pub use Rattle.arrays.specs.FortranLaws.{fortran-all, fortran-at, length-fortran}
 pub use Rattle.arrays.specs.ItemLists.{items, owned_items}

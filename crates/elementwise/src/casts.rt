@@ -212,7 +212,8 @@ fn cast_block(alloc: Global, from: Items<'_>, to: &Descr) -> Result<RawBlock, Re
         (offsets from.entry.layout.now))) }
     ensures refused { IfErr result (λ refusal. refusal ≡ OutOfMemory) }
 {
-    let width = from.descr.size();
+    let descr = from.descr;
+    let width = descr.size();
     let count = from.layout.shape.items();
     if let Some(run) = from.layout.as_one_run() {
         let items = Side {
@@ -220,14 +221,7 @@ fn cast_block(alloc: Global, from: Items<'_>, to: &Descr) -> Result<RawBlock, Re
             run,
             width,
         };
-        return cast_run(
-            alloc,
-            ItemRun {
-                items,
-                descr: from.descr,
-            },
-            to,
-        );
+        return cast_run(alloc, ItemRun { items, descr }, to);
     }
     let packed = gather(alloc, from.block, from.layout, width)?;
     let items = Side {
@@ -239,14 +233,7 @@ fn cast_block(alloc: Global, from: Items<'_>, to: &Descr) -> Result<RawBlock, Re
         },
         width,
     };
-    cast_run(
-        alloc,
-        ItemRun {
-            items,
-            descr: from.descr,
-        },
-        to,
-    )
+    cast_run(alloc, ItemRun { items, descr }, to)
 }
 
 /// Items, cast leaf by leaf, in a block of their own in C order.
