@@ -213,10 +213,6 @@ module _ (es : List (Key × Entry)) (slots : Slots) (ring : Ring Change) (spare 
           },
     )
 
-    pub none-counts : ring.capacity ≡ 0 → CountsWrite (bench_value es slots ring) name target (Ok n) (bench_value es after ring)
-    none-counts shallow = λ array found.
-        ap (map patch_size) (none-items ring.capacity ring.items sound.short shallow) ∙ sym (none-last ring.capacity (map patch_size ring.items ++ n * item_size (descr_of (present es slots) array) ∷ []) shallow)
-
     -- the old items are kept, those of the target's places in any order
     module _ (aside : Target) (moved : IsPermutation (target_offsets target) (target_offsets aside)) (items : OldItems) (olds : AreOldAt slots (record { number = number; width = width }) aside items) where
       abbrev os : List ℕ

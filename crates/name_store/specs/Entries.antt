@@ -9,9 +9,6 @@ use Rattle.name_store.specs.declared.slot.Slot.{Slot}
 abbrev pub array_at : Entry → Array
 array_at e = record { buffer = e.number; path = e.path; shape = e.layout.shape; places = places_of e.item (offsets e.layout); writable = e.writable }
 
-abbrev pub key_bytes : Key → List ℕ
-key_bytes key = key.bytes.items
-
 abbrev pub named_array : Key × Entry → List ℕ × Array
 named_array entry = (entry.0.bytes.items, array_at entry.1)
 

@@ -1,5 +1,5 @@
 -- What the fields of a bench stand for.
-pub use Rattle.name_store.specs.Entries.{array_at, key_bytes, named_array, slot_at}
+pub use Rattle.name_store.specs.Entries.{array_at, named_array, slot_at}
 use Rattle.std.specs.Prelude.{List, [], map, Option}
 use Rattle.circular_buffer.specs.Buffer.{Buffer as Ring}
 use Rattle.name_store.specs.Words.{items_in}

@@ -33,15 +33,6 @@ fn first_free(cells: &[Option<Slot>], from: usize) -> usize
     cells.len()
 }
 
-/// The buffer with this number.
-pub(crate) fn slot_of(cells: &[Option<Slot>], number: usize) -> &Slot
-    requires within { number < length cells.now }
-    requires occupied { is_some (slot_at cells.now number) ≡ true }
-    ensures { slot_at cells.now number ≡ Some result.now }
-{
-    cells[number].as_ref().unwrap()
-}
-
 /// The buffer with this number, if there is one, to write to.
 pub(crate) fn slot_mut(cells: &mut Vec<Option<Slot>>, number: usize) -> Option<&mut Slot>
     requires { number < vec_len cells.old }
@@ -100,7 +91,7 @@ impl Slots {
         requires { is_some (slot_at self.now.cells.items number) ≡ true }
         ensures { slot_at self.now.cells.items number ≡ Some result.now }
     {
-        slot_of(self.cells.as_slice(), number)
+        self.cells[number].as_ref().unwrap()
     }
 
     /// One more holds the buffer with this number.
@@ -135,7 +126,7 @@ impl Slots {
         ensures swept { (other : ℕ) → option_map stand (slot_at self.new.cells.items other)
             ≡ (if nat_lt 0 (users_at self.new.cells.items other) then option_map stand (slot_at self.old.cells.items other) else None) }
     {
-        if slot_of(self.cells.as_slice(), number).users == 1 {
+        if self.slot(number).users == 1 {
             self.empty(number);
         } else if let Some(slot) = slot_mut(&mut self.cells, number) {
             slot.users -= 1;

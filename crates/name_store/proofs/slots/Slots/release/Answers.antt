@@ -3,9 +3,6 @@ use Rattle.std.specs.Option.{option_copied_mut}
 use Rattle.name_store.proofs.HeldLaws.{used-within, lent-fewer, lent-freed, lowest-lent}
 use Rattle.name_store.proofs.slots.Slots.release.Goals as goal
 
-pub slot_of-requires-clause-within : goal.slot_of-requires-clause-within
-slot_of-requires-clause-within c = rw c.as_slice.ensures.value (used-within c.args.self.now.cells.items c.args.number c.requires)
-
 pub empty-requires : goal.empty-requires
 empty-requires c = omega (arith, c.args.self.now.cells.ok.0, used-within c.args.self.now.cells.items c.args.number c.requires)
 
