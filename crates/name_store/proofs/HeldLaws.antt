@@ -42,6 +42,13 @@ used-within slots n used = by (slot_at slots n) refl used
     by None is none = absurd (omega arith)
     by (Some s) is some = slot_at-within slots n s is
 
+pub used-some : (slots : List (Option Slot)) (n : ℕ) → 1 ≤ users_at slots n → is_some (slot_at slots n) ≡ true
+used-some slots n used = by (slot_at slots n) used
+  where
+    by : (o : Option Slot) → 1 ≤ users_of o → is_some o ≡ true
+    by None is = absurd (omega arith)
+    by (Some s) is = refl
+
 -- The buffer of a slot was lent, and of it only its users changed.
 module _ (slots : List (Option Slot)) (n : ℕ) (was now : Slot) (inside : n < length slots) (there : slot_at slots n ≡ Some was) where
   pub lent-stays : stand now ≡ stand was → (q : ℕ) → option_map stand (slot_at (slice_set slots n (Some now)) q) ≡ option_map stand (slot_at slots q)

@@ -1,6 +1,6 @@
 -- Slots by their numbers, and the buffers in them.
-use Rattle.std.proofs.Common.{◌≡◌, ◌≢◌, ◌+◌, ◌<◌, ◌≤◌, ℕ, zero, suc, Bool, true, false, List, [], ◌∷◌, ◌++◌, length, map, refl, sym, ap, ◌∙◌, cond, Option, Some, None, nat_eq, slice_set, get_or, arith}
-use Rattle.std.specs.Option.{option_map}
+use Rattle.std.proofs.Common.{◌≡◌, ◌≢◌, ◌+◌, ◌<◌, ◌≤◌, ℕ, zero, suc, Bool, true, false, List, [], ◌∷◌, ◌++◌, length, map, refl, sym, ap, ◌∙◌, cond, Option, Some, None, is_some, nat_eq, slice_set, get_or, arith, MutBor}
+use Rattle.std.specs.Option.{option_copied_mut, option_map}
 use Rattle.std.specs.Ordering.{nat_cmp, eq_by_cmp, is_eq}
 use Rattle.std.specs.Cmp.{nat_cmp_total, eq_by_cmp_equiv}
 use Rattle.std.specs.declared.cmp.Ordering.TheVariants.{Less, Equal, Greater}
@@ -55,6 +55,14 @@ pub slot_at-get_or : (slots : List (Option Slot)) (q : ℕ) (d : Option Slot) �
 slot_at-get_or [] q d h = absurd (omega arith)
 slot_at-get_or (x ∷ slots) zero d h = refl
 slot_at-get_or (x ∷ slots) (suc q) d h = slot_at-get_or slots q d (omega arith)
+
+-- what is lent of a slot to write to is what stands there
+pub lent-some : (slots : List (Option Slot)) (n : ℕ) (d : Option Slot) (r : Option (MutBor Slot)) → n < length slots → option_copied_mut r ≡ get_or slots n d → is_some (slot_at slots n) ≡ true → is_some r ≡ true
+lent-some slots n d None inside is there = let no : ⊥ = cc (ap is_some (is ∙ slot_at-get_or slots n d inside), there) in absurd no
+lent-some slots n d (Some r) inside is there = refl
+
+pub lent-there : (slots : List (Option Slot)) (n : ℕ) (d : Option Slot) (r : Option (MutBor Slot)) (s : MutBor Slot) → n < length slots → option_copied_mut r ≡ get_or slots n d → r ≡ Some s → slot_at slots n ≡ Some s.now
+lent-there slots n d r s inside is lent = sym (is ∙ slot_at-get_or slots n d inside) ∙ ap option_copied_mut lent
 
 -- the test of a key in a map of numbers is equality
 abbrev is_number : ℕ → ℕ → Bool

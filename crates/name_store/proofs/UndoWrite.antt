@@ -40,8 +40,11 @@ module _ (es : List (Key × Entry)) (slots : Slots) (ring : Ring Change) (spare 
   pub goes-back : GoBackAt target items (slot_at slots number)
   goes-back = (popped es slots ring wrote spare sound).2.1
 
+  pub goes-some : is_some (slot_at slots number) ≡ true
+  goes-some = goes-there target items (slot_at slots number) goes-back
+
   pub goes-within : number < length slots
-  goes-within = occupied-within slots number (goes-there target items (slot_at slots number) goes-back)
+  goes-within = occupied-within slots number goes-some
 
   module _ (after : Slots) (done : (old : Slot) → slot_at slots number ≡ Some old → HasNew slots number old (back old) after) where
     elsewhere : (q : ℕ) → nat_eq q number ≡ false → (o : Option Slot) → option_map (content_before wrote q) o ≡ option_map stand o

@@ -3,7 +3,6 @@ pub mod Props
 pub mod Held
 pub mod HeldOnce
 pub mod Codes
-pub mod Lends
 pub mod Homes
 pub mod Rebinds
 pub mod OldItems

@@ -1,10 +1,7 @@
 //! The slots, in which buffers stand by their numbers.
 ghost use Rattle.std.specs.Prelude.{◌≡◌, ◌≤◌, ◌<◌, ℕ, nat_eq, true, is_some, length, Some, None, if◌then◌else◌, vec_len, vec_capacity};
-ghost use Rattle.std.specs.Option.{option_copied_mut};
-ghost use Rattle.std.specs.Borrow.{sem};
 ghost use Rattle.name_store.specs.View.{slot_at};
 ghost use Rattle.name_store.specs.inside.Held.{IsLowest, IsLowest-prop};
-ghost use Rattle.name_store.specs.inside.Lends.{LendsSlot};
 
 use crate::slot::Slot;
 use std::alloc::{AllocError, Global};
@@ -31,15 +28,6 @@ fn first_free(cells: &[Option<Slot>], from: usize) -> usize
         }
     }
     cells.len()
-}
-
-/// The buffer with this number, if there is one, to write to.
-pub(crate) fn slot_mut(cells: &mut Vec<Option<Slot>>, number: usize) -> Option<&mut Slot>
-    requires { number < vec_len cells.old }
-    ensures* writes_back { sem 𝓛 (LendsSlot cells.entry number result) }
-    ensures value { option_copied_mut result ≡ slot_at cells.old.items number }
-{
-    cells[number].as_mut()
 }
 
 /// Puts a buffer in the slot with this number, which is one of those that are there or the next one.
@@ -103,9 +91,8 @@ impl Slots {
         ensures stays { (other : ℕ) → option_map stand (slot_at self.new.cells.items other)
             ≡ option_map stand (slot_at self.old.cells.items other) }
     {
-        if let Some(slot) = slot_mut(&mut self.cells, number) {
-            slot.users += 1;
-        }
+        let slot = self.cells[number].as_mut().unwrap();
+        slot.users += 1;
     }
 
     /// Empties the slot with this number.
@@ -128,7 +115,8 @@ impl Slots {
     {
         if self.slot(number).users == 1 {
             self.empty(number);
-        } else if let Some(slot) = slot_mut(&mut self.cells, number) {
+        } else {
+            let slot = self.cells[number].as_mut().unwrap();
             slot.users -= 1;
         }
     }

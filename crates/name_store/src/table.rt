@@ -9,7 +9,7 @@ use crate::entry::{Entry, Key};
 use crate::path::Path;
 use crate::rewrite::put_back;
 use crate::slot::Slot;
-use crate::slots::{Slots, slot_mut};
+use crate::slots::Slots;
 use crate::target::Target;
 use arrays::Owned;
 use elem_descr::Refusal;
@@ -248,8 +248,7 @@ impl Table {
         requires can { CanUndo self.old (Write number target.now items.now) }
         ensures { IsUndone self.old (Write number target.now items.now) self.new }
     {
-        if let Some(slot) = slot_mut(&mut self.slots.cells, number) {
-            put_back(&mut slot.block, target, items);
-        }
+        let slot = self.slots.cells[number].as_mut().unwrap();
+        put_back(&mut slot.block, target, items);
     }
 }
