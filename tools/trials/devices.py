@@ -45,7 +45,7 @@ class Trials:
     def run(self, text: str, words: Sequence[Word] = (), before: Sequence[Word] = (), program: Optional[Path] = None, **more: Any) -> Ended:
         """What a run of the program or of the launcher comes to over a script, perhaps by another command."""
         given: dict[str, Any] = {} if "stdin" in more else {"input": text}
-        streams = {"stdout": subprocess.PIPE, "stderr": subprocess.PIPE, **given, **more}
+        streams: dict[str, Any] = {"stdout": subprocess.PIPE, "stderr": subprocess.PIPE, **given, **more}
         called = [*map(str, before), str(program or self.program), *words]
         ended = subprocess.run(called, cwd=self.folder, timeout=PATIENT, text=True, **streams)
         return ended.returncode, ended.stdout or "", ended.stderr or ""

@@ -3,6 +3,7 @@
 from __future__ import annotations
 
 import errno
+import itertools
 import os
 import subprocess
 from argparse import Namespace
@@ -43,8 +44,7 @@ SCENARIOS = [
 # The file system has no such call; the other errors say that the call failed.
 UNSUPPORTED = {errno.EINVAL, errno.ENOSYS, errno.EOPNOTSUPP}
 FORBIDDEN = {errno.EACCES, errno.EPERM}
-FEW = [errno.EINTR, errno.EIO, errno.ENOENT, errno.EACCES, errno.EINVAL, errno.ENOSYS, errno.EOPNOTSUPP, errno.EROFS, errno.EMFILE,
-       errno.ENOLCK]
+FEW = [errno.EINTR, errno.EIO, errno.ENOENT, errno.EACCES, *sorted(UNSUPPORTED), errno.EROFS, errno.EMFILE, errno.ENOLCK]
 OLD_MODE = 0o640
 PATIENT = 600
 
@@ -64,11 +64,6 @@ def answer(scenario: Scenario, calls: Sequence[Call], at: int, error: int) -> st
     if error in FORBIDDEN and call == Call("open", HIDDEN) and is_left and call not in earlier:
         return scenario.reply
     return FAULT
-
-
-def is_new(calls: Sequence[Call], at: int, reply: str) -> bool:
-    """Whether the new file has the name by then."""
-    return reply.startswith("ok save") or calls[at].name == FOLDER
 
 
 def prepare(folder: Path, scenario: Scenario) -> None:
@@ -106,7 +101,8 @@ def one_call(part: Part, runs: Runs, folder: Path, scenario: Scenario, calls: Se
     part.expect(where, reply, should)
     if scenario.script != SAVE:
         return
-    whole = NEW if is_new(calls, at, should) else scenario.files.get(NAME)
+    is_named = should.startswith("ok save") or calls[at].name == FOLDER
+    whole = NEW if is_named else scenario.files.get(NAME)
     found = {path.name: path.read_bytes() for path in folder.iterdir()}
     part.expect(f"{where}: the file", found.get(NAME), whole)
     if reply.startswith("ok") or calls[at].kind in ("write", "sync", "rename", "mode-open"):
@@ -122,9 +118,8 @@ def each_call(part: Part, runs: Runs, folder: Path, errors: Sequence[int]) -> No
         reply, calls = runs.run(scenario.script, folder)
         part.expect(f"{scenario.name} in peace", reply, scenario.reply)
         part.count(f"calls of {scenario.name}", len(calls))
-        for at in range(len(calls)):
-            for error in errors:
-                one_call(part, runs, folder, scenario, calls, at, error)
+        for at, error in itertools.product(range(len(calls)), errors):
+            one_call(part, runs, folder, scenario, calls, at, error)
 
 
 def all_trials(given: Namespace, folder: Path) -> Part:

@@ -17,7 +17,6 @@ Trial = tuple[str, str]
 SYNTAX = "no E03 syntax"
 MORE = (30, 31, 1000)
 
-
 PARTS = {name: entries(text) for name, text in parts("numbers.txt").items()}
 SETUP = PARTS["arrays"][0][0].split("\n")
 
@@ -57,12 +56,9 @@ def all_trials(given: Namespace, _folder: Path) -> Part:
     lines = [*trials(), *((f'x = load "{k}"', reply) for k, (_, reply) in enumerate(loaded))]
     with Runner(given.program) as runner:
         fill(runner.dir, {str(k): file for k, (file, _) in enumerate(loaded)})
-        words = ["--dir", str(runner.dir)]
-        setup = runner.run("".join(f"{line}\n" for line in SETUP).encode(), words)
-        if setup.status or setup.err:
-            part.fault("\n".join(SETUP), setup, "all of it accepted")
         for line, reply in lines:
-            ran = runner.run("".join(f"{text}\n" for text in [*SETUP, line]).encode(), words)
-            happened = "\n".join(ran.out.decode().splitlines()[len(SETUP):]), ran.status, ran.err
-            part.expect(line, happened, (reply, int("no E" in reply), b""))
+            ran = runner.run("".join(f"{text}\n" for text in [*SETUP, line]).encode(), ["--dir", runner.dir])
+            before, happened = ran.out.decode().splitlines()[:len(SETUP)], ran.out.decode().splitlines()[len(SETUP):]
+            is_set_up = all(told.startswith("ok") for told in before)
+            part.expect(line, ("\n".join(happened), ran.status, ran.err, is_set_up), (reply, int("no E" in reply), b"", True))
     return part
