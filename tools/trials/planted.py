@@ -2,13 +2,14 @@
 from __future__ import annotations
 
 import importlib
+import re
 import shutil
 from argparse import Namespace
 from pathlib import Path
 from typing import Any, NamedTuple
 from unittest import mock
 
-from . import errors
+from . import TOP, errors
 from .lines import own_scripts
 from .runs import Part, compiled
 
@@ -27,18 +28,8 @@ class Fault(NamedTuple):
         return OTHERS.get(self.said) or f"`{self.said}` becomes `{self.instead}`"
 
 
-FAULTS = [
-    Fault("numpy mixed", "ok set 6", "ok set 5"), Fault("numpy mixed", "ok undo", "no E26 nothing to undo"), Fault("numpy mixed", "FILES"),
-    Fault("numpy indexes", "no E15 index shapes", "no E11 index out of range"), Fault("numpy masks", "(3,) copy", "(4,) copy"),
-    Fault("numpy shares", "shares yes", "shares no"), Fault("numpy computing", "255", "254"), Fault("numpy formats", "T{<h", "T{>h"),
-    Fault("hostile memory", "no E40 out of memory", "no E09 too large"),
-    Fault("hostile limits", "no E40 out of memory", "no E09 too large"),
-    Fault("hostile files", "no E31 truncated", "no E30 bad header"),
-    Fault("hostile numbers", "no E23 literal out of range", "no E33 no such cast"),
-    Fault("hostile devices", "no E27 store fault", "ok save 140"),
-    Fault("hostile errors", "no E27 store fault", "no E34 no such file"), Fault("hostile kills", "TORN"),
-    Fault("hostile long", "no E07 too many names", "ok more |u1 (3,) new"),
-]
+LINES = (TOP / "tools/trials/planted.txt").read_text().splitlines()
+FAULTS = [Fault(*re.split(": | \\| ", line, maxsplit=2)) for line in LINES if line and not line.startswith("#")]
 # The trials in small.
 SMALL: dict[str, dict[str, Any]] = {
     "beside_numpy": {}, "numbers": {}, "devices": {}, "files": {"ALTERED": 1000}, "kills": {},
