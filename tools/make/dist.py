@@ -128,10 +128,8 @@ def differences():
 
 def check():
     found = list(differences())
-    for difference in found:
-        print(f"bench: {difference}")
-    if not found:
-        print("bench: dist/ is what these sources give")
+    for line in found or ["dist/ is what these sources give"]:
+        print(f"bench: {line}")
     return 1 if found else 0
 
 

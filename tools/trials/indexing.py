@@ -1,7 +1,7 @@
 """The items of an array that an index list names; its refusals come in the program's order."""
 from __future__ import annotations
 
-from typing import Any, Callable, Iterator, Optional
+from typing import Any, Callable, Iterator
 
 import numpy as np
 
@@ -45,18 +45,19 @@ def is_outside(item: Any, lengths: tuple[int, ...]) -> bool:
     return any(not -lengths[0] <= number < lengths[0] for number in numbers)
 
 
-def refusal(array: Array, items: list[Any]) -> Optional[str]:
-    """The first refusal of an index list that is known before its arrays are stretched to one another."""
-    arrays = [item for item in items if isinstance(item, np.ndarray)]
-    pairs = [] if sum(map(width, items)) > array.ndim else list(lined_up(array, items))
-    checks = {
-        "E14": any(not (item.dtype.kind in "iu" or item.dtype.kind == "b" and item.ndim) for item in arrays),
-        "E10": sum(map(width, items)) > array.ndim,
-        "E13": any(is_mask(item) and item.shape != lengths for item, lengths in pairs),
-        "E12": any(isinstance(item, slice) and item.step == 0 for item in items),
-    }
-    found = next((code for code, holds in checks.items() if holds), None)
-    return found or ("E11" if any(is_outside(item, lengths) for item, lengths in pairs) else None)
+def check(array: Array, items: list[Any]) -> None:
+    """Refuses an index list by what is known before its arrays are stretched to one another."""
+    if any(isinstance(item, np.ndarray) and not (item.dtype.kind in "iu" or is_mask(item) and item.ndim) for item in items):
+        raise Refused("E14")
+    if sum(map(width, items)) > array.ndim:
+        raise Refused("E10")
+    pairs = list(lined_up(array, items))
+    if any(is_mask(item) and item.shape != lengths for item, lengths in pairs):
+        raise Refused("E13")
+    if any(isinstance(item, slice) and item.step == 0 for item in items):
+        raise Refused("E12")
+    if any(is_outside(item, lengths) for item, lengths in pairs):
+        raise Refused("E11")
 
 
 class Part:
@@ -64,8 +65,7 @@ class Part:
     order in which they are taken."""
 
     def __init__(self, array: Array, items: list[Any]):
-        if code := refusal(array, items):
-            raise Refused(code)
+        check(array, items)
         self.array, self.places = array, None
         self.items = tuple(items) + (() if any(item is Ellipsis for item in items) else (Ellipsis,))
         if any(isinstance(item, np.ndarray) for item in items):

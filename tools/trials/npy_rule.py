@@ -112,23 +112,21 @@ class Records:
             if not isinstance(entry, tuple) or len(entry) != 2 or not isinstance(entry[0], str) or not isinstance(entry[1], (str, list)):
                 raise LEFT_OUT
             name, type_ = entry
-            if name == "":
-                more, inner = padding(type_), ""
-            elif not NAME.fullmatch(name):
+            if name and not NAME.fullmatch(name):
                 raise LEFT_OUT
-            else:
-                inner, more = self.field(type_, depth)
-                if name in names:
-                    raise BAD_TYPE
+            inner, more = self.field(type_, depth) if name else ("", padding(type_))
+            if name and name in names:
+                raise BAD_TYPE
+            if name:
                 names.append(name)
-                text += (f"{gap}x" if gap else "") + f"{inner}:{name}:"
-            gap = gap + more if name == "" else 0
+                text += f"{gap}x" * (gap > 0) + f"{inner}:{name}:"
+            gap = 0 if name else gap + more
             size += more
             if len(names) > MOST_FIELDS or self.leaves > MOST_LEAVES or size > MOST_ITEM:
                 raise TOO_LARGE
         if not names:
             raise LEFT_OUT
-        return "T{" + text + (f"{gap}x" if gap else "") + "}", size
+        return "T{" + text + f"{gap}x" * (gap > 0) + "}", size
 
     def field(self, type_: Any, depth: int) -> tuple[str, int]:
         """The format text and the size of a field."""

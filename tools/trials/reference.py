@@ -240,14 +240,14 @@ class Reference:
         return self.bind(name, computations.transformed(word, self.part(source, items).read()), "new")
 
     def reduction(self, name: str, word: str, source: str, axis: Optional[str], keep: Optional[str]) -> str:
-        found = computations.reduced(word, self.array(source), None if axis is None else int(axis), keep is not None)
-        return self.bind(name, found, "new")
+        along = None if axis is None else int(axis)
+        return self.bind(name, computations.reduced(word, self.array(source), along, keep is not None), "new")
 
     def set_literal(self, name: str, items: str, value: str) -> str:
         target = self.target(name, items)
-        dtype, shape = target.array.dtype, target.read().shape
-        target.write(dtypes.full(shape, value, dtype))
-        return f"ok set {math.prod(shape)}"
+        made = dtypes.full(target.read().shape, value, target.array.dtype)
+        target.write(made)
+        return f"ok set {made.size}"
 
     def set_items(self, name: str, items: str, source: str, taken: Optional[str]) -> str:
         target = self.target(name, items)
