@@ -238,12 +238,9 @@ def believed(top: Path = TOP, headline: tuple[str, str] = HEADLINE) -> dict[Path
     repository, source = Repository(top), Source(top / headline[0])
     contract = re.findall(rf"pub fn {headline[1]}\b.*?\n\{{", source.text, re.S)[0]
     reached = repository.reached(source.cites(contract))
-    by_file: dict[Path, list[str]] = collections.defaultdict(list)
-    for module, it in sorted(repository.modules.items(), key=lambda item: item[1].path):
-        for name in it.local:
-            if (module, name) in reached:
-                by_file[it.path.relative_to(top / "crates")].append(name)
-    return by_file
+    found = {it.path.relative_to(top / "crates"): [name for name in it.local if (module, name) in reached]
+             for module, it in repository.modules.items()}
+    return {file: names for file, names in found.items() if names}
 
 
 def listed(found: dict[Path, list[str]]) -> str:
