@@ -10,7 +10,7 @@ from argparse import Namespace
 from pathlib import Path
 from typing import NamedTuple, Optional, Sequence
 
-from .files import FILE
+from .files import FILE, header_text, padded, with_header
 from .runs import Part, compiled, fill
 
 
@@ -31,7 +31,7 @@ class Scenario(NamedTuple):
 
 
 ITEMS = bytes([7, 7, 7])
-NEW = FILE[:10] + b"{'descr': '|u1', 'fortran_order': False, 'shape': (3,), }" + b" " * 60 + b"\n" + ITEMS
+NEW = with_header(padded(header_text("'|u1'")), ITEMS)
 NAME, HIDDEN, FOLDER = "a.npy", ".a.npy.part", "."
 FAULT, NO_FILE = "no E27 store fault", "no E34 no such file"
 SAVE = 'a = full |u1 (3) 7\nsave a "a.npy"\n'

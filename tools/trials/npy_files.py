@@ -12,10 +12,10 @@ from bench_tool import scripts
 
 from . import dtypes
 from .dtypes import Array
+from .files import padded, with_header
 
 npy: Any = untyped
 LONGEST_SHORT_TEXT = 65525
-VERSIONS = {(1, 0): 2, (2, 0): 4}
 
 
 def is_fortran(array: Array) -> bool:
@@ -25,11 +25,8 @@ def is_fortran(array: Array) -> bool:
 def saved(array: Array) -> bytes:
     """The bytes of the file that the program should write: the fewest spaces before the items, and padding of zeros."""
     text = f"{{'descr': {npy.dtype_to_descr(array.dtype)!r}, 'fortran_order': {is_fortran(array)}, 'shape': {array.shape!r}, }}"
-    version = (1, 0) if len(text) <= LONGEST_SHORT_TEXT else (2, 0)
-    before = 8 + VERSIONS[version]
-    text += " " * (-(before + len(text) + 1) % 64) + "\n"
-    head = b"\x93NUMPY" + bytes(version) + len(text).to_bytes(VERSIONS[version], "little") + text.encode()
-    return head + dtypes.cast(array, array.dtype).tobytes("F" if is_fortran(array) else "C")
+    version, items = 1 if len(text) <= LONGEST_SHORT_TEXT else 2, dtypes.cast(array, array.dtype)
+    return with_header(padded(text.encode(), version), items.tobytes("F" if is_fortran(array) else "C"), version)
 
 
 def loaded(file: bytes) -> Array:

@@ -8,7 +8,7 @@ import re
 from random import Random
 from typing import Any
 
-from .rules import LETTERS, MOST_AXES, MOST_BYTES, MOST_ITEMS, Refused, tuple_text
+from .rules import LETTERS, MOST_AXES, MOST_BYTES, MOST_ITEMS, Refused
 
 # What a header is made of: literals, of whose numbers an `L` is part, and brackets, colons and commas, with blanks between.
 LITERAL = r"""'[ -&(-\[\]-~]*'|"[ !#-\[\]-~]*"|(?:0|[1-9][0-9]*)L?(?![0-9])|(?:True|False|None)(?![A-Za-z])"""
@@ -184,7 +184,7 @@ def loaded(file: bytes, more: int) -> tuple[str, int]:
     rest = len(file) + more - start - total
     if rest < 0:
         raise TRUNCATED
-    return f"{shown} {tuple_text(shape)} new rest {rest}", total
+    return f"{shown} {shape} new rest {rest}", total
 
 
 def reply(file: bytes, more: int = 0) -> tuple[str, int]:

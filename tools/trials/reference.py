@@ -17,7 +17,7 @@ import numpy as np
 
 from . import computations, dtypes, indexing, npy_files, npy_rule
 from .dtypes import Array, type_text
-from .rules import MOST_AXES, MOST_ITEMS, Refused, refusing, tuple_text
+from .rules import MOST_AXES, MOST_ITEMS, Refused, refusing
 
 NAME, TYPE, SHAPE, PART = "([a-z])", r"(\S+)", r"\(([^)]*)\)", r"([a-z])(?:\[(.+?)\])?"
 WORDS = {"OP": computations.OPERATIONS + computations.COMPARISONS, "UN": computations.UNARY, "RED": computations.REDUCTIONS}
@@ -47,10 +47,6 @@ np.set_printoptions(threshold=sys.maxsize, linewidth=sys.maxsize)
 
 def numbers(text: str) -> list[int]:
     return [int(number) for number in text.split(",") if number]
-
-
-def address(array: Array) -> int:
-    return int(array.__array_interface__["data"][0])
 
 
 def buffer_of(array: Array) -> Array:
@@ -169,9 +165,9 @@ class Reference:
                 self.counts[f"masks of {axes} ax{'e' if axes > 1 else 'i'}s"] += 1
 
     def bind(self, name: str, array: Array, kind: str, source: str = "") -> str:
-        self.starts[name] = self.starts[source] if kind == "view" else address(array)
+        self.starts[name] = self.starts[source] if kind == "view" else array.ctypes.data
         self.arrays[name] = array
-        return f"ok {name} {type_text(array.dtype)} {tuple_text(array.shape)} {kind}"
+        return f"ok {name} {type_text(array.dtype)} {array.shape} {kind}"
 
     def zeros(self, name: str, type_: str, shape: str) -> str:
         dtype = dtypes.read(type_)
@@ -294,10 +290,10 @@ class Reference:
 
     def info(self, name: str) -> str:
         array = self.array(name)
-        steps = [0 if array.size == 0 or length < 2 else stride for length, stride in zip(array.shape, array.strides)]
-        at = 0 if array.size == 0 else address(array) - self.starts[name]
+        steps = tuple(0 if array.size == 0 or length < 2 else stride for length, stride in zip(array.shape, array.strides))
+        at = 0 if array.size == 0 else array.ctypes.data - self.starts[name]
         order = "C" * array.flags.c_contiguous + "F" * array.flags.f_contiguous
-        begin = f"info {name} {type_text(array.dtype)} {tuple_text(array.shape)} strides {tuple_text(steps)}"
+        begin = f"info {name} {type_text(array.dtype)} {array.shape} strides {steps}"
         return f"{begin} at {at} order {order or '-'} write {'yes' if array.flags.writeable else 'no'}"
 
     def format(self, name: str) -> str:

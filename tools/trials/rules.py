@@ -2,7 +2,7 @@
 from __future__ import annotations
 
 import contextlib
-from typing import Iterable, Iterator
+from typing import Iterator
 
 from bench_tool import language
 
@@ -25,7 +25,3 @@ def refusing(code: str) -> Iterator[None]:
         yield
     except ValueError:
         raise Refused(code) from None
-
-
-def tuple_text(numbers: Iterable[int]) -> str:
-    return repr(tuple(numbers))
