@@ -12,7 +12,6 @@ use Rattle.name_store.specs.Parts.{start_at}
 use Rattle.name_store.specs.Targets.{IsAim, Supplies, MayWrite, LeadsTo, target_offsets}
 use Rattle.name_store.specs.View.{named_array, present}
 use Rattle.name_store.specs.declared.entry.Entry.{Entry}
-use Rattle.name_store.specs.declared.entry.Key.{Key}
 use Rattle.name_store.specs.declared.table.Home.{Home}
 use Rattle.name_store.specs.declared.slot.Slot.{Slot}
 use Rattle.name_store.specs.declared.target.Source.{Source}
@@ -36,7 +35,7 @@ parts-within item start width n [] inside all = tt
 parts-within item start width n (place ∷ places) inside all =
     (omega (arith, inside, item-inside item n place all.0), parts-within item start width n places inside all.1)
 
-module _ (es : List (Key × Entry)) (slots : Slots) (name : List ℕ) (number width : ℕ) (home : IsHome es slots name number width) where
+module _ (es : List (List ℕ × Entry)) (slots : Slots) (name : List ℕ) (number width : ℕ) (home : IsHome es slots name number width) where
   abbrev state : State
   state = present es slots
 

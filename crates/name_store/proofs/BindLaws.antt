@@ -21,7 +21,6 @@ use Rattle.name_store.specs.declared.bound.Bound.TheVariants.{Fresh, View}
 use Rattle.name_store.specs.declared.change.Change.{Change}
 use Rattle.name_store.specs.declared.change.Change.TheVariants.{Bind}
 use Rattle.name_store.specs.declared.entry.Entry.{Entry}
-use Rattle.name_store.specs.declared.entry.Key.{Key}
 use Rattle.name_store.specs.declared.slot.Slot.{Slot}
 use Rattle.name_store.specs.inside.Held.{stand, Adds}
 use Rattle.name_store.specs.inside.Rebinds.{IsOf, Lodges, Rebinds}
@@ -49,7 +48,7 @@ tried-kept (Ok number) slots before slot adds _ = added-kept slots before slot n
 tried-kept (Err e) slots before slot _ same = λ q _. ap (λ (ss : Slots). option_map stand (slot_at ss q)) same
 
 -- names' arrays lie where they lay
-pub holds-kept : (es : List (Key × Entry)) (slots now : Slots) → Holds es slots → ((q : ℕ) → is_some (slot_at slots q) ≡ true → Alike (slot_at now q) (slot_at slots q)) → Holds es now
+pub holds-kept : (es : List (List ℕ × Entry)) (slots now : Slots) → Holds es slots → ((q : ℕ) → is_some (slot_at slots q) ≡ true → Alike (slot_at now q) (slot_at slots q)) → Holds es now
 holds-kept es slots now h kept = record {
   few = h.few;
   lie = all-both (λ e. LiesAt (slot_at slots e.number) e) (λ e. LiesAt (slot_at slots e.number) e) (λ e. LiesAt (slot_at now e.number) e)
@@ -57,44 +56,44 @@ holds-kept es slots now h kept = record {
 }
 
 -- The table has the new entry.
-module _ (es es' : List (Key × Entry)) (slots now : Slots) (before : Holds es slots) (h : Holds es now) (eq : Key → Key → Bool) (k : Key) (v : Entry) (replaced : Option Entry)
-    (inserted : es' ≡ insert_entry eq es k v) (is : TestsName (eq k) k.bytes.items) (was : replaced ≡ lookup (eq k) es) (len : length es' ≡ length es + cond (is_some replaced) 0 1)
-    (room : has_room_for (present es slots) k.bytes.items ≡ true) (bound : Bound) (lodges : Lodges es slots bound v now) where
+module _ (es es' : List (List ℕ × Entry)) (slots now : Slots) (before : Holds es slots) (h : Holds es now) (eq : List ℕ → List ℕ → Bool) (k : List ℕ) (v : Entry) (replaced : Option Entry)
+    (inserted : es' ≡ insert_entry eq es k v) (is : TestsName (eq k) k) (was : replaced ≡ lookup (eq k) es) (len : length es' ≡ length es + cond (is_some replaced) 0 1)
+    (room : has_room_for (present es slots) k ≡ true) (bound : Bound) (lodges : Lodges es slots bound v now) where
   few : length es' ≤ 1024
   few = counted replaced refl
     where
       counted : (r : Option Entry) → replaced ≡ r → length es' ≤ 1024
-      counted None e = omega (arith, len ∙ ap (λ r. length es + cond (is_some r) 0 1) e, few-bound es slots (eq k) k.bytes.items is room (sym was ∙ e))
+      counted None e = omega (arith, len ∙ ap (λ r. length es + cond (is_some r) 0 1) e, few-bound es slots (eq k) k is room (sym was ∙ e))
       counted (Some r) e = omega (arith, len ∙ ap (λ r. length es + cond (is_some r) 0 1) e, h.few)
 
   earlier-lies : (r : Option Entry) → replaced ≡ r → IfSome r (λ e. LiesAt (slot_at slots e.number) e)
   earlier-lies None e = tt
   earlier-lies (Some old) e = all-lookup (λ x. LiesAt (slot_at slots x.number) x) (eq k) es old before.lie (sym was ∙ e)
 
-  pub rebinds : Rebinds es slots k.bytes.items bound replaced es' now
+  pub rebinds : Rebinds es slots k bound replaced es' now
   rebinds = record {
     entry = v;
     lodges = lodges;
     table = ap (map named_array) inserted ∙ put-insert eq k v is es;
-    was = ap (option_map array_at) was ∙ sym (find-lookup (eq k) k.bytes.items is es);
+    was = ap (option_map array_at) was ∙ sym (find-lookup (eq k) k is es);
     earlier_lies = earlier-lies replaced refl;
   }
 
   pub rebound-holds : Holds es' now
   rebound-holds = record {
     few = few;
-    lie = subst (λ (ns : List (Key × Entry)). AllByRecursion (λ entry. LiesAt (slot_at now entry.1.number) entry.1) ns) (sym inserted)
+    lie = subst (λ (ns : List (List ℕ × Entry)). AllByRecursion (λ entry. LiesAt (slot_at now entry.1.number) entry.1) ns) (sym inserted)
         (all-insert (λ e. LiesAt (slot_at now e.number) e) eq k v es lodges.lies h.lie);
   }
 
 -- so it is where the table has room
-pub inserted-holds : {E : Type 0} (r : Result (Option Entry) E) (es es' : List (Key × Entry)) (slots now : Slots) → Holds es slots → Holds es now → (eq : Key → Key → Bool) (k : Key) (v : Entry) → IsOk r → OnOk r (es' ≡ insert_entry eq es k v) → TestsName (eq k) k.bytes.items → IfOk r (λ replaced. replaced ≡ lookup (eq k) es) →
-    IfOk r (λ replaced. length es' ≡ length es + cond (is_some replaced) 0 1) → has_room_for (present es slots) k.bytes.items ≡ true → (bound : Bound) → Lodges es slots bound v now → Holds es' now
+pub inserted-holds : {E : Type 0} (r : Result (Option Entry) E) (es es' : List (List ℕ × Entry)) (slots now : Slots) → Holds es slots → Holds es now → (eq : List ℕ → List ℕ → Bool) (k : List ℕ) (v : Entry) → IsOk r → OnOk r (es' ≡ insert_entry eq es k v) → TestsName (eq k) k → IfOk r (λ replaced. replaced ≡ lookup (eq k) es) →
+    IfOk r (λ replaced. length es' ≡ length es + cond (is_some replaced) 0 1) → has_room_for (present es slots) k ≡ true → (bound : Bound) → Lodges es slots bound v now → Holds es' now
 inserted-holds (Ok replaced) es es' slots now before h eq k v _ inserted is was len room bound lodges = rebound-holds es es' slots now before h eq k v replaced inserted is was len room bound lodges
 inserted-holds (Err e) es es' slots now before h eq k v bad inserted is was len room bound lodges = let wrong : ⊥ = cc in absurd wrong
 
 -- A fresh array: a buffer is put in the first slot that was free.
-module _ (es : List (Key × Entry)) (slots now : Slots) (v : Entry) (slot : Slot) (o : Owned) (adds : Adds slots slot v.number now) (one : slot.users ≡ 1)
+module _ (es : List (List ℕ × Entry)) (slots now : Slots) (v : Entry) (slot : Slot) (o : Owned) (adds : Adds slots slot v.number now) (one : slot.users ≡ 1)
     (descr-is : slot.descr ≡ o.descr) (items-are : slot.items ≡ count o.layout.shape) (block-is : slot.block ≡ o.block) (layout-is : v.layout ≡ o.layout) (item-is : v.item ≡ item_size o.descr) (path-is : v.path ≡ [])
     (writable-is : v.writable ≡ true) where
   own-is : buffer_in slot ≡ own_buffer o
@@ -153,7 +152,7 @@ module _ (es : List (Key × Entry)) (slots now : Slots) (v : Entry) (slot : Slot
   }
 
 -- A view: one more holds its buffer.
-module _ (es : List (Key × Entry)) (slots : Slots) (number : ℕ) (path : List ℕ) (layout : Layout) (writable : Bool) (array : Array) (view : IsViewIn (present es slots) number path layout writable array)
+module _ (es : List (List ℕ × Entry)) (slots : Slots) (number : ℕ) (path : List ℕ) (layout : Layout) (writable : Bool) (array : Array) (view : IsViewIn (present es slots) number path layout writable array)
     (v : Entry) (s : Slot) (there : slot_at slots number ≡ Some s) (v-number : v.number ≡ number) (layout-is : v.layout ≡ layout) (item-is : v.item ≡ item_size s.descr) (writable-is : v.writable ≡ writable) (path-is : v.path ≡ path) where
   module _ (now : Slots) (stays : (q : ℕ) → Alike (slot_at now q) (slot_at slots q)) (users : (q : ℕ) → users_at now q ≡ users_at slots q + one_at q v.number) where
     pub view-lodges : Lodges es slots (View number path layout writable) v now
@@ -176,16 +175,16 @@ module _ (es : List (Key × Entry)) (slots : Slots) (number : ℕ) (path : List 
 
 -- What is asked of a state as it is, or with what is kept.
 
-pub view-present : (es : List (Key × Entry)) (slots : Slots) (ring : Ring Change) (number : ℕ) (path : List ℕ) (layout : Layout) (writable : Bool) (array : Array) → IsViewIn (state_of es slots ring) number path layout writable array → IsViewIn (present es slots) number path layout writable array
+pub view-present : (es : List (List ℕ × Entry)) (slots : Slots) (ring : Ring Change) (number : ℕ) (path : List ℕ) (layout : Layout) (writable : Bool) (array : Array) → IsViewIn (state_of es slots ring) number path layout writable array → IsViewIn (present es slots) number path layout writable array
 view-present es slots ring number path layout writable array view = record { number_is = view.number_is; path_is = view.path_is; there = view.there; laid = view.laid }
 
-pub may-present : (es : List (Key × Entry)) (slots : Slots) (ring : Ring Change) (bound : Bound) → MayBind (state_of es slots ring) bound → MayBind (present es slots) bound
+pub may-present : (es : List (List ℕ × Entry)) (slots : Slots) (ring : Ring Change) (bound : Bound) → MayBind (state_of es slots ring) bound → MayBind (present es slots) bound
 may-present es slots ring (Fresh o) may = tt
 may-present es slots ring (View number path layout writable) may = (may.0, view-present es slots ring number path layout writable may.0 may.1)
 
 -- The change is kept.
-module _ (es : List (Key × Entry)) (slots : Slots) (ring : Ring Change) (spare : ℕ) (sound : IsSound es slots ring spare) (name : List ℕ) (bound : Bound) (earlier : Option Entry) (es' : List (Key × Entry)) (now : Slots)
-    (r : Rebinds es slots name bound earlier es' now) (holds : Holds es' now) (key : Key) (key-is : key.bytes.items ≡ name) where
+module _ (es : List (List ℕ × Entry)) (slots : Slots) (ring : Ring Change) (spare : ℕ) (sound : IsSound es slots ring spare) (name : List ℕ) (bound : Bound) (earlier : Option Entry) (es' : List (List ℕ × Entry)) (now : Slots)
+    (r : Rebinds es slots name bound earlier es' now) (holds : Holds es' now) (key : List ℕ) (key-is : key ≡ name) where
   abbrev names : Names
   names = map named_array es
 

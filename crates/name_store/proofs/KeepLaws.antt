@@ -12,7 +12,6 @@ use Rattle.name_store.specs.Kept.{Names, names_before, past_buffers, kept_states
 use Rattle.name_store.specs.View.{named_array, slot_at, state_of}
 use Rattle.name_store.specs.declared.change.Change.{Change}
 use Rattle.name_store.specs.declared.entry.Entry.{Entry}
-use Rattle.name_store.specs.declared.entry.Key.{Key}
 use Rattle.name_store.specs.inside.Held.{stand}
 use Rattle.name_store.proofs.NameLaws.{all-both, all-in_use, in_front}
 use Rattle.name_store.proofs.Needs.{needs, is_needed}
@@ -75,7 +74,7 @@ patches-push ring ring' c ring-is =
     ∙ ap (keep_last ring.capacity) (map-append patch_size ring.items (c ∷ []))
 
 -- A change was made to names and slots.
-module _ (es : List (Key × Entry)) (slots : Slots) (ring : Ring Change) (spare : ℕ) (sound : IsSound es slots ring spare) (es' : List (Key × Entry)) (now : Slots) (c : Change)
+module _ (es : List (List ℕ × Entry)) (slots : Slots) (ring : Ring Change) (spare : ℕ) (sound : IsSound es slots ring spare) (es' : List (List ℕ × Entry)) (now : Slots) (c : Change)
     (before-is : names_before c (map named_array es') ≡ map named_array es) (holds : Holds es' now) (restored : (q : ℕ) → is_needed (map named_array es) ring.items q ≡ true → Restored c q (slot_at now q) (slot_at slots q))
     (own : IsUndoable c (map named_array es') now) where
   abbrev names : Names

@@ -13,7 +13,6 @@ use Rattle.name_store.specs.States.{Array}
 use Rattle.name_store.specs.Arrays.{find_array, put_array, without, is_in_use}
 use Rattle.name_store.specs.View.{array_at, named_array}
 use Rattle.name_store.specs.declared.entry.Entry.{Entry}
-use Rattle.name_store.specs.declared.entry.Key.{Key}
 
 same : (xs ys : List ℕ) → bytes_eq xs ys ≡ true → xs ≡ ys
 same xs ys e = (bytes_eq-Decides xs ys).0 e
@@ -51,37 +50,37 @@ in_tail true b h = refl
 in_tail false b h = h
 
 -- a test of keys that is that of a name
-abbrev pub TestsName : (Key → Bool) → List ℕ → Type 0
-TestsName test name = (k : Key) → test k ≡ bytes_eq name k.bytes.items
+abbrev pub TestsName : (List ℕ → Bool) → List ℕ → Type 0
+TestsName test name = (k : List ℕ) → test k ≡ bytes_eq name k
 
-module _ (test : Key → Bool) (name : List ℕ) (is : TestsName test name) where
-  flipped : (k : Key) → bytes_eq k.bytes.items name ≡ test k
-  flipped k = bytes_eq-sym k.bytes.items name ∙ sym (is k)
+module _ (test : List ℕ → Bool) (name : List ℕ) (is : TestsName test name) where
+  flipped : (k : List ℕ) → bytes_eq k name ≡ test k
+  flipped k = bytes_eq-sym k name ∙ sym (is k)
 
-  pub find-lookup : (es : List (Key × Entry)) → find_array (map named_array es) name ≡ option_map array_at (lookup test es)
+  pub find-lookup : (es : List (List ℕ × Entry)) → find_array (map named_array es) name ≡ option_map array_at (lookup test es)
   find-lookup [] = refl
   find-lookup (e ∷ es) =
       ap (λ t. cond t (Some (array_at e.1)) (find_array (map named_array es) name)) (flipped e.0)
       ∙ elim (test e.0) as (λ t. cond t (Some (array_at e.1)) (find_array (map named_array es) name) ≡ option_map array_at (cond t (Some e.1) (lookup test es))) [ true ↦ refl | false ↦ find-lookup es ]
 
-  pub without-remove : (es : List (Key × Entry)) → map named_array (shift_remove_entry test es) ≡ without (map named_array es) name
+  pub without-remove : (es : List (List ℕ × Entry)) → map named_array (shift_remove_entry test es) ≡ without (map named_array es) name
   without-remove [] = refl
   without-remove (e ∷ es) =
       elim (test e.0) as (λ t. map named_array (cond t es (e ∷ shift_remove_entry test es)) ≡ cond t (map named_array es) (named_array e ∷ without (map named_array es) name)) [ true ↦ refl | false ↦ ap (λ names. named_array e ∷ names) (without-remove es) ]
       ∙ ap (λ t. cond t (map named_array es) (named_array e ∷ without (map named_array es) name)) (sym (flipped e.0))
 
-pub put-insert : (eq : Key → Key → Bool) (k : Key) (v : Entry) → TestsName (eq k) k.bytes.items → (es : List (Key × Entry)) →
-    map named_array (insert_entry eq es k v) ≡ put_array (map named_array es) k.bytes.items (array_at v)
+pub put-insert : (eq : List ℕ → List ℕ → Bool) (k : List ℕ) (v : Entry) → TestsName (eq k) k → (es : List (List ℕ × Entry)) →
+    map named_array (insert_entry eq es k v) ≡ put_array (map named_array es) k (array_at v)
 put-insert eq k v is [] = refl
 put-insert eq k v is (e ∷ es) =
-    elim (eq k e.0) as (λ t. eq k e.0 ≡ t → map named_array (cond t ((e.0, v) ∷ es) (e ∷ insert_entry eq es k v)) ≡ cond t ((k.bytes.items, array_at v) ∷ map named_array es) (named_array e ∷ put_array (map named_array es) k.bytes.items (array_at v))) [
-      | true ↦ λ h. ap (λ (n : List ℕ). (n, array_at v) ∷ map named_array es) (sym (same k.bytes.items e.0.bytes.items (sym (is e.0) ∙ h)))
+    elim (eq k e.0) as (λ t. eq k e.0 ≡ t → map named_array (cond t ((e.0, v) ∷ es) (e ∷ insert_entry eq es k v)) ≡ cond t ((k, array_at v) ∷ map named_array es) (named_array e ∷ put_array (map named_array es) k (array_at v))) [
+      | true ↦ λ h. ap (λ (n : List ℕ). (n, array_at v) ∷ map named_array es) (sym (same k e.0 (sym (is e.0) ∙ h)))
       | false ↦ λ _. ap (λ names. named_array e ∷ names) (put-insert eq k v is es)
     ] refl
-    ∙ ap (λ t. cond t ((k.bytes.items, array_at v) ∷ map named_array es) (named_array e ∷ put_array (map named_array es) k.bytes.items (array_at v))) (is e.0 ∙ bytes_eq-sym k.bytes.items e.0.bytes.items)
+    ∙ ap (λ t. cond t ((k, array_at v) ∷ map named_array es) (named_array e ∷ put_array (map named_array es) k (array_at v))) (is e.0 ∙ bytes_eq-sym k e.0)
 
 -- what holds of each entry holds of one that is found, and of those that are left
-pub all-lookup : (P : Entry → Type 0) (test : Key → Bool) (es : List (Key × Entry)) (v : Entry) → AllByRecursion (λ e. P e.1) es → lookup test es ≡ Some v → P v
+pub all-lookup : (P : Entry → Type 0) (test : List ℕ → Bool) (es : List (List ℕ × Entry)) (v : Entry) → AllByRecursion (λ e. P e.1) es → lookup test es ≡ Some v → P v
 all-lookup P test [] v all found = let no : ⊥ = cc in absurd no
 all-lookup P test (e ∷ es) v all found =
     elim (test e.0) as (λ t. cond t (Some e.1) (lookup test es) ≡ Some v → P v) [
@@ -89,32 +88,32 @@ all-lookup P test (e ∷ es) v all found =
       | false ↦ λ h. all-lookup P test es v all.1 h
     ] found
 
-pub all-remove : (P : Entry → Type 0) (test : Key → Bool) (es : List (Key × Entry)) → AllByRecursion (λ e. P e.1) es → AllByRecursion (λ e. P e.1) (shift_remove_entry test es)
+pub all-remove : (P : Entry → Type 0) (test : List ℕ → Bool) (es : List (List ℕ × Entry)) → AllByRecursion (λ e. P e.1) es → AllByRecursion (λ e. P e.1) (shift_remove_entry test es)
 all-remove P test [] all = tt
 all-remove P test (e ∷ es) all =
-    elim (test e.0) as (λ t. AllByRecursion (λ (o : Key × Entry). P o.1) (cond t es (e ∷ shift_remove_entry test es))) [ true ↦ all.1 | false ↦ (all.0, all-remove P test es all.1) ]
+    elim (test e.0) as (λ t. AllByRecursion (λ (o : List ℕ × Entry). P o.1) (cond t es (e ∷ shift_remove_entry test es))) [ true ↦ all.1 | false ↦ (all.0, all-remove P test es all.1) ]
 
-pub all-insert : (P : Entry → Type 0) (eq : Key → Key → Bool) (k : Key) (v : Entry) (es : List (Key × Entry)) → P v → AllByRecursion (λ e. P e.1) es → AllByRecursion (λ e. P e.1) (insert_entry eq es k v)
+pub all-insert : (P : Entry → Type 0) (eq : List ℕ → List ℕ → Bool) (k : List ℕ) (v : Entry) (es : List (List ℕ × Entry)) → P v → AllByRecursion (λ e. P e.1) es → AllByRecursion (λ e. P e.1) (insert_entry eq es k v)
 all-insert P eq k v [] new all = (new, tt)
 all-insert P eq k v (e ∷ es) new all =
-    elim (eq k e.0) as (λ t. AllByRecursion (λ (o : Key × Entry). P o.1) (cond t ((e.0, v) ∷ es) (e ∷ insert_entry eq es k v))) [ true ↦ (new, all.1) | false ↦ (all.0, all-insert P eq k v es new all.1) ]
+    elim (eq k e.0) as (λ t. AllByRecursion (λ (o : List ℕ × Entry). P o.1) (cond t ((e.0, v) ∷ es) (e ∷ insert_entry eq es k v))) [ true ↦ (new, all.1) | false ↦ (all.0, all-insert P eq k v es new all.1) ]
 
-pub all-both : (P Q R : Entry → Type 0) → ((e : Entry) → P e → Q e → R e) → (es : List (Key × Entry)) → AllByRecursion (λ e. P e.1) es → AllByRecursion (λ e. Q e.1) es → AllByRecursion (λ e. R e.1) es
+pub all-both : (P Q R : Entry → Type 0) → ((e : Entry) → P e → Q e → R e) → (es : List (List ℕ × Entry)) → AllByRecursion (λ e. P e.1) es → AllByRecursion (λ e. Q e.1) es → AllByRecursion (λ e. R e.1) es
 all-both P Q R f [] p q = tt
 all-both P Q R f (e ∷ es) p q = (f e.1 p.0 q.0, all-both P Q R f es p.1 q.1)
 
 -- the buffer of each entry is in use
-pub all-in_use : (es : List (Key × Entry)) → AllByRecursion (λ e. is_in_use (map named_array es) e.1.number ≡ true) es
+pub all-in_use : (es : List (List ℕ × Entry)) → AllByRecursion (λ e. is_in_use (map named_array es) e.1.number ≡ true) es
 all-in_use es = within es (map named_array es) (λ q h. h)
   where
-    within : (es : List (Key × Entry)) (names : List (List ℕ × Array)) → ((q : ℕ) → is_in_use (map named_array es) q ≡ true → is_in_use names q ≡ true) → AllByRecursion (λ e. is_in_use names e.1.number ≡ true) es
+    within : (es : List (List ℕ × Entry)) (names : List (List ℕ × Array)) → ((q : ℕ) → is_in_use (map named_array es) q ≡ true → is_in_use names q ≡ true) → AllByRecursion (λ e. is_in_use names e.1.number ≡ true) es
     within [] names h = tt
     within (e ∷ es) names h = (h e.1.number (head e es), within es names (λ q later. h q (behind e es q later)))
       where
-        head : (e : Key × Entry) (es : List (Key × Entry)) → is_in_use (map named_array (e ∷ es)) e.1.number ≡ true
+        head : (e : List ℕ × Entry) (es : List (List ℕ × Entry)) → is_in_use (map named_array (e ∷ es)) e.1.number ≡ true
         head e es = ap (λ t. t || is_in_use (map named_array es) e.1.number) (nat_itself e.1.number)
 
-        behind : (e : Key × Entry) (es : List (Key × Entry)) (q : ℕ) → is_in_use (map named_array es) q ≡ true → is_in_use (map named_array (e ∷ es)) q ≡ true
+        behind : (e : List ℕ × Entry) (es : List (List ℕ × Entry)) (q : ℕ) → is_in_use (map named_array es) q ≡ true → is_in_use (map named_array (e ∷ es)) q ≡ true
         behind e es q later = elim (nat_eq e.1.number q) as (λ t. (t || is_in_use (map named_array es) q) ≡ true) [ true ↦ refl | false ↦ later ]
 
 -- the buffers that are in use once an array is put or removed
@@ -136,7 +135,7 @@ found-used (e ∷ names) name array found =
     ] found
 
 -- and so is that of each entry
-pub lookup-used : (test : Key → Bool) (es : List (Key × Entry)) (e : Entry) → lookup test es ≡ Some e → is_in_use (map named_array es) e.number ≡ true
+pub lookup-used : (test : List ℕ → Bool) (es : List (List ℕ × Entry)) (e : Entry) → lookup test es ≡ Some e → is_in_use (map named_array es) e.number ≡ true
 lookup-used test es e was = all-lookup (λ x. is_in_use (map named_array es) x.number ≡ true) test es e (all-in_use es) was
 
 -- what is in use once an array is put or removed was in use before, or is the array's
@@ -210,7 +209,7 @@ put-put (e ∷ names) name array before found =
     ] refl found
 
 -- an entry goes back to where it stood
-pub insert-removed : (test : Key → Bool) (name : List ℕ) → TestsName test name → (es : List (Key × Entry)) (e : Entry) (place : ℕ) → lookup test es ≡ Some e → place ≡ position_or_len test (keys_of es) →
+pub insert-removed : (test : List ℕ → Bool) (name : List ℕ) → TestsName test name → (es : List (List ℕ × Entry)) (e : Entry) (place : ℕ) → lookup test es ≡ Some e → place ≡ position_or_len test (keys_of es) →
     insert (map named_array (shift_remove_entry test es)) place (name, array_at e) ≡ map named_array es
 insert-removed test name is [] e place was at = let no : ⊥ = cc in absurd no
 insert-removed test name is (x ∷ es) e place was at =
@@ -218,7 +217,7 @@ insert-removed test name is (x ∷ es) e place was at =
       | true ↦ λ passes h first.
           let here : x.1 ≡ e = cc in
           ap (λ n. insert (map named_array es) n (name, array_at e)) first
-          ∙ λ i. (same name x.0.bytes.items (sym (is x.0) ∙ passes) i, array_at (sym here i)) ∷ map named_array es
+          ∙ λ i. (same name x.0 (sym (is x.0) ∙ passes) i, array_at (sym here i)) ∷ map named_array es
       | false ↦ λ _ h later.
           let rest : List (List ℕ × Array) = map named_array (shift_remove_entry test es) in
           let p : ℕ = position_or_len test (keys_of es) in

@@ -13,7 +13,6 @@ use Rattle.name_store.specs.View.{named_array, slot_at}
 use Rattle.name_store.specs.declared.change.Change.{Change}
 use Rattle.name_store.specs.declared.change.Change.TheVariants.{Bind, Unbind, Write}
 use Rattle.name_store.specs.declared.entry.Entry.{Entry}
-use Rattle.name_store.specs.declared.entry.Key.{Key}
 use Rattle.name_store.specs.declared.slot.Slot.{Slot}
 use Rattle.circular_buffer.specs.Buffer.{Buffer as Ring}
 
@@ -68,7 +67,7 @@ pub needed-there : (names : Names) (cs : List Change) (slots : List (Option Slot
 needed-there names cs slots counted q = there-count (slot_at slots q) ∙ ap (nat_lt 0) (counted q) ∙ needed-count names cs q
 
 -- just those slots are occupied that a name or a change needs
-pub occupied : (es : List (Key × Entry)) (slots : List (Option Slot)) (ring : Ring Change) (spare : ℕ) → IsSound es slots ring spare → (q : ℕ) → is_some (slot_at slots q) ≡ is_needed (map named_array es) ring.items q
+pub occupied : (es : List (List ℕ × Entry)) (slots : List (Option Slot)) (ring : Ring Change) (spare : ℕ) → IsSound es slots ring spare → (q : ℕ) → is_some (slot_at slots q) ≡ is_needed (map named_array es) ring.items q
 occupied es slots ring spare sound = needed-there (map named_array es) ring.items slots sound.counted
 
 -- Names that are put, removed and inserted
@@ -123,6 +122,6 @@ module _ (names names' : Names) (cs : List Change) (c : Change) (old now : List 
   kept-counted cs' after kept q = omega (arith, counted q, made q, kept q, pins-push q cs c)
 
 -- fewer hold a buffer than there are numbers
-pub users-small : (es : List (Key × Entry)) (slots : List (Option Slot)) (ring : Ring Change) (spare : ℕ) → IsSound es slots ring spare → ring.capacity < 2 ^ 63 → (q : ℕ) → users_at slots q < 2 ^ 64 - 1
+pub users-small : (es : List (List ℕ × Entry)) (slots : List (Option Slot)) (ring : Ring Change) (spare : ℕ) → IsSound es slots ring spare → ring.capacity < 2 ^ 63 → (q : ℕ) → users_at slots q < 2 ^ 64 - 1
 users-small es slots ring spare sound small q =
     omega (arith, sound.counted q, users-few q (map named_array es), pins-few q ring.items, length-map es named_array, sound.holds.few, sound.short, small)

@@ -31,9 +31,9 @@ Slots = List (Option Slot)
 
 -- what is in use before a change is so after it, or the change needs it
 pub used-before : (c : Change) (names : Names) (q : ℕ) → is_in_use (names_before c names) q ≡ true → (is_in_use names q ≡ true) ⊎ (needs q c ≡ true)
-used-before (Bind key None) names q used = inl (used-back-without names key.bytes.items q used)
-used-before (Bind key (Some e)) names q used = used-back-put names key.bytes.items (array_at e) q used
-used-before (Unbind place key e) names q used = used-back-insert names place (key.bytes.items, array_at e) q used
+used-before (Bind key None) names q used = inl (used-back-without names key q used)
+used-before (Bind key (Some e)) names q used = used-back-put names key (array_at e) q used
+used-before (Unbind place key e) names q used = used-back-insert names place (key, array_at e) q used
 used-before (Write number target items) names q used = inl used
 
 pub needed-more : (names : Names) (c : Change) (cs : List Change) (q : ℕ) → is_needed names cs q ≡ true → is_needed names (c ∷ cs) q ≡ true
@@ -250,8 +250,8 @@ kept-none (c ∷ cs) names slots q free =
 -- what a change needs was in use before it
 pub needs-used : (c : Change) (names : Names) (slots : Slots) (q : ℕ) → IsUndoable c names slots → needs q c ≡ true → is_in_use (names_before c names) q ≡ true
 needs-used (Bind key None) names slots q can own = let no : ⊥ = cc in absurd no
-needs-used (Bind key (Some e)) names slots q can own = ap (is_in_use (put_array names key.bytes.items (array_at e))) (sym (eqb-true e.number q own)) ∙ used-put names key.bytes.items (array_at e)
-needs-used (Unbind place key e) names slots q can own = used-insert names place (key.bytes.items, array_at e) q own
+needs-used (Bind key (Some e)) names slots q can own = ap (is_in_use (put_array names key (array_at e))) (sym (eqb-true e.number q own)) ∙ used-put names key (array_at e)
+needs-used (Unbind place key e) names slots q can own = used-insert names place (key, array_at e) q own
 needs-used (Write number target items) names slots q can own = let no : ⊥ = cc in absurd no
 
 -- and that of one that a change needs is in one

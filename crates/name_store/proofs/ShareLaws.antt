@@ -14,7 +14,6 @@ use Rattle.name_store.specs.Parts.{IsPathOf, descr_at, start_at, first_at, have_
 use Rattle.name_store.specs.Places.{IsElementType}
 use Rattle.name_store.specs.View.{array_at, slot_at, present}
 use Rattle.name_store.specs.declared.entry.Entry.{Entry}
-use Rattle.name_store.specs.declared.entry.Key.{Key}
 use Rattle.name_store.specs.declared.slot.Slot.{Slot}
 use Rattle.name_store.proofs.FieldSplits.{field-legal, field-before, field_leaves-before}
 use Rattle.name_store.proofs.NameLaws.{TestsName, lookup-used, nat_itself}
@@ -213,7 +212,7 @@ parts-meet descr path other legal is other-is =
     ∙ common-ends (first_at descr path) (length (leaves_of (descr_at descr path))) (first_at descr other) (length (leaves_of (descr_at descr other))) (part-leaves descr legal path is) (part-leaves descr legal other other-is)
 
 -- two arrays in two buffers
-pub shares-apart : (es : List (Key × Entry)) (slots : Slots) (a b : Entry) → (a.number ≡ b.number → ⊥) → false ≡ share_cells (present es slots) (array_at a) (array_at b)
+pub shares-apart : (es : List (List ℕ × Entry)) (slots : Slots) (a b : Entry) → (a.number ≡ b.number → ⊥) → false ≡ share_cells (present es slots) (array_at a) (array_at b)
 shares-apart es slots a b ne =
     sym (ap (λ t. t && share_leaves (buffer_of (present es slots) (array_at a)).descr a.path b.path && have_common (places_of a.item (offsets a.layout)) (places_of b.item (offsets b.layout)))
     (ne_eqb a.number b.number ne))
@@ -226,7 +225,7 @@ Fits-longer l short long item more fits = record {
       omega (arith, ints);
 }
 
-module _ (es : List (Key × Entry)) (slots : Slots) (h : Holds es slots) (test : Key → Bool) (name : List ℕ) (is : TestsName test name) (e : Entry) (was : lookup test es ≡ Some e) (slot : Slot) (there : slot_at slots e.number ≡ Some slot) where
+module _ (es : List (List ℕ × Entry)) (slots : Slots) (h : Holds es slots) (test : List ℕ → Bool) (name : List ℕ) (is : TestsName test name) (e : Entry) (was : lookup test es ≡ Some e) (slot : Slot) (there : slot_at slots e.number ≡ Some slot) where
   lies : LiesIn slot e
   lies = found-lies es slots h test name is e slot was there
 
@@ -242,7 +241,7 @@ module _ (es : List (Key × Entry)) (slots : Slots) (h : Holds es slots) (test :
       Fits-longer e.layout (slot.items * item_size slot.descr) max_bytes width small lies.laid.fits
 
   -- two arrays in one buffer
-  pub shares-one : (test' : Key → Bool) (name' : List ℕ) → TestsName test' name' → (e' : Entry) → lookup test' es ≡ Some e' → e.number ≡ e'.number →
+  pub shares-one : (test' : List ℕ → Bool) (name' : List ℕ) → TestsName test' name' → (e' : Entry) → lookup test' es ≡ Some e' → e.number ≡ e'.number →
       have_common_byte (offsets e.layout) width (offsets e'.layout) (item_size (descr_at slot.descr e'.path)) ≡ share_cells (present es slots) (array_at e) (array_at e')
   shares-one test' name' is' e' was' same =
       (λ i. have_common_byte (lies.laid.places i) width (lies'.laid.places i) width')

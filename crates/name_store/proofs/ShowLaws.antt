@@ -16,7 +16,6 @@ use Rattle.name_store.specs.View.{array_at, named_array, buffer_in, slot_at, pre
 use Rattle.name_store.specs.declared.change.Change.{Change}
 use Rattle.name_store.specs.declared.array_ref.ArrayRef.{ArrayRef}
 use Rattle.name_store.specs.declared.entry.Entry.{Entry}
-use Rattle.name_store.specs.declared.entry.Key.{Key}
 use Rattle.name_store.specs.declared.slot.Slot.{Slot}
 use Rattle.name_store.proofs.BlockLaws.{length-items_in}
 use Rattle.name_store.proofs.LaidLaws.{laid-same, places-within}
@@ -27,7 +26,7 @@ use Rattle.name_store.proofs.PutLaws.{items-read}
 use Rattle.name_store.proofs.SlotLaws.{get-used}
 use Rattle.name_store.proofs.PastLaws.{Slots}
 
-pub buffer-found : (es : List (Key × Entry)) (slots : Slots) (e : Entry) (s : Slot) → is_in_use (map named_array es) e.number ≡ true → slot_at slots e.number ≡ Some s → buffer_of (present es slots) (array_at e) ≡ buffer_in s
+pub buffer-found : (es : List (List ℕ × Entry)) (slots : Slots) (e : Entry) (s : Slot) → is_in_use (map named_array es) e.number ≡ true → slot_at slots e.number ≡ Some s → buffer_of (present es slots) (array_at e) ≡ buffer_in s
 buffer-found es slots e s used there = ap (λ o. unwrap_or o no_buffer) (get-used es slots e.number used ∙ ap (option_map buffer_in) there)
 
 -- the last byte of a part of the items at places
@@ -37,7 +36,7 @@ inside-places item start width n len (place ∷ places) within whole few =
     let most : item * suc place ≤ item * n = mul-le-mul_left item within.0 in
     (omega (arith, mul-suc item place), inside-places item start width n len places within.1 whole few)
 
-module _ (es : List (Key × Entry)) (slots : Slots) (e : Entry) (s : Slot) (r : ArrayRef) (used : is_in_use (map named_array es) e.number ≡ true) (there : slot_at slots e.number ≡ Some s) (lies : LiesIn s e)
+module _ (es : List (List ℕ × Entry)) (slots : Slots) (e : Entry) (s : Slot) (r : ArrayRef) (used : is_in_use (map named_array es) e.number ≡ true) (there : slot_at slots e.number ≡ Some s) (lies : LiesIn s e)
     (number-is : r.number ≡ e.number) (writable-is : r.writable ≡ e.writable) (layout-is : r.layout.now ≡ e.layout) (path-is : r.path.now ≡ e.path)
     (descr-is : r.descr.now ≡ descr_at s.descr e.path) (block-is : r.block.now ≡ s.block) where
   abbrev array : Array
@@ -109,7 +108,7 @@ pub finds : (s : State) (there : Option Array) (a : Array) (r : ArrayRef) → th
 finds s there a r is shows = subst (λ f. Finds s f (Some r)) (sym is) shows
 
 -- what is shown of names and buffers alone is shown of the whole state
-pub finds-whole : (es : List (Key × Entry)) (slots : Slots) (ring : Ring Change) (there : Option Array) (found : Option ArrayRef) → Finds (present es slots) there found → Finds (state_of es slots ring) there found
+pub finds-whole : (es : List (List ℕ × Entry)) (slots : Slots) (ring : Ring Change) (there : Option Array) (found : Option ArrayRef) → Finds (present es slots) there found → Finds (state_of es slots ring) there found
 finds-whole es slots ring None None finds = tt
 finds-whole es slots ring None (Some r) finds = absurd finds
 finds-whole es slots ring (Some array) None finds = absurd finds

@@ -11,7 +11,6 @@ use Rattle.name_store.specs.Kept.{Names, numbered, past_buffer, past_buffers}
 use Rattle.name_store.specs.View.{named_array, slot_at, buffer_in, present}
 use Rattle.name_store.specs.declared.change.Change.{Change}
 use Rattle.name_store.specs.declared.entry.Entry.{Entry}
-use Rattle.name_store.specs.declared.entry.Key.{Key}
 use Rattle.name_store.specs.declared.slot.Slot.{Slot}
 use Rattle.name_store.proofs.NameLaws.{nat_itself}
 
@@ -103,8 +102,8 @@ get-past cs names slots q =
     get-retain_keys (from_entries (numbered cs 0 slots)) (is_in_use names) q (λ x e. ap (is_in_use names) (sym (nat_cmp-IsAntisymmetric q x e)))
     ∙ ap (λ o. cond (is_in_use names q) o None) (get-from_entries nat_cmp_total (numbered cs 0 slots) q ∙ find-numbered cs 0 slots q q (omega arith))
 
-pub get-buffers : (names : List (Key × Entry)) (slots : List (Option Slot)) (q : ℕ) → get (present names slots).buffers q ≡ cond (is_in_use (map named_array names) q) (option_map buffer_in (slot_at slots q)) None
+pub get-buffers : (names : List (List ℕ × Entry)) (slots : List (Option Slot)) (q : ℕ) → get (present names slots).buffers q ≡ cond (is_in_use (map named_array names) q) (option_map buffer_in (slot_at slots q)) None
 get-buffers names slots q = get-past [] (map named_array names) slots q
 
-pub get-used : (names : List (Key × Entry)) (slots : List (Option Slot)) (q : ℕ) → is_in_use (map named_array names) q ≡ true → get (present names slots).buffers q ≡ option_map buffer_in (slot_at slots q)
+pub get-used : (names : List (List ℕ × Entry)) (slots : List (Option Slot)) (q : ℕ) → is_in_use (map named_array names) q ≡ true → get (present names slots).buffers q ≡ option_map buffer_in (slot_at slots q)
 get-used names slots q used = get-buffers names slots q ∙ ap (λ t. cond t (option_map buffer_in (slot_at slots q)) None) used

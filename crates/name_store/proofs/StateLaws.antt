@@ -10,7 +10,6 @@ use Rattle.name_store.specs.Kept.{Names}
 use Rattle.name_store.specs.View.{array_at, named_array, slot_at, present}
 use Rattle.name_store.specs.declared.change.Change.{Change}
 use Rattle.name_store.specs.declared.entry.Entry.{Entry}
-use Rattle.name_store.specs.declared.entry.Key.{Key}
 use Rattle.name_store.specs.declared.slot.Slot.{Slot}
 use Rattle.name_store.specs.inside.Held.{stand}
 use Rattle.name_store.proofs.NameLaws.{TestsName, find-lookup, all-lookup}
@@ -50,14 +49,14 @@ occupied-within slots q there = by (slot_at slots q) refl there
     by (Some s) e h = slot_at-within slots q s e
 
 -- how many names there are then
-pub few-bound : (es : List (Key × Entry)) (slots : Slots) (test : Key → Bool) (name : List ℕ) → TestsName test name → has_room_for (present es slots) name ≡ true → lookup test es ≡ None → length es + 1 ≤ 1024
+pub few-bound : (es : List (List ℕ × Entry)) (slots : Slots) (test : List ℕ → Bool) (name : List ℕ) → TestsName test name → has_room_for (present es slots) name ≡ true → lookup test es ≡ None → length es + 1 ≤ 1024
 few-bound es slots test name is room none =
     let unbound : find_array (map named_array es) name ≡ None = find-lookup test name is es ∙ ap (option_map array_at) none in
     let less : nat_lt (length (map named_array es)) 1024 ≡ true = sym (ap (λ o. is_some o || nat_lt (length (map named_array es)) 1024) unbound) ∙ room in
     omega (arith, ltb-true (length (map named_array es)) 1024 less, length-map es named_array)
 
 -- An entry that is found.
-module _ (es : List (Key × Entry)) (slots : Slots) (h : Holds es slots) (test : Key → Bool) (name : List ℕ) (is : TestsName test name) where
+module _ (es : List (List ℕ × Entry)) (slots : Slots) (h : Holds es slots) (test : List ℕ → Bool) (name : List ℕ) (is : TestsName test name) where
   -- the slot of a name that is found
   pub found-slot : (e : Entry) → lookup test es ≡ Some e → (s : Slot) × (slot_at slots e.number ≡ Some s) × LiesIn s e
   found-slot e was = occupied (slot_at slots e.number) refl (all-lookup (λ x. LiesAt (slot_at slots x.number) x) test es e h.lie was)

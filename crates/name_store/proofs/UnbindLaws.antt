@@ -14,7 +14,6 @@ use Rattle.name_store.specs.View.{array_at, named_array, slot_at, state_of, pres
 use Rattle.name_store.specs.declared.change.Change.{Change}
 use Rattle.name_store.specs.declared.change.Change.TheVariants.{Unbind}
 use Rattle.name_store.specs.declared.entry.Entry.{Entry}
-use Rattle.name_store.specs.declared.entry.Key.{Key}
 use Rattle.name_store.specs.declared.slot.Slot.{Slot}
 use Rattle.name_store.specs.inside.Held.{stand}
 use Rattle.std.specs.Cmp.{nat_cmp_total}
@@ -30,12 +29,12 @@ some-cond : (t : Bool) (n m : ℕ) → Some n ≡ cond t (Some m) None → (t �
 some-cond true n m h = (refl, cc)
 some-cond false n m h = let no : ⊥ = cc in absurd no
 
-pub placed : (test : Key → Bool) (keys : List Key) (n : ℕ) → Some n ≡ position test keys → (n ≡ position_or_len test keys) × (n < length keys)
+pub placed : (test : List ℕ → Bool) (keys : List (List ℕ)) (n : ℕ) → Some n ≡ position test keys → (n ≡ position_or_len test keys) × (n < length keys)
 placed test keys n h =
     let p = some-cond (nat_lt (position_or_len test keys) (length keys)) n (position_or_len test keys) h in
     (p.1, omega (arith, p.1, ltb-true (position_or_len test keys) (length keys) p.0))
 
-keys-length : (es : List (Key × Entry)) → length (keys_of es) ≡ length es
+keys-length : (es : List (List ℕ × Entry)) → length (keys_of es) ≡ length es
 keys-length [] = refl
 keys-length (e ∷ es) = ap suc (keys-length es)
 
@@ -44,7 +43,7 @@ same-content c q None same = refl
 same-content c q (Some s) same = ap (λ bytes. Some (s.descr, s.items, bytes)) (same s.block)
 
 -- the buffers that names use, of those that more of them used
-pub fewer-buffers : (es : List (Key × Entry)) (slots : Slots) (names : Names) → ((q : ℕ) → is_in_use names q ≡ true → is_in_use (map named_array es) q ≡ true) → past_buffers [] names slots ≡ retain_keys (present es slots).buffers (is_in_use names)
+pub fewer-buffers : (es : List (List ℕ × Entry)) (slots : Slots) (names : Names) → ((q : ℕ) → is_in_use names q ≡ true → is_in_use (map named_array es) q ≡ true) → past_buffers [] names slots ≡ retain_keys (present es slots).buffers (is_in_use names)
 fewer-buffers es slots names fewer = same_map nat_cmp_total nat_cmp-IsAntisymmetric _ _ (λ q.
     get-past [] names slots q
     ∙ at q
@@ -58,14 +57,14 @@ fewer-buffers es slots names fewer = same_map nat_cmp_total nat_cmp-IsAntisymmet
           | false ↦ λ _. refl
         ] refl
 
-pub removed-holds : (test : Key → Bool) (es : List (Key × Entry)) (slots : Slots) (es' : List (Key × Entry)) → Holds es slots → es' ≡ shift_remove_entry test es → length es' ≤ length es → Holds es' slots
+pub removed-holds : (test : List ℕ → Bool) (es : List (List ℕ × Entry)) (slots : Slots) (es' : List (List ℕ × Entry)) → Holds es slots → es' ≡ shift_remove_entry test es → length es' ≤ length es → Holds es' slots
 removed-holds test es slots es' h removed len = record {
   few = omega (arith, len, h.few);
-  lie = subst (λ (ns : List (Key × Entry)). AllByRecursion (λ entry. LiesAt (slot_at slots entry.1.number) entry.1) ns) (sym removed) (all-remove (λ x. LiesAt (slot_at slots x.number) x) test es h.lie);
+  lie = subst (λ (ns : List (List ℕ × Entry)). AllByRecursion (λ entry. LiesAt (slot_at slots entry.1.number) entry.1) ns) (sym removed) (all-remove (λ x. LiesAt (slot_at slots x.number) x) test es h.lie);
 }
 
-module _ (es : List (Key × Entry)) (slots : Slots) (ring : Ring Change) (spare : ℕ) (sound : IsSound es slots ring spare) (test : Key → Bool) (key : Key) (is : TestsName test key.bytes.items)
-    (e : Entry) (place : ℕ) (was : lookup test es ≡ Some e) (at : Some place ≡ position test (keys_of es)) (es' : List (Key × Entry)) (removed : es' ≡ shift_remove_entry test es) (gone : lookup test es' ≡ None) (len : length es' + 1 ≡ length es) where
+module _ (es : List (List ℕ × Entry)) (slots : Slots) (ring : Ring Change) (spare : ℕ) (sound : IsSound es slots ring spare) (test : List ℕ → Bool) (key : List ℕ) (is : TestsName test key)
+    (e : Entry) (place : ℕ) (was : lookup test es ≡ Some e) (at : Some place ≡ position test (keys_of es)) (es' : List (List ℕ × Entry)) (removed : es' ≡ shift_remove_entry test es) (gone : lookup test es' ≡ None) (len : length es' + 1 ≡ length es) where
   abbrev c : Change
   c = Unbind place key e
 
@@ -76,10 +75,10 @@ module _ (es : List (Key × Entry)) (slots : Slots) (ring : Ring Change) (spare 
   spot = placed test (keys_of es) place at
 
   before-is : names_before c names' ≡ map named_array es
-  before-is = ap (λ (ns : List (Key × Entry)). insert (map named_array ns) place (key.bytes.items, array_at e)) removed ∙ insert-removed test key.bytes.items is es e place was spot.0
+  before-is = ap (λ (ns : List (List ℕ × Entry)). insert (map named_array ns) place (key, array_at e)) removed ∙ insert-removed test key is es e place was spot.0
 
-  names-are : names' ≡ without (map named_array es) key.bytes.items
-  names-are = ap (map named_array) removed ∙ without-remove test key.bytes.items is es
+  names-are : names' ≡ without (map named_array es) key
+  names-are = ap (map named_array) removed ∙ without-remove test key is es
 
   holds : Holds es' slots
   holds = removed-holds test es slots es' sound.holds removed (omega (arith, len))
@@ -91,15 +90,15 @@ module _ (es : List (Key × Entry)) (slots : Slots) (ring : Ring Change) (spare 
   own = (
     all-lookup (λ x. LiesAt (slot_at slots x.number) x) test es e sound.holds.lie was,
     omega (arith, spot.1, keys-length es, len, length-map es' named_array),
-    find-lookup test key.bytes.items is es' ∙ ap (option_map array_at) gone,
+    find-lookup test key is es' ∙ ap (option_map array_at) gone,
   )
 
-  found-is : find_array (map named_array es) key.bytes.items ≡ Some (array_at e)
-  found-is = find-lookup test key.bytes.items is es ∙ ap (option_map array_at) was
+  found-is : find_array (map named_array es) key ≡ Some (array_at e)
+  found-is = find-lookup test key is es ∙ ap (option_map array_at) was
 
   -- the change holds the buffer that the name held
   made : (q : ℕ) → users_at slots q + users_in q (map named_array es) ≡ users_at slots q + users_in q names' + pins q c
-  made q = omega (arith, users-without q (map named_array es) key.bytes.items, ap (λ o. found_at q (number_of o)) found-is, ap (users_in q) names-are)
+  made q = omega (arith, users-without q (map named_array es) key, ap (λ o. found_at q (number_of o)) found-is, ap (users_in q) names-are)
 
   pub unbind-held : (q : ℕ) → all_pins q (ring.items ++ c ∷ []) ≤ users_at slots q
   unbind-held = made-held (map named_array es) names' ring.items c slots slots sound.counted made
@@ -109,20 +108,20 @@ module _ (es : List (Key × Entry)) (slots : Slots) (ring : Ring Change) (spare 
     counted : (q : ℕ) → users_at after q ≡ users_in q names' + all_pins q ring'.items
     counted = kept-counted (map named_array es) names' ring.items c slots slots sound.counted made ring'.items after kept
 
-    state : state_of es' after ring' ≡ unbound (state_of es slots ring) key.bytes.items
+    state : state_of es' after ring' ≡ unbound (state_of es slots ring) key
     state =
         keep-state es slots ring spare sound es' slots c before-is holds restored own ring' after spare' ring-is freed counted room
-        ∙ λ i. record (unbound (state_of es slots ring) key.bytes.items) { names = names-are i; buffers = (fewer-buffers es slots names' (λ q used. used-back-without (map named_array es) key.bytes.items q (ap (λ (ns : Names). is_in_use ns q) (sym names-are) ∙ used)) ∙ ap (λ (ns : Names). retain_keys (present es slots).buffers (is_in_use ns)) names-are) i }
+        ∙ λ i. record (unbound (state_of es slots ring) key) { names = names-are i; buffers = (fewer-buffers es slots names' (λ q used. used-back-without (map named_array es) key q (ap (λ (ns : Names). is_in_use ns q) (sym names-are) ∙ used)) ∙ ap (λ (ns : Names). retain_keys (present es slots).buffers (is_in_use ns)) names-are) i }
 
-    pub unbind-kept : IsSound es' after ring' spare' × (state_of es' after ring' ≡ unbound (state_of es slots ring) key.bytes.items)
+    pub unbind-kept : IsSound es' after ring' spare' × (state_of es' after ring' ≡ unbound (state_of es slots ring) key)
     unbind-kept = (keep-sound es slots ring spare sound es' slots c before-is holds restored own ring' after spare' ring-is freed counted room, state)
 
 -- a table that is the same but for its room
-pub same-sound : (es es' : List (Key × Entry)) (slots : Slots) (ring : Ring Change) (spare spare' : ℕ) → es' ≡ es → spare ≤ spare' → IsSound es slots ring spare → IsSound es' slots ring spare'
-same-sound es es' slots ring spare spare' same more sound = subst (λ (ns : List (Key × Entry)). IsSound ns slots ring spare') (sym same) (record { holds = sound.holds; counted = sound.counted; undoable = sound.undoable; short = sound.short; room = omega (arith, sound.room, more) })
+pub same-sound : (es es' : List (List ℕ × Entry)) (slots : Slots) (ring : Ring Change) (spare spare' : ℕ) → es' ≡ es → spare ≤ spare' → IsSound es slots ring spare → IsSound es' slots ring spare'
+same-sound es es' slots ring spare spare' same more sound = subst (λ (ns : List (List ℕ × Entry)). IsSound ns slots ring spare') (sym same) (record { holds = sound.holds; counted = sound.counted; undoable = sound.undoable; short = sound.short; room = omega (arith, sound.room, more) })
 
 -- whether a name is bound is whether it has an entry
-pub bound-has : (test : Key → Bool) (name : List ℕ) → TestsName test name → (es : List (Key × Entry)) → is_some (find_array (map named_array es) name) ≡ is_some (lookup test es)
+pub bound-has : (test : List ℕ → Bool) (name : List ℕ) → TestsName test name → (es : List (List ℕ × Entry)) → is_some (find_array (map named_array es) name) ≡ is_some (lookup test es)
 bound-has test name is es = ap is_some (find-lookup test name is es) ∙ some-array (lookup test es)
   where
     some-array : (found : Option Entry) → is_some (option_map array_at found) ≡ is_some found

@@ -15,7 +15,6 @@ use Rattle.name_store.specs.Kept.{Names, names_before, past_buffers, kept_states
 use Rattle.name_store.specs.View.{named_array, slot_at, state_of}
 use Rattle.name_store.specs.declared.change.Change.{Change}
 use Rattle.name_store.specs.declared.entry.Entry.{Entry}
-use Rattle.name_store.specs.declared.entry.Key.{Key}
 use Rattle.name_store.specs.inside.Held.{stand}
 use Rattle.name_store.specs.inside.Undoes.{Undoes}
 use Rattle.name_store.proofs.NameLaws.{all-both, all-in_use, in_front}
@@ -48,7 +47,7 @@ split-last {X = X} (y ∷ ys) x h = by (length ys) refl h
     by : (n : ℕ) → length ys ≡ n → Some x ≡ last_item (y ∷ ys) → take (length (y ∷ ys) - 1) (y ∷ ys) ++ x ∷ [] ≡ y ∷ ys
     by n _ h = ap (λ k. take k (y ∷ ys) ++ x ∷ []) more ∙ go ys y (h ∙ ap (slice_get (y ∷ ys)) more)
 
-module _ (es : List (Key × Entry)) (slots : Slots) (ring : Ring Change) (c : Change) (spare : ℕ) (sound : IsSound es slots (buffer (ring.items ++ c ∷ []) ring.capacity) spare) where
+module _ (es : List (List ℕ × Entry)) (slots : Slots) (ring : Ring Change) (c : Change) (spare : ℕ) (sound : IsSound es slots (buffer (ring.items ++ c ∷ []) ring.capacity) spare) where
   abbrev names : Names
   names = map named_array es
 
@@ -59,7 +58,7 @@ module _ (es : List (Key × Entry)) (slots : Slots) (ring : Ring Change) (c : Ch
   popped = undoable-pop ring.items c names slots sound.undoable
 
   -- names and slots are as they were before the change, and then what is not needed is freed
-  module _ (es' : List (Key × Entry)) (now after : Slots) (spare' : ℕ) (names-are : map named_array es' ≡ past) (lie : AllByRecursion (λ entry. LiesAt (slot_at now entry.1.number) entry.1) es')
+  module _ (es' : List (List ℕ × Entry)) (now after : Slots) (spare' : ℕ) (names-are : map named_array es' ≡ past) (lie : AllByRecursion (λ entry. LiesAt (slot_at now entry.1.number) entry.1) es')
       (restored : (q : ℕ) → is_needed past ring.items q ≡ true → Restored c q (slot_at slots q) (slot_at now q)) (freed : Freed now after)
       (made : (q : ℕ) → users_at after q + users_in q (map named_array es) + pins q c ≡ users_at slots q + users_in q (map named_array es')) (room : spare ≤ spare' + 1) where
     abbrev names' : Names
@@ -97,7 +96,7 @@ module _ (es : List (Key × Entry)) (slots : Slots) (ring : Ring Change) (c : Ch
     undoes = record { sound = undo-sound; kept = undo-kept }
 
 -- the state that was kept last is back
-pub undone-state : (es es' : List (Key × Entry)) (slots slots' : Slots) (old ring : Ring Change) (c : Change) (spare : ℕ) → old.items ≡ ring.items ++ c ∷ [] → ring.capacity ≡ old.capacity → Undoes es slots c es' slots' ring spare →
+pub undone-state : (es es' : List (List ℕ × Entry)) (slots slots' : Slots) (old ring : Ring Change) (c : Change) (spare : ℕ) → old.items ≡ ring.items ++ c ∷ [] → ring.capacity ≡ old.capacity → Undoes es slots c es' slots' ring spare →
     (has_kept (state_of es slots old) ≡ true) × (state_of es' slots' ring ≡ undone (state_of es slots old))
 undone-state es es' slots slots' old ring c spare items-are deep done =
     let names' : Names = map named_array es' in
@@ -138,7 +137,7 @@ with-last old new c last is =
     let items : old.items ≡ new.items ++ c ∷ [] = sym (split-last old.items c last) ∙ ap (λ (r : Ring Change). r.items ++ c ∷ []) (sym is) in
     λ i. buffer (items i) (sym (ap (λ (r : Ring Change). r.capacity) is) i)
 
-pub none-kept : (es : List (Key × Entry)) (slots : Slots) (ring : Ring Change) → None ≡ last_item ring.items → has_kept (state_of es slots ring) ≡ false
+pub none-kept : (es : List (List ℕ × Entry)) (slots : Slots) (ring : Ring Change) → None ≡ last_item ring.items → has_kept (state_of es slots ring) ≡ false
 none-kept es slots ring none = ap (λ (cs : List Change). is_some (last_item (kept_states cs (map named_array es) slots))) (none-last ring.items none)
 
 -- a call that succeeds does what it does when it succeeds
@@ -147,5 +146,5 @@ at-ok (Ok a) _ done = done
 at-ok (Err e) bad _ = let wrong : ⊥ = cc in absurd wrong
 
 -- there is room for a name that comes back
-pub undo-room : (es : List (Key × Entry)) (slots : Slots) (ring : Ring Change) (c : Change) (spare : ℕ) → IsSound es slots (buffer (ring.items ++ c ∷ []) ring.capacity) spare → 1 ≤ spare
+pub undo-room : (es : List (List ℕ × Entry)) (slots : Slots) (ring : Ring Change) (c : Change) (spare : ℕ) → IsSound es slots (buffer (ring.items ++ c ∷ []) ring.capacity) spare → 1 ≤ spare
 undo-room es slots ring c spare sound = omega (arith, sound.room, length-append ring.items (c ∷ []))

@@ -12,7 +12,6 @@ use Rattle.name_store.specs.View.{slot_at}
 use Rattle.name_store.specs.declared.change.Change.{Change}
 use Rattle.name_store.specs.declared.change.Change.TheVariants.{Write}
 use Rattle.name_store.specs.declared.entry.Entry.{Entry}
-use Rattle.name_store.specs.declared.entry.Key.{Key}
 use Rattle.name_store.specs.declared.change.OldItems.{OldItems}
 use Rattle.name_store.specs.declared.slot.Slot.{Slot}
 use Rattle.name_store.specs.declared.target.Target.{Target}
@@ -30,7 +29,7 @@ goes-there target items None nothing = absurd nothing
 goes-there target items (Some s) goes = refl
 
 -- Old items go back.
-module _ (es : List (Key × Entry)) (slots : Slots) (ring : Ring Change) (spare : ℕ) (number : ℕ) (target : Target) (items : OldItems) (sound : IsSound es slots (buffer (ring.items ++ Write number target items ∷ []) ring.capacity) spare) where
+module _ (es : List (List ℕ × Entry)) (slots : Slots) (ring : Ring Change) (spare : ℕ) (number : ℕ) (target : Target) (items : OldItems) (sound : IsSound es slots (buffer (ring.items ++ Write number target items ∷ []) ring.capacity) spare) where
   abbrev wrote : Change
   wrote = Write number target items
 

@@ -9,7 +9,6 @@ use Rattle.name_store.specs.Parts.{descr_at, start_at, span_at, part_at, IsPathO
 use Rattle.name_store.specs.View.{array_at, named_array, buffer_in, slot_at, present}
 use Rattle.name_store.specs.Views.{IsLaidOut, IsViewIn}
 use Rattle.name_store.specs.declared.entry.Entry.{Entry}
-use Rattle.name_store.specs.declared.entry.Key.{Key}
 use Rattle.name_store.specs.declared.slot.Slot.{Slot}
 use Rattle.name_store.proofs.BlockLaws.{length-items_in}
 use Rattle.name_store.specs.ArrayLaws.{places-offsets}
@@ -19,7 +18,7 @@ use Rattle.name_store.proofs.PutLaws.{items-read}
 use Rattle.name_store.proofs.SlotLaws.{get-buffers, get-used}
 use Rattle.name_store.proofs.PastLaws.{Slots}
 
-module _ (es : List (Key × Entry)) (slots : Slots) (number : ℕ) (path : List ℕ) (layout : Layout) (writable : Bool) (array : Array) (view : IsViewIn (present es slots) number path layout writable array) where
+module _ (es : List (List ℕ × Entry)) (slots : Slots) (number : ℕ) (path : List ℕ) (layout : Layout) (writable : Bool) (array : Array) (view : IsViewIn (present es slots) number path layout writable array) where
   in-use : (is_in_use (map named_array es) number ≡ true) × (is_some (slot_at slots number) ≡ true)
   in-use = by (is_in_use (map named_array es) number) (slot_at slots number) (ap is_some (sym (get-buffers es slots number)) ∙ view.there)
     where

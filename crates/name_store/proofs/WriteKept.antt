@@ -20,7 +20,6 @@ use Rattle.name_store.specs.View.{array_at, named_array, slot_at, present, state
 use Rattle.name_store.specs.declared.change.Change.{Change}
 use Rattle.name_store.specs.declared.change.Change.TheVariants.{Write}
 use Rattle.name_store.specs.declared.entry.Entry.{Entry}
-use Rattle.name_store.specs.declared.entry.Key.{Key}
 use Rattle.name_store.specs.declared.change.OldItems.{OldItems}
 use Rattle.name_store.specs.declared.slot.Slot.{Slot}
 use Rattle.name_store.specs.declared.target.Source.{Source}
@@ -45,7 +44,7 @@ use Rattle.name_store.proofs.ViewLaws.{view-slot}
 use Rattle.name_store.proofs.WriteLaws.{size-is, written-holds}
 
 -- What is asked of a state as it is, or with what is kept.
-module _ (es : List (Key × Entry)) (slots : Slots) (ring : Ring Change) where
+module _ (es : List (List ℕ × Entry)) (slots : Slots) (ring : Ring Change) where
   abbrev whole : State
   whole = state_of es slots ring
 
@@ -94,10 +93,10 @@ same-kept : (cs : List Change) (names : Names) (slots after : Slots) → AreSame
 same-kept [] names slots after same = refl
 same-kept (c ∷ cs) names slots after same = λ i. (past_names (c ∷ cs) names, same-past (c ∷ cs) (past_names (c ∷ cs) names) slots after same i) ∷ same-kept cs names slots after same i
 
-pub same-state : (es : List (Key × Entry)) (slots after : Slots) (ring : Ring Change) → AreSame slots after → state_of es after ring ≡ state_of es slots ring
+pub same-state : (es : List (List ℕ × Entry)) (slots after : Slots) (ring : Ring Change) → AreSame slots after → state_of es after ring ≡ state_of es slots ring
 same-state es slots after ring same = λ i. record (state_of es slots ring) { buffers = same-past [] (map named_array es) slots after same i; kept = same-kept ring.items (map named_array es) slots after same i }
 
-pub same-value : (es : List (Key × Entry)) (slots after : Slots) (ring : Ring Change) → AreSame slots after → bench_value es after ring ≡ bench_value es slots ring
+pub same-value : (es : List (List ℕ × Entry)) (slots after : Slots) (ring : Ring Change) → AreSame slots after → bench_value es after ring ≡ bench_value es slots ring
 same-value es slots after ring same = λ i. record { state = same-state es slots after ring same i; patches = map patch_size ring.items }
 
 -- where none is kept
@@ -109,7 +108,7 @@ none-last : {X : Type 0} (cap : ℕ) (xs : List X) → cap ≡ 0 → keep_last c
 none-last cap xs shallow = drop_of_length-le xs (omega (arith, shallow))
 
 -- Where a call changed nothing that stands in a slot, all is sound as it was.
-pub same-still : (es : List (Key × Entry)) (slots after : Slots) (ring : Ring Change) (spare : ℕ) → AreSame slots after → IsSound es slots ring spare → IsSound es after ring spare
+pub same-still : (es : List (List ℕ × Entry)) (slots after : Slots) (ring : Ring Change) (spare : ℕ) → AreSame slots after → IsSound es slots ring spare → IsSound es after ring spare
 same-still es slots after ring spare same sound = record {
   holds = record {
     few = sound.holds.few;
@@ -126,7 +125,7 @@ same-still es slots after ring spare same sound = record {
     shaped q = alike-shape (slot_at after q) (slot_at slots q) (same q).0
 
 -- Items of a source were put at a target of a name's array.
-module _ (es : List (Key × Entry)) (slots : Slots) (ring : Ring Change) (spare : ℕ) (sound : IsSound es slots ring spare) (name : List ℕ) (number width : ℕ) (home : IsHome es slots name number width) (target : Target) (source : Source)
+module _ (es : List (List ℕ × Entry)) (slots : Slots) (ring : Ring Change) (spare : ℕ) (sound : IsSound es slots ring spare) (name : List ℕ) (number width : ℕ) (home : IsHome es slots name number width) (target : Target) (source : Source)
     (aim : IsAim (state_of es slots ring) name target source) where
   now-aim : IsAim (present es slots) name target source
   now-aim = aim-now es slots ring name target source aim
@@ -296,7 +295,7 @@ module _ (es : List (Key × Entry)) (slots : Slots) (ring : Ring Change) (spare 
             ∙ ap (λ bytes. keep_last ring.capacity (map patch_size ring.items ++ bytes ∷ [])) (old.whole ∙ (λ i. length_permutation (target_offsets target) os moved i * (old.size ∙ sym (size-is es slots name number width home array found)) i))
 
 -- Whether items were put or not, names' arrays lie in their slots, and as many hold each.
-module _ (es : List (Key × Entry)) (slots : Slots) (ring : Ring Change) (spare : ℕ) (sound : IsSound es slots ring spare) (name : List ℕ) (number width : ℕ) (home : IsHome es slots name number width) (target : Target) (source : Source)
+module _ (es : List (List ℕ × Entry)) (slots : Slots) (ring : Ring Change) (spare : ℕ) (sound : IsSound es slots ring spare) (name : List ℕ) (number width : ℕ) (home : IsHome es slots name number width) (target : Target) (source : Source)
     (aim : IsAim (state_of es slots ring) name target source) (after : Slots) where
   pub tried-sound : {A E : Type 0} (r : Result A E) → IfOk r (λ _. Puts slots (record { number = number; width = width }) target source after) → IfErr r (λ _. AreSame slots after) → IsSound es after ring spare
   tried-sound (Ok a) puts _ = wrote-sound es slots ring spare sound name number width home target source aim after puts

@@ -17,7 +17,6 @@ use Rattle.name_store.specs.Targets.{target_offsets, FitsBuffer, LeadsTo}
 use Rattle.name_store.specs.inside.Homes.{IsHome, HasNew}
 use Rattle.name_store.specs.View.{array_at, named_array, buffer_in, slot_at, present}
 use Rattle.name_store.specs.declared.entry.Entry.{Entry}
-use Rattle.name_store.specs.declared.entry.Key.{Key}
 use Rattle.name_store.specs.declared.slot.Slot.{Slot}
 use Rattle.name_store.specs.declared.target.Target.{Target}
 use Rattle.name_store.proofs.BlockLaws.{length-items_in}
@@ -37,14 +36,14 @@ all-among P xs (y ∷ ys) all among =
     (All-contains P xs y (All-from_recursion P xs all) (All-head (Contains xs) y ys among), all-among P xs ys all (All-tail (Contains xs) y ys among))
 
 -- a name that is bound has an entry
-pub entry-bound : (es : List (Key × Entry)) (slots : Slots) (h : Holds es slots) (test : Key → Bool) (name : List ℕ) → TestsName test name → is_bound (present es slots) name ≡ true → is_some (lookup test es) ≡ true
+pub entry-bound : (es : List (List ℕ × Entry)) (slots : Slots) (h : Holds es slots) (test : List ℕ → Bool) (name : List ℕ) → TestsName test name → is_bound (present es slots) name ≡ true → is_some (lookup test es) ≡ true
 entry-bound es slots h test name is bound =
     elim (lookup test es) as (λ (o : Option Entry). lookup test es ≡ o → is_some o ≡ true) [
       | None ↦ λ none. sym (ap is_some (none-found es slots h test name is none)) ∙ bound
       | Some e ↦ λ _. refl
     ] refl
 
-module _ (es : List (Key × Entry)) (slots : Slots) (name : List ℕ) (number width : ℕ) (home : IsHome es slots name number width) where
+module _ (es : List (List ℕ × Entry)) (slots : Slots) (name : List ℕ) (number width : ℕ) (home : IsHome es slots name number width) where
   abbrev s : Slot
   s = home.slot
 

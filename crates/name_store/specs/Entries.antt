@@ -3,14 +3,13 @@ use Rattle.std.specs.Prelude.{ℕ, zero, suc, List, [], ◌∷◌, Option, None}
 use Rattle.name_store.specs.Words.{offsets, places_of}
 use Rattle.name_store.specs.States.{Array}
 use Rattle.name_store.specs.declared.entry.Entry.{Entry}
-use Rattle.name_store.specs.declared.entry.Key.{Key}
 use Rattle.name_store.specs.declared.slot.Slot.{Slot}
 
 abbrev pub array_at : Entry → Array
 array_at e = record { buffer = e.number; path = e.path; shape = e.layout.shape; places = places_of e.item (offsets e.layout); writable = e.writable }
 
-abbrev pub named_array : Key × Entry → List ℕ × Array
-named_array entry = (entry.0.bytes.items, array_at entry.1)
+abbrev pub named_array : List ℕ × Entry → List ℕ × Array
+named_array entry = (entry.0, array_at entry.1)
 
 -- the slot with a number, where it is occupied
 abbrev pub slot_at : List (Option Slot) → ℕ → Option Slot

@@ -11,7 +11,6 @@ use Rattle.name_store.specs.Views.{IsLaidOut}
 use Rattle.name_store.specs.declared.change.Change.{Change}
 use Rattle.name_store.specs.declared.change.Change.TheVariants.{Bind, Unbind, Write}
 use Rattle.name_store.specs.declared.entry.Entry.{Entry}
-use Rattle.name_store.specs.declared.entry.Key.{Key}
 use Rattle.name_store.specs.declared.change.OldItems.{OldItems}
 use Rattle.name_store.specs.declared.slot.Slot.{Slot}
 use Rattle.name_store.specs.declared.target.Target.{Target}
@@ -27,7 +26,7 @@ LiesAt None e = ⊥
 LiesAt (Some slot) e = LiesIn slot e
 
 -- few names, each with an array in an occupied slot
-pub record Holds (names : List (Key × Entry)) (slots : List (Option Slot)) : Type 0 where
+pub record Holds (names : List (List ℕ × Entry)) (slots : List (Option Slot)) : Type 0 where
   pub few : length names ≤ 1024
   pub lie : AllByRecursion (λ entry. LiesAt (slot_at slots entry.1.number) entry.1) names
 
@@ -80,7 +79,7 @@ abbrev pub IsUndoable : Change → Names → List (Option Slot) → Type 0
 IsUndoable (Bind key None) names slots = Unit {0}
 IsUndoable (Bind key (Some entry)) names slots = LiesAt (slot_at slots entry.number) entry
 IsUndoable (Unbind place key entry) names slots =
-    LiesAt (slot_at slots entry.number) entry × (place ≤ length names) × (find_array names key.bytes.items ≡ None)
+    LiesAt (slot_at slots entry.number) entry × (place ≤ length names) × (find_array names key ≡ None)
 IsUndoable (Write number target items) names slots = (is_in_use names number ≡ true) × GoBackAt target items (slot_at slots number)
 
 -- so can the others, one after another, and there are few names then
@@ -91,7 +90,7 @@ AreUndoable (change ∷ changes) names slots =
     (length (names_before change after) ≤ 1024) × IsUndoable change after slots × AreUndoable changes names slots
 
 -- Each buffer is held by just the names and changes whose arrays lie in it. There is room in the table to undo each change.
-pub record IsSound (names : List (Key × Entry)) (slots : List (Option Slot)) (ring : Ring Change) (spare : ℕ) : Type 0 where
+pub record IsSound (names : List (List ℕ × Entry)) (slots : List (Option Slot)) (ring : Ring Change) (spare : ℕ) : Type 0 where
   pub holds : Holds names slots
   pub counted : (q : ℕ) → users_at slots q ≡ users_in q (map named_array names) + all_pins q ring.items
   pub undoable : AreUndoable ring.items (map named_array names) slots

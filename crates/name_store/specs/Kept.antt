@@ -18,9 +18,9 @@ Names = List (List ℕ × Array)
 
 -- the names before a change
 abbrev pub names_before : Change → Names → Names
-names_before (Bind key None) names = without names key.bytes.items
-names_before (Bind key (Some entry)) names = put_array names key.bytes.items (array_at entry)
-names_before (Unbind place key entry) names = insert names place (key.bytes.items, array_at entry)
+names_before (Bind key None) names = without names key
+names_before (Bind key (Some entry)) names = put_array names key (array_at entry)
+names_before (Unbind place key entry) names = insert names place (key, array_at entry)
 names_before (Write number target items) names = names
 
 -- bytes with old items at the offsets: those that lie one after another in a block

@@ -5,7 +5,6 @@ ghost use Rattle.std.specs.Option.{option_map};
 use crate::array_ref::ArrayRef;
 use crate::bound::Bound;
 use crate::change::Change;
-use crate::entry::Key;
 use crate::history::History;
 use crate::keep::{keep, make_room};
 use crate::table::Table;
@@ -70,14 +69,14 @@ impl Bench {
     pub fn get(&self, name: &Name) -> Option<ArrayRef<'_>>
         ensures { Finds self.now.state (find_array self.now.state.names name.now) result }
     {
-        self.table.get(&Key::of(self.alloc, name))
+        self.table.get(name)
     }
 
     /// Whether a name may be bound: it is, or fewer than 1,024 are.
     pub fn has_room_for(&self, name: &Name) -> bool
         ensures { result ≡ has_room_for self.now.state name.now }
     {
-        self.table.has_room_for(&Key::of(self.alloc, name))
+        self.table.has_room_for(name)
     }
 
     /// Binds a name. One that is bound keeps its place among the names. A view may be one of the
@@ -87,12 +86,12 @@ impl Bench {
         ensures answers { AnswersBind self.old.state name.now bound result self.new.state }
         ensures patches { Counts 0 self.old result self.new }
     {
-        let key = Key::of(alloc, name);
-        if !self.table.has_room_for(&key) {
+        let key = Name::copy(alloc, name);
+        if !self.table.has_room_for(name) {
             return Err(Refusal::TooManyNames);
         }
         make_room(&mut self.table.names, &self.history, 1)?;
-        let earlier = self.table.bind(Key::of(alloc, name), bound)?;
+        let earlier = self.table.bind(Name::copy(alloc, name), bound)?;
         keep(
             &mut self.table.slots,
             &mut self.history,
@@ -115,7 +114,7 @@ impl Bench {
         ensures patches { CountsWrite self.old name.now target result self.new }
         ensures no_memory { NeedsNoMemory self.old.state name.now target source → IsOk result }
     {
-        let home = self.table.home(&Key::of(alloc, name));
+        let home = self.table.home(name);
         let count = target.count();
         let keeps = self.history.capacity() > 0;
         make_room(&mut self.table.names, &self.history, 0)?;
@@ -136,7 +135,7 @@ impl Bench {
         ensures answers { AnswersUnbind self.old.state name.now result self.new.state }
         ensures patches { Counts 0 self.old result self.new }
     {
-        let key = Key::of(alloc, name);
+        let key = Name::copy(alloc, name);
         if !self.table.names.contains_key(&key) {
             return Err(Refusal::UnknownName);
         }
@@ -178,8 +177,7 @@ impl Bench {
         ensures answers { AnswersShares self.now.state left.now right.now result }
         ensures no_memory { LieInTwo self.now.state left.now right.now → IsOk result }
     {
-        self.table
-            .shares(alloc, &Key::of(alloc, left), &Key::of(alloc, right))
+        self.table.shares(alloc, left, right)
     }
 
     /// How many names are bound.
@@ -196,6 +194,6 @@ impl Bench {
         ensures { option_map (λ entry. entry.0) (slice_get self.now.state.names k)
             ≡ Some result.now }
     {
-        self.table.names.get_index(k).unwrap().0.bytes.as_slice()
+        self.table.names.get_index(k).unwrap().0.as_slice()
     }
 }

@@ -3,8 +3,9 @@ ghost use Rattle.std.specs.Prelude.{◌≡◌};
 ghost use Rattle.name_store.specs.Invariants.{held_number};
 ghost use Rattle.name_store.specs.Kept.{patch_size};
 
-use crate::entry::{Entry, Key};
+use crate::entry::Entry;
 use crate::target::Target;
+use elem_descr::Name;
 use raw_block::RawBlock;
 
 /// Items of `width` bytes, one after another.
@@ -21,13 +22,13 @@ pub struct OldItems {
 pub enum Change {
     /// A name was bound: what it was bound to before, if it was.
     Bind {
-        key: Key,
+        key: Name,
         earlier: Option<Entry>,
     },
     /// A name was unbound: where it stood among the names, and its array.
     Unbind {
         place: usize,
-        key: Key,
+        key: Name,
         entry: Entry,
     },
     /// Items of a buffer were written: the old ones.

@@ -7,16 +7,17 @@ ghost use Rattle.name_store.specs.View.{slot_at};
 ghost use Rattle.name_store.specs.inside.Held.{stand};
 
 use crate::change::Change;
-use crate::entry::{Entry, Key};
+use crate::entry::Entry;
 use crate::history::History;
 use crate::slots::Slots;
+use elem_descr::Name;
 use indexmap::IndexMap;
 use std::alloc::AllocError;
 
 /// Takes the room in the table that it needs to undo each change that is kept, one more of them than now, and to bind
 /// one name more.
 pub(crate) fn make_room(
-    names: &mut IndexMap<Key, Entry>,
+    names: &mut IndexMap<Name, Entry>,
     history: &History,
     more: usize,
 ) -> Result<(), AllocError>

@@ -27,7 +27,7 @@ pub use target::{Source, Target};
 #[doc(hidden)]
 pub use change::Change;
 #[doc(hidden)]
-pub use entry::{Entry, Key};
+pub use entry::Entry;
 #[doc(hidden)]
 pub use history::History;
 #[doc(hidden)]

@@ -5,14 +5,14 @@ ghost use Rattle.name_store.specs.inside.HeldOnce.{Holds-prop};
 use crate::array_ref::ArrayRef;
 use crate::bound::Bound;
 use crate::change::{Change, OldItems};
-use crate::entry::{Entry, Key};
+use crate::entry::Entry;
 use crate::path::Path;
 use crate::rewrite::put_back;
 use crate::slot::Slot;
 use crate::slots::Slots;
 use crate::target::Target;
 use arrays::Owned;
-use elem_descr::Refusal;
+use elem_descr::{Name, Refusal};
 use indexmap::IndexMap;
 use overlap_copy::share_cell;
 use std::alloc::{AllocError, Global};
@@ -31,7 +31,7 @@ pub struct Home {
 /// arrays lie in, by their numbers.
 #[derive(Drop)]
 pub struct Table {
-    pub names: IndexMap<Key, Entry>,
+    pub names: IndexMap<Name, Entry>,
     pub slots: Slots,
     ghost holds: { Holds names.entries slots.cells.items } by { Holds-prop names.entries slots.cells.items },
 }
@@ -63,16 +63,16 @@ impl Table {
     }
 
     /// Whether a name may be bound.
-    pub(crate) fn has_room_for(&self, key: &Key) -> bool
-        ensures { result ≡ has_room_for (table_state self.now) key.now.bytes.items }
+    pub(crate) fn has_room_for(&self, key: &Name) -> bool
+        ensures { result ≡ has_room_for (table_state self.now) key.now }
     {
         self.names.len() < MAX_NAMES || self.names.contains_key(key)
     }
 
     /// The array of a name, if it is bound.
-    pub(crate) fn get(&self, key: &Key) -> Option<ArrayRef<'_>>
+    pub(crate) fn get(&self, key: &Name) -> Option<ArrayRef<'_>>
         ensures { Finds (table_state self.now)
-            (find_array (table_state self.now).names key.now.bytes.items) result }
+            (find_array (table_state self.now).names key.now) result }
     {
         let entry = self.names.get(key)?;
         let slot = self.slots.slot(entry.number);
@@ -87,9 +87,9 @@ impl Table {
     }
 
     /// Where the array of a name lies that is bound.
-    pub(crate) fn home(&self, key: &Key) -> Home
-        requires { is_bound (table_state self.now) key.now.bytes.items ≡ true }
-        ensures { IsHome self.now.names.entries self.now.slots.cells.items key.now.bytes.items
+    pub(crate) fn home(&self, key: &Name) -> Home
+        requires { is_bound (table_state self.now) key.now ≡ true }
+        ensures { IsHome self.now.names.entries self.now.slots.cells.items key.now
             result.number result.width }
     {
         let entry = self.names.get(key).unwrap();
@@ -102,11 +102,11 @@ impl Table {
 
     /// Whether the arrays of two names share cells. Arrays in two buffers share none, and only for those
     /// in one is memory asked for.
-    pub(crate) fn shares(&self, alloc: Global, left: &Key, right: &Key) -> Result<bool, Refusal>
-        ensures answers { AnswersShares (table_state self.now) left.now.bytes.items
-            right.now.bytes.items result }
-        ensures no_memory { LieInTwo (table_state self.now) left.now.bytes.items
-            right.now.bytes.items → IsOk result }
+    pub(crate) fn shares(&self, alloc: Global, left: &Name, right: &Name) -> Result<bool, Refusal>
+        ensures answers { AnswersShares (table_state self.now) left.now
+            right.now result }
+        ensures no_memory { LieInTwo (table_state self.now) left.now
+            right.now → IsOk result }
     {
         let Some(first) = self.names.get(left) else {
             return Err(Refusal::UnknownName);
@@ -178,14 +178,14 @@ impl Table {
     }
 
     /// Binds a name, and answers what it was bound to.
-    pub(crate) fn bind(&mut self, key: Key, bound: Bound) -> Result<Option<Entry>, AllocError>
-        requires room { has_room_for (table_state self.old) key.bytes.items ≡ true }
+    pub(crate) fn bind(&mut self, key: Name, bound: Bound) -> Result<Option<Entry>, AllocError>
+        requires room { has_room_for (table_state self.old) key ≡ true }
         requires spare { 0 < spare self.old.names }
         requires may { MayBind (table_state self.old) bound }
         requires few { (q : ℕ) → users_at self.old.slots.cells.items q < usize.MAX }
         ensures done { IfOk result
             (λ earlier.
-            Rebinds self.old.names.entries self.old.slots.cells.items key.bytes.items bound
+            Rebinds self.old.names.entries self.old.slots.cells.items key bound
             earlier self.new.names.entries self.new.slots.cells.items) }
         ensures kept { OnErr result ((self.new.names.entries ≡ self.old.names.entries)
             × (self.new.slots.cells.items ≡ self.old.slots.cells.items)) }
@@ -216,7 +216,7 @@ impl Table {
     }
 
     /// Unbinds a name that was not bound before.
-    fn undo_first(&mut self, key: Key)
+    fn undo_first(&mut self, key: Name)
         requires can { CanUndo self.old (Bind key None) }
         ensures { IsUndone self.old (Bind key None) self.new }
     {
@@ -226,7 +226,7 @@ impl Table {
     }
 
     /// Binds a name to the array that it was bound to before.
-    fn undo_rebinding(&mut self, key: Key, earlier: Entry)
+    fn undo_rebinding(&mut self, key: Name, earlier: Entry)
         requires can { CanUndo self.old (Bind key (Some earlier)) }
         ensures { IsUndone self.old (Bind key (Some earlier)) self.new }
     {
@@ -236,7 +236,7 @@ impl Table {
     }
 
     /// Binds a name again, in its place among the names.
-    fn undo_unbinding(&mut self, place: usize, key: Key, entry: Entry)
+    fn undo_unbinding(&mut self, place: usize, key: Name, entry: Entry)
         requires can { CanUndo self.old (Unbind place key entry) }
         ensures { IsUndone self.old (Unbind place key entry) self.new }
     {

@@ -10,7 +10,6 @@ use Rattle.name_store.specs.States.{Array}
 use Rattle.name_store.specs.View.{array_at, slot_at}
 use Rattle.name_store.specs.Views.{IsLaidOut}
 use Rattle.name_store.specs.declared.entry.Entry.{Entry}
-use Rattle.name_store.specs.declared.entry.Key.{Key}
 use Rattle.name_store.specs.declared.slot.Slot.{Slot}
 
 IsPathOf-prop : (descr : Descr) (path : List ℕ) → IsProp (IsPathOf descr path)
@@ -24,7 +23,7 @@ LiesAt-prop : (there : Option Slot) (e : Entry) → IsProp (LiesAt there e)
 LiesAt-prop None e = hlevel props
 LiesAt-prop (Some slot) e = let laid = IsLaidOut-prop slot.descr slot.items (array_at e) e.layout e.writable in hlevel (laid, props)
 
-pub Holds-prop : (names : List (Key × Entry)) (slots : List (Option Slot)) → IsProp (Holds names slots)
+pub Holds-prop : (names : List (List ℕ × Entry)) (slots : List (Option Slot)) → IsProp (Holds names slots)
 Holds-prop names slots =
-    let lie = AllByRecursion-prop (λ (entry : Key × Entry). LiesAt (slot_at slots entry.1.number) entry.1) (λ entry. LiesAt-prop (slot_at slots entry.1.number) entry.1) names in
+    let lie = AllByRecursion-prop (λ (entry : List ℕ × Entry). LiesAt (slot_at slots entry.1.number) entry.1) (λ entry. LiesAt-prop (slot_at slots entry.1.number) entry.1) names in
     hlevel (lie, props)

@@ -6,11 +6,10 @@ use Rattle.name_store.specs.Invariants.{LiesIn}
 use Rattle.name_store.specs.Parts.{descr_at}
 use Rattle.name_store.specs.View.{array_at, named_array, slot_at}
 use Rattle.name_store.specs.declared.entry.Entry.{Entry}
-use Rattle.name_store.specs.declared.entry.Key.{Key}
 use Rattle.name_store.specs.declared.slot.Slot.{Slot}
 
 -- the name's array lies in the slot with this number, and each of its items has so many bytes
-pub record IsHome (names : List (Key × Entry)) (slots : List (Option Slot)) (name : List ℕ) (number width : ℕ) : Type 0 where
+pub record IsHome (names : List (List ℕ × Entry)) (slots : List (Option Slot)) (name : List ℕ) (number width : ℕ) : Type 0 where
   pub entry : Entry
   pub slot : Slot
   pub found : find_array (map named_array names) name ≡ Some (array_at entry)

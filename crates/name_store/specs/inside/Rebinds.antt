@@ -12,12 +12,11 @@ use Rattle.name_store.specs.Views.{IsViewIn}
 use Rattle.name_store.specs.declared.bound.Bound.{Bound}
 use Rattle.name_store.specs.declared.bound.Bound.TheVariants.{Fresh, View}
 use Rattle.name_store.specs.declared.entry.Entry.{Entry}
-use Rattle.name_store.specs.declared.entry.Key.{Key}
 use Rattle.name_store.specs.declared.slot.Slot.{Slot}
 use Rattle.name_store.specs.inside.Held.{stand}
 
 -- the array of the entry is what was asked for, and so are the buffers once a name is bound to it
-abbrev pub IsOf : List (Key × Entry) → List (Option Slot) → Bound → Entry → List (Option Slot) → Type 0
+abbrev pub IsOf : List (List ℕ × Entry) → List (Option Slot) → Bound → Entry → List (Option Slot) → Type 0
 IsOf names slots (Fresh o) v slots' =
     (slot_at slots v.number ≡ None) × ((lower : ℕ) → lower < v.number → is_some (slot_at slots lower) ≡ true) × (array_at v ≡ own_array v.number o)
     × ((name : List ℕ) → let bound = put_array (map named_array names) name (array_at v) in past_buffers [] bound slots' ≡ retain_keys (insert (present names slots).buffers v.number (own_buffer o)) (is_in_use bound))
@@ -26,14 +25,14 @@ IsOf names slots (View number path layout writable) v slots' =
     × ((name : List ℕ) → let bound = put_array (map named_array names) name (array_at v) in past_buffers [] bound slots' ≡ retain_keys (present names slots).buffers (is_in_use bound))
 
 -- The array of an entry lies in a slot, which one more holds. What stood in a slot stands there.
-pub record Lodges (names : List (Key × Entry)) (slots : List (Option Slot)) (bound : Bound) (entry : Entry) (slots' : List (Option Slot)) : Type 0 where
+pub record Lodges (names : List (List ℕ × Entry)) (slots : List (Option Slot)) (bound : Bound) (entry : Entry) (slots' : List (Option Slot)) : Type 0 where
   pub kept : (q : ℕ) → is_some (slot_at slots q) ≡ true → option_map stand (slot_at slots' q) ≡ option_map stand (slot_at slots q)
   pub users : (q : ℕ) → users_at slots' q ≡ users_at slots q + one_at q entry.number
   pub lies : LiesAt (slot_at slots' entry.number) entry
   pub is_of : IsOf names slots bound entry slots'
 
 -- The name is bound to an entry that lies there. What it was bound to before still has its slot.
-pub record Rebinds (names : List (Key × Entry)) (slots : List (Option Slot)) (name : List ℕ) (bound : Bound) (earlier : Option Entry) (names' : List (Key × Entry)) (slots' : List (Option Slot)) : Type 0 where
+pub record Rebinds (names : List (List ℕ × Entry)) (slots : List (Option Slot)) (name : List ℕ) (bound : Bound) (earlier : Option Entry) (names' : List (List ℕ × Entry)) (slots' : List (Option Slot)) : Type 0 where
   pub entry : Entry
   pub lodges : Lodges names slots bound entry slots'
   pub table : map named_array names' ≡ put_array (map named_array names) name (array_at entry)

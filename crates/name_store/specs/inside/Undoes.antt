@@ -7,12 +7,11 @@ use Rattle.name_store.specs.Kept.{kept_states, past_buffers}
 use Rattle.name_store.specs.View.{named_array}
 use Rattle.name_store.specs.declared.change.Change.{Change}
 use Rattle.name_store.specs.declared.entry.Entry.{Entry}
-use Rattle.name_store.specs.declared.entry.Key.{Key}
 use Rattle.name_store.specs.declared.slot.Slot.{Slot}
 use Rattle.name_store.specs.declared.table.Table.{Table}
 
 -- the states that were kept before the change are kept, and the one before it is the present
-pub record Undoes (names : List (Key × Entry)) (slots : List (Option Slot)) (change : Change) (names' : List (Key × Entry)) (slots' : List (Option Slot)) (ring : Ring Change) (spare : ℕ) : Type 0 where
+pub record Undoes (names : List (List ℕ × Entry)) (slots : List (Option Slot)) (change : Change) (names' : List (List ℕ × Entry)) (slots' : List (Option Slot)) (ring : Ring Change) (spare : ℕ) : Type 0 where
   pub sound : IsSound names' slots' ring spare
   pub kept : kept_states (ring.items ++ change ∷ []) (map named_array names) slots
       ≡ kept_states ring.items (map named_array names') slots' ++ (map named_array names', past_buffers [] (map named_array names') slots') ∷ []

@@ -1,13 +1,11 @@
-use Rattle.std.proofs.Common.{ap, sym, ◌∙◌, subst, arith, List}
+use Rattle.std.proofs.Common.{sym, ◌∙◌, subst, arith, ℕ, List}
 use Rattle.name_store.specs.Words.{spare}
-use Rattle.name_store.specs.Arrays.{has_room_for}
 use Rattle.name_store.specs.Calls.{Binds}
 use Rattle.name_store.specs.Invariants.{IsSound}
 use Rattle.name_store.specs.States.{BenchValue}
-use Rattle.name_store.specs.View.{present, state_of}
+use Rattle.name_store.specs.View.{state_of}
 use Rattle.name_store.specs.Views.{MayBind}
 use Rattle.name_store.specs.declared.entry.Entry.{Entry}
-use Rattle.name_store.specs.declared.entry.Key.{Key}
 use Rattle.name_store.proofs.BindLaws.{may-present, bind-held, bind-kept}
 use Rattle.name_store.proofs.KeepLaws.{patches-push}
 use Rattle.name_store.proofs.Needs.{users-small}
@@ -17,10 +15,10 @@ use Rattle.name_store.proofs.bench.Bench.bind.Goals.{After-keep}
 
 -- what is kept, and what is seen
 kept : (c : After-keep) → IsSound c.bind.new.self.names.entries c.keep.new.slots.cells.items c.keep.new.history (spare c.bind.new.self.names)
-    × Binds (state_of c.make_room.new.names.entries c.self.inside.table.slots.cells.items c.self.inside.history) c.of.result.bytes.items c.args.bound (state_of c.bind.new.self.names.entries c.keep.new.slots.cells.items c.keep.new.history)
+    × Binds (state_of c.make_room.new.names.entries c.self.inside.table.slots.cells.items c.self.inside.history) c.copy.result c.args.bound (state_of c.bind.new.self.names.entries c.keep.new.slots.cells.items c.keep.new.history)
 kept c =
-    bind-kept c.make_room.new.names.entries c.self.inside.table.slots.cells.items c.self.inside.history _ (same-sound c.self.inside.table.names.entries _ _ _ _ _ c.in_ok-make_room.ensures.entries c.in_ok-make_room.ensures.kept c.self.invariant) c.of.result.bytes.items c.args.bound c.in_ok-earlier.earlier c.bind.new.self.names.entries c.bind.new.self.slots.cells.items
-    c.in_ok-earlier.ensures.done c.bind.new.self.holds c.of-key.result (c.of-key.ensures ∙ sym c.of.ensures)
+    bind-kept c.make_room.new.names.entries c.self.inside.table.slots.cells.items c.self.inside.history _ (same-sound c.self.inside.table.names.entries _ _ _ _ _ c.in_ok-make_room.ensures.entries c.in_ok-make_room.ensures.kept c.self.invariant) c.copy.result c.args.bound c.in_ok-earlier.earlier c.bind.new.self.names.entries c.bind.new.self.slots.cells.items
+    c.in_ok-earlier.ensures.done c.bind.new.self.holds c.copy-key.result (c.copy-key.ensures ∙ sym c.copy.ensures)
     c.keep.new.history c.keep.new.slots.cells.items (spare c.bind.new.self.names) c.keep.ensures.history c.keep.ensures.freed c.keep.ensures.users (omega (arith, c.in_ok-make_room.ensures.room, c.in_ok-earlier.ensures.spare))
 
 pub bind-requires-clause-few : goal.bind-requires-clause-few
@@ -33,8 +31,8 @@ bind-requires-clause-may c =
 
 pub keep-requires-clause-held : goal.keep-requires-clause-held
 keep-requires-clause-held c =
-    bind-held c.make_room.new.names.entries c.self.inside.table.slots.cells.items c.self.inside.history _ (same-sound c.self.inside.table.names.entries _ _ _ _ _ c.in_ok-make_room.ensures.entries c.in_ok-make_room.ensures.kept c.self.invariant) c.of.result.bytes.items c.args.bound c.in_ok-earlier.earlier c.bind.new.self.names.entries c.bind.new.self.slots.cells.items
-    c.in_ok-earlier.ensures.done c.bind.new.self.holds c.of-key.result (c.of-key.ensures ∙ sym c.of.ensures)
+    bind-held c.make_room.new.names.entries c.self.inside.table.slots.cells.items c.self.inside.history _ (same-sound c.self.inside.table.names.entries _ _ _ _ _ c.in_ok-make_room.ensures.entries c.in_ok-make_room.ensures.kept c.self.invariant) c.copy.result c.args.bound c.in_ok-earlier.earlier c.bind.new.self.names.entries c.bind.new.self.slots.cells.items
+    c.in_ok-earlier.ensures.done c.bind.new.self.holds c.copy-key.result (c.copy-key.ensures ∙ sym c.copy.ensures)
 
 pub invariant_of-self-2 : goal.invariant_of-self-2
 invariant_of-self-2 c = (kept (goal.at.invariant_of-self-2 c).After-keep).0
@@ -45,8 +43,8 @@ invariant_of-self-inside-2 c = record { holds = (kept (goal.at.invariant_of-self
 pub returns-clause-answers : goal.returns-clause-answers
 returns-clause-answers c =
     rw (← c.self.view_is) (
-      ap (has_room_for (present c.self.inside.table.names.entries c.self.inside.table.slots.cells.items)) (sym c.of-key.ensures) ∙ sym c.has_room_for.ensures ∙ c.if-not-has_room_for.false,
-      rw (← c.of.ensures) (subst (λ (ns : List (Key × Entry)). Binds (state_of ns c.self.inside.table.slots.cells.items c.self.inside.history) c.of.result.bytes.items c.args.bound (state_of c.bind.new.self.names.entries c.keep.new.slots.cells.items c.keep.new.history)) c.in_ok-make_room.ensures.entries (kept (goal.at.returns-clause-answers c).After-keep).1),
+      sym c.has_room_for.ensures ∙ c.if-not-has_room_for.false,
+      rw (← c.copy.ensures) (subst (λ (ns : List (List ℕ × Entry)). Binds (state_of ns c.self.inside.table.slots.cells.items c.self.inside.history) c.copy.result c.args.bound (state_of c.bind.new.self.names.entries c.keep.new.slots.cells.items c.keep.new.history)) c.in_ok-make_room.ensures.entries (kept (goal.at.returns-clause-answers c).After-keep).1),
     )
 
 pub returns-clause-patches : goal.returns-clause-patches

@@ -1,8 +1,7 @@
-use Rattle.std.proofs.Common.{subst, List, ℕ}
+use Rattle.std.proofs.Common.{subst}
 use Rattle.name_store.specs.States.{BenchValue}
 use Rattle.name_store.specs.Arrays.{find_array}
 use Rattle.name_store.specs.Shown.{Finds}
-use Rattle.name_store.specs.View.{present}
 use Rattle.name_store.proofs.ShowLaws.{finds-whole}
 use Rattle.name_store.proofs.bench.Bench.get.Goals as goal
 
@@ -11,4 +10,4 @@ returns c =
     let es = c.self.inside.table.names.entries in
     let slots = c.self.inside.table.slots.cells.items in
     subst (λ (v : BenchValue). Finds v.state (find_array v.state.names c.args.name.now) c.get.result) c.self.view_is
-    (finds-whole es slots c.self.inside.history _ c.get.result (subst (λ (n : List ℕ). Finds (present es slots) (find_array (present es slots).names n) c.get.result) c.of.ensures c.get.ensures))
+    (finds-whole es slots c.self.inside.history _ c.get.result c.get.ensures)

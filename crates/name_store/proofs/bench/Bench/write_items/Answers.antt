@@ -8,7 +8,6 @@ use Rattle.name_store.specs.States.{BenchValue}
 use Rattle.name_store.specs.Targets.{IsAim}
 use Rattle.name_store.specs.View.{state_of, bench_value}
 use Rattle.name_store.specs.declared.entry.Entry.{Entry}
-use Rattle.name_store.specs.declared.entry.Key.{Key}
 use Rattle.name_store.specs.inside.Homes.{IsHome}
 use Rattle.name_store.proofs.UnbindLaws.{same-sound}
 use Rattle.name_store.proofs.WriteKept.{same-still, same-state, same-value, tried-sound, tried-lowest, put-can, none-can, needs-shallow, none-answers, wrote-sound, write-held, write-sound, write-answers, write-counts}
@@ -18,13 +17,13 @@ use Rattle.name_store.proofs.bench.Bench.write_items.Goals.{After-home-home, Aft
 -- where the array lies, and that the target leads there
 aimed : (c : After-home-home) → IsHome c.self.inside.table.names.entries c.self.inside.table.slots.cells.items c.args.name.now c.home-home.result.number c.home-home.result.width × IsAim (state_of c.self.inside.table.names.entries c.self.inside.table.slots.cells.items c.self.inside.history) c.args.name.now c.args.target c.args.source
 aimed c = (
-  subst (λ (n : List ℕ). IsHome c.self.inside.table.names.entries c.self.inside.table.slots.cells.items n c.home-home.result.number c.home-home.result.width) c.of.ensures c.home-home.ensures,
+  c.home-home.ensures,
   subst (λ (v : BenchValue). IsAim v.state c.args.name.now c.args.target c.args.source) (sym c.self.view_is) c.requires.aim,
 )
 
 kept : (c : After-keep) → IsSound c.make_room.new.names.entries c.keep.new.slots.cells.items c.keep.new.history (spare c.make_room.new.names)
 kept c =
-    let home = subst (λ (n : List ℕ). IsHome c.self.inside.table.names.entries c.self.inside.table.slots.cells.items n c.home-home.result.number c.home-home.result.width) c.of.ensures c.home-home.ensures in
+    let home = c.home-home.ensures in
     let aim = subst (λ (v : BenchValue). IsAim v.state c.args.name.now c.args.target c.args.source) (sym c.self.view_is) c.requires.aim in
     same-sound c.self.inside.table.names.entries c.make_room.new.names.entries c.keep.new.slots.cells.items c.keep.new.history (spare c.make_room.new.names) (spare c.make_room.new.names) c.in_ok-make_room.ensures.entries (omega arith)
     (write-sound c.self.inside.table.names.entries c.self.inside.table.slots.cells.items c.self.inside.history _ c.self.invariant c.args.name.now c.home-home.result.number c.home-home.result.width home c.args.target c.args.source aim c.write_items.new.cells.items c.in_ok-over.ensures.written c.in-Some.over.target (rw c.in-Some.is at c.in_ok-over.ensures.moved) c.in-Some.over.items (rw c.in-Some.is at c.in_ok-over.ensures.old)
@@ -53,14 +52,14 @@ pub returns-in_err-over-clause-answers : goal.returns-in_err-over-clause-answers
 returns-in_err-over-clause-answers c =
     let p = err_from_is_err_and c.from_residual-in_err-over.result c.from_residual-in_err-over.ensures.1 in
     rw (p.1, p.2, ← c.self.view_is) (
-      ap (λ (ns : List (Key × Entry)). state_of ns c.write_items.new.cells.items c.self.inside.history) c.in_ok-make_room.ensures.entries ∙ same-state c.self.inside.table.names.entries c.self.inside.table.slots.cells.items c.write_items.new.cells.items c.self.inside.history c.in_err-over.ensures.kept,
+      ap (λ (ns : List (List ℕ × Entry)). state_of ns c.write_items.new.cells.items c.self.inside.history) c.in_ok-make_room.ensures.entries ∙ same-state c.self.inside.table.names.entries c.self.inside.table.slots.cells.items c.write_items.new.cells.items c.self.inside.history c.in_err-over.ensures.kept,
       refl,
     )
 
 pub returns-in_err-over-clause-patches : goal.returns-in_err-over-clause-patches
 returns-in_err-over-clause-patches c = λ array found.
     let p = err_from_is_err_and c.from_residual-in_err-over.result c.from_residual-in_err-over.ensures.1 in
-    rw (p.1, ← c.self.view_is) (ap (λ (ns : List (Key × Entry)). bench_value ns c.write_items.new.cells.items c.self.inside.history) c.in_ok-make_room.ensures.entries
+    rw (p.1, ← c.self.view_is) (ap (λ (ns : List (List ℕ × Entry)). bench_value ns c.write_items.new.cells.items c.self.inside.history) c.in_ok-make_room.ensures.entries
     ∙ same-value c.self.inside.table.names.entries c.self.inside.table.slots.cells.items c.write_items.new.cells.items c.self.inside.history c.in_err-over.ensures.kept)
 
 pub returns-in_err-over-clause-no_memory : goal.returns-in_err-over-clause-no_memory

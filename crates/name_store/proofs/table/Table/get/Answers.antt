@@ -11,23 +11,23 @@ use Rattle.name_store.proofs.table.Table.get.Goals as goal
 pub returns-in_err-entry : goal.returns-in_err-entry
 returns-in_err-entry c =
     subst (λ (found : Option Array). Finds (present c.args.self.now.names.entries c.args.self.now.slots.cells.items) found c.from_residual.result)
-    (sym (none-found _ _ c.args.self.now.holds _ c.args.key.now.bytes.items (λ _. refl) (sym c.get.ensures.value ∙ ap option_copied c.in_err-entry.was)))
+    (sym (none-found _ _ c.args.self.now.holds _ c.args.key.now (λ _. refl) (sym c.get.ensures.value ∙ ap option_copied c.in_err-entry.was)))
     (subst (Finds (present c.args.self.now.names.entries c.args.self.now.slots.cells.items) None) (sym c.from_residual.ensures) tt)
 
 pub slot-slot-requires : goal.slot-slot-requires
 slot-slot-requires c =
-    let there = found-slot _ _ c.args.self.now.holds _ c.args.key.now.bytes.items (λ _. refl) c.in_ok-entry.entry.now (sym c.get.ensures.value ∙ ap option_copied c.in_ok-entry.was) in
+    let there = found-slot _ _ c.args.self.now.holds _ c.args.key.now (λ _. refl) c.in_ok-entry.entry.now (sym c.get.ensures.value ∙ ap option_copied c.in_ok-entry.was) in
     ap is_some there.1
 
 pub returns : goal.returns
 returns c =
     let was = sym c.get.ensures.value ∙ ap option_copied c.in_ok-entry.was in
-    let lies = found-lies _ _ c.args.self.now.holds _ c.args.key.now.bytes.items (λ _. refl) c.in_ok-entry.entry.now c.slot-slot.result.now was c.slot-slot.ensures in
-    finds _ _ _ _ (bound-found _ _ c.args.self.now.holds _ c.args.key.now.bytes.items (λ _. refl) c.in_ok-entry.entry.now was)
+    let lies = found-lies _ _ c.args.self.now.holds _ c.args.key.now (λ _. refl) c.in_ok-entry.entry.now c.slot-slot.result.now was c.slot-slot.ensures in
+    finds _ _ _ _ (bound-found _ _ c.args.self.now.holds _ c.args.key.now (λ _. refl) c.in_ok-entry.entry.now was)
     (shown c.args.self.now.names.entries c.args.self.now.slots.cells.items c.in_ok-entry.entry.now c.slot-slot.result.now _ (lookup-used _ c.args.self.now.names.entries c.in_ok-entry.entry.now was) c.slot-slot.ensures lies refl refl refl refl c.descr_in.ensures refl)
 
 pub descr_in-requires : goal.descr_in-requires
 descr_in-requires c =
     let was = sym c.get.ensures.value ∙ ap option_copied c.in_ok-entry.was in
-    let lies = found-lies _ _ c.args.self.now.holds _ c.args.key.now.bytes.items (λ _. refl) c.in_ok-entry.entry.now c.slot-slot.result.now was c.slot-slot.ensures in
+    let lies = found-lies _ _ c.args.self.now.holds _ c.args.key.now (λ _. refl) c.in_ok-entry.entry.now c.slot-slot.result.now was c.slot-slot.ensures in
     lies.laid.part

@@ -21,7 +21,7 @@ returns-else-len-lt-MAX_NAMES c =
     let names = map named_array c.args.self.now.names.entries in
     c.contains_key.ensures
     ∙ sym (some-array _)
-    ∙ ap is_some (sym (find-lookup _ c.args.key.now.bytes.items (λ _. refl) c.args.self.now.names.entries))
+    ∙ ap is_some (sym (find-lookup _ c.args.key.now (λ _. refl) c.args.self.now.names.entries))
     ∙ or-false _
-    ∙ ap (λ t. is_some (find_array names c.args.key.now.bytes.items) || t)
+    ∙ ap (λ t. is_some (find_array names c.args.key.now) || t)
     (sym (ap (λ n. nat_lt n 1024) (sym (c.len.ensures.len ∙ sym (length-map c.args.self.now.names.entries named_array))) ∙ le-ltb c.len.result 1024 c.if-len-lt-MAX_NAMES.false))

@@ -5,7 +5,7 @@ use Rattle.name_store.proofs.UndoFirst.{undo-first-some, undo-first-none}
 use Rattle.name_store.proofs.table.Table.undo_first.Goals as goal
 
 pub release-requires : goal.release-requires
-release-requires c = found-held c.args.self.now.names.entries c.args.self.now.slots.cells.items c.requires.can.1.holds _ c.args.key.bytes.items (λ _. refl) c.in-Some.entry (sym c.shift_remove.ensures.value ∙ c.in-Some.is)
+release-requires c = found-held c.args.self.now.names.entries c.args.self.now.slots.cells.items c.requires.can.1.holds _ c.args.key (λ _. refl) c.in-Some.entry (sym c.shift_remove.ensures.value ∙ c.in-Some.is)
 
 pub returns-in-Some : goal.returns-in-Some
 returns-in-Some c ring sound =

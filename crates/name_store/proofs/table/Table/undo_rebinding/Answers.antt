@@ -6,7 +6,7 @@ use Rattle.name_store.proofs.table.Table.undo_rebinding.Goals as goal
 
 pub release-requires : goal.release-requires
 release-requires c =
-    found-held c.args.self.now.names.entries c.args.self.now.slots.cells.items c.requires.can.1.holds _ c.args.key.bytes.items (λ _. refl) c.in-Some.entry (sym (IfOk-at_ok _ c.unwrap.ensures c.insert.ensures.old) ∙ c.in-Some.is)
+    found-held c.args.self.now.names.entries c.args.self.now.slots.cells.items c.requires.can.1.holds _ c.args.key (λ _. refl) c.in-Some.entry (sym (IfOk-at_ok _ c.unwrap.ensures c.insert.ensures.old) ∙ c.in-Some.is)
 
 pub returns-in-Some : goal.returns-in-Some
 returns-in-Some c ring sound =
