@@ -140,15 +140,6 @@ fn integer_scalar(descr: &Descr) -> Result<Scalar, Refusal>
     }
 }
 
-/// The scalar of a descriptor whose values are integers.
-fn integer_type(alloc: Global, descr: &Text) -> Result<Scalar, Refusal>
-    ensures value { Gives (λ scalar. scalar) result (range_scalar descr.now) }
-    ensures number { IfOk result IsNumber }
-{
-    let descr = descr_read(alloc, descr.as_slice())?;
-    integer_scalar(&descr)
-}
-
 /// `arange D a b s`
 fn arange(
     alloc: Global,
@@ -159,7 +150,8 @@ fn arange(
 ) -> Result<Owned, Refusal>
     ensures { Gives held result (arange_contents descr.now start.now stop.now step.now) }
 {
-    let scalar = integer_type(alloc, descr)?;
+    let descr = descr_read(alloc, descr.as_slice())?;
+    let scalar = integer_scalar(&descr)?;
     let len = range_len(start, stop, step)?;
     let shape = Shape::try_new(alloc, &[len])?;
     let block = range_block(alloc, &scalar, start, stop, step)?;

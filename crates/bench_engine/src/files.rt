@@ -123,26 +123,8 @@ fn push_loaded_text(
     out.extend_from_slice(text.as_bytes())
 }
 
-/// Binds a name, for which there is room, to an array that was loaded. The reply is appended before
-/// the change, which is the last step that may lack memory.
-fn bind_loaded(
-    bench: &mut Bench,
-    name: &Name,
-    owned: Owned,
-    rest: usize,
-    out: &mut Vec<u8>,
-) -> Result<(), Refusal>
-    requires room { has_room_for bench.old.state name.now ≡ true }
-    ensures room { vec_capacity out.old ≤ vec_capacity out.new }
-    ensures answers { CarriesOut true
-        (λ choice. bound_loaded choice bench.old.state name.now rest (held owned))
-        bench.old.state bench.new.state out.old.items out.new.items result }
-{
-    push_loaded_text(out, name, &owned, rest)?;
-    bench.bind(*out.allocator(), name, Bound::Fresh(owned))
-}
-
-/// Binds a name to the array in a file. The store is asked only where there is room for the name.
+/// Binds a name to the array in a file. The store is asked only where there is room for the name. The
+/// reply is appended before the change, which is the last step that may lack memory.
 pub fn load<N: NpyStore>(
     bench: &mut Bench,
     store: &mut N,
@@ -159,5 +141,6 @@ pub fn load<N: NpyStore>(
         return Err(Refusal::TooManyNames);
     }
     let (owned, rest) = find(*out.allocator(), store, file)?;
-    bind_loaded(bench, name, owned, rest, out)
+    push_loaded_text(out, name, &owned, rest)?;
+    bench.bind(*out.allocator(), name, Bound::Fresh(owned))
 }

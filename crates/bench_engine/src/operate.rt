@@ -12,7 +12,6 @@ ghost use Rattle.script_lang.specs.declared.operation.Operation.TheVariants as o
 ghost use Rattle.bench_engine.specs.inside.OwnContents.{held, IsInCOrder};
 ghost use Rattle.bench_engine.specs.Memory.{bound_in_computation};
 ghost use Rattle.bench_engine.specs.inside.Computed.{computed_contents, origin_of};
-ghost use Rattle.bench_engine.specs.inside.Parts.{IsShown, Casts};
 ghost use Rattle.bench_engine.specs.inside.Contract.{CarriesOut};
 ghost use Rattle.bench_engine.specs.inside.Meeting.{Meets};
 
@@ -21,15 +20,13 @@ use crate::index_list::{are_bound, take};
 use crate::replies::Origin;
 use crate::write::{Given, given_by};
 use arrays::Owned;
-use elem_descr::{
-    BinOp, Comparison, Descr, MemoryOrder, Name, Red, Refusal, Scalar, UnOp, descr_read,
-};
+use elem_descr::{BinOp, Comparison, Descr, MemoryOrder, Name, Red, Refusal, Scalar, descr_read};
 use elementwise::{
     Items, apply1, apply2, compare, compare_bytes, compare_integer, compared_type, literal_type,
     promote, scalar_of,
 };
 use name_store::{ArrayRef, Bench, Bound};
-use script_lang::{Argument, Computation, Literal, Operand, Operation, ScalarLiteral, Text};
+use script_lang::{Argument, Computation, Literal, Operand, Operation, ScalarLiteral};
 use shape_strides::{Layout, Shape};
 use std::alloc::Global;
 
@@ -206,13 +203,6 @@ fn worked_literal(
     single(alloc, &scalar, literal)
 }
 
-/// The number that a bool is.
-fn number_of(value: bool) -> i128
-    ensures { result ≡ literal_number (Boolean value) }
-{
-    if value { 1 } else { 0 }
-}
-
 /// A comparison of items with a literal, by value.
 fn compare_literal(
     alloc: Global,
@@ -236,7 +226,7 @@ fn compare_literal(
             alloc,
             comparison,
             left,
-            number_of(*value),
+            i128::from(*value),
         ),
         ScalarLiteral::Bytes(bytes) => compare_bytes(alloc, comparison, left, bytes.as_slice()),
     }
@@ -263,16 +253,6 @@ pub fn work_literal(
     }
 }
 
-/// The items of an array as items of an element type, in a block of their own.
-fn converted(alloc: Global, array: &ArrayRef<'_>, descr: &Text) -> Result<Owned, Refusal>
-    requires { IsShown array.now }
-    ensures { Casts descr.now array.now result }
-{
-    let descr = descr_read(alloc, descr.as_slice())?;
-    let items = items_of_view(array, array.layout);
-    elementwise::cast(alloc, items, &descr)
-}
-
 /// What an operation gives on an operand and an argument.
 fn combined(
     alloc: Global,
@@ -294,20 +274,6 @@ fn combined(
     }
 }
 
-/// What an operation gives on an operand.
-fn transformed(
-    alloc: Global,
-    bench: &Bench,
-    operation: UnOp,
-    operand: &Operand,
-) -> Result<Owned, Refusal>
-    requires bound { list_all (is_bound bench.now.state) (names_in_operand operand.now) ≡ true }
-    ensures { Gives held result (transformed bench.now.state operation operand.now) }
-{
-    let part = operand_part(alloc, bench, operand)?;
-    apply1(alloc, operation, part.items())
-}
-
 /// What a computation gives.
 fn computed(alloc: Global, bench: &Bench, computation: &Computation) -> Result<Owned, Refusal>
     requires bound { list_all (is_bound bench.now.state)
@@ -320,7 +286,9 @@ fn computed(alloc: Global, bench: &Bench, computation: &Computation) -> Result<O
             arrays::copy(alloc, array.block, array.layout, array.descr, *order)
         }
         Computation::Cast { source, descr } => {
-            converted(alloc, &bench.get(source).unwrap(), descr)
+            let array = bench.get(source).unwrap();
+            let descr = descr_read(alloc, descr.as_slice())?;
+            elementwise::cast(alloc, items_of_view(&array, array.layout), &descr)
         }
         Computation::Combine {
             operation,
@@ -328,7 +296,8 @@ fn computed(alloc: Global, bench: &Bench, computation: &Computation) -> Result<O
             right,
         } => combined(alloc, bench, *operation, left, right),
         Computation::Transform { operation, operand } => {
-            transformed(alloc, bench, *operation, operand)
+            let part = operand_part(alloc, bench, operand)?;
+            apply1(alloc, *operation, part.items())
         }
         Computation::Reduce {
             reduction,

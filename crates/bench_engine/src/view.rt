@@ -29,23 +29,14 @@ pub struct Viewed<'a> {
     pub descr: &'a Descr,
 }
 
-/// The shape of what is bound.
-fn shape_of_bound(bound: &Bound) -> &Shape
-    ensures { result.now ≡ shape_of_bound bound.now }
+/// The shape of what is bound, and whether it is a view or a copy.
+fn shape_and_origin(bound: &Bound) -> (&Shape, Origin)
+    ensures shape { result.0.now ≡ shape_of_bound bound.now }
+    ensures origin { result.1 ≡ origin_of_bound bound.now }
 {
     match bound {
-        Bound::Fresh(owned) => &owned.layout.shape,
-        Bound::View { layout, .. } => &layout.shape,
-    }
-}
-
-/// Whether it is a view or a copy.
-fn origin_of_bound(bound: &Bound) -> Origin
-    ensures { result ≡ origin_of_bound bound.now }
-{
-    match bound {
-        Bound::Fresh(_) => Origin::Copy,
-        Bound::View { .. } => Origin::View,
+        Bound::Fresh(owned) => (&owned.layout.shape, Origin::Copy),
+        Bound::View { layout, .. } => (&layout.shape, Origin::View),
     }
 }
 
@@ -234,7 +225,7 @@ pub fn view(
     }
     let viewed = seen(*out.allocator(), bench, &array, how)?;
     let bound = viewed.bound;
-    let shape = shape_of_bound(&bound);
-    push_bound_text(out, name, viewed.descr, shape, origin_of_bound(&bound))?;
+    let (shape, origin) = shape_and_origin(&bound);
+    push_bound_text(out, name, viewed.descr, shape, origin)?;
     bench.bind(*out.allocator(), name, bound)
 }

@@ -41,11 +41,6 @@ SeesIn s how r result = (array : Array) → Shows s array r → Meets (IsSeen s)
 abbrev pub Duplicates : List ℕ → ArrayRef → Result Viewed Refusal → Type 0
 Duplicates shape r result = (s : State) (array : Array) → Shows s array r → Meets (IsSeen s) result (as_copy s array shape)
 
--- what a block holds is what its items are as those of another element type, in each state that has it; a refusal is the one that
--- is there, unless memory ran out
-abbrev pub Casts : List ℕ → ArrayRef → Result Owned Refusal → Type 0
-Casts text r result = (s : State) (array : Array) → Shows s array r → Gives held result (cast_contents s array text)
-
 -- the shape of what is bound, and where the reply says that it is from
 abbrev pub shape_of_bound : Bound → List ℕ
 shape_of_bound (bound.View number path layout writable) = layout.shape

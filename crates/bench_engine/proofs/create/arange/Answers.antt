@@ -1,21 +1,31 @@
-use Rattle.std.proofs.Common.{◌≡◌, ◌*◌, ◌∙◌, [], ◌∷◌, sym, inl, inr, arith, ap, refl}
+use Rattle.std.proofs.Common.{◌≡◌, ◌*◌, ◌∙◌, [], ◌∷◌, Ok, Err, sym, inl, inr, arith, ap, refl}
 use Rattle.std.proofs.lemmas.Result.{err_from_is_err_and}
-use Rattle.bench_engine.specs.Words.{size, count, range_items}
+use Rattle.bench_engine.specs.Words.{size, count, descriptor, range_items}
 use Rattle.bench_engine.specs.Contents.{range_scalar, arange_contents}
-use Rattle.bench_engine.proofs.Makes.{passed, range-shape, range-shape-refused, arange-done, in-order}
+use Rattle.bench_engine.proofs.Makes.{passed, integer-given, range-shape, range-shape-refused, arange-done, in-order}
+use Rattle.bench_engine.proofs.create.arange.Goals.{After-branch-len}
 use Rattle.bench_engine.proofs.create.arange.Goals as goal
+
+given : (c : After-branch-len) → range_scalar c.args.descr.now ≡ Ok c.in_ok-scalar.scalar
+given c = integer-given c.args.descr.now c.in_ok-descr.descr (Ok c.in_ok-scalar.scalar) (rw c.as_slice.ensures at c.in_ok-descr.ensures) c.in_ok-scalar.ensures.value
+
+pub returns-in_err-descr : goal.returns-in_err-descr
+unfolding arange_contents range_scalar
+returns-in_err-descr c =
+    let p = err_from_is_err_and c.from_residual.result c.from_residual.ensures.1 in
+    rw (p.1, p.2) (passed (descriptor c.args.descr.now) _ _ (λ bad. rw bad refl) (rw c.as_slice.ensures at c.in_err-descr.ensures))
 
 pub returns-in_err-scalar : goal.returns-in_err-scalar
 unfolding arange_contents
 returns-in_err-scalar c =
-    let p = err_from_is_err_and c.from_residual.result c.from_residual.ensures.1 in
-    rw (p.1, p.2) (passed (range_scalar c.args.descr.now) _ _ (λ bad. rw bad refl) c.in_err-scalar.ensures.value)
+    let p = err_from_is_err_and c.from_residual-in_err-scalar.result c.from_residual-in_err-scalar.ensures.1 in
+    rw (p.1, p.2) (passed (range_scalar c.args.descr.now) _ _ (λ bad. rw bad refl) (integer-given _ c.in_ok-descr.descr (Err _) (rw c.as_slice.ensures at c.in_ok-descr.ensures) c.in_err-scalar.ensures.value))
 
 pub returns-in_err-len : goal.returns-in_err-len
 unfolding arange_contents range_items
 returns-in_err-len c =
     let p = err_from_is_err_and c.from_residual-in_err-len.result c.from_residual-in_err-len.ensures.1 in
-    rw (p.1, p.2) (inr (rw (c.in_ok-scalar.ensures.value, sym c.in_err-len.ensures.value) refl))
+    rw (p.1, p.2) (inr (rw (given (goal.at.returns-in_err-len c).After-branch-len, sym c.in_err-len.ensures.value) refl))
 
 pub returns-in_err-shape : goal.returns-in_err-shape
 returns-in_err-shape c =
@@ -26,7 +36,7 @@ pub returns-in_err-block : goal.returns-in_err-block
 unfolding arange_contents
 returns-in_err-block c =
     let p = err_from_is_err_and c.from_residual-in_err-block.result c.from_residual-in_err-block.ensures.1 in
-    rw (p.1, p.2) (passed (range_items c.in_ok-scalar.scalar c.args.start.now c.args.stop.now c.args.step.now) _ _ (λ bad. rw (c.in_ok-scalar.ensures.value, bad) refl) c.in_err-block.ensures.items)
+    rw (p.1, p.2) (passed (range_items c.in_ok-scalar.scalar c.args.start.now c.args.stop.now c.args.step.now) _ _ (λ bad. rw (given (goal.at.returns-in_err-block c).After-branch-len, bad) refl) c.in_err-block.ensures.items)
 
 pub over-requires-clause-whole : goal.over-requires-clause-whole
 over-requires-clause-whole c =
@@ -36,6 +46,6 @@ over-requires-clause-whole c =
 pub returns : goal.returns
 returns c =
     let shaped = c.in_ok-owned.ensures.shape ∙ range-shape c.in_ok-len.len _ c.in_ok-len.ensures.few c.in_ok-shape.ensures in
-    arange-done _ _ _ _ _ _ c.in_ok-block.block c.in_ok-owned.owned c.in_ok-scalar.ensures.value c.in_ok-block.ensures.items
+    arange-done _ _ _ _ _ _ c.in_ok-block.block c.in_ok-owned.owned (given (goal.at.returns c).After-branch-len) c.in_ok-block.ensures.items
     c.in_ok-owned.ensures.descr (shaped ∙ ap (λ n. n ∷ []) c.in_ok-len.ensures.count) c.in_ok-owned.ensures.block
     (in-order c.in_ok-owned.owned _ _ c.in_ok-owned.ensures.descr c.in_ok-owned.ensures.shape c.in_ok-owned.ensures.order)

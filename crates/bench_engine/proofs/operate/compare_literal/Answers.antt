@@ -1,11 +1,16 @@
-use Rattle.std.proofs.Common.{rules, sym, ◌∙◌, inr, subst}
+use Rattle.std.proofs.Common.{◌≡◌, rules, refl, Bool, true, false, pos, sym, ◌∙◌, inr, subst}
 use Rattle.std.proofs.lemmas.Int.{to_z-of_z}
-use mir.Val.{SFits}
+use mir.Val.{SFits, bool_byte}
 use mir.Syntax.{w128}
-use Rattle.bench_engine.specs.Words.{Gives, Boolean}
+use Rattle.bench_engine.specs.Words.{Gives, Boolean, literal_number}
 use Rattle.script_lang.specs.declared.literal.ScalarLiteral.TheVariants.{Integer, Bytes}
 use Rattle.bench_engine.proofs.LiteralLaws.{literal-gives, compared-record, integers-are, booleans-are, bytes-are, number-items}
 use Rattle.bench_engine.proofs.operate.compare_literal.Goals as goal
+
+-- a bool as a number
+as-number : (b : Bool) → pos (bool_byte b) ≡ literal_number (Boolean b)
+as-number true = refl
+as-number false = refl
 
 pub returns-in_default-clause-gives : goal.returns-in_default-clause-gives
 returns-in_default-clause-gives c v stands = inr (compared-record c.args.comparison v c.args.literal.now c.in_default.not-Scalar)
@@ -23,10 +28,10 @@ pub returns-in-Boolean-clause-gives : goal.returns-in-Boolean-clause-gives
 returns-in-Boolean-clause-gives c v stands =
     let e = c.compare_integer-in-Boolean.ensures in
     let lengths = c.as_slice-lengths.ensures in
-    let fits : SFits w128 c.number_of.result = search rules in
+    let fits : SFits w128 c.from.result = search rules in
     rw (c.in-Scalar.is, c.in-Boolean.is) (literal-gives c.args.comparison v c.args.left stands (record { axes = lengths.rank; lengths = lengths.lengths; items = lengths.items }) (Boolean c.in-Boolean.value) c.compare_integer-in-Boolean.result
     (subst (Gives (λ o. (o.descr, o.layout.shape)) c.compare_integer-in-Boolean.result) (booleans-are c.in-Boolean.value c.args.left.descr.now c.args.left.layout.now.shape) e.gives) e.order
-    (number-items c.args.comparison c.args.left _ _ c.compare_integer-in-Boolean.result (to_z-of_z w128 c.number_of.result fits ∙ c.number_of.ensures) e.items))
+    (number-items c.args.comparison c.args.left _ _ c.compare_integer-in-Boolean.result (to_z-of_z w128 c.from.result fits ∙ c.from.ensures ∙ as-number c.in-Boolean.value) e.items))
 
 pub returns-in-Bytes-clause-gives : goal.returns-in-Bytes-clause-gives
 returns-in-Bytes-clause-gives c v stands =

@@ -1,5 +1,13 @@
-use Rattle.bench_engine.specs.Words.{found-array}
+use Rattle.std.proofs.Common.{ap, refl, sym, ◌∙◌}
+use Rattle.std.proofs.lemmas.Result.{err_from_is_err_and}
+use Rattle.bench_engine.specs.Machine.{cast_contents, operand_part, transformed}
+use Rattle.bench_engine.specs.Words.{descriptor, found-array}
+use Rattle.bench_engine.specs.inside.Operands.{IsPart}
+use Rattle.bench_engine.proofs.Answered.{met}
+use Rattle.bench_engine.proofs.Casts.{cast-gives}
+use Rattle.bench_engine.proofs.Computes.{transformed-gives}
 use Rattle.bench_engine.proofs.Copies.{copied-gives}
+use Rattle.bench_engine.proofs.Makes.{passed}
 use Rattle.bench_engine.proofs.Reduces.{reduced-gives}
 use Rattle.bench_engine.proofs.operate.computed.Goals as goal
 
@@ -14,10 +22,45 @@ returns-in-Duplicate c =
     let e = c.copy.ensures in
     rw (c.in-Duplicate.is, it.1) (copied-gives c.args.bench.now.state it.0 c.unwrap-array.result c.in-Duplicate.order c.copy.result it.2 e.descr e.shape e.order e.items e.within e.refused)
 
-pub converted-requires : goal.converted-requires
-converted-requires c =
-    let it = found-array c.args.bench.now.state _ c.unwrap.result (rw c.unwrap.ensures at c.get-in-Cast.ensures) in
-    (c.args.bench.now.state, it.0, it.2)
+pub items_of_view-requires : goal.items_of_view-requires
+items_of_view-requires c =
+    let it = found-array c.args.bench.now.state _ c.unwrap-array-in-Cast.result (rw c.unwrap-array-in-Cast.ensures at c.get-in-Cast.ensures) in
+    record { inside = it.2.inside }
+
+pub returns-in_err-descr-in-Cast : goal.returns-in_err-descr-in-Cast
+unfolding cast_contents
+returns-in_err-descr-in-Cast c =
+    let it = found-array c.args.bench.now.state _ c.unwrap-array-in-Cast.result (rw c.unwrap-array-in-Cast.ensures at c.get-in-Cast.ensures) in
+    let p = err_from_is_err_and c.from_residual.result c.from_residual.ensures.1 in
+    rw (p.1, p.2, c.in-Cast.is, it.1) (passed (descriptor c.as_slice.result.now) _ _ (λ bad. rw (ap descriptor (sym c.as_slice.ensures) ∙ bad) refl) c.in_err-descr-in-Cast.ensures)
+
+pub returns-in_ok-descr-in-Cast : goal.returns-in_ok-descr-in-Cast
+returns-in_ok-descr-in-Cast c =
+    let it = found-array c.args.bench.now.state _ c.unwrap-array-in-Cast.result (rw c.unwrap-array-in-Cast.ensures at c.get-in-Cast.ensures) in
+    let e = c.cast.ensures in
+    let i = c.items_of_view.ensures in
+    rw (c.in-Cast.is, it.1) (cast-gives c.args.bench.now.state it.0 c.unwrap-array-in-Cast.result _ c.in_ok-descr-in-Cast.descr c.cast.result it.2 (ap descriptor (sym c.as_slice.ensures) ∙ c.in_ok-descr-in-Cast.ensures) e.descr (rw i.layout at e.shape) (rw i.layout at e.order) (rw (i.block, i.layout, i.descr) at e.items)
+    (rw i.descr at e.can) (rw i.layout at e.within) (rw (i.layout, i.descr) at e.refused))
+
+pub items-requires : goal.items-requires
+items-requires c =
+    let s = c.args.bench.now.state in
+    let is = met (IsPart s) c.in_ok-part-in-Transform.part (operand_part s _) c.in_ok-part-in-Transform.ensures in
+    (s, is.0, is.2)
+
+pub returns-in_err-part-in-Transform : goal.returns-in_err-part-in-Transform
+unfolding transformed
+returns-in_err-part-in-Transform c =
+    let s = c.args.bench.now.state in
+    let p = err_from_is_err_and c.from_residual-in_err-part-in-Transform.result c.from_residual-in_err-part-in-Transform.ensures.1 in
+    rw (p.1, p.2, c.in-Transform.is) (passed (operand_part s _) _ _ (λ bad. rw bad refl) c.in_err-part-in-Transform.ensures)
+
+pub returns-in_ok-part-in-Transform : goal.returns-in_ok-part-in-Transform
+returns-in_ok-part-in-Transform c =
+    let s = c.args.bench.now.state in
+    let is = met (IsPart s) c.in_ok-part-in-Transform.part (operand_part s _) c.in_ok-part-in-Transform.ensures in
+    let e = c.apply1.ensures in
+    rw c.in-Transform.is (transformed-gives s c.in-Transform.operation _ is.0 c.items.result c.apply1.result is.1 (c.items.ensures.stands s is.0 is.2) e.gives e.order e.items)
 
 pub items_of_view-items-requires : goal.items_of_view-items-requires
 items_of_view-items-requires c =

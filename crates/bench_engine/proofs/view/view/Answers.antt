@@ -54,4 +54,4 @@ returns-clause-answers c =
     seen-answers s c.bind.new.self.state c.args.name.now _ _ c.in_ok-viewed.viewed.bound c.in_ok-viewed.viewed.descr.now is.0 c.bind.result c.args.out.now.items c.push_bound_text.new.out.items
     (rw (bound s c.args.source.now it.0 it.1, sym c.if-not-has_bound.ensures) refl) (sym c.if-not-has_room_for.ensures)
     (λ choice. view-done choice s c.args.name.now c.args.source.now c.args.how.now it.0 is.0 (sym c.if-not-has_bound.ensures) it.1 (sym c.if-not-has_room_for.ensures) is.1)
-    (rw (c.shape_of_bound-shape.ensures, c.origin_of_bound.ensures) at c.in_ok-push_bound_text.ensures.ok) is.2.0 is.2.1 c.bind.ensures.answers
+    (rw (c.shape_and_origin-origin.ensures.shape, c.shape_and_origin-origin.ensures.origin) at c.in_ok-push_bound_text.ensures.ok) is.2.0 is.2.1 c.bind.ensures.answers
