@@ -1,11 +1,11 @@
 -- Parts of an array that is shown: what is seen of it, in the block of its buffer.
 use Rattle.std.specs.Prelude.{◌≡◌, ℕ, List, Result}
-use Rattle.bench_engine.specs.Words.{Descr, Refusal, Gives, Owned, Viewing, State, descr_of, Shows, IsViewIn, ArrayRef, Bound}
+use Rattle.bench_engine.specs.Words.{Descr, Refusal, Viewing, State, descr_of, Shows, IsViewIn, ArrayRef, Bound}
 use Rattle.name_store.specs.States.{Array}
 use Rattle.name_store.specs.declared.bound.Bound.TheVariants as bound
 use Rattle.bench_engine.specs.declared.view.Viewed.{Viewed}
 use Rattle.bench_engine.specs.inside.OwnContents.{held}
-use Rattle.bench_engine.specs.Machine.{ViewOrCopy, a_view, a_copy, cast_contents, as_copy, seen}
+use Rattle.bench_engine.specs.Machine.{ViewOrCopy, a_view, a_copy, as_copy, seen}
 use Rattle.bench_engine.specs.declared.replies.Origin.{Origin}
 use Rattle.bench_engine.specs.declared.replies.Origin.TheVariants as origin
 use Rattle.bench_engine.specs.inside.Meeting.{Meets}

@@ -1,5 +1,4 @@
 use Rattle.std.proofs.lemmas.Result.{err_from_is_err_and}
-use Rattle.bench_engine.proofs.Moved.{supplied-gives}
 use Rattle.bench_engine.proofs.SetOutcomes.{new-items-bad}
 use Rattle.bench_engine.proofs.write.new_items.Goals as goal
 
