@@ -1,6 +1,6 @@
 -- Which answer each exit of a plan has to give.
 use Rattle.std.proofs.Common.{◌≡◌, ◌⊎◌, inl, inr, Result, Ok, Err, ℕ, ◌≤◌, Bool, true, false, IsTrue, List, [], map, length, get_or, All, refl, sym, ap, subst, ◌∙◌, arith}
-use Rattle.std.specs.Result.{is_ok, IfOk, IfErr}
+use Rattle.std.specs.Result.{is_ok, IfOk}
 use Rattle.std.proofs.lemmas.Bool.{false≢true}
 use Rattle.std.proofs.lemmas.List.{nil_from_length, length-map}
 use Rattle.fancy_index.specs.Words.{Refusal, OutOfMemory, IndexOutOfRange, check, ◌>>=◌, Layout, max_axes, count, indexes, rank, shape_of, shape_of-same, offsets, length-indexes, rank-lt, common_with, can_stretch, with-fits}

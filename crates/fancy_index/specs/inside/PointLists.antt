@@ -21,7 +21,7 @@ named_place n at = if is_place n at then Some (place_of n at) else None
 abbrev pub named_places : ℕ → List ℤ → Result (List ℕ) Refusal
 named_places n numbers = if list_all (is_place n) numbers then Ok (map (place_of n) numbers) else Err IndexOutOfRange
 
--- its rank along an axis of n that has a place, whatever the number
+-- the rank of a number along an axis of n that has a place: its place, if it names one
 abbrev pub rank_on : ℕ → ℤ → ℕ
 rank_on n at = place_of n at % n
 

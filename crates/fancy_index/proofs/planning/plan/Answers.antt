@@ -4,7 +4,7 @@ use Rattle.fancy_index.specs.IndexArrays.{are_within}
 use Rattle.fancy_index.specs.Parts.{parts}
 use Rattle.fancy_index.specs.Sources.{index_items}
 use Rattle.fancy_index.specs.Plans.{GivesPlan}
-use Rattle.fancy_index.specs.inside.PartLists.{shown_part, all_named, view_if_named}
+use Rattle.fancy_index.specs.inside.PartLists.{shown_part, all_named}
 use Rattle.fancy_index.proofs.AnswerLaws.{named-view}
 use Rattle.fancy_index.proofs.IndexedLaws.{indexed-parts, refused-range}
 use Rattle.fancy_index.proofs.planning.plan.Goals as goal

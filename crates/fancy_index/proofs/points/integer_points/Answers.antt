@@ -1,4 +1,4 @@
-use Rattle.std.proofs.Common.{◌≡◌, inl, inr, ℤ, List, length, ap, ◌∙◌, arith}
+use Rattle.std.proofs.Common.{◌≡◌, inl, inr, length, ap, ◌∙◌, arith}
 use Rattle.std.proofs.lemmas.List.{length-map, nil_from_length}
 use Rattle.fancy_index.specs.Words.{IndexOutOfRange, check, count, offsets, length-offsets, Items}
 use Rattle.fancy_index.specs.Sources.{number_from}
