@@ -49,7 +49,7 @@ joined-more separator text c (suc (suc k)) xs =
     ∙ ap (λ l. l ++ last) (sym (append_assoc (first ++ separator) rest separator))
     ∙ ap (λ l. first ++ separator ++ rest ++ separator ++ text (take c l)) moved
 
--- the same over items that are mapped
+-- one block more of mapped items is joined to those before it
 pub joined-map-more : (separator : List ℕ) (text : List (List ℕ) → List ℕ) (f : ℕ → List ℕ) (c k : ℕ) (xs : List ℕ) → join_texts separator (map text (blocks c (suc k) (map f xs))) ≡ join_texts separator (map text (blocks c k (map f xs))) ++ lead k separator ++ text (map f (take c (drop (k * c) xs)))
 joined-map-more separator text f c k xs =
     let here : take c (drop (k * c) (map f xs)) ≡ map f (take c (drop (k * c) xs)) = ap (λ l. take c l) (drop-map f (k * c) xs) ∙ take-map f c (drop (k * c) xs) in

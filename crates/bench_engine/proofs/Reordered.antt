@@ -104,7 +104,7 @@ as-many h f c g [] os long = refl
 as-many h f c g (p ∷ places) [] long = absurd (omega (arith, long))
 as-many h f c g (p ∷ places) (o ∷ os) long = ap suc (as-many h f c g places os (omega (arith, long)))
 
--- the same items at the same places in another order, or the same refusal
+-- items and their places in another order, or the refusal that there was
 abbrev pub Reorders : List ℕ → List ℕ → Result (List Item) Refusal → Result (List Item) Refusal → Type 0
 Reorders places places' (Ok new) (Ok new') = (length new ≡ length places) × (length new' ≡ length places') × IsPermutation (zip places new) (zip places' new')
 Reorders places places' (Err e) (Err e') = e' ≡ e

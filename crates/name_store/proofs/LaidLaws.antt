@@ -53,7 +53,7 @@ places-within descr n array layout writable laid some =
     within-items (item_size descr) (start_at descr array.path) width n array.places some
     (subst (AllByRecursion (λ offset. offset + width ≤ n * item_size descr)) laid.places (offsets-within layout (n * item_size descr) width laid.fits))
 
--- the same of equal ones
+-- an array stays laid out where everything that it rests on is equal
 pub laid-same : (d d' : Descr) (n n' : ℕ) (a a' : Array) (l l' : Layout) (w w' : Bool) → d ≡ d' → n ≡ n' → a ≡ a' → l ≡ l' → w ≡ w' → IsLaidOut d n a l w → IsLaidOut d' n' a' l' w'
 laid-same d d' n n' a a' l l' w w' d-is n-is a-is l-is w-is laid =
     subst (λ (x : Bool). IsLaidOut d' n' a' l' x) w-is

@@ -67,7 +67,7 @@ past_bytes-push (d ∷ cs) c q bytes = ap (bytes_before d q) (past_bytes-push cs
 abbrev pub content_before : Change → ℕ → Slot → Descr × ℕ × List ℕ
 content_before c q s = (s.descr, s.items, bytes_before c q s.block)
 
--- the same stands in both
+-- two slots that hold the same buffer, or are both free
 abbrev pub Alike : Option Slot → Option Slot → Type 0
 Alike now before = option_map stand now ≡ option_map stand before
 

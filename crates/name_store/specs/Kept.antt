@@ -40,7 +40,7 @@ patch_size (Bind key earlier) = 0
 patch_size (Unbind place key entry) = 0
 patch_size (Write number target items) = length items.block
 
--- the same before changes, the oldest of which stands first
+-- the names before changes, the oldest of which stands first
 abbrev pub past_names : List Change → Names → Names
 past_names [] names = names
 past_names (change ∷ changes) names = names_before change (past_names changes names)

@@ -21,6 +21,6 @@ pub record AreOld (width : ℕ) (block os : List ℕ) (o : OldItems) : Type 0 wh
 abbrev pub AreOldAt : List (Option Slot) → Home → Target → OldItems → Type 0
 AreOldAt slots home target o = (s : Slot) → slot_at slots home.number ≡ Some s → AreOld home.width s.block (target_offsets target) o
 
--- the same stands in each slot, and as many hold it
+-- each slot stands as it did, and as many hold it
 abbrev pub AreSame : List (Option Slot) → List (Option Slot) → Type 0
 AreSame before after = (q : ℕ) → (option_map stand (slot_at after q) ≡ option_map stand (slot_at before q)) × (users_at after q ≡ users_at before q)
