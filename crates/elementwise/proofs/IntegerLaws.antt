@@ -1,19 +1,19 @@
 -- Numbers that are compared with one integer.
-use Rattle.std.proofs.Common.{◌≡◌, ◌*◌, ◌-◌, ◌^◌, ◌≤◌, ◌<◌, ◌⊎◌, inl, inr, ℕ, zero, suc, Bool, true, false, cond, Ok, Err, List, [], ◌∷◌, ◌++◌, map, length, get_or, take, drop, replicate, refl, sym, ap, ◌∙◌, arith}
+use Rattle.std.proofs.Common.{◌≡◌, ◌*◌, ◌-◌, ◌^◌, ◌≤◌, ◌<◌, ◌⊎◌, inl, inr, ℕ, zero, suc, Bool, true, false, cond, Result, Ok, Err, List, IfOk, [], ◌∷◌, ◌++◌, map, length, get_or, take, drop, replicate, refl, sym, ap, ◌∙◌, arith}
 use Rattle.std.specs.Prelude.{ℤ, pos, negsuc, neg_ℤ, ◌≤ℤ◌, ◌<ℤ◌, int_lt, not, ◌==◌, ◌&&◌, ◌||◌}
 use Rattle.std.proofs.lemmas.Int.{ints}
 use Rattle.std.proofs.lemmas.Nat.{pow_pos}
 use Rattle.std.proofs.lemmas.List.{take_all, length-replicate, get_or-replicate, take-replicate, drop-replicate}
 use Rattle.std.proofs.lemmas.List.FromFn.{fill_by_all}
 use Rattle.std.specs.List.{range_with_len, flat_map}
+use Rattle.std.specs.declared.alloc.AllocError.{AllocError}
 use Rattle.std.proofs.lemmas.Simd.{map-map, splat_is_map}
-use Rattle.elementwise.specs.Words.{Refusal, NotForThisKind, Little, Descr, LeafValue, number, encode_item, item_from, Layout, count, indexes, rank, length-indexes, offsets, multiples, length-offsets, all_stretch, can_stretch, broadcast_index, stretched-self, Owned, Comparison, Scalar, Byte, Int, Bytes, IsNumber, IsValueOf, FitsBytes, size, width_size, wrap, number_of, decode, wrap_stays, AreBytes, bytes-drop, bytes-take, is_text, little}
+use Rattle.elementwise.specs.Words.{Refusal, NotForThisKind, Little, Descr, LeafValue, number, encode_item, item_from, Layout, count, indexes, rank, length-indexes, offsets, multiples, length-offsets, all_stretch, can_stretch, broadcast_index, stretched-self, Owned, owned_items, Comparison, Scalar, Byte, Int, Bytes, IsNumber, IsValueOf, FitsBytes, size, width_size, wrap, number_of, decode, wrap_stays, AreBytes, bytes-drop, bytes-take, is_text, little}
 use Rattle.elem_descr.specs.declared.descr.Descr.TheVariants.{Scalar as ScalarDescr}
 use Rattle.elem_descr.specs.declared.scalar.Scalar.TheVariants.{Bool as BoolScalar}
 use Rattle.elementwise.specs.Comparisons.{says, compared}
 use Rattle.elementwise.specs.Results.{scalar_of, integer_compared_result, compared_item, truth_item, stretched_items, pairwise}
-use Rattle.elementwise.specs.inside.Made.{IsMade}
-use Rattle.elementwise.proofs.MadeLaws.{over-made, bool_bytes}
+use Rattle.elementwise.proofs.MadeLaws.{bool_bytes}
 use Rattle.elementwise.proofs.PairLaws.{pairwise-map}
 use Rattle.elementwise.proofs.AppliedLaws.{pairwise-same}
 use Rattle.elementwise.proofs.HeldLaws.{value-of, is-number}
@@ -124,10 +124,11 @@ alike_encoded : (holds : Bool) (n : ℕ) → replicate n (cond holds 1 0) ≡ fl
 alike_encoded holds zero = refl
 alike_encoded holds (suc n) = λ i. bool_bytes holds i ++ alike_encoded holds n i
 
-pub alike_made : (holds : Bool) (shape : List ℕ) (o : Owned) (b : List ℕ) (n : ℕ) → o.descr ≡ ScalarDescr BoolScalar → o.layout.shape ≡ shape → offsets o.layout ≡ multiples 1 (count shape) → o.block ≡ b → b ≡ replicate n (cond holds 1 0) → n ≡ count shape →
-    IsMade (ScalarDescr BoolScalar) shape (replicate (count shape) (truth_item holds)) o
-alike_made holds shape o b n descr same order block filled many =
-    over-made (ScalarDescr BoolScalar) (ScalarDescr BoolScalar) shape (replicate (count shape) (truth_item holds)) o (replicate (count shape) (cond holds 1 0)) refl descr same order (block ∙ filled ∙ λ i. replicate (many i) (cond holds 1 0)) (alike_read holds (count shape)) (alike_encoded holds (count shape))
+pub alike_made : (holds : Bool) (shape b : List ℕ) (n : ℕ) → b ≡ replicate n (cond holds 1 0) → n ≡ count shape →
+    (map (item_from (ScalarDescr BoolScalar) b) (multiples 1 (count shape)) ≡ replicate (count shape) (truth_item holds)) × (b ≡ flat_map (encode_item (ScalarDescr BoolScalar)) (replicate (count shape) (truth_item holds)))
+alike_made holds shape b n filled many =
+    let is : b ≡ replicate (count shape) (cond holds 1 0) = filled ∙ λ i. replicate (many i) (cond holds 1 0) in
+    ((λ i. map (item_from (ScalarDescr BoolScalar) (is i)) (multiples 1 (count shape))) ∙ alike_read holds (count shape), is ∙ alike_encoded holds (count shape))
 
 -- ---- integers that are values
 
@@ -163,16 +164,16 @@ all_held comparison d d' block block' l l' item point is =
     ∙ pairwise-map (compared_item comparison) read (λ _. item) (offsets l) (offsets l)
     ∙ pairwise-same (λ x y. compared_item comparison (read x) item) (offsets l)
 
-pub one_read : (s : Scalar) (o : Owned) (shape b : List ℕ) (value : LeafValue) → [] ≡ shape → o.descr ≡ ScalarDescr s → offsets o.layout ≡ multiples (size s) (count shape) → o.block ≡ b → length b ≡ size s → decode s b ≡ value →
-    map (item_from o.descr o.block) (offsets o.layout) ≡ (value ∷ []) ∷ []
-one_read s o shape b value point descr order block whole is =
+pub one_read : (s : Scalar) (result : Result Owned AllocError) (shape b : List ℕ) → shape ≡ [] →
+    IfOk result (λ o. o.descr ≡ ScalarDescr s) → IfOk result (λ o. offsets o.layout ≡ multiples (size s) (count shape)) → IfOk result (λ o. o.block ≡ b) → length b ≡ size s → IfOk result (λ o. owned_items o ≡ (decode s b ∷ []) ∷ [])
+one_read s (Ok o) shape b point descr order block whole =
     let first : size s * 0 ≡ 0 = omega arith in
     (λ i. map (item_from (descr i) (block i)) (order i))
-    ∙ (λ i. map (item_from (ScalarDescr s) b) (multiples (size s) (count (sym point i))))
+    ∙ (λ i. map (item_from (ScalarDescr s) b) (multiples (size s) (count (point i))))
     ∙ (λ i. item_from (ScalarDescr s) b (first i) ∷ [])
     ∙ (λ i. (decode s (take (size s) (take_all (size s) b (omega (arith, whole)) i)) ∷ []) ∷ [])
     ∙ (λ i. (decode s (take_all (size s) b (omega (arith, whole)) i) ∷ []) ∷ [])
-    ∙ (λ i. (is i ∷ []) ∷ [])
+one_read s (Err e) shape b point descr order block whole = tt
 
 -- ---- results
 

@@ -1,6 +1,7 @@
 -- What is made of the items of two layouts, item by item.
-use Rattle.std.proofs.Common.{◌≡◌, ◌*◌, ℕ, List, [], ◌∷◌, ◌++◌, map, length, drop, refl, sym, ap, ◌∙◌, arith}
+use Rattle.std.proofs.Common.{◌≡◌, ◌*◌, ℕ, Result, IfOk, List, [], ◌∷◌, ◌++◌, map, length, drop, refl, sym, ap, ◌∙◌, arith}
 use Rattle.std.specs.List.{concat, flat_map, AllByRecursion as Each}
+use Rattle.std.specs.declared.alloc.AllocError.{AllocError}
 use Rattle.std.proofs.lemmas.List.{take-take}
 use Rattle.std.proofs.lemmas.Simd.{map-map}
 use Rattle.elem_descr.specs.declared.descr.Descr.TheVariants.{Scalar as ScalarDescr}
@@ -83,8 +84,9 @@ module _ (p : Pairing) (o : Operands) (can : CanPair p) (is : o.left.descr.now �
       λ i. pairwise (λ x y. gives p (value_in x) (value_in y) ∷ []) (map (item_from (sym is i) a) (offsets l)) (map (item_from (sym is' i) b) (offsets r)) in
       (all.0, all.1 ∙ shown, all.2 ∙ ap (flat_map (encode_item (ScalarDescr (target_of p)))) shown)
 
-  pub pairs_made : (to : Scalar) (block : List ℕ) (made : Owned) → to ≡ target_of p → block ≡ made_of_all (pair_made p) o →
-      made.descr ≡ ScalarDescr to → made.layout.shape ≡ o.left.layout.now.shape → offsets made.layout ≡ multiples (size to) (pairs_of o) → made.block ≡ block → IsMade (ScalarDescr (target_of p)) o.left.layout.now.shape all-given made
-  pairs_made to block made same wrote descr shape order held =
+  pub pairs_made : (to : Scalar) (block : List ℕ) (result : Result Owned AllocError) → to ≡ target_of p → block ≡ made_of_all (pair_made p) o →
+      IfOk result (λ made. made.descr ≡ ScalarDescr to) → IfOk result (λ made. made.layout.shape ≡ o.left.layout.now.shape) → IfOk result (λ made. offsets made.layout ≡ multiples (size to) (pairs_of o)) → IfOk result (λ made. made.block ≡ block) →
+      IfOk result (IsMade (ScalarDescr (target_of p)) o.left.layout.now.shape all-given)
+  pairs_made to block result same wrote descr shape order held =
       let all = all_paired block wrote in
-      over-made (ScalarDescr to) (ScalarDescr (target_of p)) o.left.layout.now.shape all-given made block (ap ScalarDescr same) descr shape order held all.1 all.2
+      over-made (ScalarDescr to) (ScalarDescr (target_of p)) o.left.layout.now.shape all-given result block (ap ScalarDescr same) descr shape order held all.1 all.2

@@ -3,12 +3,12 @@ use Rattle.std.proofs.Common.{◌≡◌, ◌+◌, ◌<◌, ◌≤◌, ℕ, pos, 
 use Rattle.std.proofs.lemmas.List.{length-map, get_or-map}
 use Rattle.std.proofs.lemmas.List.Elements.{All-map}
 use Rattle.std.proofs.lemmas.Simd.{map-map}
-use Rattle.elementwise.specs.Words.{Descr, Little, LeafValue, number, number_in, item_from, truth-twice, Layout, count, indexes, rank, IsIndex, length-indexes, rank-lt, get_or-indexes, index_at, same_on_indexes, offsets, length-offsets, view_through, can_stretch, broadcast_index, IsIndex-broadcast, stretched-self, IsStretchOf, Owned}
+use Rattle.elementwise.specs.Words.{Descr, Little, LeafValue, number, number_in, item_from, truth-twice, Layout, count, indexes, rank, IsIndex, length-indexes, rank-lt, get_or-indexes, index_at, same_on_indexes, offsets, length-offsets, view_through, can_stretch, broadcast_index, IsIndex-broadcast, stretched-self, IsStretchOf, IsViewOf, Owned}
 use Rattle.elem_descr.specs.declared.descr.Descr.TheVariants.{Scalar as ScalarDescr}
 use Rattle.elem_descr.specs.declared.scalar.Scalar.TheVariants.{Bool as BoolScalar}
 use Rattle.elementwise.specs.Casts.{cast_item}
 use Rattle.elementwise.specs.Results.{stretched_items, pairwise}
-use Rattle.elementwise.specs.inside.Shrunk.{IsShrunk}
+use Rattle.elementwise.specs.inside.Shrunk.{IsShrunk, stretched_view}
 use Rattle.elementwise.specs.inside.Made.{IsMade}
 use Rattle.elementwise.proofs.PairLaws.{pairwise-map, get_or-pairwise}
 use Rattle.elementwise.proofs.StretchedLaws.{inside}
@@ -109,11 +109,10 @@ all_seen P l small once is all =
 
 -- ---- what `without_repeats` has to give
 
-pub is_shrunk : (l wide small : Layout) (once shape : List ℕ) → wide.shape ≡ shape → offsets wide ≡ view_through (offsets l) l.shape shape (broadcast_index l.shape) →
-    ((len width : ℕ) → All (λ offset. offset + width ≤ len) (offsets l) → All (λ offset. offset + width ≤ len) (offsets wide)) → small.shape ≡ once → IsStretchOf small wide → IsShrunk small l once shape
-is_shrunk l wide small once shape shape-is offsets-are ends once-is is = record {
+pub is_shrunk : (l wide small : Layout) (once shape : List ℕ) → IsViewOf l wide (stretched_view l shape) → small.shape ≡ once → IsStretchOf small wide → IsShrunk small l once shape
+is_shrunk l wide small once shape seen once-is is = record {
   shape_is = once-is;
-  can = (λ i. can_stretch (sym once-is i) (sym shape-is i)) ∙ is.can;
-  places = (λ i. view_through (offsets small) small.shape (sym shape-is i) (broadcast_index small.shape)) ∙ sym is.larger.places ∙ offsets-are;
-  inside = λ len width all. inside wide small (record { shape = small.shape; leads = λ index. index }) len width is.smaller (ends len width all);
+  can = (λ i. can_stretch (sym once-is i) (sym seen.shape i)) ∙ is.can;
+  places = (λ i. view_through (offsets small) small.shape (sym seen.shape i) (broadcast_index small.shape)) ∙ sym is.larger.places ∙ seen.places;
+  inside = λ len width all. inside len width is.smaller (inside len width seen all);
 }

@@ -65,6 +65,8 @@ pub use Rattle.shape_strides.specs.LayoutLaws.{length-offsets, offsets_within}
 pub use Rattle.shape_strides.specs.Layouts.{multiples}
 unfoldable pub use Rattle.shape_strides.specs.Layouts.{offsets}
 pub use Rattle.shape_strides.specs.Limits.{max_bytes}
+pub use Rattle.shape_strides.specs.PlaceLaws.{fits-offsets}
+pub use Rattle.shape_strides.specs.Shapes.{IsShape}
 pub use Rattle.shape_strides.specs.ReverseLaws.{IsIndex-reverse, count-reverse}
 unfoldable pub use Rattle.shape_strides.specs.RunPairs.{run_pairs}
 pub use Rattle.shape_strides.specs.Runs.{run_offsets}

@@ -36,7 +36,7 @@ pub fn apply2(alloc: Global, op: BinOp, left: Items<'_>, right: Items<'_>) -> Re
         work: Work::Combine(op),
         scalar: read,
     };
-    make_cast(alloc, &pairing, left, right, &shape)
+    Ok(make_cast(alloc, &pairing, left, right, &shape)?)
 }
 
 /// What an operation gives on the items of an array, in a block of their own in C order. Refused as
@@ -57,5 +57,5 @@ pub fn apply1(alloc: Global, op: UnOp, operand: Items<'_>) -> Result<Owned, Refu
         work: Work::Change(op),
         scalar: read,
     };
-    make_cast(alloc, &pairing, operand, operand, &operand.layout.shape)
+    Ok(make_cast(alloc, &pairing, operand, operand, &operand.layout.shape)?)
 }

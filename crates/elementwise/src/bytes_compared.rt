@@ -1,7 +1,7 @@
 //! Comparisons of all items of arrays of byte strings with bytes.
-ghost use Rattle.std.specs.Prelude.{◌≡◌, ◌≤◌, [], ◌∷◌, length, map, IfOk, IfErr};
+ghost use Rattle.std.specs.Prelude.{◌≡◌, ◌≤◌, [], ◌∷◌, length, map, IfOk};
 ghost use Rattle.std.specs.List.{flat_map};
-ghost use Rattle.elementwise.specs.Words.{OutOfMemory, Bytes, without_nuls, item_size, encode_item, item_from, Gives, text, C, offsets, offsets_in, owned_items};
+ghost use Rattle.elementwise.specs.Words.{Bytes, without_nuls, item_size, encode_item, item_from, Gives, text, C, offsets, offsets_in, owned_items};
 ghost use Rattle.elem_descr.specs.declared.descr.Descr.TheVariants.{Scalar as ScalarDescr};
 ghost use Rattle.elem_descr.specs.declared.scalar.Scalar.TheVariants.{Bool as BoolScalar};
 ghost use Rattle.elementwise.specs.Results.{bytes_compared_result, compared_item};
@@ -29,14 +29,13 @@ fn compare_with(
     width: BytesLen,
     operand: Items<'_>,
     other: &[u8],
-) -> Result<Owned, Refusal>
+) -> Result<Owned, AllocError>
     requires { operand.descr.now ≡ ScalarDescr (Bytes width) }
-    ensures made { IfOk result
+    ensures { IfOk result
         (IsMade (ScalarDescr BoolScalar) operand.entry.layout.now.shape
         (map (λ offset.
         compared_item comparison (item_from operand.entry.descr.now operand.entry.block.now offset)
         (text other.now ∷ [])) (offsets operand.entry.layout.now))) }
-    ensures refused { IfErr result (λ refusal. refusal ≡ OutOfMemory) }
 {
     let operands = Operands {
         left: Operand::of(operand),
@@ -58,14 +57,13 @@ fn compare_once(
     width: BytesLen,
     operand: Items<'_>,
     other: &[u8],
-) -> Result<Owned, Refusal>
+) -> Result<Owned, AllocError>
     requires { operand.descr.now ≡ ScalarDescr (Bytes width) }
-    ensures made { IfOk result
+    ensures { IfOk result
         (IsMade (ScalarDescr BoolScalar) operand.entry.layout.now.shape
         (map (λ offset.
         compared_item comparison (item_from operand.entry.descr.now operand.entry.block.now offset)
         (text other.now ∷ [])) (offsets operand.entry.layout.now))) }
-    ensures refused { IfErr result (λ refusal. refusal ≡ OutOfMemory) }
 {
     let layout = operand.layout;
     if !repeats(layout) {
@@ -101,15 +99,14 @@ fn compare_with_item(
     width: BytesLen,
     operand: Items<'_>,
     bytes: &[u8],
-) -> Result<Owned, Refusal>
+) -> Result<Owned, AllocError>
     requires from { operand.descr.now ≡ ScalarDescr (Bytes width) }
     requires held { length bytes.now ≤ width }
-    ensures made { IfOk result
+    ensures { IfOk result
         (IsMade (ScalarDescr BoolScalar) operand.entry.layout.now.shape
         (map (λ offset.
         compared_item comparison (item_from operand.entry.descr.now operand.entry.block.now offset)
         (text (without_nuls bytes.now) ∷ [])) (offsets operand.entry.layout.now))) }
-    ensures refused { IfErr result (λ refusal. refusal ≡ OutOfMemory) }
 {
     let block = filled_up(alloc, width, bytes)?;
     let item = one_item(alloc, &Scalar::Bytes(width), block)?;
@@ -143,7 +140,7 @@ pub fn compare_bytes(
         return Err(Refusal::NotForThisKind);
     };
     if bytes.len() <= width.get() {
-        return compare_with_item(alloc, comparison, width, operand, bytes);
+        return Ok(compare_with_item(alloc, comparison, width, operand, bytes)?);
     }
-    compare_once(alloc, comparison, width, operand, without_nuls(bytes))
+    Ok(compare_once(alloc, comparison, width, operand, without_nuls(bytes))?)
 }

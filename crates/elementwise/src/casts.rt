@@ -17,7 +17,7 @@ use elem_descr::{Descr, Leaf, MemoryOrder, Refusal, Scalar};
 use machine_numbers::{Side, place};
 use raw_block::{BlockBuilder, RawBlock};
 use shape_strides::{MAX_BYTES, Run};
-use std::alloc::Global;
+use std::alloc::{AllocError, Global};
 
 /// How many bytes stay near while a band is cast.
 const NEAR: usize = 8192;
@@ -53,17 +53,16 @@ pub(crate) fn cast_scalars(
     from: Operand<'_>,
     scalar: &Scalar,
     to: &Scalar,
-) -> Result<Owned, Refusal>
+) -> Result<Owned, AllocError>
     requires from { from.descr.now ≡ ScalarDescr scalar.now }
     requires can { can_cast_scalar scalar.now to.now ≡ true }
     requires few { count from.layout.now.shape * size to.now ≤ max_bytes }
-    ensures made { IfOk result
+    ensures { IfOk result
         (IsMade (ScalarDescr to.now) from.entry.layout.now.shape
         (map (λ offset.
         cast_item from.entry.descr.now (ScalarDescr to.now)
         (item_from from.entry.descr.now from.entry.bytes.now offset))
         (offsets from.entry.layout.now))) }
-    ensures refused { IfErr result (λ refusal. refusal ≡ OutOfMemory) }
 {
     let operands = Operands {
         left: from,
@@ -160,14 +159,13 @@ fn cast_leaf(rows: RawBlock, from: ItemRun<'_, '_>, to: &Descr, k: usize) -> Raw
 }
 
 /// A block that the items of a run, cast leaf by leaf, just fill.
-fn cast_band(alloc: Global, from: ItemRun<'_, '_>, to: &Descr) -> Result<RawBlock, Refusal>
+fn cast_band(alloc: Global, from: ItemRun<'_, '_>, to: &Descr) -> Result<RawBlock, AllocError>
     requires can { can_cast from.descr.now to.now ≡ true }
     requires few { from.items.run.count * item_size to.now ≤ max_bytes }
-    ensures cast { IfOk result
+    ensures { IfOk result
         (AreItems to.now
         (cast_items from.entry.descr.now to.now from.entry.items.bytes.now
         (run_offsets from.entry.items.run))) }
-    ensures refused { IfErr result (λ refusal. refusal ≡ OutOfMemory) }
 {
     let _from_item = from.descr.size();
     let mut rows = RawBlock::try_zeroed(alloc, from.items.run.count * to.size())?;
@@ -179,14 +177,13 @@ fn cast_band(alloc: Global, from: ItemRun<'_, '_>, to: &Descr) -> Result<RawBloc
 
 /// A block that the items of a run, cast, just fill. They are cast in bands that stay near, so that each
 /// line of the block is written once.
-fn cast_run(alloc: Global, from: ItemRun<'_, '_>, to: &Descr) -> Result<RawBlock, Refusal>
+fn cast_run(alloc: Global, from: ItemRun<'_, '_>, to: &Descr) -> Result<RawBlock, AllocError>
     requires can { can_cast from.descr.now to.now ≡ true }
     requires few { from.items.run.count * item_size to.now ≤ max_bytes }
-    ensures cast { IfOk result
+    ensures { IfOk result
         (AreItems to.now
         (cast_items from.entry.descr.now to.now from.entry.items.bytes.now
         (run_offsets from.entry.items.run))) }
-    ensures refused { IfErr result (λ refusal. refusal ≡ OutOfMemory) }
 {
     let count = from.items.run.count;
     let size = to.size();
@@ -203,14 +200,13 @@ fn cast_run(alloc: Global, from: ItemRun<'_, '_>, to: &Descr) -> Result<RawBlock
 }
 
 /// A block that items, cast, just fill. Items that make no one run are first put one after another.
-fn cast_block(alloc: Global, from: Items<'_>, to: &Descr) -> Result<RawBlock, Refusal>
+fn cast_block(alloc: Global, from: Items<'_>, to: &Descr) -> Result<RawBlock, AllocError>
     requires can { can_cast from.descr.now to.now ≡ true }
     requires few { count from.layout.now.shape * item_size to.now ≤ max_bytes }
-    ensures cast { IfOk result
+    ensures { IfOk result
         (AreItems to.now
         (cast_items from.entry.descr.now to.now from.entry.block.now
         (offsets from.entry.layout.now))) }
-    ensures refused { IfErr result (λ refusal. refusal ≡ OutOfMemory) }
 {
     let descr = from.descr;
     let width = descr.size();
@@ -237,34 +233,31 @@ fn cast_block(alloc: Global, from: Items<'_>, to: &Descr) -> Result<RawBlock, Re
 }
 
 /// Items, cast leaf by leaf, in a block of their own in C order.
-fn cast_records(alloc: Global, from: Items<'_>, to: &Descr) -> Result<Owned, Refusal>
+fn cast_records(alloc: Global, from: Items<'_>, to: &Descr) -> Result<Owned, AllocError>
     requires can { can_cast from.descr.now to.now ≡ true }
     requires few { count from.layout.now.shape * item_size to.now ≤ max_bytes }
-    ensures made { IfOk result
+    ensures { IfOk result
         (IsMade to.now from.entry.layout.now.shape
         (map (λ offset.
         cast_item from.entry.descr.now to.now
         (item_from from.entry.descr.now from.entry.block.now offset))
         (offsets from.entry.layout.now))) }
-    ensures refused { IfErr result (λ refusal. refusal ≡ OutOfMemory) }
 {
     let cast = cast_block(alloc, from, to)?;
     let descr = Descr::try_copy(alloc, to)?;
-    let owned = Owned::over(alloc, descr, &from.layout.shape, MemoryOrder::C, cast)?;
-    Ok(owned)
+    Owned::over(alloc, descr, &from.layout.shape, MemoryOrder::C, cast)
 }
 
 /// Items as items to which they can be cast.
-fn cast_items(alloc: Global, from: Items<'_>, to: &Descr) -> Result<Owned, Refusal>
+pub(crate) fn cast_items(alloc: Global, from: Items<'_>, to: &Descr) -> Result<Owned, AllocError>
     requires can { can_cast from.descr.now to.now ≡ true }
     requires few { count from.layout.now.shape * item_size to.now ≤ max_bytes }
-    ensures made { IfOk result
+    ensures { IfOk result
         (IsMade to.now from.entry.layout.now.shape
         (map (λ offset.
         cast_item from.entry.descr.now to.now
         (item_from from.entry.descr.now from.entry.block.now offset))
         (offsets from.entry.layout.now))) }
-    ensures refused { IfErr result (λ refusal. refusal ≡ OutOfMemory) }
 {
     match (from.descr, to) {
         (Descr::Scalar(scalar), Descr::Scalar(target)) => {
@@ -296,5 +289,5 @@ pub fn cast(alloc: Global, from: Items<'_>, to: &Descr) -> Result<Owned, Refusal
     if from.layout.shape.items() * to.size() > MAX_BYTES {
         return Err(Refusal::TooLarge);
     }
-    cast_items(alloc, from, to)
+    Ok(cast_items(alloc, from, to)?)
 }

@@ -1,7 +1,7 @@
 //! Comparisons of all items of arrays.
-ghost use Rattle.std.specs.Prelude.{◌≡◌, map, IfOk, IfErr};
+ghost use Rattle.std.specs.Prelude.{◌≡◌, map, IfOk};
 ghost use Rattle.std.specs.List.{flat_map};
-ghost use Rattle.elementwise.specs.Words.{OutOfMemory, Bytes, IsNumber, item_size, encode_item, item_from, Gives, C, offsets, offsets_in, owned_items};
+ghost use Rattle.elementwise.specs.Words.{Bytes, IsNumber, item_size, encode_item, item_from, Gives, C, offsets, offsets_in, owned_items};
 ghost use Rattle.elem_descr.specs.declared.descr.Descr.TheVariants.{Scalar as ScalarDescr};
 ghost use Rattle.elem_descr.specs.declared.scalar.Scalar.TheVariants.{Bool as BoolScalar};
 ghost use Rattle.elementwise.specs.Results.{compared_result, compared_item, stretched_items, pairwise};
@@ -17,12 +17,12 @@ use crate::rows::{Operand, Operands};
 use crate::shrunk::{spread, without_repeats};
 use crate::text_pairs::ComparingTexts;
 use crate::trimmed::trimmed_in;
-use crate::typed::{make_cast, stretched_to};
+use crate::typed::make_cast;
 use arrays::{Items, Owned};
-use broadcasting::{common, repeats};
+use broadcasting::{common, repeats, stretched_to};
 use elem_descr::{Comparison, Descr, Refusal, Scalar};
 use machine_numbers::{is_signed, little};
-use std::alloc::Global;
+use std::alloc::{AllocError, Global};
 
 /// How numbers of two scalars are compared: as those of the smallest scalar that holds both, and where there
 /// is none as integers of eight bytes, of which the first have a sign where the second have none, or the
@@ -59,16 +59,15 @@ fn compare_numbers(
     left: &Scalar,
     right: &Scalar,
     both: Broadcast<'_>,
-) -> Result<Owned, Refusal>
+) -> Result<Owned, AllocError>
     requires from { both.left.descr.now ≡ ScalarDescr left.now }
     requires other { both.right.descr.now ≡ ScalarDescr right.now }
     requires left { IsNumber left.now }
     requires right { IsNumber right.now }
-    ensures made { IfOk result
+    ensures { IfOk result
         (IsMade (ScalarDescr BoolScalar) both.entry.shape.now
         (pairwise (compared_item comparison) (stretched both.entry.left both.entry.shape.now)
         (stretched both.entry.right both.entry.shape.now))) }
-    ensures refused { IfErr result (λ refusal. refusal ≡ OutOfMemory) }
 {
     note_bytes(both.left.block);
     note_bytes(both.right.block);
@@ -82,14 +81,13 @@ fn compare_texts(
     alloc: Global,
     texts: ComparingTexts,
     both: Broadcast<'_>,
-) -> Result<Owned, Refusal>
+) -> Result<Owned, AllocError>
     requires left { both.left.descr.now ≡ ScalarDescr (Bytes texts.width) }
     requires right { both.right.descr.now ≡ ScalarDescr (Bytes texts.other_width) }
-    ensures made { IfOk result
+    ensures { IfOk result
         (IsMade (ScalarDescr BoolScalar) both.entry.shape.now
         (pairwise (compared_item texts.comparison) (stretched both.entry.left both.entry.shape.now)
         (stretched both.entry.right both.entry.shape.now))) }
-    ensures refused { IfErr result (λ refusal. refusal ≡ OutOfMemory) }
 {
     let Broadcast { left, right, shape } = both;
     let _items = shape.items();
@@ -124,13 +122,12 @@ fn compare_scalars(
     alloc: Global,
     comparison: Comparison,
     both: Broadcast<'_>,
-) -> Result<Owned, Refusal>
+) -> Result<Owned, AllocError>
     requires { AreComparable both.left.descr.now both.right.descr.now }
-    ensures made { IfOk result
+    ensures { IfOk result
         (IsMade (ScalarDescr BoolScalar) both.entry.shape.now
         (pairwise (compared_item comparison) (stretched both.entry.left both.entry.shape.now)
         (stretched both.entry.right both.entry.shape.now))) }
-    ensures refused { IfErr result (λ refusal. refusal ≡ OutOfMemory) }
 {
     match (both.left.descr, both.right.descr) {
         (Descr::Scalar(Scalar::Bytes(width)), Descr::Scalar(Scalar::Bytes(other_width))) => {
@@ -153,13 +150,12 @@ pub(crate) fn compare_once(
     alloc: Global,
     comparison: Comparison,
     both: Broadcast<'_>,
-) -> Result<Owned, Refusal>
+) -> Result<Owned, AllocError>
     requires { AreComparable both.left.descr.now both.right.descr.now }
-    ensures made { IfOk result
+    ensures { IfOk result
         (IsMade (ScalarDescr BoolScalar) both.entry.shape.now
         (pairwise (compared_item comparison) (stretched both.entry.left both.entry.shape.now)
         (stretched both.entry.right both.entry.shape.now))) }
-    ensures refused { IfErr result (λ refusal. refusal ≡ OutOfMemory) }
 {
     let Broadcast { left, right, shape } = both;
     if !repeats(left.layout) && !repeats(right.layout) {
@@ -212,5 +208,5 @@ pub fn compare(
         right,
         shape: &shape,
     };
-    compare_once(alloc, comparison, both)
+    Ok(compare_once(alloc, comparison, both)?)
 }

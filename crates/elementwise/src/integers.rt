@@ -1,7 +1,7 @@
 //! Comparisons of all items of arrays of numbers with one integer.
-ghost use Rattle.std.specs.Prelude.{◌≡◌, ◌≢◌, ◌≤◌, [], ◌∷◌, length, map, replicate, if◌then◌else◌, IfOk, IfErr};
+ghost use Rattle.std.specs.Prelude.{◌≡◌, ◌≢◌, ◌≤◌, [], ◌∷◌, length, map, replicate, if◌then◌else◌, IfOk};
 ghost use Rattle.std.specs.List.{flat_map};
-ghost use Rattle.elementwise.specs.Words.{OutOfMemory, IsNumber, size, wrap, decode, item_size, encode_item, item_from, Gives, number, C, max_bytes, count, offsets, offsets_in, owned_items, little};
+ghost use Rattle.elementwise.specs.Words.{IsNumber, size, wrap, decode, item_size, encode_item, item_from, Gives, number, C, max_bytes, count, offsets, offsets_in, owned_items, little};
 ghost use Rattle.elem_descr.specs.declared.descr.Descr.TheVariants.{Scalar as ScalarDescr};
 ghost use Rattle.elem_descr.specs.declared.scalar.Scalar.TheVariants.{Bool as BoolScalar};
 ghost use Rattle.elementwise.specs.Results.{integer_compared_result, compared_item, truth_item};
@@ -30,18 +30,16 @@ fn number_block(alloc: Global, scalar: &Scalar, integer: i128) -> Result<RawBloc
 }
 
 /// A value as an array of one item without axes, over its bytes.
-pub(crate) fn one_item(alloc: Global, scalar: &Scalar, block: RawBlock) -> Result<Owned, Refusal>
+pub(crate) fn one_item(alloc: Global, scalar: &Scalar, block: RawBlock) -> Result<Owned, AllocError>
     requires whole { length block ≡ size scalar.now }
     requires small { length block ≤ max_bytes }
     ensures descr { IfOk result (λ o. o.descr ≡ ScalarDescr scalar.now) }
     ensures shape { IfOk result (λ o. o.layout.shape ≡ []) }
     ensures items { IfOk result (λ o. owned_items o ≡ (decode scalar.now block ∷ []) ∷ []) }
-    ensures refused { IfErr result (λ refusal. refusal ≡ OutOfMemory) }
 {
-    let shape = Shape::try_new(alloc, &[])?;
+    let shape = Shape::from_lengths(alloc, &[])?;
     let descr = Descr::Scalar(*scalar);
-    let owned = Owned::over(alloc, descr, &shape, MemoryOrder::C, block)?;
-    Ok(owned)
+    Owned::over(alloc, descr, &shape, MemoryOrder::C, block)
 }
 
 /// A comparison of the numbers of an array with an integer that their type holds.
@@ -51,16 +49,15 @@ fn compare_with_value(
     from: &Scalar,
     operand: Items<'_>,
     integer: i128,
-) -> Result<Owned, Refusal>
+) -> Result<Owned, AllocError>
     requires from { operand.descr.now ≡ ScalarDescr from.now }
     requires number { IsNumber from.now }
     requires held { wrap (little from.now) integer ≡ integer }
-    ensures made { IfOk result
+    ensures { IfOk result
         (IsMade (ScalarDescr BoolScalar) operand.entry.layout.now.shape
         (map (λ offset.
         compared_item comparison (item_from operand.entry.descr.now operand.entry.block.now offset)
         (number integer ∷ [])) (offsets operand.entry.layout.now))) }
-    ensures refused { IfErr result (λ refusal. refusal ≡ OutOfMemory) }
 {
     let scalar = little(from);
     let block = number_block(alloc, &scalar, integer)?;
@@ -83,16 +80,14 @@ fn bool_block(alloc: Global, holds: bool, len: usize) -> Result<RawBlock, AllocE
 }
 
 /// One bool for all items of a shape.
-fn all_alike(alloc: Global, holds: bool, shape: &Shape) -> Result<Owned, Refusal>
-    ensures made { IfOk result
+fn all_alike(alloc: Global, holds: bool, shape: &Shape) -> Result<Owned, AllocError>
+    ensures { IfOk result
         (IsMade (ScalarDescr BoolScalar) shape.now
         (replicate (count shape.now) (truth_item holds))) }
-    ensures refused { IfErr result (λ refusal. refusal ≡ OutOfMemory) }
 {
     let block = bool_block(alloc, holds, shape.items())?;
     let descr = Descr::Scalar(Scalar::Bool);
-    let owned = Owned::over(alloc, descr, shape, MemoryOrder::C, block)?;
-    Ok(owned)
+    Owned::over(alloc, descr, shape, MemoryOrder::C, block)
 }
 
 /// A comparison of the numbers of an array with an integer that is above all numbers of their type, or below.
@@ -102,16 +97,15 @@ fn compare_beyond(
     from: &Scalar,
     operand: Items<'_>,
     integer: i128,
-) -> Result<Owned, Refusal>
+) -> Result<Owned, AllocError>
     requires from { operand.descr.now ≡ ScalarDescr from.now }
     requires number { IsNumber from.now }
     requires beyond { wrap (little from.now) integer ≢ integer }
-    ensures made { IfOk result
+    ensures { IfOk result
         (IsMade (ScalarDescr BoolScalar) operand.entry.layout.now.shape
         (map (λ offset.
         compared_item comparison (item_from operand.entry.descr.now operand.entry.block.now offset)
         (number integer ∷ [])) (offsets operand.entry.layout.now))) }
-    ensures refused { IfErr result (λ refusal. refusal ≡ OutOfMemory) }
 {
     note_bytes(operand.block);
     let above = integer.is_positive();
@@ -141,7 +135,7 @@ pub fn compare_integer(
         return Err(Refusal::NotForThisKind);
     }
     if is_value(&little(&from), integer) {
-        return compare_with_value(alloc, comparison, &from, operand, integer);
+        return Ok(compare_with_value(alloc, comparison, &from, operand, integer)?);
     }
-    compare_beyond(alloc, comparison, &from, operand, integer)
+    Ok(compare_beyond(alloc, comparison, &from, operand, integer)?)
 }

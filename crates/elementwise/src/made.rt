@@ -1,6 +1,6 @@
 //! Arrays of the results of pairs of items: row by row, or by columns where these lie closer together.
-ghost use Rattle.std.specs.Prelude.{◌≡◌, [], ◌∷◌, ◌*◌, ◌≤◌, IfOk, IfErr, IfSome};
-ghost use Rattle.elementwise.specs.Words.{OutOfMemory, size, max_bytes};
+ghost use Rattle.std.specs.Prelude.{◌≡◌, [], ◌∷◌, ◌*◌, ◌≤◌, IfOk, IfSome};
+ghost use Rattle.elementwise.specs.Words.{size, max_bytes};
 ghost use Rattle.elem_descr.specs.declared.descr.Descr.TheVariants.{Scalar as ScalarDescr};
 ghost use Rattle.elementwise.specs.Results.{pairwise, value_in};
 ghost use Rattle.elementwise.specs.inside.Made.{IsMade, IsTurned};
@@ -11,7 +11,7 @@ use crate::operands::Layouts;
 use crate::pairing::Pairing;
 use crate::rows::{Operand, Operands};
 use arrays::{Owned, gather};
-use elem_descr::{Descr, MemoryOrder, Refusal};
+use elem_descr::{Descr, MemoryOrder};
 use raw_block::BlockBuilder;
 use shape_strides::{Layout, Rows};
 use std::alloc::{AllocError, Global};
@@ -48,16 +48,15 @@ pub(crate) fn made(
     alloc: Global,
     pairing: &Pairing<'_>,
     operands: Operands<'_, '_>,
-) -> Result<Owned, Refusal>
+) -> Result<Owned, AllocError>
     requires can { CanPair pairing.now }
     requires left { operands.left.descr.now ≡ ScalarDescr (left_of pairing.now) }
     requires right { operands.right.descr.now ≡ ScalarDescr (right_of pairing.now) }
     requires few { pairs_of operands * size (target_of pairing.now) ≤ max_bytes }
-    ensures made { IfOk result
+    ensures { IfOk result
         (IsMade (ScalarDescr (target_of pairing.now)) operands.entry.left.layout.now.shape
         (pairwise (λ x y. gives pairing.now (value_in x) (value_in y) ∷ [])
         (operand_items operands.entry.left) (operand_items operands.entry.right))) }
-    ensures refused { IfErr result (λ refusal. refusal ≡ OutOfMemory) }
 {
     let Operands { left, right } = operands;
     let shape = &left.layout.shape;
@@ -66,8 +65,7 @@ pub(crate) fn made(
     let block = BlockBuilder::try_new(alloc, shape.items() * width)?;
     let Some(columns) = columns(alloc, left.layout, right.layout)? else {
         let block = pairing.push(block, operands).finish();
-        let owned = Owned::over(alloc, Descr::Scalar(scalar), shape, MemoryOrder::C, block)?;
-        return Ok(owned);
+        return Owned::over(alloc, Descr::Scalar(scalar), shape, MemoryOrder::C, block);
     };
     let turned = Operands {
         left: Operand {
@@ -84,6 +82,5 @@ pub(crate) fn made(
     let block = pairing.push(block, turned).finish();
     let order = Layout::f_order(alloc, shape, width)?;
     let block = gather(alloc, &block, &order, width)?;
-    let owned = Owned::over(alloc, Descr::Scalar(scalar), shape, MemoryOrder::C, block)?;
-    Ok(owned)
+    Owned::over(alloc, Descr::Scalar(scalar), shape, MemoryOrder::C, block)
 }

@@ -1,6 +1,6 @@
 //! Operands whose items repeat: combines the distinct items, and broadcasts the result.
-ghost use Rattle.std.specs.Prelude.{◌≡◌, IfOk, IfErr, IsTrue};
-ghost use Rattle.elementwise.specs.Words.{OutOfMemory, can_stretch};
+ghost use Rattle.std.specs.Prelude.{◌≡◌, IfOk, IsTrue};
+ghost use Rattle.elementwise.specs.Words.{can_stretch};
 ghost use Rattle.elem_descr.specs.declared.descr.Descr.TheVariants.{Scalar as ScalarDescr};
 ghost use Rattle.elem_descr.specs.declared.scalar.Scalar.TheVariants.{Bool as BoolScalar};
 ghost use Rattle.elementwise.specs.Results.{stretched_items};
@@ -9,12 +9,11 @@ ghost use Rattle.elementwise.specs.inside.Made.{IsMade};
 
 use crate::casts::cast_scalars;
 use crate::rows::Operand;
-use crate::typed::stretched_to;
 use arrays::{Items, Owned};
-use broadcasting::{shrink, shrunk_shape};
-use elem_descr::{Refusal, Scalar};
+use broadcasting::{shrink, shrunk_shape, stretched_to};
+use elem_descr::Scalar;
 use shape_strides::{Layout, Shape};
-use std::alloc::Global;
+use std::alloc::{AllocError, Global};
 
 /// Two layouts of one shape, which show their items once where both repeat them.
 #[derive(Drop)]
@@ -31,12 +30,11 @@ pub(crate) fn without_repeats(
     left: &Layout,
     right: &Layout,
     shape: &Shape,
-) -> Result<Shrunk, Refusal>
+) -> Result<Shrunk, AllocError>
     requires stretches { IsTrue (can_stretch left.now.shape shape.now) }
     requires also { IsTrue (can_stretch right.now.shape shape.now) }
     ensures first { IfOk result (λ s. IsShrunk s.first left.now s.shape shape.now) }
     ensures second { IfOk result (λ s. IsShrunk s.second right.now s.shape shape.now) }
-    ensures refused { IfErr result (λ refusal. refusal ≡ OutOfMemory) }
 {
     let wide = stretched_to(alloc, left, shape)?;
     let other = stretched_to(alloc, right, shape)?;
@@ -51,13 +49,12 @@ pub(crate) fn without_repeats(
 }
 
 /// The bools of an array that is stretched to a shape, in a block of their own.
-pub(crate) fn spread(alloc: Global, made: &Owned, shape: &Shape) -> Result<Owned, Refusal>
+pub(crate) fn spread(alloc: Global, made: &Owned, shape: &Shape) -> Result<Owned, AllocError>
     requires bools { made.now.descr ≡ ScalarDescr BoolScalar }
     requires stretches { IsTrue (can_stretch made.now.layout.shape shape.now) }
-    ensures made { IfOk result
+    ensures { IfOk result
         (IsMade (ScalarDescr BoolScalar) shape.now
         (stretched_items made.now.descr made.now.block made.now.layout shape.now)) }
-    ensures refused { IfErr result (λ refusal. refusal ≡ OutOfMemory) }
 {
     let _items = shape.items();
     let items = made.items();

@@ -1,15 +1,15 @@
 //! Byte strings without the trailing NULs that all of them have.
-ghost use Rattle.std.specs.Prelude.{◌≡◌, ◌+◌, ◌≤◌, length, All, IfOk, IfErr, IsTrue};
-ghost use Rattle.elementwise.specs.Words.{OutOfMemory, Bytes, without_nuls, item_at, offsets};
+ghost use Rattle.std.specs.Prelude.{◌≡◌, ◌+◌, ◌≤◌, length, All, IfOk, IsTrue};
+ghost use Rattle.elementwise.specs.Words.{Bytes, without_nuls, item_at, offsets};
 ghost use Rattle.elem_descr.specs.declared.descr.Descr.TheVariants.{Scalar as ScalarDescr};
 
 use crate::shrunk::without_repeats;
 use crate::text_comparing::without_nuls;
 use arrays::Items;
 use broadcasting::repeats;
-use elem_descr::{BytesLen, Refusal};
+use elem_descr::BytesLen;
 use shape_strides::{Layout, Shape, Walk};
-use std::alloc::Global;
+use std::alloc::{AllocError, Global};
 
 /// The length of the longest byte string, the NULs at its end not counted, and at least 1.
 fn longest(block: &[u8], layout: &Layout, width: usize) -> usize
@@ -28,14 +28,13 @@ fn longest(block: &[u8], layout: &Layout, width: usize) -> usize
 }
 
 /// The length to which the byte strings of an array can be cut: that of the longest, each looked at once.
-fn trimmed(alloc: Global, items: Items<'_>, width: BytesLen) -> Result<BytesLen, Refusal>
+fn trimmed(alloc: Global, items: Items<'_>, width: BytesLen) -> Result<BytesLen, AllocError>
     requires { items.descr.now ≡ ScalarDescr (Bytes width) }
     ensures within { IfOk result (λ n. n ≤ width) }
     ensures same { IfOk result
         (λ n. All (λ offset. without_nuls (item_at offset n items.entry.block.now)
         ≡ without_nuls (item_at offset width items.entry.block.now))
         (offsets items.entry.layout.now)) }
-    ensures refused { IfErr result (λ refusal. refusal ≡ OutOfMemory) }
 {
     let layout = items.layout;
     let small = without_repeats(alloc, layout, layout, &layout.shape)?;
@@ -51,14 +50,13 @@ pub(crate) fn trimmed_in(
     width: BytesLen,
     other_width: BytesLen,
     shape: &Shape,
-) -> Result<BytesLen, Refusal>
+) -> Result<BytesLen, AllocError>
     requires { items.descr.now ≡ ScalarDescr (Bytes width) }
     ensures within { IfOk result (λ n. n ≤ width) }
     ensures same { IfOk result
         (λ n. All (λ offset. without_nuls (item_at offset n items.entry.block.now)
         ≡ without_nuls (item_at offset width items.entry.block.now))
         (offsets items.entry.layout.now)) }
-    ensures refused { IfErr result (λ refusal. refusal ≡ OutOfMemory) }
 {
     let shown_again = repeats(items.layout) || items.layout.shape.items() < shape.items();
     if shown_again && width.get() != other_width.get() {

@@ -1,6 +1,6 @@
 //! Casts and broadcasts operands, and combines them.
-ghost use Rattle.std.specs.Prelude.{◌≡◌, [], ◌∷◌, ◌≤◌, true, map, IfOk, IfErr, IsTrue};
-ghost use Rattle.elementwise.specs.Words.{OutOfMemory, size, item_size, can_stretch};
+ghost use Rattle.std.specs.Prelude.{◌≡◌, [], ◌∷◌, ◌≤◌, true, map, IfOk, IsTrue};
+ghost use Rattle.elementwise.specs.Words.{size, item_size, can_stretch};
 ghost use Rattle.elem_descr.specs.declared.descr.Descr.TheVariants.{Scalar as ScalarDescr};
 ghost use Rattle.elementwise.specs.Casts.{can_cast, cast_item};
 ghost use Rattle.elementwise.specs.Results.{pairwise, value_in};
@@ -10,15 +10,15 @@ ghost use Rattle.elementwise.specs.inside.Shrunk.{IsStretched};
 ghost use Rattle.elementwise.specs.inside.Works.{left_of, right_of, target_of, gives, CanPair};
 
 use crate::alike::keeps_items;
-use crate::casts::cast;
+use crate::casts::cast_items;
 use crate::made::made;
 use crate::pairing::Pairing;
 use crate::rows::{Operand, Operands};
 use arrays::{Items, Owned};
-use broadcasting::stretch;
-use elem_descr::{Descr, Refusal};
+use broadcasting::stretched_to;
+use elem_descr::Descr;
 use shape_strides::{Layout, Shape};
-use std::alloc::Global;
+use std::alloc::{AllocError, Global};
 
 /// Items where they lie, or in a block of their own.
 #[derive(Drop)]
@@ -32,14 +32,13 @@ impl<'a> Held<'a> {
     ghost use Rattle.elementwise.specs.inside.Held.{held_items, held_descr, held_shape};
 
     /// Items as those of a small element type: where they lie, if a cast leaves them as they are.
-    pub(crate) fn of(alloc: Global, from: Items<'a>, to: &'a Descr) -> Result<Held<'a>, Refusal>
+    pub(crate) fn of(alloc: Global, from: Items<'a>, to: &'a Descr) -> Result<Held<'a>, AllocError>
         requires can { can_cast from.descr.now to.now ≡ true }
         requires small { item_size to.now ≤ 8 }
         ensures descr { IfOk result (λ h. held_descr h ≡ to.now) }
         ensures shape { IfOk result (λ h. held_shape h ≡ from.entry.layout.now.shape) }
         ensures items { IfOk result
             (λ h. held_items h ≡ map (cast_item from.entry.descr.now to.now) (items from.entry)) }
-        ensures refused { IfErr result (λ refusal. refusal ≡ OutOfMemory) }
     {
         if keeps_items(from.block, from.descr, to) {
             return Ok(Held::Kept(Items {
@@ -49,7 +48,7 @@ impl<'a> Held<'a> {
             }));
         }
         let _items = from.layout.shape.items();
-        let made = cast(alloc, from, to)?;
+        let made = cast_items(alloc, from, to)?;
         Ok(Held::Made(made))
     }
 
@@ -65,15 +64,6 @@ impl<'a> Held<'a> {
     }
 }
 
-/// A layout that is stretched to a shape to which it can be.
-pub(crate) fn stretched_to(alloc: Global, layout: &Layout, shape: &Shape) -> Result<Layout, Refusal>
-    requires { IsTrue (can_stretch layout.now.shape shape.now) }
-    ensures stretched { IfOk result (λ l. IsStretched l layout.now shape.now) }
-    ensures refused { IfErr result (λ refusal. refusal ≡ OutOfMemory) }
-{
-    stretch(alloc, layout, shape)
-}
-
 /// A layout that has a shape already, or is stretched to it.
 #[derive(Drop)]
 pub(crate) enum Fitted<'a> {
@@ -82,11 +72,10 @@ pub(crate) enum Fitted<'a> {
 }
 
 impl<'a> Fitted<'a> {
-    fn to(alloc: Global, layout: &'a Layout, shape: &Shape) -> Result<Fitted<'a>, Refusal>
+    fn to(alloc: Global, layout: &'a Layout, shape: &Shape) -> Result<Fitted<'a>, AllocError>
         requires { IsTrue (can_stretch layout.now.shape shape.now) }
-        ensures stretched { IfOk result
+        ensures { IfOk result
             (λ fitted. IsStretched (fitted_layout fitted) layout.now shape.now) }
-        ensures refused { IfErr result (λ refusal. refusal ≡ OutOfMemory) }
     {
         if layout.shape.as_slice() == shape.as_slice() {
             return Ok(Fitted::Same(layout));
@@ -111,7 +100,7 @@ pub(crate) fn make_cast(
     left: Items<'_>,
     right: Items<'_>,
     shape: &Shape,
-) -> Result<Owned, Refusal>
+) -> Result<Owned, AllocError>
     requires can { CanPair pairing.now }
     requires small { (size (left_of pairing.now) ≤ 8) × (size (right_of pairing.now) ≤ 8)
         × (size (target_of pairing.now) ≤ 8) }
@@ -119,14 +108,13 @@ pub(crate) fn make_cast(
     requires right { can_cast right.descr.now (ScalarDescr (right_of pairing.now)) ≡ true }
     requires stretches { IsTrue (can_stretch left.layout.now.shape shape.now) }
     requires also { IsTrue (can_stretch right.layout.now.shape shape.now) }
-    ensures made { IfOk result
+    ensures { IfOk result
         (IsMade (ScalarDescr (target_of pairing.now)) shape.now
         (pairwise (λ x y.
         gives pairing.now
         (value_in (cast_item left.entry.descr.now (ScalarDescr (left_of pairing.now)) x))
         (value_in (cast_item right.entry.descr.now (ScalarDescr (right_of pairing.now)) y)) ∷ [])
         (stretched left.entry shape.now) (stretched right.entry shape.now))) }
-    ensures refused { IfErr result (λ refusal. refusal ≡ OutOfMemory) }
 {
     let _items = shape.items();
     let left_to = Descr::Scalar(pairing.left());

@@ -49,13 +49,12 @@ make_cast-requires-clause-also c = can-itself c.args.operand.layout.now.shape
 
 pub returns-clause-gives : goal.returns-clause-gives
 returns-clause-gives c =
-    made-gives (ScalarDescr (little c.read_as-read.result)) c.args.operand.layout.now.shape _ c.make_cast.result _
+    made-gives (ScalarDescr (little c.read_as-read.result)) c.args.operand.layout.now.shape _ _ c.in_ok-make_cast.ensures _
     (one_given c.args.op c.args.operand.descr.now c.args.operand.layout.now.shape c.in_ok-from.from c.in_ok-scalar.scalar c.in_ok-from.ensures c.in_ok-scalar.ensures
     ∙ λ i. Ok (ScalarDescr (sym c.read_as-read.ensures i), c.args.operand.layout.now.shape))
-    c.make_cast.ensures.made c.make_cast.ensures.refused
 
 pub returns-clause-order : goal.returns-clause-order
-returns-clause-order c = made-order (ScalarDescr (little c.read_as-read.result)) c.args.operand.layout.now.shape _ c.make_cast.result c.make_cast.ensures.made
+returns-clause-order c = made-order (ScalarDescr (little c.read_as-read.result)) c.args.operand.layout.now.shape _ _ c.in_ok-make_cast.ensures
 
 pub returns-clause-items : goal.returns-clause-items
 returns-clause-items c =
@@ -63,9 +62,8 @@ returns-clause-items c =
     let read = c.read_as-read.result in
     let is = promoted_one c.args.op c.in_ok-from.from c.in_ok-scalar.scalar c.in_ok-scalar.ensures in
     let number = number-read read c.in_ok-scalar.scalar c.read_as-read.ensures is.0 in
-    made-items (ScalarDescr (little read)) x.layout.now.shape _ (λ d _. map (λ offset. unary_item c.args.op d (item_from x.descr.now x.block.now offset)) (offsets x.layout.now)) c.make_cast.result
+    made-items (ScalarDescr (little read)) x.layout.now.shape _ _ c.in_ok-make_cast.ensures (λ d _. map (λ offset. unary_item c.args.op d (item_from x.descr.now x.block.now offset)) (offsets x.layout.now))
     (changed c.args.op read x.descr.now x.layout.now x.block.now number (can-number x.descr.now c.in_ok-from.from read (is_scalar x.descr.now c.in_ok-from.from c.in_ok-from.ensures) is.1 number))
-    c.make_cast.ensures.made
 
 pub returns-clause-encoded : goal.returns-clause-encoded
-returns-clause-encoded c = made-encoded (ScalarDescr (little c.read_as-read.result)) c.args.operand.layout.now.shape _ c.make_cast.result c.make_cast.ensures.made
+returns-clause-encoded c = made-encoded (ScalarDescr (little c.read_as-read.result)) c.args.operand.layout.now.shape _ _ c.in_ok-make_cast.ensures

@@ -59,13 +59,12 @@ make_cast-requires-clause-right c =
 
 pub returns-clause-gives : goal.returns-clause-gives
 returns-clause-gives c =
-    made-gives (ScalarDescr (little c.read_as-read.result)) c.in_ok-shape.shape _ c.make_cast.result _
+    made-gives (ScalarDescr (little c.read_as-read.result)) c.in_ok-shape.shape _ _ c.in_ok-make_cast.ensures _
     (all_given c.args.op c.args.left.descr.now c.args.left.layout.now.shape c.args.right.descr.now c.args.right.layout.now.shape c.in_ok-from.from c.in_ok-other.other c.in_ok-scalar.scalar c.in_ok-shape.shape c.in_ok-from.ensures c.in_ok-other.ensures c.in_ok-scalar.ensures c.in_ok-shape.ensures.value
     ∙ λ i. Ok (ScalarDescr (sym c.read_as-read.ensures i), c.in_ok-shape.shape))
-    c.make_cast.ensures.made c.make_cast.ensures.refused
 
 pub returns-clause-order : goal.returns-clause-order
-returns-clause-order c = made-order (ScalarDescr (little c.read_as-read.result)) c.in_ok-shape.shape _ c.make_cast.result c.make_cast.ensures.made
+returns-clause-order c = made-order (ScalarDescr (little c.read_as-read.result)) c.in_ok-shape.shape _ _ c.in_ok-make_cast.ensures
 
 pub returns-clause-items : goal.returns-clause-items
 returns-clause-items c =
@@ -75,10 +74,9 @@ returns-clause-items c =
     let shape = c.in_ok-shape.shape in
     let is = promoted c.args.op c.in_ok-from.from c.in_ok-other.other c.in_ok-scalar.scalar c.in_ok-scalar.ensures in
     let number = number-read read c.in_ok-scalar.scalar c.read_as-read.ensures is.native in
-    made-items (ScalarDescr (little read)) shape _ (λ d shape. pairwise (binary_item c.args.op d) (stretched_items x.descr.now x.block.now x.layout.now shape) (stretched_items y.descr.now y.block.now y.layout.now shape)) c.make_cast.result
+    made-items (ScalarDescr (little read)) shape _ _ c.in_ok-make_cast.ensures (λ d shape. pairwise (binary_item c.args.op d) (stretched_items x.descr.now x.block.now x.layout.now shape) (stretched_items y.descr.now y.block.now y.layout.now shape))
     (combined c.args.op read x.descr.now y.descr.now (stretched_items x.descr.now x.block.now x.layout.now shape) (stretched_items y.descr.now y.block.now y.layout.now shape) number
     (can-number x.descr.now c.in_ok-from.from read (is_scalar x.descr.now c.in_ok-from.from c.in_ok-from.ensures) is.left number) (can-number y.descr.now c.in_ok-other.other read (is_scalar y.descr.now c.in_ok-other.other c.in_ok-other.ensures) is.right number))
-    c.make_cast.ensures.made
 
 pub returns-clause-encoded : goal.returns-clause-encoded
-returns-clause-encoded c = made-encoded (ScalarDescr (little c.read_as-read.result)) c.in_ok-shape.shape _ c.make_cast.result c.make_cast.ensures.made
+returns-clause-encoded c = made-encoded (ScalarDescr (little c.read_as-read.result)) c.in_ok-shape.shape _ _ c.in_ok-make_cast.ensures

@@ -22,24 +22,22 @@ compare_once-requires c = is_scalar c.args.operand.descr.now c.in_ok-from.from c
 
 pub returns-then-bytes-get-clause-gives : goal.returns-then-bytes-get-clause-gives
 returns-then-bytes-get-clause-gives c =
-    made-gives (ScalarDescr BoolScalar) c.args.operand.layout.now.shape _ c.compare_with_item.result _
+    made-gives (ScalarDescr BoolScalar) c.args.operand.layout.now.shape _ _ c.in_ok-compare_with_item.ensures _
     (one_given c.args.operand.descr.now c.args.operand.layout.now.shape c.in_ok-from.from c.in_ok-from.ensures (ap is_text c.in-Bytes.is))
-    c.compare_with_item.ensures.made c.compare_with_item.ensures.refused
 
 pub returns-clause-gives : goal.returns-clause-gives
 returns-clause-gives c =
-    made-gives (ScalarDescr BoolScalar) c.args.operand.layout.now.shape _ c.compare_once.result _
+    made-gives (ScalarDescr BoolScalar) c.args.operand.layout.now.shape _ _ c.in_ok-compare_once.ensures _
     (one_given c.args.operand.descr.now c.args.operand.layout.now.shape c.in_ok-from.from c.in_ok-from.ensures (ap is_text c.in-Bytes.is))
-    c.compare_once.ensures.made c.compare_once.ensures.refused
 
 pub returns-clause-order : goal.returns-clause-order
-returns-clause-order c = made-order (ScalarDescr BoolScalar) c.args.operand.layout.now.shape _ c.compare_once.result c.compare_once.ensures.made
+returns-clause-order c = made-order (ScalarDescr BoolScalar) c.args.operand.layout.now.shape _ _ c.in_ok-compare_once.ensures
 
 pub returns-clause-items : goal.returns-clause-items
 returns-clause-items c =
     let x = c.args.operand in
-    made-items (ScalarDescr BoolScalar) x.layout.now.shape _ (λ _ _. map (λ offset. compared_item c.args.comparison (item_from x.descr.now x.block.now offset) (text (without_nuls c.args.bytes.now) ∷ [])) (offsets x.layout.now)) c.compare_once.result
-    (λ i. map (λ offset. compared_item c.args.comparison (item_from x.descr.now x.block.now offset) (text (c.without_nuls.ensures i) ∷ [])) (offsets x.layout.now)) c.compare_once.ensures.made
+    made-items (ScalarDescr BoolScalar) x.layout.now.shape _ _ c.in_ok-compare_once.ensures (λ _ _. map (λ offset. compared_item c.args.comparison (item_from x.descr.now x.block.now offset) (text (without_nuls c.args.bytes.now) ∷ [])) (offsets x.layout.now))
+    (λ i. map (λ offset. compared_item c.args.comparison (item_from x.descr.now x.block.now offset) (text (c.without_nuls.ensures i) ∷ [])) (offsets x.layout.now))
 
 pub returns-clause-encoded : goal.returns-clause-encoded
-returns-clause-encoded c = made-encoded (ScalarDescr BoolScalar) c.args.operand.layout.now.shape _ c.compare_once.result c.compare_once.ensures.made
+returns-clause-encoded c = made-encoded (ScalarDescr BoolScalar) c.args.operand.layout.now.shape _ _ c.in_ok-compare_once.ensures

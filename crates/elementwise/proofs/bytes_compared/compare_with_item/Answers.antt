@@ -17,11 +17,11 @@ compare_once-requires c =
     let width = c.args.width in
     comparable_scalars c.args.operand.descr.now c.items.result.descr.now (Bytes width) (Bytes width) c.requires.from (c.items.ensures.descr ∙ c.in_ok-item.ensures.descr) refl
 
-pub returns-clause-made : goal.returns-clause-made
-returns-clause-made c =
+pub returns : goal.returns
+returns c =
     let x = c.args.operand in
     let y = c.items.result in
     made-as (ScalarDescr BoolScalar) x.layout.now.shape _ _ c.compare_once.result
     (all_held c.args.comparison x.descr.now y.descr.now x.block.now y.block.now x.layout.now y.layout.now (text (without_nuls c.args.bytes.now) ∷ []) (ap (λ l. l.shape) c.items.ensures.layout ∙ c.in_ok-item.ensures.shape)
     (c.items.ensures.items ∙ c.in_ok-item.ensures.items ∙ λ i. (text (c.in_ok-block.ensures.same i) ∷ []) ∷ []))
-    c.compare_once.ensures.made
+    c.compare_once.ensures

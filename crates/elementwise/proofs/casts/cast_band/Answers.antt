@@ -36,8 +36,8 @@ loop-k-preserved c =
       zeros = zeros-stay from to c.args.from.items.bytes.now os c.loop-k.rows _ k low (omega (arith, inv.len)) c.size.ensures.apart wrote inv.zeros;
     }
 
-pub returns-clause-cast : goal.returns-clause-cast
-returns-clause-cast c =
+pub returns : goal.returns
+returns c =
     let from = c.args.from.descr.now in
     let to = c.args.to.now in
     let inv = c.loop-k.invariant in

@@ -44,8 +44,8 @@ invariant_of-items-2 c =
       within = subst (λ z. EachWithin (length bytes) 0 z w n) (sym near) (row-within (length bytes) 0 w w n (omega arith) (omega (arith, long)));
     }
 
-pub returns-clause-cast : goal.returns-clause-cast
-returns-clause-cast c =
+pub returns : goal.returns
+returns c =
     let x = c.args.from in
     let from = x.descr.now in
     let to = c.args.to.now in
@@ -56,4 +56,4 @@ returns-clause-cast c =
     let here : run_offsets (record { offset = 0; count = c.items-count.result; step = to_z w64 w }) ≡ row_offsets 0 w (length os) = λ i. run_offsets (record { offset = 0; count = many i; step = near i }) in
     let same = (λ i. items_at (row-multiples w (length os) i) w (c.bytes-2.ensures i)) ∙ c.in_ok-packed.ensures.items in
     let values = (λ i. cast_items from to c.bytes-2.result.now (here i)) ∙ same-cast from to w c.bytes-2.result.now x.block.now (row_offsets 0 w (length os)) os c.size-width.ensures.value same in
-    IfOk-weaker c.cast_run-2.result _ _ (λ bytes are. subst (λ vs. AreItems to vs bytes) values are) c.cast_run-2.ensures.cast
+    IfOk-weaker c.cast_run-2.result _ _ (λ bytes are. subst (λ vs. AreItems to vs bytes) values are) c.cast_run-2.ensures

@@ -19,10 +19,10 @@ cast_scalars-requires-clause-few c =
     let same = ap (λ l. count l.shape) c.of.ensures.layout in
     omega (arith, ap (λ n. n * item_size (ScalarDescr c.in-Scalar-Scalar.target)) same, subst (λ (d : Descr). count c.args.from.layout.now.shape * item_size d ≤ max_bytes) c.in-Scalar-Scalar.is-1 c.requires.few)
 
-pub returns-in-Scalar-Scalar-clause-made : goal.returns-in-Scalar-Scalar-clause-made
-returns-in-Scalar-Scalar-clause-made c =
+pub returns-in-Scalar-Scalar : goal.returns-in-Scalar-Scalar
+returns-in-Scalar-Scalar c =
     let x = c.args.from in
     subst (λ (d : Descr). IfOk c.cast_scalars.result (IsMade d x.layout.now.shape (map (λ offset. cast_item x.descr.now d (item_from x.descr.now x.block.now offset)) (offsets x.layout.now)))) (sym c.in-Scalar-Scalar.is-1)
     (made-in (ScalarDescr c.in-Scalar-Scalar.target) c.of.result.layout.now.shape x.layout.now.shape _ _ c.cast_scalars.result (ap (λ l. l.shape) c.of.ensures.layout)
     (λ i. map (λ offset. cast_item (c.of.ensures.descr i) (ScalarDescr c.in-Scalar-Scalar.target) (item_from (c.of.ensures.descr i) (c.of.ensures.bytes i) offset)) (offsets (c.of.ensures.layout i)))
-    c.cast_scalars.ensures.made)
+    c.cast_scalars.ensures)

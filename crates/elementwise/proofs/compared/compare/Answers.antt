@@ -39,17 +39,16 @@ compare_once-requires c =
 
 pub returns-clause-gives : goal.returns-clause-gives
 returns-clause-gives c =
-    made-gives (ScalarDescr BoolScalar) c.in_ok-shape.shape _ c.compare_once.result _
+    made-gives (ScalarDescr BoolScalar) c.in_ok-shape.shape _ _ c.in_ok-compare_once.ensures _
     (all_given c.args.left.descr.now c.args.left.layout.now.shape c.args.right.descr.now c.args.right.layout.now.shape c.in_ok-from.from c.in_ok-other.other _ c.in_ok-shape.shape c.in_ok-from.ensures c.in_ok-other.ensures c.in_ok-compared_type.ensures c.in_ok-shape.ensures.value
     ∙ λ i. Ok (ScalarDescr ((compared_bools c.in_ok-from.from c.in_ok-other.other _ c.in_ok-compared_type.ensures).1 i), c.in_ok-shape.shape))
-    c.compare_once.ensures.made c.compare_once.ensures.refused
 
 pub returns-clause-order : goal.returns-clause-order
-returns-clause-order c = made-order (ScalarDescr BoolScalar) c.in_ok-shape.shape _ c.compare_once.result c.compare_once.ensures.made
+returns-clause-order c = made-order (ScalarDescr BoolScalar) c.in_ok-shape.shape _ _ c.in_ok-compare_once.ensures
 
 pub returns-clause-items : goal.returns-clause-items
 returns-clause-items c =
-    made-items (ScalarDescr BoolScalar) c.in_ok-shape.shape _ (λ _ shape. pairwise (compared_item c.args.comparison) (stretched c.args.left shape) (stretched c.args.right shape)) c.compare_once.result refl c.compare_once.ensures.made
+    made-items (ScalarDescr BoolScalar) c.in_ok-shape.shape _ _ c.in_ok-compare_once.ensures (λ _ shape. pairwise (compared_item c.args.comparison) (stretched c.args.left shape) (stretched c.args.right shape)) refl
 
 pub returns-clause-encoded : goal.returns-clause-encoded
-returns-clause-encoded c = made-encoded (ScalarDescr BoolScalar) c.in_ok-shape.shape _ c.compare_once.result c.compare_once.ensures.made
+returns-clause-encoded c = made-encoded (ScalarDescr BoolScalar) c.in_ok-shape.shape _ _ c.in_ok-compare_once.ensures

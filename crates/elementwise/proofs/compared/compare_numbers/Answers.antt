@@ -28,8 +28,8 @@ make_cast-requires-clause-left c = can-number c.args.both.left.descr.now c.args.
 pub make_cast-requires-clause-right : goal.make_cast-requires-clause-right
 make_cast-requires-clause-right c = can-number c.args.both.right.descr.now c.args.right.now (right_of c.number_pairing-pairing.result) c.requires.other (number-no_text c.args.right.now c.requires.right) c.number_pairing-pairing.ensures.right.0
 
-pub returns-clause-made : goal.returns-clause-made
-returns-clause-made c =
+pub returns : goal.returns
+returns c =
     let p = c.number_pairing-pairing.result in
     let is = c.number_pairing-pairing.ensures in
     let x = c.args.both.left in
@@ -39,4 +39,4 @@ returns-clause-made c =
     made-as (ScalarDescr BoolScalar) shape given _ c.make_cast.result
     ((λ i. pairwise (λ u v. is.says (value_in (cast_item x.descr.now (ScalarDescr (left_of p)) u)) (value_in (cast_item y.descr.now (ScalarDescr (right_of p)) v)) i ∷ []) (stretched x shape) (stretched y shape))
     ∙ compared_all c.args.comparison (left_of p) (right_of p) x.descr.now y.descr.now x.block.now y.block.now x.layout.now y.layout.now shape (c.args.left.now, c.requires.from, c.requires.left, is.left.1) (c.args.right.now, c.requires.other, c.requires.right, is.right.1) is.left.0 is.right.0 c.note_bytes.ensures c.note_bytes-2.ensures)
-    (subst (λ (s : Scalar). IfOk c.make_cast.result (IsMade (ScalarDescr s) shape given)) is.target c.make_cast.ensures.made)
+    (subst (λ (s : Scalar). IfOk c.make_cast.result (IsMade (ScalarDescr s) shape given)) is.target c.make_cast.ensures)

@@ -20,17 +20,17 @@ invariant_of-once-3 c =
     record { first = (λ i. can_stretch (s.ensures.first.shape_is i) s.small.shape) ∙ itself; second = (λ i. can_stretch (s.ensures.second.shape_is i) s.small.shape) ∙ itself }
 
 pub spread-requires-clause-bools : goal.spread-requires-clause-bools
-spread-requires-clause-bools c = c.in_ok-made.ensures.made.descr_is
+spread-requires-clause-bools c = c.in_ok-made.ensures.descr_is
 
 pub spread-requires-clause-stretches : goal.spread-requires-clause-stretches
-spread-requires-clause-stretches c = (λ i. can_stretch (c.in_ok-made.ensures.made.shape_is i) c.args.both.shape.now) ∙ c.in_ok-small.ensures.first.can
+spread-requires-clause-stretches c = (λ i. can_stretch (c.in_ok-made.ensures.shape_is i) c.args.both.shape.now) ∙ c.in_ok-small.ensures.first.can
 
-pub returns-clause-made : goal.returns-clause-made
-returns-clause-made c =
+pub returns : goal.returns
+returns c =
     let s = c.in_ok-small in
     let x = c.args.both.left in
     let y = c.args.both.right in
     made-as (ScalarDescr BoolScalar) c.args.both.shape.now _ _ c.spread.result
     (pairs_spread (compared_item c.args.comparison) (ScalarDescr BoolScalar) x.descr.now y.descr.now x.block.now y.block.now x.layout.now y.layout.now s.small.first s.small.second s.small.shape c.args.both.shape.now c.in_ok-made.made
-    s.ensures.first s.ensures.second c.in_ok-made.ensures.made)
-    c.spread.ensures.made
+    s.ensures.first s.ensures.second c.in_ok-made.ensures)
+    c.spread.ensures

@@ -1,7 +1,12 @@
+use Rattle.std.proofs.Common.{refl}
+use Rattle.elem_descr.specs.declared.descr.Descr.TheVariants.{Scalar as ScalarDescr}
+use Rattle.elem_descr.specs.declared.scalar.Scalar.TheVariants.{Bool as BoolScalar}
+use Rattle.elementwise.proofs.MadeLaws.{over-made}
 use Rattle.elementwise.proofs.IntegerLaws.{alike_made}
 use Rattle.elementwise.proofs.integers.all_alike.Goals as goal
 
-pub returns-clause-made : goal.returns-clause-made
-returns-clause-made c =
-    let owned = c.in_ok-owned.ensures in
-    alike_made c.args.holds c.args.shape.now c.in_ok-owned.owned c.in_ok-block.block c.items.result owned.descr owned.shape owned.order owned.block c.in_ok-block.ensures c.items.ensures.value
+pub returns : goal.returns
+returns c =
+    let owned = c.over.ensures in
+    let made = alike_made c.args.holds c.args.shape.now c.in_ok-block.block c.items.result c.in_ok-block.ensures c.items.ensures.value in
+    over-made (ScalarDescr BoolScalar) (ScalarDescr BoolScalar) c.args.shape.now _ c.over.result c.in_ok-block.block refl owned.descr owned.shape owned.order owned.block made.0 made.1

@@ -28,36 +28,34 @@ compare_beyond-requires-clause-from c = is_scalar c.args.operand.descr.now c.in_
 
 pub returns-then-is_value-clause-gives : goal.returns-then-is_value-clause-gives
 returns-then-is_value-clause-gives c =
-    made-gives (ScalarDescr BoolScalar) c.args.operand.layout.now.shape _ c.compare_with_value.result _
+    made-gives (ScalarDescr BoolScalar) c.args.operand.layout.now.shape _ _ c.in_ok-compare_with_value.ensures _
     (one_given c.args.operand.descr.now c.args.operand.layout.now.shape c.in_ok-from.from c.in_ok-from.ensures (sym c.is_text.ensures ∙ c.if-is_text.false))
-    c.compare_with_value.ensures.made c.compare_with_value.ensures.refused
 
 pub returns-then-is_value-clause-order : goal.returns-then-is_value-clause-order
-returns-then-is_value-clause-order c = made-order (ScalarDescr BoolScalar) c.args.operand.layout.now.shape _ c.compare_with_value.result c.compare_with_value.ensures.made
+returns-then-is_value-clause-order c = made-order (ScalarDescr BoolScalar) c.args.operand.layout.now.shape _ _ c.in_ok-compare_with_value.ensures
 
 pub returns-then-is_value-clause-items : goal.returns-then-is_value-clause-items
 returns-then-is_value-clause-items c =
     let x = c.args.operand in
-    made-items (ScalarDescr BoolScalar) x.layout.now.shape _ (λ _ _. map (λ offset. compared_item c.args.comparison (item_from x.descr.now x.block.now offset) (number c.args.integer ∷ [])) (offsets x.layout.now)) c.compare_with_value.result
-    (λ i. map (λ offset. compared_item c.args.comparison (item_from x.descr.now x.block.now offset) (number (to_z-of_z w128 c.args.integer c.ranges.integer i) ∷ [])) (offsets x.layout.now)) c.compare_with_value.ensures.made
+    made-items (ScalarDescr BoolScalar) x.layout.now.shape _ _ c.in_ok-compare_with_value.ensures (λ _ _. map (λ offset. compared_item c.args.comparison (item_from x.descr.now x.block.now offset) (number c.args.integer ∷ [])) (offsets x.layout.now))
+    (λ i. map (λ offset. compared_item c.args.comparison (item_from x.descr.now x.block.now offset) (number (to_z-of_z w128 c.args.integer c.ranges.integer i) ∷ [])) (offsets x.layout.now))
 
 pub returns-then-is_value-clause-encoded : goal.returns-then-is_value-clause-encoded
-returns-then-is_value-clause-encoded c = made-encoded (ScalarDescr BoolScalar) c.args.operand.layout.now.shape _ c.compare_with_value.result c.compare_with_value.ensures.made
+returns-then-is_value-clause-encoded c = made-encoded (ScalarDescr BoolScalar) c.args.operand.layout.now.shape _ _ c.in_ok-compare_with_value.ensures
 
 pub returns-clause-gives : goal.returns-clause-gives
 returns-clause-gives c =
-    made-gives (ScalarDescr BoolScalar) c.args.operand.layout.now.shape _ c.compare_beyond.result _
+    made-gives (ScalarDescr BoolScalar) c.args.operand.layout.now.shape _ _ c.in_ok-compare_beyond.ensures _
     (one_given c.args.operand.descr.now c.args.operand.layout.now.shape c.in_ok-from.from c.in_ok-from.ensures (sym c.is_text.ensures ∙ c.if-is_text.false))
-    c.compare_beyond.ensures.made c.compare_beyond.ensures.refused
 
 pub returns-clause-order : goal.returns-clause-order
-returns-clause-order c = made-order (ScalarDescr BoolScalar) c.args.operand.layout.now.shape _ c.compare_beyond.result c.compare_beyond.ensures.made
+returns-clause-order c = made-order (ScalarDescr BoolScalar) c.args.operand.layout.now.shape _ _ c.in_ok-compare_beyond.ensures
 
 pub returns-clause-items : goal.returns-clause-items
 returns-clause-items c =
     let x = c.args.operand in
-    made-items (ScalarDescr BoolScalar) x.layout.now.shape _ (λ _ _. map (λ offset. compared_item c.args.comparison (item_from x.descr.now x.block.now offset) (number c.args.integer ∷ [])) (offsets x.layout.now)) c.compare_beyond.result
-    (λ i. map (λ offset. compared_item c.args.comparison (item_from x.descr.now x.block.now offset) (number (to_z-of_z w128 c.args.integer c.ranges.integer i) ∷ [])) (offsets x.layout.now)) c.compare_beyond.ensures.made
+    made-items (ScalarDescr BoolScalar) x.layout.now.shape _ _ c.in_ok-compare_beyond.ensures (λ _ _. map (λ offset. compared_item c.args.comparison (item_from x.descr.now x.block.now offset) (number c.args.integer ∷ [])) (offsets x.layout.now))
+    (λ i. map (λ offset. compared_item c.args.comparison (item_from x.descr.now x.block.now offset) (number (to_z-of_z w128 c.args.integer c.ranges.integer i) ∷ [])) (offsets x.layout.now))
 
 pub returns-clause-encoded : goal.returns-clause-encoded
-returns-clause-encoded c = made-encoded (ScalarDescr BoolScalar) c.args.operand.layout.now.shape _ c.compare_beyond.result c.compare_beyond.ensures.made
+returns-clause-encoded c = made-encoded (ScalarDescr BoolScalar) c.args.operand.layout.now.shape _ _ c.in_ok-compare_beyond.ensures

@@ -23,11 +23,11 @@ compare_once-requires c =
     let from = c.args.from.now in
     comparable_scalars c.args.operand.descr.now c.items.result.descr.now from (little from) c.requires.from (c.items.ensures.descr ∙ c.in_ok-item.ensures.descr ∙ ap ScalarDescr c.little-scalar.ensures) (comparable_numbers from c.requires.number)
 
-pub returns-clause-made : goal.returns-clause-made
-returns-clause-made c =
+pub returns : goal.returns
+returns c =
     let x = c.args.operand in
     let y = c.items.result in
     made-as (ScalarDescr BoolScalar) x.layout.now.shape _ _ c.compare_once.result
     (all_held c.args.comparison x.descr.now y.descr.now x.block.now y.block.now x.layout.now y.layout.now (number c.args.integer ∷ []) (ap (λ l. l.shape) c.items.ensures.layout ∙ c.in_ok-item.ensures.shape)
     (c.items.ensures.items ∙ c.in_ok-item.ensures.items ∙ (λ i. (c.in_ok-block.ensures.value i ∷ []) ∷ []) ∙ (λ i. (number (wrap (c.little-scalar.ensures i) (to_z-of_z w128 c.args.integer c.ranges.integer i)) ∷ []) ∷ []) ∙ λ i. (number (c.requires.held i) ∷ []) ∷ []))
-    c.compare_once.ensures.made
+    c.compare_once.ensures

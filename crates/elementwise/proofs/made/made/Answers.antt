@@ -23,12 +23,12 @@ over-requires-clause-small c =
     let wrote : c.finish-block.result ≡ made_of_all (pair_made p) o = c.finish-block.ensures ∙ c.push.ensures.bytes ∙ λ i. (c.in_ok-block.ensures i).0 ++ made_of_all (pair_made p) o in
     omega (arith, (all_paired p o c.requires.can c.requires.left c.requires.right c.finish-block.result wrote).0, c.requires.few)
 
-pub returns-in_default-clause-made : goal.returns-in_default-clause-made
-returns-in_default-clause-made c =
+pub returns-in_default : goal.returns-in_default
+returns-in_default c =
     let p = c.args.pairing.now in let o = c.args.operands in
     let wrote : c.finish-block.result ≡ made_of_all (pair_made p) o = c.finish-block.ensures ∙ c.push.ensures.bytes ∙ λ i. (c.in_ok-block.ensures i).0 ++ made_of_all (pair_made p) o in
-    let owned = c.in_ok-owned.ensures in
-    pairs_made p o c.requires.can c.requires.left c.requires.right c.target-scalar.result c.finish-block.result c.in_ok-owned.owned c.target-scalar.ensures wrote owned.descr owned.shape owned.order owned.block
+    let owned = c.over.ensures in
+    pairs_made p o c.requires.can c.requires.left c.requires.right c.target-scalar.result c.finish-block.result c.over.result c.target-scalar.ensures wrote owned.descr owned.shape owned.order owned.block
 
 -- ---- by columns
 
@@ -81,8 +81,8 @@ gather-requires c =
     let long = turned-long make width l.shape (offsets l) (offsets r) (length-offsets l) (length-offsets r ∙ ap count (sym o.even)) c.finish-block-2.result (each xs ys) is in
     subst (λ n. All (λ o. o + width ≤ n) (offsets c.in_ok-order.order)) (sym long) (offsets_within c.in_ok-order.order (count l.shape * width) width c.in_ok-order.ensures.fits)
 
-pub returns-clause-made : goal.returns-clause-made
-returns-clause-made c =
+pub returns : goal.returns
+returns c =
     let p = c.args.pairing.now in let o = c.args.operands in
     let l = o.left.layout.now in let r = o.right.layout.now in
     let both = both_turned c.in_ok-columns.field-0 c.in-Some.columns l r c.in-Some.is c.in_ok-columns.ensures.first c.in_ok-columns.ensures.second in
@@ -95,5 +95,5 @@ returns-clause-made c =
     let is : c.finish-block-2.result ≡ concat (pairwise make xs ys) = c.finish-block-2.ensures ∙ c.push-2.ensures.bytes ∙ λ i. (c.in_ok-block.ensures i).0 ++ concat (pairwise make (both.0.places i) ((both.1.places ∙ λ j. fortran_order (sym o.even j) (offsets r)) i)) in
     let kept = c.in_ok-block-2.ensures in
     let wrote = turned-back make width l.shape (offsets l) (offsets r) (length-offsets l) (length-offsets r ∙ ap count (sym o.even)) (offsets c.in_ok-order.order) c.finish-block-2.result c.in_ok-block-2.block (each (offsets l) (offsets r)) (each xs ys) c.in_ok-order.ensures.count c.in_ok-order.ensures.order is kept.len kept.items in
-    let owned = c.in_ok-owned-2.ensures in
-    pairs_made p o c.requires.can c.requires.left c.requires.right c.target-scalar.result c.in_ok-block-2.block c.in_ok-owned-2.owned c.target-scalar.ensures wrote owned.descr owned.shape owned.order owned.block
+    let owned = c.over-2.ensures in
+    pairs_made p o c.requires.can c.requires.left c.requires.right c.target-scalar.result c.in_ok-block-2.block c.over-2.result c.target-scalar.ensures wrote owned.descr owned.shape owned.order owned.block

@@ -3,10 +3,8 @@ use Rattle.elementwise.proofs.shrunk.without_repeats.Goals as goal
 
 pub returns-clause-first : goal.returns-clause-first
 returns-clause-first c =
-    let w = c.in_ok-wide.ensures in
-    is_shrunk c.args.left.now c.in_ok-wide.wide c.in_ok-first.first c.in_ok-shape.shape c.args.shape.now w.stretched.shape_is w.stretched.places w.stretched.inside c.in_ok-first.ensures.shape c.in_ok-first.ensures.stretch
+    is_shrunk c.args.left.now c.in_ok-wide.wide c.in_ok-first.first c.in_ok-shape.shape c.args.shape.now c.in_ok-wide.ensures c.in_ok-first.ensures.shape c.in_ok-first.ensures.stretch
 
 pub returns-clause-second : goal.returns-clause-second
 returns-clause-second c =
-    let w = c.in_ok-other.ensures in
-    is_shrunk c.args.right.now c.in_ok-other.other c.in_ok-second.second c.in_ok-shape.shape c.args.shape.now w.stretched.shape_is w.stretched.places w.stretched.inside c.in_ok-second.ensures.shape c.in_ok-second.ensures.stretch
+    is_shrunk c.args.right.now c.in_ok-other.other c.in_ok-second.second c.in_ok-shape.shape c.args.shape.now c.in_ok-other.ensures c.in_ok-second.ensures.shape c.in_ok-second.ensures.stretch
