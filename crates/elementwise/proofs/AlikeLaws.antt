@@ -7,7 +7,7 @@ use Rattle.elem_descr.specs.declared.descr.Descr.TheVariants.{Scalar as ScalarDe
 use Rattle.elementwise.specs.Casts.{cast_value, cast_values, cast_item}
 use Rattle.elementwise.proofs.NulLaws.{text_stays}
 
--- the same leaves, one by one
+-- descriptors are alike where each leaf is the same
 pub alike : (a b : Descr) (k : ℕ) → item_size a ≡ item_size b → length (leaves_of a) ≡ length (leaves_of b) → length (leaves_of a) ≤ k → ((i : ℕ) → i < k → leaf_at a i ≡ leaf_at b i) → AreAlike a b
 alike a b k sized even whole same = record { leaves = ext_get_or no_leaf (leaves_of a) (leaves_of b) even (λ i low. same i (omega (arith, low, whole))); size = sized }
 

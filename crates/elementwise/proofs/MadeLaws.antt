@@ -23,7 +23,7 @@ over-made t d shape values (Ok o) block same descr shape-is order is read wrote 
     }
 over-made t d shape values (Err e) block same descr shape-is order is read wrote = tt
 
--- the same items, told otherwise
+-- made items are those of any list equal to theirs
 pub made-as : (d : Descr) (shape : List ℕ) (xs ys : List (List LeafValue)) (result : Result Owned AllocError) → xs ≡ ys → IfOk result (IsMade d shape xs) → IfOk result (IsMade d shape ys)
 made-as d shape xs ys result same made = subst (λ values. IfOk result (IsMade d shape values)) same made
 

@@ -87,7 +87,7 @@ applied_low op (Bytes n) a b never truth-a truth-b = absurd never
 pub applied : (op : BinOp) (s : Scalar) (a b v : ℤ) (r : ℕ) → IsNumber s → (is_bool s ≡ true → IsTruth a) → (is_bool s ≡ true → IsTruth b) → v ≡ wrap s (pos r) → r ≡ low_bits 8 (exact op s a b) → v ≡ binary op s a b
 applied op s a b v r is truth-a truth-b made low = made ∙ ap (λ n. wrap s (pos n)) low ∙ applied_low op s a b is truth-a truth-b
 
--- the same of one number that is not far from 0 where it is a bool
+-- one number that has the lowest bits of a result, and is not far from 0 where it is a bool
 pub applied_one : (s : Scalar) (z v : ℤ) (r : ℕ) → IsNumber s → (is_bool s ≡ true → unsigned_abs z < 2 ^ 64) → v ≡ wrap s (pos r) → r ≡ low_bits 8 z → v ≡ wrap s z
 applied_one BoolScalar z v r is small made low = made ∙ ap (λ n. wrap BoolScalar (pos n)) low ∙ ap pos (truth-low z (small refl))
 applied_one (Byte signed) z v r is small made low = made ∙ ap (λ n. wrap (Byte signed) (pos n)) low ∙ wrap-low (Byte signed) z is refl
