@@ -3,4 +3,5 @@ pub mod WidthLaws
 pub mod PartLaws
 pub mod WholeLaws
 pub mod PrintLaws
+pub mod BandLaws
 pub mod Vectors

@@ -5,7 +5,7 @@ use Rattle.std.specs.Io.{StartsWith}
 use Rattle.array_print.specs.Words.{count, blocks}
 use Rattle.array_print.specs.Printed.{join_texts, block_text, separator}
 use Rattle.array_print.specs.inside.Shown.{lead, repeated}
-use Rattle.array_print.specs.Sending.{Sends, SendsPart}
+use Rattle.array_print.specs.Sending.{Sends}
 use Rattle.array_print.specs.inside.Opened.{opened}
 use Rattle.array_print.specs.StartLaws.{StartsWith-trans}
 
@@ -197,10 +197,3 @@ opened-again f axes axis first times inner offsets old o1 o2 o3 o4 one below all
 pub sends-grown : (w w' : Option (List ℕ)) (rest rest' old head head' more : List ℕ) → Sends w w' rest (old ++ head) → rest' ≡ rest ++ more → head' ≡ head ++ more → Sends w w' rest' (old ++ head')
 sends-grown w w' rest rest' old head head' more sent made grown =
     (sent.0, ap (λ h. old ++ h) grown ∙ sym (append_assoc old head more) ∙ ap (λ t. t ++ more) sent.1 ∙ append_assoc sent.0 rest more ∙ ap (λ r. sent.0 ++ r) (sym made), sent.2)
-
--- and no more will be
-pub sends-cut : (f : ℕ → List ℕ) (axes : List ℕ) (axis k : ℕ) (offsets : List ℕ) (w w' : Option (List ℕ)) (rest old : List ℕ) → axis < length axes → k ≤ get_or axes axis 0 → length offsets ≡ count (drop axis axes) →
-    Sends w w' rest (old ++ opened f axes axis k offsets) → SendsPart w w' (old ++ block_text axis (drop axis axes) (map f offsets))
-sends-cut f axes axis k offsets w w' rest old below within many sent =
-    let r = opened-rest f axes axis (get_or axes axis 0 - k) k offsets below (omega arith) many in
-    (rest ++ r.0, sends-grown w w' rest (rest ++ r.0) old _ _ r.0 sent refl r.1)

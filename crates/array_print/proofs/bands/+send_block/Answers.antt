@@ -1,13 +1,10 @@
-use Rattle.std.proofs.Common.{◌≡◌, ◌+◌, ◌-◌, ◌<◌, ◌++◌, pos, ◌+ℤ◌, ◌*ℤ◌, ◌≤ℤ◌, codes, get_or, length, map, drop, sym, ap, subst, ◌∙◌, append_assoc, arith}
+use Rattle.std.proofs.Common.{◌≡◌, ◌+◌, ◌<◌, pos, ◌+ℤ◌, ◌*ℤ◌, ◌≤ℤ◌, get_or, length, sym, ap, subst, ◌∙◌, arith}
 use Rattle.std.proofs.lemmas.Result.{err_from_is_err_and}
 use Rattle.array_print.specs.Words.{max_bytes}
-use Rattle.array_print.specs.Printed.{block_text, separator}
 use Rattle.array_print.specs.SendingLaws.{sends-none, sends-then}
-use Rattle.array_print.specs.inside.Parts.{part_offsets}
-use Rattle.array_print.specs.inside.Opened.{opened}
-use Rattle.array_print.specs.inside.Shown.{shown, lead}
-use Rattle.array_print.proofs.PrintLaws.{opened-next, opened-end, sends-grown, sends-cut}
-use Rattle.array_print.proofs.PartLaws.{part-step, part-start, part-inner, part-block, length-part}
+use Rattle.array_print.proofs.PrintLaws.{sends-grown}
+use Rattle.array_print.proofs.BandLaws.{cut, one-more, ended}
+use Rattle.array_print.proofs.PartLaws.{part-step, part-start, part-inner}
 use Rattle.array_print.proofs.bands.+send_block.Goals as goal
 
 pub returns-in_err-extend_from_slice-clause-err : goal.returns-in_err-extend_from_slice-clause-err
@@ -17,25 +14,13 @@ returns-in_err-extend_from_slice-clause-err g t c =
 
 pub returns-in_err-k-clause-err : goal.returns-in_err-k-clause-err
 returns-in_err-k-clause-err g t c =
-    let l = c.args.bands.now.layout.now in
-    let f = shown c.args.bands.now.items.descr.now c.args.bands.now.items.widths.now c.args.bands.now.items.block.now in
-    let offsets = part_offsets l c.args.axis c.args.offset in
-    let below : c.args.axis < length l.shape = omega (arith, c.requires.axis, c.requires.small) in
-    let many = length-part l c.args.axis c.args.offset in
-    let so_far = c.loop-k.invariant in
     let p = err_from_is_err_and c.from_residual-in_err-k.result c.from_residual-in_err-k.ensures.1 in
-    rw p.1 (sends-cut f l.shape c.args.axis c.loop-k.k offsets _ _ _ c.args.out.now.items below so_far.within many so_far.sent)
+    rw p.1 (cut _ c.args.bands.now.layout.now c.args.axis c.args.offset _ _ _ _ c.requires.axis c.requires.small c.loop-k.k _ c.loop-k.invariant.within c.loop-k.invariant.sent)
 
 pub loop-k-preserved-in_ok-send_band : goal.loop-k-preserved-in_ok-send_band
 loop-k-preserved-in_ok-send_band g t c =
-    let l = c.args.bands.now.layout.now in
-    let f = shown c.args.bands.now.items.descr.now c.args.bands.now.items.widths.now c.args.bands.now.items.block.now in
-    let offsets = part_offsets l c.args.axis c.args.offset in
-    let below : c.args.axis < length l.shape = omega (arith, c.requires.axis, c.requires.small) in
-    let many = length-part l c.args.axis c.args.offset in
-    let so_far = c.loop-k.invariant in
     let grows = c.in_ok-k.ensures.grows in
-    let more = sends-grown _ _ c.loop-k.out.items c.push_run.new.out.items c.args.out.now.items _ (opened f l.shape c.args.axis (c.loop-k.k + c.in_ok-k.field-0) offsets) grows.2 so_far.sent grows.3 grows.4 in
+    let more = sends-grown _ _ _ _ c.args.out.now.items _ _ grows.2 c.loop-k.invariant.sent grows.3 grows.4 in
     record {
       sent = sends-then _ _ _ _ _ _ more c.in_ok-send_band.ensures.ok;
       within = grows.0;
@@ -44,28 +29,16 @@ loop-k-preserved-in_ok-send_band g t c =
 
 pub returns-in_err-send_band-clause-err : goal.returns-in_err-send_band-clause-err
 returns-in_err-send_band-clause-err g t c =
-    let l = c.args.bands.now.layout.now in
-    let f = shown c.args.bands.now.items.descr.now c.args.bands.now.items.widths.now c.args.bands.now.items.block.now in
-    let offsets = part_offsets l c.args.axis c.args.offset in
-    let below : c.args.axis < length l.shape = omega (arith, c.requires.axis, c.requires.small) in
-    let many = length-part l c.args.axis c.args.offset in
-    let so_far = c.loop-k.invariant in
     let grows = c.in_ok-k.ensures.grows in
-    let more = sends-grown _ _ c.loop-k.out.items c.push_run.new.out.items c.args.out.now.items _ (opened f l.shape c.args.axis (c.loop-k.k + c.in_ok-k.field-0) offsets) grows.2 so_far.sent grows.3 grows.4 in
+    let more = sends-grown _ _ _ _ c.args.out.now.items _ _ grows.2 c.loop-k.invariant.sent grows.3 grows.4 in
     let p = err_from_is_err_and c.from_residual-in_err-send_band.result c.from_residual-in_err-send_band.ensures.1 in
     let part = c.in_err-send_band.ensures.err in
-    rw p.1 (sends-cut f l.shape c.args.axis (c.loop-k.k + c.in_ok-k.field-0) offsets _ _ _ c.args.out.now.items below grows.0 many (sends-then _ _ _ _ _ _ more part.1))
+    rw p.1 (cut _ c.args.bands.now.layout.now c.args.axis c.args.offset _ _ _ _ c.requires.axis c.requires.small (c.loop-k.k + c.in_ok-k.field-0) _ grows.0 (sends-then _ _ _ _ _ _ more part.1))
 
 pub returns-in_err-push_lead-clause-err : goal.returns-in_err-push_lead-clause-err
 returns-in_err-push_lead-clause-err g t c =
-    let l = c.args.bands.now.layout.now in
-    let f = shown c.args.bands.now.items.descr.now c.args.bands.now.items.widths.now c.args.bands.now.items.block.now in
-    let offsets = part_offsets l c.args.axis c.args.offset in
-    let below : c.args.axis < length l.shape = omega (arith, c.requires.axis, c.requires.small) in
-    let many = length-part l c.args.axis c.args.offset in
-    let so_far = c.loop-k.invariant in
     let p = err_from_is_err_and c.from_residual-in_err-push_lead.result c.from_residual-in_err-push_lead.ensures.1 in
-    rw p.1 (sends-cut f l.shape c.args.axis c.loop-k.k offsets _ _ _ c.args.out.now.items below so_far.within many so_far.sent)
+    rw p.1 (cut _ c.args.bands.now.layout.now c.args.axis c.args.offset _ _ _ _ c.requires.axis c.requires.small c.loop-k.k _ c.loop-k.invariant.within c.loop-k.invariant.sent)
 
 pub step_along-next-requires-clause-start : goal.step_along-next-requires-clause-start
 step_along-next-requires-clause-start g t c =
@@ -98,39 +71,19 @@ send_block-requires g t c κs lives =
 pub returns-in_err-send_block-clause-err : goal.returns-in_err-send_block-clause-err
 returns-in_err-send_block-clause-err g t c =
     let l = c.args.bands.now.layout.now in
-    let f = shown c.args.bands.now.items.descr.now c.args.bands.now.items.widths.now c.args.bands.now.items.block.now in
-    let offsets = part_offsets l c.args.axis c.args.offset in
-    let below : c.args.axis < length l.shape = omega (arith, c.requires.axis, c.requires.small) in
-    let many = length-part l c.args.axis c.args.offset in
-    let so_far = c.loop-k.invariant in
     let low : c.loop-k.k < get_or l.shape c.args.axis 0 = omega (arith, c.loop-k-test.true, ap (λ s. get_or s c.args.axis 0) c.as_slice-lengths.ensures.value) in
     let is : pos c.step_along-next.result ≡ pos c.args.offset +ℤ get_or l.strides c.args.axis (pos 0) *ℤ pos c.loop-k.k = c.step_along-next.ensures ∙ ap (λ s. pos c.args.offset +ℤ get_or s c.args.axis (pos 0) *ℤ pos c.loop-k.k) c.as_slice-strides.ensures in
-    let text = block_text (c.args.axis + 1) (drop (c.args.axis + 1) l.shape) in
-    let one = text (map f (part_offsets l (c.args.axis + 1) c.step_along-next.result)) in
-    let led = lead c.loop-k.k (separator c.args.axis (length l.shape - c.args.axis - 1)) in
-    let leads = c.in_ok-push_lead.ensures.ok ∙ ap (λ m. c.loop-k.out.items ++ lead c.loop-k.k (separator c.args.axis (m - c.args.axis - 1))) (ap length c.as_slice-lengths.ensures.value) in
-    let more = sends-grown _ _ c.loop-k.out.items (c.push_lead.new.out.items ++ one) c.args.out.now.items _ (opened f l.shape c.args.axis (c.loop-k.k + 1) offsets) (led ++ one) so_far.sent (ap (λ o. o ++ one) leads ∙ append_assoc c.loop-k.out.items led one)
-    (opened-next f l.shape c.args.axis c.loop-k.k offsets ∙ ap (λ os. opened f l.shape c.args.axis c.loop-k.k offsets ++ (led ++ text (map f os))) (part-block l c.args.axis c.args.offset _ _ below c.requires.part c.loop-k.k c.step_along-next.result low is)) in
+    let more = one-more _ l c.args.axis c.args.offset _ _ _ _ c.requires.axis c.requires.small c.loop-k.k c.step_along-next.result _ _ _ _ _ low c.requires.part is c.as_slice-lengths.ensures.value c.loop-k.invariant.sent c.in_ok-push_lead.ensures.ok in
     let p = err_from_is_err_and c.from_residual-in_err-send_block.result c.from_residual-in_err-send_block.ensures.1 in
     let part = c.in_err-send_block.ensures.err in
-    rw p.1 (sends-cut f l.shape c.args.axis (c.loop-k.k + 1) offsets _ _ _ c.args.out.now.items below (omega (arith, low)) many (sends-then _ _ _ _ _ _ more part.1))
+    rw p.1 (cut _ c.args.bands.now.layout.now c.args.axis c.args.offset _ _ _ _ c.requires.axis c.requires.small (c.loop-k.k + 1) _ (omega (arith, low)) (sends-then _ _ _ _ _ _ more part.1))
 
 pub loop-k-preserved : goal.loop-k-preserved
 loop-k-preserved g t c =
     let l = c.args.bands.now.layout.now in
-    let f = shown c.args.bands.now.items.descr.now c.args.bands.now.items.widths.now c.args.bands.now.items.block.now in
-    let offsets = part_offsets l c.args.axis c.args.offset in
-    let below : c.args.axis < length l.shape = omega (arith, c.requires.axis, c.requires.small) in
-    let many = length-part l c.args.axis c.args.offset in
-    let so_far = c.loop-k.invariant in
     let low : c.loop-k.k < get_or l.shape c.args.axis 0 = omega (arith, c.loop-k-test.true, ap (λ s. get_or s c.args.axis 0) c.as_slice-lengths.ensures.value) in
     let is : pos c.step_along-next.result ≡ pos c.args.offset +ℤ get_or l.strides c.args.axis (pos 0) *ℤ pos c.loop-k.k = c.step_along-next.ensures ∙ ap (λ s. pos c.args.offset +ℤ get_or s c.args.axis (pos 0) *ℤ pos c.loop-k.k) c.as_slice-strides.ensures in
-    let text = block_text (c.args.axis + 1) (drop (c.args.axis + 1) l.shape) in
-    let one = text (map f (part_offsets l (c.args.axis + 1) c.step_along-next.result)) in
-    let led = lead c.loop-k.k (separator c.args.axis (length l.shape - c.args.axis - 1)) in
-    let leads = c.in_ok-push_lead.ensures.ok ∙ ap (λ m. c.loop-k.out.items ++ lead c.loop-k.k (separator c.args.axis (m - c.args.axis - 1))) (ap length c.as_slice-lengths.ensures.value) in
-    let more = sends-grown _ _ c.loop-k.out.items (c.push_lead.new.out.items ++ one) c.args.out.now.items _ (opened f l.shape c.args.axis (c.loop-k.k + 1) offsets) (led ++ one) so_far.sent (ap (λ o. o ++ one) leads ∙ append_assoc c.loop-k.out.items led one)
-    (opened-next f l.shape c.args.axis c.loop-k.k offsets ∙ ap (λ os. opened f l.shape c.args.axis c.loop-k.k offsets ++ (led ++ text (map f os))) (part-block l c.args.axis c.args.offset _ _ below c.requires.part c.loop-k.k c.step_along-next.result low is)) in
+    let more = one-more _ l c.args.axis c.args.offset _ _ _ _ c.requires.axis c.requires.small c.loop-k.k c.step_along-next.result _ _ _ _ _ low c.requires.part is c.as_slice-lengths.ensures.value c.loop-k.invariant.sent c.in_ok-push_lead.ensures.ok in
     record {
       sent = sends-then _ _ _ _ _ _ more c.in_ok-send_block.ensures.ok;
       within = omega (arith, low);
@@ -139,22 +92,10 @@ loop-k-preserved g t c =
 
 pub returns-in_err-extend_from_slice-2-clause-err : goal.returns-in_err-extend_from_slice-2-clause-err
 returns-in_err-extend_from_slice-2-clause-err g t c =
-    let l = c.args.bands.now.layout.now in
-    let f = shown c.args.bands.now.items.descr.now c.args.bands.now.items.widths.now c.args.bands.now.items.block.now in
-    let offsets = part_offsets l c.args.axis c.args.offset in
-    let below : c.args.axis < length l.shape = omega (arith, c.requires.axis, c.requires.small) in
-    let many = length-part l c.args.axis c.args.offset in
-    let so_far = c.loop-k.invariant in
     let p = err_from_is_err_and c.from_residual-in_err-extend_from_slice-2.result c.from_residual-in_err-extend_from_slice-2.ensures.1 in
-    rw p.1 (sends-cut f l.shape c.args.axis c.loop-k.k offsets _ _ _ c.args.out.now.items below so_far.within many so_far.sent)
+    rw p.1 (cut _ c.args.bands.now.layout.now c.args.axis c.args.offset _ _ _ _ c.requires.axis c.requires.small c.loop-k.k _ c.loop-k.invariant.within c.loop-k.invariant.sent)
 
 pub returns-clause-ok : goal.returns-clause-ok
 returns-clause-ok g t c =
-    let l = c.args.bands.now.layout.now in
-    let f = shown c.args.bands.now.items.descr.now c.args.bands.now.items.widths.now c.args.bands.now.items.block.now in
-    let offsets = part_offsets l c.args.axis c.args.offset in
-    let below : c.args.axis < length l.shape = omega (arith, c.requires.axis, c.requires.small) in
-    let many = length-part l c.args.axis c.args.offset in
-    let so_far = c.loop-k.invariant in
-    let all : c.loop-k.k ≡ get_or l.shape c.args.axis 0 = omega (arith, c.loop-k-test.false, so_far.within, ap (λ s. get_or s c.args.axis 0) c.as_slice-lengths.ensures.value) in
-    sends-grown _ _ _ _ c.args.out.now.items _ _ (codes "]") so_far.sent c.in_ok-extend_from_slice-2.ensures.items (sym (opened-end f l.shape c.args.axis c.loop-k.k offsets below all many))
+    let whole : c.loop-k.k ≡ get_or c.args.bands.now.layout.now.shape c.args.axis 0 = omega (arith, c.loop-k-test.false, c.loop-k.invariant.within, ap (λ s. get_or s c.args.axis 0) c.as_slice-lengths.ensures.value) in
+    ended _ c.args.bands.now.layout.now c.args.axis c.args.offset _ _ _ _ c.requires.axis c.requires.small c.loop-k.k _ _ whole c.loop-k.invariant.sent c.in_ok-extend_from_slice-2.ensures.items
