@@ -8,14 +8,15 @@ use Rattle.std.proofs.lemmas.List.Elements.{All-nil}
 use Rattle.std.proofs.lemmas.List.Sums.{sum_by-append}
 use Rattle.std.proofs.lemmas.List.{append-nil, map-append}
 use Rattle.std.proofs.lemmas.Grind.{flat_map-append}
-use Rattle.bench_engine.specs.Words.{State, StoreState}
+use Rattle.bench_engine.specs.Words.{State, StoreState, appends_nothing, appends_then, Sends}
 use Rattle.bench_engine.specs.declared.session.Session.{Session}
 use Rattle.bench_engine.specs.Replies.{Reply}
 use Rattle.bench_engine.specs.Steps.{World, world}
-use Rattle.bench_engine.specs.Headline.{AnswersLine, Run, IsUnbroken, trimmed, output, reply_line, accepted_count, refused_count, AnswersInPart}
+use Rattle.bench_engine.specs.Headline.{AnswersLine, meaning_of, Run, IsUnbroken, trimmed, output, reply_line, accepted_count, refused_count, AnswersInPart}
 use Rattle.bench_engine.specs.Sessions.{HoldsPiece, HoldsBytes, HasTold, Fed, FedInPart, Ends, EndsInPart}
+use Rattle.bench_engine.specs.inside.Printing.{AsksToPrint, MayPrint}
 use Rattle.bench_engine.specs.inside.Sessions.{Told, ToldInPart, AnswersHeld}
-use Rattle.bench_engine.proofs.Known.{appends_then, appends_nothing}
+use Rattle.bench_engine.proofs.Steps.{answered_weaker}
 use Rattle.bench_engine.proofs.Lines.{splits, splits-one, splits-more, splits-then, splits-on, lines-one, lines-none}
 
 count_by-append : (p : Reply → Bool) (xs ys : List Reply) → count_by p (xs ++ ys) ≡ count_by p xs + count_by p ys
@@ -46,6 +47,37 @@ told-in-part shelf shelf' old new (Some accepted) written written' some held par
   broken = ap (λ text. text ++ 10 ∷ []) (sym held.tells.3) ∙ part.2;
   some_missing = part.3;
   sent = part.4;
+}
+
+-- a reply that has gone out but for a rest, which follows with a newline; and one of which the rest is cut
+sent-line : (w w' w'' : Option (List ℕ)) (rest text : List ℕ) → Sends w w' rest text → Appends w' w'' (rest ++ 10 ∷ []) → Appends w w'' (text ++ 10 ∷ [])
+sent-line w w' w'' rest text sent more =
+    subst (Appends w w'') (sym (append_assoc sent.0 rest (10 ∷ [])) ∙ ap (λ t. t ++ 10 ∷ []) (sym sent.1)) (appends_then w w' w'' sent.0 (rest ++ 10 ∷ []) sent.2 more)
+
+counted : (reply : Reply) (accepted : Bool) → reply.accepted ≡ accepted → (accepted_count (reply ∷ []) ≡ cond accepted 1 0) × (refused_count (reply ∷ []) ≡ cond accepted 0 1)
+counted reply true is = rw is (refl, refl)
+counted reply false is = rw is (refl, refl)
+
+pub told-print : (shelf : StoreState) (old new : Session) (name : List ℕ) (w w' w'' : Option (List ℕ)) (rest : List ℕ) (reply : Reply) (accepted : Bool) → new.bench.state ≡ old.bench.state → ((piece : List ℕ) → HoldsPiece old.line piece → AsksToPrint name (meaning_of (trimmed piece))) → MayPrint old.bench.state name reply →
+    Sends w w' rest reply.text → Appends w' w'' (rest ++ 10 ∷ []) → reply.accepted ≡ accepted → new.accepted ≡ old.accepted + cond accepted 1 0 → new.refused ≡ old.refused + cond accepted 0 1 → Told (world old.bench.state shelf) (world new.bench.state shelf) w w'' old new
+told-print shelf old new name w w' w'' rest reply accepted same asks may sent more is more_accepted more_refused = record {
+  replies = reply ∷ [];
+  answers = λ piece holds. subst (λ (s : State). AnswersLine (world old.bench.state shelf) (trimmed piece) (world s shelf) (reply ∷ [])) (sym same) (answered_weaker _ _ _ _ reply (asks piece holds) (may shelf));
+  sent = subst (Appends w w'') (sym (append-nil (reply.text ++ 10 ∷ []))) (sent-line w w' w'' rest reply.text sent more);
+  accepted = more_accepted ∙ ap (λ n. old.accepted + n) (sym (counted reply accepted is).0);
+  refused = more_refused ∙ ap (λ n. old.refused + n) (sym (counted reply accepted is).1);
+}
+
+pub cut-print : (shelf : StoreState) (old new : Session) (name : List ℕ) (w w' : Option (List ℕ)) (gone missing : List ℕ) (reply : Reply) → new.bench.state ≡ old.bench.state → ((piece : List ℕ) → HoldsPiece old.line piece → AsksToPrint name (meaning_of (trimmed piece))) → MayPrint old.bench.state name reply →
+    reply.text ++ 10 ∷ [] ≡ gone ++ missing → 0 < length missing → Appends w w' gone → ToldInPart (world old.bench.state shelf) (world new.bench.state shelf) w w' old
+cut-print shelf old new name w w' gone missing reply same asks may broken some sent = record {
+  reply = reply;
+  answers = λ piece holds. subst (λ (s : State). AnswersLine (world old.bench.state shelf) (trimmed piece) (world s shelf) (reply ∷ [])) (sym same) (answered_weaker _ _ _ _ reply (asks piece holds) (may shelf));
+  gone = gone;
+  missing = missing;
+  broken = broken;
+  some_missing = some;
+  sent = sent;
 }
 
 -- two runs in a row

@@ -1,10 +1,17 @@
 -- Names that are looked up, and what is answered of their arrays.
-use Rattle.std.proofs.Common.{◌≡◌, ℕ, true, List, length, refl, sym, ap, ◌∙◌, take_all, Option, Some, None, Err, is_some, arith}
+use Rattle.std.proofs.Common.{◌≡◌, ℕ, true, List, [], Ok, length, refl, sym, ap, subst, ◌∙◌, take_all, Option, Some, None, Err, is_some, arith}
 use Rattle.std.specs.Io.{StartsWith}
-use Rattle.bench_engine.specs.Words.{UnknownName, Descr, offsets, array_text, items_from, State, find_array, is_bound, descr_of, read, Finds, Shows, ArrayRef}
+use Rattle.bench_engine.specs.Words.{UnknownName, Refusal, Ask, Print, Descr, offsets, array_text, items_from, State, find_array, is_bound, descr_of, read, Finds, Shows, ArrayRef}
 use Rattle.name_store.specs.States.{Array}
-use Rattle.bench_engine.specs.Replies.{format_text}
-use Rattle.bench_engine.specs.Machine.{print_outcome, format_outcome, accepted_with}
+use Rattle.script_lang.specs.declared.command.Question.TheVariants as question
+use Rattle.std.proofs.Math.Bool.{and-true}
+use Rattle.bench_engine.specs.Replies.{format_text, refusal}
+use Rattle.bench_engine.specs.Steps.{world}
+use Rattle.bench_engine.specs.Memory.{may_lack_memory, MayAnswer}
+use Rattle.bench_engine.specs.inside.Contract.{IsRefused}
+use Rattle.bench_engine.specs.inside.Printing.{MayPrint}
+use Rattle.bench_engine.proofs.Steps.{spare, carried}
+use Rattle.bench_engine.specs.Machine.{question_outcome, print_outcome, format_outcome, accepted_with}
 
 -- what has not changed
 pub unchanged : (xs : List ℕ) → StartsWith xs xs
@@ -32,6 +39,17 @@ pub print-found : (s : State) (name : List ℕ) (a : Array) (r : ArrayRef) → f
 print-found s name a r is shows =
     print-done s name a is
     ∙ λ i. accepted_with s (array_text (shows.descr i) (sym shows.view.laid.shape i) (shows.reads i))
+
+-- what is printed, and what is refused
+pub may-print : (s : State) (name text : List ℕ) → print_outcome s name ≡ accepted_with s text → MayPrint s name (record { text = text; accepted = true })
+may-print s name text is shelf =
+    let any = spare s in
+    let done = carried s s shelf (may_lack_memory s (Ask (Print name))) (λ choice. question_outcome s (question.Print name)) [] text (Ok tt) (any.0, any.1, text, is, refl) in
+    subst (λ (t : List ℕ). MayAnswer (world s shelf) (Ask (Print name)) (world s shelf) (record { text = t; accepted = true })) (sym done.2) done.1
+
+pub may-refuse : (s : State) (name : List ℕ) (r : Refusal) → IsRefused (is_bound s name) (λ choice. print_outcome s name) r → MayPrint s name (refusal r)
+may-refuse s name r is shelf =
+    (carried s s shelf (may_lack_memory s (Ask (Print name))) (λ choice. question_outcome s (question.Print name)) [] [] (Err r) (refl, unchanged [], rw and-true is)).1
 
 -- format
 pub format-unknown : (s : State) (name : List ℕ) → find_array s.names name ≡ None → format_outcome s name ≡ Err UnknownName

@@ -12,7 +12,8 @@ use Rattle.bench_engine.specs.Headline.{AreLines, AreWholeLines, Outside, first_
 use Rattle.bench_engine.specs.inside.Sessions.{Ended, Reading, Turned}
 use Rattle.std.proofs.lemmas.List.Elements.{All-nil}
 use Rattle.bench_engine.proofs.Lines.{splits-one, lines-front}
-use Rattle.bench_engine.proofs.Known.{all_read, appends_nothing}
+use Rattle.bench_engine.specs.Words.{appends_nothing}
+use Rattle.bench_engine.proofs.Known.{all_read}
 
 known : (a b : Option (List ℕ)) (script : List ℕ) → Consumes a b script → IsAtEnd b → IfSome a (λ bytes. script ≡ bytes)
 known None b script read ended = tt

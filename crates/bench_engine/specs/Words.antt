@@ -66,6 +66,7 @@ pub use Rattle.script_lang.specs.Reading.{MayLackRoom, Says, parts_take_memory}
 pub use Rattle.script_lang.specs.declared.command.Argument.{Argument}
 pub use Rattle.script_lang.specs.declared.command.Command.{Command}
 pub use Rattle.script_lang.specs.declared.command.Command.TheVariants.{Ask, Bind, Delete, Save, Set}
+pub use Rattle.script_lang.specs.declared.command.Question.TheVariants.{Print}
 pub use Rattle.script_lang.specs.declared.command.Command.TheVariants.{Undo, Update}
 pub use Rattle.script_lang.specs.declared.command.Computation.{Computation}
 pub use Rattle.script_lang.specs.declared.command.Computation.TheVariants.{Cast, Combine, Duplicate}
@@ -114,6 +115,8 @@ unfoldable pub use Rattle.literal_items.specs.LiteralItems.{item_value, item_val
 pub use Rattle.literal_items.specs.RangeItems.{range_count}
 unfoldable pub use Rattle.literal_items.specs.RangeItems.{range_items}
 pub use Rattle.array_print.specs.Printed.{array_text, items_from}
+pub use Rattle.array_print.specs.Sending.{Sends, SendsPart}
+pub use Rattle.array_print.specs.SendingLaws.{appends_nothing, appends_then, rest_of, sends-none}
 pub use Rattle.array_print.specs.StartLaws.{StartsWith-trans}
 pub use Rattle.elementwise.specs.Casts.{can_cast, cast_item}
 pub use Rattle.elementwise.specs.Promotion.{literal_type}

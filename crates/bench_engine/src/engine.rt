@@ -139,7 +139,7 @@ pub fn execute<N: NpyStore>(
 }
 
 /// What a line says.
-fn read_line(alloc: Global, line: Line<'_>) -> Result<Option<Command>, Refusal>
+pub fn read_line(alloc: Global, line: Line<'_>) -> Result<Option<Command>, Refusal>
     ensures { ReadsAs result (meaning_of_read line.entry) }
 {
     let Line::Held(bytes) = line else {

@@ -9,6 +9,7 @@ mod engine;
 mod files;
 mod index_list;
 mod operate;
+mod printing;
 mod replies;
 pub mod runner;
 mod session;
@@ -17,6 +18,7 @@ mod update;
 mod view;
 mod write;
 
+pub use array_print::WriteFault;
 pub use engine::{MAX_REFUSAL_LEN, answer, execute};
 pub use runner::{RunFault, ScriptSource, run};
-pub use session::{Session, Summary, WriteFault};
+pub use session::{Session, Summary};

@@ -5,7 +5,8 @@ ghost use Rattle.bench_engine.specs.Headline.{Outside, outside, ReadsInTime, Com
 ghost use Rattle.bench_engine.specs.inside.Sessions.{Reading, Turned};
 ghost use Rattle.bench_engine.specs.declared.runner.RunFault.TheVariants.{Write, Memory};
 
-use crate::session::{Session, Summary, WriteFault};
+use crate::session::{Session, Summary};
+use array_print::WriteFault;
 use npy_files::NpyStore;
 use std::alloc::{AllocError, Global};
 use std::io::{Read, Write};

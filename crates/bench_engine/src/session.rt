@@ -4,32 +4,13 @@ ghost use Rattle.std.specs.Io.KnownBytes.{Appends};
 ghost use Rattle.std.specs.List.{position};
 
 use crate::engine::{MAX_REFUSAL_LEN, answer_read};
+use crate::printing::{asks_to_print, print};
+use array_print::{WriteFault, send};
+use elem_descr::Name;
 use name_store::Bench;
 use npy_files::NpyStore;
 use std::alloc::{AllocError, Global};
 use std::io::Write;
-use thiserror::Error;
-
-/// A write failed or took nothing.
-#[derive(Clone, Copy, Debug, PartialEq, Eq, Error)]
-#[error("write fault")]
-pub struct WriteFault;
-
-/// Writes all of the bytes; after a fault some first ones, not all, have gone out.
-fn send<W: Write>(writer: &mut W, bytes: &[u8]) -> Result<(), WriteFault>
-    ensures ok { OnOk result (Appends (W.contents writer.old) (W.contents writer.new) bytes.now) }
-    ensures err { OnErr result ((gone missing : List ℕ) × (bytes.now ≡ gone ++ missing)
-        × (0 < length missing) × Appends (W.contents writer.old) (W.contents writer.new) gone) }
-{
-    let mut rest = bytes;
-    while !rest.is_empty() {
-        match writer.write(rest) {
-            Ok(0) | Err(_) => return Err(WriteFault),
-            Ok(n) => rest = &rest[n..],
-        }
-    }
-    Ok(())
-}
 
 /// Writes a text and a newline: in one piece where the room of the text has a byte left.
 fn send_line<W: Write>(writer: &mut W, text: &mut Vec<u8>) -> Result<(), WriteFault>
@@ -148,7 +129,9 @@ pub struct Session {
 
 impl Session {
     ghost use Rattle.bench_engine.specs.Steps.{World, world};
-    ghost use Rattle.bench_engine.specs.Headline.{IsUnbroken};
+    ghost use Rattle.bench_engine.specs.Words.{StoreState};
+    ghost use Rattle.bench_engine.specs.Headline.{IsUnbroken, trimmed, meaning_of};
+    ghost use Rattle.bench_engine.specs.inside.Printing.{AsksToPrint};
     ghost use Rattle.bench_engine.specs.Sessions.{HoldsPiece, Fed, FedInPart, Feeds, Ends, EndsInPart, IsNew};
     ghost use Rattle.bench_engine.specs.inside.Sessions.{Told, ToldInPart, AnswersHeld};
 
@@ -172,6 +155,32 @@ impl Session {
         answered
     }
 
+    /// Answers the line, which asks to print the array of a name, begins the next one, and sends
+    /// the reply as it is made.
+    fn send_print<W: Write>(&mut self, writer: &mut W, name: &Name) -> Result<(), WriteFault>
+        requires few { self.old.accepted + self.old.refused < 2 ^ 50 }
+        requires asked { (piece : List ℕ) → HoldsPiece self.old.line piece
+            → AsksToPrint name.now (meaning_of (trimmed piece)) }
+        ensures next { HoldsPiece self.new.line [] }
+        ensures few { self.new.accepted + self.new.refused
+            ≤ self.old.accepted + self.old.refused + 1 }
+        ensures ok { OnOk result ((shelf : StoreState) →
+            Told (world self.old.bench.state shelf) (world self.new.bench.state shelf)
+            (W.contents writer.old) (W.contents writer.new) self.old self.new) }
+        ensures err { OnErr result ((shelf : StoreState) →
+            ToldInPart (world self.old.bench.state shelf) (world self.new.bench.state shelf)
+            (W.contents writer.old) (W.contents writer.new) self.old) }
+    {
+        self.out.clear();
+        self.line.clear();
+        if print(&self.bench, name, writer, &mut self.out)? {
+            self.accepted += 1;
+        } else {
+            self.refused += 1;
+        }
+        send_line(writer, &mut self.out)
+    }
+
     /// Answers the line, begins the next one, and sends the reply.
     fn finish_line<W: Write, N: NpyStore>(
         &mut self,
@@ -191,6 +200,10 @@ impl Session {
             (world self.new.bench.state (N.shelf store.new)) (W.contents writer.old)
             (W.contents writer.new) self.old) }
     {
+        let alloc = *self.out.allocator();
+        if let Some(name) = asks_to_print(alloc, self.line.line()) {
+            return self.send_print(writer, &name);
+        }
         if self.answer_line(store).is_none() {
             return Ok(());
         }

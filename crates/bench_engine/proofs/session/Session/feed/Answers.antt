@@ -2,7 +2,7 @@ use Rattle.std.proofs.Common.{◌≡◌, ◌++◌, ◌+◌, ◌∷◌, [], List,
 use Rattle.std.proofs.lemmas.List.{append-nil}
 use Rattle.std.proofs.lemmas.Result.{err_from_is_err_and}
 use Rattle.bench_engine.proofs.Feeding.{fed-nothing, fed-piece, fed_along, fed_in_part_along}
-use Rattle.bench_engine.proofs.Known.{rest_of}
+use Rattle.bench_engine.specs.Words.{rest_of}
 use Rattle.bench_engine.proofs.Lines.{first_newline, no_newline, newline_in_rest}
 use Rattle.bench_engine.proofs.session.Session.feed.Goals as goal
 
