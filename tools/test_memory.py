@@ -5,10 +5,11 @@ This needs a C compiler, for the `malloc` that refuses. `tools/try hostile memor
 import pathlib
 import re
 import shutil
+import subprocess
 import tempfile
 import unittest
 
-from trials.companion_trials import PROGRAM, needs_compiler, needs_program
+from trials.companion_trials import PROGRAM, needs_compiler, needs_program, works
 from trials import memory
 from trials.lines import own_scripts
 from trials.runs import Part, Runner, compiled
@@ -40,6 +41,28 @@ class RefusedMemory(unittest.TestCase):
         verb = re.compile(rb"(?:\w+ = )?([a-z]+)\b")
         reached = {found[1].decode() for script in own_scripts() for line in script.lines if (found := verb.match(line))}
         self.assertLessEqual(COMMANDS, reached)
+
+
+@needs_program
+class LittleMemory(unittest.TestCase):
+    """Lines that hold little beside their arrays and their result, tried with little memory."""
+
+    def last_reply(self, kilobytes, *lines):
+        limited = ["sh", "-c", f'ulimit -v {kilobytes}; exec "$@"', "sh", PROGRAM]
+        if not works(*limited):
+            self.skipTest("left out: the program does not start with as little memory")
+        replies = subprocess.run(limited, input="\n".join(lines).encode(), capture_output=True).stdout
+        return replies[replies.rindex(b"\n", 0, -1) + 1 :]
+
+    def test_a_long_print_is_sent_as_it_is_made(self):
+        """32 MB of text, with 20 MB of memory for all."""
+        last = self.last_reply(20_000, "a = zeros |u1 (1)", "b = broadcast a (4096,4096)", "print b")
+        self.assertEqual(last, b" [" + b" ".join([b"0"] * 4096) + b"]]\n")
+
+    def test_index_arrays_are_added_one_at_a_time(self):
+        """The result is 4 MB. Each place has a number of 4 bytes, and one more while an array is read."""
+        last = self.last_reply(70_000, "z = zeros <i4 (1)", "i = broadcast z (4194304)", "a = zeros |u1 (1,1,1,1,1,1,1,1)", "x = a[i,i,i,i,i,i,i,i]")
+        self.assertEqual(last, b"ok x |u1 (4194304,) copy\n")
 
 
 if __name__ == "__main__":

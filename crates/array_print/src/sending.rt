@@ -12,6 +12,8 @@ use thiserror::Error;
 #[error("write fault")]
 pub struct WriteFault;
 
+/// All room that a text needs is asked for before its first byte goes out. If it were not enough, the
+/// reply would end as it does where a write fails.
 impl From<AllocError> for WriteFault {
     fn from(_error: AllocError) -> WriteFault {
         WriteFault

@@ -14,13 +14,13 @@ use script_lang::{Command, Question, word};
 use std::alloc::Global;
 use std::io::Write;
 
-/// Whether the first word of a line begins as `print` does.
+/// Whether the first word of a line begins with `print`: other lines are read once.
 fn may_print(line: Line<'_>) -> bool {
     let Line::Held(bytes) = line else {
         return false;
     };
     let start = bytes.iter().position(|byte| *byte > b' ').unwrap_or(0);
-    bytes.get(start) == Some(&b'p')
+    bytes[start..].starts_with(b"print")
 }
 
 /// The name whose array a line asks to print. Of a line that does not ask for that, or cannot be
