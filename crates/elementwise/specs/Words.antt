@@ -66,11 +66,9 @@ pub use Rattle.shape_strides.specs.Layouts.{multiples}
 unfoldable pub use Rattle.shape_strides.specs.Layouts.{offsets}
 pub use Rattle.shape_strides.specs.Limits.{max_bytes}
 pub use Rattle.shape_strides.specs.PlaceLaws.{fits-offsets}
-pub use Rattle.shape_strides.specs.Shapes.{IsShape}
 pub use Rattle.shape_strides.specs.ReverseLaws.{IsIndex-reverse, count-reverse}
 unfoldable pub use Rattle.shape_strides.specs.RunPairs.{run_pairs}
 pub use Rattle.shape_strides.specs.Runs.{run_offsets}
-pub use Rattle.shape_strides.specs.ShapeLaws.{shape_of-ok, shape_of-same}
 pub use Rattle.shape_strides.specs.WalkLaws.{length-run_offsets}
 pub use Rattle.shape_strides.specs.declared.layout.Layout.{Layout}
 pub use Rattle.shape_strides.specs.declared.run_pairs.RunPair.{RunPair}
@@ -79,10 +77,10 @@ pub use Rattle.machine_numbers.specs.Bits.{AreBits}
 pub use Rattle.machine_numbers.specs.Kinds.{is_bool, is_signed, is_text, little}
 pub use Rattle.machine_numbers.specs.Sides.{item_in, number_of_side}
 pub use Rattle.machine_numbers.specs.declared.sides.Side.{Side}
-pub use Rattle.view_ops.specs.Views.{GivesView, IsViewOf, View, view_through}
+pub use Rattle.view_ops.specs.Views.{IsViewOf, View, view_through}
 pub use Rattle.broadcasting.specs.BroadcastLaws.{IsIndex-broadcast, can-itself, stretched-self}
 pub use Rattle.broadcasting.specs.Broadcasts.{all_stretch, broadcast_index, can_stretch}
-unfoldable pub use Rattle.broadcasting.specs.Broadcasts.{common_shape, stretched}
+unfoldable pub use Rattle.broadcasting.specs.Broadcasts.{common_shape}
 pub use Rattle.broadcasting.specs.Shrinking.{IsStretchOf}
 pub use Rattle.arrays.specs.Assignments.{items_at, with_items}
 pub use Rattle.arrays.specs.Blocks.{offsets_in}
