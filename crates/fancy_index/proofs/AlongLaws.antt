@@ -1,10 +1,10 @@
 -- The items along axes from one on, where the other numbers of their index stay.
-use Rattle.std.proofs.Common.{◌≡◌, Ok, ℕ, ◌+◌, ◌<◌, ◌≤◌, ◌≤ℤ◌, List, [], ◌∷◌, ◌++◌, map, length, get_or, take, drop, All, refl, sym, ap, subst, ◌∙◌, arith, length-append, length-drop, length-take-le}
+use Rattle.std.proofs.Common.{◌≡◌, ℕ, ◌+◌, ◌<◌, ◌≤◌, ◌≤ℤ◌, List, [], ◌∷◌, ◌++◌, map, length, get_or, take, drop, All, refl, sym, ap, subst, ◌∙◌, arith, length-append, length-drop, length-take-le}
 use Rattle.std.proofs.lemmas.Int.{ints}
 use Rattle.std.proofs.lemmas.List.{get_or-map, length-map}
 use Rattle.std.proofs.lemmas.List.Elements.{All-drop}
 use lib.IntN.{ℤ, pos, ◌+ℤ◌, *ℤ-zero}
-use Rattle.fancy_index.specs.Words.{Layout, max_axes, max_items, count, rank, IsIndex, dot, natural, address_at, address, offsets, pos-natural, get_or-offsets, shape_of, length-index, index_at, rank-lt, ShowsThrough}
+use Rattle.fancy_index.specs.Words.{Layout, max_axes, max_items, count, rank, IsIndex, dot, natural, address_at, address, offsets, pos-natural, get_or-offsets, IsShape, length-index, index_at, rank-lt, ShowsThrough}
 use Rattle.fancy_index.specs.inside.PointLists.{tuple}
 use Rattle.fancy_index.specs.inside.Sums.{strides_along, offset_along, BeginAt}
 use Rattle.fancy_index.proofs.CutLaws.{dot-cut, some-behind, few-behind, shape-before}
@@ -59,13 +59,12 @@ module _ (layout : Layout) (axis start : ℕ) (axes : List ℕ) (b : BeginAt lay
   }
 
   -- their lengths are a shape
-  pub axes-made : length layout.shape ≤ max_axes → All (λ n. n ≤ max_items) layout.shape → count layout.shape ≤ max_items → shape_of axes ≡ Ok axes
+  pub axes-made : length layout.shape ≤ max_axes → All (λ n. n ≤ max_items) layout.shape → count layout.shape ≤ max_items → IsShape axes
   axes-made few short small =
       let behind = drop axis layout.shape in
       let whole : 0 < count layout.shape = omega (arith, rank-lt layout.shape _ first-in) in
-      ap shape_of (sym b.stand)
-      ∙ shape-before behind (length axes) (some-behind layout.shape axis whole) (omega (arith, axes-within, length-drop axis layout.shape, layout.one_stride_an_axis)) (omega (arith, few, length-drop axis layout.shape)) (All-drop (λ n. n ≤ max_items) axis layout.shape short) (omega (arith, small, few-behind layout.shape axis whole))
-      ∙ ap Ok b.stand
+      subst IsShape b.stand
+      (shape-before behind (length axes) (some-behind layout.shape axis whole) (omega (arith, axes-within, length-drop axis layout.shape, layout.one_stride_an_axis)) (omega (arith, few, length-drop axis layout.shape)) (All-drop (λ n. n ≤ max_items) axis layout.shape short) (omega (arith, small, few-behind layout.shape axis whole)))
 
   -- the offset of a rank along them is no address below 0
   pub pos-along : (x : ℕ) → x < count axes → pos (offset_along layout axis start axes x) ≡ pos start +ℤ dot (strides_along layout axis axes) (tuple axes x)

@@ -8,7 +8,7 @@ use Rattle.std.proofs.lemmas.List.{take-append-drop}
 use Rattle.std.proofs.lemmas.List.Elements.{All-take, All-drop}
 use Rattle.std.proofs.lemmas.List.Sums.{list_all-from_AllPass}
 use lib.IntN.{ℤ, pos, ◌+ℤ◌, ◌*ℤ◌, +ℤ_idl, +ℤ_idr, +ℤ_assoc}
-use Rattle.fancy_index.specs.Words.{Refusal, OutOfMemory, same_answer, slice-rest, Layout, max_axes, max_items, max_bytes, count, IsIndex, shape_of, dot, address_at, LieWithin, address, zero_filled, factors_pos, length-index, IsIndex-append, dot-zeros, IsIndex-first, count-append, shape_of-ok, ShowsThrough, LieWithin-view}
+use Rattle.fancy_index.specs.Words.{Refusal, OutOfMemory, Layout, max_axes, max_items, max_bytes, count, IsIndex, IsShape, dot, address_at, LieWithin, address, zero_filled, factors_pos, length-index, IsIndex-append, dot-zeros, IsIndex-first, count-append, ShowsThrough, LieWithin-view}
 
 -- ---- sums
 
@@ -39,16 +39,13 @@ module _ (shape : List ℕ) (k : ℕ) (some : 0 < count shape) where
   pub few-behind : count (drop k shape) ≤ count shape
   few-behind = omega (arith, counts, mul-le-mul_right (count (drop k shape)) some-before, one-mul (count (drop k shape)))
 
-  all_short : (axes : List ℕ) → All (λ n. n ≤ max_items) axes → list_all (λ n. nat_le n max_items) axes ≡ true
-  all_short axes short = list_all-from_AllPass (λ n. nat_le n max_items) axes (λ k d below. le-leb (get_or axes k d) max_items (short k d below))
-
-  pub shape-before : k ≤ length shape → length shape ≤ max_axes → All (λ n. n ≤ max_items) shape → count shape ≤ max_items → shape_of (take k shape) ≡ Ok (take k shape)
+  pub shape-before : k ≤ length shape → length shape ≤ max_axes → All (λ n. n ≤ max_items) shape → count shape ≤ max_items → IsShape (take k shape)
   shape-before within few short small =
-      shape_of-ok (take k shape) (omega (arith, length-take-le k shape within)) (all_short (take k shape) (All-take (λ n. n ≤ max_items) k shape short)) (omega (arith, few-before))
+      record { axes = omega (arith, length-take-le k shape within); lengths = All-take (λ n. n ≤ max_items) k shape short; items = omega (arith, few-before) }
 
-  pub shape-behind : k ≤ length shape → length shape ≤ max_axes → All (λ n. n ≤ max_items) shape → count shape ≤ max_items → shape_of (drop k shape) ≡ Ok (drop k shape)
+  pub shape-behind : k ≤ length shape → length shape ≤ max_axes → All (λ n. n ≤ max_items) shape → count shape ≤ max_items → IsShape (drop k shape)
   shape-behind within few short small =
-      shape_of-ok (drop k shape) (omega (arith, length-drop k shape)) (all_short (drop k shape) (All-drop (λ n. n ≤ max_items) k shape short)) (omega (arith, few-behind))
+      record { axes = omega (arith, length-drop k shape); lengths = All-drop (λ n. n ≤ max_items) k shape short; items = omega (arith, few-behind) }
 
   pub IsIndex-whole : (i j : List ℕ) → IsIndex (take k shape) i → IsIndex (drop k shape) j → IsIndex shape (i ++ j)
   IsIndex-whole i j in-i in-j = subst (λ (s : List ℕ). IsIndex s (i ++ j)) whole (IsIndex-append (take k shape) (drop k shape) i j in-i in-j)
@@ -108,11 +105,3 @@ module _ (rest : Layout) (k : ℕ) (within : k ≤ length rest.shape) (some : 0 
 
   pub strides-behind : length (drop k rest.strides) ≡ length (drop k rest.shape)
   strides-behind = omega (arith, length-drop k rest.strides, length-drop k rest.shape, rest.one_stride_an_axis)
-
-pub made-before : (shape seen made : List ℕ) (k : ℕ) → 0 < count shape → k ≤ length shape → length shape ≤ max_axes → All (λ n. n ≤ max_items) shape → count shape ≤ max_items → seen ≡ shape → shape_of (take k seen) ≡ Ok made → made ≡ take k shape
-made-before shape seen made k some within few short small is there =
-    same_answer made (take k shape) (sym there ∙ ap (λ s. shape_of (take k s)) is ∙ shape-before shape k some within few short small)
-
-pub made-behind : (shape seen made : List ℕ) (k : ℕ) → 0 < count shape → k ≤ length shape → length shape ≤ max_axes → All (λ n. n ≤ max_items) shape → count shape ≤ max_items → seen ≡ shape → shape_of (take (length seen - k) (drop k seen)) ≡ Ok made → made ≡ drop k shape
-made-behind shape seen made k some within few short small is there =
-    same_answer made (drop k shape) (sym there ∙ ap shape_of (slice-rest k seen ∙ ap (drop k) is) ∙ shape-behind shape k some within few short small)

@@ -1,15 +1,14 @@
 -- Lengths that are a shape: those in the middle of a shape with items, and those that stretch to one.
-use Rattle.std.proofs.Common.{◌≡◌, Result, Ok, Err, ℕ, zero, suc, ◌-◌, ◌*◌, ◌<◌, ◌≤◌, true, List, [], ◌∷◌, ◌++◌, length, get_or, take, drop, replicate, All, sym, ap, subst, ◌∙◌, arith, length-append, mul-le-mul_right, one-mul}
-use Rattle.std.specs.Result.{IfOk, IfErr}
+use Rattle.std.proofs.Common.{◌≡◌, ℕ, zero, suc, ◌-◌, ◌*◌, ◌<◌, ◌≤◌, true, List, [], ◌∷◌, ◌++◌, length, get_or, take, drop, replicate, All, sym, ap, subst, ◌∙◌, arith, length-append, mul-le-mul_right, one-mul}
 use Rattle.std.proofs.Math.Nat.{mul-le-mul}
 use Rattle.std.proofs.Math.Seq.{take-append_seam, drop-append_seam}
 use Rattle.std.proofs.lemmas.Bool.{false≢true, and_parts}
 use Rattle.std.proofs.lemmas.Bool.Decides.{nat_tests}
 use Rattle.std.proofs.lemmas.List.Elements.{All-head, All-tail, All-cons, All-nil, All-take, All-drop}
 use Rattle.std.proofs.lemmas.List.FromFn.{get_or-map-range_with_len}
-use Rattle.fancy_index.specs.Words.{Refusal, OutOfMemory, Layout, max_items, count, rank, offsets, multiples, IsShape, factors_pos, rank-lt, same_on_indexes, IsViewOf, GivesView, stretches, all_stretch, can_stretch, stretched, broadcast_index, stretched-ok, few-axes}
+use Rattle.fancy_index.specs.Words.{Layout, max_items, count, rank, offsets, multiples, IsShape, factors_pos, rank-lt, same_on_indexes, IsViewOf, stretches, all_stretch, can_stretch, broadcast_index, few-axes}
 use Rattle.fancy_index.specs.inside.Sums.{stretched_ranks}
-use Rattle.fancy_index.proofs.CutLaws.{some-before, few-before, few-behind, only-memory}
+use Rattle.fancy_index.proofs.CutLaws.{some-before, few-before, few-behind}
 
 -- ---- in the middle of a shape
 
@@ -58,31 +57,17 @@ stretched-shape shape target can is some =
 
 -- ---- places of a stretched shape
 
-module _ (old : Layout) (own shape lengths target : List ℕ) (p : old.shape ≡ own) (q : lengths ≡ own) (q' : target ≡ shape) (can : can_stretch lengths target ≡ true) where
-  answer : stretched old.shape shape ≡ Ok (record { shape = target; leads = broadcast_index lengths })
-  answer = (λ i. stretched ((p ∙ sym q) i) (sym q' i)) ∙ stretched-ok lengths target can
-
-  view-is : (new : Layout) → GivesView old (Ok new) (stretched old.shape shape) → IsViewOf old new (record { shape = target; leads = broadcast_index lengths })
-  view-is new gives = subst (GivesView old (Ok new)) answer gives
-
-  pub shape-given : (r : Result Layout Refusal) → GivesView old r (stretched old.shape shape) → IfOk r (λ l. l.shape ≡ target)
-  shape-given (Ok new) gives = (view-is new gives).shape
-  shape-given (Err e) gives = tt
-
-  pub places-given : offsets old ≡ multiples 1 (count own) → (r : Result Layout Refusal) → GivesView old r (stretched old.shape shape) → IfOk r (λ l. offsets l ≡ stretched_ranks lengths target)
-  places-given are (Ok new) gives =
-      let view = view-is new gives in
-      view.places ∙ same_on_indexes target _ _ (λ index in'.
-      let b = broadcast_index lengths index in
-      let low : rank lengths b < count own = omega (arith, rank-lt old.shape b (view.leads index in'), ap count p, ap (λ (s : List ℕ). rank s b) (p ∙ sym q)) in
-      (λ i. get_or (are i) (rank ((p ∙ sym q) i) b) 0)
-      ∙ get_or-map-range_with_len (λ k. 1 * k) 0 (count own) (rank lengths b) (rank lengths b) 0 low (omega arith)
-      ∙ one (rank lengths b))
+pub places-given : (old new : Layout) (own lengths shape target : List ℕ) → old.shape ≡ own → own ≡ lengths → shape ≡ target → offsets old ≡ multiples 1 (count own) →
+    IsViewOf old new (record { shape = shape; leads = broadcast_index old.shape }) → offsets new ≡ stretched_ranks lengths target
+places-given old new own lengths shape target p q q' are view =
+    view.places
+    ∙ same_on_indexes shape _ _ (λ index in'.
+    let b = broadcast_index old.shape index in
+    let low : rank old.shape b < count own = omega (arith, rank-lt old.shape b (view.leads index in'), ap count p) in
+    ap (λ os. get_or os (rank old.shape b) 0) are
+    ∙ get_or-map-range_with_len (λ k. 1 * k) 0 (count own) (rank old.shape b) (rank old.shape b) 0 low (omega arith)
+    ∙ one (rank old.shape b))
+    ∙ λ i. stretched_ranks ((p ∙ q) i) (q' i)
     where
       one : (k : ℕ) → 1 * k ≡ k
       one k = omega arith
-  places-given are (Err e) gives = tt
-
-  pub refusal-given : (r : Result Layout Refusal) → GivesView old r (stretched old.shape shape) → IfErr r (λ e. e ≡ OutOfMemory)
-  refusal-given (Ok new) gives = tt
-  refusal-given (Err e) gives = only-memory _ _ e answer gives

@@ -57,15 +57,14 @@ pub(crate) fn rest(
 }
 
 /// The layout of the first axes, where the others are 0.
-pub(crate) fn front(alloc: Global, layout: &Layout, axes: usize) -> Result<Layout, Refusal>
+pub(crate) fn front(alloc: Global, layout: &Layout, axes: usize) -> Result<Layout, AllocError>
     requires axes { axes ≤ length layout.now.shape }
     requires some { 0 < count layout.now.shape }
     ensures shape { IfOk result (λ l. l.shape ≡ take axes layout.now.shape) }
     ensures strides { IfOk result (λ l. l.strides ≡ take axes layout.now.strides) }
     ensures offset { IfOk result (λ l. l.offset ≡ layout.now.offset) }
-    ensures err { IfErr result (λ refusal. refusal ≡ OutOfMemory) }
 {
-    let shape = Shape::try_new(alloc, &layout.shape.as_slice()[..axes])?;
+    let shape = Shape::from_lengths(alloc, &layout.shape.as_slice()[..axes])?;
     let strides = Strides::from_slice(alloc, &layout.strides.as_slice()[..axes])?;
     Ok(Layout {
         shape,
@@ -75,15 +74,14 @@ pub(crate) fn front(alloc: Global, layout: &Layout, axes: usize) -> Result<Layou
 }
 
 /// The layout of the axes behind the first ones, where these are 0.
-pub(crate) fn back(alloc: Global, layout: &Layout, axes: usize) -> Result<Layout, Refusal>
+pub(crate) fn back(alloc: Global, layout: &Layout, axes: usize) -> Result<Layout, AllocError>
     requires axes { axes ≤ length layout.now.shape }
     requires some { 0 < count layout.now.shape }
     ensures shape { IfOk result (λ l. l.shape ≡ drop axes layout.now.shape) }
     ensures strides { IfOk result (λ l. l.strides ≡ drop axes layout.now.strides) }
     ensures offset { IfOk result (λ l. l.offset ≡ layout.now.offset) }
-    ensures err { IfErr result (λ refusal. refusal ≡ OutOfMemory) }
 {
-    let shape = Shape::try_new(alloc, &layout.shape.as_slice()[axes..])?;
+    let shape = Shape::from_lengths(alloc, &layout.shape.as_slice()[axes..])?;
     let strides = Strides::from_slice(alloc, &layout.strides.as_slice()[axes..])?;
     Ok(Layout {
         shape,

@@ -1,19 +1,16 @@
-use Rattle.std.proofs.Common.{ap, sym, take, length, ◌∙◌, arith}
-use Rattle.std.proofs.lemmas.Result.{err_from_is_err_and}
-use Rattle.fancy_index.specs.Words.{count, shape_of}
-use Rattle.fancy_index.proofs.CutLaws.{shape-before, some-before, only-memory, made-before, lies-before, strides-before}
+use Rattle.std.proofs.Common.{ap, sym, subst, take, length, ◌∙◌, arith}
+use Rattle.fancy_index.specs.Words.{count, IsShape}
+use Rattle.fancy_index.proofs.CutLaws.{shape-before, some-before, lies-before, strides-before}
 use Rattle.fancy_index.proofs.rest.front.Goals as goal
 
-pub returns-in_err-shape-clause-err : goal.returns-in_err-shape-clause-err
-returns-in_err-shape-clause-err c =
-    let p = err_from_is_err_and c.from_residual.result c.from_residual.ensures.1 in
-    let made = ap (λ s. shape_of (take c.args.axes s)) c.as_slice.ensures.value ∙ shape-before c.args.layout.now.shape c.args.axes c.requires.some c.requires.axes c.as_slice.ensures.rank c.as_slice.ensures.lengths c.as_slice.ensures.items in
-    rw (p.1, p.2) (only-memory _ _ _ made c.in_err-shape.ensures)
+pub from_lengths-requires : goal.from_lengths-requires
+from_lengths-requires c =
+    subst IsShape (sym (ap (take c.args.axes) c.as_slice.ensures.value)) (shape-before c.args.layout.now.shape c.args.axes c.requires.some c.requires.axes c.as_slice.ensures.rank c.as_slice.ensures.lengths c.as_slice.ensures.items)
 
 pub invariant_of-result : goal.invariant_of-result
 invariant_of-result c =
     let layout = c.args.layout.now in
-    let shape = made-before layout.shape c.as_slice.result.now c.in_ok-shape.shape c.args.axes c.requires.some c.requires.axes c.as_slice.ensures.rank c.as_slice.ensures.lengths c.as_slice.ensures.items c.as_slice.ensures.value c.in_ok-shape.ensures in
+    let shape = c.in_ok-shape.ensures ∙ ap (take c.args.axes) c.as_slice.ensures.value in
     let strides = c.in_ok-strides.ensures ∙ ap (take c.args.axes) c.as_slice-2.ensures in
     record {
       one_stride_an_axis = ap length strides ∙ strides-before layout c.args.axes c.requires.axes c.requires.some ∙ sym (ap length shape);
@@ -22,5 +19,4 @@ invariant_of-result c =
     }
 
 pub returns-clause-shape : goal.returns-clause-shape
-returns-clause-shape c =
-    made-before c.args.layout.now.shape c.as_slice.result.now c.in_ok-shape.shape c.args.axes c.requires.some c.requires.axes c.as_slice.ensures.rank c.as_slice.ensures.lengths c.as_slice.ensures.items c.as_slice.ensures.value c.in_ok-shape.ensures
+returns-clause-shape c = c.in_ok-shape.ensures ∙ ap (take c.args.axes) c.as_slice.ensures.value

@@ -1,26 +1,17 @@
 use Rattle.std.proofs.Common.{◌≡◌, take, drop, length, sym, ap, ◌∙◌, arith}
-use Rattle.std.proofs.lemmas.Result.{err_from_is_err_and}
-use Rattle.fancy_index.specs.Words.{same_answer, count, max_bytes, LieWithin-view}
+use Rattle.fancy_index.specs.Words.{count, max_bytes, LieWithin-view}
 use Rattle.fancy_index.specs.inside.Sums.{strides_along}
-use Rattle.fancy_index.proofs.CutLaws.{only-memory}
 use Rattle.fancy_index.proofs.AlongLaws.{axes-within, axes-made, length-along, along-shows}
 use Rattle.fancy_index.proofs.shifts.along.Goals as goal
 use Rattle.fancy_index.proofs.shifts.along.Goals.{In_ok-strides}
 
-pub returns-in_err-shape-clause-err : goal.returns-in_err-shape-clause-err
-returns-in_err-shape-clause-err c =
-    let p = err_from_is_err_and c.from_residual.result c.from_residual.ensures.1 in
+pub from_lengths-requires : goal.from_lengths-requires
+from_lengths-requires c =
     let shape = c.as_slice-lengths.ensures in
-    rw (p.1, p.2) (only-memory _ _ _ (axes-made c.args.layout.now c.args.axis c.args.start c.args.axes.now c.requires shape.rank shape.lengths shape.items) c.in_err-shape.ensures)
+    axes-made c.args.layout.now c.args.axis c.args.start c.args.axes.now c.requires shape.rank shape.lengths shape.items
 
 pub strides_from-requires : goal.strides_from-requires
 strides_from-requires c = omega (arith, axes-within c.args.layout.now c.args.axis c.args.start c.args.axes.now c.requires, ap length c.as_slice-strides.ensures)
-
-shape-is : (c : In_ok-strides) → c.in_ok-shape.shape ≡ c.args.axes.now
-shape-is c =
-    let shape = c.as_slice-lengths.ensures in
-    same_answer c.in_ok-shape.shape c.args.axes.now
-    (sym c.in_ok-shape.ensures ∙ axes-made c.args.layout.now c.args.axis c.args.start c.args.axes.now c.requires shape.rank shape.lengths shape.items)
 
 strides-is : (c : In_ok-strides) → c.in_ok-strides.strides ≡ strides_along c.args.layout.now c.args.axis c.args.axes.now
 strides-is c = c.in_ok-strides.ensures ∙ c.strides_from.ensures ∙ ap (λ s. take (length c.args.axes.now) (drop c.args.axis s)) c.as_slice-strides.ensures
@@ -30,13 +21,10 @@ invariant_of-result c =
     let now = (goal.at.invariant_of-result c).In_ok-strides in
     let layout = c.args.layout.now in
     record {
-      one_stride_an_axis = ap length (strides-is now) ∙ length-along layout c.args.axis c.args.start c.args.axes.now c.requires ∙ sym (ap length (shape-is now));
-      within_limit = rw (shape-is now, strides-is now) (LieWithin-view layout _ _ c.args.start _ max_bytes 1 (along-shows layout c.args.axis c.args.start c.args.axes.now c.requires) layout.within_limit);
-      zero_if_empty = λ none. absurd (omega (arith, none, ap count (shape-is now), c.requires.some));
+      one_stride_an_axis = ap length (strides-is now) ∙ length-along layout c.args.axis c.args.start c.args.axes.now c.requires ∙ sym (ap length c.in_ok-shape.ensures);
+      within_limit = rw (c.in_ok-shape.ensures, strides-is now) (LieWithin-view layout _ _ c.args.start _ max_bytes 1 (along-shows layout c.args.axis c.args.start c.args.axes.now c.requires) layout.within_limit);
+      zero_if_empty = λ none. absurd (omega (arith, none, ap count c.in_ok-shape.ensures, c.requires.some));
     }
-
-pub returns-clause-shape : goal.returns-clause-shape
-returns-clause-shape c = shape-is (goal.at.returns-clause-shape c).In_ok-strides
 
 pub returns-clause-strides : goal.returns-clause-strides
 returns-clause-strides c = strides-is (goal.at.returns-clause-strides c).In_ok-strides
