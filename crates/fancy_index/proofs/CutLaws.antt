@@ -1,12 +1,10 @@
 -- A layout that is cut between two axes: the first axes where the others are 0, and the others where the first are 0.
-use Rattle.std.proofs.Common.{◌≡◌, ◌⊎◌, inl, inr, Result, Ok, Err, ℕ, ◌-◌, ◌*◌, ◌<◌, ◌≤◌, nat_le, true, List, [], ◌∷◌, ◌++◌, length, get_or, take, drop, All, refl, sym, ap, subst, ◌∙◌, arith, length-drop, length-take-le, mul-le-mul_left, mul-le-mul_right, mul-one, one-mul}
-use Rattle.std.specs.List.{list_all}
+use Rattle.std.proofs.Common.{◌≡◌, ◌⊎◌, inl, inr, Result, Ok, Err, ℕ, ◌*◌, ◌<◌, ◌≤◌, List, [], ◌∷◌, ◌++◌, length, take, drop, All, refl, sym, ap, subst, ◌∙◌, arith, length-drop, length-take-le, mul-le-mul_left, mul-le-mul_right, mul-one, one-mul}
 use Rattle.std.specs.Result.{is_ok}
-use Rattle.std.proofs.lemmas.Bool.{false≢true, le-leb}
+use Rattle.std.proofs.lemmas.Bool.{false≢true}
 use Rattle.std.proofs.lemmas.Int.{ints}
 use Rattle.std.proofs.lemmas.List.{take-append-drop}
 use Rattle.std.proofs.lemmas.List.Elements.{All-take, All-drop}
-use Rattle.std.proofs.lemmas.List.Sums.{list_all-from_AllPass}
 use lib.IntN.{ℤ, pos, ◌+ℤ◌, ◌*ℤ◌, +ℤ_idl, +ℤ_idr, +ℤ_assoc}
 use Rattle.fancy_index.specs.Words.{Refusal, OutOfMemory, Layout, max_axes, max_items, max_bytes, count, IsIndex, IsShape, dot, address_at, LieWithin, address, zero_filled, factors_pos, length-index, IsIndex-append, dot-zeros, IsIndex-first, count-append, ShowsThrough, LieWithin-view}
 

@@ -1,5 +1,5 @@
 -- Lengths that are a shape: those in the middle of a shape with items, and those that stretch to one.
-use Rattle.std.proofs.Common.{◌≡◌, ℕ, zero, suc, ◌-◌, ◌*◌, ◌<◌, ◌≤◌, true, List, [], ◌∷◌, ◌++◌, length, get_or, take, drop, replicate, All, sym, ap, subst, ◌∙◌, arith, length-append, mul-le-mul_right, one-mul}
+use Rattle.std.proofs.Common.{◌≡◌, ℕ, zero, suc, ◌-◌, ◌*◌, ◌<◌, ◌≤◌, true, List, [], ◌∷◌, ◌++◌, length, get_or, take, drop, replicate, All, ap, subst, ◌∙◌, arith, length-append, mul-le-mul_right, one-mul}
 use Rattle.std.proofs.Math.Nat.{mul-le-mul}
 use Rattle.std.proofs.Math.Seq.{take-append_seam, drop-append_seam}
 use Rattle.std.proofs.lemmas.Bool.{false≢true, and_parts}
@@ -68,6 +68,6 @@ places-given old new own lengths shape target p q q' are view =
     ∙ get_or-map-range_with_len (λ k. 1 * k) 0 (count own) (rank old.shape b) (rank old.shape b) 0 low (omega arith)
     ∙ one (rank old.shape b))
     ∙ λ i. stretched_ranks ((p ∙ q) i) (q' i)
-    where
-      one : (k : ℕ) → 1 * k ≡ k
-      one k = omega arith
+  where
+    one : (k : ℕ) → 1 * k ≡ k
+    one k = omega arith

@@ -5,7 +5,6 @@ pub use Rattle.elem_descr.specs.IndexItems.{is_ellipsis}
 pub use Rattle.elem_descr.specs.Items.{decode_item, item_size}
 pub use Rattle.elem_descr.specs.ListLaws.{flat_map-flat_map, flat_map_same, map-flat_map}
 pub use Rattle.elem_descr.specs.ListLaws.{slice-rest}
-pub use Rattle.elem_descr.specs.RefusalLaws.{same_answer}
 pub use Rattle.elem_descr.specs.Refusals.{Gives, check, ◌>>=◌}
 unfoldable pub use Rattle.elem_descr.specs.Steps.{stepped}
 pub use Rattle.elem_descr.specs.Values.{LeafValue, number}
@@ -41,7 +40,7 @@ unfoldable pub use Rattle.shape_strides.specs.Layouts.{offsets}
 pub use Rattle.shape_strides.specs.Limits.{max_axes, max_bytes, max_items}
 pub use Rattle.shape_strides.specs.ReverseLaws.{count-append}
 pub use Rattle.shape_strides.specs.Runs.{run_offsets}
-pub use Rattle.shape_strides.specs.ShapeLaws.{shape_of-ok, shape_of-same, shape_read}
+pub use Rattle.shape_strides.specs.ShapeLaws.{shape_of-same}
 pub use Rattle.shape_strides.specs.Shapes.{IsShape}
 unfoldable pub use Rattle.shape_strides.specs.Shapes.{shape_of}
 pub use Rattle.shape_strides.specs.WalkLaws.{length-run_offsets}
@@ -59,10 +58,9 @@ pub use Rattle.view_ops.specs.ViewLaws.{LieWithin-view}
 pub use Rattle.view_ops.specs.Views.{GivesView, IsViewOf, View, view_through}
 pub use Rattle.view_ops.specs.declared.pick.AxisPick.{AxisPick}
 pub use Rattle.broadcasting.specs.BroadcastLaws.{IsIndex-broadcast, broadcast_index-itself}
-pub use Rattle.broadcasting.specs.BroadcastLaws.{stretched-ok}
 pub use Rattle.broadcasting.specs.Broadcasts.{all_stretch, broadcast_index, can_stretch}
 pub use Rattle.broadcasting.specs.Broadcasts.{common_with, stretches}
-unfoldable pub use Rattle.broadcasting.specs.Broadcasts.{common_of_two, stretched}
+unfoldable pub use Rattle.broadcasting.specs.Broadcasts.{common_of_two}
 pub use Rattle.broadcasting.specs.FitLaws.{few-axes, with-fits}
 pub use Rattle.arrays.specs.Assignments.{assigned, items_at}
 pub use Rattle.arrays.specs.Blocks.{offsets_in}
