@@ -1,4 +1,4 @@
--- Laws of texts that go out by and by.
+-- Laws of texts that are sent part by part.
 use Rattle.std.proofs.Common.{◌≡◌, ℕ, List, [], ◌++◌, Option, Some, None, append_assoc, take, drop, length, take_all, length-drop, arith, ◌-◌, ◌≤◌, refl, ap, sym, ◌∙◌}
 use Rattle.std.proofs.lemmas.List.{append-nil, take-append-drop}
 use Rattle.std.specs.Io.KnownBytes.{Appends}
@@ -21,15 +21,15 @@ rest_of xs n = let short : length (drop n xs) ≤ length xs - n = omega (arith, 
 pub split_later : (all gone rest : List ℕ) (n : ℕ) → all ≡ gone ++ rest → all ≡ (gone ++ take n rest) ++ take (length rest - n) (drop n rest)
 split_later all gone rest n e = e ∙ ap (λ r. gone ++ r) (sym (take-append-drop n rest)) ∙ sym (append_assoc gone (take n rest) (drop n rest)) ∙ ap (λ r. (gone ++ take n rest) ++ r) (sym (rest_of rest n))
 
--- nothing has gone out yet
+-- nothing was written yet
 pub sends-none : (w : Option (List ℕ)) (text : List ℕ) → Sends w w text text
 sends-none w text = ([], refl, appends_nothing w)
 
--- the text grows
+-- more text is behind what was written
 pub sends-more : (w w' : Option (List ℕ)) (rest text more : List ℕ) → Sends w w' rest text → Sends w w' (rest ++ more) (text ++ more)
 sends-more w w' rest text more sent = (sent.0, ap (λ t. t ++ more) sent.1 ∙ append_assoc sent.0 rest more, sent.2)
 
--- and more of it goes out
+-- more of the text is written
 pub sends-then : (a b c : Option (List ℕ)) (rest rest' text : List ℕ) → Sends a b rest text → Sends b c rest' rest → Sends a c rest' text
 sends-then a b c rest rest' text first second =
     (first.0 ++ second.0, first.1 ∙ ap (λ t. first.0 ++ t) second.1 ∙ sym (append_assoc first.0 second.0 rest'), appends_then a b c first.0 second.0 first.2 second.2)

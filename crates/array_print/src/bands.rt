@@ -1,4 +1,4 @@
-//! The text of an array that is sent as it is made: of a long one little more is held than a band.
+//! The text of an array, sent as it is made. Of a long text little more than a band is held.
 ghost use Rattle.std.specs.Prelude.{◌≡◌, ◌+◌, ◌≤◌, ◌<◌, ◌++◌, length, map, drop, get_or, vec_capacity, All, List, ℕ, IfOk, OnOk, OnErr, IsErrOf};
 ghost use Rattle.std.specs.Io.{StartsWith};
 ghost use Rattle.array_print.specs.Words.{item_size, leaves_of, offsets};

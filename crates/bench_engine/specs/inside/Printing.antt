@@ -1,4 +1,4 @@
--- What a command to print is answered.
+-- The answer to a command to print.
 use Rattle.std.specs.Prelude.{ℕ, List, Some, Ok}
 use Rattle.bench_engine.specs.Words.{Ask, Print, State, StoreState}
 use Rattle.bench_engine.specs.Replies.{Reply}
@@ -11,6 +11,6 @@ use Rattle.bench_engine.specs.inside.ReadLines.{ReadsAs}
 abbrev pub AsksToPrint : List ℕ → Meaning → Type 0
 AsksToPrint name meaning = ReadsAs (Ok (Some (Ask (Print name)))) meaning
 
--- that may be answered so, whatever files there are
+-- the reply may answer this command, whatever files there are
 abbrev pub MayPrint : State → List ℕ → Reply → Type 0
 MayPrint s name reply = (shelf : StoreState) → MayAnswer (world s shelf) (Ask (Print name)) (world s shelf) reply
