@@ -88,7 +88,7 @@ fn small_blocks(items: &Items<'_>, layout: &Layout) -> (usize, usize)
 }
 
 /// Appends block `k` of an axis behind what comes before it and, where they are the same, as many of
-/// the next blocks as a band has room for. Returns how many blocks these are.
+/// the next blocks as there is room for. Returns how many blocks these are.
 fn push_run(
     out: &mut Vec<u8>,
     bands: &Bands<'_>,
@@ -120,7 +120,8 @@ fn push_run(
         step_along(offset, strides, axis, k),
     )?;
     if repeats(strides, axis) {
-        let copies = (BAND / bands.room.max(1)).min(lengths[axis] - k - 1);
+        let free = out.capacity().saturating_sub(out.len());
+        let copies = (free / bands.room.max(1)).min(lengths[axis] - k - 1);
         push_again(out, first, copies, axis, inner)?;
         return Ok(copies + 1);
     }
@@ -202,7 +203,7 @@ pub fn print_by_bands<'a, W: Write>(
     if small == 0 {
         return Ok(push_block(out, &items, layout, 0, layout.offset)?);
     }
-    out.reserve(room.saturating_add(BAND * 4))?;
+    out.reserve(room.saturating_mul(16).max(BAND * 4))?;
     let bands = Bands {
         items,
         layout,

@@ -1,4 +1,4 @@
-use Rattle.std.proofs.Common.{◌≡◌, [], ◌++◌, true, Err, ap, sym, refl, subst, inl, inr, ◌∙◌, arith}
+use Rattle.std.proofs.Common.{◌≡◌, [], ◌++◌, true, Err, ap, sym, refl, subst, inl, inr, arith}
 use Rattle.std.proofs.lemmas.Grind.{common_steps}
 use Rattle.bench_engine.specs.Words.{UnknownName, OutOfMemory, Sends, SendsPart, appends_nothing, offsets, array_text, items_from, refusal_text}
 use Rattle.name_store.specs.ArrayLaws.{found-array as found}
