@@ -73,13 +73,24 @@ fn axis_room(room: usize, layout: &Layout, axis: usize) -> usize
         .saturating_add(2)
 }
 
+/// The most bytes of items that are made anew where stride 0 repeats them and they lie in another band.
+const SHORT_ITEM: usize = 64;
+
+/// Whether long items are repeated: their text is made whole, so that each is read once.
+fn repeats_long_items(items: &Items<'_>, layout: &Layout) -> bool {
+    items.descr.size() > SHORT_ITEM && layout.strides.as_slice().contains(&0)
+}
+
 /// The first axis with blocks that are made whole, since a band has room for each, and the most bytes
 /// of such a block. There may be no such axis: then each item is made whole.
 fn small_blocks(items: &Items<'_>, layout: &Layout) -> (usize, usize)
     ensures { result.0 ≤ length layout.now.shape }
 {
-    let mut small = layout.shape.rank();
     let mut room = item_room(items);
+    if repeats_long_items(items, layout) {
+        return (0, room);
+    }
+    let mut small = layout.shape.rank();
     while small > 0 && axis_room(room, layout, small - 1) <= BAND {
         small -= 1;
         room = axis_room(room, layout, small);
@@ -203,7 +214,7 @@ pub fn print_by_bands<'a, W: Write>(
     if small == 0 {
         return Ok(push_block(out, &items, layout, 0, layout.offset)?);
     }
-    out.reserve(room.saturating_mul(16).max(BAND * 4))?;
+    out.reserve(room.saturating_add(BAND * 4))?;
     let bands = Bands {
         items,
         layout,
