@@ -3,6 +3,7 @@ and everything else, replies and files, is as in a run without that line.
 
 This needs a C compiler, for the `malloc` that refuses. `tools/try hostile memory` does the same with random scripts."""
 import pathlib
+import random
 import re
 import shutil
 import subprocess
@@ -11,10 +12,10 @@ import unittest
 
 from trials.companion_trials import PROGRAM, needs_compiler, needs_program, works
 from trials import memory
-from trials.lines import own_scripts
+from trials.lines import own_scripts, random_script
 from trials.runs import Part, Runner, compiled
 
-MOST_REQUESTS = 150
+MOST_REQUESTS, LEAST_SCRIPTS = 150, 40
 COMMANDS = set("""zeros full arange array field transpose reshape broadcast copy cast load set upd save del undo names print info format shares
 add neg sum""".split())
 
@@ -30,7 +31,10 @@ class RefusedMemory(unittest.TestCase):
 
     def test_each_request_of_each_script(self):
         part = Part()
-        for script in own_scripts():
+        rng = random.Random(1)
+        scripts = own_scripts()
+        scripts += [random_script(PROGRAM, rng, number) for number in range(LEAST_SCRIPTS - len(scripts))]
+        for script in scripts:
             with Runner(PROGRAM) as runner:
                 trial = memory.Refusing(runner, part, script.asking(), self.library)
                 trial.refuse(MOST_REQUESTS)
