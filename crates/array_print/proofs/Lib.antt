@@ -1,6 +1,7 @@
 pub mod LeafLaws
 pub mod WidthLaws
 pub mod PartLaws
+pub mod RepeatLaws
 pub mod WholeLaws
 pub mod PrintLaws
 pub mod BandLaws

@@ -1,19 +1,13 @@
 -- Widths of leaves, as they grow item by item.
-use Rattle.std.proofs.Common.{◌≡◌, ℕ, ◌+◌, ◌<◌, ◌≤◌, List, [], ◌∷◌, ◌++◌, length, map, take, drop, get_or, sym, ap, ◌∙◌, append_assoc}
+use Rattle.std.proofs.Common.{◌≡◌, ℕ, ◌+◌, ◌<◌, ◌≤◌, List, [], ◌∷◌, ◌++◌, length, map, take, drop, get_or, refl, sym, ap, arith, ◌∙◌, append_assoc}
 use Rattle.std.specs.Prelude.{IfSome, slice_get}
 use Rattle.std.specs.List.{refill}
 use Rattle.std.proofs.Math.Seq.{take-append_seam}
 use Rattle.std.proofs.lemmas.List.{map-append}
 use Rattle.array_print.specs.Words.{Scalar, Descr, size, decode, item_size, leaves_of}
-use Rattle.array_print.specs.Printed.{leaf_text, leaf_texts, leaf_width, leaf_widths, items_from}
+use Rattle.array_print.specs.Printed.{leaf_text, leaf_texts, leaf_width, leaf_widths, widths, items_from}
 use Rattle.array_print.specs.inside.Shown.{widths_at}
 use Rattle.array_print.proofs.LeafLaws.{are-leaf-widths, bytes-at, count-widths, leaf-width-at}
-
--- the widths are those of the items so far
-pub record AreSoFar (descr : Descr) (block all left ws : List ℕ) : Type 0 where
-  pub seen : List ℕ
-  pub whole : seen ++ left ≡ all
-  pub are : ws ≡ widths_at descr block seen
 
 pub length-widths-at : (descr : Descr) (block seen : List ℕ) → length (widths_at descr block seen) ≡ length (leaves_of descr)
 length-widths-at descr block seen =
@@ -43,13 +37,10 @@ one-wider descr block seen offset k scalar at width wider below within is so_far
     ∙ ap (leaf_width scalar) (sym (map-append read seen (offset ∷ [])))
     ∙ sym (width-at descr block (seen ++ offset ∷ []) k scalar at below is)
 
--- the next item
-pub one-more : (descr : Descr) (block all left left' ws lent new ws' : List ℕ) (offset : ℕ) → left ≡ offset ∷ left' → lent ≡ ws → ((seen : List ℕ) → lent ≡ widths_at descr block seen → new ≡ widths_at descr block (seen ++ offset ∷ [])) → ws' ≡ new → AreSoFar descr block all left ws → AreSoFar descr block all left' ws'
-one-more descr block all left left' ws lent new ws' offset steps same widened back so_far = record {
-  seen = so_far.seen ++ offset ∷ [];
-  whole = append_assoc so_far.seen (offset ∷ []) left' ∙ ap (λ l. so_far.seen ++ l) (sym steps) ∙ so_far.whole;
-  are = back ∙ widened so_far.seen (same ∙ so_far.are);
-}
+-- of an array with axes
+pub with-axes : (descr : Descr) (shape block offsets : List ℕ) → 0 < length shape → widths_at descr block offsets ≡ widths descr shape (items_from descr block offsets)
+with-axes descr [] block offsets some = absurd (omega (arith, some))
+with-axes descr (n ∷ shape) block offsets some = refl
 
 -- widths that are written over as many others
 pub refilled : (ws new : List ℕ) → length new ≡ length ws → refill (length ws) ws new ≡ new

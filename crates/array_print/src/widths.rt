@@ -1,12 +1,14 @@
 //! The widths to which the values of an array are padded.
-ghost use Rattle.std.specs.Prelude.{◌≡◌, ◌+◌, ◌^◌, ◌≤◌, ◌<◌, ◌∷◌, ◌++◌, [], ℕ, List, get_or, length, max, take, drop, All, IfOk};
+ghost use Rattle.std.specs.Prelude.{◌≡◌, ◌⊎◌, ◌+◌, ◌≤◌, ◌<◌, ◌∷◌, ◌++◌, [], ℕ, List, pos, get_or, slice_index_or, length, max, take, drop, All, IfOk};
 ghost use Rattle.array_print.specs.Words.{IsNumber, size, decode, item_size, leaves_of, offsets, Fits};
 ghost use Rattle.array_print.specs.Printed.{widths, leaf_width, leaf_widths, leaf_text, items_from};
 ghost use Rattle.array_print.specs.inside.Shown.{integer_at, widths_at};
+ghost use Rattle.array_print.specs.inside.Parts.{IsPart, part_offsets};
 
+use crate::steps::{repeats, step_along};
 use elem_descr::{Descr, Scalar, num_read};
 use itoa::Buffer;
-use shape_strides::{Layout, Walk};
+use shape_strides::Layout;
 use smallvec::SmallVec;
 use std::alloc::{AllocError, Global};
 
@@ -75,6 +77,47 @@ fn widen(widths: &mut [usize], descr: &Descr, block: &[u8], offset: usize)
     }
 }
 
+/// Items of one descriptor, where a layout shows them in a block of bytes.
+#[derive(Clone, Copy)]
+struct ShownItems<'a> {
+    block: &'a [u8],
+    layout: &'a Layout,
+    descr: &'a Descr,
+}
+
+/// How many steps along an axis lead to items of their own: those of stride 0 all lead to the same ones.
+fn different_steps(lengths: &[usize], strides: &[isize], axis: usize) -> usize
+    requires axis { axis < length lengths.now }
+    requires one_each { length strides.now ≡ length lengths.now }
+    requires some { 0 < slice_index_or lengths.now axis 0 }
+    ensures few { result ≤ slice_index_or lengths.now axis 0 }
+    ensures all { (result ≡ slice_index_or lengths.now axis 0)
+        ⊎ ((result ≡ 1) × (slice_index_or strides.now axis (pos 0) ≡ pos 0)) }
+{
+    if repeats(strides, axis) { 1 } else { lengths[axis] }
+}
+
+/// Makes the widths of some items those of the items too that the axes from `axis` on lead to, starting
+/// at an offset. What stride 0 repeats is measured once.
+fn widen_part(widths: &mut [usize], items: ShownItems<'_>, axis: usize, offset: usize)
+    requires leaves { length widths.old ≡ length (leaves_of items.descr.now) }
+    requires part { IsPart items.layout.now axis offset (length items.block.now)
+        (item_size items.descr.now) }
+    ensures { (seen : List ℕ) → widths.old ≡ widths_at items.entry.descr.now items.entry.block.now seen
+        → widths.new ≡ widths_at items.entry.descr.now items.entry.block.now
+        (seen ++ part_offsets items.entry.layout.now axis offset) }
+{
+    let lengths = items.layout.shape.as_slice();
+    if axis == lengths.len() {
+        widen(widths, items.descr, items.block, offset);
+        return;
+    }
+    let strides = items.layout.strides.as_slice();
+    for k in 0..different_steps(lengths, strides, axis) {
+        widen_part(widths, items, axis + 1, step_along(offset, strides, axis, k));
+    }
+}
+
 /// The width of the texts of each value of an item.
 pub fn widths_of(
     alloc: Global,
@@ -91,8 +134,13 @@ pub fn widths_of(
         return SmallVec::from_elem(alloc, 0, descr.leaf_count());
     }
     let mut widths = least_widths(alloc, descr)?;
-    for offset in Walk::new(layout) {
-        widen(widths.as_mut_slice(), descr, block, offset);
+    if layout.shape.items() > 0 {
+        let items = ShownItems {
+            block,
+            layout,
+            descr,
+        };
+        widen_part(widths.as_mut_slice(), items, 0, layout.offset);
     }
     Ok(widths)
 }

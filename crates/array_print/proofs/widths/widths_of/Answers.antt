@@ -1,19 +1,38 @@
-use Rattle.std.proofs.Common.{◌+◌, ◌≤◌, length, ap, ◌∙◌}
-use Rattle.std.proofs.lemmas.List.Elements.{All-rest}
-use Rattle.array_print.specs.Words.{item_size, offsets}
-use Rattle.array_print.proofs.WidthLaws.{length-widths-at, one-more, refilled}
+use Rattle.std.proofs.Common.{◌<◌, [], length, sym, ap, ◌∙◌, arith}
+use Rattle.array_print.specs.Words.{item_size, leaves_of, offsets}
+use Rattle.array_print.specs.Printed.{leaf_texts, leaf_widths, widths, items_from}
+use Rattle.array_print.specs.inside.Shown.{widths_at}
+use Rattle.array_print.proofs.LeafLaws.{are-leaf-widths, count-widths}
+use Rattle.array_print.proofs.PartLaws.{no-items, whole-part, whole-offsets}
+use Rattle.array_print.proofs.WidthLaws.{refilled, with-axes}
 use Rattle.array_print.proofs.widths.widths_of.Goals as goal
+use Rattle.array_print.proofs.widths.widths_of.Goals.{then-items-gt0, else-items-gt0}
 
-pub widen-requires-clause-leaves : goal.widen-requires-clause-leaves
-widen-requires-clause-leaves c =
-    let so_far = c.loop-offset.invariant.so_far in
-    ap length (c.as_mut_slice.ensures.value ∙ so_far.are) ∙ length-widths-at c.args.descr.now c.args.block.now so_far.seen
+pub widen_part-requires-clause-leaves : goal.widen_part-requires-clause-leaves
+widen_part-requires-clause-leaves c =
+    let leaves = leaves_of c.args.descr.now in
+    ap length (c.as_mut_slice.ensures.value ∙ c.in_ok-widths.ensures) ∙ count-widths leaves (leaf_widths leaves []) (are-leaf-widths leaves [])
 
-pub loop-offset-preserved : goal.loop-offset-preserved
-loop-offset-preserved c =
+pub widen_part-requires-clause-part : goal.widen_part-requires-clause-part
+widen_part-requires-clause-part c =
+    whole-part c.args.layout.now (length c.args.block.now) (item_size c.args.descr.now) (omega (arith, c.if-items-gt0.true, c.items.ensures.value)) c.requires.inside
+
+pub returns : goal.returns
+returns c =
     let d = c.args.descr.now in
+    let l = c.args.layout.now in
     let block = c.args.block.now in
-    record {
-      so_far = one-more d block (offsets c.args.layout.now) _ _ c.loop-offset.widths.items c.as_mut_slice.result.now c.widen.new.widths _ c.in-Some.offset c.in-Some.ensures.steps c.as_mut_slice.ensures.value c.widen.ensures (refilled c.loop-offset.widths.items c.widen.new.widths (c.widen.auto.widths ∙ ap length c.as_mut_slice.ensures.value)) c.loop-offset.invariant.so_far;
-      inside = All-rest (λ offset. offset + item_size d ≤ length block) _ _ _ c.in-Some.ensures.steps c.loop-offset.invariant.inside;
-    }
+    let axes : 0 < length l.shape = omega (arith, c.if-rank-eq0.false, c.rank.ensures.value) in
+    elim c.if-items-gt0.branch [
+      | then-items-gt0 w ↦
+          ap (λ v. v.items) w.widths-is
+          ∙ refilled c.in_ok-widths.widths.items w.widen_part.new.widths (w.widen_part.auto.widths ∙ ap length w.as_mut_slice.ensures.value)
+          ∙ w.widen_part.ensures [] (w.as_mut_slice.ensures.value ∙ c.in_ok-widths.ensures)
+          ∙ ap (widths_at d block) (whole-offsets l)
+          ∙ with-axes d l.shape block (offsets l) axes
+      | else-items-gt0 w ↦
+          let none = no-items l (omega (arith, w.if-items-gt0.false, c.items.ensures.value)) in
+          ap (λ v. v.items) w.widths-is ∙ c.in_ok-widths.ensures
+          ∙ ap (widths_at d block) (sym none)
+          ∙ with-axes d l.shape block (offsets l) axes
+    ]
