@@ -1,6 +1,7 @@
 -- Laws of printed text: blocks, what joins them, and what stays in front.
-use Rattle.std.proofs.Common.{Option, ◌≡◌, ℕ, zero, suc, ◌+◌, ◌-◌, ◌*◌, ◌<◌, ◌≤◌, List, [], ◌∷◌, ◌++◌, codes, map, length, length-append, take_all, take, drop, get_or, refl, sym, ◌∙◌, ap, arith, add-one, suc-mul, zero-mul, append_assoc}
+use Rattle.std.proofs.Common.{Option, ◌≡◌, ℕ, zero, suc, ◌+◌, ◌-◌, ◌*◌, ◌<◌, ◌≤◌, List, [], ◌∷◌, ◌++◌, codes, map, length, length-append, take_all, take-add, take, drop, slice_range, get_or, refl, sym, ◌∙◌, ap, arith, add-one, suc-mul, zero-mul, append_assoc}
 use Rattle.std.proofs.lemmas.List.{append-nil, take_at, drop_at, take-take, take-map, drop-map, drop-drop, drop-take, length-drop, drop_more}
+use lib.Seq.{drop-append-le, take-append-le}
 use Rattle.std.specs.Io.{StartsWith}
 use Rattle.array_print.specs.Words.{count, blocks}
 use Rattle.array_print.specs.Printed.{join_texts, block_text, separator}
@@ -154,6 +155,21 @@ made-again sep led one old o1 o2 o3 first times length-is leads made again =
     ∙ ap (λ l. o2 ++ repeated (sep ++ l) times) left
     ∙ ap (λ l. l ++ repeated (sep ++ one) times) (made ∙ ap (λ l. l ++ one) leads ∙ append_assoc old led one)
     ∙ append_assoc old (led ++ one) (repeated (sep ++ one) times)
+
+-- two slices, one behind the other
+pub slices-join : (xs : List ℕ) (a b c : ℕ) → a ≤ b → b ≤ c → slice_range xs a b ++ slice_range xs b c ≡ slice_range xs a c
+slices-join xs a b c low high =
+    let at : a + (b - a) ≡ b = omega arith in
+    let all : (b - a) + (c - b) ≡ c - a = omega arith in
+    ap (λ l. slice_range xs a b ++ take (c - b) l) (ap (λ m. drop m xs) (sym at) ∙ sym (drop-drop (b - a) a xs))
+    ∙ sym (take-add (b - a) (c - b) (drop a xs))
+    ∙ ap (λ m. take m (drop a xs)) all
+
+-- a slice that ends before more bytes
+pub slice-front : (old more : List ℕ) (a b : ℕ) → a ≤ b → b ≤ length old → slice_range (old ++ more) a b ≡ slice_range old a b
+slice-front old more a b low high =
+    ap (take (b - a)) (drop-append-le a old more (omega arith))
+    ∙ take-append-le (b - a) (drop a old) more (omega (arith, length-drop a old))
 
 -- the first copy stands where it was made
 pub first-copy : (old unit : List ℕ) (n from to : ℕ) (out : List ℕ) → 1 ≤ n → out ≡ old ++ repeated unit n → from ≡ length old → to ≡ length (old ++ unit) → (to ≤ length out) × (take (to - from) (drop from out) ≡ unit)

@@ -1,5 +1,5 @@
 -- The widths of leaves do not change where items repeat.
-use Rattle.std.proofs.Common.{◌≡◌, ℕ, zero, suc, ◌+◌, ◌*◌, ◌<◌, ◌≤◌, List, [], ◌∷◌, ◌++◌, length, map, take, drop, get_or, pos, max, refl, sym, ap, ap₂, ◌∙◌, ◌-◌, arith, take-add, take_all}
+use Rattle.std.proofs.Common.{◌≡◌, ℕ, zero, suc, ◌+◌, ◌*◌, ◌<◌, List, [], ◌∷◌, ◌++◌, length, map, take, drop, get_or, pos, max, refl, sym, ap, ap₂, ◌∙◌, ◌-◌, arith, take-add, take_all}
 use Rattle.std.specs.List.{fold}
 use Rattle.std.proofs.lemmas.List.{map-append, drop_more}
 use Rattle.elem_descr.specs.declared.scalar.Scalar.TheVariants.{Bool as BoolScalar}
@@ -70,7 +70,7 @@ again offsets block c (suc n) each text =
     let front = take (suc n * c) offsets in
     let back = take c (drop (suc n * c) offsets) in
     let split = ap (λ m. widest (map text (take m offsets))) more ∙ ap (λ l. widest (map text l)) (take-add (suc n * c) c offsets)
-        ∙ ap widest (map-append text front back) ∙ widest-append (map text front) (map text back) in
+    ∙ ap widest (map-append text front back) ∙ widest-append (map text front) (map text back) in
     omega (arith, split, so_far, next)
 
 -- the widths of the first block are those of all
@@ -85,11 +85,11 @@ widths-of-one descr block seen l axis start len item below is_part none =
     let each = λ (j : ℕ) (low : j < n). part-block l axis start len item below is_part j start low (stays _ start j none) in
     let pred : suc (n - 1) ≡ n = omega (arith, some.0) in
     let all : take (suc (n - 1) * c) offsets ≡ offsets =
-        take_all (suc (n - 1) * c) offsets (omega (arith, length-part l axis start, count-outer l axis below, ap (λ m. m * c) pred)) in
+    take_all (suc (n - 1) * c) offsets (omega (arith, length-part l axis start, count-outer l axis below, ap (λ m. m * c) pred)) in
     let same : Agree (take (1 * c) offsets) offsets = λ text.
-        again offsets (part_offsets l (axis + 1) start) c 0 (λ j low. each j (omega (arith, low, some.0))) text
-        ∙ sym (again offsets (part_offsets l (axis + 1) start) c (n - 1) (λ j low. each j (omega (arith, low, pred))) text)
-        ∙ ap (λ os. widest (map text os)) all in
+    again offsets (part_offsets l (axis + 1) start) c 0 (λ j low. each j (omega (arith, low, some.0))) text
+    ∙ sym (again offsets (part_offsets l (axis + 1) start) c (n - 1) (λ j low. each j (omega (arith, low, pred))) text)
+    ∙ ap (λ os. widest (map text os)) all in
     let one = seen ++ take (1 * c) offsets in
     let items = items_from descr block in
     let texts = λ (os : List ℕ). map (leaf_texts leaves) (items os) in

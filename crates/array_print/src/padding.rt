@@ -1,5 +1,5 @@
 //! Spaces, separators, and texts padded to a width.
-ghost use Rattle.std.specs.Prelude.{◌≡◌, ◌+◌, ◌≤◌, ◌++◌, codes, length, drop, replicate, vec_capacity, OnOk};
+ghost use Rattle.std.specs.Prelude.{◌≡◌, ◌+◌, ◌≤◌, ◌++◌, codes, length, drop, slice_range, replicate, vec_capacity, IfOk, OnOk};
 ghost use Rattle.std.specs.Io.{StartsWith};
 ghost use Rattle.array_print.specs.Printed.{separator, right_justified, record_end};
 ghost use Rattle.array_print.specs.inside.Shown.{lead, repeated};
@@ -51,6 +51,48 @@ fn push_separator(out: &mut Vec<u8>, brackets: usize, inner: usize) -> Result<()
     push_repeated(out, b' ', brackets + 1)
 }
 
+/// How many bytes of a text are copied at once.
+const COPIED: usize = 1024;
+
+/// Appends the bytes from `from` on once more, as far as it goes by 1,024 at once, but not beyond `to`.
+/// Returns how far that is. They are held in between, so no other memory is asked for than room at the end.
+fn push_blocks(out: &mut Vec<u8>, from: usize, to: usize) -> Result<usize, AllocError>
+    requires order { from ≤ to }
+    requires inside { to ≤ length out.old.items }
+    ensures ok { IfOk result (λ done.
+        out.new.items ≡ out.old.items ++ slice_range out.old.items from done) }
+    ensures from { IfOk result (λ done. from ≤ done) }
+    ensures to { IfOk result (λ done. done ≤ to) }
+    ensures kept { StartsWith out.new.items out.old.items }
+    ensures room { vec_capacity out.old ≤ vec_capacity out.new }
+{
+    let mut done = from;
+    while to - done >= COPIED {
+        let mut held = [0; COPIED];
+        held.copy_from_slice(&out.as_slice()[done..done + COPIED]);
+        out.extend_from_slice(&held)?;
+        done += COPIED;
+    }
+    Ok(done)
+}
+
+/// Appends the bytes from `from` to `to` once more, in place.
+fn push_within(out: &mut Vec<u8>, from: usize, to: usize) -> Result<(), AllocError>
+    requires order { from ≤ to }
+    requires inside { to ≤ length out.old.items }
+    ensures ok { OnOk result
+        (out.new.items ≡ out.old.items ++ slice_range out.old.items from to) }
+    ensures kept { StartsWith out.new.items out.old.items }
+    ensures room { vec_capacity out.old ≤ vec_capacity out.new }
+{
+    if to - from < COPIED {
+        return out.extend_from_within(from..to);
+    }
+    let done = push_blocks(out, from, to)?;
+    out.extend_from_within(done..to)?;
+    Ok(())
+}
+
 /// Appends the text from `start` on `times` more times, each after what comes between two blocks.
 /// The copies are made in place.
 pub fn push_again(
@@ -72,11 +114,11 @@ pub fn push_again(
     }
     let from = out.len();
     push_separator(out, brackets, inner)?;
-    out.extend_from_within(start..from)?;
+    push_within(out, start, from)?;
     let to = out.len();
     out.reserve((to - from).saturating_mul(times - 1))?;
     for _i in 1..times {
-        out.extend_from_within(from..to)?;
+        push_within(out, from, to)?;
     }
     Ok(())
 }

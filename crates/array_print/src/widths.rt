@@ -94,7 +94,11 @@ fn different_steps(lengths: &[usize], strides: &[isize], axis: usize) -> usize
     ensures all { (result ≡ slice_index_or lengths.now axis 0)
         ⊎ ((result ≡ 1) × (slice_index_or strides.now axis (pos 0) ≡ pos 0)) }
 {
-    if repeats(strides, axis) { 1 } else { lengths[axis] }
+    if repeats(strides, axis) {
+        1
+    } else {
+        lengths[axis]
+    }
 }
 
 /// Makes the widths of some items those of the items too that the axes from `axis` on lead to, starting
@@ -114,7 +118,12 @@ fn widen_part(widths: &mut [usize], items: ShownItems<'_>, axis: usize, offset: 
     }
     let strides = items.layout.strides.as_slice();
     for k in 0..different_steps(lengths, strides, axis) {
-        widen_part(widths, items, axis + 1, step_along(offset, strides, axis, k));
+        widen_part(
+            widths,
+            items,
+            axis + 1,
+            step_along(offset, strides, axis, k),
+        );
     }
 }
 

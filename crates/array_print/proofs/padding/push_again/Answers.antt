@@ -1,11 +1,11 @@
 use Rattle.std.proofs.Common.{◌++◌, drop, ap, ◌∙◌, sym, add-one, append_assoc, arith}
 use Rattle.array_print.specs.Printed.{separator}
 use Rattle.array_print.specs.inside.Shown.{repeated}
-use Rattle.array_print.proofs.PrintLaws.{first-copy}
+use Rattle.array_print.proofs.PrintLaws.{StartsWith-along, first-copy}
 use Rattle.array_print.proofs.padding.push_again.Goals as goal
 
-pub extend_from_within-requires-in-loop-i-clause-in_bounds : goal.extend_from_within-requires-in-loop-i-clause-in_bounds
-extend_from_within-requires-in-loop-i-clause-in_bounds c =
+pub push_within-requires-in-loop-i-clause-inside : goal.push_within-requires-in-loop-i-clause-inside
+push_within-requires-in-loop-i-clause-inside c =
     let so_far = c.loop-i.invariant in
     omega (arith, c.loop-i.out.ok, (first-copy _ _ _ _ _ _ so_far.some so_far.pushed so_far.start so_far.end).0)
 
@@ -15,7 +15,7 @@ loop-i-preserved c =
     let old = c.args.out.now.items in
     let unit = separator c.args.brackets c.args.inner ++ drop c.args.start old in
     record {
-      pushed = c.in_ok-extend_from_within-2.ensures.items
+      pushed = c.in_ok-push_within-2.ensures.ok
           ∙ ap (λ copy. c.loop-i.out.items ++ copy) (first-copy _ _ _ _ _ _ so_far.some so_far.pushed so_far.start so_far.end).1
           ∙ ap (λ l. l ++ unit) so_far.pushed
           ∙ append_assoc old (repeated unit c.loop-i._i) unit
@@ -25,3 +25,6 @@ loop-i-preserved c =
       end = so_far.end;
       room = omega arith;
     }
+
+pub returns-in_err-push_within-2-clause-kept : goal.returns-in_err-push_within-2-clause-kept
+returns-in_err-push_within-2-clause-kept c = StartsWith-along _ _ _ _ c.loop-i.invariant.pushed c.push_within-in-loop-i.ensures.kept

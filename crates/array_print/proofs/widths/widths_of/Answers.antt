@@ -1,6 +1,6 @@
 use Rattle.std.proofs.Common.{◌<◌, [], length, sym, ap, ◌∙◌, arith}
 use Rattle.array_print.specs.Words.{item_size, leaves_of, offsets}
-use Rattle.array_print.specs.Printed.{leaf_texts, leaf_widths, widths, items_from}
+use Rattle.array_print.specs.Printed.{leaf_widths}
 use Rattle.array_print.specs.inside.Shown.{widths_at}
 use Rattle.array_print.proofs.LeafLaws.{are-leaf-widths, count-widths}
 use Rattle.array_print.proofs.PartLaws.{no-items, whole-part, whole-offsets}
