@@ -1,9 +1,10 @@
 -- The ranks at which bools are true.
-use Rattle.std.proofs.Common.{◌≡◌, ◌⊎◌, inl, inr, ℕ, zero, suc, ◌+◌, ◌*◌, ◌<◌, ◌≤◌, true, false, List, [], ◌∷◌, ◌++◌, map, length, get_or, set, take, drop, refl, sym, ap, ◌∙◌, arith, append_assoc}
+use Rattle.std.proofs.Common.{◌≡◌, ◌⊎◌, inl, inr, ℕ, zero, suc, ◌+◌, ◌*◌, ◌<◌, ◌≤◌, true, false, List, [], ◌∷◌, ◌++◌, map, length, get_or, set, take, drop, refl, sym, ap, subst, ◌∙◌, arith, append_assoc}
 use Rattle.std.specs.List.{flat_map}
 use Rattle.std.specs.Ordering.{int_eq}
+use Rattle.std.proofs.lemmas.Int.{ints}
 use Rattle.std.proofs.lemmas.List.{get_or-map, length-map, get_or-drop, drop_more, map-append, take-set, take_more_set}
-use lib.IntN.{ℤ, pos}
+use lib.IntN.{ℤ, pos, ◌*ℤ◌}
 use Rattle.fancy_index.specs.Words.{Descr, Byte, Int, Bytes, truth, Run, run_offsets, length-run_offsets}
 use Rattle.elem_descr.specs.declared.descr.Descr.TheVariants.{Scalar as ScalarDescr, Record as RecordDescr}
 use Rattle.elem_descr.specs.declared.scalar.Scalar.TheVariants.{Bool as BoolScalar}
@@ -11,8 +12,9 @@ use Rattle.fancy_index.specs.declared.kind.Kind.TheVariants.{Mask}
 use Rattle.fancy_index.specs.IndexArrays.{kind_of, axes_of_kind}
 use Rattle.fancy_index.specs.Sources.{number_from}
 use Rattle.fancy_index.specs.declared.bools.Bools.{Bools}
-use Rattle.fancy_index.specs.inside.Bools.{bool_at, bools_in}
+use Rattle.fancy_index.specs.inside.Bools.{bool_at, bools_in, LieInBytes}
 use Rattle.fancy_index.specs.inside.PointLists.{true_ranks}
+use Rattle.fancy_index.proofs.RunLaws.{lies-there}
 
 -- ---- the bools of a mask
 
@@ -91,6 +93,16 @@ noted numbers found whole rank many k t few low room is so_far =
           ∙ so_far
     ]
 
+-- none of these is true
+pub none_true : (numbers : List ℤ) (rank k n : ℕ) → k + n ≤ length numbers → ((j : ℕ) → k ≤ j → j < k + n → get_or numbers j (pos 0) ≡ pos 0) →
+    true_ranks (rank + k) (drop k numbers) ≡ true_ranks (rank + (k + n)) (drop (k + n) numbers)
+none_true numbers rank k zero fits none = ap (λ j. true_ranks (rank + j) (drop j numbers)) (omega arith)
+none_true numbers rank k (suc n) fits none =
+    let later : k + 1 + n ≡ k + suc n = omega arith in
+    sym (noted numbers (0 ∷ []) _ rank 0 k 0 (omega arith) (omega (arith, fits)) (omega arith) (none k (omega arith) (omega arith)) refl)
+    ∙ none_true numbers rank (k + 1) n (omega (arith, fits)) (λ j low high. none j (omega (arith, low)) (omega (arith, high)))
+    ∙ ap (λ j. true_ranks (rank + j) (drop j numbers)) later
+
 pub length-bools : (bools : Bools) → length (bools_in bools) ≡ bools.run.count
 length-bools bools = length-map (run_offsets bools.run) (bool_at bools.bytes.now) ∙ length-run_offsets bools.run
 
@@ -98,6 +110,17 @@ length-bools bools = length-map (run_offsets bools.run) (bool_at bools.bytes.now
 pub bool-there : (bools : Bools) (k offset : ℕ) → k < bools.run.count → offset ≡ get_or (run_offsets bools.run) k 0 → get_or (bools_in bools) k (pos 0) ≡ bool_at bools.bytes.now offset
 bool-there bools k offset low is =
     get_or-map (bool_at bools.bytes.now) (run_offsets bools.run) k 0 (pos 0) (omega (arith, low, length-run_offsets bools.run)) ∙ ap (bool_at bools.bytes.now) (sym is)
+
+-- bools that lie one right after another
+module _ (bools : Bools) (lie : LieInBytes bools) (one : bools.run.step ≡ pos 1) (k : ℕ) (low : k < bools.run.count) where
+  offset-after : bools.run.offset + k ≡ get_or (run_offsets bools.run) k 0
+  offset-after = lies-there bools.run lie.limit k low (bools.run.offset + k) (omega (arith, ints, ap (λ step. step *ℤ pos k) one))
+
+  pub byte-within : bools.run.offset + k < length bools.bytes.now
+  byte-within = subst (λ (n : ℕ). n < length bools.bytes.now) (sym offset-after) (lie.inside k 0 (omega (arith, low, length-run_offsets bools.run)))
+
+  pub bool-after : get_or (bools_in bools) k (pos 0) ≡ bool_at bools.bytes.now (bools.run.offset + k)
+  bool-after = bool-there bools k (bools.run.offset + k) low offset-after
 
 -- ranks that were found are added
 pub found_added : (ranks ranks' found whole later later' : List ℕ) → ranks' ≡ ranks ++ found → found ++ later' ≡ later → ranks ++ later ≡ whole → ranks' ++ later' ≡ whole

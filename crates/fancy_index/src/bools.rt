@@ -1,10 +1,10 @@
 //! The ranks at which masks are true.
-ghost use Rattle.std.specs.Prelude.{◌≡◌, ◌+◌, ◌≤◌, ◌++◌, length, take, drop, IfOk, OnOk};
+ghost use Rattle.std.specs.Prelude.{ℕ, ◌≡◌, ◌+◌, ◌<◌, ◌≤◌, ◌++◌, length, take, drop, get_or, IsTrue, IfOk, OnOk};
 ghost use Rattle.fancy_index.specs.Words.{truth};
 ghost use Rattle.fancy_index.specs.declared.kind.Kind.TheVariants.{Mask};
 ghost use Rattle.fancy_index.specs.inside.Items.{kind_in, numbers_in};
 ghost use Rattle.fancy_index.specs.inside.PointLists.{true_ranks};
-ghost use Rattle.fancy_index.specs.inside.Bools.{bools_in, ranks_from, LieInBytes};
+ghost use Rattle.fancy_index.specs.inside.Bools.{bools_in, ranks_from, AreAll, LieInBytes};
 
 use arrays::Items;
 use shape_strides::{Run, Runs};
@@ -46,6 +46,61 @@ fn note_true(found: &mut [u32; 1024], bools: Bools<'_>, from: usize, end: usize)
     many
 }
 
+/// Writes the ranks of the bools from one on up to another, all of which are true.
+fn note_all(found: &mut [u32; 1024], bools: Bools<'_>, from: usize, end: usize) -> usize
+    requires lie { LieInBytes bools }
+    requires end { end ≤ bools.run.count }
+    requires few { end ≤ from + 1024 }
+    requires order { from ≤ end }
+    requires all { AreAll bools from end 1 }
+    ensures many { result ≤ 1024 }
+    ensures found { let left = ranks_from bools.entry end in
+        take result found.new ++ left ≡ ranks_from bools.entry from }
+{
+    for k in from..end {
+        found[k - from] = (bools.rank + k) as u32;
+    }
+    end - from
+}
+
+/// Whether the bytes from one on up to another are all the same.
+fn are_same(bytes: &[u8], from: usize, end: usize) -> bool
+    requires { end ≤ length bytes.now }
+    ensures { IsTrue result → (k : ℕ) → from ≤ k → k < end
+        → get_or bytes.now k 0 ≡ get_or bytes.now from 0 }
+{
+    let mut same = true;
+    for k in from..end {
+        same &= bytes[k] == bytes[from];
+    }
+    same
+}
+
+/// Writes the ranks of those bools of a block that are true. Where all of them are, or none is, and they
+/// lie one right after another, they need not be looked at one by one.
+fn note_block(found: &mut [u32; 1024], bools: Bools<'_>, from: usize, end: usize) -> usize
+    requires lie { LieInBytes bools }
+    requires end { end ≤ bools.run.count }
+    requires few { end ≤ from + 1024 }
+    requires some { from < end }
+    ensures many { result ≤ 1024 }
+    ensures found { let left = ranks_from bools.entry end in
+        take result found.new ++ left ≡ ranks_from bools.entry from }
+{
+    let Run { offset, step, .. } = bools.run;
+    if step != 1 {
+        return note_true(found, bools, from, end);
+    }
+    let first = offset + from;
+    if !are_same(bools.bytes, first, offset + end) {
+        note_true(found, bools, from, end)
+    } else if bools.bytes[first] == 0 {
+        0
+    } else {
+        note_all(found, bools, from, end)
+    }
+}
+
 /// Adds the ranks of the bools that are true, a block of them after the other.
 fn push_true(
     ranks: &mut Vec<u32>,
@@ -59,7 +114,7 @@ fn push_true(
     let mut from = 0;
     while from < bools.run.count {
         let end = bools.run.count.min(from + 1024);
-        let many = note_true(found, bools, from, end);
+        let many = note_block(found, bools, from, end);
         ranks.extend_from_slice(&found[..many])?;
         from = end;
     }

@@ -1,5 +1,5 @@
 -- Bools by the bytes that they stand in.
-use Rattle.std.specs.Prelude.{ℕ, ◌+◌, ◌<◌, ◌≤◌, ℤ, pos, List, [], ◌∷◌, map, length, get_or, drop, All}
+use Rattle.std.specs.Prelude.{ℕ, ◌≡◌, ◌+◌, ◌<◌, ◌≤◌, ℤ, pos, List, [], ◌∷◌, map, length, get_or, drop, All}
 use Rattle.fancy_index.specs.Words.{truth, LieWithin, max_items, max_bytes, run_offsets}
 use Rattle.fancy_index.specs.declared.bools.Bools.{Bools}
 use Rattle.fancy_index.specs.inside.PointLists.{true_ranks}
@@ -15,6 +15,10 @@ bools_in bools = map (bool_at bools.bytes.now) (run_offsets bools.run)
 -- the ranks of those from one on that are true
 abbrev pub ranks_from : Bools → ℕ → List ℕ
 ranks_from bools from = true_ranks (bools.rank + from) (drop from (bools_in bools))
+
+-- each of those from one on up to another has this number
+abbrev pub AreAll : Bools → ℕ → ℕ → ℕ → Type 0
+AreAll bools from end number = (k : ℕ) → from ≤ k → k < end → get_or (bools_in bools) k (pos 0) ≡ pos number
 
 -- they lie in their bytes, and have ranks within the limit
 pub record LieInBytes (bools : Bools) : Type 0 where
