@@ -29,12 +29,12 @@ fn truth(byte: u8) -> usize
 
 /// Writes the ranks of those bools that are true, from one on up to another, one after another, and
 /// returns how many there are. Each rank is written, and stays if its bool is true: there is no branch.
-fn note_true(found: &mut [u32; 1024], bools: Bools<'_>, from: usize, end: usize) -> usize
+fn note_true(found: &mut [u32; 512], bools: Bools<'_>, from: usize, end: usize) -> usize
     requires lie { LieInBytes bools }
     requires end { end ≤ bools.run.count }
-    requires few { end ≤ from + 1024 }
+    requires few { end ≤ from + 512 }
     requires order { from ≤ end }
-    ensures many { result ≤ 1024 }
+    ensures many { result ≤ 512 }
     ensures found { let left = ranks_from bools.entry end in
         take result found.new ++ left ≡ ranks_from bools.entry from }
 {
@@ -47,13 +47,13 @@ fn note_true(found: &mut [u32; 1024], bools: Bools<'_>, from: usize, end: usize)
 }
 
 /// Writes the ranks of the bools from one on up to another, all of which are true.
-fn note_all(found: &mut [u32; 1024], bools: Bools<'_>, from: usize, end: usize) -> usize
+fn note_all(found: &mut [u32; 512], bools: Bools<'_>, from: usize, end: usize) -> usize
     requires lie { LieInBytes bools }
     requires end { end ≤ bools.run.count }
-    requires few { end ≤ from + 1024 }
+    requires few { end ≤ from + 512 }
     requires order { from ≤ end }
     requires all { AreAll bools from end 1 }
-    ensures many { result ≤ 1024 }
+    ensures many { result ≤ 512 }
     ensures found { let left = ranks_from bools.entry end in
         take result found.new ++ left ≡ ranks_from bools.entry from }
 {
@@ -78,12 +78,12 @@ fn are_same(bytes: &[u8], from: usize, end: usize) -> bool
 
 /// Writes the ranks of those bools of a block that are true. Where all of them are, or none is, and they
 /// lie one right after another, they need not be looked at one by one.
-fn note_block(found: &mut [u32; 1024], bools: Bools<'_>, from: usize, end: usize) -> usize
+fn note_block(found: &mut [u32; 512], bools: Bools<'_>, from: usize, end: usize) -> usize
     requires lie { LieInBytes bools }
     requires end { end ≤ bools.run.count }
-    requires few { end ≤ from + 1024 }
+    requires few { end ≤ from + 512 }
     requires some { from < end }
-    ensures many { result ≤ 1024 }
+    ensures many { result ≤ 512 }
     ensures found { let left = ranks_from bools.entry end in
         take result found.new ++ left ≡ ranks_from bools.entry from }
 {
@@ -104,7 +104,7 @@ fn note_block(found: &mut [u32; 1024], bools: Bools<'_>, from: usize, end: usize
 /// Adds the ranks of the bools that are true, a block of them after the other.
 fn push_true(
     ranks: &mut Vec<u32>,
-    found: &mut [u32; 1024],
+    found: &mut [u32; 512],
     bools: Bools<'_>,
 ) -> Result<(), AllocError>
     requires { LieInBytes bools }
@@ -113,7 +113,7 @@ fn push_true(
 {
     let mut from = 0;
     while from < bools.run.count {
-        let end = bools.run.count.min(from + 1024);
+        let end = bools.run.count.min(from + 512);
         let many = note_block(found, bools, from, end);
         ranks.extend_from_slice(&found[..many])?;
         from = end;
@@ -129,7 +129,7 @@ pub(crate) fn true_ranks(alloc: Global, mask: Items<'_>) -> Result<Vec<u32>, All
     let _items = mask.layout.shape.items();
     let bytes = mask.block.bytes();
     let mut ranks = Vec::new(alloc);
-    let mut found = [0; 1024];
+    let mut found = [0; 512];
     let mut rank = 0;
     for run in Runs::new(mask.layout) {
         push_true(&mut ranks, &mut found, Bools { bytes, run, rank })?;
