@@ -1,12 +1,15 @@
 -- Runs that are moved, and runs of items that are copied and filled.
-use Rattle.std.proofs.Common.{◌≡◌, ℕ, ◌+◌, ◌-◌, ◌*◌, ◌<◌, ◌≤◌, ◌≤ℤ◌, List, [], ◌∷◌, map, length, get_or, All, sym, ap, subst, ◌∙◌, arith}
+use Rattle.std.proofs.Common.{◌≡◌, ℕ, ◌+◌, ◌-◌, ◌*◌, ◌<◌, ◌≤◌, ◌≤ℤ◌, List, [], ◌∷◌, map, length, get_or, All, sym, ap, subst, ◌∙◌, arith, mul_comm}
 use Rattle.std.proofs.lemmas.Int.{ints}
 use Rattle.std.proofs.lemmas.List.{length-map, get_or-map, get_or_default, same_lists}
 use Rattle.std.proofs.lemmas.List.Elements.{All-get_or}
+use Rattle.std.proofs.lemmas.Grind.{same_number_lists}
 use lib.IntN.{ℤ, pos, nat_abs, ◌+ℤ◌, ◌*ℤ◌, zero-*ℤ, *ℤ-zero, +ℤ_idr}
 use Rattle.fancy_index.specs.Words.{position, place, EachWithin, not_negative, Run, natural, LieWithin, max_bytes, run_offsets, length-run_offsets, nth-offset, place-at, lie-within}
 use Rattle.fancy_index.specs.inside.Moved.{moved_offset, IsMoved}
+use Rattle.fancy_index.specs.inside.Kept.{IsRunOf}
 use Rattle.arrays.specs.Packed.{row_offsets as packed}
+use Rattle.arrays.specs.PackedLaws.{length-row as length-packed}
 
 -- ---- a run that is moved
 
@@ -88,3 +91,29 @@ packed-entry at width n k low = nth-offset (record { offset = at; count = n; ste
   where
     there : natural (pos at +ℤ pos width *ℤ pos k) ≡ at + width * k
     there = omega arith
+
+pub run-of : (at width n : ℕ) (offsets : List ℕ) → packed at width n ≡ offsets → IsRunOf offsets (record { offset = at; count = n; step = pos width })
+run-of at width n offsets same =
+    let long : length offsets ≡ n = ap length (sym same) ∙ length-packed at width n in
+    record {
+      same = same;
+      count = sym long;
+      within = λ len size ends. record {
+        each = λ k low.
+            let end : at + width * k + size ≤ len = subst (λ o. o + size ≤ len) (ap (λ l. get_or l k 0) (sym same) ∙ packed-entry at width n k low) (ends k 0 (omega (arith, low, long))) in
+            let there : position at (pos width) k ≡ pos (at + width * k) = ap (λ n. pos (at + n)) (mul_comm k width) in
+            rw there (omega (arith, ints), omega (arith, ints, end));
+      };
+    }
+
+-- the items at shifts that rise evenly
+pub neighbours : (base place width : ℕ) (shifts : List ℕ) → base ≤ place + get_or shifts 0 0 → ((k : ℕ) → k < length shifts → get_or shifts k 0 ≡ get_or shifts 0 0 + k * width) →
+    packed (moved_offset base place (get_or shifts 0 0)) width (length shifts) ≡ map (moved_offset base place) shifts
+neighbours base place width shifts from even =
+    let first = moved_offset base place (get_or shifts 0 0) in
+    let long = length-packed first width (length shifts) in
+    same_number_lists (packed first width (length shifts)) (map (moved_offset base place) shifts) (long ∙ sym (length-map shifts (moved_offset base place))) (λ k below.
+    let low : k < length shifts = omega (arith, below, long) in
+    packed-entry first width (length shifts) k low
+    ∙ omega (arith, from, even k low, mul_comm width k)
+    ∙ sym (get_or-map (moved_offset base place) shifts k 0 0 low))

@@ -1,6 +1,7 @@
 -- Single items that are gathered, scattered and filled.
-use Rattle.std.proofs.Common.{◌≡◌, ℕ, ◌+◌, ◌-◌, ◌<◌, ◌≤◌, List, [], ◌∷◌, ◌++◌, map, length, get_or, drop, refl, sym, ap, ◌∙◌, arith, append-nil}
-use Rattle.std.proofs.lemmas.List.{drop_more}
+use Rattle.std.proofs.Common.{◌≡◌, ℕ, ◌+◌, ◌-◌, ◌<◌, ◌≤◌, List, [], ◌∷◌, ◌++◌, map, length, get_or, drop, slice_range, refl, sym, ap, ◌∙◌, arith, append-nil}
+use Rattle.std.proofs.lemmas.List.{drop_more, map-append}
+use Rattle.std.proofs.lemmas.List.Folds.{drop_split}
 use Rattle.fancy_index.specs.Words.{put, item_at, Layout, count, offsets, length-offsets, entry-first, assigned}
 use Rattle.fancy_index.specs.inside.Moved.{moved_offset, shifted_all}
 use Rattle.arrays.specs.Packed.{row_offsets as packed}
@@ -80,3 +81,12 @@ module _ (base place : ℕ) (shifts : List ℕ) (k start : ℕ) (low : k < lengt
 
   pub filled_one : (item block block' whole : List ℕ) → block' ≡ put start item block → length block' ≡ length block → Filling now item block whole → Filling later item block' whole
   filled_one item block block' whole written same have = filled_front now (start ∷ []) later item block block' whole split written same have
+
+-- ---- stretch after stretch
+
+pub split-part : (base place : ℕ) (shifts part : List ℕ) (from end : ℕ) → from ≤ end → part ≡ map (moved_offset base place) (slice_range shifts from end) →
+    map (moved_offset base place) (drop from shifts) ≡ part ++ map (moved_offset base place) (drop end shifts)
+split-part base place shifts part from end order is =
+    ap (map (moved_offset base place)) (drop_split shifts from end order)
+    ∙ map-append (moved_offset base place) (slice_range shifts from end) (drop end shifts)
+    ∙ ap (λ l. l ++ map (moved_offset base place) (drop end shifts)) (sym is)

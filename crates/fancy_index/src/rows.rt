@@ -1,9 +1,9 @@
 //! The axes of a plan, and the items to which they lead, row by row.
-ghost use Rattle.std.specs.Prelude.{◌≡◌, ◌<◌, ◌≤◌, All};
+ghost use Rattle.std.specs.Prelude.{ℕ, ◌≡◌, ◌+◌, ◌*◌, ◌<◌, ◌≤◌, All, length, get_or, IsTrue};
 ghost use Rattle.fancy_index.specs.Words.{max_bytes, offsets};
 ghost use Rattle.fancy_index.specs.inside.Moved.{moved_offset, IsMoved, AreStarts, AllStart};
 
-use shape_strides::Layout;
+use shape_strides::{Layout, Run};
 
 /// The axes of a plan. Both layouts begin where the first item would lie with all arrays 0.
 #[derive(Drop)]
@@ -47,6 +47,27 @@ pub(crate) fn moved(base: usize, start: usize, offset: usize) -> usize
     start + offset - base
 }
 
+/// Whether each of the shifts is the one before it and a step.
+fn rise_evenly(shifts: &[u32], step: u32) -> bool
+    requires some { 1 ≤ length shifts.now }
+    requires few { length shifts.now ≤ 128 }
+    ensures { IsTrue result → (k : ℕ) → k < length shifts.now
+        → get_or shifts.now k 0 ≡ get_or shifts.now 0 0 + k * step }
+{
+    let n = shifts.len();
+    let last = shifts[0] as usize + (n - 1) * step as usize;
+    if shifts[n - 1] as usize != last {
+        return false;
+    }
+    let mut even = true;
+    let mut next = shifts[0];
+    for k in 1..n {
+        next += step;
+        even &= shifts[k] == next;
+    }
+    even
+}
+
 impl PlanAxes {
     ghost use Rattle.fancy_index.specs.inside.Moved.{shifted_all};
     ghost use Rattle.fancy_index.specs.inside.Kept.{shifted_offsets};
@@ -68,13 +89,49 @@ impl PlanAxes {
 }
 
 impl<'a> Shifted<'a> {
-    ghost use Rattle.std.specs.Prelude.{IsTrue};
-    ghost use Rattle.fancy_index.specs.inside.Kept.{first_offsets, shifted_offsets};
+    ghost use Rattle.std.specs.Prelude.{◌+◌, length, map, slice_range, IsTrue, IfSome};
+    ghost use Rattle.fancy_index.specs.inside.Kept.{first_offsets, shifted_offsets, IsRunOf};
 
     /// Whether the inner axes have one item.
     pub(crate) fn is_single(self) -> bool
         ensures { IsTrue result → shifted_offsets self.entry ≡ first_offsets self.entry }
     {
         self.inner.shape.items() == 1
+    }
+
+    /// Those with the shifts from one on up to another.
+    pub(crate) fn part(self, from: usize, end: usize) -> Shifted<'a>
+        requires order { from ≤ end }
+        requires end { end ≤ length self.shifts.now }
+        ensures len { from + length result.shifts.now ≡ end }
+        ensures offsets { first_offsets result
+            ≡ map (moved_offset self.entry.inner.now.offset self.entry.place)
+            (slice_range self.entry.shifts.now from end) }
+    {
+        Shifted {
+            shifts: &self.shifts[from..end],
+            inner: self.inner,
+            place: self.place,
+        }
+    }
+
+    /// The first items as a run, where those of `width` bytes lie one right after another. Wide ones
+    /// gain nothing by it.
+    pub(crate) fn as_run(self, width: usize) -> Option<Run>
+        requires some { 1 ≤ length self.shifts.now }
+        requires few { length self.shifts.now ≤ 128 }
+        ensures { IfSome result (λ run. IsRunOf (first_offsets self.entry) run) }
+    {
+        if width > 64 {
+            return None;
+        }
+        if !rise_evenly(self.shifts, width as u32) {
+            return None;
+        }
+        Some(Run {
+            offset: moved(self.inner.offset, self.place, self.shifts[0] as usize),
+            count: self.shifts.len(),
+            step: width as isize,
+        })
     }
 }

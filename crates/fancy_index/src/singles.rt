@@ -98,7 +98,7 @@ fn push_any(items: BlockBuilder, block: &RawBlock, rows: Shifted<'_>, width: usi
 }
 
 /// Pushes the items at the shifted places, with a loop of its own for each usual width.
-pub(crate) fn push_singles(
+fn push_apart(
     items: BlockBuilder,
     block: &RawBlock,
     rows: Shifted<'_>,
@@ -117,6 +117,52 @@ pub(crate) fn push_singles(
         16 => push_each::<16>(items, block, rows),
         _ => push_any(items, block, rows, width),
     }
+}
+
+/// Pushes the items at the shifted places, all at once where they lie one right after another.
+fn push_stretch(
+    items: BlockBuilder,
+    block: &RawBlock,
+    rows: Shifted<'_>,
+    width: usize,
+) -> BlockBuilder
+    requires some { 1 ≤ length rows.shifts.now }
+    requires few { length rows.shifts.now ≤ 128 }
+    requires inside { All (λ offset. offset + width ≤ length block.now) (first_offsets rows) }
+    requires room { length (first_offsets rows) * width ≤ items.1 }
+    ensures bytes { result.0 ≡ items.0 ++ joined_at (first_offsets rows.entry) width block.now }
+    ensures left { length (first_offsets rows.entry) * width + result.1 ≡ items.1 }
+{
+    match rows.as_run(width) {
+        Some(run) => {
+            let mut items = items;
+            items.push_strided(block, run.offset, run.step, width, run.count);
+            items
+        }
+        None => push_apart(items, block, rows, width),
+    }
+}
+
+/// Pushes the items at the shifted places, stretch by stretch.
+pub(crate) fn push_singles(
+    items: BlockBuilder,
+    block: &RawBlock,
+    rows: Shifted<'_>,
+    width: usize,
+) -> BlockBuilder
+    requires inside { All (λ offset. offset + width ≤ length block.now) (first_offsets rows) }
+    requires room { length (first_offsets rows) * width ≤ items.1 }
+    ensures bytes { result.0 ≡ items.0 ++ joined_at (first_offsets rows.entry) width block.now }
+    ensures left { length (first_offsets rows.entry) * width + result.1 ≡ items.1 }
+{
+    let mut items = items;
+    let mut from = 0;
+    while from < rows.shifts.len() {
+        let end = rows.shifts.len().min(from + 128);
+        items = push_stretch(items, block, rows.part(from, end), width);
+        from = end;
+    }
+    items
 }
 
 /// Copies the items of `width` bytes that lie one after another from `at` on, each to a place that is

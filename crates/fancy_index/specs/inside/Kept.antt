@@ -1,6 +1,6 @@
 -- Where the items lie to which the axes of a plan lead.
-use Rattle.std.specs.Prelude.{ℕ, List, map, length}
-use Rattle.fancy_index.specs.Words.{assigned, row_offsets, offsets}
+use Rattle.std.specs.Prelude.{◌≡◌, ◌+◌, ◌≤◌, ℕ, List, map, length, All}
+use Rattle.fancy_index.specs.Words.{assigned, row_offsets, offsets, EachWithin, Run, run_offsets}
 use Rattle.fancy_index.specs.declared.rows.MovedLayout.{MovedLayout}
 use Rattle.fancy_index.specs.declared.rows.PlanAxes.{PlanAxes}
 use Rattle.fancy_index.specs.declared.rows.Shifted.{Shifted}
@@ -22,3 +22,9 @@ offsets_from axes = laid_offsets axes.outer axes.shifts.items axes.inner
 -- a block, with the items that lie one after another from `at` on put to these offsets
 abbrev pub put_packed : List ℕ → ℕ → ℕ → List ℕ → List ℕ → List ℕ
 put_packed to at width items block = assigned to (row_offsets at width (length to)) width items block
+
+-- a run of items that lie at these offsets
+pub record IsRunOf (offsets : List ℕ) (run : Run) : Type 0 where
+  pub same : run_offsets run ≡ offsets
+  pub count : run.count ≡ length offsets
+  pub within : (len width : ℕ) → All (λ offset. offset + width ≤ len) offsets → EachWithin len run.offset run.step width run.count

@@ -1,0 +1,21 @@
+use Rattle.std.proofs.Common.{◌≡◌, ◌≤◌, ◌++◌, map, drop, arith}
+use Rattle.fancy_index.specs.inside.Moved.{moved_offset}
+use Rattle.fancy_index.specs.inside.Kept.{first_offsets}
+use Rattle.fancy_index.proofs.Passes.{push_front, pushed_front}
+use Rattle.fancy_index.proofs.SingleLaws.{split-part}
+use Rattle.fancy_index.proofs.singles.push_singles.Goals as goal
+
+pub push_stretch-items-requires-clause-inside : goal.push_stretch-items-requires-clause-inside
+push_stretch-items-requires-clause-inside c =
+    let rows = c.args.rows in
+    let split = split-part rows.inner.now.offset rows.place rows.shifts.now _ c.loop-from.from c.min-end.result (omega (arith, c.loop-from-test.true, c.min-end.ensures)) c.part.ensures.offsets in
+    (push_front _ _ _ _ _ _ _ _ split c.loop-from.invariant.pass).inside
+
+pub loop-from-preserved : goal.loop-from-preserved
+loop-from-preserved c =
+    let rows = c.args.rows in
+    let split = split-part rows.inner.now.offset rows.place rows.shifts.now _ c.loop-from.from c.min-end.result (omega (arith, c.loop-from-test.true, c.min-end.ensures)) c.part.ensures.offsets in
+    record {
+      low = omega (arith, c.min-end.ensures);
+      pass = pushed_front _ _ _ _ _ _ _ _ _ split c.push_stretch-items.ensures.bytes c.push_stretch-items.ensures.left c.loop-from.invariant.pass;
+    }
