@@ -6,6 +6,7 @@ ghost use Rattle.arrays.specs.Packed.{row_offsets as packed};
 ghost use Rattle.fancy_index.specs.inside.Kept.{first_offsets};
 
 use crate::rows::{Shifted, moved};
+use arrays::{copy_run, packed_run};
 use raw_block::{BlockBuilder, RawBlock};
 
 /// The `N` bytes from `at` on, loaded at once.
@@ -194,7 +195,7 @@ fn scatter_each(
 }
 
 /// Copies items to the shifted places, with a loop of its own for each usual width.
-pub(crate) fn scatter_singles(
+fn scatter_apart(
     block: &mut RawBlock,
     rows: Shifted<'_>,
     items: &RawBlock,
@@ -215,6 +216,59 @@ pub(crate) fn scatter_singles(
         8 => scatter_each(block, rows, items, at, 8),
         _ => scatter_each(block, rows, items, at, width),
     }
+}
+
+/// Copies items to the shifted places, all at once where these lie one right after another.
+fn scatter_stretch(
+    block: &mut RawBlock,
+    rows: Shifted<'_>,
+    items: &RawBlock,
+    at: usize,
+    width: usize,
+) -> usize
+    requires some { 1 ≤ length rows.shifts.now }
+    requires few { length rows.shifts.now ≤ 128 }
+    requires inside { All (λ offset. offset + width ≤ length block.old) (first_offsets rows) }
+    requires room { at + length rows.shifts.now * width ≤ length items.now }
+    ensures written { let from = packed at width (length rows.entry.shifts.now) in
+        block.new ≡ assigned (first_offsets rows.entry) from width items.now block.old }
+    ensures len { length block.new ≡ length block.old }
+    ensures end { result ≡ at + length rows.entry.shifts.now * width }
+{
+    let len = items.len();
+    match rows.as_run(width) {
+        Some(run) => {
+            let from = packed_run(at, width, run.count, len);
+            copy_run(block, run, items, from, width);
+            at + run.count * width
+        }
+        None => scatter_apart(block, rows, items, at, width),
+    }
+}
+
+/// Copies items to the shifted places, stretch by stretch.
+pub(crate) fn scatter_singles(
+    block: &mut RawBlock,
+    rows: Shifted<'_>,
+    items: &RawBlock,
+    at: usize,
+    width: usize,
+) -> usize
+    requires inside { All (λ offset. offset + width ≤ length block.old) (first_offsets rows) }
+    requires room { at + length rows.shifts.now * width ≤ length items.now }
+    ensures written { let from = packed at width (length rows.entry.shifts.now) in
+        block.new ≡ assigned (first_offsets rows.entry) from width items.now block.old }
+    ensures len { length block.new ≡ length block.old }
+    ensures end { result ≡ at + length rows.entry.shifts.now * width }
+{
+    let mut at = at;
+    let mut from = 0;
+    while from < rows.shifts.len() {
+        let end = rows.shifts.len().min(from + 128);
+        at = scatter_stretch(block, rows.part(from, end), items, at, width);
+        from = end;
+    }
+    at
 }
 
 /// Writes the item at a place that is shifted by each shift. Where it is called with an item whose
