@@ -33,6 +33,17 @@ fn first_run(layout: &Layout) -> RunAt<'_>
     }
 }
 
+/// Begins again with the first run. Its frame is large, so it stays out of line.
+#[inline(never)]
+fn begin_again(at: &mut RunAt<'_>)
+    requires { 0 < count at.old.layout.now.shape }
+    ensures at { IsAtRun at.new }
+    ensures layout { at.new.layout.now ≡ at.old.layout.now }
+    ensures first { at.new.first ≡ 0 }
+{
+    *at = first_run(at.layout);
+}
+
 /// Goes on to the run of the item that has a rank.
 fn go_to(at: &mut RunAt<'_>, rank: usize)
     requires at { IsAtRun at.old }
@@ -64,7 +75,7 @@ fn offset_at(at: &mut RunAt<'_>, rank: usize) -> usize
 {
     let _items = at.layout.shape.items();
     if rank < at.first {
-        *at = first_run(at.layout);
+        begin_again(at);
     }
     go_to(at, rank);
     at.run.offset_after(rank - at.first)

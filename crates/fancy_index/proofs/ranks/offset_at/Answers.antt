@@ -18,7 +18,7 @@ offset_after-requires-clause-high c = high c.go_to.new.at c.go_to.ensures.at c.a
 pub returns-clause-value : goal.returns-clause-value
 returns-clause-value c =
     let same : c.if-rank-at.at.layout.now ≡ c.args.at.now.layout.now = elim c.if-rank-at.branch [
-      | then-rank-at w ↦ ap (λ (a : RunAt). a.layout.now) w.at-is ∙ w.first_run.ensures.layout
+      | then-rank-at w ↦ ap (λ (a : RunAt). a.layout.now) w.at-is ∙ w.begin_again.ensures.layout
       | else-rank-at w ↦ ap (λ (a : RunAt). a.layout.now) w.at-is
     ] in
     offset-is c.go_to.new.at c.go_to.ensures.at c.args.rank c.go_to.ensures.from c.go_to.ensures.below c.offset_after.result c.offset_after.ensures
