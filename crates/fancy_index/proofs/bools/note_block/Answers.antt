@@ -1,4 +1,4 @@
-use Rattle.std.proofs.Common.{rules, w64, to_z, ◌≡◌, ◌+◌, ◌-◌, ◌<◌, ◌≤◌, ℕ, zero, suc, length, get_or, refl, sym, ap, ◌∙◌, arith}
+use Rattle.std.proofs.Common.{rules, w64, to_z, ◌≡◌, ◌+◌, ◌-◌, ◌<◌, ℕ, length, get_or, refl, sym, ap, ◌∙◌, arith}
 use Rattle.std.proofs.lemmas.Int.{to_z-of_z}
 use lib.IntN.{pos}
 use mir.Val.{SFits}
@@ -49,4 +49,4 @@ returns-then-bools-first-eq0-clause-found c =
     let end : c.args.from + n ≡ c.args.end = omega (arith, c.requires.some) in
     let none = alike (goal.at.returns-then-bools-first-eq0-clause-found c).Else-not-are_same 0 (ap truth c.if-bools-first-eq0.true) in
     sym (none_true (bools_in bools) bools.rank c.args.from n (omega (arith, c.requires.end, end, length-bools bools)) (λ j low high. none j low (omega (arith, high, end)))
-        ∙ ap (ranks_from bools) end)
+    ∙ ap (ranks_from bools) end)

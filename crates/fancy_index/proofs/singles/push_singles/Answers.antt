@@ -1,6 +1,4 @@
-use Rattle.std.proofs.Common.{◌≡◌, ◌≤◌, ◌++◌, map, drop, arith}
-use Rattle.fancy_index.specs.inside.Moved.{moved_offset}
-use Rattle.fancy_index.specs.inside.Kept.{first_offsets}
+use Rattle.std.proofs.Common.{arith}
 use Rattle.fancy_index.proofs.Passes.{push_front, pushed_front}
 use Rattle.fancy_index.proofs.SingleLaws.{split-part}
 use Rattle.fancy_index.proofs.singles.push_singles.Goals as goal
