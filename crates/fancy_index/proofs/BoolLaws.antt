@@ -3,14 +3,15 @@ use Rattle.std.proofs.Common.{◌≡◌, ◌⊎◌, inl, inr, ℕ, zero, suc, �
 use Rattle.std.specs.List.{flat_map}
 use Rattle.std.specs.Ordering.{int_eq}
 use Rattle.std.proofs.lemmas.Int.{ints}
+use Rattle.std.proofs.lemmas.Simd.{map-map}
 use Rattle.std.proofs.lemmas.List.{get_or-map, length-map, get_or-drop, drop_more, map-append, take-set, take_more_set}
 use lib.IntN.{ℤ, pos, ◌*ℤ◌}
-use Rattle.fancy_index.specs.Words.{Descr, Byte, Int, Bytes, truth, Run, run_offsets, length-run_offsets}
+use Rattle.fancy_index.specs.Words.{Descr, Byte, Int, Bytes, item_from, truth, Run, run_offsets, length-run_offsets}
 use Rattle.elem_descr.specs.declared.descr.Descr.TheVariants.{Scalar as ScalarDescr, Record as RecordDescr}
 use Rattle.elem_descr.specs.declared.scalar.Scalar.TheVariants.{Bool as BoolScalar}
 use Rattle.fancy_index.specs.declared.kind.Kind.TheVariants.{Mask}
 use Rattle.fancy_index.specs.IndexArrays.{kind_of, axes_of_kind}
-use Rattle.fancy_index.specs.Sources.{number_from}
+use Rattle.fancy_index.specs.Sources.{first_number, number_from}
 use Rattle.fancy_index.specs.declared.bools.Bools.{Bools}
 use Rattle.fancy_index.specs.inside.Bools.{bool_at, bools_in, LieInBytes}
 use Rattle.fancy_index.specs.inside.PointLists.{true_ranks}
@@ -38,6 +39,11 @@ number-bool descr block offset is =
 
 pub numbers-are : (descr : Descr) (block offsets : List ℕ) → descr ≡ ScalarDescr BoolScalar → map (number_from descr block) offsets ≡ map (bool_at block) offsets
 numbers-are descr block offsets is = λ i. map (λ offset. number-bool descr block offset is i) offsets
+
+-- the numbers of items that are the same
+pub numbers-same : (descr descr' : Descr) (block block' os os' : List ℕ) → map (item_from descr block) os ≡ map (item_from descr' block') os' → map (number_from descr block) os ≡ map (number_from descr' block') os'
+numbers-same descr descr' block block' os os' same =
+    sym (map-map first_number (item_from descr block) os) ∙ ap (map first_number) same ∙ map-map first_number (item_from descr' block') os'
 
 -- ---- their ranks
 

@@ -6,7 +6,8 @@ ghost use Rattle.fancy_index.specs.inside.Items.{kind_in, numbers_in};
 ghost use Rattle.fancy_index.specs.inside.PointLists.{true_ranks};
 ghost use Rattle.fancy_index.specs.inside.Bools.{bools_in, ranks_from, AreAll, LieInBytes};
 
-use arrays::Items;
+use arrays::{Items, copy, goes_by_columns};
+use elem_descr::MemoryOrder;
 use shape_strides::{Run, Runs};
 use std::alloc::{AllocError, Global};
 
@@ -121,8 +122,8 @@ fn push_true(
     Ok(())
 }
 
-/// The ranks at which a mask is true.
-pub(crate) fn true_ranks(alloc: Global, mask: Items<'_>) -> Result<Vec<u32>, AllocError>
+/// The ranks at which a mask is true, read where it lies.
+fn ranks_in(alloc: Global, mask: Items<'_>) -> Result<Vec<u32>, AllocError>
     requires kind { kind_in mask ≡ Mask }
     ensures { IfOk result (λ v. v.items ≡ true_ranks 0 (numbers_in mask.entry)) }
 {
@@ -136,4 +137,19 @@ pub(crate) fn true_ranks(alloc: Global, mask: Items<'_>) -> Result<Vec<u32>, All
         rank += run.count;
     }
     Ok(ranks)
+}
+
+/// The ranks at which a mask is true. One that lies along its columns is copied first, if there is
+/// memory for that: the copy reads it block by block.
+pub(crate) fn true_ranks(alloc: Global, mask: Items<'_>) -> Result<Vec<u32>, AllocError>
+    requires kind { kind_in mask ≡ Mask }
+    ensures { IfOk result (λ v. v.items ≡ true_ranks 0 (numbers_in mask.entry)) }
+{
+    if !goes_by_columns(mask.layout) {
+        return ranks_in(alloc, mask);
+    }
+    match copy(alloc, mask.block, mask.layout, mask.descr, MemoryOrder::C) {
+        Ok(copied) => ranks_in(alloc, copied.items()),
+        Err(_) => ranks_in(alloc, mask),
+    }
 }

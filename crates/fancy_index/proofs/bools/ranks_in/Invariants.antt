@@ -3,7 +3,7 @@ use Rattle.std.specs.List.{flat_map}
 use Rattle.fancy_index.specs.Words.{LieWithin, offsets, max_bytes, max_items, run_offsets}
 use Rattle.fancy_index.specs.inside.Bools.{bool_at}
 use Rattle.fancy_index.specs.inside.PointLists.{true_ranks}
-use Rattle.fancy_index.proofs.bools.true_ranks.Given as goal
+use Rattle.fancy_index.proofs.bools.ranks_in.Given as goal
 
 abbrev pub invariant-loop-run : goal.invariant-loop-run
 invariant-loop-run l = record {
