@@ -6,7 +6,7 @@ use Rattle.std.proofs.Math.IntN.{*ℤ_comm}
 use Rattle.std.proofs.lemmas.Simd.{map-map}
 use lib.Signed.{◌≤ℤ◌}
 use Rattle.std.proofs.lemmas.List.{length-map, map-append, length-drop, take_all, drop-drop, drop_all}
-use Rattle.elementwise.specs.Words.{Descr, Leaf, size, item_size, item_from, decode_item, items_at, put, item_at, position, place, EachWithin, not_negative, position-add, numbers_from, numbers-split, natural, Side, with_items, Run, run_offsets, row_offsets, length-row, length-run_offsets, run_offsets-more}
+use Rattle.elementwise.specs.Words.{Descr, Leaf, size, item_size, item_from, decode_item, items_at, put, item_at, position, place, EachWithin, not_negative, position-add, numbers_from, numbers-split, natural, with_items, Run, run_offsets, row_offsets, length-row, length-run_offsets, run_offsets-more}
 use Rattle.elementwise.specs.inside.Columns.{with_leaves}
 use Rattle.elementwise.specs.inside.LeafCasts.{leaf_cast, leaf_from, run_part, cast_items}
 use Rattle.elementwise.specs.Casts.{cast_item}
@@ -64,24 +64,24 @@ leaf-put run source source' leaf leaf' len wide width row item bytes other rows 
 -- ---- the parts of a run
 
 -- where a part begins
-part-at : (side : Side) (k : ℕ) → k < side.run.count → pos (place side.run.offset side.run.step k) ≡ pos side.run.offset +ℤ side.run.step *ℤ pos k
-part-at side k low = not_negative (position side.run.offset side.run.step k) (side.within.each k low).0 ∙ ap (λ z. pos side.run.offset +ℤ z) (*ℤ_comm (pos k) side.run.step)
+part-at : (len width : ℕ) (run : Run) (k : ℕ) → EachWithin len run.offset run.step width run.count → k < run.count → pos (place run.offset run.step k) ≡ pos run.offset +ℤ run.step *ℤ pos k
+part-at len width run k within low = not_negative (position run.offset run.step k) (within.each k low).0 ∙ ap (λ z. pos run.offset +ℤ z) (*ℤ_comm (pos k) run.step)
 
 -- some of the first items, and then those of a part
-pub run-parts : (side : Side) (k n : ℕ) → k < side.run.count → run_offsets (record { offset = side.run.offset; count = k + n; step = side.run.step }) ≡ run_offsets (record { offset = side.run.offset; count = k; step = side.run.step }) ++ run_offsets (run_part side.run k n)
-run-parts side k n low =
-    let front = numbers_from (pos side.run.offset) side.run.step k in
-    ap (map natural) (numbers-split (pos side.run.offset) side.run.step k n)
-    ∙ map-append natural front (numbers_from (pos side.run.offset +ℤ side.run.step *ℤ pos k) side.run.step n)
-    ∙ ap (λ z. map natural front ++ map natural (numbers_from z side.run.step n)) (sym (part-at side k low))
+pub run-parts : (len width : ℕ) (run : Run) (k n : ℕ) → EachWithin len run.offset run.step width run.count → k < run.count → run_offsets (record { offset = run.offset; count = k + n; step = run.step }) ≡ run_offsets (record { offset = run.offset; count = k; step = run.step }) ++ run_offsets (run_part run k n)
+run-parts len width run k n within low =
+    let front = numbers_from (pos run.offset) run.step k in
+    ap (map natural) (numbers-split (pos run.offset) run.step k n)
+    ∙ map-append natural front (numbers_from (pos run.offset +ℤ run.step *ℤ pos k) run.step n)
+    ∙ ap (λ z. map natural front ++ map natural (numbers_from z run.step n)) (sym (part-at len width run k within low))
 
 -- a part lies within the bytes
-pub part-within : (side : Side) (k n : ℕ) → k < side.run.count → k + n ≤ side.run.count → EachWithin (length side.bytes.now) (place side.run.offset side.run.step k) side.run.step side.width n
-part-within side k n low ends = record {
+pub part-within : (len width : ℕ) (run : Run) (k n : ℕ) → EachWithin len run.offset run.step width run.count → k < run.count → k + n ≤ run.count → EachWithin len (place run.offset run.step k) run.step width n
+part-within len width run k n within low ends = record {
   each = λ j below.
-      let lies = side.within.each (k + j) (omega (arith, below, ends)) in
-      let at = position-add side.run.offset side.run.step k j (side.within.each k low).0 in
-      (subst (λ z. pos 0 ≤ℤ z) (sym at) lies.0, subst (λ z. (z +ℤ pos side.width) ≤ℤ pos (length side.bytes.now)) (sym at) lies.1);
+      let lies = within.each (k + j) (omega (arith, below, ends)) in
+      let at = position-add run.offset run.step k j (within.each k low).0 in
+      (subst (λ z. pos 0 ≤ℤ z) (sym at) lies.0, subst (λ z. (z +ℤ pos width) ≤ℤ pos len) (sym at) lies.1);
 }
 
 -- ---- items that are cast

@@ -56,17 +56,18 @@ pub use Rattle.raw_block.specs.JoinedLaws.{all_joined, joined-add, joined-same, 
 pub use Rattle.raw_block.specs.JoinedLaws.{item_of_joined, length-joined}
 pub use Rattle.elem_descr.specs.StepLaws.{numbers-split}
 pub use Rattle.elem_descr.specs.Steps.{numbers_from}
-pub use Rattle.shape_strides.specs.Addresses.{natural}
+pub use Rattle.shape_strides.specs.Addresses.{LieWithin, address_at, natural}
 pub use Rattle.shape_strides.specs.Contiguity.{fortran_order}
 pub use Rattle.shape_strides.specs.IndexLaws.{get_or-indexes, index_at, length-indexes, rank-lt}
 pub use Rattle.shape_strides.specs.IndexLaws.{same_on_indexes}
 pub use Rattle.shape_strides.specs.Indexes.{IsIndex, count, indexes, rank}
-pub use Rattle.shape_strides.specs.LayoutLaws.{length-offsets, offsets_within}
+pub use Rattle.shape_strides.specs.LayoutLaws.{get_or-offsets, length-offsets, offsets_within}
 pub use Rattle.shape_strides.specs.Layouts.{multiples}
 unfoldable pub use Rattle.shape_strides.specs.Layouts.{offsets}
-pub use Rattle.shape_strides.specs.Limits.{max_bytes}
+pub use Rattle.shape_strides.specs.Limits.{max_bytes, max_items}
 pub use Rattle.shape_strides.specs.PlaceLaws.{fits-offsets}
 pub use Rattle.shape_strides.specs.ReverseLaws.{IsIndex-reverse, count-reverse}
+pub use Rattle.shape_strides.specs.RunPairs.{run_front}
 unfoldable pub use Rattle.shape_strides.specs.RunPairs.{run_pairs}
 pub use Rattle.shape_strides.specs.Runs.{run_offsets}
 pub use Rattle.shape_strides.specs.WalkLaws.{length-run_offsets}
@@ -88,7 +89,7 @@ pub use Rattle.arrays.specs.FortranLaws.{fortran-all, fortran-at, length-fortran
 pub use Rattle.arrays.specs.ItemLists.{items, owned_items}
 pub use Rattle.arrays.specs.Packed.{row_offsets}
 pub use Rattle.arrays.specs.PackedLaws.{length-row, row-multiples, row-split}
-pub use Rattle.arrays.specs.RunLaws.{BeginsWithin, next_pair, place-at, run-within}
+pub use Rattle.arrays.specs.RunLaws.{BeginsWithin, lie-within, next_pair, nth-offset, place-at, run-ends, run-within}
 pub use Rattle.arrays.specs.RunLaws.{run_offsets-more, runs-within}
 pub use Rattle.arrays.specs.declared.items.Items.{Items}
 pub use Rattle.arrays.specs.declared.owned.Owned.{Owned}

@@ -1,3 +1,4 @@
+pub mod Chunks
 pub mod FieldCasts
 pub mod LeafCasts
 pub mod PairPasses

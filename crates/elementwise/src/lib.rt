@@ -8,6 +8,7 @@ mod bytes_compared;
 mod castable;
 mod casting;
 mod casts;
+mod chunks;
 mod compared;
 mod comparing;
 mod dividing;

@@ -1,5 +1,5 @@
 //! Casts and broadcasts operands, and combines them.
-ghost use Rattle.std.specs.Prelude.{◌≡◌, [], ◌∷◌, ◌≤◌, true, map, IfOk, IsTrue};
+ghost use Rattle.std.specs.Prelude.{◌≡◌, [], ◌∷◌, ◌≤◌, true, map, IfOk, IfSome, IsTrue};
 ghost use Rattle.elementwise.specs.Words.{size, item_size, can_stretch};
 ghost use Rattle.elem_descr.specs.declared.descr.Descr.TheVariants.{Scalar as ScalarDescr};
 ghost use Rattle.elementwise.specs.Casts.{can_cast, cast_item};
@@ -11,6 +11,7 @@ ghost use Rattle.elementwise.specs.inside.Works.{left_of, right_of, target_of, g
 
 use crate::alike::keeps_items;
 use crate::casts::cast_items;
+use crate::chunks::{CHUNK, InRuns, ItemsInRun, make_by_chunks};
 use crate::made::made;
 use crate::pairing::Pairing;
 use crate::rows::{Operand, Operands};
@@ -93,8 +94,8 @@ impl<'a> Fitted<'a> {
     }
 }
 
-/// What is made of the items of two arrays that are cast, and then stretched.
-pub(crate) fn make_cast(
+/// What is made of the items of two arrays that are cast, each as a whole, and then stretched.
+pub(crate) fn make_whole(
     alloc: Global,
     pairing: &Pairing<'_>,
     left: Items<'_>,
@@ -138,4 +139,69 @@ pub(crate) fn make_cast(
         }),
     };
     made(alloc, pairing, operands)
+}
+
+/// The operands as runs of items, if they are many, need not be stretched, and are not both of the type
+/// that they are cast to.
+fn in_runs<'a>(
+    pairing: &Pairing<'_>,
+    left: Items<'a>,
+    right: Items<'a>,
+    shape: &Shape,
+) -> Option<InRuns<'a>>
+    ensures left { IfSome result (λ both. both.left.items ≡ left.entry) }
+    ensures right { IfSome result (λ both. both.right.items ≡ right.entry) }
+    ensures shape { IfSome result (λ _. left.entry.layout.now.shape ≡ shape.now) }
+    ensures other { IfSome result (λ _. right.entry.layout.now.shape ≡ shape.now) }
+{
+    let lengths = shape.as_slice();
+    if shape.items() <= CHUNK
+        || left.layout.shape.as_slice() != lengths
+        || right.layout.shape.as_slice() != lengths
+    {
+        return None;
+    }
+    let first = keeps_items(left.block, left.descr, &Descr::Scalar(pairing.left()));
+    if first && keeps_items(right.block, right.descr, &Descr::Scalar(pairing.right())) {
+        return None;
+    }
+    Some(InRuns {
+        left: ItemsInRun {
+            items: left,
+            run: left.layout.as_one_run()?,
+        },
+        right: ItemsInRun {
+            items: right,
+            run: right.layout.as_one_run()?,
+        },
+    })
+}
+
+/// What is made of the items of two arrays that are cast, and then stretched.
+pub(crate) fn make_cast(
+    alloc: Global,
+    pairing: &Pairing<'_>,
+    left: Items<'_>,
+    right: Items<'_>,
+    shape: &Shape,
+) -> Result<Owned, AllocError>
+    requires can { CanPair pairing.now }
+    requires small { (size (left_of pairing.now) ≤ 8) × (size (right_of pairing.now) ≤ 8)
+        × (size (target_of pairing.now) ≤ 8) }
+    requires left { can_cast left.descr.now (ScalarDescr (left_of pairing.now)) ≡ true }
+    requires right { can_cast right.descr.now (ScalarDescr (right_of pairing.now)) ≡ true }
+    requires stretches { IsTrue (can_stretch left.layout.now.shape shape.now) }
+    requires also { IsTrue (can_stretch right.layout.now.shape shape.now) }
+    ensures { IfOk result
+        (IsMade (ScalarDescr (target_of pairing.now)) shape.now
+        (pairwise (λ x y.
+        gives pairing.now
+        (value_in (cast_item left.entry.descr.now (ScalarDescr (left_of pairing.now)) x))
+        (value_in (cast_item right.entry.descr.now (ScalarDescr (right_of pairing.now)) y)) ∷ [])
+        (stretched left.entry shape.now) (stretched right.entry shape.now))) }
+{
+    if let Some(both) = in_runs(pairing, left, right, shape) {
+        return make_by_chunks(alloc, pairing, both, shape);
+    }
+    make_whole(alloc, pairing, left, right, shape)
 }

@@ -35,7 +35,7 @@ loop-done-preserved c =
     let part = cast_items from to other (run_offsets (run_part side.run done next)) in
     let band : AreItems to part c.in_ok-band.band = subst (λ values. AreItems to values c.in_ok-band.band) (λ i. cast_items (c.part.ensures.descr i) to (c.part.ensures.bytes i) (run_offsets (c.part.ensures.run i))) c.in_ok-band.ensures in
     let values : cast_items from to other (run_offsets (record { offset = side.run.offset; count = done + next; step = side.run.step })) ≡ cast_items from to other front ++ part =
-    ap (cast_items from to other) (run-parts side done next c.loop-done-test.true) ∙ map-append _ front (run_offsets (run_part side.run done next)) in
+    ap (cast_items from to other) (run-parts (length side.bytes.now) side.width side.run done next side.within c.loop-done-test.true) ∙ map-append _ front (run_offsets (run_part side.run done next)) in
     let pushed = c.push_bytes.ensures.bytes ∙ ap (λ bytes. c.loop-done.cast.0 ++ bytes) c.bytes.ensures in
     record {
       few = omega (arith, c.min-next.ensures, inv.few);

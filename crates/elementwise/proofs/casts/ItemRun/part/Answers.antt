@@ -11,7 +11,7 @@ invariant_of-result c =
     let run = items.run in
     let n = c.args.count in
     let fits : SFits w64 run.step = search rules in
-    let within = part-within items c.args.first n (omega (arith, c.requires.some, c.requires.within)) c.requires.within in
+    let within = part-within (length items.bytes.now) items.width run c.args.first n items.within (omega (arith, c.requires.some, c.requires.within)) c.requires.within in
     record {
       few = omega (arith, items.few, c.requires.within);
       within = subst (λ at. EachWithin (length items.bytes.now) at (to_z w64 (of_z w64 run.step)) items.width n) (sym c.place.ensures) (subst (λ step. EachWithin (length items.bytes.now) (place run.offset run.step c.args.first) step items.width n) (sym (to_z-of_z w64 run.step fits)) within);

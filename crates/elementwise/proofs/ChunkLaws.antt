@@ -1,0 +1,140 @@
+-- Parts of runs as layouts of one axis, and what is given on them.
+use Rattle.std.proofs.Common.{◌≡◌, ◌+◌, ◌*◌, ◌<◌, ◌≤◌, All, ℕ, pos, ◌+ℤ◌, ◌*ℤ◌, List, [], ◌∷◌, ◌++◌, map, length, take_all, append-nil, get_or, sym, ap, subst, ◌∙◌, arith}
+use Rattle.std.proofs.lemmas.Int.{ints}
+use Rattle.std.proofs.lemmas.List.{length-map, map-append, same_lists, get_or_default}
+use Rattle.std.proofs.lemmas.List.Elements.{All-cons}
+use Rattle.std.specs.List.{flat_map}
+use Rattle.elem_descr.specs.declared.descr.Descr.TheVariants.{Scalar as ScalarDescr}
+use Rattle.std.proofs.Math.IntN.{*ℤ_comm}
+use lib.IntN.{+ℤ_idr, *ℤ-zero}
+use lib.Signed.{◌≤ℤ◌}
+use Rattle.elementwise.specs.Words.{Descr, Scalar, LeafValue, Items, size, encode, decode, encode_item, decode_item, item_from, one-encoded, length-encode, run_front, Layout, Run, BeginsWithin, IsIndex, address_at, natural, position, place, position-add, rank, count, offsets, run_offsets, max_bytes, lie-within, run-ends, run-within, nth-offset, get_or-offsets, length-offsets, length-run_offsets}
+use Rattle.elementwise.specs.Results.{pairwise, value_in}
+use Rattle.elementwise.specs.Casts.{cast_item}
+use Rattle.elementwise.specs.declared.chunks.ItemsInRun.{ItemsInRun}
+use Rattle.elementwise.specs.declared.pairing.Pairing.{Pairing}
+use Rattle.elementwise.specs.inside.Chunks.{given, run_items, all_given}
+use Rattle.elementwise.specs.inside.Held.{stretched}
+use Rattle.elementwise.specs.inside.LeafCasts.{run_part}
+use Rattle.elementwise.specs.inside.Made.{AreItems}
+use Rattle.elementwise.specs.inside.Works.{left_of, right_of, target_of, gives, CanPair}
+use Rattle.elementwise.proofs.ColumnLaws.{part-within, run-parts}
+use Rattle.elementwise.proofs.EncodedLaws.{items-append, no-items}
+use Rattle.elementwise.proofs.PairLaws.{length-pairwise, pairwise-append}
+use Rattle.elementwise.proofs.StretchedLaws.{stretches-itself}
+use Rattle.elementwise.proofs.WorkLaws.{pair_reads_back}
+
+-- a layout of one axis shows the items of a run
+pub one-axis : (l : Layout) (run : Run) → l.shape ≡ run.count ∷ [] → l.strides ≡ run.step ∷ [] → l.offset ≡ run.offset → offsets l ≡ run_offsets run
+one-axis l run shape strides offset =
+    let one : count (run.count ∷ []) ≡ run.count = omega arith in
+    let many : length (offsets l) ≡ length (run_offsets run) = length-offsets l ∙ ap count shape ∙ one ∙ sym (length-run_offsets run) in
+    same_lists (offsets l) (run_offsets run) many (λ k d below.
+    let low : k < run.count = omega (arith, below, many, length-run_offsets run) in
+    let in' : IsIndex l.shape (k ∷ []) = subst (λ s. IsIndex s (k ∷ [])) (sym shape) (low, tt) in
+    let first : k ≡ rank (run.count ∷ []) (k ∷ []) = omega arith in
+    ap (λ r. get_or (offsets l) r d) (first ∙ ap (λ s. rank s (k ∷ [])) (sym shape))
+    ∙ get_or-offsets l (k ∷ []) d in'
+    ∙ (λ i. natural (address_at (strides i) (offset i) (k ∷ [])))
+    ∙ ap (λ z. natural (pos run.offset +ℤ z)) (+ℤ_idr (run.step *ℤ pos k))
+    ∙ sym (nth-offset run k low)
+    ∙ get_or_default (run_offsets run) k 0 d (omega (arith, below, many)))
+
+-- the address of the item after k others
+pub address-of : (run : Run) (k : ℕ) → address_at (run.step ∷ []) run.offset (k ∷ []) ≡ position run.offset run.step k
+address-of run k = ap (λ z. pos run.offset +ℤ z) (+ℤ_idr (run.step *ℤ pos k) ∙ *ℤ_comm run.step (pos k))
+
+-- the first item lies within the limit
+pub begins-at : (run : Run) → 0 < run.count → BeginsWithin run → run.offset < max_bytes
+begins-at run some lies =
+    let here : address_at (run.step ∷ []) run.offset (0 ∷ []) ≡ pos run.offset = ap (λ z. pos run.offset +ℤ z) (+ℤ_idr (run.step *ℤ pos 0) ∙ *ℤ-zero run.step) ∙ +ℤ_idr (pos run.offset) in
+    let low = subst (λ z. (z +ℤ pos 1) ≤ℤ pos max_bytes) here (lies.within (0 ∷ []) (some, tt)) in
+    omega (arith, ints, low)
+
+-- a part of a run that begins within the limit does so too
+module _ (run : Run) (first n : ℕ) (lies : BeginsWithin run) (low : first < run.count) (ends : first + n ≤ run.count) where
+  at : (k : ℕ) → address_at (run.step ∷ []) (place run.offset run.step first) (k ∷ []) ≡ position run.offset run.step (first + k)
+  at k = address-of (run_part run first n) k ∙ position-add run.offset run.step first k ((lie-within max_bytes 1 run lies).each first low).0
+
+  from : (index : List ℕ) → IsIndex (n ∷ []) index → pos 0 ≤ℤ address_at (run.step ∷ []) (place run.offset run.step first) index
+  from [] in' = absurd in'
+  from (k ∷ []) in' = subst (λ z. pos 0 ≤ℤ z) (sym (at k)) ((lie-within max_bytes 1 run lies).each (first + k) (omega (arith, in'.0, ends))).0
+  from (k ∷ (j ∷ index)) in' = absurd in'.1
+
+  end : (index : List ℕ) → IsIndex (n ∷ []) index → (address_at (run.step ∷ []) (place run.offset run.step first) index +ℤ pos 1) ≤ℤ pos max_bytes
+  end [] in' = absurd in'
+  end (k ∷ []) in' = subst (λ z. (z +ℤ pos 1) ≤ℤ pos max_bytes) (sym (at k)) ((lie-within max_bytes 1 run lies).each (first + k) (omega (arith, in'.0, ends))).1
+  end (k ∷ (j ∷ index)) in' = absurd in'.1
+
+  pub part-begins : BeginsWithin (run_part run first n)
+  part-begins = record { from_zero = from; within = end }
+
+-- the items of a part lie where those of the run do
+pub part-inside : (len width : ℕ) (run : Run) (first n : ℕ) → BeginsWithin run → All (λ offset. offset + width ≤ len) (run_offsets run) → first < run.count → first + n ≤ run.count → All (λ offset. offset + width ≤ len) (run_offsets (run_part run first n))
+part-inside len width run first n lies ends low within =
+    run-ends len width (run_part run first n) (part-within len width run first n (run-within len width run lies ends) low within)
+
+-- ---- what is given on two lists of items
+
+-- its bytes are the items as they are encoded, and each is read back
+module _ (p : Pairing) (can : CanPair p) (from other : Descr) where
+  abbrev to : Scalar
+  to = target_of p
+
+  abbrev give : List LeafValue → List LeafValue → List LeafValue
+  give = given p from other
+
+  one-given : (x y : List LeafValue) → AreItems (ScalarDescr to) (give x y ∷ []) (encode_item (ScalarDescr to) (give x y))
+  one-given x y =
+      let value = gives p (value_in (cast_item from (ScalarDescr (left_of p)) x)) (value_in (cast_item other (ScalarDescr (right_of p)) y)) in
+      let bytes = encode_item (ScalarDescr to) (give x y) in
+      let is : bytes ≡ encode to value = one-encoded to value in
+      let wide : length bytes ≡ size to = ap length is ∙ length-encode to value in
+      let one : size to ≡ 1 * size to = omega arith in
+      record {
+        long = wide ∙ one;
+        encoded = sym (append-nil bytes);
+        wide = All-cons (λ v. length (encode_item (ScalarDescr to) v) ≡ size to) (give x y) [] wide (λ k d low. absurd (omega (arith, low)));
+        back = All-cons (λ v. decode_item (ScalarDescr to) (encode_item (ScalarDescr to) v) ≡ v) (give x y) []
+            (ap (λ l. decode to l ∷ []) (take_all (size to) bytes (omega (arith, wide)) ∙ is) ∙ ap (λ v. v ∷ []) (pair_reads_back p _ _ can))
+            (λ k d low. absurd (omega (arith, low)));
+      }
+
+  pub given-are : (xs ys : List (List LeafValue)) → AreItems (ScalarDescr to) (pairwise give xs ys) (flat_map (encode_item (ScalarDescr to)) (pairwise give xs ys))
+  given-are [] ys = no-items (ScalarDescr to)
+  given-are (x ∷ xs) [] = no-items (ScalarDescr to)
+  given-are (x ∷ xs) (y ∷ ys) = items-append (ScalarDescr to) (give x y ∷ []) (pairwise give xs ys) (encode_item (ScalarDescr to) (give x y)) (flat_map (encode_item (ScalarDescr to)) (pairwise give xs ys)) (one-given x y) (given-are xs ys)
+
+-- ---- what is given on the first items of two runs, and on those of a part behind them
+
+pub count-given : (p : Pairing) (x y : Items) (run other : Run) → run.count ≡ other.count → length (all_given p x y run other) ≡ run.count
+count-given p x y run other even =
+    let xs = run_items x run in
+    let ys = run_items y other in
+    let many : length xs ≡ run.count = length-map (run_offsets run) (item_from x.descr.now x.block.now) ∙ length-run_offsets run in
+    let many' : length ys ≡ other.count = length-map (run_offsets other) (item_from y.descr.now y.block.now) ∙ length-run_offsets other in
+    length-pairwise (given p x.descr.now y.descr.now) xs ys (many ∙ even ∙ sym many') ∙ many
+
+pub given-more : (p : Pairing) (x y : Items) (run other : Run) (k n : ℕ) → BeginsWithin run → BeginsWithin other → run.count ≡ other.count → k < run.count →
+    all_given p x y (run_front (k + n) run) (run_front (k + n) other) ≡ all_given p x y (run_front k run) (run_front k other) ++ all_given p x y (run_part run k n) (run_part other k n)
+given-more p x y run other k n lies lies' even low =
+    let give = given p x.descr.now y.descr.now in
+    let read = item_from x.descr.now x.block.now in
+    let read' = item_from y.descr.now y.block.now in
+    let first = ap (map read) (run-parts max_bytes 1 run k n (lie-within max_bytes 1 run lies) low) ∙ map-append read (run_offsets (run_front k run)) (run_offsets (run_part run k n)) in
+    let second = ap (map read') (run-parts max_bytes 1 other k n (lie-within max_bytes 1 other lies') (omega (arith, low, even))) ∙ map-append read' (run_offsets (run_front k other)) (run_offsets (run_part other k n)) in
+    let many : length (run_items x (run_front k run)) ≡ k = length-map (run_offsets (run_front k run)) read ∙ length-run_offsets (run_front k run) in
+    let many' : length (run_items y (run_front k other)) ≡ k = length-map (run_offsets (run_front k other)) read' ∙ length-run_offsets (run_front k other) in
+    (λ i. pairwise give (first i) (second i))
+    ∙ pairwise-append give (run_items x (run_front k run)) (run_items y (run_front k other)) (run_items x (run_part run k n)) (run_items y (run_part other k n)) (many ∙ sym many')
+
+-- a run that is all items of a layout
+pub count-run : (l : Layout) (run : Run) → run_offsets run ≡ offsets l → run.count ≡ count l.shape
+count-run l run same = sym (length-run_offsets run) ∙ ap length same ∙ length-offsets l
+
+-- the items along it, in the layout's own shape
+pub run-stretched : (x : ItemsInRun) (given : Items) (shape : List ℕ) → x.items ≡ given → given.layout.now.shape ≡ shape → run_items x.items x.run ≡ stretched given shape
+run-stretched x given shape is same =
+    ap (map (item_from x.items.descr.now x.items.block.now)) x.same
+    ∙ (λ i. map (item_from (is i).descr.now (is i).block.now) (offsets (is i).layout.now))
+    ∙ ap (map (item_from given.descr.now given.block.now)) (stretches-itself given.layout.now shape same).places
