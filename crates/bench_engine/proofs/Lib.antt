@@ -29,7 +29,6 @@ pub mod IndexLaws
 pub mod TargetLaws
 pub mod GivenLaws
 pub mod PartLaws
-pub mod SetOutcomes
 pub mod StretchLaws
 pub mod OperandLaws
 pub mod WorkLaws

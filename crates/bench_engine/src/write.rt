@@ -198,13 +198,11 @@ pub fn set(bench: &mut Bench, assignment: Assignment<'_>, out: &mut Vec<u8>) -> 
     let Some(array) = bench.get(assignment.name) else {
         return Err(Refusal::UnknownName);
     };
-    if !are_bound(bench, assignment.index.as_slice()) {
+    let index = assignment.index.as_slice();
+    if !are_bound(bench, index) || !has_bound(bench, assignment.value) {
         return Err(Refusal::UnknownName);
     }
-    if !has_bound(bench, assignment.value) {
-        return Err(Refusal::UnknownName);
-    }
-    let target = target_of(alloc, bench, &array, assignment.index.as_slice())?;
+    let target = target_of(alloc, bench, &array, index)?;
     // What is known of the number of items of a shape comes with this call.
     let _count = target.shape().items();
     let writing = new_items(alloc, bench, &array, target, assignment)?;
