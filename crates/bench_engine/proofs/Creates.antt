@@ -2,7 +2,7 @@
 use Rattle.std.proofs.Common.{subst, IsTrue, ◌≡◌, ℕ, Bool, true, false, List, ◌++◌, length, refl, sym, ap, ◌∙◌, Result, Ok, Err, ◌⊎◌, inl, inr, take}
 use Rattle.std.specs.Io.{StartsWith}
 use Rattle.std.proofs.Math.Seq.{take-append_seam}
-use Rattle.bench_engine.specs.Words.{Refusal, OutOfMemory, TooManyNames, Owned, State, has_room_for, bound_to, AnswersBind, Fresh}
+use Rattle.bench_engine.specs.Words.{Refusal, OutOfMemory, Owned, State, has_room_for, bound_to, AnswersBind, Fresh}
 use Rattle.bench_engine.specs.Contents.{Contents, array_over}
 use Rattle.bench_engine.specs.inside.OwnContents.{held}
 use Rattle.bench_engine.specs.inside.Contract.{IsRefused, CarriesOut}
@@ -11,23 +11,11 @@ use Rattle.bench_engine.specs.declared.replies.Origin.{Origin}
 use Rattle.bench_engine.specs.declared.replies.Origin.TheVariants as origin
 use Rattle.bench_engine.specs.Replies.{bound_text}
 
-pub creation-many : (choice : Choice) (s : State) (name : List ℕ) (contents : Result Contents Refusal) → has_room_for s name ≡ false → creation_outcome choice s name contents ≡ Err TooManyNames
-unfolding creation_outcome
-creation-many choice s name contents full = rw full refl
-
-creation-bad : (choice : Choice) (s : State) (name : List ℕ) (contents : Result Contents Refusal) (e : Refusal) → has_room_for s name ≡ true → contents ≡ Err e → creation_outcome choice s name contents ≡ Err e
-unfolding creation_outcome
-creation-bad choice s name contents e room bad = rw (room, bad) refl
-
-creation-done : (choice : Choice) (s : State) (name : List ℕ) (contents : Result Contents Refusal) (new : Contents) → has_room_for s name ≡ true → contents ≡ Ok new →
-    creation_outcome choice s name contents ≡ bound_new choice s name origin.New new
-unfolding creation_outcome
-creation-done choice s name contents new room good = rw (room, good) refl
-
 pub creation-refused : (s : State) (name : List ℕ) (contents : Result Contents Refusal) (e : Refusal) → has_room_for s name ≡ true → (e ≡ OutOfMemory) ⊎ (contents ≡ Err e) →
     IsRefused true (λ choice. creation_outcome choice s name contents) e
+unfolding creation_outcome
 creation-refused s name contents e room (inl lacks) = inl (lacks, refl)
-creation-refused s name contents e room (inr bad) = inr (λ choice. creation-bad choice s name contents e room bad)
+creation-refused s name contents e room (inr bad) = inr (λ choice. rw (room, bad) refl)
 
 pub starts : (before reply after : List ℕ) → after ≡ before ++ reply → StartsWith after before
 starts before reply after is = ap (take (length before)) is ∙ take-append_seam before reply
@@ -57,5 +45,6 @@ same-answers s new may may' outcome outcome' before after (Err e) can same (kept
 -- what is bound is what the command makes
 pub made-answers : (s new : State) (name : List ℕ) (contents : Result Contents Refusal) (o : Owned) (result : Result (Unit {0}) Refusal) (before after : List ℕ) → has_room_for s name ≡ true → contents ≡ Ok (held o) →
     CarriesOut true (λ choice. bound_new choice s name origin.New (held o)) s new before after result → CarriesOut true (λ choice. creation_outcome choice s name contents) s new before after result
+unfolding creation_outcome
 made-answers s new name contents o result before after room good h =
-    same-answers s new true true (λ choice. bound_new choice s name origin.New (held o)) (λ choice. creation_outcome choice s name contents) before after result refl (λ choice. creation-done choice s name contents (held o) room good) h
+    same-answers s new true true (λ choice. bound_new choice s name origin.New (held o)) (λ choice. creation_outcome choice s name contents) before after result refl (λ choice. rw (room, good) refl) h

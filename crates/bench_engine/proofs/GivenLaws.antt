@@ -78,9 +78,6 @@ abbrev part_in : Array → List ℕ → List ℕ → Array
 part_in array shape places = record array { shape = shape; places = places }
 
 module _ (s : State) (operand : Operand) (descr : Descr) (shape : List ℕ) where
-  pub items-bad : (e : Refusal) → operand_part s operand ≡ Err e → argument_items s (argument.Operand operand) descr shape ≡ Err e
-  items-bad e bad = rw bad refl
-
   -- the items of the part, which stand in a block
   module _ (part : Array) (good : operand_part s operand ≡ Ok part) (x : Items) (stands : StandsFor s part x) where
     items-narrow : (e : Refusal) → stretched_into part.shape shape ≡ Err e → argument_items s (argument.Operand operand) descr shape ≡ Err e

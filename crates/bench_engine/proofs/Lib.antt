@@ -1,6 +1,5 @@
 pub mod Capped
 pub mod Creates
-pub mod Deletes
 pub mod Feeding
 pub mod Answered
 pub mod Assigns
@@ -23,7 +22,6 @@ pub mod Reshapes
 pub mod SavedFiles
 pub mod Steps
 mod Vectors
-pub mod Undoes
 pub mod Views
 pub mod IndexLaws
 pub mod TargetLaws

@@ -30,11 +30,8 @@ unfolding load_outcome
 load-done choice s name found l good = rw good refl
 
 -- there is no room for the name
-full-step : (s : State) (shelf : StoreState) (name file : List ℕ) → has_room_for s name ≡ false → LoadStep (world s shelf) name file (world s shelf) (refusal TooManyNames)
-full-step s shelf name file full = rw full (refl, refl)
-
 pub load-full : (s : State) (shelf : StoreState) (name file : List ℕ) → has_room_for s name ≡ false → MayAnswer (world s shelf) (Bind name (LoadValue file)) (world s shelf) (refusal TooManyNames)
-load-full s shelf name file full = inl (full-step s shelf name file full)
+load-full s shelf name file full = inl (rw full (refl, refl))
 
 -- want of memory once the store was asked is an answer of the store
 load-lacks : (s t : State) (old new : StoreState) (name file : List ℕ) (found : Found) (e : Refusal) → has_room_for s name ≡ true → MayFind old new file found → t ≡ s → e ≡ OutOfMemory → LoadStep (world s old) name file (world t new) (refusal e)

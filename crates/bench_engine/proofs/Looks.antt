@@ -1,17 +1,17 @@
 -- Names that are looked up, and what is answered of their arrays.
-use Rattle.std.proofs.Common.{◌≡◌, ℕ, true, List, [], Ok, length, refl, sym, ap, subst, ◌∙◌, take_all, Option, Some, None, Err, is_some, arith}
+use Rattle.std.proofs.Common.{◌≡◌, ℕ, true, List, [], Ok, length, refl, sym, ap, subst, take_all, Option, Some, None, Err, is_some, arith}
 use Rattle.std.specs.Io.{StartsWith}
-use Rattle.bench_engine.specs.Words.{UnknownName, Refusal, Ask, Print, Descr, offsets, array_text, items_from, State, find_array, is_bound, descr_of, read, Finds, Shows, ArrayRef}
+use Rattle.bench_engine.specs.Words.{UnknownName, Refusal, Ask, Print, offsets, array_text, items_from, State, find_array, is_bound, Finds, Shows, ArrayRef}
 use Rattle.name_store.specs.States.{Array}
 use Rattle.script_lang.specs.declared.command.Question.TheVariants as question
 use Rattle.std.proofs.Math.Bool.{and-true}
-use Rattle.bench_engine.specs.Replies.{format_text, refusal}
+use Rattle.bench_engine.specs.Replies.{refusal}
 use Rattle.bench_engine.specs.Steps.{world}
 use Rattle.bench_engine.specs.Memory.{may_lack_memory, MayAnswer}
 use Rattle.bench_engine.specs.inside.Contract.{IsRefused}
 use Rattle.bench_engine.specs.inside.Printing.{MayPrint}
 use Rattle.bench_engine.proofs.Steps.{spare, carried}
-use Rattle.bench_engine.specs.Machine.{question_outcome, print_outcome, format_outcome, accepted_with}
+use Rattle.bench_engine.specs.Machine.{question_outcome, print_outcome, accepted_with}
 
 -- what has not changed
 pub unchanged : (xs : List ℕ) → StartsWith xs xs
@@ -30,15 +30,10 @@ pub print-unknown : (s : State) (name : List ℕ) → find_array s.names name �
 unfolding print_outcome
 print-unknown s name none = rw none refl
 
-print-done : (s : State) (name : List ℕ) (a : Array) → find_array s.names name ≡ Some a → print_outcome s name ≡ accepted_with s (array_text (descr_of s a) a.shape (read s a))
-unfolding print_outcome
-print-done s name a is = rw is refl
-
 pub print-found : (s : State) (name : List ℕ) (a : Array) (r : ArrayRef) → find_array s.names name ≡ Some a → Shows s a r →
     print_outcome s name ≡ accepted_with s (array_text r.descr.now r.layout.now.shape (items_from r.descr.now r.block.now (offsets r.layout.now)))
-print-found s name a r is shows =
-    print-done s name a is
-    ∙ λ i. accepted_with s (array_text (shows.descr i) (sym shows.view.laid.shape i) (shows.reads i))
+unfolding print_outcome
+print-found s name a r is shows = rw is (λ i. accepted_with s (array_text (shows.descr i) (sym shows.view.laid.shape i) (shows.reads i)))
 
 -- what is printed, and what is refused
 pub may-print : (s : State) (name text : List ℕ) → print_outcome s name ≡ accepted_with s text → MayPrint s name (record { text = text; accepted = true })
@@ -50,15 +45,3 @@ may-print s name text is shelf =
 pub may-refuse : (s : State) (name : List ℕ) (r : Refusal) → IsRefused (is_bound s name) (λ choice. print_outcome s name) r → MayPrint s name (refusal r)
 may-refuse s name r is shelf =
     (carried s s shelf (may_lack_memory s (Ask (Print name))) (λ choice. question_outcome s (question.Print name)) [] [] (Err r) (refl, unchanged [], rw and-true is)).1
-
--- format
-pub format-unknown : (s : State) (name : List ℕ) → find_array s.names name ≡ None → format_outcome s name ≡ Err UnknownName
-unfolding format_outcome
-format-unknown s name none = rw none refl
-
-format-done : (s : State) (name : List ℕ) (a : Array) → find_array s.names name ≡ Some a → format_outcome s name ≡ accepted_with s (format_text (descr_of s a))
-unfolding format_outcome
-format-done s name a is = rw is refl
-
-pub format-found : (s : State) (name : List ℕ) (a : Array) (r : ArrayRef) → find_array s.names name ≡ Some a → Shows s a r → format_outcome s name ≡ accepted_with s (format_text r.descr.now)
-format-found s name a r is shows = format-done s name a is ∙ ap (λ (d : Descr). accepted_with s (format_text d)) shows.descr

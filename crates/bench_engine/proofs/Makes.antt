@@ -1,6 +1,6 @@
 -- What the commands that make an array put into it, by the ways in which they end.
-use Rattle.std.proofs.Common.{◌≡◌, ◌≢◌, ◌≤◌, ◌<◌, ◌*◌, ℕ, zero, suc, ℤ, List, [], ◌∷◌, length, drop, map, replicate, refl, sym, ap, ◌∙◌, Result, Ok, Err, IfOk, IfErr, nat_le, if◌then◌else◌, ◌⊎◌, inl, inr, arith}
-use Rattle.std.proofs.lemmas.Bool.{le-leb, lt-leb, ne_eqb, eq-eqb}
+use Rattle.std.proofs.Common.{◌≡◌, ◌≢◌, ◌≤◌, ◌*◌, ℕ, zero, suc, ℤ, List, [], ◌∷◌, length, drop, map, replicate, refl, sym, ap, ◌∙◌, Result, Ok, Err, IfOk, IfErr, nat_le, if◌then◌else◌, ◌⊎◌, inl, inr, arith}
+use Rattle.std.proofs.lemmas.Bool.{le-leb, ne_eqb, eq-eqb}
 use Rattle.std.proofs.lemmas.List.{length-map}
 use Rattle.bench_engine.specs.Words.{Refusal, OutOfMemory, TooLarge, NumberOfValues, Scalar, Descr, Gives, Answers, descriptor, size, item_size, decode_item, blocks, items_in, LeafValue, max_bytes, max_items, C, count, offsets, offsets_in, places_of, shape_of, Literal, Owned, item_value, item_values, range_items}
 use Rattle.elem_descr.specs.declared.descr.Descr.TheVariants.{Scalar as ScalarDescr}
@@ -15,14 +15,6 @@ use Rattle.bench_engine.proofs.Zeros.{items_in-zeros}
 pub passed : {X Y : Type 0} (x : Result X Refusal) (y : Result Y Refusal) (e : Refusal) → (x ≡ Err e → y ≡ Err e) → (e ≡ OutOfMemory) ⊎ (x ≡ Err e) → (e ≡ OutOfMemory) ⊎ (y ≡ Err e)
 passed x y e on (inl lacks) = inl lacks
 passed x y e on (inr is) = inr (on is)
-
-pub type-large : (text lengths : List ℕ) (descr : Descr) (shape : List ℕ) → descriptor text ≡ Ok descr → shape_of lengths ≡ Ok shape → max_bytes < count shape * item_size descr → array_type text lengths ≡ Err TooLarge
-unfolding array_type
-type-large text lengths descr shape good fits large = rw (good, fits, lt-leb (count shape * item_size descr) max_bytes large) refl
-
-pub type-done : (text lengths : List ℕ) (descr : Descr) (shape : List ℕ) → descriptor text ≡ Ok descr → shape_of lengths ≡ Ok shape → count shape * item_size descr ≤ max_bytes → array_type text lengths ≡ Ok (descr, shape)
-unfolding array_type
-type-done text lengths descr shape good fits small = rw (good, fits, le-leb (count shape * item_size descr) max_bytes small) refl
 
 -- what a block holds
 pub held-is : (o : Owned) (descr : Descr) (shape bytes : List ℕ) (items : List (List LeafValue)) → o.descr ≡ descr → o.layout.shape ≡ shape → o.block ≡ bytes → items ≡ items_in descr (count shape) bytes → IsInCOrder o → new_contents descr shape items ≡ held o

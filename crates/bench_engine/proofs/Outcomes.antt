@@ -1,11 +1,10 @@
 -- What the question whether two arrays share cells comes to.
-use Rattle.std.proofs.Common.{◌≡◌, ℕ, true, false, ◌&&◌, is_some, inl, inr, List, refl, sym, ap, ◌∙◌, Option, Some, None, Ok, Err}
-use Rattle.std.specs.List.{list_all}
-use Rattle.bench_engine.specs.Words.{Refusal, UnknownName, TooManyNames, Viewing, State, find_array, is_bound, has_room_for, descr_of, addresses, share_cells, AnswersShares}
+use Rattle.std.proofs.Common.{◌≡◌, ℕ, false, ◌&&◌, is_some, inl, inr, List, refl, sym, ap, ◌∙◌, Option, Some, None, Err}
+use Rattle.bench_engine.specs.Words.{Refusal, UnknownName, State, find_array, is_bound, share_cells, AnswersShares}
 use Rattle.name_store.specs.States.{Array}
 use Rattle.bench_engine.specs.inside.Contract.{IsRefused}
-use Rattle.bench_engine.specs.Machine.{Choice, ViewOrCopy, seen, names_in_viewing, view_outcome, bound_seen, info_outcome, shares_outcome, accepted_with}
-use Rattle.bench_engine.specs.Replies.{info_text, shares_text}
+use Rattle.bench_engine.specs.Machine.{shares_outcome, accepted_with}
+use Rattle.bench_engine.specs.Replies.{shares_text}
 
 pub shares-done : (s : State) (left right : List ℕ) (a b : Array) → find_array s.names left ≡ Some a → find_array s.names right ≡ Some b → shares_outcome s left right ≡ accepted_with s (shares_text (share_cells s a b))
 unfolding shares_outcome

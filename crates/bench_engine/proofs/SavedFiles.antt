@@ -1,6 +1,6 @@
 -- Arrays that are saved.
 use Rattle.std.proofs.Common.{◌≡◌, ◌⊎◌, ◌∙◌, ℕ, true, List, ◌++◌, length, map, codes, decimal, refl, sym, ap, inl, inr, subst, Some, None, Result, Ok, Err}
-use Rattle.bench_engine.specs.Words.{Refusal, UnknownName, OutOfMemory, item_from, offsets, StoreState, IsSameStore, FaultHasCause, IsKept, IsWritten, saved, Save, State, find_array, is_bound, addresses, descr_of, read, Shows, ArrayRef}
+use Rattle.bench_engine.specs.Words.{Refusal, UnknownName, OutOfMemory, item_from, offsets, StoreState, IsSameStore, FaultHasCause, IsKept, IsWritten, saved, Save, State, find_array, is_bound, Shows, ArrayRef}
 use Rattle.name_store.specs.States.{Array}
 use Rattle.bench_engine.specs.Replies.{Reply, refusal}
 use Rattle.bench_engine.specs.Steps.{world, store_refusal, Stored, file_of_name, save_reply, SaveStep}
@@ -11,15 +11,11 @@ unknown : (s : State) (name : List ℕ) → find_array s.names name ≡ None →
 unfolding file_of_name
 unknown s name none = rw none refl
 
-file-known : (s : State) (name : List ℕ) (a : Array) → find_array s.names name ≡ Some a → file_of_name s name ≡ saved (descr_of s a) a.shape (addresses s a) (read s a)
-unfolding file_of_name
-file-known s name a is = rw is refl
-
 -- the file of an array as it is shown
 file-shown : (s : State) (name : List ℕ) (a : Array) (r : ArrayRef) → find_array s.names name ≡ Some a → Shows s a r →
     file_of_name s name ≡ saved r.descr.now r.layout.now.shape (offsets r.layout.now) (map (item_from r.descr.now r.block.now) (offsets r.layout.now))
-file-shown s name a r is shows =
-    file-known s name a is ∙ λ i. saved (shows.descr i) (sym shows.view.laid.shape i) (sym shows.view.laid.places i) (shows.reads i)
+unfolding file_of_name
+file-shown s name a r is shows = rw is (λ i. saved (shows.descr i) (sym shows.view.laid.shape i) (sym shows.view.laid.places i) (shows.reads i))
 
 -- there is no file
 not-there : (s : State) (shelf : StoreState) (name file : List ℕ) (e : Refusal) → file_of_name s name ≡ Err e → SaveStep (world s shelf) name file (world s shelf) (refusal e)

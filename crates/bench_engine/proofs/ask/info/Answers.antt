@@ -1,4 +1,4 @@
-use Rattle.std.proofs.Common.{◌≡◌, sym, refl, ◌∙◌, inr}
+use Rattle.std.proofs.Common.{◌≡◌, sym, refl, inr}
 use Rattle.bench_engine.specs.Words.{offsets, addresses}
 use Rattle.bench_engine.specs.Replies.{info_text}
 use Rattle.name_store.specs.ArrayLaws.{found-array as found}

@@ -1,7 +1,8 @@
 use Rattle.std.proofs.Common.{◌≡◌, ◌*◌, inr, arith, refl}
+use Rattle.std.proofs.lemmas.Bool.{le-leb, lt-leb}
 use Rattle.std.proofs.lemmas.Result.{err_from_is_err_and}
-use Rattle.bench_engine.specs.Words.{descriptor, item_size, count, shape_of}
-use Rattle.bench_engine.proofs.Makes.{passed, type-large, type-done}
+use Rattle.bench_engine.specs.Words.{descriptor, item_size, max_bytes, count, shape_of}
+use Rattle.bench_engine.proofs.Makes.{passed}
 use Rattle.bench_engine.specs.Contents.{array_type}
 use Rattle.bench_engine.proofs.create.array_type.Goals as goal
 
@@ -18,14 +19,16 @@ returns-in_err-shape-clause-value c =
     rw (p.1, p.2) (passed (shape_of c.args.lengths.now) _ _ (λ bad. rw (rw c.as_slice.ensures at c.in_ok-descr.ensures, bad) refl) c.in_err-shape.ensures)
 
 pub returns-then-items-size-gt-MAX_BYTES-clause-value : goal.returns-then-items-size-gt-MAX_BYTES-clause-value
+unfolding array_type
 returns-then-items-size-gt-MAX_BYTES-clause-value c =
     let bytes : c.items.result * c.size.result ≡ count c.in_ok-shape.shape * item_size c.in_ok-descr.descr = cc in
-    inr (type-large _ _ _ _ (rw c.as_slice.ensures at c.in_ok-descr.ensures) c.in_ok-shape.ensures (omega arith))
+    inr (rw (rw c.as_slice.ensures at c.in_ok-descr.ensures, c.in_ok-shape.ensures, lt-leb (count c.in_ok-shape.shape * item_size c.in_ok-descr.descr) max_bytes (omega arith)) refl)
 
 pub returns-clause-value : goal.returns-clause-value
+unfolding array_type
 returns-clause-value c =
     let bytes : c.items.result * c.size.result ≡ count c.in_ok-shape.shape * item_size c.in_ok-descr.descr = cc in
-    type-done _ _ _ _ (rw c.as_slice.ensures at c.in_ok-descr.ensures) c.in_ok-shape.ensures (omega arith)
+    rw (rw c.as_slice.ensures at c.in_ok-descr.ensures, c.in_ok-shape.ensures, le-leb (count c.in_ok-shape.shape * item_size c.in_ok-descr.descr) max_bytes (omega arith)) refl
 
 pub returns-clause-bytes : goal.returns-clause-bytes
 returns-clause-bytes c =

@@ -1,12 +1,14 @@
 use Rattle.std.proofs.Common.{sym, refl, inr}
 use Rattle.std.proofs.lemmas.Result.{err_from_is_err_and}
 use Rattle.bench_engine.specs.Contents.{contents_of}
-use Rattle.bench_engine.proofs.Creates.{creation-many, creation-refused, made-answers}
+use Rattle.bench_engine.specs.Machine.{creation_outcome}
+use Rattle.bench_engine.proofs.Creates.{creation-refused, made-answers}
 use Rattle.bench_engine.proofs.Looks.{unchanged}
 use Rattle.bench_engine.proofs.create.make.Goals as goal
 
 pub returns-then-not-has_room_for-clause-answers : goal.returns-then-not-has_room_for-clause-answers
-returns-then-not-has_room_for-clause-answers c = (refl, unchanged _, inr (λ choice. creation-many choice _ _ _ (sym c.if-not-has_room_for.ensures)))
+unfolding creation_outcome
+returns-then-not-has_room_for-clause-answers c = (refl, unchanged _, inr (λ choice. rw (sym c.if-not-has_room_for.ensures) refl))
 
 pub returns-in_err-owned-clause-answers : goal.returns-in_err-owned-clause-answers
 returns-in_err-owned-clause-answers c =

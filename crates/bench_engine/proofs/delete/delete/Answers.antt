@@ -1,22 +1,31 @@
-use Rattle.std.proofs.Common.{arith, codes, ◌++◌}
+use Rattle.std.proofs.Common.{◌≡◌, ◌≤◌, ◌⊎◌, ◌&&◌, ℕ, true, false, inl, inr, nat_lt, List, arith, codes, refl, sym, ◌++◌}
+use Rattle.std.proofs.lemmas.Bool.{lt-ltb}
 use Rattle.std.proofs.lemmas.Grind.{common_steps}
 use Rattle.std.proofs.lemmas.Result.{err_from_is_err_and}
-use Rattle.bench_engine.proofs.Deletes.{delete-refused, delete-done}
+use Rattle.bench_engine.specs.Words.{Refusal, UnknownName, OutOfMemory, State, is_bound}
+use Rattle.bench_engine.specs.Machine.{delete_outcome, accepted_with}
+use Rattle.bench_engine.specs.inside.Contract.{IsRefused}
 use Rattle.bench_engine.proofs.Looks.{unchanged}
 use Rattle.bench_engine.proofs.Steps.{spare}
 use Rattle.bench_engine.proofs.delete.delete.Goals as goal
 
+refused : (s : State) (name : List ℕ) (e : Refusal) → ((is_bound s name ≡ false) × (e ≡ UnknownName)) ⊎ ((is_bound s name ≡ true) × (e ≡ OutOfMemory) × (1 ≤ s.depth)) → IsRefused (nat_lt 0 s.depth && is_bound s name) (λ choice. delete_outcome s name) e
+unfolding delete_outcome
+refused s name e (inl (none, is)) = inr (λ choice. rw (none, is) refl)
+refused s name e (inr (bound, is, deep)) = inl (is, rw (lt-ltb 0 s.depth deep, bound) refl)
+
 pub returns-in_err-unbind-clause-answers : goal.returns-in_err-unbind-clause-answers
 returns-in_err-unbind-clause-answers c =
     let p = err_from_is_err_and c.from_residual.result c.from_residual.ensures.1 in
-    rw (p.1, p.2) (c.in_err-unbind.ensures.answers.0, unchanged _, delete-refused _ _ _ c.in_err-unbind.ensures.answers.1)
+    rw (p.1, p.2) (c.in_err-unbind.ensures.answers.0, unchanged _, refused _ _ _ c.in_err-unbind.ensures.answers.1)
 
 pub returns-clause-answers : goal.returns-clause-answers
+unfolding delete_outcome
 returns-clause-answers c =
     let any = spare c.args.bench.now.state in (
       any.0,
       any.1,
       codes "ok del " ++ c.args.name.now,
-      delete-done c.args.bench.now.state c.unbind.new.self.state c.args.name.now c.in_ok-unbind.ensures.answers.0 c.in_ok-unbind.ensures.answers.1,
+      rw c.in_ok-unbind.ensures.answers.0 (λ i. accepted_with (sym c.in_ok-unbind.ensures.answers.1 i) (codes "ok del " ++ c.args.name.now)),
       grind (arith, common_steps, c.as_slice.ensures.value),
     )

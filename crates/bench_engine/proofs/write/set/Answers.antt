@@ -1,4 +1,4 @@
-use Rattle.std.proofs.Common.{◌≡◌, ◌&&◌, ap, sym, refl, ◌∙◌, ◌++◌, ◌∷◌, inl, inr, arith, subst, List, ℕ, true, Some, Ok}
+use Rattle.std.proofs.Common.{◌≡◌, ◌&&◌, ap, sym, refl, ◌∙◌, ◌++◌, inl, inr, arith, subst, List, ℕ, true, Some, Ok}
 use Rattle.std.specs.List.{list_all}
 use Rattle.std.proofs.lemmas.List.Folds.{list_all-append}
 use Rattle.std.proofs.lemmas.Result.{err_from_is_err_and}
