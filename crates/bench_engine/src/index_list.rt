@@ -7,12 +7,12 @@ ghost use Rattle.name_store.specs.States.{Array};
 ghost use Rattle.bench_engine.specs.IndexLists.{names_in_item, names_in_index, array_by_items, gathered, taken};
 ghost use Rattle.bench_engine.specs.inside.OwnContents.{IsInCOrder};
 ghost use Rattle.bench_engine.specs.inside.Meeting.{Meets};
-ghost use Rattle.bench_engine.specs.inside.Assigns.{IsTaken};
+ghost use Rattle.bench_engine.specs.inside.Assigns.{IsAimed, IsTaken};
 
 use arrays::Items;
 use elem_descr::{IndexItem, Name, Refusal};
-use fancy_index::{Plan, plan};
-use name_store::{ArrayRef, Bench, Bound};
+use fancy_index::plan;
+use name_store::{ArrayRef, Bench, Bound, Target};
 use shape_strides::MAX_BYTES;
 use std::alloc::{AllocError, Global};
 
@@ -76,30 +76,30 @@ fn with_arrays<'a>(
     Ok(items)
 }
 
-/// Where the items lie that an index list takes of an array, by the arrays that it names. More than
-/// `MAX_BYTES` bytes of items are too many.
-pub fn planned(
+/// Where the items lie that an index list takes of an array. More than `MAX_BYTES` bytes of items to
+/// which arrays lead are too many.
+pub fn named_target(
     alloc: Global,
     bench: &Bench,
     array: &ArrayRef<'_>,
     index: &[IndexItem<Name>],
-) -> Result<Plan, Refusal>
+) -> Result<Target, Refusal>
     requires bound { list_all (is_bound bench.now.state) (names_in_index index.now) ≡ true }
-    ensures plan { (a : Array) → Shows bench.now.state a array.now
-        → GivesPlan array.now.layout.now result (gathered bench.now.state a index.now) }
-    ensures few { IfOk result (λ plan. length plan.offsets * item_size array.now.descr.now
-        ≤ max_bytes) }
+    ensures { (a : Array) → Shows bench.now.state a array.now
+        → Meets (IsAimed array.now (list_all is_basic index.now)) result (taken bench.now.state a index.now) }
 {
+    if view_ops::are_basic(index) {
+        return Ok(Target::View(view_ops::basic(alloc, array.layout, index)?));
+    }
     let items = with_arrays(alloc, bench, index)?;
     let plan = plan(alloc, array.layout, items.as_slice())?;
     if plan.len() * array.descr.size() > MAX_BYTES {
         return Err(Refusal::TooLarge);
     }
-    Ok(plan)
+    Ok(Target::Plan(plan))
 }
 
-/// What an index list takes of an array. The refusals are those of the list, and `TooLarge` where a
-/// copy has more than `MAX_BYTES` bytes.
+/// What an index list takes of an array: a view, or a copy of the items to which arrays lead.
 pub fn take(
     alloc: Global,
     bench: &Bench,
@@ -111,14 +111,17 @@ pub fn take(
     ensures { (a : Array) → Shows bench.now.state a array.now
         → Meets (IsTaken bench.now.state a array.now (list_all is_basic index.now)) result (taken bench.now.state a index.now) }
 {
-    if view_ops::are_basic(index) {
-        return Ok(Bound::View {
+    let target = named_target(alloc, bench, array, index)?;
+    match target {
+        Target::View(layout) => Ok(Bound::View {
             number: array.number,
             path: *array.path,
-            layout: view_ops::basic(alloc, array.layout, index)?,
+            layout,
             writable: array.writable,
-        });
+        }),
+        Target::Plan(plan) => {
+            let copy = plan.gather_owned(alloc, array.block, array.descr)?;
+            Ok(Bound::Fresh(copy))
+        }
     }
-    let plan = planned(alloc, bench, array, index)?;
-    Ok(Bound::Fresh(plan.gather_owned(alloc, array.block, array.descr)?))
 }

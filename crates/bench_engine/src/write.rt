@@ -4,15 +4,15 @@ ghost use Rattle.std.specs.List.{list_all};
 ghost use Rattle.bench_engine.specs.Words.{item_size, count, max_bytes, max_items, is_bound, find_array, State, Argument, Shows, Supplies};
 ghost use Rattle.name_store.specs.States.{Array};
 ghost use Rattle.bench_engine.specs.Machine.{argument_items, names_in_argument, target_part, new_items, write_outcome, write_reply};
-ghost use Rattle.bench_engine.specs.inside.Assigns.{Fitted, IsTarget, IsAimed};
+ghost use Rattle.bench_engine.specs.inside.Assigns.{Fitted, IsTarget};
 ghost use Rattle.bench_engine.specs.inside.Operands.{IsGiven, GivesGiven};
-ghost use Rattle.bench_engine.specs.IndexLists.{names_in_index, taken};
+ghost use Rattle.bench_engine.specs.IndexLists.{names_in_index};
 ghost use Rattle.bench_engine.specs.inside.Contract.{CarriesOut};
 ghost use Rattle.bench_engine.specs.inside.Meeting.{Meets};
 ghost use Rattle.bench_engine.specs.inside.Writings.{IsTargetIn, WritesIn};
 
 use crate::create::item_of;
-use crate::index_list::{are_bound, planned};
+use crate::index_list::{are_bound, named_target};
 use crate::operate::{Part, has_bound, operand_part};
 use crate::update::{Writing, updated};
 use elem_descr::{Descr, IndexItem, Name, Refusal};
@@ -92,23 +92,6 @@ fn source_of(
         Given::Literal(literal) => Ok(Source::One(item_of(alloc, descr, literal)?)),
         Given::Items(part) => fitted(alloc, part.items(), part.number(), shape, descr),
     }
-}
-
-/// Where the items lie that an index list takes of an array.
-fn named_target(
-    alloc: Global,
-    bench: &Bench,
-    array: &ArrayRef<'_>,
-    index: &[IndexItem<Name>],
-) -> Result<Target, Refusal>
-    requires bound { list_all (is_bound bench.now.state) (names_in_index index.now) ≡ true }
-    ensures { (a : Array) → Shows bench.now.state a array.now
-        → Meets (IsAimed bench.now.state a array.now) result (taken bench.now.state a index.now) }
-{
-    if view_ops::are_basic(index) {
-        return Ok(Target::View(view_ops::basic(alloc, array.layout, index)?));
-    }
-    Ok(Target::Plan(planned(alloc, bench, array, index)?))
 }
 
 /// Where the items lie that an index list takes of an array, which are to be written.

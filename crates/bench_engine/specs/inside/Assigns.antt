@@ -1,7 +1,7 @@
 -- Items that are written to a name's array, and where they come from.
 use Rattle.std.specs.Prelude.{◌≡◌, ◌≤◌, ◌*◌, ◌⊎◌, ℕ, Bool, true, false, List, length, map, Option, Some, Result, Ok, Err, All}
 use Rattle.std.specs.List.{Contains}
-use Rattle.bench_engine.specs.Words.{Refusal, OutOfMemory, NoSuchCast, Descr, item_size, AreAlike, item_from, LeafValue, Layout, offsets, max_bytes, count, IsViewOf, KeepsNested, Items, Owned, can_cast, cast_item, stretched_into, State, addresses, descr_of, read, FitsBuffer, LeadsTo, MayWrite, target_offsets, target_shape, ArrayRef, Bound, Source, Target}
+use Rattle.bench_engine.specs.Words.{Refusal, OutOfMemory, NoSuchCast, Descr, item_size, AreAlike, item_from, LeafValue, Layout, offsets, max_bytes, count, IsViewOf, IsPlanOf, KeepsNested, Items, Owned, can_cast, cast_item, stretched_into, State, addresses, descr_of, read, FitsBuffer, LeadsTo, MayWrite, target_offsets, target_shape, ArrayRef, Bound, Source, Target}
 use Rattle.view_ops.specs.Views.{View}
 use Rattle.name_store.specs.States.{Array}
 use Rattle.name_store.specs.declared.bound.Bound.TheVariants as bound
@@ -27,18 +27,10 @@ IsTaken s array r plain (bound.Fresh o) view = (plain ≡ false) × Holds s (vie
 
 -- ---- where items are written
 
--- a target has the items of a part of an array, at most 2^28 bytes of them, and those of a view lie apart where the array's do
-abbrev pub LiesApart : State → Array → ArrayRef → Target → Type 0
-LiesApart s array r (target.View layout) = FitsBuffer s array layout × KeepsNested r.layout.now layout
-LiesApart s array r (target.Plan plan) = length plan.offsets * item_size (descr_of s array) ≤ max_bytes
-
-pub record IsAimed (s : State) (array : Array) (r : ArrayRef) (target : Target) (view : View) : Type 0 where
-  pub places : List ℕ
-  pub part_is : viewed array view ≡ record array { shape = target_shape target; places = places }
-  pub counted : length (target_offsets target) ≡ count (target_shape target)
-  pub offsets_are : target_offsets target ≡ addresses s (record array { places = places })
-  pub among : All (Contains array.places) places
-  pub apart : LiesApart s array r target
+-- a target is a view of the array's layout, or a plan that leads to at most 2^28 bytes
+abbrev pub IsAimed : ArrayRef → Bool → Target → View → Type 0
+IsAimed r plain (target.View layout) view = (plain ≡ true) × IsViewOf r.layout.now layout view × KeepsNested r.layout.now layout
+IsAimed r plain (target.Plan plan) view = (plain ≡ false) × IsPlanOf r.layout.now plan view × (length plan.offsets * item_size r.descr.now ≤ max_bytes)
 
 -- a target in a name's array is a part of it that may be written
 pub record IsTarget (s : State) (name : List ℕ) (array : Array) (target : Target) (part : Array) : Type 0 where

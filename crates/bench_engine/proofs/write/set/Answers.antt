@@ -21,9 +21,13 @@ known : (c : Else-not-has_bound) → (a : Array) × (find_array c.args.bench.now
     × (list_all (is_bound c.args.bench.now.state) (names_in_index c.args.assignment.index.now ++ names_in_argument c.args.assignment.value.now) ≡ true)
 known c =
     let s = c.args.bench.now.state in
-    let it = found s _ c.in-Some.array c.in-Some.ensures in
-    (it.0, it.1, it.2, list_all-append (is_bound s) (names_in_index c.args.assignment.index.now) (names_in_argument c.args.assignment.value.now)
-        ∙ λ i. (rw c.as_slice-index.ensures at (sym c.if-not-are_bound.ensures)) i && sym c.if-not-has_bound.ensures i)
+    let it = found s _ c.in-Some.array c.in-Some.ensures in (
+      it.0,
+      it.1,
+      it.2,
+      list_all-append (is_bound s) (names_in_index c.args.assignment.index.now) (names_in_argument c.args.assignment.value.now)
+          ∙ λ i. (rw c.as_slice-index.ensures at (sym c.if-not-are_bound.ensures)) i && sym c.if-not-has_bound.ensures i,
+    )
 
 -- the part of it that is written, and where it lies
 part : (c : After-shape) (a : Array) → find_array c.args.bench.now.state.names c.args.assignment.name.now ≡ Some a → Shows c.args.bench.now.state a c.in-Some.array →
@@ -50,11 +54,14 @@ unfolding write_outcome
 returns-then-not-are_bound-clause-answers c =
     let s = c.args.bench.now.state in
     let it = found s _ c.in-Some.array c.in-Some.ensures in
-    let split = list_all-append (is_bound s) (names_in_index c.args.assignment.index.now) (names_in_argument c.args.assignment.value.now) in
-    (refl, unchanged _, inr (λ choice. rw (it.1, split) (elim c.then-not-are_bound.branch [
-      | then-not-are_bound-via-then-not-are_bound w ↦ rw (rw c.as_slice-index.ensures at (sym w.if-not-are_bound.ensures)) refl
-      | then-not-are_bound-via-else-not-are_bound+then-not-has_bound w ↦ rw (rw c.as_slice-index.ensures at (sym w.if-not-are_bound.ensures), sym w.if-not-has_bound.ensures) refl
-    ])))
+    let split = list_all-append (is_bound s) (names_in_index c.args.assignment.index.now) (names_in_argument c.args.assignment.value.now) in (
+      refl,
+      unchanged _,
+      inr (λ choice. rw (it.1, split) (elim c.then-not-are_bound.branch [
+        | then-not-are_bound-via-then-not-are_bound w ↦ rw (rw c.as_slice-index.ensures at (sym w.if-not-are_bound.ensures)) refl
+        | then-not-are_bound-via-else-not-are_bound+then-not-has_bound w ↦ rw (rw c.as_slice-index.ensures at (sym w.if-not-are_bound.ensures), sym w.if-not-has_bound.ensures) refl
+      ])),
+    )
 
 pub returns-in_err-target-clause-answers : goal.returns-in_err-target-clause-answers
 unfolding write_outcome
