@@ -1,11 +1,10 @@
 //! Index lists, in which names stand for arrays, and what they select from an array: a view if no array
 //! is named, and a copy otherwise.
-ghost use Rattle.std.specs.Prelude.{◌≡◌, ◌≤◌, ◌*◌, true, length, map, IfOk, ◌+◌, Ok, Err};
+ghost use Rattle.std.specs.Prelude.{◌≡◌, true, map, IfOk};
 ghost use Rattle.std.specs.List.{list_all};
-ghost use Rattle.bench_engine.specs.Words.{item_size, max_bytes, GivesPlan, index_item_of, index_items, is_bound, Shows, item_from, is_basic, count, offsets};
+ghost use Rattle.bench_engine.specs.Words.{index_item_of, index_items, is_bound, Shows, is_basic};
 ghost use Rattle.name_store.specs.States.{Array};
-ghost use Rattle.bench_engine.specs.IndexLists.{names_in_item, names_in_index, array_by_items, gathered, taken};
-ghost use Rattle.bench_engine.specs.inside.OwnContents.{IsInCOrder};
+ghost use Rattle.bench_engine.specs.IndexLists.{names_in_item, names_in_index, array_by_items, taken};
 ghost use Rattle.bench_engine.specs.inside.Meeting.{Meets};
 ghost use Rattle.bench_engine.specs.inside.Assigns.{IsAimed, IsTaken};
 
