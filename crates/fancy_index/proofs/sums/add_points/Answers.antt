@@ -15,16 +15,16 @@ grow-requires-clause-can c =
     let full : length c.as_mut_slice.result.now ≡ count lengths = search rules in
     can-begun c.args.start (count lengths) (point_number lengths p.lengths.now p.offsets.items) _ c.args.shifts.now.items c.as_mut_slice.result.now full (λ k low. ap (λ l. get_or l k c.args.start) c.as_mut_slice.ensures.value) (λ k low. whole-number p.lengths.now p.offsets.items lengths _ k same c.as_slice.ensures.value low) c.requires.can
 
-pub returns-then-is_empty-clause-ok : goal.returns-then-is_empty-clause-ok
-returns-then-is_empty-clause-ok c =
+pub returns-then-is_empty : goal.returns-then-is_empty
+returns-then-is_empty c =
     let p = c.args.points in
     let lengths = c.args.lengths.now in
     let same : p.lengths.now ≡ lengths = search rules in
     let none : c.args.shifts.now.items ≡ [] = search rules in
     first-grown c.args.start (count lengths) (point_number lengths p.lengths.now p.offsets.items) c.args.shifts.now.items p.offsets.items none (c.requires.points ∙ ap count same) (λ k low. whole-number p.lengths.now p.offsets.items lengths _ k same refl low)
 
-pub returns-else-is_empty-clause-ok : goal.returns-else-is_empty-clause-ok
-returns-else-is_empty-clause-ok c =
+pub returns-else-is_empty : goal.returns-else-is_empty
+returns-else-is_empty c =
     let p = c.args.points in
     let lengths = c.args.lengths.now in
     let same : p.lengths.now ≡ lengths = search rules in
@@ -61,11 +61,11 @@ grow_along-requires-clause-can c =
     can-begun c.args.start (count lengths) (point_number lengths p.lengths.now p.offsets.items) _ c.args.shifts.now.items c.as_mut_slice-2.result.now (ap length slice ∙ many here.In_ok-begin) (λ k low. ap (λ l. get_or l k c.args.start) slice ∙ each k (omega (arith, low, n)))
     (λ k low. stretched-number p.lengths.now p.offsets.items lengths _ (places here.In_ok-places) _ k c.as_slice-2.ensures.value low) c.requires.can
 
-pub returns-clause-ok : goal.returns-clause-ok
-returns-clause-ok c =
+pub returns : goal.returns
+returns c =
     let p = c.args.points in
     let lengths = c.args.lengths.now in
-    let here = goal.at.returns-clause-ok c in
+    let here = goal.at.returns c in
     let slice = c.as_mut_slice-2.ensures.value in
     let each = c.in_ok-begin.ensures.each in
     let n = c.items.ensures.value ∙ ap count c.in_ok-places.ensures.shape in
