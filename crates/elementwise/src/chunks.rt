@@ -18,8 +18,11 @@ use raw_block::{BlockBuilder, RawBlock};
 use shape_strides::{Layout, Run, Shape, Strides};
 use std::alloc::{AllocError, Global};
 
+/// Fewer items than these are cast as a whole: what is cast stays in the cache.
+pub(crate) const MANY: usize = 262_144;
+
 /// How many items of each operand are cast at a time.
-pub(crate) const CHUNK: usize = 16_384;
+const CHUNK: usize = 16_384;
 
 /// Items that are one run.
 #[derive(Clone, Copy, Drop)]

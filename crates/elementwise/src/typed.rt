@@ -11,7 +11,7 @@ ghost use Rattle.elementwise.specs.inside.Works.{left_of, right_of, target_of, g
 
 use crate::alike::keeps_items;
 use crate::casts::cast_items;
-use crate::chunks::{CHUNK, InRuns, ItemsInRun, make_by_chunks};
+use crate::chunks::{InRuns, ItemsInRun, MANY, make_by_chunks};
 use crate::made::made;
 use crate::pairing::Pairing;
 use crate::rows::{Operand, Operands};
@@ -155,7 +155,7 @@ fn in_runs<'a>(
     ensures other { IfSome result (λ _. right.entry.layout.now.shape ≡ shape.now) }
 {
     let lengths = shape.as_slice();
-    if shape.items() <= CHUNK
+    if shape.items() < MANY
         || left.layout.shape.as_slice() != lengths
         || right.layout.shape.as_slice() != lengths
     {
