@@ -55,13 +55,19 @@ class LittleMemory(unittest.TestCase):
         limited = ["sh", "-c", f'ulimit -v {kilobytes}; exec "$@"', "sh", PROGRAM]
         if not works(*limited):
             self.skipTest("left out: the program does not start with as little memory")
-        replies = subprocess.run(limited, input="\n".join(lines).encode(), capture_output=True).stdout
+        replies = subprocess.run(limited, input="\n".join(lines).encode(), capture_output=True, timeout=15).stdout
         return replies[replies.rindex(b"\n", 0, -1) + 1 :]
 
     def test_a_long_print_is_sent_as_it_is_made(self):
         """32 MB of text, with 20 MB of memory for all."""
         last = self.last_reply(20_000, "a = zeros |u1 (1)", "b = broadcast a (4096,4096)", "print b")
         self.assertEqual(last, b" [" + b" ".join([b"0"] * 4096) + b"]]\n")
+
+    def test_items_that_are_repeated_are_measured_once(self):
+        """10 GB of text are refused at once: 256 values are measured, not 256 at each of 2^24 places, which would take half a minute."""
+        row = "T{" + "".join(f"b:f{k}:" for k in range(64)) + "}"
+        last = self.last_reply(70_000, f"a = zeros T{{{row}:p:{row}:q:{row}:r:{row}:s:}} (1)", "b = broadcast a (16777216)", "print b")
+        self.assertEqual(last, b"no E40 out of memory\n")
 
     def test_index_arrays_are_added_one_at_a_time(self):
         """The result is 4 MB. Each place has a number of 4 bytes, and one more while an array is read."""
