@@ -1,7 +1,7 @@
 -- Laws of the parts of an array.
 use Rattle.std.proofs.Common.{◌≡◌, ℕ, ◌+◌, ◌*◌, ◌<◌, ◌≤◌, ℤ, pos, ◌+ℤ◌, ◌*ℤ◌, ◌≤ℤ◌, List, [], ◌∷◌, length, map, take, drop, get_or, refl, sym, ◌∙◌, ap, subst, arith, All, mul_comm, zero-mul}
 use Rattle.std.proofs.lemmas.Int.{ints}
-use Rattle.std.proofs.lemmas.List.{nil_from_length, length-map, length-take, length-drop, get_or-map, get_or-take, get_or-drop, same_lists, drop_more, drop_all}
+use Rattle.std.proofs.lemmas.List.{length-map, length-take, length-drop, get_or-map, get_or-take, get_or-drop, same_lists, drop_more, drop_all}
 use lib.IntN.{+ℤ_assoc, +ℤ_idr, *ℤ-zero}
 use Rattle.array_print.specs.Words.{Layout, count, indexes, zero_filled, dot-zeros, IsIndex-first, dot, natural, address_at, LieWithin, length-indexes, get_or-blocks, factors_pos, mul-step, offsets, max_bytes, fits-offsets, offsets_at}
 use Rattle.array_print.specs.inside.Parts.{IsPart, part_offsets}
@@ -127,7 +127,3 @@ whole-part l len item some inside = record {
 pub whole-offsets : (l : Layout) → part_offsets l 0 l.offset ≡ offsets l
 unfolding offsets
 whole-offsets l = refl
-
--- no items
-pub no-items : (l : Layout) → count l.shape ≡ 0 → offsets l ≡ []
-no-items l none = nil_from_length (offsets l) (ap length (sym (whole-offsets l)) ∙ length-part l 0 l.offset ∙ none)

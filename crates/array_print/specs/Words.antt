@@ -24,6 +24,7 @@ pub use Rattle.shape_strides.specs.CountLaws.{factors_pos, mul-step}
 pub use Rattle.shape_strides.specs.IndexLaws.{get_or-blocks, length-indexes}
 pub use Rattle.shape_strides.specs.Indexes.{count, indexes}
 pub use Rattle.shape_strides.specs.Layouts.{Fits}
+pub use Rattle.shape_strides.specs.LayoutLaws.{offsets-none}
 unfoldable pub use Rattle.shape_strides.specs.Layouts.{offsets}
 pub use Rattle.shape_strides.specs.Limits.{max_bytes, max_items}
 pub use Rattle.shape_strides.specs.PlaceLaws.{fits-offsets}

@@ -1,9 +1,9 @@
 use Rattle.std.proofs.Common.{◌<◌, [], length, sym, ap, ◌∙◌, arith}
-use Rattle.array_print.specs.Words.{item_size, leaves_of, offsets}
+use Rattle.array_print.specs.Words.{item_size, leaves_of, offsets, offsets-none}
 use Rattle.array_print.specs.Printed.{leaf_widths}
 use Rattle.array_print.specs.inside.Shown.{widths_at}
 use Rattle.array_print.proofs.LeafLaws.{are-leaf-widths, count-widths}
-use Rattle.array_print.proofs.PartLaws.{no-items, whole-part, whole-offsets}
+use Rattle.array_print.proofs.PartLaws.{whole-part, whole-offsets}
 use Rattle.array_print.proofs.WidthLaws.{refilled, with-axes}
 use Rattle.array_print.proofs.widths.widths_of.Goals as goal
 use Rattle.array_print.proofs.widths.widths_of.Goals.{then-items-gt0, else-items-gt0}
@@ -31,7 +31,7 @@ returns c =
           ∙ ap (widths_at d block) (whole-offsets l)
           ∙ with-axes d l.shape block (offsets l) axes
       | else-items-gt0 w ↦
-          let none = no-items l (omega (arith, w.if-items-gt0.false, c.items.ensures.value)) in
+          let none = offsets-none l (omega (arith, w.if-items-gt0.false, c.items.ensures.value)) in
           ap (λ v. v.items) w.widths-is ∙ c.in_ok-widths.ensures
           ∙ ap (widths_at d block) (sym none)
           ∙ with-axes d l.shape block (offsets l) axes
