@@ -12,7 +12,7 @@ pub use Rattle.elem_descr.specs.Values.{LeafValue}
 pub use Rattle.elem_descr.specs.Weights.{weight}
 pub use Rattle.elem_descr.specs.declared.descr.Descr.{Descr}
 pub use Rattle.elem_descr.specs.declared.descr.Field.{Field}
-pub use Rattle.elem_descr.specs.declared.leaf.Leaf.{Leaf}
+pub use Rattle.elem_descr.specs.declared.descr.Leaf.{Leaf}
 pub use Rattle.elem_descr.specs.declared.scalar.Order.TheVariants.{Big, Little}
 pub use Rattle.elem_descr.specs.declared.scalar.Scalar.{Scalar}
 pub use Rattle.elem_descr.specs.declared.scalar.Scalar.TheVariants.{Byte, Bytes, Int}

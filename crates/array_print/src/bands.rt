@@ -1,23 +1,23 @@
 //! The text of an array, sent as it is made. Of a long text little more than a band is held.
-ghost use Rattle.std.specs.Prelude.{◌≡◌, ◌+◌, ◌≤◌, ◌<◌, ◌++◌, length, map, drop, get_or, vec_capacity, All, List, ℕ, IfOk, OnOk, OnErr, IsErrOf};
-ghost use Rattle.std.specs.Io.{StartsWith};
-ghost use Rattle.array_print.specs.Words.{item_size, leaves_of, offsets};
 ghost use Rattle.array_print.specs.Printed.{array_text, block_text, items_from};
 ghost use Rattle.array_print.specs.Sending.{Sends, SendsPart};
-ghost use Rattle.array_print.specs.inside.Shown.{AreWidths, shown};
-ghost use Rattle.array_print.specs.inside.Parts.{IsPart, part_offsets};
-ghost use Rattle.array_print.specs.inside.Opened.{Grows};
+ghost use Rattle.array_print.specs.Words.{item_size, leaves_of, offsets};
 ghost use Rattle.array_print.specs.declared.bands.PrintFault.TheVariants.{Memory, Write as WriteOut};
+ghost use Rattle.array_print.specs.inside.Opened.{Grows};
+ghost use Rattle.array_print.specs.inside.Parts.{IsPart, part_offsets};
+ghost use Rattle.array_print.specs.inside.Shown.{AreWidths, shown};
+ghost use Rattle.std.specs.Io.KnownBytes.{Appends};
+ghost use Rattle.std.specs.Io.{StartsWith};
+ghost use Rattle.std.specs.Prelude.{All, IfOk, IsErrOf, List, OnErr, OnOk, drop, get_or, length, map, vec_capacity, ℕ, ◌++◌, ◌+◌, ◌<◌, ◌≡◌, ◌≤◌};
 
 use crate::padding::{push_again, push_lead};
-use crate::printer::{Items, push_block};
-use crate::sending::{BAND, WriteFault, send_band};
-use crate::steps::{repeats, step_along};
+use crate::printer::{Items, push_block, repeats, step_along};
 use crate::widths::widths_of;
 use elem_descr::Descr;
 use shape_strides::Layout;
 use std::alloc::AllocError;
 use std::io::Write;
+use thiserror::Error;
 
 /// Why an array is not printed.
 #[derive(Clone, Copy, Debug, PartialEq, Eq)]
@@ -222,4 +222,52 @@ pub fn print_by_bands<'a, W: Write>(
         room,
     };
     Ok(send_block(writer, out, &bands, 0, layout.offset)?)
+}
+
+/// A write failed or took nothing.
+#[derive(Clone, Copy, Debug, PartialEq, Eq, Error)]
+#[error("write fault")]
+pub struct WriteFault;
+
+/// All room that a text needs is asked for before its first byte goes out. If it were not enough, the
+/// reply would end as it does where a write fails.
+impl From<AllocError> for WriteFault {
+    fn from(_error: AllocError) -> WriteFault {
+        WriteFault
+    }
+}
+
+/// Writes all of the bytes; after a fault some first ones, not all, have gone out.
+pub fn send<W: Write>(writer: &mut W, bytes: &[u8]) -> Result<(), WriteFault>
+    ensures ok { OnOk result (Appends (W.contents writer.old) (W.contents writer.new) bytes.now) }
+    ensures err { OnErr result ((gone missing : List ℕ) × (bytes.now ≡ gone ++ missing)
+        × (0 < length missing) × Appends (W.contents writer.old) (W.contents writer.new) gone) }
+{
+    let mut rest = bytes;
+    while !rest.is_empty() {
+        match writer.write(rest) {
+            Ok(0) | Err(_) => return Err(WriteFault),
+            Ok(n) => rest = &rest[n..],
+        }
+    }
+    Ok(())
+}
+
+/// How many bytes of a long text are sent at once, at least.
+pub const BAND: usize = 65_536;
+
+/// Sends what has come of a text, where that is a band.
+pub fn send_band<W: Write>(writer: &mut W, out: &mut Vec<u8>) -> Result<(), WriteFault>
+    ensures ok { OnOk result
+        (Sends (W.contents writer.old) (W.contents writer.new) out.new.items out.old.items) }
+    ensures err { OnErr result
+        (SendsPart (W.contents writer.old) (W.contents writer.new) out.old.items) }
+    ensures room { vec_capacity out.old ≤ vec_capacity out.new }
+{
+    if out.len() < BAND {
+        return Ok(());
+    }
+    send(writer, out.as_slice())?;
+    out.clear();
+    Ok(())
 }

@@ -4,11 +4,8 @@
 mod bands;
 mod padding;
 mod printer;
-mod sending;
-mod steps;
 mod values;
 mod widths;
 
-pub use bands::{PrintFault, print_by_bands};
+pub use bands::{PrintFault, WriteFault, print_by_bands, send};
 pub use printer::print_into;
-pub use sending::{WriteFault, send};

@@ -1,13 +1,12 @@
 //! The text of an array: items in nested brackets, each value padded to the width of its leaf.
-ghost use Rattle.std.specs.Prelude.{◌≡◌, ◌+◌, ◌^◌, ◌≤◌, ◌<◌, ◌++◌, [], codes, get_or, length, map, drop, vec_capacity, All, IfOk, OnOk, OnErr};
-ghost use Rattle.std.specs.Io.{StartsWith};
-ghost use Rattle.array_print.specs.Words.{listed, leaf_count, item_size, leaves_of, offsets};
-ghost use Rattle.array_print.specs.Printed.{array_text, block_text, in_parentheses, field_texts, structure_text, items_from};
-ghost use Rattle.array_print.specs.inside.Shown.{AreWidths, texts_at, shown};
+ghost use Rattle.array_print.specs.Printed.{array_text, block_text, field_texts, in_parentheses, items_from, structure_text};
+ghost use Rattle.array_print.specs.Words.{item_size, leaf_count, leaves_of, listed, max_bytes, max_items, offsets};
 ghost use Rattle.array_print.specs.inside.Parts.{IsPart, part_offsets};
+ghost use Rattle.array_print.specs.inside.Shown.{AreWidths, shown, texts_at};
+ghost use Rattle.std.specs.Io.{StartsWith};
+ghost use Rattle.std.specs.Prelude.{All, IfOk, IsTrue, OnErr, OnOk, [], codes, drop, get_or, length, map, pos, slice_index_or, vec_capacity, ◌*ℤ◌, ◌++◌, ◌+ℤ◌, ◌+◌, ◌<◌, ◌^◌, ◌↔◌, ◌≡◌, ◌≤ℤ◌, ◌≤◌};
 
 use crate::padding::{push_again, push_comma, push_lead, push_record_end};
-use crate::steps::{repeats, step_along};
 use crate::values::push_value;
 use crate::widths::widths_of;
 use elem_descr::{Descr, Field};
@@ -194,4 +193,25 @@ pub fn print_into(
         out.truncate(before);
     }
     printed
+}
+
+/// Whether all steps along an axis lead to the same bytes.
+pub fn repeats(strides: &[isize], axis: usize) -> bool
+    requires { axis < length strides.now }
+    ensures { IsTrue result ↔ (slice_index_or strides.now axis (pos 0) ≡ pos 0) }
+{
+    strides[axis] == 0
+}
+
+/// The offset `steps` steps further along an axis.
+pub fn step_along(from: usize, strides: &[isize], axis: usize, steps: usize) -> usize
+    requires axis { axis < length strides.now }
+    requires start { from ≤ max_bytes }
+    requires steps { steps ≤ max_items }
+    requires low { pos 0 ≤ℤ (pos from +ℤ slice_index_or strides.now axis (pos 0) *ℤ pos steps) }
+    requires high { (pos from +ℤ slice_index_or strides.now axis (pos 0) *ℤ pos steps) ≤ℤ
+        pos max_bytes }
+    ensures { pos result ≡ pos from +ℤ slice_index_or strides.now axis (pos 0) *ℤ pos steps }
+{
+    (from as isize + strides[axis] * steps as isize) as usize
 }

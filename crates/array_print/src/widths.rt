@@ -5,7 +5,7 @@ ghost use Rattle.array_print.specs.Printed.{widths, leaf_width, leaf_widths, lea
 ghost use Rattle.array_print.specs.inside.Shown.{integer_at, widths_at};
 ghost use Rattle.array_print.specs.inside.Parts.{IsPart, part_offsets};
 
-use crate::steps::{repeats, step_along};
+use crate::printer::{repeats, step_along};
 use elem_descr::{Descr, Scalar, num_read};
 use itoa::Buffer;
 use shape_strides::Layout;

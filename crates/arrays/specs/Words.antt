@@ -26,10 +26,10 @@ pub use Rattle.shape_strides.specs.ReverseLaws.{count-reverse}
 pub use Rattle.shape_strides.specs.RunPairs.{all_offsets}
 pub use Rattle.shape_strides.specs.Runs.{run_along, run_offsets}
 pub use Rattle.shape_strides.specs.WalkLaws.{length-first, length-run_offsets}
-pub use Rattle.shape_strides.specs.declared.joined.StridedAxis.{StridedAxis}
+pub use Rattle.shape_strides.specs.declared.single_run.StridedAxis.{StridedAxis}
 pub use Rattle.shape_strides.specs.declared.layout.Layout.{Layout}
 pub use Rattle.shape_strides.specs.declared.layout_pair.LayoutPair.{LayoutPair}
-pub use Rattle.elem_descr.specs.declared.memory_order.MemoryOrder.{MemoryOrder}
-pub use Rattle.elem_descr.specs.declared.memory_order.MemoryOrder.TheVariants.{C, Fortran}
+pub use Rattle.elem_descr.specs.declared.operators.MemoryOrder.{MemoryOrder}
+pub use Rattle.elem_descr.specs.declared.operators.MemoryOrder.TheVariants.{C, Fortran}
 pub use Rattle.shape_strides.specs.declared.run_pairs.RunPair.{RunPair}
 pub use Rattle.shape_strides.specs.declared.runs.Run.{Run}

@@ -1,14 +1,14 @@
 //! The items of a layout, copied to a block of their own.
-ghost use Rattle.std.specs.Prelude.{◌≡◌, ◌+◌, ◌*◌, ◌≤◌, length, map, nat_le, if◌then◌else◌, All, IfOk, IfErr};
-ghost use Rattle.arrays.specs.Words.{item_at, OutOfMemory, TooLarge, item_size, item_from, max_bytes, count, offsets};
-ghost use Rattle.arrays.specs.Assignments.{items_at};
+ghost use Rattle.arrays.specs.Assignments.{assigned, items_at};
 ghost use Rattle.arrays.specs.Blocks.{offsets_in};
+ghost use Rattle.arrays.specs.Words.{EachWithin, OutOfMemory, TooLarge, count, item_at, item_from, item_size, max_bytes, offsets, run_offsets};
+ghost use Rattle.std.specs.Prelude.{All, IfErr, IfOk, if◌then◌else◌, length, map, nat_le, ◌*◌, ◌+◌, ◌≡◌, ◌≤◌};
 
 use crate::owned::Owned;
 use crate::packed::gather;
 use elem_descr::{Descr, MemoryOrder, Refusal};
 use raw_block::RawBlock;
-use shape_strides::{Layout, MAX_BYTES};
+use shape_strides::{Layout, MAX_BYTES, Run};
 use std::alloc::{AllocError, Global};
 
 /// The items of `width` bytes of a layout, one after another in this order in a block of their own.
@@ -67,4 +67,24 @@ pub fn copy(
     let block = gather_in(alloc, order, block, layout, item)?;
     let copy = Owned::over(alloc, descr, &layout.shape, order, block)?;
     Ok(copy)
+}
+
+/// Copies the items of `width` bytes of a run of `other` to those of a run of the block, as many.
+pub fn copy_run(block: &mut RawBlock, to: Run, other: &RawBlock, from: Run, width: usize)
+    requires count { to.count ≡ from.count }
+    requires to { EachWithin (length block.old) to.offset to.step width to.count }
+    requires from { EachWithin (length other.now) from.offset from.step width from.count }
+    ensures written { block.new
+        ≡ assigned (run_offsets to) (run_offsets from) width other.now block.old }
+    ensures len { length block.new ≡ length block.old }
+{
+    block.copy_strided(
+        to.offset,
+        to.step,
+        other,
+        from.offset,
+        from.step,
+        width,
+        to.count,
+    );
 }

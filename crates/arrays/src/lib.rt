@@ -5,12 +5,8 @@ mod copies;
 mod items;
 mod owned;
 mod packed;
-mod rows;
-mod run_copies;
 
-pub use copies::copy;
+pub use copies::{copy, copy_run};
 pub use items::Items;
 pub use owned::Owned;
-pub use packed::{gather, packed_run, scatter};
-pub use rows::goes_by_columns;
-pub use run_copies::copy_run;
+pub use packed::{gather, goes_by_columns, packed_run, scatter};

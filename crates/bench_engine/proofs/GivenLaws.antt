@@ -9,7 +9,7 @@ use Rattle.view_ops.specs.Views.{View}
 use Rattle.script_lang.specs.declared.command.Argument.TheVariants as argument
 use Rattle.name_store.specs.States.{Array}
 use Rattle.name_store.specs.declared.bound.Bound.TheVariants as bound
-use Rattle.name_store.specs.declared.target.Source.TheVariants as source
+use Rattle.name_store.specs.declared.write.Source.TheVariants as source
 use Rattle.bench_engine.specs.Machine.{viewed, operand_part, argument_items}
 use Rattle.bench_engine.specs.inside.Assigns.{IsTaken, LiesIn, Stretches, Fitted, cast_from}
 use Rattle.bench_engine.specs.inside.Operands.{StandsFor, LiesInBuffer}

@@ -11,7 +11,7 @@ use Rattle.std.proofs.lemmas.List.Sorted.{IsPermutation-map, All-permutation, le
 use Rattle.bench_engine.specs.Words.{Refusal, OutOfMemory, Descr, item_size, LeafValue, Layout, LayoutPair, count, item_pairs, length-offsets, offsets_within, offsets, IsNested, max_bytes, fits-offsets, IsShape, broadcast_index, can_stretch, stretched, can-itself, stretched-ok, stretched-self, GivesView, IsViewOf, view_through, item_from, same_answer, All-seconds, firsts-reordered, pair_even, nested-reordered, Items, Owned, Literal, Operation, State, buffer_of, descr_of, keeping, placed_item, read, span_of, written, part_at, start_at, LeadsTo, MayWrite, Supplies, target_offsets, Shows, ArrayRef, Source, Block, Target}
 use Rattle.view_ops.specs.Views.{View as ViewOf}
 use Rattle.name_store.specs.States.{Array}
-use Rattle.name_store.specs.declared.target.Target.TheVariants.{View}
+use Rattle.name_store.specs.declared.write.Target.TheVariants.{View}
 use Rattle.bench_engine.specs.Machine.{OperandValues, changed_with, literal_values, operand_values, updated_items}
 use Rattle.bench_engine.specs.declared.update.Writing.{Writing}
 use Rattle.bench_engine.specs.inside.Assigns.{IsTarget}

@@ -5,7 +5,7 @@ use Rattle.std.proofs.lemmas.List.Elements.{All-map}
 use Rattle.bench_engine.specs.Words.{Refusal, OutOfMemory, ReadOnly, Descr, item_from, item_size, IndexItem, Layout, is_basic, indexes, rank, length-offsets, offsets, IsNested, max_bytes, IsViewOf, GivesView, KeepsNested, basic, Owned, Planned, IsPlanOf, GivesPlan, State, find_array, descr_of, read, Shows, ArrayRef, Target}
 use Rattle.view_ops.specs.Views.{View}
 use Rattle.name_store.specs.States.{Array}
-use Rattle.name_store.specs.declared.target.Target.TheVariants as target
+use Rattle.name_store.specs.declared.write.Target.TheVariants as target
 use Rattle.bench_engine.specs.IndexLists.{taken, gathered}
 use Rattle.bench_engine.specs.Machine.{viewed, target_part}
 use Rattle.bench_engine.specs.inside.Assigns.{Holds, IsAimed, IsTarget}

@@ -5,7 +5,7 @@ use Rattle.std.proofs.lemmas.List.{length-map, get_or-map}
 use Rattle.std.proofs.lemmas.List.Elements.{All-map, All-contains}
 use Rattle.bench_engine.specs.Words.{item_from, item_size, Layout, offsets, offsets_of, Items, Owned, Planned, State, buffer_of, descr_of, read, start_at, Shows, ArrayRef}
 use Rattle.name_store.specs.States.{Array}
-use Rattle.name_store.specs.declared.target.Target.TheVariants as target
+use Rattle.name_store.specs.declared.write.Target.TheVariants as target
 use Rattle.bench_engine.specs.inside.Assigns.{LiesIn, IsTarget}
 use Rattle.bench_engine.specs.inside.Operands.{StandsFor}
 use Rattle.bench_engine.proofs.Sets.{items-at, read-part, part-inside}

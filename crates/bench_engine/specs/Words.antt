@@ -15,9 +15,9 @@ pub use Rattle.elem_descr.specs.WrittenFormats.{written_format}
 pub use Rattle.elem_descr.specs.declared.descr.Descr.{Descr}
 pub use Rattle.elem_descr.specs.declared.index_item.IndexItem.{IndexItem}
 pub use Rattle.elem_descr.specs.declared.index_item.IndexItem.TheVariants.{Ellipsis, NewAxis, Slice}
-pub use Rattle.elem_descr.specs.declared.leaf.Leaf.{Leaf}
-pub use Rattle.elem_descr.specs.declared.memory_order.MemoryOrder.{MemoryOrder}
-pub use Rattle.elem_descr.specs.declared.memory_order.MemoryOrder.TheVariants.{C, Fortran}
+pub use Rattle.elem_descr.specs.declared.descr.Leaf.{Leaf}
+pub use Rattle.elem_descr.specs.declared.operators.MemoryOrder.{MemoryOrder}
+pub use Rattle.elem_descr.specs.declared.operators.MemoryOrder.TheVariants.{C, Fortran}
 pub use Rattle.elem_descr.specs.declared.operators.BinOp.{BinOp}
 pub use Rattle.elem_descr.specs.declared.operators.Comparison.{Comparison}
 pub use Rattle.elem_descr.specs.declared.operators.Red.{Red}
@@ -83,8 +83,8 @@ pub use Rattle.script_lang.specs.declared.command.Viewing.TheVariants.{Transpose
 pub use Rattle.script_lang.specs.declared.literal.Literal.{Literal}
 pub use Rattle.script_lang.specs.declared.literal.ScalarLiteral.{ScalarLiteral}
 pub use Rattle.script_lang.specs.declared.literal.ScalarLiteral.TheVariants.{Boolean}
-pub use Rattle.script_lang.specs.declared.operation.Operation.{Operation}
-pub use Rattle.script_lang.specs.declared.operation.Operation.TheVariants.{Binary, Compare}
+pub use Rattle.script_lang.specs.declared.command.Operation.{Operation}
+pub use Rattle.script_lang.specs.declared.command.Operation.TheVariants.{Binary, Compare}
 unfoldable pub use Rattle.view_ops.specs.Basics.{basic}
 pub use Rattle.view_ops.specs.FieldViews.{GivesField, IsFieldOf}
 pub use Rattle.view_ops.specs.Slices.{from_front}
@@ -153,11 +153,11 @@ pub use Rattle.name_store.specs.States.{Buffer, State, start}
 pub use Rattle.name_store.specs.Targets.{FitsBuffer, HasItems, LeadsTo, MayWrite, Supplies}
 pub use Rattle.name_store.specs.Targets.{target_offsets, target_shape}
 pub use Rattle.name_store.specs.Views.{IsViewIn, MayBind}
-pub use Rattle.name_store.specs.declared.array_ref.ArrayRef.{ArrayRef}
+pub use Rattle.name_store.specs.declared.bound.ArrayRef.{ArrayRef}
 pub use Rattle.name_store.specs.declared.bound.Bound.{Bound}
 pub use Rattle.name_store.specs.declared.bound.Bound.TheVariants.{Fresh}
-pub use Rattle.name_store.specs.declared.target.Source.{Source}
-pub use Rattle.name_store.specs.declared.target.Source.TheVariants.{Block}
-pub use Rattle.name_store.specs.declared.target.Target.{Target}
-pub use Rattle.name_store.specs.declared.target.Target.TheVariants.{Plan}
+pub use Rattle.name_store.specs.declared.write.Source.{Source}
+pub use Rattle.name_store.specs.declared.write.Source.TheVariants.{Block}
+pub use Rattle.name_store.specs.declared.write.Target.{Target}
+pub use Rattle.name_store.specs.declared.write.Target.TheVariants.{Plan}
 pub use Rattle.byteorder.specs.Endian.{big_from, little_from}

@@ -8,7 +8,7 @@ ghost use Rattle.bench_engine.specs.Machine.{operand_part, names_in_operand, nam
 ghost use Rattle.bench_engine.specs.inside.Operands.{StandsFor, IsPart, LiesInBuffer, buffer_number, Stands, OwnStands};
 ghost use Rattle.elem_descr.specs.declared.descr.Descr.TheVariants.{Scalar as ScalarDescr};
 ghost use Rattle.elem_descr.specs.Values as leaf;
-ghost use Rattle.script_lang.specs.declared.operation.Operation.TheVariants as operation;
+ghost use Rattle.script_lang.specs.declared.command.Operation.TheVariants as operation;
 ghost use Rattle.bench_engine.specs.inside.OwnContents.{held, IsInCOrder};
 ghost use Rattle.bench_engine.specs.Memory.{bound_in_computation};
 ghost use Rattle.bench_engine.specs.inside.Computed.{computed_contents, origin_of};

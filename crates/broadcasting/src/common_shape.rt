@@ -1,9 +1,8 @@
 //! The shape that arrays broadcast to together.
-ghost use Rattle.std.specs.Prelude.{◌≡◌, map, All, IfOk, IsTrue};
+ghost use Rattle.broadcasting.specs.Broadcasts.{aligned, can_stretch, common_length, common_of_two, common_shape, go_together};
 ghost use Rattle.broadcasting.specs.Words.{Gives};
-ghost use Rattle.broadcasting.specs.Broadcasts.{go_together, common_length, common_of_two, common_shape, can_stretch};
+ghost use Rattle.std.specs.Prelude.{All, IfOk, IsTrue, length, map, slice_index, ◌<◌, ◌≡◌, ◌≤◌};
 
-use crate::aligned::length_at;
 use elem_descr::Refusal;
 use shape_strides::Shape;
 use smallvec::SmallVec;
@@ -57,4 +56,18 @@ pub fn common(alloc: Global, shapes: &[&Shape]) -> Result<Shape, Refusal>
         lengths = common_of_two(alloc, lengths.as_slice(), shape.as_slice())?;
     }
     Shape::try_new(alloc, lengths.as_slice())
+}
+
+/// The length of an axis of a shape that is aligned at the last of `rank` axes: 1 if the shape does
+/// not have the axis.
+pub(crate) fn length_at(lengths: &[usize], rank: usize, axis: usize) -> usize
+    requires rank { length lengths.now ≤ rank }
+    requires axis { axis < rank }
+    ensures { result ≡ slice_index (aligned rank lengths.now) axis }
+{
+    let missing = rank - lengths.len();
+    if axis < missing {
+        return 1;
+    }
+    lengths[axis - missing]
 }

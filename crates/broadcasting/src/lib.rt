@@ -2,7 +2,6 @@
 //! were stretched from.
 #![tactic(auto)]
 
-mod aligned;
 mod common_shape;
 mod shrinking;
 mod stretching;

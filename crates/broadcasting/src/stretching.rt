@@ -5,7 +5,7 @@ ghost use Rattle.broadcasting.specs.Words.{IsViewOf, GivesView};
 ghost use Rattle.broadcasting.specs.Broadcasts.{stretches, can_stretch, broadcast_index, stretched, stretched_into};
 ghost use Rattle.broadcasting.specs.inside.Stretches.{kept_stride, AreStretched};
 
-use crate::aligned::length_at;
+use crate::common_shape::length_at;
 use elem_descr::Refusal;
 use shape_strides::{Layout, Shape, Strides};
 use std::alloc::{AllocError, Global};

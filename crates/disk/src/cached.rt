@@ -11,7 +11,7 @@ ghost use Rattle.disk.specs.CachedLaws.{found_may_stay};
 
 use crate::disk::{Disk, DiskFault};
 use crate::failing::Failing;
-use crate::mem_file::MemFile;
+use crate::memory::MemFile;
 use std::alloc::{AllocError, Global};
 
 /// What a call has done to a disk with a cache.

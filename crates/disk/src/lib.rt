@@ -6,12 +6,9 @@ mod disk;
 mod failing;
 mod host;
 mod host_calls;
-mod host_errors;
-mod mem_file;
 mod memory;
 
 pub use cached::CachedMemDisk;
 pub use disk::{Disk, DiskFault};
 pub use host::HostDisk;
-pub use mem_file::MemFile;
-pub use memory::MemDisk;
+pub use memory::{MemDisk, MemFile};

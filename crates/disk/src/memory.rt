@@ -1,16 +1,15 @@
 //! A disk in memory.
-ghost use Rattle.std.specs.Prelude.{◌≡◌, ◌≢◌, true, drop, IfOk, OnOk, OnErr};
-ghost use Rattle.std.specs.FinMap.{empty, get};
-ghost use Rattle.disk.specs.declared.disk.DiskFault.TheVariants.{Failed};
-ghost use Rattle.disk.specs.Files.{SameBut};
-ghost use Rattle.disk.specs.Crashes.{Leaves};
 ghost use Rattle.disk.specs.Calls.{HasCause, Replaces};
-ghost use Rattle.disk.specs.Changes.{after, bytes_of_change, history_of, IsFound};
 ghost use Rattle.disk.specs.ChangeLaws.{latest};
+ghost use Rattle.disk.specs.Changes.{IsFound, after, bytes_of_change, history_of};
+ghost use Rattle.disk.specs.Crashes.{Leaves};
+ghost use Rattle.disk.specs.Files.{SameBut};
+ghost use Rattle.disk.specs.declared.disk.DiskFault.TheVariants.{Failed};
+ghost use Rattle.std.specs.FinMap.{empty, get};
+ghost use Rattle.std.specs.Prelude.{IfOk, OnErr, OnOk, [], drop, length, take, true, ◌++◌, ◌<◌, ◌≡◌, ◌≢◌, ◌≤◌};
 
 use crate::disk::{Disk, DiskFault};
 use crate::failing::Failing;
-use crate::mem_file::MemFile;
 use std::alloc::{AllocError, Global};
 
 /// A file that has got these bytes, or that is gone.
@@ -213,5 +212,42 @@ impl Disk for MemDisk {
 
     fn sync_names(&mut self) -> Result<(), DiskFault> {
         self.failing.count_call()
+    }
+}
+
+/// A file in memory that is open.
+#[derive(Drop)]
+pub struct MemFile {
+    pub(crate) name: Vec<u8>,
+    pub(crate) bytes: Vec<u8>,
+    pub(crate) at: usize,
+}
+
+impl MemFile {
+    pub(crate) fn new(alloc: Global, name: &[u8]) -> Result<MemFile, AllocError>
+        ensures { IfOk result (λ file. file.name.items ≡ name.now) }
+    {
+        Ok(MemFile {
+            name: Vec::from_slice(alloc, name)?,
+            bytes: Vec::new(alloc),
+            at: 0,
+        })
+    }
+
+    /// Moves the next bytes to a piece, as many as fit.
+    pub(crate) fn take(&mut self, piece: &mut [u8]) -> usize
+        ensures count { result ≤ length piece.old }
+        ensures taken { drop self.old.at self.old.bytes.items
+            ≡ take result piece.new ++ drop self.new.at self.new.bytes.items }
+        ensures end { result ≡ 0 →
+            0 < length piece.old → drop self.old.at self.old.bytes.items ≡ [] }
+        ensures name { self.new.name ≡ self.old.name }
+    {
+        let at = self.at.min(self.bytes.len());
+        let rest = &self.bytes[at..];
+        let count = piece.len().min(rest.len());
+        piece[..count].copy_from_slice(&rest[..count]);
+        self.at = at + count;
+        count
     }
 }

@@ -16,7 +16,7 @@ use Rattle.elem_descr.specs.declared.scalar.Scalar.TheVariants.{Bool as BoolScal
 use Rattle.elem_descr.specs.declared.descr.Field.{Field}
 use Rattle.elem_descr.specs.declared.descr.Descr.{Descr}
 use Rattle.elem_descr.specs.declared.descr.Descr.TheVariants.{Scalar as ScalarDescr, Record as RecordDescr}
-use Rattle.elem_descr.specs.declared.format_text.body.Body.{Body}
+use Rattle.elem_descr.specs.declared.format_text.record.Body.{Body}
 use Rattle.elem_descr.specs.declared.format_text.mark.Mark.{Mark}
 use Rattle.elem_descr.specs.declared.format_text.mark.Mark.TheVariants.{Aligned, Native, Little as LittleMark, Big as BigMark}
 use Rattle.elem_descr.specs.Refusals.{◌>>=◌}

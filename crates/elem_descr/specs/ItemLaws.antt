@@ -1,7 +1,7 @@
 -- Laws of the leaves of an item: they are in order, and as many as are counted.
 use Rattle.std.proofs.Common.{◌≡◌, ℕ, zero, suc, ◌+◌, ◌<◌, ◌≤◌, ◌∷◌, map, length, get_or, refl, sym, ap, arith, List, [], ◌++◌, length-append, take, drop}
 use Rattle.std.proofs.lemmas.List.{map-append}
-use Rattle.elem_descr.specs.declared.leaf.Leaf.{Leaf}
+use Rattle.elem_descr.specs.declared.descr.Leaf.{Leaf}
 use Rattle.elem_descr.specs.declared.descr.Descr.{Descr}
 use Rattle.elem_descr.specs.declared.descr.Descr.TheVariants.{Scalar as ScalarDescr, Record as RecordDescr}
 use Rattle.elem_descr.specs.Items.{leaves_of, leaves_from, moved_leaf, AreInOrder}

@@ -1,12 +1,11 @@
 //! Descriptors: the element type of an array.
-ghost use Rattle.std.specs.Prelude.{◌≡◌, ℕ, ◌≤◌, ◌<◌, ◌+◌, ◌++◌, ◌∷◌, [], length, map, take, drop, slice_get, get_or, IfOk, IfSome, OnOk, position};
-ghost use Rattle.std.specs.Str.{bytes_eq};
+ghost use Rattle.elem_descr.specs.Descriptors.{IsLegal, fields_of, listed};
 ghost use Rattle.elem_descr.specs.Encoding.{size};
 ghost use Rattle.elem_descr.specs.Fields.{Structure, no_more};
-ghost use Rattle.elem_descr.specs.Descriptors.{IsLegal, fields_of, listed};
-ghost use Rattle.elem_descr.specs.Items.{item_size, leaves_of, leaves_from, leaves_in, moved_leaf, fields, field_of, field_at, field_leaves, LeavesInOrder, AreInOrder};
+ghost use Rattle.elem_descr.specs.Items.{AreInOrder, LeavesInOrder, field_at, field_leaves, field_of, fields, item_size, leaves_from, leaves_in, leaves_of, moved_leaf};
+ghost use Rattle.std.specs.Prelude.{IfOk, IfSome, OnOk, [], drop, get_or, length, map, position, slice_get, take, ℕ, ◌++◌, ◌+◌, ◌<◌, ◌∷◌, ◌≡◌, ◌≤◌};
+ghost use Rattle.std.specs.Str.{bytes_eq};
 
-use crate::leaf::Leaf;
 use crate::name::FieldName;
 use crate::scalar::Scalar;
 use std::alloc::{AllocError, Global};
@@ -335,4 +334,11 @@ impl Descr {
             Descr::Record(structure) => Ok(Descr::Record(Record::try_copy(alloc, structure)?)),
         }
     }
+}
+
+/// A value of an item: its scalar, and the offset of its bytes in the item.
+#[derive(Clone, Copy, Debug, PartialEq, Eq)]
+pub struct Leaf {
+    pub scalar: Scalar,
+    pub at: usize,
 }

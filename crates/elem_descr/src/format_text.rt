@@ -1,6 +1,4 @@
 //! Format texts of PEP 3118.
-mod body;
-mod field;
 mod mark;
 mod member;
 pub(crate) mod read;

@@ -2,14 +2,10 @@
 //! a command is made of: names, operators, the items of index lists, the order of memory.
 #![tactic(auto)]
 
-mod array_name;
 mod descr;
-mod descr_text;
 mod digits;
 mod format_text;
 mod index_item;
-mod leaf;
-mod memory_order;
 mod name;
 mod number;
 mod operators;
@@ -18,19 +14,15 @@ mod refusal;
 mod scalar;
 mod typestr;
 
-pub use array_name::{LONGEST_NAME, Name};
-pub use descr::{Descr, Field, MAX_DEPTH, Record};
-pub use descr_text::descr_read;
+pub use descr::{Descr, Field, Leaf, MAX_DEPTH, Record};
 pub use digits::{are_digits, capped_value, digits_len};
 pub use format_text::read::format_read;
 pub use format_text::write::format_write;
 pub use index_item::IndexItem;
-pub use leaf::Leaf;
-pub use memory_order::MemoryOrder;
-pub use name::{FieldName, is_legal_name};
+pub use name::{FieldName, LONGEST_NAME, Name, is_legal_name};
 pub use number::{is_value, num_read, num_write};
-pub use operators::{BinOp, Comparison, Red, UnOp};
+pub use operators::{BinOp, Comparison, MemoryOrder, Red, UnOp};
 pub use record_builder::RecordBuilder;
 pub use refusal::Refusal;
 pub use scalar::{BytesLen, MAX_ITEM_SIZE, Order, Scalar, Width};
-pub use typestr::{marked, typestr_read, typestr_write};
+pub use typestr::{descr_read, marked, typestr_read, typestr_write};

@@ -1,10 +1,18 @@
-//! The names of fields.
-ghost use Rattle.std.specs.Prelude.{◌≡◌, ◌≤◌, ◌++◌, codes, decimal, IsTrue, IfOk};
-ghost use Rattle.std.specs.List.{list_all};
+//! The names of fields and of arrays.
+ghost use Rattle.std.specs.Hash as fed;
 ghost use Rattle.elem_descr.specs.Names.{is_field_name_byte, is_legal_name};
+ghost use Rattle.std.proofs.Common.{rules};
+ghost use Rattle.std.specs.Cmp.Lexicographic.{nat_list_eq_equiv};
+ghost use Rattle.std.specs.Cmp.Rules.{hashing};
+ghost use Rattle.std.specs.Cmp.{partial_equiv_from_equiv};
+ghost use Rattle.std.specs.List.{list_all};
+ghost use Rattle.std.specs.Prelude.{IfOk, IsTrue, codes, decimal, length, ◌++◌, ◌≡◌, ◌≤◌};
+ghost use Rattle.std.specs.Str.{bytes_eq};
 
 use itoa::Buffer;
+use smallvec::SmallVec;
 use std::alloc::{AllocError, Global};
+use std::hash::{Hash, Hasher};
 use std::marker::Model;
 
 /// The most bytes that the name of a field may have.
@@ -69,4 +77,72 @@ pub fn is_legal_name(name: &[u8]) -> bool
     ensures { result ≡ is_legal_name name.now }
 {
     !name.is_empty() && name.len() <= MAX_NAME_LEN && are_name_bytes(name)
+}
+
+/// The most bytes of the name of an array.
+pub const LONGEST_NAME: usize = 32;
+
+/// A name in the script: at most 32 bytes, which take no memory of their own.
+#[derive(Drop)]
+pub struct Name {
+    bytes: SmallVec<u8, 32>,
+}
+
+impl Model for Name {
+    ghost use Rattle.std.specs.Prelude.{List, ℕ, ◌≤◌, length};
+
+    ghost Value = { List ℕ };
+
+    ghost view = { λ n. n.bytes.items };
+
+    ghost invariant = { λ n. length n.bytes.items ≤ 32 };
+}
+
+impl PartialEq for Name {
+    ghost eq = { λ name other. bytes_eq name other };
+
+    ghost laws = { partial_equiv_from_equiv nat_list_eq_equiv };
+
+    fn eq(&self, other: &Name) -> bool {
+        self.as_slice() == other.as_slice()
+    }
+}
+
+impl Eq for Name {
+    ghost laws = { nat_list_eq_equiv };
+}
+
+impl Hash for Name {
+    ghost hash_input = { λ name. fed.slice fed.u8 name };
+
+    ghost respects_eq = { Prim.search (hashing, rules) };
+
+    fn hash<H: Hasher>(&self, state: &mut H) {
+        self.as_slice().hash(state);
+    }
+}
+
+impl Name {
+    /// A copy of the bytes.
+    pub fn from_slice(alloc: Global, bytes: &[u8]) -> Name
+        requires { length bytes.now ≤ 32 }
+        ensures { result ≡ bytes.now }
+    {
+        Name {
+            bytes: SmallVec::from_slice(alloc, bytes).unwrap(),
+        }
+    }
+
+    pub fn copy(alloc: Global, name: &Name) -> Name
+        ensures { result ≡ name.now }
+    {
+        Name::from_slice(alloc, name.as_slice())
+    }
+
+    pub fn as_slice(&self) -> &[u8]
+        ensures value { result.now ≡ self.now }
+        ensures short { length result.now ≤ 32 }
+    {
+        self.bytes.as_slice()
+    }
 }

@@ -1,4 +1,4 @@
-//! The operators: operations, comparisons and reductions.
+//! The operators: operations, comparisons and reductions; and the order of items in memory.
 
 /// The operations with two operands.
 #[derive(Clone, Copy, Debug)]
@@ -46,4 +46,11 @@ pub enum Red {
     All,
     ArgMin,
     ArgMax,
+}
+
+/// The order of adjacent items of an array: the last axis changes fastest, or the first.
+#[derive(Clone, Copy, Debug, PartialEq, Eq, Drop)]
+pub enum MemoryOrder {
+    C,
+    Fortran,
 }

@@ -8,7 +8,7 @@ use Rattle.elem_descr.specs.declared.descr.Descr.TheVariants.{Scalar as ScalarDe
 use Rattle.elementwise.specs.Words.{Scalar, LeafValue, size, decode, encode, item_from, item_at, count, offsets, multiples, item_size, encode_item, length-encode, one-encoded, length-offsets, Owned, row-multiples, row_offsets}
 use Rattle.elementwise.specs.Results.{pairwise, value_in}
 use Rattle.elementwise.specs.declared.pairing.Pairing.{Pairing}
-use Rattle.elementwise.specs.declared.rows.Operands.{Operands}
+use Rattle.elementwise.specs.declared.row_pairs.Operands.{Operands}
 use Rattle.elementwise.specs.inside.Made.{IsMade}
 use Rattle.elementwise.specs.inside.Operands.{operand_items, pairs_of, made_of_all}
 use Rattle.elementwise.specs.inside.Works.{left_of, right_of, target_of, gives, pair_made, CanPair}

@@ -26,8 +26,8 @@ pub use Rattle.elem_descr.specs.Weights.{weight}
 pub use Rattle.elem_descr.specs.WrapLaws.{int_wrap-low_bits, integer-differs, integer-fits}
 pub use Rattle.elem_descr.specs.declared.descr.Descr.{Descr}
 pub use Rattle.elem_descr.specs.declared.descr.Field.{Field}
-pub use Rattle.elem_descr.specs.declared.leaf.Leaf.{Leaf}
-pub use Rattle.elem_descr.specs.declared.memory_order.MemoryOrder.TheVariants.{C}
+pub use Rattle.elem_descr.specs.declared.descr.Leaf.{Leaf}
+pub use Rattle.elem_descr.specs.declared.operators.MemoryOrder.TheVariants.{C}
 pub use Rattle.elem_descr.specs.declared.operators.BinOp.{BinOp}
 pub use Rattle.elem_descr.specs.declared.operators.BinOp.TheVariants.{Add, And, Divide, FloorDivide}
 pub use Rattle.elem_descr.specs.declared.operators.BinOp.TheVariants.{Modulo, Multiply, Or}

@@ -9,8 +9,8 @@ ghost use Rattle.elementwise.specs.inside.LeafCasts.{run_part};
 ghost use Rattle.elementwise.specs.inside.Made.{IsMade};
 ghost use Rattle.elementwise.specs.inside.Works.{left_of, right_of, target_of, CanPair};
 
+use crate::apply::make_whole;
 use crate::pairing::Pairing;
-use crate::typed::make_whole;
 use arrays::{Items, Owned};
 use elem_descr::{Descr, MemoryOrder};
 use machine_numbers::place;

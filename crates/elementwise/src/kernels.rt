@@ -5,8 +5,8 @@ ghost use Rattle.elementwise.specs.inside.PairPasses.{number_pair};
 ghost use Rattle.elementwise.specs.inside.Operands.{pairs_of, made_of_all};
 ghost use Rattle.elementwise.specs.inside.Sides.{pair_count, made_of};
 
-use crate::rows::{Operands, Pass};
-use crate::sides::Pairs;
+use crate::pairing::Pairs;
+use crate::row_pairs::{Operands, Pass};
 use machine_numbers::{Number, Ordered};
 use raw_block::BlockBuilder;
 use std::marker::PhantomData;

@@ -4,7 +4,7 @@ ghost use Rattle.elementwise.specs.Words.{IsNumber, size, put, padded, without_n
 ghost use Rattle.elementwise.specs.inside.LeafCasts.{leaf_cast};
 ghost use Rattle.elementwise.specs.inside.Columns.{HasRoom, with_leaves, AreRows};
 
-use crate::text_pairs::Cutting;
+use crate::compare_byte_strings::Cutting;
 use elem_descr::Scalar;
 use machine_numbers::{Number, NumberTask, Ordered, Side, on_number};
 use raw_block::RawBlock;

@@ -1,12 +1,24 @@
-//! The operands of operations.
-ghost use Rattle.std.specs.Prelude.{◌≡◌, ℕ, ◌<◌, slice_index_or, IsTrue};
-ghost use Rattle.elementwise.specs.Words.{can_stretch, little};
+//! The operands of operations, and arrays of the results of their pairs.
+ghost use Rattle.elem_descr.specs.declared.descr.Descr.TheVariants.{Scalar as ScalarDescr};
+ghost use Rattle.elem_descr.specs.declared.scalar.Scalar.TheVariants.{Bool as BoolScalar};
+ghost use Rattle.elementwise.specs.Results.{pairwise, stretched_items, value_in};
+ghost use Rattle.elementwise.specs.Words.{can_stretch, little, max_bytes, size};
+ghost use Rattle.elementwise.specs.inside.Made.{IsMade, IsTurned};
+ghost use Rattle.elementwise.specs.inside.Operands.{operand_items, pairs_of};
+ghost use Rattle.elementwise.specs.inside.Shrunk.{IsShrunk};
+ghost use Rattle.elementwise.specs.inside.Works.{CanPair, gives, left_of, right_of, target_of};
+ghost use Rattle.std.specs.Prelude.{IfOk, IfSome, IsTrue, [], slice_index_or, ℕ, ◌*◌, ◌<◌, ◌∷◌, ◌≡◌, ◌≤◌};
 
-use arrays::Items;
-use elem_descr::{Descr, Scalar};
+use crate::cast::cast_scalars;
+use crate::pairing::Pairing;
+use crate::row_pairs::{Operand, Operands};
+use arrays::{Items, Owned, gather};
+use broadcasting::{shrink, shrunk_shape, stretched_to};
+use elem_descr::{Descr, MemoryOrder, Scalar};
 use machine_numbers::little;
-use raw_block::RawBlock;
-use shape_strides::{Layout, Shape};
+use raw_block::{BlockBuilder, RawBlock};
+use shape_strides::{Layout, Rows, Shape};
+use std::alloc::{AllocError, Global};
 
 /// Two arrays, and a shape to which both stretch.
 #[derive(Clone, Copy, Drop)]
@@ -51,4 +63,125 @@ pub(crate) fn read_as(scalar: &Scalar, left: Items<'_>, right: Items<'_>) -> Sca
         Descr::Scalar(from) if little(from) == *scalar => *from,
         _ => *scalar,
     }
+}
+
+/// Fewer pairs than these go by rows.
+const FEW: usize = 4096;
+
+/// How far apart the items of a row lie.
+fn step(layout: &Layout) -> usize {
+    let Rows { starts: _, along } = layout.rows();
+    along.stride.unsigned_abs()
+}
+
+/// Two layouts with their axes in reverse, if there are many items and those of columns lie nearer to one
+/// another than those of rows.
+fn columns(alloc: Global, left: &Layout, right: &Layout) -> Result<Option<Layouts>, AllocError>
+    ensures first { IfOk result (λ columns. IfSome columns (λ c. IsTurned c.first left.now)) }
+    ensures second { IfOk result (λ columns. IfSome columns (λ c. IsTurned c.second right.now)) }
+{
+    if left.shape.items() < FEW {
+        return Ok(None);
+    }
+    let first = Layout::reversed(alloc, left)?;
+    let second = Layout::reversed(alloc, right)?;
+    let across = step(left).saturating_add(step(right));
+    if across <= step(&first).saturating_add(step(&second)) {
+        return Ok(None);
+    }
+    Ok(Some(Layouts { first, second }))
+}
+
+/// What is made of all pairs, in C order.
+pub(crate) fn made(
+    alloc: Global,
+    pairing: &Pairing<'_>,
+    operands: Operands<'_, '_>,
+) -> Result<Owned, AllocError>
+    requires can { CanPair pairing.now }
+    requires left { operands.left.descr.now ≡ ScalarDescr (left_of pairing.now) }
+    requires right { operands.right.descr.now ≡ ScalarDescr (right_of pairing.now) }
+    requires few { pairs_of operands * size (target_of pairing.now) ≤ max_bytes }
+    ensures { IfOk result
+        (IsMade (ScalarDescr (target_of pairing.now)) operands.entry.left.layout.now.shape
+        (pairwise (λ x y. gives pairing.now (value_in x) (value_in y) ∷ [])
+        (operand_items operands.entry.left) (operand_items operands.entry.right))) }
+{
+    let Operands { left, right } = operands;
+    let shape = &left.layout.shape;
+    let scalar = pairing.target();
+    let width = scalar.size();
+    let block = BlockBuilder::try_new(alloc, shape.items() * width)?;
+    let Some(columns) = columns(alloc, left.layout, right.layout)? else {
+        let block = pairing.push(block, operands).finish();
+        return Owned::over(alloc, Descr::Scalar(scalar), shape, MemoryOrder::C, block);
+    };
+    let turned = Operands {
+        left: Operand {
+            bytes: left.bytes,
+            layout: &columns.first,
+            descr: left.descr,
+        },
+        right: Operand {
+            bytes: right.bytes,
+            layout: &columns.second,
+            descr: right.descr,
+        },
+    };
+    let block = pairing.push(block, turned).finish();
+    let order = Layout::f_order(alloc, shape, width)?;
+    let block = gather(alloc, &block, &order, width)?;
+    Owned::over(alloc, Descr::Scalar(scalar), shape, MemoryOrder::C, block)
+}
+
+/// Two layouts of one shape, which show their items once where both repeat them.
+#[derive(Drop)]
+pub(crate) struct Shrunk {
+    pub(crate) shape: Shape,
+    pub(crate) first: Layout,
+    pub(crate) second: Layout,
+}
+
+/// Two layouts that stretch to a shape, with length 1 on each axis of it along which the items of both
+/// repeat.
+pub(crate) fn without_repeats(
+    alloc: Global,
+    left: &Layout,
+    right: &Layout,
+    shape: &Shape,
+) -> Result<Shrunk, AllocError>
+    requires stretches { IsTrue (can_stretch left.now.shape shape.now) }
+    requires also { IsTrue (can_stretch right.now.shape shape.now) }
+    ensures first { IfOk result (λ s. IsShrunk s.first left.now s.shape shape.now) }
+    ensures second { IfOk result (λ s. IsShrunk s.second right.now s.shape shape.now) }
+{
+    let wide = stretched_to(alloc, left, shape)?;
+    let other = stretched_to(alloc, right, shape)?;
+    let shape = shrunk_shape(alloc, &wide, &other)?;
+    let first = shrink(alloc, &wide, &shape)?;
+    let second = shrink(alloc, &other, &shape)?;
+    Ok(Shrunk {
+        shape,
+        first,
+        second,
+    })
+}
+
+/// The bools of an array that is stretched to a shape, in a block of their own.
+pub(crate) fn spread(alloc: Global, made: &Owned, shape: &Shape) -> Result<Owned, AllocError>
+    requires bools { made.now.descr ≡ ScalarDescr BoolScalar }
+    requires stretches { IsTrue (can_stretch made.now.layout.shape shape.now) }
+    ensures { IfOk result
+        (IsMade (ScalarDescr BoolScalar) shape.now
+        (stretched_items made.now.descr made.now.block made.now.layout shape.now)) }
+{
+    let _items = shape.items();
+    let items = made.items();
+    let wide = stretched_to(alloc, items.layout, shape)?;
+    let bools = Items {
+        block: items.block,
+        layout: &wide,
+        descr: items.descr,
+    };
+    cast_scalars(alloc, Operand::of(bools), &Scalar::Bool, &Scalar::Bool)
 }

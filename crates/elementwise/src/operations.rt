@@ -8,12 +8,12 @@ ghost use Rattle.elementwise.specs.inside.Operands.{pairs_of, made_of_all};
 ghost use Rattle.elementwise.specs.inside.Works.{target, meaning, IsWork};
 
 use crate::bits;
-use crate::casting::cast;
-use crate::comparing::compare;
-use crate::dividing::Divisions;
+use crate::cast_kernels::cast;
+use crate::compare_kernels::compare;
+use crate::divide::Divisions;
 use crate::kernels::{Kernel, push_made};
 use crate::pairing::Work;
-use crate::rows::Operands;
+use crate::row_pairs::Operands;
 use elem_descr::{BinOp, Scalar, UnOp};
 use machine_numbers::{LowFirst, Number, NumberTask, Ordered, is_bool, is_text};
 use raw_block::BlockBuilder;

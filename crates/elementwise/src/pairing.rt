@@ -1,16 +1,15 @@
 //! Combines the items of two operands, pair by pair.
-ghost use Rattle.std.specs.Prelude.{◌≡◌, ◌+◌, ◌*◌, ◌≤◌, ◌++◌};
-ghost use Rattle.elementwise.specs.Words.{size, item_size};
-ghost use Rattle.elementwise.specs.inside.Operands.{pairs_of, made_of_all};
+ghost use Rattle.elementwise.specs.Words.{item_size, size};
+ghost use Rattle.elementwise.specs.inside.Operands.{made_of_all, pairs_of};
+ghost use Rattle.std.specs.Prelude.{◌*◌, ◌++◌, ◌+◌, ◌≡◌, ◌≤◌};
 
-use crate::comparing::compare;
+use crate::compare_byte_strings::{ComparingTexts, ComparingWith, Cutting, push_texts};
+use crate::compare_kernels::compare;
 use crate::operations::Working;
 use crate::promotion::eight_bytes;
-use crate::rows::Operands;
-use crate::text_pairs::{ComparingTexts, ComparingWith, Cutting};
-use crate::text_words::push_texts;
+use crate::row_pairs::Operands;
 use elem_descr::{BinOp, BytesLen, Comparison, Scalar, UnOp};
-use machine_numbers::{LowFirst, is_bool, little, on_number};
+use machine_numbers::{LowFirst, Side, is_bool, little, on_number};
 use raw_block::BlockBuilder;
 
 /// What is made of two numbers.
@@ -136,6 +135,32 @@ impl<'a> Pairing<'a> {
                 let width = target.get();
                 operands.push_all(&Cutting { width }, block)
             }
+        }
+    }
+}
+
+/// Two runs of as many items.
+#[derive(Clone, Copy, Drop)]
+pub(crate) struct Pairs<'a, 'b> {
+    pub(crate) left: Side<'a>,
+    pub(crate) right: Side<'b>,
+    pub(crate) ghost even: { left.run.count ≡ right.run.count },
+}
+
+impl<'a, 'b> Pairs<'a, 'b> {
+    ghost use Rattle.machine_numbers.specs.Sides.{AreSame};
+
+    /// Two runs whose steps are known to be these.
+    #[inline(always)]
+    pub(crate) fn with_steps(self, left: isize, right: isize) -> Pairs<'a, 'b>
+        requires left { self.left.run.step ≡ left }
+        requires right { self.right.run.step ≡ right }
+        ensures left { AreSame result.left self.entry.left }
+        ensures right { AreSame result.right self.entry.right }
+    {
+        Pairs {
+            left: self.left.with_step(left),
+            right: self.right.with_step(right),
         }
     }
 }

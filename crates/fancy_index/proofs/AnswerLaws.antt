@@ -4,7 +4,7 @@ use Rattle.std.specs.Result.{is_ok, IfOk}
 use Rattle.std.proofs.lemmas.Bool.{false≢true}
 use Rattle.std.proofs.lemmas.List.{nil_from_length, length-map}
 use Rattle.fancy_index.specs.Words.{Refusal, OutOfMemory, IndexOutOfRange, check, ◌>>=◌, Layout, max_axes, count, indexes, rank, shape_of, shape_of-same, offsets, length-indexes, rank-lt, common_with, can_stretch, with-fits}
-use Rattle.fancy_index.specs.declared.parts.IndexPart.{IndexPart}
+use Rattle.fancy_index.specs.declared.index_parts.IndexPart.{IndexPart}
 use Rattle.fancy_index.specs.Parts.{Part, point_shapes}
 use Rattle.fancy_index.specs.Indexed.{as_index_shapes, points_shape, all_axes, leads_through, parts_view}
 use Rattle.fancy_index.specs.Plans.{Planned, IsPlanOf, GivesPlan}

@@ -9,10 +9,10 @@ use lib.IntN.{ℤ, pos, ◌*ℤ◌}
 use Rattle.fancy_index.specs.Words.{Descr, Byte, Int, Bytes, item_from, truth, Run, run_offsets, length-run_offsets}
 use Rattle.elem_descr.specs.declared.descr.Descr.TheVariants.{Scalar as ScalarDescr, Record as RecordDescr}
 use Rattle.elem_descr.specs.declared.scalar.Scalar.TheVariants.{Bool as BoolScalar}
-use Rattle.fancy_index.specs.declared.kind.Kind.TheVariants.{Mask}
+use Rattle.fancy_index.specs.declared.index_parts.Kind.TheVariants.{Mask}
 use Rattle.fancy_index.specs.IndexArrays.{kind_of, axes_of_kind}
 use Rattle.fancy_index.specs.Sources.{first_number, number_from}
-use Rattle.fancy_index.specs.declared.bools.Bools.{Bools}
+use Rattle.fancy_index.specs.declared.masks.Bools.{Bools}
 use Rattle.fancy_index.specs.inside.Bools.{bool_at, bools_in, LieInBytes}
 use Rattle.fancy_index.specs.inside.PointLists.{true_ranks}
 use Rattle.fancy_index.proofs.RunLaws.{lies-there}

@@ -7,7 +7,7 @@ use Rattle.std.proofs.lemmas.List.Elements.{All-map}
 use Rattle.std.proofs.Math.Seq.{take-append_seam, drop-append_seam}
 use lib.IntN.{ℤ, pos, ◌+ℤ◌, +ℤ_idr}
 use Rattle.fancy_index.specs.Words.{Layout, max_bytes, count, indexes, rank, IsIndex, dot, address_at, natural, address, offsets, zero_filled, factors_pos, length-index, length-indexes, dot-zeros, IsIndex-first, pos-natural, get_or-offsets, count-append, picked_index, view_through}
-use Rattle.fancy_index.specs.declared.parts.IndexPart.{IndexPart}
+use Rattle.fancy_index.specs.declared.index_parts.IndexPart.{IndexPart}
 use Rattle.fancy_index.specs.Parts.{Part, other_axes, side_by_side, axes_before, points_place, leads}
 use Rattle.fancy_index.specs.Indexed.{all_axes, leads_through}
 use Rattle.fancy_index.specs.Plans.{Planned, IsPlanOf}

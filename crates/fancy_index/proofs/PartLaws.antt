@@ -6,10 +6,10 @@ use Rattle.std.proofs.lemmas.Bool.{and_parts, false≢true}
 use Rattle.std.proofs.lemmas.List.{map-append, take_all}
 use Rattle.std.proofs.lemmas.List.Folds.{list_all-append, list_all_at, list_all_more}
 use Rattle.fancy_index.specs.Words.{Refusal, IndexOutOfRange, check, IndexItem, Integer, AxisPick, is_place, whole, has_step, pick_shown, ArePicks}
-use Rattle.view_ops.specs.declared.pick.AxisPick.TheVariants.{At as AtAxis, Along as AlongAxis, New as NewAxis}
+use Rattle.view_ops.specs.declared.picks.AxisPick.TheVariants.{At as AtAxis, Along as AlongAxis, New as NewAxis}
 use Rattle.fancy_index.specs.declared.points.PointList.{PointList}
-use Rattle.fancy_index.specs.declared.parts.IndexPart.{IndexPart}
-use Rattle.fancy_index.specs.declared.parts.IndexPart.TheVariants.{Axis as AxisPart, Points as PointsPart, Between as BetweenPart}
+use Rattle.fancy_index.specs.declared.index_parts.IndexPart.{IndexPart}
+use Rattle.fancy_index.specs.declared.index_parts.IndexPart.TheVariants.{Axis as AxisPart, Points as PointsPart, Between as BetweenPart}
 use Rattle.fancy_index.specs.IndexArrays.{IndexArray, is_index, array_axes_taken, placed_arrays, left_over, covers, cover, is_within, are_within}
 use Rattle.fancy_index.specs.Parts.{Part, Axis, wholes, parts_of, parts}
 use Rattle.fancy_index.specs.inside.Lists.{IsNext}

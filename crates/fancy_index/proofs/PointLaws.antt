@@ -11,8 +11,8 @@ use Rattle.std.proofs.lemmas.Slice.Eq.{bytes_eq-Decides}
 use lib.IntN.{ℤ, pos}
 use Rattle.fancy_index.specs.Words.{Refusal, Gives, count, indexes, rank, get_or-indexes, length-indexes, axis_below, from_front, is_place}
 use Rattle.fancy_index.specs.declared.points.PointList.{PointList}
-use Rattle.fancy_index.specs.declared.kind.Kind.{Kind}
-use Rattle.fancy_index.specs.declared.kind.Kind.TheVariants.{Integers, Mask, NoIndex}
+use Rattle.fancy_index.specs.declared.index_parts.Kind.{Kind}
+use Rattle.fancy_index.specs.declared.index_parts.Kind.TheVariants.{Integers, Mask, NoIndex}
 use Rattle.fancy_index.specs.IndexArrays.{axes_of_kind, covers_kind, are_places}
 use Rattle.fancy_index.specs.Parts.{Points, true_indexes, point_at, points_of}
 use Rattle.fancy_index.specs.inside.PointLists.{place_of, named_places, rank_on, HavePlaces, true_ranks, tuple, ranks_of, are_named, IsPart}

@@ -5,7 +5,7 @@ use Rattle.std.proofs.lemmas.List.{take_all, drop_all, length-map, get_or-append
 use Rattle.std.proofs.lemmas.List.Elements.{All-head, All-tail}
 use lib.IntN.{pos, ◌+ℤ◌, ◌*ℤ◌}
 use Rattle.fancy_index.specs.Words.{count, offsets, length-offsets, max_bytes, run_offsets, BeginsWithin}
-use Rattle.fancy_index.specs.declared.ranks.RunAt.{RunAt}
+use Rattle.fancy_index.specs.declared.masks.RunAt.{RunAt}
 use Rattle.fancy_index.specs.inside.Ranks.{IsAtRun}
 use Rattle.fancy_index.proofs.RunLaws.{first-low, steps-low, steps-high, lies-there}
 use Rattle.fancy_index.proofs.SumLaws.{NextRun, next_run}

@@ -4,9 +4,9 @@ use Rattle.std.specs.Result.{IfOk, IfErr}
 use Rattle.std.proofs.lemmas.Bool.{le-leb}
 use Rattle.std.proofs.lemmas.List.{get_or-map}
 use Rattle.fancy_index.specs.Words.{Refusal, OutOfMemory, Layout, max_axes, indexes, rank, IsIndex, address, offsets, length-indexes, rank-lt, get_or-indexes, pos-offset, AxisPick, axis_of, picked_shape, picked_index, shape_picked, picked_view, pick_shown, View, IsViewOf, GivesView}
-use Rattle.view_ops.specs.declared.pick.AxisPick.TheVariants.{At as AtAxis}
-use Rattle.fancy_index.specs.declared.parts.IndexPart.{IndexPart}
-use Rattle.fancy_index.specs.declared.parts.IndexPart.TheVariants.{Axis as AxisPart, Points as PointsPart, Between as BetweenPart}
+use Rattle.view_ops.specs.declared.picks.AxisPick.TheVariants.{At as AtAxis}
+use Rattle.fancy_index.specs.declared.index_parts.IndexPart.{IndexPart}
+use Rattle.fancy_index.specs.declared.index_parts.IndexPart.TheVariants.{Axis as AxisPart, Points as PointsPart, Between as BetweenPart}
 use Rattle.fancy_index.specs.Parts.{other_axes}
 use Rattle.fancy_index.specs.inside.PartLists.{shown_part, rest_picks, IsRest}
 use Rattle.fancy_index.proofs.CutLaws.{only-memory}

@@ -2,8 +2,8 @@
 use Rattle.std.proofs.Common.{◌≡◌, ℕ, ◌<◌, List, [], length, get_or, All, sym, ap, subst, ◌∙◌, arith}
 use Rattle.fancy_index.specs.Words.{count, rank, IsIndex, length-index, rank-lt, get_or-indexes, index_at, broadcast_index, IsIndex-broadcast, few-axes}
 use Rattle.fancy_index.specs.declared.points.PointList.{PointList}
-use Rattle.fancy_index.specs.declared.parts.IndexPart.{IndexPart}
-use Rattle.fancy_index.specs.declared.parts.IndexPart.TheVariants.{Axis as AxisPart, Points as PointsPart, Between as BetweenPart}
+use Rattle.fancy_index.specs.declared.index_parts.IndexPart.{IndexPart}
+use Rattle.fancy_index.specs.declared.index_parts.IndexPart.TheVariants.{Axis as AxisPart, Points as PointsPart, Between as BetweenPart}
 use Rattle.fancy_index.specs.inside.PointLists.{tuple, ranks_of}
 use Rattle.fancy_index.specs.inside.PartLists.{IsReady, HasPointAt, IsReadyAt}
 

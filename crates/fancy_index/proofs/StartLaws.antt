@@ -7,10 +7,10 @@ use Rattle.std.proofs.lemmas.List.{drop_more, take_more, take_all, drop_all, sam
 use Rattle.std.proofs.lemmas.List.Elements.{All-head, All-tail, All-take, All-drop}
 use lib.IntN.{ℤ, pos, ◌+ℤ◌}
 use Rattle.fancy_index.specs.Words.{Layout, max_bytes, count, indexes, rank, IsIndex, dot, natural, address, offsets, length-index, length-indexes, index_at, rank-lt, IsIndex-append, pos-natural, first_of, can_stretch, broadcast_index, broadcast_index-itself, IsIndex-broadcast}
-use Rattle.view_ops.specs.declared.pick.AxisPick.TheVariants.{At as AtAxis, Along as AlongAxis, New as NewAxis}
+use Rattle.view_ops.specs.declared.picks.AxisPick.TheVariants.{At as AtAxis, Along as AlongAxis, New as NewAxis}
 use Rattle.fancy_index.specs.declared.points.PointList.{PointList}
-use Rattle.fancy_index.specs.declared.parts.IndexPart.{IndexPart}
-use Rattle.fancy_index.specs.declared.parts.IndexPart.TheVariants.{Axis as AxisPart, Points as PointsPart, Between as BetweenPart}
+use Rattle.fancy_index.specs.declared.index_parts.IndexPart.{IndexPart}
+use Rattle.fancy_index.specs.declared.index_parts.IndexPart.TheVariants.{Axis as AxisPart, Points as PointsPart, Between as BetweenPart}
 use Rattle.fancy_index.specs.inside.Moved.{moved_offset, IsMoved}
 use Rattle.fancy_index.specs.inside.PointLists.{tuple, ranks_of}
 use Rattle.fancy_index.specs.inside.Ranks.{led}

@@ -8,8 +8,8 @@ use Rattle.std.proofs.Math.Nat.{mul-suc}
 use lib.IntN.{ℤ, pos}
 use Rattle.fancy_index.specs.Words.{Descr, Refusal, OutOfMemory, IndexOutOfRange, integer, number_in, check, item_at, signed_number, Run, run_offsets, length-run_offsets, is_place}
 use Rattle.fancy_index.specs.Sources.{number_from}
-use Rattle.fancy_index.specs.declared.words.Reading.{Reading}
-use Rattle.fancy_index.specs.declared.words.Spread.{Spread}
+use Rattle.fancy_index.specs.declared.positions.Reading.{Reading}
+use Rattle.fancy_index.specs.declared.positions.Spread.{Spread}
 use Rattle.fancy_index.specs.inside.Words.{word, spread_numbers, AreWords, IsSpread, IsNative, ArePlacesTo}
 use Rattle.fancy_index.specs.inside.PointLists.{place_of, named_place, named_places}
 use Rattle.fancy_index.proofs.RunLaws.{packed-entry}

@@ -5,8 +5,8 @@ use Rattle.std.specs.List.{list_all}
 use Rattle.fancy_index.specs.Words.{Descr, Byte, Int, IndexItem, Ellipsis, NewAxis, Array, is_place, Placed, is_on_axis}
 use Rattle.elem_descr.specs.declared.descr.Descr.TheVariants.{Scalar as ScalarDescr}
 use Rattle.elem_descr.specs.declared.scalar.Scalar.TheVariants.{Bool as BoolScalar}
-use Rattle.fancy_index.specs.declared.kind.Kind.{Kind}
-use Rattle.fancy_index.specs.declared.kind.Kind.TheVariants.{Integers, Mask, NoIndex}
+use Rattle.fancy_index.specs.declared.index_parts.Kind.{Kind}
+use Rattle.fancy_index.specs.declared.index_parts.Kind.TheVariants.{Integers, Mask, NoIndex}
 
 -- an array in an index list, by its items in C order: a bool is 0 or 1
 pub record IndexArray : Type 0 where

@@ -4,8 +4,8 @@ use Rattle.std.specs.Ordering.{int_eq}
 use Rattle.std.specs.List.{list_any, flat_map}
 use Rattle.fancy_index.specs.Words.{IndexItem, Integer, Ellipsis, Array, natural, indexes, rank, from_front, Pick, At, Along, New, whole, picks_of, axis_of, broadcast_index}
 use Rattle.fancy_index.specs.IndexArrays.{IndexArray, kind, placed_arrays, left_over}
-use Rattle.fancy_index.specs.declared.kind.Kind.{Kind}
-use Rattle.fancy_index.specs.declared.kind.Kind.TheVariants.{Integers, Mask}
+use Rattle.fancy_index.specs.declared.index_parts.Kind.{Kind}
+use Rattle.fancy_index.specs.declared.index_parts.Kind.TheVariants.{Integers, Mask}
 
 -- An axis that is picked as in a basic index, or a new one; points of one or more axes, in a shape of their own: the numbers
 -- of each on its axes; or a `...` that is written, which stands between what is before and after it.

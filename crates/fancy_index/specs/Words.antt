@@ -12,7 +12,7 @@ pub use Rattle.elem_descr.specs.declared.descr.Descr.{Descr}
 pub use Rattle.elem_descr.specs.declared.index_item.IndexItem.{IndexItem}
 pub use Rattle.elem_descr.specs.declared.index_item.IndexItem.TheVariants.{Array, Ellipsis, Integer}
 pub use Rattle.elem_descr.specs.declared.index_item.IndexItem.TheVariants.{NewAxis, Slice}
-pub use Rattle.elem_descr.specs.declared.memory_order.MemoryOrder.TheVariants.{C}
+pub use Rattle.elem_descr.specs.declared.operators.MemoryOrder.TheVariants.{C}
 pub use Rattle.elem_descr.specs.declared.refusal.Refusal.{Refusal}
 pub use Rattle.elem_descr.specs.declared.refusal.Refusal.TheVariants.{IndexOutOfRange, IndexShapes}
 pub use Rattle.elem_descr.specs.declared.refusal.Refusal.TheVariants.{MaskLengths, NotAnIndexType}
@@ -56,7 +56,7 @@ pub use Rattle.view_ops.specs.Slices.{IsRunWithin, from_front, is_place, run_num
 unfoldable pub use Rattle.view_ops.specs.Slices.{slice_indices}
 pub use Rattle.view_ops.specs.ViewLaws.{LieWithin-view}
 pub use Rattle.view_ops.specs.Views.{GivesView, IsViewOf, View, view_through}
-pub use Rattle.view_ops.specs.declared.pick.AxisPick.{AxisPick}
+pub use Rattle.view_ops.specs.declared.picks.AxisPick.{AxisPick}
 pub use Rattle.broadcasting.specs.BroadcastLaws.{IsIndex-broadcast, broadcast_index-itself}
 pub use Rattle.broadcasting.specs.Broadcasts.{all_stretch, broadcast_index, can_stretch}
 pub use Rattle.broadcasting.specs.Broadcasts.{common_with, stretches}

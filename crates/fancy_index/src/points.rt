@@ -1,19 +1,22 @@
-//! Points on some axes: those of an integer, of an array of integers and of a mask.
-ghost use Rattle.std.specs.Prelude.{◌≡◌, ◌≢◌, ◌≤◌, [], ◌∷◌, length, map, true, All, IfErr, IfOk};
-ghost use Rattle.std.specs.List.{list_all};
-ghost use Rattle.fancy_index.specs.Words.{max_items, is_place};
-ghost use Rattle.fancy_index.specs.declared.kind.Kind.TheVariants.{Mask, NoIndex};
-ghost use Rattle.fancy_index.specs.IndexArrays.{item_axes, covers, is_within};
-ghost use Rattle.fancy_index.specs.Parts.{parts_of};
+//! Points on some axes: those of an integer, of an array of integers and of a mask; and their common
+//! lengths.
+ghost use Rattle.fancy_index.specs.IndexArrays.{covers, is_within, item_axes};
+ghost use Rattle.fancy_index.specs.Indexed.{as_index_shapes, points_shape};
+ghost use Rattle.fancy_index.specs.Parts.{parts_of, shapes_of_part};
 ghost use Rattle.fancy_index.specs.Sources.{index_array_of};
-ghost use Rattle.fancy_index.specs.inside.Items.{kind_in, numbers_in, array_item, IsWithin, IsOutside};
-ghost use Rattle.fancy_index.specs.inside.PointLists.{place_of, rank_on, HavePlaces, true_ranks, ranks_of, are_named, IsPart};
+ghost use Rattle.fancy_index.specs.Words.{Gives, common_with, is_place, max_items};
+ghost use Rattle.fancy_index.specs.declared.index_parts.Kind.TheVariants.{Mask, NoIndex};
+ghost use Rattle.fancy_index.specs.inside.Items.{IsOutside, IsWithin, array_item, kind_in, numbers_in};
+ghost use Rattle.fancy_index.specs.inside.PartLists.{shown_part};
+ghost use Rattle.fancy_index.specs.inside.PointLists.{HavePlaces, IsPart, are_named, place_of, rank_on, ranks_of, true_ranks};
+ghost use Rattle.std.specs.List.{list_all};
+ghost use Rattle.std.specs.Prelude.{All, IfErr, IfOk, [], length, map, true, ◌∷◌, ◌≡◌, ◌≢◌, ◌≤◌};
 
-use crate::bools::true_ranks;
-use crate::kind::Kind;
-use crate::source::{Named, kind};
-use crate::words::{named_place, places};
+use crate::index_parts::{IndexPart, Kind};
+use crate::masks::true_ranks;
+use crate::positions::{Named, kind, named_place, places};
 use arrays::Items;
+use broadcasting::common_of_two;
 use elem_descr::Refusal;
 use smallvec::SmallVec;
 use std::alloc::{AllocError, Global};
@@ -136,4 +139,40 @@ pub(crate) fn array_points<'a>(
         Kind::Mask => Ok(mask_points(alloc, array)?),
         _ => Ok(integer_points(alloc, axes[0], array)?),
     }
+}
+
+/// What the lengths have in common with those of a part's points.
+fn common_with_part(
+    alloc: Global,
+    lengths: SmallVec<usize, 8>,
+    part: &IndexPart<'_>,
+) -> Result<SmallVec<usize, 8>, Refusal>
+    ensures { let shapes = shapes_of_part (shown_part part.now) in
+        Gives (λ v. v.items) result (as_index_shapes (common_with lengths.items shapes)) }
+{
+    match part {
+        IndexPart::Points(points) => {
+            match common_of_two(alloc, lengths.as_slice(), points.lengths.as_slice()) {
+                Ok(common) => Ok(common),
+                Err(Refusal::OutOfMemory) => Err(Refusal::OutOfMemory),
+                Err(_) => Err(Refusal::IndexShapes),
+            }
+        }
+        _ => Ok(lengths),
+    }
+}
+
+/// The lengths that all points have in common, whatever their number. Lengths that do not go together are
+/// refused as `IndexShapes`.
+pub(crate) fn points_shape(
+    alloc: Global,
+    parts: &[IndexPart<'_>],
+) -> Result<SmallVec<usize, 8>, Refusal>
+    ensures { Gives (λ v. v.items) result (points_shape (map shown_part parts.now)) }
+{
+    let mut lengths = SmallVec::new(alloc);
+    for part in parts {
+        lengths = common_with_part(alloc, lengths, part)?;
+    }
+    Ok(lengths)
 }

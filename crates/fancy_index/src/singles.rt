@@ -5,7 +5,7 @@ ghost use Rattle.fancy_index.specs.Plans.{put_each};
 ghost use Rattle.arrays.specs.Packed.{row_offsets as packed};
 ghost use Rattle.fancy_index.specs.inside.Kept.{first_offsets};
 
-use crate::rows::{Shifted, moved};
+use crate::plan_rows::{Shifted, moved};
 use arrays::{copy_run, packed_run};
 use raw_block::{BlockBuilder, RawBlock};
 

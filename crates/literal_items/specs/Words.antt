@@ -28,7 +28,7 @@ pub use Rattle.elem_descr.specs.Weights.{weight}
 pub use Rattle.elem_descr.specs.WrapLaws.{int_wrap-low_bits, integer-low_bits}
 pub use Rattle.elem_descr.specs.declared.descr.Descr.{Descr}
 pub use Rattle.elem_descr.specs.declared.descr.Field.{Field}
-pub use Rattle.elem_descr.specs.declared.leaf.Leaf.{Leaf}
+pub use Rattle.elem_descr.specs.declared.descr.Leaf.{Leaf}
 pub use Rattle.elem_descr.specs.declared.refusal.Refusal.{Refusal}
 pub use Rattle.elem_descr.specs.declared.refusal.Refusal.TheVariants.{LiteralOutOfRange, NoSuchCast}
 pub use Rattle.elem_descr.specs.declared.refusal.Refusal.TheVariants.{TooLarge, ZeroStep}

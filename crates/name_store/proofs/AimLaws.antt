@@ -11,13 +11,13 @@ use Rattle.name_store.specs.Invariants.{Holds}
 use Rattle.name_store.specs.Parts.{start_at}
 use Rattle.name_store.specs.Targets.{IsAim, Supplies, MayWrite, LeadsTo, target_offsets}
 use Rattle.name_store.specs.View.{named_array, present}
-use Rattle.name_store.specs.declared.entry.Entry.{Entry}
+use Rattle.name_store.specs.declared.bound.Entry.{Entry}
 use Rattle.name_store.specs.declared.table.Home.{Home}
 use Rattle.name_store.specs.declared.slot.Slot.{Slot}
-use Rattle.name_store.specs.declared.target.Source.{Source}
-use Rattle.name_store.specs.declared.target.Source.TheVariants.{One, Block, Buffer}
-use Rattle.name_store.specs.declared.target.Target.{Target}
-use Rattle.name_store.specs.declared.target.Target.TheVariants.{View, Plan}
+use Rattle.name_store.specs.declared.write.Source.{Source}
+use Rattle.name_store.specs.declared.write.Source.TheVariants.{One, Block, Buffer}
+use Rattle.name_store.specs.declared.write.Target.{Target}
+use Rattle.name_store.specs.declared.write.Target.TheVariants.{View, Plan}
 use Rattle.name_store.specs.inside.Homes.{IsHome}
 use Rattle.name_store.specs.inside.Puts.{AreItems, CanPut, CanWrite, MayPut, Puts, parts_of, with_source, without_slot}
 use Rattle.name_store.proofs.BlockLaws.{item-inside}

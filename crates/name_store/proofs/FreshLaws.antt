@@ -5,7 +5,7 @@ use Rattle.name_store.specs.Calls.{own_array, own_buffer}
 use Rattle.name_store.specs.Invariants.{LiesIn}
 use Rattle.name_store.specs.View.{array_at, buffer_in}
 use Rattle.name_store.specs.Views.{IsLaidOut}
-use Rattle.name_store.specs.declared.entry.Entry.{Entry}
+use Rattle.name_store.specs.declared.bound.Entry.{Entry}
 use Rattle.name_store.specs.declared.slot.Slot.{Slot}
 use Rattle.name_store.proofs.LaidLaws.{laid-same}
 

@@ -11,7 +11,7 @@ use Rattle.name_store.specs.Invariants.{Holds, IsSound, LiesAt, IsUndoable, AreU
 use Rattle.name_store.specs.Kept.{Names, names_before, past_buffers, kept_states, patch_size}
 use Rattle.name_store.specs.View.{named_array, slot_at, state_of}
 use Rattle.name_store.specs.declared.change.Change.{Change}
-use Rattle.name_store.specs.declared.entry.Entry.{Entry}
+use Rattle.name_store.specs.declared.bound.Entry.{Entry}
 use Rattle.name_store.specs.inside.Held.{stand}
 use Rattle.name_store.proofs.NameLaws.{all-both, all-in_use, in_front}
 use Rattle.name_store.proofs.Needs.{needs, is_needed}

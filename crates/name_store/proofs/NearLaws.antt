@@ -3,7 +3,7 @@ use Rattle.std.proofs.Common.{◌≡◌, ◌+◌, ◌≤◌, ℕ, List, length, 
 use Rattle.std.specs.List.Sorted.{IsPermutation}
 use Rattle.std.proofs.lemmas.List.Sorted.{All-permutation}
 use Rattle.name_store.specs.Words.{Layout, LayoutPair, item_pairs, offsets_within, offsets, fits-offsets, pair_even, firsts-reordered, nested-reordered, filled-reordered, put_each}
-use Rattle.name_store.specs.declared.target.Target.TheVariants.{View}
+use Rattle.name_store.specs.declared.write.Target.TheVariants.{View}
 use Rattle.name_store.specs.inside.Puts.{MayPut}
 use Rattle.name_store.proofs.SourceLaws.{put_each-items}
 

@@ -12,7 +12,7 @@ use Rattle.name_store.specs.States.{Array}
 use Rattle.name_store.specs.View.{named_array, slot_at}
 use Rattle.name_store.specs.declared.change.Change.{Change}
 use Rattle.name_store.specs.declared.change.Change.TheVariants.{Bind, Unbind, Write}
-use Rattle.name_store.specs.declared.entry.Entry.{Entry}
+use Rattle.name_store.specs.declared.bound.Entry.{Entry}
 use Rattle.name_store.specs.declared.slot.Slot.{Slot}
 use Rattle.circular_buffer.specs.Buffer.{Buffer as Ring}
 

@@ -5,7 +5,7 @@ use Rattle.name_store.specs.Words.{item_size, offsets, distance, places_of}
 use Rattle.name_store.specs.Invariants.{LiesIn}
 use Rattle.name_store.specs.Parts.{start_at}
 use Rattle.name_store.specs.View.{array_at}
-use Rattle.name_store.specs.declared.entry.Entry.{Entry}
+use Rattle.name_store.specs.declared.bound.Entry.{Entry}
 use Rattle.name_store.specs.declared.slot.Slot.{Slot}
 use Rattle.name_store.specs.ArrayLaws.{offset-at}
 use Rattle.name_store.proofs.PartLaws.{part-some}

@@ -14,10 +14,10 @@ use Rattle.name_store.specs.Targets.{target_offsets}
 use Rattle.name_store.specs.View.{array_at, slot_at}
 use Rattle.name_store.specs.declared.change.Change.{Change}
 use Rattle.name_store.specs.declared.change.Change.TheVariants.{Bind, Unbind, Write}
-use Rattle.name_store.specs.declared.entry.Entry.{Entry}
+use Rattle.name_store.specs.declared.bound.Entry.{Entry}
 use Rattle.name_store.specs.declared.change.OldItems.{OldItems}
 use Rattle.name_store.specs.declared.slot.Slot.{Slot}
-use Rattle.name_store.specs.declared.target.Target.{Target}
+use Rattle.name_store.specs.declared.write.Target.{Target}
 use Rattle.name_store.specs.inside.Held.{stand}
 use Rattle.name_store.proofs.LaidLaws.{laid-same}
 use Rattle.name_store.proofs.NameLaws.{in_front, in_tail, either, used-back-put, used-back-without, used-back-insert, used-put, used-insert, nat_itself}

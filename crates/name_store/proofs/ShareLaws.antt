@@ -13,7 +13,7 @@ use Rattle.name_store.specs.Invariants.{Holds, LiesIn}
 use Rattle.name_store.specs.Parts.{IsPathOf, descr_at, start_at, first_at, have_common, share_leaves}
 use Rattle.name_store.specs.Places.{IsElementType}
 use Rattle.name_store.specs.View.{array_at, slot_at, present}
-use Rattle.name_store.specs.declared.entry.Entry.{Entry}
+use Rattle.name_store.specs.declared.bound.Entry.{Entry}
 use Rattle.name_store.specs.declared.slot.Slot.{Slot}
 use Rattle.name_store.proofs.FieldSplits.{field-legal, field-before, field_leaves-before}
 use Rattle.name_store.proofs.NameLaws.{TestsName, lookup-used, nat_itself}

@@ -10,7 +10,7 @@ use Rattle.name_store.specs.Arrays.{is_in_use}
 use Rattle.name_store.specs.Kept.{Names, numbered, past_buffer, past_buffers}
 use Rattle.name_store.specs.View.{named_array, slot_at, buffer_in, present}
 use Rattle.name_store.specs.declared.change.Change.{Change}
-use Rattle.name_store.specs.declared.entry.Entry.{Entry}
+use Rattle.name_store.specs.declared.bound.Entry.{Entry}
 use Rattle.name_store.specs.declared.slot.Slot.{Slot}
 use Rattle.name_store.proofs.NameLaws.{nat_itself}
 

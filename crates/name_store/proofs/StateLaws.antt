@@ -9,7 +9,7 @@ use Rattle.name_store.specs.Invariants.{Holds, LiesAt, LiesIn, users_of, users_a
 use Rattle.name_store.specs.Kept.{Names}
 use Rattle.name_store.specs.View.{array_at, named_array, slot_at, present}
 use Rattle.name_store.specs.declared.change.Change.{Change}
-use Rattle.name_store.specs.declared.entry.Entry.{Entry}
+use Rattle.name_store.specs.declared.bound.Entry.{Entry}
 use Rattle.name_store.specs.declared.slot.Slot.{Slot}
 use Rattle.name_store.specs.inside.Held.{stand}
 use Rattle.name_store.proofs.NameLaws.{TestsName, find-lookup, all-lookup}

@@ -13,7 +13,7 @@ use Rattle.name_store.specs.Kept.{Names, names_before, past_buffers, past_buffer
 use Rattle.name_store.specs.View.{array_at, named_array, slot_at, state_of, present}
 use Rattle.name_store.specs.declared.change.Change.{Change}
 use Rattle.name_store.specs.declared.change.Change.TheVariants.{Unbind}
-use Rattle.name_store.specs.declared.entry.Entry.{Entry}
+use Rattle.name_store.specs.declared.bound.Entry.{Entry}
 use Rattle.name_store.specs.declared.slot.Slot.{Slot}
 use Rattle.name_store.specs.inside.Held.{stand}
 use Rattle.std.specs.Cmp.{nat_cmp_total}

@@ -11,7 +11,7 @@ use Rattle.name_store.specs.Kept.{Names}
 use Rattle.name_store.specs.View.{array_at, named_array, slot_at}
 use Rattle.name_store.specs.declared.change.Change.{Change}
 use Rattle.name_store.specs.declared.change.Change.TheVariants.{Bind}
-use Rattle.name_store.specs.declared.entry.Entry.{Entry}
+use Rattle.name_store.specs.declared.bound.Entry.{Entry}
 use Rattle.name_store.specs.inside.Undoes.{Undoes}
 use Rattle.name_store.proofs.NameLaws.{TestsName, find-lookup, put-insert, all-insert}
 use Rattle.name_store.proofs.Needs.{number_of, users-put}

@@ -11,10 +11,10 @@ use Rattle.name_store.specs.Targets.{target_offsets}
 use Rattle.name_store.specs.View.{slot_at}
 use Rattle.name_store.specs.declared.change.Change.{Change}
 use Rattle.name_store.specs.declared.change.Change.TheVariants.{Write}
-use Rattle.name_store.specs.declared.entry.Entry.{Entry}
+use Rattle.name_store.specs.declared.bound.Entry.{Entry}
 use Rattle.name_store.specs.declared.change.OldItems.{OldItems}
 use Rattle.name_store.specs.declared.slot.Slot.{Slot}
-use Rattle.name_store.specs.declared.target.Target.{Target}
+use Rattle.name_store.specs.declared.write.Target.{Target}
 use Rattle.name_store.specs.inside.Held.{stand}
 use Rattle.name_store.specs.inside.Homes.{HasNew}
 use Rattle.name_store.specs.inside.Undoes.{Undoes}

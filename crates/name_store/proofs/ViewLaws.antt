@@ -8,7 +8,7 @@ use Rattle.name_store.specs.Invariants.{LiesIn}
 use Rattle.name_store.specs.Parts.{descr_at, start_at, span_at, part_at, IsPathOf}
 use Rattle.name_store.specs.View.{array_at, named_array, buffer_in, slot_at, present}
 use Rattle.name_store.specs.Views.{IsLaidOut, IsViewIn}
-use Rattle.name_store.specs.declared.entry.Entry.{Entry}
+use Rattle.name_store.specs.declared.bound.Entry.{Entry}
 use Rattle.name_store.specs.declared.slot.Slot.{Slot}
 use Rattle.name_store.proofs.BlockLaws.{length-items_in}
 use Rattle.name_store.specs.ArrayLaws.{places-offsets}

@@ -19,13 +19,13 @@ use Rattle.name_store.specs.Targets.{target_offsets, LeadsTo, MayWrite, Supplies
 use Rattle.name_store.specs.View.{array_at, named_array, slot_at, present, state_of, bench_value}
 use Rattle.name_store.specs.declared.change.Change.{Change}
 use Rattle.name_store.specs.declared.change.Change.TheVariants.{Write}
-use Rattle.name_store.specs.declared.entry.Entry.{Entry}
+use Rattle.name_store.specs.declared.bound.Entry.{Entry}
 use Rattle.name_store.specs.declared.change.OldItems.{OldItems}
 use Rattle.name_store.specs.declared.slot.Slot.{Slot}
-use Rattle.name_store.specs.declared.target.Source.{Source}
-use Rattle.name_store.specs.declared.target.Source.TheVariants.{One, Block, Buffer}
-use Rattle.name_store.specs.declared.target.Target.{Target}
-use Rattle.name_store.specs.declared.target.Target.TheVariants.{View, Plan}
+use Rattle.name_store.specs.declared.write.Source.{Source}
+use Rattle.name_store.specs.declared.write.Source.TheVariants.{One, Block, Buffer}
+use Rattle.name_store.specs.declared.write.Target.{Target}
+use Rattle.name_store.specs.declared.write.Target.TheVariants.{View, Plan}
 use Rattle.name_store.specs.inside.Homes.{IsHome, HasNew}
 use Rattle.name_store.specs.inside.Puts.{CanWrite, NeedsNone, Puts, parts_of, without_slot}
 use Rattle.name_store.specs.inside.Held.{IsLowest, stand}

@@ -16,9 +16,9 @@ use Rattle.name_store.specs.Parts.{descr_at, start_at, span_at}
 use Rattle.name_store.specs.Targets.{target_offsets, FitsBuffer, LeadsTo}
 use Rattle.name_store.specs.inside.Homes.{IsHome, HasNew}
 use Rattle.name_store.specs.View.{array_at, named_array, buffer_in, slot_at, present}
-use Rattle.name_store.specs.declared.entry.Entry.{Entry}
+use Rattle.name_store.specs.declared.bound.Entry.{Entry}
 use Rattle.name_store.specs.declared.slot.Slot.{Slot}
-use Rattle.name_store.specs.declared.target.Target.{Target}
+use Rattle.name_store.specs.declared.write.Target.{Target}
 use Rattle.name_store.proofs.BlockLaws.{length-items_in}
 use Rattle.name_store.proofs.PartLaws.{part-some}
 use Rattle.name_store.proofs.LaidLaws.{laid-same, places-within}

@@ -5,7 +5,7 @@ use Rattle.std.proofs.Math.Nat.{mul_comm}
 use Rattle.name_store.specs.Words.{offsets_of, rank, places_of}
 use Rattle.name_store.specs.States.{State, Array}
 use Rattle.name_store.specs.Shown.{Shows, Finds}
-use Rattle.name_store.specs.declared.array_ref.ArrayRef.{ArrayRef}
+use Rattle.name_store.specs.declared.bound.ArrayRef.{ArrayRef}
 
 -- where an array is found there is one, and it is shown
 pub found-array : (s : State) (found : Option Array) (r : ArrayRef) → Finds s found (Some r) → (array : Array) × (found ≡ Some array) × Shows s array r

@@ -10,10 +10,10 @@ use Rattle.name_store.specs.View.{named_array, array_at, slot_at}
 use Rattle.name_store.specs.Views.{IsLaidOut}
 use Rattle.name_store.specs.declared.change.Change.{Change}
 use Rattle.name_store.specs.declared.change.Change.TheVariants.{Bind, Unbind, Write}
-use Rattle.name_store.specs.declared.entry.Entry.{Entry}
+use Rattle.name_store.specs.declared.bound.Entry.{Entry}
 use Rattle.name_store.specs.declared.change.OldItems.{OldItems}
 use Rattle.name_store.specs.declared.slot.Slot.{Slot}
-use Rattle.name_store.specs.declared.target.Target.{Target}
+use Rattle.name_store.specs.declared.write.Target.{Target}
 
 -- an entry whose array lies in the slot
 pub record LiesIn (slot : Slot) (e : Entry) : Type 0 where

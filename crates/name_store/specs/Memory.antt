@@ -3,10 +3,10 @@ use Rattle.std.specs.Prelude.{◌≡◌, ◌≢◌, ◌⊎◌, ℕ, ℤ, List, S
 use Rattle.name_store.specs.Words.{item_size, Layout, is_c_contiguous, offsets, IsStacked, AreApart, IsRun}
 use Rattle.name_store.specs.States.{State, Array}
 use Rattle.name_store.specs.Arrays.{find_array, descr_of}
-use Rattle.name_store.specs.declared.target.Source.{Source}
-use Rattle.name_store.specs.declared.target.Source.TheVariants.{One, Block, Buffer}
-use Rattle.name_store.specs.declared.target.Target.{Target}
-use Rattle.name_store.specs.declared.target.Target.TheVariants.{View, Plan}
+use Rattle.name_store.specs.declared.write.Source.{Source}
+use Rattle.name_store.specs.declared.write.Source.TheVariants.{One, Block, Buffer}
+use Rattle.name_store.specs.declared.write.Target.{Target}
+use Rattle.name_store.specs.declared.write.Target.TheVariants.{View, Plan}
 
 -- both are runs of the same step
 pub record AreRuns (to from : Layout) : Type 0 where

@@ -5,7 +5,7 @@ use Rattle.name_store.specs.States.{State, Array}
 use Rattle.name_store.specs.Arrays.{buffer_of, descr_of, read}
 use Rattle.name_store.specs.Parts.{start_at}
 use Rattle.name_store.specs.Views.{IsViewIn}
-use Rattle.name_store.specs.declared.array_ref.ArrayRef.{ArrayRef}
+use Rattle.name_store.specs.declared.bound.ArrayRef.{ArrayRef}
 
 -- the array of a state, as a view in its buffer, and by its buffer's block; where it has fields, its path may go on
 pub record Shows (s : State) (array : Array) (r : ArrayRef) : Type 0 where

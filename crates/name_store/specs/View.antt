@@ -6,7 +6,7 @@ use Rattle.name_store.specs.Words.{items_in}
 use Rattle.name_store.specs.States.{BenchValue, Buffer, State}
 use Rattle.name_store.specs.Kept.{past_buffers, kept_states, patch_size}
 use Rattle.name_store.specs.declared.change.Change.{Change}
-use Rattle.name_store.specs.declared.entry.Entry.{Entry}
+use Rattle.name_store.specs.declared.bound.Entry.{Entry}
 use Rattle.name_store.specs.declared.slot.Slot.{Slot}
 
 abbrev pub buffer_in : Slot → Buffer

@@ -2,14 +2,11 @@
 ghost use Rattle.std.specs.Prelude.{◌≡◌, ◌≤◌, ◌<◌, length, [], Some, slice_get, IfOk, IsOk};
 ghost use Rattle.std.specs.Option.{option_map};
 
-use crate::array_ref::ArrayRef;
-use crate::bound::Bound;
+use crate::bound::{ArrayRef, Bound};
 use crate::change::Change;
-use crate::history::History;
-use crate::keep::{keep, make_room};
+use crate::history::{History, keep, make_room};
 use crate::table::Table;
-use crate::target::{Source, Target};
-use crate::write::write_items;
+use crate::write::{Source, Target, write_items};
 use elem_descr::{Name, Refusal};
 use std::alloc::{AllocError, Global};
 use std::marker::Model;

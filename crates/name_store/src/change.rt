@@ -3,8 +3,8 @@ ghost use Rattle.std.specs.Prelude.{◌≡◌};
 ghost use Rattle.name_store.specs.Invariants.{held_number};
 ghost use Rattle.name_store.specs.Kept.{patch_size};
 
-use crate::entry::Entry;
-use crate::target::Target;
+use crate::bound::Entry;
+use crate::write::Target;
 use elem_descr::Name;
 use raw_block::RawBlock;
 

@@ -2,32 +2,27 @@
 //! that their arrays lie in.
 #![tactic(auto)]
 
-mod array_ref;
 mod bench;
 mod bound;
 mod change;
-mod entry;
 mod history;
-mod keep;
 mod path;
 mod rewrite;
 mod slot;
 mod slots;
 mod table;
-mod target;
 mod write;
 
-pub use array_ref::ArrayRef;
 pub use bench::Bench;
-pub use bound::Bound;
+pub use bound::{ArrayRef, Bound};
 pub use path::Path;
-pub use target::{Source, Target};
+pub use write::{Source, Target};
 
 // A crate can name a bench in a contract only if the types of its fields are exported.
 #[doc(hidden)]
-pub use change::Change;
+pub use bound::Entry;
 #[doc(hidden)]
-pub use entry::Entry;
+pub use change::Change;
 #[doc(hidden)]
 pub use history::History;
 #[doc(hidden)]

@@ -9,7 +9,7 @@ ghost use Rattle.name_store.specs.inside.OldItems.{AreOld};
 ghost use Rattle.name_store.specs.inside.Puts.{MayPut, InPlace};
 
 use crate::change::OldItems;
-use crate::target::Target;
+use crate::write::Target;
 use arrays::{gather, scatter};
 use overlap_copy::{assign, assign_from, assign_shifted, in_any_order};
 use raw_block::RawBlock;

@@ -2,15 +2,13 @@
 ghost use Rattle.name_store.specs.Invariants.{Holds};
 ghost use Rattle.name_store.specs.inside.HeldOnce.{Holds-prop};
 
-use crate::array_ref::ArrayRef;
-use crate::bound::Bound;
+use crate::bound::{ArrayRef, Bound, Entry};
 use crate::change::{Change, OldItems};
-use crate::entry::Entry;
 use crate::path::Path;
 use crate::rewrite::put_back;
 use crate::slot::Slot;
 use crate::slots::Slots;
-use crate::target::Target;
+use crate::write::Target;
 use arrays::Owned;
 use elem_descr::{Name, Refusal};
 use indexmap::IndexMap;

@@ -1,25 +1,69 @@
-//! Writes items to the places of a target in a buffer, and hands out the old ones if they are kept.
-ghost use Rattle.std.specs.Prelude.{◌≡◌, ◌≤◌, ◌<◌, ℕ, List, length, replicate, Some, is_some, IsTrue, IsFalse, IsOk, IfOk, IfErr, IfSome};
-ghost use Rattle.std.specs.List.Sorted.{IsPermutation};
-ghost use Rattle.name_store.specs.Words.{item_size, is_c_contiguous, offsets, items_at, put_each};
-ghost use Rattle.name_store.specs.Targets.{target_offsets};
+//! What is written, and where. Writes items to the places of a target in a buffer, and hands out the
+//! old ones if they are kept.
+ghost use Rattle.name_store.specs.Targets.{target_offsets, target_shape};
 ghost use Rattle.name_store.specs.View.{slot_at};
-ghost use Rattle.name_store.specs.declared.target.Source.TheVariants.{Block};
+ghost use Rattle.name_store.specs.Words.{is_c_contiguous, item_size, items_at, offsets, put_each};
+ghost use Rattle.name_store.specs.declared.write.Source.TheVariants.{Block};
 ghost use Rattle.name_store.specs.inside.Exchanges.{AreAll, IsPacked, are_packed};
 ghost use Rattle.name_store.specs.inside.OldItems.{AreOld, AreOldAt, AreSame};
-ghost use Rattle.name_store.specs.inside.Puts.{AreItems, CanPut, CanWrite, MayPut, NeedsNone, Puts, block_from, with_source, parts_of, without_slot};
+ghost use Rattle.name_store.specs.inside.Puts.{AreItems, CanPut, CanWrite, MayPut, NeedsNone, Puts, block_from, parts_of, with_source, without_slot};
+ghost use Rattle.std.specs.List.Sorted.{IsPermutation};
+ghost use Rattle.std.specs.Prelude.{IfErr, IfOk, IfSome, IsFalse, IsOk, IsTrue, List, Some, is_some, length, replicate, ℕ, ◌<◌, ◌≡◌, ◌≤◌};
 
 use crate::change::OldItems;
 use crate::rewrite::{copy_to, fill, move_to, old_items};
 use crate::slot::Slot;
 use crate::table::Home;
-use crate::target::{Source, Target};
 use arrays::{Owned, gather};
+use fancy_index::Plan;
 use overlap_copy::exchange;
 use raw_block::{BlockBuilder, RawBlock};
-use shape_strides::{LayoutPair, in_memory_order, lies_in_c_order};
+use shape_strides::{Layout, LayoutPair, Shape, in_memory_order, lies_in_c_order};
 use std::alloc::{AllocError, Global};
 use std::mem::swap;
+
+/// Where in a name's array items are written.
+#[derive(Drop)]
+pub enum Target {
+    /// A layout whose items are items of the array.
+    View(Layout),
+    /// The items that an index list with arrays takes of it. Where one of them is taken more than
+    /// once, the last that is written stands.
+    Plan(Plan),
+}
+
+impl Target {
+    /// The shape of the items.
+    pub fn shape(&self) -> &Shape
+        ensures { result.now ≡ target_shape self.now }
+    {
+        match self {
+            Target::View(layout) => &layout.shape,
+            Target::Plan(plan) => plan.shape(),
+        }
+    }
+
+    /// How many items they are.
+    pub(crate) fn count(&self) -> usize
+        ensures { result ≡ length (target_offsets self.now) }
+    {
+        match self {
+            Target::View(layout) => layout.shape.items(),
+            Target::Plan(plan) => plan.len(),
+        }
+    }
+}
+
+/// What is written. An item of a block or of a buffer is of the same bytes as one of the target.
+#[derive(Drop)]
+pub enum Source {
+    /// The bytes of one item, for every place.
+    One(Vec<u8>),
+    /// The items of a block of its own, one for each place.
+    Block(Owned),
+    /// Items of the buffer with this number, one for each place: those where a layout says.
+    Buffer(u64, Layout),
+}
 
 /// What a write needs beside the block that it changes: how many bytes an item has, and the other
 /// buffers, from which items may come.

@@ -1,21 +1,21 @@
 //! A store that is a folder on a disk.
-ghost use Rattle.std.specs.Prelude.{◌≡◌, ◌++◌, ◌≤◌, true, Some, length, IsTrue, OnOk, IsErrOf};
-ghost use Rattle.std.specs.FinMap.{get};
-ghost use Rattle.npy_files.specs.Words.{Same, Leaves};
 ghost use Rattle.disk.specs.Calls as calls;
-ghost use Rattle.npy_files.specs.declared.store.StoreFault.TheVariants.{Device, TooLong};
 ghost use Rattle.npy_files.specs.Names as names;
-ghost use Rattle.npy_files.specs.Stores.{IsSameStore, FaultHasCause, ReadsFile, IsKept, WritesFile};
-ghost use Rattle.npy_files.specs.Folders.{folder_shelf, OldOrNew, IsPut};
+ghost use Rattle.npy_files.specs.Folders.{IsPut, OldOrNew, folder_shelf};
+ghost use Rattle.npy_files.specs.Stores.{FaultHasCause, IsKept, IsSameStore, ReadsFile, WritesFile};
+ghost use Rattle.npy_files.specs.Words.{Leaves, Same};
+ghost use Rattle.npy_files.specs.declared.store.StoreFault.TheVariants.{Device, TooLong};
+ghost use Rattle.std.specs.FinMap.{empty, get};
+ghost use Rattle.std.specs.Prelude.{IfOk, IsErrOf, IsTrue, OnOk, Some, false, length, true, ◌++◌, ◌^◌, ◌≡◌, ◌≤◌};
 
-use crate::cutter::Cutter;
-use crate::names::{hidden_name, is_user_name};
 use crate::put::put;
-use crate::read::read_file;
-use crate::store::{NpyStore, StoreFault, is_longer};
-use disk::Disk;
+use crate::read::{Cutter, HeaderCutter, read_file};
+use crate::store::{NpyStore, StoreFault, hidden_name, is_longer, is_user_name};
+use disk::{Disk, HostDisk};
 use npy_format::FileParts;
-use std::alloc::Global;
+use std::alloc::{AllocError, Global};
+use std::fs::File;
+use std::rt::Files;
 
 /// A folder on a disk as a store of files; it is honest if its disk is. It has no files whose names
 /// begin with a dot; writing one is a device fault.
@@ -167,5 +167,23 @@ impl<D: Disk, C: Cutter> NpyStore for FolderStore<D, C> {
                 Err(fault)
             }
         }
+    }
+}
+
+/// The most bytes of a file in a folder.
+pub const MAX_FILE: usize = 1 << 29;
+
+/// A store that is a folder of the operating system, reached through a runtime. No contract says
+/// what such a folder contains, so it is not honest, and its contracts say nothing about its files.
+pub type DirStore<'a, R> = FolderStore<HostDisk<'a, R>, HeaderCutter>;
+
+impl<'a, R: Files<File = File>> FolderStore<HostDisk<'a, R>, HeaderCutter> {
+    /// The store that is the folder of this name. The folder isn't looked at.
+    pub fn try_new(rt: &'a R, alloc: Global, dir: &str) -> Result<DirStore<'a, R>, AllocError>
+        ensures { let shelf = ⟦<FolderStore<HostDisk<'a, R>, HeaderCutter> as NpyStore>⟧.shelf in
+            IfOk result (λ store. shelf store ≡ folder_shelf empty 0 (2 ^ 29) false) }
+    {
+        let disk = HostDisk::try_new(rt, alloc, dir)?;
+        Ok(FolderStore::new(disk, HeaderCutter, MAX_FILE))
     }
 }

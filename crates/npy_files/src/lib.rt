@@ -2,23 +2,19 @@
 //! files returns.
 #![tactic(auto)]
 
-mod cutter;
-mod dir_store;
 mod folder_store;
 mod fuse_store;
 mod mem_store;
-mod names;
 mod put;
 mod read;
 mod store;
 
-pub use cutter::{Cutter, HeaderCutter};
-pub use dir_store::{DirStore, MAX_FILE};
-pub use folder_store::FolderStore;
+pub use folder_store::{DirStore, FolderStore, MAX_FILE};
 pub use fuse_store::FuseStore;
 pub use mem_store::MemStore;
 pub use npy_format::{
     FileParts, Header, MAX_HEADER, SavedParts, header_read, npy_load, npy_parts, npy_read,
     npy_write,
 };
+pub use read::{Cutter, HeaderCutter};
 pub use store::{NpyStore, StoreFault};

@@ -1,14 +1,13 @@
 //! Reads files in two parts.
-ghost use Rattle.std.specs.Prelude.{◌≡◌, ◌++◌, ◌+◌, ◌<◌, ◌≤◌, [], ℕ, List, length, take, drop, IsTrue, IfOk, OnOk, IsErrOf};
-ghost use Rattle.std.specs.FinMap.{get};
-ghost use Rattle.npy_files.specs.Words.{Same, Leaves, HasCause};
-ghost use Rattle.npy_files.specs.declared.store.StoreFault.TheVariants.{Device, TooLong};
 ghost use Rattle.npy_files.specs.Stores.{IsRead};
+ghost use Rattle.npy_files.specs.Words.{HasCause, Leaves, Same};
+ghost use Rattle.npy_files.specs.declared.store.StoreFault.TheVariants.{Device, TooLong};
+ghost use Rattle.std.specs.FinMap.{get};
+ghost use Rattle.std.specs.Prelude.{IfOk, IsErrOf, IsTrue, List, OnOk, [], drop, length, take, ℕ, ◌++◌, ◌+◌, ◌<◌, ◌≡◌, ◌≤◌};
 
-use crate::cutter::Cutter;
 use crate::store::StoreFault;
 use disk::Disk;
-use npy_format::FileParts;
+use npy_format::{FileParts, front_len};
 use raw_block::{BlockBuilder, RawBlock};
 use std::alloc::Global;
 
@@ -240,5 +239,23 @@ pub(crate) fn read_file<D: Disk, C: Cutter>(
         Ok(Some(read_found(disk, alloc, cutter, name, limit)?))
     } else {
         Ok(None)
+    }
+}
+
+/// Where a file is cut in two when it is read. Wherever that is, the two parts make the same file.
+pub trait Cutter: Drop {
+    /// How many bytes go to the front part of a file that begins with these, of which there are at
+    /// most 2^16 (fewer only if the file has no more). A greater number means all of them.
+    fn front_len(&self, first: &[u8]) -> usize;
+}
+
+/// Cuts NPY files after their headers, so that the second part is the items, and other files in
+/// front of their first byte.
+#[derive(Clone, Copy)]
+pub struct HeaderCutter;
+
+impl Cutter for HeaderCutter {
+    fn front_len(&self, first: &[u8]) -> usize {
+        front_len(first)
     }
 }

@@ -34,9 +34,9 @@ pub use Rattle.elem_descr.specs.Values.{LeafValue, number}
 pub use Rattle.elem_descr.specs.Weights.{weight}
 pub use Rattle.elem_descr.specs.declared.descr.Descr.{Descr}
 pub use Rattle.elem_descr.specs.declared.descr.Field.{Field}
-pub use Rattle.elem_descr.specs.declared.leaf.Leaf.{Leaf}
-pub use Rattle.elem_descr.specs.declared.memory_order.MemoryOrder.{MemoryOrder}
-pub use Rattle.elem_descr.specs.declared.memory_order.MemoryOrder.TheVariants.{C, Fortran}
+pub use Rattle.elem_descr.specs.declared.descr.Leaf.{Leaf}
+pub use Rattle.elem_descr.specs.declared.operators.MemoryOrder.{MemoryOrder}
+pub use Rattle.elem_descr.specs.declared.operators.MemoryOrder.TheVariants.{C, Fortran}
 pub use Rattle.elem_descr.specs.declared.refusal.Refusal.{Refusal}
 pub use Rattle.elem_descr.specs.declared.refusal.Refusal.TheVariants.{BadDescriptor, BadHeader}
 pub use Rattle.elem_descr.specs.declared.refusal.Refusal.TheVariants.{BadMagic, BadVersion}

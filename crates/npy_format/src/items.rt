@@ -1,11 +1,12 @@
-//! Appends the bytes of items, one after another.
-ghost use Rattle.std.specs.Prelude.{◌≡◌, ◌+◌, ◌*◌, ◌^◌, ◌<◌, ◌≤◌, ◌||◌, ◌++◌, pos, ◌≤ℤ◌, ◌<ℤ◌, length, All, IsTrue, OnOk};
-ghost use Rattle.std.specs.List.{flat_map};
-ghost use Rattle.npy_format.specs.Words.{position, place, item_at, EachWithin, max_bytes, count, is_c_contiguous, is_f_contiguous, offsets, run_offsets};
-ghost use Rattle.npy_format.specs.inside.WrittenItems.{gathered, addresses_in_file};
+//! Appends the bytes of items as a file stores them: a bool is 0 or 1, and padding is zero.
+ghost use Rattle.npy_format.specs.Words.{AreInOrder, EachWithin, blocks, count, decode_item, encode_item, is_c_contiguous, is_f_contiguous, item_at, item_size, leaves_of, max_bytes, offsets, place, position, put, run_offsets};
+ghost use Rattle.npy_format.specs.inside.WrittenItems.{IsPlain, addresses_in_file, as_in_file, capped, gathered, limit, limits_from};
+ghost use Rattle.std.specs.List.{flat_map, repeat};
+ghost use Rattle.std.specs.Prelude.{All, IfOk, IsTrue, OnOk, length, pos, replicate, ◌*◌, ◌++◌, ◌+◌, ◌-◌, ◌<ℤ◌, ◌<◌, ◌^◌, ◌||◌, ◌≡◌, ◌≤ℤ◌, ◌≤◌};
 
+use elem_descr::{Descr, Leaf, Scalar};
 use shape_strides::{Layout, Run, Runs};
-use std::alloc::AllocError;
+use std::alloc::{AllocError, Global};
 
 /// Where the `k`-th item of a run lies.
 fn place(run: Run, k: usize) -> usize
@@ -112,4 +113,143 @@ pub(crate) fn push_items(
         return push_stretch(file, bytes, layout.first_address(), count * width);
     }
     push_runs(file, bytes, Runs::new(layout), width)
+}
+
+/// The largest byte that a file has for a scalar.
+fn limit(scalar: &Scalar) -> u8
+    ensures { result ≡ limit scalar.now }
+{
+    match scalar {
+        Scalar::Bool => 1,
+        _ => 255,
+    }
+}
+
+/// Whether leaves fill an item of `bytes` bytes, and none is a bool.
+fn is_plain(leaves: &[Leaf], bytes: usize) -> bool
+    requires in_order { AreInOrder 0 leaves.now bytes }
+    requires small { bytes ≤ 65536 }
+    ensures { IsTrue result → IsPlain 0 leaves.now bytes }
+{
+    let mut end = 0;
+    for leaf in leaves {
+        if leaf.at != end || limit(&leaf.scalar) != 255 {
+            return false;
+        }
+        end += leaf.scalar.size();
+    }
+    end == bytes
+}
+
+/// Whether items are written as they are: leaves fill them, and none is a bool.
+pub(crate) fn are_plain(descr: &Descr) -> bool
+    ensures plain { IsTrue result → IsPlain 0 (leaves_of descr.now) (item_size descr.now) }
+    ensures in_order { AreInOrder 0 (leaves_of descr.now) (item_size descr.now) }
+{
+    match descr {
+        Descr::Scalar(scalar) => {
+            let _size = scalar.size();
+            limit(scalar) == 255
+        }
+        Descr::Record(whole) => is_plain(whole.leaves(), whole.size()),
+    }
+}
+
+/// Appends limits up to a length.
+fn pad(limits: &mut Vec<u8>, len: usize, limit: u8) -> Result<(), AllocError>
+    requires { length limits.old.items ≤ len }
+    ensures { OnOk result
+        (limits.new.items ≡ limits.old.items ++ replicate (len - length limits.old.items) limit) }
+{
+    limits.resize(len, limit)?;
+    Ok(())
+}
+
+/// The largest bytes that a file has for an item of `bytes` bytes.
+fn limits(alloc: Global, leaves: &[Leaf], bytes: usize) -> Result<Vec<u8>, AllocError>
+    requires in_order { AreInOrder 0 leaves.now bytes }
+    requires small { bytes ≤ 65536 }
+    ensures { IfOk result (λ limits. limits.items ≡ limits_from 0 leaves.now bytes) }
+{
+    let mut limits = Vec::new(alloc);
+    for leaf in leaves {
+        pad(&mut limits, leaf.at, 0)?;
+        pad(
+            &mut limits,
+            leaf.at + leaf.scalar.size(),
+            limit(&leaf.scalar),
+        )?;
+    }
+    pad(&mut limits, bytes, 0)?;
+    Ok(limits)
+}
+
+/// The largest bytes that a file has for an item of an element type.
+fn item_limits(alloc: Global, descr: &Descr) -> Result<Vec<u8>, AllocError>
+    ensures { IfOk result
+        (λ limits. limits.items ≡ limits_from 0 (leaves_of descr.now) (item_size descr.now)) }
+{
+    match descr {
+        Descr::Scalar(scalar) => {
+            let leaf = Leaf {
+                scalar: *scalar,
+                at: 0,
+            };
+            limits(alloc, &[leaf], scalar.size())
+        }
+        Descr::Record(whole) => limits(alloc, whole.leaves(), whole.size()),
+    }
+}
+
+/// Makes no byte larger than its limit.
+fn cap(bytes: &mut [u8], limits: &[u8])
+    requires { length bytes.old ≤ length limits.now }
+    ensures { bytes.new ≡ capped bytes.old limits.now }
+{
+    for k in 0..bytes.len() {
+        bytes[k] = bytes[k].min(limits[k]);
+    }
+}
+
+/// Makes none of `len` bytes larger than its limit.
+fn cap_at(bytes: &mut [u8], at: usize, len: usize, limits: &[u8])
+    requires within { at + len ≤ length bytes.old }
+    requires enough { len ≤ length limits.now }
+    ensures { bytes.new ≡ put at (capped (item_at at len bytes.old) limits.now) bytes.old }
+{
+    cap(&mut bytes[at..at + len], limits);
+}
+
+/// Makes no byte larger than its limit, with the same limits again and again.
+fn cap_each(bytes: &mut [u8], limits: &[u8])
+    requires { 1 ≤ length limits.now }
+    ensures { bytes.new ≡ capped bytes.old (repeat (length bytes.old) limits.now) }
+{
+    let mut at = 0;
+    while at < bytes.len() {
+        let len = limits.len().min(bytes.len() - at);
+        cap_at(bytes, at, len, limits);
+        at += len;
+    }
+}
+
+/// Writes `count` adjacent items as a file has them.
+pub(crate) fn write_items(
+    alloc: Global,
+    bytes: &mut [u8],
+    count: usize,
+    descr: &Descr,
+) -> Result<(), AllocError>
+    requires { length bytes.old ≡ count * item_size descr.now }
+    ensures { OnOk result (bytes.new ≡ as_in_file descr.now count bytes.old) }
+{
+    if are_plain(descr) {
+        return Ok(());
+    }
+    let _len = bytes.len();
+    let limits = item_limits(alloc, descr)?;
+    // (a loop over some hundred bytes at once takes far fewer instructions than one over each item)
+    let many = limits.repeat(alloc, count.min(512 / descr.size()) + 1)?;
+    cap_each(bytes, many.as_slice());
+    Ok(())
 }

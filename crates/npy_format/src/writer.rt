@@ -10,8 +10,7 @@ ghost use Rattle.npy_format.specs.inside.WrittenItems.{as_in_file, file_at};
 
 use crate::file_header::file_header;
 use crate::header_text::header_text;
-use crate::items::push_items;
-use crate::written_items::write_items;
+use crate::items::{push_items, write_items};
 use elem_descr::{Descr, Refusal};
 use raw_block::RawBlock;
 use shape_strides::{Layout, MAX_BYTES, Shape};

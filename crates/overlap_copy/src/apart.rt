@@ -1,11 +1,10 @@
 //! Decides by byte ranges and strides whether two layouts in one block are disjoint.
-ghost use Rattle.std.specs.Prelude.{◌≡◌, ◌↔◌, ◌+◌, ◌%◌, ◌<◌, ◌≤◌, ◌∷◌, pos, length, slice_index_or, unsigned_abs, nat_le, if◌then◌else◌, false, IsTrue};
-ghost use Rattle.overlap_copy.specs.Words.{max_bytes, offsets, Fits};
-ghost use Rattle.overlap_copy.specs.Overlaps.{have_common_byte};
-ghost use Rattle.overlap_copy.specs.Apart.{steps, IsGreatestDivisor, LieBetween, AreApart};
+ghost use Rattle.overlap_copy.specs.Apart.{AreApart, IsGreatestDivisor, LieBetween, steps};
+ghost use Rattle.overlap_copy.specs.Overlaps.{do_ranges_meet, have_common_byte};
+ghost use Rattle.overlap_copy.specs.Words.{Fits, max_bytes, offsets};
+ghost use Rattle.std.specs.Prelude.{IsTrue, false, if◌then◌else◌, length, nat_le, pos, slice_index_or, unsigned_abs, ◌%◌, ◌+◌, ◌<◌, ◌↔◌, ◌∷◌, ◌≡◌, ◌≤◌};
 
-use crate::divisors::common_divisor;
-use crate::overlap;
+use crate::axis_sums::common_divisor;
 use shape_strides::Layout;
 
 /// How many bytes an axis steps over, either way: 0 where it has no two items.
@@ -72,8 +71,23 @@ pub fn may_overlap(a: &Layout, a_item: usize, b: &Layout, b_item: usize) -> bool
     ensures sound { result ≡ false
         → have_common_byte (offsets a.now) a_item (offsets b.now) b_item ≡ false }
 {
-    if !overlap::ranges_meet(a, a_item, b, b_item) {
+    if !ranges_meet(a, a_item, b, b_item) {
         return false;
     }
     !lie_between(a, a_item, b, b_item)
+}
+
+/// Whether the ranges from the first to the last byte of two layouts meet, whose items have `a_item`
+/// and `b_item` bytes. Only where they do can items share bytes. Takes no memory, and time only for
+/// the axes.
+pub fn ranges_meet(a: &Layout, a_item: usize, b: &Layout, b_item: usize) -> bool
+    requires a_fits { Fits a.now max_bytes a_item }
+    requires b_fits { Fits b.now max_bytes b_item }
+    ensures value { result ≡ do_ranges_meet (offsets a.now) a_item (offsets b.now) b_item }
+    ensures sound { result ≡ false
+        → have_common_byte (offsets a.now) a_item (offsets b.now) b_item ≡ false }
+{
+    let a = a.span(a_item);
+    let b = b.span(b_item);
+    a.start < b.end && b.start < a.end
 }

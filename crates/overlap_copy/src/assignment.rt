@@ -7,8 +7,9 @@ ghost use Rattle.overlap_copy.specs.Runs.{IsRun};
 ghost use Rattle.overlap_copy.specs.Overlaps.{have_common_byte};
 
 use crate::apart::may_overlap;
-use crate::pair_copies::{as_runs, copy_pairs, move_pairs};
-use crate::run_moves::{have_same_step, is_same_line, move_run, turn_run, turned};
+use crate::pair_copies::{
+    as_runs, copy_pairs, have_same_step, is_same_line, move_pairs, move_run, turn_run, turned,
+};
 use arrays::{copy_run, gather, scatter};
 use raw_block::RawBlock;
 use shape_strides::{Layout, LayoutPair, RunPairs, in_memory_order, lies_in_c_order};

@@ -4,7 +4,7 @@ ghost use Rattle.std.specs.List.{flat_map};
 ghost use Rattle.overlap_copy.specs.Words.{EachWithin, max_bytes, max_items, LieWithin, offsets, Fits, IsNested, run_offsets, IsStacked, assigned};
 ghost use Rattle.overlap_copy.specs.inside.Shifts.{sources, source_run, MayCome};
 
-use crate::run_moves::{move_run, turned};
+use crate::pair_copies::{move_run, turned};
 use raw_block::RawBlock;
 use shape_strides::{AddressOrder, Layout, Run, Runs};
 

@@ -42,9 +42,9 @@ pub use Rattle.shape_strides.specs.ShapeLaws.{shape_of-same}
 pub use Rattle.shape_strides.specs.Shapes.{IsShape}
 unfoldable pub use Rattle.shape_strides.specs.Shapes.{shape_of}
 pub use Rattle.shape_strides.specs.WalkLaws.{length-first, length-run_offsets}
-pub use Rattle.shape_strides.specs.declared.joined.StridedAxis.{StridedAxis}
+pub use Rattle.shape_strides.specs.declared.single_run.StridedAxis.{StridedAxis}
 pub use Rattle.shape_strides.specs.declared.layout.Layout.{Layout}
-pub use Rattle.elem_descr.specs.declared.memory_order.MemoryOrder.TheVariants.{C}
+pub use Rattle.elem_descr.specs.declared.operators.MemoryOrder.TheVariants.{C}
 pub use Rattle.shape_strides.specs.declared.runs.Run.{Run}
 pub use Rattle.machine_numbers.specs.Bits.{AreBits}
 pub use Rattle.machine_numbers.specs.Kinds.{is_bool, little}

@@ -2,11 +2,11 @@
 //! along one of its axes.
 #![tactic(auto)]
 
-mod axes;
+mod by_reduction;
 mod fills;
 mod folds;
-mod kinds;
 mod lines;
+mod reduced_axis;
 mod reducing;
 
 pub use elem_descr::Red;

@@ -10,9 +10,9 @@ ghost use Rattle.reductions.specs.inside.Numbers.{lists_from, HaveItems};
 ghost use Rattle.reductions.specs.inside.Orders.{hangs_on_order};
 ghost use Rattle.reductions.specs.inside.Sources.{lists_of, AreResults};
 
-use crate::axes::{list_length, named_axis, number_scalar, shape_after, starts_of};
-use crate::kinds::{Reducing, empty_block, hangs_on_order, result_scalar};
+use crate::by_reduction::{Reducing, empty_block, hangs_on_order, result_scalar};
 use crate::lines::{Lists, Source};
+use crate::reduced_axis::{list_length, named_axis, number_scalar, shape_after, starts_of};
 use arrays::{Items, Owned, copy, goes_by_columns};
 use elem_descr::{Descr, MemoryOrder, Red, Refusal};
 use machine_numbers::on_number;

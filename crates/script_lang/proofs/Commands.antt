@@ -8,7 +8,7 @@ use Rattle.script_lang.specs.declared.command.Viewing.{Viewing}
 use Rattle.script_lang.specs.declared.command.Computation.{Computation}
 use Rattle.script_lang.specs.declared.command.Value.{Value}
 use Rattle.script_lang.specs.declared.command.Command.{Command}
-use Rattle.script_lang.specs.declared.operation.Operation.{Operation}
+use Rattle.script_lang.specs.declared.command.Operation.{Operation}
 use Rattle.elem_descr.specs.declared.operators.UnOp.{UnOp}
 use Rattle.script_lang.specs.declared.verb.MakeVerb.{MakeVerb}
 use Rattle.script_lang.specs.declared.verb.ViewVerb.{ViewVerb}

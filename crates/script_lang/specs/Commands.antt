@@ -3,7 +3,7 @@
 use Rattle.std.specs.Prelude.{ℕ, ℤ, List, codes, Option, Some, None, is_some, if◌then◌else◌}
 use Rattle.std.specs.Option.{option_map}
 use Rattle.elem_descr.specs.declared.index_item.IndexItem.{IndexItem}
-use Rattle.script_lang.specs.declared.operation.Operation.{Operation}
+use Rattle.script_lang.specs.declared.command.Operation.{Operation}
 use Rattle.elem_descr.specs.declared.operators.UnOp.{UnOp}
 use Rattle.elem_descr.specs.declared.operators.Red.{Red}
 use Rattle.script_lang.specs.declared.verb.Verb.{Verb}

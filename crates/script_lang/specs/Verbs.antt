@@ -2,12 +2,12 @@
 use Rattle.std.specs.Prelude.{ℕ, Bool, List, [], ◌∷◌, codes, Option, Some, None, ◌||◌, if◌then◌else◌}
 use Rattle.std.specs.Option.{option_and_then}
 use Rattle.std.specs.Str.{bytes_eq}
-use Rattle.elem_descr.specs.declared.memory_order.MemoryOrder.{MemoryOrder}
-use Rattle.elem_descr.specs.declared.memory_order.MemoryOrder.TheVariants.{C, Fortran}
+use Rattle.elem_descr.specs.declared.operators.MemoryOrder.{MemoryOrder}
+use Rattle.elem_descr.specs.declared.operators.MemoryOrder.TheVariants.{C, Fortran}
 use Rattle.elem_descr.specs.declared.operators.BinOp.TheVariants.{Add, Subtract, Multiply, FloorDivide, Modulo, And, Or, Xor, ShiftLeft, ShiftRight, Divide}
 use Rattle.elem_descr.specs.declared.operators.Comparison.TheVariants.{Equal, NotEqual, Less, LessOrEqual, Greater, GreaterOrEqual}
-use Rattle.script_lang.specs.declared.operation.Operation.{Operation}
-use Rattle.script_lang.specs.declared.operation.Operation.TheVariants.{Binary, Compare}
+use Rattle.script_lang.specs.declared.command.Operation.{Operation}
+use Rattle.script_lang.specs.declared.command.Operation.TheVariants.{Binary, Compare}
 use Rattle.elem_descr.specs.declared.operators.UnOp.{UnOp}
 use Rattle.elem_descr.specs.declared.operators.UnOp.TheVariants.{Negate, Invert}
 use Rattle.elem_descr.specs.declared.operators.Red.{Red}

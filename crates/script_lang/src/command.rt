@@ -1,11 +1,11 @@
-//! The commands of a script.
+//! The commands of a script, with their index lists and lists of numbers.
+ghost use Rattle.elem_descr.specs.IndexItems.{is_ellipsis};
+ghost use Rattle.std.specs.Prelude.{count_by, ◌≡◌};
 
-use crate::index::Index;
 use crate::literal::{Literal, Literals};
-use crate::operation::Operation;
-use crate::shape::{Integers, Lengths};
+use crate::short_list::ShortList;
 use crate::text::{FileName, Text};
-use elem_descr::{MemoryOrder, Name, Red, UnOp};
+use elem_descr::{BinOp, Comparison, IndexItem, MemoryOrder, Name, Red, UnOp};
 
 /// `Y` or `Y[ix]`
 #[derive(Drop)]
@@ -144,4 +144,32 @@ pub enum Command {
         file: FileName,
     },
     Ask(Question),
+}
+
+/// An operator with two operands: an operation or a comparison.
+#[derive(Clone, Copy, Debug)]
+pub enum Operation {
+    Binary(BinOp),
+    Compare(Comparison),
+}
+
+/// The lengths of a shape.
+pub type Lengths = ShortList<u128, 8>;
+
+/// The lengths of `reshape` or the axes of `transpose`, which may have signs.
+pub type Integers = ShortList<i128, 8>;
+
+/// The items between the brackets: at least one, with `...` at most once. Integers have up to 30
+/// digits, and arrays are given by their names.
+pub type Index = ShortList<IndexItem<Name>, 1>;
+
+/// How many items are `...`.
+pub fn ellipses(index: &Index) -> usize
+    ensures { result ≡ count_by is_ellipsis index.now }
+{
+    index
+        .as_slice()
+        .iter()
+        .filter(|item| item.is_ellipsis())
+        .count()
 }

@@ -4,32 +4,25 @@ ghost use Rattle.script_lang.specs.Commands.{load_at, verb_value_at, value_at, b
 ghost use Rattle.script_lang.specs.Lines.{is_silent_front, spelled, line_of, EachListAnyTurns};
 ghost use Rattle.script_lang.specs.Reading.{Scans, Reads, Says, value_room, parts_take_memory};
 
-mod classes;
 mod computations;
 mod creations;
 mod descriptors;
 mod indexes;
-mod lists;
 mod literals;
 mod names;
 mod numbers;
-mod questions;
 mod quotes;
 mod statements;
 mod tokens;
-mod verbs;
 mod views;
 
 use crate::command::{Command, Value};
-use crate::grammar::classes::are_allowed;
 use crate::grammar::computations::compute;
 use crate::grammar::creations::make;
-use crate::grammar::names::names_unless_verb;
-use crate::grammar::questions::question;
+use crate::grammar::names::{names_unless_verb, verb};
 use crate::grammar::quotes::file_name;
-use crate::grammar::statements::{delete, save, set, update};
-use crate::grammar::tokens::{is_at_end, symbol, unspaced, word};
-use crate::grammar::verbs::verb;
+use crate::grammar::statements::{delete, question, save, set, update};
+use crate::grammar::tokens::{are_allowed, is_at_end, symbol, unspaced, word};
 use crate::grammar::views::{plain_view, view};
 use crate::text::FileName;
 use crate::verb::Verb;

@@ -1,6 +1,8 @@
 //! Texts that a command keeps as they are written.
-ghost use Rattle.std.specs.Prelude.{◌≡◌, ◌≤◌, length, IfOk, IsOk};
+ghost use Rattle.elem_descr.specs.RefusalTexts.{refusal_text};
+ghost use Rattle.std.specs.Prelude.{IfOk, IsOk, length, ◌≡◌, ◌≤◌};
 
+use elem_descr::Refusal;
 use smallvec::SmallVec;
 use std::alloc::{AllocError, Global};
 use std::marker::Model;
@@ -73,4 +75,12 @@ impl FileName {
     {
         self.bytes.as_slice()
     }
+}
+
+/// The reply to a line that is refused: `no`, the code and the text, without a newline.
+pub fn word(refusal: Refusal) -> &'static [u8]
+    ensures text { result.now ≡ refusal_text refusal }
+    ensures short { length result.now ≤ 64 }
+{
+    refusal.reply().as_bytes()
 }

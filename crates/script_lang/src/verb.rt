@@ -1,7 +1,7 @@
 //! The keywords that begin a command or follow `X =`.
 
-use crate::operation::Operation;
-use crate::operation::Operation::{Binary, Compare};
+use crate::command::Operation;
+use crate::command::Operation::{Binary, Compare};
 use crate::verb::ComputeVerb::{Cast, Combine, Duplicate, Reduce, Transform};
 use crate::verb::Verb::Compute;
 use elem_descr::BinOp::{

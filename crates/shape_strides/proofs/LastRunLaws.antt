@@ -5,7 +5,7 @@ use Rattle.std.proofs.lemmas.Bool.{cond_both, cond-true, cond-false, ne_eqb, eqb
 use Rattle.std.proofs.lemmas.List.Elements.{All-from_recursion}
 use Rattle.std.proofs.lemmas.Simd.{map-map}
 use Rattle.shape_strides.specs.declared.layout.Layout.{Layout}
-use Rattle.shape_strides.specs.declared.joined.StridedAxis.{StridedAxis}
+use Rattle.shape_strides.specs.declared.single_run.StridedAxis.{StridedAxis}
 use Rattle.shape_strides.specs.declared.runs.Run.{Run}
 use Rattle.shape_strides.specs.Limits.{max_items, max_bytes}
 use Rattle.shape_strides.specs.Indexes.{count, indexes, IsIndex}

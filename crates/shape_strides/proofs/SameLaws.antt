@@ -5,7 +5,7 @@ use Rattle.std.proofs.lemmas.Bool.Decides.{Decides-int_eq}
 use Rattle.std.proofs.lemmas.List.{reverse-reverse}
 use Rattle.std.specs.Ordering.{int_eq}
 use Rattle.shape_strides.specs.declared.layout.Layout.{Layout}
-use Rattle.shape_strides.specs.declared.joined.StridedAxis.{StridedAxis}
+use Rattle.shape_strides.specs.declared.single_run.StridedAxis.{StridedAxis}
 use Rattle.shape_strides.specs.Indexes.{count}
 use Rattle.shape_strides.specs.Addresses.{natural}
 use Rattle.shape_strides.specs.Layouts.{offsets}

@@ -7,7 +7,7 @@ use Rattle.std.proofs.lemmas.Grind.{reverse_onto}
 use Rattle.std.proofs.lemmas.Int.{ints}
 use Rattle.std.proofs.lemmas.List.{append-nil, append_cancel_left, reverse-reverse}
 use Rattle.elem_descr.specs.Steps.{numbers_from}
-use Rattle.shape_strides.specs.declared.joined.StridedAxis.{StridedAxis}
+use Rattle.shape_strides.specs.declared.single_run.StridedAxis.{StridedAxis}
 use Rattle.shape_strides.specs.Indexes.{count}
 use Rattle.shape_strides.specs.Joined.{leads_over, join_outside, all_joined}
 use Rattle.shape_strides.specs.inside.Starts.{lengths_of}

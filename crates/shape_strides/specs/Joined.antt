@@ -1,7 +1,7 @@
 -- The axes of a layout, joined where one step leads evenly over two of them.
 use Rattle.std.specs.Prelude.{ℕ, ◌*◌, ◌==◌, Bool, if◌then◌else◌, ℤ, pos, ◌*ℤ◌, List, [], ◌∷◌}
 use Rattle.std.specs.Ordering.{int_eq}
-use Rattle.shape_strides.specs.declared.joined.StridedAxis.{StridedAxis}
+use Rattle.shape_strides.specs.declared.single_run.StridedAxis.{StridedAxis}
 
 -- each axis with its stride, first axis first
 abbrev pub strided_axes : List ℤ → List ℕ → List StridedAxis

@@ -3,7 +3,7 @@ use Rattle.std.specs.Prelude.{◌≡◌, ℕ, ◌==◌, if◌then◌else◌, ℤ
 use Rattle.std.specs.List.{flat_map}
 use Rattle.elem_descr.specs.Steps.{numbers_from}
 use Rattle.shape_strides.specs.declared.layout.Layout.{Layout}
-use Rattle.shape_strides.specs.declared.joined.StridedAxis.{StridedAxis}
+use Rattle.shape_strides.specs.declared.single_run.StridedAxis.{StridedAxis}
 use Rattle.shape_strides.specs.declared.runs.Run.{Run}
 use Rattle.shape_strides.specs.Indexes.{count}
 use Rattle.shape_strides.specs.Addresses.{natural}

@@ -4,7 +4,7 @@ use Rattle.std.specs.List.{list_all}
 use Rattle.std.proofs.lemmas.Bool.{cases_lt}
 use Rattle.std.proofs.lemmas.Bool.Decides.{nat_tests}
 use Rattle.view_ops.specs.Words.{Refusal, OutOfMemory, TooManyAxes, TooManyIndices, ZeroStep, IndexOutOfRange, ◌>>=◌, check, Layout, IndexItem, max_axes, max_items, count, shape_of, shape_of-many}
-use Rattle.view_ops.specs.declared.pick.AxisPick.{AxisPick}
+use Rattle.view_ops.specs.declared.picks.AxisPick.{AxisPick}
 use Rattle.view_ops.specs.Basics.{axes_taken, has_step, are_on_axes, picks, shape_picked, picked_view, basic}
 use Rattle.view_ops.specs.inside.Picks.{pick_shown, ArePicks}
 use Rattle.view_ops.specs.Views.{IsViewOf, GivesView}

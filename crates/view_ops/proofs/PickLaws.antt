@@ -9,8 +9,8 @@ use Rattle.std.specs.List.{list_all, flat_map, range_with_len}
 use Rattle.view_ops.specs.Words.{IndexItem, Integer, Slice, Ellipsis, Array, is_basic}
 use Rattle.elem_descr.specs.declared.index_item.IndexItem.TheVariants.{NewAxis as NewItem}
 use Rattle.shape_strides.specs.Layouts.{natural}
-use Rattle.view_ops.specs.declared.pick.AxisPick.{AxisPick}
-use Rattle.view_ops.specs.declared.pick.AxisPick.TheVariants.{At as AtAxis, Along as AlongAxis, New as NewAxis}
+use Rattle.view_ops.specs.declared.picks.AxisPick.{AxisPick}
+use Rattle.view_ops.specs.declared.picks.AxisPick.TheVariants.{At as AtAxis, Along as AlongAxis, New as NewAxis}
 use Rattle.view_ops.specs.declared.slice.Progression.{Progression}
 use Rattle.view_ops.specs.Slices.{slice_indices, IsRunWithin}
 use Rattle.view_ops.specs.Basics.{Placed, takes_axis, axes_taken, width, placed, has_step, is_on_axis, are_on_axes, Pick, whole, picks_of, picks}

@@ -10,8 +10,8 @@ use Rattle.std.proofs.lemmas.List.Concat.{flat_map-append}
 use lib.IntN.{zero-*ℤ, +ℤ_assoc, +ℤ_idl, +ℤ_idr}
 use Rattle.view_ops.specs.Words.{Layout, count, IsIndex, shape_of, max_axes, max_items, max_bytes, address_at, LieWithin, address, offsets, rank-lt, factors_pos, shape_of-ok, dot-nil, one-step}
 use Rattle.shape_strides.specs.Addresses.{dot}
-use Rattle.view_ops.specs.declared.pick.AxisPick.{AxisPick}
-use Rattle.view_ops.specs.declared.pick.AxisPick.TheVariants.{At as AtAxis, Along as AlongAxis, New as NewAxis}
+use Rattle.view_ops.specs.declared.picks.AxisPick.{AxisPick}
+use Rattle.view_ops.specs.declared.picks.AxisPick.TheVariants.{At as AtAxis, Along as AlongAxis, New as NewAxis}
 use Rattle.view_ops.specs.declared.slice.Progression.{Progression}
 use Rattle.view_ops.specs.Slices.{run_number, run_numbers, IsRunWithin}
 use Rattle.view_ops.specs.Basics.{axis_of, picked_shape, picked_index}

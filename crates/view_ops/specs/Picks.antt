@@ -1,7 +1,7 @@
 -- What is picked of the axes of a layout, with slices as runs.
 use Rattle.std.specs.Prelude.{◌<◌, ℕ, List, [], ◌∷◌}
-use Rattle.view_ops.specs.declared.pick.AxisPick.{AxisPick}
-use Rattle.view_ops.specs.declared.pick.AxisPick.TheVariants.{At as AtAxis, Along as AlongAxis, New as NewAxis}
+use Rattle.view_ops.specs.declared.picks.AxisPick.{AxisPick}
+use Rattle.view_ops.specs.declared.picks.AxisPick.TheVariants.{At as AtAxis, Along as AlongAxis, New as NewAxis}
 use Rattle.view_ops.specs.Slices.{run_numbers, IsRunWithin}
 use Rattle.view_ops.specs.Basics.{Pick, At, Along, New}
 

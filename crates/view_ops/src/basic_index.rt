@@ -1,16 +1,69 @@
-//! Views by basic indexes: integers, slices, `...` and new axes.
-ghost use Rattle.std.specs.Prelude.{◌≡◌, true, IfOk};
+//! Views by basic indexes: integers, slices, `...` and new axes; and the axes that these take.
 ghost use Rattle.std.specs.List.{list_all};
-ghost use Rattle.view_ops.specs.Words.{is_basic};
-ghost use Rattle.view_ops.specs.Basics.{basic};
+ghost use Rattle.std.specs.Prelude.{IfOk, count_by, drop, length, pos, slice_index_or, true, ◌+◌, ◌-◌, ◌<◌, ◌≡◌, ◌≤◌};
+ghost use Rattle.view_ops.specs.Basics.{axes_taken, basic, has_step, takes_axis, width};
 ghost use Rattle.view_ops.specs.Views.{GivesView, KeepsNested};
+ghost use Rattle.view_ops.specs.Words.{Integer, is_basic};
 
-use crate::index::{have_steps, taken};
-use crate::pick::{are_in_range, picks_of};
-use crate::picked::with_picks;
+use crate::picks::{are_in_range, picks_of, with_picks};
 use elem_descr::{IndexItem, Refusal};
 use shape_strides::Layout;
 use std::alloc::Global;
+
+/// Whether no item is an index array.
+pub fn are_basic<A>(items: &[IndexItem<A>]) -> bool
+    ensures { result ≡ list_all is_basic items.now }
+{
+    items.iter().all(|item| item.is_basic())
+}
+
+fn takes_axis<A>(item: &IndexItem<A>) -> bool
+    ensures { result ≡ takes_axis item.now }
+{
+    !matches!(item, IndexItem::Ellipsis | IndexItem::NewAxis)
+}
+
+/// How many axes the items take, beside those of `...`.
+pub(crate) fn taken<A>(items: &[IndexItem<A>]) -> usize
+    ensures { result ≡ axes_taken items.now }
+{
+    items.iter().filter(|item| takes_axis(*item)).count()
+}
+
+/// The axis after those that the item at place k takes, from `axis` on.
+pub(crate) fn axes_end<A>(rank: usize, axis: usize, items: &[IndexItem<A>], k: usize) -> usize
+    requires item { k < length items.now }
+    requires axis { axis ≤ rank }
+    requires enough { axes_taken (drop k items.now) ≤ rank - axis }
+    ensures value { result
+        ≡ axis + width (rank - axis) (slice_index_or items.now k (Integer (pos 0)))
+        (drop (k + 1) items.now) }
+    ensures from { axis ≤ result }
+    ensures within { result ≤ rank }
+    ensures enough { axes_taken (drop (k + 1) items.now) ≤ rank - result }
+{
+    match items[k] {
+        IndexItem::Ellipsis => rank - taken(&items[k + 1..]),
+        IndexItem::NewAxis => axis,
+        _ => axis + 1,
+    }
+}
+
+fn has_step<A>(item: &IndexItem<A>) -> bool
+    ensures { result ≡ has_step item.now }
+{
+    match item {
+        IndexItem::Slice { step, .. } => step.unwrap_or(1) != 0,
+        _ => true,
+    }
+}
+
+/// Whether no slice has a step of 0.
+pub fn have_steps<A>(items: &[IndexItem<A>]) -> bool
+    ensures { result ≡ list_all has_step items.now }
+{
+    items.iter().all(|item| has_step(item))
+}
 
 /// The view that integers, slices, `...` and new axes select, as in NumPy. A negative integer
 /// counts from the end, and an integer removes its axis. Without `...`, the axes after the last

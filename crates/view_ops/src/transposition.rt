@@ -5,7 +5,7 @@ ghost use Rattle.view_ops.specs.Transposes.{transposed_shape, transposed_index, 
 ghost use Rattle.view_ops.specs.inside.Axes.{AreAxes, AreAllAxes};
 ghost use Rattle.view_ops.specs.Views.{View, IsViewOf, GivesView, KeepsNested};
 
-use crate::axes::axes_of;
+use crate::axis_lists::axes_of;
 use elem_descr::Refusal;
 use shape_strides::{Layout, Shape, Strides};
 use smallvec::SmallVec;

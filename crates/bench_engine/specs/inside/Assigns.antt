@@ -5,8 +5,8 @@ use Rattle.bench_engine.specs.Words.{Refusal, OutOfMemory, NoSuchCast, Descr, it
 use Rattle.view_ops.specs.Views.{View}
 use Rattle.name_store.specs.States.{Array}
 use Rattle.name_store.specs.declared.bound.Bound.TheVariants as bound
-use Rattle.name_store.specs.declared.target.Source.TheVariants as source
-use Rattle.name_store.specs.declared.target.Target.TheVariants as target
+use Rattle.name_store.specs.declared.write.Source.TheVariants as source
+use Rattle.name_store.specs.declared.write.Target.TheVariants as target
 use Rattle.bench_engine.specs.Machine.{viewed}
 use Rattle.bench_engine.specs.inside.OwnContents.{IsInCOrder}
 

@@ -3,7 +3,7 @@ use Rattle.std.specs.Prelude.{◌≤◌, ◌+◌, ℕ, IsTrue, length, map}
 use Rattle.std.specs.List.{IsDistinct, list_all}
 use Rattle.std.specs.Str.{bytes_eq}
 use Rattle.elem_descr.specs.declared.descr.Descr.TheVariants.{Record as RecordDescr}
-use Rattle.elem_descr.specs.declared.format_text.body.Body.{Body}
+use Rattle.elem_descr.specs.declared.format_text.record.Body.{Body}
 use Rattle.elem_descr.specs.Names.{is_legal_name}
 use Rattle.elem_descr.specs.Descriptors.{InOrder, AreNamedWithin, listed, depth, leaf_count}
 use Rattle.elem_descr.specs.RecordBuilding.{Partial, IsShallow, max_depth, max_fields, max_leaves, max_size}

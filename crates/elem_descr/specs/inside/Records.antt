@@ -1,7 +1,7 @@
 -- What is kept of a record.
 use Rattle.std.specs.Prelude.{◌≡◌, ℕ, List}
 use Rattle.elem_descr.specs.declared.descr.Field.{Field}
-use Rattle.elem_descr.specs.declared.leaf.Leaf.{Leaf}
+use Rattle.elem_descr.specs.declared.descr.Leaf.{Leaf}
 use Rattle.elem_descr.specs.Descriptors.{IsLegal, listed}
 use Rattle.elem_descr.specs.Items.{leaves_from}
 

@@ -8,7 +8,7 @@ use Rattle.elem_descr.specs.declared.refusal.Refusal.TheVariants.{BadDescriptor,
 use Rattle.elem_descr.specs.declared.scalar.Scalar.{Scalar}
 use Rattle.elem_descr.specs.declared.descr.Descr.{Descr}
 use Rattle.elem_descr.specs.declared.descr.Descr.TheVariants.{Scalar as ScalarDescr, Record as RecordDescr}
-use Rattle.elem_descr.specs.declared.format_text.body.Body.{Body}
+use Rattle.elem_descr.specs.declared.format_text.record.Body.{Body}
 use Rattle.elem_descr.specs.declared.format_text.mark.Mark.{Mark}
 use Rattle.elem_descr.specs.declared.format_text.mark.Mark.TheVariants.{Aligned}
 use Rattle.elem_descr.specs.declared.format_text.member.Member.{Member as Held}

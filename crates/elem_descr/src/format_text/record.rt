@@ -1,16 +1,19 @@
-//! Records in a format text, and the records in them.
-ghost use Rattle.std.specs.Prelude.{◌≡◌, ◌≤◌, length, option_copied, IfOk};
-ghost use Rattle.elem_descr.specs.Refusals.{Gives};
-ghost use Rattle.elem_descr.specs.RecordBuilding.{max_depth, max_leaves};
-ghost use Rattle.elem_descr.specs.inside.Turns.{closing, record_within, next_field};
+//! Records in a format text: their members, added one by one, the records in them, and their end.
+ghost use Rattle.elem_descr.specs.FormatTexts.{closed_body};
+ghost use Rattle.elem_descr.specs.Names.{is_legal_name};
+ghost use Rattle.elem_descr.specs.RecordBuilding.{max_depth, max_fields, max_leaves};
+ghost use Rattle.elem_descr.specs.Refusals.{Answers, Gives};
 ghost use Rattle.elem_descr.specs.inside.Partials.{IsBody};
+ghost use Rattle.elem_descr.specs.inside.Turns.{body_in, closing, named, next_field, pad_in, record_within, scalar_in};
+ghost use Rattle.std.specs.Prelude.{IfOk, IsTrue, length, option_copied, ◌+◌, ◌≡◌, ◌≤◌};
 
-use crate::format_text::body::Body;
-use crate::format_text::field::{add_body, add_pad, add_scalar};
-use crate::format_text::mark::{Mark, marked};
-use crate::format_text::member::{Member, member_at};
+use crate::descr::{Descr, Record};
+use crate::format_text::mark::{Mark, marked, own_alignment};
+use crate::format_text::member::{Member, is_named, member_at, name_at};
+use crate::name::FieldName;
 use crate::record_builder::RecordBuilder;
 use crate::refusal::Refusal;
+use crate::scalar::Scalar;
 use std::alloc::Global;
 
 /// What follows a closing brace, if the text begins with one.
@@ -86,4 +89,108 @@ fn field_at<'a>(
         }
         Err(refusal) => Err(refusal),
     }
+}
+
+/// A record that was read, its alignment if `@` is in force, and the mark in force after it.
+#[derive(Debug, Drop)]
+pub struct Body {
+    pub whole: Record,
+    pub alignment: usize,
+    pub mark: Mark,
+}
+
+impl Body {
+    /// The record of a builder, aligned if this mark aligns.
+    pub fn close(alloc: Global, builder: RecordBuilder, mark: Mark) -> Result<Body, Refusal>
+        ensures gives { Gives (λ body. body) result (closed_body mark builder) }
+        ensures good { IfOk result (IsBody (1 + builder.levels)) }
+    {
+        let alignment = builder.alignment();
+        let whole = builder.close(alloc, mark.is_aligning())?;
+        Ok(Body {
+            whole,
+            alignment,
+            mark,
+        })
+    }
+}
+
+/// The name of a field: the one between colons, or `f` and its number among the fields.
+fn named(alloc: Global, number: usize, text: &[u8]) -> Result<(FieldName, &[u8]), Refusal>
+    requires { number ≤ max_fields }
+    ensures gives { Gives (λ n. (n.0, n.1.now)) result (named number text.now) }
+    ensures legal { IfOk result (λ n. IsTrue (is_legal_name n.0)) }
+{
+    if !is_named(text) {
+        let name = FieldName::numbered(alloc, number)?;
+        return Ok((name, text));
+    }
+    match name_at(&text[1..]) {
+        Ok((name, rest)) => Ok((FieldName::from_slice(alloc, name)?, rest)),
+        Err(refusal) => Err(refusal),
+    }
+}
+
+/// Adds a scalar, and returns the mark in force and what follows its name.
+#[tactic(auto, unfolding(crate::specs::inside::Turns::scalar_in))]
+pub fn add_scalar<'a>(
+    alloc: Global,
+    mark: Mark,
+    builder: &mut RecordBuilder,
+    value: Option<Scalar>,
+    rest: &'a [u8],
+) -> Result<(Mark, &'a [u8]), Refusal>
+    ensures gives { Gives (λ m. (builder.new, m.0, m.1.now)) result
+        (scalar_in mark builder.old value rest.now) }
+    ensures levels { builder.new.levels ≡ builder.old.levels }
+{
+    let (name, rest) = named(alloc, builder.len(), rest)?;
+    builder.check_name(name.as_slice())?;
+    let Some(scalar) = value else {
+        return Err(Refusal::TooLarge);
+    };
+    let alignment = mark.aligned(own_alignment(&scalar));
+    builder.add(name, alignment, Descr::Scalar(scalar))?;
+    Ok((mark, rest))
+}
+
+/// Adds padding, which has no name, and returns the mark in force and what follows.
+#[tactic(auto, unfolding(crate::specs::inside::Turns::pad_in))]
+pub fn add_pad<'a>(
+    mark: Mark,
+    builder: &mut RecordBuilder,
+    count: usize,
+    rest: &'a [u8],
+) -> Result<(Mark, &'a [u8]), Refusal>
+    ensures gives { Answers (λ m. (builder.new, m.0, m.1.now)) result
+        (pad_in mark builder.old count rest.now) }
+    ensures levels { builder.new.levels ≡ builder.old.levels }
+{
+    builder.pad(count)?;
+    if is_named(rest) {
+        return Err(Refusal::DescriptorLeftOut);
+    }
+    Ok((mark, rest))
+}
+
+/// Adds a record that was read, and returns the mark then in force and what follows its name.
+#[tactic(auto, unfolding(crate::specs::inside::Turns::body_in))]
+pub fn add_body<'a>(
+    alloc: Global,
+    mark: Mark,
+    builder: &mut RecordBuilder,
+    body: Body,
+    rest: &'a [u8],
+) -> Result<(Mark, &'a [u8]), Refusal>
+    requires { IsBody builder.old.levels body }
+    ensures gives { Gives (λ m. (builder.new, m.0, m.1.now)) result
+        (body_in mark builder.old body rest.now) }
+    ensures levels { builder.new.levels ≡ builder.old.levels }
+{
+    let (name, rest) = named(alloc, builder.len(), rest)?;
+    builder.check_name(name.as_slice())?;
+    let alignment = mark.aligned(body.alignment);
+    let later = body.mark;
+    builder.add(name, alignment, Descr::Record(body.whole))?;
+    Ok((later, rest))
 }

@@ -2,10 +2,10 @@
 use Rattle.std.specs.Prelude.{ℕ, List}
 use Rattle.elementwise.specs.Words.{Descr, LeafValue, items, owned_items, Items, Layout}
 use Rattle.elementwise.specs.Results.{stretched_items}
-use Rattle.elementwise.specs.declared.typed.Held.{Held}
-use Rattle.elementwise.specs.declared.typed.Held.TheVariants.{Kept, Made}
-use Rattle.elementwise.specs.declared.typed.Fitted.{Fitted}
-use Rattle.elementwise.specs.declared.typed.Fitted.TheVariants as fitted
+use Rattle.elementwise.specs.declared.apply.Held.{Held}
+use Rattle.elementwise.specs.declared.apply.Held.TheVariants.{Kept, Made}
+use Rattle.elementwise.specs.declared.apply.Fitted.{Fitted}
+use Rattle.elementwise.specs.declared.apply.Fitted.TheVariants as fitted
 
 abbrev pub held_items : Held → List (List LeafValue)
 held_items (Kept i) = items i

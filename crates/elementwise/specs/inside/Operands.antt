@@ -4,8 +4,8 @@ use Rattle.std.specs.List.{concat}
 use Rattle.elementwise.specs.Words.{LeafValue, item_size, item_from, count, offsets}
 use Rattle.elementwise.specs.Results.{pairwise}
 use Rattle.elementwise.specs.inside.PairPasses.{pair_from}
-use Rattle.elementwise.specs.declared.rows.Operand.{Operand}
-use Rattle.elementwise.specs.declared.rows.Operands.{Operands}
+use Rattle.elementwise.specs.declared.row_pairs.Operand.{Operand}
+use Rattle.elementwise.specs.declared.row_pairs.Operands.{Operands}
 
 -- the items of an operand, in C order
 abbrev pub operand_items : Operand → List (List LeafValue)

@@ -1,7 +1,7 @@
 -- Pairs of items at equal steps, and what is made of them.
 use Rattle.std.specs.Prelude.{ℕ, List}
 use Rattle.elementwise.specs.Words.{item_in}
-use Rattle.elementwise.specs.declared.sides.Pairs.{Pairs}
+use Rattle.elementwise.specs.declared.pairing.Pairs.{Pairs}
 
 -- how many pairs there are
 abbrev pub pair_count : Pairs → ℕ

@@ -1,7 +1,7 @@
 -- Bools by the bytes that they stand in.
 use Rattle.std.specs.Prelude.{ℕ, ◌≡◌, ◌+◌, ◌<◌, ◌≤◌, ℤ, pos, List, [], ◌∷◌, map, length, get_or, drop, All}
 use Rattle.fancy_index.specs.Words.{truth, LieWithin, max_items, max_bytes, run_offsets}
-use Rattle.fancy_index.specs.declared.bools.Bools.{Bools}
+use Rattle.fancy_index.specs.declared.masks.Bools.{Bools}
 use Rattle.fancy_index.specs.inside.PointLists.{true_ranks}
 
 -- the number of the bool in the byte at an offset

@@ -1,9 +1,9 @@
 -- Where the items lie to which the axes of a plan lead.
 use Rattle.std.specs.Prelude.{◌≡◌, ◌+◌, ◌≤◌, ℕ, List, map, length, All}
 use Rattle.fancy_index.specs.Words.{assigned, row_offsets, offsets, EachWithin, Run, run_offsets}
-use Rattle.fancy_index.specs.declared.rows.MovedLayout.{MovedLayout}
-use Rattle.fancy_index.specs.declared.rows.PlanAxes.{PlanAxes}
-use Rattle.fancy_index.specs.declared.rows.Shifted.{Shifted}
+use Rattle.fancy_index.specs.declared.plan_rows.MovedLayout.{MovedLayout}
+use Rattle.fancy_index.specs.declared.plan_rows.PlanAxes.{PlanAxes}
+use Rattle.fancy_index.specs.declared.plan_rows.Shifted.{Shifted}
 use Rattle.fancy_index.specs.inside.Moved.{moved_offset, shifted_all, laid_offsets}
 
 abbrev pub moved_offsets : MovedLayout → List ℕ

@@ -2,10 +2,10 @@
 use Rattle.std.specs.Prelude.{◌≡◌, ◌<◌, ◌≤◌, Bool, true, Result, ℕ, List, [], ◌∷◌, ◌++◌, map, length, get_or}
 use Rattle.std.specs.List.{list_all, flat_map}
 use Rattle.fancy_index.specs.Words.{Refusal, IndexOutOfRange, check, ◌>>=◌, View, IndexItem, Layout, rank, IsIndex, natural, address, max_axes, AxisPick, IsRunWithin, has_step, picked_index, pick_shown, first_of, can_stretch, broadcast_index}
-use Rattle.view_ops.specs.declared.pick.AxisPick.TheVariants.{At as AtAxis, Along as AlongAxis, New as NewAxis}
+use Rattle.view_ops.specs.declared.picks.AxisPick.TheVariants.{At as AtAxis, Along as AlongAxis, New as NewAxis}
 use Rattle.fancy_index.specs.declared.points.PointList.{PointList}
-use Rattle.fancy_index.specs.declared.parts.IndexPart.{IndexPart}
-use Rattle.fancy_index.specs.declared.parts.IndexPart.TheVariants.{Axis as AxisPart, Points as PointsPart, Between as BetweenPart}
+use Rattle.fancy_index.specs.declared.index_parts.IndexPart.{IndexPart}
+use Rattle.fancy_index.specs.declared.index_parts.IndexPart.TheVariants.{Axis as AxisPart, Points as PointsPart, Between as BetweenPart}
 use Rattle.fancy_index.specs.IndexArrays.{IndexArray, is_index, array_axes_taken, cover}
 use Rattle.fancy_index.specs.Parts.{Part, Axis, Between, other_axes}
 use Rattle.fancy_index.specs.Indexed.{parts_view}

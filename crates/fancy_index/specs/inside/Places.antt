@@ -1,8 +1,8 @@
 -- Whether points stand side by side, as parts are gone through.
 use Rattle.std.specs.Prelude.{Bool, true, false, not, Option, Some, None, List}
 use Rattle.std.specs.List.{list_any}
-use Rattle.fancy_index.specs.declared.place.Stretch.{Stretch}
-use Rattle.fancy_index.specs.declared.place.Stretch.TheVariants.{Before, Among, After}
+use Rattle.fancy_index.specs.declared.result_axes.Stretch.{Stretch}
+use Rattle.fancy_index.specs.declared.result_axes.Stretch.TheVariants.{Before, Among, After}
 use Rattle.fancy_index.specs.Parts.{Part, are_points, go_on, side_by_side}
 
 -- how far it is after one more part, or nothing where points stand apart

@@ -2,7 +2,7 @@
 use Rattle.std.specs.Prelude.{◌≡◌, ◌≤◌, ℕ, List, [], ◌∷◌, map, length, get_or, drop, All}
 use Rattle.std.specs.List.{flat_map}
 use Rattle.fancy_index.specs.Words.{LieWithin, offsets, max_bytes, run_offsets}
-use Rattle.fancy_index.specs.declared.ranks.RunAt.{RunAt}
+use Rattle.fancy_index.specs.declared.masks.RunAt.{RunAt}
 
 -- the offsets to which ranks lead
 abbrev pub led : List ℕ → List ℕ → List ℕ

@@ -3,8 +3,8 @@ use Rattle.std.specs.Prelude.{◌≡◌, ℕ, ◌+◌, ◌<◌, ◌≤◌, Bool,
 use Rattle.std.specs.List.{list_all}
 use Rattle.fancy_index.specs.Words.{Descr, Little, integer, number_in, truth, item_size, item_at, LieWithin, max_items, max_bytes, Run, run_offsets, is_place}
 use Rattle.fancy_index.specs.Sources.{number_from}
-use Rattle.fancy_index.specs.declared.words.Reading.{Reading}
-use Rattle.fancy_index.specs.declared.words.Spread.{Spread}
+use Rattle.fancy_index.specs.declared.positions.Reading.{Reading}
+use Rattle.fancy_index.specs.declared.positions.Spread.{Spread}
 use Rattle.fancy_index.specs.inside.PointLists.{place_of}
 
 -- the number of the bool in a byte

@@ -1,8 +1,8 @@
 -- Blocks that take the place of others.
 use Rattle.std.specs.Prelude.{◌≡◌, ◌*◌, ℕ, List, length, Bool, false, IsTrue}
 use Rattle.name_store.specs.Words.{is_c_contiguous, offsets, multiples, items_at}
-use Rattle.name_store.specs.declared.target.Source.{Source}
-use Rattle.name_store.specs.declared.target.Source.TheVariants.{One, Block, Buffer}
+use Rattle.name_store.specs.declared.write.Source.{Source}
+use Rattle.name_store.specs.declared.write.Source.TheVariants.{One, Block, Buffer}
 
 -- the items of so many bytes at these offsets are all that the block has, one after another
 pub record AreAll (width : ℕ) (block os : List ℕ) : Type 0 where

@@ -9,7 +9,7 @@ use Rattle.name_store.specs.Parts.{IsPathOf}
 use Rattle.name_store.specs.States.{Array}
 use Rattle.name_store.specs.View.{array_at, slot_at}
 use Rattle.name_store.specs.Views.{IsLaidOut}
-use Rattle.name_store.specs.declared.entry.Entry.{Entry}
+use Rattle.name_store.specs.declared.bound.Entry.{Entry}
 use Rattle.name_store.specs.declared.slot.Slot.{Slot}
 
 IsPathOf-prop : (descr : Descr) (path : List ℕ) → IsProp (IsPathOf descr path)

@@ -5,7 +5,7 @@ use Rattle.name_store.specs.Arrays.{find_array}
 use Rattle.name_store.specs.Invariants.{LiesIn}
 use Rattle.name_store.specs.Parts.{descr_at}
 use Rattle.name_store.specs.View.{array_at, named_array, slot_at}
-use Rattle.name_store.specs.declared.entry.Entry.{Entry}
+use Rattle.name_store.specs.declared.bound.Entry.{Entry}
 use Rattle.name_store.specs.declared.slot.Slot.{Slot}
 
 -- the name's array lies in the slot with this number, and each of its items has so many bytes

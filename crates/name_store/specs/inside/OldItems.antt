@@ -8,7 +8,7 @@ use Rattle.name_store.specs.View.{slot_at}
 use Rattle.name_store.specs.declared.table.Home.{Home}
 use Rattle.name_store.specs.declared.change.OldItems.{OldItems}
 use Rattle.name_store.specs.declared.slot.Slot.{Slot}
-use Rattle.name_store.specs.declared.target.Target.{Target}
+use Rattle.name_store.specs.declared.write.Target.{Target}
 use Rattle.name_store.specs.inside.Held.{stand}
 
 -- the items of so many bytes that a block has at the offsets, one after another

@@ -6,7 +6,7 @@ use Rattle.name_store.specs.Invariants.{IsSound}
 use Rattle.name_store.specs.Kept.{kept_states, past_buffers}
 use Rattle.name_store.specs.View.{named_array}
 use Rattle.name_store.specs.declared.change.Change.{Change}
-use Rattle.name_store.specs.declared.entry.Entry.{Entry}
+use Rattle.name_store.specs.declared.bound.Entry.{Entry}
 use Rattle.name_store.specs.declared.slot.Slot.{Slot}
 use Rattle.name_store.specs.declared.table.Table.{Table}
 

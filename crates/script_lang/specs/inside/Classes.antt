@@ -1,7 +1,7 @@
 -- The classes of bytes that the scanners test.
 use Rattle.std.specs.Prelude.{ℕ, Bool, not}
-use Rattle.script_lang.specs.declared.grammar.classes.Class.{Class}
-use Rattle.script_lang.specs.declared.grammar.classes.Class.TheVariants.{Blank, Filled, Digit, Name, Mark, Unquoted, File}
+use Rattle.script_lang.specs.declared.grammar.tokens.Class.{Class}
+use Rattle.script_lang.specs.declared.grammar.tokens.Class.TheVariants.{Blank, Filled, Digit, Name, Mark, Unquoted, File}
 use Rattle.script_lang.specs.Tokens.{is_blank, is_digit, is_name_byte, is_unquoted, is_file_byte}
 use Rattle.script_lang.specs.Descriptors.{is_mark}
 

@@ -3,14 +3,12 @@ ghost use Rattle.std.specs.Prelude.{◌≡◌};
 ghost use Rattle.script_lang.specs.Commands.{copy_at, cast_at, combine_at, transform_at, reduce_at, computation_at, compute_at};
 ghost use Rattle.script_lang.specs.Reading.{Scans, Reads, computation_room, value_room};
 
-use crate::command::{Computation, Value};
+use crate::command::{Computation, Operation, Value};
 use crate::grammar::descriptors::descr;
 use crate::grammar::indexes::{argument, operand};
-use crate::grammar::names::{name, owned_name};
+use crate::grammar::names::{name, order, owned_name};
 use crate::grammar::numbers::optional_integer;
 use crate::grammar::tokens::{flag, word};
-use crate::grammar::verbs::order;
-use crate::operation::Operation;
 use crate::text::Text;
 use crate::verb::ComputeVerb;
 use elem_descr::{Name, Red, Refusal, UnOp};

@@ -5,9 +5,8 @@ ghost use Rattle.script_lang.specs.Reading.{Scans, Reads, value_room};
 
 use crate::command::{NewItems, Value};
 use crate::grammar::descriptors::descr;
-use crate::grammar::lists::shape;
 use crate::grammar::literals::{literal, literals};
-use crate::grammar::numbers::integer;
+use crate::grammar::numbers::{integer, shape};
 use crate::text::Text;
 use crate::verb::MakeVerb;
 use elem_descr::Refusal;

@@ -3,8 +3,7 @@ ghost use Rattle.std.specs.Prelude.{◌≡◌, ◌≤◌, ◌<◌, ◌+◌, ◌^
 ghost use Rattle.script_lang.specs.Descriptors.{depth_behind, named_behind, record_mark_at, record_len, record_text_at, descriptor_at};
 ghost use Rattle.script_lang.specs.Reading.{Scans};
 
-use crate::grammar::classes::{Class, front_len};
-use crate::grammar::tokens::{byte, front, is_parted};
+use crate::grammar::tokens::{Class, byte, front, front_len, is_parted};
 
 /// The bytes after the marks and the `T{` at the front.
 #[tactic(auto, unfolding(crate::specs::Descriptors::record_mark_at))]

@@ -5,12 +5,11 @@ ghost use Rattle.script_lang.specs.Lists.{by_rule, one_or_more};
 ghost use Rattle.script_lang.specs.Indexes.{step_at, slice_at, ellipsis_at, index_item_at, index_at, bracket_at, optional_index_at, operand_named, operand_at, bare_name_at, argument_at};
 ghost use Rattle.script_lang.specs.Reading.{Scans, Reads, index_room, optional_index_room, operand_room, argument_room};
 
-use crate::command::{Argument, Operand};
+use crate::command::{Argument, Index, Operand, ellipses};
 use crate::grammar::literals::literal;
 use crate::grammar::names::name;
 use crate::grammar::numbers::{integer, optional_integer};
 use crate::grammar::tokens::{byte, bytes_mark, keyword, symbol, unspaced};
-use crate::index::{Index, ellipses};
 use elem_descr::{IndexItem, Name, Refusal};
 use std::alloc::Global;
 

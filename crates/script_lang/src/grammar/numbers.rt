@@ -1,11 +1,16 @@
-//! Numbers without a sign, and integers.
-ghost use Rattle.std.specs.Prelude.{◌≡◌, ◌≤◌, ◌<◌, ◌^◌, length, IfSome, true};
-ghost use Rattle.std.specs.List.{list_all};
+//! Numbers without a sign, integers, and the lists of numbers between parentheses.
 ghost use Rattle.elem_descr.specs.TypeStrings.{value_of};
-ghost use Rattle.script_lang.specs.Tokens.{is_digit, number_at, length_at, integer_at, optional_integer_at};
-ghost use Rattle.script_lang.specs.Reading.{Scans};
+ghost use Rattle.script_lang.specs.Indexes.{shape_at, signed_shape_at};
+ghost use Rattle.script_lang.specs.Lists.{by_rule, none_or_more};
+ghost use Rattle.script_lang.specs.Reading.{Reads, Scans};
+ghost use Rattle.script_lang.specs.Tokens.{integer_at, is_digit, length_at, number_at, optional_integer_at};
+ghost use Rattle.std.specs.List.{list_all};
+ghost use Rattle.std.specs.Prelude.{IfSome, length, true, ◌<◌, ◌^◌, ◌≡◌, ◌≤◌};
 
-use crate::grammar::tokens::{byte, digits, is_parted, unspaced};
+use crate::command::{Integers, Lengths};
+use crate::grammar::tokens::{byte, digits, is_parted, symbol, unspaced};
+use elem_descr::Refusal;
+use std::alloc::Global;
 
 /// The most digits of a number.
 const MAX_DIGITS: usize = 30;
@@ -74,4 +79,72 @@ pub fn optional_integer(bytes: &[u8]) -> (Option<i128>, &[u8])
         Some((n, rest)) => (Some(n), rest),
         None => (None, bytes),
     }
+}
+
+/// Lengths separated by commas, up to the closing parenthesis, and what follows it.
+fn lengths(alloc: Global, bytes: &[u8]) -> Result<(Lengths, &[u8]), Refusal>
+    ensures { Reads (λ r. (r.0, r.1.now)) (λ _. true) result
+        (by_rule (none_or_more length_at 41) bytes.now) }
+{
+    let mut lengths = Lengths::new(alloc);
+    let mut rest = bytes;
+    loop {
+        if let Some(end) = symbol(b')', rest) {
+            return Ok((lengths, end));
+        }
+        let Some((entry, after)) = length(rest) else {
+            return Err(Refusal::Syntax);
+        };
+        lengths.push(entry)?;
+        if let Some(end) = symbol(b')', after) {
+            return Ok((lengths, end));
+        }
+        let Some(next) = symbol(b',', after) else {
+            return Err(Refusal::Syntax);
+        };
+        rest = next;
+    }
+}
+
+/// Integers separated by commas, up to the closing parenthesis, and what follows it.
+fn integers(alloc: Global, bytes: &[u8]) -> Result<(Integers, &[u8]), Refusal>
+    ensures { Reads (λ r. (r.0, r.1.now)) (λ _. true) result
+        (by_rule (none_or_more integer_at 41) bytes.now) }
+{
+    let mut integers = Integers::new(alloc);
+    let mut rest = bytes;
+    loop {
+        if let Some(end) = symbol(b')', rest) {
+            return Ok((integers, end));
+        }
+        let Some((entry, after)) = integer(rest) else {
+            return Err(Refusal::Syntax);
+        };
+        integers.push(entry)?;
+        if let Some(end) = symbol(b')', after) {
+            return Ok((integers, end));
+        }
+        let Some(next) = symbol(b',', after) else {
+            return Err(Refusal::Syntax);
+        };
+        rest = next;
+    }
+}
+
+/// The next shape, and what follows it.
+#[tactic(auto, unfolding(crate::specs::Indexes::shape_at))]
+pub fn shape(alloc: Global, bytes: &[u8]) -> Result<(Lengths, &[u8]), Refusal>
+    ensures { Reads (λ r. (r.0, r.1.now)) (λ _. true) result (shape_at bytes.now) }
+{
+    let rest = symbol(b'(', bytes).ok_or(Refusal::Syntax)?;
+    lengths(alloc, rest)
+}
+
+/// The next shape with signs, and what follows it.
+#[tactic(auto, unfolding(crate::specs::Indexes::signed_shape_at))]
+pub fn signed_shape(alloc: Global, bytes: &[u8]) -> Result<(Integers, &[u8]), Refusal>
+    ensures { Reads (λ r. (r.0, r.1.now)) (λ _. true) result (signed_shape_at bytes.now) }
+{
+    let rest = symbol(b'(', bytes).ok_or(Refusal::Syntax)?;
+    integers(alloc, rest)
 }

@@ -3,8 +3,7 @@ ghost use Rattle.std.specs.Prelude.{◌≡◌, ◌≤◌, length, IfSome};
 ghost use Rattle.script_lang.specs.Tokens.{starts_file_name, is_file_name, quoted_at, file_name_at};
 ghost use Rattle.script_lang.specs.Reading.{Scans};
 
-use crate::grammar::classes::{Class, are_in, front_len, is_name_byte};
-use crate::grammar::tokens::{byte, symbol};
+use crate::grammar::tokens::{Class, are_in, byte, front_len, is_name_byte, symbol};
 use crate::text::MAX_FILE_NAME_LEN;
 
 /// The bytes between the next two quotation marks, and what follows them.

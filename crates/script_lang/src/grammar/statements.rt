@@ -1,15 +1,15 @@
-//! The commands that neither bind a name nor answer a question.
+//! The commands that bind no name.
+ghost use Rattle.script_lang.specs.Commands.{asked_at, delete_at, question_at, save_at, set_at, shares_at, update_at};
+ghost use Rattle.script_lang.specs.Reading.{Reads, Scans, parts_take_memory};
 ghost use Rattle.std.specs.Prelude.{◌≡◌};
-ghost use Rattle.script_lang.specs.Commands.{set_at, update_at, delete_at, save_at};
-ghost use Rattle.script_lang.specs.Reading.{Scans, Reads, parts_take_memory};
 
-use crate::command::Command;
+use crate::command::{Command, Question};
 use crate::grammar::indexes::{argument, bracket};
-use crate::grammar::names::{name, owned_name};
+use crate::grammar::names::{name, operation, owned_name};
 use crate::grammar::quotes::file_name;
 use crate::grammar::tokens::{symbol, word};
-use crate::grammar::verbs::operation;
 use crate::text::FileName;
+use crate::verb::AskVerb;
 use elem_descr::{Name, Refusal};
 use std::alloc::Global;
 
@@ -80,4 +80,41 @@ pub fn save(alloc: Global, bytes: &[u8]) -> Option<(Command, &[u8])>
         file: FileName::from_slice(alloc, file),
     };
     Some((save, rest))
+}
+
+/// `X Y`, after `shares`.
+#[tactic(auto, unfolding(crate::specs::Commands::shares_at))]
+fn shares(alloc: Global, bytes: &[u8]) -> Option<(Question, &[u8])>
+    ensures { Scans (λ r. (r.0, r.1.now)) result (shares_at bytes.now) }
+{
+    let (left, rest) = name(bytes)?;
+    let (right, rest) = name(rest)?;
+    let shares = Question::Shares {
+        left: Name::from_slice(alloc, left),
+        right: Name::from_slice(alloc, right),
+    };
+    Some((shares, rest))
+}
+
+/// What the verb asks for.
+#[tactic(auto, unfolding(crate::specs::Commands::question_at, crate::specs::Commands::asked_at))]
+pub fn question(alloc: Global, verb: AskVerb, bytes: &[u8]) -> Option<(Question, &[u8])>
+    ensures { Scans (λ r. (r.0, r.1.now)) result (question_at verb bytes.now) }
+{
+    match verb {
+        AskVerb::Print => {
+            let (name, rest) = owned_name(alloc, bytes)?;
+            Some((Question::Print { name }, rest))
+        }
+        AskVerb::Info => {
+            let (name, rest) = owned_name(alloc, bytes)?;
+            Some((Question::Info { name }, rest))
+        }
+        AskVerb::Format => {
+            let (name, rest) = owned_name(alloc, bytes)?;
+            Some((Question::Format { name }, rest))
+        }
+        AskVerb::Names => Some((Question::Names, bytes)),
+        AskVerb::Shares => shares(alloc, bytes),
+    }
 }

@@ -1,12 +1,118 @@
-//! Blanks, symbols and words.
-ghost use Rattle.std.specs.Prelude.{◌≡◌, is_some, IfSome, true};
-ghost use Rattle.std.specs.List.{list_all};
-ghost use Rattle.std.specs.Str.{bytes_eq};
-ghost use Rattle.script_lang.specs.inside.Classes.{is_in};
-ghost use Rattle.script_lang.specs.Tokens.{is_digit, unspaced, byte_at, symbol_at, front_at, bytes_mark_at, is_parted, word_at, keyword_at, flag_at, at_end};
+//! Classes of bytes; blanks, symbols and words.
+ghost use Rattle.script_lang.specs.Descriptors.{is_mark};
+ghost use Rattle.script_lang.specs.Lines.{is_allowed};
 ghost use Rattle.script_lang.specs.Reading.{Scans};
+ghost use Rattle.script_lang.specs.Tokens.{at_end, byte_at, bytes_mark_at, flag_at, front_at, is_blank, is_digit, is_file_byte, is_name_byte, is_name_start, is_parted, is_sign, keyword_at, symbol_at, unspaced, word_at};
+ghost use Rattle.script_lang.specs.inside.Classes.{is_in};
+ghost use Rattle.std.specs.List.{list_all, prefix_len};
+ghost use Rattle.std.specs.Prelude.{IfSome, is_some, length, true, ◌≡◌, ◌≤◌};
+ghost use Rattle.std.specs.Str.{bytes_eq};
 
-use crate::grammar::classes::{Class, blanks_len, front_len, is_name_byte, is_sign};
+#[derive(Clone, Copy)]
+pub enum Class {
+    Blank,
+    /// Not a blank.
+    Filled,
+    Digit,
+    /// A letter, a digit or an underscore.
+    Name,
+    /// `<`, `>`, `!`, `=`, `@` or `^`
+    Mark,
+    /// Not a quotation mark.
+    Unquoted,
+    /// A byte of the name of a file.
+    File,
+}
+
+fn is_blank(byte: u8) -> bool
+    ensures { result ≡ is_blank byte }
+{
+    byte == b' ' || byte == b'\t'
+}
+
+fn is_digit(byte: u8) -> bool
+    ensures { result ≡ is_digit byte }
+{
+    byte.is_ascii_digit()
+}
+
+pub fn is_sign(byte: u8) -> bool
+    ensures { result ≡ is_sign byte }
+{
+    byte == b'+' || byte == b'-'
+}
+
+/// Whether a name may start with the byte.
+pub fn is_name_start(byte: u8) -> bool
+    ensures { result ≡ is_name_start byte }
+{
+    byte.is_ascii_alphabetic() || byte == b'_'
+}
+
+pub fn is_name_byte(byte: u8) -> bool
+    ensures { result ≡ is_name_byte byte }
+{
+    is_name_start(byte) || is_digit(byte)
+}
+
+fn is_mark(byte: u8) -> bool
+    ensures { result ≡ is_mark byte }
+{
+    matches!(byte, b'<' | b'>' | b'!' | b'=' | b'@' | b'^')
+}
+
+fn is_file_byte(byte: u8) -> bool
+    ensures { result ≡ is_file_byte byte }
+{
+    is_name_byte(byte) || byte == b'.' || byte == b'-'
+}
+
+fn is_in(class: Class, byte: u8) -> bool
+    ensures { result ≡ is_in class byte }
+{
+    match class {
+        Class::Blank => is_blank(byte),
+        Class::Filled => !is_blank(byte),
+        Class::Digit => is_digit(byte),
+        Class::Name => is_name_byte(byte),
+        Class::Mark => is_mark(byte),
+        Class::Unquoted => byte != b'"',
+        Class::File => is_file_byte(byte),
+    }
+}
+
+/// How many bytes of the class come first.
+pub fn front_len(class: Class, bytes: &[u8]) -> usize
+    ensures value { result ≡ prefix_len (is_in class) bytes.now }
+    ensures within { result ≤ length bytes.now }
+{
+    bytes.iter().take_while(|b| is_in(class, **b)).count()
+}
+
+/// How many blanks come first.
+pub fn blanks_len(bytes: &[u8]) -> usize
+    ensures value { result ≡ prefix_len is_blank bytes.now }
+    ensures within { result ≤ length bytes.now }
+{
+    bytes.iter().take_while(|b| is_blank(**b)).count()
+}
+
+/// Whether each byte is one of the class.
+pub fn are_in(class: Class, bytes: &[u8]) -> bool
+    ensures { result ≡ list_all (is_in class) bytes.now }
+{
+    bytes.iter().all(|b| is_in(class, *b))
+}
+
+/// Whether each byte is a tab, or 32 to 126.
+pub fn are_allowed(mut bytes: &[u8]) -> bool
+    ensures { result ≡ list_all is_allowed bytes.entry.now }
+{
+    while let [b' '..=b'~' | b'\t', rest @ ..] = bytes {
+        bytes = rest;
+    }
+    bytes.is_empty()
+}
 
 /// The longest front of bytes of the class and the rest, unless it is empty.
 pub fn front(class: Class, bytes: &[u8]) -> Option<(&[u8], &[u8])>

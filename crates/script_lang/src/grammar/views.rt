@@ -3,13 +3,12 @@ ghost use Rattle.std.specs.Prelude.{◌≡◌};
 ghost use Rattle.script_lang.specs.Commands.{viewing_of, plain_view_at, field_name_at, transpose_at, reshape_at, broadcast_at, viewing_at, view_at};
 ghost use Rattle.script_lang.specs.Reading.{Reads, viewing_room, value_room};
 
-use crate::command::{Value, Viewing};
+use crate::command::{Index, Value, Viewing};
 use crate::grammar::indexes::optional_index;
-use crate::grammar::lists::{shape, signed_shape};
 use crate::grammar::names::{name, names_unless_verb};
+use crate::grammar::numbers::{shape, signed_shape};
 use crate::grammar::quotes::quoted;
 use crate::grammar::tokens::is_at_end;
-use crate::index::Index;
 use crate::text::Text;
 use crate::verb::ViewVerb;
 use elem_descr::{Name, Refusal};

@@ -1,7 +1,7 @@
 -- Axes that are compared one by one.
 use Rattle.std.specs.Prelude.{◌==◌, Bool, true, false, ◌&&◌, List, [], ◌∷◌}
 use Rattle.std.specs.Ordering.{int_eq}
-use Rattle.shape_strides.specs.declared.joined.StridedAxis.{StridedAxis}
+use Rattle.shape_strides.specs.declared.single_run.StridedAxis.{StridedAxis}
 
 abbrev pub all_alike : List StridedAxis → List StridedAxis → Bool
 all_alike [] [] = true

@@ -1,6 +1,6 @@
 -- The run that the last axes make, as far as they join.
 use Rattle.std.specs.Prelude.{◌≡◌, ℕ, ◌-◌, ◌<◌, ◌≤◌, ℤ, pos, List, [], ◌∷◌, length, drop, slice_index, slice_index_or}
-use Rattle.shape_strides.specs.declared.joined.StridedAxis.{StridedAxis}
+use Rattle.shape_strides.specs.declared.single_run.StridedAxis.{StridedAxis}
 use Rattle.shape_strides.specs.Indexes.{count}
 use Rattle.shape_strides.specs.Joined.{strided_axes, all_joined}
 use Rattle.shape_strides.specs.inside.Single.{if_long}

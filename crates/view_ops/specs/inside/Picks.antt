@@ -1,8 +1,8 @@
 -- How the items of a basic index are picked, with slices as runs.
 use Rattle.std.specs.Prelude.{◌≡◌, ◌≤◌, ℕ, nat_lt, if◌then◌else◌, ℤ, pos, neg_ℤ, ◌*ℤ◌, ◌≤ℤ◌, List, [], ◌∷◌, ◌++◌, map}
 use Rattle.view_ops.specs.Words.{max_bytes}
-use Rattle.view_ops.specs.declared.pick.AxisPick.{AxisPick}
-use Rattle.view_ops.specs.declared.pick.AxisPick.TheVariants.{At as AtAxis, Along as AlongAxis, New as NewAxis}
+use Rattle.view_ops.specs.declared.picks.AxisPick.{AxisPick}
+use Rattle.view_ops.specs.declared.picks.AxisPick.TheVariants.{At as AtAxis, Along as AlongAxis, New as NewAxis}
 use Rattle.view_ops.specs.declared.slice.Progression.{Progression}
 pub use Rattle.view_ops.specs.Picks.{pick_shown, ArePicks}
 use Rattle.view_ops.specs.Basics.{Pick}

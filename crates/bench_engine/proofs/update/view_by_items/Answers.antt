@@ -1,7 +1,7 @@
 use Rattle.std.proofs.Common.{◌≤◌, ◌*◌, ℕ, sym, subst, ◌∙◌, Ok, Err}
 use Rattle.std.proofs.lemmas.Result.{err_from_is_err_and}
 use Rattle.bench_engine.specs.Words.{Descr, item_size, count, length-offsets, max_bytes}
-use Rattle.name_store.specs.declared.target.Target.TheVariants.{View}
+use Rattle.name_store.specs.declared.write.Target.TheVariants.{View}
 use Rattle.bench_engine.specs.Machine.{operand_values, updated_items}
 use Rattle.bench_engine.proofs.Moved.{unmoved-gives}
 use Rattle.bench_engine.proofs.OperandLaws.{all-stand}

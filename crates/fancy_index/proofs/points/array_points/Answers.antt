@@ -2,7 +2,7 @@ use Rattle.std.proofs.Common.{◌≡◌, ◌≢◌, length, refl, sym, subst, �
 use Rattle.std.proofs.lemmas.List.{length-map}
 use Rattle.std.proofs.lemmas.Result.{err_from_is_err_and}
 use Rattle.fancy_index.specs.Words.{count, offsets, length-offsets, Items}
-use Rattle.fancy_index.specs.declared.kind.Kind.TheVariants.{Mask}
+use Rattle.fancy_index.specs.declared.index_parts.Kind.TheVariants.{Mask}
 use Rattle.fancy_index.specs.IndexArrays.{kind}
 use Rattle.fancy_index.specs.Sources.{number_from, index_array_of}
 use Rattle.fancy_index.specs.inside.Items.{IsOutside}

@@ -2,7 +2,7 @@ use Rattle.std.proofs.Common.{◌+◌, ◌≤◌, length, All, sym, ap, subst, �
 use Rattle.std.proofs.lemmas.Result.{IfOk-weaker}
 use Rattle.name_store.specs.Words.{offsets_within, offsets, Fits, items_at, with_items, put_each}
 use Rattle.name_store.specs.Targets.{target_offsets}
-use Rattle.name_store.specs.declared.target.Source.{Source}
+use Rattle.name_store.specs.declared.write.Source.{Source}
 use Rattle.name_store.specs.inside.Puts.{AreItems, NeedsNone, block_from, with_source}
 use Rattle.name_store.proofs.RewriteLaws.{owned-within}
 use Rattle.name_store.proofs.SlotLaws.{slot_at-get_or}

@@ -2,7 +2,7 @@ use Rattle.std.proofs.Common.{◌≡◌, ◌∙◌, ◌*◌, ap, sym, subst, len
 use Rattle.std.proofs.lemmas.Bool.{eqb-true}
 use Rattle.name_store.specs.Words.{length-offsets, offsets}
 use Rattle.name_store.specs.Targets.{target_offsets}
-use Rattle.name_store.specs.declared.target.Target.{Target}
+use Rattle.name_store.specs.declared.write.Target.{Target}
 use Rattle.name_store.specs.inside.Exchanges.{AreAll}
 use Rattle.name_store.proofs.write.is_all.Goals as goal
 

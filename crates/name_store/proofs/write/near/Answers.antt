@@ -2,7 +2,7 @@ use Rattle.std.proofs.Common.{length, sym, ap, subst, ◌∙◌}
 use Rattle.std.specs.List.Sorted.{IsPermutation}
 use Rattle.name_store.specs.Words.{offsets, put_each}
 use Rattle.name_store.specs.Targets.{target_offsets}
-use Rattle.name_store.specs.declared.target.Target.{Target}
+use Rattle.name_store.specs.declared.write.Target.{Target}
 use Rattle.name_store.specs.inside.Puts.{MayPut}
 use Rattle.name_store.proofs.NearLaws.{near-moved, near-may, near-fills}
 use Rattle.name_store.proofs.write.near.Goals as goal

@@ -1,6 +1,6 @@
 use Rattle.std.proofs.Common.{◌+◌, ◌≤◌, ℕ, List, length, All, sym, subst}
 use Rattle.name_store.specs.Words.{offsets_within, offsets}
-use Rattle.name_store.specs.declared.target.Source.{Source}
+use Rattle.name_store.specs.declared.write.Source.{Source}
 use Rattle.name_store.specs.inside.Puts.{AreItems}
 use Rattle.name_store.proofs.write.packed.Goals as goal
 

@@ -1,7 +1,7 @@
 use Rattle.std.proofs.Common.{◌≡◌, ◌+◌, ◌≤◌, length, sym, ap, subst, ◌∙◌}
 use Rattle.std.proofs.lemmas.List.Sorted.{All-permutation}
 use Rattle.name_store.specs.Targets.{target_offsets}
-use Rattle.name_store.specs.declared.target.Source.{Source}
+use Rattle.name_store.specs.declared.write.Source.{Source}
 use Rattle.name_store.specs.inside.Puts.{AreItems, with_source}
 use Rattle.name_store.proofs.SourceLaws.{put_each-items}
 use Rattle.name_store.proofs.write.put_near.Goals as goal

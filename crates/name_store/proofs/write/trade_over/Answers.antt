@@ -1,7 +1,7 @@
 use Rattle.std.proofs.Common.{◌≡◌, ◌*◌, refl, sym, ap, ◌∙◌, length, IsTrue, rules}
 use Rattle.name_store.specs.Words.{is_c_contiguous, length-offsets, offsets, multiples, items_at}
 use Rattle.name_store.specs.Targets.{target_offsets}
-use Rattle.name_store.specs.declared.target.Target.{Target}
+use Rattle.name_store.specs.declared.write.Target.{Target}
 use Rattle.name_store.proofs.ExchangeLaws.{own-packed, own-offsets}
 use Rattle.name_store.proofs.RewriteLaws.{owned-within}
 use Rattle.name_store.proofs.write.trade_over.Goals as goal

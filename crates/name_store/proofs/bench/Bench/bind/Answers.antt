@@ -5,7 +5,7 @@ use Rattle.name_store.specs.Invariants.{IsSound}
 use Rattle.name_store.specs.States.{BenchValue}
 use Rattle.name_store.specs.View.{state_of}
 use Rattle.name_store.specs.Views.{MayBind}
-use Rattle.name_store.specs.declared.entry.Entry.{Entry}
+use Rattle.name_store.specs.declared.bound.Entry.{Entry}
 use Rattle.name_store.proofs.BindLaws.{may-present, bind-held, bind-kept}
 use Rattle.name_store.proofs.KeepLaws.{patches-push}
 use Rattle.name_store.proofs.Needs.{users-small}

@@ -6,7 +6,7 @@ use Rattle.name_store.specs.Words.{spare}
 use Rattle.name_store.specs.Arrays.{unbound}
 use Rattle.name_store.specs.Invariants.{Holds, IsSound}
 use Rattle.name_store.specs.View.{state_of, bench_value}
-use Rattle.name_store.specs.declared.entry.Entry.{Entry}
+use Rattle.name_store.specs.declared.bound.Entry.{Entry}
 use Rattle.name_store.proofs.KeepLaws.{patches-push}
 use Rattle.name_store.proofs.UnbindLaws.{same-sound, removed-holds, unbind-held, unbind-kept, bound-has, deep, removed-one}
 use Rattle.name_store.proofs.bench.Bench.unbind.Goals as goal

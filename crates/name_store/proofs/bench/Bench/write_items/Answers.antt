@@ -7,7 +7,7 @@ use Rattle.name_store.specs.Memory.{NeedsNoMemory}
 use Rattle.name_store.specs.States.{BenchValue}
 use Rattle.name_store.specs.Targets.{IsAim}
 use Rattle.name_store.specs.View.{state_of, bench_value}
-use Rattle.name_store.specs.declared.entry.Entry.{Entry}
+use Rattle.name_store.specs.declared.bound.Entry.{Entry}
 use Rattle.name_store.specs.inside.Homes.{IsHome}
 use Rattle.name_store.proofs.UnbindLaws.{same-sound}
 use Rattle.name_store.proofs.WriteKept.{same-still, same-state, same-value, tried-sound, tried-lowest, put-can, none-can, needs-shallow, none-answers, wrote-sound, write-held, write-sound, write-answers, write-counts}

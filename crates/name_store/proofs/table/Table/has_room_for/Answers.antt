@@ -4,7 +4,7 @@ use Rattle.std.proofs.lemmas.List.{length-map}
 use Rattle.std.specs.Option.{option_map}
 use Rattle.name_store.specs.Arrays.{find_array}
 use Rattle.name_store.specs.View.{array_at, named_array}
-use Rattle.name_store.specs.declared.entry.Entry.{Entry}
+use Rattle.name_store.specs.declared.bound.Entry.{Entry}
 use Rattle.name_store.proofs.NameLaws.{find-lookup}
 use Rattle.name_store.proofs.table.Table.has_room_for.Goals as goal
 

@@ -4,7 +4,7 @@ use Rattle.name_store.specs.Words.{item_size}
 use Rattle.name_store.specs.View.{present}
 use Rattle.name_store.specs.Views.{MayBind}
 use Rattle.name_store.specs.declared.bound.Bound.{Bound}
-use Rattle.name_store.specs.declared.entry.Entry.{Entry}
+use Rattle.name_store.specs.declared.bound.Entry.{Entry}
 use Rattle.name_store.specs.declared.slot.Slot.{Slot}
 use Rattle.name_store.specs.inside.Rebinds.{Lodges}
 use Rattle.name_store.proofs.BindLaws.{fresh-lodges, view-lodges, tried-kept, holds-kept}

@@ -1,0 +1,69 @@
+use Rattle.std.proofs.Common.{inr, Ok, map, sym, ◌∙◌}
+use Rattle.std.proofs.lemmas.Result.{err_from_is_err_and}
+use Rattle.elem_descr.specs.declared.descr.Descr.TheVariants.{Scalar as ScalarDescr}
+use Rattle.elementwise.specs.Words.{item_from, number_size, offsets, can-itself, little}
+use Rattle.elementwise.specs.Results.{unary_item}
+use Rattle.elementwise.proofs.WorkLaws.{number_small}
+use Rattle.elementwise.proofs.MadeLaws.{made-gives, made-order, made-items, made-encoded}
+use Rattle.elementwise.proofs.PromotedLaws.{promoted_one, native-little, number-read, can-number, operand_refused, kind_refused, one_given}
+use Rattle.elementwise.proofs.AppliedLaws.{changed}
+use Rattle.elementwise.proofs.apply.apply1.Goals as goal
+use Rattle.elementwise.specs.ResultLaws.{is_scalar}
+
+pub returns-in_err-from-clause-gives : goal.returns-in_err-from-clause-gives
+returns-in_err-from-clause-gives c =
+    let p = err_from_is_err_and c.from_residual.result c.from_residual.ensures.1 in
+    rw (p.1, p.2) (inr (operand_refused c.args.op c.args.operand.descr.now c.args.operand.layout.now.shape c.in_err-from.field-0.0 c.in_err-from.ensures))
+
+pub returns-in_err-scalar-clause-gives : goal.returns-in_err-scalar-clause-gives
+returns-in_err-scalar-clause-gives c =
+    let p = err_from_is_err_and c.from_residual-in_err-scalar.result c.from_residual-in_err-scalar.ensures.1 in
+    rw (p.1, p.2) (inr (kind_refused c.args.op c.args.operand.descr.now c.args.operand.layout.now.shape c.in_ok-from.from c.in_err-scalar.field-0.0 c.in_ok-from.ensures c.in_err-scalar.ensures))
+
+pub read_as-read-requires : goal.read_as-read-requires
+read_as-read-requires c = native-little c.in_ok-scalar.scalar (promoted_one c.args.op c.in_ok-from.from c.in_ok-scalar.scalar c.in_ok-scalar.ensures).0
+
+pub make_cast-requires-clause-can : goal.make_cast-requires-clause-can
+make_cast-requires-clause-can c = (number-read c.read_as-read.result c.in_ok-scalar.scalar c.read_as-read.ensures (promoted_one c.args.op c.in_ok-from.from c.in_ok-scalar.scalar c.in_ok-scalar.ensures).0, tt)
+
+pub make_cast-requires-clause-small : goal.make_cast-requires-clause-small
+make_cast-requires-clause-small c =
+    let number = number-read c.read_as-read.result c.in_ok-scalar.scalar c.read_as-read.ensures (promoted_one c.args.op c.in_ok-from.from c.in_ok-scalar.scalar c.in_ok-scalar.ensures).0 in
+    (number_size c.read_as-read.result number, number_size c.read_as-read.result number, number_small c.read_as-read.result number)
+
+pub make_cast-requires-clause-left : goal.make_cast-requires-clause-left
+make_cast-requires-clause-left c =
+    let is = promoted_one c.args.op c.in_ok-from.from c.in_ok-scalar.scalar c.in_ok-scalar.ensures in
+    can-number c.args.operand.descr.now c.in_ok-from.from c.read_as-read.result (is_scalar c.args.operand.descr.now c.in_ok-from.from c.in_ok-from.ensures) is.1 (number-read c.read_as-read.result c.in_ok-scalar.scalar c.read_as-read.ensures is.0)
+
+pub make_cast-requires-clause-right : goal.make_cast-requires-clause-right
+make_cast-requires-clause-right c =
+    let is = promoted_one c.args.op c.in_ok-from.from c.in_ok-scalar.scalar c.in_ok-scalar.ensures in
+    can-number c.args.operand.descr.now c.in_ok-from.from c.read_as-read.result (is_scalar c.args.operand.descr.now c.in_ok-from.from c.in_ok-from.ensures) is.1 (number-read c.read_as-read.result c.in_ok-scalar.scalar c.read_as-read.ensures is.0)
+
+pub make_cast-requires-clause-stretches : goal.make_cast-requires-clause-stretches
+make_cast-requires-clause-stretches c = can-itself c.args.operand.layout.now.shape
+
+pub make_cast-requires-clause-also : goal.make_cast-requires-clause-also
+make_cast-requires-clause-also c = can-itself c.args.operand.layout.now.shape
+
+pub returns-clause-gives : goal.returns-clause-gives
+returns-clause-gives c =
+    made-gives (ScalarDescr (little c.read_as-read.result)) c.args.operand.layout.now.shape _ _ c.in_ok-make_cast.ensures _
+    (one_given c.args.op c.args.operand.descr.now c.args.operand.layout.now.shape c.in_ok-from.from c.in_ok-scalar.scalar c.in_ok-from.ensures c.in_ok-scalar.ensures
+    ∙ λ i. Ok (ScalarDescr (sym c.read_as-read.ensures i), c.args.operand.layout.now.shape))
+
+pub returns-clause-order : goal.returns-clause-order
+returns-clause-order c = made-order (ScalarDescr (little c.read_as-read.result)) c.args.operand.layout.now.shape _ _ c.in_ok-make_cast.ensures
+
+pub returns-clause-items : goal.returns-clause-items
+returns-clause-items c =
+    let x = c.args.operand in
+    let read = c.read_as-read.result in
+    let is = promoted_one c.args.op c.in_ok-from.from c.in_ok-scalar.scalar c.in_ok-scalar.ensures in
+    let number = number-read read c.in_ok-scalar.scalar c.read_as-read.ensures is.0 in
+    made-items (ScalarDescr (little read)) x.layout.now.shape _ _ c.in_ok-make_cast.ensures (λ d _. map (λ offset. unary_item c.args.op d (item_from x.descr.now x.block.now offset)) (offsets x.layout.now))
+    (changed c.args.op read x.descr.now x.layout.now x.block.now number (can-number x.descr.now c.in_ok-from.from read (is_scalar x.descr.now c.in_ok-from.from c.in_ok-from.ensures) is.1 number))
+
+pub returns-clause-encoded : goal.returns-clause-encoded
+returns-clause-encoded c = made-encoded (ScalarDescr (little c.read_as-read.result)) c.args.operand.layout.now.shape _ _ c.in_ok-make_cast.ensures

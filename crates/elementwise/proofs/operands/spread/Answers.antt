@@ -1,0 +1,34 @@
+use Rattle.std.proofs.Common.{map, ap, ◌∙◌, length, arith}
+use Rattle.elem_descr.specs.declared.descr.Descr.TheVariants.{Scalar as ScalarDescr}
+use Rattle.elem_descr.specs.declared.scalar.Scalar.TheVariants.{Bool as BoolScalar}
+use Rattle.elementwise.specs.Words.{item_size, item_from, count, offsets, can_stretch}
+use Rattle.elementwise.specs.Casts.{cast_item}
+use Rattle.elementwise.specs.Results.{stretched_items}
+use Rattle.elementwise.proofs.StretchedLaws.{inside}
+use Rattle.elementwise.proofs.ShrunkLaws.{bools_again}
+use Rattle.elementwise.proofs.MadeLaws.{made-in}
+use Rattle.elementwise.proofs.operands.spread.Goals as goal
+
+pub stretched_to-requires : goal.stretched_to-requires
+stretched_to-requires c = (λ i. can_stretch (c.items-items-2.ensures.layout i).shape c.args.shape.now) ∙ c.requires.stretches
+
+pub invariant_of-bools : goal.invariant_of-bools
+invariant_of-bools c = let x = c.items-items-2.result in record { inside = inside (length x.block.now) (item_size x.descr.now) c.in_ok-wide.ensures x.inside }
+
+pub cast_scalars-requires-clause-from : goal.cast_scalars-requires-clause-from
+cast_scalars-requires-clause-from c = c.of.ensures.descr ∙ c.items-items-2.ensures.descr ∙ c.requires.bools
+
+pub cast_scalars-requires-clause-few : goal.cast_scalars-requires-clause-few
+cast_scalars-requires-clause-few c = omega (arith, ap (λ l. count l.shape) c.of.ensures.layout, ap count c.in_ok-wide.ensures.shape, c.items-items.ensures.value, c.items-items.ensures.limit)
+
+pub returns : goal.returns
+returns c =
+    let x = c.items-items-2.result in
+    let e = c.items-items-2.ensures in
+    let wide = c.in_ok-wide.ensures in
+    made-in (ScalarDescr BoolScalar) c.of.result.layout.now.shape c.args.shape.now _ _ c.cast_scalars.result (ap (λ l. l.shape) c.of.ensures.layout ∙ wide.shape)
+    ((λ i. map (λ offset. cast_item (c.of.ensures.descr i) (ScalarDescr BoolScalar) (item_from (c.of.ensures.descr i) (c.of.ensures.bytes i) offset)) (offsets (c.of.ensures.layout i)))
+    ∙ bools_again x.descr.now x.block.now _ (e.descr ∙ c.requires.bools)
+    ∙ ap (map (item_from x.descr.now x.block.now)) wide.places
+    ∙ λ i. stretched_items (e.descr i) (e.block i) (e.layout i) c.args.shape.now)
+    c.cast_scalars.ensures

@@ -1,0 +1,25 @@
+use Rattle.std.proofs.Common.{◌≡◌, ◌+◌, ◌*◌, ◌≤◌, ◌++◌, All, length}
+use Rattle.std.specs.List.{concat}
+use Rattle.elementwise.specs.Words.{item_size, EachWithin}
+use Rattle.elementwise.specs.Results.{pairwise}
+use Rattle.elementwise.specs.inside.PairPasses.{pair_from}
+use Rattle.elementwise.specs.inside.Operands.{pairs_of, made_of_all}
+use Rattle.elementwise.proofs.PairLaws.{firsts, seconds}
+use Rattle.elementwise.proofs.row_pairs.Operands.push_all.Given as goal
+
+-- the rows that are left lead to what all of them do
+abbrev pub invariant-loop-row : goal.invariant-loop-row
+invariant-loop-row g l =
+    let o = l.fn.self in
+    let wide = g.P.Pass.width l.pass in
+    let width = item_size o.left.descr.now in
+    let width' = item_size o.right.descr.now in
+    let make = pair_from (g.P.Pass.makes l.pass) width width' o.left.bytes.now o.right.bytes.now in
+    record {
+      bytes : l.block.0 ++ concat (pairwise make (firsts l.row-iterator) (seconds l.row-iterator)) ≡ l.fn.block.0 ++ made_of_all (g.P.Pass.makes l.pass) o;
+      room : length (firsts l.row-iterator) * wide ≤ l.block.1;
+      left : pairs_of o * wide + l.block.1 ≡ l.fn.block.1 + length (firsts l.row-iterator) * wide;
+      even : All (λ row. row.first.count ≡ row.second.count) l.row-iterator;
+      first : All (λ row. EachWithin (length o.left.bytes.now) row.first.offset row.first.step width row.first.count) l.row-iterator;
+      second : All (λ row. EachWithin (length o.right.bytes.now) row.second.offset row.second.step width' row.second.count) l.row-iterator;
+    }

@@ -1,0 +1,256 @@
+//! Operations on all items of arrays: operands are cast, stretched and combined.
+ghost use Rattle.elem_descr.specs.declared.descr.Descr.TheVariants.{Scalar as ScalarDescr};
+ghost use Rattle.elementwise.specs.Casts.{can_cast, cast_item};
+ghost use Rattle.elementwise.specs.Results.{binary_item, binary_result, pairwise, stretched_items, unary_item, unary_result, value_in};
+ghost use Rattle.elementwise.specs.Words.{C, Gives, can_stretch, encode_item, item_from, item_size, offsets, offsets_in, owned_items, size};
+ghost use Rattle.elementwise.specs.inside.Held.{fitted_layout, stretched};
+ghost use Rattle.elementwise.specs.inside.Made.{IsMade};
+ghost use Rattle.elementwise.specs.inside.Shrunk.{IsStretched};
+ghost use Rattle.elementwise.specs.inside.Works.{CanPair, gives, left_of, right_of, target_of};
+ghost use Rattle.std.specs.List.{flat_map};
+ghost use Rattle.std.specs.Prelude.{IfOk, IfSome, IsTrue, [], map, true, ◌∷◌, ◌≡◌, ◌≤◌};
+
+use crate::can_cast::keeps_items;
+use crate::cast::cast_items;
+use crate::chunks::{InRuns, ItemsInRun, MANY, make_by_chunks};
+use crate::operands::{made, read_as};
+use crate::pairing::{Pairing, Work};
+use crate::promotion::{promote, promote_one, scalar_of};
+use crate::row_pairs::{Operand, Operands};
+use arrays::{Items, Owned};
+use broadcasting::{common, stretched_to};
+use elem_descr::{BinOp, Descr, Refusal, UnOp};
+use shape_strides::{Layout, Shape};
+use std::alloc::{AllocError, Global};
+
+/// What an operation gives on the items of two arrays that are broadcast together, in a block of their
+/// own in C order, of the type that `promote` tells. Refused as `promote` refuses, records as
+/// `NotForThisKind`; then as `common` refuses: `ShapesDoNotBroadcast`, `TooLarge`.
+pub fn apply2(alloc: Global, op: BinOp, left: Items<'_>, right: Items<'_>) -> Result<Owned, Refusal>
+    ensures gives { Gives (λ o. (o.descr, o.layout.shape)) result
+        (binary_result op left.entry.descr.now left.entry.layout.now.shape right.entry.descr.now
+        right.entry.layout.now.shape) }
+    ensures order { IfOk result
+        (λ o. offsets o.layout ≡ offsets_in C (item_size o.descr) o.layout.shape) }
+    ensures items { IfOk result (λ o. map (item_from o.descr o.block) (offsets o.layout)
+        ≡ pairwise (binary_item op o.descr) (stretched_items left.entry.descr.now left.entry.block.now left.entry.layout.now o.layout.shape)
+        (stretched_items right.entry.descr.now right.entry.block.now right.entry.layout.now o.layout.shape)) }
+    ensures encoded { IfOk result (λ o. o.block ≡ flat_map (encode_item o.descr) (owned_items o)) }
+{
+    let from = scalar_of(left.descr)?;
+    let other = scalar_of(right.descr)?;
+    let scalar = promote(op, from, other)?;
+    let shape = common(alloc, &[&left.layout.shape, &right.layout.shape])?;
+    let read = read_as(&scalar, left, right);
+    let pairing = Pairing::Alike {
+        work: Work::Combine(op),
+        scalar: read,
+    };
+    Ok(make_cast(alloc, &pairing, left, right, &shape)?)
+}
+
+/// What an operation gives on the items of an array, in a block of their own in C order. Refused as
+/// `promote_one` refuses, and records as `NotForThisKind`.
+pub fn apply1(alloc: Global, op: UnOp, operand: Items<'_>) -> Result<Owned, Refusal>
+    ensures gives { Gives (λ o. (o.descr, o.layout.shape)) result
+        (unary_result op operand.entry.descr.now operand.entry.layout.now.shape) }
+    ensures order { IfOk result
+        (λ o. offsets o.layout ≡ offsets_in C (item_size o.descr) o.layout.shape) }
+    ensures items { IfOk result (λ o. map (item_from o.descr o.block) (offsets o.layout)
+        ≡ map (λ offset. unary_item op o.descr (item_from operand.entry.descr.now operand.entry.block.now offset)) (offsets operand.entry.layout.now)) }
+    ensures encoded { IfOk result (λ o. o.block ≡ flat_map (encode_item o.descr) (owned_items o)) }
+{
+    let from = scalar_of(operand.descr)?;
+    let scalar = promote_one(op, from)?;
+    let read = read_as(&scalar, operand, operand);
+    let pairing = Pairing::Alike {
+        work: Work::Change(op),
+        scalar: read,
+    };
+    Ok(make_cast(alloc, &pairing, operand, operand, &operand.layout.shape)?)
+}
+
+/// Items where they lie, or in a block of their own.
+#[derive(Drop)]
+pub(crate) enum Held<'a> {
+    Kept(Items<'a>),
+    Made(Owned),
+}
+
+impl<'a> Held<'a> {
+    ghost use Rattle.arrays.specs.ItemLists.{items};
+    ghost use Rattle.elementwise.specs.inside.Held.{held_items, held_descr, held_shape};
+
+    /// Items as those of a small element type: where they lie, if a cast leaves them as they are.
+    pub(crate) fn of(alloc: Global, from: Items<'a>, to: &'a Descr) -> Result<Held<'a>, AllocError>
+        requires can { can_cast from.descr.now to.now ≡ true }
+        requires small { item_size to.now ≤ 8 }
+        ensures descr { IfOk result (λ h. held_descr h ≡ to.now) }
+        ensures shape { IfOk result (λ h. held_shape h ≡ from.entry.layout.now.shape) }
+        ensures items { IfOk result
+            (λ h. held_items h ≡ map (cast_item from.entry.descr.now to.now) (items from.entry)) }
+    {
+        if keeps_items(from.block, from.descr, to) {
+            return Ok(Held::Kept(Items {
+                block: from.block,
+                layout: from.layout,
+                descr: to,
+            }));
+        }
+        let _items = from.layout.shape.items();
+        let made = cast_items(alloc, from, to)?;
+        Ok(Held::Made(made))
+    }
+
+    pub(crate) fn items(&self) -> Items<'_>
+        ensures descr { result.descr.now ≡ held_descr self.now }
+        ensures shape { result.layout.now.shape ≡ held_shape self.now }
+        ensures items { items result ≡ held_items self.now }
+    {
+        match self {
+            Held::Kept(items) => *items,
+            Held::Made(owned) => owned.items(),
+        }
+    }
+}
+
+/// A layout that has a shape already, or is stretched to it.
+#[derive(Drop)]
+pub(crate) enum Fitted<'a> {
+    Same(&'a Layout),
+    Made(Layout),
+}
+
+impl<'a> Fitted<'a> {
+    fn to(alloc: Global, layout: &'a Layout, shape: &Shape) -> Result<Fitted<'a>, AllocError>
+        requires { IsTrue (can_stretch layout.now.shape shape.now) }
+        ensures { IfOk result
+            (λ fitted. IsStretched (fitted_layout fitted) layout.now shape.now) }
+    {
+        if layout.shape.as_slice() == shape.as_slice() {
+            return Ok(Fitted::Same(layout));
+        }
+        Ok(Fitted::Made(stretched_to(alloc, layout, shape)?))
+    }
+
+    fn layout(&self) -> &Layout
+        ensures { result.now ≡ fitted_layout self.now }
+    {
+        match self {
+            Fitted::Same(layout) => layout,
+            Fitted::Made(layout) => layout,
+        }
+    }
+}
+
+/// What is made of the items of two arrays that are cast, each as a whole, and then stretched.
+pub(crate) fn make_whole(
+    alloc: Global,
+    pairing: &Pairing<'_>,
+    left: Items<'_>,
+    right: Items<'_>,
+    shape: &Shape,
+) -> Result<Owned, AllocError>
+    requires can { CanPair pairing.now }
+    requires small { (size (left_of pairing.now) ≤ 8) × (size (right_of pairing.now) ≤ 8)
+        × (size (target_of pairing.now) ≤ 8) }
+    requires left { can_cast left.descr.now (ScalarDescr (left_of pairing.now)) ≡ true }
+    requires right { can_cast right.descr.now (ScalarDescr (right_of pairing.now)) ≡ true }
+    requires stretches { IsTrue (can_stretch left.layout.now.shape shape.now) }
+    requires also { IsTrue (can_stretch right.layout.now.shape shape.now) }
+    ensures { IfOk result
+        (IsMade (ScalarDescr (target_of pairing.now)) shape.now
+        (pairwise (λ x y.
+        gives pairing.now
+        (value_in (cast_item left.entry.descr.now (ScalarDescr (left_of pairing.now)) x))
+        (value_in (cast_item right.entry.descr.now (ScalarDescr (right_of pairing.now)) y)) ∷ [])
+        (stretched left.entry shape.now) (stretched right.entry shape.now))) }
+{
+    let _items = shape.items();
+    let left_to = Descr::Scalar(pairing.left());
+    let right_to = Descr::Scalar(pairing.right());
+    let left_held = Held::of(alloc, left, &left_to)?;
+    let right_held = Held::of(alloc, right, &right_to)?;
+    let left = left_held.items();
+    let right = right_held.items();
+    let first = Fitted::to(alloc, left.layout, shape)?;
+    let second = Fitted::to(alloc, right.layout, shape)?;
+    let operands = Operands {
+        left: Operand::of(Items {
+            block: left.block,
+            layout: first.layout(),
+            descr: left.descr,
+        }),
+        right: Operand::of(Items {
+            block: right.block,
+            layout: second.layout(),
+            descr: right.descr,
+        }),
+    };
+    made(alloc, pairing, operands)
+}
+
+/// The operands as runs of items, if they are many, need not be stretched, and are not both of the type
+/// that they are cast to.
+fn in_runs<'a>(
+    pairing: &Pairing<'_>,
+    left: Items<'a>,
+    right: Items<'a>,
+    shape: &Shape,
+) -> Option<InRuns<'a>>
+    ensures left { IfSome result (λ both. both.left.items ≡ left.entry) }
+    ensures right { IfSome result (λ both. both.right.items ≡ right.entry) }
+    ensures shape { IfSome result (λ _. left.entry.layout.now.shape ≡ shape.now) }
+    ensures other { IfSome result (λ _. right.entry.layout.now.shape ≡ shape.now) }
+{
+    let lengths = shape.as_slice();
+    if shape.items() < MANY
+        || left.layout.shape.as_slice() != lengths
+        || right.layout.shape.as_slice() != lengths
+    {
+        return None;
+    }
+    let first = keeps_items(left.block, left.descr, &Descr::Scalar(pairing.left()));
+    if first && keeps_items(right.block, right.descr, &Descr::Scalar(pairing.right())) {
+        return None;
+    }
+    Some(InRuns {
+        left: ItemsInRun {
+            items: left,
+            run: left.layout.as_one_run()?,
+        },
+        right: ItemsInRun {
+            items: right,
+            run: right.layout.as_one_run()?,
+        },
+    })
+}
+
+/// What is made of the items of two arrays that are cast, and then stretched.
+pub(crate) fn make_cast(
+    alloc: Global,
+    pairing: &Pairing<'_>,
+    left: Items<'_>,
+    right: Items<'_>,
+    shape: &Shape,
+) -> Result<Owned, AllocError>
+    requires can { CanPair pairing.now }
+    requires small { (size (left_of pairing.now) ≤ 8) × (size (right_of pairing.now) ≤ 8)
+        × (size (target_of pairing.now) ≤ 8) }
+    requires left { can_cast left.descr.now (ScalarDescr (left_of pairing.now)) ≡ true }
+    requires right { can_cast right.descr.now (ScalarDescr (right_of pairing.now)) ≡ true }
+    requires stretches { IsTrue (can_stretch left.layout.now.shape shape.now) }
+    requires also { IsTrue (can_stretch right.layout.now.shape shape.now) }
+    ensures { IfOk result
+        (IsMade (ScalarDescr (target_of pairing.now)) shape.now
+        (pairwise (λ x y.
+        gives pairing.now
+        (value_in (cast_item left.entry.descr.now (ScalarDescr (left_of pairing.now)) x))
+        (value_in (cast_item right.entry.descr.now (ScalarDescr (right_of pairing.now)) y)) ∷ [])
+        (stretched left.entry shape.now) (stretched right.entry shape.now))) }
+{
+    if let Some(both) = in_runs(pairing, left, right, shape) {
+        return make_by_chunks(alloc, pairing, both, shape);
+    }
+    make_whole(alloc, pairing, left, right, shape)
+}

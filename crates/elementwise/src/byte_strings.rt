@@ -1,0 +1,114 @@
+//! Byte strings: without the trailing NULs that all of them have, and eight bytes at a time.
+ghost use Rattle.elem_descr.specs.declared.descr.Descr.TheVariants.{Scalar as ScalarDescr};
+ghost use Rattle.elementwise.specs.Comparisons.{text_below};
+ghost use Rattle.elementwise.specs.Words.{Bytes, item_at, offsets, without_nuls};
+ghost use Rattle.std.specs.Prelude.{All, IfOk, IfSome, IsTrue, length, not, take, ◌+◌, ◌≡◌, ◌≤◌};
+
+use crate::compare_byte_strings::without_nuls;
+use crate::operands::without_repeats;
+use arrays::Items;
+use broadcasting::repeats;
+use elem_descr::BytesLen;
+use machine_numbers::{HighFirst, LowFirst, Ordered};
+use shape_strides::{Layout, Shape, Walk};
+use std::alloc::{AllocError, Global};
+
+/// The length of the longest byte string, the NULs at its end not counted, and at least 1.
+fn longest(block: &[u8], layout: &Layout, width: usize) -> usize
+    requires some { 1 ≤ width }
+    requires inside { All (λ offset. offset + width ≤ length block.now) (offsets layout.now) }
+    ensures some { 1 ≤ result }
+    ensures within { result ≤ width }
+    ensures least { All (λ offset. length (without_nuls (item_at offset width block.now)) ≤ result)
+        (offsets layout.now) }
+{
+    let mut most = 1;
+    for offset in Walk::new(layout) {
+        most = without_nuls(&block[offset..offset + width]).len().max(most);
+    }
+    most
+}
+
+/// The length to which the byte strings of an array can be cut: that of the longest, each looked at once.
+fn trimmed(alloc: Global, items: Items<'_>, width: BytesLen) -> Result<BytesLen, AllocError>
+    requires { items.descr.now ≡ ScalarDescr (Bytes width) }
+    ensures within { IfOk result (λ n. n ≤ width) }
+    ensures same { IfOk result
+        (λ n. All (λ offset. without_nuls (item_at offset n items.entry.block.now)
+        ≡ without_nuls (item_at offset width items.entry.block.now))
+        (offsets items.entry.layout.now)) }
+{
+    let layout = items.layout;
+    let small = without_repeats(alloc, layout, layout, &layout.shape)?;
+    let most = longest(items.block.bytes(), &small.first, width.get());
+    Ok(BytesLen::try_new(most).unwrap())
+}
+
+/// `trimmed`, if the array shows more places in a shape than it has items, and is compared with byte strings
+/// of another length; if not, the length that it has.
+pub(crate) fn trimmed_in(
+    alloc: Global,
+    items: Items<'_>,
+    width: BytesLen,
+    other_width: BytesLen,
+    shape: &Shape,
+) -> Result<BytesLen, AllocError>
+    requires { items.descr.now ≡ ScalarDescr (Bytes width) }
+    ensures within { IfOk result (λ n. n ≤ width) }
+    ensures same { IfOk result
+        (λ n. All (λ offset. without_nuls (item_at offset n items.entry.block.now)
+        ≡ without_nuls (item_at offset width items.entry.block.now))
+        (offsets items.entry.layout.now)) }
+{
+    let shown_again = repeats(items.layout) || items.layout.shape.items() < shape.items();
+    if shown_again && width.get() != other_width.get() {
+        return trimmed(alloc, items, width);
+    }
+    Ok(width)
+}
+
+/// How many bytes two byte strings have in common at the front, as far as whole words go.
+pub(crate) fn shared_words(left: &[u8], right: &[u8]) -> usize
+    ensures left { result ≤ length left.now }
+    ensures right { result ≤ length right.now }
+    ensures same { take result left.now ≡ take result right.now }
+{
+    let words = left.len().min(right.len()) / 8;
+    for word in 0..words {
+        let at = 8 * word;
+        let first = LowFirst::read_eight(&left[at..at + 8]);
+        let second = LowFirst::read_eight(&right[at..at + 8]);
+        if first != second {
+            return at;
+        }
+    }
+    8 * words
+}
+
+/// Whether the first of two byte strings is below the other, where a word at the front of both tells.
+pub(crate) fn next_word(left: &[u8], right: &[u8]) -> Option<bool>
+    ensures { IfSome result (λ is_below. (text_below left.now right.now ≡ is_below)
+        × (text_below right.now left.now ≡ not is_below)) }
+{
+    if left.len() < 8 || right.len() < 8 {
+        return None;
+    }
+    let first = HighFirst::read_eight(&left[..8]);
+    let second = HighFirst::read_eight(&right[..8]);
+    if first == second {
+        return None;
+    }
+    Some(first < second)
+}
+
+/// How many bytes of a byte string there are before the words of NULs at its end.
+pub(crate) fn without_nul_words(item: &[u8]) -> usize
+    ensures few { result ≤ length item.now }
+    ensures same { without_nuls (take result item.now) ≡ without_nuls item.now }
+{
+    let mut len = item.len();
+    while len >= 8 && LowFirst::read_eight(&item[len - 8..len]) == 0 {
+        len -= 8;
+    }
+    len
+}

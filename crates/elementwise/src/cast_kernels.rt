@@ -1,0 +1,66 @@
+//! Casts of the numbers of operands: which kernel does them.
+ghost use Rattle.elementwise.specs.Words.{IsNumber, Little, item_size, size, wrap};
+ghost use Rattle.elementwise.specs.inside.Operands.{made_of_all, pairs_of};
+ghost use Rattle.elementwise.specs.inside.PairPasses.{number_pair};
+ghost use Rattle.std.specs.Prelude.{◌*◌, ◌++◌, ◌+◌, ◌≡◌, ◌≤◌};
+
+use crate::kernels::{Kernel, push_made};
+use crate::row_pairs::Operands;
+use elem_descr::{Order, Scalar, Width};
+use machine_numbers::{HighFirst, LowFirst, Number, Ordered};
+use raw_block::BlockBuilder;
+
+/// The first number as one of another type.
+struct Casting;
+
+impl<S: Number, T: Number> Kernel<S, S, T> for Casting {
+    ghost makes = { λ a _. wrap (T.scalar Little) a };
+
+    #[inline(always)]
+    fn make(left: S, _right: S) -> T {
+        T::of_bits(left.bits())
+    }
+}
+
+/// The first of two numbers of one type as one of a scalar. Its sign makes no difference to its bytes.
+pub(crate) fn cast<S: Number, P: Ordered>(
+    scalar: &Scalar,
+    block: BlockBuilder,
+    operands: Operands<'_, '_>,
+) -> BlockBuilder
+    requires number { IsNumber scalar.now }
+    requires left { item_size operands.left.descr.now ≡ S.WIDTH }
+    requires right { item_size operands.right.descr.now ≡ S.WIDTH }
+    requires room { pairs_of operands * size scalar.now ≤ block.1 }
+    ensures bytes { result.0 ≡ block.0
+        ++ made_of_all
+        (number_pair (S.scalar P.order) (S.scalar P.order) scalar.now (λ a _. wrap scalar.now a))
+        operands.entry }
+    ensures left { pairs_of operands.entry * size scalar.now + result.1 ≡ block.1 }
+{
+    match scalar {
+        Scalar::Bool => push_made::<Casting, S, S, bool, P, LowFirst>(block, operands),
+        Scalar::Byte { .. } => push_made::<Casting, S, S, u8, P, LowFirst>(block, operands),
+        Scalar::Int { width, order, .. } => match (width, order) {
+            (Width::Two, Order::Little) => push_made::<Casting, S, S, u16, P, LowFirst>(
+                block, operands,
+            ),
+            (Width::Two, Order::Big) => push_made::<Casting, S, S, u16, P, HighFirst>(
+                block, operands,
+            ),
+            (Width::Four, Order::Little) => push_made::<Casting, S, S, u32, P, LowFirst>(
+                block, operands,
+            ),
+            (Width::Four, Order::Big) => push_made::<Casting, S, S, u32, P, HighFirst>(
+                block, operands,
+            ),
+            (Width::Eight, Order::Little) => push_made::<Casting, S, S, u64, P, LowFirst>(
+                block, operands,
+            ),
+            (Width::Eight, Order::Big) => push_made::<Casting, S, S, u64, P, HighFirst>(
+                block, operands,
+            ),
+        },
+        Scalar::Bytes(_) => unreachable!(),
+    }
+}

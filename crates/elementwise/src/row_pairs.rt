@@ -1,0 +1,142 @@
+//! Combines the items of two operands, row by row.
+ghost use Rattle.elementwise.specs.Results.{pairwise};
+ghost use Rattle.elementwise.specs.Words.{BeginsWithin, EachWithin, item_size, joined, offsets, run_offsets};
+ghost use Rattle.elementwise.specs.inside.PairPasses.{pair_from};
+ghost use Rattle.std.specs.List.{concat};
+ghost use Rattle.std.specs.Prelude.{All, IfSome, List, length, ℕ, ◌*◌, ◌++◌, ◌+◌, ◌≡◌, ◌≤◌};
+
+use crate::pairing::Pairs;
+use arrays::Items;
+use elem_descr::Descr;
+use machine_numbers::Side;
+use raw_block::BlockBuilder;
+use shape_strides::{Layout, RunPair, RunPairs};
+
+/// Items of a layout, of an element type, which lie in bytes.
+#[derive(Clone, Copy, Drop)]
+pub(crate) struct Operand<'a> {
+    pub(crate) bytes: &'a [u8],
+    pub(crate) layout: &'a Layout,
+    pub(crate) descr: &'a Descr,
+    pub(crate) ghost inside: { All (λ offset. offset + item_size descr.now ≤ length bytes.now) (offsets layout.now) },
+}
+
+impl<'a> Operand<'a> {
+    ghost use Rattle.arrays.specs.ItemLists.{items};
+    ghost use Rattle.elementwise.specs.inside.Operands.{operand_items};
+
+    /// Items that lie in a block.
+    pub(crate) fn of(from: Items<'a>) -> Operand<'a>
+        ensures layout { result.layout.now ≡ from.entry.layout.now }
+        ensures descr { result.descr.now ≡ from.entry.descr.now }
+        ensures bytes { result.bytes.now ≡ from.entry.block.now }
+        ensures items { operand_items result ≡ items from.entry }
+    {
+        Operand {
+            bytes: from.block.bytes(),
+            layout: from.layout,
+            descr: from.descr,
+        }
+    }
+}
+
+/// Two operands of one shape.
+#[derive(Clone, Copy, Drop)]
+pub(crate) struct Operands<'a, 'b> {
+    pub(crate) left: Operand<'a>,
+    pub(crate) right: Operand<'b>,
+    pub(crate) ghost even: { left.layout.now.shape ≡ right.layout.now.shape },
+}
+
+/// What is made of pairs of items, and pushed.
+pub(crate) trait Pass {
+    ghost use Rattle.elementwise.specs.inside.Sides.{pair_count, made_of};
+
+    // The bytes that are made of those of two items.
+    ghost makes: { Self → List ℕ → List ℕ → List ℕ };
+
+    // Of what widths the items may be.
+    ghost Reads: { Self → ℕ → ℕ → Type 0 };
+
+    // How many bytes are made of a pair.
+    ghost width: { Self → ℕ };
+
+    /// Pushes what is made of each pair of two runs.
+    fn push_row(&self, block: BlockBuilder, pairs: Pairs<'_, '_>) -> BlockBuilder
+        requires reads { Reads self.now pairs.left.width pairs.right.width }
+        requires room { pair_count pairs * width self.now ≤ block.1 }
+        ensures bytes { result.0 ≡ block.0
+            ++ joined (made_of (makes self.now) pairs.entry) (pair_count pairs.entry) }
+        ensures left { pair_count pairs.entry * width self.now + result.1 ≡ block.1 };
+
+    ghost not_empty: { (pass : Self) → 1 ≤ width pass };
+}
+
+impl<'a, 'b> Operands<'a, 'b> {
+    ghost use Rattle.elementwise.specs.inside.Operands.{pairs_of, made_of_all};
+
+    /// The row that all pairs of items make, if they make one.
+    fn as_row(self) -> Option<RunPair>
+        ensures first { IfSome result
+            (λ row. run_offsets row.first ≡ offsets self.entry.left.layout.now) }
+        ensures second { IfSome result
+            (λ row. run_offsets row.second ≡ offsets self.entry.right.layout.now) }
+        ensures first_lies { IfSome result (λ row. BeginsWithin row.first) }
+        ensures second_lies { IfSome result (λ row. BeginsWithin row.second) }
+    {
+        let first = self.left.layout.as_one_run()?;
+        let second = self.right.layout.as_one_run()?;
+        Some(RunPair { first, second })
+    }
+
+    /// Pushes what is made of each pair of items of a row.
+    fn push_row<P: Pass>(self, pass: &P, block: BlockBuilder, row: RunPair) -> BlockBuilder
+        requires reads { P.Reads pass.now (item_size self.left.descr.now)
+            (item_size self.right.descr.now) }
+        requires room { row.first.count * P.width pass.now ≤ block.1 }
+        requires even { row.first.count ≡ row.second.count }
+        requires first { EachWithin (length self.left.bytes.now) row.first.offset row.first.step
+            (item_size self.left.descr.now) row.first.count }
+        requires second { EachWithin (length self.right.bytes.now) row.second.offset row.second.step
+            (item_size self.right.descr.now) row.second.count }
+        ensures bytes { result.0 ≡ block.0
+            ++ concat (pairwise
+            (pair_from (P.makes pass.now) (item_size self.entry.left.descr.now)
+            (item_size self.entry.right.descr.now) self.entry.left.bytes.now
+            self.entry.right.bytes.now) (run_offsets row.first) (run_offsets row.second)) }
+        ensures left { row.first.count * P.width pass.now + result.1 ≡ block.1 }
+    {
+        let _filled = block.filled();
+        let pairs = Pairs {
+            left: Side {
+                bytes: self.left.bytes,
+                run: row.first,
+                width: self.left.descr.size(),
+            },
+            right: Side {
+                bytes: self.right.bytes,
+                run: row.second,
+                width: self.right.descr.size(),
+            },
+        };
+        pass.push_row(block, pairs)
+    }
+
+    /// Pushes what is made of each pair of items, in C order. The block is moved into each row and back.
+    pub(crate) fn push_all<P: Pass>(self, pass: &P, block: BlockBuilder) -> BlockBuilder
+        requires reads { P.Reads pass.now (item_size self.left.descr.now)
+            (item_size self.right.descr.now) }
+        requires room { pairs_of self * P.width pass.now ≤ block.1 }
+        ensures bytes { result.0 ≡ block.0 ++ made_of_all (P.makes pass.now) self.entry }
+        ensures left { pairs_of self.entry * P.width pass.now + result.1 ≡ block.1 }
+    {
+        if let Some(row) = self.as_row() {
+            return self.push_row(pass, block, row);
+        }
+        let mut block = block;
+        for row in RunPairs::new(self.left.layout, self.right.layout) {
+            block = self.push_row(pass, block, row);
+        }
+        block
+    }
+}

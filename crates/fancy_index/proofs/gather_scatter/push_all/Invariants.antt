@@ -1,0 +1,12 @@
+use Rattle.std.proofs.Common.{All}
+use Rattle.fancy_index.specs.Words.{offsets}
+use Rattle.fancy_index.specs.inside.Kept.{offsets_from}
+use Rattle.fancy_index.specs.inside.Moved.{moved_all, AreStarts}
+use Rattle.fancy_index.proofs.Passes.{Pushing}
+use Rattle.fancy_index.proofs.gather_scatter.push_all.Given as goal
+
+abbrev pub invariant-loop-place : goal.invariant-loop-place
+invariant-loop-place l = record {
+  starts : All (AreStarts l.axes.inner.offset (offsets l.axes.inner) l.axes.shifts.items) l.place-iterator;
+  pass : Pushing (offsets_from l.axes) (moved_all l.axes.inner.offset l.place-iterator l.axes.shifts.items (offsets l.axes.inner)) l.width l.block l.fn.items l.items;
+}

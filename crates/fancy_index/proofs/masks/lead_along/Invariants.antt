@@ -1,0 +1,7 @@
+use Rattle.std.proofs.Common.{◌≡◌, ◌++◌, take, drop}
+use Rattle.fancy_index.specs.Words.{run_offsets}
+use Rattle.fancy_index.specs.inside.Ranks.{led}
+use Rattle.fancy_index.proofs.masks.lead_along.Given as goal
+
+abbrev pub invariant-loop-rank : goal.invariant-loop-rank
+invariant-loop-rank l = l.ranks ≡ led (run_offsets l.run) (take l.rank-index l.fn.ranks) ++ drop l.rank-index l.fn.ranks

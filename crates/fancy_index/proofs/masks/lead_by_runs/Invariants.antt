@@ -1,0 +1,11 @@
+use Rattle.std.proofs.Common.{◌≡◌, ◌++◌, take, drop}
+use Rattle.fancy_index.specs.Words.{offsets}
+use Rattle.fancy_index.specs.inside.Ranks.{led, IsAtRun}
+use Rattle.fancy_index.proofs.masks.lead_by_runs.Given as goal
+
+abbrev pub invariant-loop-rank : goal.invariant-loop-rank
+invariant-loop-rank l = record {
+  at : IsAtRun l.at;
+  layout : l.at.layout.now ≡ l.layout;
+  led : l.ranks ≡ led (offsets l.layout) (take l.rank-index l.fn.ranks) ++ drop l.rank-index l.fn.ranks;
+}

@@ -1,7 +1,0 @@
-use Rattle.std.proofs.Common.{true, take}
-use Rattle.fancy_index.specs.Parts.{wholes}
-use Rattle.fancy_index.specs.inside.PartLists.{AddsParts}
-use Rattle.fancy_index.proofs.parts.push_wholes.Given as goal
-
-abbrev pub invariant-loop-n : goal.invariant-loop-n
-invariant-loop-n l = AddsParts l.initial.parts.items l.parts.items (take l.n-index l.axes) true (wholes (take l.n-index l.axes))

@@ -1,8 +1,0 @@
-use Rattle.std.proofs.Common.{◌≡◌, map, drop}
-use Rattle.fancy_index.specs.Parts.{side_by_side}
-use Rattle.fancy_index.specs.inside.PartLists.{shown_part}
-use Rattle.fancy_index.specs.inside.Places.{stand}
-use Rattle.fancy_index.proofs.place.side_by_side.Given as goal
-
-abbrev pub invariant-loop-part : goal.invariant-loop-part
-invariant-loop-part l = stand l.stretch (map shown_part (drop l.part-index l.parts)) ≡ side_by_side (map shown_part l.parts)

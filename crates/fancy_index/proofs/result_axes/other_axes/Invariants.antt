@@ -1,0 +1,7 @@
+use Rattle.std.proofs.Common.{◌≡◌, ◌++◌, map, drop}
+use Rattle.fancy_index.specs.Parts.{other_axes}
+use Rattle.fancy_index.specs.inside.PartLists.{shown_part}
+use Rattle.fancy_index.proofs.result_axes.other_axes.Given as goal
+
+abbrev pub invariant-loop-part : goal.invariant-loop-part
+invariant-loop-part l = l.lengths.items ++ other_axes (map shown_part (drop l.part-index l.parts)) ≡ other_axes (map shown_part l.parts)

@@ -1,0 +1,11 @@
+use Rattle.std.proofs.Common.{◌≡◌, true, take, drop}
+use Rattle.fancy_index.specs.inside.PartLists.{all_named}
+use Rattle.fancy_index.specs.inside.Sums.{AreSums}
+use Rattle.fancy_index.proofs.shift_columns.shifts.Given as goal
+
+abbrev pub invariant-loop-part : goal.invariant-loop-part
+invariant-loop-part l = record {
+  left : drop l.part-index l.parts ≡ drop l.part-index l.fn.parts;
+  named : all_named (take l.part-index l.fn.parts) ≡ true;
+  sums : AreSums l.layout l.fn.parts l.lengths l.start l.shifts.items l.part-index l.axis;
+}

@@ -1,0 +1,199 @@
+//! Items gathered from where a plan leads, items copied there, and one item written there: strictly one
+//! after the other.
+ghost use Rattle.fancy_index.specs.Plans.{put_each};
+ghost use Rattle.fancy_index.specs.Words.{joined_at};
+ghost use Rattle.fancy_index.specs.inside.Kept.{moved_offsets, offsets_from, put_packed, shifted_offsets};
+ghost use Rattle.std.specs.Prelude.{All, length, ◌*◌, ◌++◌, ◌+◌, ◌≡◌, ◌≤◌};
+
+use crate::plan_rows::{MovedLayout, PlanAxes, Shifted, fill_run, moved, moved_run};
+use crate::singles::{fill_singles, push_singles, scatter_singles};
+use arrays::{copy_run, packed_run};
+use raw_block::{BlockBuilder, RawBlock};
+use shape_strides::{Runs, Walk};
+
+/// Pushes the items of `width` bytes of a layout that is moved.
+fn push_from(
+    items: BlockBuilder,
+    block: &RawBlock,
+    source: MovedLayout<'_>,
+    width: usize,
+) -> BlockBuilder
+    requires inside { All (λ offset. offset + width ≤ length block.now) (moved_offsets source) }
+    requires room { length (moved_offsets source) * width ≤ items.1 }
+    ensures bytes { result.0 ≡ items.0 ++ joined_at (moved_offsets source.entry) width block.now }
+    ensures left { length (moved_offsets source.entry) * width + result.1 ≡ items.1 }
+{
+    let mut items = items;
+    for run in Runs::new(source.layout) {
+        let from = moved_run(run, source.layout.offset, source.start);
+        items.push_strided(block, from.offset, from.step, width, from.count);
+    }
+    items
+}
+
+/// Pushes the items from a place on, once for each shift. Inner axes of one item need no walk.
+fn push_shifted(
+    items: BlockBuilder,
+    block: &RawBlock,
+    rows: Shifted<'_>,
+    width: usize,
+) -> BlockBuilder
+    requires inside { All (λ offset. offset + width ≤ length block.now) (shifted_offsets rows) }
+    requires room { length (shifted_offsets rows) * width ≤ items.1 }
+    ensures bytes { result.0 ≡ items.0 ++ joined_at (shifted_offsets rows.entry) width block.now }
+    ensures left { length (shifted_offsets rows.entry) * width + result.1 ≡ items.1 }
+{
+    if rows.is_single() {
+        return push_singles(items, block, rows, width);
+    }
+    let inner = rows.inner;
+    let mut items = items;
+    for shift in rows.shifts {
+        let from = moved(inner.offset, rows.place, *shift as usize);
+        let source = MovedLayout {
+            layout: inner,
+            start: from,
+        };
+        items = push_from(items, block, source, width);
+    }
+    items
+}
+
+/// Pushes all items to which the axes lead.
+pub(crate) fn push_all(
+    items: BlockBuilder,
+    block: &RawBlock,
+    axes: &PlanAxes,
+    width: usize,
+) -> BlockBuilder
+    requires inside { All (λ offset. offset + width ≤ length block.now) (offsets_from axes.now) }
+    requires room { length (offsets_from axes.now) * width ≤ items.1 }
+    ensures bytes { result.0 ≡ items.0 ++ joined_at (offsets_from axes.now) width block.now }
+    ensures left { length (offsets_from axes.now) * width + result.1 ≡ items.1 }
+{
+    let mut items = items;
+    for place in Walk::new(&axes.outer) {
+        items = push_shifted(items, block, axes.rows(place), width);
+    }
+    items
+}
+
+/// Copies items of `width` bytes that lie one after another from `at` on to those of a layout that is
+/// moved. The result is where they end.
+fn scatter_from(
+    block: &mut RawBlock,
+    target: MovedLayout<'_>,
+    items: &RawBlock,
+    at: usize,
+    width: usize,
+) -> usize
+    requires inside { All (λ offset. offset + width ≤ length block.old) (moved_offsets target) }
+    requires room { at + length (moved_offsets target) * width ≤ length items.now }
+    ensures written { block.new
+        ≡ put_packed (moved_offsets target.entry) at width items.now block.old }
+    ensures len { length block.new ≡ length block.old }
+    ensures end { result ≡ at + length (moved_offsets target.entry) * width }
+{
+    let len = items.len();
+    let mut at = at;
+    for run in Runs::new(target.layout) {
+        let to = moved_run(run, target.layout.offset, target.start);
+        copy_run(
+            block,
+            to,
+            items,
+            packed_run(at, width, run.count, len),
+            width,
+        );
+        at += run.count * width;
+    }
+    at
+}
+
+/// Copies items to those from a place on, once for each shift. Inner axes of one item need no walk.
+fn scatter_shifts(
+    block: &mut RawBlock,
+    rows: Shifted<'_>,
+    items: &RawBlock,
+    at: usize,
+    width: usize,
+) -> usize
+    requires inside { All (λ offset. offset + width ≤ length block.old) (shifted_offsets rows) }
+    requires room { at + length (shifted_offsets rows) * width ≤ length items.now }
+    ensures written { block.new
+        ≡ put_packed (shifted_offsets rows.entry) at width items.now block.old }
+    ensures len { length block.new ≡ length block.old }
+    ensures end { result ≡ at + length (shifted_offsets rows.entry) * width }
+{
+    if rows.is_single() {
+        return scatter_singles(block, rows, items, at, width);
+    }
+    let inner = rows.inner;
+    let mut at = at;
+    for shift in rows.shifts {
+        let to = moved(inner.offset, rows.place, *shift as usize);
+        let target = MovedLayout {
+            layout: inner,
+            start: to,
+        };
+        at = scatter_from(block, target, items, at, width);
+    }
+    at
+}
+
+/// Copies the items, from their start on, to all to which the axes lead.
+pub(crate) fn scatter(block: &mut RawBlock, axes: &PlanAxes, items: &RawBlock, width: usize)
+    requires inside { All (λ offset. offset + width ≤ length block.old) (offsets_from axes.now) }
+    requires room { length (offsets_from axes.now) * width ≤ length items.now }
+    ensures written { block.new ≡ put_packed (offsets_from axes.now) 0 width items.now block.old }
+    ensures len { length block.new ≡ length block.old }
+{
+    let mut at = 0;
+    for place in Walk::new(&axes.outer) {
+        at = scatter_shifts(block, axes.rows(place), items, at, width);
+    }
+}
+
+/// Writes the item to those of a layout that is moved.
+fn fill_from(block: &mut RawBlock, target: MovedLayout<'_>, item: &[u8])
+    requires { All (λ offset. offset + length item.now ≤ length block.old) (moved_offsets target) }
+    ensures written { block.new ≡ put_each (moved_offsets target.entry) item.now block.old }
+    ensures len { length block.new ≡ length block.old }
+{
+    for run in Runs::new(target.layout) {
+        let to = moved_run(run, target.layout.offset, target.start);
+        fill_run(block, to, item);
+    }
+}
+
+/// Writes the item from a place on, once for each shift. Inner axes of one item need no walk.
+fn fill_shifts(block: &mut RawBlock, rows: Shifted<'_>, item: &[u8])
+    requires { All (λ offset. offset + length item.now ≤ length block.old) (shifted_offsets rows) }
+    ensures written { block.new ≡ put_each (shifted_offsets rows.entry) item.now block.old }
+    ensures len { length block.new ≡ length block.old }
+{
+    if rows.is_single() {
+        fill_singles(block, rows, item);
+        return;
+    }
+    let inner = rows.inner;
+    for shift in rows.shifts {
+        let start = moved(inner.offset, rows.place, *shift as usize);
+        let target = MovedLayout {
+            layout: inner,
+            start,
+        };
+        fill_from(block, target, item);
+    }
+}
+
+/// Writes the item to all to which the axes lead.
+pub(crate) fn fill(block: &mut RawBlock, axes: &PlanAxes, item: &[u8])
+    requires { All (λ offset. offset + length item.now ≤ length block.old) (offsets_from axes.now) }
+    ensures written { block.new ≡ put_each (offsets_from axes.now) item.now block.old }
+    ensures len { length block.new ≡ length block.old }
+{
+    for place in Walk::new(&axes.outer) {
+        fill_shifts(block, axes.rows(place), item);
+    }
+}

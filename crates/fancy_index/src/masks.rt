@@ -1,0 +1,269 @@
+//! Masks: the ranks at which they are true, and the offsets of these ranks.
+ghost use Rattle.fancy_index.specs.Words.{LieWithin, count, max_bytes, max_items, offsets, run_offsets, truth};
+ghost use Rattle.fancy_index.specs.declared.index_parts.Kind.TheVariants.{Mask};
+ghost use Rattle.fancy_index.specs.inside.Bools.{AreAll, LieInBytes, bools_in, ranks_from};
+ghost use Rattle.fancy_index.specs.inside.Items.{kind_in, numbers_in};
+ghost use Rattle.fancy_index.specs.inside.PointLists.{true_ranks};
+ghost use Rattle.fancy_index.specs.inside.Ranks.{IsAtRun, led};
+ghost use Rattle.std.specs.Prelude.{All, IfOk, IsTrue, OnOk, [], drop, get_or, length, slice_index, take, ℕ, ◌++◌, ◌+◌, ◌<◌, ◌∷◌, ◌≡◌, ◌≤◌};
+
+use arrays::{Items, copy, goes_by_columns};
+use elem_descr::MemoryOrder;
+use shape_strides::{Layout, Run, Runs};
+use std::alloc::{AllocError, Global};
+
+/// The bools of a run, the first of which has this rank.
+#[derive(Clone, Copy)]
+pub(crate) struct Bools<'a> {
+    pub bytes: &'a [u8],
+    pub run: Run,
+    pub rank: usize,
+}
+
+/// 1 for a bool that is true, else 0.
+#[inline(always)]
+fn truth(byte: u8) -> usize
+    ensures value { result ≡ truth byte }
+    ensures few { result ≤ 1 }
+{
+    (byte != 0) as usize
+}
+
+/// Writes the ranks of those bools that are true, from one on up to another, one after another, and
+/// returns how many there are. Each rank is written, and stays if its bool is true: there is no branch.
+fn note_true(found: &mut [u32; 512], bools: Bools<'_>, from: usize, end: usize) -> usize
+    requires lie { LieInBytes bools }
+    requires end { end ≤ bools.run.count }
+    requires few { end ≤ from + 512 }
+    requires order { from ≤ end }
+    ensures many { result ≤ 512 }
+    ensures found { let left = ranks_from bools.entry end in
+        take result found.new ++ left ≡ ranks_from bools.entry from }
+{
+    let mut many = 0;
+    for k in from..end {
+        found[many] = (bools.rank + k) as u32;
+        many += truth(bools.bytes[bools.run.offset_after(k)]);
+    }
+    many
+}
+
+/// Writes the ranks of the bools from one on up to another, all of which are true.
+fn note_all(found: &mut [u32; 512], bools: Bools<'_>, from: usize, end: usize) -> usize
+    requires lie { LieInBytes bools }
+    requires end { end ≤ bools.run.count }
+    requires few { end ≤ from + 512 }
+    requires order { from ≤ end }
+    requires all { AreAll bools from end 1 }
+    ensures many { result ≤ 512 }
+    ensures found { let left = ranks_from bools.entry end in
+        take result found.new ++ left ≡ ranks_from bools.entry from }
+{
+    for k in from..end {
+        found[k - from] = (bools.rank + k) as u32;
+    }
+    end - from
+}
+
+/// Whether the bytes from one on up to another are all the same.
+fn are_same(bytes: &[u8], from: usize, end: usize) -> bool
+    requires { end ≤ length bytes.now }
+    ensures { IsTrue result → (k : ℕ) → from ≤ k → k < end
+        → get_or bytes.now k 0 ≡ get_or bytes.now from 0 }
+{
+    let mut same = true;
+    for k in from..end {
+        same &= bytes[k] == bytes[from];
+    }
+    same
+}
+
+/// Writes the ranks of those bools of a block that are true. Where all of them are, or none is, and they
+/// lie one right after another, they need not be looked at one by one.
+fn note_block(found: &mut [u32; 512], bools: Bools<'_>, from: usize, end: usize) -> usize
+    requires lie { LieInBytes bools }
+    requires end { end ≤ bools.run.count }
+    requires few { end ≤ from + 512 }
+    requires some { from < end }
+    ensures many { result ≤ 512 }
+    ensures found { let left = ranks_from bools.entry end in
+        take result found.new ++ left ≡ ranks_from bools.entry from }
+{
+    let Run { offset, step, .. } = bools.run;
+    if step != 1 {
+        return note_true(found, bools, from, end);
+    }
+    let first = offset + from;
+    if !are_same(bools.bytes, first, offset + end) {
+        note_true(found, bools, from, end)
+    } else if bools.bytes[first] == 0 {
+        0
+    } else {
+        note_all(found, bools, from, end)
+    }
+}
+
+/// Adds the ranks of the bools that are true, a block of them after the other.
+fn push_true(
+    ranks: &mut Vec<u32>,
+    found: &mut [u32; 512],
+    bools: Bools<'_>,
+) -> Result<(), AllocError>
+    requires { LieInBytes bools }
+    ensures { let more = true_ranks bools.entry.rank (bools_in bools.entry) in
+        OnOk result (ranks.new.items ≡ ranks.old.items ++ more) }
+{
+    let mut from = 0;
+    while from < bools.run.count {
+        let end = bools.run.count.min(from + 512);
+        let many = note_block(found, bools, from, end);
+        ranks.extend_from_slice(&found[..many])?;
+        from = end;
+    }
+    Ok(())
+}
+
+/// The ranks at which a mask is true, read where it lies.
+fn ranks_in(alloc: Global, mask: Items<'_>) -> Result<Vec<u32>, AllocError>
+    requires kind { kind_in mask ≡ Mask }
+    ensures { IfOk result (λ v. v.items ≡ true_ranks 0 (numbers_in mask.entry)) }
+{
+    let _items = mask.layout.shape.items();
+    let bytes = mask.block.bytes();
+    let mut ranks = Vec::new(alloc);
+    let mut found = [0; 512];
+    let mut rank = 0;
+    for run in Runs::new(mask.layout) {
+        push_true(&mut ranks, &mut found, Bools { bytes, run, rank })?;
+        rank += run.count;
+    }
+    Ok(ranks)
+}
+
+/// The ranks at which a mask is true. One that lies along its columns is copied first, if there is
+/// memory for that: the copy reads it block by block.
+pub(crate) fn true_ranks(alloc: Global, mask: Items<'_>) -> Result<Vec<u32>, AllocError>
+    requires kind { kind_in mask ≡ Mask }
+    ensures { IfOk result (λ v. v.items ≡ true_ranks 0 (numbers_in mask.entry)) }
+{
+    if !goes_by_columns(mask.layout) {
+        return ranks_in(alloc, mask);
+    }
+    match copy(alloc, mask.block, mask.layout, mask.descr, MemoryOrder::C) {
+        Ok(copied) => ranks_in(alloc, copied.items()),
+        Err(_) => ranks_in(alloc, mask),
+    }
+}
+
+/// A run of a layout, the rank of its first item, and the runs behind it.
+#[derive(Drop)]
+pub(crate) struct RunAt<'a> {
+    layout: &'a Layout,
+    run: Run,
+    first: usize,
+    later: Runs<'a>,
+}
+
+/// The first run of a layout with items.
+fn first_run(layout: &Layout) -> RunAt<'_>
+    requires { 0 < count layout.now.shape }
+    ensures at { IsAtRun result }
+    ensures layout { result.layout.now ≡ layout.now }
+    ensures first { result.first ≡ 0 }
+{
+    let mut later = Runs::new(layout);
+    match later.next() {
+        Some(run) => RunAt {
+            layout,
+            run,
+            first: 0,
+            later,
+        },
+        None => unreachable!(),
+    }
+}
+
+/// Begins again with the first run. Its frame is large, so it stays out of line.
+#[inline(never)]
+fn begin_again(at: &mut RunAt<'_>)
+    requires { 0 < count at.old.layout.now.shape }
+    ensures at { IsAtRun at.new }
+    ensures layout { at.new.layout.now ≡ at.old.layout.now }
+    ensures first { at.new.first ≡ 0 }
+{
+    *at = first_run(at.layout);
+}
+
+/// Goes on to the run of the item that has a rank.
+fn go_to(at: &mut RunAt<'_>, rank: usize)
+    requires at { IsAtRun at.old }
+    requires rank { rank < count at.old.layout.now.shape }
+    requires behind { at.old.first ≤ rank }
+    ensures at { IsAtRun at.new }
+    ensures layout { at.new.layout.now ≡ at.old.layout.now }
+    ensures from { at.new.first ≤ rank }
+    ensures below { rank < at.new.first + at.new.run.count }
+{
+    while rank - at.first >= at.run.count {
+        at.first += at.run.count;
+        match at.later.next() {
+            Some(run) => at.run = run,
+            None => unreachable!(),
+        }
+    }
+}
+
+/// The offset of the item that has a rank. It goes on from the last one, and begins again for a
+/// lower rank, so ranks that rise take one walk.
+fn offset_at(at: &mut RunAt<'_>, rank: usize) -> usize
+    requires at { IsAtRun at.old }
+    requires rank { rank < count at.old.layout.now.shape }
+    ensures value { result ≡ slice_index (offsets at.old.layout.now) rank }
+    ensures bound { result ≤ max_bytes }
+    ensures at { IsAtRun at.new }
+    ensures layout { at.new.layout.now ≡ at.old.layout.now }
+{
+    let _items = at.layout.shape.items();
+    if rank < at.first {
+        begin_again(at);
+    }
+    go_to(at, rank);
+    at.run.offset_after(rank - at.first)
+}
+
+/// Makes of each rank the offset, where the items are one run.
+fn lead_along(run: Run, ranks: &mut [u32])
+    requires few { run.count ≤ max_items }
+    requires lies { LieWithin (run.count ∷ []) (run.step ∷ []) run.offset max_bytes 1 }
+    requires ranks { All (λ rank. rank < run.count) ranks.old }
+    ensures { ranks.new ≡ led (run_offsets run) ranks.old }
+{
+    for rank in ranks.iter_mut() {
+        *rank = run.offset_after(*rank as usize) as u32;
+    }
+}
+
+/// Makes of each rank the offset, run by run.
+fn lead_by_runs(layout: &Layout, ranks: &mut [u32])
+    requires some { 0 < count layout.now.shape }
+    requires ranks { All (λ rank. rank < count layout.now.shape) ranks.old }
+    ensures { ranks.new ≡ led (offsets layout.now) ranks.old }
+{
+    let mut at = first_run(layout);
+    for rank in ranks.iter_mut() {
+        *rank = offset_at(&mut at, *rank as usize) as u32;
+    }
+}
+
+/// Makes of each rank the offset of the item that has it.
+pub(crate) fn lead_through(layout: &Layout, ranks: &mut [u32])
+    requires some { 0 < count layout.now.shape }
+    requires ranks { All (λ rank. rank < count layout.now.shape) ranks.old }
+    ensures { ranks.new ≡ led (offsets layout.now) ranks.old }
+{
+    let _items = layout.shape.items();
+    match layout.as_one_run() {
+        Some(run) => lead_along(run, ranks),
+        None => lead_by_runs(layout, ranks),
+    }
+}

@@ -1,0 +1,91 @@
+//! The axes other than those of the points, with all points at 0.
+ghost use Rattle.fancy_index.specs.Parts.{other_axes};
+ghost use Rattle.fancy_index.specs.Words.{ArePicks, OutOfMemory, count, max_axes};
+ghost use Rattle.fancy_index.specs.inside.PartLists.{IsRest, rest_of, rest_picks, shown_part};
+ghost use Rattle.std.specs.Prelude.{IfErr, IfOk, OnOk, drop, length, map, take, ◌++◌, ◌<◌, ◌≡◌, ◌≤◌};
+ghost use Rattle.view_ops.specs.declared.picks.AxisPick.TheVariants.{At as AtAxis};
+
+use crate::index_parts::IndexPart;
+use elem_descr::Refusal;
+use shape_strides::{Layout, Shape, Strides};
+use smallvec::SmallVec;
+use std::alloc::{AllocError, Global};
+use view_ops::{AxisPick, with_picks};
+
+fn push_zeros(picks: &mut SmallVec<AxisPick, 8>, axes: &[usize]) -> Result<(), AllocError>
+    ensures { OnOk result (picks.new.items ≡ picks.old.items ++ map (λ _. AtAxis 0) axes.now) }
+{
+    for _ in axes {
+        picks.push(AxisPick::At(0))?;
+    }
+    Ok(())
+}
+
+fn push_rest(picks: &mut SmallVec<AxisPick, 8>, part: &IndexPart<'_>) -> Result<(), AllocError>
+    ensures { OnOk result (picks.new.items ≡ picks.old.items ++ rest_of part.now) }
+{
+    match part {
+        IndexPart::Axis(pick) => Ok(picks.push(*pick)?),
+        IndexPart::Points(points) => push_zeros(picks, points.axes.as_slice()),
+        IndexPart::Between => Ok(()),
+    }
+}
+
+fn rest_picks(alloc: Global, parts: &[IndexPart<'_>]) -> Result<SmallVec<AxisPick, 8>, AllocError>
+    ensures { IfOk result (λ v. v.items ≡ rest_picks parts.now) }
+{
+    let mut picks = SmallVec::new(alloc);
+    for part in parts {
+        push_rest(&mut picks, part)?;
+    }
+    Ok(picks)
+}
+
+/// What is picked of the axes of a layout where all points are 0.
+pub(crate) fn rest(
+    alloc: Global,
+    layout: &Layout,
+    parts: &[IndexPart<'_>],
+) -> Result<Layout, Refusal>
+    requires picks { ArePicks layout.now.shape (rest_picks parts.now) }
+    requires few { length (other_axes (map shown_part parts.now)) ≤ max_axes }
+    ensures ok { IfOk result (λ rest. IsRest layout.now parts.now rest) }
+    ensures err { IfErr result (λ refusal. refusal ≡ OutOfMemory) }
+{
+    let picks = rest_picks(alloc, parts)?;
+    with_picks(alloc, layout, picks.as_slice())
+}
+
+/// The layout of the first axes, where the others are 0.
+pub(crate) fn front(alloc: Global, layout: &Layout, axes: usize) -> Result<Layout, AllocError>
+    requires axes { axes ≤ length layout.now.shape }
+    requires some { 0 < count layout.now.shape }
+    ensures shape { IfOk result (λ l. l.shape ≡ take axes layout.now.shape) }
+    ensures strides { IfOk result (λ l. l.strides ≡ take axes layout.now.strides) }
+    ensures offset { IfOk result (λ l. l.offset ≡ layout.now.offset) }
+{
+    let shape = Shape::from_lengths(alloc, &layout.shape.as_slice()[..axes])?;
+    let strides = Strides::from_slice(alloc, &layout.strides.as_slice()[..axes])?;
+    Ok(Layout {
+        shape,
+        strides,
+        offset: layout.offset,
+    })
+}
+
+/// The layout of the axes behind the first ones, where these are 0.
+pub(crate) fn back(alloc: Global, layout: &Layout, axes: usize) -> Result<Layout, AllocError>
+    requires axes { axes ≤ length layout.now.shape }
+    requires some { 0 < count layout.now.shape }
+    ensures shape { IfOk result (λ l. l.shape ≡ drop axes layout.now.shape) }
+    ensures strides { IfOk result (λ l. l.strides ≡ drop axes layout.now.strides) }
+    ensures offset { IfOk result (λ l. l.offset ≡ layout.now.offset) }
+{
+    let shape = Shape::from_lengths(alloc, &layout.shape.as_slice()[axes..])?;
+    let strides = Strides::from_slice(alloc, &layout.strides.as_slice()[axes..])?;
+    Ok(Layout {
+        shape,
+        strides,
+        offset: layout.offset,
+    })
+}

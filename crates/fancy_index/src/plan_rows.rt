@@ -1,0 +1,167 @@
+//! The axes of a plan, and the items to which they lead: row by row, or run by run.
+ghost use Rattle.fancy_index.specs.Plans.{put_each};
+ghost use Rattle.fancy_index.specs.Words.{EachWithin, LieWithin, max_bytes, offsets, run_offsets};
+ghost use Rattle.fancy_index.specs.inside.Moved.{AllStart, AreStarts, IsMoved, moved_offset};
+ghost use Rattle.std.specs.Prelude.{All, IsTrue, [], get_or, length, map, ℕ, ◌*◌, ◌+◌, ◌<◌, ◌∷◌, ◌≡◌, ◌≤◌};
+
+use raw_block::RawBlock;
+use shape_strides::{Layout, Run};
+
+/// The axes of a plan. Both layouts begin where the first item would lie with all arrays 0.
+#[derive(Drop)]
+pub struct PlanAxes {
+    /// The axes before those of the arrays.
+    pub(crate) outer: Layout,
+    /// For each item of the broadcast arrays, where the first of the result's items with it lies.
+    pub(crate) shifts: Vec<u32>,
+    /// The axes after those of the arrays.
+    pub(crate) inner: Layout,
+    pub(crate) ghost small: { inner.offset ≤ max_bytes },
+    pub(crate) ghost starts: { AllStart outer shifts.items inner },
+}
+
+/// The items of the inner axes from a place of the outer ones on, once for each shift.
+#[derive(Clone, Copy, Drop)]
+pub(crate) struct Shifted<'a> {
+    pub shifts: &'a [u32],
+    pub inner: &'a Layout,
+    pub place: usize,
+    pub ghost small: { inner.now.offset ≤ max_bytes },
+    pub ghost starts: { AreStarts inner.now.offset (offsets inner.now) shifts.now place },
+}
+
+/// The items of a layout, where what began at its offset begins at `start`.
+#[derive(Clone, Copy, Drop)]
+pub(crate) struct MovedLayout<'a> {
+    pub layout: &'a Layout,
+    pub start: usize,
+    pub ghost small: { layout.now.offset ≤ max_bytes },
+    pub ghost moved: { All (IsMoved layout.now.offset start) (offsets layout.now) },
+}
+
+/// An offset, where what began at `base` begins at `start`.
+pub(crate) fn moved(base: usize, start: usize, offset: usize) -> usize
+    requires base { base ≤ max_bytes }
+    requires moved { IsMoved base start offset }
+    ensures value { result ≡ moved_offset base start offset }
+    ensures bound { result < max_bytes }
+{
+    start + offset - base
+}
+
+/// Whether each of the shifts is the one before it and a step.
+fn rise_evenly(shifts: &[u32], step: u32) -> bool
+    requires some { 1 ≤ length shifts.now }
+    requires few { length shifts.now ≤ 128 }
+    ensures { IsTrue result → (k : ℕ) → k < length shifts.now
+        → get_or shifts.now k 0 ≡ get_or shifts.now 0 0 + k * step }
+{
+    let n = shifts.len();
+    let last = shifts[0] as usize + (n - 1) * step as usize;
+    if shifts[n - 1] as usize != last {
+        return false;
+    }
+    let mut even = true;
+    let mut next = shifts[0];
+    for k in 1..n {
+        next += step;
+        even &= shifts[k] == next;
+    }
+    even
+}
+
+impl PlanAxes {
+    ghost use Rattle.fancy_index.specs.inside.Moved.{shifted_all};
+    ghost use Rattle.fancy_index.specs.inside.Kept.{shifted_offsets};
+
+    /// The items from a place of the outer axes on.
+    pub(crate) fn rows(&self, place: usize) -> Shifted<'_>
+        requires { let inner = self.now.inner in
+            AreStarts inner.offset (offsets inner) self.now.shifts.items place }
+        ensures { let inner = self.now.inner in
+            shifted_offsets result
+            ≡ shifted_all inner.offset self.now.shifts.items (offsets inner) place }
+    {
+        Shifted {
+            shifts: self.shifts.as_slice(),
+            inner: &self.inner,
+            place,
+        }
+    }
+}
+
+impl<'a> Shifted<'a> {
+    ghost use Rattle.std.specs.Prelude.{◌+◌, length, map, slice_range, IsTrue, IfSome};
+    ghost use Rattle.fancy_index.specs.inside.Kept.{first_offsets, shifted_offsets, IsRunOf};
+
+    /// Whether the inner axes have one item.
+    pub(crate) fn is_single(self) -> bool
+        ensures { IsTrue result → shifted_offsets self.entry ≡ first_offsets self.entry }
+    {
+        self.inner.shape.items() == 1
+    }
+
+    /// Those with the shifts from one on up to another.
+    pub(crate) fn part(self, from: usize, end: usize) -> Shifted<'a>
+        requires order { from ≤ end }
+        requires end { end ≤ length self.shifts.now }
+        ensures len { from + length result.shifts.now ≡ end }
+        ensures offsets { first_offsets result
+            ≡ map (moved_offset self.entry.inner.now.offset self.entry.place)
+            (slice_range self.entry.shifts.now from end) }
+    {
+        Shifted {
+            shifts: &self.shifts[from..end],
+            inner: self.inner,
+            place: self.place,
+        }
+    }
+
+    /// The first items as a run, where those of `width` bytes lie one right after another. Wide ones
+    /// gain nothing by it.
+    pub(crate) fn as_run(self, width: usize) -> Option<Run>
+        requires some { 1 ≤ length self.shifts.now }
+        requires few { length self.shifts.now ≤ 128 }
+        ensures { IfSome result (λ run. IsRunOf (first_offsets self.entry) run) }
+    {
+        if width > 64 {
+            return None;
+        }
+        if !rise_evenly(self.shifts, width as u32) {
+            return None;
+        }
+        Some(Run {
+            offset: moved(self.inner.offset, self.place, self.shifts[0] as usize),
+            count: self.shifts.len(),
+            step: width as isize,
+        })
+    }
+}
+
+/// A run, where what began at `base` begins at `start`.
+pub(crate) fn moved_run(run: Run, base: usize, start: usize) -> Run
+    requires base { base ≤ max_bytes }
+    requires some { 1 ≤ run.count }
+    requires lies { LieWithin (run.count ∷ []) (run.step ∷ []) run.offset max_bytes 1 }
+    requires moved { All (IsMoved base start) (run_offsets run) }
+    ensures count { result.count ≡ run.count }
+    ensures offsets { run_offsets result ≡ map (moved_offset base start) (run_offsets run) }
+    ensures within { (len width : ℕ)
+        → All (λ offset. moved_offset base start offset + width ≤ len) (run_offsets run)
+        → EachWithin len result.offset result.step width result.count }
+{
+    Run {
+        offset: moved(base, start, run.offset),
+        count: run.count,
+        step: run.step,
+    }
+}
+
+/// Writes the item to each of a run.
+pub(crate) fn fill_run(block: &mut RawBlock, to: Run, item: &[u8])
+    requires { EachWithin (length block.old) to.offset to.step (length item.now) to.count }
+    ensures written { block.new ≡ put_each (run_offsets to) item.now block.old }
+    ensures len { length block.new ≡ length block.old }
+{
+    block.fill_strided(to.offset, to.step, item, to.count);
+}

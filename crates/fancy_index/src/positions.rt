@@ -1,0 +1,372 @@
+//! Integers at equal steps, read in place, and the positions that they select.
+ghost use Rattle.fancy_index.specs.IndexArrays.{kind};
+ghost use Rattle.fancy_index.specs.Sources.{index_array_of, number_from};
+ghost use Rattle.fancy_index.specs.Words.{Gives, is_place, item_at, item_size, max_items, offsets, run_offsets};
+ghost use Rattle.fancy_index.specs.declared.index_parts.Kind.TheVariants.{NoIndex};
+ghost use Rattle.fancy_index.specs.inside.Items.{IsWithin, kind_in, numbers_in};
+ghost use Rattle.fancy_index.specs.inside.PointLists.{named_place, named_places, place_of};
+ghost use Rattle.fancy_index.specs.inside.Words.{AreWords, IsNative, IsSpread, spread_numbers, word};
+ghost use Rattle.std.specs.List.{list_all};
+ghost use Rattle.std.specs.Prelude.{IfSome, IsTrue, OnOk, length, map, pos, slice_index, ◌++◌, ◌+◌, ◌<◌, ◌≡◌, ◌≢◌, ◌≤◌};
+
+use crate::index_parts::{Kind, kind_of};
+use crate::singles::array_at;
+use arrays::Items;
+use byteorder::{BigEndian, ByteOrder, LittleEndian};
+use elem_descr::{Descr, Order, Refusal, Scalar, num_read};
+use raw_block::{RawBlock, RunI32, RunI64};
+use shape_strides::{Run, Runs, Walk};
+use std::alloc::Global;
+use view_ops::{from_front, is_place};
+
+/// How the bytes of an integer are read.
+#[derive(Clone, Copy, Debug, PartialEq, Eq)]
+pub(crate) struct Reading {
+    pub signed: bool,
+    pub order: Order,
+}
+
+/// Items at equal steps in a block.
+#[derive(Clone, Copy)]
+pub(crate) struct Spread<'a> {
+    pub block: &'a RawBlock,
+    pub run: Run,
+}
+
+/// How the integers of this type are read, and how many bytes each takes.
+fn reading_of(descr: &Descr) -> Option<(Reading, usize)>
+    ensures { IfSome result (λ r. AreWords r.0 r.1 descr.now) }
+{
+    match descr {
+        Descr::Scalar(Scalar::Byte { signed }) => {
+            let reading = Reading {
+                signed: *signed,
+                order: Order::Little,
+            };
+            Some((reading, 1))
+        }
+        Descr::Scalar(
+            Scalar::Int {
+                signed,
+                width,
+                order,
+            },
+        ) => {
+            let reading = Reading {
+                signed: *signed,
+                order: *order,
+            };
+            Some((reading, width.bytes()))
+        }
+        _ => None,
+    }
+}
+
+/// The items of an array, if they lie at equal steps.
+fn spread_of<'a>(array: Items<'a>) -> Option<Spread<'a>>
+    ensures block { IfSome result (λ items. items.block.now ≡ array.entry.block.now) }
+    ensures offsets { IfSome result (λ items.
+        run_offsets items.run ≡ offsets array.entry.layout.now) }
+    ensures spread { IfSome result (IsSpread (item_size array.entry.descr.now)) }
+{
+    let run = array.layout.as_run()?;
+    Some(Spread {
+        block: array.block,
+        run,
+    })
+}
+
+/// The item that lies so many steps after the first, loaded at once.
+#[inline(always)]
+fn item_after<const N: usize>(items: Spread<'_>, steps: usize) -> [u8; N]
+    requires few { N ≤ 8 }
+    requires spread { IsSpread N items }
+    requires steps { steps < items.run.count }
+    ensures { let offset = slice_index (run_offsets items.entry.run) steps in
+        result ≡ item_at offset N items.entry.block.now }
+{
+    array_at::<N>(items.block.bytes(), items.run.offset_after(steps))
+}
+
+/// The place of `n` that a number names, if it names one.
+pub(crate) fn named_place(n: usize, at: i128) -> Option<u32>
+    requires { n ≤ max_items }
+    ensures { result ≡ named_place n at }
+{
+    if !is_place(n, at) {
+        return None;
+    }
+    Some(from_front(n, at) as u32)
+}
+
+/// The place of `n` that a number of 64 bits names, if it names one.
+#[inline(always)]
+fn long_place(n: usize, at: i64) -> Option<u32>
+    requires { n ≤ max_items }
+    ensures { result ≡ named_place n at }
+{
+    let len = n as i64;
+    let place = if at < 0 { at + len } else { at };
+    if place < 0 || place >= len {
+        return None;
+    }
+    Some(place as u32)
+}
+
+/// The place of `n` that a number of 64 bits without a sign names, if it names one.
+#[inline(always)]
+fn natural_place(n: usize, at: u64) -> Option<u32>
+    requires { n ≤ max_items }
+    ensures { result ≡ named_place n (pos at) }
+{
+    if at >= n as u64 {
+        return None;
+    }
+    Some(at as u32)
+}
+
+/// The place of `n` that an integer in so many bytes names, if it names one.
+#[inline(always)]
+fn word_place<const N: usize>(reading: Reading, item: &[u8; N], n: usize) -> Option<u32>
+    requires some { 1 ≤ N }
+    requires few { N ≤ 8 }
+    requires small { n ≤ max_items }
+    ensures { result ≡ named_place n (word reading N item.now) }
+{
+    match (reading.order, reading.signed) {
+        (Order::Little, false) => natural_place(n, LittleEndian::read_uint(item, N)),
+        (Order::Little, true) => long_place(n, LittleEndian::read_int(item, N)),
+        (Order::Big, false) => natural_place(n, BigEndian::read_uint(item, N)),
+        (Order::Big, true) => long_place(n, BigEndian::read_int(item, N)),
+    }
+}
+
+/// The places of `n` that integers name, or the refusal of one that names none.
+fn places_in<const N: usize>(
+    alloc: Global,
+    reading: Reading,
+    items: Spread<'_>,
+    n: usize,
+) -> Result<Vec<u32>, Refusal>
+    requires some { 1 ≤ N }
+    requires few { N ≤ 8 }
+    requires small { n ≤ max_items }
+    requires spread { IsSpread N items }
+    ensures { Gives (λ v. v.items) result (named_places n (spread_numbers reading N items.entry)) }
+{
+    let mut places = vec![in alloc; 0u32; items.run.count]?;
+    for k in 0..items.run.count {
+        let Some(place) = word_place::<N>(reading, &item_after::<N>(items, k), n) else {
+            return Err(Refusal::IndexOutOfRange);
+        };
+        places[k] = place;
+    }
+    Ok(places)
+}
+
+/// Whether a number of 32 bits names one of `n` places.
+#[inline(always)]
+fn is_int_place(n: usize, at: i32) -> bool
+    requires { n ≤ max_items }
+    ensures { result ≡ is_place n at }
+{
+    let end = n as i32;
+    -end <= at && at < end
+}
+
+/// The place that it names, if it names one.
+#[inline(always)]
+fn int_place(n: usize, at: i32) -> u32
+    requires { n ≤ max_items }
+    ensures { result ≡ place_of n at }
+{
+    let place = if at < 0 { at + n as i32 } else { at };
+    place.max(0) as u32
+}
+
+/// The places of `n` that numbers of four bytes name, or the refusal of one that names none. All are looked
+/// at, which takes less time than to stop at the first that names none.
+fn int_places(alloc: Global, numbers: RunI32<'_>, n: usize) -> Result<Vec<u32>, Refusal>
+    requires { n ≤ max_items }
+    ensures { Gives (λ v. v.items) result (named_places n numbers.entry) }
+{
+    let mut places = vec![in alloc; 0u32; numbers.len()]?;
+    let mut are = true;
+    for k in 0..numbers.len() {
+        let number = numbers.get(k);
+        are = are & is_int_place(n, number);
+        places[k] = int_place(n, number);
+    }
+    if !are {
+        return Err(Refusal::IndexOutOfRange);
+    }
+    Ok(places)
+}
+
+/// The places of `n` that numbers of eight bytes name, or the refusal of one that names none.
+fn long_places(alloc: Global, numbers: RunI64<'_>, n: usize) -> Result<Vec<u32>, Refusal>
+    requires { n ≤ max_items }
+    ensures { Gives (λ v. v.items) result (named_places n numbers.entry) }
+{
+    let mut places = vec![in alloc; 0u32; numbers.len()]?;
+    for k in 0..numbers.len() {
+        let Some(place) = long_place(n, numbers.get(k)) else {
+            return Err(Refusal::IndexOutOfRange);
+        };
+        places[k] = place;
+    }
+    Ok(places)
+}
+
+/// Whether integers that are read so lie one right after another, as the machine's own.
+fn is_native(reading: Reading, width: usize, run: Run) -> bool
+    requires { width ≤ 8 }
+    ensures { IsTrue result → IsNative reading width run }
+{
+    match (reading.order, reading.signed) {
+        (Order::Little, true) => run.step == width as isize,
+        _ => false,
+    }
+}
+
+/// The places of `n` that the numbers of an array name, one by one, or the refusal of one that names none.
+fn places_each(alloc: Global, array: Items<'_>, n: usize) -> Result<Vec<u32>, Refusal>
+    requires small { n ≤ max_items }
+    requires kind { kind_in array ≢ NoIndex }
+    ensures { Gives (λ v. v.items) result (named_places n (numbers_in array.entry)) }
+{
+    let mut places = Vec::new(alloc);
+    for offset in Walk::new(array.layout) {
+        let Some(place) = named_place(n, number_at(array, offset)) else {
+            return Err(Refusal::IndexOutOfRange);
+        };
+        places.push(place)?;
+    }
+    Ok(places)
+}
+
+/// Adds the places of `n` that integers name, or refuses one that names none.
+fn push_places<const N: usize>(
+    places: &mut Vec<u32>,
+    reading: Reading,
+    items: Spread<'_>,
+    n: usize,
+) -> Result<(), Refusal>
+    requires some { 1 ≤ N }
+    requires few { N ≤ 8 }
+    requires small { n ≤ max_items }
+    requires spread { IsSpread N items }
+    ensures within { let numbers = spread_numbers reading N items.entry in
+        IsWithin (list_all (is_place n) numbers) result }
+    ensures added { let more = map (place_of n) (spread_numbers reading N items.entry) in
+        OnOk result (places.new.items ≡ places.old.items ++ more) }
+{
+    for k in 0..items.run.count {
+        let Some(place) = word_place::<N>(reading, &item_after::<N>(items, k), n) else {
+            return Err(Refusal::IndexOutOfRange);
+        };
+        places.push(place)?;
+    }
+    Ok(())
+}
+
+/// The places of `n` that the integers of an array name, read run by run, or the refusal of one that names
+/// none.
+fn places_by_runs<const N: usize>(
+    alloc: Global,
+    reading: Reading,
+    array: Items<'_>,
+    n: usize,
+) -> Result<Vec<u32>, Refusal>
+    requires some { 1 ≤ N }
+    requires few { N ≤ 8 }
+    requires small { n ≤ max_items }
+    requires words { AreWords reading N array.descr.now }
+    ensures { Gives (λ v. v.items) result (named_places n (numbers_in array.entry)) }
+{
+    let block = array.block;
+    let mut places = Vec::with_capacity(alloc, array.layout.shape.items())?;
+    for run in Runs::new(array.layout) {
+        push_places::<N>(&mut places, reading, Spread { block, run }, n)?;
+    }
+    Ok(places)
+}
+
+/// The places of `n` that integers in so many bytes name, read run by run, or the refusal of one
+/// that names none.
+fn places_apart(
+    alloc: Global,
+    reading: Reading,
+    width: usize,
+    array: Items<'_>,
+    n: usize,
+) -> Result<Vec<u32>, Refusal>
+    requires small { n ≤ max_items }
+    requires kind { kind_in array ≢ NoIndex }
+    requires words { AreWords reading width array.descr.now }
+    ensures { Gives (λ v. v.items) result (named_places n (numbers_in array.entry)) }
+{
+    match width {
+        1 => places_by_runs::<1>(alloc, reading, array, n),
+        2 => places_by_runs::<2>(alloc, reading, array, n),
+        4 => places_by_runs::<4>(alloc, reading, array, n),
+        8 => places_by_runs::<8>(alloc, reading, array, n),
+        _ => places_each(alloc, array, n),
+    }
+}
+
+/// The places of `n` that the numbers of an array name, whatever their type and wherever they lie, or the
+/// refusal of one that names none. Native integers that lie one right after another are read as numbers.
+pub(crate) fn places(alloc: Global, array: Items<'_>, n: usize) -> Result<Vec<u32>, Refusal>
+    requires small { n ≤ max_items }
+    requires kind { kind_in array ≢ NoIndex }
+    ensures { Gives (λ v. v.items) result (named_places n (numbers_in array.entry)) }
+{
+    let Some((reading, width)) = reading_of(array.descr) else {
+        return places_each(alloc, array, n);
+    };
+    let Some(items) = spread_of(array) else {
+        return places_apart(alloc, reading, width, array, n);
+    };
+    let run = items.run;
+    match (width, is_native(reading, width, run)) {
+        (4, true) => int_places(alloc, items.block.run_i32(run.offset, run.count), n),
+        (8, true) => long_places(alloc, items.block.run_i64(run.offset, run.count), n),
+        (1, _) => places_in::<1>(alloc, reading, items, n),
+        (2, _) => places_in::<2>(alloc, reading, items, n),
+        (4, _) => places_in::<4>(alloc, reading, items, n),
+        (8, _) => places_in::<8>(alloc, reading, items, n),
+        _ => places_each(alloc, array, n),
+    }
+}
+
+/// An array each of whose numbers is to name a place of `n`.
+#[derive(Clone, Copy, Drop)]
+pub(crate) struct Named<'a> {
+    pub array: Items<'a>,
+    pub n: usize,
+    pub ghost small: { n ≤ max_items },
+    pub ghost kind: { kind_in array ≢ NoIndex },
+}
+
+/// What an array stands for.
+pub(crate) fn kind(array: Items<'_>) -> Kind
+    ensures { result ≡ kind (index_array_of array.entry) }
+{
+    kind_of(array.descr, array.layout.shape.as_slice())
+}
+
+/// The number of an item.
+pub(crate) fn number_at(array: Items<'_>, offset: usize) -> i128
+    requires kind { kind (index_array_of array) ≢ NoIndex }
+    requires inside { offset + item_size array.descr.now ≤ length array.block.now }
+    ensures { result ≡ number_from array.entry.descr.now array.entry.block.now offset }
+{
+    match array.descr {
+        Descr::Scalar(scalar) => {
+            let bytes = &array.block.bytes()[offset..];
+            num_read(*scalar, &bytes[..scalar.size()])
+        }
+        Descr::Record(_) => unreachable!(),
+    }
+}

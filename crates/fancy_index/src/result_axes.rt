@@ -1,0 +1,152 @@
+//! The axes of the result, and where those of the points stand among them.
+ghost use Rattle.fancy_index.specs.Indexed.{all_axes};
+ghost use Rattle.fancy_index.specs.Parts.{are_points, axes_before, axes_of_part, other_axes, points_place, side_by_side};
+ghost use Rattle.fancy_index.specs.Words.{Gives, axis_of, pick_shown, shape_of};
+ghost use Rattle.fancy_index.specs.inside.PartLists.{shown_part};
+ghost use Rattle.fancy_index.specs.inside.Places.{gone_on};
+ghost use Rattle.std.specs.Prelude.{IfOk, OnOk, length, map, ◌++◌, ◌≡◌, ◌≤◌};
+
+use crate::index_parts::IndexPart;
+use elem_descr::Refusal;
+use shape_strides::Shape;
+use smallvec::SmallVec;
+use std::alloc::{AllocError, Global};
+use view_ops::AxisPick;
+
+fn push_picked(lengths: &mut SmallVec<usize, 8>, pick: AxisPick) -> Result<(), AllocError>
+    ensures { OnOk result (lengths.new.items ≡ lengths.old.items ++ axis_of (pick_shown pick)) }
+{
+    match pick {
+        AxisPick::At(_) => Ok(()),
+        AxisPick::Along(run) => Ok(lengths.push(run.count)?),
+        AxisPick::New => Ok(lengths.push(1)?),
+    }
+}
+
+fn push_axis(lengths: &mut SmallVec<usize, 8>, part: &IndexPart<'_>) -> Result<(), AllocError>
+    ensures { let more = axes_of_part (shown_part part.now) in
+        OnOk result (lengths.new.items ≡ lengths.old.items ++ more) }
+{
+    match part {
+        IndexPart::Axis(pick) => push_picked(lengths, *pick),
+        _ => Ok(()),
+    }
+}
+
+/// The lengths of all axes but those of the points.
+fn other_axes(alloc: Global, parts: &[IndexPart<'_>]) -> Result<SmallVec<usize, 8>, AllocError>
+    ensures { IfOk result (λ v. v.items ≡ other_axes (map shown_part parts.now)) }
+{
+    let mut lengths = SmallVec::new(alloc);
+    for part in parts {
+        push_axis(&mut lengths, part)?;
+    }
+    Ok(lengths)
+}
+
+/// The lengths of all axes: those of the points at their place among the others.
+fn all_axes(
+    alloc: Global,
+    parts: &[IndexPart<'_>],
+    points: &[usize],
+) -> Result<SmallVec<usize, 8>, AllocError>
+    ensures { IfOk result (λ v. v.items ≡ all_axes points.now (map shown_part parts.now)) }
+{
+    let others = other_axes(alloc, parts)?;
+    let place = points_place(parts);
+    let mut lengths = SmallVec::from_slice(alloc, &others.as_slice()[..place])?;
+    lengths.extend_from_slice(points)?;
+    lengths.extend_from_slice(&others.as_slice()[place..])?;
+    Ok(lengths)
+}
+
+/// The shape of the result, or its refusal.
+pub(crate) fn shape_of_all(
+    alloc: Global,
+    parts: &[IndexPart<'_>],
+    points: &[usize],
+) -> Result<Shape, Refusal>
+    ensures { Gives (λ s. s) result (shape_of (all_axes points.now (map shown_part parts.now))) }
+{
+    let lengths = all_axes(alloc, parts, points)?;
+    Shape::try_new(alloc, lengths.as_slice())
+}
+
+/// How far parts were gone through: no points so far, points that go on, or something after points.
+#[derive(Clone, Copy, Debug, PartialEq, Eq)]
+enum Stretch {
+    Before,
+    Among,
+    After,
+}
+
+impl IndexPart<'_> {
+    pub(crate) fn is_points(&self) -> bool
+        ensures { result ≡ are_points (shown_part self.now) }
+    {
+        matches!(self, IndexPart::Points(_))
+    }
+
+    /// How many axes of the result it has beside those of the points.
+    fn axes(&self) -> usize
+        ensures value { result ≡ length (axes_of_part (shown_part self.now)) }
+        ensures few { result ≤ 1 }
+    {
+        match self {
+            IndexPart::Axis(AxisPick::Along(_) | AxisPick::New) => 1,
+            _ => 0,
+        }
+    }
+}
+
+/// How far it is after one more part, or nothing where points stand apart.
+fn gone_on(stretch: Stretch, is_points: bool) -> Option<Stretch>
+    ensures { result ≡ gone_on stretch is_points }
+{
+    match (stretch, is_points) {
+        (Stretch::Before, false) => Some(Stretch::Before),
+        (Stretch::Before | Stretch::Among, true) => Some(Stretch::Among),
+        (Stretch::Among | Stretch::After, false) => Some(Stretch::After),
+        (Stretch::After, true) => None,
+    }
+}
+
+/// Whether all points stand side by side.
+fn side_by_side(parts: &[IndexPart<'_>]) -> bool
+    ensures { result ≡ side_by_side (map shown_part parts.now) }
+{
+    let mut stretch = Stretch::Before;
+    for part in parts {
+        let Some(next) = gone_on(stretch, part.is_points()) else {
+            return false;
+        };
+        stretch = next;
+    }
+    true
+}
+
+/// How many other axes stand before the first points.
+fn axes_before(parts: &[IndexPart<'_>]) -> usize
+    ensures { result ≡ axes_before (map shown_part parts.now) }
+{
+    let mut axes = 0;
+    for part in parts {
+        if part.is_points() {
+            return axes;
+        }
+        axes += part.axes();
+    }
+    axes
+}
+
+/// How many other axes stand before those of the points: where the points are not side by side, theirs
+/// come first.
+pub(crate) fn points_place(parts: &[IndexPart<'_>]) -> usize
+    ensures value { result ≡ points_place (map shown_part parts.now) }
+    ensures within { result ≤ length (other_axes (map shown_part parts.now)) }
+{
+    if !side_by_side(parts) {
+        return 0;
+    }
+    axes_before(parts)
+}

@@ -1,0 +1,30 @@
+use Rattle.std.proofs.Common.{map, sym, ◌∙◌}
+use Rattle.std.specs.List.{list_all}
+use Rattle.literal_items.specs.Words.{LiteralOutOfRange, NoSuchCast}
+use Rattle.literal_items.specs.LiteralItems.{can_be_item, is_item_in_range, values_of, item_values}
+use Rattle.literal_items.proofs.Decided.{decided_first, decided_second, decided_ok}
+use Rattle.literal_items.proofs.literal_item.write_items.Goals as goal
+
+pub returns-then-not-can_be_items-clause-value : goal.returns-then-not-can_be_items-clause-value
+unfolding item_values
+returns-then-not-can_be_items-clause-value c =
+    let descr = c.args.descr.now in
+    let literals = c.args.literals.now in
+    decided_first (list_all (can_be_item descr) literals) (list_all (is_item_in_range descr) literals) NoSuchCast LiteralOutOfRange (map (values_of descr) literals)
+    (sym c.can_be_items.ensures ∙ c.if-not-can_be_items.true)
+
+pub returns-then-not-are_items_in_range-clause-value : goal.returns-then-not-are_items_in_range-clause-value
+unfolding item_values
+returns-then-not-are_items_in_range-clause-value c =
+    let descr = c.args.descr.now in
+    let literals = c.args.literals.now in
+    decided_second (list_all (can_be_item descr) literals) (list_all (is_item_in_range descr) literals) NoSuchCast LiteralOutOfRange (map (values_of descr) literals)
+    (sym c.can_be_items.ensures ∙ c.if-not-can_be_items.false) (sym c.are_items_in_range.ensures ∙ c.if-not-are_items_in_range.true)
+
+pub returns-clause-value : goal.returns-clause-value
+unfolding item_values
+returns-clause-value c =
+    let descr = c.args.descr.now in
+    let literals = c.args.literals.now in
+    decided_ok (list_all (can_be_item descr) literals) (list_all (is_item_in_range descr) literals) NoSuchCast LiteralOutOfRange (map (values_of descr) literals) _
+    (sym c.can_be_items.ensures ∙ c.if-not-can_be_items.false) (sym c.are_items_in_range.ensures ∙ c.if-not-are_items_in_range.false) (sym c.write_casts.ensures.reads_back)

@@ -1,0 +1,10 @@
+use Rattle.std.proofs.Common.{◌≡◌, drop, map}
+use Rattle.literal_items.specs.LiteralItems.{leaf_value}
+use Rattle.literal_items.specs.inside.FieldItems.{put_leaves}
+use Rattle.literal_items.proofs.literal_item.write_leaves.Given as goal
+
+-- with the leaves that are left the item is as it is to be
+abbrev pub invariant-loop-leaf : goal.invariant-loop-leaf
+invariant-loop-leaf l =
+    put_leaves l.item (drop l.leaf-index l.leaves) (map (λ leaf. leaf_value leaf.scalar l.literal) (drop l.leaf-index l.leaves))
+    ≡ put_leaves l.fn.item l.leaves (map (λ leaf. leaf_value leaf.scalar l.literal) l.leaves)

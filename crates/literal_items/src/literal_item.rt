@@ -1,0 +1,283 @@
+//! Literals as items of a descriptor.
+ghost use Rattle.elem_descr.specs.declared.descr.Descr.TheVariants.{Record as RecordDescr};
+ghost use Rattle.literal_items.specs.LiteralItems.{are_in_range, can_be_item, can_hold, field_values, is_castable, is_in_range, is_item_in_range, item_value, item_values, leaf_value, values_of};
+ghost use Rattle.literal_items.specs.Words.{AreInOrder, IsLegal, LiteralOutOfRange, all_values, blocks, decode_item, encode_item, item_size, leaves_from, leaves_of, listed, moved_leaf};
+ghost use Rattle.literal_items.specs.inside.FieldItems.{can_be_field, field_value, is_field_in_range, put_leaves};
+ghost use Rattle.std.specs.List.{list_all};
+ghost use Rattle.std.specs.Prelude.{Err, IfOk, MatchResult, Ok, OnErr, drop, length, map, replicate, take, true, ◌*◌, ◌++◌, ◌+◌, ◌≡◌, ◌≤◌};
+
+use crate::leaf::{is_castable, is_in_range, write_leaf};
+use elem_descr::{Descr, Field, Leaf, Record, Refusal};
+use script_lang::{Literal, ScalarLiteral};
+
+/// Whether a literal can be the value of a field of a record.
+#[cycle(can_hold)]
+fn can_be_field(descr: &Descr, literal: &Literal) -> bool
+    ensures { result ≡ can_be_field descr.now literal.now }
+{
+    match (descr, literal) {
+        (Descr::Scalar(scalar), Literal::Scalar(value)) => is_castable(scalar, value),
+        (Descr::Record(structure), Literal::Record(values)) => {
+            can_hold(structure.fields(), values.as_slice())
+        }
+        _ => false,
+    }
+}
+
+/// Whether the literals can be the values of the fields, one by one.
+#[cycle(can_hold)]
+fn can_hold(fields: &[Field], literals: &[Literal]) -> bool
+    ensures { result ≡ can_hold (listed fields.now) (all_values literals.now) }
+{
+    if fields.len() != literals.len() {
+        return false;
+    }
+    for (k, field) in fields.iter().enumerate() {
+        if !can_be_field(&field.descr, &literals[k]) {
+            return false;
+        }
+    }
+    true
+}
+
+/// Whether a literal can be the value of each leaf.
+fn is_castable_to_all(leaves: &[Leaf], literal: &ScalarLiteral) -> bool
+    ensures { result ≡ list_all (λ leaf. is_castable leaf.scalar literal.now) leaves.now }
+{
+    for leaf in leaves {
+        if !is_castable(&leaf.scalar, literal) {
+            return false;
+        }
+    }
+    true
+}
+
+/// Whether the literal can be an item of the descriptor; otherwise it is refused as `NoSuchCast`.
+pub fn can_be_item(descr: &Descr, literal: &Literal) -> bool
+    ensures { result ≡ can_be_item descr.now literal.now }
+{
+    match (descr, literal) {
+        (Descr::Record(structure), Literal::Scalar(value)) => {
+            is_castable_to_all(structure.leaves(), value)
+        }
+        _ => can_be_field(descr, literal),
+    }
+}
+
+/// Whether a literal that can be the value of a field is in its range.
+#[cycle(are_in_range)]
+fn is_field_in_range(descr: &Descr, literal: &Literal) -> bool
+    requires { can_be_field descr.now literal.now ≡ true }
+    ensures { result ≡ is_field_in_range descr.now literal.now }
+{
+    match (descr, literal) {
+        (Descr::Scalar(scalar), Literal::Scalar(value)) => is_in_range(scalar, value),
+        (Descr::Record(structure), Literal::Record(values)) => {
+            are_in_range(structure.fields(), values.as_slice())
+        }
+        _ => unreachable!(),
+    }
+}
+
+/// Whether the literals that the fields can hold are in their ranges.
+#[cycle(are_in_range)]
+fn are_in_range(fields: &[Field], literals: &[Literal]) -> bool
+    requires { can_hold (listed fields.now) (all_values literals.now) ≡ true }
+    ensures { result ≡ are_in_range (listed fields.now) (all_values literals.now) }
+{
+    for (k, field) in fields.iter().enumerate() {
+        if !is_field_in_range(&field.descr, &literals[k]) {
+            return false;
+        }
+    }
+    true
+}
+
+/// Whether a literal that each leaf can hold is in the range of each.
+fn is_in_range_of_all(leaves: &[Leaf], literal: &ScalarLiteral) -> bool
+    requires { list_all (λ leaf. is_castable leaf.scalar literal.now) leaves.now ≡ true }
+    ensures { result ≡ list_all (λ leaf. is_in_range leaf.scalar literal.now) leaves.now }
+{
+    for leaf in leaves {
+        if !is_in_range(&leaf.scalar, literal) {
+            return false;
+        }
+    }
+    true
+}
+
+/// Whether the values of a literal that can be an item are in range; otherwise it is refused as
+/// `LiteralOutOfRange`.
+fn is_item_in_range(descr: &Descr, literal: &Literal) -> bool
+    requires { can_be_item descr.now literal.now ≡ true }
+    ensures { result ≡ is_item_in_range descr.now literal.now }
+{
+    match (descr, literal) {
+        (Descr::Record(structure), Literal::Scalar(value)) => {
+            is_in_range_of_all(structure.leaves(), value)
+        }
+        _ => is_field_in_range(descr, literal),
+    }
+}
+
+/// Writes a literal as the field that begins at a byte of the item.
+#[cycle(write_fields)]
+fn write_field(descr: &Descr, literal: &Literal, at: usize, item: &mut [u8])
+    requires castable { can_be_field descr.now literal.now ≡ true }
+    requires within { at + item_size descr.now ≤ length item.old }
+    ensures { item.new
+        ≡ put_leaves item.old (map (moved_leaf at) (leaves_of descr.now))
+        (field_value descr.now literal.now) }
+{
+    match (descr, literal) {
+        (Descr::Scalar(scalar), Literal::Scalar(value)) => {
+            write_leaf(scalar, value, &mut item[at..at + scalar.size()])
+        }
+        (Descr::Record(structure), Literal::Record(values)) => {
+            write_fields(structure, values.as_slice(), at, item)
+        }
+        _ => unreachable!(),
+    }
+}
+
+/// Writes literals as the fields of a record that begins at a byte of the item.
+#[cycle(write_fields)]
+fn write_fields(structure: &Record, literals: &[Literal], from: usize, item: &mut [u8])
+    requires castable { can_hold structure.now.fields (all_values literals.now) ≡ true }
+    requires within { from + structure.now.size ≤ length item.old }
+    ensures written { item.new
+        ≡ put_leaves item.old (leaves_from from structure.now.fields)
+        (field_values structure.now.fields (all_values literals.now)) }
+    ensures legal { IsLegal structure.now }
+{
+    let fields = structure.fields();
+    for (k, field) in fields.iter().enumerate() {
+        write_field(&field.descr, &literals[k], from + field.at, item);
+    }
+}
+
+/// Writes a literal to each leaf.
+#[tactic(auto, using(elem_descr::specs::ItemLaws::leaf_within))]
+fn write_leaves(leaves: &[Leaf], literal: &ScalarLiteral, item: &mut [u8])
+    requires castable { list_all (λ leaf. is_castable leaf.scalar literal.now) leaves.now ≡ true }
+    requires order { AreInOrder 0 leaves.now (length item.old) }
+    ensures { item.new
+        ≡ put_leaves item.old leaves.now
+        (map (λ leaf. leaf_value leaf.scalar literal.now) leaves.now) }
+{
+    for leaf in leaves {
+        let end = leaf.at + leaf.scalar.size();
+        write_leaf(&leaf.scalar, literal, &mut item[leaf.at..end]);
+    }
+}
+
+/// Writes a literal as the bytes of a record.
+fn write_record(structure: &Record, literal: &Literal, item: &mut [u8])
+    requires castable { can_be_item (RecordDescr structure.now) literal.now ≡ true }
+    requires whole { length item.old ≡ structure.now.size }
+    ensures encoded { let descr = RecordDescr structure.now in item.new
+        ≡ encode_item descr (values_of descr literal.now) }
+    ensures reads_back { let descr = RecordDescr structure.now in decode_item descr item.new
+        ≡ values_of descr literal.now }
+{
+    item.fill(0);
+    match literal {
+        Literal::Scalar(value) => write_leaves(structure.leaves(), value, item),
+        Literal::Record(values) => write_fields(structure, values.as_slice(), 0, item),
+    }
+}
+
+/// Writes a literal as the bytes of an item.
+fn write_cast(descr: &Descr, literal: &Literal, item: &mut [u8])
+    requires castable { can_be_item descr.now literal.now ≡ true }
+    requires whole { length item.old ≡ item_size descr.now }
+    ensures encoded { item.new ≡ encode_item descr.now (values_of descr.now literal.now) }
+    ensures reads_back { decode_item descr.now item.new ≡ values_of descr.now literal.now }
+{
+    match (descr, literal) {
+        (Descr::Scalar(scalar), Literal::Scalar(value)) => write_leaf(scalar, value, item),
+        (Descr::Record(structure), _) => write_record(structure, literal, item),
+        _ => unreachable!(),
+    }
+}
+
+/// Writes a literal as the bytes of an item; the bytes of no leaf become zeros. A literal that
+/// cannot be an item is refused as `NoSuchCast`, and one with a value that is out of range as
+/// `LiteralOutOfRange`; then the bytes are as before.
+pub fn write_item(descr: &Descr, literal: &Literal, item: &mut [u8]) -> Result<(), Refusal>
+    requires whole { length item.old ≡ item_size descr.now }
+    ensures value { MatchResult result
+        (λ _. item_value descr.now literal.now ≡ Ok (decode_item descr.now item.new))
+        (λ refusal. item_value descr.now literal.now ≡ Err refusal) }
+    ensures bytes { IfOk result
+        (λ _. item.new ≡ encode_item descr.now (decode_item descr.now item.new)) }
+    ensures kept { OnErr result (item.new ≡ item.old) }
+{
+    if !can_be_item(descr, literal) {
+        return Err(Refusal::NoSuchCast);
+    }
+    if !is_item_in_range(descr, literal) {
+        return Err(Refusal::LiteralOutOfRange);
+    }
+    write_cast(descr, literal, item);
+    Ok(())
+}
+
+/// Whether each literal can be an item of the descriptor.
+fn can_be_items(descr: &Descr, literals: &[Literal]) -> bool
+    ensures { result ≡ list_all (can_be_item descr.now) literals.now }
+{
+    literals.iter().all(|literal| can_be_item(descr, literal))
+}
+
+/// Whether the values of each literal are in range.
+fn are_items_in_range(descr: &Descr, literals: &[Literal]) -> bool
+    requires { list_all (can_be_item descr.now) literals.now ≡ true }
+    ensures { result ≡ list_all (is_item_in_range descr.now) literals.now }
+{
+    for literal in literals {
+        if !is_item_in_range(descr, literal) {
+            return false;
+        }
+    }
+    true
+}
+
+/// Writes literals as items one after another.
+fn write_casts(descr: &Descr, literals: &[Literal], block: &mut [u8])
+    requires castable { list_all (can_be_item descr.now) literals.now ≡ true }
+    requires whole { length block.old ≡ length literals.now * item_size descr.now }
+    ensures encoded { blocks (item_size descr.now) (length literals.now) block.new
+        ≡ map (encode_item descr.now) (map (values_of descr.now) literals.now) }
+    ensures reads_back { map (decode_item descr.now)
+        (blocks (item_size descr.now) (length literals.now) block.new)
+        ≡ map (values_of descr.now) literals.now }
+{
+    let size = descr.size();
+    for (k, literal) in literals.iter().enumerate() {
+        write_cast(descr, literal, &mut block[k * size..(k + 1) * size]);
+    }
+}
+
+/// Writes literals as items one after another. A literal that cannot be an item is refused as
+/// `NoSuchCast`, and then one with a value that is out of range as `LiteralOutOfRange`; then the
+/// bytes are as before.
+pub fn write_items(descr: &Descr, literals: &[Literal], block: &mut [u8]) -> Result<(), Refusal>
+    requires whole { length block.old ≡ length literals.now * item_size descr.now }
+    ensures value { MatchResult result
+        (λ _. item_values descr.now literals.now ≡ Ok (map (decode_item descr.now) (blocks (item_size descr.now) (length literals.now) block.new)))
+        (λ refusal. item_values descr.now literals.now ≡ Err refusal) }
+    ensures bytes { IfOk result
+        (λ _. let items = blocks (item_size descr.now) (length literals.now) block.new in items
+        ≡ map (encode_item descr.now) (map (decode_item descr.now) items)) }
+    ensures kept { OnErr result (block.new ≡ block.old) }
+{
+    if !can_be_items(descr, literals) {
+        return Err(Refusal::NoSuchCast);
+    }
+    if !are_items_in_range(descr, literals) {
+        return Err(Refusal::LiteralOutOfRange);
+    }
+    write_casts(descr, literals, block);
+    Ok(())
+}

@@ -1,8 +1,0 @@
-use Rattle.std.proofs.Common.{◌∙◌, sym, ap, length}
-use Rattle.name_store.specs.Words.{length-offsets}
-use Rattle.name_store.specs.Targets.{target_offsets}
-use Rattle.name_store.specs.declared.target.Target.{Target}
-use Rattle.name_store.proofs.target.Target.count.Goals as goal
-
-pub returns-in-View : goal.returns-in-View
-returns-in-View c = c.items.ensures.value ∙ sym (length-offsets c.in-View.layout) ∙ ap (λ (t : Target). length (target_offsets t)) (sym c.in-View.is)

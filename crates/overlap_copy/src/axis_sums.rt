@@ -1,0 +1,187 @@
+//! Decides whether some sum along axes lies within bounds.
+ghost use Rattle.overlap_copy.specs.declared.axis_sums.Answer.TheVariants.{No, Yes};
+ghost use Rattle.overlap_copy.specs.inside.Sums.{AreForward, HasSum, max_reach, reach_of, stepping};
+ghost use Rattle.overlap_copy.specs.inside.Turns.{IsTurn};
+ghost use Rattle.std.specs.Int.{IsGcd};
+ghost use Rattle.std.specs.List.Sorted.{IsPermutation};
+ghost use Rattle.std.specs.Prelude.{All, false, map, ◌<◌, ◌≡◌, ◌≤◌};
+
+use crate::by_axes::join_all;
+use shape_strides::Axis;
+
+/// How many steps a search may take.
+const MAX_STEPS: usize = 10_000;
+
+/// An axis along which there is one item, or all are the same, as one that steps on.
+fn stepping(axis: Axis) -> Axis
+    ensures { result ≡ stepping axis }
+{
+    if axis.step == 0 || axis.len < 2 {
+        return Axis { step: 1, len: 1 };
+    }
+    axis
+}
+
+fn make_stepping(axes: &mut [Axis])
+    ensures { axes.new ≡ map stepping axes.old }
+{
+    for axis in axes.iter_mut() {
+        *axis = stepping(*axis);
+    }
+}
+
+fn put_widest_first(axes: &mut [Axis])
+    ensures { IsPermutation axes.old axes.new }
+{
+    axes.sort_unstable_by_key(|axis| axis.step);
+    axes.reverse();
+}
+
+/// How far the axes reach.
+fn reach_of(axes: &[Axis]) -> usize
+    requires { AreForward axes.now }
+    ensures { result ≡ reach_of axes.now }
+{
+    let mut reach = 0;
+    for axis in axes {
+        reach += axis.step * (axis.len - 1);
+    }
+    reach
+}
+
+/// Whether some sum along the axes lies within the bounds, decided by divisors or a search.
+fn sum_along(axes: &[Axis], low: usize, high: usize) -> Answer
+    requires { AreForward axes.now }
+    ensures yes { result ≡ Yes → HasSum axes.now low high }
+    ensures no { result ≡ No → HasSum axes.now low high → ⊥ }
+{
+    let reach = reach_of(axes);
+    if !divisors_allow(axes, reach, low, high) {
+        return Answer::No;
+    }
+    let mut steps = MAX_STEPS;
+    search(axes, reach, low, high, &mut steps)
+}
+
+/// Whether some sum along the axes lies within the bounds. It reorders the axes and joins some. It
+/// takes no memory and a bounded number of steps; if these do not decide, the answer is undecided.
+pub(crate) fn has_sum(axes: &mut [Axis], low: usize, high: usize) -> Answer
+    requires items { All (λ axis. 0 < axis.len) axes.old }
+    requires near { reach_of axes.old ≤ max_reach }
+    ensures yes { result ≡ Yes → HasSum axes.old low high }
+    ensures no { result ≡ No → HasSum axes.old low high → ⊥ }
+{
+    make_stepping(axes);
+    put_widest_first(axes);
+    let from = join_all(axes);
+    sum_along(&axes[from..], low, high)
+}
+
+/// The greatest common divisor, by Euclid's steps.
+pub(crate) fn common_divisor(a: usize, b: usize) -> usize
+    ensures { IsGcd a b result }
+{
+    let mut divisor = a;
+    let mut rest = b;
+    while rest > 0 {
+        let next = divisor % rest;
+        divisor = rest;
+        rest = next;
+    }
+    divisor
+}
+
+/// Whether, after each axis, some multiple of the divisor of all steps up to there lies where the
+/// remaining axes can lead from it into the bounds. If not, no sum lies within them.
+pub(crate) fn divisors_allow(axes: &[Axis], reach: usize, low: usize, high: usize) -> bool
+    requires forward { AreForward axes.now }
+    requires reach { reach ≡ reach_of axes.now }
+    ensures { result ≡ false → HasSum axes.now low high → ⊥ }
+{
+    let mut divisor = 0;
+    let mut beyond = reach;
+    for axis in axes {
+        divisor = common_divisor(divisor, axis.step);
+        beyond -= axis.step * (axis.len - 1);
+        if high / divisor * divisor < low.saturating_sub(beyond) {
+            return false;
+        }
+    }
+    true
+}
+
+/// What a search has found.
+#[derive(Clone, Copy, Drop)]
+pub(crate) enum Answer {
+    Yes,
+    No,
+    /// The steps of the search did not decide.
+    Undecided,
+}
+
+/// Steps along an axis that lead as far as others along the next one. They may be taken back, unless
+/// the sum leaves the next axis less than so far to go.
+#[derive(Clone, Copy, Drop)]
+struct Turn {
+    steps: usize,
+    far: usize,
+}
+
+/// The fewest steps along an axis that lead as far as some along the first of the others.
+fn turn_at(axis: Axis, others: &[Axis]) -> Turn
+    requires step { 0 < axis.step }
+    requires forward { AreForward others.now }
+    ensures { IsTurn axis others.now result.steps result.far }
+{
+    let [next, ..] = others else {
+        return Turn { steps: 1, far: 0 };
+    };
+    let divisor = common_divisor(axis.step, next.step);
+    let instead = axis.step / divisor;
+    Turn {
+        steps: next.step / divisor,
+        far: next.step * next.len.saturating_sub(instead),
+    }
+}
+
+/// Whether some sum along the axes lies within the bounds. Tries the items of the first axis that
+/// the others leave, up to where steps back come to those that were tried, each by a search among the
+/// others, and takes a step for each.
+pub(crate) fn search(
+    axes: &[Axis],
+    reach: usize,
+    low: usize,
+    high: usize,
+    steps: &mut usize,
+) -> Answer
+    requires forward { AreForward axes.now }
+    requires reach { reach ≡ reach_of axes.now }
+    ensures yes { result ≡ Yes → HasSum axes.now low high }
+    ensures no { result ≡ No → HasSum axes.now low high → ⊥ }
+{
+    let [first, rest @ ..] = axes else {
+        return if low == 0 { Answer::Yes } else { Answer::No };
+    };
+    let beyond = reach - first.step * (first.len - 1);
+    let least = low.saturating_sub(beyond).div_ceil(first.step);
+    let turn = turn_at(*first, rest);
+    for k in least..first.len {
+        let taken = first.step * k;
+        if taken > high {
+            return Answer::No;
+        }
+        let left = high - taken;
+        if k >= turn.steps && left < turn.far {
+            return Answer::No;
+        }
+        if *steps == 0 {
+            return Answer::Undecided;
+        }
+        *steps -= 1;
+        match search(rest, beyond, low.saturating_sub(taken), left, steps) {
+            Answer::No => {}
+            answer => return answer,
+        }
+    }
+    Answer::No
+}

@@ -1,0 +1,130 @@
+//! All that depends on the reduction: the type of its result, whether it needs items, its result without
+//! items, and the loop that computes it.
+ghost use Rattle.reductions.specs.Reductions.{needs_items, result_scalar, wide};
+ghost use Rattle.reductions.specs.Words.{Little, item_at, max_items, size};
+ghost use Rattle.reductions.specs.inside.Numbers.{AreReduced, HaveItems, IsReduced, IsStored, lists_from};
+ghost use Rattle.reductions.specs.inside.Orders.{hangs_on_order};
+ghost use Rattle.std.specs.Prelude.{IfOk, [], length, true, ℕ, ◌*◌, ◌<◌, ◌≡◌, ◌≤◌};
+
+use crate::fills::reduced;
+use crate::folds::{Best, PlaceOf, Truth, Wrapping};
+use crate::lines::Lists;
+use elem_descr::{Order, Red, Scalar, Width};
+use machine_numbers::{LowFirst, Number, NumberTask, Ordered, little};
+use raw_block::{BlockBuilder, RawBlock};
+use std::alloc::{AllocError, Global};
+
+/// An integer of 64 bits, with a sign unless the items are integers without one.
+fn wide(scalar: &Scalar) -> Scalar
+    ensures { result ≡ wide scalar.now }
+{
+    let signed = match scalar {
+        Scalar::Byte { signed } => *signed,
+        Scalar::Int { signed, .. } => *signed,
+        _ => true,
+    };
+    Scalar::Int {
+        signed,
+        width: Width::Eight,
+        order: Order::Little,
+    }
+}
+
+/// The type of a result.
+pub(crate) fn result_scalar(reduction: Red, scalar: &Scalar) -> Scalar
+    ensures { result ≡ result_scalar reduction scalar.now }
+{
+    match reduction {
+        Red::Sum | Red::Product => wide(scalar),
+        Red::Minimum | Red::Maximum => little(scalar),
+        Red::Any | Red::All => Scalar::Bool,
+        Red::ArgMin | Red::ArgMax => Scalar::Int {
+            signed: true,
+            width: Width::Eight,
+            order: Order::Little,
+        },
+    }
+}
+
+/// Whether a reduction is one of some items at least.
+pub(crate) fn needs_items(reduction: Red) -> bool
+    ensures { result ≡ needs_items reduction }
+{
+    match reduction {
+        Red::Minimum | Red::Maximum | Red::ArgMin | Red::ArgMax => true,
+        _ => false,
+    }
+}
+
+/// Whether what it makes hangs on the order of the numbers.
+pub(crate) fn hangs_on_order(reduction: Red) -> bool
+    ensures { result ≡ hangs_on_order reduction }
+{
+    matches!(reduction, Red::ArgMin | Red::ArgMax)
+}
+
+/// A block of one number, `count` times.
+fn repeated<T: Number>(alloc: Global, total: T, count: usize) -> Result<RawBlock, AllocError>
+    requires { count ≤ max_items }
+    ensures items { IfOk result (λ b. (k : ℕ) → k < count
+        → IsStored (T.scalar Little) (T.value total) (item_at (k * T.WIDTH) T.WIDTH b)) }
+    ensures len { IfOk result (λ b. length b ≡ count * T.WIDTH) }
+{
+    let mut item = [0; 8];
+    total.write::<LowFirst>(&mut item[..T::WIDTH]);
+    let mut block = BlockBuilder::try_new(alloc, count * T::WIDTH)?;
+    block.push_repeated(&item[..T::WIDTH], count);
+    Ok(block.finish())
+}
+
+/// A block of what a reduction makes of no items, `count` times, where it is one of no items.
+pub(crate) fn empty_block(
+    alloc: Global,
+    reduction: Red,
+    _scalar: &Scalar,
+    count: usize,
+) -> Result<RawBlock, AllocError>
+    requires few { count ≤ max_items }
+    requires none { needs_items reduction ≡ true → count ≡ 0 }
+    ensures items { IfOk result (λ b. (k : ℕ) → k < count → IsReduced reduction _scalar.now []
+        (item_at (k * size (result_scalar reduction _scalar.now)) (size (result_scalar reduction _scalar.now)) b)) }
+    ensures len { IfOk result (λ b. length b ≡ count * size (result_scalar reduction _scalar.now)) }
+{
+    match reduction {
+        Red::Sum => repeated(alloc, 0_u64, count),
+        Red::Product => repeated(alloc, 1_u64, count),
+        Red::Any => repeated(alloc, false, count),
+        Red::All => repeated(alloc, true, count),
+        _ => RawBlock::try_zeroed(alloc, 0),
+    }
+}
+
+/// A reduction of lists, whose results lie one after another in a block.
+#[derive(Drop)]
+pub(crate) struct Reducing<'a> {
+    pub(crate) alloc: Global,
+    pub(crate) reduction: Red,
+    pub(crate) lists: Lists<'a>,
+}
+
+impl<'a> NumberTask for Reducing<'a> {
+    type Out = Result<RawBlock, AllocError>;
+
+    ghost Needs = { λ t scalar. (t.lists.width ≡ size scalar) × HaveItems (length t.lists.bytes.now) (size scalar) t.lists.starts.now t.lists.axis };
+
+    ghost Gives = { λ t scalar block. IfOk block (AreReduced t.reduction scalar t.lists.bytes.now (size (result_scalar t.reduction scalar)) (lists_from t.lists.starts.now t.lists.axis)) };
+
+    fn run<N: Number, O: Ordered>(self) -> Result<RawBlock, AllocError> {
+        let (alloc, lists) = (self.alloc, self.lists);
+        match self.reduction {
+            Red::Sum => reduced::<N, O, Wrapping<false>>(alloc, lists),
+            Red::Product => reduced::<N, O, Wrapping<true>>(alloc, lists),
+            Red::Minimum => reduced::<N, O, Best<false>>(alloc, lists),
+            Red::Maximum => reduced::<N, O, Best<true>>(alloc, lists),
+            Red::Any => reduced::<N, O, Truth<false>>(alloc, lists),
+            Red::All => reduced::<N, O, Truth<true>>(alloc, lists),
+            Red::ArgMin => reduced::<N, O, PlaceOf<false>>(alloc, lists),
+            Red::ArgMax => reduced::<N, O, PlaceOf<true>>(alloc, lists),
+        }
+    }
+}

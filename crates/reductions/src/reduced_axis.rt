@@ -1,0 +1,156 @@
+//! The axis that a reduction goes along, the shape of its result, where its lists begin, and what is refused.
+ghost use Rattle.elem_descr.specs.declared.descr.Descr.TheVariants.{Scalar as ScalarDescr};
+ghost use Rattle.reductions.specs.Lists.{IsAxisOf, is_axis, list_length, named_axis, reduced_shape};
+ghost use Rattle.reductions.specs.Outcomes.{has_empty_list, number_scalar};
+ghost use Rattle.reductions.specs.Reductions.{needs_items};
+ghost use Rattle.reductions.specs.Words.{BadAxis, Gives, IsNumber, count};
+ghost use Rattle.reductions.specs.inside.Axes.{AreStarts, shape_after};
+ghost use Rattle.std.specs.List.{remove};
+ghost use Rattle.std.specs.Prelude.{Err, IfErr, IfOk, Ok, false, length, not, slice_index, true, ◌&&◌, ◌<◌, ◌==◌, ◌≡◌, ◌≤◌};
+
+use crate::by_reduction::needs_items;
+use elem_descr::{Descr, Red, Refusal, Scalar};
+use shape_strides::{Layout, Shape, Strides};
+use smallvec::SmallVec;
+use std::alloc::{AllocError, Global};
+use view_ops::{from_front, is_place};
+
+/// The scalar of items that are numbers.
+pub(crate) fn number_scalar(descr: &Descr) -> Result<Scalar, Refusal>
+    ensures ok { IfOk result (λ scalar. (number_scalar descr.now ≡ Ok scalar) × IsNumber scalar
+        × (descr.now ≡ ScalarDescr scalar)) }
+    ensures err { IfErr result (λ refusal. number_scalar descr.now ≡ Err refusal) }
+{
+    match descr {
+        Descr::Scalar(Scalar::Bytes(_)) => Err(Refusal::NotForThisKind),
+        Descr::Scalar(scalar) => Ok(*scalar),
+        Descr::Record(_) => Err(Refusal::NotForThisKind),
+    }
+}
+
+/// The axis that is named, as counted from the front.
+pub(crate) fn named_axis(rank: usize, axis: Option<i128>) -> Result<Option<usize>, Refusal>
+    ensures ok { IfOk result (λ named. (is_axis rank axis ≡ true) × (named ≡ named_axis rank axis)
+        × IsAxisOf rank named) }
+    ensures err { IfErr result (λ refusal. (refusal ≡ BadAxis) × (is_axis rank axis ≡ false)) }
+{
+    let Some(axis) = axis else { return Ok(None) };
+    if !is_place(rank, axis) {
+        return Err(Refusal::BadAxis);
+    }
+    Ok(Some(from_front(rank, axis) as usize))
+}
+
+/// The numbers of axes without that of one axis.
+fn without<T: Copy + Default>(
+    alloc: Global,
+    numbers: &[T],
+    axis: usize,
+) -> Result<SmallVec<T, 8>, AllocError>
+    requires { axis < length numbers.now }
+    ensures { IfOk result (λ v. v.items ≡ remove numbers.now axis) }
+{
+    let mut others = SmallVec::from_slice(alloc, numbers)?;
+    others.remove(axis);
+    Ok(others)
+}
+
+/// The lengths of the axes of the result: without an axis, or with a 1 in its place.
+fn reduced_lengths(
+    alloc: Global,
+    lengths: &[usize],
+    axis: Option<usize>,
+    keep: bool,
+) -> Result<SmallVec<usize, 8>, AllocError>
+    requires { IsAxisOf (length lengths.now) axis }
+    ensures { IfOk result (λ v. v.items ≡ reduced_shape lengths.now axis keep) }
+{
+    match axis {
+        None if keep => {
+            let ones = SmallVec::from_elem(alloc, 1, lengths.len())?;
+            Ok(ones)
+        }
+        None => Ok(SmallVec::new(alloc)),
+        Some(axis) if keep => {
+            let mut kept = SmallVec::from_slice(alloc, lengths)?;
+            kept.as_mut_slice()[axis] = 1;
+            Ok(kept)
+        }
+        Some(axis) => without(alloc, lengths, axis),
+    }
+}
+
+/// How many items each list has.
+pub(crate) fn list_length(shape: &Shape, axis: Option<usize>) -> usize
+    requires { IsAxisOf (length shape.now) axis }
+    ensures { result ≡ list_length shape.now axis }
+{
+    match axis {
+        Some(axis) => shape.as_slice()[axis],
+        None => shape.items(),
+    }
+}
+
+/// Whether there are items along axes of these lengths.
+fn have_items(lengths: &[usize]) -> bool
+    ensures { result ≡ not (count lengths.now == 0) }
+{
+    for len in lengths {
+        if *len == 0 {
+            return false;
+        }
+    }
+    true
+}
+
+/// Whether some item of the result would be made of no items, though a reduction needs some.
+fn lacks_items(reduction: Red, shape: &Shape, axis: Option<usize>, lengths: &[usize]) -> bool
+    requires { IsAxisOf (length shape.now) axis }
+    ensures { result ≡ (needs_items reduction && has_empty_list shape.now axis lengths.now) }
+{
+    needs_items(reduction) && list_length(shape, axis) == 0 && have_items(lengths)
+}
+
+/// The shape of the result.
+pub(crate) fn shape_after(
+    alloc: Global,
+    reduction: Red,
+    shape: &Shape,
+    axis: Option<usize>,
+    keep: bool,
+) -> Result<Shape, Refusal>
+    requires { IsAxisOf (length shape.now) axis }
+    ensures { Gives (λ s. s) result (shape_after reduction shape.now axis keep) }
+{
+    let lengths = reduced_lengths(alloc, shape.as_slice(), axis, keep)?;
+    if lacks_items(reduction, shape, axis, lengths.as_slice()) {
+        return Err(Refusal::EmptyReduction);
+    }
+    Shape::try_new(alloc, lengths.as_slice())
+}
+
+/// A shape without an axis of 1 item or more.
+fn shape_without(alloc: Global, shape: &Shape, axis: usize) -> Result<Shape, AllocError>
+    requires axis { axis < length shape.now }
+    requires some { 1 ≤ slice_index shape.now axis }
+    ensures { IfOk result (λ s. s ≡ remove shape.now axis) }
+{
+    let lengths = without(alloc, shape.as_slice(), axis)?;
+    Shape::from_lengths(alloc, lengths.as_slice())
+}
+
+/// The items where the lists along an axis begin: those at 0 on it.
+pub(crate) fn starts_of(alloc: Global, layout: &Layout, axis: usize) -> Result<Layout, AllocError>
+    requires axis { axis < length layout.now.shape }
+    requires some { 1 ≤ slice_index layout.now.shape axis }
+    ensures { IfOk result (AreStarts layout.now axis) }
+{
+    let shape = shape_without(alloc, &layout.shape, axis)?;
+    let steps = without(alloc, layout.strides.as_slice(), axis)?;
+    let strides = Strides::from_slice(alloc, steps.as_slice())?;
+    Ok(Layout {
+        shape,
+        strides,
+        offset: layout.offset,
+    })
+}

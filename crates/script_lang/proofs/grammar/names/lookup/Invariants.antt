@@ -1,0 +1,10 @@
+use Rattle.std.proofs.Common.{◌≡◌, length, map}
+use Rattle.script_lang.specs.Verbs.{beside}
+use Rattle.script_lang.proofs.grammar.names.lookup.Given as goal
+
+-- what stands beside the word in the rest of the table stands there in the whole
+abbrev pub invariant-loop-table : goal.invariant-loop-table
+invariant-loop-table l = beside (map (λ row. (row.0.now, row.1)) l.table) l.word ≡ beside (map (λ row. (row.0.now, row.1)) l.initial.table) l.word
+
+abbrev pub decreases-loop-table : goal.decreases-loop-table
+decreases-loop-table l = length l.table

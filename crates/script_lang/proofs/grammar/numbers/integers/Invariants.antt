@@ -1,0 +1,12 @@
+use Rattle.std.proofs.Common.{◌≡◌, length}
+use Rattle.script_lang.specs.Tokens.{integer_at}
+use Rattle.script_lang.specs.Lists.{by_rule, none_or_more}
+use Rattle.script_lang.proofs.Lists.{in_front}
+use Rattle.script_lang.proofs.grammar.numbers.integers.Given as goal
+
+-- the integers so far, in front of those of the rest, are all
+abbrev pub invariant-loop-end : goal.invariant-loop-end
+invariant-loop-end l = by_rule (none_or_more integer_at 41) l.bytes ≡ in_front l.integers (by_rule (none_or_more integer_at 41) l.rest)
+
+abbrev pub decreases-loop-end : goal.decreases-loop-end
+decreases-loop-end l = length l.rest

@@ -1,0 +1,7 @@
+use Rattle.std.proofs.Common.{◌≡◌, map, take}
+use Rattle.shape_strides.specs.Layouts.{natural}
+use Rattle.view_ops.specs.Slices.{from_front}
+use Rattle.view_ops.proofs.axis_lists.counted_axes.Given as goal
+
+abbrev pub invariant-loop-axis : goal.invariant-loop-axis
+invariant-loop-axis l = l.axes.items ≡ map (λ axis. natural (from_front l.rank axis)) (take l.axis-index l.named)

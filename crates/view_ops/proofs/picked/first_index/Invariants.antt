@@ -1,7 +1,0 @@
-use Rattle.std.proofs.Common.{◌≡◌, take}
-use Rattle.std.specs.List.{flat_map}
-use Rattle.view_ops.specs.Picks.{first_of}
-use Rattle.view_ops.proofs.picked.first_index.Given as goal
-
-abbrev pub invariant-loop-pick : goal.invariant-loop-pick
-invariant-loop-pick l = l.index.items ≡ flat_map first_of (take l.pick-index l.picks)

@@ -1,0 +1,86 @@
+//! Which axes a list of numbers names.
+ghost use Rattle.shape_strides.specs.Addresses.{natural};
+ghost use Rattle.std.specs.List.{list_all, range_with_len};
+ghost use Rattle.std.specs.Prelude.{IfOk, IsTrue, Some, length, map, option_copied, true, ℕ, ◌-◌, ◌<◌, ◌^◌, ◌≡◌, ◌≤◌};
+ghost use Rattle.view_ops.specs.Slices.{from_front, is_place};
+ghost use Rattle.view_ops.specs.Transposes.{are_distinct, axes_of};
+ghost use Rattle.view_ops.specs.Words.{Gives};
+
+use crate::slice::{from_front, is_place};
+use elem_descr::Refusal;
+use smallvec::SmallVec;
+use std::alloc::{AllocError, Global};
+
+fn are_in_range(rank: usize, named: &[i128]) -> bool
+    ensures { result ≡ list_all (is_place rank) named.now }
+{
+    named.iter().all(|axis| is_place(rank, *axis))
+}
+
+fn are_distinct(axes: &[usize]) -> bool
+    ensures { result ≡ are_distinct axes.now }
+{
+    for (k, axis) in axes.iter().enumerate() {
+        if axes[k + 1..].contains(axis) {
+            return false;
+        }
+    }
+    true
+}
+
+/// The axes from the last one to the first.
+fn reversed_axes(alloc: Global, rank: usize) -> Result<SmallVec<usize, 8>, AllocError>
+    ensures { IfOk result (λ v. v.items ≡ map (λ k. rank - 1 - k) (range_with_len 0 rank)) }
+{
+    let mut axes = SmallVec::new(alloc);
+    for k in 0..rank {
+        axes.push(rank - 1 - k)?;
+    }
+    Ok(axes)
+}
+
+/// The axes that are named, as counted from the front.
+fn counted_axes(
+    alloc: Global,
+    rank: usize,
+    named: &[i128],
+) -> Result<SmallVec<usize, 8>, AllocError>
+    requires { list_all (is_place rank) named.now ≡ true }
+    ensures { IfOk result (λ v. v.items ≡ map (λ axis. natural (from_front rank axis)) named.now) }
+{
+    let mut axes = SmallVec::new(alloc);
+    for axis in named {
+        axes.push(from_front(rank, *axis) as usize)?;
+    }
+    Ok(axes)
+}
+
+fn named_axes(alloc: Global, rank: usize, named: &[i128]) -> Result<SmallVec<usize, 8>, Refusal>
+    ensures { Gives (λ v. v.items) result (axes_of rank (Some named.now)) }
+{
+    if named.len() != rank {
+        return Err(Refusal::BadAxis);
+    }
+    if !are_in_range(rank, named) {
+        return Err(Refusal::BadAxis);
+    }
+    let axes = counted_axes(alloc, rank, named)?;
+    if !are_distinct(axes.as_slice()) {
+        return Err(Refusal::BadAxis);
+    }
+    Ok(axes)
+}
+
+/// The axes in the order that a transpose is to have.
+pub(crate) fn axes_of(
+    alloc: Global,
+    rank: usize,
+    named: Option<&[i128]>,
+) -> Result<SmallVec<usize, 8>, Refusal>
+    ensures { Gives (λ v. v.items) result (axes_of rank (option_copied named.entry)) }
+{
+    match named {
+        None => Ok(reversed_axes(alloc, rank)?),
+        Some(named) => named_axes(alloc, rank, named),
+    }
+}

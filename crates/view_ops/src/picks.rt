@@ -1,0 +1,265 @@
+//! What the items of a basic index select from the axes, and the view of it.
+ghost use Rattle.std.specs.List.{flat_map, list_all};
+ghost use Rattle.std.specs.Prelude.{IfOk, IsTrue, OnOk, [], false, length, map, pos, slice_index_or, true, ℕ, ◌++◌, ◌<◌, ◌∷◌, ◌≡◌, ◌≤◌};
+ghost use Rattle.view_ops.specs.Basics.{are_on_axes, axes_taken, axis_of, has_step, is_on_axis, picked_shape, picked_view, picks, picks_of, shape_picked, takes_axis, whole};
+ghost use Rattle.view_ops.specs.Picks.{ArePicks, first_of, pick_shown};
+ghost use Rattle.view_ops.specs.Views.{GivesView, KeepsNested};
+ghost use Rattle.view_ops.specs.Words.{Gives, NewAxis, is_basic, max_axes};
+ghost use Rattle.view_ops.specs.inside.Picks.{AddsPicks, HaveSmallSteps, IsSmallPick, IsSmallStep, axes_taken, picked_strides, run_stride, stride_of};
+
+use crate::basic_index::axes_end;
+use crate::slice::{Progression, from_front, is_place, slice_of};
+use elem_descr::{IndexItem, Refusal};
+use shape_strides::{Layout, Shape, Strides};
+use smallvec::SmallVec;
+use std::alloc::{AllocError, Global};
+
+/// What is picked from an axis: one number, the numbers of a run, or a new axis.
+#[derive(Clone, Copy, Debug, PartialEq, Eq, Default)]
+pub enum AxisPick {
+    At(usize),
+    Along(Progression),
+    #[default]
+    New,
+}
+
+fn is_in_range<A>(axes: &[usize], item: &IndexItem<A>) -> bool
+    ensures { result ≡ is_on_axis axes.now item.now }
+{
+    match (item, axes) {
+        (IndexItem::Integer(at), [n, ..]) => is_place(*n, *at),
+        _ => true,
+    }
+}
+
+/// Whether each integer is within its axis.
+pub(crate) fn are_in_range<A>(lengths: &[usize], items: &[IndexItem<A>]) -> bool
+    requires { axes_taken items.now ≤ length lengths.now }
+    ensures { result ≡ are_on_axes lengths.now items.now }
+{
+    let mut axis = 0;
+    for k in 0..items.len() {
+        let end = axes_end(lengths.len(), axis, items, k);
+        if !is_in_range(&lengths[axis..end], &items[k]) {
+            return false;
+        }
+        axis = end;
+    }
+    true
+}
+
+/// What an integer or a slice picks from its axis.
+pub fn pick_of<A>(n: usize, item: &IndexItem<A>) -> AxisPick
+    requires axis { takes_axis item.now ≡ true }
+    requires basic { is_basic item.now ≡ true }
+    requires step { has_step item.now ≡ true }
+    requires in_range { is_on_axis (n ∷ []) item.now ≡ true }
+    ensures within { ArePicks (n ∷ []) (result ∷ []) }
+    ensures shown { picks_of (n ∷ []) item.now ≡ pick_shown result ∷ [] }
+{
+    match item {
+        IndexItem::Integer(at) => AxisPick::At(from_front(n, *at) as usize),
+        IndexItem::Slice { start, stop, step } => {
+            AxisPick::Along(slice_of(n, *start, *stop, *step).unwrap())
+        }
+        _ => unreachable!(),
+    }
+}
+
+/// All numbers of an axis.
+pub fn whole_axis(n: usize) -> AxisPick
+    ensures within { ArePicks (n ∷ []) (result ∷ []) }
+    ensures whole { pick_shown result ≡ whole n }
+{
+    AxisPick::Along(Progression {
+        first: 0,
+        step: 1,
+        count: n,
+    })
+}
+
+fn push_whole(picks: &mut SmallVec<AxisPick, 4>, axes: &[usize]) -> Result<(), AllocError>
+    ensures { OnOk result
+        (AddsPicks picks.old.items picks.new.items axes.now (map whole axes.now)) }
+{
+    for n in axes {
+        picks.push(whole_axis(*n))?;
+    }
+    Ok(())
+}
+
+fn push_picks<A>(
+    picks: &mut SmallVec<AxisPick, 4>,
+    axes: &[usize],
+    item: &IndexItem<A>,
+) -> Result<(), AllocError>
+    requires axis { takes_axis item.now ≡ true → length axes.now ≡ 1 }
+    requires none { item.now ≡ NewAxis → axes.now ≡ [] }
+    requires basic { is_basic item.now ≡ true }
+    requires step { has_step item.now ≡ true }
+    requires in_range { is_on_axis axes.now item.now ≡ true }
+    ensures { OnOk result
+        (AddsPicks picks.old.items picks.new.items axes.now (picks_of axes.now item.now)) }
+{
+    match item {
+        IndexItem::Ellipsis => push_whole(picks, axes),
+        IndexItem::NewAxis => Ok(picks.push(AxisPick::New)?),
+        _ => Ok(picks.push(pick_of(axes[0], item))?),
+    }
+}
+
+/// What the items pick from the axes of a shape.
+pub(crate) fn picks_of<A>(
+    alloc: Global,
+    lengths: &[usize],
+    items: &[IndexItem<A>],
+) -> Result<SmallVec<AxisPick, 4>, AllocError>
+    requires taken { axes_taken items.now ≤ length lengths.now }
+    requires basic { list_all is_basic items.now ≡ true }
+    requires steps { list_all has_step items.now ≡ true }
+    requires in_range { are_on_axes lengths.now items.now ≡ true }
+    ensures are { IfOk result (λ v. ArePicks lengths.now v.items) }
+    ensures shown { IfOk result (λ v. map pick_shown v.items ≡ picks lengths.now items.now) }
+{
+    let mut picks = SmallVec::new(alloc);
+    let mut axis = 0;
+    for k in 0..items.len() {
+        let end = axes_end(lengths.len(), axis, items, k);
+        push_picks(&mut picks, &lengths[axis..end], &items[k])?;
+        axis = end;
+    }
+    push_whole(&mut picks, &lengths[axis..])?;
+    Ok(picks)
+}
+
+fn push_length(lengths: &mut SmallVec<usize, 8>, pick: AxisPick) -> Result<(), AllocError>
+    ensures { OnOk result (lengths.new.items ≡ lengths.old.items ++ axis_of (pick_shown pick)) }
+{
+    match pick {
+        AxisPick::At(_) => Ok(()),
+        AxisPick::Along(run) => Ok(lengths.push(run.count)?),
+        AxisPick::New => Ok(lengths.push(1)?),
+    }
+}
+
+fn picked_lengths(alloc: Global, picks: &[AxisPick]) -> Result<SmallVec<usize, 8>, AllocError>
+    ensures { IfOk result (λ v. v.items ≡ picked_shape (map pick_shown picks.now)) }
+{
+    let mut lengths = SmallVec::new(alloc);
+    for pick in picks {
+        push_length(&mut lengths, *pick)?;
+    }
+    Ok(lengths)
+}
+
+fn push_first(index: &mut SmallVec<usize, 8>, pick: AxisPick) -> Result<(), AllocError>
+    ensures { OnOk result (index.new.items ≡ index.old.items ++ first_of pick) }
+{
+    match pick {
+        AxisPick::At(number) => Ok(index.push(number)?),
+        AxisPick::Along(run) => Ok(index.push(run.first)?),
+        AxisPick::New => Ok(()),
+    }
+}
+
+/// The index of the first item that is picked.
+fn first_index(alloc: Global, picks: &[AxisPick]) -> Result<SmallVec<usize, 8>, AllocError>
+    ensures { IfOk result (λ v. v.items ≡ flat_map first_of picks.now) }
+{
+    let mut index = SmallVec::new(alloc);
+    for pick in picks {
+        push_first(&mut index, *pick)?;
+    }
+    Ok(index)
+}
+
+/// How many axes of the array a pick takes.
+fn axes_taken(pick: AxisPick) -> usize
+    ensures { result ≡ axes_taken pick }
+{
+    match pick {
+        AxisPick::New => 0,
+        _ => 1,
+    }
+}
+
+/// The stride of a run along an axis; 0 if it has fewer than two numbers.
+fn run_stride(strides: &[isize], axis: usize, run: Progression) -> isize
+    requires axis { axis < length strides.now }
+    requires small { 2 ≤ run.count
+        → IsSmallStep (slice_index_or strides.now axis (pos 0)) run.step }
+    ensures { result ≡ run_stride (slice_index_or strides.now axis (pos 0)) run }
+{
+    if run.count < 2 {
+        return 0;
+    }
+    strides[axis] * run.step as isize
+}
+
+fn push_stride(
+    made: &mut Strides,
+    strides: &[isize],
+    axis: usize,
+    pick: AxisPick,
+) -> Result<(), AllocError>
+    requires axis { axes_taken pick ≡ 1 → axis < length strides.now }
+    requires small { IsSmallPick (slice_index_or strides.now axis (pos 0)) pick }
+    ensures { OnOk result
+        (made.new ≡ made.old ++ stride_of (slice_index_or strides.now axis (pos 0)) pick) }
+{
+    match pick {
+        AxisPick::At(_) => Ok(()),
+        AxisPick::Along(run) => made.push(run_stride(strides, axis, run)),
+        AxisPick::New => made.push(0),
+    }
+}
+
+fn picked_strides(
+    alloc: Global,
+    strides: &[isize],
+    picks: &[AxisPick],
+) -> Result<Strides, AllocError>
+    requires small { HaveSmallSteps strides.now picks.now }
+    requires few { length strides.now ≤ max_axes }
+    ensures { IfOk result (λ s. s ≡ picked_strides strides.now picks.now) }
+{
+    let mut made = Strides::new(alloc);
+    let mut axis = 0;
+    for pick in picks {
+        push_stride(&mut made, strides, axis, *pick)?;
+        axis += axes_taken(*pick);
+    }
+    Ok(made)
+}
+
+/// The shape of what is picked from the axes of another one.
+fn shape_picked(alloc: Global, shape: &Shape, picks: &[AxisPick]) -> Result<Shape, Refusal>
+    requires { ArePicks shape.now picks.now }
+    ensures { Gives (λ s. s) result (shape_picked (map pick_shown picks.now)) }
+{
+    let _lengths = shape.as_slice();
+    let lengths = picked_lengths(alloc, picks)?;
+    Shape::try_new(alloc, lengths.as_slice())
+}
+
+/// The view of what is picked. A view of more than 64 axes is refused as `TooManyAxes`. A view
+/// without items has strides and offset 0, and an axis of fewer than two items has stride 0.
+pub fn with_picks(alloc: Global, layout: &Layout, picks: &[AxisPick]) -> Result<Layout, Refusal>
+    requires { ArePicks layout.now.shape picks.now }
+    ensures view { GivesView layout.now result (picked_view (map pick_shown picks.now)) }
+    ensures nested { IfOk result (KeepsNested layout.now) }
+{
+    let _lengths = layout.shape.as_slice();
+    let shape = shape_picked(alloc, &layout.shape, picks)?;
+    if shape.items() == 0 {
+        return Ok(Layout::c_order(alloc, &shape, 1)?);
+    }
+    let first = first_index(alloc, picks)?;
+    let offset = layout.at(first.as_slice());
+    let strides = picked_strides(alloc, layout.strides.as_slice(), picks)?;
+    Ok(Layout {
+        shape,
+        strides,
+        offset,
+    })
+}
