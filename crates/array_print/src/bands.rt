@@ -155,10 +155,14 @@ fn send_block<W: Write>(
         (item_size bands.now.items.descr.now) }
     ensures ok { OnOk result
         (Sends (W.contents writer.old) (W.contents writer.new) out.new.items (out.old.items
-        ++ block_text axis (drop axis bands.now.layout.now.shape) (map (shown bands.now.items.descr.now bands.now.items.widths.now bands.now.items.block.now) (part_offsets bands.now.layout.now axis offset)))) }
+        ++ block_text axis (drop axis bands.now.layout.now.shape)
+        (map (shown bands.now.items.descr.now bands.now.items.widths.now bands.now.items.block.now)
+        (part_offsets bands.now.layout.now axis offset)))) }
     ensures err { OnErr result
         (SendsPart (W.contents writer.old) (W.contents writer.new) (out.old.items
-        ++ block_text axis (drop axis bands.now.layout.now.shape) (map (shown bands.now.items.descr.now bands.now.items.widths.now bands.now.items.block.now) (part_offsets bands.now.layout.now axis offset)))) }
+        ++ block_text axis (drop axis bands.now.layout.now.shape)
+        (map (shown bands.now.items.descr.now bands.now.items.widths.now bands.now.items.block.now)
+        (part_offsets bands.now.layout.now axis offset)))) }
     ensures room { vec_capacity out.old ≤ vec_capacity out.new }
 {
     let lengths = bands.layout.shape.as_slice();
@@ -193,10 +197,12 @@ pub fn print_by_bands<'a, W: Write>(
         (offsets layout.now) }
     ensures ok { OnOk result
         (Sends (W.contents writer.old) (W.contents writer.new) out.new.items (out.old.items
-        ++ array_text descr.now layout.now.shape (items_from descr.now block.now (offsets layout.now)))) }
+        ++ array_text descr.now layout.now.shape
+        (items_from descr.now block.now (offsets layout.now)))) }
     ensures write { IsErrOf result PrintFault.Write →
         SendsPart (W.contents writer.old) (W.contents writer.new) (out.old.items
-        ++ array_text descr.now layout.now.shape (items_from descr.now block.now (offsets layout.now))) }
+        ++ array_text descr.now layout.now.shape
+        (items_from descr.now block.now (offsets layout.now))) }
     ensures memory { IsErrOf result PrintFault.Memory →
         (writer.new ≡ writer.old) × StartsWith out.new.items out.old.items }
     ensures room { vec_capacity out.old ≤ vec_capacity out.new }

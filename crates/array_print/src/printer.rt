@@ -34,7 +34,8 @@ fn push_leaf(
     requires widths { AreWidths (leaves_of items.now.descr.now) items.now.widths.now }
     requires inside { offset + item_size items.now.descr.now ≤ length items.now.block.now }
     ensures ok { OnOk result (out.new.items ≡ out.old.items
-        ++ get_or (texts_at items.now.descr.now items.now.widths.now items.now.block.now offset) k []) }
+        ++ get_or (texts_at items.now.descr.now items.now.widths.now items.now.block.now offset)
+        k []) }
     ensures kept { StartsWith out.new.items out.old.items }
     ensures room { vec_capacity out.old ≤ vec_capacity out.new }
 {
@@ -59,7 +60,8 @@ fn push_field(
     requires widths { AreWidths (leaves_of items.now.descr.now) items.now.widths.now }
     requires inside { offset + item_size items.now.descr.now ≤ length items.now.block.now }
     ensures ok { OnOk result (out.new.items ≡ out.old.items
-        ++ structure_text descr.now (drop k (texts_at items.now.descr.now items.now.widths.now items.now.block.now offset))) }
+        ++ structure_text descr.now (drop k
+        (texts_at items.now.descr.now items.now.widths.now items.now.block.now offset))) }
     ensures next { IfOk result (λ next. next ≡ k + length (leaves_of descr.now)) }
     ensures kept { StartsWith out.new.items out.old.items }
     ensures room { vec_capacity out.old ≤ vec_capacity out.new }
@@ -88,7 +90,8 @@ fn push_record(
     requires widths { AreWidths (leaves_of items.now.descr.now) items.now.widths.now }
     requires inside { offset + item_size items.now.descr.now ≤ length items.now.block.now }
     ensures ok { OnOk result (out.new.items ≡ out.old.items
-        ++ in_parentheses (field_texts (listed fields.now) (drop k (texts_at items.now.descr.now items.now.widths.now items.now.block.now offset)))) }
+        ++ in_parentheses (field_texts (listed fields.now)
+        (drop k (texts_at items.now.descr.now items.now.widths.now items.now.block.now offset)))) }
     ensures next { IfOk result (λ next. next ≡ k + leaf_count (listed fields.now)) }
     ensures kept { StartsWith out.new.items out.old.items }
     ensures room { vec_capacity out.old ≤ vec_capacity out.new }
@@ -132,7 +135,8 @@ pub fn push_block(
         (item_size items.now.descr.now) }
     ensures ok { OnOk result (out.new.items ≡ out.old.items
         ++ block_text axis (drop axis layout.now.shape)
-        (map (shown items.now.descr.now items.now.widths.now items.now.block.now) (part_offsets layout.now axis offset))) }
+        (map (shown items.now.descr.now items.now.widths.now items.now.block.now)
+        (part_offsets layout.now axis offset))) }
     ensures kept { StartsWith out.new.items out.old.items }
     ensures room { vec_capacity out.old ≤ vec_capacity out.new }
 {
@@ -174,7 +178,8 @@ pub fn print_into(
     requires inside { All (λ offset. offset + item_size descr.now ≤ length block.now)
         (offsets layout.now) }
     ensures ok { OnOk result (out.new.items ≡ out.old.items
-        ++ array_text descr.now layout.now.shape (items_from descr.now block.now (offsets layout.now))) }
+        ++ array_text descr.now layout.now.shape
+        (items_from descr.now block.now (offsets layout.now))) }
     ensures err { OnErr result (out.new.items ≡ out.old.items) }
     ensures room { vec_capacity out.old ≤ vec_capacity out.new }
 {

@@ -54,7 +54,9 @@ fn wider_at(width: usize, scalar: &Scalar, block: &[u8], place: usize) -> usize
 fn widened(width: usize, scalar: &Scalar, block: &[u8], place: usize) -> usize
     requires inside { place + size scalar.now ≤ length block.now }
     ensures { (texts : List (List ℕ)) → width ≡ leaf_width scalar.now texts
-        → result ≡ leaf_width scalar.now (texts ++ leaf_text scalar.now (decode scalar.now (take (size scalar.now) (drop place block.now))) ∷ []) }
+        → result ≡ leaf_width scalar.now
+        (texts ++ leaf_text scalar.now (decode scalar.now
+        (take (size scalar.now) (drop place block.now))) ∷ []) }
 {
     match scalar {
         Scalar::Bool => width,
@@ -107,7 +109,8 @@ fn widen_part(widths: &mut [usize], items: ShownItems<'_>, axis: usize, offset: 
     requires leaves { length widths.old ≡ length (leaves_of items.descr.now) }
     requires part { IsPart items.layout.now axis offset (length items.block.now)
         (item_size items.descr.now) }
-    ensures { (seen : List ℕ) → widths.old ≡ widths_at items.entry.descr.now items.entry.block.now seen
+    ensures { (seen : List ℕ) → widths.old
+        ≡ widths_at items.entry.descr.now items.entry.block.now seen
         → widths.new ≡ widths_at items.entry.descr.now items.entry.block.now
         (seen ++ part_offsets items.entry.layout.now axis offset) }
 {

@@ -56,7 +56,8 @@ pub fn copy(
         ≡ map (item_from descr.now block.now) (offsets layout.now)) }
     ensures within { IfOk result (λ _. count layout.now.shape * item_size descr.now ≤ max_bytes) }
     ensures refused { IfErr result (λ refusal. refusal
-        ≡ (if nat_le (count layout.now.shape * item_size descr.now) max_bytes then OutOfMemory else TooLarge)) }
+        ≡ (if nat_le (count layout.now.shape * item_size descr.now) max_bytes
+        then OutOfMemory else TooLarge)) }
 {
     let item = descr.size();
     let len = layout.shape.items() * item;

@@ -13,7 +13,8 @@ pub struct Items<'a> {
     pub block: &'a RawBlock,
     pub layout: &'a Layout,
     pub descr: &'a Descr,
-    pub ghost inside: { All (λ offset. offset + item_size descr.now ≤ length block.now) (offsets layout.now) },
+    pub ghost inside: { All (λ offset. offset + item_size descr.now ≤ length block.now)
+        (offsets layout.now) },
 }
 
 impl Owned {

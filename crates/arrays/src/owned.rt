@@ -55,7 +55,8 @@ impl Owned {
             (λ o. o.block ≡ replicate (count shape.now * item_size descr) 0) }
         ensures within { IfOk result (λ _. count shape.now * item_size descr ≤ max_bytes) }
         ensures refused { IfErr result (λ refusal. refusal
-            ≡ (if nat_le (count shape.now * item_size descr) max_bytes then OutOfMemory else TooLarge)) }
+            ≡ (if nat_le (count shape.now * item_size descr) max_bytes
+            then OutOfMemory else TooLarge)) }
     {
         let len = shape.items() * descr.size();
         if len > MAX_BYTES {

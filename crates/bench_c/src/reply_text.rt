@@ -40,7 +40,8 @@ impl ReplyText {
     /// the reply.
     pub fn answer(&mut self, bench: &mut Bench, files: &mut MemStore, line: &[u8]) -> Option<bool>
         ensures { (replies : List Reply) × Tells replies result self.new
-            × AnswersLine (world bench.old.state (⟦<MemStore as NpyStore>⟧.shelf files.old)) line.now (world bench.new.state (⟦<MemStore as NpyStore>⟧.shelf files.new)) replies }
+            × AnswersLine (world bench.old.state (⟦<MemStore as NpyStore>⟧.shelf files.old))
+            line.now (world bench.new.state (⟦<MemStore as NpyStore>⟧.shelf files.new)) replies }
     {
         answer(bench, files, line, &mut self.bytes)
     }

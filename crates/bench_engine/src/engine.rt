@@ -54,7 +54,8 @@ fn reply(bench: &Bench, question: &Question, out: &mut Vec<u8>) -> Result<(), Re
     requires room { vec_len out.old + 64 ≤ vec_capacity out.old }
     ensures answers { CarriesOut
         (list_all (is_bound bench.now.state) (bound_in_question question.now))
-        (λ choice. question_outcome bench.now.state question.now) bench.now.state bench.now.state out.old.items out.new.items result }
+        (λ choice. question_outcome bench.now.state question.now)
+        bench.now.state bench.now.state out.old.items out.new.items result }
     ensures room { vec_capacity out.old ≤ vec_capacity out.new }
 {
     match question {
@@ -124,7 +125,8 @@ pub fn execute<N: NpyStore>(
     requires room { vec_len out.old + 64 ≤ vec_capacity out.old }
     ensures case { (reply : Reply) × (out.new.items ≡ out.old.items ++ reply.text)
         × (reply.accepted ≡ result)
-        × MayAnswer (world bench.old.state (N.shelf store.old)) command.now (world bench.new.state (N.shelf store.new)) reply }
+        × MayAnswer (world bench.old.state (N.shelf store.old)) command.now
+        (world bench.new.state (N.shelf store.new)) reply }
     ensures room { vec_capacity out.old ≤ vec_capacity out.new }
 {
     let before = out.len();
@@ -161,9 +163,11 @@ pub fn answer_read<N: NpyStore>(
     requires empty { out.old.items ≡ [] }
     requires room { 64 ≤ vec_capacity out.old }
     ensures answered { (replies : List Reply) × Tells replies result out.new.items
-        × AnswersMeaning (world bench.old.state (N.shelf store.old)) (meaning_of_read line.entry) (world bench.new.state (N.shelf store.new)) replies }
+        × AnswersMeaning (world bench.old.state (N.shelf store.old)) (meaning_of_read line.entry)
+        (world bench.new.state (N.shelf store.new)) replies }
     ensures memory { (replies : List Reply) × Tells replies result out.new.items
-        × MayAnswerLine (world bench.old.state (N.shelf store.old)) (meaning_of_read line.entry) (world bench.new.state (N.shelf store.new)) replies }
+        × MayAnswerLine (world bench.old.state (N.shelf store.old)) (meaning_of_read line.entry)
+        (world bench.new.state (N.shelf store.new)) replies }
     ensures room { vec_capacity out.old ≤ vec_capacity out.new }
 {
     match read_line(*out.allocator(), line) {
@@ -191,10 +195,12 @@ pub fn answer<N: NpyStore>(
 ) -> Option<bool>
     requires room { 64 ≤ vec_capacity out.old }
     ensures answered { (replies : List Reply) × Tells replies result out.new.items
-        × AnswersLine (world bench.old.state (N.shelf store.old)) line.now (world bench.new.state (N.shelf store.new)) replies }
+        × AnswersLine (world bench.old.state (N.shelf store.old)) line.now
+        (world bench.new.state (N.shelf store.new)) replies }
     // Out of memory is the answer only where memory may be asked for.
     ensures memory { (replies : List Reply) × Tells replies result out.new.items
-        × MayAnswerLine (world bench.old.state (N.shelf store.old)) (meaning_of line.now) (world bench.new.state (N.shelf store.new)) replies }
+        × MayAnswerLine (world bench.old.state (N.shelf store.old)) (meaning_of line.now)
+        (world bench.new.state (N.shelf store.new)) replies }
     ensures room { vec_capacity out.old ≤ vec_capacity out.new }
 {
     out.clear();

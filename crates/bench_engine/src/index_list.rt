@@ -85,7 +85,8 @@ pub fn named_target(
 ) -> Result<Target, Refusal>
     requires bound { list_all (is_bound bench.now.state) (names_in_index index.now) ≡ true }
     ensures { (a : Array) → Shows bench.now.state a array.now
-        → Meets (IsAimed array.now (list_all is_basic index.now)) result (taken bench.now.state a index.now) }
+        → Meets (IsAimed array.now (list_all is_basic index.now)) result
+        (taken bench.now.state a index.now) }
 {
     if view_ops::are_basic(index) {
         return Ok(Target::View(view_ops::basic(alloc, array.layout, index)?));
@@ -108,7 +109,8 @@ pub fn take(
     requires bound { list_all (is_bound bench.now.state) (names_in_index index.now) ≡ true }
     requires shown { (a : Array) × Shows bench.now.state a array.now }
     ensures { (a : Array) → Shows bench.now.state a array.now
-        → Meets (IsTaken bench.now.state a array.now (list_all is_basic index.now)) result (taken bench.now.state a index.now) }
+        → Meets (IsTaken bench.now.state a array.now (list_all is_basic index.now)) result
+        (taken bench.now.state a index.now) }
 {
     let target = named_target(alloc, bench, array, index)?;
     match target {

@@ -345,7 +345,8 @@ pub fn compute(
 ) -> Result<(), Refusal>
     ensures answers { CarriesOut
         (list_all (is_bound bench.old.state) (bound_in_computation computation.now))
-        (λ choice. compute_outcome choice bench.old.state name.now computation.now) bench.old.state bench.new.state out.old.items out.new.items result }
+        (λ choice. compute_outcome choice bench.old.state name.now computation.now)
+        bench.old.state bench.new.state out.old.items out.new.items result }
     ensures room { vec_capacity out.old ≤ vec_capacity out.new }
 {
     if !has_bound_operands(bench, computation) {

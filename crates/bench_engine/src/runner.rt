@@ -35,7 +35,8 @@ pub trait ScriptSource {
         ensures well { IsSome result → failures self.new ≡ failures self.old }
         ensures counted { reads self.new ≤ reads self.old + 1 }
         ensures bytes { MatchOption result (Keeps (remaining self.old) (remaining self.new))
-            (λ n. (n ≤ length chunk.new) × Consumes (remaining self.old) (remaining self.new) (take n chunk.new)
+            (λ n. (n ≤ length chunk.new)
+            × Consumes (remaining self.old) (remaining self.new) (take n chunk.new)
             × (n ≡ 0 → IsAtEnd (remaining self.new))) };
 }
 
@@ -107,8 +108,10 @@ fn take_turn<S: ScriptSource, W: Write, N: NpyStore>(
     ensures well { OnOk result (S.failures source.new ≡ S.failures source.old) }
     ensures memory { ¬ IsErrOf result RunFault.Memory }
     ensures turned { (depth : ℕ) (before : Outside) →
-        Reading depth before (outside (S.remaining source.old) (W.contents writer.old) (N.shelf store.old)) session.old →
-        Turned result depth before (outside (S.remaining source.new) (W.contents writer.new) (N.shelf store.new)) session.new }
+        Reading depth before (outside (S.remaining source.old) (W.contents writer.old)
+        (N.shelf store.old)) session.old →
+        Turned result depth before (outside (S.remaining source.new) (W.contents writer.new)
+        (N.shelf store.new)) session.new }
 {
     let count = source.read_some(&*writer, chunk).ok_or(RunFault::Read)?;
     if count == 0 {

@@ -223,13 +223,17 @@ impl Session {
             ≤ self.old.accepted + self.old.refused + 1 }
         ensures ok { OnOk result
             ((first : World) (before : Option (List ℕ)) (read : List ℕ) (accepted refused : ℕ) →
-            Fed first (world self.old.bench.state (N.shelf store.old)) before (W.contents writer.old) read accepted refused self.old →
-            Fed first (world self.new.bench.state (N.shelf store.new)) before (W.contents writer.new) (read ++ piece.now ++ 10 ∷ []) accepted refused self.new) }
+            Fed first (world self.old.bench.state (N.shelf store.old)) before
+            (W.contents writer.old) read accepted refused self.old →
+            Fed first (world self.new.bench.state (N.shelf store.new)) before
+            (W.contents writer.new) (read ++ piece.now ++ 10 ∷ []) accepted refused self.new) }
         ensures err { OnErr result
             ((first : World) (before : Option (List ℕ)) (read more : List ℕ) (accepted refused : ℕ)
             →
-            Fed first (world self.old.bench.state (N.shelf store.old)) before (W.contents writer.old) read accepted refused self.old →
-            FedInPart first (N.shelf store.new) before (W.contents writer.new) (read ++ piece.now ++ 10 ∷ more)) }
+            Fed first (world self.old.bench.state (N.shelf store.old)) before
+            (W.contents writer.old) read accepted refused self.old →
+            FedInPart first (N.shelf store.new) before (W.contents writer.new)
+            (read ++ piece.now ++ 10 ∷ more)) }
     {
         self.line.hold(piece);
         self.finish_line(writer, store)
@@ -249,10 +253,12 @@ impl Session {
         // What is held of a line is whole, or is only known to be too long.
         ensures told { OnOk result ((held : List ℕ) → IsUnbroken held
             → HoldsPiece self.old.line held →
-            Feeds (N.shelf store.old) (N.shelf store.new) (W.contents writer.old) (W.contents writer.new) held bytes.now self.old self.new) }
+            Feeds (N.shelf store.old) (N.shelf store.new) (W.contents writer.old)
+            (W.contents writer.new) held bytes.now self.old self.new) }
         ensures told_in_part { OnErr result ((held : List ℕ) → IsUnbroken held
             → HoldsPiece self.old.line held →
-            FedInPart (world self.old.bench.state (N.shelf store.old)) (N.shelf store.new) (W.contents writer.old) (W.contents writer.new) (held ++ bytes.now)) }
+            FedInPart (world self.old.bench.state (N.shelf store.old)) (N.shelf store.new)
+            (W.contents writer.old) (W.contents writer.new) (held ++ bytes.now)) }
     {
         let mut rest = bytes;
         while let Some(end) = newline(rest) {
@@ -293,10 +299,12 @@ impl Session {
         ensures next { HoldsPiece self.new.line [] }
         ensures told { OnOk result ((held : List ℕ) → IsUnbroken held
             → HoldsPiece self.old.line held →
-            Ends (N.shelf store.old) (N.shelf store.new) (W.contents writer.old) (W.contents writer.new) held self.old self.new) }
+            Ends (N.shelf store.old) (N.shelf store.new) (W.contents writer.old)
+            (W.contents writer.new) held self.old self.new) }
         ensures told_in_part { OnErr result ((held : List ℕ) → IsUnbroken held
             → HoldsPiece self.old.line held →
-            EndsInPart (world self.old.bench.state (N.shelf store.old)) (N.shelf store.new) (W.contents writer.old) (W.contents writer.new) held) }
+            EndsInPart (world self.old.bench.state (N.shelf store.old)) (N.shelf store.new)
+            (W.contents writer.old) (W.contents writer.new) held) }
     {
         if self.line.is_empty() {
             return Ok(());

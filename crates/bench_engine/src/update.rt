@@ -24,7 +24,8 @@ fn as_old(alloc: Global, new: Owned, descr: &Descr) -> Result<Owned, Refusal>
     requires can { can_cast new.descr descr.now ≡ true }
     requires few { count new.layout.shape * item_size descr.now ≤ max_bytes }
     ensures { Meets (HoldsItems descr.now (count new.layout.shape)) result
-        (Ok (map (cast_item new.descr descr.now) (map (item_from new.descr new.block) (offsets new.layout)))) }
+        (Ok (map (cast_item new.descr descr.now)
+        (map (item_from new.descr new.block) (offsets new.layout)))) }
 {
     if keeps_items(&new.block, &new.descr, descr) {
         return Ok(new);
@@ -41,7 +42,8 @@ fn changed_by_items(
 ) -> Result<Owned, Refusal>
     requires few { count old.layout.now.shape * item_size old.descr.now ≤ max_bytes }
     ensures { (v w : OperandValues) → Stands v old.entry → Stands w items.entry
-        → Meets (HoldsItems old.entry.descr.now (count v.shape)) result (updated_items operation old.entry.descr.now v w) }
+        → Meets (HoldsItems old.entry.descr.now (count v.shape)) result
+        (updated_items operation old.entry.descr.now v w) }
 {
     let scalar = result_scalar(operation, old.descr, items.descr)?;
     same_kind(scalar, scalar_of(old.descr)?)?;
@@ -60,7 +62,8 @@ fn changed_by_literal(
     requires few { count old.layout.now.shape * item_size old.descr.now ≤ max_bytes }
     ensures { (v : OperandValues) → Stands v old.entry
         → Meets (HoldsItems old.entry.descr.now (count v.shape)) result
-        (changed_with operation old.entry.descr.now v (literal_values operation old.entry.descr.now literal.now)) }
+        (changed_with operation old.entry.descr.now v
+        (literal_values operation old.entry.descr.now literal.now)) }
 {
     // What is known of a shape comes with this call.
     let _lengths = old.layout.shape.as_slice();
@@ -82,7 +85,8 @@ fn changed(
     ensures { (s : State) (value : Argument) (v : OperandValues) → IsGiven s value given.now
         → Stands v old.entry
         → Meets (HoldsItems old.entry.descr.now (count v.shape)) result
-        (changed_with operation old.entry.descr.now v (argument_values s operation old.entry.descr.now value)) }
+        (changed_with operation old.entry.descr.now v
+        (argument_values s operation old.entry.descr.now value)) }
 {
     match given {
         Given::Literal(literal) => changed_by_literal(alloc, operation, old, literal),
@@ -121,7 +125,8 @@ fn view_by_literal(
 ) -> Result<Writing, Refusal>
     requires { IsTargetOf array.now (View view) }
     ensures { Writes array.now (View view)
-        (λ s part. updated s array.now.descr.now part operation (LiteralArgument literal.now)) result }
+        (λ s part. updated s array.now.descr.now part operation (LiteralArgument literal.now))
+        result }
 {
     // What is known of shapes, and of the size of an item, comes with these calls.
     let _size = array.descr.size();
@@ -160,7 +165,8 @@ fn pair_by_items(
     requires { (view : Layout) × GoTogether view items.layout.now pair
         × IsTargetOf array.now (View view) }
     ensures { (view : Layout) (w : OperandValues) → IsShape view.shape
-        → GoTogether view items.entry.layout.now pair → Stands w items.entry → Writes array.now (View view)
+        → GoTogether view items.entry.layout.now pair → Stands w items.entry
+        → Writes array.now (View view)
         (λ s part. updated_items operation array.now.descr.now (operand_values s part) w) result }
 {
     let LayoutPair { target, source } = pair;
@@ -216,7 +222,8 @@ pub fn updated(
     requires { (s : State) × (value : Argument) × IsGiven s value given.now
         × IsTargetIn s array.now target }
     ensures { (s : State) (value : Argument) → IsGiven s value given.now
-        → WritesIn s array.now target (λ part. updated s array.now.descr.now part operation value) result }
+        → WritesIn s array.now target (λ part. updated s array.now.descr.now part operation value)
+        result }
 {
     match target {
         Target::View(view) => match given {

@@ -86,7 +86,8 @@ fn source_of(
     requires given { (s : State) × (value : Argument) × IsGiven s value given.now }
     requires few { count shape.now * item_size descr.now ≤ max_bytes }
     ensures { (s : State) (value : Argument) → IsGiven s value given.now
-        → Meets (Supplies s descr.now (count shape.now)) result (argument_items s value descr.now shape.now) }
+        → Meets (Supplies s descr.now (count shape.now)) result
+        (argument_items s value descr.now shape.now) }
 {
     match given {
         Given::Literal(literal) => Ok(Source::One(item_of(alloc, descr, literal)?)),
@@ -175,7 +176,9 @@ pub fn set(bench: &mut Bench, assignment: Assignment<'_>, out: &mut Vec<u8>) -> 
         (list_all (is_bound bench.old.state)
         (assignment.entry.name.now ∷ names_in_index assignment.entry.index.now
         ++ names_in_argument assignment.entry.value.now))
-        (λ choice. write_outcome bench.old.state assignment.entry.name.now assignment.entry.index.now assignment.entry.operation assignment.entry.value.now) bench.old.state bench.new.state out.old.items out.new.items result }
+        (λ choice. write_outcome bench.old.state assignment.entry.name.now
+        assignment.entry.index.now assignment.entry.operation assignment.entry.value.now)
+        bench.old.state bench.new.state out.old.items out.new.items result }
 {
     let alloc = *out.allocator();
     let Some(array) = bench.get(assignment.name) else {

@@ -32,9 +32,21 @@ impl Model for RecordBuilder {
 
     ghost coded = { Prim.hlevel (codes, field.the_row.coded) };
 
-    ghost view = { λ b. record { size = b.size; alignment = b.alignment; leaves = b.leaves; levels = b.levels; fields = b.fields.items } };
+    ghost view = { λ b. record {
+      size = b.size;
+      alignment = b.alignment;
+      leaves = b.leaves;
+      levels = b.levels;
+      fields = b.fields.items;
+    } };
 
-    ghost invariant = { λ b. IsPartial (record { size = b.size; alignment = b.alignment; leaves = b.leaves; levels = b.levels; fields = b.fields.items }) };
+    ghost invariant = { λ b. IsPartial (record {
+      size = b.size;
+      alignment = b.alignment;
+      leaves = b.leaves;
+      levels = b.levels;
+      fields = b.fields.items;
+    }) };
 }
 
 fn is_taken(fields: &[Field], name: &[u8]) -> bool

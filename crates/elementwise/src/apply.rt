@@ -10,8 +10,8 @@ ghost use Rattle.elementwise.specs.inside.Works.{CanPair, gives, left_of, right_
 ghost use Rattle.std.specs.List.{flat_map};
 ghost use Rattle.std.specs.Prelude.{IfOk, IfSome, IsTrue, [], map, true, ◌∷◌, ◌≡◌, ◌≤◌};
 
-use crate::can_cast::keeps_items;
-use crate::cast::cast_items;
+use crate::castable::keeps_items;
+use crate::casts::cast_items;
 use crate::chunks::{InRuns, ItemsInRun, MANY, make_by_chunks};
 use crate::operands::{made, read_as};
 use crate::pairing::{Pairing, Work};
@@ -33,8 +33,11 @@ pub fn apply2(alloc: Global, op: BinOp, left: Items<'_>, right: Items<'_>) -> Re
     ensures order { IfOk result
         (λ o. offsets o.layout ≡ offsets_in C (item_size o.descr) o.layout.shape) }
     ensures items { IfOk result (λ o. map (item_from o.descr o.block) (offsets o.layout)
-        ≡ pairwise (binary_item op o.descr) (stretched_items left.entry.descr.now left.entry.block.now left.entry.layout.now o.layout.shape)
-        (stretched_items right.entry.descr.now right.entry.block.now right.entry.layout.now o.layout.shape)) }
+        ≡ pairwise (binary_item op o.descr)
+        (stretched_items left.entry.descr.now left.entry.block.now left.entry.layout.now
+        o.layout.shape)
+        (stretched_items right.entry.descr.now right.entry.block.now right.entry.layout.now
+        o.layout.shape)) }
     ensures encoded { IfOk result (λ o. o.block ≡ flat_map (encode_item o.descr) (owned_items o)) }
 {
     let from = scalar_of(left.descr)?;
@@ -57,7 +60,9 @@ pub fn apply1(alloc: Global, op: UnOp, operand: Items<'_>) -> Result<Owned, Refu
     ensures order { IfOk result
         (λ o. offsets o.layout ≡ offsets_in C (item_size o.descr) o.layout.shape) }
     ensures items { IfOk result (λ o. map (item_from o.descr o.block) (offsets o.layout)
-        ≡ map (λ offset. unary_item op o.descr (item_from operand.entry.descr.now operand.entry.block.now offset)) (offsets operand.entry.layout.now)) }
+        ≡ map (λ offset. unary_item op o.descr
+        (item_from operand.entry.descr.now operand.entry.block.now offset))
+        (offsets operand.entry.layout.now)) }
     ensures encoded { IfOk result (λ o. o.block ≡ flat_map (encode_item o.descr) (owned_items o)) }
 {
     let from = scalar_of(operand.descr)?;

@@ -4,7 +4,7 @@ ghost use Rattle.elementwise.specs.Comparisons.{text_below};
 ghost use Rattle.elementwise.specs.Words.{Bytes, item_at, offsets, without_nuls};
 ghost use Rattle.std.specs.Prelude.{All, IfOk, IfSome, IsTrue, length, not, take, ◌+◌, ◌≡◌, ◌≤◌};
 
-use crate::compare_byte_strings::without_nuls;
+use crate::byte_string_pairs::without_nuls;
 use crate::operands::without_repeats;
 use arrays::Items;
 use broadcasting::repeats;

@@ -75,7 +75,8 @@ fn make_part(
         ≡ true }
     requires some { 1 ≤ count }
     requires within { first + count ≤ both.left.run.count }
-    ensures { IfOk result (λ block. block ≡ flat_map (encode_item (ScalarDescr (target_of pairing.now)))
+    ensures { IfOk result (λ block. block
+        ≡ flat_map (encode_item (ScalarDescr (target_of pairing.now)))
         (all_given pairing.now both.entry.left.items both.entry.right.items
         (run_part both.entry.left.run first count) (run_part both.entry.right.run first count))) }
 {

@@ -35,7 +35,8 @@ fn push_from<K: Kernel<A, B, T>, A: Number, B: Number, T: Number, O: Ordered, Q:
         → block.0
         ≡ start
         ++ joined (made_of
-        (number_pair (A.scalar O.order) (B.scalar O.order) (T.scalar Q.order) K.makes) pairs.entry) from
+        (number_pair (A.scalar O.order) (B.scalar O.order) (T.scalar Q.order) K.makes) pairs.entry)
+        from
         → result.0
         ≡ start
         ++ joined (made_of
@@ -131,7 +132,8 @@ pub(crate) struct Numbers<K, A, B, T, O, Q>(pub(crate) PhantomData<(K, A, B, T, 
 
 impl<K: Kernel<A, B, T>, A: Number, B: Number, T: Number, O: Ordered, Q: Ordered> Pass
     for Numbers<K, A, B, T, O, Q> {
-    ghost makes = { λ _. number_pair (A.scalar O.order) (B.scalar O.order) (T.scalar Q.order) K.makes };
+    ghost makes = { λ _. number_pair (A.scalar O.order) (B.scalar O.order)
+        (T.scalar Q.order) K.makes };
 
     ghost Reads = { λ _ width width'. (width ≡ A.WIDTH) × (width' ≡ B.WIDTH) };
 

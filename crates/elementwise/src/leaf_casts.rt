@@ -4,7 +4,7 @@ ghost use Rattle.elementwise.specs.Words.{IsNumber, size, put, padded, without_n
 ghost use Rattle.elementwise.specs.inside.LeafCasts.{leaf_cast};
 ghost use Rattle.elementwise.specs.inside.Columns.{HasRoom, with_leaves, AreRows};
 
-use crate::compare_byte_strings::Cutting;
+use crate::byte_string_pairs::Cutting;
 use elem_descr::Scalar;
 use machine_numbers::{Number, NumberTask, Ordered, Side, on_number};
 use raw_block::RawBlock;
@@ -131,7 +131,9 @@ struct CastingFrom<'a, S, P> {
 impl<'a> NumberTask for CastingTo<'a> {
     type Out = RawBlock;
 
-    ghost Needs = { λ t scalar. IsNumber t.to × (t.column.from.width ≡ size scalar) × (t.column.to.width ≡ size t.to) × HasRoom t.column.from t.column.to (length t.column.rows) };
+    ghost Needs = { λ t scalar. IsNumber t.to × (t.column.from.width ≡ size scalar)
+        × (t.column.to.width ≡ size t.to)
+        × HasRoom t.column.from t.column.to (length t.column.rows) };
 
     ghost Gives = { λ t scalar rows. AreRows (leaf_cast scalar t.to) t.column rows };
 
@@ -148,7 +150,8 @@ impl<'a> NumberTask for CastingTo<'a> {
 impl<'a, S: Number, P: Ordered> NumberTask for CastingFrom<'a, S, P> {
     type Out = RawBlock;
 
-    ghost Needs = { λ t scalar. (t.column.from.width ≡ S.WIDTH) × (t.column.to.width ≡ size scalar) × HasRoom t.column.from t.column.to (length t.column.rows) };
+    ghost Needs = { λ t scalar. (t.column.from.width ≡ S.WIDTH) × (t.column.to.width ≡ size scalar)
+        × HasRoom t.column.from t.column.to (length t.column.rows) };
 
     ghost Gives = { λ t scalar rows. AreRows (leaf_cast (S.scalar P.order) scalar) t.column rows };
 

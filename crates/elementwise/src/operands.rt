@@ -9,7 +9,7 @@ ghost use Rattle.elementwise.specs.inside.Shrunk.{IsShrunk};
 ghost use Rattle.elementwise.specs.inside.Works.{CanPair, gives, left_of, right_of, target_of};
 ghost use Rattle.std.specs.Prelude.{IfOk, IfSome, IsTrue, [], slice_index_or, ℕ, ◌*◌, ◌<◌, ◌∷◌, ◌≡◌, ◌≤◌};
 
-use crate::cast::cast_scalars;
+use crate::casts::cast_scalars;
 use crate::pairing::Pairing;
 use crate::row_pairs::{Operand, Operands};
 use arrays::{Items, Owned, gather};

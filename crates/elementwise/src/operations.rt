@@ -9,8 +9,8 @@ ghost use Rattle.elementwise.specs.inside.Works.{target, meaning, IsWork};
 
 use crate::bits;
 use crate::cast_kernels::cast;
-use crate::compare_kernels::compare;
-use crate::divide::Divisions;
+use crate::comparison_kernels::compare;
+use crate::divisions::Divisions;
 use crate::kernels::{Kernel, push_made};
 use crate::pairing::Work;
 use crate::row_pairs::Operands;
@@ -143,9 +143,15 @@ pub(crate) struct Working<'a, 'b> {
 impl<'a, 'b> NumberTask for Working<'a, 'b> {
     type Out = BlockBuilder;
 
-    ghost Needs = { λ t scalar. IsWork t.work × (t.bools ≡ is_bool scalar) × (item_size t.operands.left.descr.now ≡ size scalar) × (item_size t.operands.right.descr.now ≡ size scalar) × (pairs_of t.operands * size (target t.work scalar) ≤ t.block.1) };
+    ghost Needs = { λ t scalar. IsWork t.work × (t.bools ≡ is_bool scalar)
+        × (item_size t.operands.left.descr.now ≡ size scalar)
+        × (item_size t.operands.right.descr.now ≡ size scalar)
+        × (pairs_of t.operands * size (target t.work scalar) ≤ t.block.1) };
 
-    ghost Gives = { λ t scalar block. (block.0 ≡ t.block.0 ++ made_of_all (number_pair scalar scalar (target t.work scalar) (meaning t.work scalar)) t.operands) × (pairs_of t.operands * size (target t.work scalar) + block.1 ≡ t.block.1) };
+    ghost Gives = { λ t scalar block.
+        (block.0 ≡ t.block.0 ++ made_of_all
+        (number_pair scalar scalar (target t.work scalar) (meaning t.work scalar)) t.operands)
+        × (pairs_of t.operands * size (target t.work scalar) + block.1 ≡ t.block.1) };
 
     fn run<N: Number, O: Ordered>(self) -> BlockBuilder {
         let Working {

@@ -3,8 +3,8 @@ ghost use Rattle.elementwise.specs.Words.{item_size, size};
 ghost use Rattle.elementwise.specs.inside.Operands.{made_of_all, pairs_of};
 ghost use Rattle.std.specs.Prelude.{◌*◌, ◌++◌, ◌+◌, ◌≡◌, ◌≤◌};
 
-use crate::compare_byte_strings::{ComparingTexts, ComparingWith, Cutting, push_texts};
-use crate::compare_kernels::compare;
+use crate::byte_string_pairs::{ComparingTexts, ComparingWith, Cutting, push_texts};
+use crate::comparison_kernels::compare;
 use crate::operations::Working;
 use crate::promotion::eight_bytes;
 use crate::row_pairs::Operands;

@@ -18,7 +18,8 @@ pub(crate) struct Operand<'a> {
     pub(crate) bytes: &'a [u8],
     pub(crate) layout: &'a Layout,
     pub(crate) descr: &'a Descr,
-    pub(crate) ghost inside: { All (λ offset. offset + item_size descr.now ≤ length bytes.now) (offsets layout.now) },
+    pub(crate) ghost inside: { All (λ offset. offset + item_size descr.now ≤ length bytes.now)
+        (offsets layout.now) },
 }
 
 impl<'a> Operand<'a> {

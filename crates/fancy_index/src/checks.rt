@@ -8,8 +8,9 @@ ghost use Rattle.fancy_index.specs.Sources.{index_item_of, index_items};
 ghost use Rattle.fancy_index.specs.inside.Lists.{items_left};
 ghost use Rattle.fancy_index.specs.inside.PartLists.{IsChecked};
 
-use crate::index_parts::{Kind, Left, axes_beside};
-use crate::positions::kind;
+use crate::index_array::kind;
+use crate::index_parts::Kind;
+use crate::lists::{Left, axes_beside};
 use arrays::Items;
 use elem_descr::{IndexItem, Refusal};
 use view_ops::have_steps;

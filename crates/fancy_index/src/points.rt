@@ -12,9 +12,10 @@ ghost use Rattle.fancy_index.specs.inside.PointLists.{HavePlaces, IsPart, are_na
 ghost use Rattle.std.specs.List.{list_all};
 ghost use Rattle.std.specs.Prelude.{All, IfErr, IfOk, [], length, map, true, ◌∷◌, ◌≡◌, ◌≢◌, ◌≤◌};
 
+use crate::index_array::{Named, kind};
 use crate::index_parts::{IndexPart, Kind};
 use crate::masks::true_ranks;
-use crate::positions::{Named, kind, named_place, places};
+use crate::positions::{named_place, places};
 use arrays::Items;
 use broadcasting::common_of_two;
 use elem_descr::Refusal;

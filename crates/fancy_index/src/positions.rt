@@ -1,19 +1,17 @@
 //! Integers at equal steps, read in place, and the positions that they select.
-ghost use Rattle.fancy_index.specs.IndexArrays.{kind};
-ghost use Rattle.fancy_index.specs.Sources.{index_array_of, number_from};
-ghost use Rattle.fancy_index.specs.Words.{Gives, is_place, item_at, item_size, max_items, offsets, run_offsets};
-ghost use Rattle.fancy_index.specs.declared.index_parts.Kind.TheVariants.{NoIndex};
-ghost use Rattle.fancy_index.specs.inside.Items.{IsWithin, kind_in, numbers_in};
-ghost use Rattle.fancy_index.specs.inside.PointLists.{named_place, named_places, place_of};
-ghost use Rattle.fancy_index.specs.inside.Words.{AreWords, IsNative, IsSpread, spread_numbers, word};
+ghost use Rattle.std.specs.Prelude.{◌≡◌, ◌≢◌, ◌≤◌, ◌<◌, ◌++◌, pos, map, length, slice_index, IfSome, IsTrue, OnOk};
 ghost use Rattle.std.specs.List.{list_all};
-ghost use Rattle.std.specs.Prelude.{IfSome, IsTrue, OnOk, length, map, pos, slice_index, ◌++◌, ◌+◌, ◌<◌, ◌≡◌, ◌≢◌, ◌≤◌};
+ghost use Rattle.fancy_index.specs.Words.{item_size, Gives, item_at, offsets, max_items, run_offsets, is_place};
+ghost use Rattle.fancy_index.specs.declared.index_parts.Kind.TheVariants.{NoIndex};
+ghost use Rattle.fancy_index.specs.inside.Items.{kind_in, numbers_in, IsWithin};
+ghost use Rattle.fancy_index.specs.inside.PointLists.{place_of, named_place, named_places};
+ghost use Rattle.fancy_index.specs.inside.Words.{word, spread_numbers, AreWords, IsSpread, IsNative};
 
-use crate::index_parts::{Kind, kind_of};
+use crate::index_array::number_at;
 use crate::singles::array_at;
 use arrays::Items;
 use byteorder::{BigEndian, ByteOrder, LittleEndian};
-use elem_descr::{Descr, Order, Refusal, Scalar, num_read};
+use elem_descr::{Descr, Order, Refusal, Scalar};
 use raw_block::{RawBlock, RunI32, RunI64};
 use shape_strides::{Run, Runs, Walk};
 use std::alloc::Global;
@@ -337,36 +335,5 @@ pub(crate) fn places(alloc: Global, array: Items<'_>, n: usize) -> Result<Vec<u3
         (4, _) => places_in::<4>(alloc, reading, items, n),
         (8, _) => places_in::<8>(alloc, reading, items, n),
         _ => places_each(alloc, array, n),
-    }
-}
-
-/// An array each of whose numbers is to name a place of `n`.
-#[derive(Clone, Copy, Drop)]
-pub(crate) struct Named<'a> {
-    pub array: Items<'a>,
-    pub n: usize,
-    pub ghost small: { n ≤ max_items },
-    pub ghost kind: { kind_in array ≢ NoIndex },
-}
-
-/// What an array stands for.
-pub(crate) fn kind(array: Items<'_>) -> Kind
-    ensures { result ≡ kind (index_array_of array.entry) }
-{
-    kind_of(array.descr, array.layout.shape.as_slice())
-}
-
-/// The number of an item.
-pub(crate) fn number_at(array: Items<'_>, offset: usize) -> i128
-    requires kind { kind (index_array_of array) ≢ NoIndex }
-    requires inside { offset + item_size array.descr.now ≤ length array.block.now }
-    ensures { result ≡ number_from array.entry.descr.now array.entry.block.now offset }
-{
-    match array.descr {
-        Descr::Scalar(scalar) => {
-            let bytes = &array.block.bytes()[offset..];
-            num_read(*scalar, &bytes[..scalar.size()])
-        }
-        Descr::Record(_) => unreachable!(),
     }
 }

@@ -265,7 +265,9 @@ fn write_casts(descr: &Descr, literals: &[Literal], block: &mut [u8])
 pub fn write_items(descr: &Descr, literals: &[Literal], block: &mut [u8]) -> Result<(), Refusal>
     requires whole { length block.old ≡ length literals.now * item_size descr.now }
     ensures value { MatchResult result
-        (λ _. item_values descr.now literals.now ≡ Ok (map (decode_item descr.now) (blocks (item_size descr.now) (length literals.now) block.new)))
+        (λ _. item_values descr.now literals.now
+        ≡ Ok (map (decode_item descr.now)
+        (blocks (item_size descr.now) (length literals.now) block.new)))
         (λ refusal. item_values descr.now literals.now ≡ Err refusal) }
     ensures bytes { IfOk result
         (λ _. let items = blocks (item_size descr.now) (length literals.now) block.new in items

@@ -116,9 +116,13 @@ struct Counting<'a> {
 impl<'a> NumberTask for Counting<'a> {
     type Out = BlockBuilder;
 
-    ghost Needs = { λ t scalar. (list_all (is_value scalar) (numbers_from t.start.now t.step.now t.count) ≡ true) × (t.count * size scalar ≤ t.block.1) };
+    ghost Needs = { λ t scalar.
+        (list_all (is_value scalar) (numbers_from t.start.now t.step.now t.count) ≡ true)
+        × (t.count * size scalar ≤ t.block.1) };
 
-    ghost Gives = { λ t scalar block. (block.0 ≡ t.block.0 ++ joined (numbered scalar t.start.now t.step.now) t.count) × (t.count * size scalar + block.1 ≡ t.block.1) };
+    ghost Gives = { λ t scalar block.
+        (block.0 ≡ t.block.0 ++ joined (numbered scalar t.start.now t.step.now) t.count)
+        × (t.count * size scalar + block.1 ≡ t.block.1) };
 
     fn run<N: Number, O: Ordered>(self) -> BlockBuilder {
         let Counting {

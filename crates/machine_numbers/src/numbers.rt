@@ -77,7 +77,8 @@ pub trait Number: Copy {
 
     ghost is_little: { (order : Order) → little (scalar order) ≡ scalar Little };
 
-    ghost is_truth: { (order : Order) (x : Self) → is_bool (scalar order) ≡ true → (value x ≡ pos 0) ⊎ (value x ≡ pos 1) };
+    ghost is_truth: { (order : Order) (x : Self) → is_bool (scalar order) ≡ true
+        → (value x ≡ pos 0) ⊎ (value x ≡ pos 1) };
 }
 
 impl Number for bool {

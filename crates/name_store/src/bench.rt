@@ -35,7 +35,8 @@ impl Model for Bench {
 
     ghost view = { λ f. bench_value f.table.names.entries f.table.slots.cells.items f.history };
 
-    ghost invariant = { λ f. IsSound f.table.names.entries f.table.slots.cells.items f.history (spare f.table.names) };
+    ghost invariant = { λ f. IsSound f.table.names.entries f.table.slots.cells.items f.history
+        (spare f.table.names) };
 }
 
 impl Bench {

@@ -139,7 +139,8 @@ pub(crate) fn keep(slots: &mut Slots, history: &mut History, change: Change)
         → users_at slots.new.cells.items q + all_pins q (history.old.items ++ change ∷ [])
         ≡ users_at slots.old.cells.items q + all_pins q history.new.items }
     ensures freed { (q : ℕ) → option_map stand (slot_at slots.new.cells.items q)
-        ≡ (if nat_lt 0 (users_at slots.new.cells.items q) then option_map stand (slot_at slots.old.cells.items q) else None) }
+        ≡ (if nat_lt 0 (users_at slots.new.cells.items q)
+        then option_map stand (slot_at slots.old.cells.items q) else None) }
 {
     if let Some(gone) = history.push(change) {
         if let Some(number) = gone.number() {

@@ -25,7 +25,8 @@ impl Model for Path {
 
     ghost inverse = { λ path. record { numbers = in_places path; len = length path } };
 
-    ghost inverse_ok = { λ p h. λ i. record { numbers = kept-numbers p.len p.numbers h i; len = kept-len p.len p.numbers h i } };
+    ghost inverse_ok = { λ p h. λ i.
+        record { numbers = kept-numbers p.len p.numbers h i; len = kept-len p.len p.numbers h i } };
 }
 
 impl Path {

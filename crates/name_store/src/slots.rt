@@ -111,7 +111,8 @@ impl Slots {
         ensures users { (other : ℕ) → users_at self.new.cells.items other + one_at other number
             ≡ users_at self.old.cells.items other }
         ensures swept { (other : ℕ) → option_map stand (slot_at self.new.cells.items other)
-            ≡ (if nat_lt 0 (users_at self.new.cells.items other) then option_map stand (slot_at self.old.cells.items other) else None) }
+            ≡ (if nat_lt 0 (users_at self.new.cells.items other)
+            then option_map stand (slot_at self.old.cells.items other) else None) }
     {
         if self.slot(number).users == 1 {
             self.empty(number);

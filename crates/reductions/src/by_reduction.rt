@@ -87,7 +87,8 @@ pub(crate) fn empty_block(
     requires few { count ≤ max_items }
     requires none { needs_items reduction ≡ true → count ≡ 0 }
     ensures items { IfOk result (λ b. (k : ℕ) → k < count → IsReduced reduction _scalar.now []
-        (item_at (k * size (result_scalar reduction _scalar.now)) (size (result_scalar reduction _scalar.now)) b)) }
+        (item_at (k * size (result_scalar reduction _scalar.now))
+        (size (result_scalar reduction _scalar.now)) b)) }
     ensures len { IfOk result (λ b. length b ≡ count * size (result_scalar reduction _scalar.now)) }
 {
     match reduction {
@@ -110,9 +111,12 @@ pub(crate) struct Reducing<'a> {
 impl<'a> NumberTask for Reducing<'a> {
     type Out = Result<RawBlock, AllocError>;
 
-    ghost Needs = { λ t scalar. (t.lists.width ≡ size scalar) × HaveItems (length t.lists.bytes.now) (size scalar) t.lists.starts.now t.lists.axis };
+    ghost Needs = { λ t scalar. (t.lists.width ≡ size scalar)
+        × HaveItems (length t.lists.bytes.now) (size scalar) t.lists.starts.now t.lists.axis };
 
-    ghost Gives = { λ t scalar block. IfOk block (AreReduced t.reduction scalar t.lists.bytes.now (size (result_scalar t.reduction scalar)) (lists_from t.lists.starts.now t.lists.axis)) };
+    ghost Gives = { λ t scalar block. IfOk block
+        (AreReduced t.reduction scalar t.lists.bytes.now (size (result_scalar t.reduction scalar))
+        (lists_from t.lists.starts.now t.lists.axis)) };
 
     fn run<N: Number, O: Ordered>(self) -> Result<RawBlock, AllocError> {
         let (alloc, lists) = (self.alloc, self.lists);

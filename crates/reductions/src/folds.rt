@@ -44,7 +44,8 @@ pub(crate) trait Fold<S: Number> {
     fn is_decided(held: Self::Held) -> bool
         ensures { IsTrue result
             → (order : Order) (first : ℤ) (seen : List ℤ) (bytes offsets : List ℕ)
-            → holds held first seen → holds held first (seen ++ numbers_at (S.scalar order) bytes offsets) }
+            → holds held first seen → holds held first
+            (seen ++ numbers_at (S.scalar order) bytes offsets) }
     {
         false
     }
@@ -67,9 +68,11 @@ pub(crate) trait Fold<S: Number> {
     }
 
     ghost gives: { (order : Order) (bytes : List ℕ) (numbers : List ℤ) → length numbers < 2 ^ 63
-        → IsStored (Self.Total.scalar Little) (meaning numbers) bytes → IsReduced reduction (S.scalar order) numbers bytes };
+        → IsStored (Self.Total.scalar Little) (meaning numbers) bytes
+        → IsReduced reduction (S.scalar order) numbers bytes };
 
-    ghost has_size: { (order : Order) → size (result_scalar reduction (S.scalar order)) ≡ Self.Total.WIDTH };
+    ghost has_size: { (order : Order) → size (result_scalar reduction (S.scalar order))
+        ≡ Self.Total.WIDTH };
 }
 
 /// Sums or products, in as many bits as a total has.
@@ -86,7 +89,8 @@ impl<S: Number, const PRODUCT: bool> Fold<S> for Wrapping<PRODUCT> {
 
     ghost meaning = { λ numbers. pos (low_bits 8 (total PRODUCT numbers)) };
 
-    ghost gives = { λ order bytes numbers few is. total_is PRODUCT (S.scalar order) bytes numbers is };
+    ghost gives = { λ order bytes numbers few is.
+        total_is PRODUCT (S.scalar order) bytes numbers is };
 
     ghost has_size = { λ order. total_size PRODUCT (S.scalar order) };
 
@@ -143,7 +147,8 @@ impl<S: Number, const GREATEST: bool> Fold<S> for Best<GREATEST> {
 
     ghost meaning = { best_of GREATEST };
 
-    ghost gives = { λ order bytes numbers few is. best_is GREATEST (S.scalar order) (S.scalar Little) bytes numbers (S.is_little order) is };
+    ghost gives = { λ order bytes numbers few is.
+        best_is GREATEST (S.scalar order) (S.scalar Little) bytes numbers (S.is_little order) is };
 
     ghost has_size = { λ order. best_size GREATEST (S.scalar order) S.WIDTH (S.has_width order) };
 
@@ -257,11 +262,13 @@ impl<S: Number, const GREATEST: bool> Fold<S> for PlaceOf<GREATEST> {
 
     ghost reduction = { places_of GREATEST };
 
-    ghost holds = { λ held first seen. HasFound (better GREATEST) (S.value held.best) held.place first seen };
+    ghost holds = { λ held first seen. HasFound (better GREATEST)
+        (S.value held.best) held.place first seen };
 
     ghost meaning = { λ numbers. pos (first_place (best_of GREATEST numbers) numbers) };
 
-    ghost gives = { λ order bytes numbers few is. place_is GREATEST (S.scalar order) bytes numbers few is };
+    ghost gives = { λ order bytes numbers few is.
+        place_is GREATEST (S.scalar order) bytes numbers few is };
 
     ghost has_size = { λ order. place_size GREATEST (S.scalar order) };
 

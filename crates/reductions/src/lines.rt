@@ -16,7 +16,8 @@ pub(crate) struct Source<'a> {
     pub(crate) layout: &'a Layout,
     pub(crate) scalar: &'a Scalar,
     pub(crate) axis: Option<usize>,
-    pub(crate) ghost inside: { All (λ offset. offset + size scalar.now ≤ length bytes.now) (offsets layout.now) },
+    pub(crate) ghost inside: { All (λ offset. offset + size scalar.now ≤ length bytes.now)
+        (offsets layout.now) },
 }
 
 /// The lists of items, of `width` bytes, that are reduced: all items of a layout, or those along an axis
@@ -27,7 +28,8 @@ pub(crate) struct Lists<'a> {
     pub(crate) width: usize,
     pub(crate) starts: &'a Layout,
     pub(crate) axis: Option<StridedAxis>,
-    pub(crate) ghost inside: { All (λ offset. offset + width ≤ length bytes.now) (offsets starts.now) },
+    pub(crate) ghost inside: { All (λ offset. offset + width ≤ length bytes.now)
+        (offsets starts.now) },
 }
 
 /// Lines along an axis, one from each of some items on.
@@ -36,7 +38,9 @@ pub(crate) struct Lines<'a> {
     pub(crate) starts: Side<'a>,
     pub(crate) axis: StridedAxis,
     pub(crate) ghost few: { axis.len < 2 ^ 63 },
-    pub(crate) ghost within: { (j : ℕ) → j < starts.run.count → EachWithin (length starts.bytes.now) (place starts.run.offset starts.run.step j) axis.stride starts.width axis.len },
+    pub(crate) ghost within: { (j : ℕ) → j < starts.run.count
+        → EachWithin (length starts.bytes.now) (place starts.run.offset starts.run.step j)
+        axis.stride starts.width axis.len },
 }
 
 /// As many steps as long as those of a run.

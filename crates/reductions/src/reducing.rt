@@ -146,7 +146,9 @@ fn reduce_items(
     ensures order { IfOk result
         (λ o. offsets o.layout ≡ offsets_in C (item_size o.descr) o.layout.shape) }
     ensures items { IfOk result (λ o. map (item_from o.descr o.block) (offsets o.layout)
-        ≡ reduced_items reduction o.descr items.entry.descr.now items.entry.block.now (lists items.entry.layout.now.shape (named_axis (length items.entry.layout.now.shape) axis) (offsets items.entry.layout.now))) }
+        ≡ reduced_items reduction o.descr items.entry.descr.now items.entry.block.now
+        (lists items.entry.layout.now.shape (named_axis (length items.entry.layout.now.shape) axis)
+        (offsets items.entry.layout.now))) }
     ensures bytes { IfOk result (λ o. o.block ≡ flat_map (encode_item o.descr) (owned_items o)) }
 {
     let scalar = number_scalar(items.descr)?;
@@ -186,7 +188,9 @@ pub fn reduce(
     ensures order { IfOk result
         (λ o. offsets o.layout ≡ offsets_in C (item_size o.descr) o.layout.shape) }
     ensures items { IfOk result (λ o. map (item_from o.descr o.block) (offsets o.layout)
-        ≡ reduced_items reduction o.descr items.entry.descr.now items.entry.block.now (lists items.entry.layout.now.shape (named_axis (length items.entry.layout.now.shape) axis) (offsets items.entry.layout.now))) }
+        ≡ reduced_items reduction o.descr items.entry.descr.now items.entry.block.now
+        (lists items.entry.layout.now.shape (named_axis (length items.entry.layout.now.shape) axis)
+        (offsets items.entry.layout.now))) }
     ensures bytes { IfOk result (λ o. o.block ≡ flat_map (encode_item o.descr) (owned_items o)) }
 {
     if axis.is_some()

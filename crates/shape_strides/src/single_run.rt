@@ -21,7 +21,8 @@ fn one_of(outer: StridedAxis, inner: StridedAxis) -> Option<StridedAxis>
     requires inner { 1 ≤ inner.len }
     requires items { outer.len * inner.len ≤ max_items }
     ensures joined { MatchOption result (join_outside outer (if_long inner) ≡ outer ∷ inner ∷ [])
-        (λ one. (join_outside outer (if_long inner) ≡ if_long one) × (one.len ≡ outer.len * inner.len)) }
+        (λ one. (join_outside outer (if_long inner) ≡ if_long one)
+        × (one.len ≡ outer.len * inner.len)) }
     ensures long { MatchOption result (2 ≤ outer.len)
         (λ one. one.len ≡ 1 → one.stride ≡ inner.stride) }
 {

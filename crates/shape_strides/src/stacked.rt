@@ -55,7 +55,8 @@ fn steps_clear(lengths: &[usize], strides: &[isize], axis: usize, item: usize) -
     requires lengths { All (λ n. n ≤ max_items) lengths.now }
     requires axis { axis < length lengths.now }
     ensures { let step = unsigned_abs (slice_index_or strides.now axis (pos 0)) in
-        IsTrue result ↔ (2 ≤ slice_index lengths.now axis → item + reach_within step strides.now lengths.now ≤ step * slice_index lengths.now axis) }
+        IsTrue result ↔ (2 ≤ slice_index lengths.now axis
+        → item + reach_within step strides.now lengths.now ≤ step * slice_index lengths.now axis) }
 {
     if lengths[axis] < 2 {
         return true;

@@ -29,10 +29,12 @@ impl<'a> Model for Walk<'a> {
     ghost use Rattle.shape_strides.specs.Indexes.{count};
     ghost use Rattle.shape_strides.specs.Walks.{AreAxes, IsOnWalk, offsets_at};
 
-    ghost view = { λ w. drop (count w.lengths.now - w.left) (offsets_at w.lengths.now w.strides.now w.start) };
+    ghost view = { λ w. drop (count w.lengths.now - w.left)
+        (offsets_at w.lengths.now w.strides.now w.start) };
 
     ghost invariant = { λ w. AreAxes w.lengths.now w.strides.now w.start
-        × IsOnWalk w.lengths.now w.strides.now w.start (take (length w.lengths.now) w.index) w.offset w.left };
+        × IsOnWalk w.lengths.now w.strides.now w.start
+        (take (length w.lengths.now) w.index) w.offset w.left };
 }
 
 impl<'a> Walk<'a> {

@@ -15,7 +15,7 @@ use Rattle.view_ops.specs.declared.picks.AxisPick.TheVariants.{At as AtAxis, Alo
 use Rattle.view_ops.specs.declared.slice.Progression.{Progression}
 use Rattle.view_ops.specs.Slices.{run_number, run_numbers, IsRunWithin}
 use Rattle.view_ops.specs.Basics.{axis_of, picked_shape, picked_index}
-use Rattle.view_ops.specs.inside.Picks.{pick_shown, ArePicks, axes_taken, run_stride, stride_of, picked_strides, IsSmallStep, IsSmallPick, HaveSmallSteps}
+use Rattle.view_ops.specs.inside.Picks.{pick_shown, ArePicks, axes_of_pick, run_stride, stride_of, picked_strides, IsSmallStep, IsSmallPick, HaveSmallSteps}
 use Rattle.view_ops.specs.Picks.{first_of}
 use Rattle.view_ops.specs.Views.{view_through, IsViewOf, KeepsNested}
 use Rattle.view_ops.specs.Shows.{ShowsThrough}
@@ -110,11 +110,11 @@ lengths_on picks i d low =
 
 -- the loop over the strides at a pick, with an axis and the picks after it
 pub record CanStep (strides : List ℤ) (axis : ℕ) (pick : AxisPick) (later : List AxisPick) : Type 0 where
-  pub axis_in : axes_taken pick ≡ 1 → axis < length strides
+  pub axis_in : axes_of_pick pick ≡ 1 → axis < length strides
   pub small : IsSmallPick (get_or strides axis (pos 0)) pick
-  pub within : axis + axes_taken pick ≤ length strides
-  pub rest : HaveSmallSteps (drop (axis + axes_taken pick) strides) later
-  pub made : picked_strides (drop axis strides) (pick ∷ later) ≡ stride_of (get_or strides axis (pos 0)) pick ++ picked_strides (drop (axis + axes_taken pick) strides) later
+  pub within : axis + axes_of_pick pick ≤ length strides
+  pub rest : HaveSmallSteps (drop (axis + axes_of_pick pick) strides) later
+  pub made : picked_strides (drop axis strides) (pick ∷ later) ≡ stride_of (get_or strides axis (pos 0)) pick ++ picked_strides (drop (axis + axes_of_pick pick) strides) later
 
 pub can_step : (strides : List ℤ) (axis : ℕ) (pick : AxisPick) (later : List AxisPick) → axis ≤ length strides → HaveSmallSteps (drop axis strides) (pick ∷ later) → CanStep strides axis pick later
 can_step strides axis NewAxis later within small =
@@ -159,11 +159,11 @@ pub step_at : (strides made : List ℤ) (picks : List AxisPick) (i axis : ℕ) (
 step_at strides made picks i axis d low have =
     can_step strides axis (get_or picks i d) (drop (i + 1) picks) have.within (rw (drop_more picks i d low) at have.small)
 
-pub stepped_on : (strides made new : List ℤ) (picks : List AxisPick) (i axis : ℕ) (d : AxisPick) → i < length picks → new ≡ made ++ stride_of (get_or strides axis (pos 0)) (get_or picks i d) → HaveStepped strides made picks i axis → HaveStepped strides new picks (i + 1) (axis + axes_taken (get_or picks i d))
+pub stepped_on : (strides made new : List ℤ) (picks : List AxisPick) (i axis : ℕ) (d : AxisPick) → i < length picks → new ≡ made ++ stride_of (get_or strides axis (pos 0)) (get_or picks i d) → HaveStepped strides made picks i axis → HaveStepped strides new picks (i + 1) (axis + axes_of_pick (get_or picks i d))
 stepped_on strides made new picks i axis d low is have =
     let pick = get_or picks i d in
     let step = step_at strides made picks i axis d low have in
-    let left = picked_strides (drop (axis + axes_taken pick) strides) (drop (i + 1) picks) in
+    let left = picked_strides (drop (axis + axes_of_pick pick) strides) (drop (i + 1) picks) in
     record {
       within = step.within;
       small = step.rest;

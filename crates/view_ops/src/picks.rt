@@ -5,7 +5,7 @@ ghost use Rattle.view_ops.specs.Basics.{are_on_axes, axes_taken, axis_of, has_st
 ghost use Rattle.view_ops.specs.Picks.{ArePicks, first_of, pick_shown};
 ghost use Rattle.view_ops.specs.Views.{GivesView, KeepsNested};
 ghost use Rattle.view_ops.specs.Words.{Gives, NewAxis, is_basic, max_axes};
-ghost use Rattle.view_ops.specs.inside.Picks.{AddsPicks, HaveSmallSteps, IsSmallPick, IsSmallStep, axes_taken, picked_strides, run_stride, stride_of};
+ghost use Rattle.view_ops.specs.inside.Picks.{AddsPicks, HaveSmallSteps, IsSmallPick, IsSmallStep, axes_of_pick, picked_strides, run_stride, stride_of};
 
 use crate::basic_index::axes_end;
 use crate::slice::{Progression, from_front, is_place, slice_of};
@@ -174,8 +174,8 @@ fn first_index(alloc: Global, picks: &[AxisPick]) -> Result<SmallVec<usize, 8>, 
 }
 
 /// How many axes of the array a pick takes.
-fn axes_taken(pick: AxisPick) -> usize
-    ensures { result ≡ axes_taken pick }
+fn axes_of_pick(pick: AxisPick) -> usize
+    ensures { result ≡ axes_of_pick pick }
 {
     match pick {
         AxisPick::New => 0,
@@ -202,7 +202,7 @@ fn push_stride(
     axis: usize,
     pick: AxisPick,
 ) -> Result<(), AllocError>
-    requires axis { axes_taken pick ≡ 1 → axis < length strides.now }
+    requires axis { axes_of_pick pick ≡ 1 → axis < length strides.now }
     requires small { IsSmallPick (slice_index_or strides.now axis (pos 0)) pick }
     ensures { OnOk result
         (made.new ≡ made.old ++ stride_of (slice_index_or strides.now axis (pos 0)) pick) }
@@ -227,7 +227,7 @@ fn picked_strides(
     let mut axis = 0;
     for pick in picks {
         push_stride(&mut made, strides, axis, *pick)?;
-        axis += axes_taken(*pick);
+        axis += axes_of_pick(*pick);
     }
     Ok(made)
 }

@@ -3,7 +3,7 @@ use Rattle.std.specs.Prelude.{◌≡◌, ℕ, false, List, ◌∷◌, ◌++◌, 
 use Rattle.fancy_index.specs.Words.{IndexItem, is_ellipsis}
 use Rattle.fancy_index.specs.IndexArrays.{IndexArray, item_axes, placed_arrays, left_over}
 use Rattle.fancy_index.specs.Sources.{index_items}
-use Rattle.fancy_index.specs.declared.index_parts.Left.{Left}
+use Rattle.fancy_index.specs.declared.lists.Left.{Left}
 
 abbrev pub items_left : Left → List (IndexItem IndexArray)
 items_left left = index_items left.items.now

@@ -14,9 +14,9 @@ pub record AddsPicks (old new : List AxisPick) (axes : List ℕ) (picks : List P
   pub are : ArePicks axes added
   pub show : map pick_shown added ≡ picks
 
-abbrev pub axes_taken : AxisPick → ℕ
-axes_taken NewAxis = 0
-axes_taken _ = 1
+abbrev pub axes_of_pick : AxisPick → ℕ
+axes_of_pick NewAxis = 0
+axes_of_pick _ = 1
 
 -- ---- strides
 

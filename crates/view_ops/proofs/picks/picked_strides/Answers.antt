@@ -12,11 +12,11 @@ push_stride-requires-clause-small c = (step_at c.args.strides.now c.loop-pick.ma
 pub overflow_add-axis : goal.overflow_add-axis
 overflow_add-axis c =
     let step = step_at c.args.strides.now c.loop-pick.made c.args.picks.now c.loop-pick.pick-index c.loop-pick.axis (At 0) c.loop-pick-test.true c.loop-pick.invariant in
-    record { fits = omega (arith, step.within, c.axes_taken-axis.ensures, c.requires.few) }
+    record { fits = omega (arith, step.within, c.axes_of_pick-axis.ensures, c.requires.few) }
 
 pub loop-pick-preserved : goal.loop-pick-preserved
 loop-pick-preserved c =
-    rw c.axes_taken-axis.ensures (stepped_on c.args.strides.now c.loop-pick.made c.push_stride.new.made c.args.picks.now c.loop-pick.pick-index c.loop-pick.axis (At 0) c.loop-pick-test.true c.in_ok-push_stride.ensures c.loop-pick.invariant)
+    rw c.axes_of_pick-axis.ensures (stepped_on c.args.strides.now c.loop-pick.made c.push_stride.new.made c.args.picks.now c.loop-pick.pick-index c.loop-pick.axis (At 0) c.loop-pick-test.true c.in_ok-push_stride.ensures c.loop-pick.invariant)
 
 pub returns : goal.returns
 returns c = stepped_all c.args.strides.now c.loop-pick.made c.args.picks.now c.loop-pick.pick-index c.loop-pick.axis (omega arith) c.loop-pick.invariant

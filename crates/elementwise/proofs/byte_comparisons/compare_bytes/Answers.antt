@@ -1,0 +1,43 @@
+use Rattle.std.proofs.Common.{[], ◌∷◌, map, inr, ap, ◌∙◌}
+use Rattle.std.proofs.lemmas.Result.{err_from_is_err_and}
+use Rattle.elem_descr.specs.declared.descr.Descr.TheVariants.{Scalar as ScalarDescr}
+use Rattle.elem_descr.specs.declared.scalar.Scalar.TheVariants.{Bool as BoolScalar}
+use Rattle.elementwise.specs.Words.{offsets, is_text, text, without_nuls, item_from}
+use Rattle.elementwise.specs.Results.{compared_item}
+use Rattle.elementwise.proofs.MadeLaws.{made-gives, made-order, made-items, made-encoded}
+use Rattle.elementwise.proofs.BytesComparedLaws.{operand_refused, number_refused, one_given}
+use Rattle.elementwise.proofs.byte_comparisons.compare_bytes.Goals as goal
+use Rattle.elementwise.specs.ResultLaws.{is_scalar}
+
+pub returns-in_err-from-clause-gives : goal.returns-in_err-from-clause-gives
+returns-in_err-from-clause-gives c =
+    let p = err_from_is_err_and c.from_residual.result c.from_residual.ensures.1 in
+    rw (p.1, p.2) (inr (operand_refused c.args.operand.descr.now c.args.operand.layout.now.shape c.in_err-from.field-0.0 c.in_err-from.ensures))
+
+pub returns-in_default : goal.returns-in_default
+returns-in_default c = record { gives = inr (number_refused c.args.operand.descr.now c.args.operand.layout.now.shape c.in_ok-from.from c.in_ok-from.ensures c.in_default.not-Bytes); order = tt; items = tt; encoded = tt }
+
+pub compare_once-requires : goal.compare_once-requires
+compare_once-requires c = is_scalar c.args.operand.descr.now c.in_ok-from.from c.in_ok-from.ensures ∙ ap ScalarDescr c.in-Bytes.is
+
+pub returns-then-bytes-get-clause-gives : goal.returns-then-bytes-get-clause-gives
+returns-then-bytes-get-clause-gives c =
+    made-gives (ScalarDescr BoolScalar) c.args.operand.layout.now.shape _ _ c.in_ok-compare_with_item.ensures _
+    (one_given c.args.operand.descr.now c.args.operand.layout.now.shape c.in_ok-from.from c.in_ok-from.ensures (ap is_text c.in-Bytes.is))
+
+pub returns-clause-gives : goal.returns-clause-gives
+returns-clause-gives c =
+    made-gives (ScalarDescr BoolScalar) c.args.operand.layout.now.shape _ _ c.in_ok-compare_once.ensures _
+    (one_given c.args.operand.descr.now c.args.operand.layout.now.shape c.in_ok-from.from c.in_ok-from.ensures (ap is_text c.in-Bytes.is))
+
+pub returns-clause-order : goal.returns-clause-order
+returns-clause-order c = made-order (ScalarDescr BoolScalar) c.args.operand.layout.now.shape _ _ c.in_ok-compare_once.ensures
+
+pub returns-clause-items : goal.returns-clause-items
+returns-clause-items c =
+    let x = c.args.operand in
+    made-items (ScalarDescr BoolScalar) x.layout.now.shape _ _ c.in_ok-compare_once.ensures (λ _ _. map (λ offset. compared_item c.args.comparison (item_from x.descr.now x.block.now offset) (text (without_nuls c.args.bytes.now) ∷ [])) (offsets x.layout.now))
+    (λ i. map (λ offset. compared_item c.args.comparison (item_from x.descr.now x.block.now offset) (text (c.without_nuls.ensures i) ∷ [])) (offsets x.layout.now))
+
+pub returns-clause-encoded : goal.returns-clause-encoded
+returns-clause-encoded c = made-encoded (ScalarDescr BoolScalar) c.args.operand.layout.now.shape _ _ c.in_ok-compare_once.ensures

@@ -1,0 +1,12 @@
+use Rattle.std.proofs.Common.{◌≡◌, ◌+◌, ◌++◌}
+use Rattle.elem_descr.specs.declared.scalar.Scalar.TheVariants.{Bool as BoolScalar}
+use Rattle.elementwise.specs.Words.{text, encode, without_nuls, joined}
+use Rattle.elementwise.specs.inside.PairPasses.{truth_value}
+use Rattle.elementwise.specs.inside.Sides.{made_of}
+use Rattle.elementwise.proofs.byte_string_pairs.ComparingWithPass.push_row.Given as goal
+
+abbrev pub invariant-loop-k : goal.invariant-loop-k
+invariant-loop-k l = record {
+  bytes : l.block.0 ≡ l.fn.block.0 ++ joined (made_of (λ x y. encode BoolScalar (truth_value l.self.comparison (text (without_nuls x)) (text l.self.other.now))) l.fn.pairs) l.k;
+  left : l.k + l.block.1 ≡ l.fn.block.1;
+}

@@ -1,5 +1,0 @@
-use Rattle.elementwise.proofs.AlikeLaws.{item_stays}
-use Rattle.elementwise.proofs.can_cast.keeps_items.Goals as goal
-
-pub returns-clause-items : goal.returns-clause-items
-returns-clause-items c = λ yes offset inside. item_stays c.args.from.now c.args.to.now c.args.block.now offset c.note_bytes.ensures (c.are_alike.ensures.0 yes)

@@ -1,0 +1,15 @@
+use Rattle.std.proofs.Common.{◌≡◌, ◌*◌, ◌<◌, ℕ, length}
+use Rattle.elementwise.specs.Words.{item_size, run_offsets}
+use Rattle.elementwise.specs.inside.LeafCasts.{IsLeafCast}
+use Rattle.elementwise.proofs.EncodedLaws.{HaveZeros}
+use Rattle.elementwise.proofs.casts.cast_band.Given as goal
+
+-- the leaves so far are cast, and what lies between leaves is zeros
+abbrev pub invariant-loop-k : goal.invariant-loop-k
+invariant-loop-k l =
+    let os = run_offsets l.from.items.run in
+    record {
+      len : length l.rows ≡ length os * item_size l.to;
+      done : (k : ℕ) → k < l.k → IsLeafCast l.from.descr.now l.to l.from.items.bytes.now os l.rows k;
+      zeros : HaveZeros l.to (length os) l.rows;
+    }

@@ -1,0 +1,59 @@
+use Rattle.std.proofs.Common.{◌≡◌, ◌+◌, ◌*◌, ◌≤◌, All, pos, w64, length, sym, ap, subst, ◌∙◌, arith}
+use Rattle.std.proofs.lemmas.Int.{ints}
+use Rattle.std.proofs.lemmas.Result.{IfOk-weaker}
+use mir.Val.{to_z}
+use Rattle.elementwise.specs.Words.{item_size, EachWithin, max_bytes, count, offsets, length-offsets, run_offsets, length-run_offsets, row_offsets, row-multiples, run-within, items_at}
+use Rattle.elementwise.specs.inside.LeafCasts.{cast_items}
+use Rattle.elementwise.specs.inside.Made.{AreItems}
+use Rattle.elementwise.proofs.ColumnLaws.{same-cast}
+use Rattle.elementwise.proofs.RowLaws.{row-within}
+use Rattle.elementwise.proofs.casts.cast_block.Goals as goal
+
+-- ---- items that make one run
+
+pub invariant_of-items : goal.invariant_of-items
+invariant_of-items c =
+    let x = c.args.from in
+    let run = c.in-Some.run' in
+    let same = c.in-Some.ensures.items in
+    let many : run.count ≡ count x.layout.now.shape = sym (length-run_offsets run) ∙ ap length same ∙ length-offsets x.layout.now in
+    let width = item_size x.descr.now in
+    let lies = run-within (length x.block.now) width run (c.in-Some.ensures.lie max_bytes 1 x.layout.now.within_limit) (subst (All (λ offset. offset + width ≤ length x.block.now)) (sym same) x.inside) in
+    record {
+      few = omega (arith, many, c.items-count.ensures.value, c.items-count.ensures.limit);
+      within = subst (λ bytes. EachWithin (length bytes) run.offset run.step c.size-width.result run.count) (sym c.bytes.ensures) (subst (λ w. EachWithin (length x.block.now) run.offset run.step w run.count) (sym c.size-width.ensures.value) lies);
+    }
+
+pub cast_run-requires-clause-few : goal.cast_run-requires-clause-few
+cast_run-requires-clause-few c =
+    let run = c.in-Some.run' in
+    let l = c.args.from.layout.now in
+    omega (arith, ap (λ n. n * item_size c.args.to.now) (sym (length-run_offsets run) ∙ ap length c.in-Some.ensures.items ∙ length-offsets l), c.requires.few)
+
+-- ---- items that are put one after another first
+
+pub invariant_of-items-2 : goal.invariant_of-items-2
+invariant_of-items-2 c =
+    let w = c.size-width.result in
+    let n = c.items-count.result in
+    let bytes = c.bytes-2.result.now in
+    let near : to_z w64 w ≡ pos w = omega (arith, ints, c.size-width.ensures.within) in
+    let long : length bytes ≡ n * w = ap length c.bytes-2.ensures ∙ c.in_ok-packed.ensures.len ∙ ap (λ n. n * w) (length-offsets c.args.from.layout.now ∙ sym c.items-count.ensures.value) in
+    record {
+      few = omega (arith, c.items-count.ensures.limit);
+      within = subst (λ z. EachWithin (length bytes) 0 z w n) (sym near) (row-within (length bytes) 0 w w n (omega arith) (omega (arith, long)));
+    }
+
+pub returns : goal.returns
+returns c =
+    let x = c.args.from in
+    let from = x.descr.now in
+    let to = c.args.to.now in
+    let os = offsets x.layout.now in
+    let w = c.size-width.result in
+    let near : to_z w64 w ≡ pos w = omega (arith, ints, c.size-width.ensures.within) in
+    let many : c.items-count.result ≡ length os = c.items-count.ensures.value ∙ sym (length-offsets x.layout.now) in
+    let here : run_offsets (record { offset = 0; count = c.items-count.result; step = to_z w64 w }) ≡ row_offsets 0 w (length os) = λ i. run_offsets (record { offset = 0; count = many i; step = near i }) in
+    let same = (λ i. items_at (row-multiples w (length os) i) w (c.bytes-2.ensures i)) ∙ c.in_ok-packed.ensures.items in
+    let values = (λ i. cast_items from to c.bytes-2.result.now (here i)) ∙ same-cast from to w c.bytes-2.result.now x.block.now (row_offsets 0 w (length os)) os c.size-width.ensures.value same in
+    IfOk-weaker c.cast_run-2.result _ _ (λ bytes are. subst (λ vs. AreItems to vs bytes) values are) c.cast_run-2.ensures

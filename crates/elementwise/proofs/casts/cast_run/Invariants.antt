@@ -1,0 +1,18 @@
+use Rattle.std.proofs.Common.{◌≡◌, ◌+◌, ◌-◌, ◌*◌, ◌≤◌}
+use Rattle.elementwise.specs.Words.{run_offsets}
+use Rattle.elementwise.specs.inside.LeafCasts.{cast_items}
+use Rattle.elementwise.specs.inside.Made.{AreItems}
+use Rattle.elementwise.proofs.casts.cast_run.Given as goal
+
+-- the first items are cast
+abbrev pub invariant-loop-done : goal.invariant-loop-done
+invariant-loop-done l =
+    let run = l.from.items.run in
+    record {
+      few : l.done ≤ l.count;
+      room : l.done * l.size + l.cast.1 ≡ l.count * l.size;
+      cast : AreItems l.to (cast_items l.from.descr.now l.to l.from.items.bytes.now (run_offsets (record { offset = run.offset; count = l.done; step = run.step }))) l.cast.0;
+    }
+
+abbrev pub decreases-loop-done : goal.decreases-loop-done
+decreases-loop-done l = l.count - l.done

@@ -1,0 +1,42 @@
+use Rattle.std.proofs.Common.{◌≤◌, [], ◌∷◌, sym, subst, ◌∙◌, IfOk}
+use Rattle.elem_descr.specs.declared.descr.Descr.TheVariants.{Scalar as ScalarDescr}
+use Rattle.elementwise.specs.Words.{Scalar, size, number_size}
+use Rattle.elem_descr.specs.declared.scalar.Scalar.TheVariants.{Bool as BoolScalar}
+use Rattle.elementwise.specs.Casts.{cast_item}
+use Rattle.elementwise.specs.Results.{pairwise, value_in}
+use Rattle.elementwise.specs.inside.Held.{stretched}
+use Rattle.elementwise.specs.inside.Made.{IsMade}
+use Rattle.elementwise.proofs.WorkLaws.{bool_small}
+use Rattle.elementwise.specs.inside.Works.{left_of, right_of, gives}
+use Rattle.elementwise.proofs.PromotedLaws.{can-number}
+use Rattle.elementwise.proofs.HeldLaws.{number-no_text, compared_all}
+use Rattle.elementwise.proofs.MadeLaws.{made-as}
+use Rattle.elementwise.proofs.comparisons.compare_numbers.Goals as goal
+
+pub make_cast-requires-clause-can : goal.make_cast-requires-clause-can
+make_cast-requires-clause-can c = c.number_pairing-pairing.ensures.can
+
+pub make_cast-requires-clause-small : goal.make_cast-requires-clause-small
+make_cast-requires-clause-small c =
+    let p = c.number_pairing-pairing.result in
+    let is = c.number_pairing-pairing.ensures in
+    (number_size (left_of p) is.left.0, number_size (right_of p) is.right.0, subst (λ (s : Scalar). size s ≤ 8) (sym is.target) bool_small)
+
+pub make_cast-requires-clause-left : goal.make_cast-requires-clause-left
+make_cast-requires-clause-left c = can-number c.args.both.left.descr.now c.args.left.now (left_of c.number_pairing-pairing.result) c.requires.from (number-no_text c.args.left.now c.requires.left) c.number_pairing-pairing.ensures.left.0
+
+pub make_cast-requires-clause-right : goal.make_cast-requires-clause-right
+make_cast-requires-clause-right c = can-number c.args.both.right.descr.now c.args.right.now (right_of c.number_pairing-pairing.result) c.requires.other (number-no_text c.args.right.now c.requires.right) c.number_pairing-pairing.ensures.right.0
+
+pub returns : goal.returns
+returns c =
+    let p = c.number_pairing-pairing.result in
+    let is = c.number_pairing-pairing.ensures in
+    let x = c.args.both.left in
+    let y = c.args.both.right in
+    let shape = c.args.both.shape.now in
+    let given = pairwise (λ u v. gives p (value_in (cast_item x.descr.now (ScalarDescr (left_of p)) u)) (value_in (cast_item y.descr.now (ScalarDescr (right_of p)) v)) ∷ []) (stretched x shape) (stretched y shape) in
+    made-as (ScalarDescr BoolScalar) shape given _ c.make_cast.result
+    ((λ i. pairwise (λ u v. is.says (value_in (cast_item x.descr.now (ScalarDescr (left_of p)) u)) (value_in (cast_item y.descr.now (ScalarDescr (right_of p)) v)) i ∷ []) (stretched x shape) (stretched y shape))
+    ∙ compared_all c.args.comparison (left_of p) (right_of p) x.descr.now y.descr.now x.block.now y.block.now x.layout.now y.layout.now shape (c.args.left.now, c.requires.from, c.requires.left, is.left.1) (c.args.right.now, c.requires.other, c.requires.right, is.right.1) is.left.0 is.right.0 c.note_bytes.ensures c.note_bytes-2.ensures)
+    (subst (λ (s : Scalar). IfOk c.make_cast.result (IsMade (ScalarDescr s) shape given)) is.target c.make_cast.ensures)

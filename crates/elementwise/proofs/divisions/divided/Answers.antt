@@ -1,0 +1,18 @@
+use Rattle.std.proofs.Common.{sym, ◌∙◌}
+use Rattle.std.specs.Prelude.{pos, not, ◌==◌}
+use Rattle.elementwise.specs.Words.{Little, low_bits, integer}
+use Rattle.elementwise.specs.Operations.{exact}
+use Rattle.elementwise.specs.inside.PairPasses.{division_op}
+use Rattle.elementwise.proofs.WordLaws.{are_bits, applied}
+use Rattle.elementwise.proofs.divisions.divided.Goals as goal
+
+pub returns : goal.returns
+returns g c =
+    let d = c.args.divisor in
+    let op = division_op (not (g.row.LEAVES == 0)) in
+    let scalar = g.N.Number.scalar Little in
+    applied op scalar (g.N.Number.value c.args.left) (integer g.N.Number.SIGNED 8 d.bits) _ c.division.result (g.met.N.Number.is_number Little) (g.met.N.Number.is_truth Little c.args.left) c.requires.truth
+    (c.of_bits.ensures Little (pos c.division.result) (are_bits c.division.result c.division.type_inv))
+    (c.division.ensures scalar
+    ∙ (λ i. low_bits 8 (exact op scalar (integer (c.SIGNED.ensures i) 8 c.bits.result) (integer (c.SIGNED.ensures i) 8 d.bits)))
+    ∙ λ i. low_bits 8 (exact op scalar (sym c.bits.ensures.exact i) (integer g.N.Number.SIGNED 8 d.bits)))

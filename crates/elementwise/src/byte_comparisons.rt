@@ -1,0 +1,146 @@
+//! Comparisons of all items of arrays of byte strings with bytes.
+ghost use Rattle.elem_descr.specs.declared.descr.Descr.TheVariants.{Scalar as ScalarDescr};
+ghost use Rattle.elem_descr.specs.declared.scalar.Scalar.TheVariants.{Bool as BoolScalar};
+ghost use Rattle.elementwise.specs.Results.{bytes_compared_result, compared_item};
+ghost use Rattle.elementwise.specs.Words.{Bytes, C, Gives, encode_item, item_from, item_size, offsets, offsets_in, owned_items, text, without_nuls};
+ghost use Rattle.elementwise.specs.inside.Made.{IsMade};
+ghost use Rattle.std.specs.List.{flat_map};
+ghost use Rattle.std.specs.Prelude.{IfOk, [], length, map, ◌∷◌, ◌≡◌, ◌≤◌};
+
+use crate::byte_string_pairs::without_nuls;
+use crate::comparisons;
+use crate::integer_comparisons::one_item;
+use crate::operands::{Broadcast, made, spread, without_repeats};
+use crate::pairing::Pairing;
+use crate::promotion::scalar_of;
+use crate::row_pairs::{Operand, Operands};
+use arrays::{Items, Owned};
+use broadcasting::repeats;
+use elem_descr::{BytesLen, Comparison, Refusal, Scalar};
+use raw_block::{BlockBuilder, RawBlock};
+use std::alloc::{AllocError, Global};
+
+/// A comparison of the byte strings of an array with one that no NULs end.
+fn compare_with(
+    alloc: Global,
+    comparison: Comparison,
+    width: BytesLen,
+    operand: Items<'_>,
+    other: &[u8],
+) -> Result<Owned, AllocError>
+    requires { operand.descr.now ≡ ScalarDescr (Bytes width) }
+    ensures { IfOk result
+        (IsMade (ScalarDescr BoolScalar) operand.entry.layout.now.shape
+        (map (λ offset.
+        compared_item comparison (item_from operand.entry.descr.now operand.entry.block.now offset)
+        (text other.now ∷ [])) (offsets operand.entry.layout.now))) }
+{
+    let operands = Operands {
+        left: Operand::of(operand),
+        right: Operand::of(operand),
+    };
+    let _items = operand.layout.shape.items();
+    let pairing = Pairing::With {
+        comparison,
+        width,
+        other,
+    };
+    made(alloc, &pairing, operands)
+}
+
+/// A comparison with bytes that no NULs end, made once where the items repeat.
+fn compare_once(
+    alloc: Global,
+    comparison: Comparison,
+    width: BytesLen,
+    operand: Items<'_>,
+    other: &[u8],
+) -> Result<Owned, AllocError>
+    requires { operand.descr.now ≡ ScalarDescr (Bytes width) }
+    ensures { IfOk result
+        (IsMade (ScalarDescr BoolScalar) operand.entry.layout.now.shape
+        (map (λ offset.
+        compared_item comparison (item_from operand.entry.descr.now operand.entry.block.now offset)
+        (text other.now ∷ [])) (offsets operand.entry.layout.now))) }
+{
+    let layout = operand.layout;
+    if !repeats(layout) {
+        return compare_with(alloc, comparison, width, operand, other);
+    }
+    let small = without_repeats(alloc, layout, layout, &layout.shape)?;
+    let once = Items {
+        block: operand.block,
+        layout: &small.first,
+        descr: operand.descr,
+    };
+    let made = compare_with(alloc, comparison, width, once, other)?;
+    spread(alloc, &made, &layout.shape)
+}
+
+/// Bytes and the NULs that they lack.
+fn filled_up(alloc: Global, width: BytesLen, bytes: &[u8]) -> Result<RawBlock, AllocError>
+    requires { length bytes.now ≤ width }
+    ensures len { IfOk result (λ b. length b ≡ width) }
+    ensures same { IfOk result (λ b. without_nuls b ≡ without_nuls bytes.now) }
+{
+    let width = width.get();
+    let mut block = BlockBuilder::try_new(alloc, width)?;
+    block.push_bytes(bytes);
+    block.push_zeros(width - bytes.len());
+    Ok(block.finish())
+}
+
+/// A comparison of the byte strings of an array with one that they can hold.
+fn compare_with_item(
+    alloc: Global,
+    comparison: Comparison,
+    width: BytesLen,
+    operand: Items<'_>,
+    bytes: &[u8],
+) -> Result<Owned, AllocError>
+    requires from { operand.descr.now ≡ ScalarDescr (Bytes width) }
+    requires held { length bytes.now ≤ width }
+    ensures { IfOk result
+        (IsMade (ScalarDescr BoolScalar) operand.entry.layout.now.shape
+        (map (λ offset.
+        compared_item comparison (item_from operand.entry.descr.now operand.entry.block.now offset)
+        (text (without_nuls bytes.now) ∷ [])) (offsets operand.entry.layout.now))) }
+{
+    let block = filled_up(alloc, width, bytes)?;
+    let item = one_item(alloc, &Scalar::Bytes(width), block)?;
+    let both = Broadcast {
+        left: operand,
+        right: item.items(),
+        shape: &operand.layout.shape,
+    };
+    comparisons::compare_once(alloc, comparison, both)
+}
+
+/// What a comparison says of the byte strings of an array and of bytes, which may be more than an item
+/// has, as bools in a block of their own in C order. NULs at the end of the bytes do not count. Refused
+/// are records and numbers, as `NotForThisKind`.
+pub fn compare_bytes(
+    alloc: Global,
+    comparison: Comparison,
+    operand: Items<'_>,
+    bytes: &[u8],
+) -> Result<Owned, Refusal>
+    ensures gives { Gives (λ o. (o.descr, o.layout.shape)) result
+        (bytes_compared_result operand.entry.descr.now operand.entry.layout.now.shape) }
+    ensures order { IfOk result
+        (λ o. offsets o.layout ≡ offsets_in C (item_size o.descr) o.layout.shape) }
+    ensures items { IfOk result (λ o. map (item_from o.descr o.block) (offsets o.layout)
+        ≡ map (λ offset. compared_item comparison
+        (item_from operand.entry.descr.now operand.entry.block.now offset)
+        (text (without_nuls bytes.now) ∷ [])) (offsets operand.entry.layout.now)) }
+    ensures encoded { IfOk result (λ o. o.block ≡ flat_map (encode_item o.descr) (owned_items o)) }
+{
+    let from = scalar_of(operand.descr)?;
+    let Scalar::Bytes(width) = from else {
+        return Err(Refusal::NotForThisKind);
+    };
+    if bytes.len() <= width.get() {
+        return Ok(compare_with_item(alloc, comparison, width, operand, bytes)?);
+    }
+    Ok(compare_once(alloc, comparison, width, operand, without_nuls(bytes))?)
+}

@@ -1,0 +1,116 @@
+//! Which casts exist, and which of them leave the bytes of items as they are.
+ghost use Rattle.elementwise.specs.Casts.{can_cast, can_cast_fields, can_cast_scalar, cast_item};
+ghost use Rattle.elementwise.specs.Words.{AreAlike, item_from, item_size, leaf_at, leaves_of, listed};
+ghost use Rattle.elementwise.specs.inside.FieldCasts.{can_cast_field};
+ghost use Rattle.std.specs.List.{list_all};
+ghost use Rattle.std.specs.Prelude.{IsTrue, length, ℕ, ◌+◌, ◌<◌, ◌↔◌, ◌≡◌, ◌≤◌};
+
+use crate::casts::leaf_of;
+use crate::operands::note_bytes;
+use elem_descr::{Descr, Field, Leaf, Scalar};
+use raw_block::RawBlock;
+
+/// Whether a value of one scalar can be cast to another.
+fn can_cast_scalar(from: &Scalar, to: &Scalar) -> bool
+    ensures { result ≡ can_cast_scalar from.now to.now }
+{
+    match (from, to) {
+        (Scalar::Bytes(_), Scalar::Bytes(_)) => true,
+        (Scalar::Bytes(_), _) => false,
+        (_, Scalar::Bytes(_)) => false,
+        _ => true,
+    }
+}
+
+/// Whether a scalar can be cast to each of the leaves.
+fn can_cast_to_all(from: &Scalar, leaves: &[Leaf]) -> bool
+    ensures { result ≡ list_all (λ leaf. can_cast_scalar from.now leaf.scalar) leaves.now }
+{
+    for leaf in leaves {
+        if !can_cast_scalar(from, &leaf.scalar) {
+            return false;
+        }
+    }
+    true
+}
+
+/// Whether a field can be cast to a field.
+#[cycle(can_cast_fields)]
+fn can_cast_field(from: &Descr, to: &Descr) -> bool
+    ensures { result ≡ can_cast_field from.now to.now }
+{
+    match (from, to) {
+        (Descr::Scalar(from), Descr::Scalar(to)) => can_cast_scalar(from, to),
+        (Descr::Record(from), Descr::Record(to)) => can_cast_fields(from.fields(), to.fields()),
+        _ => false,
+    }
+}
+
+/// Whether fields can be cast to fields, one by one.
+#[cycle(can_cast_fields)]
+fn can_cast_fields(from: &[Field], to: &[Field]) -> bool
+    ensures { result ≡ can_cast_fields (listed from.now) (listed to.now) }
+{
+    if from.len() != to.len() {
+        return false;
+    }
+    for (k, field) in from.iter().enumerate() {
+        if !can_cast_field(&field.descr, &to[k].descr) {
+            return false;
+        }
+    }
+    true
+}
+
+/// Whether items of one element type can be cast to another.
+pub fn can_cast(from: &Descr, to: &Descr) -> bool
+    ensures { result ≡ can_cast from.now to.now }
+{
+    match (from, to) {
+        (Descr::Scalar(from), Descr::Scalar(to)) => can_cast_scalar(from, to),
+        (Descr::Scalar(from), Descr::Record(to)) => can_cast_to_all(from, to.leaves()),
+        _ => can_cast_field(from, to),
+    }
+}
+
+/// Whether two leaves with a number are the same.
+fn is_same_leaf(a: &Descr, b: &Descr, k: usize) -> bool
+    requires a { k < length (leaves_of a.now) }
+    requires b { k < length (leaves_of b.now) }
+    ensures { IsTrue result ↔ leaf_at a.now k ≡ leaf_at b.now k }
+{
+    let leaf = leaf_of(a, k);
+    let other = leaf_of(b, k);
+    leaf == other
+}
+
+/// Whether items of two element types lie alike in bytes.
+pub fn are_alike(a: &Descr, b: &Descr) -> bool
+    ensures { IsTrue result ↔ AreAlike a.now b.now }
+{
+    if a.size() != b.size() {
+        return false;
+    }
+    let count = a.leaf_count();
+    if count != b.leaf_count() {
+        return false;
+    }
+    for k in 0..count {
+        if !is_same_leaf(a, b, k) {
+            return false;
+        }
+    }
+    true
+}
+
+/// Whether a cast leaves the items of a block as they are, byte for byte: whether they lie alike.
+pub fn keeps_items(block: &RawBlock, from: &Descr, to: &Descr) -> bool
+    ensures alike { IsTrue result → AreAlike from.now to.now }
+    ensures known { AreAlike from.now to.now → IsTrue result }
+    ensures items { IsTrue result → (offset : ℕ) → offset + item_size from.now ≤ length block.now
+        → cast_item from.now to.now (item_from from.now block.now offset)
+        ≡ item_from to.now block.now offset }
+{
+    note_bytes(block);
+    are_alike(from, to)
+}

@@ -1,0 +1,296 @@
+//! Casts: the items of an array as items of another element type.
+ghost use Rattle.elem_descr.specs.declared.descr.Descr.TheVariants.{Scalar as ScalarDescr};
+ghost use Rattle.elementwise.specs.Casts.{can_cast, can_cast_scalar, cast_item};
+ghost use Rattle.elementwise.specs.Words.{C, NoSuchCast, OutOfMemory, TooLarge, count, encode_item, item_from, item_size, leaf_at, leaves_of, max_bytes, offsets, offsets_in, owned_items, place, run_offsets, size};
+ghost use Rattle.elementwise.specs.inside.LeafCasts.{HasSource, cast_items, source, with_leaf};
+ghost use Rattle.elementwise.specs.inside.Made.{AreItems, IsMade};
+ghost use Rattle.std.specs.List.{flat_map};
+ghost use Rattle.std.specs.Prelude.{IfErr, IfOk, drop, if◌then◌else◌, length, map, nat_le, true, ℕ, ◌*◌, ◌+◌, ◌<◌, ◌≡◌, ◌≤◌};
+
+use crate::castable::can_cast;
+use crate::leaf_casts::{Column, Places};
+use crate::operands::made;
+use crate::pairing::{Pairing, Work};
+use crate::row_pairs::{Operand, Operands};
+use arrays::{Items, Owned, gather};
+use elem_descr::{Descr, Leaf, MemoryOrder, Refusal, Scalar};
+use machine_numbers::{Side, place};
+use raw_block::{BlockBuilder, RawBlock};
+use shape_strides::{MAX_BYTES, Run};
+use std::alloc::{AllocError, Global};
+
+/// How many bytes stay near while a band is cast.
+const NEAR: usize = 8192;
+
+/// The fewest items of a band.
+const FEW: usize = 32;
+
+/// The leaf with a number.
+pub(crate) fn leaf_of(descr: &Descr, k: usize) -> Leaf
+    requires { k < length (leaves_of descr.now) }
+    ensures value { result ≡ leaf_at descr.now k }
+    ensures within { result.at + size result.scalar ≤ item_size descr.now }
+{
+    let (scalar, at) = descr.leaf_at(k);
+    Leaf { scalar, at }
+}
+
+/// The leaf that is cast to the one with a number.
+fn source_of(descr: &Descr, k: usize) -> Leaf
+    requires { HasSource descr.now k }
+    ensures value { result ≡ source descr.now k }
+    ensures within { result.at + size result.scalar ≤ item_size descr.now }
+{
+    match descr {
+        Descr::Scalar(_) => leaf_of(descr, 0),
+        Descr::Record(_) => leaf_of(descr, k),
+    }
+}
+
+/// Numbers or byte strings as those of another scalar, each pushed once.
+pub(crate) fn cast_scalars(
+    alloc: Global,
+    from: Operand<'_>,
+    scalar: &Scalar,
+    to: &Scalar,
+) -> Result<Owned, AllocError>
+    requires from { from.descr.now ≡ ScalarDescr scalar.now }
+    requires can { can_cast_scalar scalar.now to.now ≡ true }
+    requires few { count from.layout.now.shape * size to.now ≤ max_bytes }
+    ensures { IfOk result
+        (IsMade (ScalarDescr to.now) from.entry.layout.now.shape
+        (map (λ offset.
+        cast_item from.entry.descr.now (ScalarDescr to.now)
+        (item_from from.entry.descr.now from.entry.bytes.now offset))
+        (offsets from.entry.layout.now))) }
+{
+    let operands = Operands {
+        left: from,
+        right: from,
+    };
+    match (scalar, to) {
+        (Scalar::Bytes(width), Scalar::Bytes(target)) => {
+            let pairing = Pairing::Cut {
+                width: *width,
+                target: *target,
+            };
+            made(alloc, &pairing, operands)
+        }
+        _ => {
+            let pairing = Pairing::Alike {
+                work: Work::Cast(*to),
+                scalar: *scalar,
+            };
+            made(alloc, &pairing, operands)
+        }
+    }
+}
+
+/// The bytes from a place on, which may lie behind the last one.
+fn bytes_from(bytes: &[u8], at: usize) -> &[u8]
+    ensures { result.now ≡ drop at bytes.now }
+{
+    &bytes[at.min(bytes.len())..]
+}
+
+/// A run of items of an element type.
+#[derive(Clone, Copy, Drop)]
+struct ItemRun<'a, 'b> {
+    items: Side<'a>,
+    descr: &'b Descr,
+    ghost wide: { items.width ≡ item_size descr.now },
+}
+
+impl<'a, 'b> ItemRun<'a, 'b> {
+    ghost use Rattle.elementwise.specs.inside.LeafCasts.{run_part};
+
+    /// So many of the items, from one of them on.
+    fn part(self, first: usize, count: usize) -> ItemRun<'a, 'b>
+        requires some { 1 ≤ count }
+        requires within { first + count ≤ self.items.run.count }
+        ensures run { result.items.run ≡ run_part self.entry.items.run first count }
+        ensures bytes { result.items.bytes.now ≡ self.entry.items.bytes.now }
+        ensures descr { result.descr.now ≡ self.entry.descr.now }
+    {
+        let items = self.items;
+        let run = Run {
+            offset: place(items.run, first),
+            count,
+            step: items.run.step,
+        };
+        ItemRun {
+            items: Side {
+                bytes: items.bytes,
+                run,
+                width: items.width,
+            },
+            descr: self.descr,
+        }
+    }
+}
+
+/// Casts a leaf of each item of a run, and puts it where it lies in rows of items. The block is taken
+/// and given back.
+fn cast_leaf(rows: RawBlock, from: ItemRun<'_, '_>, to: &Descr, k: usize) -> RawBlock
+    requires can { can_cast from.descr.now to.now ≡ true }
+    requires k { k < length (leaves_of to.now) }
+    requires room { from.items.run.count * item_size to.now ≤ length rows }
+    ensures written { result
+        ≡ with_leaf from.entry.descr.now to.now from.entry.items.bytes.now
+        (run_offsets from.entry.items.run) k rows }
+    ensures len { length result ≡ length rows }
+{
+    let leaf = leaf_of(to, k);
+    let source = source_of(from.descr, k);
+    let column = Column {
+        from: Side {
+            bytes: bytes_from(from.items.bytes, source.at),
+            run: from.items.run,
+            width: source.scalar.size(),
+        },
+        to: Places {
+            at: leaf.at,
+            width: leaf.scalar.size(),
+            row: to.size(),
+        },
+        rows,
+    };
+    column.cast(&source.scalar, &leaf.scalar)
+}
+
+/// A block that the items of a run, cast leaf by leaf, just fill.
+fn cast_band(alloc: Global, from: ItemRun<'_, '_>, to: &Descr) -> Result<RawBlock, AllocError>
+    requires can { can_cast from.descr.now to.now ≡ true }
+    requires few { from.items.run.count * item_size to.now ≤ max_bytes }
+    ensures { IfOk result
+        (AreItems to.now
+        (cast_items from.entry.descr.now to.now from.entry.items.bytes.now
+        (run_offsets from.entry.items.run))) }
+{
+    let _from_item = from.descr.size();
+    let mut rows = RawBlock::try_zeroed(alloc, from.items.run.count * to.size())?;
+    for k in 0..to.leaf_count() {
+        rows = cast_leaf(rows, from, to, k);
+    }
+    Ok(rows)
+}
+
+/// A block that the items of a run, cast, just fill. They are cast in bands that stay near, so that each
+/// line of the block is written once.
+fn cast_run(alloc: Global, from: ItemRun<'_, '_>, to: &Descr) -> Result<RawBlock, AllocError>
+    requires can { can_cast from.descr.now to.now ≡ true }
+    requires few { from.items.run.count * item_size to.now ≤ max_bytes }
+    ensures { IfOk result
+        (AreItems to.now
+        (cast_items from.entry.descr.now to.now from.entry.items.bytes.now
+        (run_offsets from.entry.items.run))) }
+{
+    let count = from.items.run.count;
+    let size = to.size();
+    let most = FEW.max(NEAR / size);
+    let mut cast = BlockBuilder::try_new(alloc, count * size)?;
+    let mut done = 0;
+    while done < count {
+        let next = most.min(count - done);
+        let band = cast_band(alloc, from.part(done, next), to)?;
+        cast.push_bytes(band.bytes());
+        done += next;
+    }
+    Ok(cast.finish())
+}
+
+/// A block that items, cast, just fill. Items that make no one run are first put one after another.
+fn cast_block(alloc: Global, from: Items<'_>, to: &Descr) -> Result<RawBlock, AllocError>
+    requires can { can_cast from.descr.now to.now ≡ true }
+    requires few { count from.layout.now.shape * item_size to.now ≤ max_bytes }
+    ensures { IfOk result
+        (AreItems to.now
+        (cast_items from.entry.descr.now to.now from.entry.block.now
+        (offsets from.entry.layout.now))) }
+{
+    let descr = from.descr;
+    let width = descr.size();
+    let count = from.layout.shape.items();
+    if let Some(run) = from.layout.as_one_run() {
+        let items = Side {
+            bytes: from.block.bytes(),
+            run,
+            width,
+        };
+        return cast_run(alloc, ItemRun { items, descr }, to);
+    }
+    let packed = gather(alloc, from.block, from.layout, width)?;
+    let items = Side {
+        bytes: packed.bytes(),
+        run: Run {
+            offset: 0,
+            count,
+            step: width as isize,
+        },
+        width,
+    };
+    cast_run(alloc, ItemRun { items, descr }, to)
+}
+
+/// Items, cast leaf by leaf, in a block of their own in C order.
+fn cast_records(alloc: Global, from: Items<'_>, to: &Descr) -> Result<Owned, AllocError>
+    requires can { can_cast from.descr.now to.now ≡ true }
+    requires few { count from.layout.now.shape * item_size to.now ≤ max_bytes }
+    ensures { IfOk result
+        (IsMade to.now from.entry.layout.now.shape
+        (map (λ offset.
+        cast_item from.entry.descr.now to.now
+        (item_from from.entry.descr.now from.entry.block.now offset))
+        (offsets from.entry.layout.now))) }
+{
+    let cast = cast_block(alloc, from, to)?;
+    let descr = Descr::try_copy(alloc, to)?;
+    Owned::over(alloc, descr, &from.layout.shape, MemoryOrder::C, cast)
+}
+
+/// Items as items to which they can be cast.
+pub(crate) fn cast_items(alloc: Global, from: Items<'_>, to: &Descr) -> Result<Owned, AllocError>
+    requires can { can_cast from.descr.now to.now ≡ true }
+    requires few { count from.layout.now.shape * item_size to.now ≤ max_bytes }
+    ensures { IfOk result
+        (IsMade to.now from.entry.layout.now.shape
+        (map (λ offset.
+        cast_item from.entry.descr.now to.now
+        (item_from from.entry.descr.now from.entry.block.now offset))
+        (offsets from.entry.layout.now))) }
+{
+    match (from.descr, to) {
+        (Descr::Scalar(scalar), Descr::Scalar(target)) => {
+            cast_scalars(alloc, Operand::of(from), scalar, target)
+        }
+        _ => cast_records(alloc, from, to),
+    }
+}
+
+/// Items as items of another element type, in a block of their own in C order. Where there is no such
+/// cast that is the refusal, and more than `MAX_BYTES` bytes of items are too many.
+pub fn cast(alloc: Global, from: Items<'_>, to: &Descr) -> Result<Owned, Refusal>
+    ensures descr { IfOk result (λ o. o.descr ≡ to.now) }
+    ensures shape { IfOk result (λ o. o.layout.shape ≡ from.entry.layout.now.shape) }
+    ensures order { IfOk result
+        (λ o. offsets o.layout ≡ offsets_in C (item_size to.now) from.entry.layout.now.shape) }
+    ensures items { IfOk result (λ o. map (item_from to.now o.block) (offsets o.layout)
+        ≡ map (λ offset. cast_item from.entry.descr.now to.now
+        (item_from from.entry.descr.now from.entry.block.now offset))
+        (offsets from.entry.layout.now)) }
+    ensures encoded { IfOk result (λ o. o.block ≡ flat_map (encode_item o.descr) (owned_items o)) }
+    ensures can { IfOk result (λ _. can_cast from.entry.descr.now to.now ≡ true) }
+    ensures within { IfOk result (λ _. count from.entry.layout.now.shape * item_size to.now
+        ≤ max_bytes) }
+    ensures refused { IfErr result (λ refusal. refusal ≡ (if can_cast from.entry.descr.now to.now
+        then (if nat_le (count from.entry.layout.now.shape * item_size to.now) max_bytes
+        then OutOfMemory else TooLarge) else NoSuchCast)) }
+{
+    if !can_cast(from.descr, to) {
+        return Err(Refusal::NoSuchCast);
+    }
+    if from.layout.shape.items() * to.size() > MAX_BYTES {
+        return Err(Refusal::TooLarge);
+    }
+    Ok(cast_items(alloc, from, to)?)
+}

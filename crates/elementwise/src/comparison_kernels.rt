@@ -1,0 +1,92 @@
+//! Comparisons of the numbers of operands: which kernel does them.
+ghost use Rattle.elem_descr.specs.declared.scalar.Scalar.TheVariants.{Bool as BoolScalar};
+ghost use Rattle.elementwise.specs.Comparisons.{says};
+ghost use Rattle.elementwise.specs.Words.{item_size};
+ghost use Rattle.elementwise.specs.inside.Operands.{made_of_all, pairs_of};
+ghost use Rattle.elementwise.specs.inside.PairPasses.{number_pair, said, says_number};
+ghost use Rattle.std.specs.Prelude.{if◌then◌else◌, int_lt, pos, ◌++◌, ◌+◌, ◌≡◌, ◌≤◌};
+
+use crate::bits;
+use crate::kernels::{Kernel, push_made};
+use crate::row_pairs::Operands;
+use elem_descr::Comparison;
+use machine_numbers::{LowFirst, Number, Ordered};
+use raw_block::BlockBuilder;
+
+/// What a comparison says of two values of which it is known whether the first is below or above the second.
+pub(crate) fn says(comparison: Comparison, below: bool, above: bool) -> bool
+    ensures { result ≡ says comparison below above }
+{
+    match comparison {
+        Comparison::Equal => !(below || above),
+        Comparison::NotEqual => below || above,
+        Comparison::Less => below,
+        Comparison::LessOrEqual => !above,
+        Comparison::Greater => above,
+        Comparison::GreaterOrEqual => !below,
+    }
+}
+
+/// A comparison as what is made of two numbers, which may be of two types: `HOLDS` where the first is below
+/// the second, if `BELOW`, and where it is above, if `ABOVE`; else the other bool.
+struct Said<const BELOW: bool, const ABOVE: bool, const HOLDS: bool>;
+
+impl<const BELOW: bool, const ABOVE: bool, const HOLDS: bool, A: Number, B: Number> Kernel<
+    A,
+    B,
+    bool,
+> for Said<BELOW, ABOVE, HOLDS> {
+    ghost makes = { λ a b. if said BELOW ABOVE HOLDS (int_lt a b) (int_lt b a)
+        then pos 1 else pos 0 };
+
+    #[inline(always)]
+    fn make(left: A, right: B) -> bool {
+        let first = left.bits();
+        let second = right.bits();
+        let below = bits::is_below(A::SIGNED, first, B::SIGNED, second);
+        let above = bits::is_below(B::SIGNED, second, A::SIGNED, first);
+        (BELOW & below | ABOVE & above) == HOLDS
+    }
+}
+
+/// A comparison of numbers of two types, whose bools are pushed.
+pub(crate) fn compare<A: Number, B: Number, O: Ordered>(
+    comparison: Comparison,
+    block: BlockBuilder,
+    operands: Operands<'_, '_>,
+) -> BlockBuilder
+    requires left { item_size operands.left.descr.now ≡ A.WIDTH }
+    requires right { item_size operands.right.descr.now ≡ B.WIDTH }
+    requires room { pairs_of operands ≤ block.1 }
+    ensures bytes { result.0 ≡ block.0
+        ++ made_of_all
+        (number_pair (A.scalar O.order) (B.scalar O.order) BoolScalar (says_number comparison))
+        operands.entry }
+    ensures left { pairs_of operands.entry + result.1 ≡ block.1 }
+{
+    match comparison {
+        Comparison::Equal => push_made::<Said<true, true, false>, A, B, bool, O, LowFirst>(
+            block, operands,
+        ),
+        Comparison::NotEqual => push_made::<Said<true, true, true>, A, B, bool, O, LowFirst>(
+            block, operands,
+        ),
+        Comparison::Less => push_made::<Said<true, false, true>, A, B, bool, O, LowFirst>(
+            block, operands,
+        ),
+        Comparison::LessOrEqual => push_made::<Said<false, true, false>, A, B, bool, O, LowFirst>(
+            block, operands,
+        ),
+        Comparison::Greater => push_made::<Said<false, true, true>, A, B, bool, O, LowFirst>(
+            block, operands,
+        ),
+        Comparison::GreaterOrEqual => push_made::<
+            Said<true, false, false>,
+            A,
+            B,
+            bool,
+            O,
+            LowFirst,
+        >(block, operands),
+    }
+}

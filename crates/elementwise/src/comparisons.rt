@@ -1,0 +1,213 @@
+//! Comparisons of all items of arrays.
+ghost use Rattle.elem_descr.specs.declared.descr.Descr.TheVariants.{Scalar as ScalarDescr};
+ghost use Rattle.elem_descr.specs.declared.scalar.Scalar.TheVariants.{Bool as BoolScalar};
+ghost use Rattle.elementwise.specs.Results.{compared_item, compared_result, pairwise, stretched_items};
+ghost use Rattle.elementwise.specs.Words.{Bytes, C, Gives, IsNumber, encode_item, item_from, item_size, offsets, offsets_in, owned_items};
+ghost use Rattle.elementwise.specs.inside.Held.{stretched};
+ghost use Rattle.elementwise.specs.inside.Made.{IsMade};
+ghost use Rattle.elementwise.specs.inside.Works.{AreComparable, IsComparing};
+ghost use Rattle.std.specs.List.{flat_map};
+ghost use Rattle.std.specs.Prelude.{IfOk, map, ◌≡◌};
+
+use crate::apply::make_cast;
+use crate::byte_string_pairs::ComparingTexts;
+use crate::byte_strings::trimmed_in;
+use crate::operands::{Broadcast, made, note_bytes, read_as, spread, without_repeats};
+use crate::pairing::{Pairing, Work};
+use crate::promotion::{common_type, compared_type, scalar_of};
+use crate::row_pairs::{Operand, Operands};
+use arrays::{Items, Owned};
+use broadcasting::{common, repeats, stretched_to};
+use elem_descr::{Comparison, Descr, Refusal, Scalar};
+use machine_numbers::{is_signed, little};
+use std::alloc::{AllocError, Global};
+
+/// How numbers of two scalars are compared: as those of the smallest scalar that holds both, and where there
+/// is none as integers of eight bytes, of which the first have a sign where the second have none, or the
+/// other way round.
+fn number_pairing<'a>(
+    comparison: Comparison,
+    left: &Scalar,
+    right: &Scalar,
+    both: Broadcast<'a>,
+) -> Pairing<'a>
+    requires left { IsNumber left.now }
+    requires right { IsNumber right.now }
+    ensures { IsComparing comparison left.now right.now result }
+{
+    let native = little(left);
+    let work = Work::Compare(comparison);
+    if native == little(right) {
+        let scalar = read_as(&native, both.left, both.right);
+        return Pairing::Alike { work, scalar };
+    }
+    match common_type(left, right) {
+        Ok(scalar) => Pairing::Alike { work, scalar },
+        Err(_) => Pairing::Signs {
+            comparison,
+            left_signed: is_signed(left),
+        },
+    }
+}
+
+/// A comparison of numbers of two scalars, by value.
+fn compare_numbers(
+    alloc: Global,
+    comparison: Comparison,
+    left: &Scalar,
+    right: &Scalar,
+    both: Broadcast<'_>,
+) -> Result<Owned, AllocError>
+    requires from { both.left.descr.now ≡ ScalarDescr left.now }
+    requires other { both.right.descr.now ≡ ScalarDescr right.now }
+    requires left { IsNumber left.now }
+    requires right { IsNumber right.now }
+    ensures { IfOk result
+        (IsMade (ScalarDescr BoolScalar) both.entry.shape.now
+        (pairwise (compared_item comparison) (stretched both.entry.left both.entry.shape.now)
+        (stretched both.entry.right both.entry.shape.now))) }
+{
+    note_bytes(both.left.block);
+    note_bytes(both.right.block);
+    let pairing = number_pairing(comparison, left, right, both);
+    make_cast(alloc, &pairing, both.left, both.right, both.shape)
+}
+
+/// A comparison of byte strings. The NULs at the ends of those that are shown more than once are looked at
+/// once.
+fn compare_texts(
+    alloc: Global,
+    texts: ComparingTexts,
+    both: Broadcast<'_>,
+) -> Result<Owned, AllocError>
+    requires left { both.left.descr.now ≡ ScalarDescr (Bytes texts.width) }
+    requires right { both.right.descr.now ≡ ScalarDescr (Bytes texts.other_width) }
+    ensures { IfOk result
+        (IsMade (ScalarDescr BoolScalar) both.entry.shape.now
+        (pairwise (compared_item texts.comparison) (stretched both.entry.left both.entry.shape.now)
+        (stretched both.entry.right both.entry.shape.now))) }
+{
+    let Broadcast { left, right, shape } = both;
+    let _items = shape.items();
+    let width = trimmed_in(alloc, left, texts.width, texts.other_width, shape)?;
+    let other_width = trimmed_in(alloc, right, texts.other_width, texts.width, shape)?;
+    let cut = Pairing::Texts(ComparingTexts {
+        comparison: texts.comparison,
+        width,
+        other_width,
+    });
+    let descr = Descr::Scalar(Scalar::Bytes(width));
+    let other_descr = Descr::Scalar(Scalar::Bytes(other_width));
+    let first = stretched_to(alloc, left.layout, shape)?;
+    let second = stretched_to(alloc, right.layout, shape)?;
+    let operands = Operands {
+        left: Operand::of(Items {
+            block: left.block,
+            layout: &first,
+            descr: &descr,
+        }),
+        right: Operand::of(Items {
+            block: right.block,
+            layout: &second,
+            descr: &other_descr,
+        }),
+    };
+    made(alloc, &cut, operands)
+}
+
+/// A comparison of numbers, or of byte strings.
+fn compare_scalars(
+    alloc: Global,
+    comparison: Comparison,
+    both: Broadcast<'_>,
+) -> Result<Owned, AllocError>
+    requires { AreComparable both.left.descr.now both.right.descr.now }
+    ensures { IfOk result
+        (IsMade (ScalarDescr BoolScalar) both.entry.shape.now
+        (pairwise (compared_item comparison) (stretched both.entry.left both.entry.shape.now)
+        (stretched both.entry.right both.entry.shape.now))) }
+{
+    match (both.left.descr, both.right.descr) {
+        (Descr::Scalar(Scalar::Bytes(width)), Descr::Scalar(Scalar::Bytes(other_width))) => {
+            let texts = ComparingTexts {
+                comparison,
+                width: *width,
+                other_width: *other_width,
+            };
+            compare_texts(alloc, texts, both)
+        }
+        (Descr::Scalar(left), Descr::Scalar(right)) => {
+            compare_numbers(alloc, comparison, left, right, both)
+        }
+        _ => unreachable!(),
+    }
+}
+
+/// A comparison of numbers, or of byte strings, made once where the items of both repeat.
+pub(crate) fn compare_once(
+    alloc: Global,
+    comparison: Comparison,
+    both: Broadcast<'_>,
+) -> Result<Owned, AllocError>
+    requires { AreComparable both.left.descr.now both.right.descr.now }
+    ensures { IfOk result
+        (IsMade (ScalarDescr BoolScalar) both.entry.shape.now
+        (pairwise (compared_item comparison) (stretched both.entry.left both.entry.shape.now)
+        (stretched both.entry.right both.entry.shape.now))) }
+{
+    let Broadcast { left, right, shape } = both;
+    if !repeats(left.layout) && !repeats(right.layout) {
+        return compare_scalars(alloc, comparison, both);
+    }
+    let small = without_repeats(alloc, left.layout, right.layout, shape)?;
+    let once = Broadcast {
+        left: Items {
+            block: left.block,
+            layout: &small.first,
+            descr: left.descr,
+        },
+        right: Items {
+            block: right.block,
+            layout: &small.second,
+            descr: right.descr,
+        },
+        shape: &small.shape,
+    };
+    let made = compare_scalars(alloc, comparison, once)?;
+    spread(alloc, &made, shape)
+}
+
+/// What a comparison says of the items of two arrays that are broadcast together, as bools in a block of
+/// their own in C order: of numbers by value, and of byte strings byte by byte, where bytes have no sign
+/// and a byte string is below a longer one that begins with it. Refused as `compared_type` refuses,
+/// records as `NotForThisKind`; then as `common` refuses: `ShapesDoNotBroadcast`, `TooLarge`.
+pub fn compare(
+    alloc: Global,
+    comparison: Comparison,
+    left: Items<'_>,
+    right: Items<'_>,
+) -> Result<Owned, Refusal>
+    ensures gives { Gives (λ o. (o.descr, o.layout.shape)) result
+        (compared_result left.entry.descr.now left.entry.layout.now.shape right.entry.descr.now
+        right.entry.layout.now.shape) }
+    ensures order { IfOk result
+        (λ o. offsets o.layout ≡ offsets_in C (item_size o.descr) o.layout.shape) }
+    ensures items { IfOk result (λ o. map (item_from o.descr o.block) (offsets o.layout)
+        ≡ pairwise (compared_item comparison)
+        (stretched_items left.entry.descr.now left.entry.block.now left.entry.layout.now
+        o.layout.shape)
+        (stretched_items right.entry.descr.now right.entry.block.now right.entry.layout.now
+        o.layout.shape)) }
+    ensures encoded { IfOk result (λ o. o.block ≡ flat_map (encode_item o.descr) (owned_items o)) }
+{
+    let from = scalar_of(left.descr)?;
+    let other = scalar_of(right.descr)?;
+    compared_type(from, other)?;
+    let shape = common(alloc, &[&left.layout.shape, &right.layout.shape])?;
+    let both = Broadcast {
+        left,
+        right,
+        shape: &shape,
+    };
+    Ok(compare_once(alloc, comparison, both)?)
+}

@@ -1,0 +1,143 @@
+//! Comparisons of all items of arrays of numbers with one integer.
+ghost use Rattle.elem_descr.specs.declared.descr.Descr.TheVariants.{Scalar as ScalarDescr};
+ghost use Rattle.elem_descr.specs.declared.scalar.Scalar.TheVariants.{Bool as BoolScalar};
+ghost use Rattle.elementwise.specs.Results.{compared_item, integer_compared_result, truth_item};
+ghost use Rattle.elementwise.specs.Words.{C, Gives, IsNumber, count, decode, encode_item, item_from, item_size, little, max_bytes, number, offsets, offsets_in, owned_items, size, wrap};
+ghost use Rattle.elementwise.specs.inside.Made.{IsMade};
+ghost use Rattle.std.specs.List.{flat_map};
+ghost use Rattle.std.specs.Prelude.{IfOk, [], if◌then◌else◌, length, map, replicate, ◌∷◌, ◌≡◌, ◌≢◌, ◌≤◌};
+
+use crate::comparison_kernels::says;
+use crate::comparisons::compare_once;
+use crate::operands::{Broadcast, note_bytes};
+use crate::promotion::scalar_of;
+use arrays::{Items, Owned};
+use elem_descr::{Comparison, Descr, MemoryOrder, Refusal, Scalar, is_value, num_write};
+use machine_numbers::{is_text, little};
+use raw_block::RawBlock;
+use shape_strides::Shape;
+use std::alloc::{AllocError, Global};
+
+/// A number as a block.
+fn number_block(alloc: Global, scalar: &Scalar, integer: i128) -> Result<RawBlock, AllocError>
+    requires { IsNumber scalar.now }
+    ensures len { IfOk result (λ b. length b ≡ size scalar.now) }
+    ensures value { IfOk result (λ b. decode scalar.now b ≡ number (wrap scalar.now integer)) }
+{
+    let mut block = RawBlock::try_zeroed(alloc, scalar.size())?;
+    num_write(*scalar, integer, block.bytes_mut());
+    Ok(block)
+}
+
+/// A value as an array of one item without axes, over its bytes.
+pub(crate) fn one_item(alloc: Global, scalar: &Scalar, block: RawBlock) -> Result<Owned, AllocError>
+    requires whole { length block ≡ size scalar.now }
+    requires small { length block ≤ max_bytes }
+    ensures descr { IfOk result (λ o. o.descr ≡ ScalarDescr scalar.now) }
+    ensures shape { IfOk result (λ o. o.layout.shape ≡ []) }
+    ensures items { IfOk result (λ o. owned_items o ≡ (decode scalar.now block ∷ []) ∷ []) }
+{
+    let shape = Shape::from_lengths(alloc, &[])?;
+    let descr = Descr::Scalar(*scalar);
+    Owned::over(alloc, descr, &shape, MemoryOrder::C, block)
+}
+
+/// A comparison of the numbers of an array with an integer that their type holds.
+fn compare_with_value(
+    alloc: Global,
+    comparison: Comparison,
+    from: &Scalar,
+    operand: Items<'_>,
+    integer: i128,
+) -> Result<Owned, AllocError>
+    requires from { operand.descr.now ≡ ScalarDescr from.now }
+    requires number { IsNumber from.now }
+    requires held { wrap (little from.now) integer ≡ integer }
+    ensures { IfOk result
+        (IsMade (ScalarDescr BoolScalar) operand.entry.layout.now.shape
+        (map (λ offset.
+        compared_item comparison (item_from operand.entry.descr.now operand.entry.block.now offset)
+        (number integer ∷ [])) (offsets operand.entry.layout.now))) }
+{
+    let scalar = little(from);
+    let block = number_block(alloc, &scalar, integer)?;
+    let item = one_item(alloc, &scalar, block)?;
+    let both = Broadcast {
+        left: operand,
+        right: item.items(),
+        shape: &operand.layout.shape,
+    };
+    compare_once(alloc, comparison, both)
+}
+
+/// One bool so many times, as a block.
+fn bool_block(alloc: Global, holds: bool, len: usize) -> Result<RawBlock, AllocError>
+    ensures { IfOk result (λ b. b ≡ replicate len (if holds then 1 else 0)) }
+{
+    let mut block = RawBlock::try_zeroed(alloc, len)?;
+    block.bytes_mut().fill(u8::from(holds));
+    Ok(block)
+}
+
+/// One bool for all items of a shape.
+fn all_alike(alloc: Global, holds: bool, shape: &Shape) -> Result<Owned, AllocError>
+    ensures { IfOk result
+        (IsMade (ScalarDescr BoolScalar) shape.now
+        (replicate (count shape.now) (truth_item holds))) }
+{
+    let block = bool_block(alloc, holds, shape.items())?;
+    let descr = Descr::Scalar(Scalar::Bool);
+    Owned::over(alloc, descr, shape, MemoryOrder::C, block)
+}
+
+/// A comparison of the numbers of an array with an integer that is above all numbers of their type, or below.
+fn compare_beyond(
+    alloc: Global,
+    comparison: Comparison,
+    from: &Scalar,
+    operand: Items<'_>,
+    integer: i128,
+) -> Result<Owned, AllocError>
+    requires from { operand.descr.now ≡ ScalarDescr from.now }
+    requires number { IsNumber from.now }
+    requires beyond { wrap (little from.now) integer ≢ integer }
+    ensures { IfOk result
+        (IsMade (ScalarDescr BoolScalar) operand.entry.layout.now.shape
+        (map (λ offset.
+        compared_item comparison (item_from operand.entry.descr.now operand.entry.block.now offset)
+        (number integer ∷ [])) (offsets operand.entry.layout.now))) }
+{
+    note_bytes(operand.block);
+    let above = integer.is_positive();
+    let holds = says(comparison, above, !above);
+    all_alike(alloc, holds, &operand.layout.shape)
+}
+
+/// What a comparison says of the numbers of an array and of an integer, which may be larger than their
+/// type holds, as bools in a block of their own in C order. Refused are records and byte strings, as
+/// `NotForThisKind`.
+pub fn compare_integer(
+    alloc: Global,
+    comparison: Comparison,
+    operand: Items<'_>,
+    integer: i128,
+) -> Result<Owned, Refusal>
+    ensures gives { Gives (λ o. (o.descr, o.layout.shape)) result
+        (integer_compared_result operand.entry.descr.now operand.entry.layout.now.shape) }
+    ensures order { IfOk result
+        (λ o. offsets o.layout ≡ offsets_in C (item_size o.descr) o.layout.shape) }
+    ensures items { IfOk result (λ o. map (item_from o.descr o.block) (offsets o.layout)
+        ≡ map (λ offset. compared_item comparison
+        (item_from operand.entry.descr.now operand.entry.block.now offset) (number integer ∷ []))
+        (offsets operand.entry.layout.now)) }
+    ensures encoded { IfOk result (λ o. o.block ≡ flat_map (encode_item o.descr) (owned_items o)) }
+{
+    let from = scalar_of(operand.descr)?;
+    if is_text(&from) {
+        return Err(Refusal::NotForThisKind);
+    }
+    if is_value(&little(&from), integer) {
+        return Ok(compare_with_value(alloc, comparison, &from, operand, integer)?);
+    }
+    Ok(compare_beyond(alloc, comparison, &from, operand, integer)?)
+}

@@ -1,7 +1,0 @@
-use Rattle.std.proofs.Common.{◌≡◌, ◌+◌, drop}
-use Rattle.fancy_index.specs.IndexArrays.{array_axes_taken}
-use Rattle.fancy_index.specs.Sources.{index_items}
-use Rattle.fancy_index.proofs.index_parts.axes_beside.Given as goal
-
-abbrev pub invariant-loop-item : goal.invariant-loop-item
-invariant-loop-item l = l.left + array_axes_taken (index_items l.items) ≡ l.axes + array_axes_taken (index_items (drop l.item-index l.items))

@@ -1,0 +1,80 @@
+//! Index lists, item by item, and the axes that the items index.
+ghost use Rattle.std.specs.Prelude.{◌≡◌, ◌+◌, ◌<◌, ◌≤◌, [], length, IfSome, None};
+ghost use Rattle.fancy_index.specs.IndexArrays.{item_axes, array_axes_width};
+ghost use Rattle.fancy_index.specs.Sources.{index_item_of, index_items};
+ghost use Rattle.fancy_index.specs.inside.Items.{axes_taken};
+
+use crate::index_array::kind;
+use crate::index_parts::Kind;
+use arrays::Items;
+use elem_descr::IndexItem;
+
+/// The items of an index list that are left, and the axes that are left to them.
+#[derive(Clone, Copy, Drop)]
+pub(crate) struct Left<'a> {
+    pub axes: &'a [usize],
+    pub items: &'a [IndexItem<Items<'a>>],
+    pub ghost enough: { axes_taken items.now ≤ length axes.now },
+}
+
+/// How many axes an item takes, beside those of `...`.
+fn axes_of(item: IndexItem<Items<'_>>) -> usize
+    ensures { result ≡ item_axes (index_item_of item.entry) }
+{
+    match item {
+        IndexItem::Ellipsis | IndexItem::NewAxis => 0,
+        IndexItem::Array(array) => match kind(array) {
+            Kind::Mask => array.layout.shape.rank(),
+            _ => 1,
+        },
+        _ => 1,
+    }
+}
+
+/// How many of so many axes the items leave to `...`, unless they take more.
+pub(crate) fn axes_beside(items: &[IndexItem<Items<'_>>], axes: usize) -> Option<usize>
+    ensures some { IfSome result (λ left. left + axes_taken items.now ≡ axes) }
+    ensures none { result ≡ None → axes < axes_taken items.now }
+{
+    let mut left = axes;
+    for item in items {
+        let taken = axes_of(*item);
+        if left < taken {
+            return None;
+        }
+        left -= taken;
+    }
+    Some(left)
+}
+
+/// How many of the axes that are left an item takes: `...` takes those beside the items after it.
+fn width(left: usize, item: IndexItem<Items<'_>>, later: &[IndexItem<Items<'_>>]) -> usize
+    requires { item_axes (index_item_of item) + axes_taken later.now ≤ left }
+    ensures { result ≡ array_axes_width left (index_item_of item.entry) (index_items later.now) }
+{
+    match item {
+        IndexItem::Ellipsis => axes_beside(later, left).unwrap_or(0),
+        _ => axes_of(item),
+    }
+}
+
+impl<'a> Left<'a> {
+    ghost use Rattle.fancy_index.specs.inside.Lists.{items_left, IsNextOf};
+
+    /// The next item, with the axes that it takes.
+    pub(crate) fn next(&mut self) -> Option<(IndexItem<Items<'a>>, &'a [usize])>
+        ensures next { IfSome result (λ next.
+            IsNextOf self.old (index_item_of next.0) next.1.now self.new) }
+        ensures fewer { IfSome result (λ _.
+            length self.new.items.now < length self.old.items.now) }
+        ensures none { result ≡ None → items_left self.old ≡ [] }
+        ensures same { result ≡ None → self.new.axes.now ≡ self.old.axes.now }
+    {
+        let [item, items @ ..] = self.items else {
+            return None;
+        };
+        let (taken, axes) = self.axes.split_at(width(self.axes.len(), *item, items));
+        *self = Left { axes, items };
+        Some((*item, taken))
+    }
+}
