@@ -11,7 +11,7 @@ use Rattle.name_store.specs.States.{Array}
 use Rattle.name_store.specs.declared.bound.Bound.TheVariants as bound
 use Rattle.name_store.specs.declared.write.Source.TheVariants as source
 use Rattle.bench_engine.specs.Machine.{viewed, operand_part, argument_items}
-use Rattle.bench_engine.specs.inside.Assigns.{IsTaken, LiesIn, Stretches, Fitted, cast_from}
+use Rattle.bench_engine.specs.inside.Assigns.{LiesIn, Stretches, Fitted, cast_from}
 use Rattle.bench_engine.specs.inside.Operands.{StandsFor, LiesInBuffer}
 use Rattle.bench_engine.proofs.Assigns.{all-viewed, lies-viewed, stretched-shape}
 use Rattle.bench_engine.proofs.Casts.{cast-none, cast-some}
@@ -161,14 +161,3 @@ module _ (s : State) (operand : Operand) (descr : Descr) (shape : List ℕ) wher
   part-given part (Some number) x result good stands (b, r, shows, same, lies) is =
       subst (λ (p : Array). operand_part s operand ≡ Ok p → StandsFor s p x → LiesIn s b p x.layout.now → Meets (Supplies s descr (count shape)) result (argument_items s (argument.Operand operand) descr shape)) (sym lies.part_is)
       (λ good stands lies. view-given b r shows _ _ good x stands lies result (subst (λ n. Fitted x (Some n) shape descr result) same is)) good stands lies
-
--- ---- of whatever is taken
-
-pub taken-view : (s : State) (b : Array) (r : ArrayRef) (plain : Bool) (what : Bound) (number : ℕ) (path : List ℕ) (layout : Layout) (writable : Bool) (there : Result View Refusal) → what ≡ bound.View number path layout writable → Meets (IsTaken s b r plain) (Ok what) there →
-    (view : View) × (there ≡ Ok view) × IsTaken s b r plain (bound.View number path layout writable) view
-taken-view s b r plain what number path layout writable there same is =
-    met (IsTaken s b r plain) (bound.View number path layout writable) there (subst (λ (x : Bound). Meets (IsTaken s b r plain) (Ok x) there) same is)
-
-pub taken-copy : (s : State) (b : Array) (r : ArrayRef) (plain : Bool) (what : Bound) (o : Owned) (there : Result View Refusal) → what ≡ bound.Fresh o → Meets (IsTaken s b r plain) (Ok what) there →
-    (view : View) × (there ≡ Ok view) × IsTaken s b r plain (bound.Fresh o) view
-taken-copy s b r plain what o there same is = met (IsTaken s b r plain) (bound.Fresh o) there (subst (λ (x : Bound). Meets (IsTaken s b r plain) (Ok x) there) same is)

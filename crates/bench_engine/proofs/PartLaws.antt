@@ -1,21 +1,21 @@
 -- What an index list shows of an array.
 use Rattle.std.proofs.Common.{◌≡◌, true, false, ℕ, List, refl, sym, ap, ◌∙◌, subst, Bor, Ok}
 use Rattle.std.specs.List.{list_all}
-use Rattle.bench_engine.specs.Words.{IndexItem, C, is_basic, Descr, item_size, Owned, offsets_in, State, descr_of, read, Shows, ArrayRef, Bound}
+use Rattle.bench_engine.specs.Words.{IndexItem, C, is_basic, item_size, Layout, Owned, offsets_in, State, descr_of, read, Shows, ArrayRef}
 use Rattle.view_ops.specs.Views.{View}
 use Rattle.name_store.specs.States.{Array}
 use Rattle.bench_engine.specs.Contents.{new_contents}
 use Rattle.bench_engine.specs.IndexLists.{taken}
 use Rattle.bench_engine.specs.Machine.{a_view, a_copy, viewed, part_seen}
 use Rattle.name_store.specs.declared.bound.Bound.TheVariants as bound
+use Rattle.name_store.specs.declared.write.Target.TheVariants as target
 use Rattle.bench_engine.specs.declared.view.Viewed.{Viewed}
-use Rattle.bench_engine.specs.inside.Assigns.{Holds, IsTaken}
+use Rattle.bench_engine.specs.inside.Assigns.{Holds, IsAimed}
 use Rattle.bench_engine.specs.inside.OwnContents.{held}
 use Rattle.bench_engine.specs.inside.Parts.{IsOf, IsSeen}
 use Rattle.bench_engine.proofs.Copies.{made-held}
 use Rattle.bench_engine.proofs.Views.{viewed-part}
 use Rattle.bench_engine.specs.inside.Meeting.{Meets}
-use Rattle.bench_engine.proofs.Answered.{met}
 
 module _ (s : State) (a : Array) (r : ArrayRef) (index : List (IndexItem (List ℕ))) where
   part-viewed : (view : View) → taken s a index ≡ Ok view → list_all is_basic index ≡ true → part_seen s a index ≡ Ok (a_view (viewed a view))
@@ -24,22 +24,17 @@ module _ (s : State) (a : Array) (r : ArrayRef) (index : List (IndexItem (List �
   part-copied : (view : View) → taken s a index ≡ Ok view → list_all is_basic index ≡ false → part_seen s a index ≡ Ok (a_copy (new_contents (descr_of s a) view.shape (read s (viewed a view))))
   part-copied view good arrays = rw (good, arrays) refl
 
-  pub indexed-seen : (x : Viewed) → Shows s a r → Meets (IsTaken s a r (list_all is_basic index)) (Ok x.bound) (taken s a index) → x.descr ≡ r.descr → Meets (IsSeen s) (Ok x) (part_seen s a index)
-  indexed-seen x shows gives descr =
-      let is = met (IsTaken s a r (list_all is_basic index)) x.bound (taken s a index) gives in
-      by x.bound refl is.0 is.1 is.2
+  pub view-seen : (x : Viewed) (layout : Layout) (view : View) → Shows s a r → taken s a index ≡ Ok view → IsAimed r (list_all is_basic index) (target.View layout) view → x.bound ≡ bound.View r.number r.path.now layout r.writable → x.descr ≡ r.descr →
+      Meets (IsSeen s) (Ok x) (part_seen s a index)
+  view-seen x layout view shows good (plain, is, kept) same descr =
+      subst (Meets (IsSeen s) (Ok x)) (sym (part-viewed view good plain))
+      (viewed-part s a r a.writable (Ok view) x layout shows (same ∙ λ i. bound.View r.number r.path.now layout (shows.view.laid.writable_is i)) descr is (λ free. (free, kept)))
+
+  pub copy-seen : (o : Owned) (view : View) → Shows s a r → taken s a index ≡ Ok view → list_all is_basic index ≡ false → Holds s (viewed a view) o → Meets (IsSeen s) (Ok (record { bound = bound.Fresh o; descr = r.descr })) (part_seen s a index)
+  copy-seen o view shows good arrays holds =
+      subst (Meets (IsSeen s) (Ok (record { bound = bound.Fresh o; descr = r.descr }))) (sym (part-copied view good arrays)) (held-is, shows.descr)
     where
-      by : (b : Bound) → x.bound ≡ b → (view : View) → taken s a index ≡ Ok view → IsTaken s a r (list_all is_basic index) b view → Meets (IsSeen s) (Ok x) (part_seen s a index)
-      by (bound.View number path layout writable) same view good is =
-          subst (Meets (IsSeen s) (Ok x)) (sym (part-viewed view good is.0))
-          (viewed-part s a r a.writable (Ok view) x layout shows (same ∙ λ i. bound.View (is.1 i) (is.2 i) layout ((is.3 ∙ shows.view.laid.writable_is) i)) descr is.4 (λ free. (free, is.5)))
-      by (bound.Fresh o) same view good is =
-          subst (Meets (IsSeen s) (Ok x)) (sym (part-copied view good is.0)) (
-            subst (λ (b : Bound). IsOf s b (a_copy (new_contents (descr_of s a) view.shape (read s (viewed a view))))) (sym same) (held-is o view is.1),
-            shows.descr ∙ ap (λ (d : Bor Descr). d.now) (sym descr),
-          )
-        where
-          held-is : (o : Owned) (view : View) (holds : Holds s (viewed a view) o) → new_contents (descr_of s a) view.shape (read s (viewed a view)) ≡ held o
-          held-is o view holds =
-              sym (ap (λ d. new_contents d view.shape (read s (viewed a view))) holds.descr)
-              ∙ made-held C o.descr view.shape (read s (viewed a view)) o refl holds.shape (holds.order ∙ ap (offsets_in C (item_size o.descr)) holds.shape) holds.items
+      held-is : new_contents (descr_of s a) view.shape (read s (viewed a view)) ≡ held o
+      held-is =
+          sym (ap (λ d. new_contents d view.shape (read s (viewed a view))) holds.descr)
+          ∙ made-held C o.descr view.shape (read s (viewed a view)) o refl holds.shape (holds.order ∙ ap (offsets_in C (item_size o.descr)) holds.shape) holds.items

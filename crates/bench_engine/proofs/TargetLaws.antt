@@ -1,8 +1,8 @@
 -- What an index list takes of an array, to be read or to be written.
-use Rattle.std.proofs.Common.{Some, get_or, slice_index, ◌≡◌, ◌⊎◌, ◌≤◌, ◌+◌, ◌*◌, ℕ, true, false, List, length, map, refl, sym, ap, ◌∙◌, subst, All, Ok, Err}
+use Rattle.std.proofs.Common.{Some, get_or, slice_index, ◌≡◌, ◌⊎◌, ◌≤◌, if◌then◌else◌, nat_le, ◌+◌, ◌*◌, ℕ, true, false, List, length, map, refl, sym, ap, ◌∙◌, subst, All, Ok, Err}
 use Rattle.std.specs.List.{list_all}
 use Rattle.std.proofs.lemmas.List.Elements.{All-map}
-use Rattle.bench_engine.specs.Words.{Refusal, OutOfMemory, ReadOnly, Descr, item_from, item_size, IndexItem, Layout, is_basic, indexes, rank, length-offsets, offsets, IsNested, max_bytes, IsViewOf, GivesView, KeepsNested, basic, Owned, Planned, IsPlanOf, GivesPlan, State, find_array, descr_of, read, Shows, ArrayRef, Target}
+use Rattle.bench_engine.specs.Words.{Refusal, OutOfMemory, ReadOnly, TooLarge, Descr, item_from, item_size, IndexItem, Layout, is_basic, indexes, rank, length-offsets, offsets, IsNested, count, max_bytes, IsViewOf, GivesView, KeepsNested, basic, Owned, Planned, IsPlanOf, GivesPlan, State, find_array, descr_of, read, Shows, ArrayRef, Target}
 use Rattle.view_ops.specs.Views.{View}
 use Rattle.name_store.specs.States.{Array}
 use Rattle.name_store.specs.declared.write.Target.TheVariants as target
@@ -11,6 +11,7 @@ use Rattle.bench_engine.specs.Machine.{viewed, target_part}
 use Rattle.bench_engine.specs.inside.Assigns.{Holds, IsAimed, IsTarget}
 use Rattle.bench_engine.specs.inside.OwnContents.{IsInCOrder}
 use Rattle.bench_engine.proofs.Assigns.{lies-whole, lies-viewed}
+use Rattle.bench_engine.proofs.GivenLaws.{cast-lacks}
 use Rattle.bench_engine.proofs.IndexLaws.{given-plan, plan-counted, plan-inside, plan-addresses, plan-among}
 use Rattle.bench_engine.proofs.Makes.{passed}
 use Rattle.bench_engine.proofs.Sets.{items-at, target-few}
@@ -50,6 +51,15 @@ module _ (s : State) (a : Array) (r : ArrayRef) (shows : Shows s a r) (index : L
     order = order;
     items = items ∙ plan-read plan view is;
   }
+
+  -- the view to which a target leads
+  pub aimed : (t t' : Target) → t ≡ t' → Meets (IsAimed r (list_all is_basic index)) (Ok t) (taken s a index) → (view : View) × (taken s a index ≡ Ok view) × IsAimed r (list_all is_basic index) t' view
+  aimed t t' same gives = met (IsAimed r (list_all is_basic index)) t' (taken s a index) (subst (λ (t : Target). Meets (IsAimed r (list_all is_basic index)) (Ok t) (taken s a index)) same gives)
+
+  -- a copy of the items of a plan is refused as out of memory alone
+  pub copy-lacks : (plan : Planned) (view : View) (e : Refusal) → IsPlanOf r.layout.now plan view → length plan.offsets * item_size r.descr.now ≤ max_bytes → e ≡ (if nat_le (count plan.shape * item_size r.descr.now) max_bytes then OutOfMemory else TooLarge) → e ≡ OutOfMemory
+  copy-lacks plan view e is few refused =
+      cast-lacks true plan.shape plan.shape (item_size r.descr.now) e refl refl (subst (λ n. n * item_size r.descr.now ≤ max_bytes) (plan-counted r.layout.now plan view is) few) refused
 
   -- the items to which a plan leads lie in the block
   pub plan-within : (plan : Planned) (view : View) → IsPlanOf r.layout.now plan view → All (λ offset. offset + item_size r.descr.now ≤ length r.block.now) plan.offsets

@@ -6,12 +6,12 @@ ghost use Rattle.bench_engine.specs.Words.{index_item_of, index_items, is_bound,
 ghost use Rattle.name_store.specs.States.{Array};
 ghost use Rattle.bench_engine.specs.IndexLists.{names_in_item, names_in_index, array_by_items, taken};
 ghost use Rattle.bench_engine.specs.inside.Meeting.{Meets};
-ghost use Rattle.bench_engine.specs.inside.Assigns.{IsAimed, IsTaken};
+ghost use Rattle.bench_engine.specs.inside.Assigns.{IsAimed};
 
 use arrays::Items;
 use elem_descr::{IndexItem, Name, Refusal};
 use fancy_index::plan;
-use name_store::{ArrayRef, Bench, Bound, Target};
+use name_store::{ArrayRef, Bench, Target};
 use shape_strides::MAX_BYTES;
 use std::alloc::{AllocError, Global};
 
@@ -97,32 +97,4 @@ pub fn named_target(
         return Err(Refusal::TooLarge);
     }
     Ok(Target::Plan(plan))
-}
-
-/// What an index list takes of an array: a view, or a copy of the items to which arrays lead.
-pub fn take(
-    alloc: Global,
-    bench: &Bench,
-    array: &ArrayRef<'_>,
-    index: &[IndexItem<Name>],
-) -> Result<Bound, Refusal>
-    requires bound { list_all (is_bound bench.now.state) (names_in_index index.now) ≡ true }
-    requires shown { (a : Array) × Shows bench.now.state a array.now }
-    ensures { (a : Array) → Shows bench.now.state a array.now
-        → Meets (IsTaken bench.now.state a array.now (list_all is_basic index.now)) result
-        (taken bench.now.state a index.now) }
-{
-    let target = named_target(alloc, bench, array, index)?;
-    match target {
-        Target::View(layout) => Ok(Bound::View {
-            number: array.number,
-            path: *array.path,
-            layout,
-            writable: array.writable,
-        }),
-        Target::Plan(plan) => {
-            let copy = plan.gather_owned(alloc, array.block, array.descr)?;
-            Ok(Bound::Fresh(copy))
-        }
-    }
 }

@@ -16,7 +16,7 @@ ghost use Rattle.bench_engine.specs.inside.Contract.{CarriesOut};
 ghost use Rattle.bench_engine.specs.inside.Meeting.{Meets};
 
 use crate::create::{bind_new, filled, item_of};
-use crate::index_list::{are_bound, take};
+use crate::index_list::{are_bound, named_target};
 use crate::replies::Origin;
 use crate::write::{Given, given_by};
 use arrays::Owned;
@@ -25,7 +25,7 @@ use elementwise::{
     Items, apply1, apply2, compare, compare_bytes, compare_integer, compared_type, literal_type,
     promote, scalar_of,
 };
-use name_store::{ArrayRef, Bench, Bound};
+use name_store::{ArrayRef, Bench, Target};
 use script_lang::{Argument, Computation, Literal, Operand, Operation, ScalarLiteral};
 use shape_strides::{Layout, Shape};
 use std::alloc::Global;
@@ -120,9 +120,13 @@ pub fn operand_part<'a>(
     let Some(index) = &operand.index else {
         return Ok(Part::Whole(array));
     };
-    match take(alloc, bench, &array, index.as_slice())? {
-        Bound::View { layout, .. } => Ok(Part::View(array, layout)),
-        Bound::Fresh(copy) => Ok(Part::Copy(copy)),
+    let target = named_target(alloc, bench, &array, index.as_slice())?;
+    match target {
+        Target::View(layout) => Ok(Part::View(array, layout)),
+        Target::Plan(plan) => {
+            let copy = plan.gather_owned(alloc, array.block, array.descr)?;
+            Ok(Part::Copy(copy))
+        }
     }
 }
 

@@ -12,11 +12,11 @@ ghost use Rattle.bench_engine.specs.inside.Parts.{IsShown, Sees, SeesIn, Duplica
 ghost use Rattle.bench_engine.specs.inside.Contract.{CarriesOut};
 
 use crate::create::shape_of;
-use crate::index_list::{are_bound, take};
+use crate::index_list::{are_bound, named_target};
 use crate::replies::{Origin, push_bound_text};
 use arrays::Owned;
 use elem_descr::{Descr, MemoryOrder, Name, Refusal};
-use name_store::{ArrayRef, Bench, Bound};
+use name_store::{ArrayRef, Bench, Bound, Target};
 use script_lang::{Index, Lengths, Text, Viewing};
 use shape_strides::{Layout, Shape};
 use std::alloc::Global;
@@ -76,11 +76,17 @@ fn indexed<'a>(
     requires shown { (a : Array) × Shows bench.now.state a array.now }
     ensures { SeesIn bench.now.state (Indexed index.now) array.now result }
 {
-    let bound = take(alloc, bench, array, index.as_slice())?;
-    Ok(Viewed {
-        bound,
-        descr: array.descr,
-    })
+    let target = named_target(alloc, bench, array, index.as_slice())?;
+    match target {
+        Target::View(layout) => Ok(items(array, layout, array.writable)),
+        Target::Plan(plan) => {
+            let copy = plan.gather_owned(alloc, array.block, array.descr)?;
+            Ok(Viewed {
+                bound: Bound::Fresh(copy),
+                descr: array.descr,
+            })
+        }
+    }
 }
 
 /// `transpose Y [(axes)]`

@@ -15,7 +15,7 @@ pub use Rattle.elem_descr.specs.ListLaws.{take_front}
 pub use Rattle.elem_descr.specs.Values.{LeafValue, leaf_code, number}
 pub use Rattle.elem_descr.specs.declared.descr.Descr.{Descr}
 pub use Rattle.elem_descr.specs.declared.descr.Field.{Field}
-pub use Rattle.elem_descr.specs.declared.leaf.Leaf.{Leaf}
+pub use Rattle.elem_descr.specs.declared.descr.Leaf.{Leaf}
 pub use Rattle.elem_descr.specs.declared.refusal.Refusal.{Refusal}
 pub use Rattle.elem_descr.specs.declared.refusal.Refusal.TheVariants.{NothingToUndo, OutOfMemory}
 pub use Rattle.elem_descr.specs.declared.refusal.Refusal.TheVariants.{TooManyNames, UnknownName}

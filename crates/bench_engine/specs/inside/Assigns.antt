@@ -10,20 +10,12 @@ use Rattle.name_store.specs.declared.write.Target.TheVariants as target
 use Rattle.bench_engine.specs.Machine.{viewed}
 use Rattle.bench_engine.specs.inside.OwnContents.{IsInCOrder}
 
--- ---- what an index list takes
-
 -- a block of its own has the items of an array of the state
 pub record Holds (s : State) (part : Array) (o : Owned) : Type 0 where
   pub descr : o.descr ≡ descr_of s part
   pub shape : o.layout.shape ≡ part.shape
   pub order : IsInCOrder o
   pub items : map (item_from o.descr o.block) (offsets o.layout) ≡ read s part
-
--- a view of the array's layout in its buffer, or a copy
-abbrev pub IsTaken : State → Array → ArrayRef → Bool → Bound → View → Type 0
-IsTaken s array r plain (bound.View number path layout writable) view =
-    (plain ≡ true) × (number ≡ r.number) × (path ≡ r.path.now) × (writable ≡ r.writable) × IsViewOf r.layout.now layout view × KeepsNested r.layout.now layout
-IsTaken s array r plain (bound.Fresh o) view = (plain ≡ false) × Holds s (viewed array view) o
 
 -- ---- where items are written
 
