@@ -13,13 +13,13 @@ ghost use Rattle.std.specs.Prelude.{IfOk, IfSome, IsTrue, [], map, true, ◌∷�
 use crate::castable::keeps_items;
 use crate::casts::cast_items;
 use crate::chunks::{InRuns, ItemsInRun, MANY, make_by_chunks};
-use crate::operands::{made, read_as};
+use crate::operands::{has_short_rows, made, read_as};
 use crate::pairing::{Pairing, Work};
 use crate::promotion::{promote, promote_one, scalar_of};
 use crate::row_pairs::{Operand, Operands};
-use arrays::{Items, Owned};
+use arrays::{Items, Owned, copy};
 use broadcasting::{common, stretched_to};
-use elem_descr::{BinOp, Descr, Refusal, UnOp};
+use elem_descr::{BinOp, Descr, MemoryOrder, Refusal, UnOp};
 use shape_strides::{Layout, Shape};
 use std::alloc::{AllocError, Global};
 
@@ -107,6 +107,22 @@ impl<'a> Held<'a> {
         Ok(Held::Made(made))
     }
 
+    /// Items where they lie; those of many short rows one after another, so that one loop takes them
+    /// all. Without memory for that they stay.
+    pub(crate) fn near(alloc: Global, from: Items<'a>) -> Held<'a>
+        ensures descr { held_descr result ≡ from.entry.descr.now }
+        ensures shape { held_shape result ≡ from.entry.layout.now.shape }
+        ensures items { held_items result ≡ items from.entry }
+    {
+        if !has_short_rows(from.layout) {
+            return Held::Kept(from);
+        }
+        match copy(alloc, from.block, from.layout, from.descr, MemoryOrder::C) {
+            Ok(copied) => Held::Made(copied),
+            Err(_) => Held::Kept(from),
+        }
+    }
+
     pub(crate) fn items(&self) -> Items<'_>
         ensures descr { result.descr.now ≡ held_descr self.now }
         ensures shape { result.layout.now.shape ≡ held_shape self.now }
@@ -180,17 +196,25 @@ pub(crate) fn make_whole(
     let right = right_held.items();
     let first = Fitted::to(alloc, left.layout, shape)?;
     let second = Fitted::to(alloc, right.layout, shape)?;
-    let operands = Operands {
-        left: Operand::of(Items {
+    let left_near = Held::near(
+        alloc,
+        Items {
             block: left.block,
             layout: first.layout(),
             descr: left.descr,
-        }),
-        right: Operand::of(Items {
+        },
+    );
+    let right_near = Held::near(
+        alloc,
+        Items {
             block: right.block,
             layout: second.layout(),
             descr: right.descr,
-        }),
+        },
+    );
+    let operands = Operands {
+        left: Operand::of(left_near.items()),
+        right: Operand::of(right_near.items()),
     };
     made(alloc, pairing, operands)
 }

@@ -7,6 +7,7 @@ ghost use Rattle.elementwise.specs.inside.Made.{AreItems, IsMade};
 ghost use Rattle.std.specs.List.{flat_map};
 ghost use Rattle.std.specs.Prelude.{IfErr, IfOk, drop, if◌then◌else◌, length, map, nat_le, true, ℕ, ◌*◌, ◌+◌, ◌<◌, ◌≡◌, ◌≤◌};
 
+use crate::apply::Held;
 use crate::castable::can_cast;
 use crate::leaf_casts::{Column, Places};
 use crate::operands::made;
@@ -261,7 +262,8 @@ pub(crate) fn cast_items(alloc: Global, from: Items<'_>, to: &Descr) -> Result<O
 {
     match (from.descr, to) {
         (Descr::Scalar(scalar), Descr::Scalar(target)) => {
-            cast_scalars(alloc, Operand::of(from), scalar, target)
+            let packed = Held::near(alloc, from);
+            cast_scalars(alloc, Operand::of(packed.items()), scalar, target)
         }
         _ => cast_records(alloc, from, to),
     }

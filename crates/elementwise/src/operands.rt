@@ -68,6 +68,25 @@ pub(crate) fn read_as(scalar: &Scalar, left: Items<'_>, right: Items<'_>) -> Sca
 /// Fewer pairs than these go by rows.
 const FEW: usize = 4096;
 
+/// Rows of fewer items than these are short, and as many rows are many.
+const SHORT: usize = 32;
+
+/// Whether a layout has many items in short rows, which do not lie nearer to one another than their
+/// items do.
+pub(crate) fn has_short_rows(layout: &Layout) -> bool {
+    if layout.shape.items() < FEW {
+        return false;
+    }
+    let Rows { starts, along } = layout.rows();
+    let mut starts = starts;
+    match starts.next() {
+        Some(run) if along.len < SHORT && run.count >= SHORT => {
+            run.step == 0 || run.step.unsigned_abs() >= along.stride.unsigned_abs()
+        }
+        _ => false,
+    }
+}
+
 /// How far apart the items of a row lie.
 fn step(layout: &Layout) -> usize {
     let Rows { starts: _, along } = layout.rows();

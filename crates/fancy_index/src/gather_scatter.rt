@@ -11,8 +11,8 @@ use arrays::{copy_run, packed_run};
 use raw_block::{BlockBuilder, RawBlock};
 use shape_strides::{Runs, Walk};
 
-/// Pushes the items of `width` bytes of a layout that is moved.
-fn push_from(
+/// Pushes the items of `width` bytes of a layout that is moved, run by run.
+fn push_by_runs(
     items: BlockBuilder,
     block: &RawBlock,
     source: MovedLayout<'_>,
@@ -29,6 +29,28 @@ fn push_from(
         items.push_strided(block, from.offset, from.step, width, from.count);
     }
     items
+}
+
+/// Pushes the items of `width` bytes of a layout that is moved.
+fn push_from(
+    items: BlockBuilder,
+    block: &RawBlock,
+    source: MovedLayout<'_>,
+    width: usize,
+) -> BlockBuilder
+    requires inside { All (λ offset. offset + width ≤ length block.now) (moved_offsets source) }
+    requires room { length (moved_offsets source) * width ≤ items.1 }
+    ensures bytes { result.0 ≡ items.0 ++ joined_at (moved_offsets source.entry) width block.now }
+    ensures left { length (moved_offsets source.entry) * width + result.1 ≡ items.1 }
+{
+    match source.as_run() {
+        Some(run) => {
+            let mut items = items;
+            items.push_strided(block, run.offset, run.step, width, run.count);
+            items
+        }
+        None => push_by_runs(items, block, source, width),
+    }
 }
 
 /// Pushes the items from a place on, once for each shift. Inner axes of one item need no walk.
@@ -79,8 +101,8 @@ pub(crate) fn push_all(
 }
 
 /// Copies items of `width` bytes that lie one after another from `at` on to those of a layout that is
-/// moved. The result is where they end.
-fn scatter_from(
+/// moved, run by run. The result is where they end.
+fn scatter_by_runs(
     block: &mut RawBlock,
     target: MovedLayout<'_>,
     items: &RawBlock,
@@ -108,6 +130,33 @@ fn scatter_from(
         at += run.count * width;
     }
     at
+}
+
+/// Copies items of `width` bytes that lie one after another from `at` on to those of a layout that is
+/// moved. The result is where they end.
+fn scatter_from(
+    block: &mut RawBlock,
+    target: MovedLayout<'_>,
+    items: &RawBlock,
+    at: usize,
+    width: usize,
+) -> usize
+    requires inside { All (λ offset. offset + width ≤ length block.old) (moved_offsets target) }
+    requires room { at + length (moved_offsets target) * width ≤ length items.now }
+    ensures written { block.new
+        ≡ put_packed (moved_offsets target.entry) at width items.now block.old }
+    ensures len { length block.new ≡ length block.old }
+    ensures end { result ≡ at + length (moved_offsets target.entry) * width }
+{
+    let len = items.len();
+    match target.as_run() {
+        Some(run) => {
+            let from = packed_run(at, width, run.count, len);
+            copy_run(block, run, items, from, width);
+            at + run.count * width
+        }
+        None => scatter_by_runs(block, target, items, at, width),
+    }
 }
 
 /// Copies items to those from a place on, once for each shift. Inner axes of one item need no walk.
@@ -154,8 +203,8 @@ pub(crate) fn scatter(block: &mut RawBlock, axes: &PlanAxes, items: &RawBlock, w
     }
 }
 
-/// Writes the item to those of a layout that is moved.
-fn fill_from(block: &mut RawBlock, target: MovedLayout<'_>, item: &[u8])
+/// Writes the item to those of a layout that is moved, run by run.
+fn fill_by_runs(block: &mut RawBlock, target: MovedLayout<'_>, item: &[u8])
     requires { All (λ offset. offset + length item.now ≤ length block.old) (moved_offsets target) }
     ensures written { block.new ≡ put_each (moved_offsets target.entry) item.now block.old }
     ensures len { length block.new ≡ length block.old }
@@ -163,6 +212,18 @@ fn fill_from(block: &mut RawBlock, target: MovedLayout<'_>, item: &[u8])
     for run in Runs::new(target.layout) {
         let to = moved_run(run, target.layout.offset, target.start);
         fill_run(block, to, item);
+    }
+}
+
+/// Writes the item to those of a layout that is moved.
+fn fill_from(block: &mut RawBlock, target: MovedLayout<'_>, item: &[u8])
+    requires { All (λ offset. offset + length item.now ≤ length block.old) (moved_offsets target) }
+    ensures written { block.new ≡ put_each (moved_offsets target.entry) item.now block.old }
+    ensures len { length block.new ≡ length block.old }
+{
+    match target.as_run() {
+        Some(run) => fill_run(block, run, item),
+        None => fill_by_runs(block, target, item),
     }
 }
 

@@ -157,6 +157,23 @@ pub(crate) fn moved_run(run: Run, base: usize, start: usize) -> Run
     }
 }
 
+impl<'a> MovedLayout<'a> {
+    ghost use Rattle.std.specs.Prelude.{IfSome};
+    ghost use Rattle.fancy_index.specs.inside.Kept.{moved_offsets, IsRunOf};
+
+    /// The run that all items make, one or more.
+    pub(crate) fn as_run(self) -> Option<Run>
+        ensures run { IfSome result (λ run. IsRunOf (moved_offsets self.entry) run) }
+        ensures some { IfSome result (λ run. 1 ≤ run.count) }
+    {
+        if self.layout.shape.items() == 0 {
+            return None;
+        }
+        let run = self.layout.as_one_run()?;
+        Some(moved_run(run, self.layout.offset, self.start))
+    }
+}
+
 /// Writes the item to each of a run.
 pub(crate) fn fill_run(block: &mut RawBlock, to: Run, item: &[u8])
     requires { EachWithin (length block.old) to.offset to.step (length item.now) to.count }

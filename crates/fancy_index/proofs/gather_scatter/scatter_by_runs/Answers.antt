@@ -1,6 +1,6 @@
 use Rattle.std.proofs.Common.{length, subst, ◌∙◌, arith}
 use Rattle.fancy_index.proofs.Passes.{RunsLeft, next_run, later_runs, scatter_run, scattered_run}
-use Rattle.fancy_index.proofs.gather_scatter.scatter_from.Goals as goal
+use Rattle.fancy_index.proofs.gather_scatter.scatter_by_runs.Goals as goal
 
 pub moved_run-to-requires-clause-moved : goal.moved_run-to-requires-clause-moved
 moved_run-to-requires-clause-moved c =
