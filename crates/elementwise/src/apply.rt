@@ -2,13 +2,13 @@
 ghost use Rattle.elem_descr.specs.declared.descr.Descr.TheVariants.{Scalar as ScalarDescr};
 ghost use Rattle.elementwise.specs.Casts.{can_cast, cast_item};
 ghost use Rattle.elementwise.specs.Results.{binary_item, binary_result, pairwise, stretched_items, unary_item, unary_result, value_in};
-ghost use Rattle.elementwise.specs.Words.{C, Gives, can_stretch, encode_item, item_from, item_size, offsets, offsets_in, owned_items, size};
+ghost use Rattle.elementwise.specs.Words.{C, Gives, can_stretch, count, encode_item, item_from, item_size, items, max_bytes, offsets, offsets_in, owned_items, size};
 ghost use Rattle.elementwise.specs.inside.Held.{fitted_layout, stretched};
 ghost use Rattle.elementwise.specs.inside.Made.{IsMade};
 ghost use Rattle.elementwise.specs.inside.Shrunk.{IsStretched};
 ghost use Rattle.elementwise.specs.inside.Works.{CanPair, gives, left_of, right_of, target_of};
 ghost use Rattle.std.specs.List.{flat_map};
-ghost use Rattle.std.specs.Prelude.{IfOk, IfSome, IsTrue, [], map, true, ◌∷◌, ◌≡◌, ◌≤◌};
+ghost use Rattle.std.specs.Prelude.{IfOk, IfSome, IsTrue, [], map, true, ◌*◌, ◌∷◌, ◌≡◌, ◌≤◌};
 
 use crate::castable::keeps_items;
 use crate::casts::cast_items;
@@ -164,6 +164,60 @@ impl<'a> Fitted<'a> {
     }
 }
 
+/// What is made of all pairs of items, in C order. Those of many short rows are first put one after
+/// another.
+fn made_near(
+    alloc: Global,
+    pairing: &Pairing<'_>,
+    left: Items<'_>,
+    right: Items<'_>,
+) -> Result<Owned, AllocError>
+    requires can { CanPair pairing.now }
+    requires left { left.descr.now ≡ ScalarDescr (left_of pairing.now) }
+    requires right { right.descr.now ≡ ScalarDescr (right_of pairing.now) }
+    requires few { count left.layout.now.shape * size (target_of pairing.now) ≤ max_bytes }
+    requires even { left.layout.now.shape ≡ right.layout.now.shape }
+    ensures { IfOk result
+        (IsMade (ScalarDescr (target_of pairing.now)) left.entry.layout.now.shape
+        (pairwise (λ x y. gives pairing.now (value_in x) (value_in y) ∷ [])
+        (items left.entry) (items right.entry))) }
+{
+    let left = Held::near(alloc, left);
+    let right = Held::near(alloc, right);
+    let operands = Operands {
+        left: Operand::of(left.items()),
+        right: Operand::of(right.items()),
+    };
+    made(alloc, pairing, operands)
+}
+
+/// What is made of all pairs of items, in C order.
+fn made_of(
+    alloc: Global,
+    pairing: &Pairing<'_>,
+    left: Items<'_>,
+    right: Items<'_>,
+) -> Result<Owned, AllocError>
+    requires can { CanPair pairing.now }
+    requires left { left.descr.now ≡ ScalarDescr (left_of pairing.now) }
+    requires right { right.descr.now ≡ ScalarDescr (right_of pairing.now) }
+    requires few { count left.layout.now.shape * size (target_of pairing.now) ≤ max_bytes }
+    requires even { left.layout.now.shape ≡ right.layout.now.shape }
+    ensures { IfOk result
+        (IsMade (ScalarDescr (target_of pairing.now)) left.entry.layout.now.shape
+        (pairwise (λ x y. gives pairing.now (value_in x) (value_in y) ∷ [])
+        (items left.entry) (items right.entry))) }
+{
+    if has_short_rows(left.layout) || has_short_rows(right.layout) {
+        return made_near(alloc, pairing, left, right);
+    }
+    let operands = Operands {
+        left: Operand::of(left),
+        right: Operand::of(right),
+    };
+    made(alloc, pairing, operands)
+}
+
 /// What is made of the items of two arrays that are cast, each as a whole, and then stretched.
 pub(crate) fn make_whole(
     alloc: Global,
@@ -196,27 +250,17 @@ pub(crate) fn make_whole(
     let right = right_held.items();
     let first = Fitted::to(alloc, left.layout, shape)?;
     let second = Fitted::to(alloc, right.layout, shape)?;
-    let left_near = Held::near(
-        alloc,
-        Items {
-            block: left.block,
-            layout: first.layout(),
-            descr: left.descr,
-        },
-    );
-    let right_near = Held::near(
-        alloc,
-        Items {
-            block: right.block,
-            layout: second.layout(),
-            descr: right.descr,
-        },
-    );
-    let operands = Operands {
-        left: Operand::of(left_near.items()),
-        right: Operand::of(right_near.items()),
+    let left_wide = Items {
+        block: left.block,
+        layout: first.layout(),
+        descr: left.descr,
     };
-    made(alloc, pairing, operands)
+    let right_wide = Items {
+        block: right.block,
+        layout: second.layout(),
+        descr: right.descr,
+    };
+    made_of(alloc, pairing, left_wide, right_wide)
 }
 
 /// The operands as runs of items, if they are many, need not be stretched, and are not both of the type

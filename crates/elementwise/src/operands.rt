@@ -93,8 +93,8 @@ fn step(layout: &Layout) -> usize {
     along.stride.unsigned_abs()
 }
 
-/// Two layouts with their axes in reverse, if there are many items and those of columns lie nearer to one
-/// another than those of rows.
+/// Two layouts with their axes in reverse, if there are many items, and those of columns lie nearer to one
+/// another than those of rows and are not short.
 fn columns(alloc: Global, left: &Layout, right: &Layout) -> Result<Option<Layouts>, AllocError>
     ensures first { IfOk result (λ columns. IfSome columns (λ c. IsTurned c.first left.now)) }
     ensures second { IfOk result (λ columns. IfSome columns (λ c. IsTurned c.second right.now)) }
@@ -105,7 +105,10 @@ fn columns(alloc: Global, left: &Layout, right: &Layout) -> Result<Option<Layout
     let first = Layout::reversed(alloc, left)?;
     let second = Layout::reversed(alloc, right)?;
     let across = step(left).saturating_add(step(right));
-    if across <= step(&first).saturating_add(step(&second)) {
+    if across <= step(&first).saturating_add(step(&second))
+        || has_short_rows(&first)
+        || has_short_rows(&second)
+    {
         return Ok(None);
     }
     Ok(Some(Layouts { first, second }))

@@ -76,7 +76,8 @@ fn take_each<S: Number, O: Ordered, F: Fold<S>>(held: &mut [F::Held], row: Side<
     }
 }
 
-/// The same, with a loop of its own for numbers that lie one right after the other.
+/// Takes each number of a row into what is held of its line, with a loop of its own where they lie one
+/// right after the other.
 fn take_row<S: Number, O: Ordered, F: Fold<S>>(held: &mut [F::Held], row: Side<'_>, seen: usize)
     requires width { row.width ≡ S.WIDTH }
     requires even { length held.old ≡ row.run.count }

@@ -133,7 +133,7 @@ fn reduced_block(
     reduced_from(alloc, reduction, source, &starts, Some(along))
 }
 
-/// The same as `reduce`, however the items lie.
+/// What `reduce` gives, however the items lie.
 fn reduce_items(
     alloc: Global,
     reduction: Red,
