@@ -10,7 +10,7 @@ use Rattle.elementwise.specs.Results.{pairwise, value_in}
 use Rattle.elementwise.specs.declared.pairing.Pairing.{Pairing}
 use Rattle.elementwise.specs.declared.row_pairs.Operands.{Operands}
 use Rattle.elementwise.specs.inside.Made.{IsMade}
-use Rattle.elementwise.specs.inside.Operands.{operand_items, pairs_of, made_of_all}
+use Rattle.elementwise.specs.inside.Operands.{all_made, pairs_of, made_of_all}
 use Rattle.elementwise.specs.inside.Works.{left_of, right_of, target_of, gives, pair_made, CanPair}
 use Rattle.elementwise.proofs.WorkLaws.{pair_reads_back}
 use Rattle.elementwise.specs.inside.PairPasses.{value_pair, pair_from}
@@ -70,23 +70,20 @@ all_appended left right to gives a b xs ys bytes n many many' back wrote =
 -- ---- arrays of what is made of pairs
 
 module _ (p : Pairing) (o : Operands) (can : CanPair p) (is : o.left.descr.now ≡ ScalarDescr (left_of p)) (is' : o.right.descr.now ≡ ScalarDescr (right_of p)) where
-  abbrev all-given : List (List LeafValue)
-  all-given = pairwise (λ x y. gives p (value_in x) (value_in y) ∷ []) (operand_items o.left) (operand_items o.right)
-
   pub all_paired : (block : List ℕ) → block ≡ made_of_all (pair_made p) o →
-      (length block ≡ pairs_of o * size (target_of p)) × (map (item_from (ScalarDescr (target_of p)) block) (multiples (size (target_of p)) (pairs_of o)) ≡ all-given) × (block ≡ flat_map (encode_item (ScalarDescr (target_of p))) all-given)
+      (length block ≡ pairs_of o * size (target_of p)) × (map (item_from (ScalarDescr (target_of p)) block) (multiples (size (target_of p)) (pairs_of o)) ≡ all_made p o) × (block ≡ flat_map (encode_item (ScalarDescr (target_of p))) (all_made p o))
   all_paired block wrote =
       let l = o.left.layout.now in let r = o.right.layout.now in
-      let a = o.left.bytes.now in let b = o.right.bytes.now in
+      let a = o.left.block.now in let b = o.right.block.now in
       let all = all_appended (left_of p) (right_of p) (target_of p) (gives p) a b (offsets l) (offsets r) block (count l.shape) (length-offsets l) (length-offsets r ∙ ap count (sym o.even)) (λ x y. pair_reads_back p x y can)
       (wrote ∙ λ i. concat (pairwise (pair_from (pair_made p) (item_size (is i)) (item_size (is' i)) a b) (offsets l) (offsets r))) in
-      let shown : pairwise (λ x y. gives p (value_in x) (value_in y) ∷ []) (map (item_from (ScalarDescr (left_of p)) a) (offsets l)) (map (item_from (ScalarDescr (right_of p)) b) (offsets r)) ≡ all-given =
+      let shown : pairwise (λ x y. gives p (value_in x) (value_in y) ∷ []) (map (item_from (ScalarDescr (left_of p)) a) (offsets l)) (map (item_from (ScalarDescr (right_of p)) b) (offsets r)) ≡ all_made p o =
       λ i. pairwise (λ x y. gives p (value_in x) (value_in y) ∷ []) (map (item_from (sym is i) a) (offsets l)) (map (item_from (sym is' i) b) (offsets r)) in
       (all.0, all.1 ∙ shown, all.2 ∙ ap (flat_map (encode_item (ScalarDescr (target_of p)))) shown)
 
   pub pairs_made : (to : Scalar) (block : List ℕ) (result : Result Owned AllocError) → to ≡ target_of p → block ≡ made_of_all (pair_made p) o →
       IfOk result (λ made. made.descr ≡ ScalarDescr to) → IfOk result (λ made. made.layout.shape ≡ o.left.layout.now.shape) → IfOk result (λ made. offsets made.layout ≡ multiples (size to) (pairs_of o)) → IfOk result (λ made. made.block ≡ block) →
-      IfOk result (IsMade (ScalarDescr (target_of p)) o.left.layout.now.shape all-given)
+      IfOk result (IsMade (ScalarDescr (target_of p)) o.left.layout.now.shape (all_made p o))
   pairs_made to block result same wrote descr shape order held =
       let all = all_paired block wrote in
-      over-made (ScalarDescr to) (ScalarDescr (target_of p)) o.left.layout.now.shape all-given result block (ap ScalarDescr same) descr shape order held all.1 all.2
+      over-made (ScalarDescr to) (ScalarDescr (target_of p)) o.left.layout.now.shape (all_made p o) result block (ap ScalarDescr same) descr shape order held all.1 all.2

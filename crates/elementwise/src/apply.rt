@@ -13,11 +13,11 @@ ghost use Rattle.std.specs.Prelude.{IfOk, IfSome, IsTrue, [], map, true, ◌*◌
 use crate::castable::keeps_items;
 use crate::casts::cast_items;
 use crate::chunks::{InRuns, ItemsInRun, MANY, make_by_chunks};
-use crate::operands::{has_short_rows, made, read_as};
+use crate::operands::{FEW, made, read_as};
 use crate::pairing::{Pairing, Work};
 use crate::promotion::{promote, promote_one, scalar_of};
-use crate::row_pairs::{Operand, Operands};
-use arrays::{Items, Owned, copy};
+use crate::row_pairs::Operands;
+use arrays::{Items, Owned, copy, goes_by_columns};
 use broadcasting::{common, stretched_to};
 use elem_descr::{BinOp, Descr, MemoryOrder, Refusal, UnOp};
 use shape_strides::{Layout, Shape};
@@ -107,14 +107,14 @@ impl<'a> Held<'a> {
         Ok(Held::Made(made))
     }
 
-    /// Items where they lie; those of many short rows one after another, so that one loop takes them
+    /// Items where they lie; many that go by columns one after another, so that one loop takes them
     /// all. Without memory for that they stay.
     pub(crate) fn near(alloc: Global, from: Items<'a>) -> Held<'a>
         ensures descr { held_descr result ≡ from.entry.descr.now }
         ensures shape { held_shape result ≡ from.entry.layout.now.shape }
         ensures items { held_items result ≡ items from.entry }
     {
-        if !has_short_rows(from.layout) {
+        if from.layout.shape.items() < FEW || !goes_by_columns(from.layout) {
             return Held::Kept(from);
         }
         match copy(alloc, from.block, from.layout, from.descr, MemoryOrder::C) {
@@ -164,60 +164,6 @@ impl<'a> Fitted<'a> {
     }
 }
 
-/// What is made of all pairs of items, in C order. Those of many short rows are first put one after
-/// another.
-fn made_near(
-    alloc: Global,
-    pairing: &Pairing<'_>,
-    left: Items<'_>,
-    right: Items<'_>,
-) -> Result<Owned, AllocError>
-    requires can { CanPair pairing.now }
-    requires left { left.descr.now ≡ ScalarDescr (left_of pairing.now) }
-    requires right { right.descr.now ≡ ScalarDescr (right_of pairing.now) }
-    requires few { count left.layout.now.shape * size (target_of pairing.now) ≤ max_bytes }
-    requires even { left.layout.now.shape ≡ right.layout.now.shape }
-    ensures { IfOk result
-        (IsMade (ScalarDescr (target_of pairing.now)) left.entry.layout.now.shape
-        (pairwise (λ x y. gives pairing.now (value_in x) (value_in y) ∷ [])
-        (items left.entry) (items right.entry))) }
-{
-    let left = Held::near(alloc, left);
-    let right = Held::near(alloc, right);
-    let operands = Operands {
-        left: Operand::of(left.items()),
-        right: Operand::of(right.items()),
-    };
-    made(alloc, pairing, operands)
-}
-
-/// What is made of all pairs of items, in C order.
-fn made_of(
-    alloc: Global,
-    pairing: &Pairing<'_>,
-    left: Items<'_>,
-    right: Items<'_>,
-) -> Result<Owned, AllocError>
-    requires can { CanPair pairing.now }
-    requires left { left.descr.now ≡ ScalarDescr (left_of pairing.now) }
-    requires right { right.descr.now ≡ ScalarDescr (right_of pairing.now) }
-    requires few { count left.layout.now.shape * size (target_of pairing.now) ≤ max_bytes }
-    requires even { left.layout.now.shape ≡ right.layout.now.shape }
-    ensures { IfOk result
-        (IsMade (ScalarDescr (target_of pairing.now)) left.entry.layout.now.shape
-        (pairwise (λ x y. gives pairing.now (value_in x) (value_in y) ∷ [])
-        (items left.entry) (items right.entry))) }
-{
-    if has_short_rows(left.layout) || has_short_rows(right.layout) {
-        return made_near(alloc, pairing, left, right);
-    }
-    let operands = Operands {
-        left: Operand::of(left),
-        right: Operand::of(right),
-    };
-    made(alloc, pairing, operands)
-}
-
 /// What is made of the items of two arrays that are cast, each as a whole, and then stretched.
 pub(crate) fn make_whole(
     alloc: Global,
@@ -250,17 +196,19 @@ pub(crate) fn make_whole(
     let right = right_held.items();
     let first = Fitted::to(alloc, left.layout, shape)?;
     let second = Fitted::to(alloc, right.layout, shape)?;
-    let left_wide = Items {
-        block: left.block,
-        layout: first.layout(),
-        descr: left.descr,
+    let operands = Operands {
+        left: Items {
+            block: left.block,
+            layout: first.layout(),
+            descr: left.descr,
+        },
+        right: Items {
+            block: right.block,
+            layout: second.layout(),
+            descr: right.descr,
+        },
     };
-    let right_wide = Items {
-        block: right.block,
-        layout: second.layout(),
-        descr: right.descr,
-    };
-    made_of(alloc, pairing, left_wide, right_wide)
+    made(alloc, pairing, operands)
 }
 
 /// The operands as runs of items, if they are many, need not be stretched, and are not both of the type

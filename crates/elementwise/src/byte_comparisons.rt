@@ -13,7 +13,7 @@ use crate::integer_comparisons::one_item;
 use crate::operands::{Broadcast, made, spread, without_repeats};
 use crate::pairing::Pairing;
 use crate::promotion::scalar_of;
-use crate::row_pairs::{Operand, Operands};
+use crate::row_pairs::Operands;
 use arrays::{Items, Owned};
 use broadcasting::repeats;
 use elem_descr::{BytesLen, Comparison, Refusal, Scalar};
@@ -36,8 +36,8 @@ fn compare_with(
         (text other.now ∷ [])) (offsets operand.entry.layout.now))) }
 {
     let operands = Operands {
-        left: Operand::of(operand),
-        right: Operand::of(operand),
+        left: operand,
+        right: operand,
     };
     let _items = operand.layout.shape.items();
     let pairing = Pairing::With {

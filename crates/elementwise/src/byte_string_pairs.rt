@@ -11,7 +11,7 @@ ghost use Rattle.std.specs.Prelude.{IfSome, false, take, ◌++◌, ◌+◌, ◌�
 
 use crate::byte_strings::{next_word, shared_words, without_nul_words};
 use crate::comparison_kernels::says;
-use crate::operands::note_slice;
+use crate::operands::note_bytes;
 use crate::operations::Working;
 use crate::pairing::{Pairs, Work};
 use crate::row_pairs::{Operands, Pass};
@@ -199,8 +199,8 @@ pub(crate) fn push_texts(
         ++ made_of_all (text_pair texts.now.comparison) operands.entry }
     ensures left { pairs_of operands.entry + result.1 ≡ block.1 }
 {
-    note_slice(operands.left.bytes);
-    note_slice(operands.right.bytes);
+    note_bytes(operands.left.block);
+    note_bytes(operands.right.block);
     let Some(scalar) = word_of(texts) else {
         return operands.push_all(texts, block);
     };

@@ -10,9 +10,9 @@ ghost use Rattle.std.specs.Prelude.{IfErr, IfOk, drop, if◌then◌else◌, leng
 use crate::apply::Held;
 use crate::castable::can_cast;
 use crate::leaf_casts::{Column, Places};
-use crate::operands::{has_short_rows, made};
+use crate::operands::made;
 use crate::pairing::{Pairing, Work};
-use crate::row_pairs::{Operand, Operands};
+use crate::row_pairs::Operands;
 use arrays::{Items, Owned, gather};
 use elem_descr::{Descr, Leaf, MemoryOrder, Refusal, Scalar};
 use machine_numbers::{Side, place};
@@ -51,7 +51,7 @@ fn source_of(descr: &Descr, k: usize) -> Leaf
 /// Numbers or byte strings as those of another scalar, each pushed once.
 pub(crate) fn cast_scalars(
     alloc: Global,
-    from: Operand<'_>,
+    from: Items<'_>,
     scalar: &Scalar,
     to: &Scalar,
 ) -> Result<Owned, AllocError>
@@ -62,7 +62,7 @@ pub(crate) fn cast_scalars(
         (IsMade (ScalarDescr to.now) from.entry.layout.now.shape
         (map (λ offset.
         cast_item from.entry.descr.now (ScalarDescr to.now)
-        (item_from from.entry.descr.now from.entry.bytes.now offset))
+        (item_from from.entry.descr.now from.entry.block.now offset))
         (offsets from.entry.layout.now))) }
 {
     let operands = Operands {
@@ -249,28 +249,6 @@ fn cast_records(alloc: Global, from: Items<'_>, to: &Descr) -> Result<Owned, All
     Owned::over(alloc, descr, &from.layout.shape, MemoryOrder::C, cast)
 }
 
-/// Numbers or byte strings of many short rows as those of another scalar: they are first put one after
-/// another.
-fn cast_near(
-    alloc: Global,
-    from: Items<'_>,
-    scalar: &Scalar,
-    to: &Scalar,
-) -> Result<Owned, AllocError>
-    requires from { from.descr.now ≡ ScalarDescr scalar.now }
-    requires can { can_cast_scalar scalar.now to.now ≡ true }
-    requires few { count from.layout.now.shape * size to.now ≤ max_bytes }
-    ensures { IfOk result
-        (IsMade (ScalarDescr to.now) from.entry.layout.now.shape
-        (map (λ offset.
-        cast_item from.entry.descr.now (ScalarDescr to.now)
-        (item_from from.entry.descr.now from.entry.block.now offset))
-        (offsets from.entry.layout.now))) }
-{
-    let packed = Held::near(alloc, from);
-    cast_scalars(alloc, Operand::of(packed.items()), scalar, to)
-}
-
 /// Items as items to which they can be cast.
 pub(crate) fn cast_items(alloc: Global, from: Items<'_>, to: &Descr) -> Result<Owned, AllocError>
     requires can { can_cast from.descr.now to.now ≡ true }
@@ -284,10 +262,8 @@ pub(crate) fn cast_items(alloc: Global, from: Items<'_>, to: &Descr) -> Result<O
 {
     match (from.descr, to) {
         (Descr::Scalar(scalar), Descr::Scalar(target)) => {
-            if has_short_rows(from.layout) {
-                return cast_near(alloc, from, scalar, target);
-            }
-            cast_scalars(alloc, Operand::of(from), scalar, target)
+            let near = Held::near(alloc, from);
+            cast_scalars(alloc, near.items(), scalar, target)
         }
         _ => cast_records(alloc, from, to),
     }

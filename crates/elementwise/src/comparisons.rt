@@ -15,7 +15,7 @@ use crate::byte_strings::trimmed_in;
 use crate::operands::{Broadcast, made, note_bytes, read_as, spread, without_repeats};
 use crate::pairing::{Pairing, Work};
 use crate::promotion::{common_type, compared_type, scalar_of};
-use crate::row_pairs::{Operand, Operands};
+use crate::row_pairs::Operands;
 use arrays::{Items, Owned};
 use broadcasting::{common, repeats, stretched_to};
 use elem_descr::{Comparison, Descr, Refusal, Scalar};
@@ -101,16 +101,16 @@ fn compare_texts(
     let first = stretched_to(alloc, left.layout, shape)?;
     let second = stretched_to(alloc, right.layout, shape)?;
     let operands = Operands {
-        left: Operand::of(Items {
+        left: Items {
             block: left.block,
             layout: &first,
             descr: &descr,
-        }),
-        right: Operand::of(Items {
+        },
+        right: Items {
             block: right.block,
             layout: &second,
             descr: &other_descr,
-        }),
+        },
     };
     made(alloc, &cut, operands)
 }

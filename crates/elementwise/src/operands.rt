@@ -1,18 +1,19 @@
 //! The operands of operations, and arrays of the results of their pairs.
 ghost use Rattle.elem_descr.specs.declared.descr.Descr.TheVariants.{Scalar as ScalarDescr};
 ghost use Rattle.elem_descr.specs.declared.scalar.Scalar.TheVariants.{Bool as BoolScalar};
-ghost use Rattle.elementwise.specs.Results.{pairwise, stretched_items, value_in};
+ghost use Rattle.elementwise.specs.Results.{stretched_items};
 ghost use Rattle.elementwise.specs.Words.{can_stretch, little, max_bytes, size};
 ghost use Rattle.elementwise.specs.inside.Made.{IsMade, IsTurned};
-ghost use Rattle.elementwise.specs.inside.Operands.{operand_items, pairs_of};
+ghost use Rattle.elementwise.specs.inside.Operands.{all_made, pairs_of};
 ghost use Rattle.elementwise.specs.inside.Shrunk.{IsShrunk};
-ghost use Rattle.elementwise.specs.inside.Works.{CanPair, gives, left_of, right_of, target_of};
+ghost use Rattle.elementwise.specs.inside.Works.{CanPair, left_of, right_of, target_of};
 ghost use Rattle.std.specs.Prelude.{IfOk, IfSome, IsTrue, [], slice_index_or, ℕ, ◌*◌, ◌<◌, ◌∷◌, ◌≡◌, ◌≤◌};
 
+use crate::apply::Held;
 use crate::casts::cast_scalars;
 use crate::pairing::Pairing;
-use crate::row_pairs::{Operand, Operands};
-use arrays::{Items, Owned, gather};
+use crate::row_pairs::Operands;
+use arrays::{Items, Owned, gather, goes_by_columns};
 use broadcasting::{shrink, shrunk_shape, stretched_to};
 use elem_descr::{Descr, MemoryOrder, Scalar};
 use machine_numbers::little;
@@ -65,27 +66,8 @@ pub(crate) fn read_as(scalar: &Scalar, left: Items<'_>, right: Items<'_>) -> Sca
     }
 }
 
-/// Fewer pairs than these go by rows.
-const FEW: usize = 4096;
-
-/// Rows of fewer items than these are short, and as many rows are many.
-const SHORT: usize = 32;
-
-/// Whether a layout has many items in short rows, which do not lie nearer to one another than their
-/// items do.
-pub(crate) fn has_short_rows(layout: &Layout) -> bool {
-    if layout.shape.items() < FEW {
-        return false;
-    }
-    let Rows { starts, along } = layout.rows();
-    let mut starts = starts;
-    match starts.next() {
-        Some(run) if along.len < SHORT && run.count >= SHORT => {
-            run.step == 0 || run.step.unsigned_abs() >= along.stride.unsigned_abs()
-        }
-        _ => false,
-    }
-}
+/// Fewer items than these go as they lie.
+pub(crate) const FEW: usize = 4096;
 
 /// How far apart the items of a row lie.
 fn step(layout: &Layout) -> usize {
@@ -93,28 +75,46 @@ fn step(layout: &Layout) -> usize {
     along.stride.unsigned_abs()
 }
 
-/// Two layouts with their axes in reverse, if there are many items, and those of columns lie nearer to one
-/// another than those of rows and are not short.
+/// Two layouts with their axes in reverse, if the items of columns lie nearer to one another than those of
+/// rows, and columns are not short.
 fn columns(alloc: Global, left: &Layout, right: &Layout) -> Result<Option<Layouts>, AllocError>
     ensures first { IfOk result (λ columns. IfSome columns (λ c. IsTurned c.first left.now)) }
     ensures second { IfOk result (λ columns. IfSome columns (λ c. IsTurned c.second right.now)) }
 {
-    if left.shape.items() < FEW {
-        return Ok(None);
-    }
     let first = Layout::reversed(alloc, left)?;
     let second = Layout::reversed(alloc, right)?;
     let across = step(left).saturating_add(step(right));
     if across <= step(&first).saturating_add(step(&second))
-        || has_short_rows(&first)
-        || has_short_rows(&second)
+        || goes_by_columns(&first)
+        || goes_by_columns(&second)
     {
         return Ok(None);
     }
     Ok(Some(Layouts { first, second }))
 }
 
-/// What is made of all pairs, in C order.
+/// What is made of all pairs, row by row.
+fn made_by_rows(
+    alloc: Global,
+    pairing: &Pairing<'_>,
+    operands: Operands<'_, '_>,
+) -> Result<Owned, AllocError>
+    requires can { CanPair pairing.now }
+    requires left { operands.left.descr.now ≡ ScalarDescr (left_of pairing.now) }
+    requires right { operands.right.descr.now ≡ ScalarDescr (right_of pairing.now) }
+    requires few { pairs_of operands * size (target_of pairing.now) ≤ max_bytes }
+    ensures { IfOk result
+        (IsMade (ScalarDescr (target_of pairing.now)) operands.entry.left.layout.now.shape
+        (all_made pairing.now operands.entry)) }
+{
+    let shape = &operands.left.layout.shape;
+    let scalar = pairing.target();
+    let block = BlockBuilder::try_new(alloc, shape.items() * scalar.size())?;
+    let block = pairing.push(block, operands).finish();
+    Owned::over(alloc, Descr::Scalar(scalar), shape, MemoryOrder::C, block)
+}
+
+/// What is made of all pairs. Many go column by column if both operands lie so, and row by row otherwise.
 pub(crate) fn made(
     alloc: Global,
     pairing: &Pairing<'_>,
@@ -126,30 +126,37 @@ pub(crate) fn made(
     requires few { pairs_of operands * size (target_of pairing.now) ≤ max_bytes }
     ensures { IfOk result
         (IsMade (ScalarDescr (target_of pairing.now)) operands.entry.left.layout.now.shape
-        (pairwise (λ x y. gives pairing.now (value_in x) (value_in y) ∷ [])
-        (operand_items operands.entry.left) (operand_items operands.entry.right))) }
+        (all_made pairing.now operands.entry)) }
 {
     let Operands { left, right } = operands;
     let shape = &left.layout.shape;
-    let scalar = pairing.target();
-    let width = scalar.size();
-    let block = BlockBuilder::try_new(alloc, shape.items() * width)?;
+    if shape.items() < FEW {
+        return made_by_rows(alloc, pairing, operands);
+    }
     let Some(columns) = columns(alloc, left.layout, right.layout)? else {
-        let block = pairing.push(block, operands).finish();
-        return Owned::over(alloc, Descr::Scalar(scalar), shape, MemoryOrder::C, block);
+        let left = Held::near(alloc, left);
+        let right = Held::near(alloc, right);
+        let near = Operands {
+            left: left.items(),
+            right: right.items(),
+        };
+        return made_by_rows(alloc, pairing, near);
     };
     let turned = Operands {
-        left: Operand {
-            bytes: left.bytes,
+        left: Items {
+            block: left.block,
             layout: &columns.first,
             descr: left.descr,
         },
-        right: Operand {
-            bytes: right.bytes,
+        right: Items {
+            block: right.block,
             layout: &columns.second,
             descr: right.descr,
         },
     };
+    let scalar = pairing.target();
+    let width = scalar.size();
+    let block = BlockBuilder::try_new(alloc, shape.items() * width)?;
     let block = pairing.push(block, turned).finish();
     let order = Layout::f_order(alloc, shape, width)?;
     let block = gather(alloc, &block, &order, width)?;
@@ -205,5 +212,5 @@ pub(crate) fn spread(alloc: Global, made: &Owned, shape: &Shape) -> Result<Owned
         layout: &wide,
         descr: items.descr,
     };
-    cast_scalars(alloc, Operand::of(bools), &Scalar::Bool, &Scalar::Bool)
+    cast_scalars(alloc, bools, &Scalar::Bool, &Scalar::Bool)
 }

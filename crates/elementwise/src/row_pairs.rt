@@ -7,45 +7,15 @@ ghost use Rattle.std.specs.Prelude.{All, IfSome, List, length, ℕ, ◌*◌, ◌
 
 use crate::pairing::Pairs;
 use arrays::Items;
-use elem_descr::Descr;
 use machine_numbers::Side;
 use raw_block::BlockBuilder;
-use shape_strides::{Layout, RunPair, RunPairs};
-
-/// Items of a layout, of an element type, which lie in bytes.
-#[derive(Clone, Copy, Drop)]
-pub(crate) struct Operand<'a> {
-    pub(crate) bytes: &'a [u8],
-    pub(crate) layout: &'a Layout,
-    pub(crate) descr: &'a Descr,
-    pub(crate) ghost inside: { All (λ offset. offset + item_size descr.now ≤ length bytes.now)
-        (offsets layout.now) },
-}
-
-impl<'a> Operand<'a> {
-    ghost use Rattle.arrays.specs.ItemLists.{items};
-    ghost use Rattle.elementwise.specs.inside.Operands.{operand_items};
-
-    /// Items that lie in a block.
-    pub(crate) fn of(from: Items<'a>) -> Operand<'a>
-        ensures layout { result.layout.now ≡ from.entry.layout.now }
-        ensures descr { result.descr.now ≡ from.entry.descr.now }
-        ensures bytes { result.bytes.now ≡ from.entry.block.now }
-        ensures items { operand_items result ≡ items from.entry }
-    {
-        Operand {
-            bytes: from.block.bytes(),
-            layout: from.layout,
-            descr: from.descr,
-        }
-    }
-}
+use shape_strides::{RunPair, RunPairs};
 
 /// Two operands of one shape.
 #[derive(Clone, Copy, Drop)]
 pub(crate) struct Operands<'a, 'b> {
-    pub(crate) left: Operand<'a>,
-    pub(crate) right: Operand<'b>,
+    pub(crate) left: Items<'a>,
+    pub(crate) right: Items<'b>,
     pub(crate) ghost even: { left.layout.now.shape ≡ right.layout.now.shape },
 }
 
@@ -96,26 +66,26 @@ impl<'a, 'b> Operands<'a, 'b> {
             (item_size self.right.descr.now) }
         requires room { row.first.count * P.width pass.now ≤ block.1 }
         requires even { row.first.count ≡ row.second.count }
-        requires first { EachWithin (length self.left.bytes.now) row.first.offset row.first.step
+        requires first { EachWithin (length self.left.block.now) row.first.offset row.first.step
             (item_size self.left.descr.now) row.first.count }
-        requires second { EachWithin (length self.right.bytes.now) row.second.offset row.second.step
+        requires second { EachWithin (length self.right.block.now) row.second.offset row.second.step
             (item_size self.right.descr.now) row.second.count }
         ensures bytes { result.0 ≡ block.0
             ++ concat (pairwise
             (pair_from (P.makes pass.now) (item_size self.entry.left.descr.now)
-            (item_size self.entry.right.descr.now) self.entry.left.bytes.now
-            self.entry.right.bytes.now) (run_offsets row.first) (run_offsets row.second)) }
+            (item_size self.entry.right.descr.now) self.entry.left.block.now
+            self.entry.right.block.now) (run_offsets row.first) (run_offsets row.second)) }
         ensures left { row.first.count * P.width pass.now + result.1 ≡ block.1 }
     {
         let _filled = block.filled();
         let pairs = Pairs {
             left: Side {
-                bytes: self.left.bytes,
+                bytes: self.left.block.bytes(),
                 run: row.first,
                 width: self.left.descr.size(),
             },
             right: Side {
-                bytes: self.right.bytes,
+                bytes: self.right.block.bytes(),
                 run: row.second,
                 width: self.right.descr.size(),
             },

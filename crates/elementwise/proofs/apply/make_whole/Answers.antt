@@ -16,24 +16,24 @@ to-requires c = (λ i. can_stretch ((c.items-left.ensures.shape ∙ c.in_ok-left
 pub to-requires-2 : goal.to-requires-2
 to-requires-2 c = (λ i. can_stretch ((c.items-right.ensures.shape ∙ c.in_ok-right_held.ensures.shape) i) c.args.shape.now) ∙ c.requires.also
 
-pub invariant_of-left_wide : goal.invariant_of-left_wide
-invariant_of-left_wide c =
+pub invariant_of-operands : goal.invariant_of-operands
+invariant_of-operands c =
     let x = c.items-left.result in
     record { inside = subst (λ l. All (λ offset. offset + item_size x.descr.now ≤ length x.block.now) (offsets l)) (sym c.layout.ensures) (c.in_ok-first.ensures.inside (length x.block.now) (item_size x.descr.now) x.inside) }
 
-pub invariant_of-right_wide : goal.invariant_of-right_wide
-invariant_of-right_wide c =
+pub invariant_of-operands-2 : goal.invariant_of-operands-2
+invariant_of-operands-2 c =
     let y = c.items-right.result in
     record { inside = subst (λ l. All (λ offset. offset + item_size y.descr.now ≤ length y.block.now) (offsets l)) (sym c.layout-2.ensures) (c.in_ok-second.ensures.inside (length y.block.now) (item_size y.descr.now) y.inside) }
 
-pub made_of-requires-clause-left : goal.made_of-requires-clause-left
-made_of-requires-clause-left c = c.items-left.ensures.descr ∙ c.in_ok-left_held.ensures.descr ∙ ap ScalarDescr c.left.ensures
+pub made-requires-clause-left : goal.made-requires-clause-left
+made-requires-clause-left c = c.items-left.ensures.descr ∙ c.in_ok-left_held.ensures.descr ∙ ap ScalarDescr c.left.ensures
 
-pub made_of-requires-clause-right : goal.made_of-requires-clause-right
-made_of-requires-clause-right c = c.items-right.ensures.descr ∙ c.in_ok-right_held.ensures.descr ∙ ap ScalarDescr c.right.ensures
+pub made-requires-clause-right : goal.made-requires-clause-right
+made-requires-clause-right c = c.items-right.ensures.descr ∙ c.in_ok-right_held.ensures.descr ∙ ap ScalarDescr c.right.ensures
 
-pub made_of-requires-clause-few : goal.made_of-requires-clause-few
-made_of-requires-clause-few c =
+pub made-requires-clause-few : goal.made-requires-clause-few
+made-requires-clause-few c =
     let n = count c.args.shape.now in
     let to = size (target_of c.args.pairing.now) in
     let same : count c.layout.result.now.shape * to ≡ n * to = ap (λ s. count s * to) (ap (λ l. l.shape) c.layout.ensures ∙ c.in_ok-first.ensures.shape_is) in
@@ -55,10 +55,10 @@ returns c =
     (c.items-left.ensures.items ∙ c.in_ok-left_held.ensures.items ∙ λ i. map (cast_item x.descr.now (ScalarDescr (c.left.ensures i))) (map (item_from x.descr.now x.block.now) (offsets x.layout.now))) in
     let second = ap (map (item_from held'.descr.now held'.block.now)) (ap offsets c.layout-2.ensures ∙ c.in_ok-second.ensures.places) ∙ stretched-cast cast' y.descr.now held'.descr.now y.block.now held'.block.now y.layout.now held'.layout.now shape (c.items-right.ensures.shape ∙ c.in_ok-right_held.ensures.shape) c.requires.also
     (c.items-right.ensures.items ∙ c.in_ok-right_held.ensures.items ∙ λ i. map (cast_item y.descr.now (ScalarDescr (c.right.ensures i))) (map (item_from y.descr.now y.block.now) (offsets y.layout.now))) in
-    made-in (ScalarDescr (target_of p)) c.layout.result.now.shape shape _ _ c.made_of.result (ap (λ l. l.shape) c.layout.ensures ∙ c.in_ok-first.ensures.shape_is)
+    made-in (ScalarDescr (target_of p)) c.layout.result.now.shape shape _ _ c.made.result (ap (λ l. l.shape) c.layout.ensures ∙ c.in_ok-first.ensures.shape_is)
     ((λ i. pairwise make (first i) (second i))
     ∙ pairwise-map make cast cast' (stretched_items x.descr.now x.block.now x.layout.now shape) (stretched_items y.descr.now y.block.now y.layout.now shape))
-    c.made_of.ensures
+    c.made.ensures
 
-pub made_of-requires-clause-even : goal.made_of-requires-clause-even
-made_of-requires-clause-even c = (ap (λ l. l.shape) c.layout.ensures ∙ c.in_ok-first.ensures.shape_is) ∙ sym (ap (λ l. l.shape) c.layout-2.ensures ∙ c.in_ok-second.ensures.shape_is)
+pub invariant_of-operands-3 : goal.invariant_of-operands-3
+invariant_of-operands-3 c = record { even = (ap (λ l. l.shape) c.layout.ensures ∙ c.in_ok-first.ensures.shape_is) ∙ sym (ap (λ l. l.shape) c.layout-2.ensures ∙ c.in_ok-second.ensures.shape_is) }

@@ -5,18 +5,17 @@ use Rattle.elem_descr.specs.declared.scalar.Scalar.TheVariants.{Bool as BoolScal
 use Rattle.elementwise.specs.Words.{text, item_from, count, offsets}
 use Rattle.elementwise.specs.Results.{pairwise, compared_item}
 use Rattle.elementwise.proofs.AppliedLaws.{pairwise-same}
-use Rattle.elementwise.proofs.MadeLaws.{made-in}
+use Rattle.elementwise.proofs.MadeLaws.{made-as}
 use Rattle.elementwise.proofs.byte_comparisons.compare_with.Goals as goal
 
 pub made-requires-clause-few : goal.made-requires-clause-few
-made-requires-clause-few c = omega (arith, ap (λ l. count l.shape) c.of.ensures.layout, c.items-items.ensures.value, c.items-items.ensures.limit)
+made-requires-clause-few c = omega (arith, c.items-items.ensures.value, c.items-items.ensures.limit)
 
 pub returns : goal.returns
 returns c =
     let x = c.args.operand in
     let read = item_from x.descr.now x.block.now in
     let os = offsets x.layout.now in
-    made-in (ScalarDescr BoolScalar) c.of.result.layout.now.shape x.layout.now.shape _ _ c.made.result (ap (λ l. l.shape) c.of.ensures.layout)
-    ((λ i. pairwise (λ u v. compared_item c.args.comparison u (text c.args.other.now ∷ [])) (c.of.ensures.items i) (c.of-2.ensures.items i))
-    ∙ pairwise-same (λ u v. compared_item c.args.comparison u (text c.args.other.now ∷ [])) (map read os) ∙ map-map (λ u. compared_item c.args.comparison u (text c.args.other.now ∷ [])) read os)
+    made-as (ScalarDescr BoolScalar) x.layout.now.shape _ _ c.made.result
+    (pairwise-same (λ u v. compared_item c.args.comparison u (text c.args.other.now ∷ [])) (map read os) ∙ map-map (λ u. compared_item c.args.comparison u (text c.args.other.now ∷ [])) read os)
     c.made.ensures

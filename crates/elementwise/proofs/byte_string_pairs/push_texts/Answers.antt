@@ -22,5 +22,5 @@ returns-clause-bytes c =
     let w = item_size o.left.descr.now in
     let w' = item_size o.right.descr.now in
     c.on_number.ensures.0
-    ∙ ap (λ all. c.args.block.0 ++ concat all) (pairs-alike (number_pair s s BoolScalar (says_number t.comparison)) (text_pair t.comparison) w w' o.left.bytes.now o.right.bytes.now (offsets o.left.layout.now) (offsets o.right.layout.now) c.note_slice.ensures c.note_slice-2.ensures o.left.inside o.right.inside
+    ∙ ap (λ all. c.args.block.0 ++ concat all) (pairs-alike (number_pair s s BoolScalar (says_number t.comparison)) (text_pair t.comparison) w w' o.left.block.now o.right.block.now (offsets o.left.layout.now) (offsets o.right.layout.now) c.note_bytes.ensures c.note_bytes-2.ensures o.left.inside o.right.inside
     (λ x y long long' are are'. words-compared t.comparison s t.width x y c.in-Some.ensures.word (long ∙ c.requires.left) (long' ∙ c.requires.right ∙ c.in-Some.ensures.even) are are'))

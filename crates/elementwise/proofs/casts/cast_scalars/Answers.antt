@@ -12,12 +12,12 @@ pub returns-in-Bytes-Bytes : goal.returns-in-Bytes-Bytes
 returns-in-Bytes-Bytes c =
     let x = c.args.from in
     let to = Bytes c.in-Bytes-Bytes.target in
-    subst (λ (s : Scalar). IfOk c.made.result (IsMade (ScalarDescr s) x.layout.now.shape (map (λ offset. cast_item x.descr.now (ScalarDescr s) (item_from x.descr.now x.bytes.now offset)) (offsets x.layout.now)))) (sym c.in-Bytes-Bytes.is-1)
-    (made-as (ScalarDescr to) x.layout.now.shape _ _ c.made.result (values_cast c.args.scalar.now to x.descr.now x.bytes.now (offsets x.layout.now) _ c.requires.from (λ x y. refl)) c.made.ensures)
+    subst (λ (s : Scalar). IfOk c.made.result (IsMade (ScalarDescr s) x.layout.now.shape (map (λ offset. cast_item x.descr.now (ScalarDescr s) (item_from x.descr.now x.block.now offset)) (offsets x.layout.now)))) (sym c.in-Bytes-Bytes.is-1)
+    (made-as (ScalarDescr to) x.layout.now.shape _ _ c.made.result (values_cast c.args.scalar.now to x.descr.now x.block.now (offsets x.layout.now) _ c.requires.from (λ x y. refl)) c.made.ensures)
 
 pub returns-in_default : goal.returns-in_default
 returns-in_default c =
     let x = c.args.from in
     let to = c.args.to.now in
     let is : IsNumber to = search rules in
-    made-as (ScalarDescr to) x.layout.now.shape _ _ c.made-in_default.result (values_cast c.args.scalar.now to x.descr.now x.bytes.now (offsets x.layout.now) _ c.requires.from (λ x y. sym (cast_number to x is))) c.made-in_default.ensures
+    made-as (ScalarDescr to) x.layout.now.shape _ _ c.made-in_default.result (values_cast c.args.scalar.now to x.descr.now x.block.now (offsets x.layout.now) _ c.requires.from (λ x y. sym (cast_number to x is))) c.made-in_default.ensures

@@ -17,12 +17,12 @@ loop-row-init g c =
     let wide = g.P.Pass.width c.args.pass.now in
     let width = item_size o.left.descr.now in
     let width' = item_size o.right.descr.now in
-    let len = length o.left.bytes.now in
-    let len' = length o.right.bytes.now in
+    let len = length o.left.block.now in
+    let len' = length o.right.block.now in
     let ens = c.new-row-items.ensures in
     let rows = c.into_iter-row-iterator.result in
     let are = c.into_iter-row-iterator.ensures.into_iter_gives ∙ ens.pairs in
-    let make = pair_from (g.P.Pass.makes c.args.pass.now) width width' o.left.bytes.now o.right.bytes.now in
+    let make = pair_from (g.P.Pass.makes c.args.pass.now) width width' o.left.block.now o.right.block.now in
     let xs : firsts rows ≡ offsets l = ap firsts are ∙ ens.first in
     let ys : seconds rows ≡ offsets m = ap seconds are ∙ ens.second in
     let many : length (firsts rows) * wide ≡ pairs_of o * wide = ap (λ os. length os * wide) xs ∙ ap (λ n. n * wide) (length-offsets l) in
@@ -55,13 +55,13 @@ pub push_row-requires-clause-first : goal.push_row-requires-clause-first
 push_row-requires-clause-first g c =
     let left = c.args.self.left in
     let width = item_size left.descr.now in
-    run-within (length left.bytes.now) width c.in-Some.row.first c.in-Some.ensures.first_lies (subst (All (λ offset. offset + width ≤ length left.bytes.now)) (sym c.in-Some.ensures.first) left.inside)
+    run-within (length left.block.now) width c.in-Some.row.first c.in-Some.ensures.first_lies (subst (All (λ offset. offset + width ≤ length left.block.now)) (sym c.in-Some.ensures.first) left.inside)
 
 pub push_row-requires-clause-second : goal.push_row-requires-clause-second
 push_row-requires-clause-second g c =
     let right = c.args.self.right in
     let width = item_size right.descr.now in
-    run-within (length right.bytes.now) width c.in-Some.row.second c.in-Some.ensures.second_lies (subst (All (λ offset. offset + width ≤ length right.bytes.now)) (sym c.in-Some.ensures.second) right.inside)
+    run-within (length right.block.now) width c.in-Some.row.second c.in-Some.ensures.second_lies (subst (All (λ offset. offset + width ≤ length right.block.now)) (sym c.in-Some.ensures.second) right.inside)
 
 pub returns-in-Some-clause-left : goal.returns-in-Some-clause-left
 returns-in-Some-clause-left g c =
@@ -76,19 +76,19 @@ push_row-block-requires-clause-room g c = omega (arith, bytes-next (g.P.Pass.wid
 pub push_row-block-requires-clause-first : goal.push_row-block-requires-clause-first
 push_row-block-requires-clause-first g c =
     let left = c.args.self.left in
-    next_pair (λ q. EachWithin (length left.bytes.now) q.first.offset q.first.step (item_size left.descr.now) q.first.count) _ _ c.in-Some-row.row c.in-Some-row.ensures.steps c.loop-row.invariant.first
+    next_pair (λ q. EachWithin (length left.block.now) q.first.offset q.first.step (item_size left.descr.now) q.first.count) _ _ c.in-Some-row.row c.in-Some-row.ensures.steps c.loop-row.invariant.first
 
 pub push_row-block-requires-clause-second : goal.push_row-block-requires-clause-second
 push_row-block-requires-clause-second g c =
     let right = c.args.self.right in
-    next_pair (λ q. EachWithin (length right.bytes.now) q.second.offset q.second.step (item_size right.descr.now) q.second.count) _ _ c.in-Some-row.row c.in-Some-row.ensures.steps c.loop-row.invariant.second
+    next_pair (λ q. EachWithin (length right.block.now) q.second.offset q.second.step (item_size right.descr.now) q.second.count) _ _ c.in-Some-row.row c.in-Some-row.ensures.steps c.loop-row.invariant.second
 
 pub loop-row-preserved : goal.loop-row-preserved
 loop-row-preserved g c =
     let o = c.args.self in
     let wide = g.P.Pass.width c.args.pass.now in
-    let left = o.left.bytes.now in
-    let right = o.right.bytes.now in
+    let left = o.left.block.now in
+    let right = o.right.block.now in
     let width = item_size o.left.descr.now in
     let width' = item_size o.right.descr.now in
     let inv = c.loop-row.invariant in

@@ -14,12 +14,12 @@ invariant-loop-row g l =
     let wide = g.P.Pass.width l.pass in
     let width = item_size o.left.descr.now in
     let width' = item_size o.right.descr.now in
-    let make = pair_from (g.P.Pass.makes l.pass) width width' o.left.bytes.now o.right.bytes.now in
+    let make = pair_from (g.P.Pass.makes l.pass) width width' o.left.block.now o.right.block.now in
     record {
       bytes : l.block.0 ++ concat (pairwise make (firsts l.row-iterator) (seconds l.row-iterator)) ≡ l.fn.block.0 ++ made_of_all (g.P.Pass.makes l.pass) o;
       room : length (firsts l.row-iterator) * wide ≤ l.block.1;
       left : pairs_of o * wide + l.block.1 ≡ l.fn.block.1 + length (firsts l.row-iterator) * wide;
       even : All (λ row. row.first.count ≡ row.second.count) l.row-iterator;
-      first : All (λ row. EachWithin (length o.left.bytes.now) row.first.offset row.first.step width row.first.count) l.row-iterator;
-      second : All (λ row. EachWithin (length o.right.bytes.now) row.second.offset row.second.step width' row.second.count) l.row-iterator;
+      first : All (λ row. EachWithin (length o.left.block.now) row.first.offset row.first.step width row.first.count) l.row-iterator;
+      second : All (λ row. EachWithin (length o.right.block.now) row.second.offset row.second.step width' row.second.count) l.row-iterator;
     }
