@@ -130,7 +130,7 @@ pub(crate) fn made(
 {
     let Operands { left, right } = operands;
     let shape = &left.layout.shape;
-    if shape.items() < FEW {
+    if shape.items() < FEW || operands.as_row().is_some() {
         return made_by_rows(alloc, pairing, operands);
     }
     let Some(columns) = columns(alloc, left.layout, right.layout)? else {

@@ -47,7 +47,7 @@ impl<'a, 'b> Operands<'a, 'b> {
     ghost use Rattle.elementwise.specs.inside.Operands.{pairs_of, made_of_all};
 
     /// The row that all pairs of items make, if they make one.
-    fn as_row(self) -> Option<RunPair>
+    pub(crate) fn as_row(self) -> Option<RunPair>
         ensures first { IfSome result
             (λ row. run_offsets row.first ≡ offsets self.entry.left.layout.now) }
         ensures second { IfSome result

@@ -1,7 +1,7 @@
 -- Integers at equal steps.
 use Rattle.std.proofs.Common.{◌≡◌, ◌⊎◌, ℕ, suc, ◌+◌, ◌-◌, ◌*◌, ◌<◌, ◌≤◌, ◌≢◌, Bool, true, false, cond, ◌&&◌, Some, None, unwrap_or, is_some, Ok, Err, is_ok, IfOk, IfErr, inl, inr, List, map, length, get_or, set, drop, refl, sym, ap, subst, ◌∙◌, arith, below_more, get_or-set_other, get_or-set_same}
 use Rattle.std.specs.List.{list_all}
-use Rattle.std.proofs.lemmas.Bool.{false≢true}
+use Rattle.std.proofs.lemmas.Bool.{false≢true, and_parts}
 use Rattle.std.proofs.lemmas.List.{same_lists, get_or-map, length-map, drop_more, drop_all, get_or_default}
 use Rattle.std.proofs.Math.ListN.{length-set}
 use Rattle.std.proofs.Math.Nat.{mul-suc}
@@ -100,7 +100,7 @@ names_refused n numbers test e is (inr out) = inr (ap (λ t. check t IndexOutOfR
 -- ---- a loop over the numbers
 
 pub no_places : (n : ℕ) (numbers : List ℤ) (places : List ℕ) → length places ≡ length numbers → ArePlacesTo n 0 true numbers places
-no_places n numbers places many = record { many = many; done = λ j low. absurd (omega (arith, low)); left = refl }
+no_places n numbers places many = record { many = many; done = λ _ j low. absurd (omega (arith, low)); left = refl }
 
 left_more : (n k : ℕ) (numbers : List ℤ) → k < length numbers → list_all (is_place n) (drop k numbers) ≡ (is_place n (get_or numbers k (pos 0)) && list_all (is_place n) (drop (k + 1) numbers))
 left_more n k numbers low = ap (list_all (is_place n)) (drop_more numbers k (pos 0) low)
@@ -109,13 +109,13 @@ pub and_assoc : (a b c : Bool) → ((a && b) && c) ≡ (a && (b && c))
 and_assoc true b c = refl
 and_assoc false b c = refl
 
-pub one_more_tested : (n k : ℕ) (are here : Bool) (numbers : List ℤ) (places : List ℕ) (at : ℕ) → k < length numbers → here ≡ is_place n (get_or numbers k (pos 0)) → at ≡ place_of n (get_or numbers k (pos 0)) →
+pub one_more_tested : (n k : ℕ) (are here : Bool) (numbers : List ℤ) (places : List ℕ) (at : ℕ) → k < length numbers → here ≡ is_place n (get_or numbers k (pos 0)) → (here ≡ true → at ≡ place_of n (get_or numbers k (pos 0))) →
     ArePlacesTo n k are numbers places → ArePlacesTo n (k + 1) (are && here) numbers (set places k at)
 one_more_tested n k are here numbers places at low tested is so_far = record {
   many = length-set places k at ∙ so_far.many;
-  done = below_more (λ j. get_or (set places k at) j 0 ≡ place_of n (get_or numbers j (pos 0))) k
-      (λ j below. let ne : j ≢ k = omega (arith, below) in rw get_or-set_other (so_far.done j below))
-      (let lt : k < length places = omega (arith, low, so_far.many) in rw get_or-set_same is);
+  done = λ all. below_more (λ j. get_or (set places k at) j 0 ≡ place_of n (get_or numbers j (pos 0))) k
+      (λ j below. let ne : j ≢ k = omega (arith, below) in rw get_or-set_other (so_far.done (and_parts are here all).0 j below))
+      (let lt : k < length places = omega (arith, low, so_far.many) in rw get_or-set_same (is (and_parts are here all).1));
   left =
       and_assoc are here (list_all (is_place n) (drop (k + 1) numbers))
       ∙ ap (λ b. are && (b && list_all (is_place n) (drop (k + 1) numbers))) tested
@@ -126,7 +126,7 @@ one_more_tested n k are here numbers places at low tested is so_far = record {
 pub one_more_place : (n k : ℕ) (numbers : List ℤ) (places : List ℕ) (at : ℕ) → k < length numbers → named_place n (get_or numbers k (pos 0)) ≡ Some at → ArePlacesTo n k true numbers places → ArePlacesTo n (k + 1) true numbers (set places k at)
 one_more_place n k numbers places at low named so_far =
     let is = is_named n (get_or numbers k (pos 0)) at named in
-    one_more_tested n k true true numbers places at low (sym is.0) is.1 so_far
+    one_more_tested n k true true numbers places at low (sym is.0) (λ _. is.1) so_far
 
 pub place_refused : (n k : ℕ) (numbers : List ℤ) (places : List ℕ) → k < length numbers → named_place n (get_or numbers k (pos 0)) ≡ None → ArePlacesTo n k true numbers places → named_places n numbers ≡ Err IndexOutOfRange
 place_refused n k numbers places low none so_far =
@@ -137,7 +137,7 @@ all_places n k numbers places past done =
     all_named n numbers places (sym done.left ∙ ap (list_all (is_place n)) (drop_all k numbers past))
     (same_lists places (map (place_of n) numbers) (done.many ∙ sym (length-map numbers (place_of n))) (λ j d below.
     let low : j < length numbers = omega (arith, below, done.many) in
-    sym (get_or_default places j 0 d below) ∙ done.done j (omega (arith, low, past)) ∙ sym (get_or-map (place_of n) numbers j (pos 0) d low)))
+    sym (get_or_default places j 0 d below) ∙ done.done refl j (omega (arith, low, past)) ∙ sym (get_or-map (place_of n) numbers j (pos 0) d low)))
 
 pub one_refused : (n k : ℕ) (numbers : List ℤ) (places : List ℕ) → ArePlacesTo n k false numbers places → named_places n numbers ≡ Err IndexOutOfRange
 one_refused n k numbers places done = one_names_none n numbers (sym done.left)

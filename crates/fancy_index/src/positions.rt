@@ -1,5 +1,5 @@
 //! Integers at equal steps, read in place, and the positions that they select.
-ghost use Rattle.std.specs.Prelude.{◌≡◌, ◌≢◌, ◌≤◌, ◌<◌, ◌++◌, pos, map, length, slice_index, IfSome, IsTrue, OnOk};
+ghost use Rattle.std.specs.Prelude.{◌≡◌, ◌≢◌, ◌≤◌, ◌<◌, ◌++◌, pos, map, length, slice_index, IfSome, IsTrue, OnOk, true};
 ghost use Rattle.std.specs.List.{list_all};
 ghost use Rattle.fancy_index.specs.Words.{item_size, Gives, item_at, offsets, max_items, run_offsets, is_place};
 ghost use Rattle.fancy_index.specs.declared.index_parts.Kind.TheVariants.{NoIndex};
@@ -182,6 +182,30 @@ fn int_place(n: usize, at: i32) -> u32
     place.max(0) as u32
 }
 
+/// Whether a number of 64 bits names one of `n` places.
+#[inline(always)]
+fn is_long_place(n: usize, at: i64) -> bool
+    requires { n ≤ max_items }
+    ensures { result ≡ is_place n at }
+{
+    let end = n as i64;
+    -end <= at && at < end
+}
+
+/// The place that it names, or 0 if it names none.
+#[inline(always)]
+fn long_place_of(n: usize, at: i64) -> u32
+    requires { n ≤ max_items }
+    ensures { is_place n at ≡ true → result ≡ place_of n at }
+{
+    let place = if at < 0 { at + n as i64 } else { at };
+    if 0 <= place && place < n as i64 {
+        place as u32
+    } else {
+        0
+    }
+}
+
 /// The places of `n` that numbers of four bytes name, or the refusal of one that names none. All are looked
 /// at, which takes less time than to stop at the first that names none.
 fn int_places(alloc: Global, numbers: RunI32<'_>, n: usize) -> Result<Vec<u32>, Refusal>
@@ -201,17 +225,21 @@ fn int_places(alloc: Global, numbers: RunI32<'_>, n: usize) -> Result<Vec<u32>, 
     Ok(places)
 }
 
-/// The places of `n` that numbers of eight bytes name, or the refusal of one that names none.
+/// The places of `n` that numbers of eight bytes name, or the refusal of one that names none. All are looked
+/// at, too.
 fn long_places(alloc: Global, numbers: RunI64<'_>, n: usize) -> Result<Vec<u32>, Refusal>
     requires { n ≤ max_items }
     ensures { Gives (λ v. v.items) result (named_places n numbers.entry) }
 {
     let mut places = vec![in alloc; 0u32; numbers.len()]?;
+    let mut are = true;
     for k in 0..numbers.len() {
-        let Some(place) = long_place(n, numbers.get(k)) else {
-            return Err(Refusal::IndexOutOfRange);
-        };
-        places[k] = place;
+        let number = numbers.get(k);
+        are = are & is_long_place(n, number);
+        places[k] = long_place_of(n, number);
+    }
+    if !are {
+        return Err(Refusal::IndexOutOfRange);
     }
     Ok(places)
 }

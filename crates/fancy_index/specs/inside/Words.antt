@@ -38,10 +38,10 @@ pub record IsSpread (width : ℕ) (items : Spread) : Type 0 where
   pub limit : LieWithin (items.run.count ∷ []) (items.run.step ∷ []) items.run.offset max_bytes 1
   pub ends : All (λ offset. offset + width ≤ length items.block.now) (run_offsets items.run)
 
--- the places that the first k numbers name stand in a list as long as they are, and whether each of them names one of n is known
+-- whether each of the first k numbers names one of n places is known, and if so, these stand in a list as long as the numbers
 pub record ArePlacesTo (n k : ℕ) (are : Bool) (numbers : List ℤ) (places : List ℕ) : Type 0 where
   pub many : length places ≡ length numbers
-  pub done : (j : ℕ) → j < k → get_or places j 0 ≡ place_of n (get_or numbers j (pos 0))
+  pub done : are ≡ true → (j : ℕ) → j < k → get_or places j 0 ≡ place_of n (get_or numbers j (pos 0))
   pub left : (are && list_all (is_place n) (drop k numbers)) ≡ list_all (is_place n) numbers
 
 -- the places that numbers name were added to others, but for the numbers that are left

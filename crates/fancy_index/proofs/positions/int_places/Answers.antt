@@ -18,7 +18,7 @@ loop-k-preserved c =
     let fits : SFits w32 c.get-number.result = search rules in
     let is = to_z-of_z w32 c.get-number.result fits ∙ c.get-number.ensures in
     one_more_tested c.args.n c.loop-k.k c.loop-k.are c.is_int_place-are.result c.args.numbers c.loop-k.places.items c.int_place.result (omega (arith, c.loop-k-test.true, c.len-k-end.ensures))
-    (c.is_int_place-are.ensures ∙ ap (is_place c.args.n) is) (c.int_place.ensures ∙ ap (place_of c.args.n) is) c.loop-k.invariant
+    (c.is_int_place-are.ensures ∙ ap (is_place c.args.n) is) (λ _. c.int_place.ensures ∙ ap (place_of c.args.n) is) c.loop-k.invariant
 
 pub returns-then-not-are : goal.returns-then-not-are
 returns-then-not-are c =
