@@ -102,7 +102,7 @@ abbrev pub front : Mark → Then → List Piece → Result Descr Refusal
 front mark later [] = Err BadDescriptor
 front mark later (piece ∷ more) = part_of mark piece >>= λ part. later part more
 
--- the same of a member that is read from a text
+-- what a member that is read from a text gives, and what stands behind it
 abbrev pub met : Then → Member → List ℕ → Result Descr Refusal
 met later (Value scalar) rest = later (member (Value scalar) (behind rest).0) (pieces (behind rest).1)
 met later (Pad n) rest = later (member (Pad n) (behind rest).0) (pieces (behind rest).1)

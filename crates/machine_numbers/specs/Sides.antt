@@ -13,6 +13,6 @@ item_in s k = item_at (place s.run.offset s.run.step k) s.width s.bytes.now
 abbrev pub number_of_side : Scalar → Side → ℕ → ℤ
 number_of_side scalar s k = number_of (decode scalar (item_in s k))
 
--- the same run of items of the same bytes
+-- two sides are one run of items in the same bytes
 abbrev pub AreSame : Side → Side → Type 0
 AreSame a b = (a.bytes.now ≡ b.bytes.now) × (a.run ≡ b.run) × (a.width ≡ b.width)

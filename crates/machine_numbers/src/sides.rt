@@ -55,7 +55,7 @@ pub struct Side<'a> {
 impl<'a> Side<'a> {
     ghost use Rattle.machine_numbers.specs.Sides.{AreSame, item_in, number_of_side};
 
-    /// The same run, whose step is known to be this one.
+    /// These items, whose step is known to be this one.
     #[inline(always)]
     pub fn with_step(self, step: isize) -> Side<'a>
         requires { self.run.step ≡ step }

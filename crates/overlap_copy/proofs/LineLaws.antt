@@ -51,7 +51,7 @@ moved_is_assigned tos froms to from width old new t f even to_in from_in nested 
     retold (length tos) (λ k. get_or tos k 0) (λ k. get_or froms k 0) (place_in to) (place_in from) width old old new (λ k below. (run_place tos to k t (omega (arith, below, long)), run_place froms from k f (omega (arith, below, long, even)))) (subst (λ m. IsAssigned m (place_in to) (place_in from) width old old new) (sym long) a) in
     same_assigned (length tos) (λ k. get_or tos k 0) (λ k. get_or froms k 0) width old old new (assigned tos froms width old old) by_place (assigned_is width old tos froms old (omega (arith, long, long', even)) to_in from_in nested)
 
--- the same from one item on by one step
+-- items may come from any run that begins at one offset and goes by one step
 pub moved_along : (n : ℕ) (to back from : Run) (width : ℕ) (old new : List ℕ) → from.offset ≡ back.offset → from.step ≡ back.step → IsAssigned n (place_in to) (place_in back) width old old new → IsAssigned n (place_in to) (place_in from) width old old new
 moved_along n to back from width old new is is' a =
     retold n (place_in to) (place_in from) (place_in to) (place_in back) width old old new (λ k below. (refl, (λ i. place (is i) (is' i) k))) a

@@ -55,7 +55,7 @@ same_assigned n to from width other old new new' a b =
       | inr outside ↦ a.rest j outside ∙ sym (b.rest j outside)
     ])
 
--- the same moves in another order, which turned twice is the first one
+-- moves may be made in another order: one that, turned twice, is the first one
 pub reordered : (n : ℕ) (turn : ℕ → ℕ) (to from to' from' : ℕ → ℕ) (width : ℕ) (other old new : List ℕ) → ((k : ℕ) → k < n → (turn k < n) × (turn (turn k) ≡ k)) → ((k : ℕ) → k < n → (to k ≡ to' (turn k)) × (from k ≡ from' (turn k))) → IsAssigned n to' from' width other old new → IsAssigned n to from width other old new
 reordered n turn to from to' from' width other old new turns same a = record {
   len = a.len;

@@ -11,7 +11,7 @@ pub record IsBlock (b : Inside) : Type 0 where
   pub small : b.len + 15 < 2 ^ 63
   pub deed : (b.deed.at ≡ b.base.ptr) × (b.deed.len ≡ b.len) × (b.deed.size ≡ (b.len + 15) / 16 * 16) × (b.deed.alloc ≡ b.alloc)
 
--- the same of a block in the making: the bytes that are there, and the room after them, are the whole block
+-- a block in the making: the bytes that are there, and the room after them, are the whole block
 pub record IsBuilder (b : Builder) : Type 0 where
   pub owner : b.bytes.at ≡ b.base.ptr
   pub filled : length b.bytes.items ≡ b.filled

@@ -104,7 +104,7 @@ impl RawBlock {
         RunI32::over(items_at::<4>(self.bytes(), at, n))
     }
 
-    /// The same numbers, to write to: each is its four bytes, the lowest first.
+    /// Numbers of four bytes, to write to: each is its bytes, the lowest first.
     pub fn run_i32_mut(&mut self, at: usize, n: usize) -> &mut [[u8; 4]]
         requires { at + 4 * n ≤ length self.old }
         ensures* writes_back { sem 𝓛 (lends_run 4 at self.entry result) }
@@ -129,7 +129,7 @@ impl RawBlock {
         RunI64::over(items_at::<8>(self.bytes(), at, n))
     }
 
-    /// The same numbers, to write to: each is its eight bytes, the lowest first.
+    /// Numbers of eight bytes, to write to: each is its bytes, the lowest first.
     pub fn run_i64_mut(&mut self, at: usize, n: usize) -> &mut [[u8; 8]]
         requires { at + 8 * n ≤ length self.old }
         ensures* writes_back { sem 𝓛 (lends_run 8 at self.entry result) }

@@ -61,7 +61,7 @@ pub(crate) fn copy_by_columns<const N: usize>(bytes: &mut [u8], other: &[u8], gr
     }
 }
 
-/// The same over the bytes from `from` on, which are as many.
+/// Copies the items of a grid by columns over the bytes from `from` on, which are as many.
 pub(crate) fn copy_to_end<const N: usize>(bytes: &mut [u8], from: usize, other: &[u8], grid: Grid)
     requires some { 0 < grid.rows }
     requires bytes { length bytes.old ≡ from + grid.rows * (grid.columns * N) }

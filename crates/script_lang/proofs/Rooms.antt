@@ -20,7 +20,7 @@ pub after_step : {A B : Type 0} (P : B → Type 0) (step : Option A) (next : A �
 after_step P None next each = tt
 after_step P (Some x) next each = each x
 
--- the same, where what a step gives is known to have Q
+-- what each step gives, once each goes on from what is known to have Q
 pub after_known : {A B : Type 0} (Q : A → Type 0) (P : B → Type 0) (step : Option A) (next : A → Option B) → IfSome step Q → ((x : A) → Q x → IfSome (next x) P) → IfSome (option_and_then next step) P
 after_known Q P None next known each = tt
 after_known Q P (Some x) next known each = each x known

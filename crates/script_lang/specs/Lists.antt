@@ -35,7 +35,7 @@ comma_next closing others_at bytes = closed (symbol_at closing bytes) or_else (s
 unfoldable pub one_or_more : {A : Type 0} → (List ℕ → Option (A × List ℕ)) → ℕ → (List ℕ → Option (List A × List ℕ)) → List ℕ → Option (List A × List ℕ)
 one_or_more entry_at closing others_at bytes = entry_first entry_at (comma_next closing others_at) bytes
 
--- The same: none or more, a last comma allowed.
+-- Entries that commas part: none or more, a last comma allowed.
 unfoldable pub none_or_more : {A : Type 0} → (List ℕ → Option (A × List ℕ)) → ℕ → (List ℕ → Option (List A × List ℕ)) → List ℕ → Option (List A × List ℕ)
 none_or_more entry_at closing others_at bytes = closed (symbol_at closing bytes) or_else one_or_more entry_at closing others_at bytes
 

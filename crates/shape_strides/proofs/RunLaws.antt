@@ -135,7 +135,7 @@ IsJoined-joined (axis ∷ axes) some = IsJoined-join_outside axis (all_joined ax
 
 -- ---- one run where the offsets go by one step
 
--- the same of addresses
+-- each address is one step after the one before
 abbrev StepsBy : ℤ → List ℤ → Type 0
 StepsBy step (a ∷ b ∷ numbers) = (b ≡ a +ℤ step) × StepsBy step (b ∷ numbers)
 StepsBy step _ = Unit {0}

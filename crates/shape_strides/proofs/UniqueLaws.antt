@@ -24,7 +24,7 @@ AreJoined [] = Unit {0}
 AreJoined (axis ∷ []) = 2 ≤ axis.len
 AreJoined (outer ∷ inner ∷ axes) = (2 ≤ outer.len) × (leads_over outer inner ≡ false) × AreJoined (inner ∷ axes)
 
--- the same, innermost first
+-- such axes, the innermost first
 abbrev pub AreJoinedOut : List StridedAxis → Type 0
 AreJoinedOut [] = Unit {0}
 AreJoinedOut (axis ∷ []) = 2 ≤ axis.len

@@ -28,7 +28,7 @@ is_c_contiguous item (address ∷ next ∷ addresses) = (next == address + item)
 abbrev pub fortran_order : List ℕ → List ℕ → List ℕ
 fortran_order shape list = map (λ index. slice_index list (rank shape (reverse index))) (indexes (reverse shape))
 
--- the same in Fortran order
+-- items lie one right after another in Fortran order
 abbrev pub is_f_contiguous : ℕ → List ℕ → List ℕ → Bool
 is_f_contiguous item shape addresses = is_c_contiguous item (fortran_order shape addresses)
 

@@ -145,7 +145,7 @@ fn saved(rt: &impl Abort, alloc: Global, array: &Array) -> Result<Vec<u8>, Refus
     npy_write(alloc, block, layout, descr)
 }
 
-/// The same in two parts.
+/// An array's file in two parts.
 fn saved_parts<'a>(
     rt: &impl Abort,
     alloc: Global,

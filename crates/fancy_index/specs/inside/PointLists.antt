@@ -13,7 +13,7 @@ use Rattle.fancy_index.specs.Parts.{Part, Points}
 abbrev pub place_of : ℕ → ℤ → ℕ
 place_of n at = natural (from_front n at)
 
--- the same, where it names one
+-- that place, where the number names one
 abbrev pub named_place : ℕ → ℤ → Option ℕ
 named_place n at = if is_place n at then Some (place_of n at) else None
 

@@ -41,7 +41,7 @@ fn put_head(out: &mut Expected<'_>, verb: &[u8], name: &Name) {
     put_word(out, name.as_slice())
 }
 
-/// The same, and a second name.
+/// The word of a command and two names.
 fn put_names(out: &mut Expected<'_>, verb: &[u8], name: &Name, source: &Name) {
     put_head(out, verb, name);
     put_word(out, source.as_slice())
