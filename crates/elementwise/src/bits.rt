@@ -93,9 +93,10 @@ pub(crate) fn moved_down(signed: bool, width: u64, left: u64, right: u64) -> u64
     ensures { result
         ≡ low_bits 8 (shifted_right width (integer signed 8 left) (integer signed 8 right)) }
 {
-    let rising = kept_bits(width, left, right);
-    let falling = !kept_bits(width, !left, right);
-    if is_negative(signed, left) { falling } else { rising }
+    if is_negative(signed, left) {
+        return !kept_bits(width, !left, right);
+    }
+    kept_bits(width, left, right)
 }
 
 /// Whether a number is below another. Where both have a sign, one comparison does it.
