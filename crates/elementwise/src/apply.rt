@@ -2,7 +2,7 @@
 ghost use Rattle.elem_descr.specs.declared.descr.Descr.TheVariants.{Scalar as ScalarDescr};
 ghost use Rattle.elementwise.specs.Casts.{can_cast, cast_item};
 ghost use Rattle.elementwise.specs.Results.{binary_item, binary_result, pairwise, stretched_items, unary_item, unary_result, value_in};
-ghost use Rattle.elementwise.specs.Words.{C, Gives, can_stretch, count, encode_item, item_from, item_size, items, max_bytes, offsets, offsets_in, owned_items, size};
+ghost use Rattle.elementwise.specs.Words.{C, Gives, can_stretch, encode_item, item_from, item_size, items, offsets, offsets_in, owned_items, size};
 ghost use Rattle.elementwise.specs.inside.Held.{fitted_layout, stretched};
 ghost use Rattle.elementwise.specs.inside.Made.{IsMade};
 ghost use Rattle.elementwise.specs.inside.Shrunk.{IsStretched};
@@ -107,8 +107,8 @@ impl<'a> Held<'a> {
         Ok(Held::Made(made))
     }
 
-    /// Items where they lie; many that go by columns one after another, so that one loop takes them
-    /// all. Without memory for that they stay.
+    /// The items where they lie or, if there are many and they go by columns, a copy in C order, so that
+    /// one loop reads them all. Without memory for the copy they stay where they lie.
     pub(crate) fn near(alloc: Global, from: Items<'a>) -> Held<'a>
         ensures descr { held_descr result ≡ from.entry.descr.now }
         ensures shape { held_shape result ≡ from.entry.layout.now.shape }

@@ -5,7 +5,7 @@ ghost use Rattle.elementwise.specs.Words.{C, NoSuchCast, OutOfMemory, TooLarge, 
 ghost use Rattle.elementwise.specs.inside.LeafCasts.{HasSource, cast_items, source, with_leaf};
 ghost use Rattle.elementwise.specs.inside.Made.{AreItems, IsMade};
 ghost use Rattle.std.specs.List.{flat_map};
-ghost use Rattle.std.specs.Prelude.{IfErr, IfOk, drop, if◌then◌else◌, length, map, nat_le, true, ℕ, ◌*◌, ◌+◌, ◌<◌, ◌≡◌, ◌≤◌};
+ghost use Rattle.std.specs.Prelude.{IfErr, IfOk, drop, if◌then◌else◌, length, map, nat_le, true, ◌*◌, ◌+◌, ◌<◌, ◌≡◌, ◌≤◌};
 
 use crate::apply::Held;
 use crate::castable::can_cast;

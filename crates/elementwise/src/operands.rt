@@ -7,7 +7,7 @@ ghost use Rattle.elementwise.specs.inside.Made.{IsMade, IsTurned};
 ghost use Rattle.elementwise.specs.inside.Operands.{all_made, pairs_of};
 ghost use Rattle.elementwise.specs.inside.Shrunk.{IsShrunk};
 ghost use Rattle.elementwise.specs.inside.Works.{CanPair, left_of, right_of, target_of};
-ghost use Rattle.std.specs.Prelude.{IfOk, IfSome, IsTrue, [], slice_index_or, ℕ, ◌*◌, ◌<◌, ◌∷◌, ◌≡◌, ◌≤◌};
+ghost use Rattle.std.specs.Prelude.{IfOk, IfSome, IsTrue, slice_index_or, ℕ, ◌*◌, ◌<◌, ◌≡◌, ◌≤◌};
 
 use crate::apply::Held;
 use crate::casts::cast_scalars;
@@ -66,7 +66,7 @@ pub(crate) fn read_as(scalar: &Scalar, left: Items<'_>, right: Items<'_>) -> Sca
     }
 }
 
-/// Fewer items than these go as they lie.
+/// Operands with fewer items than this are combined as they lie.
 pub(crate) const FEW: usize = 4096;
 
 /// How far apart the items of a row lie.
@@ -75,8 +75,8 @@ fn step(layout: &Layout) -> usize {
     along.stride.unsigned_abs()
 }
 
-/// Two layouts with their axes in reverse, if the items of columns lie nearer to one another than those of
-/// rows, and columns are not short.
+/// Both layouts with their axes reversed, if that brings successive items closer together and leaves no
+/// short rows.
 fn columns(alloc: Global, left: &Layout, right: &Layout) -> Result<Option<Layouts>, AllocError>
     ensures first { IfOk result (λ columns. IfSome columns (λ c. IsTurned c.first left.now)) }
     ensures second { IfOk result (λ columns. IfSome columns (λ c. IsTurned c.second right.now)) }
@@ -93,7 +93,7 @@ fn columns(alloc: Global, left: &Layout, right: &Layout) -> Result<Option<Layout
     Ok(Some(Layouts { first, second }))
 }
 
-/// What is made of all pairs, row by row.
+/// Combines all pairs row by row.
 fn made_by_rows(
     alloc: Global,
     pairing: &Pairing<'_>,
@@ -114,7 +114,8 @@ fn made_by_rows(
     Owned::over(alloc, Descr::Scalar(scalar), shape, MemoryOrder::C, block)
 }
 
-/// What is made of all pairs. Many go column by column if both operands lie so, and row by row otherwise.
+/// Combines all pairs. Many pairs are combined column by column if both operands lie that way, and row by
+/// row otherwise, after an operand that goes by columns is copied into C order.
 pub(crate) fn made(
     alloc: Global,
     pairing: &Pairing<'_>,

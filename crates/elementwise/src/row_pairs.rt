@@ -3,7 +3,7 @@ ghost use Rattle.elementwise.specs.Results.{pairwise};
 ghost use Rattle.elementwise.specs.Words.{BeginsWithin, EachWithin, item_size, joined, offsets, run_offsets};
 ghost use Rattle.elementwise.specs.inside.PairPasses.{pair_from};
 ghost use Rattle.std.specs.List.{concat};
-ghost use Rattle.std.specs.Prelude.{All, IfSome, List, length, ℕ, ◌*◌, ◌++◌, ◌+◌, ◌≡◌, ◌≤◌};
+ghost use Rattle.std.specs.Prelude.{IfSome, List, length, ℕ, ◌*◌, ◌++◌, ◌+◌, ◌≡◌, ◌≤◌};
 
 use crate::pairing::Pairs;
 use arrays::Items;

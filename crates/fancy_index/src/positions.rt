@@ -1,5 +1,5 @@
 //! Integers at equal steps, read in place, and the positions that they select.
-ghost use Rattle.std.specs.Prelude.{◌≡◌, ◌≢◌, ◌≤◌, ◌<◌, ◌++◌, pos, map, length, slice_index, IfSome, IsTrue, OnOk, true};
+ghost use Rattle.std.specs.Prelude.{◌≡◌, ◌≢◌, ◌≤◌, ◌<◌, ◌++◌, pos, map, slice_index, IfSome, IsTrue, OnOk, true};
 ghost use Rattle.std.specs.List.{list_all};
 ghost use Rattle.fancy_index.specs.Words.{item_size, Gives, item_at, offsets, max_items, run_offsets, is_place};
 ghost use Rattle.fancy_index.specs.declared.index_parts.Kind.TheVariants.{NoIndex};
@@ -226,7 +226,7 @@ fn int_places(alloc: Global, numbers: RunI32<'_>, n: usize) -> Result<Vec<u32>, 
 }
 
 /// The places of `n` that numbers of eight bytes name, or the refusal of one that names none. All are looked
-/// at, too.
+/// at, as those of four bytes are.
 fn long_places(alloc: Global, numbers: RunI64<'_>, n: usize) -> Result<Vec<u32>, Refusal>
     requires { n ≤ max_items }
     ensures { Gives (λ v. v.items) result (named_places n numbers.entry) }

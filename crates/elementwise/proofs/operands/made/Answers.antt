@@ -3,7 +3,6 @@ use Rattle.std.specs.List.{concat}
 use Rattle.elem_descr.specs.declared.descr.Descr.TheVariants.{Scalar as ScalarDescr}
 use Rattle.elementwise.specs.Words.{LeafValue, size, item_size, fortran_order, count, offsets, length-offsets, offsets_within, count-reverse, fortran-all}
 use Rattle.elementwise.specs.Results.{pairwise, value_in}
-use Rattle.elementwise.specs.inside.Operands.{pairs_of}
 use Rattle.elementwise.specs.inside.PairPasses.{pair_from}
 use Rattle.elementwise.specs.inside.Works.{left_of, right_of, target_of, gives, pair_made}
 use Rattle.elementwise.proofs.PairedLaws.{each-wide, pairs_made}

@@ -1,8 +1,7 @@
 use Rattle.std.proofs.Common.{map, ap, ◌∙◌, length, arith}
 use Rattle.elem_descr.specs.declared.descr.Descr.TheVariants.{Scalar as ScalarDescr}
 use Rattle.elem_descr.specs.declared.scalar.Scalar.TheVariants.{Bool as BoolScalar}
-use Rattle.elementwise.specs.Words.{item_size, item_from, count, offsets, can_stretch}
-use Rattle.elementwise.specs.Casts.{cast_item}
+use Rattle.elementwise.specs.Words.{item_size, item_from, count, can_stretch}
 use Rattle.elementwise.specs.Results.{stretched_items}
 use Rattle.elementwise.proofs.StretchedLaws.{inside}
 use Rattle.elementwise.proofs.ShrunkLaws.{bools_again}
