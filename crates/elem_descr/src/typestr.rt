@@ -137,7 +137,8 @@ pub fn typestr_write(alloc: Global, scalar: Scalar) -> Result<Vec<u8>, AllocErro
 {
     let size = scalar.size();
     let mut buffer = Buffer::new();
-    let mut text = Vec::from_slice(alloc, &[mark(&scalar), letter(&scalar)])?;
+    let mut text = Vec::with_capacity(alloc, 8)?;
+    text.extend_from_slice(&[mark(&scalar), letter(&scalar)])?;
     text.extend_from_slice(buffer.format(size).as_bytes())?;
     Ok(text)
 }
