@@ -10,10 +10,15 @@ use Rattle.elementwise.specs.Results.{pairwise}
 use Rattle.elementwise.specs.inside.PairPasses.{number_pair, text_pair, pair_from, says_number}
 use Rattle.elementwise.specs.inside.Words.{IsWord}
 use Rattle.elementwise.proofs.TextWordLaws.{lt-self, eq-self}
-use Rattle.elementwise.proofs.WordOrderLaws.{not-above, not-equal}
 use Rattle.elementwise.proofs.EvenTextLaws.{below-even}
 
 -- ---- the order
+
+not-above : (a b : ℕ) → a < b → nat_lt b a ≡ false
+not-above a b less = grind (arith, nat_tests)
+
+not-equal : (a b : ℕ) → a < b → (b == a) ≡ false
+not-equal a b less = grind (arith, nat_tests)
 
 cancel : (m p q : ℕ) → nat_lt (m + p) (m + q) ≡ nat_lt p q
 cancel m p q = grind (arith, nat_tests)
@@ -36,7 +41,7 @@ first-decides x y p q k low low' = elim (cases_lt x y) as (λ _. nat_lt (x * k +
 ]
 
 -- byte strings of one length are in the order of the numbers whose highest byte is the first
-words-below : (n : ℕ) (xs ys : List ℕ) → length xs ≡ n → length ys ≡ n → AreBytes xs → AreBytes ys → nat_lt (big_number n xs) (big_number n ys) ≡ text_below xs ys
+pub words-below : (n : ℕ) (xs ys : List ℕ) → length xs ≡ n → length ys ≡ n → AreBytes xs → AreBytes ys → nat_lt (big_number n xs) (big_number n ys) ≡ text_below xs ys
 words-below zero [] [] long long' are are' = refl
 words-below zero [] (y ∷ ys) long long' are are' = absurd (omega (arith, long'))
 words-below zero (x ∷ xs) ys long long' are are' = absurd (omega (arith, long))

@@ -62,7 +62,7 @@ below-shared : (front xs ys : List ℕ) → text_below (front ++ xs) (front ++ y
 below-shared [] xs ys = refl
 below-shared (a ∷ front) xs ys = (λ i. lt-self a i || (eq-self a i && text_below (front ++ xs) (front ++ ys))) ∙ below-shared front xs ys
 
-below-rest : (xs ys : List ℕ) (k : ℕ) → take k xs ≡ take k ys → text_below (drop k xs) (drop k ys) ≡ text_below xs ys
+pub below-rest : (xs ys : List ℕ) (k : ℕ) → take k xs ≡ take k ys → text_below (drop k xs) (drop k ys) ≡ text_below xs ys
 below-rest xs ys k same =
     sym (below-shared (take k ys) (drop k xs) (drop k ys))
     ∙ (λ i. text_below (sym same i ++ drop k xs) (take k ys ++ drop k ys))

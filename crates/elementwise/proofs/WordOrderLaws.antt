@@ -1,71 +1,97 @@
--- Byte strings whose next words differ: the lesser number is that of the lesser byte string, the highest byte first.
-use Rattle.std.proofs.Common.{◌≡◌, ◌+◌, ◌*◌, ◌^◌, ◌<◌, ◌≤◌, ◌==◌, ◌&&◌, ◌||◌, inl, inr, not, nat_lt, true, false, ℕ, zero, suc, List, [], ◌∷◌, ◌++◌, length, take, drop, sym, ap, ◌∙◌, arith, length-take, suc-mul, mul-le-mul_right}
-use Rattle.std.proofs.lemmas.Bool.{cases_lt, lt-ltb}
+-- Byte strings that are in the order of words of theirs, the highest byte first.
+use Rattle.std.proofs.Common.{◌≡◌, ◌+◌, ◌≤◌, ◌==◌, ◌&&◌, ◌||◌, inl, inr, ◌⊎◌, nat_lt, false, ℕ, List, [], ◌∷◌, ◌++◌, length, take, drop, refl, sym, ap, ◌∙◌, arith, length-take, length-drop}
+use Rattle.std.proofs.lemmas.Bool.{cases_eq}
 use Rattle.std.proofs.lemmas.Bool.Decides.{nat_tests}
-use Rattle.std.proofs.lemmas.List.{take-append-drop}
-use Rattle.elementwise.specs.Words.{big_number, big_from-cons, big_from-lt, AreBytes, bytes-take}
+use Rattle.std.proofs.lemmas.List.{take-append-drop, take_all, take-take}
+use Rattle.elementwise.specs.Words.{big_number, item_at, AreBytes, bytes-take, bytes-drop}
 use Rattle.elementwise.specs.Comparisons.{text_below}
-use Rattle.elementwise.proofs.TextWordLaws.{lt-self, eq-self}
+use Rattle.elementwise.specs.inside.Words.{AreInOrder}
+use Rattle.elementwise.proofs.TextWordLaws.{lt-self, eq-self, below-rest}
+use Rattle.elementwise.proofs.TextNumberLaws.{words-below}
+use Rattle.elementwise.proofs.EvenTextLaws.{below-even}
 
--- a first byte that is the same, and one that is less
-same-first : (a b : ℕ) (xs ys : List ℕ) → a ≡ b → text_below (a ∷ xs) (b ∷ ys) ≡ text_below xs ys
-same-first a b xs ys same = (λ i. nat_lt (same i) b || (same i == b && text_below xs ys)) ∙ λ i. lt-self b i || (eq-self b i && text_below xs ys)
+-- ---- what is in front
 
-pub not-above : (a b : ℕ) → a < b → nat_lt b a ≡ false
-not-above a b less = grind (arith, nat_tests)
+unequal : (a b : ℕ) → (a ≡ b → ⊥) → (a == b) ≡ false
+unequal a b other = grind (arith, nat_tests)
 
-pub not-equal : (a b : ℕ) → a < b → (b == a) ≡ false
-not-equal a b less = grind (arith, nat_tests)
-
-less-first : (a b : ℕ) (xs ys : List ℕ) → a < b → (text_below (a ∷ xs) (b ∷ ys) ≡ true) × (text_below (b ∷ ys) (a ∷ xs) ≡ false)
-less-first a b xs ys less = (
-  λ i. lt-ltb a b less i || (a == b && text_below xs ys),
-  λ i. not-above a b less i || (not-equal a b less i && text_below ys xs),
-)
-
-word-below : (n : ℕ) (xs ys rest rest' : List ℕ) → length xs ≡ n → length ys ≡ n → AreBytes xs → AreBytes ys → big_number n xs < big_number n ys → (text_below (xs ++ rest) (ys ++ rest') ≡ true) × (text_below (ys ++ rest') (xs ++ rest) ≡ false)
-word-below zero xs ys rest rest' long long' are are' less = absurd (omega (arith, less))
-word-below (suc n) [] ys rest rest' long long' are are' less = absurd (omega (arith, long))
-word-below (suc n) (x ∷ xs) [] rest rest' long long' are are' less = absurd (omega (arith, long'))
-word-below (suc n) (x ∷ xs) (y ∷ ys) rest rest' long long' are are' less =
-    let k = 256 ^ n in
-    let p = big_number n xs in
-    let q = big_number n ys in
-    let is : big_number (suc n) (x ∷ xs) ≡ x * k + p = ap (λ z. x * k + z) (big_from-cons 0 n x xs) in
-    let is' : big_number (suc n) (y ∷ ys) ≡ y * k + q = ap (λ z. y * k + z) (big_from-cons 0 n y ys) in
-    let low : q < k = big_from-lt 0 n ys (λ j. are' (suc j)) in
-    let sums : x * k + p < y * k + q = omega (arith, less, is, is') in
-    elim (cases_lt x y) as (λ _. (text_below (x ∷ xs ++ rest) (y ∷ ys ++ rest') ≡ true) × (text_below (y ∷ ys ++ rest') (x ∷ xs ++ rest) ≡ false)) [
-      | inl before ↦ less-first x y (xs ++ rest) (ys ++ rest') before
-      | inr from ↦
-          let most : y * k ≤ x * k = mul-le-mul_right k from in
-          let same : x ≡ y = elim (cases_lt y x) as (λ _. x ≡ y) [
-            | inl after ↦ absurd (let more : suc y * k ≤ x * k = mul-le-mul_right k after in omega (arith, more, suc-mul y k, sums, low))
-            | inr to ↦ omega (arith, from, to)
-          ] in
-          let tail = word-below n xs ys rest rest' (omega (arith, long)) (omega (arith, long')) (λ j. are (suc j)) (λ j. are' (suc j)) (omega (arith, sums, most)) in
-          (same-first x y (xs ++ rest) (ys ++ rest') same ∙ tail.0, same-first y x (ys ++ rest') (xs ++ rest) (sym same) ∙ tail.1)
+-- where byte strings differ in front, the rest decides nothing
+front-decides : (xs ys rest rest' : List ℕ) → length xs ≡ length ys → (xs ≡ ys → ⊥) → text_below (xs ++ rest) (ys ++ rest') ≡ text_below xs ys
+front-decides [] [] rest rest' even other = absurd (other refl)
+front-decides [] (y ∷ ys) rest rest' even other = absurd (omega (arith, even))
+front-decides (x ∷ xs) [] rest rest' even other = absurd (omega (arith, even))
+front-decides (x ∷ xs) (y ∷ ys) rest rest' even other =
+    elim (cases_eq x y) as (λ _. text_below (x ∷ xs ++ rest) (y ∷ ys ++ rest') ≡ text_below (x ∷ xs) (y ∷ ys)) [
+      | inl same ↦ λ i. nat_lt x y || (x == y && front-decides xs ys rest rest' (omega (arith, even)) (λ is. other (λ j. same j ∷ is j)) i)
+      | inr differ ↦ (λ i. nat_lt x y || (unequal x y differ i && text_below (xs ++ rest) (ys ++ rest'))) ∙ λ i. nat_lt x y || (sym (unequal x y differ) i && text_below xs ys)
     ]
 
-below-next : (xs ys : List ℕ) → 8 ≤ length xs → 8 ≤ length ys → AreBytes xs → AreBytes ys → big_number 8 (take 8 xs) < big_number 8 (take 8 ys) → (text_below xs ys ≡ true) × (text_below ys xs ≡ false)
-below-next xs ys some some' are are' less =
-    let both = word-below 8 (take 8 xs) (take 8 ys) (drop 8 xs) (drop 8 ys) (omega (arith, some, length-take 8 xs)) (omega (arith, some', length-take 8 ys)) (bytes-take 8 xs are) (bytes-take 8 ys are') less in (
-      (λ i. text_below (sym (take-append-drop 8 xs) i) (sym (take-append-drop 8 ys) i)) ∙ both.0,
-      (λ i. text_below (sym (take-append-drop 8 ys) i) (sym (take-append-drop 8 xs) i)) ∙ both.1,
-    )
+-- byte strings of one length, of which none is below the other, are the same
+neither-below : (xs ys : List ℕ) → length xs ≡ length ys → text_below xs ys ≡ false → text_below ys xs ≡ false → xs ≡ ys
+neither-below [] [] even above below = refl
+neither-below [] (y ∷ ys) even above below = absurd (omega (arith, even))
+neither-below (x ∷ xs) [] even above below = absurd (omega (arith, even))
+neither-below (x ∷ xs) (y ∷ ys) even above below =
+    let same : x ≡ y = grind (arith, nat_tests) in
+    let rest : text_below xs ys ≡ false = (λ i. sym (lt-self y) i || (sym (eq-self y) i && text_below xs ys)) ∙ (λ i. nat_lt (sym same i) y || (sym same i == y && text_below xs ys)) ∙ above in
+    let rest' : text_below ys xs ≡ false = (λ i. sym (lt-self y) i || (sym (eq-self y) i && text_below ys xs)) ∙ (λ i. nat_lt y (sym same i) || (y == sym same i && text_below ys xs)) ∙ below in
+    λ i. same i ∷ neither-below xs ys (omega (arith, even)) rest rest' i
+
+-- ---- words
+
+-- words that differ decide
+word-decides : (n : ℕ) (xs ys : List ℕ) → n ≤ length xs → n ≤ length ys → AreBytes xs → AreBytes ys → (take n xs ≡ take n ys → ⊥) → nat_lt (big_number n (take n xs)) (big_number n (take n ys)) ≡ text_below xs ys
+word-decides n xs ys some some' are are' other =
+    let long : length (take n xs) ≡ n = omega (arith, some, length-take n xs) in
+    let long' : length (take n ys) ≡ n = omega (arith, some', length-take n ys) in
+    words-below n (take n xs) (take n ys) long long' (bytes-take n xs are) (bytes-take n ys are')
+    ∙ sym (front-decides (take n xs) (take n ys) (drop n xs) (drop n ys) (long ∙ sym long') other)
+    ∙ λ i. text_below (take-append-drop n xs i) (take-append-drop n ys i)
+
+-- so do those behind what is the same
+next-decides : (n at : ℕ) (xs ys : List ℕ) → at + n ≤ length xs → at + n ≤ length ys → AreBytes xs → AreBytes ys → take at xs ≡ take at ys → (item_at at n xs ≡ item_at at n ys → ⊥) → nat_lt (big_number n (item_at at n xs)) (big_number n (item_at at n ys)) ≡ text_below xs ys
+next-decides n at xs ys within within' are are' same other =
+    word-decides n (drop at xs) (drop at ys) (omega (arith, within, length-drop at xs)) (omega (arith, within', length-drop at ys)) (bytes-drop at xs are) (bytes-drop at ys are') other ∙ below-rest xs ys at same
 
 -- as the code asks
-pub words-tell : (xs ys : List ℕ) (first second : ℕ) → 8 ≤ length xs → 8 ≤ length ys → AreBytes xs → AreBytes ys → first ≡ big_number 8 (take 8 xs) → second ≡ big_number 8 (take 8 ys) → (first ≡ second → ⊥) →
-    (text_below xs ys ≡ nat_lt first second) × (text_below ys xs ≡ not (nat_lt first second))
-words-tell xs ys first second some some' are are' is is' other =
-    elim (cases_lt first second) as (λ _. (text_below xs ys ≡ nat_lt first second) × (text_below ys xs ≡ not (nat_lt first second))) [
-      | inl before ↦
-          let both = below-next xs ys some some' are are' (omega (arith, before, is, is')) in
-          let yes : nat_lt first second ≡ true = lt-ltb first second before in
-          (both.0 ∙ sym yes, both.1 ∙ ap not (sym yes))
-      | inr from ↦
-          let after : second < first = omega (arith, from, other) in
-          let both = below-next ys xs some' some are' are (omega (arith, after, is, is')) in
-          let none : nat_lt first second ≡ false = not-above second first after in
-          (both.1 ∙ sym none, both.0 ∙ ap not (sym none))
-    ]
+pub words-tell : (at : ℕ) (xs ys : List ℕ) (first second : ℕ) → at + 8 ≤ length xs → at + 8 ≤ length ys → AreBytes xs → AreBytes ys → first ≡ big_number 8 (item_at at 8 xs) → second ≡ big_number 8 (item_at at 8 ys) → take at xs ≡ take at ys →
+    (item_at at 8 xs ≡ item_at at 8 ys → ⊥) → (nat_lt first second ≡ text_below xs ys) × (nat_lt second first ≡ text_below ys xs)
+words-tell at xs ys first second within within' are are' is is' same other = (
+  (λ i. nat_lt (is i) (is' i)) ∙ next-decides 8 at xs ys within within' are are' same other,
+  (λ i. nat_lt (is' i) (is i)) ∙ next-decides 8 at ys xs within' within are' are (sym same) (λ alike. other (sym alike)),
+)
+
+-- and those of one length, if they differ or are the last ones
+rest-decides : (n at : ℕ) (xs ys : List ℕ) → length xs ≡ length ys → at + n ≤ length xs → AreBytes xs → AreBytes ys → take at xs ≡ take at ys → (at + n ≡ length xs) ⊎ (item_at at n xs ≡ item_at at n ys → ⊥) →
+    nat_lt (big_number n (item_at at n xs)) (big_number n (item_at at n ys)) ≡ text_below xs ys
+rest-decides n at xs ys even within are are' same (inl ends) =
+    let few : length (drop at xs) ≤ n = omega (arith, ends, length-drop at xs) in
+    let few' : length (drop at ys) ≤ n = omega (arith, ends, even, length-drop at ys) in
+    let long : length (item_at at n xs) ≡ n = omega (arith, within, length-take n (drop at xs), length-drop at xs) in
+    let long' : length (item_at at n ys) ≡ n = omega (arith, within, even, length-take n (drop at ys), length-drop at ys) in
+    words-below n (item_at at n xs) (item_at at n ys) long long' (bytes-take n (drop at xs) (bytes-drop at xs are)) (bytes-take n (drop at ys) (bytes-drop at ys are'))
+    ∙ (λ i. text_below (take_all n (drop at xs) few i) (take_all n (drop at ys) few' i))
+    ∙ below-rest xs ys at same
+rest-decides n at xs ys even within are are' same (inr other) = next-decides n at xs ys within (omega (arith, within, even)) are are' same other
+
+-- as the code asks
+pub in-order : (n at : ℕ) (xs ys : List ℕ) (first second : ℕ) → length xs ≡ length ys → at + n ≤ length xs → AreBytes xs → AreBytes ys → first ≡ big_number n (item_at at n xs) → second ≡ big_number n (item_at at n ys) →
+    take at xs ≡ take at ys → (at + n ≡ length xs) ⊎ (item_at at n xs ≡ item_at at n ys → ⊥) → AreInOrder (first, second) xs ys
+in-order n at xs ys first second even within are are' is is' same ends = (
+  (λ i. nat_lt (is i) (is' i)) ∙ rest-decides n at xs ys even within are are' same ends ∙ below-even xs ys even,
+  (λ i. nat_lt (is' i) (is i)) ∙ rest-decides n at ys xs (sym even) (omega (arith, even, within)) are' are (sym same) (elim ends [ inl last ↦ inl (last ∙ even) | inr other ↦ inr (λ alike. other (sym alike)) ]) ∙ below-even ys xs (sym even),
+)
+
+-- words of one number are the same, and what is in front of the last ones is a part of them
+pub same-front : (n at : ℕ) (xs ys : List ℕ) → at ≤ n → n ≤ length xs → n ≤ length ys → AreBytes xs → AreBytes ys → big_number n (take n xs) ≡ big_number n (take n ys) → take at xs ≡ take at ys
+same-front n at xs ys few some some' are are' same =
+    let long : length (take n xs) ≡ n = omega (arith, some, length-take n xs) in
+    let long' : length (take n ys) ≡ n = omega (arith, some', length-take n ys) in
+    let b = bytes-take n xs are in
+    let b' = bytes-take n ys are' in
+    let m = big_number n (take n xs) in
+    let m' = big_number n (take n ys) in
+    let none : nat_lt m m' ≡ false = grind (arith, nat_tests) in
+    let none' : nat_lt m' m ≡ false = grind (arith, nat_tests) in
+    let front = neither-below (take n xs) (take n ys) (long ∙ sym long') (sym (words-below n (take n xs) (take n ys) long long' b b') ∙ none) (sym (words-below n (take n ys) (take n xs) long' long b' b) ∙ none') in
+    sym (take-take at n xs few) ∙ ap (take at) front ∙ take-take at n ys few

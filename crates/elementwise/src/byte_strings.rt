@@ -1,8 +1,8 @@
 //! Byte strings: without the trailing NULs that all of them have, and eight bytes at a time.
 ghost use Rattle.elem_descr.specs.declared.descr.Descr.TheVariants.{Scalar as ScalarDescr};
-ghost use Rattle.elementwise.specs.Comparisons.{text_below};
-ghost use Rattle.elementwise.specs.Words.{Bytes, item_at, offsets, without_nuls};
-ghost use Rattle.std.specs.Prelude.{All, IfOk, IfSome, IsTrue, length, not, take, ◌+◌, ◌≡◌, ◌≤◌};
+ghost use Rattle.elementwise.specs.Words.{Bytes, big_number, item_at, offsets, without_nuls};
+ghost use Rattle.elementwise.specs.inside.Words.{IsWordLen};
+ghost use Rattle.std.specs.Prelude.{All, IfOk, IsTrue, drop, length, take, ◌+◌, ◌≡◌, ◌≤◌};
 
 use crate::byte_string_pairs::without_nuls;
 use crate::operands::without_repeats;
@@ -72,6 +72,8 @@ pub(crate) fn shared_words(left: &[u8], right: &[u8]) -> usize
     ensures left { result ≤ length left.now }
     ensures right { result ≤ length right.now }
     ensures same { take result left.now ≡ take result right.now }
+    ensures stops { result + 8 ≤ length left.now → result + 8 ≤ length right.now
+        → take 8 (drop result left.now) ≡ take 8 (drop result right.now) → ⊥ }
 {
     let words = left.len().min(right.len()) / 8;
     for word in 0..words {
@@ -85,20 +87,19 @@ pub(crate) fn shared_words(left: &[u8], right: &[u8]) -> usize
     8 * words
 }
 
-/// Whether the first of two byte strings is below the other, where a word at the front of both tells.
-pub(crate) fn next_word(left: &[u8], right: &[u8]) -> Option<bool>
-    ensures { IfSome result (λ is_below. (text_below left.now right.now ≡ is_below)
-        × (text_below right.now left.now ≡ not is_below)) }
+/// The number that a word of a byte string is, its highest byte first.
+#[inline(always)]
+pub(crate) fn word_at<const LEN: usize>(bytes: &[u8], at: usize) -> u64
+    requires len { IsWordLen LEN }
+    requires within { at + LEN ≤ length bytes.now }
+    ensures { result ≡ big_number LEN (item_at at LEN bytes.now) }
 {
-    if left.len() < 8 || right.len() < 8 {
-        return None;
+    let word = &bytes[at..at + LEN];
+    match LEN {
+        2 => u64::from(HighFirst::read_two(word)),
+        4 => u64::from(HighFirst::read_four(word)),
+        _ => HighFirst::read_eight(word),
     }
-    let first = HighFirst::read_eight(&left[..8]);
-    let second = HighFirst::read_eight(&right[..8]);
-    if first == second {
-        return None;
-    }
-    Some(first < second)
 }
 
 /// How many bytes of a byte string there are before the words of NULs at its end.

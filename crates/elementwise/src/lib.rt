@@ -21,6 +21,7 @@ mod operations;
 mod pairing;
 mod promotion;
 mod row_pairs;
+mod text_comparisons;
 
 pub use apply::{apply1, apply2};
 pub use arrays::Items;

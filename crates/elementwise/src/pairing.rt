@@ -3,11 +3,12 @@ ghost use Rattle.elementwise.specs.Words.{item_size, size};
 ghost use Rattle.elementwise.specs.inside.Operands.{made_of_all, pairs_of};
 ghost use Rattle.std.specs.Prelude.{◌*◌, ◌++◌, ◌+◌, ◌≡◌, ◌≤◌};
 
-use crate::byte_string_pairs::{ComparingTexts, ComparingWith, Cutting, push_texts};
+use crate::byte_string_pairs::{ComparingTexts, ComparingWith, Cutting};
 use crate::comparison_kernels::compare;
 use crate::operations::Working;
 use crate::promotion::eight_bytes;
 use crate::row_pairs::Operands;
+use crate::text_comparisons::push_texts;
 use elem_descr::{BinOp, BytesLen, Comparison, Scalar, UnOp};
 use machine_numbers::{LowFirst, Side, is_bool, little, on_number};
 use raw_block::BlockBuilder;

@@ -3,7 +3,7 @@ use Rattle.std.specs.Prelude.{◌≡◌, ℕ, ℤ, pos, int_lt, Bool, true, fals
 use Rattle.elementwise.specs.Words.{Little, BinOp, FloorDivide, Modulo, Scalar, Byte, Int, Bytes, LeafValue, number, text, Descr, IsNumber, IsValueOf, number_of, decode, encode, without_nuls, Comparison, item_at}
 use Rattle.elem_descr.specs.declared.scalar.Scalar.TheVariants.{Bool as BoolScalar}
 use Rattle.elem_descr.specs.declared.descr.Descr.TheVariants.{Scalar as ScalarDescr}
-use Rattle.elementwise.specs.Comparisons.{says, compared}
+use Rattle.elementwise.specs.Comparisons.{says, compared, text_below}
 
 -- the bytes of what f gives on the numbers that bytes of two scalars mean
 abbrev pub number_pair : Scalar → Scalar → Scalar → (ℤ → ℤ → ℤ) → List ℕ → List ℕ → List ℕ
@@ -54,6 +54,13 @@ truth_value comparison x y = number (if compared comparison x y then pos 1 else 
 -- its byte, of the bytes of two byte strings
 abbrev pub text_pair : Comparison → List ℕ → List ℕ → List ℕ
 text_pair comparison x y = encode BoolScalar (truth_value comparison (text (without_nuls x)) (text (without_nuls y)))
+
+-- the byte of what `said` says of two byte strings
+abbrev pub text_said : Bool → Bool → Bool → List ℕ → List ℕ → List ℕ
+text_said is_below is_above holds x y =
+    let a = without_nuls x in
+    let b = without_nuls y in
+    encode BoolScalar (number (if said is_below is_above holds (text_below a b) (text_below b a) then pos 1 else pos 0))
 
 -- each value of the first scalar is one of the second
 abbrev pub Holds : Scalar → Scalar → Type 0

@@ -1,0 +1,162 @@
+//! Comparisons of all pairs of byte strings: those of one length by words of theirs.
+ghost use Rattle.elem_descr.specs.declared.scalar.Order.TheVariants.{Big as BigOrder};
+ghost use Rattle.elementwise.specs.Words.{item_size};
+ghost use Rattle.elementwise.specs.inside.Operands.{made_of_all, pairs_of};
+ghost use Rattle.elementwise.specs.inside.PairPasses.{text_pair, text_said};
+ghost use Rattle.elementwise.specs.inside.Words.{AreInOrder, IsWord, IsWordLen};
+ghost use Rattle.std.proofs.Common.{arith};
+ghost use Rattle.std.specs.Prelude.{length, ℕ, ◌*◌, ◌++◌, ◌+◌, ◌≡◌, ◌≤◌};
+
+use crate::byte_string_pairs::ComparingTexts;
+use crate::byte_strings::{shared_words, word_at};
+use crate::comparison_kernels::{Said, compare};
+use crate::kernels::Kernel;
+use crate::operands::note_bytes;
+use crate::pairing::Pairs;
+use crate::row_pairs::{Operands, Pass};
+use elem_descr::Comparison;
+use machine_numbers::{HighFirst, LowFirst, Number};
+use raw_block::BlockBuilder;
+use std::marker::PhantomData;
+
+/// How byte strings of one length are compared as numbers.
+trait Deciding {
+    // How long the byte strings may be.
+    ghost Fits: { ℕ → Type 0 };
+
+    /// A word of each of two byte strings: these decide how they compare.
+    fn words(left: &[u8], right: &[u8]) -> (u64, u64)
+        requires even { length left.now ≡ length right.now }
+        requires fits { Fits (length left.now) }
+        ensures { AreInOrder result left.now right.now };
+}
+
+/// By the words of this length at both ends, if there is nothing between them. Where the first words are
+/// equal, so are the bytes that the last words share with them.
+struct Ends<const LEN: usize>;
+
+/// By the first words that differ, or the last eight bytes.
+struct Longer;
+
+impl<const LEN: usize> Deciding for Ends<LEN> {
+    ghost Fits = { λ n. IsWordLen LEN × (LEN ≤ n) × (n ≤ 2 * LEN) };
+
+    #[inline(always)]
+    fn words(left: &[u8], right: &[u8]) -> (u64, u64) {
+        let end = left.len() - LEN;
+        let first = word_at::<LEN>(left, 0);
+        let second = word_at::<LEN>(right, 0);
+        let first_end = word_at::<LEN>(left, end);
+        let second_end = word_at::<LEN>(right, end);
+        if first == second {
+            (first_end, second_end)
+        } else {
+            (first, second)
+        }
+    }
+}
+
+impl Deciding for Longer {
+    ghost Fits = { λ n. 8 ≤ n };
+
+    #[inline(always)]
+    fn words(left: &[u8], right: &[u8]) -> (u64, u64) {
+        let at = shared_words(left, right).min(left.len() - 8);
+        (word_at::<8>(left, at), word_at::<8>(right, at))
+    }
+}
+
+/// What `Said` says of the words that decide.
+#[derive_where(Clone, Copy)]
+struct Texts<D, const BELOW: bool, const ABOVE: bool, const HOLDS: bool>(PhantomData<D>);
+
+impl<D: Deciding, const BELOW: bool, const ABOVE: bool, const HOLDS: bool> Pass
+    for Texts<D, BELOW, ABOVE, HOLDS> {
+    ghost makes = { λ _. text_said BELOW ABOVE HOLDS };
+
+    ghost Reads = { λ _ width width'. (width ≡ width') × D.Fits width };
+
+    ghost width = { λ _. 1 };
+
+    ghost not_empty = { λ _. Prim.omega arith };
+
+    fn push_row(&self, block: BlockBuilder, pairs: Pairs<'_, '_>) -> BlockBuilder {
+        let mut block = block;
+        for k in 0..pairs.left.run.count {
+            let (first, second) = D::words(pairs.left.item(k), pairs.right.item(k));
+            let holds = <Said<BELOW, ABOVE, HOLDS> as Kernel<u64, u64, bool>>::make(first, second);
+            holds.push::<LowFirst>(&mut block);
+        }
+        block
+    }
+}
+
+/// Pushes what a comparison says of each pair of byte strings, by the words that decide.
+fn push_decided<D: Deciding>(
+    comparison: Comparison,
+    block: BlockBuilder,
+    operands: Operands<'_, '_>,
+) -> BlockBuilder
+    requires even { item_size operands.left.descr.now ≡ item_size operands.right.descr.now }
+    requires fits { D.Fits (item_size operands.left.descr.now) }
+    requires room { pairs_of operands ≤ block.1 }
+    ensures bytes { result.0 ≡ block.0 ++ made_of_all (text_pair comparison) operands.entry }
+    ensures left { pairs_of operands.entry + result.1 ≡ block.1 }
+{
+    let by = PhantomData;
+    match comparison {
+        Comparison::Equal => operands.push_all(&Texts::<D, true, true, false>(by), block),
+        Comparison::NotEqual => operands.push_all(&Texts::<D, true, true, true>(by), block),
+        Comparison::Less => operands.push_all(&Texts::<D, true, false, true>(by), block),
+        Comparison::LessOrEqual => operands.push_all(&Texts::<D, false, true, false>(by), block),
+        Comparison::Greater => operands.push_all(&Texts::<D, false, true, true>(by), block),
+        Comparison::GreaterOrEqual => operands.push_all(&Texts::<D, true, false, false>(by), block),
+    }
+}
+
+/// Pushes what a comparison says of each pair of byte strings that are as long as a number.
+fn push_numbers<N: Number>(
+    comparison: Comparison,
+    block: BlockBuilder,
+    operands: Operands<'_, '_>,
+) -> BlockBuilder
+    requires even { item_size operands.left.descr.now ≡ item_size operands.right.descr.now }
+    requires fits { IsWord (N.scalar BigOrder) (item_size operands.left.descr.now) }
+    requires room { pairs_of operands ≤ block.1 }
+    ensures bytes { result.0 ≡ block.0 ++ made_of_all (text_pair comparison) operands.entry }
+    ensures left { pairs_of operands.entry + result.1 ≡ block.1 }
+{
+    note_bytes(operands.left.block);
+    note_bytes(operands.right.block);
+    compare::<N, N, HighFirst>(comparison, block, operands)
+}
+
+/// Pushes what a comparison says of each pair of byte strings.
+pub(crate) fn push_texts(
+    texts: &ComparingTexts,
+    block: BlockBuilder,
+    operands: Operands<'_, '_>,
+) -> BlockBuilder
+    requires left { item_size operands.left.descr.now ≡ texts.now.width }
+    requires right { item_size operands.right.descr.now ≡ texts.now.other_width }
+    requires room { pairs_of operands ≤ block.1 }
+    ensures bytes { result.0 ≡ block.0
+        ++ made_of_all (text_pair texts.now.comparison) operands.entry }
+    ensures left { pairs_of operands.entry + result.1 ≡ block.1 }
+{
+    let comparison = texts.comparison;
+    let width = texts.width.get();
+    if texts.other_width.get() != width {
+        return operands.push_all(texts, block);
+    }
+    match width {
+        1 => push_numbers::<u8>(comparison, block, operands),
+        2 => push_numbers::<u16>(comparison, block, operands),
+        3 => push_decided::<Ends<2>>(comparison, block, operands),
+        4 => push_numbers::<u32>(comparison, block, operands),
+        5..=7 => push_decided::<Ends<4>>(comparison, block, operands),
+        8 => push_numbers::<u64>(comparison, block, operands),
+        9..=16 => push_decided::<Ends<8>>(comparison, block, operands),
+        _ => push_decided::<Longer>(comparison, block, operands),
+    }
+}
