@@ -4,7 +4,7 @@ ghost use Rattle.elementwise.specs.Comparisons.{compared};
 ghost use Rattle.elementwise.specs.Words.{encode, item_in, joined, padded, text, without_nuls};
 ghost use Rattle.elementwise.specs.inside.PairPasses.{text_pair, truth_value};
 ghost use Rattle.std.proofs.Common.{arith};
-ghost use Rattle.std.specs.Prelude.{IfSome, take, ◌++◌, ◌+◌, ◌≡◌, ◌≤◌};
+ghost use Rattle.std.specs.Prelude.{IfSome, take, ◌≡◌, ◌≤◌};
 
 use crate::byte_strings::{shared_words, without_nul_words, word_at};
 use crate::comparison_kernels::says;

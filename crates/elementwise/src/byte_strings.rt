@@ -2,7 +2,7 @@
 ghost use Rattle.elem_descr.specs.declared.descr.Descr.TheVariants.{Scalar as ScalarDescr};
 ghost use Rattle.elementwise.specs.Words.{Bytes, big_number, item_at, offsets, without_nuls};
 ghost use Rattle.elementwise.specs.inside.Words.{IsWordLen};
-ghost use Rattle.std.specs.Prelude.{All, IfOk, IsTrue, drop, length, take, ◌+◌, ◌≡◌, ◌≤◌};
+ghost use Rattle.std.specs.Prelude.{All, IfOk, drop, length, take, ◌+◌, ◌≡◌, ◌≤◌};
 
 use crate::byte_string_pairs::without_nuls;
 use crate::operands::without_repeats;
