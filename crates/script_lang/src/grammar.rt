@@ -1,7 +1,7 @@
 //! The grammar of a line.
-ghost use Rattle.std.specs.Prelude.{◌≡◌, ◌≤◌, length};
+ghost use Rattle.std.specs.Prelude.{◌≤◌, length};
 ghost use Rattle.script_lang.specs.Commands.{load_at, verb_value_at, value_at, bind_at, ask_at, verb_command_at, form_at, command_at};
-ghost use Rattle.script_lang.specs.Lines.{is_silent_front, spelled, line_of, EachListAnyTurns};
+ghost use Rattle.script_lang.specs.Lines.{spelled, line_of, EachListAnyTurns};
 ghost use Rattle.script_lang.specs.Reading.{Scans, Reads, Says, value_room, parts_take_memory};
 
 mod computations;
@@ -28,16 +28,6 @@ use crate::text::FileName;
 use crate::verb::Verb;
 use elem_descr::{Name, Refusal};
 use std::alloc::Global;
-
-/// Whether a line is blank or a comment, given what follows its blanks.
-fn is_silent(text: &[u8]) -> bool
-    ensures { result ≡ is_silent_front text.now }
-{
-    match text {
-        [first, ..] => *first == b'#',
-        [] => true,
-    }
-}
 
 /// `"f"`, after `load`.
 #[tactic(auto, unfolding(crate::specs::Commands::load_at))]
@@ -151,7 +141,7 @@ pub fn parse(alloc: Global, line: &[u8]) -> Result<Option<Command>, Refusal>
     ensures turns { EachListAnyTurns }
 {
     let text = unspaced(line);
-    if is_silent(text) {
+    if let [] | [b'#', ..] = text {
         return Ok(None);
     }
     if !are_allowed(line) {
