@@ -1,6 +1,6 @@
 //! The keywords of the language, and the names of arrays, which keywords cannot be.
 ghost use Rattle.script_lang.specs.Reading.{Scans};
-ghost use Rattle.script_lang.specs.Tokens.{is_name, name_at, names_unless_verb, starts_name};
+ghost use Rattle.script_lang.specs.Tokens.{name_at, names_unless_verb, starts_name};
 ghost use Rattle.script_lang.specs.Verbs.{beside, is_constant, operation_of, order_of, verb_of};
 ghost use Rattle.std.specs.Prelude.{IfSome, length, map, ◌≡◌, ◌≤◌};
 
@@ -26,12 +26,6 @@ pub fn names_unless_verb(word: &[u8]) -> bool
     starts_name(word) && word.len() <= LONGEST_NAME && !is_constant(word)
 }
 
-fn is_name(word: &[u8]) -> bool
-    ensures { result ≡ is_name word.now }
-{
-    names_unless_verb(word) && verb(word).is_none()
-}
-
 /// The next name, with any blanks before it, and what follows it.
 #[tactic(auto, unfolding(crate::specs::Tokens::name_at))]
 pub fn name(bytes: &[u8]) -> Option<(&[u8], &[u8])>
@@ -39,7 +33,7 @@ pub fn name(bytes: &[u8]) -> Option<(&[u8], &[u8])>
     ensures short { IfSome result (λ w. length w.0.now ≤ 32) }
 {
     let (name, rest) = word(bytes)?;
-    if !is_name(name) {
+    if !names_unless_verb(name) || verb(name).is_some() {
         return None;
     }
     Some((name, rest))
