@@ -1,8 +1,8 @@
 //! Index lists, and operands with an index list.
-ghost use Rattle.std.specs.Prelude.{◌≡◌, ◌≤◌, length, IfSome};
+ghost use Rattle.std.specs.Prelude.{◌≡◌, ◌≤◌, length};
 ghost use Rattle.script_lang.specs.Tokens.{symbol_at};
 ghost use Rattle.script_lang.specs.Lists.{by_rule, one_or_more};
-ghost use Rattle.script_lang.specs.Indexes.{step_at, slice_at, ellipsis_at, index_item_at, index_at, bracket_at, optional_index_at, operand_named, operand_at, bare_name_at, argument_at};
+ghost use Rattle.script_lang.specs.Indexes.{step_at, slice_at, ellipsis_at, index_item_at, index_at, bracket_at, optional_index_at, operand_named, operand_at, argument_at};
 ghost use Rattle.script_lang.specs.Reading.{Scans, Reads, index_room, optional_index_room, operand_room, argument_room};
 
 use crate::command::{Argument, Index, Operand, ellipses};
@@ -148,25 +148,16 @@ pub fn operand(alloc: Global, bytes: &[u8]) -> Result<(Operand, &[u8]), Refusal>
     operand_named(alloc, name, rest)
 }
 
-/// The name at the front, if it does not begin a byte string, and what follows it.
-#[tactic(auto, unfolding(crate::specs::Indexes::bare_name_at))]
-fn bare_name(bytes: &[u8]) -> Option<(&[u8], &[u8])>
-    ensures found { Scans (λ w. (w.0.now, w.1.now)) result (bare_name_at bytes.now) }
-    ensures short { IfSome result (λ w. length w.0.now ≤ 32) }
-{
-    if bytes_mark(bytes).is_some() {
-        return None;
-    }
-    name(bytes)
-}
-
-/// The next operand or literal, and what follows it.
-#[tactic(auto, unfolding(crate::specs::Indexes::argument_at), using(crate::proofs::Rooms::operand_argument_room, crate::proofs::Rooms::literal_argument_room))]
+/// The next operand or literal, and what follows it. A name begins an operand, unless it begins a
+/// byte string.
+#[tactic(auto, unfolding(crate::specs::Indexes::bare_name_at, crate::specs::Indexes::argument_at), using(crate::proofs::Rooms::operand_argument_room, crate::proofs::Rooms::literal_argument_room))]
 pub fn argument(alloc: Global, bytes: &[u8]) -> Result<(Argument, &[u8]), Refusal>
     ensures { Reads (λ r. (r.0, r.1.now)) (λ r. argument_room r.0) result (argument_at bytes.now) }
 {
     let bytes = unspaced(bytes);
-    if let Some((name, rest)) = bare_name(bytes) {
+    if bytes_mark(bytes).is_none()
+        && let Some((name, rest)) = name(bytes)
+    {
         let (operand, rest) = operand_named(alloc, name, rest)?;
         return Ok((Argument::Operand(operand), rest));
     }
