@@ -1,6 +1,6 @@
 //! The grammar of a line.
 ghost use Rattle.std.specs.Prelude.{◌≤◌, length};
-ghost use Rattle.script_lang.specs.Commands.{load_at, verb_value_at, value_at, bind_at, ask_at, verb_command_at, form_at, command_at};
+ghost use Rattle.script_lang.specs.Commands.{load_at, value_at, bind_at, ask_at, verb_command_at, form_at, command_at};
 ghost use Rattle.script_lang.specs.Lines.{spelled, line_of, EachListAnyTurns};
 ghost use Rattle.script_lang.specs.Reading.{Scans, Reads, Says, value_room, parts_take_memory};
 
@@ -39,29 +39,19 @@ fn load(alloc: Global, bytes: &[u8]) -> Option<(Value, &[u8])>
     Some((Value::Load { file }, rest))
 }
 
-/// The value that the verb begins.
-fn verb_value(alloc: Global, verb: Verb, bytes: &[u8]) -> Result<(Value, &[u8]), Refusal>
-    ensures { Reads (λ r. (r.0, r.1.now)) (λ r. value_room r.0) result
-        (verb_value_at verb bytes.now) }
-{
-    match verb {
-        Verb::Make(verb) => make(alloc, verb, bytes),
-        Verb::View(verb) => view(alloc, verb, bytes),
-        Verb::Compute(verb) => compute(alloc, verb, bytes),
-        Verb::Load => load(alloc, bytes).ok_or(Refusal::Syntax),
-        _ => Err(Refusal::Syntax),
-    }
-}
-
-/// What follows `X =`.
+/// What follows `X =`. A word that is no verb is the name of an array.
 #[tactic(auto, unfolding(crate::specs::Commands::value_at))]
 fn value(alloc: Global, bytes: &[u8]) -> Result<(Value, &[u8]), Refusal>
     ensures { Reads (λ r. (r.0, r.1.now)) (λ r. value_room r.0) result (value_at bytes.now) }
 {
     let (word, rest) = word(bytes).ok_or(Refusal::Syntax)?;
     match verb(word) {
-        Some(verb) => verb_value(alloc, verb, rest),
         None => plain_view(alloc, word, rest),
+        Some(Verb::Make(verb)) => make(alloc, verb, rest),
+        Some(Verb::View(verb)) => view(alloc, verb, rest),
+        Some(Verb::Compute(verb)) => compute(alloc, verb, rest),
+        Some(Verb::Load) => load(alloc, rest).ok_or(Refusal::Syntax),
+        Some(_) => Err(Refusal::Syntax),
     }
 }
 
