@@ -1,6 +1,6 @@
 //! The grammar of a line.
 ghost use Rattle.std.specs.Prelude.{◌≤◌, length};
-ghost use Rattle.script_lang.specs.Commands.{load_at, value_at, bind_at, ask_at, verb_command_at, form_at, command_at};
+ghost use Rattle.script_lang.specs.Commands.{load_at, value_at, bind_at, ask_at, verb_command_at, command_at};
 ghost use Rattle.script_lang.specs.Lines.{spelled, line_of, EachListAnyTurns};
 ghost use Rattle.script_lang.specs.Reading.{Scans, Reads, Says, value_room, parts_take_memory};
 
@@ -90,25 +90,18 @@ fn verb_command(alloc: Global, verb: Verb, bytes: &[u8]) -> Result<(Command, &[u
     }
 }
 
-/// The command that comes first, and what follows it.
-#[tactic(auto, unfolding(crate::specs::Commands::form_at))]
-fn form(alloc: Global, line: &[u8]) -> Result<(Command, &[u8]), Refusal>
-    ensures { Reads (λ r. (r.0, r.1.now)) (λ r. parts_take_memory r.0) result (form_at line.now) }
-{
-    let (word, rest) = word(line).ok_or(Refusal::Syntax)?;
-    match verb(word) {
-        Some(verb) => verb_command(alloc, verb, rest),
-        None => bind(alloc, word, rest),
-    }
-}
-
 /// The command that the whole line spells. It is passed on as it is, because it is the largest
 /// value of a line.
-#[tactic(auto, unfolding(crate::specs::Commands::command_at), using(crate::proofs::Commands::whole_line_room))]
+#[tactic(auto, unfolding(crate::specs::Commands::form_at, crate::specs::Commands::command_at), using(crate::proofs::Commands::whole_line_room))]
 fn command(alloc: Global, line: &[u8]) -> Result<Option<Command>, Refusal>
     ensures { Says result (spelled (command_at line.now)) }
 {
-    match form(alloc, line) {
+    let (word, rest) = word(line).ok_or(Refusal::Syntax)?;
+    let first = match verb(word) {
+        Some(verb) => verb_command(alloc, verb, rest),
+        None => bind(alloc, word, rest),
+    };
+    match first {
         Ok((command, rest)) => {
             if is_at_end(rest) {
                 return Ok(Some(command));
