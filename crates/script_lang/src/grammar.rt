@@ -1,7 +1,7 @@
 //! The grammar of a line.
 ghost use Rattle.std.specs.Prelude.{◌≤◌, length};
-ghost use Rattle.script_lang.specs.Commands.{load_at, value_at, bind_at, ask_at, verb_command_at, command_at};
-ghost use Rattle.script_lang.specs.Lines.{spelled, line_of, EachListAnyTurns};
+ghost use Rattle.script_lang.specs.Commands.{load_at, value_at, bind_at, ask_at, verb_command_at};
+ghost use Rattle.script_lang.specs.Lines.{line_of, EachListAnyTurns};
 ghost use Rattle.script_lang.specs.Reading.{Scans, Reads, Says, value_room, parts_take_memory};
 
 mod computations;
@@ -90,34 +90,11 @@ fn verb_command(alloc: Global, verb: Verb, bytes: &[u8]) -> Result<(Command, &[u
     }
 }
 
-/// The command that the whole line spells. It is passed on as it is, because it is the largest
-/// value of a line.
-#[tactic(auto, unfolding(crate::specs::Commands::form_at, crate::specs::Commands::command_at), using(crate::proofs::Commands::whole_line_room))]
-fn command(alloc: Global, line: &[u8]) -> Result<Option<Command>, Refusal>
-    ensures { Says result (spelled (command_at line.now)) }
-{
-    let (word, rest) = word(line).ok_or(Refusal::Syntax)?;
-    let first = match verb(word) {
-        Some(verb) => verb_command(alloc, verb, rest),
-        None => bind(alloc, word, rest),
-    };
-    match first {
-        Ok((command, rest)) => {
-            if is_at_end(rest) {
-                return Ok(Some(command));
-            }
-            drop(command);
-            Err(Refusal::Syntax)
-        }
-        Err(refusal) => Err(refusal),
-    }
-}
-
 /// What a line asks for: a command, or nothing for a blank line or a comment. A byte that is
 /// neither a tab nor 32 to 126 is refused first (E02), without taking memory. A line that the
 /// grammar does not spell is refused as `Syntax` (E03). Memory may run out (E40) only for a command
 /// that `needs_room` names, or on a line that the grammar does not spell.
-#[tactic(auto, unfolding(crate::specs::Lines::line_of), using(crate::proofs::Turns::each_list_any_turns))]
+#[tactic(auto, unfolding(crate::specs::Commands::form_at, crate::specs::Commands::command_at, crate::specs::Lines::line_of), using(crate::proofs::Commands::whole_line_room, crate::proofs::Turns::each_list_any_turns))]
 pub fn parse(alloc: Global, line: &[u8]) -> Result<Option<Command>, Refusal>
     requires { length line.now ≤ 65536 }
     ensures command { Says result (line_of line.now) }
@@ -130,5 +107,20 @@ pub fn parse(alloc: Global, line: &[u8]) -> Result<Option<Command>, Refusal>
     if !are_allowed(line) {
         return Err(Refusal::ByteNotAllowed);
     }
-    command(alloc, text)
+    let (word, rest) = word(text).ok_or(Refusal::Syntax)?;
+    let first = match verb(word) {
+        Some(verb) => verb_command(alloc, verb, rest),
+        None => bind(alloc, word, rest),
+    };
+    // A command is passed on as it is, because it is the largest value of a line.
+    match first {
+        Ok((command, rest)) => {
+            if is_at_end(rest) {
+                return Ok(Some(command));
+            }
+            drop(command);
+            Err(Refusal::Syntax)
+        }
+        Err(refusal) => Err(refusal),
+    }
 }
