@@ -1,8 +1,6 @@
 //! Reads items at equal steps.
-ghost use Rattle.std.specs.Prelude.{◌≡◌, ◌+◌, ◌^◌, ◌<◌, ◌≤◌, pos, ◌≤ℤ◌, ◌<ℤ◌, length};
-ghost use Rattle.raw_block.specs.Bytes.{position, place, item_at, EachWithin};
-ghost use Rattle.elem_descr.specs.Values.{number};
-ghost use Rattle.elem_descr.specs.Encoding.{decode};
+ghost use Rattle.std.specs.Prelude.{◌≡◌, ◌^◌, ◌<◌, pos, ◌≤ℤ◌, ◌<ℤ◌, length};
+ghost use Rattle.raw_block.specs.Bytes.{position, place, EachWithin};
 
 use crate::byte_orders::Ordered;
 use crate::numbers::Number;
@@ -31,15 +29,6 @@ fn with_step(run: Run, step: isize) -> Run
         count: run.count,
         step,
     }
-}
-
-/// The number that lies at a place.
-#[inline(always)]
-fn read_at<N: Number, O: Ordered>(bytes: &[u8], at: usize) -> N
-    requires { at + N.WIDTH ≤ length bytes.now }
-    ensures { decode (N.scalar O.order) (item_at at N.WIDTH bytes.now) ≡ number (N.value result) }
-{
-    N::read::<O>(&bytes[at..at + N::WIDTH])
 }
 
 /// A run of items of `width` bytes each, in a slice of bytes.
@@ -75,7 +64,8 @@ impl<'a> Side<'a> {
         requires width { self.width ≡ N.WIDTH }
         ensures { N.value result ≡ number_of_side (N.scalar O.order) self.entry k }
     {
-        read_at::<N, O>(self.bytes, place(self.run, k))
+        let at = place(self.run, k);
+        N::read::<O>(&self.bytes[at..at + N::WIDTH])
     }
 
     /// The bytes of the `k`-th item.
