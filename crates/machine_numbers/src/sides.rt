@@ -18,19 +18,6 @@ pub fn place(run: Run, k: usize) -> usize
     (run.offset as isize + k as isize * run.step) as usize
 }
 
-/// A run that is known to have this step.
-#[inline(always)]
-fn with_step(run: Run, step: isize) -> Run
-    requires { run.step ≡ step }
-    ensures { result ≡ run }
-{
-    Run {
-        offset: run.offset,
-        count: run.count,
-        step,
-    }
-}
-
 /// A run of items of `width` bytes each, in a slice of bytes.
 #[derive(Clone, Copy, Drop)]
 pub struct Side<'a> {
@@ -52,7 +39,7 @@ impl<'a> Side<'a> {
     {
         Side {
             bytes: self.bytes,
-            run: with_step(self.run, step),
+            run: Run { step, ..self.run },
             width: self.width,
         }
     }
