@@ -1,6 +1,6 @@
 -- Items one after another in C order and in Fortran order.
 use Rattle.std.specs.Prelude.{reverse}
-use Rattle.std.proofs.Common.{◌≡◌, ◌+◌, ◌*◌, ◌<◌, ◌≤◌, ◌&&◌, ◌||◌, ℕ, zero, suc, Bool, true, false, List, [], ◌∷◌, map, IsTrue, IfOk, Result, Ok, Err, refl, sym, ap, subst, ◌∙◌, arith}
+use Rattle.std.proofs.Common.{◌≡◌, ◌+◌, ◌*◌, ◌<◌, ◌≤◌, ◌&&◌, ◌||◌, ℕ, zero, suc, Bool, true, false, List, [], ◌∷◌, map, IsTrue, refl, sym, ap, subst, ◌∙◌, arith}
 use Rattle.std.specs.List.{range_with_len}
 use Rattle.std.proofs.Math.Nat.{mul-div_cancel_left, mul-suc}
 use Rattle.std.proofs.lemmas.Bool.{eq-eqb}
@@ -44,8 +44,3 @@ f-in_order item n shape offsets is =
     or-true : (b : Bool) → (b || true) ≡ true
     or-true true = refl
     or-true false = refl
-
--- what is answered, if anything
-pub answered : {A E : Type 0} {P Q R : A → Type 0} (result : Result A E) → IfOk result P → IfOk result Q → ((x : A) → P x → Q x → R x) → IfOk result R
-answered (Ok x) first second so = so x first second
-answered (Err e) first second so = tt

@@ -1,7 +1,7 @@
 //! Arrays over a block of their own.
-ghost use Rattle.std.specs.Prelude.{◌≡◌, ◌*◌, ◌≤◌, ◌||◌, length, map, nat_le, replicate, if◌then◌else◌, IfOk, IfErr, IsTrue};
-ghost use Rattle.arrays.specs.Words.{OutOfMemory, TooLarge, item_size, C, max_bytes, count, is_c_contiguous, is_f_contiguous, offsets, Fits, IsNested};
-ghost use Rattle.arrays.specs.Blocks.{FillsBlock, offsets_in, places_of};
+ghost use Rattle.std.specs.Prelude.{◌≡◌, ◌*◌, ◌≤◌, length, nat_le, replicate, if◌then◌else◌, IfOk, IfErr};
+ghost use Rattle.arrays.specs.Words.{OutOfMemory, TooLarge, item_size, C, max_bytes, count, offsets};
+ghost use Rattle.arrays.specs.Blocks.{FillsBlock, offsets_in};
 
 use elem_descr::{Descr, MemoryOrder, Refusal};
 use raw_block::RawBlock;
@@ -16,32 +16,6 @@ pub struct Owned {
     pub descr: Descr,
     pub layout: Layout,
     ghost fills_block: { FillsBlock descr layout block },
-}
-
-/// The layout of items of `item` bytes, one after another in this order.
-fn in_order(
-    alloc: Global,
-    shape: &Shape,
-    item: usize,
-    order: MemoryOrder,
-) -> Result<Layout, AllocError>
-    requires item_low { 1 ≤ item }
-    requires item_high { item ≤ 65536 }
-    requires bytes { count shape.now * item ≤ max_bytes }
-    ensures shape { IfOk result (λ l. l.shape ≡ shape.now) }
-    ensures offsets { IfOk result (λ l. offsets l ≡ offsets_in order item shape.now) }
-    ensures whole { IfOk result
-        (λ l. offsets l ≡ map (λ place. item * place) (places_of item (offsets l))) }
-    ensures in_order { IfOk result
-        (λ l. IsTrue
-        (is_c_contiguous item (offsets l) || is_f_contiguous item l.shape (offsets l))) }
-    ensures nested { IfOk result (λ l. IsNested (offsets l) item) }
-    ensures fits { IfOk result (λ l. Fits l (count shape.now * item) item) }
-{
-    match order {
-        MemoryOrder::C => Layout::c_order(alloc, shape, item),
-        MemoryOrder::Fortran => Layout::f_order(alloc, shape, item),
-    }
 }
 
 impl Owned {
@@ -83,7 +57,11 @@ impl Owned {
             (λ o. offsets o.layout ≡ offsets_in order (item_size descr) shape.now) }
         ensures block { IfOk result (λ o. o.block ≡ block) }
     {
-        let layout = in_order(alloc, shape, descr.size(), order)?;
+        let item = descr.size();
+        let layout = match order {
+            MemoryOrder::C => Layout::c_order(alloc, shape, item)?,
+            MemoryOrder::Fortran => Layout::f_order(alloc, shape, item)?,
+        };
         Ok(Owned {
             block,
             descr,
