@@ -1,5 +1,8 @@
 //! Names and the slots that their arrays lie in.
+ghost use Rattle.std.specs.Prelude.{◌≡◌};
 ghost use Rattle.name_store.specs.Invariants.{Holds};
+ghost use Rattle.name_store.specs.Places.{IsElementType};
+ghost use Rattle.name_store.specs.Words.{item_size};
 ghost use Rattle.name_store.specs.inside.HeldOnce.{Holds-prop};
 
 use crate::bound::{ArrayRef, Bound, Entry};
@@ -10,7 +13,7 @@ use crate::slot::Slot;
 use crate::slots::Slots;
 use crate::write::Target;
 use arrays::Owned;
-use elem_descr::{Name, Refusal};
+use elem_descr::{Descr, Name, Refusal};
 use indexmap::IndexMap;
 use overlap_copy::share_cell;
 use std::alloc::{AllocError, Global};
@@ -32,6 +35,17 @@ pub struct Table {
     pub names: IndexMap<Name, Entry>,
     pub slots: Slots,
     ghost holds: { Holds names.entries slots.cells.items } by { Holds-prop names.entries slots.cells.items },
+}
+
+/// The bytes of an item, with what is known of the sizes and offsets of the fields.
+fn legal_size(descr: &Descr) -> usize
+    ensures value { result ≡ item_size descr.now }
+    ensures legal { IsElementType descr.now }
+{
+    match descr {
+        Descr::Scalar(scalar) => scalar.size(),
+        Descr::Record(structure) => structure.size(),
+    }
 }
 
 impl Table {
@@ -126,8 +140,8 @@ impl Table {
         Ok(has_common)
     }
 
-    /// An entry for what a name is to be bound to, whose buffer one more holds. Only the slot of a block of its own
-    /// takes memory, and before the first change.
+    /// Makes an entry for what a name is to be bound to, whose buffer one more holds. A fresh array gets a
+    /// slot of its own: only this takes memory, and before the first change.
     fn lodge(&mut self, bound: Bound) -> Result<Entry, AllocError>
         requires may { MayBind (table_state self.old) bound }
         requires few { (q : ℕ) → users_at self.old.slots.cells.items q < usize.MAX }
@@ -144,9 +158,14 @@ impl Table {
                     descr,
                     layout,
                 } = owned;
-                let item = descr.size();
-                let items = layout.shape.items();
-                let number = self.slots.add(Slot::new(descr, items, block))?;
+                let item = legal_size(&descr);
+                let slot = Slot {
+                    descr,
+                    items: layout.shape.items(),
+                    block,
+                    users: 1,
+                };
+                let number = self.slots.add(slot)?;
                 Ok(Entry {
                     number,
                     path: Path::whole(),
