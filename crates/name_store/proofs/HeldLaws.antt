@@ -49,6 +49,11 @@ used-some slots n used = by (slot_at slots n) used
     by None is = absurd (omega arith)
     by (Some s) is = refl
 
+-- what stands in a slot is held
+pub held-stand : (o : Option Slot) → option_map stand o ≡ cond (nat_lt 0 (users_of o)) (option_map stand o) None
+held-stand None = refl
+held-stand (Some s) = ap (λ t. cond t (Some (stand s)) None) (sym (lt-ltb 0 s.users s.is_used))
+
 -- The buffer of a slot was lent, and of it only its users changed.
 module _ (slots : List (Option Slot)) (n : ℕ) (was now : Slot) (inside : n < length slots) (there : slot_at slots n ≡ Some was) where
   pub lent-stays : stand now ≡ stand was → (q : ℕ) → option_map stand (slot_at (slice_set slots n (Some now)) q) ≡ option_map stand (slot_at slots q)
@@ -62,10 +67,6 @@ module _ (slots : List (Option Slot)) (n : ℕ) (was now : Slot) (inside : n < l
 
   pub lent-freed : stand now ≡ stand was → (q : ℕ) → option_map stand (slot_at (slice_set slots n (Some now)) q) ≡ cond (nat_lt 0 (users_at (slice_set slots n (Some now)) q)) (option_map stand (slot_at slots q)) None
   lent-freed same q = held-stand (slot_at (slice_set slots n (Some now)) q) ∙ ap (λ o. cond (nat_lt 0 (users_at (slice_set slots n (Some now)) q)) o None) (lent-stays same q)
-    where
-      held-stand : (o : Option Slot) → option_map stand o ≡ cond (nat_lt 0 (users_of o)) (option_map stand o) None
-      held-stand None = refl
-      held-stand (Some s) = ap (λ t. cond t (Some (stand s)) None) (sym (lt-ltb 0 s.users s.is_used))
 
 -- Numbers below the lowest
 

@@ -2,10 +2,10 @@
 use Rattle.std.proofs.Common.{◌≡◌, ◌+◌, ◌<◌, ◌≤◌, ℕ, Bool, true, List, length, map, refl, sym, ap, subst, ◌∙◌, cond, ◌||◌, Option, Some, None, is_some, nat_lt, arith}
 use Rattle.std.specs.Map.{lookup}
 use Rattle.std.specs.Option.{option_map}
-use Rattle.std.proofs.lemmas.Bool.{ltb-true, lt-ltb}
+use Rattle.std.proofs.lemmas.Bool.{ltb-true}
 use Rattle.std.proofs.lemmas.List.{length-map}
 use Rattle.name_store.specs.Arrays.{find_array, has_room_for}
-use Rattle.name_store.specs.Invariants.{Holds, LiesAt, LiesIn, users_of, users_at, users_in, all_pins}
+use Rattle.name_store.specs.Invariants.{Holds, LiesAt, LiesIn, users_at, users_in, all_pins}
 use Rattle.name_store.specs.Kept.{Names}
 use Rattle.name_store.specs.View.{array_at, named_array, slot_at, present}
 use Rattle.name_store.specs.declared.change.Change.{Change}
@@ -15,6 +15,7 @@ use Rattle.name_store.specs.inside.Held.{stand}
 use Rattle.name_store.proofs.NameLaws.{TestsName, find-lookup, all-lookup}
 use Rattle.name_store.proofs.Needs.{is_needed, needed-count, there-used}
 use Rattle.name_store.proofs.SlotLaws.{slot_at-within}
+use Rattle.name_store.proofs.HeldLaws.{held-stand}
 use Rattle.name_store.proofs.PastLaws.{Slots}
 
 -- what stood in the slots that are needed still stands there, and the others are free
@@ -27,11 +28,7 @@ Freed before after = Swept (λ q. nat_lt 0 (users_at after q)) before after
 
 -- nothing is freed of slots as they are
 pub freed-none : (slots : Slots) → Freed slots slots
-freed-none slots q = one (slot_at slots q)
-  where
-    one : (o : Option Slot) → option_map stand o ≡ cond (nat_lt 0 (users_of o)) (option_map stand o) None
-    one None = refl
-    one (Some s) = ap (λ t. cond t (Some (stand s)) None) (sym (lt-ltb 0 s.users s.is_used))
+freed-none slots q = held-stand (slot_at slots q)
 
 -- what is held is needed
 pub freed-swept : (names : Names) (cs : List Change) (before after : Slots) → ((q : ℕ) → users_at after q ≡ users_in q names + all_pins q cs) → Freed before after → Swept (is_needed names cs) before after

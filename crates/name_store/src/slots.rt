@@ -45,7 +45,7 @@ fn put_slot(cells: &mut Vec<Option<Slot>>, number: usize, slot: Slot)
 }
 
 impl Slots {
-    ghost use Rattle.std.specs.Prelude.{◌≡◌, ◌≤◌, ◌<◌, ◌+◌, ℕ, [], true, IfOk, OnErr, Some, None, is_some, nat_eq, nat_lt, if◌then◌else◌, vec_len};
+    ghost use Rattle.std.specs.Prelude.{◌≡◌, ◌≤◌, ◌<◌, ◌+◌, ℕ, [], true, IfOk, OnErr, Some, None, is_some, nat_lt, if◌then◌else◌};
     ghost use Rattle.std.specs.Option.{option_map};
     ghost use Rattle.name_store.specs.View.{slot_at};
     ghost use Rattle.name_store.specs.Invariants.{one_at, users_at};
@@ -95,17 +95,7 @@ impl Slots {
         slot.users += 1;
     }
 
-    /// Empties the slot with this number.
-    fn empty(&mut self, number: usize)
-        requires { number < vec_len self.old.cells }
-        ensures { (other : ℕ) → slot_at self.new.cells.items other
-            ≡ (if nat_eq other number then None else slot_at self.old.cells.items other) }
-    {
-        self.cells[number] = None;
-        self.lowest = self.lowest.min(number);
-    }
-
-    /// One fewer holds the buffer with this number. One that nothing holds any more is freed.
+    /// Lets one fewer hold the buffer with this number. The last one that lets go frees the buffer and its slot.
     pub(crate) fn release(&mut self, number: usize)
         requires { 1 ≤ users_at self.old.cells.items number }
         ensures users { (other : ℕ) → users_at self.new.cells.items other + one_at other number
@@ -115,7 +105,8 @@ impl Slots {
             then option_map stand (slot_at self.old.cells.items other) else None) }
     {
         if self.slot(number).users == 1 {
-            self.empty(number);
+            self.cells[number] = None;
+            self.lowest = self.lowest.min(number);
         } else {
             let slot = self.cells[number].as_mut().unwrap();
             slot.users -= 1;
