@@ -1,5 +1,5 @@
 -- What a look-up shows: an entry, and the slot that its array lies in.
-use Rattle.std.proofs.Common.{◌≡◌, ◌≤◌, ◌<◌, ◌+◌, ◌*◌, ℕ, suc, All, arith, List, [], ◌∷◌, length, map, true, refl, sym, ap, subst, ◌∙◌, Option, Some, None, is_some, unwrap_or}
+use Rattle.std.proofs.Common.{◌≡◌, ◌≤◌, ◌<◌, ◌+◌, ◌*◌, ℕ, suc, All, arith, List, [], ◌∷◌, length, map, true, refl, sym, ap, subst, ◌∙◌, Option, Some, is_some, unwrap_or}
 use Rattle.std.specs.FinMap.{get}
 use Rattle.std.specs.List.{AllByRecursion}
 use Rattle.std.specs.Option.{option_map}
@@ -83,8 +83,8 @@ module _ (es : List (List ℕ × Entry)) (slots : Slots) (e : Entry) (s : Slot) 
   occupied : is_some (get (present es slots).buffers r.number) ≡ true
   occupied = ap (λ n. is_some (get (present es slots).buffers n)) number-is ∙ ap is_some (get-used es slots e.number used ∙ ap (option_map buffer_in) there)
 
-  pub shown : Shows (present es slots) array r
-  shown = record {
+  pub shown : (ring : Ring Change) → Shows (state_of es slots ring) array r
+  shown ring = record {
     view = record {
       number_is = number-is;
       path_is = path-is;
@@ -106,22 +106,3 @@ module _ (es : List (List ℕ × Entry)) (slots : Slots) (e : Entry) (s : Slot) 
 
 pub finds : (s : State) (there : Option Array) (a : Array) (r : ArrayRef) → there ≡ Some a → Shows s a r → Finds s there (Some r)
 finds s there a r is shows = subst (λ f. Finds s f (Some r)) (sym is) shows
-
--- what is shown of names and buffers alone is shown of the whole state
-pub finds-whole : (es : List (List ℕ × Entry)) (slots : Slots) (ring : Ring Change) (there : Option Array) (found : Option ArrayRef) → Finds (present es slots) there found → Finds (state_of es slots ring) there found
-finds-whole es slots ring None None finds = tt
-finds-whole es slots ring None (Some r) finds = absurd finds
-finds-whole es slots ring (Some array) None finds = absurd finds
-finds-whole es slots ring (Some array) (Some r) shows = record {
-  view = record { number_is = shows.view.number_is; path_is = shows.view.path_is; there = shows.view.there; laid = shows.view.laid };
-  descr = shows.descr;
-  whole = shows.whole;
-  some = shows.some;
-  starts = shows.starts;
-  small = shows.small;
-  items = shows.items;
-  reads = shows.reads;
-  deeper = shows.deeper;
-  inside = shows.inside;
-  once = shows.once;
-}

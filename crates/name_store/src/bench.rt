@@ -67,7 +67,16 @@ impl Bench {
     pub fn get(&self, name: &Name) -> Option<ArrayRef<'_>>
         ensures { Finds self.now.state (find_array self.now.state.names name.now) result }
     {
-        self.table.get(name)
+        let entry = self.table.names.get(name)?;
+        let slot = self.table.slots.slot(entry.number);
+        Some(ArrayRef {
+            block: &slot.block,
+            descr: entry.path.descr_in(&slot.descr),
+            layout: &entry.layout,
+            path: &entry.path,
+            number: entry.number as u64,
+            writable: entry.writable,
+        })
     }
 
     /// Whether a name may be bound: it is, or fewer than 1,024 are.

@@ -5,7 +5,7 @@ ghost use Rattle.name_store.specs.Places.{IsElementType};
 ghost use Rattle.name_store.specs.Words.{item_size};
 ghost use Rattle.name_store.specs.inside.HeldOnce.{Holds-prop};
 
-use crate::bound::{ArrayRef, Bound, Entry};
+use crate::bound::{Bound, Entry};
 use crate::change::{Change, OldItems};
 use crate::path::Path;
 use crate::rewrite::put_back;
@@ -51,11 +51,10 @@ fn legal_size(descr: &Descr) -> usize
 impl Table {
     ghost use Rattle.std.specs.Prelude.{◌≡◌, ◌≤◌, ◌<◌, ◌+◌, ℕ, [], true, IfOk, OnErr, IsOk, Some, None};
     ghost use Rattle.indexmap.specs.IndexMap.{spare};
-    ghost use Rattle.name_store.specs.Arrays.{find_array, has_room_for, is_bound};
+    ghost use Rattle.name_store.specs.Arrays.{has_room_for, is_bound};
     ghost use Rattle.name_store.specs.Calls.{AnswersShares};
     ghost use Rattle.name_store.specs.Invariants.{users_at};
     ghost use Rattle.name_store.specs.Memory.{LieInTwo};
-    ghost use Rattle.name_store.specs.Shown.{Finds};
     ghost use Rattle.name_store.specs.Tables.{table_state};
     ghost use Rattle.name_store.specs.Views.{MayBind};
     ghost use Rattle.name_store.specs.declared.change.Change.TheVariants.{Bind, Unbind, Write};
@@ -79,23 +78,6 @@ impl Table {
         ensures { result ≡ has_room_for (table_state self.now) key.now }
     {
         self.names.len() < MAX_NAMES || self.names.contains_key(key)
-    }
-
-    /// The array of a name, if it is bound.
-    pub(crate) fn get(&self, key: &Name) -> Option<ArrayRef<'_>>
-        ensures { Finds (table_state self.now)
-            (find_array (table_state self.now).names key.now) result }
-    {
-        let entry = self.names.get(key)?;
-        let slot = self.slots.slot(entry.number);
-        Some(ArrayRef {
-            block: &slot.block,
-            descr: entry.path.descr_in(&slot.descr),
-            layout: &entry.layout,
-            path: &entry.path,
-            number: entry.number as u64,
-            writable: entry.writable,
-        })
     }
 
     /// Where the array of a name lies that is bound.
