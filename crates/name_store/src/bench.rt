@@ -11,6 +11,9 @@ use elem_descr::{Name, Refusal};
 use std::alloc::{AllocError, Global};
 use std::marker::Model;
 
+/// The most names that are bound at one time.
+const MAX_NAMES: usize = 1024;
+
 /// Named arrays and their buffers, seen as a state: the names in the order in which they were
 /// first bound, the buffers by their numbers, and the states that are kept, each with the bytes of old
 /// items that are held for it.
@@ -83,7 +86,7 @@ impl Bench {
     pub fn has_room_for(&self, name: &Name) -> bool
         ensures { result ≡ has_room_for self.now.state name.now }
     {
-        self.table.has_room_for(name)
+        self.table.names.len() < MAX_NAMES || self.table.names.contains_key(name)
     }
 
     /// Binds a name. One that is bound keeps its place among the names. A view may be one of the
@@ -94,7 +97,7 @@ impl Bench {
         ensures patches { Counts 0 self.old result self.new }
     {
         let key = Name::copy(alloc, name);
-        if !self.table.has_room_for(name) {
+        if !self.has_room_for(name) {
             return Err(Refusal::TooManyNames);
         }
         make_room(&mut self.table.names, &self.history, 1)?;

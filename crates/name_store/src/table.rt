@@ -18,9 +18,6 @@ use indexmap::IndexMap;
 use overlap_copy::share_cell;
 use std::alloc::{AllocError, Global};
 
-/// The most names that are bound at one time.
-const MAX_NAMES: usize = 1024;
-
 /// Where an array lies: the number of its buffer, and how many bytes each of its items has.
 #[derive(Clone, Copy)]
 pub struct Home {
@@ -71,13 +68,6 @@ impl Table {
             names: IndexMap::new(alloc),
             slots: Slots::new(alloc),
         }
-    }
-
-    /// Whether a name may be bound.
-    pub(crate) fn has_room_for(&self, key: &Name) -> bool
-        ensures { result ≡ has_room_for (table_state self.now) key.now }
-    {
-        self.names.len() < MAX_NAMES || self.names.contains_key(key)
     }
 
     /// Where the array of a name lies that is bound.

@@ -41,11 +41,10 @@ pub invariant_of-self-inside-2 : goal.invariant_of-self-inside-2
 invariant_of-self-inside-2 c = record { holds = (kept (goal.at.invariant_of-self-inside-2 c).After-keep).0.holds }
 
 pub returns-clause-answers : goal.returns-clause-answers
-returns-clause-answers c =
-    rw (← c.self.view_is) (
-      sym c.has_room_for.ensures ∙ c.if-not-has_room_for.false,
-      rw (← c.copy.ensures) (subst (λ (ns : List (List ℕ × Entry)). Binds (state_of ns c.self.inside.table.slots.cells.items c.self.inside.history) c.copy.result c.args.bound (state_of c.bind.new.self.names.entries c.keep.new.slots.cells.items c.keep.new.history)) c.in_ok-make_room.ensures.entries (kept (goal.at.returns-clause-answers c).After-keep).1),
-    )
+returns-clause-answers c = (
+  sym c.has_room_for.ensures ∙ c.if-not-has_room_for.false,
+  rw (← c.self.view_is, ← c.copy.ensures) (subst (λ (ns : List (List ℕ × Entry)). Binds (state_of ns c.self.inside.table.slots.cells.items c.self.inside.history) c.copy.result c.args.bound (state_of c.bind.new.self.names.entries c.keep.new.slots.cells.items c.keep.new.history)) c.in_ok-make_room.ensures.entries (kept (goal.at.returns-clause-answers c).After-keep).1),
+)
 
 pub returns-clause-patches : goal.returns-clause-patches
 returns-clause-patches c = rw (← c.self.view_is) (patches-push c.self.inside.history c.keep.new.history _ c.keep.ensures.history)
