@@ -51,8 +51,8 @@ impl Bench {
     ghost use Rattle.name_store.specs.Targets.{IsAim};
     ghost use Rattle.name_store.specs.Views.{MayBind};
 
-    /// A bench on which no name is bound, and that keeps so many earlier states. One that keeps none takes
-    /// no memory.
+    /// Makes a bench on which no name is bound, and that keeps so many earlier states. One that keeps
+    /// none takes no memory.
     pub fn try_new(alloc: Global, depth: usize) -> Result<Bench, AllocError>
         requires { depth ≤ 64 }
         ensures empty { IfOk result (λ bench. bench.state ≡ start depth) }
@@ -110,8 +110,8 @@ impl Bench {
         Ok(())
     }
 
-    /// Writes items to places of a name's array, and answers how many. All memory is asked for before the
-    /// first change.
+    /// Writes items to places of a name's array, and answers how many. It asks for all memory before
+    /// the first change.
     pub fn write_items(
         &mut self,
         alloc: Global,
@@ -140,7 +140,7 @@ impl Bench {
         Ok(count)
     }
 
-    /// Unbinds a name. The names after it close up. Only to keep the state before does it take memory.
+    /// Unbinds a name. The names after it close up. It takes memory only to keep the state before.
     pub fn unbind(&mut self, alloc: Global, name: &Name) -> Result<(), Refusal>
         ensures answers { AnswersUnbind self.old.state name.now result self.new.state }
         ensures patches { Counts 0 self.old result self.new }

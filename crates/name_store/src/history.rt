@@ -105,8 +105,8 @@ impl History {
     }
 }
 
-/// Takes the room in the table that it needs to undo each change that is kept, one more of them than now, and to bind
-/// one name more.
+/// Makes room among the names to undo each change that the history keeps and one more, and to bind so
+/// many names more.
 pub(crate) fn make_room(
     names: &mut IndexMap<Name, Entry>,
     history: &History,
@@ -126,8 +126,8 @@ pub(crate) fn make_room(
     names.reserve(changes + more)
 }
 
-/// Keeps a change that was made. Where as many are kept as can be, the oldest is forgotten, and lets go the
-/// buffer that it held.
+/// Keeps a change that was made. A full history forgets its oldest change, which lets go the buffer that
+/// it held.
 pub(crate) fn keep(slots: &mut Slots, history: &mut History, change: Change)
     requires held { (q : ℕ) → all_pins q (history.old.items ++ change ∷ [])
         ≤ users_at slots.old.cells.items q }

@@ -95,7 +95,8 @@ impl Slots {
         slot.users += 1;
     }
 
-    /// Lets one fewer hold the buffer with this number. The last one that lets go frees the buffer and its slot.
+    /// Lets one fewer hold the buffer with this number. The last that lets it go frees the buffer, and
+    /// empties its slot.
     pub(crate) fn release(&mut self, number: usize)
         requires { 1 ≤ users_at self.old.cells.items number }
         ensures users { (other : ℕ) → users_at self.new.cells.items other + one_at other number
