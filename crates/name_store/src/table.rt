@@ -112,8 +112,8 @@ impl Table {
         Ok(has_common)
     }
 
-    /// Makes an entry for what a name is to be bound to, and lets one more hold its buffer. A fresh array
-    /// gets a slot of its own: only this takes memory, before anything changes.
+    /// Makes an entry for what a name is to be bound to, and lets one more hold its buffer. A fresh
+    /// array gets a slot of its own: only this takes memory, before anything changes.
     fn lodge(&mut self, bound: Bound) -> Result<Entry, AllocError>
         requires may { MayBind (table_state self.old) bound }
         requires few { (q : ℕ) → users_at self.old.slots.cells.items q < usize.MAX }
@@ -184,8 +184,8 @@ impl Table {
         Ok(self.names.insert(key, entry).unwrap())
     }
 
-    /// Undoes a change, and frees a buffer that nothing holds any more. It asks for no memory: `make_room`
-    /// took the room for a name that comes back, before the change.
+    /// Undoes a change, and frees a buffer that nothing holds any more. It asks for no memory:
+    /// `make_room` took the room for a name that comes back, before the change.
     pub(crate) fn undo(&mut self, change: Change)
         requires can { CanUndo self.old change }
         ensures { IsUndone self.old change self.new }
