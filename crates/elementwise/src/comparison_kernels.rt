@@ -50,6 +50,7 @@ impl<const BELOW: bool, const ABOVE: bool, const HOLDS: bool, A: Number, B: Numb
 }
 
 /// A comparison of numbers of two types, whose bools are pushed.
+#[inline(never)]
 pub(crate) fn compare<A: Number, B: Number, O: Ordered>(
     comparison: Comparison,
     block: BlockBuilder,
