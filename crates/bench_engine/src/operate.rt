@@ -4,8 +4,8 @@ ghost use Rattle.std.specs.Prelude.{◌≡◌, ◌≤◌, ◌+◌, true, length,
 ghost use Rattle.std.specs.List.{list_all};
 ghost use Rattle.bench_engine.specs.Words.{item_size, offsets, is_bound, State, Gives, Answers, item_from, promote, integer_compared_result, compared_item, item_value, literal_number, Boolean};
 ghost use Rattle.name_store.specs.States.{Array};
-ghost use Rattle.bench_engine.specs.Machine.{operand_part, names_in_operand, names_in_argument, OperandValues, literal_value, literal_scalar, operand_of_literal, compared_literal, literal_values, operation_scalar, operation_on, operation_with, operation_contents, transformed, compute_outcome};
-ghost use Rattle.bench_engine.specs.inside.Operands.{StandsFor, IsPart, LiesInBuffer, buffer_number, Stands, OwnStands};
+ghost use Rattle.bench_engine.specs.Machine.{operand_part, names_in_operand, names_in_argument, OperandValues, literal_value, literal_scalar, operand_of_literal, compared_literal, literal_values, operation_scalar, operation_on, operation_with, argument_values, compute_outcome};
+ghost use Rattle.bench_engine.specs.inside.Operands.{AreSources, IsGiven, IsNamed, IsNamedBy, IsPart, Knows, LiesInBuffer, OwnStands, Stands, StandsFor, buffer_number};
 ghost use Rattle.elem_descr.specs.declared.descr.Descr.TheVariants.{Scalar as ScalarDescr};
 ghost use Rattle.elem_descr.specs.Values as leaf;
 ghost use Rattle.script_lang.specs.declared.command.Operation.TheVariants as operation;
@@ -30,26 +30,31 @@ use script_lang::{Argument, Computation, Literal, Operand, Operation, ScalarLite
 use shape_strides::{Layout, Shape};
 use std::alloc::Global;
 
-/// Whether the names in an operand are bound.
-pub fn is_bound(bench: &Bench, operand: &Operand) -> bool
-    ensures { result ≡ list_all (is_bound bench.now.state) (names_in_operand operand.now) }
+/// The array of an operand's name. `UnknownName` where this, or a name in the index list, is not bound.
+fn operand_array<'a>(bench: &'a Bench, operand: &Operand) -> Result<ArrayRef<'a>, Refusal>
+    ensures { Knows bench.now.state (names_in_operand operand.now)
+        (IsNamed bench.now.state operand.now.name) result }
 {
-    if bench.get(&operand.name).is_none() {
-        return false;
+    let array = bench.get(&operand.name).ok_or(Refusal::UnknownName)?;
+    if let Some(index) = &operand.index {
+        if !are_bound(bench, index.as_slice()) {
+            return Err(Refusal::UnknownName);
+        }
     }
-    match &operand.index {
-        Some(index) => are_bound(bench, index.as_slice()),
-        None => true,
-    }
+    Ok(array)
 }
 
-/// Whether the names in an argument are bound.
-pub fn has_bound(bench: &Bench, value: &Argument) -> bool
-    ensures { result ≡ list_all (is_bound bench.now.state) (names_in_argument value.now) }
+/// The array of an argument's name; a literal has none. `UnknownName` as for an operand.
+pub fn argument_array<'a>(
+    bench: &'a Bench,
+    value: &Argument,
+) -> Result<Option<ArrayRef<'a>>, Refusal>
+    ensures { Knows bench.now.state (names_in_argument value.now)
+        (IsNamedBy bench.now.state value.now) result }
 {
     match value {
-        Argument::Operand(operand) => is_bound(bench, operand),
-        Argument::Literal(_) => true,
+        Argument::Operand(operand) => Ok(Some(operand_array(bench, operand)?)),
+        Argument::Literal(_) => Ok(None),
     }
 }
 
@@ -110,13 +115,14 @@ impl Part<'_> {
 /// The part that an operand is of the array of its name. The refusals are those of its index list.
 pub fn operand_part<'a>(
     alloc: Global,
-    bench: &'a Bench,
+    bench: &Bench,
     operand: &Operand,
+    array: ArrayRef<'a>,
 ) -> Result<Part<'a>, Refusal>
-    requires { list_all (is_bound bench.now.state) (names_in_operand operand.now) ≡ true }
+    requires bound { list_all (is_bound bench.now.state) (names_in_operand operand.now) ≡ true }
+    requires named { IsNamed bench.now.state operand.now.name array }
     ensures { Meets (IsPart bench.now.state) result (operand_part bench.now.state operand.now) }
 {
-    let array = bench.get(&operand.name).unwrap();
     let Some(index) = &operand.index else {
         return Ok(Part::Whole(array));
     };
@@ -257,76 +263,105 @@ pub fn work_literal(
     }
 }
 
-/// What an operation gives on an operand and an argument.
+/// What an operation gives on items and what an argument gives.
 fn combined(
     alloc: Global,
-    bench: &Bench,
     operation: Operation,
-    left: &Operand,
-    right: &Argument,
+    left: Items<'_>,
+    right: &Given<'_>,
 ) -> Result<Owned, Refusal>
-    requires left { list_all (is_bound bench.now.state) (names_in_operand left.now) ≡ true }
-    requires right { list_all (is_bound bench.now.state) (names_in_argument right.now) ≡ true }
-    ensures { Gives held result (operation_contents bench.now.state operation left.now right.now) }
+    requires { (s : State) × (value : Argument) × IsGiven s value right.now }
+    ensures { (s : State) (value : Argument) (v : OperandValues) → IsGiven s value right.now
+        → Stands v left.entry
+        → Gives held result
+        (operation_with operation v (argument_values s operation v.descr value)) }
 {
-    let left = operand_part(alloc, bench, left)?;
-    let right = given_by(alloc, bench, right)?;
-    let old = left.items();
-    match &right {
-        Given::Literal(literal) => work_literal(alloc, operation, old, literal),
-        Given::Items(part) => work(alloc, operation, old, part.items()),
+    match right {
+        Given::Literal(literal) => work_literal(alloc, operation, left, literal),
+        Given::Items(part) => work(alloc, operation, left, part.items()),
+    }
+}
+
+/// The array that a computation reads, and the second one of an operation on two arrays.
+#[derive(Drop)]
+pub struct Sources<'a> {
+    pub first: ArrayRef<'a>,
+    pub second: Option<ArrayRef<'a>>,
+}
+
+/// The arrays of the names in a computation. `UnknownName` where a name is not bound.
+fn find_sources<'a>(bench: &'a Bench, computation: &Computation) -> Result<Sources<'a>, Refusal>
+    ensures { Knows bench.now.state (bound_in_computation computation.now)
+        (AreSources bench.now.state computation.now) result }
+{
+    match computation {
+        Computation::Duplicate { source, .. }
+        | Computation::Cast { source, .. }
+        | Computation::Reduce { source, .. } => {
+            let first = bench.get(source).ok_or(Refusal::UnknownName)?;
+            Ok(Sources {
+                first,
+                second: None,
+            })
+        }
+        Computation::Transform { operand, .. } => {
+            let first = operand_array(bench, operand)?;
+            Ok(Sources {
+                first,
+                second: None,
+            })
+        }
+        Computation::Combine { left, right, .. } => {
+            let first = operand_array(bench, left)?;
+            let second = argument_array(bench, right)?;
+            Ok(Sources { first, second })
+        }
     }
 }
 
 /// What a computation gives.
-fn computed(alloc: Global, bench: &Bench, computation: &Computation) -> Result<Owned, Refusal>
+fn computed(
+    alloc: Global,
+    bench: &Bench,
+    computation: &Computation,
+    sources: Sources<'_>,
+) -> Result<Owned, Refusal>
     requires bound { list_all (is_bound bench.now.state)
         (bound_in_computation computation.now) ≡ true }
+    requires sources { AreSources bench.now.state computation.now sources }
     ensures { Gives held result (computed_contents bench.now.state computation.now) }
 {
+    let Sources { first, second } = sources;
     match computation {
-        Computation::Duplicate { source, order } => {
-            let array = bench.get(source).unwrap();
-            arrays::copy(alloc, array.block, array.layout, array.descr, *order)
+        Computation::Duplicate { order, .. } => {
+            arrays::copy(alloc, first.block, first.layout, first.descr, *order)
         }
-        Computation::Cast { source, descr } => {
-            let array = bench.get(source).unwrap();
+        Computation::Cast { descr, .. } => {
             let descr = descr_read(alloc, descr.as_slice())?;
-            elementwise::cast(alloc, items_of_view(&array, array.layout), &descr)
+            elementwise::cast(alloc, items_of_view(&first, first.layout), &descr)
         }
         Computation::Combine {
             operation,
             left,
             right,
-        } => combined(alloc, bench, *operation, left, right),
+        } => {
+            let left = operand_part(alloc, bench, left, first)?;
+            let right = given_by(alloc, bench, right, second)?;
+            combined(alloc, *operation, left.items(), &right)
+        }
         Computation::Transform { operation, operand } => {
-            let part = operand_part(alloc, bench, operand)?;
+            let part = operand_part(alloc, bench, operand, first)?;
             apply1(alloc, *operation, part.items())
         }
         Computation::Reduce {
             reduction,
-            source,
             axis,
             keep,
+            ..
         } => {
-            let array = bench.get(source).unwrap();
-            let items = items_of_view(&array, array.layout);
+            let items = items_of_view(&first, first.layout);
             reductions::reduce(alloc, *reduction, items, *axis, *keep)
         }
-    }
-}
-
-/// Whether the names in a computation are bound.
-fn has_bound_operands(bench: &Bench, computation: &Computation) -> bool
-    ensures { result ≡ list_all (is_bound bench.now.state) (bound_in_computation computation.now) }
-{
-    match computation {
-        Computation::Duplicate { source, .. } => bench.get(source).is_some(),
-        Computation::Cast { source, .. } => bench.get(source).is_some(),
-        Computation::Combine { left, right, .. } => is_bound(bench, left)
-            && has_bound(bench, right),
-        Computation::Transform { operand, .. } => is_bound(bench, operand),
-        Computation::Reduce { source, .. } => bench.get(source).is_some(),
     }
 }
 
@@ -353,12 +388,10 @@ pub fn compute(
         bench.old.state bench.new.state out.old.items out.new.items result }
     ensures room { vec_capacity out.old ≤ vec_capacity out.new }
 {
-    if !has_bound_operands(bench, computation) {
-        return Err(Refusal::UnknownName);
-    }
+    let sources = find_sources(bench, computation)?;
     if !bench.has_room_for(name) {
         return Err(Refusal::TooManyNames);
     }
-    let owned = computed(*out.allocator(), bench, computation)?;
+    let owned = computed(*out.allocator(), bench, computation, sources)?;
     bind_new(bench, name, owned, origin_of(computation), out)
 }

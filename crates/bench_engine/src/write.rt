@@ -5,15 +5,15 @@ ghost use Rattle.bench_engine.specs.Words.{item_size, count, max_bytes, max_item
 ghost use Rattle.name_store.specs.States.{Array};
 ghost use Rattle.bench_engine.specs.Machine.{argument_items, names_in_argument, target_part, new_items, write_outcome, write_reply};
 ghost use Rattle.bench_engine.specs.inside.Assigns.{Fitted, IsTarget};
-ghost use Rattle.bench_engine.specs.inside.Operands.{IsGiven, GivesGiven};
+ghost use Rattle.bench_engine.specs.inside.Operands.{IsGiven, GivesGiven, IsNamedBy};
 ghost use Rattle.bench_engine.specs.IndexLists.{names_in_index};
 ghost use Rattle.bench_engine.specs.inside.Contract.{CarriesOut};
 ghost use Rattle.bench_engine.specs.inside.Meeting.{Meets};
-ghost use Rattle.bench_engine.specs.inside.Writings.{IsTargetIn, WritesIn};
+ghost use Rattle.bench_engine.specs.inside.Writings.{IsTargetIn, Prepares, WritesIn};
 
 use crate::create::item_of;
 use crate::index_list::{are_bound, named_target};
-use crate::operate::{Part, has_bound, operand_part};
+use crate::operate::{Part, argument_array, operand_part};
 use crate::update::{Writing, updated};
 use elem_descr::{Descr, IndexItem, Name, Refusal};
 use elementwise::Items;
@@ -60,18 +60,23 @@ pub enum Given<'a> {
     Items(Part<'a>),
 }
 
-/// What an argument gives. The refusals are those of its operand's index list.
+/// What an argument gives, with the array of its name. The refusals are those of its operand's index list.
 pub fn given_by<'a>(
     alloc: Global,
-    bench: &'a Bench,
+    bench: &Bench,
     value: &'a Argument,
+    array: Option<ArrayRef<'a>>,
 ) -> Result<Given<'a>, Refusal>
-    requires { list_all (is_bound bench.now.state) (names_in_argument value.now) ≡ true }
+    requires bound { list_all (is_bound bench.now.state) (names_in_argument value.now) ≡ true }
+    requires named { IsNamedBy bench.now.state value.now array }
     ensures { GivesGiven bench.now.state value.now result }
 {
     match value {
         Argument::Literal(literal) => Ok(Given::Literal(literal)),
-        Argument::Operand(operand) => Ok(Given::Items(operand_part(alloc, bench, operand)?)),
+        Argument::Operand(operand) => {
+            let part = operand_part(alloc, bench, operand, array.unwrap())?;
+            Ok(Given::Items(part))
+        }
     }
 }
 
@@ -142,29 +147,46 @@ pub struct Assignment<'a> {
     pub value: &'a Argument,
 }
 
-/// The new items of a target in an array, and their places: those of the argument, or what an operation
-/// gives with it.
+/// The new items of a target in an array, and their places: those that an argument gives, or what an
+/// operation gives with it.
 fn new_items(
     alloc: Global,
-    bench: &Bench,
     array: &ArrayRef<'_>,
     target: Target,
-    assignment: Assignment<'_>,
+    operation: Option<Operation>,
+    given: &Given<'_>,
 ) -> Result<Writing, Refusal>
-    requires bound { list_all (is_bound bench.now.state)
-        (names_in_argument assignment.value.now) ≡ true }
-    requires target { IsTargetIn bench.now.state array.now target }
-    ensures { WritesIn bench.now.state array.now target (λ part. new_items bench.now.state
-        array.now.descr.now part assignment.entry.operation assignment.entry.value.now) result }
+    requires { (s : State) × (value : Argument) × IsGiven s value given.now
+        × IsTargetIn s array.now target }
+    ensures { (s : State) (value : Argument) → IsGiven s value given.now
+        → WritesIn s array.now target
+        (λ part. new_items s array.now.descr.now part operation value) result }
 {
-    let given = given_by(alloc, bench, assignment.value)?;
-    match assignment.operation {
+    match operation {
         None => {
-            let source = source_of(alloc, &given, target.shape(), array.descr)?;
+            let source = source_of(alloc, given, target.shape(), array.descr)?;
             Ok(Writing { target, source })
         }
-        Some(operation) => updated(alloc, array, target, operation, &given),
+        Some(operation) => updated(alloc, array, target, operation, given),
     }
+}
+
+/// What an assignment writes, and where. A name that is not bound is refused before memory is asked for.
+fn writing_of(alloc: Global, bench: &Bench, assignment: Assignment<'_>) -> Result<Writing, Refusal>
+    ensures { Prepares bench.now.state assignment.entry.name.now assignment.entry.index.now
+        assignment.entry.operation assignment.entry.value.now result }
+{
+    let array = bench.get(assignment.name).ok_or(Refusal::UnknownName)?;
+    let index = assignment.index.as_slice();
+    if !are_bound(bench, index) {
+        return Err(Refusal::UnknownName);
+    }
+    let source = argument_array(bench, assignment.value)?;
+    let target = target_of(alloc, bench, &array, index)?;
+    // What is known of the number of items of a shape comes with this call.
+    let _count = target.shape().items();
+    let given = given_by(alloc, bench, assignment.value, source)?;
+    new_items(alloc, &array, target, assignment.operation, &given)
 }
 
 /// Writes to the items of a name's array that an index list takes: what stands behind `=`, or what the
@@ -181,17 +203,7 @@ pub fn set(bench: &mut Bench, assignment: Assignment<'_>, out: &mut Vec<u8>) -> 
         bench.old.state bench.new.state out.old.items out.new.items result }
 {
     let alloc = *out.allocator();
-    let Some(array) = bench.get(assignment.name) else {
-        return Err(Refusal::UnknownName);
-    };
-    let index = assignment.index.as_slice();
-    if !are_bound(bench, index) || !has_bound(bench, assignment.value) {
-        return Err(Refusal::UnknownName);
-    }
-    let target = target_of(alloc, bench, &array, index)?;
-    // What is known of the number of items of a shape comes with this call.
-    let _count = target.shape().items();
-    let writing = new_items(alloc, bench, &array, target, assignment)?;
+    let writing = writing_of(alloc, bench, assignment)?;
     let count = bench.write_items(alloc, assignment.name, writing.target, writing.source)?;
     push_count(out, assignment.operation, count);
     Ok(())

@@ -1,6 +1,7 @@
 -- Operands: the items of a layout in a block, which those of an array of the state are.
-use Rattle.std.specs.Prelude.{◌≡◌, ◌⊎◌, ℕ, List, map, IsTrue, Option, Some, None, Result, Ok, Err}
-use Rattle.bench_engine.specs.Words.{Refusal, OutOfMemory, item_from, Layout, offsets, IsViewOf, can_stretch, stretched_items, Items, Owned, Descr, LeafValue, HasItems, Shows, ArrayRef, State, descr_of, read, Argument, Operand}
+use Rattle.std.specs.Prelude.{◌≡◌, ◌⊎◌, ℕ, List, map, true, false, IsTrue, Option, Some, None, Result, Ok, Err}
+use Rattle.std.specs.List.{list_all}
+use Rattle.bench_engine.specs.Words.{Refusal, OutOfMemory, item_from, Layout, offsets, IsViewOf, can_stretch, stretched_items, Items, Owned, Descr, LeafValue, HasItems, Shows, ArrayRef, State, descr_of, read, Argument, Operand, UnknownName, find_array, is_bound, Computation, Duplicate, Cast, Combine, Transform, Reduce}
 use Rattle.view_ops.specs.Views.{View}
 use Rattle.name_store.specs.States.{Array}
 use Rattle.script_lang.specs.declared.command.Argument.TheVariants as argument
@@ -9,6 +10,7 @@ use Rattle.bench_engine.specs.declared.write.Given.{Given}
 use Rattle.bench_engine.specs.declared.write.Given.TheVariants as given
 use Rattle.bench_engine.specs.declared.operate.Part.{Part}
 use Rattle.bench_engine.specs.declared.operate.Part.TheVariants as part
+use Rattle.bench_engine.specs.declared.operate.Sources.{Sources}
 use Rattle.bench_engine.specs.inside.Assigns.{Holds, LiesIn}
 
 -- they are those of an array of the state
@@ -33,6 +35,29 @@ buffer_number (part.Copy o) = None
 abbrev pub LiesInBuffer : State → Array → Option ℕ → Layout → Type 0
 LiesInBuffer s a None layout = Unit {0}
 LiesInBuffer s a (Some number) layout = (array : Array) × (r : ArrayRef) × Shows s array r × (number ≡ r.number) × LiesIn s array a layout
+
+-- The names are all bound, and an answer stands for what they are bound to; or one is not.
+abbrev pub Knows : {X : Type 0} → State → List (List ℕ) → (X → Type 0) → Result X Refusal → Type 0
+Knows s names R (Ok x) = (list_all (is_bound s) names ≡ true) × R x
+Knows s names R (Err refusal) = (refusal ≡ UnknownName) × (list_all (is_bound s) names ≡ false)
+
+-- the array of a name, which is shown
+abbrev pub IsNamed : State → List ℕ → ArrayRef → Type 0
+IsNamed s name r = (array : Array) × (find_array s.names name ≡ Some array) × Shows s array r
+
+-- that of an argument's name; a literal has none
+abbrev pub IsNamedBy : State → Argument → Option ArrayRef → Type 0
+IsNamedBy s (argument.Operand operand) None = ⊥
+IsNamedBy s (argument.Operand operand) (Some r) = IsNamed s operand.name r
+IsNamedBy s (argument.Literal literal) found = found ≡ None
+
+-- those of the names in a computation, but for the ones in index lists
+abbrev pub AreSources : State → Computation → Sources → Type 0
+AreSources s (Duplicate source order) found = IsNamed s source found.first
+AreSources s (Cast source descr) found = IsNamed s source found.first
+AreSources s (Combine op left right) found = IsNamed s left.name found.first × IsNamedBy s right found.second
+AreSources s (Transform op operand) found = IsNamed s operand.name found.first
+AreSources s (Reduce reduction source axis keep) found = IsNamed s source found.first
 
 -- a literal, or the part that an operand is
 abbrev pub IsGiven : State → Argument → Given → Type 0
