@@ -28,27 +28,6 @@ use std::alloc::Global;
 /// The most bytes of a refusal's text.
 pub const MAX_REFUSAL_LEN: usize = 64;
 
-/// Binds a name, and appends the reply.
-fn bind<N: NpyStore>(
-    bench: &mut Bench,
-    store: &mut N,
-    name: &Name,
-    value: &Value,
-    out: &mut Vec<u8>,
-) -> Result<(), Refusal>
-    ensures answers { Carried (MayAnswer (world bench.old.state (N.shelf store.old))
-        (Bind name.now value.now) (world bench.new.state (N.shelf store.new)))
-        out.old.items out.new.items result }
-    ensures room { vec_capacity out.old ≤ vec_capacity out.new }
-{
-    match value {
-        Value::Make { descr, items } => make(bench, name, descr, items, out),
-        Value::View { source, how } => view(bench, name, source, how, out),
-        Value::Compute(computation) => compute(bench, name, computation, out),
-        Value::Load { file } => load(bench, store, name, file, out),
-    }
-}
-
 /// Appends what is asked.
 fn reply(bench: &Bench, question: &Question, out: &mut Vec<u8>) -> Result<(), Refusal>
     requires room { vec_len out.old + 64 ≤ vec_capacity out.old }
@@ -82,7 +61,12 @@ fn perform<N: NpyStore>(
     ensures room { vec_capacity out.old ≤ vec_capacity out.new }
 {
     match command {
-        Command::Bind { name, value } => bind(bench, store, name, value, out),
+        Command::Bind { name, value } => match value {
+            Value::Make { descr, items } => make(bench, name, descr, items, out),
+            Value::View { source, how } => view(bench, name, source, how, out),
+            Value::Compute(computation) => compute(bench, name, computation, out),
+            Value::Load { file } => load(bench, store, name, file, out),
+        },
         Command::Set { name, index, value } => {
             let assignment = Assignment {
                 name,

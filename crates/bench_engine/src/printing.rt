@@ -14,21 +14,16 @@ use script_lang::{Command, Question, word};
 use std::alloc::Global;
 use std::io::Write;
 
-/// Whether the first word of a line begins with `print`: other lines are read once.
-fn may_print(line: Line<'_>) -> bool {
-    let Line::Held(bytes) = line else {
-        return false;
-    };
-    let start = bytes.iter().position(|byte| *byte > b' ').unwrap_or(0);
-    bytes[start..].starts_with(b"print")
-}
-
-/// The name whose array a line asks to print. Of a line that does not ask for that, or cannot be
-/// read, it tells nothing.
+/// The name whose array a line asks to print. `None` where it asks for something else or cannot be read.
 pub fn asks_to_print(alloc: Global, line: Line<'_>) -> Option<Name>
     ensures { IfSome result (λ name. AsksToPrint name (meaning_of_read line.entry)) }
 {
-    if !may_print(line) {
+    let Line::Held(bytes) = line else {
+        return None;
+    };
+    // Other lines than these are read only once.
+    let start = bytes.iter().position(|byte| *byte > b' ').unwrap_or(0);
+    if !bytes[start..].starts_with(b"print") {
         return None;
     }
     match read_line(alloc, line) {

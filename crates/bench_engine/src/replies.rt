@@ -7,16 +7,6 @@ use elem_descr::{Descr, Name, format_write, typestr_write};
 use shape_strides::Shape;
 use std::alloc::{AllocError, Global};
 
-/// An element type as replies show it.
-fn descr_text(alloc: Global, descr: &Descr) -> Result<Vec<u8>, AllocError>
-    ensures { IfOk result (λ text. text.items ≡ descr_text descr.now) }
-{
-    match descr {
-        Descr::Scalar(scalar) => typestr_write(alloc, *scalar),
-        Descr::Record(_) => format_write(alloc, descr),
-    }
-}
-
 /// Appends `X DESCR SHAPE`. Where memory runs out, some of it may stand past the old end.
 pub fn push_array_words(
     out: &mut Vec<u8>,
@@ -30,7 +20,10 @@ pub fn push_array_words(
     ensures room { vec_capacity out.old ≤ vec_capacity out.new }
 {
     let alloc = *out.allocator();
-    let descr = descr_text(alloc, descr)?;
+    let descr = match descr {
+        Descr::Scalar(scalar) => typestr_write(alloc, *scalar)?,
+        Descr::Record(_) => format_write(alloc, descr)?,
+    };
     let shape = format!(in alloc; " {shape}")?;
     out.extend_from_slice(name.as_slice())?;
     out.push(b' ')?;
@@ -44,18 +37,6 @@ pub enum Origin {
     New,
     View,
     Copy,
-}
-
-impl Origin {
-    fn word(self) -> &'static [u8]
-        ensures { result.now ≡ origin_word self }
-    {
-        match self {
-            Origin::New => b"new",
-            Origin::View => b"view",
-            Origin::Copy => b"copy",
-        }
-    }
 }
 
 /// Appends `ok X DESCR SHAPE ORIGIN`. Where memory runs out, some of it may stand past the old end.
@@ -73,6 +54,10 @@ pub fn push_bound_text(
 {
     out.extend_from_slice(b"ok ")?;
     push_array_words(out, name, descr, shape)?;
-    out.push(b' ')?;
-    out.extend_from_slice(origin.word())
+    let word: &[u8] = match origin {
+        Origin::New => b" new",
+        Origin::View => b" view",
+        Origin::Copy => b" copy",
+    };
+    out.extend_from_slice(word)
 }

@@ -1,4 +1,4 @@
-//! What a run holds between one read and the next: the line that is being read, and how far replies are sent.
+//! What a run holds between two reads: the line that is being read, and how far replies are sent.
 ghost use Rattle.std.specs.Prelude.{◌≡◌, ◌≤◌, ◌<◌, ◌++◌, ◌∷◌, [], List, ℕ, length, OnOk, OnErr, vec_capacity, IfOk, false, ◌&&◌, nat_eq, not, ◌+◌, ◌^◌, Option};
 ghost use Rattle.std.specs.Io.KnownBytes.{Appends};
 ghost use Rattle.std.specs.List.{position};
@@ -115,8 +115,8 @@ pub struct Summary {
     pub bench: Bench,
 }
 
-/// The line that is being read, and what the lines before it came to. Bytes are fed to it as they come, and `end` tells it
-/// that none come any more.
+/// The line that is being read, and what the lines before it came to. It is fed bytes as they come; `end`
+/// says that no more will.
 #[derive(Drop)]
 pub struct Session {
     bench: Bench,
@@ -210,37 +210,8 @@ impl Session {
         send_line(writer, &mut self.out)
     }
 
-    /// Takes the last piece of a line, which a newline ends.
-    fn take_line<W: Write, N: NpyStore>(
-        &mut self,
-        writer: &mut W,
-        store: &mut N,
-        piece: &[u8],
-    ) -> Result<(), WriteFault>
-        requires few { self.old.accepted + self.old.refused < 2 ^ 50 }
-        requires one { IsUnbroken piece.now }
-        ensures few { self.new.accepted + self.new.refused
-            ≤ self.old.accepted + self.old.refused + 1 }
-        ensures ok { OnOk result
-            ((first : World) (before : Option (List ℕ)) (read : List ℕ) (accepted refused : ℕ) →
-            Fed first (world self.old.bench.state (N.shelf store.old)) before
-            (W.contents writer.old) read accepted refused self.old →
-            Fed first (world self.new.bench.state (N.shelf store.new)) before
-            (W.contents writer.new) (read ++ piece.now ++ 10 ∷ []) accepted refused self.new) }
-        ensures err { OnErr result
-            ((first : World) (before : Option (List ℕ)) (read more : List ℕ) (accepted refused : ℕ)
-            →
-            Fed first (world self.old.bench.state (N.shelf store.old)) before
-            (W.contents writer.old) read accepted refused self.old →
-            FedInPart first (N.shelf store.new) before (W.contents writer.new)
-            (read ++ piece.now ++ 10 ∷ more)) }
-    {
-        self.line.hold(piece);
-        self.finish_line(writer, store)
-    }
-
-    /// Takes the next bytes that were read. After `Ok` each line that newlines have ended so far is answered, and its
-    /// reply is written.
+    /// Takes the next bytes that were read. After `Ok` each line that a newline has ended is answered, and
+    /// its reply is written.
     pub fn feed<W: Write, N: NpyStore>(
         &mut self,
         writer: &mut W,
@@ -262,7 +233,8 @@ impl Session {
     {
         let mut rest = bytes;
         while let Some(end) = newline(rest) {
-            self.take_line(writer, store, &rest[..end])?;
+            self.line.hold(&rest[..end]);
+            self.finish_line(writer, store)?;
             rest = &rest[end + 1..];
         }
         self.line.hold(rest);

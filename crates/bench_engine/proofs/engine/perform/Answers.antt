@@ -5,8 +5,21 @@ use Rattle.bench_engine.specs.Memory.{may_lack_memory}
 use Rattle.bench_engine.proofs.Steps.{carried}
 use Rattle.bench_engine.proofs.engine.perform.Goals as goal
 
-pub returns-in-Bind-clause-answers : goal.returns-in-Bind-clause-answers
-returns-in-Bind-clause-answers g c = rw c.in-Bind.is c.bind.ensures.answers
+pub returns-in-Make-clause-answers : goal.returns-in-Make-clause-answers
+returns-in-Make-clause-answers g c =
+    rw (c.in-Bind.is, c.in-Make.is) (carried _ _ _ _ _ _ _ _ c.make.ensures.answers)
+
+pub returns-in-View-clause-answers : goal.returns-in-View-clause-answers
+returns-in-View-clause-answers g c =
+    rw (c.in-Bind.is, c.in-View.is) (carried _ _ _ _ _ _ _ _ c.view.ensures.answers)
+
+pub returns-in-Compute-clause-answers : goal.returns-in-Compute-clause-answers
+returns-in-Compute-clause-answers g c =
+    rw (c.in-Bind.is, c.in-Compute.is) (carried _ _ _ _ _ _ _ _ c.compute.ensures.answers)
+
+pub returns-in-Load-clause-answers : goal.returns-in-Load-clause-answers
+returns-in-Load-clause-answers g c =
+    rw (c.in-Bind.is, c.in-Load.is) c.load.ensures.answers
 
 pub returns-in-Set-clause-answers : goal.returns-in-Set-clause-answers
 returns-in-Set-clause-answers g c =

@@ -1,13 +1,10 @@
 use Rattle.std.proofs.Common.{◌≡◌, ◌++◌, ◌+◌, ◌∷◌, [], List, ℕ, length, take, drop, sym, ap, ◌∙◌, refl, append_assoc, arith, length-drop}
 use Rattle.std.proofs.lemmas.List.{append-nil}
 use Rattle.std.proofs.lemmas.Result.{err_from_is_err_and}
-use Rattle.bench_engine.proofs.Feeding.{fed-nothing, fed-piece, fed_along, fed_in_part_along}
+use Rattle.bench_engine.proofs.Feeding.{cut-newline, fed-newline, fed-nothing, fed-piece, fed_along, fed_in_part_along}
 use Rattle.bench_engine.specs.Words.{rest_of}
 use Rattle.bench_engine.proofs.Lines.{first_newline, no_newline, newline_in_rest}
 use Rattle.bench_engine.proofs.session.Session.feed.Goals as goal
-
-pub take_line-requires-clause-one : goal.take_line-requires-clause-one
-take_line-requires-clause-one g c = (first_newline _ _ (sym c.newline.ensures ∙ c.in-Some.is)).1
 
 pub loop-end-init : goal.loop-end-init
 loop-end-init g c = record {
@@ -19,8 +16,8 @@ loop-end-init g c = record {
   );
 }
 
-pub returns-in_err-take_line-clause-told_in_part : goal.returns-in_err-take_line-clause-told_in_part
-returns-in_err-take_line-clause-told_in_part g c =
+pub returns-in_err-finish_line-clause-told_in_part : goal.returns-in_err-finish_line-clause-told_in_part
+returns-in_err-finish_line-clause-told_in_part g c =
     let p = err_from_is_err_and c.from_residual.result c.from_residual.ensures.1 in
     let so_far = c.loop-end.invariant.fed in
     let rest = c.loop-end.rest.now in
@@ -29,7 +26,8 @@ returns-in_err-take_line-clause-told_in_part g c =
     let parts = newline_in_rest c.args.bytes.now so_far.0 rest end so_far.1 at.0 at.2 in
     rw p.1 (λ held one holds.
     fed_in_part_along _ _ _ _ _ _ (joined held so_far.0 (take end rest) (10 ∷ drop (end + 1) rest) c.args.bytes.now parts)
-    (c.in_err-take_line.ensures.err _ _ (held ++ so_far.0) (drop (end + 1) rest) _ _ (so_far.2 held one holds)))
+    (cut-newline _ _ _ _ _ _ _ _ _ ((held ++ so_far.0) ++ take end rest) (drop (end + 1) rest) _ c.in_err-finish_line.ensures.err
+    (fed-piece _ _ _ _ _ _ (held ++ so_far.0) (take end rest) c.loop-end.self _ at.1 refl refl c.hold.ensures (so_far.2 held one holds))))
   where
     joined : (read taken line more bytes : List ℕ) → bytes ≡ (taken ++ line) ++ more → ((read ++ taken) ++ line) ++ more ≡ read ++ bytes
     joined read taken line more bytes is = rw is (simp append_assoc)
@@ -43,11 +41,13 @@ loop-end-preserved g c =
     let parts = newline_in_rest c.args.bytes.now so_far.0 rest end so_far.1 at.0 at.2 in
     let left = rest_of rest (end + 1) in
     record {
-      few = omega (arith, c.take_line.ensures.few, c.loop-end.invariant.few, at.0, ap length left, length-drop (end + 1) rest);
+      few = omega (arith, c.finish_line.ensures.few, c.loop-end.invariant.few, at.0, ap length left, length-drop (end + 1) rest);
       fed = (
         (so_far.0 ++ take end rest) ++ 10 ∷ [],
         parts ∙ sym (append_assoc (so_far.0 ++ take end rest) (10 ∷ []) (drop (end + 1) rest)) ∙ ap (λ r. ((so_far.0 ++ take end rest) ++ 10 ∷ []) ++ r) (sym left),
-        λ held one holds. fed_along _ _ _ _ _ _ _ _ _ (regrouped held so_far.0 (take end rest)) (c.in_ok-take_line.ensures.ok _ _ (held ++ so_far.0) _ _ (so_far.2 held one holds)),
+        λ held one holds. fed_along _ _ _ _ _ _ _ _ _ (regrouped held so_far.0 (take end rest))
+            (fed-newline _ _ _ _ _ _ _ _ ((held ++ so_far.0) ++ take end rest) _ _ c.finish_line.ensures.next c.in_ok-finish_line.ensures.ok
+            (fed-piece _ _ _ _ _ _ (held ++ so_far.0) (take end rest) c.loop-end.self _ at.1 refl refl c.hold.ensures (so_far.2 held one holds))),
       );
     }
   where
@@ -60,4 +60,4 @@ returns-clause-told g c held one holds =
     let rest = c.loop-end.rest.now in
     let none = no_newline rest (sym c.newline.ensures ∙ c.in_default.is) in
     fed_along _ _ _ _ _ _ _ _ _ (append_assoc held so_far.0 rest ∙ ap (λ bytes. held ++ bytes) (sym so_far.1))
-    (fed-piece _ _ _ _ _ _ (held ++ so_far.0) rest c.loop-end.self _ none refl refl c.hold.ensures (so_far.2 held one holds))
+    (fed-piece _ _ _ _ _ _ (held ++ so_far.0) rest c.loop-end.self _ none refl refl c.hold-2.ensures (so_far.2 held one holds))
