@@ -2,7 +2,7 @@
 use Rattle.std.proofs.Common.{◌≡◌, ◌+◌, ◌-◌, ◌≤◌, ℕ, true, false, List, [], ◌∷◌, ◌++◌, length, drop, map, min, refl, sym, ap, subst, ◌∙◌, cond, Some, None, nat_lt, slice_get, arith, length-drop, length-append}
 use Rattle.std.specs.List.{list_any}
 use Rattle.std.specs.Option.{option_map}
-use Rattle.std.proofs.lemmas.Bool.{ltb-true, ltb-false}
+use Rattle.std.proofs.lemmas.Bool.{ltb-false}
 use Rattle.std.proofs.lemmas.List.{length-map, map-append, drop-map}
 use Rattle.name_store.specs.Words.{buffer, keep_last}
 use Rattle.circular_buffer.specs.Buffer.{Buffer as Ring}
@@ -16,10 +16,9 @@ use Rattle.name_store.specs.inside.Held.{stand}
 use Rattle.name_store.proofs.NameLaws.{all-both, all-in_use, in_front}
 use Rattle.name_store.proofs.Needs.{needs, is_needed}
 use Rattle.name_store.proofs.PastLaws.{Alike, alike-shape, past-alike, lies-shaped, Restored, restored-shape, same-buffers, kept-push, kept-free, kept-drop, kept-length, undoable-push, undoable-drop, undoable-still, Slots}
-use Rattle.name_store.proofs.HeldLaws.{one-itself}
 use Rattle.name_store.proofs.StateLaws.{Freed, freed-swept}
 
--- What goes when a change is kept is the first, or nothing goes.
+-- What goes when a change is kept is the first.
 
 pub gone-first : (cap : ℕ) (xs : List Change) (c gone : Change) → length xs ≤ cap → Some gone ≡ cond (nat_lt (length xs) cap) None (slice_get (xs ++ c ∷ []) 0) → gone ∷ keep_last cap (xs ++ c ∷ []) ≡ xs ++ c ∷ []
 gone-first cap xs c gone short is =
@@ -34,35 +33,17 @@ gone-first cap xs c gone short is =
     front [] first = let same : gone ≡ c = cc in ap (λ x. x ∷ []) same
     front (x ∷ xs) first = let same : gone ≡ x = cc in ap (λ y. y ∷ xs ++ c ∷ []) same
 
-pub gone-none : (cap : ℕ) (xs : List Change) (c : Change) → None ≡ cond (nat_lt (length xs) cap) None (slice_get (xs ++ c ∷ []) 0) → keep_last cap (xs ++ c ∷ []) ≡ xs ++ c ∷ []
-gone-none cap xs c is =
-    elim (nat_lt (length xs) cap) as (λ t. nat_lt (length xs) cap ≡ t → None ≡ cond t None (slice_get (xs ++ c ∷ []) 0) → keep_last cap (xs ++ c ∷ []) ≡ xs ++ c ∷ []) [
-      | true ↦ λ less _. let none : length (xs ++ c ∷ []) - cap ≡ 0 = omega (arith, ltb-true (length xs) cap less, length-append xs (c ∷ [])) in ap (λ n. drop n (xs ++ c ∷ [])) none
-      | false ↦ λ _ first. absurd (some xs first)
-    ] refl is
-  where
-    some : (xs : List Change) → None ≡ slice_get (xs ++ c ∷ []) 0 → ⊥
-    some [] h = cc
-    some (x ∷ xs) h = cc
-
 -- The oldest change is forgotten, and lets go what it held.
 module _ (ring ring' : Ring Change) (c gone : Change) (short : length ring.items ≤ ring.capacity) (is : Some gone ≡ cond (nat_lt (length ring.items) ring.capacity) None (slice_get (ring.items ++ c ∷ []) 0))
     (ring-is : ring' ≡ buffer (keep_last ring.capacity (ring.items ++ c ∷ [])) ring.capacity) where
   pub first-pins : (q : ℕ) → found_at q (held_number gone) + all_pins q ring'.items ≡ all_pins q (ring.items ++ c ∷ [])
   first-pins q = ap (all_pins q) (ap (λ (r : Ring Change). gone ∷ r.items) ring-is ∙ gone-first ring.capacity ring.items c gone short is)
 
-  pub gone-held : (slots : Slots) → ((q : ℕ) → all_pins q (ring.items ++ c ∷ []) ≤ users_at slots q) → (n : ℕ) → held_number gone ≡ Some n → 1 ≤ users_at slots n
-  gone-held slots held n keeps = omega (arith, held n, first-pins n, ap (found_at n) keeps, one-itself n)
-
   pub gone-users : (slots after : Slots) (n : ℕ) → held_number gone ≡ Some n → ((q : ℕ) → users_at after q + one_at q n ≡ users_at slots q) → (q : ℕ) → users_at after q + all_pins q (ring.items ++ c ∷ []) ≡ users_at slots q + all_pins q ring'.items
   gone-users slots after n keeps fewer q = omega (arith, fewer q, first-pins q, ap (found_at q) keeps)
 
   pub gone-same : (slots : Slots) → held_number gone ≡ None → (q : ℕ) → users_at slots q + all_pins q (ring.items ++ c ∷ []) ≡ users_at slots q + all_pins q ring'.items
   gone-same slots keeps q = omega (arith, first-pins q, ap (found_at q) keeps)
-
-pub none-gone : (ring ring' : Ring Change) (c : Change) → None ≡ cond (nat_lt (length ring.items) ring.capacity) None (slice_get (ring.items ++ c ∷ []) 0) → ring' ≡ buffer (keep_last ring.capacity (ring.items ++ c ∷ [])) ring.capacity →
-    (slots : Slots) (q : ℕ) → users_at slots q + all_pins q (ring.items ++ c ∷ []) ≡ users_at slots q + all_pins q ring'.items
-none-gone ring ring' c is ring-is slots q = ap (λ cs. users_at slots q + all_pins q cs) (sym (ap (λ (r : Ring Change). r.items) ring-is ∙ gone-none ring.capacity ring.items c is))
 
 -- the bytes that it takes to undo each change that is kept
 pub patches-push : (ring ring' : Ring Change) (c : Change) → ring' ≡ buffer (keep_last ring.capacity (ring.items ++ c ∷ [])) ring.capacity → map patch_size ring'.items ≡ keep_last ring.capacity (map patch_size ring.items ++ patch_size c ∷ [])

@@ -1,6 +1,5 @@
 //! What undoes a change of the bench.
 ghost use Rattle.std.specs.Prelude.{◌≡◌};
-ghost use Rattle.name_store.specs.Invariants.{held_number};
 ghost use Rattle.name_store.specs.Kept.{patch_size};
 
 use crate::bound::Entry;
@@ -47,20 +46,6 @@ impl Change {
         match self {
             Change::Write { items, .. } => items.block.len(),
             _ => 0,
-        }
-    }
-
-    /// The number of the buffer that it holds, to be undone.
-    pub(crate) fn number(&self) -> Option<usize>
-        ensures { result ≡ held_number self.now }
-    {
-        match self {
-            Change::Bind {
-                earlier: Some(entry),
-                ..
-            }
-            | Change::Unbind { entry, .. } => Some(entry.number),
-            _ => None,
         }
     }
 }

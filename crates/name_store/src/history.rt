@@ -143,8 +143,13 @@ pub(crate) fn keep(slots: &mut Slots, history: &mut History, change: Change)
         then option_map stand (slot_at slots.old.cells.items q) else None) }
 {
     if let Some(gone) = history.push(change) {
-        if let Some(number) = gone.number() {
-            slots.release(number);
+        if let Change::Bind {
+            earlier: Some(entry),
+            ..
+        }
+        | Change::Unbind { entry, .. } = &gone
+        {
+            slots.release(entry.number);
         }
     }
 }
