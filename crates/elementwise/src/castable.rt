@@ -6,7 +6,7 @@ ghost use Rattle.std.specs.List.{list_all};
 ghost use Rattle.std.specs.Prelude.{IsTrue, length, ℕ, ◌+◌, ◌<◌, ◌↔◌, ◌≡◌, ◌≤◌};
 
 use crate::casts::leaf_of;
-use crate::operands::note_bytes;
+use crate::operands::note_slice;
 use elem_descr::{Descr, Field, Leaf, Scalar};
 use raw_block::RawBlock;
 
@@ -111,6 +111,6 @@ pub fn keeps_items(block: &RawBlock, from: &Descr, to: &Descr) -> bool
         → cast_item from.now to.now (item_from from.now block.now offset)
         ≡ item_from to.now block.now offset }
 {
-    note_bytes(block);
+    note_slice(block.bytes());
     are_alike(from, to)
 }

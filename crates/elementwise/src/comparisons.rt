@@ -12,7 +12,7 @@ ghost use Rattle.std.specs.Prelude.{IfOk, map, ◌≡◌};
 use crate::apply::make_cast;
 use crate::byte_string_pairs::ComparingTexts;
 use crate::byte_strings::trimmed_in;
-use crate::operands::{Broadcast, made, note_bytes, read_as, spread, without_repeats};
+use crate::operands::{Broadcast, made, note_slice, read_as, spread, without_repeats};
 use crate::pairing::{Pairing, Work};
 use crate::promotion::{common_type, compared_type, scalar_of};
 use crate::row_pairs::Operands;
@@ -67,8 +67,8 @@ fn compare_numbers(
         (pairwise (compared_item comparison) (stretched both.entry.left both.entry.shape.now)
         (stretched both.entry.right both.entry.shape.now))) }
 {
-    note_bytes(both.left.block);
-    note_bytes(both.right.block);
+    note_slice(both.left.block.bytes());
+    note_slice(both.right.block.bytes());
     let pairing = number_pairing(comparison, left, right, both);
     make_cast(alloc, &pairing, both.left, both.right, both.shape)
 }

@@ -9,7 +9,7 @@ ghost use Rattle.std.specs.Prelude.{IfOk, [], if◌then◌else◌, length, map, 
 
 use crate::comparison_kernels::says;
 use crate::comparisons::compare_once;
-use crate::operands::{Broadcast, note_bytes};
+use crate::operands::{Broadcast, note_slice};
 use crate::promotion::scalar_of;
 use arrays::{Items, Owned};
 use elem_descr::{Comparison, Descr, MemoryOrder, Refusal, Scalar, is_value, num_write};
@@ -107,7 +107,7 @@ fn compare_beyond(
         compared_item comparison (item_from operand.entry.descr.now operand.entry.block.now offset)
         (number integer ∷ [])) (offsets operand.entry.layout.now))) }
 {
-    note_bytes(operand.block);
+    note_slice(operand.block.bytes());
     let above = integer.is_positive();
     let holds = says(comparison, above, !above);
     all_alike(alloc, holds, &operand.layout.shape)

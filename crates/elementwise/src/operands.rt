@@ -45,13 +45,6 @@ pub(crate) fn note_slice(bytes: &[u8])
     let _len = bytes.len();
 }
 
-/// A block holds bytes.
-pub(crate) fn note_bytes(block: &RawBlock)
-    ensures { (k : ℕ) → slice_index_or block.now k 0 < 256 }
-{
-    note_slice(block.bytes());
-}
-
 /// The scalar as which two operands are read: a little-endian one, or the same in the byte order of the
 /// larger operand, so that this one is read where it stands.
 pub(crate) fn read_as(scalar: &Scalar, left: Items<'_>, right: Items<'_>) -> Scalar

@@ -1,5 +1,5 @@
-//! Work on operands of numbers in the type that their scalar names, and which kernel does it. Each operation is done on
-//! the lowest 64 bits, and a number keeps as many as its type has.
+//! Work on operands of numbers in the type that their scalar names, and which kernel does it. Each
+//! operation is done on the lowest 64 bits, and a number keeps as many as its type has.
 ghost use Rattle.std.specs.Prelude.{◌≡◌, ◌+◌, ◌*◌, ◌≤◌, ◌++◌, true, ◌-ℤ◌};
 ghost use Rattle.elementwise.specs.Words.{Little, size, integer, wrap, item_size, Add, Subtract, Multiply, And, Or, Xor, ShiftLeft, ShiftRight, is_bool};
 ghost use Rattle.elementwise.specs.Operations.{binary, unary, serves_bools, serves_one};
@@ -153,6 +153,7 @@ impl<'a, 'b> NumberTask for Working<'a, 'b> {
         (number_pair scalar scalar (target t.work scalar) (meaning t.work scalar)) t.operands)
         × (pairs_of t.operands * size (target t.work scalar) + block.1 ≡ t.block.1) };
 
+    #[inline(never)]
     fn run<N: Number, O: Ordered>(self) -> BlockBuilder {
         let Working {
             work,

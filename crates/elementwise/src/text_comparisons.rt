@@ -11,7 +11,7 @@ use crate::byte_string_pairs::ComparingTexts;
 use crate::byte_strings::{shared_words, word_at};
 use crate::comparison_kernels::{Said, compare};
 use crate::kernels::Kernel;
-use crate::operands::note_bytes;
+use crate::operands::note_slice;
 use crate::pairing::Pairs;
 use crate::row_pairs::{Operands, Pass};
 use elem_descr::Comparison;
@@ -126,8 +126,8 @@ fn push_numbers<N: Number>(
     ensures bytes { result.0 ≡ block.0 ++ made_of_all (text_pair comparison) operands.entry }
     ensures left { pairs_of operands.entry + result.1 ≡ block.1 }
 {
-    note_bytes(operands.left.block);
-    note_bytes(operands.right.block);
+    note_slice(operands.left.block.bytes());
+    note_slice(operands.right.block.bytes());
     compare::<N, N, HighFirst>(comparison, block, operands)
 }
 

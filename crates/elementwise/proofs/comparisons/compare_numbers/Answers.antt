@@ -38,5 +38,5 @@ returns c =
     let given = pairwise (λ u v. gives p (value_in (cast_item x.descr.now (ScalarDescr (left_of p)) u)) (value_in (cast_item y.descr.now (ScalarDescr (right_of p)) v)) ∷ []) (stretched x shape) (stretched y shape) in
     made-as (ScalarDescr BoolScalar) shape given _ c.make_cast.result
     ((λ i. pairwise (λ u v. is.says (value_in (cast_item x.descr.now (ScalarDescr (left_of p)) u)) (value_in (cast_item y.descr.now (ScalarDescr (right_of p)) v)) i ∷ []) (stretched x shape) (stretched y shape))
-    ∙ compared_all c.args.comparison (left_of p) (right_of p) x.descr.now y.descr.now x.block.now y.block.now x.layout.now y.layout.now shape (c.args.left.now, c.requires.from, c.requires.left, is.left.1) (c.args.right.now, c.requires.other, c.requires.right, is.right.1) is.left.0 is.right.0 c.note_bytes.ensures c.note_bytes-2.ensures)
+    ∙ compared_all c.args.comparison (left_of p) (right_of p) x.descr.now y.descr.now x.block.now y.block.now x.layout.now y.layout.now shape (c.args.left.now, c.requires.from, c.requires.left, is.left.1) (c.args.right.now, c.requires.other, c.requires.right, is.right.1) is.left.0 is.right.0 (rw c.bytes.ensures at c.note_slice.ensures) (rw c.bytes-2.ensures at c.note_slice-2.ensures))
     (subst (λ (s : Scalar). IfOk c.make_cast.result (IsMade (ScalarDescr s) shape given)) is.target c.make_cast.ensures)
