@@ -263,25 +263,6 @@ pub fn work_literal(
     }
 }
 
-/// What an operation gives on items and what an argument gives.
-fn combined(
-    alloc: Global,
-    operation: Operation,
-    left: Items<'_>,
-    right: &Given<'_>,
-) -> Result<Owned, Refusal>
-    requires { (s : State) × (value : Argument) × IsGiven s value right.now }
-    ensures { (s : State) (value : Argument) (v : OperandValues) → IsGiven s value right.now
-        → Stands v left.entry
-        → Gives held result
-        (operation_with operation v (argument_values s operation v.descr value)) }
-{
-    match right {
-        Given::Literal(literal) => work_literal(alloc, operation, left, literal),
-        Given::Items(part) => work(alloc, operation, left, part.items()),
-    }
-}
-
 /// The array that a computation reads, and the second one of an operation on two arrays.
 #[derive(Drop)]
 pub struct Sources<'a> {
@@ -347,7 +328,11 @@ fn computed(
         } => {
             let left = operand_part(alloc, bench, left, first)?;
             let right = given_by(alloc, bench, right, second)?;
-            combined(alloc, *operation, left.items(), &right)
+            let items = left.items();
+            match &right {
+                Given::Literal(literal) => work_literal(alloc, *operation, items, literal),
+                Given::Items(part) => work(alloc, *operation, items, part.items()),
+            }
         }
         Computation::Transform { operation, operand } => {
             let part = operand_part(alloc, bench, operand, first)?;

@@ -37,8 +37,8 @@ returns-in_err-descr-in-Cast c =
     let p = err_from_is_err_and c.from_residual.result c.from_residual.ensures.1 in
     rw (p.1, p.2, c.in-Cast.is, it.1) (passed (descriptor c.as_slice.result.now) _ _ (λ bad. rw (ap descriptor (sym c.as_slice.ensures) ∙ bad) refl) c.in_err-descr-in-Cast.ensures)
 
-pub returns-in_ok-descr-in-Cast : goal.returns-in_ok-descr-in-Cast
-returns-in_ok-descr-in-Cast c =
+pub returns-in-Cast : goal.returns-in-Cast
+returns-in-Cast c =
     let it = subst (λ (k : Computation). AreSources c.args.bench.now.state k c.args.sources) c.in-Cast.is c.requires.sources in
     let e = c.cast.ensures in
     let i = c.items_of_view.ensures in
@@ -71,21 +71,32 @@ returns-in_err-right-in-Combine c =
     let is = met (IsPart s) c.in_ok-left-in-Combine.left (operand_part s _) c.in_ok-left-in-Combine.ensures in
     rw (p.1, p.2, c.in-Combine.is) (combined-bad s c.in-Combine.operation _ _ is.0 _ is.1 c.in_err-right-in-Combine.ensures)
 
-pub items-requires : goal.items-requires
-items-requires c =
+pub items-items-requires : goal.items-items-requires
+items-items-requires c =
     let s = c.args.bench.now.state in
     let is = met (IsPart s) c.in_ok-left-in-Combine.left (operand_part s _) c.in_ok-left-in-Combine.ensures in
     (s, is.0, is.2)
 
-pub combined-requires : goal.combined-requires
-combined-requires c = (c.args.bench.now.state, c.in-Combine.right, c.in_ok-right-in-Combine.ensures)
+pub items-requires : goal.items-requires
+items-requires c =
+    let is = subst (λ (g : Given). IsGiven c.args.bench.now.state c.in-Combine.right g) c.in-Items.is c.in_ok-right-in-Combine.ensures in
+    (c.args.bench.now.state, is.1, is.4)
 
-pub returns-in_ok-right-in-Combine : goal.returns-in_ok-right-in-Combine
-returns-in_ok-right-in-Combine c =
+pub returns-in-Literal : goal.returns-in-Literal
+returns-in-Literal c =
     let s = c.args.bench.now.state in
     let is = met (IsPart s) c.in_ok-left-in-Combine.left (operand_part s _) c.in_ok-left-in-Combine.ensures in
-    rw c.in-Combine.is (subst (Gives held c.combined.result) (sym (combined-part s c.in-Combine.operation _ _ is.0 is.1))
-    (c.combined.ensures s _ (operand_values s is.0) c.in_ok-right-in-Combine.ensures (all-stand s is.0 _ (c.items.ensures.stands s is.0 is.2))))
+    let given = subst (λ (g : Given). IsGiven s c.in-Combine.right g) c.in-Literal.is c.in_ok-right-in-Combine.ensures in
+    rw c.in-Combine.is (subst (Gives held c.work_literal.result) (sym (combined-part s c.in-Combine.operation _ _ is.0 is.1))
+    (rw given (c.work_literal.ensures.gives (operand_values s is.0) (all-stand s is.0 _ (c.items-items.ensures.stands s is.0 is.2)))))
+
+pub returns-in-Combine : goal.returns-in-Combine
+returns-in-Combine c =
+    let s = c.args.bench.now.state in
+    let is = met (IsPart s) c.in_ok-left-in-Combine.left (operand_part s _) c.in_ok-left-in-Combine.ensures in
+    let given = subst (λ (g : Given). IsGiven s c.in-Combine.right g) c.in-Items.is c.in_ok-right-in-Combine.ensures in
+    rw c.in-Combine.is (subst (Gives held c.work.result) (sym (combined-part s c.in-Combine.operation _ _ is.0 is.1))
+    (rw (given.2, given.3) (c.work.ensures.gives (operand_values s is.0) (operand_values s given.1) (all-stand s is.0 _ (c.items-items.ensures.stands s is.0 is.2)) (all-stand s given.1 _ (c.items.ensures.stands s given.1 given.4)))))
 
 pub items-requires-in-Transform : goal.items-requires-in-Transform
 items-requires-in-Transform c =
@@ -100,8 +111,8 @@ returns-in_err-part-in-Transform c =
     let p = err_from_is_err_and c.from_residual-in_err-part-in-Transform.result c.from_residual-in_err-part-in-Transform.ensures.1 in
     rw (p.1, p.2, c.in-Transform.is) (passed (operand_part s _) _ _ (λ bad. rw bad refl) c.in_err-part-in-Transform.ensures)
 
-pub returns-in_ok-part-in-Transform : goal.returns-in_ok-part-in-Transform
-returns-in_ok-part-in-Transform c =
+pub returns-in-Transform : goal.returns-in-Transform
+returns-in-Transform c =
     let s = c.args.bench.now.state in
     let is = met (IsPart s) c.in_ok-part-in-Transform.part (operand_part s _) c.in_ok-part-in-Transform.ensures in
     let e = c.apply1.ensures in
@@ -112,8 +123,8 @@ items_of_view-items-requires c =
     let it = subst (λ (k : Computation). AreSources c.args.bench.now.state k c.args.sources) c.in-Reduce.is c.requires.sources in
     record { inside = it.2.inside }
 
-pub returns-in-Reduce : goal.returns-in-Reduce
-returns-in-Reduce c =
+pub returns : goal.returns
+returns c =
     let it = subst (λ (k : Computation). AreSources c.args.bench.now.state k c.args.sources) c.in-Reduce.is c.requires.sources in
     let e = c.reduce.ensures in
     let i = c.items_of_view-items.ensures in
