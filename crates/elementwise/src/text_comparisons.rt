@@ -1,4 +1,4 @@
-//! Comparisons of all pairs of byte strings: those of one length by words of theirs.
+//! Comparisons of byte strings, pair by pair. Those of one length are compared by words.
 ghost use Rattle.elem_descr.specs.declared.scalar.Order.TheVariants.{Big as BigOrder};
 ghost use Rattle.elementwise.specs.Words.{item_size};
 ghost use Rattle.elementwise.specs.inside.Operands.{made_of_all, pairs_of};
@@ -80,6 +80,7 @@ impl<D: Deciding, const BELOW: bool, const ABOVE: bool, const HOLDS: bool> Pass
 
     ghost not_empty = { λ _. Prim.omega arith };
 
+    #[inline(never)]
     fn push_row(&self, block: BlockBuilder, pairs: Pairs<'_, '_>) -> BlockBuilder {
         let mut block = block;
         for k in 0..pairs.left.run.count {
