@@ -29,7 +29,7 @@ pub(crate) fn says(comparison: Comparison, below: bool, above: bool) -> bool
 
 /// A comparison as what is made of two numbers, which may be of two types: `HOLDS` where the first is below
 /// the second, if `BELOW`, and where it is above, if `ABOVE`; else the other bool.
-pub(crate) struct Said<const BELOW: bool, const ABOVE: bool, const HOLDS: bool>;
+struct Said<const BELOW: bool, const ABOVE: bool, const HOLDS: bool>;
 
 impl<const BELOW: bool, const ABOVE: bool, const HOLDS: bool, A: Number, B: Number> Kernel<
     A,

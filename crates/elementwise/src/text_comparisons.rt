@@ -2,15 +2,14 @@
 ghost use Rattle.elem_descr.specs.declared.scalar.Order.TheVariants.{Big as BigOrder};
 ghost use Rattle.elementwise.specs.Words.{item_size};
 ghost use Rattle.elementwise.specs.inside.Operands.{made_of_all, pairs_of};
-ghost use Rattle.elementwise.specs.inside.PairPasses.{text_pair, text_said};
+ghost use Rattle.elementwise.specs.inside.PairPasses.{said, text_pair, text_said};
 ghost use Rattle.elementwise.specs.inside.Words.{AreInOrder, IsWord, IsWordLen};
 ghost use Rattle.std.proofs.Common.{arith};
 ghost use Rattle.std.specs.Prelude.{length, ℕ, ◌*◌, ◌++◌, ◌+◌, ◌≡◌, ◌≤◌};
 
 use crate::byte_string_pairs::ComparingTexts;
 use crate::byte_strings::{shared_words, word_at};
-use crate::comparison_kernels::{Said, compare};
-use crate::kernels::Kernel;
+use crate::comparison_kernels::compare;
 use crate::operands::note_slice;
 use crate::pairing::Pairs;
 use crate::row_pairs::{Operands, Pass};
@@ -66,13 +65,21 @@ impl Deciding for Longer {
     }
 }
 
-/// What `Said` says of the words that decide.
-#[derive_where(Clone, Copy)]
-struct Texts<D, const BELOW: bool, const ABOVE: bool, const HOLDS: bool>(PhantomData<D>);
+/// `holds` where `is_below` and `below`, or `is_above` and `above`; else the other bool.
+#[inline(always)]
+fn is_said(below: bool, above: bool, holds: bool, is_below: bool, is_above: bool) -> bool
+    ensures { result ≡ said below above holds is_below is_above }
+{
+    (below & is_below | above & is_above) == holds
+}
 
-impl<D: Deciding, const BELOW: bool, const ABOVE: bool, const HOLDS: bool> Pass
-    for Texts<D, BELOW, ABOVE, HOLDS> {
-    ghost makes = { λ _. text_said BELOW ABOVE HOLDS };
+/// A comparison by the words that decide: the last bool where the first word is below the second, if the
+/// first bool is true, and where it is above, if the second is; else the other bool.
+#[derive_where(Clone, Copy)]
+struct Texts<D>(bool, bool, bool, PhantomData<D>);
+
+impl<D: Deciding> Pass for Texts<D> {
+    ghost makes = { λ t. text_said t.0 t.1 t.2 };
 
     ghost Reads = { λ _ width width'. (width ≡ width') × D.Fits width };
 
@@ -80,12 +87,11 @@ impl<D: Deciding, const BELOW: bool, const ABOVE: bool, const HOLDS: bool> Pass
 
     ghost not_empty = { λ _. Prim.omega arith };
 
-    #[inline(never)]
     fn push_row(&self, block: BlockBuilder, pairs: Pairs<'_, '_>) -> BlockBuilder {
         let mut block = block;
         for k in 0..pairs.left.run.count {
             let (first, second) = D::words(pairs.left.item(k), pairs.right.item(k));
-            let holds = <Said<BELOW, ABOVE, HOLDS> as Kernel<u64, u64, bool>>::make(first, second);
+            let holds = is_said(self.0, self.1, self.2, first < second, second < first);
             holds.push::<LowFirst>(&mut block);
         }
         block
@@ -106,12 +112,12 @@ fn push_decided<D: Deciding>(
 {
     let by = PhantomData;
     match comparison {
-        Comparison::Equal => operands.push_all(&Texts::<D, true, true, false>(by), block),
-        Comparison::NotEqual => operands.push_all(&Texts::<D, true, true, true>(by), block),
-        Comparison::Less => operands.push_all(&Texts::<D, true, false, true>(by), block),
-        Comparison::LessOrEqual => operands.push_all(&Texts::<D, false, true, false>(by), block),
-        Comparison::Greater => operands.push_all(&Texts::<D, false, true, true>(by), block),
-        Comparison::GreaterOrEqual => operands.push_all(&Texts::<D, true, false, false>(by), block),
+        Comparison::Equal => operands.push_all(&Texts::<D>(true, true, false, by), block),
+        Comparison::NotEqual => operands.push_all(&Texts::<D>(true, true, true, by), block),
+        Comparison::Less => operands.push_all(&Texts::<D>(true, false, true, by), block),
+        Comparison::LessOrEqual => operands.push_all(&Texts::<D>(false, true, false, by), block),
+        Comparison::Greater => operands.push_all(&Texts::<D>(false, true, true, by), block),
+        Comparison::GreaterOrEqual => operands.push_all(&Texts::<D>(true, false, false, by), block),
     }
 }
 
