@@ -34,7 +34,7 @@ from bench_tool import grammar, language  # noqa: E402
 
 DIST, OUT = TOP / "dist", TOP / "out/page"
 PARTS = ("retarget.py", "heap.c", "wide.c")  # of what bench.wasm is made, beside bench_c
-OPTIMIZED = "-Os"
+OPTIMIZED = "-Oz"
 CALLS = ("open", "answer", "reply", "put", "get", "file", "close")
 LINKED = ["--no-entry", "--gc-sections", "--strip-all", "--stack-first", "-z", "stack-size=1048576", "--export=malloc", "--export=realloc", "--export=free", *(f"--export=bench_c_{call}" for call in CALLS)]
 SCRIPTS = ("bench", "trace", "picture", "svg", "language", "app")
