@@ -30,7 +30,7 @@ fn least_width(descr: &Descr, k: usize) -> usize
 }
 
 /// The width of each leaf's texts before any is known.
-fn least_widths(alloc: Global, descr: &Descr) -> Result<SmallVec<usize, 8>, AllocError>
+fn least_widths(alloc: Global, descr: &Descr) -> Result<SmallVec<usize, 4>, AllocError>
     ensures { IfOk result (λ v. v.items ≡ leaf_widths (leaves_of descr.now) []) }
 {
     let mut widths = SmallVec::new(alloc);
@@ -136,7 +136,7 @@ pub fn widths_of(
     block: &[u8],
     layout: &Layout,
     descr: &Descr,
-) -> Result<SmallVec<usize, 8>, AllocError>
+) -> Result<SmallVec<usize, 4>, AllocError>
     requires inside { All (λ offset. offset + item_size descr.now ≤ length block.now)
         (offsets layout.now) }
     ensures { IfOk result (λ v. v.items

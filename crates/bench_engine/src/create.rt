@@ -30,7 +30,7 @@ pub fn item_of(alloc: Global, descr: &Descr, literal: &Literal) -> Result<Vec<u8
 }
 
 /// The lengths as numbers of the machine: one that is larger than those is the largest.
-fn capped(alloc: Global, lengths: &[u128]) -> Result<SmallVec<usize, 8>, AllocError>
+fn capped(alloc: Global, lengths: &[u128]) -> Result<SmallVec<usize, 4>, AllocError>
     ensures { IfOk result (λ axes. axes.items ≡ map (λ n. min n (2 ^ 64 - 1)) lengths.now) }
 {
     let mut axes = SmallVec::new(alloc);

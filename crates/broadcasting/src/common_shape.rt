@@ -26,7 +26,7 @@ pub fn common_of_two(
     alloc: Global,
     left: &[usize],
     right: &[usize],
-) -> Result<SmallVec<usize, 8>, Refusal>
+) -> Result<SmallVec<usize, 4>, Refusal>
     ensures { Gives (λ v. v.items) result (common_of_two left.now right.now) }
 {
     let rank = left.len().max(right.len());

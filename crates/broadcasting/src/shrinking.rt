@@ -44,7 +44,7 @@ fn shrunk_lengths(
     lengths: &[usize],
     strides: &[isize],
     others: &[isize],
-) -> Result<SmallVec<usize, 8>, AllocError>
+) -> Result<SmallVec<usize, 4>, AllocError>
     requires strides { length strides.now ≡ length lengths.now }
     requires others { length others.now ≡ length lengths.now }
     ensures first { IfOk result (λ v. CanShrink lengths.now strides.now v.items) }

@@ -12,7 +12,7 @@ use smallvec::SmallVec;
 use std::alloc::{AllocError, Global};
 use view_ops::{AxisPick, with_picks};
 
-fn push_zeros(picks: &mut SmallVec<AxisPick, 8>, axes: &[usize]) -> Result<(), AllocError>
+fn push_zeros(picks: &mut SmallVec<AxisPick, 4>, axes: &[usize]) -> Result<(), AllocError>
     ensures { OnOk result (picks.new.items ≡ picks.old.items ++ map (λ _. AtAxis 0) axes.now) }
 {
     for _ in axes {
@@ -21,7 +21,7 @@ fn push_zeros(picks: &mut SmallVec<AxisPick, 8>, axes: &[usize]) -> Result<(), A
     Ok(())
 }
 
-fn push_rest(picks: &mut SmallVec<AxisPick, 8>, part: &IndexPart<'_>) -> Result<(), AllocError>
+fn push_rest(picks: &mut SmallVec<AxisPick, 4>, part: &IndexPart<'_>) -> Result<(), AllocError>
     ensures { OnOk result (picks.new.items ≡ picks.old.items ++ rest_of part.now) }
 {
     match part {
@@ -31,7 +31,7 @@ fn push_rest(picks: &mut SmallVec<AxisPick, 8>, part: &IndexPart<'_>) -> Result<
     }
 }
 
-fn rest_picks(alloc: Global, parts: &[IndexPart<'_>]) -> Result<SmallVec<AxisPick, 8>, AllocError>
+fn rest_picks(alloc: Global, parts: &[IndexPart<'_>]) -> Result<SmallVec<AxisPick, 4>, AllocError>
     ensures { IfOk result (λ v. v.items ≡ rest_picks parts.now) }
 {
     let mut picks = SmallVec::new(alloc);

@@ -32,7 +32,7 @@ fn plan_of_none(alloc: Global, shape: Shape) -> Result<Plan, AllocError>
 }
 
 /// The lengths that the points have in common, and the shape of the result, or its refusal.
-fn shapes(alloc: Global, parts: &[IndexPart<'_>]) -> Result<(SmallVec<usize, 8>, Shape), Refusal>
+fn shapes(alloc: Global, parts: &[IndexPart<'_>]) -> Result<(SmallVec<usize, 4>, Shape), Refusal>
     ensures points { IfOk result (λ r. points_shape (map shown_part parts.now) ≡ Ok r.0.items) }
     ensures shape { IfOk result (λ r.
         shape_of (all_axes r.0.items (map shown_part parts.now)) ≡ Ok r.1) }

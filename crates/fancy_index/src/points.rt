@@ -34,8 +34,8 @@ pub(crate) enum Ranks<'a> {
 /// Points in a shape of their own, each on the same axes: its rank along these.
 #[derive(Drop)]
 pub(crate) struct PointList<'a> {
-    pub lengths: SmallVec<usize, 8>,
-    pub axes: SmallVec<usize, 8>,
+    pub lengths: SmallVec<usize, 4>,
+    pub axes: SmallVec<usize, 4>,
     pub ranks: Ranks<'a>,
 }
 
@@ -145,9 +145,9 @@ pub(crate) fn array_points<'a>(
 /// What the lengths have in common with those of a part's points.
 fn common_with_part(
     alloc: Global,
-    lengths: SmallVec<usize, 8>,
+    lengths: SmallVec<usize, 4>,
     part: &IndexPart<'_>,
-) -> Result<SmallVec<usize, 8>, Refusal>
+) -> Result<SmallVec<usize, 4>, Refusal>
     ensures { let shapes = shapes_of_part (shown_part part.now) in
         Gives (λ v. v.items) result (as_index_shapes (common_with lengths.items shapes)) }
 {
@@ -168,7 +168,7 @@ fn common_with_part(
 pub(crate) fn points_shape(
     alloc: Global,
     parts: &[IndexPart<'_>],
-) -> Result<SmallVec<usize, 8>, Refusal>
+) -> Result<SmallVec<usize, 4>, Refusal>
     ensures { Gives (λ v. v.items) result (points_shape (map shown_part parts.now)) }
 {
     let mut lengths = SmallVec::new(alloc);

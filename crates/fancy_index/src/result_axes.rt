@@ -13,7 +13,7 @@ use smallvec::SmallVec;
 use std::alloc::{AllocError, Global};
 use view_ops::AxisPick;
 
-fn push_picked(lengths: &mut SmallVec<usize, 8>, pick: AxisPick) -> Result<(), AllocError>
+fn push_picked(lengths: &mut SmallVec<usize, 4>, pick: AxisPick) -> Result<(), AllocError>
     ensures { OnOk result (lengths.new.items ≡ lengths.old.items ++ axis_of (pick_shown pick)) }
 {
     match pick {
@@ -23,7 +23,7 @@ fn push_picked(lengths: &mut SmallVec<usize, 8>, pick: AxisPick) -> Result<(), A
     }
 }
 
-fn push_axis(lengths: &mut SmallVec<usize, 8>, part: &IndexPart<'_>) -> Result<(), AllocError>
+fn push_axis(lengths: &mut SmallVec<usize, 4>, part: &IndexPart<'_>) -> Result<(), AllocError>
     ensures { let more = axes_of_part (shown_part part.now) in
         OnOk result (lengths.new.items ≡ lengths.old.items ++ more) }
 {
@@ -34,7 +34,7 @@ fn push_axis(lengths: &mut SmallVec<usize, 8>, part: &IndexPart<'_>) -> Result<(
 }
 
 /// The lengths of all axes but those of the points.
-fn other_axes(alloc: Global, parts: &[IndexPart<'_>]) -> Result<SmallVec<usize, 8>, AllocError>
+fn other_axes(alloc: Global, parts: &[IndexPart<'_>]) -> Result<SmallVec<usize, 4>, AllocError>
     ensures { IfOk result (λ v. v.items ≡ other_axes (map shown_part parts.now)) }
 {
     let mut lengths = SmallVec::new(alloc);
@@ -49,7 +49,7 @@ fn all_axes(
     alloc: Global,
     parts: &[IndexPart<'_>],
     points: &[usize],
-) -> Result<SmallVec<usize, 8>, AllocError>
+) -> Result<SmallVec<usize, 4>, AllocError>
     ensures { IfOk result (λ v. v.items ≡ all_axes points.now (map shown_part parts.now)) }
 {
     let others = other_axes(alloc, parts)?;

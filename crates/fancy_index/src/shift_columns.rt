@@ -23,7 +23,7 @@ struct Origin<'a> {
     lengths: &'a [usize],
 }
 
-fn push_origin(numbers: &mut SmallVec<usize, 8>, axes: &[usize]) -> Result<(), AllocError>
+fn push_origin(numbers: &mut SmallVec<usize, 4>, axes: &[usize]) -> Result<(), AllocError>
     ensures { OnOk result (numbers.new.items ≡ numbers.old.items ++ map (λ _. 0) axes.now) }
 {
     for _ in axes {
@@ -32,7 +32,7 @@ fn push_origin(numbers: &mut SmallVec<usize, 8>, axes: &[usize]) -> Result<(), A
     Ok(())
 }
 
-fn push_first(numbers: &mut SmallVec<usize, 8>, pick: AxisPick) -> Result<(), AllocError>
+fn push_first(numbers: &mut SmallVec<usize, 4>, pick: AxisPick) -> Result<(), AllocError>
     ensures { OnOk result (numbers.new.items ≡ numbers.old.items ++ first_of pick) }
 {
     match pick {
@@ -42,7 +42,7 @@ fn push_first(numbers: &mut SmallVec<usize, 8>, pick: AxisPick) -> Result<(), Al
     }
 }
 
-fn push_start(numbers: &mut SmallVec<usize, 8>, part: &IndexPart<'_>) -> Result<(), AllocError>
+fn push_start(numbers: &mut SmallVec<usize, 4>, part: &IndexPart<'_>) -> Result<(), AllocError>
     ensures { OnOk result (numbers.new.items ≡ numbers.old.items ++ start_of part.now) }
 {
     match part {
@@ -53,7 +53,7 @@ fn push_start(numbers: &mut SmallVec<usize, 8>, part: &IndexPart<'_>) -> Result<
 }
 
 /// The index of the first item where all points are 0.
-fn starts(alloc: Global, parts: &[IndexPart<'_>]) -> Result<SmallVec<usize, 8>, AllocError>
+fn starts(alloc: Global, parts: &[IndexPart<'_>]) -> Result<SmallVec<usize, 4>, AllocError>
     ensures { IfOk result (λ v. v.items ≡ starts parts.now) }
 {
     let mut numbers = SmallVec::new(alloc);

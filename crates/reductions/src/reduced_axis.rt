@@ -46,7 +46,7 @@ fn without<T: Copy + Default>(
     alloc: Global,
     numbers: &[T],
     axis: usize,
-) -> Result<SmallVec<T, 8>, AllocError>
+) -> Result<SmallVec<T, 4>, AllocError>
     requires { axis < length numbers.now }
     ensures { IfOk result (λ v. v.items ≡ remove numbers.now axis) }
 {
@@ -61,7 +61,7 @@ fn reduced_lengths(
     lengths: &[usize],
     axis: Option<usize>,
     keep: bool,
-) -> Result<SmallVec<usize, 8>, AllocError>
+) -> Result<SmallVec<usize, 4>, AllocError>
     requires { IsAxisOf (length lengths.now) axis }
     ensures { IfOk result (λ v. v.items ≡ reduced_shape lengths.now axis keep) }
 {

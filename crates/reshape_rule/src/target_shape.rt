@@ -70,7 +70,7 @@ fn left_over(items: usize, product: usize) -> usize
 }
 
 /// The lengths, with the rest for -1.
-fn lengths(alloc: Global, numbers: &[i128], rest: usize) -> Result<SmallVec<usize, 8>, AllocError>
+fn lengths(alloc: Global, numbers: &[i128], rest: usize) -> Result<SmallVec<usize, 4>, AllocError>
     requires { rest ≤ max_items }
     ensures { IfOk result
         (λ v. v.items ≡ map (λ number. min (length_or rest number) (max_items + 1)) numbers.now) }

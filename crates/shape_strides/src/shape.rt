@@ -18,10 +18,10 @@ pub const MAX_AXES: usize = 64;
 /// The greatest length of an axis, and the greatest number of items.
 pub const MAX_ITEMS: usize = 1 << 24;
 
-/// The lengths of an array's axes, the first axis first. Up to 8 axes take no memory.
+/// The lengths of an array's axes, the first axis first. Up to four axes take no memory.
 #[derive(Drop)]
 pub struct Shape {
-    axes: SmallVec<usize, 8>,
+    axes: SmallVec<usize, 4>,
     items: usize,
 }
 

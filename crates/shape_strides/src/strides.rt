@@ -8,10 +8,10 @@ use std::fmt;
 use std::marker::Model;
 
 /// How many bytes each axis steps over from one item to the next, the first axis first. A step may
-/// be negative. Up to 8 axes take no memory.
+/// be negative. Up to four axes take no memory.
 #[derive(Drop)]
 pub struct Strides {
-    steps: SmallVec<isize, 8>,
+    steps: SmallVec<isize, 4>,
 }
 
 impl Model for Strides {

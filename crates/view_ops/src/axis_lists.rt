@@ -29,7 +29,7 @@ fn are_distinct(axes: &[usize]) -> bool
 }
 
 /// The axes from the last one to the first.
-fn reversed_axes(alloc: Global, rank: usize) -> Result<SmallVec<usize, 8>, AllocError>
+fn reversed_axes(alloc: Global, rank: usize) -> Result<SmallVec<usize, 4>, AllocError>
     ensures { IfOk result (λ v. v.items ≡ map (λ k. rank - 1 - k) (range_with_len 0 rank)) }
 {
     let mut axes = SmallVec::new(alloc);
@@ -44,7 +44,7 @@ fn counted_axes(
     alloc: Global,
     rank: usize,
     named: &[i128],
-) -> Result<SmallVec<usize, 8>, AllocError>
+) -> Result<SmallVec<usize, 4>, AllocError>
     requires { list_all (is_place rank) named.now ≡ true }
     ensures { IfOk result (λ v. v.items ≡ map (λ axis. natural (from_front rank axis)) named.now) }
 {
@@ -55,7 +55,7 @@ fn counted_axes(
     Ok(axes)
 }
 
-fn named_axes(alloc: Global, rank: usize, named: &[i128]) -> Result<SmallVec<usize, 8>, Refusal>
+fn named_axes(alloc: Global, rank: usize, named: &[i128]) -> Result<SmallVec<usize, 4>, Refusal>
     ensures { Gives (λ v. v.items) result (axes_of rank (Some named.now)) }
 {
     if named.len() != rank {
@@ -76,7 +76,7 @@ pub(crate) fn axes_of(
     alloc: Global,
     rank: usize,
     named: Option<&[i128]>,
-) -> Result<SmallVec<usize, 8>, Refusal>
+) -> Result<SmallVec<usize, 4>, Refusal>
     ensures { Gives (λ v. v.items) result (axes_of rank (option_copied named.entry)) }
 {
     match named {

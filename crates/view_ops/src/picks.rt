@@ -132,7 +132,7 @@ pub(crate) fn picks_of<A>(
     Ok(picks)
 }
 
-fn push_length(lengths: &mut SmallVec<usize, 8>, pick: AxisPick) -> Result<(), AllocError>
+fn push_length(lengths: &mut SmallVec<usize, 4>, pick: AxisPick) -> Result<(), AllocError>
     ensures { OnOk result (lengths.new.items ≡ lengths.old.items ++ axis_of (pick_shown pick)) }
 {
     match pick {
@@ -142,7 +142,7 @@ fn push_length(lengths: &mut SmallVec<usize, 8>, pick: AxisPick) -> Result<(), A
     }
 }
 
-fn picked_lengths(alloc: Global, picks: &[AxisPick]) -> Result<SmallVec<usize, 8>, AllocError>
+fn picked_lengths(alloc: Global, picks: &[AxisPick]) -> Result<SmallVec<usize, 4>, AllocError>
     ensures { IfOk result (λ v. v.items ≡ picked_shape (map pick_shown picks.now)) }
 {
     let mut lengths = SmallVec::new(alloc);
@@ -152,7 +152,7 @@ fn picked_lengths(alloc: Global, picks: &[AxisPick]) -> Result<SmallVec<usize, 8
     Ok(lengths)
 }
 
-fn push_first(index: &mut SmallVec<usize, 8>, pick: AxisPick) -> Result<(), AllocError>
+fn push_first(index: &mut SmallVec<usize, 4>, pick: AxisPick) -> Result<(), AllocError>
     ensures { OnOk result (index.new.items ≡ index.old.items ++ first_of pick) }
 {
     match pick {
@@ -163,7 +163,7 @@ fn push_first(index: &mut SmallVec<usize, 8>, pick: AxisPick) -> Result<(), Allo
 }
 
 /// The index of the first item that is picked.
-fn first_index(alloc: Global, picks: &[AxisPick]) -> Result<SmallVec<usize, 8>, AllocError>
+fn first_index(alloc: Global, picks: &[AxisPick]) -> Result<SmallVec<usize, 4>, AllocError>
     ensures { IfOk result (λ v. v.items ≡ flat_map first_of picks.now) }
 {
     let mut index = SmallVec::new(alloc);

@@ -15,7 +15,7 @@ fn transposed_lengths(
     alloc: Global,
     lengths: &[usize],
     axes: &[usize],
-) -> Result<SmallVec<usize, 8>, AllocError>
+) -> Result<SmallVec<usize, 4>, AllocError>
     requires axes { AreAxes (length lengths.now) axes.now }
     requires few { length lengths.now ≤ max_axes }
     ensures { IfOk result (λ v. v.items ≡ transposed_shape axes.now lengths.now) }
