@@ -2,7 +2,7 @@
 ghost use Rattle.elem_descr.specs.declared.descr.Descr.TheVariants.{Scalar as ScalarDescr};
 ghost use Rattle.elementwise.specs.Casts.{can_cast, cast_item};
 ghost use Rattle.elementwise.specs.Results.{binary_item, binary_result, pairwise, stretched_items, unary_item, unary_result, value_in};
-ghost use Rattle.elementwise.specs.Words.{C, Gives, can_stretch, encode_item, item_from, item_size, items, offsets, offsets_in, owned_items, size};
+ghost use Rattle.elementwise.specs.Words.{AreAlike, C, Gives, can_stretch, encode_item, item_from, item_size, items, offsets, offsets_in, owned_items, size};
 ghost use Rattle.elementwise.specs.inside.Held.{fitted_layout, stretched};
 ghost use Rattle.elementwise.specs.inside.Made.{IsMade};
 ghost use Rattle.elementwise.specs.inside.Shrunk.{IsStretched};
@@ -164,7 +164,9 @@ impl<'a> Fitted<'a> {
     }
 }
 
-/// What is made of the items of two arrays that are cast, each as a whole, and then stretched.
+/// What is made of the items of two arrays that are cast, each as a whole, and then stretched. Its frame
+/// is large, so it stays out of line.
+#[inline(never)]
 pub(crate) fn make_whole(
     alloc: Global,
     pairing: &Pairing<'_>,
@@ -211,14 +213,19 @@ pub(crate) fn make_whole(
     made(alloc, pairing, operands)
 }
 
-/// The operands as runs of items, if they are many, need not be stretched, and are not both of the type
-/// that they are cast to.
-fn in_runs<'a>(
-    pairing: &Pairing<'_>,
-    left: Items<'a>,
-    right: Items<'a>,
-    shape: &Shape,
-) -> Option<InRuns<'a>>
+/// Whether items have a shape already, and a cast to an element type leaves them as they are.
+fn stays(from: Items<'_>, to: &Descr, shape: &Shape) -> bool
+    ensures shape { IsTrue result → from.entry.layout.now.shape ≡ shape.now }
+    ensures alike { IsTrue result → AreAlike from.entry.descr.now to.now }
+    ensures items { IsTrue result → map (item_from to.now from.entry.block.now)
+        (offsets from.entry.layout.now)
+        ≡ map (cast_item from.entry.descr.now to.now) (items from.entry) }
+{
+    from.layout.shape.as_slice() == shape.as_slice() && keeps_items(from.block, from.descr, to)
+}
+
+/// The operands as runs of items, if they are many and need not be stretched.
+fn in_runs<'a>(left: Items<'a>, right: Items<'a>, shape: &Shape) -> Option<InRuns<'a>>
     ensures left { IfSome result (λ both. both.left.items ≡ left.entry) }
     ensures right { IfSome result (λ both. both.right.items ≡ right.entry) }
     ensures shape { IfSome result (λ _. left.entry.layout.now.shape ≡ shape.now) }
@@ -229,10 +236,6 @@ fn in_runs<'a>(
         || left.layout.shape.as_slice() != lengths
         || right.layout.shape.as_slice() != lengths
     {
-        return None;
-    }
-    let first = keeps_items(left.block, left.descr, &Descr::Scalar(pairing.left()));
-    if first && keeps_items(right.block, right.descr, &Descr::Scalar(pairing.right())) {
         return None;
     }
     Some(InRuns {
@@ -270,7 +273,25 @@ pub(crate) fn make_cast(
         (value_in (cast_item right.entry.descr.now (ScalarDescr (right_of pairing.now)) y)) ∷ [])
         (stretched left.entry shape.now) (stretched right.entry shape.now))) }
 {
-    if let Some(both) = in_runs(pairing, left, right, shape) {
+    let _items = shape.items();
+    let left_to = Descr::Scalar(pairing.left());
+    let right_to = Descr::Scalar(pairing.right());
+    if stays(left, &left_to, shape) && stays(right, &right_to, shape) {
+        let operands = Operands {
+            left: Items {
+                block: left.block,
+                layout: left.layout,
+                descr: &left_to,
+            },
+            right: Items {
+                block: right.block,
+                layout: right.layout,
+                descr: &right_to,
+            },
+        };
+        return made(alloc, pairing, operands);
+    }
+    if let Some(both) = in_runs(left, right, shape) {
         return make_by_chunks(alloc, pairing, both, shape);
     }
     make_whole(alloc, pairing, left, right, shape)

@@ -107,9 +107,10 @@ fn made_by_rows(
     Owned::over(alloc, Descr::Scalar(scalar), shape, MemoryOrder::C, block)
 }
 
-/// Combines all pairs. Many pairs are combined column by column if both operands lie that way, and row by
-/// row otherwise, after an operand that goes by columns is copied into C order.
-pub(crate) fn made(
+/// Combines many pairs, column by column if both operands lie that way, and row by row otherwise, after an
+/// operand that goes by columns is copied into C order. Its frame is large, so it stays out of line.
+#[inline(never)]
+fn made_of_many(
     alloc: Global,
     pairing: &Pairing<'_>,
     operands: Operands<'_, '_>,
@@ -124,9 +125,6 @@ pub(crate) fn made(
 {
     let Operands { left, right } = operands;
     let shape = &left.layout.shape;
-    if shape.items() < FEW || operands.as_row().is_some() {
-        return made_by_rows(alloc, pairing, operands);
-    }
     let Some(columns) = columns(alloc, left.layout, right.layout)? else {
         let left = Held::near(alloc, left);
         let right = Held::near(alloc, right);
@@ -155,6 +153,26 @@ pub(crate) fn made(
     let order = Layout::f_order(alloc, shape, width)?;
     let block = gather(alloc, &block, &order, width)?;
     Owned::over(alloc, Descr::Scalar(scalar), shape, MemoryOrder::C, block)
+}
+
+/// Combines all pairs.
+pub(crate) fn made(
+    alloc: Global,
+    pairing: &Pairing<'_>,
+    operands: Operands<'_, '_>,
+) -> Result<Owned, AllocError>
+    requires can { CanPair pairing.now }
+    requires left { operands.left.descr.now ≡ ScalarDescr (left_of pairing.now) }
+    requires right { operands.right.descr.now ≡ ScalarDescr (right_of pairing.now) }
+    requires few { pairs_of operands * size (target_of pairing.now) ≤ max_bytes }
+    ensures { IfOk result
+        (IsMade (ScalarDescr (target_of pairing.now)) operands.entry.left.layout.now.shape
+        (all_made pairing.now operands.entry)) }
+{
+    if operands.left.layout.shape.items() < FEW || operands.as_row().is_some() {
+        return made_by_rows(alloc, pairing, operands);
+    }
+    made_of_many(alloc, pairing, operands)
 }
 
 /// Two layouts of one shape, which show their items once where both repeat them.

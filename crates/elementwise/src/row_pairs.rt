@@ -93,7 +93,24 @@ impl<'a, 'b> Operands<'a, 'b> {
         pass.push_row(block, pairs)
     }
 
-    /// Pushes what is made of each pair of items, in C order. The block is moved into each row and back.
+    /// Pushes what is made of each pair of items, in C order, row by row. The block is moved into each
+    /// row and back. Its frame is large, so it stays out of line.
+    #[inline(never)]
+    fn push_rows<P: Pass>(self, pass: &P, block: BlockBuilder) -> BlockBuilder
+        requires reads { P.Reads pass.now (item_size self.left.descr.now)
+            (item_size self.right.descr.now) }
+        requires room { pairs_of self * P.width pass.now ≤ block.1 }
+        ensures bytes { result.0 ≡ block.0 ++ made_of_all (P.makes pass.now) self.entry }
+        ensures left { pairs_of self.entry * P.width pass.now + result.1 ≡ block.1 }
+    {
+        let mut block = block;
+        for row in RunPairs::new(self.left.layout, self.right.layout) {
+            block = self.push_row(pass, block, row);
+        }
+        block
+    }
+
+    /// Pushes what is made of each pair of items, in C order.
     pub(crate) fn push_all<P: Pass>(self, pass: &P, block: BlockBuilder) -> BlockBuilder
         requires reads { P.Reads pass.now (item_size self.left.descr.now)
             (item_size self.right.descr.now) }
@@ -101,13 +118,9 @@ impl<'a, 'b> Operands<'a, 'b> {
         ensures bytes { result.0 ≡ block.0 ++ made_of_all (P.makes pass.now) self.entry }
         ensures left { pairs_of self.entry * P.width pass.now + result.1 ≡ block.1 }
     {
-        if let Some(row) = self.as_row() {
-            return self.push_row(pass, block, row);
+        match self.as_row() {
+            Some(row) => self.push_row(pass, block, row),
+            None => self.push_rows(pass, block),
         }
-        let mut block = block;
-        for row in RunPairs::new(self.left.layout, self.right.layout) {
-            block = self.push_row(pass, block, row);
-        }
-        block
     }
 }

@@ -1,12 +1,53 @@
-use Rattle.std.proofs.Common.{sym, ap, ◌∙◌}
+use Rattle.std.proofs.Common.{◌≡◌, ◌*◌, ◌≤◌, ℕ, true, List, [], ◌∷◌, map, refl, sym, ap, ◌∙◌, arith}
+use Rattle.std.proofs.Math.Nat.{mul-le-mul_left}
 use Rattle.elem_descr.specs.declared.descr.Descr.TheVariants.{Scalar as ScalarDescr}
-use Rattle.elementwise.specs.Words.{count}
-use Rattle.elementwise.specs.Results.{pairwise}
+use Rattle.elementwise.specs.Words.{Descr, Items, LeafValue, count, size, item_from, items, offsets, can_stretch}
+use Rattle.elementwise.specs.Casts.{cast_item}
+use Rattle.elementwise.specs.Results.{pairwise, value_in}
 use Rattle.elementwise.specs.inside.Chunks.{given}
-use Rattle.elementwise.specs.inside.Works.{target_of}
+use Rattle.elementwise.specs.inside.Held.{stretched}
+use Rattle.elementwise.specs.inside.Works.{left_of, right_of, target_of, gives}
 use Rattle.elementwise.proofs.ChunkLaws.{count-run, run-stretched}
-use Rattle.elementwise.proofs.MadeLaws.{made-as}
+use Rattle.elementwise.proofs.MadeLaws.{made-as, made-in}
+use Rattle.elementwise.proofs.PairLaws.{pairwise-map}
+use Rattle.elementwise.proofs.StretchedLaws.{stretches-itself}
+use Rattle.elementwise.proofs.TypedLaws.{stretched-cast}
 use Rattle.elementwise.proofs.apply.make_cast.Goals as goal
+
+-- ---- as they lie
+
+-- items that a cast leaves as they are, stretched to the shape that they have
+as_cast : (x : Items) (to : Descr) (shape : List ℕ) → x.layout.now.shape ≡ shape → can_stretch x.layout.now.shape shape ≡ true →
+    map (item_from to x.block.now) (offsets x.layout.now) ≡ map (cast_item x.descr.now to) (items x) →
+    map (item_from to x.block.now) (offsets x.layout.now) ≡ map (cast_item x.descr.now to) (stretched x shape)
+as_cast x to shape same can kept =
+    let l = x.layout.now in
+    ap (map (item_from to x.block.now)) (stretches-itself l shape same).places
+    ∙ stretched-cast (cast_item x.descr.now to) x.descr.now to x.block.now x.block.now l l shape refl can kept
+
+pub made-requires-clause-few : goal.made-requires-clause-few
+made-requires-clause-few c =
+    let n = count c.args.shape.now in
+    let to = size (target_of c.args.pairing.now) in
+    let same : count c.args.left.layout.now.shape * to ≡ n * to = ap (λ s. count s * to) (c.if-stays.ensures.shape refl) in
+    let most : n * to ≤ n * 8 = mul-le-mul_left n c.requires.small.2 in
+    omega (arith, same, most, c.items-items.ensures.value, c.items-items.ensures.limit)
+
+pub returns-then-stays-2 : goal.returns-then-stays-2
+returns-then-stays-2 c =
+    let p = c.args.pairing.now in
+    let x = c.args.left in
+    let y = c.args.right in
+    let shape = c.args.shape.now in
+    let make = λ (u v : List LeafValue). gives p (value_in u) (value_in v) ∷ [] in
+    let first = as_cast x (ScalarDescr c.left.result) shape (c.if-stays.ensures.shape refl) c.requires.stretches (c.if-stays.ensures.items refl) ∙ λ i. map (cast_item x.descr.now (ScalarDescr (c.left.ensures i))) (stretched x shape) in
+    let second = as_cast y (ScalarDescr c.right.result) shape (c.if-stays-2.ensures.shape refl) c.requires.also (c.if-stays-2.ensures.items refl) ∙ λ i. map (cast_item y.descr.now (ScalarDescr (c.right.ensures i))) (stretched y shape) in
+    made-in (ScalarDescr (target_of p)) x.layout.now.shape shape _ _ c.made.result (c.if-stays.ensures.shape refl)
+    ((λ i. pairwise make (first i) (second i))
+    ∙ pairwise-map make (cast_item x.descr.now (ScalarDescr (left_of p))) (cast_item y.descr.now (ScalarDescr (right_of p))) (stretched x shape) (stretched y shape))
+    c.made.ensures
+
+-- ---- chunk by chunk
 
 pub make_by_chunks-requires-clause-items : goal.make_by_chunks-requires-clause-items
 make_by_chunks-requires-clause-items c =

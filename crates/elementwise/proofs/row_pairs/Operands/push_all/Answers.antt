@@ -1,41 +1,7 @@
-use Rattle.std.proofs.Common.{◌≡◌, ◌+◌, ◌*◌, ◌≤◌, ◌++◌, All, length, sym, ap, subst, ◌∙◌, arith}
-use Rattle.std.specs.List.{concat}
-use Rattle.std.proofs.lemmas.List.Elements.{All-rest}
-use Rattle.elementwise.specs.Words.{item_size, EachWithin, max_bytes, count, offsets, length-offsets, length-run_offsets, run_pairs, run-within, runs-within, next_pair}
-use Rattle.elementwise.specs.Results.{pairwise}
-use Rattle.elementwise.specs.inside.PairPasses.{pair_from}
+use Rattle.std.proofs.Common.{◌≡◌, ◌+◌, ◌*◌, ◌≤◌, All, length, sym, ap, subst, ◌∙◌, arith}
+use Rattle.elementwise.specs.Words.{item_size, count, length-offsets, length-run_offsets, run-within}
 use Rattle.elementwise.specs.inside.Operands.{pairs_of}
-use Rattle.elementwise.proofs.PairLaws.{firsts, seconds}
-use Rattle.elementwise.proofs.AppendedLaws.{pushed-next, bytes-next}
 use Rattle.elementwise.proofs.row_pairs.Operands.push_all.Goals as goal
-
-pub loop-row-init : goal.loop-row-init
-loop-row-init g c =
-    let o = c.args.self in
-    let l = o.left.layout.now in
-    let m = o.right.layout.now in
-    let wide = g.P.Pass.width c.args.pass.now in
-    let width = item_size o.left.descr.now in
-    let width' = item_size o.right.descr.now in
-    let len = length o.left.block.now in
-    let len' = length o.right.block.now in
-    let ens = c.new-row-items.ensures in
-    let rows = c.into_iter-row-iterator.result in
-    let are = c.into_iter-row-iterator.ensures.into_iter_gives ∙ ens.pairs in
-    let make = pair_from (g.P.Pass.makes c.args.pass.now) width width' o.left.block.now o.right.block.now in
-    let xs : firsts rows ≡ offsets l = ap firsts are ∙ ens.first in
-    let ys : seconds rows ≡ offsets m = ap seconds are ∙ ens.second in
-    let many : length (firsts rows) * wide ≡ pairs_of o * wide = ap (λ os. length os * wide) xs ∙ ap (λ n. n * wide) (length-offsets l) in
-    let ends = subst (All (λ offset. offset + width ≤ len)) (sym ens.first) o.left.inside in
-    let ends' = subst (All (λ offset. offset + width' ≤ len')) (sym ens.second) o.right.inside in
-    record {
-      bytes = λ i. c.args.block.0 ++ concat (pairwise make (xs i) (ys i));
-      room = omega (arith, many, c.requires.room);
-      left = omega (arith, many);
-      even = subst (All (λ row. row.first.count ≡ row.second.count)) (sym are) ens.counts;
-      first = subst (All (λ row. EachWithin len row.first.offset row.first.step width row.first.count)) (sym are) (runs-within len width (λ row. row.first) (run_pairs l m) (ens.first_lie max_bytes 1 l.within_limit) ends);
-      second = subst (All (λ row. EachWithin len' row.second.offset row.second.step width' row.second.count)) (sym are) (runs-within len' width' (λ row. row.second) (run_pairs l m) (ens.second_lie max_bytes 1 m.within_limit) ends');
-    }
 
 pub push_row-requires-clause-room : goal.push_row-requires-clause-room
 push_row-requires-clause-room g c =
@@ -69,38 +35,3 @@ returns-in-Some-clause-left g c =
     let l = c.args.self.left.layout.now in
     let few : row.first.count ≡ pairs_of c.args.self = sym (length-run_offsets row.first) ∙ ap length c.in-Some.ensures.first ∙ length-offsets l in
     omega (arith, ap (λ n. n * g.P.Pass.width c.args.pass.now) few, c.push_row.ensures.left)
-
-pub push_row-block-requires-clause-room : goal.push_row-block-requires-clause-room
-push_row-block-requires-clause-room g c = omega (arith, bytes-next (g.P.Pass.width c.args.pass.now) _ _ c.in-Some-row.row c.in-Some-row.ensures.steps, c.loop-row.invariant.room)
-
-pub push_row-block-requires-clause-first : goal.push_row-block-requires-clause-first
-push_row-block-requires-clause-first g c =
-    let left = c.args.self.left in
-    next_pair (λ q. EachWithin (length left.block.now) q.first.offset q.first.step (item_size left.descr.now) q.first.count) _ _ c.in-Some-row.row c.in-Some-row.ensures.steps c.loop-row.invariant.first
-
-pub push_row-block-requires-clause-second : goal.push_row-block-requires-clause-second
-push_row-block-requires-clause-second g c =
-    let right = c.args.self.right in
-    next_pair (λ q. EachWithin (length right.block.now) q.second.offset q.second.step (item_size right.descr.now) q.second.count) _ _ c.in-Some-row.row c.in-Some-row.ensures.steps c.loop-row.invariant.second
-
-pub loop-row-preserved : goal.loop-row-preserved
-loop-row-preserved g c =
-    let o = c.args.self in
-    let wide = g.P.Pass.width c.args.pass.now in
-    let left = o.left.block.now in
-    let right = o.right.block.now in
-    let width = item_size o.left.descr.now in
-    let width' = item_size o.right.descr.now in
-    let inv = c.loop-row.invariant in
-    let row = c.in-Some-row.row in
-    let steps = c.in-Some-row.ensures.steps in
-    let more = bytes-next wide _ _ row steps in
-    let even = next_pair (λ q. q.first.count ≡ q.second.count) _ _ row steps inv.even in
-    record {
-      bytes = pushed-next (pair_from (g.P.Pass.makes c.args.pass.now) width width' left right) _ _ row c.loop-row.block.0 c.push_row-block.result.0 _ steps even c.push_row-block.ensures.bytes inv.bytes;
-      room = omega (arith, more, inv.room, c.push_row-block.ensures.left);
-      left = omega (arith, more, inv.left, c.push_row-block.ensures.left);
-      even = All-rest (λ q. q.first.count ≡ q.second.count) _ _ _ steps inv.even;
-      first = All-rest (λ q. EachWithin (length left) q.first.offset q.first.step width q.first.count) _ _ _ steps inv.first;
-      second = All-rest (λ q. EachWithin (length right) q.second.offset q.second.step width' q.second.count) _ _ _ steps inv.second;
-    }

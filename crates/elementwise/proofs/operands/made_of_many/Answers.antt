@@ -8,33 +8,33 @@ use Rattle.elementwise.specs.inside.Works.{left_of, right_of, target_of, gives, 
 use Rattle.elementwise.proofs.PairedLaws.{each-wide, pairs_made}
 use Rattle.elementwise.proofs.MadeLaws.{made-in}
 use Rattle.elementwise.proofs.TurnedLaws.{AreWide, both_turned, turned-back, turned-long}
-use Rattle.elementwise.proofs.operands.made.Goals as goal
+use Rattle.elementwise.proofs.operands.made_of_many.Goals as goal
 
 -- ---- row by row
 
 pub invariant_of-near : goal.invariant_of-near
 invariant_of-near c =
-    record { even = c.items-in_default.ensures.shape ∙ c.near-left.ensures.shape ∙ c.args.operands.even ∙ sym (c.items-in_default-2.ensures.shape ∙ c.near-right.ensures.shape) }
+    record { even = c.items.ensures.shape ∙ c.near-left.ensures.shape ∙ c.args.operands.even ∙ sym (c.items-in_default.ensures.shape ∙ c.near-right.ensures.shape) }
 
-pub made_by_rows-requires-in_default-clause-left : goal.made_by_rows-requires-in_default-clause-left
-made_by_rows-requires-in_default-clause-left c = c.items-in_default.ensures.descr ∙ c.near-left.ensures.descr ∙ c.requires.left
+pub made_by_rows-requires-clause-left : goal.made_by_rows-requires-clause-left
+made_by_rows-requires-clause-left c = c.items.ensures.descr ∙ c.near-left.ensures.descr ∙ c.requires.left
 
-pub made_by_rows-requires-in_default-clause-right : goal.made_by_rows-requires-in_default-clause-right
-made_by_rows-requires-in_default-clause-right c = c.items-in_default-2.ensures.descr ∙ c.near-right.ensures.descr ∙ c.requires.right
+pub made_by_rows-requires-clause-right : goal.made_by_rows-requires-clause-right
+made_by_rows-requires-clause-right c = c.items-in_default.ensures.descr ∙ c.near-right.ensures.descr ∙ c.requires.right
 
-pub made_by_rows-requires-in_default-clause-few : goal.made_by_rows-requires-in_default-clause-few
-made_by_rows-requires-in_default-clause-few c =
-    omega (arith, ap (λ shape. count shape * size (target_of c.args.pairing.now)) (c.items-in_default.ensures.shape ∙ c.near-left.ensures.shape), c.requires.few)
+pub made_by_rows-requires-clause-few : goal.made_by_rows-requires-clause-few
+made_by_rows-requires-clause-few c =
+    omega (arith, ap (λ shape. count shape * size (target_of c.args.pairing.now)) (c.items.ensures.shape ∙ c.near-left.ensures.shape), c.requires.few)
 
 pub returns-in_default : goal.returns-in_default
 returns-in_default c =
     let p = c.args.pairing.now in
     let make = λ (u v : List LeafValue). gives p (value_in u) (value_in v) ∷ [] in
-    let first = c.items-in_default.ensures.items ∙ c.near-left.ensures.items in
-    let second = c.items-in_default-2.ensures.items ∙ c.near-right.ensures.items in
-    made-in (ScalarDescr (target_of p)) c.items-in_default.result.layout.now.shape c.args.operands.left.layout.now.shape _ _ c.made_by_rows-in_default.result (c.items-in_default.ensures.shape ∙ c.near-left.ensures.shape)
+    let first = c.items.ensures.items ∙ c.near-left.ensures.items in
+    let second = c.items-in_default.ensures.items ∙ c.near-right.ensures.items in
+    made-in (ScalarDescr (target_of p)) c.items.result.layout.now.shape c.args.operands.left.layout.now.shape _ _ c.made_by_rows.result (c.items.ensures.shape ∙ c.near-left.ensures.shape)
     (λ i. pairwise make (first i) (second i))
-    c.made_by_rows-in_default.ensures
+    c.made_by_rows.ensures
 
 -- ---- column by column
 

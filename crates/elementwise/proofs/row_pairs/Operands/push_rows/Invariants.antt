@@ -5,7 +5,7 @@ use Rattle.elementwise.specs.Results.{pairwise}
 use Rattle.elementwise.specs.inside.PairPasses.{pair_from}
 use Rattle.elementwise.specs.inside.Operands.{pairs_of, made_of_all}
 use Rattle.elementwise.proofs.PairLaws.{firsts, seconds}
-use Rattle.elementwise.proofs.row_pairs.Operands.push_all.Given as goal
+use Rattle.elementwise.proofs.row_pairs.Operands.push_rows.Given as goal
 
 -- the rows that are left lead to what all of them do
 abbrev pub invariant-loop-row : goal.invariant-loop-row
