@@ -14,13 +14,16 @@ use crate::change::OldItems;
 use crate::rewrite::{copy_to, fill, move_to, old_items};
 use crate::slot::Slot;
 use crate::table::Home;
-use arrays::{Owned, gather};
+use arrays::{Owned, gather, goes_by_columns};
 use fancy_index::Plan;
-use overlap_copy::exchange;
+use overlap_copy::{exchange, overwrite, overwrite_each};
 use raw_block::{BlockBuilder, RawBlock};
 use shape_strides::{Layout, LayoutPair, Shape, in_memory_order, lies_in_c_order};
 use std::alloc::{AllocError, Global};
 use std::mem::swap;
+
+/// Items of fewer bytes are still near when they are gone over again.
+const MANY_BYTES: usize = 32_768;
 
 /// Where in a name's array items are written.
 #[derive(Drop)]
@@ -260,8 +263,17 @@ fn near(alloc: Global, target: &Target, width: usize) -> Option<Target>
     }
 }
 
-/// Copies the items to the target's places, and hands out copies of the old ones.
-fn copy_over(
+/// Whether the items of a view are written part by part as the old ones are taken, so that they are
+/// still near: many of them, in long rows, and not one after another. A hint: either answer is right.
+fn goes_by_parts(layout: &Layout, width: usize) -> bool {
+    layout.shape.items().saturating_mul(width) >= MANY_BYTES
+        && !layout.is_c(width)
+        && !goes_by_columns(layout)
+}
+
+/// Copies the items to the target's places once copies of all the old ones are made, and hands out
+/// these.
+fn copy_after(
     alloc: Global,
     block: &mut RawBlock,
     beside: Beside<'_>,
@@ -277,6 +289,40 @@ fn copy_over(
     let old = old_items(alloc, block, beside.width, target)?;
     copy_items(alloc, block, beside, target, source)?;
     Ok(old)
+}
+
+/// Copies the items to the target's places, and hands out copies of the old ones: in one pass if they
+/// are many, and one item over and over or those of another buffer.
+fn copy_over(
+    alloc: Global,
+    block: &mut RawBlock,
+    beside: Beside<'_>,
+    target: &Target,
+    source: &Source,
+) -> Result<OldItems, AllocError>
+    requires { CanPut beside.others.now beside.width target.now source.now block.old }
+    ensures written { IfOk result (λ _. block.new
+        ≡ with_source beside.entry.others.now beside.entry.width target.now source.now block.old) }
+    ensures old { IfOk result (AreOld beside.entry.width block.old (target_offsets target.now)) }
+    ensures kept { IfErr result (λ _. block.new ≡ block.old) }
+{
+    let width = beside.width;
+    match (target, source) {
+        (Target::View(to), Source::One(item)) if goes_by_parts(to, width) => {
+            let block = overwrite_each(alloc, block, to, item.as_slice())?;
+            Ok(OldItems { block, width })
+        }
+        (Target::View(to), Source::Buffer(number, from)) if goes_by_parts(to, width) => {
+            match &beside.others[*number as usize] {
+                Some(slot) => {
+                    let block = overwrite(alloc, block, to, &slot.block, from, width)?;
+                    Ok(OldItems { block, width })
+                }
+                None => copy_after(alloc, block, beside, target, source),
+            }
+        }
+        _ => copy_after(alloc, block, beside, target, source),
+    }
 }
 
 /// Exchanges the items of a view with those of a block of its own where these lie one after another,

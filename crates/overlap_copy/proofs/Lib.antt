@@ -11,6 +11,7 @@ pub mod MarkLaws
 pub mod MoveLaws
 pub mod MovingLaws
 pub mod OverlapLaws
+pub mod OverwriteLaws
 pub mod PairCopies
 pub mod RunCopyLaws
 pub mod SearchLaws

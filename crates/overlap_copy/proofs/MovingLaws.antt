@@ -18,7 +18,7 @@ pub Each-back : (P : ℕ → Type 0) (xs ys : List ℕ) → Each P (xs ++ ys) �
 Each-back P [] ys each = each
 Each-back P (x ∷ xs) ys each = Each-back P xs ys each.1
 
-right : (xs ys : List ℕ) (k d : ℕ) → k < length ys → get_or (xs ++ ys) (length xs + k) d ≡ get_or ys k d
+pub right : (xs ys : List ℕ) (k d : ℕ) → k < length ys → get_or (xs ++ ys) (length xs + k) d ≡ get_or ys k d
 right xs ys k d below =
     let after : length xs + k - length xs ≡ k = omega arith in
     get_or-append_right xs ys (length xs) (length xs + k) d refl (omega arith) ∙ ap (λ m. get_or ys m d) after

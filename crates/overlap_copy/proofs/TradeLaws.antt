@@ -52,7 +52,7 @@ traded-pair left left' pair width now now' whole walked even is so_far =
 -- ---- where the places lie apart
 
 -- items that lie apart from one that is put are as they were
-kept_items : (width at : ℕ) (item : List ℕ) (places block : List ℕ) → length item ≡ width → at + width ≤ length block → All (λ o. o + width ≤ length block) places → ((k : ℕ) → k < length places → width ≤ distance at (get_or places k 0)) →
+pub kept_items : (width at : ℕ) (item : List ℕ) (places block : List ℕ) → length item ≡ width → at + width ≤ length block → All (λ o. o + width ≤ length block) places → ((k : ℕ) → k < length places → width ≤ distance at (get_or places k 0)) →
     items_at places width (put at item block) ≡ items_at places width block
 kept_items width at item [] block long inside within apart = refl
 kept_items width at item (o ∷ places) block long inside within apart =

@@ -1,17 +1,18 @@
 -- The words of the crates below, for this crate's clauses, definitions and proofs.
 pub use Rattle.elem_descr.specs.ListLaws.{same_test}
+pub use Rattle.elem_descr.specs.StepLaws.{numbers-split}
 pub use Rattle.elem_descr.specs.Steps.{numbers_from}
 pub use Rattle.raw_block.specs.Bytes.{EachWithin, copied_within, exchanged, item_at, place}
-pub use Rattle.raw_block.specs.Bytes.{position, put, swapped, traded}
-pub use Rattle.raw_block.specs.BytesLaws.{byte_of, fewer, get_or-put_after, get_or-put_before}
+pub use Rattle.raw_block.specs.Bytes.{joined, position, put, swapped, traded}
+pub use Rattle.raw_block.specs.BytesLaws.{begins_within, byte_of, fewer, get_or-put_after, get_or-put_before}
 pub use Rattle.raw_block.specs.BytesLaws.{item_at-put_apart, item_at-put_same, length-item_at}
-pub use Rattle.raw_block.specs.BytesLaws.{length-put, not_negative, place_within}
+pub use Rattle.raw_block.specs.BytesLaws.{length-put, not_negative, place_within, position-add}
 pub use Rattle.raw_block.specs.ExchangeLaws.{exchanged-items, exchanged-outside, length-exchanged}
 pub use Rattle.shape_strides.specs.AddressOrders.{IsFalling, IsRising}
-pub use Rattle.shape_strides.specs.Addresses.{LieWithin, address_at, natural}
+pub use Rattle.shape_strides.specs.Addresses.{LieWithin, address_at, dot, natural}
 pub use Rattle.shape_strides.specs.CountLaws.{factors_pos, times_of}
-pub use Rattle.shape_strides.specs.IndexLaws.{index_at}
-pub use Rattle.shape_strides.specs.Indexes.{IsIndex, count, rank}
+pub use Rattle.shape_strides.specs.IndexLaws.{index_at, length-indexes}
+pub use Rattle.shape_strides.specs.Indexes.{IsIndex, count, indexes, rank}
 pub use Rattle.shape_strides.specs.ItemPairs.{item_pairs}
 pub use Rattle.shape_strides.specs.LayoutLaws.{entry-first, length-offsets, offsets_within}
 pub use Rattle.shape_strides.specs.LayoutLaws.{pos-offset}
@@ -28,6 +29,8 @@ pub use Rattle.shape_strides.specs.declared.run_pairs.RunPair.{RunPair}
 pub use Rattle.shape_strides.specs.declared.runs.Run.{Run}
 pub use Rattle.shape_strides.specs.declared.stacked.Axis.{Axis}
 pub use Rattle.arrays.specs.Assignments.{assigned, items_at, with_items}
+pub use Rattle.arrays.specs.Joined.{joined_at}
+pub use Rattle.arrays.specs.JoinedLaws.{joined-items, joined-offsets, length-joined_at}
 pub use Rattle.arrays.specs.PairLaws.{All-firsts, All-seconds, even, firsts-reordered}
 pub use Rattle.arrays.specs.PairLaws.{flipped-reordered, pair_even, seconds-reordered}
 pub use Rattle.arrays.specs.RunLaws.{All-back, All-front, BeginsWithin, assigned-append, lie-within}

@@ -1,0 +1,202 @@
+//! Writes items over others, which are kept, in one pass.
+ghost use Rattle.std.specs.Prelude.{◌≡◌, ◌+◌, ◌*◌, ◌++◌, ◌<◌, ◌≤◌, length, replicate, All, IfOk, IfErr};
+ghost use Rattle.std.specs.List.{flat_map};
+ghost use Rattle.overlap_copy.specs.Words.{BeginsWithin, EachWithin, IsNested, assigned, count, items_at, joined_at, max_items, multiples, offsets, run_offsets, with_items};
+
+use arrays::copy_run;
+use raw_block::{BlockBuilder, RawBlock};
+use shape_strides::{Layout, Run, RunPair, RunPairs, Shape, Strides};
+use std::alloc::{AllocError, Global};
+
+/// How many items are kept and written at a time: few enough for their bytes to be still near when
+/// they are written.
+const PART: usize = 1024;
+
+/// The first `n` items of a run, and those after them.
+fn split(run: Run, n: usize) -> (Run, Run)
+    requires begins { BeginsWithin run }
+    requires few { n ≤ max_items }
+    requires more { n < run.count }
+    ensures count { result.0.count ≡ n }
+    ensures rest { n + result.1.count ≡ run.count }
+    ensures offsets { run_offsets result.0 ++ run_offsets result.1 ≡ run_offsets run }
+    ensures begins { BeginsWithin result.0 }
+    ensures rest_begins { BeginsWithin result.1 }
+{
+    let front = Run {
+        offset: run.offset,
+        count: n,
+        step: run.step,
+    };
+    let rest = Run {
+        offset: run.offset_after(n),
+        count: run.count - n,
+        step: run.step,
+    };
+    (front, rest)
+}
+
+/// Appends the items of the first run to those that are kept, and then copies those of the second one,
+/// in `other`, in their place.
+fn overwrite_part(
+    block: &mut RawBlock,
+    pair: RunPair,
+    other: &RawBlock,
+    width: usize,
+    kept: &mut BlockBuilder,
+)
+    requires count { pair.first.count ≡ pair.second.count }
+    requires to { EachWithin
+        (length block.old) pair.first.offset pair.first.step width pair.first.count }
+    requires from { EachWithin
+        (length other.now) pair.second.offset pair.second.step width pair.second.count }
+    requires room { pair.first.count * width ≤ kept.old.1 }
+    ensures written { block.new ≡ assigned
+        (run_offsets pair.first) (run_offsets pair.second) width other.now block.old }
+    ensures len { length block.new ≡ length block.old }
+    ensures old { kept.new.0 ≡ kept.old.0 ++ joined_at (run_offsets pair.first) width block.old }
+    ensures left { pair.first.count * width + kept.new.1 ≡ kept.old.1 }
+{
+    let to = pair.first;
+    kept.push_strided(block, to.offset, to.step, width, to.count);
+    copy_run(block, to, other, pair.second, width);
+}
+
+/// Keeps the items of the first run and writes those of the second one over them, part by part.
+fn overwrite_run(
+    block: &mut RawBlock,
+    pair: RunPair,
+    other: &RawBlock,
+    width: usize,
+    kept: &mut BlockBuilder,
+)
+    requires count { pair.first.count ≡ pair.second.count }
+    requires begins { BeginsWithin pair.first }
+    requires other_begins { BeginsWithin pair.second }
+    requires to { All (λ offset. offset + width ≤ length block.old) (run_offsets pair.first) }
+    requires from { All (λ offset. offset + width ≤ length other.now) (run_offsets pair.second) }
+    requires nested { IsNested (run_offsets pair.first) width }
+    requires room { pair.first.count * width ≤ kept.old.1 }
+    ensures written { block.new ≡ assigned
+        (run_offsets pair.first) (run_offsets pair.second) width other.now block.old }
+    ensures len { length block.new ≡ length block.old }
+    ensures old { kept.new.0 ≡ kept.old.0 ++ joined_at (run_offsets pair.first) width block.old }
+    ensures left { pair.first.count * width + kept.new.1 ≡ kept.old.1 }
+{
+    let mut left = pair;
+    while left.first.count > PART {
+        let (to, to_left) = split(left.first, PART);
+        let (from, from_left) = split(left.second, PART);
+        let part = RunPair {
+            first: to,
+            second: from,
+        };
+        overwrite_part(block, part, other, width, kept);
+        left = RunPair {
+            first: to_left,
+            second: from_left,
+        };
+    }
+    overwrite_part(block, left, other, width, kept);
+}
+
+/// Keeps the items of the first run of each pair, one after another, and writes those of its second
+/// run, of `other`, over them.
+fn overwrite_pairs(
+    block: &mut RawBlock,
+    pairs: RunPairs<'_>,
+    other: &RawBlock,
+    width: usize,
+    kept: &mut BlockBuilder,
+)
+    requires counts { All (λ pair. pair.first.count ≡ pair.second.count) pairs }
+    requires begin { All (λ pair. BeginsWithin pair.first) pairs }
+    requires other_begin { All (λ pair. BeginsWithin pair.second) pairs }
+    requires to { All (λ offset. offset + width ≤ length block.old)
+        (flat_map (λ pair. run_offsets pair.first) pairs) }
+    requires from { All (λ offset. offset + width ≤ length other.now)
+        (flat_map (λ pair. run_offsets pair.second) pairs) }
+    requires nested { IsNested (flat_map (λ pair. run_offsets pair.first) pairs) width }
+    requires room { length (flat_map (λ pair. run_offsets pair.first) pairs) * width ≤ kept.old.1 }
+    ensures written { block.new ≡ assigned (flat_map (λ pair. run_offsets pair.first) pairs.entry)
+        (flat_map (λ pair. run_offsets pair.second) pairs.entry) width other.now block.old }
+    ensures len { length block.new ≡ length block.old }
+    ensures old { kept.new.0 ≡ kept.old.0
+        ++ joined_at (flat_map (λ pair. run_offsets pair.first) pairs.entry) width block.old }
+    ensures left { length (flat_map (λ pair. run_offsets pair.first) pairs.entry) * width
+        + kept.new.1 ≡ kept.old.1 }
+{
+    for pair in pairs {
+        overwrite_run(block, pair, other, width, kept);
+    }
+}
+
+/// Writes the items of `width` bytes of the layout `src` in `other` over those of the layout `dst`, as
+/// many, each in C order, and hands out the old ones, one after another. It is one pass, part by part.
+/// All memory is asked for before the first change.
+pub fn overwrite(
+    alloc: Global,
+    block: &mut RawBlock,
+    dst: &Layout,
+    other: &RawBlock,
+    src: &Layout,
+    width: usize,
+) -> Result<RawBlock, AllocError>
+    requires dst { All (λ offset. offset + width ≤ length block.old) (offsets dst.now) }
+    requires src { All (λ offset. offset + width ≤ length other.now) (offsets src.now) }
+    requires count { count dst.now.shape ≡ count src.now.shape }
+    requires nested { IsNested (offsets dst.now) width }
+    ensures written { IfOk result (λ _. block.new
+        ≡ assigned (offsets dst.now) (offsets src.now) width other.now block.old) }
+    ensures len { IfOk result (λ items. length items ≡ length (offsets dst.now) * width) }
+    ensures old { IfOk result
+        (λ items. items_at (multiples width (length (offsets dst.now))) width items
+        ≡ items_at (offsets dst.now) width block.old) }
+    ensures kept { IfErr result (λ _. block.new ≡ block.old) }
+{
+    // More bytes than there can be are refused as any others.
+    let bytes = dst.shape.items().saturating_mul(width);
+    let mut kept = BlockBuilder::try_new(alloc, bytes)?;
+    // For the prover alone: the bytes that are asked for are within the limit of a block.
+    let _filled = kept.filled();
+    overwrite_pairs(block, RunPairs::new(dst, src), other, width, &mut kept);
+    Ok(kept.finish())
+}
+
+/// A layout of the same shape, each item of which begins at 0.
+fn all_at_start(alloc: Global, layout: &Layout) -> Result<Layout, AllocError>
+    ensures shape { IfOk result (λ l. l.shape ≡ layout.now.shape) }
+    ensures offsets { IfOk result (λ l. offsets l
+        ≡ replicate (length (offsets layout.now)) 0) }
+{
+    let shape = Shape::try_copy(alloc, &layout.shape)?;
+    let strides = Strides::from_slice(alloc, layout.strides.as_slice())?;
+    match Layout::new(shape, strides.zeroed(), 0) {
+        Some(layout) => Ok(layout),
+        None => unreachable!(),
+    }
+}
+
+/// Writes an item over each of those of the layout `dst`, and hands out the old ones, one after
+/// another: one pass, as `overwrite` is.
+pub fn overwrite_each(
+    alloc: Global,
+    block: &mut RawBlock,
+    dst: &Layout,
+    item: &[u8],
+) -> Result<RawBlock, AllocError>
+    requires dst { All (λ offset. offset + length item.now ≤ length block.old) (offsets dst.now) }
+    requires nested { IsNested (offsets dst.now) (length item.now) }
+    ensures written { IfOk result (λ _. block.new ≡ with_items
+        (offsets dst.now) (replicate (length (offsets dst.now)) item.now) block.old) }
+    ensures len { IfOk result
+        (λ items. length items ≡ length (offsets dst.now) * length item.now) }
+    ensures old { IfOk result (λ items.
+        items_at (multiples (length item.now) (length (offsets dst.now))) (length item.now) items
+        ≡ items_at (offsets dst.now) (length item.now) block.old) }
+    ensures kept { IfErr result (λ _. block.new ≡ block.old) }
+{
+    let other = RawBlock::try_copied(alloc, item)?;
+    let src = all_at_start(alloc, dst)?;
+    overwrite(alloc, block, dst, &other, &src, item.len())
+}
