@@ -1,5 +1,5 @@
 //! `X = zeros ..`, `full`, `arange`, `array`: bind a name to a new array.
-ghost use Rattle.std.specs.Prelude.{◌≡◌, IfOk, vec_len, ◌≤◌, ◌-◌, ◌*◌, ◌^◌, length, map, min, replicate, true, vec_capacity};
+ghost use Rattle.std.specs.Prelude.{◌≡◌, IfOk, ◌≤◌, ◌-◌, ◌*◌, ◌^◌, length, map, min, replicate, true, vec_capacity};
 ghost use Rattle.bench_engine.specs.Words.{Gives, Answers, item_size, decode_item, item_value, item_values, blocks, IsNumber, size, max_bytes, max_items, count, shape_of, range_count, range_items, has_room_for};
 ghost use Rattle.elem_descr.specs.declared.descr.Descr.TheVariants.{Scalar as ScalarDescr};
 ghost use Rattle.bench_engine.specs.Contents.{array_type, zeros_contents, full_contents, array_contents, arange_contents, contents_of, integer_scalar, range_scalar};
@@ -15,16 +15,20 @@ use name_store::{Bench, Bound};
 use raw_block::{BlockBuilder, RawBlock};
 use script_lang::{Lengths, Literal, Literals, NewItems, Text};
 use shape_strides::{MAX_BYTES, Shape};
-use smallvec::SmallVec;
+use smallvec::{SmallVec, smallvec};
 use std::alloc::{AllocError, Global};
 
 /// The bytes of the item that a literal is.
-pub fn item_of(alloc: Global, descr: &Descr, literal: &Literal) -> Result<Vec<u8>, Refusal>
+pub fn item_of(
+    alloc: Global,
+    descr: &Descr,
+    literal: &Literal,
+) -> Result<SmallVec<u8, 16>, Refusal>
     ensures value { Gives (λ item. decode_item descr.now item.items) result
         (item_value descr.now literal.now) }
-    ensures len { IfOk result (λ item. vec_len item ≡ item_size descr.now) }
+    ensures len { IfOk result (λ item. length item.items ≡ item_size descr.now) }
 {
-    let mut item = vec![in alloc; 0u8; descr.size()]?;
+    let mut item = smallvec![in alloc; 0u8; descr.size()]?;
     write_item(descr, literal, item.as_mut_slice())?;
     Ok(item)
 }

@@ -19,6 +19,7 @@ use fancy_index::Plan;
 use overlap_copy::{exchange, overwrite, overwrite_each};
 use raw_block::{BlockBuilder, RawBlock};
 use shape_strides::{Layout, LayoutPair, Shape, in_memory_order, lies_in_c_order};
+use smallvec::SmallVec;
 use std::alloc::{AllocError, Global};
 use std::mem::swap;
 
@@ -61,7 +62,7 @@ impl Target {
 #[derive(Drop)]
 pub enum Source {
     /// The bytes of one item, for every place.
-    One(Vec<u8>),
+    One(SmallVec<u8, 16>),
     /// The items of a block of its own, one for each place.
     Block(Owned),
     /// Items of the buffer with this number, one for each place: those where a layout says.

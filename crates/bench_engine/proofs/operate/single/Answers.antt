@@ -6,7 +6,7 @@ use Rattle.bench_engine.proofs.LegalLaws.{no-refusal}
 use Rattle.bench_engine.proofs.operate.single.Goals as goal
 
 pub filled-requires : goal.filled-requires
-filled-requires c = record { bytes = omega (arith, c.as_slice.ensures.len, c.in_ok-item.ensures.len, c.size-size.ensures.value, c.size-size.ensures.within) }
+filled-requires c = record { bytes = omega (arith, ap length c.as_slice.ensures, c.in_ok-item.ensures.len, c.size-size.ensures.value, c.size-size.ensures.within) }
 
 pub returns-in_err-shape-clause-item : goal.returns-in_err-shape-clause-item
 returns-in_err-shape-clause-item c =
@@ -19,11 +19,11 @@ returns-in_err-shape-clause-item c =
 pub over-requires-clause-whole : goal.over-requires-clause-whole
 over-requires-clause-whole c =
     let size = item_size (ScalarDescr c.args.scalar.now) in
-    let same : length c.as_slice.result.now ≡ size = omega (arith, c.as_slice.ensures.len, c.in_ok-item.ensures.len) in
+    let same : length c.as_slice.result.now ≡ size = omega (arith, ap length c.as_slice.ensures, c.in_ok-item.ensures.len) in
     c.in_ok-block.ensures.whole ∙ (λ i. count (shape_of-same [] c.in_ok-shape.shape c.in_ok-shape.ensures i) * same i)
 
 pub over-requires-clause-small : goal.over-requires-clause-small
-over-requires-clause-small c = omega (arith, c.in_ok-block.ensures.whole, c.as_slice.ensures.len, c.in_ok-item.ensures.len, c.size-size.ensures.value, c.size-size.ensures.within)
+over-requires-clause-small c = omega (arith, c.in_ok-block.ensures.whole, ap length c.as_slice.ensures, c.in_ok-item.ensures.len, c.size-size.ensures.value, c.size-size.ensures.within)
 
 pub returns-clause-shape : goal.returns-clause-shape
 returns-clause-shape c = c.in_ok-owned.ensures.shape ∙ sym (shape_of-same [] c.in_ok-shape.shape c.in_ok-shape.ensures)

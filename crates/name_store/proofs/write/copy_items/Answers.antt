@@ -45,7 +45,7 @@ pub returns-in-One-clause-written : goal.returns-in-One-clause-written
 returns-in-One-clause-written c =
     let os = target_offsets c.args.target.now in
     c.fill.ensures.bytes
-    ∙ (λ i. put_each os (c.as_slice.ensures.value i) c.args.block.now)
+    ∙ (λ i. put_each os (c.as_slice.ensures i) c.args.block.now)
     ∙ put_each-items os c.in-One.item.items c.args.block.now
     ∙ ap (λ (s : Source). with_source c.args.beside.others.now c.args.beside.width c.args.target.now s c.args.block.now) (sym c.in-One.is)
 
