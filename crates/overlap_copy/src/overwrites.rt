@@ -37,7 +37,9 @@ fn split(run: Run, n: usize) -> (Run, Run)
 }
 
 /// Appends the items of the first run to those that are kept, and then copies those of the second one,
-/// in `other`, in their place.
+/// in `other`, in their place. It stays out of line, where its loop is known to read one block and to
+/// write another.
+#[inline(never)]
 fn overwrite_part(
     block: &mut RawBlock,
     pair: RunPair,
