@@ -19,11 +19,7 @@ use smallvec::{SmallVec, smallvec};
 use std::alloc::{AllocError, Global};
 
 /// The bytes of the item that a literal is.
-pub fn item_of(
-    alloc: Global,
-    descr: &Descr,
-    literal: &Literal,
-) -> Result<SmallVec<u8, 16>, Refusal>
+pub fn item_of(alloc: Global, descr: &Descr, literal: &Literal) -> Result<SmallVec<u8, 16>, Refusal>
     ensures value { Gives (λ item. decode_item descr.now item.items) result
         (item_value descr.now literal.now) }
     ensures len { IfOk result (λ item. length item.items ≡ item_size descr.now) }
