@@ -14,6 +14,7 @@ use Rattle.overlap_copy.specs.Words.{Layout, IsIndex, address, offsets, axes, in
 use Rattle.shape_strides.specs.Addresses.{dot}
 use Rattle.overlap_copy.specs.Overlaps.{have_common_byte}
 use Rattle.overlap_copy.specs.Apart.{step_of, steps, IsGreatestDivisor, LieBetween}
+use Rattle.overlap_copy.proofs.MovingLaws.{Each-append, Each-front, Each-back}
 use Rattle.overlap_copy.proofs.OverlapLaws.{common_from_test}
 
 -- ---- divisors of several numbers
@@ -26,18 +27,6 @@ each_of g numbers all = recursion_from_All (λ n. g ∣ n) numbers all
 
 all_of : (g : ℕ) (numbers : List ℕ) → DividesEach g numbers → All (λ n. g ∣ n) numbers
 all_of g numbers each = All-from_recursion (λ n. g ∣ n) numbers each
-
-each_append : (g : ℕ) (xs ys : List ℕ) → DividesEach g xs → DividesEach g ys → DividesEach g (xs ++ ys)
-each_append g [] ys first later = later
-each_append g (x ∷ xs) ys first later = (first.0, each_append g xs ys first.1 later)
-
-each_front : (g : ℕ) (xs ys : List ℕ) → DividesEach g (xs ++ ys) → DividesEach g xs
-each_front g [] ys each = tt
-each_front g (x ∷ xs) ys each = (each.0, each_front g xs ys each.1)
-
-each_back : (g : ℕ) (xs ys : List ℕ) → DividesEach g (xs ++ ys) → DividesEach g ys
-each_back g [] ys each = each
-each_back g (x ∷ xs) ys each = each_back g xs ys each.1
 
 -- of one number
 pub divisor-one : (n : ℕ) → IsGreatestDivisor n (n ∷ [])
@@ -58,10 +47,10 @@ divisor-both g d xs ys first second =
     let those = each_of d (0 ∷ xs) first.divides in
     let these = each_of g (d ∷ ys) second.divides in
     record {
-      divides = all_of g (xs ++ ys) (each_append g xs ys (through xs those.1 these.0) these.1);
+      divides = all_of g (xs ++ ys) (Each-append (λ n. g ∣ n) xs ys (through xs those.1 these.0) these.1);
       greatest = λ e all.
           let each = each_of e (xs ++ ys) all in
-          second.greatest e (all_of e (d ∷ ys) (first.greatest e (all_of e (0 ∷ xs) (dvd-zero e, each_front e xs ys each)), each_back e xs ys each));
+          second.greatest e (all_of e (d ∷ ys) (first.greatest e (all_of e (0 ∷ xs) (dvd-zero e, Each-front (λ n. e ∣ n) xs ys each)), Each-back (λ n. e ∣ n) xs ys each));
     }
   where
     through : (xs : List ℕ) → DividesEach d xs → g ∣ d → DividesEach g xs
@@ -155,8 +144,8 @@ between-common l item m other b =
     let each = each_of b.g (steps l ++ steps m) b.divisor.divides in
     false_from_ne_true (have_common_byte (offsets l) item (offsets m) other) (λ holds.
     let c = common_from_test (offsets l) item (offsets m) other holds in
-    let first = offset_steps l b.g c.p (each_front b.g (steps l) (steps m) each) c.at_p in
-    let second = offset_steps m b.g c.q (each_back b.g (steps l) (steps m) each) c.at_q in
+    let first = offset_steps l b.g c.p (Each-front (λ n. b.g ∣ n) (steps l) (steps m) each) c.at_p in
+    let second = offset_steps m b.g c.q (Each-back (λ n. b.g ∣ n) (steps l) (steps m) each) c.at_q in
     let left : b.g * ((l.offset + b.r) / b.g) + m.offset % b.g ≡ l.offset + b.r = ap (λ rest. b.g * ((l.offset + b.r) / b.g) + rest) (sym b.difference) ∙ div-add-mod (l.offset + b.r) b.g in
     between_steps b.g l.offset m.offset c.p c.q b.r item other first.up first.down second.up second.down ((l.offset + b.r) / b.g) (m.offset / b.g) (m.offset % b.g) first.is second.is left (div-add-mod m.offset b.g) b.other_ends b.item_ends c.below c.above)
 

@@ -41,18 +41,24 @@ leads_from a axes others same index in' =
     let found = same.to at at (record { index = index; inside = in'; from = omega arith; to = omega arith }) in
     (found.index, found.inside, omega (arith, found.from, found.to))
 
-pub leads_more : (a : Axis) (axes others : List Axis) → Leads axes others → Leads (a ∷ axes) (a ∷ others)
-leads_more a axes others leads [] in' = absurd in'
-leads_more a axes others leads (k ∷ index) in' =
-    let found = leads index in'.1 in
-    (k ∷ found.0, (in'.0, found.1), ap (λ n. a.step * k + n) found.2)
+-- items of the other axis lie as far as those of the one
+abbrev pub LeadsAlong : Axis → Axis → Type 0
+LeadsAlong a b = (k : ℕ) → k < a.len → (j : ℕ) × (j < b.len) × (b.step * j ≡ a.step * k)
+
+pub leads_more : (a b : Axis) (axes others : List Axis) → LeadsAlong a b → Leads axes others → Leads (a ∷ axes) (b ∷ others)
+leads_more a b axes others along leads [] in' = absurd in'
+leads_more a b axes others along leads (k ∷ index) in' =
+    let first = along k in'.0 in
+    let rest = leads index in'.1 in
+    (first.0 ∷ rest.0, (first.1, rest.1), λ i. first.2 i + rest.2 i)
 
 turned : (axes others : List Axis) → SameSums axes others → SameSums others axes
 turned axes others same = record { to = same.from; from = same.to }
 
 pub same_more : (a : Axis) (axes others : List Axis) → SameSums axes others → SameSums (a ∷ axes) (a ∷ others)
 same_more a axes others same =
-    same_leads (a ∷ axes) (a ∷ others) (leads_more a axes others (leads_from a axes others same)) (leads_more a others axes (leads_from a others axes (turned axes others same)))
+    let along : LeadsAlong a a = λ k below. (k, below, refl) in
+    same_leads (a ∷ axes) (a ∷ others) (leads_more a a axes others along (leads_from a axes others same)) (leads_more a a others axes along (leads_from a others axes (turned axes others same)))
 
 -- ---- a wide axis and a narrow one
 

@@ -1,15 +1,27 @@
 -- Moves of items: what an assignment leaves, by index, and that each order of moves that is safe leaves it.
-use Rattle.std.proofs.Common.{◌≡◌, ◌+◌, ◌-◌, ◌<◌, ◌≤◌, ◌⊎◌, inl, inr, ℕ, zero, suc, ℤ, List, [], ◌∷◌, length, drop, get_or, All, refl, sym, ap, subst, ◌∙◌, arith}
+use Rattle.std.proofs.Common.{◌≡◌, ◌+◌, ◌-◌, ◌<◌, ◌≤◌, ◌⊎◌, inl, inr, ℕ, zero, suc, ℤ, List, [], ◌∷◌, length, get_or, All, refl, sym, ap, subst, ◌∙◌, arith}
 use Rattle.std.proofs.lemmas.Bool.{cases_lt}
-use Rattle.std.proofs.lemmas.List.{ext_get_or, get_or-take, get_or-drop}
+use Rattle.std.proofs.lemmas.List.{ext_get_or}
 use Rattle.std.proofs.lemmas.List.Elements.{All-rest, All-head}
-use Rattle.overlap_copy.specs.Words.{put, item_at, place, EachWithin, copied_within, length-item_at, length-put, get_or-put_before, get_or-put_after, item_at-put_same, item_at-put_apart, place_within, fewer, IsNested, distance, assigned}
+use Rattle.overlap_copy.specs.Words.{byte_of, put, item_at, place, EachWithin, copied_within, length-item_at, length-put, get_or-put_before, get_or-put_after, item_at-put_same, item_at-put_apart, place_within, fewer, IsNested, distance, assigned}
 use Rattle.overlap_copy.specs.inside.Moves.{IsOutside, IsAssigned}
 
 -- ---- the bytes of items
 
-pub byte_of : (l : List ℕ) (at width i : ℕ) → i < width → get_or (item_at at width l) i 0 ≡ get_or l (at + i) 0
-byte_of l at width i below = get_or-take width (drop at l) i 0 below ∙ get_or-drop at l i 0
+-- items of the same bytes
+pub same_item : (xs ys : List ℕ) (at width : ℕ) → at + width ≤ length ys → length xs ≡ length ys → ((i : ℕ) → i < width → get_or xs (at + i) 0 ≡ get_or ys (at + i) 0) → item_at at width xs ≡ item_at at width ys
+same_item xs ys at width within same bytes =
+    let counted = length-item_at at width xs (omega (arith, same, within)) in
+    ext_get_or 0 (item_at at width xs) (item_at at width ys) (counted ∙ sym (length-item_at at width ys within)) (λ i below.
+    let inside : i < width = omega (arith, below, counted) in
+    byte_of at width i xs inside ∙ bytes i inside ∙ sym (byte_of at width i ys inside))
+
+-- a byte of one item is none of another's
+pub beside : (p q width i : ℕ) → width ≤ distance p q → i < width → (p + i < q) ⊎ (q + width ≤ p + i)
+beside p q width i apart inside = elim (cases_lt p q) [
+  | inl lower ↦ inl (omega (arith, lower, apart, inside))
+  | inr upper ↦ inr (omega (arith, upper, apart, inside))
+]
 
 -- one of n items holds a byte
 pub record IsHeld (n : ℕ) (to : ℕ → ℕ) (width j : ℕ) : Type 0 where
@@ -51,7 +63,7 @@ same_assigned n to from width other old new new' a b =
           let i = j - at in
           let inside : i < width = omega (arith, h.low, h.high) in
           let back : at + i ≡ j = omega (arith, h.low) in
-          ap (λ p. get_or new p 0) (sym back) ∙ sym (byte_of new at width i inside) ∙ ap (λ l. get_or l i 0) (a.items h.k h.below ∙ sym (b.items h.k h.below)) ∙ byte_of new' at width i inside ∙ ap (λ p. get_or new' p 0) back
+          ap (λ p. get_or new p 0) (sym back) ∙ sym (byte_of at width i new inside) ∙ ap (λ l. get_or l i 0) (a.items h.k h.below ∙ sym (b.items h.k h.below)) ∙ byte_of at width i new' inside ∙ ap (λ p. get_or new' p 0) back
       | inr outside ↦ a.rest j outside ∙ sym (b.rest j outside)
     ])
 
@@ -102,17 +114,7 @@ put_next m to from width other old now item so_far within apart long is =
 -- what no move before has met is as it was
 pub unmet : (m : ℕ) (to from : ℕ → ℕ) (width : ℕ) (other old now : List ℕ) (at : ℕ) → IsAssigned m to from width other old now → at + width ≤ length old → ((k : ℕ) → k < m → width ≤ distance (to k) at) → item_at at width now ≡ item_at at width old
 unmet m to from width other old now at so_far within apart =
-    let counted = length-item_at at width now (omega (arith, so_far.len, within)) in
-    ext_get_or 0 (item_at at width now) (item_at at width old) (counted ∙ sym (length-item_at at width old within)) (λ i below.
-    let inside : i < width = omega (arith, below, counted) in
-    byte_of now at width i inside
-    ∙ so_far.rest (at + i) (λ k before.
-    let clear = apart k before in
-    elim (cases_lt (to k) at) [
-      | inl lower ↦ inr (omega (arith, lower, clear))
-      | inr upper ↦ inl (omega (arith, upper, clear, inside))
-    ])
-    ∙ sym (byte_of old at width i inside))
+    same_item now old at width within so_far.len (λ i inside. so_far.rest (at + i) (λ k before. let clear = apart k before in beside at (to k) width i (omega (arith, clear)) inside))
 
 -- ---- moves within bytes, one after the other, none of which meets what a later one reads
 

@@ -1,7 +1,7 @@
 -- Runs that move within one block, one after the other.
-use Rattle.std.proofs.Common.{◌≡◌, ◌+◌, ◌-◌, ◌<◌, ◌≤◌, ℕ, suc, List, [], ◌∷◌, ◌++◌, length, get_or, All, refl, sym, ap, subst, ◌∙◌, arith, length-append}
+use Rattle.std.proofs.Common.{◌≡◌, ◌+◌, ◌≤◌, ℕ, suc, List, [], ◌∷◌, ◌++◌, length, get_or, All, refl, sym, ap, subst, ◌∙◌, arith, length-append, get_or-append-add}
 use Rattle.std.specs.List.{AllByRecursion as Each}
-use Rattle.std.proofs.lemmas.List.{get_or_append_left, get_or-append_right}
+use Rattle.std.proofs.lemmas.List.{get_or_append_left}
 use Rattle.std.proofs.lemmas.List.Elements.{All-from_recursion}
 use Rattle.overlap_copy.specs.Words.{item_at, EachWithin, copied_within, Run, IsNested, distance, run_offsets, length-run_offsets, place-at, run-ends, All-back, All-front, assigned-append, items_at, with_items, assigned}
 use Rattle.overlap_copy.specs.inside.Moves.{IsAssigned, LiesApart, LieApart, place_in}
@@ -18,10 +18,9 @@ pub Each-back : (P : ℕ → Type 0) (xs ys : List ℕ) → Each P (xs ++ ys) �
 Each-back P [] ys each = each
 Each-back P (x ∷ xs) ys each = Each-back P xs ys each.1
 
-pub right : (xs ys : List ℕ) (k d : ℕ) → k < length ys → get_or (xs ++ ys) (length xs + k) d ≡ get_or ys k d
-right xs ys k d below =
-    let after : length xs + k - length xs ≡ k = omega arith in
-    get_or-append_right xs ys (length xs) (length xs + k) d refl (omega arith) ∙ ap (λ m. get_or ys m d) after
+pub Each-append : {X : Type 0} (P : X → Type 0) (xs ys : List X) → Each P xs → Each P ys → Each P (xs ++ ys)
+Each-append P [] ys first later = later
+Each-append P (x ∷ xs) ys first later = (first.0, Each-append P xs ys first.1 later)
 
 pub nested-front : (xs ys : List ℕ) (width : ℕ) → IsNested (xs ++ ys) width → IsNested xs width
 nested-front xs ys width nested = record {
@@ -34,7 +33,7 @@ pub nested-back : (xs ys : List ℕ) (width : ℕ) → IsNested (xs ++ ys) width
 nested-back xs ys width nested = record {
   apart = λ j k before below.
       let far = nested.apart (length xs + j) (length xs + k) (omega arith) (omega (arith, length-append xs ys)) in
-      omega (arith, far, right xs ys j 0 (omega arith), right xs ys k 0 below);
+      omega (arith, far, get_or-append-add xs ys j 0, get_or-append-add xs ys k 0);
 }
 
 -- targets that lie apart from sources, fewer of either

@@ -1,5 +1,5 @@
 -- Items that are kept before others are written over them, part after part.
-use Rattle.std.proofs.Common.{◌≡◌, ◌+◌, ◌-◌, ◌*◌, ◌<◌, ◌≤◌, ℕ, zero, suc, ℤ, pos, ◌+ℤ◌, ◌*ℤ◌, ◌≤ℤ◌, List, [], ◌∷◌, ◌++◌, length, get_or, map, replicate, All, refl, sym, ap, subst, ◌∙◌, arith, append_assoc, length-append}
+use Rattle.std.proofs.Common.{◌≡◌, ◌+◌, ◌-◌, ◌*◌, ◌<◌, ◌≤◌, ℕ, zero, suc, ℤ, pos, ◌+ℤ◌, ◌*ℤ◌, ◌≤ℤ◌, List, [], ◌∷◌, ◌++◌, length, get_or, map, replicate, All, refl, sym, ap, subst, ◌∙◌, arith, append_assoc, get_or-append-add, length-append}
 use Rattle.std.specs.Prelude.{nat_abs}
 use Rattle.std.proofs.Math.IntN.{*ℤ_comm, zero-*ℤ}
 use lib.IntN.{+ℤ_idl}
@@ -9,7 +9,7 @@ use Rattle.std.proofs.lemmas.Int.{ints}
 use Rattle.std.proofs.lemmas.List.{map-append, get_or-map, get_or-replicate, length-replicate, same_lists, take_all}
 use Rattle.std.proofs.lemmas.List.Elements.{All-head, All-tail}
 use Rattle.overlap_copy.specs.Words.{numbers_from, numbers-split, natural, put, item_at, length-item_at, length-put, place, position, position-add, max_bytes, LieWithin, address, address_at, dot, Layout, count, indexes, length-indexes, offsets, length-offsets, Run, run_offsets, length-run_offsets, BeginsWithin, lie-within, IsNested, All-back, All-front, assigned-append, items_at, assigned, joined_at}
-use Rattle.overlap_copy.proofs.MovingLaws.{nested-back, right}
+use Rattle.overlap_copy.proofs.MovingLaws.{nested-back}
 use Rattle.overlap_copy.proofs.ShiftLaws.{lies-from}
 use Rattle.overlap_copy.proofs.TradeLaws.{kept_items}
 use Rattle.overlap_copy.proofs.TurnLaws.{add-nothing}
@@ -35,7 +35,7 @@ kept-behind width (at ∷ to) places (offset ∷ from) other block nested in_to 
     let behind = All-tail ends at (to ++ places) in_to in
     kept-behind width to places from other (put at item block) (nested-back (at ∷ []) (to ++ places) width nested) (subst (λ n. All (λ o. o + width ≤ n) (to ++ places)) (sym same) behind) (All-tail (λ o. o + width ≤ length other) offset from in_from)
     ∙ joined-same places width (put at item block) block (kept_items width at item places block long here (All-back ends to places behind) (λ k below.
-    let far = nested.apart 0 (suc (length to + k)) (omega arith) (omega (arith, below, length-append to places)) in omega (arith, far, right to places k 0 below)))
+    let far = nested.apart 0 (suc (length to + k)) (omega arith) (omega (arith, below, length-append to places)) in omega (arith, far, get_or-append-add to places k 0)))
 
 -- ---- what is left of the places leads to what all of them do
 

@@ -1,15 +1,16 @@
 -- Runs of items in pairs: those that layouts are, and those that are copied pair after pair.
-use Rattle.std.proofs.Common.{◌≡◌, ℕ, ◌+◌, ◌≤◌, List, [], ◌∷◌, ◌++◌, All, length, sym, ap, subst, ◌∙◌}
+use Rattle.std.proofs.Common.{◌≡◌, ℕ, ◌+◌, ◌≤◌, List, [], ◌∷◌, All, length, sym, ap, subst, ◌∙◌}
 use Rattle.std.specs.List.{flat_map, AllByRecursion as Each}
 use Rattle.std.proofs.lemmas.List.Elements.{All-from_recursion, recursion_from_All}
 use Rattle.overlap_copy.specs.Words.{EachWithin, Run, RunPair, run_offsets, length-run_offsets, Layout, count, offsets, length-offsets, BeginsWithin, run-within, run-ends, assigned-append, assigned}
+use Rattle.overlap_copy.proofs.MovingLaws.{Each-append}
 
 -- ---- layouts that are runs
 
 -- those of as many items are runs of as many
-pub as_many : (first second : Layout) (pair : RunPair) → count first.shape ≡ count second.shape → run_offsets pair.first ≡ offsets first → run_offsets pair.second ≡ offsets second → pair.first.count ≡ pair.second.count
-as_many first second pair same is is' =
-    sym (length-run_offsets pair.first) ∙ ap length is ∙ length-offsets first ∙ same ∙ sym (length-offsets second) ∙ ap length (sym is') ∙ length-run_offsets pair.second
+pub as_many : (first second : Layout) (to from : Run) → count first.shape ≡ count second.shape → run_offsets to ≡ offsets first → run_offsets from ≡ offsets second → to.count ≡ from.count
+as_many first second to from same is is' =
+    sym (length-run_offsets to) ∙ ap length is ∙ length-offsets first ∙ same ∙ sym (length-offsets second) ∙ ap length (sym is') ∙ length-run_offsets from
 
 pub one-within : (len width : ℕ) (run : Run) (os : List ℕ) → BeginsWithin run → run_offsets run ≡ os → All (λ offset. offset + width ≤ len) os → EachWithin len run.offset run.step width run.count
 one-within len width run os begins is ends = run-within len width run begins (subst (All (λ offset. offset + width ≤ len)) (sym is) ends)
@@ -33,17 +34,12 @@ copied-pair left left' pair width other block block' whole walked even is so_far
     ∙ so_far
 
 -- the items of all runs end within the bytes
-ends-of : (run_of : RunPair → Run) (pairs : List RunPair) (len width : ℕ) → Each (λ pair. EachWithin len (run_of pair).offset (run_of pair).step width (run_of pair).count) pairs → Each (λ offset. offset + width ≤ len) (flat_map (λ pair. run_offsets (run_of pair)) pairs)
-ends-of run_of [] len width within = tt
-ends-of run_of (pair ∷ pairs) len width within =
-    join (run_offsets (run_of pair)) (flat_map (λ p. run_offsets (run_of p)) pairs) (recursion_from_All (λ offset. offset + width ≤ len) (run_offsets (run_of pair)) (run-ends len width (run_of pair) within.0)) (ends-of run_of pairs len width within.1)
+pub ends-of : (run_of : RunPair → Run) (pairs : List RunPair) (len width : ℕ) → All (λ pair. EachWithin len (run_of pair).offset (run_of pair).step width (run_of pair).count) pairs → All (λ offset. offset + width ≤ len) (flat_map (λ pair. run_offsets (run_of pair)) pairs)
+ends-of run_of pairs len width within = All-from_recursion ends (flat_map (λ pair. run_offsets (run_of pair)) pairs) (each pairs (recursion_from_All (λ pair. EachWithin len (run_of pair).offset (run_of pair).step width (run_of pair).count) pairs within))
   where
-    join : (xs ys : List ℕ) → Each (λ offset. offset + width ≤ len) xs → Each (λ offset. offset + width ≤ len) ys → Each (λ offset. offset + width ≤ len) (xs ++ ys)
-    join [] ys first later = later
-    join (x ∷ xs) ys first later = (first.0, join xs ys first.1 later)
+    ends : ℕ → Type 0
+    ends offset = offset + width ≤ len
 
-pub firsts-end : (pairs : List RunPair) (len width : ℕ) → All (λ pair. EachWithin len pair.first.offset pair.first.step width pair.first.count) pairs → All (λ offset. offset + width ≤ len) (firsts pairs)
-firsts-end pairs len width within = All-from_recursion (λ offset. offset + width ≤ len) (firsts pairs) (ends-of (λ pair. pair.first) pairs len width (recursion_from_All (λ pair. EachWithin len pair.first.offset pair.first.step width pair.first.count) pairs within))
-
-pub seconds-end : (pairs : List RunPair) (len width : ℕ) → All (λ pair. EachWithin len pair.second.offset pair.second.step width pair.second.count) pairs → All (λ offset. offset + width ≤ len) (seconds pairs)
-seconds-end pairs len width within = All-from_recursion (λ offset. offset + width ≤ len) (seconds pairs) (ends-of (λ pair. pair.second) pairs len width (recursion_from_All (λ pair. EachWithin len pair.second.offset pair.second.step width pair.second.count) pairs within))
+    each : (pairs : List RunPair) → Each (λ pair. EachWithin len (run_of pair).offset (run_of pair).step width (run_of pair).count) pairs → Each ends (flat_map (λ pair. run_offsets (run_of pair)) pairs)
+    each [] within = tt
+    each (pair ∷ pairs) within = Each-append ends (run_offsets (run_of pair)) _ (recursion_from_All ends (run_offsets (run_of pair)) (run-ends len width (run_of pair) within.0)) (each pairs within.1)

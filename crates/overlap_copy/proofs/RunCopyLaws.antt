@@ -2,9 +2,8 @@
 use Rattle.std.proofs.Common.{◌≡◌, inl, inr, ◌+◌, ◌*◌, ◌<◌, ◌≤◌, ℕ, zero, suc, ℤ, pos, List, length, get_or, sym, ap, subst, ◌∙◌, arith, suc-mul, mul-le-mul_right, zero-mul}
 use Rattle.std.proofs.lemmas.List.{ext_get_or}
 use Rattle.std.proofs.lemmas.Bool.{cases_lt}
-use Rattle.overlap_copy.specs.Words.{put, item_at, place, EachWithin, length-item_at, length-put, get_or-put_before, get_or-put_after, item_at-put_same, place_within, Run}
+use Rattle.overlap_copy.specs.Words.{byte_of, put, item_at, place, EachWithin, length-item_at, length-put, get_or-put_before, get_or-put_after, item_at-put_same, place_within, Run}
 use Rattle.overlap_copy.specs.inside.Moves.{IsAssigned, place_in}
-use Rattle.overlap_copy.proofs.MoveLaws.{byte_of}
 
 -- ---- items that lie one right after another
 
@@ -44,7 +43,7 @@ whole_moved to from width n old in_to in_from =
           let within : k * width + i < n * width = omega (arith, inside, most, one) in
           let there : to + k * width + i ≡ to + (k * width + i) = omega arith in
           let here : from + (k * width + i) ≡ from + k * width + i = omega arith in
-          byte_of new (to + k * width) width i inside ∙ ap (λ p. get_or new p 0) there ∙ sym (byte_of new to (length all) (k * width + i) (omega (arith, within, long))) ∙ ap (λ l. get_or l (k * width + i) 0) back ∙ byte_of old from (n * width) (k * width + i) within ∙ ap (λ p. get_or old p 0) here ∙ sym (byte_of old (from + k * width) width i inside));
+          byte_of (to + k * width) width i new inside ∙ ap (λ p. get_or new p 0) there ∙ sym (byte_of to (length all) (k * width + i) new (omega (arith, within, long))) ∙ ap (λ l. get_or l (k * width + i) 0) back ∙ byte_of from (n * width) (k * width + i) old within ∙ ap (λ p. get_or old p 0) here ∙ sym (byte_of (from + k * width) width i old inside));
       rest = λ j outside. elim (cases_lt j to) [
         | inl before ↦ get_or-put_before to all old fits j before
         | inr low ↦ elim (cases_lt j (to + n * width)) [

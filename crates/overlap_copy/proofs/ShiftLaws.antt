@@ -1,18 +1,16 @@
 -- Items that move by as many bytes each, in the order of their addresses.
-use Rattle.std.proofs.Common.{◌≡◌, ◌+◌, ◌-◌, ◌*◌, ◌<◌, ◌≤◌, ℕ, zero, suc, ℤ, pos, ◌+ℤ◌, ◌*ℤ◌, ◌≤ℤ◌, List, [], ◌∷◌, ◌++◌, length, get_or, All, refl, sym, ap, subst, ◌∙◌, arith, length-append, get_or-append-add, one-mul}
+use Rattle.std.proofs.Common.{◌≡◌, ◌+◌, ◌-◌, ◌<◌, ◌≤◌, ℕ, ℤ, pos, ◌+ℤ◌, ◌*ℤ◌, ◌≤ℤ◌, List, [], ◌∷◌, ◌++◌, map, length, get_or, All, sym, ap, subst, ◌∙◌, arith, length-append, get_or-append-add}
 use Rattle.std.specs.Prelude.{nat_abs}
 use Rattle.std.specs.List.{flat_map}
-use Rattle.std.proofs.Math.IntN.{*ℤ_comm}
+use Rattle.std.proofs.Math.IntN.{*ℤ_comm, *ℤ-zero, +ℤ_idr}
 use Rattle.std.proofs.lemmas.Int.{ints}
-use Rattle.std.proofs.lemmas.List.{length-map, get_or-map, map-append, get_or_append_left, same_lists}
+use Rattle.std.proofs.lemmas.List.{length-map, get_or-map, map-append, get_or_append_left, get_or_default, same_lists}
 use Rattle.std.proofs.lemmas.List.Elements.{recursion_from_All, All-head}
-use Rattle.overlap_copy.specs.Words.{position, place, item_at, put, EachWithin, not_negative, Run, max_bytes, max_items, LieWithin, address_at, IsIndex, offsets, IsNested, distance, run_offsets, length-run_offsets, place-at, run-ends, lie-within, runs-within, All-back, All-front, assigned}
-use Rattle.overlap_copy.specs.inside.Moves.{IsAssigned, IsLine, IsTurned, AreSpaced, LiesApart, LieApart, place_in}
+use Rattle.overlap_copy.specs.Words.{numbers_from, natural, position, EachWithin, not_negative, Run, max_bytes, max_items, LieWithin, address_at, IsIndex, distance, run_offsets, length-run_offsets, place-at, run-ends, lie-within, runs-within, All-back, All-front, assigned}
+use Rattle.overlap_copy.specs.inside.Moves.{IsLine, IsTurned, LiesApart, LieApart, place_in}
 use Rattle.overlap_copy.specs.inside.Shifts.{source, sources, source_run, MayCome}
-use Rattle.overlap_copy.proofs.MoveLaws.{reordered, retold}
 use Rattle.overlap_copy.proofs.MovingLaws.{nested-front, nested-back, IsMoving, moving_on}
-use Rattle.overlap_copy.proofs.RunCopyLaws.{whole_moved}
-use Rattle.overlap_copy.proofs.TurnLaws.{turned_place, turned_within, add-nothing}
+use Rattle.overlap_copy.proofs.TurnLaws.{turned_within, add-nothing}
 use Rattle.overlap_copy.proofs.LineLaws.{first_place}
 
 -- ---- a run, from its first item to its last and back
@@ -28,40 +26,12 @@ lies-from len item run within = record {
     single (k ∷ []) in' = (k, in'.0, add-nothing (pos run.offset) (run.step *ℤ pos k) (pos k *ℤ run.step) (*ℤ_comm run.step (pos k)))
     single (k ∷ j ∷ index) in' = absurd in'.1
 
-pub line-of : (len item : ℕ) (run : Run) → 2 ≤ run.count → run.count ≤ max_items → EachWithin len run.offset run.step item run.count → IsLine len item run
-line-of len item run two few within = record { two = two; few = few; lies = lies-from len item run within }
-
-pub back-line : (len item : ℕ) (run back : Run) → IsTurned run back → 2 ≤ run.count → run.count ≤ max_items → EachWithin len run.offset run.step item run.count → IsLine len item back
-back-line len item run back t two few within =
-    line-of len item back (omega (arith, two, t.count)) (omega (arith, few, t.count)) (subst (λ n. EachWithin len back.offset back.step item n) (sym t.count) (turned_within len item run back t within))
-
-pub spaced : (len width : ℕ) (run : Run) → EachWithin len run.offset run.step width run.count → IsNested (run_offsets run) width → AreSpaced width run
-spaced len width run within nested = record {
-  apart = λ j k before below.
-      let far = nested.apart j k before (omega (arith, below, length-run_offsets run)) in
-      omega (arith, far, place-at len width run j within (omega (arith, before, below)), place-at len width run k within below);
+pub back-line : (run back : Run) → IsTurned run back → IsLine max_bytes 1 run → IsLine max_bytes 1 back
+back-line run back t line = record {
+  two = omega (arith, line.two, t.count);
+  few = omega (arith, line.few, t.count);
+  lies = lies-from max_bytes 1 back (turned_within max_bytes 1 run back t (lie-within max_bytes 1 run line.lies));
 }
-
-pub back-spaced : (width : ℕ) (run back : Run) → IsTurned run back → AreSpaced width run → AreSpaced width back
-back-spaced width run back t s = record {
-  apart = λ j k before below.
-      let n = run.count in
-      let low : k < n = omega (arith, below, t.count) in
-      let far = s.apart (n - 1 - k) (n - 1 - j) (omega (arith, before, low)) (omega (arith, before, low)) in
-      omega (arith, far, turned_place run back j t (omega (arith, before, low)), turned_place run back k t low);
-}
-
-pub back-moved : (to to' from from' : Run) (width : ℕ) (old new : List ℕ) → IsTurned to to' → IsTurned from from' → from.count ≡ to.count → IsAssigned to'.count (place_in to') (place_in from') width old old new → IsAssigned to.count (place_in to) (place_in from) width old old new
-back-moved to to' from from' width old new t t' even moved =
-    let n = to.count in
-    reordered n (λ k. n - 1 - k) (place_in to) (place_in from) (place_in to') (place_in from') width old old new (λ k below. (omega (arith, below), omega (arith, below)))
-    (λ k below.
-    let j = n - 1 - k in
-    let low : j < n = omega (arith, below) in
-    let back : n - 1 - j ≡ k = omega (arith, below) in
-    let back' : from.count - 1 - j ≡ k = omega (arith, below, even) in
-    (sym (turned_place to to' j t low ∙ ap (place_in to) back), sym (turned_place from from' j t' (omega (arith, low, even)) ∙ ap (place_in from) back')))
-    (subst (λ m. IsAssigned m (place_in to') (place_in from') width old old new) t.count moved)
 
 pub one-within : (len width : ℕ) (run : Run) → 1 ≤ run.count → EachWithin len run.offset run.step width run.count → run.offset + width ≤ len
 one-within len width run some within =
@@ -69,18 +39,11 @@ one-within len width run some within =
     let ends = run-ends len width run within 0 0 (omega (arith, some, length-run_offsets run)) in
     omega (arith, ends, first, first_place run)
 
-pub one-moved : (to from : Run) (width : ℕ) (old new : List ℕ) → to.count ≡ 1 → to.offset + width ≤ length old → from.offset + width ≤ length old → new ≡ put to.offset (item_at from.offset width old) old → IsAssigned to.count (place_in to) (place_in from) width old old new
-one-moved to from width old new single in_to in_from moved =
-    let wide : 1 * width ≡ width = one-mul width in
-    let whole = whole_moved to.offset from.offset width 1 old (omega (arith, in_to, wide)) (omega (arith, in_from, wide)) in
-    let here = subst (IsAssigned 1 (place to.offset (pos width)) (place from.offset (pos width)) width old old) (ap (λ w. put to.offset (item_at from.offset w old) old) wide ∙ sym moved) whole in
-    let row = λ (at : ℕ). first_place (record { offset = at; count = 1; step = pos width }) in
-    subst (λ n. IsAssigned n (place_in to) (place_in from) width old old new) (sym single)
-    (retold 1 (place_in to) (place_in from) (place to.offset (pos width)) (place from.offset (pos width)) width old old new (λ k below.
-    let none : k ≡ 0 = omega (arith, below) in (
-      ap (place_in to) none ∙ first_place to ∙ sym (row to.offset) ∙ ap (place to.offset (pos width)) (sym none),
-      ap (place_in from) none ∙ first_place from ∙ sym (row from.offset) ∙ ap (place from.offset (pos width)) (sym none),
-    )) here)
+pub one-offset : (run : Run) → run.count ≡ 1 → run_offsets run ≡ run.offset ∷ []
+one-offset run single =
+    ap (λ n. map natural (numbers_from (pos run.offset) run.step n)) single
+    ∙ ap (λ z. natural (pos run.offset +ℤ z) ∷ []) (*ℤ-zero run.step)
+    ∙ ap (λ z. natural z ∷ []) (+ℤ_idr (pos run.offset))
 
 -- ---- where the items of a run come from
 
@@ -137,16 +100,11 @@ module _ (len width to from : ℕ) (run : Run) (some : 1 ≤ run.count) (within 
   source-offsets =
       same_lists (run_offsets (source_run to from run)) (sources to from (run_offsets run)) (length-run_offsets (source_run to from run) ∙ sym (length-run_offsets run) ∙ sym (length-map (run_offsets run) (source to from))) (λ k d below.
       let inside : k < run.count = omega (arith, below, length-run_offsets (source_run to from run)) in
-      default (run_offsets (source_run to from run)) k d below
+      get_or_default (run_offsets (source_run to from run)) k d 0 below
       ∙ place-at len width (source_run to from run) k source-within inside
       ∙ source-place k inside
       ∙ ap (source to from) (sym (place-of k inside))
       ∙ sym (get_or-map (source to from) (run_offsets run) k 0 d (listed k inside)))
-    where
-      default : (l : List ℕ) (k d : ℕ) → k < length l → get_or l k d ≡ get_or l k 0
-      default [] k d below = absurd (omega (arith, below))
-      default (x ∷ l) zero d below = refl
-      default (x ∷ l) (suc k) d below = default l k d (omega (arith, below))
 
 -- ---- fewer items
 
@@ -199,13 +157,8 @@ apart-later len width to from xs ys come =
     let far = come.unread j (length xs + k) (omega (arith, below)) second.0 in
     let is = get_or-map (source to from) ys k 0 e low in
     subst (λ o. width ≤ distance o (get_or xs j d)) (sym is)
-    (subst (λ a. width ≤ distance (source to from (get_or ys k 0)) a) (get_or_append_left xs ys 0 j below ∙ default xs j d below)
+    (subst (λ a. width ≤ distance (source to from (get_or ys k 0)) a) (get_or_append_left xs ys 0 j below ∙ get_or_default xs j 0 d below)
     (subst (λ b. width ≤ distance (source to from b) (get_or (xs ++ ys) j 0)) second.1 far))))
-  where
-    default : (l : List ℕ) (k d : ℕ) → k < length l → get_or l k 0 ≡ get_or l k d
-    default [] k d below = absurd (omega (arith, below))
-    default (x ∷ l) zero d below = refl
-    default (x ∷ l) (suc k) d below = default l k d (omega (arith, below))
 
 -- ---- run after run
 

@@ -2,27 +2,10 @@
 use Rattle.std.proofs.Common.{◌≡◌, ◌≢◌, ◌+◌, ◌-◌, ◌*◌, ◌/◌, ◌%◌, ◌<◌, ◌≤◌, ◌⊎◌, inl, inr, ℕ, zero, suc, List, length, get_or, refl, sym, ap, subst, ◌∙◌, arith}
 use Rattle.std.proofs.Math.Nat.{div-add-mod, mod-lt}
 use Rattle.std.proofs.lemmas.Bool.{cases_lt}
-use Rattle.std.proofs.lemmas.List.{ext_get_or}
-use Rattle.overlap_copy.specs.Words.{item_at, EachWithin, exchanged, swapped, length-item_at, place_within, length-exchanged, exchanged-outside, exchanged-items, Run, distance}
+use Rattle.overlap_copy.specs.Words.{item_at, EachWithin, exchanged, swapped, place_within, length-exchanged, exchanged-outside, exchanged-items, Run, distance}
 use Rattle.overlap_copy.specs.inside.Moves.{IsAssigned, IsTurned, AreSpaced, place_in}
-use Rattle.overlap_copy.proofs.MoveLaws.{byte_of, retold}
+use Rattle.overlap_copy.proofs.MoveLaws.{beside, retold, same_item}
 use Rattle.overlap_copy.proofs.TurnLaws.{turned_place}
-
--- ---- bytes and items
-
-same_item : (xs ys : List ℕ) (at width : ℕ) → at + width ≤ length ys → length xs ≡ length ys → ((i : ℕ) → i < width → get_or xs (at + i) 0 ≡ get_or ys (at + i) 0) → item_at at width xs ≡ item_at at width ys
-same_item xs ys at width within same bytes =
-    let counted = length-item_at at width xs (omega (arith, same, within)) in
-    ext_get_or 0 (item_at at width xs) (item_at at width ys) (counted ∙ sym (length-item_at at width ys within)) (λ i below.
-    let inside : i < width = omega (arith, below, counted) in
-    byte_of xs at width i inside ∙ bytes i inside ∙ sym (byte_of ys at width i inside))
-
--- a byte of one item is none of another's
-beside : (p q width i : ℕ) → width ≤ distance p q → i < width → (p + i < q) ⊎ (q + width ≤ p + i)
-beside p q width i apart inside = elim (cases_lt p q) [
-  | inl lower ↦ inl (omega (arith, lower, apart, inside))
-  | inr upper ↦ inr (omega (arith, upper, apart, inside))
-]
 
 kept_beside : (a b p width : ℕ) (bytes : List ℕ) → a + width ≤ length bytes → b + width ≤ length bytes → p + width ≤ length bytes → width ≤ distance p a → width ≤ distance p b → item_at p width (exchanged a b width bytes) ≡ item_at p width bytes
 kept_beside a b p width bytes in_a in_b in_p off_a off_b =

@@ -6,6 +6,7 @@ use Rattle.std.proofs.lemmas.List.Elements.{All-head, All-tail}
 use Rattle.overlap_copy.specs.Words.{put, item_at, place, EachWithin, traded, length-item_at, length-put, item_at-put_apart, fewer, Run, RunPair, IsNested, distance, run_offsets, length-run_offsets, run_offsets-more, items_at, with_items, assigned}
 use Rattle.overlap_copy.specs.inside.Trades.{traded_at}
 use Rattle.overlap_copy.proofs.MoveLaws.{assigned_is}
+use Rattle.overlap_copy.proofs.MovingLaws.{nested-back}
 use Rattle.overlap_copy.proofs.PairCopies.{firsts, seconds}
 
 abbrev Both : Type 0
@@ -85,12 +86,9 @@ traded-apart width (at ∷ to) (offset ∷ from) block other even nested nested'
     let same' = length-put offset item' other (omega (arith, there, long')) in
     let kept : items_at from width y ≡ items_at from width other = kept_items width offset item' from other long' there (All-tail ends' offset from in_from) (λ k below. nested'.apart 0 (suc k) (omega arith) (omega (arith, below))) in
     let kept' : items_at to width x ≡ items_at to width block = kept_items width at item to block long here (All-tail ends at to in_to) (λ k below. nested.apart 0 (suc k) (omega arith) (omega (arith, below))) in
-    traded-apart width to from x y (omega (arith, even)) (later at to nested) (later offset from nested')
+    traded-apart width to from x y (omega (arith, even)) (nested-back (at ∷ []) to width nested) (nested-back (offset ∷ []) from width nested')
     (subst (λ n. All (λ o. o + width ≤ n) to) (sym same) (All-tail ends at to in_to)) (subst (λ n. All (λ o. o + width ≤ n) from) (sym same') (All-tail ends' offset from in_from))
     ∙ (λ i. (with_items to (kept i) x, with_items from (kept' i) y))
-  where
-    later : (p : ℕ) (ps : List ℕ) → IsNested (p ∷ ps) width → IsNested ps width
-    later p ps nested = record { apart = λ j k before below. nested.apart (suc j) (suc k) (omega (arith, before)) (omega (arith, below)) }
 
 -- the items are then read where they were put
 pub items-assigned : (width : ℕ) (to from other block : List ℕ) → length from ≡ length to → IsNested to width → All (λ o. o + width ≤ length block) to → All (λ o. o + width ≤ length other) from →

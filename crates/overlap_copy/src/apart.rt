@@ -7,7 +7,7 @@ ghost use Rattle.std.specs.Prelude.{IsTrue, false, if◌then◌else◌, length, 
 use crate::axis_sums::common_divisor;
 use shape_strides::Layout;
 
-/// How many bytes an axis steps over, either way: 0 where it has no two items.
+/// How many bytes an axis steps over in either direction, or 0 if it has fewer than two items.
 fn step_along(strides: &[isize], axis: usize, len: usize) -> usize
     requires { axis < length strides.now }
     ensures { result
@@ -32,7 +32,7 @@ fn divisor_with(number: usize, layout: &Layout) -> usize
     divisor
 }
 
-/// The second number less the first, modulo so many.
+/// The difference of two numbers, modulo a third.
 fn difference(from: usize, to: usize, modulus: usize) -> usize
     requires { 0 < modulus }
     ensures below { result < modulus }
@@ -47,8 +47,8 @@ fn difference(from: usize, to: usize, modulus: usize) -> usize
     }
 }
 
-/// Whether the items of `b` lie between those of `a`, as steps by all strides lead from one to the
-/// next.
+/// Whether the items of `b` fall into the gaps between the items of `a`, judged by the common
+/// divisor of all strides.
 fn lie_between(a: &Layout, a_item: usize, b: &Layout, b_item: usize) -> bool
     ensures { IsTrue result ↔ LieBetween a.now a_item b.now b_item }
 {
@@ -61,9 +61,9 @@ fn lie_between(a: &Layout, a_item: usize, b: &Layout, b_item: usize) -> bool
 }
 
 /// Whether the items of two layouts, of `a_item` and `b_item` bytes, may have bytes in common. They
-/// have none where one layout is empty, where every byte of one lies below every byte of the other,
-/// or where the items of one lie between those of the other, as the strides tell. Takes no memory,
-/// and time only for the axes.
+/// have none if one layout is empty, if every byte of one is below every byte of the other, or if
+/// the strides show that the items of one fall between those of the other. It takes no memory, and
+/// time proportional to the number of axes.
 pub fn may_overlap(a: &Layout, a_item: usize, b: &Layout, b_item: usize) -> bool
     requires a_fits { Fits a.now max_bytes a_item }
     requires b_fits { Fits b.now max_bytes b_item }
@@ -77,9 +77,9 @@ pub fn may_overlap(a: &Layout, a_item: usize, b: &Layout, b_item: usize) -> bool
     !lie_between(a, a_item, b, b_item)
 }
 
-/// Whether the ranges from the first to the last byte of two layouts meet, whose items have `a_item`
-/// and `b_item` bytes. Only where they do can items share bytes. Takes no memory, and time only for
-/// the axes.
+/// Whether the byte ranges of two layouts, with items of `a_item` and `b_item` bytes, overlap.
+/// Items can share bytes only if they do. It takes no memory, and time proportional to the number
+/// of axes.
 pub fn ranges_meet(a: &Layout, a_item: usize, b: &Layout, b_item: usize) -> bool
     requires a_fits { Fits a.now max_bytes a_item }
     requires b_fits { Fits b.now max_bytes b_item }

@@ -1,4 +1,4 @@
-//! Assignment: the items of a layout become those of another.
+//! Assignment: copies the items of one layout to another.
 ghost use Rattle.std.specs.Prelude.{◌≡◌, ◌+◌, ◌≤◌, ℤ, length, reverse, false, All, IfOk, IfErr, IfSome, IsOk, IsTrue};
 ghost use Rattle.std.specs.List.Sorted.{IsPermutation};
 ghost use Rattle.overlap_copy.specs.Words.{max_bytes, count, offsets, Fits, IsNested, item_pairs, assigned};
@@ -15,8 +15,8 @@ use raw_block::RawBlock;
 use shape_strides::{Layout, LayoutPair, RunPairs, in_memory_order, lies_in_c_order};
 use std::alloc::{AllocError, Global};
 
-/// Copies the items of `width` bytes of the layout `src` in `other` to those of the layout `dst`,
-/// as many, pair by pair in C order.
+/// Copies the items, of `width` bytes, of the layout `src` in `other` to those of the layout `dst`,
+/// pair by pair in C order. Both have the same number of items.
 fn assign_in_order(block: &mut RawBlock, dst: &Layout, other: &RawBlock, src: &Layout, width: usize)
     requires dst { All (λ offset. offset + width ≤ length block.old) (offsets dst.now) }
     requires src { All (λ offset. offset + width ≤ length other.now) (offsets src.now) }
@@ -27,24 +27,12 @@ fn assign_in_order(block: &mut RawBlock, dst: &Layout, other: &RawBlock, src: &L
 {
     match as_runs(dst, src) {
         Some(pair) => copy_run(block, pair.first, other, pair.second, width),
-        None => assign_pairs(block, dst, other, src, width),
+        None => copy_pairs(block, RunPairs::new(dst, src), other, width),
     }
 }
 
-/// `assign_in_order` where one of the layouts is more than one run.
-fn assign_pairs(block: &mut RawBlock, dst: &Layout, other: &RawBlock, src: &Layout, width: usize)
-    requires dst { All (λ offset. offset + width ≤ length block.old) (offsets dst.now) }
-    requires src { All (λ offset. offset + width ≤ length other.now) (offsets src.now) }
-    requires count { count dst.now.shape ≡ count src.now.shape }
-    ensures written { block.new
-        ≡ assigned (offsets dst.now) (offsets src.now) width other.now block.old }
-    ensures len { length block.new ≡ length block.old }
-{
-    copy_pairs(block, RunPairs::new(dst, src), other, width);
-}
-
-/// The pairs of items of two layouts in the order in which the target's lie in memory, where that is not
-/// C order, and the target's places are apart, so that the order does not matter.
+/// Two layouts in the order of the target in memory, if that is not C order and the items of the
+/// target do not overlap, so that the order does not matter.
 pub fn in_any_order(alloc: Global, dst: &Layout, src: &Layout, width: usize) -> Option<LayoutPair>
     ensures pairs { IfSome result
         (λ pair. IsPermutation (item_pairs dst.now src.now) (item_pairs pair.target pair.source)) }
@@ -57,9 +45,9 @@ pub fn in_any_order(alloc: Global, dst: &Layout, src: &Layout, width: usize) -> 
     Some(pair)
 }
 
-/// Copies the items of `width` bytes of the layout `src` in `other` to those of the layout `dst`,
-/// as many, each in C order. Where the places of `dst` are apart they are gone over as they lie in
-/// memory, which is the same.
+/// Copies the items, of `width` bytes, of the layout `src` in `other` to those of the layout `dst`,
+/// both in C order. If the items of `dst` do not overlap, they are visited in the order of memory,
+/// with the same result.
 pub fn assign_from(
     alloc: Global,
     block: &mut RawBlock,
@@ -85,23 +73,8 @@ pub fn assign_from(
     }
 }
 
-/// Copies the items of `src` to those of `dst` within one block, where no item of one layout has a byte
-/// in common with one of the other.
-fn assign_apart(block: &mut RawBlock, dst: &Layout, src: &Layout, width: usize)
-    requires dst { Fits dst.now (length block.old) width }
-    requires src { Fits src.now (length block.old) width }
-    requires nested { IsNested (offsets dst.now) width }
-    requires count { count dst.now.shape ≡ count src.now.shape }
-    requires apart { have_common_byte (offsets dst.now) width (offsets src.now) width ≡ false }
-    ensures written { block.new
-        ≡ assigned (offsets dst.now) (offsets src.now) width block.old block.old }
-    ensures len { length block.new ≡ length block.old }
-{
-    move_pairs(block, RunPairs::new(dst, src), width);
-}
-
-/// Copies the items of `src` to those of `dst` within one block, if both layouts are runs, either of the
-/// same step or each the other from its last item to its first. Returns whether they are.
+/// Copies the items of `src` to those of `dst` within one block if both layouts are runs with the
+/// same step, or the same run in opposite directions. Returns whether they are.
 fn assign_runs(block: &mut RawBlock, dst: &Layout, src: &Layout, width: usize) -> bool
     requires dst { Fits dst.now (length block.old) width }
     requires src { Fits src.now (length block.old) width }
@@ -134,11 +107,11 @@ fn assign_runs(block: &mut RawBlock, dst: &Layout, src: &Layout, width: usize) -
     true
 }
 
-/// The items of `width` bytes of the layout `dst` become those of `src` as they were before, each in
-/// C order, whatever bytes of the block the two have in common. Where they are apart, or are runs
-/// of the same step, or one is a run and the other the same from its last item to its first, it
-/// takes no memory; else that for the items of `src`, and an `Err` says that there was none.
-/// Both fit in 2^28 bytes, however long the block is, since `may_overlap` compares ranges of bytes within.
+/// Copies the items, of `width` bytes, of the layout `src` to those of the layout `dst`, both in C
+/// order, whatever bytes of the block the two share: each item is read as it was before. It takes
+/// no memory if they share none, if both are runs with the same step, or if they are the same run
+/// in opposite directions. Otherwise it allocates memory for the items of `src`, and returns `Err`
+/// if there is none. Both layouts fit in 2^28 bytes, since `may_overlap` compares byte ranges.
 pub fn assign(
     alloc: Global,
     block: &mut RawBlock,
@@ -163,7 +136,7 @@ pub fn assign(
         → offsets src.now ≡ reverse (offsets dst.now) → IsOk result }
 {
     if !may_overlap(dst, width, src, width) {
-        assign_apart(block, dst, src, width);
+        move_pairs(block, RunPairs::new(dst, src), width);
         return Ok(());
     }
     if assign_runs(block, dst, src, width) {

@@ -1,10 +1,9 @@
 //! Decides whether some sum along axes lies within bounds.
 ghost use Rattle.overlap_copy.specs.declared.axis_sums.Answer.TheVariants.{No, Yes};
-ghost use Rattle.overlap_copy.specs.inside.Sums.{AreForward, HasSum, max_reach, reach_of, stepping};
+ghost use Rattle.overlap_copy.specs.inside.Sums.{AreForward, HasSum, reach_of, stepping};
 ghost use Rattle.overlap_copy.specs.inside.Turns.{IsTurn};
 ghost use Rattle.std.specs.Int.{IsGcd};
-ghost use Rattle.std.specs.List.Sorted.{IsPermutation};
-ghost use Rattle.std.specs.Prelude.{All, false, map, ◌<◌, ◌≡◌, ◌≤◌};
+ghost use Rattle.std.specs.Prelude.{false, ◌<◌, ◌≡◌};
 
 use crate::by_axes::join_all;
 use shape_strides::Axis;
@@ -12,29 +11,15 @@ use shape_strides::Axis;
 /// How many steps a search may take.
 const MAX_STEPS: usize = 10_000;
 
-/// An axis along which there is one item, or all are the same, as one that steps on.
-fn stepping(axis: Axis) -> Axis
+/// An axis with a step other than 0: an axis of one item, or of step 0, becomes an axis of one
+/// item.
+pub(crate) fn stepping(axis: Axis) -> Axis
     ensures { result ≡ stepping axis }
 {
     if axis.step == 0 || axis.len < 2 {
         return Axis { step: 1, len: 1 };
     }
     axis
-}
-
-fn make_stepping(axes: &mut [Axis])
-    ensures { axes.new ≡ map stepping axes.old }
-{
-    for axis in axes.iter_mut() {
-        *axis = stepping(*axis);
-    }
-}
-
-fn put_widest_first(axes: &mut [Axis])
-    ensures { IsPermutation axes.old axes.new }
-{
-    axes.sort_unstable_by_key(|axis| axis.step);
-    axes.reverse();
 }
 
 /// How far the axes reach.
@@ -66,13 +51,13 @@ fn sum_along(axes: &[Axis], low: usize, high: usize) -> Answer
 /// Whether some sum along the axes lies within the bounds. It reorders the axes and joins some. It
 /// takes no memory and a bounded number of steps; if these do not decide, the answer is undecided.
 pub(crate) fn has_sum(axes: &mut [Axis], low: usize, high: usize) -> Answer
-    requires items { All (λ axis. 0 < axis.len) axes.old }
-    requires near { reach_of axes.old ≤ max_reach }
+    requires { AreForward axes.old }
     ensures yes { result ≡ Yes → HasSum axes.old low high }
     ensures no { result ≡ No → HasSum axes.old low high → ⊥ }
 {
-    make_stepping(axes);
-    put_widest_first(axes);
+    // The widest first.
+    axes.sort_unstable_by_key(|axis| axis.step);
+    axes.reverse();
     let from = join_all(axes);
     sum_along(&axes[from..], low, high)
 }
@@ -110,12 +95,12 @@ pub(crate) fn divisors_allow(axes: &[Axis], reach: usize, low: usize, high: usiz
     true
 }
 
-/// What a search has found.
+/// The result of a search.
 #[derive(Clone, Copy, Drop)]
 pub(crate) enum Answer {
     Yes,
     No,
-    /// The steps of the search did not decide.
+    /// The search ran out of steps.
     Undecided,
 }
 

@@ -9,7 +9,7 @@ use raw_block::RawBlock;
 use shape_strides::{Layout, Run, RunPairs, in_memory_order, lies_in_c_order};
 use std::alloc::Global;
 
-/// Exchanges the items of `width` bytes of a run with those of a run of `other`, as many.
+/// Exchanges the items, of `width` bytes, of a run with those of a run of `other` that has as many.
 fn trade_run(block: &mut RawBlock, to: Run, other: &mut RawBlock, from: Run, width: usize)
     requires count { to.count ≡ from.count }
     requires to { EachWithin (length block.old) to.offset to.step width to.count }
@@ -30,7 +30,7 @@ fn trade_run(block: &mut RawBlock, to: Run, other: &mut RawBlock, from: Run, wid
     );
 }
 
-/// Exchanges the items of the first run of each pair with those of its second run, of `other`.
+/// Exchanges the items of the first run of each pair with those of its second run, in `other`.
 fn trade_pairs(block: &mut RawBlock, pairs: RunPairs<'_>, other: &mut RawBlock, width: usize)
     requires counts { All (λ pair. pair.first.count ≡ pair.second.count) pairs }
     requires to { All (λ pair.
@@ -50,8 +50,8 @@ fn trade_pairs(block: &mut RawBlock, pairs: RunPairs<'_>, other: &mut RawBlock, 
     }
 }
 
-/// Exchanges the items of `width` bytes of the layout `dst` with those of the layout `src` in `other`,
-/// as many, pair by pair in C order.
+/// Exchanges the items, of `width` bytes, of the layout `dst` with those of the layout `src` in
+/// `other`, pair by pair in C order.
 fn exchange_pairs(
     block: &mut RawBlock,
     dst: &Layout,
@@ -77,9 +77,9 @@ fn exchange_pairs(
     }
 }
 
-/// Exchanges the items of `width` bytes of the layout `dst` with those of the layout `src` in `other`,
-/// as many, each in C order: the items of either are then those that the other one had. They are gone
-/// over as those of `dst` lie in memory, which is the same.
+/// Exchanges the items, of `width` bytes, of the layout `dst` with those of the layout `src` in
+/// `other`, both in C order: each layout then has the items that the other one had. They are
+/// visited in the order of `dst` in memory, with the same result.
 pub fn exchange(
     alloc: Global,
     block: &mut RawBlock,

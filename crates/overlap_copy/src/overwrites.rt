@@ -1,4 +1,4 @@
-//! Writes items over others, which are kept, in one pass.
+//! Writes items over others and keeps the old ones, in a single pass.
 ghost use Rattle.std.specs.Prelude.{◌≡◌, ◌+◌, ◌*◌, ◌++◌, ◌<◌, ◌≤◌, length, replicate, All, IfOk, IfErr};
 ghost use Rattle.std.specs.List.{flat_map};
 ghost use Rattle.overlap_copy.specs.Words.{BeginsWithin, EachWithin, IsNested, assigned, count, items_at, joined_at, max_items, multiples, offsets, run_offsets, with_items};
@@ -8,7 +8,7 @@ use raw_block::{BlockBuilder, RawBlock};
 use shape_strides::{Layout, Run, RunPair, RunPairs, Shape, Strides};
 use std::alloc::{AllocError, Global};
 
-/// How many items are kept and written at a time: few enough for their bytes to be still near when
+/// How many items are kept and written at a time: few enough that they are still in the cache when
 /// they are written.
 const PART: usize = 1024;
 
@@ -36,9 +36,9 @@ fn split(run: Run, n: usize) -> (Run, Run)
     (front, rest)
 }
 
-/// Appends the items of the first run to those that are kept, and then copies those of the second one,
-/// in `other`, in their place. It stays out of line, where its loop is known to read one block and to
-/// write another.
+/// Appends the items of the first run to the kept ones, and then copies those of the second run, in
+/// `other`, to their places. It is not inlined, so that the compiler knows that its loop reads one
+/// block and writes another.
 #[inline(never)]
 fn overwrite_part(
     block: &mut RawBlock,
@@ -64,7 +64,7 @@ fn overwrite_part(
     copy_run(block, to, other, pair.second, width);
 }
 
-/// Keeps the items of the first run and writes those of the second one over them, part by part.
+/// Keeps the items of the first run and writes those of the second run over them, part by part.
 fn overwrite_run(
     block: &mut RawBlock,
     pair: RunPair,
@@ -133,9 +133,9 @@ fn overwrite_pairs(
     }
 }
 
-/// Writes the items of `width` bytes of the layout `src` in `other` over those of the layout `dst`, as
-/// many, each in C order, and hands out the old ones, one after another. It is one pass, part by part.
-/// All memory is asked for before the first change.
+/// Writes the items, of `width` bytes, of the layout `src` in `other` over those of the layout
+/// `dst`, both in C order, and returns the old ones, adjacent in a block of their own. This is a
+/// single pass, part by part. All memory is allocated before the first change.
 pub fn overwrite(
     alloc: Global,
     block: &mut RawBlock,
@@ -156,16 +156,16 @@ pub fn overwrite(
         ≡ items_at (offsets dst.now) width block.old) }
     ensures kept { IfErr result (λ _. block.new ≡ block.old) }
 {
-    // More bytes than there can be are refused as any others.
+    // More bytes than a block can have are refused like any others that cannot be allocated.
     let bytes = dst.shape.items().saturating_mul(width);
     let mut kept = BlockBuilder::try_new(alloc, bytes)?;
-    // For the prover alone: the bytes that are asked for are within the limit of a block.
+    // For the prover alone: the number of bytes is within the limit of a block.
     let _filled = kept.filled();
     overwrite_pairs(block, RunPairs::new(dst, src), other, width, &mut kept);
     Ok(kept.finish())
 }
 
-/// A layout of the same shape, each item of which begins at 0.
+/// A layout of the same shape with every item at offset 0.
 fn all_at_start(alloc: Global, layout: &Layout) -> Result<Layout, AllocError>
     ensures shape { IfOk result (λ l. l.shape ≡ layout.now.shape) }
     ensures offsets { IfOk result (λ l. offsets l
@@ -179,8 +179,8 @@ fn all_at_start(alloc: Global, layout: &Layout) -> Result<Layout, AllocError>
     }
 }
 
-/// Writes an item over each of those of the layout `dst`, and hands out the old ones, one after
-/// another: one pass, as `overwrite` is.
+/// Writes one item over all items of the layout `dst`, and returns the old ones, adjacent in a
+/// block of their own. This is a single pass, like `overwrite`.
 pub fn overwrite_each(
     alloc: Global,
     block: &mut RawBlock,

@@ -1,14 +1,14 @@
-//! Pairs of runs: copies or moves the items of the second one to those of the first.
+//! Pairs of runs: copies or moves the items of the second run to the first.
 ghost use Rattle.overlap_copy.specs.Words.{BeginsWithin, EachWithin, IsNested, assigned, max_bytes, max_items, offsets, run_offsets};
-ghost use Rattle.overlap_copy.specs.inside.Moves.{AreSpaced, IsAssigned, IsLine, IsTurned, LieApart, place_in};
+ghost use Rattle.overlap_copy.specs.inside.Moves.{AreAlike, IsAssigned, IsLine, IsTurned, LieApart, place_in};
 ghost use Rattle.std.specs.List.{flat_map};
-ghost use Rattle.std.specs.Prelude.{All, IfSome, IsTrue, length, neg_ℤ, pos, ◌*ℤ◌, ◌*◌, ◌+ℤ◌, ◌<ℤ◌, ◌↔◌, ◌≡◌, ◌≤ℤ◌, ◌≤◌};
+ghost use Rattle.std.specs.Prelude.{All, IfSome, IsTrue, length, neg_ℤ, pos, ◌*ℤ◌, ◌*◌, ◌+ℤ◌, ◌↔◌, ◌≡◌, ◌≤ℤ◌, ◌≤◌};
 
 use arrays::copy_run;
 use raw_block::RawBlock;
 use shape_strides::{Layout, Run, RunPair, RunPairs};
 
-/// The runs that the items of two layouts are, where each of them is one.
+/// The two layouts as runs, if each of them is a single run.
 pub(crate) fn as_runs(first: &Layout, second: &Layout) -> Option<RunPair>
     ensures first { IfSome result (λ pair. run_offsets pair.first ≡ offsets first.now) }
     ensures second { IfSome result (λ pair. run_offsets pair.second ≡ offsets second.now) }
@@ -20,8 +20,8 @@ pub(crate) fn as_runs(first: &Layout, second: &Layout) -> Option<RunPair>
     Some(RunPair { first, second })
 }
 
-/// Copies the items of `width` bytes of the second run of each pair, in `other`, to those of the
-/// first.
+/// Copies the items, of `width` bytes, of the second run of each pair, in `other`, to the first
+/// run.
 pub(crate) fn copy_pairs(block: &mut RawBlock, pairs: RunPairs<'_>, other: &RawBlock, width: usize)
     requires counts { All (λ pair. pair.first.count ≡ pair.second.count) pairs }
     requires to { All (λ pair.
@@ -39,8 +39,8 @@ pub(crate) fn copy_pairs(block: &mut RawBlock, pairs: RunPairs<'_>, other: &RawB
     }
 }
 
-/// Moves the items of `width` bytes of a run to those of a run, as many, none of which has a byte in
-/// common with them.
+/// Copies the items, of `width` bytes, of a run to another run of the same block that has as many.
+/// The two share no byte.
 fn move_apart(block: &mut RawBlock, to: Run, from: Run, width: usize)
     requires count { to.count ≡ from.count }
     requires to { EachWithin (length block.old) to.offset to.step width to.count }
@@ -60,8 +60,8 @@ fn move_apart(block: &mut RawBlock, to: Run, from: Run, width: usize)
     block.copy_strided_within(to.offset, to.step, from.offset, from.step, width, to.count);
 }
 
-/// Copies the items of `width` bytes of the second run of each pair to those of the first, where none
-/// that is written has a byte in common with one that is read.
+/// Copies the items, of `width` bytes, of the second run of each pair to the first run. No item
+/// that is written shares a byte with one that is read.
 pub(crate) fn move_pairs(block: &mut RawBlock, pairs: RunPairs<'_>, width: usize)
     requires counts { All (λ pair. pair.first.count ≡ pair.second.count) pairs }
     requires to { All (λ pair.
@@ -82,7 +82,7 @@ pub(crate) fn move_pairs(block: &mut RawBlock, pairs: RunPairs<'_>, width: usize
     }
 }
 
-/// A step back in place of a step on.
+/// The step in the opposite direction.
 fn opposite(step: isize) -> isize
     requires { pos 0 ≤ℤ (step +ℤ pos max_bytes) }
     ensures { result ≡ neg_ℤ step }
@@ -102,41 +102,27 @@ pub(crate) fn turned(run: Run) -> Run
     }
 }
 
-/// Whether two runs go by the same step.
+/// Whether two runs have the same step.
 pub(crate) fn have_same_step(run: Run, other: Run) -> bool
     ensures { IsTrue result ↔ run.step ≡ other.step }
 {
     run.step == other.step
 }
 
-/// Whether two runs begin at the same item and go by the same step.
+/// Whether two runs have the same first item and the same step.
 pub(crate) fn is_same_line(run: Run, other: Run) -> bool
     ensures { IsTrue result ↔ (run.offset ≡ other.offset) × (run.step ≡ other.step) }
 {
     have_same_step(run, other) && run.offset == other.offset
 }
 
-/// Whether items can move from the first to the last to those of a run with the same step: none is
-/// then written to before it is read.
-fn can_move_forwards(to: Run, from: Run) -> bool
-    ensures rising { pos 0 ≤ℤ to.step → IsTrue result ↔ to.offset ≤ from.offset }
-    ensures falling { to.step <ℤ pos 0 → IsTrue result ↔ from.offset ≤ to.offset }
-{
-    if to.step < 0 {
-        return from.offset <= to.offset;
-    }
-    to.offset <= from.offset
-}
-
-/// Moves the items of one run to those of another with the same step.
-pub(crate) fn move_run(block: &mut RawBlock, to: Run, from: Run, width: usize)
+/// Moves the items of a run whose step is not negative to another run with the same step, from the
+/// first to the last or from the last to the first, so that none is overwritten before it is read.
+fn move_forth(block: &mut RawBlock, to: Run, from: Run, width: usize)
     requires to_limit { IsLine max_bytes 1 to }
     requires from_limit { IsLine max_bytes 1 from }
-    requires to { IsLine (length block.old) width to }
-    requires from { IsLine (length block.old) width from }
-    requires step { from.step ≡ to.step }
-    requires count { from.count ≡ to.count }
-    requires spaced { AreSpaced width to }
+    requires alike { AreAlike (length block.old) width to from }
+    requires rising { pos 0 ≤ℤ to.step }
     ensures moved { IsAssigned to.count (place_in to)
         (place_in from) width block.old block.old block.new }
     ensures len { length block.new ≡ length block.old }
@@ -147,7 +133,7 @@ pub(crate) fn move_run(block: &mut RawBlock, to: Run, from: Run, width: usize)
         block.move_within(to.offset, from.offset, to.count * width);
         return;
     }
-    if can_move_forwards(to, from) {
+    if to.offset <= from.offset {
         block.copy_strided_within(to.offset, to.step, from.offset, from.step, width, to.count);
         return;
     }
@@ -156,13 +142,41 @@ pub(crate) fn move_run(block: &mut RawBlock, to: Run, from: Run, width: usize)
     block.copy_strided_within(to.offset, to.step, from.offset, from.step, width, to.count);
 }
 
-/// Moves the items of a run to where they are from the last to the first.
+/// Moves the items of a run to another run with the same step, whatever bytes they share.
+pub(crate) fn move_run(block: &mut RawBlock, to: Run, from: Run, width: usize)
+    requires some { 1 ≤ to.count }
+    requires few { to.count ≤ max_items }
+    requires count { from.count ≡ to.count }
+    requires step { from.step ≡ to.step }
+    requires to_limit { BeginsWithin to }
+    requires from_limit { BeginsWithin from }
+    requires to { EachWithin (length block.old) to.offset to.step width to.count }
+    requires from { EachWithin (length block.old) from.offset from.step width from.count }
+    requires nested { IsNested (run_offsets to) width }
+    ensures written { block.new
+        ≡ assigned (run_offsets to) (run_offsets from) width block.old block.old }
+    ensures len { length block.new ≡ length block.old }
+{
+    if to.count < 2 {
+        block.move_within(to.offset, from.offset, width);
+        return;
+    }
+    if to.step < 0 {
+        let to = turned(to);
+        let from = turned(from);
+        move_forth(block, to, from, width);
+        return;
+    }
+    move_forth(block, to, from, width);
+}
+
+/// Reverses the items of a run in place.
 pub(crate) fn turn_run(block: &mut RawBlock, run: Run, back: Run, width: usize)
-    requires run { IsLine (length block.old) width run }
+    requires run { EachWithin (length block.old) run.offset run.step width run.count }
     requires back { IsTurned run back }
-    requires spaced { AreSpaced width run }
-    ensures moved { IsAssigned run.count (place_in run)
-        (place_in back) width block.old block.old block.new }
+    requires nested { IsNested (run_offsets run) width }
+    ensures written { block.new
+        ≡ assigned (run_offsets run) (run_offsets back) width block.old block.old }
     ensures len { length block.new ≡ length block.old }
 {
     block.swap_strided(

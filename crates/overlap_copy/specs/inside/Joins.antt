@@ -3,7 +3,7 @@ use Rattle.std.specs.Prelude.{◌≡◌, ℕ, ◌*◌, ◌/◌, ◌≤◌, List}
 use Rattle.overlap_copy.specs.Words.{Axis}
 use Rattle.overlap_copy.specs.inside.Sums.{reach_of, AreForward, HasSum}
 
--- a step of the wide axis is a number of steps of the narrow one, which has so many items
+-- a step of the wide axis is a whole number of steps of the narrow one, at most as many as it has items
 pub record GoesOn (wide narrow : Axis) : Type 0 where
   pub times : wide.step ≡ narrow.step * (wide.step / narrow.step)
   pub items : wide.step / narrow.step ≤ narrow.len

@@ -1,7 +1,7 @@
 -- Moves of items within one block, by index: the k-th item goes to one place from another.
 use Rattle.std.specs.Prelude.{◌≡◌, ℕ, ◌+◌, ◌-◌, ◌<◌, ◌≤◌, ◌⊎◌, pos, neg_ℤ, ◌+ℤ◌, ◌*ℤ◌, List, [], ◌∷◌, length, slice_index}
 use Rattle.std.specs.List.{AllByRecursion as Each}
-use Rattle.overlap_copy.specs.Words.{item_at, place, Run, max_items, max_bytes, LieWithin, distance, run_offsets}
+use Rattle.overlap_copy.specs.Words.{EachWithin, item_at, place, Run, max_items, LieWithin, distance}
 
 -- a byte lies outside of n items
 abbrev pub IsOutside : ℕ → (ℕ → ℕ) → ℕ → ℕ → Type 0
@@ -33,10 +33,14 @@ pub record IsTurned (run back : Run) : Type 0 where
   pub step : back.step ≡ neg_ℤ run.step
   pub count : back.count ≡ run.count
 
--- a run whose items are those of a list, each within a buffer
-pub record IsRunOf (offsets : List ℕ) (run : Run) : Type 0 where
-  pub items : run_offsets run ≡ offsets
-  pub line : IsLine max_bytes 1 run
+-- two runs of one step with two items or more each, within so many bytes: those of the first lie apart
+pub record AreAlike (len width : ℕ) (to from : Run) : Type 0 where
+  pub two : 2 ≤ to.count
+  pub count : from.count ≡ to.count
+  pub step : from.step ≡ to.step
+  pub to_in : EachWithin len to.offset to.step width to.count
+  pub from_in : EachWithin len from.offset from.step width to.count
+  pub spaced : AreSpaced width to
 
 -- an item at this offset lies apart from the items at all of these
 abbrev pub LiesApart : ℕ → ℕ → List ℕ → Type 0

@@ -1,5 +1,5 @@
 use Rattle.overlap_copy.proofs.SearchLaws.{no_axis}
-use Rattle.overlap_copy.proofs.JoinLaws.{wide_some, narrow_some, put_first, put_joined}
+use Rattle.overlap_copy.proofs.JoinLaws.{wide_some, narrow_some, put_joined}
 use Rattle.overlap_copy.proofs.by_axes.put_before.Goals as goal
 
 pub goes_on-requires : goal.goes_on-requires
@@ -17,6 +17,3 @@ joined-requires-clause-narrow c = (narrow_some c.args.wide c.args.axes.now c.arg
 pub returns-then-goes_on-clause-joined : goal.returns-then-goes_on-clause-joined
 returns-then-goes_on-clause-joined c =
     put_joined c.args.wide c.joined.result c.args.axes.now c.args.from no_axis c.if-from-axes.true c.requires.forward c.joined.ensures.step c.joined.ensures.some c.joined.ensures.reach (c.joined.ensures.same _)
-
-pub returns-clause-joined : goal.returns-clause-joined
-returns-clause-joined c = put_first c.args.wide c.args.axes.now c.args.from c.requires.some c.requires.within c.requires.forward

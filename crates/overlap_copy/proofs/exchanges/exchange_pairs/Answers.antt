@@ -19,7 +19,7 @@ trade_run-requires c =
     let pair = c.in-Some.pair in
     let found = c.in-Some.ensures in
     record {
-      count = as_many c.args.dst.now c.args.src.now pair c.requires.count found.first found.second;
+      count = as_many c.args.dst.now c.args.src.now pair.first pair.second c.requires.count found.first found.second;
       to = one-within (length c.args.block.now) c.args.width pair.first (offsets c.args.dst.now) found.first_lies found.first c.requires.dst;
       from = one-within (length c.args.other.now) c.args.width pair.second (offsets c.args.src.now) found.second_lies found.second c.requires.src;
     }

@@ -1,8 +1,6 @@
-use Rattle.std.proofs.Common.{◌≡◌, length, ap, sym, subst, ◌∙◌}
+use Rattle.std.proofs.Common.{◌≡◌, length, sym, subst, ◌∙◌}
 use Rattle.std.proofs.lemmas.List.Elements.{All-rest}
 use Rattle.overlap_copy.specs.Words.{EachWithin, next_pair}
-use Rattle.overlap_copy.specs.inside.Trades.{traded_at}
-use Rattle.overlap_copy.proofs.PairCopies.{firsts, seconds}
 use Rattle.overlap_copy.proofs.TradeLaws.{traded-pair}
 use Rattle.overlap_copy.proofs.exchanges.trade_pairs.Goals as goal
 
@@ -24,13 +22,3 @@ loop-pair-preserved c = record {
   to = All-rest (λ pair. EachWithin (length c.args.block.now) pair.first.offset pair.first.step c.args.width pair.first.count) _ _ _ c.in-Some.ensures.steps c.loop-pair.invariant.to;
   from = All-rest (λ pair. EachWithin (length c.args.other.now) pair.second.offset pair.second.step c.args.width pair.second.count) _ _ _ c.in-Some.ensures.steps c.loop-pair.invariant.from;
 }
-
-pub returns-clause-traded : goal.returns-clause-traded
-returns-clause-traded c =
-    ap (λ pairs. traded_at (firsts pairs) (seconds pairs) c.args.width (c.loop-pair.block, c.loop-pair.other)) (sym c.in-None.ensures.steps.0) ∙ c.loop-pair.invariant.rest
-
-pub returns-clause-len : goal.returns-clause-len
-returns-clause-len c = c.loop-pair.invariant.len
-
-pub returns-clause-other_len : goal.returns-clause-other_len
-returns-clause-other_len c = c.loop-pair.invariant.other_len

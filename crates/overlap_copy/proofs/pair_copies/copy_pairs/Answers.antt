@@ -1,7 +1,7 @@
-use Rattle.std.proofs.Common.{◌≡◌, length, ap, sym, subst, ◌∙◌}
+use Rattle.std.proofs.Common.{◌≡◌, length, sym, subst, ◌∙◌}
 use Rattle.std.proofs.lemmas.List.Elements.{All-rest}
-use Rattle.overlap_copy.specs.Words.{EachWithin, assigned, next_pair}
-use Rattle.overlap_copy.proofs.PairCopies.{firsts, seconds, copied-pair}
+use Rattle.overlap_copy.specs.Words.{EachWithin, next_pair}
+use Rattle.overlap_copy.proofs.PairCopies.{copied-pair}
 use Rattle.overlap_copy.proofs.pair_copies.copy_pairs.Goals as goal
 
 pub copy_run-requires : goal.copy_run-requires
@@ -20,10 +20,3 @@ loop-pair-preserved c = record {
   to = All-rest (λ pair. EachWithin (length c.args.block.now) pair.first.offset pair.first.step c.args.width pair.first.count) _ _ _ c.in-Some.ensures.steps c.loop-pair.invariant.to;
   from = All-rest (λ pair. EachWithin (length c.args.other.now) pair.second.offset pair.second.step c.args.width pair.second.count) _ _ _ c.in-Some.ensures.steps c.loop-pair.invariant.from;
 }
-
-pub returns-clause-written : goal.returns-clause-written
-returns-clause-written c =
-    ap (λ pairs. assigned (firsts pairs) (seconds pairs) c.args.width c.args.other.now c.loop-pair.block) (sym c.in-None.ensures.steps.0) ∙ c.loop-pair.invariant.rest
-
-pub returns-clause-len : goal.returns-clause-len
-returns-clause-len c = c.loop-pair.invariant.len

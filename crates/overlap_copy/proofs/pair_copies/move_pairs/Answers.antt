@@ -2,7 +2,7 @@ use Rattle.std.proofs.Common.{◌≡◌, ◌++◌, length, All, sym, subst, ◌�
 use Rattle.std.proofs.lemmas.List.Elements.{All-rest}
 use Rattle.overlap_copy.specs.Words.{EachWithin, IsNested, run_offsets, length-run_offsets, assigned, next_pair}
 use Rattle.overlap_copy.specs.inside.Moves.{LieApart}
-use Rattle.overlap_copy.proofs.PairCopies.{firsts, seconds, firsts-end, seconds-end}
+use Rattle.overlap_copy.proofs.PairCopies.{firsts, seconds, ends-of}
 use Rattle.overlap_copy.proofs.MovingLaws.{IsMoving, moving_begins, moving_on, nested-front, nested-back, fewer-targets, fewer-sources}
 use Rattle.overlap_copy.proofs.pair_copies.move_pairs.Goals as goal
 
@@ -19,7 +19,7 @@ loop-pair-init c =
       nested : IsNested (firsts left) width;
       apart : LieApart width (firsts left) (seconds left);
     }) (sym c.into_iter-pair-iterator.ensures.into_iter_gives) (record {
-      moving = moving_begins (firsts pairs) (seconds pairs) width c.args.block.now (firsts-end pairs len width c.requires.to) (seconds-end pairs len width c.requires.from);
+      moving = moving_begins (firsts pairs) (seconds pairs) width c.args.block.now (ends-of (λ pair. pair.first) pairs len width c.requires.to) (ends-of (λ pair. pair.second) pairs len width c.requires.from);
       counts = c.requires.counts;
       to = c.requires.to;
       from = c.requires.from;

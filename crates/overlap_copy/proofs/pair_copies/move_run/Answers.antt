@@ -1,95 +1,62 @@
-use Rattle.std.proofs.Common.{rules, ◌≡◌, length, arith, w64, refl, sym, subst, ◌∙◌}
-use Rattle.std.proofs.lemmas.Int.{to_z-of_z}
+use Rattle.std.proofs.Common.{rules, ◌≡◌, ◌≤ℤ◌, ◌<ℤ◌, ℤ, pos, negsuc, true, length, w64, sym, ap, subst, ◌∙◌, arith}
+use Rattle.std.specs.Prelude.{int_lt, neg_ℤ}
+use Rattle.std.proofs.lemmas.Int.{ints, to_z-of_z}
 use mir.Val.{SFits}
-use Rattle.overlap_copy.specs.Words.{EachWithin, copied_within}
-use Rattle.overlap_copy.specs.inside.Moves.{IsAssigned, place_in}
-use Rattle.overlap_copy.proofs.TurnLaws.{alike, line_within, turned_within, moved_forwards, moved_backwards, down_from}
-use Rattle.overlap_copy.proofs.RunCopyLaws.{whole_within, packed_moved}
+use Rattle.overlap_copy.specs.Words.{EachWithin, assigned}
+use Rattle.overlap_copy.specs.inside.Moves.{AreAlike}
+use Rattle.overlap_copy.proofs.MovingLaws.{assigned_from_moves}
+use Rattle.overlap_copy.proofs.ShiftLaws.{back-line, one-offset}
+use Rattle.overlap_copy.proofs.TurnLaws.{spaced, back-alike, back-moved}
 use Rattle.overlap_copy.proofs.pair_copies.move_run.Goals as goal
+use Rattle.overlap_copy.proofs.pair_copies.move_run.Goals.{Else-to-lt2}
 
-pub copy_strided_within-requires-clause-dst : goal.copy_strided_within-requires-clause-dst
-copy_strided_within-requires-clause-dst c =
+pub returns-then-to-lt2-clause-written : goal.returns-then-to-lt2-clause-written
+returns-then-to-lt2-clause-written c =
+    let to = one-offset c.args.to (omega (arith, c.requires.some, c.if-to-lt2.true)) in
+    let from = one-offset c.args.from (omega (arith, c.requires.some, c.requires.count, c.if-to-lt2.true)) in
+    c.move_within.ensures.moved ∙ (λ i. assigned (sym to i) (sym from i) c.args.width c.args.block.now c.args.block.now)
+
+alike : (c : Else-to-lt2) → AreAlike (length c.args.block.now) c.args.width c.args.to c.args.from
+alike c =
+    let len = length c.args.block.now in
+    record {
+      two = omega (arith, c.if-to-lt2.false);
+      count = c.requires.count;
+      step = c.requires.step;
+      to_in = c.requires.to;
+      from_in = subst (EachWithin len c.args.from.offset c.args.from.step c.args.width) c.requires.count c.requires.from;
+      spaced = spaced len c.args.width c.args.to c.requires.to c.requires.nested;
+    }
+
+under : (s : ℤ) → int_lt s (pos 0) ≡ true → s <ℤ pos 0
+under s test = omega (arith, ints)
+
+rises : (s : ℤ) → s <ℤ pos 0 → pos 0 ≤ℤ neg_ℤ s
+rises (pos n) below = absurd (omega (arith, ints))
+rises (negsuc n) below = omega (arith, ints)
+
+pub move_forth-requires : goal.move_forth-requires
+move_forth-requires c =
+    let to = c.turned-to.result in
+    let from = c.turned-from.result in
     let fits : SFits w64 c.args.to.step = search rules in
-    subst (λ s. EachWithin (length c.args.block.now) c.args.to.offset s c.args.width c.args.to.count) (sym (to_z-of_z w64 c.args.to.step fits)) (line_within (length c.args.block.now) c.args.width c.args.to c.requires.to)
+    let below = under c.args.to.step (ap (λ z. int_lt z (pos 0)) (sym (to_z-of_z w64 c.args.to.step fits)) ∙ c.if-to-lt0.true) in
+    record {
+      to_limit = back-line c.args.to to c.turned-to.ensures (record { two = omega (arith, c.if-to-lt2.false); few = c.requires.few; lies = c.requires.to_limit });
+      from_limit = back-line c.args.from from c.turned-from.ensures (record { two = omega (arith, c.if-to-lt2.false, c.requires.count); few = omega (arith, c.requires.few, c.requires.count); lies = c.requires.from_limit });
+      alike = back-alike (length c.args.block.now) c.args.width c.args.to c.args.from to from (alike (goal.at.move_forth-requires c).Else-to-lt2) c.turned-to.ensures c.turned-from.ensures;
+      rising = subst (λ s. pos 0 ≤ℤ s) (sym c.turned-to.ensures.step) (rises c.args.to.step below);
+    }
 
-pub copy_strided_within-requires-clause-src : goal.copy_strided_within-requires-clause-src
-copy_strided_within-requires-clause-src c =
-    let fits : SFits w64 c.args.from.step = search rules in
-    subst (λ s. EachWithin (length c.args.block.now) c.args.from.offset s c.args.width c.args.to.count) (sym (to_z-of_z w64 c.args.from.step fits))
-    (subst (λ n. EachWithin (length c.args.block.now) c.args.from.offset c.args.from.step c.args.width n) c.requires.count (line_within (length c.args.block.now) c.args.width c.args.from c.requires.from))
+pub returns-then-to-lt0-clause-written : goal.returns-then-to-lt0-clause-written
+returns-then-to-lt0-clause-written c =
+    let new = c.move_forth.new.block in
+    assigned_from_moves c.args.to c.args.from c.args.width c.args.block.now new (sym c.requires.count) c.requires.to c.requires.from c.requires.nested
+    (back-moved (length c.args.block.now) c.args.width c.args.to c.args.from c.turned-to.result c.turned-from.result (alike (goal.at.returns-then-to-lt0-clause-written c).Else-to-lt2) c.turned-to.ensures c.turned-from.ensures c.args.block.now new c.move_forth.ensures.moved)
 
-pub returns-then-can_move_forwards-clause-moved : goal.returns-then-can_move_forwards-clause-moved
-returns-then-can_move_forwards-clause-moved c =
-    let to = c.args.to in
-    let from = c.args.from in
-    let old = c.args.block.now in
-    let fits : SFits w64 to.step = search rules in
-    let fits' : SFits w64 from.step = search rules in
-    let a = alike (length old) c.args.width to from c.requires.to c.requires.from c.requires.step c.requires.count c.requires.spaced in
-    let moved = moved_forwards c.args.width old to from a (λ rising. (c.if-can_move_forwards.ensures.rising rising).0 refl) (λ falling. (c.if-can_move_forwards.ensures.falling falling).0 refl) in
-    let is : c.copy_strided_within.new.self ≡ copied_within to.offset to.step from.offset from.step c.args.width to.count old = c.copy_strided_within.ensures.copied ∙ (λ i. copied_within to.offset (to_z-of_z w64 to.step fits i) from.offset (to_z-of_z w64 from.step fits' i) c.args.width to.count old) in
-    subst (IsAssigned to.count (place_in to) (place_in from) c.args.width old old) (sym is) moved
+pub move_forth-requires-2-clause-alike : goal.move_forth-requires-2-clause-alike
+move_forth-requires-2-clause-alike c = alike (goal.at.move_forth-requires-2-clause-alike c).Else-to-lt2
 
-pub copy_strided_within-requires-2-clause-dst : goal.copy_strided_within-requires-2-clause-dst
-copy_strided_within-requires-2-clause-dst c =
-    let back = c.turned-to.result in
-    let len = length c.args.block.now in
-    let fits : SFits w64 back.step = search rules in
-    let within = turned_within len c.args.width c.args.to back c.turned-to.ensures (line_within len c.args.width c.args.to c.requires.to) in
-    subst (λ s. EachWithin len back.offset s c.args.width back.count) (sym (to_z-of_z w64 back.step fits)) (subst (λ n. EachWithin len back.offset back.step c.args.width n) (sym c.turned-to.ensures.count) within)
-
-pub copy_strided_within-requires-2-clause-src : goal.copy_strided_within-requires-2-clause-src
-copy_strided_within-requires-2-clause-src c =
-    let back = c.turned-from.result in
-    let len = length c.args.block.now in
-    let fits : SFits w64 back.step = search rules in
-    let within = turned_within len c.args.width c.args.from back c.turned-from.ensures (line_within len c.args.width c.args.from c.requires.from) in
-    subst (λ s. EachWithin len back.offset s c.args.width c.turned-to.result.count) (sym (to_z-of_z w64 back.step fits)) (subst (λ n. EachWithin len back.offset back.step c.args.width n) (c.requires.count ∙ sym c.turned-to.ensures.count) within)
-
-pub returns-clause-moved : goal.returns-clause-moved
-returns-clause-moved c =
-    let to = c.args.to in
-    let from = c.args.from in
-    let to' = c.turned-to.result in
-    let from' = c.turned-from.result in
-    let old = c.args.block.now in
-    let fits : SFits w64 to'.step = search rules in
-    let fits' : SFits w64 from'.step = search rules in
-    let a = alike (length old) c.args.width to from c.requires.to c.requires.from c.requires.step c.requires.count c.requires.spaced in
-    let forth = c.can_move_forwards.result in
-    let moved = moved_backwards c.args.width old to from to' from' a c.requires.count c.turned-to.ensures c.turned-from.ensures (λ rising. down_from to.offset from.offset forth (c.can_move_forwards.ensures.rising rising) c.if-can_move_forwards.false) (λ falling. down_from from.offset to.offset forth (c.can_move_forwards.ensures.falling falling) c.if-can_move_forwards.false) in
-    let is : c.copy_strided_within-2.new.self ≡ copied_within to'.offset to'.step from'.offset from'.step c.args.width to.count old = c.copy_strided_within-2.ensures.copied ∙ (λ i. copied_within to'.offset (to_z-of_z w64 to'.step fits i) from'.offset (to_z-of_z w64 from'.step fits' i) c.args.width (c.turned-to.ensures.count i) old) in
-    subst (IsAssigned to.count (place_in to) (place_in from) c.args.width old old) (sym is) moved
-
-pub move_within-requires-clause-dst : goal.move_within-requires-clause-dst
-move_within-requires-clause-dst c =
-    let to = c.args.to in
-    let len = length c.args.block.now in
-    whole_within len to.offset c.args.width to.count to.step (omega (arith, c.requires.to.two)) (c.is_packed.ensures.0 c.if-is_packed.true) (line_within len c.args.width to c.requires.to)
-
-pub move_within-requires-clause-src : goal.move_within-requires-clause-src
-move_within-requires-clause-src c =
-    let to = c.args.to in
-    let from = c.args.from in
-    let len = length c.args.block.now in
-    let within = subst (λ n. EachWithin len from.offset from.step c.args.width n) c.requires.count (line_within len c.args.width from c.requires.from) in
-    whole_within len from.offset c.args.width to.count from.step (omega (arith, c.requires.to.two)) (c.requires.step ∙ c.is_packed.ensures.0 c.if-is_packed.true) within
-
-pub returns-then-is_packed-clause-moved : goal.returns-then-is_packed-clause-moved
-returns-then-is_packed-clause-moved c =
-    let to = c.args.to in
-    let from = c.args.from in
-    let len = length c.args.block.now in
-    let is = c.is_packed.ensures.0 c.if-is_packed.true in
-    let within = subst (λ n. EachWithin len from.offset from.step c.args.width n) c.requires.count (line_within len c.args.width from c.requires.from) in
-    packed_moved to from c.args.width c.args.block.now c.move_within.new.self is c.requires.step
-    (whole_within len to.offset c.args.width to.count to.step (omega (arith, c.requires.to.two)) is (line_within len c.args.width to c.requires.to))
-    (whole_within len from.offset c.args.width to.count from.step (omega (arith, c.requires.to.two)) (c.requires.step ∙ is) within)
-    c.move_within.ensures.moved
-
-pub overflow_mul-to : goal.overflow_mul-to
-overflow_mul-to c =
-    let to = c.args.to in
-    let len = length c.args.block.now in
-    let all = whole_within len to.offset c.args.width to.count to.step (omega (arith, c.requires.to.two)) (c.is_packed.ensures.0 c.if-is_packed.true) (line_within len c.args.width to c.requires.to) in
-    record { fits = omega (arith, all, c.len-len.ensures.len, c.len-len.ensures.small) }
+pub returns-clause-written : goal.returns-clause-written
+returns-clause-written c =
+    assigned_from_moves c.args.to c.args.from c.args.width c.args.block.now c.move_forth-2.new.block (sym c.requires.count) c.requires.to c.requires.from c.requires.nested c.move_forth-2.ensures.moved

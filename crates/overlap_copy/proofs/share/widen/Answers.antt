@@ -1,10 +1,7 @@
 use Rattle.std.proofs.Common.{◌+◌, ◌<◌, length, set, nat_lt, sym, subst, arith}
-use Rattle.overlap_copy.proofs.MarkLaws.{Widens, widens-start, widens-next_set, widens-next_clear}
+use Rattle.overlap_copy.proofs.MarkLaws.{Widens, widens-next_set, widens-next_clear}
 use Rattle.overlap_copy.proofs.share.widen.Goals.{then-marks-at, else-marks-at}
 use Rattle.overlap_copy.proofs.share.widen.Goals as goal
-
-pub loop-at-init : goal.loop-at-init
-loop-at-init c = widens-start c.args.marks.now c.args.width
 
 pub loop-at-preserved : goal.loop-at-preserved
 loop-at-preserved c =
@@ -15,6 +12,3 @@ loop-at-preserved c =
       | then-marks-at w ↦ widens-next_set c.args.marks.now c.loop-at.marks c.args.width c.loop-at.at c.loop-at.left c.if-marks-at.left c.requires inside c.loop-at.invariant w.if-marks-at.true w.left-is
       | else-marks-at w ↦ widens-next_clear c.args.marks.now c.loop-at.marks c.args.width c.loop-at.at c.loop-at.left c.if-marks-at.left c.requires inside c.loop-at.invariant w.if-marks-at.false w.left-is
     ])
-
-pub returns-clause-value : goal.returns-clause-value
-returns-clause-value c = λ i inside. c.loop-at.invariant.done i (omega (arith, inside, c.loop-at-test.false))
