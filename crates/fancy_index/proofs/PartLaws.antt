@@ -57,9 +57,6 @@ named_more parts k part low is before here = list_all_more is_named parts k part
 pub outside-at : (parts : List IndexPart) (k : ℕ) (part : IndexPart) (e : Refusal) → k < length parts → get_or parts k part ≡ part → IsOutside (is_named part) e → IsOutside (all_named parts) e
 outside-at parts k part e low is outside = outside-by (is_named part) (all_named parts) e (λ fails. list_all_at is_named parts k part low (ap is_named is ∙ fails)) outside
 
-pub named-all : (parts : List IndexPart) (k : ℕ) → length parts ≤ k → all_named (take k parts) ≡ true → check (all_named parts) IndexOutOfRange ≡ Ok tt
-named-all parts k all named = ap (λ t. check t IndexOutOfRange) (ap all_named (sym (take_all k parts all)) ∙ named)
-
 -- ---- what is added
 
 pub adds_points : (old new : List IndexPart) (axes : List ℕ) (p : PointList) (parts : List Part) → (test : Bool) → IsPart axes test p parts → new ≡ old ++ PointsPart p ∷ [] → AddsParts old new axes test parts

@@ -89,14 +89,6 @@ by_all false all places is = absurd (false≢true (ap is_ok is))
 pub places-named : (n : ℕ) (numbers : List ℤ) (places : List ℕ) → named_places n numbers ≡ Ok places → (list_all (is_place n) numbers ≡ true) × (places ≡ map (place_of n) numbers)
 places-named n numbers places is = by_all (list_all (is_place n) numbers) (map (place_of n) numbers) places is
 
-by_none : (test : Bool) (all : List ℕ) (e : Refusal) → cond test (Ok all) (Err IndexOutOfRange) ≡ Err e → check test IndexOutOfRange ≡ Err e
-by_none true all e is = absurd (false≢true (sym (ap is_ok is)))
-by_none false all e is = ap Err (subst (λ r. IfErr r (λ refusal. IndexOutOfRange ≡ refusal)) is refl)
-
-pub names_refused : (n : ℕ) (numbers : List ℤ) (test : Bool) (e : Refusal) → test ≡ list_all (is_place n) numbers → (e ≡ OutOfMemory) ⊎ (named_places n numbers ≡ Err e) → (e ≡ OutOfMemory) ⊎ (check test IndexOutOfRange ≡ Err e)
-names_refused n numbers test e is (inl none) = inl none
-names_refused n numbers test e is (inr out) = inr (ap (λ t. check t IndexOutOfRange) is ∙ by_none (list_all (is_place n) numbers) (map (place_of n) numbers) e out)
-
 -- ---- a loop over the numbers
 
 pub no_places : (n : ℕ) (numbers : List ℤ) (places : List ℕ) → length places ≡ length numbers → ArePlacesTo n 0 true numbers places

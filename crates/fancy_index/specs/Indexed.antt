@@ -5,7 +5,7 @@ use Rattle.fancy_index.specs.Words.{Refusal, NotAnIndexType, TooManyIndices, Mas
 use Rattle.fancy_index.specs.IndexArrays.{IndexArray, is_index, array_axes_taken, cover, are_within}
 use Rattle.fancy_index.specs.Parts.{Part, parts, point_shapes, other_axes, points_place, leads}
 
--- lengths that do not go together are told as those of index arrays
+-- lengths that do not broadcast are refused as those of index arrays
 abbrev pub as_index_shapes : Result (List ℕ) Refusal → Result (List ℕ) Refusal
 as_index_shapes (Ok lengths) = Ok lengths
 as_index_shapes (Err refusal) = Err IndexShapes
@@ -18,7 +18,8 @@ points_shape parts = as_index_shapes (common_with [] (point_shapes parts))
 abbrev pub all_axes : List ℕ → List Part → List ℕ
 all_axes points parts = take (points_place parts) (other_axes parts) ++ points ++ drop (points_place parts) (other_axes parts)
 
--- where an index of the result leads, whose numbers on so many axes from the points' place on are those of the points
+-- the index that an index of the result leads to; its numbers on `axes` axes, starting at the points' place, are those
+-- of the points
 abbrev pub leads_through : ℕ → List Part → List ℕ → List ℕ
 leads_through axes parts index =
     let place = points_place parts in

@@ -1,4 +1,5 @@
-//! The checks of an index list with arrays, each of which covers the whole list.
+//! The checks of an index list with arrays. Each check covers the whole list before the next one
+//! begins.
 ghost use Rattle.std.specs.Prelude.{◌≡◌, ◌≤◌, length, nat_le, IfOk, IfErr, Err};
 ghost use Rattle.std.specs.List.{list_all};
 ghost use Rattle.fancy_index.specs.Words.{max_axes};
@@ -24,7 +25,7 @@ fn is_index(item: IndexItem<Items<'_>>) -> bool
     }
 }
 
-/// Whether each array in the list stands for some index.
+/// Whether each array in the list can be an index.
 fn are_indexes(items: &[IndexItem<Items<'_>>]) -> bool
     ensures { result ≡ list_all is_index (index_items items.now) }
 {
@@ -48,7 +49,7 @@ fn covers(axes: &[usize], item: IndexItem<Items<'_>>) -> bool
     }
 }
 
-/// Whether each mask is as long as the axes that it stands for.
+/// Whether each mask has the lengths of its axes.
 fn cover(left: Left<'_>) -> bool
     ensures { result ≡ cover left.entry.axes.now (items_left left.entry) }
 {
@@ -61,7 +62,8 @@ fn cover(left: Left<'_>) -> bool
     true
 }
 
-/// An index list along the axes that it takes, or its first refusal before its numbers and its shapes.
+/// An index list with the axes that it takes, or the first refusal of the checks that come before
+/// those of numbers and shapes.
 pub(crate) fn check<'a>(
     axes: &'a [usize],
     items: &'a [IndexItem<Items<'a>>],

@@ -1,4 +1,4 @@
-//! Items gathered from where a plan leads, items copied there, and one item written there: strictly one
+//! Gathers the items of a plan, copies items to them, and fills them with one item, strictly one
 //! after the other.
 ghost use Rattle.fancy_index.specs.Plans.{put_each};
 ghost use Rattle.fancy_index.specs.Words.{joined_at};
@@ -11,8 +11,8 @@ use arrays::{copy_run, packed_run};
 use raw_block::{BlockBuilder, RawBlock};
 use shape_strides::{Runs, Walk};
 
-/// Pushes the items of `width` bytes of a layout that is moved, run by run.
-fn push_by_runs(
+/// Appends the items, of `width` bytes, of a shifted layout, run by run.
+fn push_moved(
     items: BlockBuilder,
     block: &RawBlock,
     source: MovedLayout<'_>,
@@ -24,6 +24,10 @@ fn push_by_runs(
     ensures left { length (moved_offsets source.entry) * width + result.1 ≡ items.1 }
 {
     let mut items = items;
+    if let Some(run) = source.as_run() {
+        items.push_strided(block, run.offset, run.step, width, run.count);
+        return items;
+    }
     for run in Runs::new(source.layout) {
         let from = moved_run(run, source.layout.offset, source.start);
         items.push_strided(block, from.offset, from.step, width, from.count);
@@ -31,29 +35,7 @@ fn push_by_runs(
     items
 }
 
-/// Pushes the items of `width` bytes of a layout that is moved.
-fn push_from(
-    items: BlockBuilder,
-    block: &RawBlock,
-    source: MovedLayout<'_>,
-    width: usize,
-) -> BlockBuilder
-    requires inside { All (λ offset. offset + width ≤ length block.now) (moved_offsets source) }
-    requires room { length (moved_offsets source) * width ≤ items.1 }
-    ensures bytes { result.0 ≡ items.0 ++ joined_at (moved_offsets source.entry) width block.now }
-    ensures left { length (moved_offsets source.entry) * width + result.1 ≡ items.1 }
-{
-    match source.as_run() {
-        Some(run) => {
-            let mut items = items;
-            items.push_strided(block, run.offset, run.step, width, run.count);
-            items
-        }
-        None => push_by_runs(items, block, source, width),
-    }
-}
-
-/// Pushes the items from a place on, once for each shift. Inner axes of one item need no walk.
+/// Appends the items of the inner axes, once for each shift. Inner axes of one item need no walk.
 fn push_shifted(
     items: BlockBuilder,
     block: &RawBlock,
@@ -76,12 +58,12 @@ fn push_shifted(
             layout: inner,
             start: from,
         };
-        items = push_from(items, block, source, width);
+        items = push_moved(items, block, source, width);
     }
     items
 }
 
-/// Pushes all items to which the axes lead.
+/// Appends all items of the axes.
 pub(crate) fn push_all(
     items: BlockBuilder,
     block: &RawBlock,
@@ -100,9 +82,9 @@ pub(crate) fn push_all(
     items
 }
 
-/// Copies items of `width` bytes that lie one after another from `at` on to those of a layout that is
-/// moved, run by run. The result is where they end.
-fn scatter_by_runs(
+/// Copies adjacent items of `width` bytes, starting at `at`, to those of a shifted layout, run by
+/// run. Returns where the copied items end.
+fn scatter_moved(
     block: &mut RawBlock,
     target: MovedLayout<'_>,
     items: &RawBlock,
@@ -117,49 +99,22 @@ fn scatter_by_runs(
     ensures end { result ≡ at + length (moved_offsets target.entry) * width }
 {
     let len = items.len();
+    if let Some(run) = target.as_run() {
+        let from = packed_run(at, width, run.count, len);
+        copy_run(block, run, items, from, width);
+        return at + run.count * width;
+    }
     let mut at = at;
     for run in Runs::new(target.layout) {
         let to = moved_run(run, target.layout.offset, target.start);
-        copy_run(
-            block,
-            to,
-            items,
-            packed_run(at, width, run.count, len),
-            width,
-        );
+        let from = packed_run(at, width, run.count, len);
+        copy_run(block, to, items, from, width);
         at += run.count * width;
     }
     at
 }
 
-/// Copies items of `width` bytes that lie one after another from `at` on to those of a layout that is
-/// moved. The result is where they end.
-fn scatter_from(
-    block: &mut RawBlock,
-    target: MovedLayout<'_>,
-    items: &RawBlock,
-    at: usize,
-    width: usize,
-) -> usize
-    requires inside { All (λ offset. offset + width ≤ length block.old) (moved_offsets target) }
-    requires room { at + length (moved_offsets target) * width ≤ length items.now }
-    ensures written { block.new
-        ≡ put_packed (moved_offsets target.entry) at width items.now block.old }
-    ensures len { length block.new ≡ length block.old }
-    ensures end { result ≡ at + length (moved_offsets target.entry) * width }
-{
-    let len = items.len();
-    match target.as_run() {
-        Some(run) => {
-            let from = packed_run(at, width, run.count, len);
-            copy_run(block, run, items, from, width);
-            at + run.count * width
-        }
-        None => scatter_by_runs(block, target, items, at, width),
-    }
-}
-
-/// Copies items to those from a place on, once for each shift. Inner axes of one item need no walk.
+/// Copies items to the inner axes, once for each shift. Inner axes of one item need no walk.
 fn scatter_shifts(
     block: &mut RawBlock,
     rows: Shifted<'_>,
@@ -185,12 +140,12 @@ fn scatter_shifts(
             layout: inner,
             start: to,
         };
-        at = scatter_from(block, target, items, at, width);
+        at = scatter_moved(block, target, items, at, width);
     }
     at
 }
 
-/// Copies the items, from their start on, to all to which the axes lead.
+/// Copies the items to all items of the axes.
 pub(crate) fn scatter(block: &mut RawBlock, axes: &PlanAxes, items: &RawBlock, width: usize)
     requires inside { All (λ offset. offset + width ≤ length block.old) (offsets_from axes.now) }
     requires room { length (offsets_from axes.now) * width ≤ length items.now }
@@ -203,31 +158,23 @@ pub(crate) fn scatter(block: &mut RawBlock, axes: &PlanAxes, items: &RawBlock, w
     }
 }
 
-/// Writes the item to those of a layout that is moved, run by run.
-fn fill_by_runs(block: &mut RawBlock, target: MovedLayout<'_>, item: &[u8])
+/// Writes the item to those of a shifted layout, run by run.
+fn fill_moved(block: &mut RawBlock, target: MovedLayout<'_>, item: &[u8])
     requires { All (λ offset. offset + length item.now ≤ length block.old) (moved_offsets target) }
     ensures written { block.new ≡ put_each (moved_offsets target.entry) item.now block.old }
     ensures len { length block.new ≡ length block.old }
 {
+    if let Some(run) = target.as_run() {
+        fill_run(block, run, item);
+        return;
+    }
     for run in Runs::new(target.layout) {
         let to = moved_run(run, target.layout.offset, target.start);
         fill_run(block, to, item);
     }
 }
 
-/// Writes the item to those of a layout that is moved.
-fn fill_from(block: &mut RawBlock, target: MovedLayout<'_>, item: &[u8])
-    requires { All (λ offset. offset + length item.now ≤ length block.old) (moved_offsets target) }
-    ensures written { block.new ≡ put_each (moved_offsets target.entry) item.now block.old }
-    ensures len { length block.new ≡ length block.old }
-{
-    match target.as_run() {
-        Some(run) => fill_run(block, run, item),
-        None => fill_by_runs(block, target, item),
-    }
-}
-
-/// Writes the item from a place on, once for each shift. Inner axes of one item need no walk.
+/// Writes the item to the inner axes, once for each shift. Inner axes of one item need no walk.
 fn fill_shifts(block: &mut RawBlock, rows: Shifted<'_>, item: &[u8])
     requires { All (λ offset. offset + length item.now ≤ length block.old) (shifted_offsets rows) }
     ensures written { block.new ≡ put_each (shifted_offsets rows.entry) item.now block.old }
@@ -244,11 +191,11 @@ fn fill_shifts(block: &mut RawBlock, rows: Shifted<'_>, item: &[u8])
             layout: inner,
             start,
         };
-        fill_from(block, target, item);
+        fill_moved(block, target, item);
     }
 }
 
-/// Writes the item to all to which the axes lead.
+/// Writes the item to all items of the axes.
 pub(crate) fn fill(block: &mut RawBlock, axes: &PlanAxes, item: &[u8])
     requires { All (λ offset. offset + length item.now ≤ length block.old) (offsets_from axes.now) }
     ensures written { block.new ≡ put_each (offsets_from axes.now) item.now block.old }

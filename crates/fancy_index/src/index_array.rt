@@ -1,4 +1,4 @@
-//! Arrays in an index list: their numbers, as they lie in a block.
+//! Arrays in an index list: their numbers, read from a block.
 ghost use Rattle.std.specs.Prelude.{◌≡◌, ◌≢◌, ◌+◌, ◌≤◌, length};
 ghost use Rattle.fancy_index.specs.Words.{item_size, max_items};
 ghost use Rattle.fancy_index.specs.declared.index_parts.Kind.TheVariants.{NoIndex};
@@ -10,7 +10,7 @@ use crate::index_parts::{Kind, kind_of};
 use arrays::Items;
 use elem_descr::{Descr, num_read};
 
-/// An array each of whose numbers is to name a place of `n`.
+/// An array whose numbers are indexes of an axis of `n` items.
 #[derive(Clone, Copy, Drop)]
 pub(crate) struct Named<'a> {
     pub array: Items<'a>,
@@ -19,14 +19,14 @@ pub(crate) struct Named<'a> {
     pub ghost kind: { kind_in array ≢ NoIndex },
 }
 
-/// What an array stands for.
+/// The kind of index that an array is.
 pub(crate) fn kind(array: Items<'_>) -> Kind
     ensures { result ≡ kind (index_array_of array.entry) }
 {
     kind_of(array.descr, array.layout.shape.as_slice())
 }
 
-/// The number of an item.
+/// The number that an item stores.
 pub(crate) fn number_at(array: Items<'_>, offset: usize) -> i128
     requires kind { kind (index_array_of array) ≢ NoIndex }
     requires inside { offset + item_size array.descr.now ≤ length array.block.now }

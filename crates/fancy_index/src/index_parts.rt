@@ -1,4 +1,4 @@
-//! The parts that the items of an index list stand for.
+//! The parts of an index list.
 ghost use Rattle.fancy_index.specs.IndexArrays.{are_within, covers, is_index, is_within, item_axes, kind_of};
 ghost use Rattle.fancy_index.specs.Parts.{Between, parts, parts_of, wholes};
 ghost use Rattle.fancy_index.specs.Sources.{index_item_of};
@@ -16,8 +16,8 @@ use elem_descr::{Descr, IndexItem, Refusal, Scalar};
 use std::alloc::{AllocError, Global};
 use view_ops::{AxisPick, pick_of, whole_axis};
 
-/// A part: an axis that is picked as by a basic index, or a new one; points on some axes; or what a
-/// written `...` leaves behind, which stands between what is before and after it.
+/// A part: a pick from an axis as by a basic index, or a new axis; points on some axes; or the
+/// trace of a written `...`, which separates what comes before it from what comes after.
 #[derive(Drop)]
 pub(crate) enum IndexPart<'a> {
     Axis(AxisPick),
@@ -43,8 +43,8 @@ fn push_between(parts: &mut Vec<IndexPart<'_>>, axes: &[usize]) -> Result<(), Al
     push_wholes(parts, axes)
 }
 
-/// Adds what an item comes to on the axes that it takes, with an array of integers not read yet, or
-/// refuses a number of it.
+/// Adds the parts of an item, given the axes that it takes, or refuses one of its numbers. An array
+/// of integers is not read yet.
 fn push_parts<'a>(
     alloc: Global,
     parts: &mut Vec<IndexPart<'a>>,
@@ -80,8 +80,7 @@ fn push_parts<'a>(
     }
 }
 
-/// The parts that the items come to over the axes, with arrays of integers not read yet, or the refusal
-/// of a number.
+/// The parts of an index list, or the refusal of a number. Arrays of integers are not read yet.
 pub(crate) fn parts_of<'a>(alloc: Global, left: Left<'a>) -> Result<Vec<IndexPart<'a>>, Refusal>
     requires small { All (λ n. n ≤ max_items) left.axes.now }
     requires checked { IsChecked left.axes.now (items_left left) }
@@ -102,7 +101,7 @@ pub(crate) fn parts_of<'a>(alloc: Global, left: Left<'a>) -> Result<Vec<IndexPar
     Ok(parts)
 }
 
-/// Refuses a number of a part that names no place.
+/// Refuses a number of a part that is out of range.
 fn check_part(alloc: Global, part: &IndexPart<'_>) -> Result<(), Refusal>
     ensures { IsWithin (is_named part.now) result }
 {
@@ -120,7 +119,7 @@ fn check_part(alloc: Global, part: &IndexPart<'_>) -> Result<(), Refusal>
     }
 }
 
-/// Refuses a number that names no place. Each array is read for itself.
+/// Refuses a number that is out of range. The arrays are read one after the other.
 pub(crate) fn check_numbers(alloc: Global, parts: &[IndexPart<'_>]) -> Result<(), Refusal>
     ensures { IsWithin (all_named parts.now) result }
 {
@@ -130,18 +129,18 @@ pub(crate) fn check_numbers(alloc: Global, parts: &[IndexPart<'_>]) -> Result<()
     Ok(())
 }
 
-/// What an array in an index list stands for.
+/// The kinds of index arrays.
 #[derive(Clone, Copy, Debug, PartialEq, Eq)]
 pub enum Kind {
-    /// Numbers along one axis.
+    /// Numbers along an axis.
     Integers,
-    /// The indexes at which it is true, along as many axes as it has.
+    /// A mask: the indexes at which it is true, along as many axes as it has.
     Mask,
-    /// No index.
+    /// Not an index.
     NoIndex,
 }
 
-/// What an array of this type, with these lengths, stands for.
+/// The kind of index that an array of this type, with these lengths, is.
 pub fn kind_of(descr: &Descr, lengths: &[usize]) -> Kind
     ensures { result ≡ kind_of descr.now lengths.now }
 {

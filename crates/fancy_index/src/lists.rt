@@ -1,4 +1,4 @@
-//! Index lists, item by item, and the axes that the items index.
+//! Index lists, item by item, with the axes that the items index.
 ghost use Rattle.std.specs.Prelude.{◌≡◌, ◌+◌, ◌<◌, ◌≤◌, [], length, IfSome, None};
 ghost use Rattle.fancy_index.specs.IndexArrays.{item_axes, array_axes_width};
 ghost use Rattle.fancy_index.specs.Sources.{index_item_of, index_items};
@@ -9,7 +9,7 @@ use crate::index_parts::Kind;
 use arrays::Items;
 use elem_descr::IndexItem;
 
-/// The items of an index list that are left, and the axes that are left to them.
+/// The remaining items of an index list, and the remaining axes.
 #[derive(Clone, Copy, Drop)]
 pub(crate) struct Left<'a> {
     pub axes: &'a [usize],
@@ -17,7 +17,7 @@ pub(crate) struct Left<'a> {
     pub ghost enough: { axes_taken items.now ≤ length axes.now },
 }
 
-/// How many axes an item takes, beside those of `...`.
+/// How many axes an item takes, not counting those of `...`.
 fn axes_of(item: IndexItem<Items<'_>>) -> usize
     ensures { result ≡ item_axes (index_item_of item.entry) }
 {
@@ -31,7 +31,7 @@ fn axes_of(item: IndexItem<Items<'_>>) -> usize
     }
 }
 
-/// How many of so many axes the items leave to `...`, unless they take more.
+/// How many of `rank` axes the items leave to `...`, unless they take too many.
 pub(crate) fn axes_beside(items: &[IndexItem<Items<'_>>], axes: usize) -> Option<usize>
     ensures some { IfSome result (λ left. left + axes_taken items.now ≡ axes) }
     ensures none { result ≡ None → axes < axes_taken items.now }
@@ -47,7 +47,7 @@ pub(crate) fn axes_beside(items: &[IndexItem<Items<'_>>], axes: usize) -> Option
     Some(left)
 }
 
-/// How many of the axes that are left an item takes: `...` takes those beside the items after it.
+/// How many of the remaining axes an item takes: `...` takes those that the items after it leave.
 fn width(left: usize, item: IndexItem<Items<'_>>, later: &[IndexItem<Items<'_>>]) -> usize
     requires { item_axes (index_item_of item) + axes_taken later.now ≤ left }
     ensures { result ≡ array_axes_width left (index_item_of item.entry) (index_items later.now) }

@@ -12,7 +12,7 @@ use elem_descr::MemoryOrder;
 use shape_strides::{Layout, Run, Runs};
 use std::alloc::{AllocError, Global};
 
-/// The bools of a run, the first of which has this rank.
+/// The bools of a run, and the rank of the first one.
 #[derive(Clone, Copy)]
 pub(crate) struct Bools<'a> {
     pub bytes: &'a [u8],
@@ -20,7 +20,7 @@ pub(crate) struct Bools<'a> {
     pub rank: usize,
 }
 
-/// 1 for a bool that is true, else 0.
+/// 1 for true, and 0 for false.
 #[inline(always)]
 fn truth(byte: u8) -> usize
     ensures value { result ≡ truth byte }
@@ -29,8 +29,8 @@ fn truth(byte: u8) -> usize
     (byte != 0) as usize
 }
 
-/// Writes the ranks of those bools that are true, from one on up to another, one after another, and
-/// returns how many there are. Each rank is written, and stays if its bool is true: there is no branch.
+/// Writes the ranks of the true bools in a range, one after another, and returns how many there
+/// are. Each rank is written, and stays if its bool is true, so there is no branch.
 fn note_true(found: &mut [u32; 512], bools: Bools<'_>, from: usize, end: usize) -> usize
     requires lie { LieInBytes bools }
     requires end { end ≤ bools.run.count }
@@ -48,7 +48,7 @@ fn note_true(found: &mut [u32; 512], bools: Bools<'_>, from: usize, end: usize) 
     many
 }
 
-/// Writes the ranks of the bools from one on up to another, all of which are true.
+/// Writes the ranks of the bools in a range, which are all true.
 fn note_all(found: &mut [u32; 512], bools: Bools<'_>, from: usize, end: usize) -> usize
     requires lie { LieInBytes bools }
     requires end { end ≤ bools.run.count }
@@ -65,7 +65,7 @@ fn note_all(found: &mut [u32; 512], bools: Bools<'_>, from: usize, end: usize) -
     end - from
 }
 
-/// Whether the bytes from one on up to another are all the same.
+/// Whether the bytes of a range are all the same.
 fn are_same(bytes: &[u8], from: usize, end: usize) -> bool
     requires { end ≤ length bytes.now }
     ensures { IsTrue result → (k : ℕ) → from ≤ k → k < end
@@ -78,8 +78,8 @@ fn are_same(bytes: &[u8], from: usize, end: usize) -> bool
     same
 }
 
-/// Writes the ranks of those bools of a block that are true. Where all of them are, or none is, and they
-/// lie one right after another, they need not be looked at one by one.
+/// Writes the ranks of the true bools of a block. If the bools are adjacent, and all of them or
+/// none of them are true, they are not looked at one by one.
 fn note_block(found: &mut [u32; 512], bools: Bools<'_>, from: usize, end: usize) -> usize
     requires lie { LieInBytes bools }
     requires end { end ≤ bools.run.count }
@@ -103,7 +103,7 @@ fn note_block(found: &mut [u32; 512], bools: Bools<'_>, from: usize, end: usize)
     }
 }
 
-/// Adds the ranks of the bools that are true, a block of them after the other.
+/// Adds the ranks of the true bools, block by block.
 fn push_true(
     ranks: &mut Vec<u32>,
     found: &mut [u32; 512],
@@ -123,7 +123,7 @@ fn push_true(
     Ok(())
 }
 
-/// The ranks at which a mask is true, read where it lies.
+/// The ranks at which a mask is true, read in place.
 fn ranks_in(alloc: Global, mask: Items<'_>) -> Result<Vec<u32>, AllocError>
     requires kind { kind_in mask ≡ Mask }
     ensures { IfOk result (λ v. v.items ≡ true_ranks 0 (numbers_in mask.entry)) }
@@ -140,8 +140,8 @@ fn ranks_in(alloc: Global, mask: Items<'_>) -> Result<Vec<u32>, AllocError>
     Ok(ranks)
 }
 
-/// The ranks at which a mask is true. One that lies along its columns is copied first, if there is
-/// memory for that: the copy reads it block by block.
+/// The ranks at which a mask is true. A mask that is stored by columns is copied first if there is
+/// memory for the copy, which is made block by block.
 pub(crate) fn true_ranks(alloc: Global, mask: Items<'_>) -> Result<Vec<u32>, AllocError>
     requires kind { kind_in mask ≡ Mask }
     ensures { IfOk result (λ v. v.items ≡ true_ranks 0 (numbers_in mask.entry)) }
@@ -155,7 +155,7 @@ pub(crate) fn true_ranks(alloc: Global, mask: Items<'_>) -> Result<Vec<u32>, All
     }
 }
 
-/// A run of a layout, the rank of its first item, and the runs behind it.
+/// A run of a layout, the rank of its first item, and the runs after it.
 #[derive(Drop)]
 pub(crate) struct RunAt<'a> {
     layout: &'a Layout,
@@ -169,7 +169,6 @@ fn first_run(layout: &Layout) -> RunAt<'_>
     requires { 0 < count layout.now.shape }
     ensures at { IsAtRun result }
     ensures layout { result.layout.now ≡ layout.now }
-    ensures first { result.first ≡ 0 }
 {
     let mut later = Runs::new(layout);
     match later.next() {
@@ -183,18 +182,7 @@ fn first_run(layout: &Layout) -> RunAt<'_>
     }
 }
 
-/// Begins again with the first run. Its frame is large, so it stays out of line.
-#[inline(never)]
-fn begin_again(at: &mut RunAt<'_>)
-    requires { 0 < count at.old.layout.now.shape }
-    ensures at { IsAtRun at.new }
-    ensures layout { at.new.layout.now ≡ at.old.layout.now }
-    ensures first { at.new.first ≡ 0 }
-{
-    *at = first_run(at.layout);
-}
-
-/// Goes on to the run of the item that has a rank.
+/// Goes on to the run that has the item with this rank.
 fn go_to(at: &mut RunAt<'_>, rank: usize)
     requires at { IsAtRun at.old }
     requires rank { rank < count at.old.layout.now.shape }
@@ -213,8 +201,8 @@ fn go_to(at: &mut RunAt<'_>, rank: usize)
     }
 }
 
-/// The offset of the item that has a rank. It goes on from the last one, and begins again for a
-/// lower rank, so ranks that rise take one walk.
+/// The offset of the item with this rank. It continues from the last call, so rising ranks take a
+/// single walk.
 fn offset_at(at: &mut RunAt<'_>, rank: usize) -> usize
     requires at { IsAtRun at.old }
     requires rank { rank < count at.old.layout.now.shape }
@@ -225,13 +213,13 @@ fn offset_at(at: &mut RunAt<'_>, rank: usize) -> usize
 {
     let _items = at.layout.shape.items();
     if rank < at.first {
-        begin_again(at);
+        return at.layout.at_rank(rank);
     }
     go_to(at, rank);
     at.run.offset_after(rank - at.first)
 }
 
-/// Makes of each rank the offset, where the items are one run.
+/// Replaces each rank by its offset, if the items are a single run.
 fn lead_along(run: Run, ranks: &mut [u32])
     requires few { run.count ≤ max_items }
     requires lies { LieWithin (run.count ∷ []) (run.step ∷ []) run.offset max_bytes 1 }
@@ -243,7 +231,7 @@ fn lead_along(run: Run, ranks: &mut [u32])
     }
 }
 
-/// Makes of each rank the offset, run by run.
+/// Replaces each rank by its offset, run by run.
 fn lead_by_runs(layout: &Layout, ranks: &mut [u32])
     requires some { 0 < count layout.now.shape }
     requires ranks { All (λ rank. rank < count layout.now.shape) ranks.old }
@@ -255,7 +243,7 @@ fn lead_by_runs(layout: &Layout, ranks: &mut [u32])
     }
 }
 
-/// Makes of each rank the offset of the item that has it.
+/// Replaces each rank by the offset of its item.
 pub(crate) fn lead_through(layout: &Layout, ranks: &mut [u32])
     requires some { 0 < count layout.now.shape }
     requires ranks { All (λ rank. rank < count layout.now.shape) ranks.old }

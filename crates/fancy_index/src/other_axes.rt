@@ -41,7 +41,7 @@ fn rest_picks(alloc: Global, parts: &[IndexPart<'_>]) -> Result<SmallVec<AxisPic
     Ok(picks)
 }
 
-/// What is picked of the axes of a layout where all points are 0.
+/// What the parts pick from the axes of a layout, with all points at 0.
 pub(crate) fn rest(
     alloc: Global,
     layout: &Layout,
@@ -56,7 +56,7 @@ pub(crate) fn rest(
     with_picks(alloc, layout, picks.as_slice())
 }
 
-/// The layout of the first axes, where the others are 0.
+/// The layout of the first axes, with the others at 0.
 pub(crate) fn front(alloc: Global, layout: &Layout, axes: usize) -> Result<Layout, AllocError>
     requires axes { axes ≤ length layout.now.shape }
     requires some { 0 < count layout.now.shape }
@@ -73,7 +73,7 @@ pub(crate) fn front(alloc: Global, layout: &Layout, axes: usize) -> Result<Layou
     })
 }
 
-/// The layout of the axes behind the first ones, where these are 0.
+/// The layout of the axes after the first ones, with these at 0.
 pub(crate) fn back(alloc: Global, layout: &Layout, axes: usize) -> Result<Layout, AllocError>
     requires axes { axes ≤ length layout.now.shape }
     requires some { 0 < count layout.now.shape }

@@ -1,4 +1,4 @@
-//! The axes of a plan, and the items to which they lead: row by row, or run by run.
+//! The axes of a plan, and their items: row by row, or run by run.
 ghost use Rattle.fancy_index.specs.Plans.{put_each};
 ghost use Rattle.fancy_index.specs.Words.{EachWithin, LieWithin, max_bytes, offsets, run_offsets};
 ghost use Rattle.fancy_index.specs.inside.Moved.{AllStart, AreStarts, IsMoved, moved_offset};
@@ -7,12 +7,13 @@ ghost use Rattle.std.specs.Prelude.{All, IsTrue, [], get_or, length, map, ℕ, �
 use raw_block::RawBlock;
 use shape_strides::{Layout, Run};
 
-/// The axes of a plan. Both layouts begin where the first item would lie with all arrays 0.
+/// The axes of a plan. Both layouts begin at the item with all points at 0.
 #[derive(Drop)]
 pub struct PlanAxes {
     /// The axes before those of the arrays.
     pub(crate) outer: Layout,
-    /// For each item of the broadcast arrays, where the first of the result's items with it lies.
+    /// For each item of the broadcast arrays, the offset of the first item of the result that it
+    /// selects.
     pub(crate) shifts: Vec<u32>,
     /// The axes after those of the arrays.
     pub(crate) inner: Layout,
@@ -20,7 +21,7 @@ pub struct PlanAxes {
     pub(crate) ghost starts: { AllStart outer shifts.items inner },
 }
 
-/// The items of the inner axes from a place of the outer ones on, once for each shift.
+/// The items of the inner axes at a place of the outer ones, once for each shift.
 #[derive(Clone, Copy, Drop)]
 pub(crate) struct Shifted<'a> {
     pub shifts: &'a [u32],
@@ -30,7 +31,7 @@ pub(crate) struct Shifted<'a> {
     pub ghost starts: { AreStarts inner.now.offset (offsets inner.now) shifts.now place },
 }
 
-/// The items of a layout, where what began at its offset begins at `start`.
+/// The items of a layout, moved so that it begins at `start`.
 #[derive(Clone, Copy, Drop)]
 pub(crate) struct MovedLayout<'a> {
     pub layout: &'a Layout,
@@ -39,7 +40,7 @@ pub(crate) struct MovedLayout<'a> {
     pub ghost moved: { All (IsMoved layout.now.offset start) (offsets layout.now) },
 }
 
-/// An offset, where what began at `base` begins at `start`.
+/// An offset, moved by the distance from `base` to `start`.
 pub(crate) fn moved(base: usize, start: usize, offset: usize) -> usize
     requires base { base ≤ max_bytes }
     requires moved { IsMoved base start offset }
@@ -49,7 +50,7 @@ pub(crate) fn moved(base: usize, start: usize, offset: usize) -> usize
     start + offset - base
 }
 
-/// Whether each of the shifts is the one before it and a step.
+/// Whether each shift is the one before it plus a step.
 fn rise_evenly(shifts: &[u32], step: u32) -> bool
     requires some { 1 ≤ length shifts.now }
     requires few { length shifts.now ≤ 128 }
@@ -74,7 +75,7 @@ impl PlanAxes {
     ghost use Rattle.fancy_index.specs.inside.Moved.{shifted_all};
     ghost use Rattle.fancy_index.specs.inside.Kept.{shifted_offsets};
 
-    /// The items from a place of the outer axes on.
+    /// The items at a place of the outer axes.
     pub(crate) fn rows(&self, place: usize) -> Shifted<'_>
         requires { let inner = self.now.inner in
             AreStarts inner.offset (offsets inner) self.now.shifts.items place }
@@ -101,7 +102,7 @@ impl<'a> Shifted<'a> {
         self.inner.shape.items() == 1
     }
 
-    /// Those with the shifts from one on up to another.
+    /// Those with the shifts in a range.
     pub(crate) fn part(self, from: usize, end: usize) -> Shifted<'a>
         requires order { from ≤ end }
         requires end { end ≤ length self.shifts.now }
@@ -117,8 +118,8 @@ impl<'a> Shifted<'a> {
         }
     }
 
-    /// The first items as a run, where those of `width` bytes lie one right after another. Wide ones
-    /// gain nothing by it.
+    /// The first items as a run, if items of `width` bytes are adjacent. For wide items this gains
+    /// nothing.
     pub(crate) fn as_run(self, width: usize) -> Option<Run>
         requires some { 1 ≤ length self.shifts.now }
         requires few { length self.shifts.now ≤ 128 }
@@ -138,7 +139,7 @@ impl<'a> Shifted<'a> {
     }
 }
 
-/// A run, where what began at `base` begins at `start`.
+/// A run, moved by the distance from `base` to `start`.
 pub(crate) fn moved_run(run: Run, base: usize, start: usize) -> Run
     requires base { base ≤ max_bytes }
     requires some { 1 ≤ run.count }
@@ -161,7 +162,7 @@ impl<'a> MovedLayout<'a> {
     ghost use Rattle.std.specs.Prelude.{IfSome};
     ghost use Rattle.fancy_index.specs.inside.Kept.{moved_offsets, IsRunOf};
 
-    /// The run that all items make, one or more.
+    /// All items as a single run, if there are any and they are one.
     pub(crate) fn as_run(self) -> Option<Run>
         ensures run { IfSome result (λ run. IsRunOf (moved_offsets self.entry) run) }
         ensures some { IfSome result (λ run. 1 ≤ run.count) }
@@ -174,7 +175,7 @@ impl<'a> MovedLayout<'a> {
     }
 }
 
-/// Writes the item to each of a run.
+/// Writes the item to each item of a run.
 pub(crate) fn fill_run(block: &mut RawBlock, to: Run, item: &[u8])
     requires { EachWithin (length block.old) to.offset to.step (length item.now) to.count }
     ensures written { block.new ≡ put_each (run_offsets to) item.now block.old }

@@ -20,7 +20,7 @@ use shape_strides::{Layout, Shape};
 use smallvec::SmallVec;
 use std::alloc::{AllocError, Global};
 
-/// The plan of a shape without items.
+/// The plan of a result without items.
 fn plan_of_none(alloc: Global, shape: Shape) -> Result<Plan, AllocError>
     requires { count shape ≡ 0 }
     ensures shape { IfOk result (λ plan. plan.shape ≡ shape) }
@@ -31,7 +31,7 @@ fn plan_of_none(alloc: Global, shape: Shape) -> Result<Plan, AllocError>
     Plan::try_new(alloc, shape, outer, Vec::new(alloc), inner)
 }
 
-/// The lengths that the points have in common, and the shape of the result, or its refusal.
+/// The common lengths of the points, and the shape of the result, or its refusal.
 fn shapes(alloc: Global, parts: &[IndexPart<'_>]) -> Result<(SmallVec<usize, 4>, Shape), Refusal>
     ensures points { IfOk result (λ r. points_shape (map shown_part parts.now) ≡ Ok r.0.items) }
     ensures shape { IfOk result (λ r.
@@ -44,7 +44,7 @@ fn shapes(alloc: Global, parts: &[IndexPart<'_>]) -> Result<(SmallVec<usize, 4>,
     Ok((points, shape))
 }
 
-/// The plan of a shape with items, or the refusal of a number.
+/// The plan of a result with items, or the refusal of a number.
 fn plan_of_some(
     alloc: Global,
     layout: &Layout,
@@ -70,8 +70,8 @@ fn plan_of_some(
     Ok(Plan::try_new(alloc, shape, outer, shifts, inner)?)
 }
 
-/// The plan of what parts show, or its refusal. A number that names no place is refused before the shapes
-/// are.
+/// The plan of the parts of an index list, or its refusal. Numbers out of range are refused before
+/// shapes that do not broadcast.
 fn plan_of_parts(
     alloc: Global,
     layout: &Layout,
@@ -96,17 +96,17 @@ fn plan_of_parts(
     }
 }
 
-/// Where the items lie that an index list with arrays takes, as NumPy's integer and boolean indexing
-/// has it. Integers count as arrays of no axes. All arrays broadcast together, with a mask as the list of the indexes at which it is true.
-/// Where they stand side by side, their axes stand in their place; where a slice, `...` or a new axis
-/// separates them, their axes come first.
+/// Where the items are that an index list with arrays selects, as in NumPy's integer and boolean
+/// indexing. An integer counts as an array without axes. All arrays broadcast together; a mask counts
+/// as the list of the indexes at which it is true. If the arrays are side by side, their axes take
+/// their place in the result; if a slice, `...` or a new axis separates them, their axes come first.
 ///
-/// Refused are, each over the whole list before the next: an array that is no index, as
-/// `NotAnIndexType`; items that take more axes than there are, as `TooManyIndices`; a mask whose lengths
-/// are not those of its axes, as `MaskLengths`; a slice whose step is 0, as `ZeroStep`; an integer or a
-/// number of an array outside its axis, also where nothing is taken, as `IndexOutOfRange`; arrays that do
-/// not broadcast together, as `IndexShapes`; then a result of more than 64 axes, as `TooManyAxes`, and
-/// one of too many items, as `TooLarge`.
+/// Refusals, each checked over the whole list before the next: an array that cannot be an index
+/// (`NotAnIndexType`); items that take more axes than there are (`TooManyIndices`); a mask whose
+/// lengths are not those of its axes (`MaskLengths`); a slice whose step is 0 (`ZeroStep`); an integer
+/// or a number of an array outside its axis, even if nothing is selected (`IndexOutOfRange`); arrays
+/// that do not broadcast together (`IndexShapes`); a result of more than 64 axes (`TooManyAxes`); and
+/// one of too many items (`TooLarge`).
 pub fn plan(alloc: Global, layout: &Layout, items: &[IndexItem<Items<'_>>]) -> Result<Plan, Refusal>
     ensures { GivesPlan layout.now result (indexed layout.now.shape (index_items items.now)) }
 {

@@ -1,4 +1,4 @@
-//! Plans: where in a buffer the items are that an index list with arrays takes.
+//! Plans: where in a buffer the items are that an index list with arrays selects.
 ghost use Rattle.std.specs.Prelude.{◌≡◌, ◌+◌, ◌*◌, ◌<◌, ◌≤◌, length, map, nat_le, pos, slice_index, if◌then◌else◌, All, IfOk, IfErr, IsTrue};
 ghost use Rattle.fancy_index.specs.Words.{OutOfMemory, TooLarge, item_from, item_size, C, max_bytes, max_items, count, offsets, multiples, items_at, assigned, offsets_in};
 ghost use Rattle.fancy_index.specs.Plans.{put_each};
@@ -14,13 +14,13 @@ use shape_strides::{Layout, MAX_BYTES, Shape, Walk};
 use std::alloc::{AllocError, Global};
 use std::marker::Model;
 
-/// Where in a buffer the items are that an index list with arrays takes, seen as a shape with the
-/// offsets of its items in C order. It holds one number for each item of the broadcast arrays, and
-/// the strides of the other axes.
+/// Where in a buffer the items are that an index list with arrays selects. A contract sees it as a
+/// shape and the offsets of its items in C order. It stores one number for each item of the
+/// broadcast arrays, and the strides of the other axes.
 #[derive(Drop)]
 pub struct Plan {
     shape: Shape,
-    /// In a place of their own, so that a plan is no larger than a layout where it is handed on.
+    /// On the heap, so that a plan is no larger than a layout when it is moved.
     axes: Box<PlanAxes>,
 }
 
@@ -38,7 +38,7 @@ impl Model for Plan {
     ghost invariant = { λ p. length (offsets_from p.axes.value) ≡ count p.shape };
 }
 
-/// Where the item at a rank is, along the outer axes, the shifts and the inner axes.
+/// The place of a rank along the outer axes, the shifts and the inner axes.
 #[derive(Clone, Copy)]
 struct Spot {
     place: usize,
@@ -46,7 +46,7 @@ struct Spot {
     item: usize,
 }
 
-/// Where the item at a rank is among so many shifts of so many inner items.
+/// The place of a rank, given the number of shifts and of inner items.
 fn spot_at(rank: usize, shifts: usize, inner: usize) -> Spot
     requires shifts { 0 < shifts }
     requires inner { 0 < inner }
@@ -62,7 +62,7 @@ fn spot_at(rank: usize, shifts: usize, inner: usize) -> Spot
     }
 }
 
-/// The offset at a rank of all items to which the axes of a plan lead.
+/// The offset of the item with this rank.
 fn offset_in(axes: &PlanAxes, rank: usize) -> usize
     requires { rank < length (offsets_from axes.now) }
     ensures { result ≡ slice_index (offsets_from axes.now) rank }
@@ -81,7 +81,7 @@ fn is_step(step: isize, width: usize) -> bool
     step >= 0 && step.unsigned_abs() == width
 }
 
-/// Whether two items or more of `width` bytes lie one after another from the block's start on.
+/// Whether these are two or more adjacent items of `width` bytes that start at the block's start.
 fn is_packed(layout: &Layout, width: usize) -> bool
     ensures { IsTrue result → offsets layout.now ≡ multiples width (length (offsets layout.now)) }
 {
@@ -95,8 +95,8 @@ fn is_packed(layout: &Layout, width: usize) -> bool
 }
 
 impl Plan {
-    /// The plan of a shape, with the axes before those of the arrays, where the first item with each of
-    /// their points lies, and the axes behind.
+    /// The plan of a shape, given the axes before those of the arrays, the offset of the first item
+    /// with each point, and the axes after them.
     pub(crate) fn try_new(
         alloc: Global,
         shape: Shape,
@@ -150,7 +150,7 @@ impl Plan {
         offset_in(self.axes(), rank)
     }
 
-    /// The items of `width` bytes at the offsets, one after another in a block of their own.
+    /// The items, of `width` bytes, at the offsets, adjacent in a block of their own.
     pub fn gather(
         &self,
         alloc: Global,
@@ -163,7 +163,7 @@ impl Plan {
             IfOk result (λ items.
             items_at packed width items ≡ items_at self.now.offsets width block.now) }
     {
-        // More bytes than there can be are refused as any others.
+        // More bytes than a block can have are refused like any others that cannot be allocated.
         let bytes = self.shape.items().saturating_mul(width);
         let items = BlockBuilder::try_new(alloc, bytes)?;
         let _filled = items.filled();
@@ -171,8 +171,8 @@ impl Plan {
         Ok(items.finish())
     }
 
-    /// The items at the offsets in a block of their own, in C order, which they just fill. More than
-    /// `MAX_BYTES` bytes of them are too many.
+    /// The items at the offsets, in C order in a block of their own, which has exactly their size.
+    /// More than `MAX_BYTES` bytes are refused.
     pub fn gather_owned(
         &self,
         alloc: Global,
@@ -201,8 +201,8 @@ impl Plan {
         Ok(Owned::over(alloc, descr, &self.shape, MemoryOrder::C, items)?)
     }
 
-    /// Writes the items of `width` bytes that lie one after another in `items` to the offsets, strictly
-    /// in order of rank: where two items have bytes in common, those of the later one stand.
+    /// Writes the adjacent items, of `width` bytes, in `items` to the offsets, strictly in order of
+    /// rank: if two places share bytes, the later write stands.
     pub fn scatter(&self, block: &mut RawBlock, items: &RawBlock, width: usize)
         requires inside { All (λ offset. offset + width ≤ length block.old) self.now.offsets }
         requires items { length self.now.offsets * width ≤ length items.now }
@@ -213,8 +213,8 @@ impl Plan {
         scatter(block, self.axes(), items, width);
     }
 
-    /// Copies the items of `width` bytes of a layout in another block, as many, to the offsets, strictly
-    /// in order of rank.
+    /// Copies the items, of `width` bytes, of a layout in another block to the offsets, strictly in
+    /// order of rank. The layout has as many items.
     pub fn assign(&self, block: &mut RawBlock, other: &RawBlock, from: &Layout, width: usize)
         requires inside { All (λ offset. offset + width ≤ length block.old) self.now.offsets }
         requires from { All (λ offset. offset + width ≤ length other.now) (offsets from.now) }

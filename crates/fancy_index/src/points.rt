@@ -1,5 +1,5 @@
-//! Points on some axes: those of an integer, of an array of integers and of a mask; and their common
-//! lengths.
+//! Points on some axes: the points of an integer, of an array of integers and of a mask; and their
+//! common lengths.
 ghost use Rattle.fancy_index.specs.IndexArrays.{covers, is_within, item_axes};
 ghost use Rattle.fancy_index.specs.Indexed.{as_index_shapes, points_shape};
 ghost use Rattle.fancy_index.specs.Parts.{parts_of, shapes_of_part};
@@ -23,15 +23,15 @@ use smallvec::SmallVec;
 use std::alloc::{AllocError, Global};
 use std::mem;
 
-/// The ranks of points: those that are held, or the places that the numbers of an array name, which
-/// is read when they are wanted.
+/// The ranks of points: either stored, or the indexes in an array, which is read when they are
+/// needed.
 #[derive(Drop)]
 pub(crate) enum Ranks<'a> {
     Held(Vec<u32>),
     Unread(Named<'a>),
 }
 
-/// Points in a shape of their own, each on the same axes: its rank along these.
+/// Points on the same axes, with a shape of their own: for each point, its rank along the axes.
 #[derive(Drop)]
 pub(crate) struct PointList<'a> {
     pub lengths: SmallVec<usize, 4>,
@@ -40,7 +40,8 @@ pub(crate) struct PointList<'a> {
 }
 
 impl Ranks<'_> {
-    /// Takes the ranks, which are read unless they are held, or refuses a number that names no place.
+    /// The ranks, which are read now unless they are stored, or the refusal of a number that is out
+    /// of range.
     pub(crate) fn take(&mut self, alloc: Global) -> Result<Vec<u32>, Refusal>
         ensures within { IsWithin (are_named self.old) result }
         ensures ranks { IfOk result (λ v. v.items ≡ ranks_of self.old) }
@@ -52,7 +53,7 @@ impl Ranks<'_> {
     }
 }
 
-/// The one point of an integer, or its refusal.
+/// The single point of an integer, or its refusal.
 pub(crate) fn integer_point(
     alloc: Global,
     n: usize,
@@ -78,8 +79,8 @@ pub(crate) fn integer_point(
     })
 }
 
-/// The points of an array of integers along an axis of `n`, which are not read yet. Where the axis has no
-/// place, a number is refused.
+/// The points of an array of integers along an axis of `n` items. The array is not read yet, but if
+/// the axis is empty, any number is refused.
 fn integer_points<'a>(alloc: Global, n: usize, array: Items<'a>) -> Result<PointList<'a>, Refusal>
     requires small { n ≤ max_items }
     requires kind { kind_in array ≢ NoIndex }
@@ -122,7 +123,7 @@ fn mask_points(alloc: Global, array: Items<'_>) -> Result<PointList<'static>, Al
     })
 }
 
-/// The points of an array on the axes that it takes, or a refusal of its numbers.
+/// The points of an array on the axes that it takes, or the refusal of a number.
 pub(crate) fn array_points<'a>(
     alloc: Global,
     axes: &[usize],
@@ -142,7 +143,7 @@ pub(crate) fn array_points<'a>(
     }
 }
 
-/// What the lengths have in common with those of a part's points.
+/// The common lengths of these lengths and those of a part's points.
 fn common_with_part(
     alloc: Global,
     lengths: SmallVec<usize, 4>,
@@ -163,8 +164,7 @@ fn common_with_part(
     }
 }
 
-/// The lengths that all points have in common, whatever their number. Lengths that do not go together are
-/// refused as `IndexShapes`.
+/// The common lengths of all points. Lengths that do not broadcast are refused as `IndexShapes`.
 pub(crate) fn points_shape(
     alloc: Global,
     parts: &[IndexPart<'_>],

@@ -1,4 +1,4 @@
-//! Integers at equal steps, read in place, and the positions that they select.
+//! Integers at equal steps, read in place, and the indexes that they stand for.
 ghost use Rattle.std.specs.Prelude.{◌≡◌, ◌≢◌, ◌≤◌, ◌<◌, ◌++◌, pos, map, slice_index, IfSome, IsTrue, OnOk, true};
 ghost use Rattle.std.specs.List.{list_all};
 ghost use Rattle.fancy_index.specs.Words.{item_size, Gives, item_at, offsets, max_items, run_offsets, is_place};
@@ -31,7 +31,7 @@ pub(crate) struct Spread<'a> {
     pub run: Run,
 }
 
-/// How the integers of this type are read, and how many bytes each takes.
+/// How integers of this type are read, and their size in bytes.
 fn reading_of(descr: &Descr) -> Option<(Reading, usize)>
     ensures { IfSome result (λ r. AreWords r.0 r.1 descr.now) }
 {
@@ -60,7 +60,7 @@ fn reading_of(descr: &Descr) -> Option<(Reading, usize)>
     }
 }
 
-/// The items of an array, if they lie at equal steps.
+/// The items of an array, if they are at equal steps.
 fn spread_of<'a>(array: Items<'a>) -> Option<Spread<'a>>
     ensures block { IfSome result (λ items. items.block.now ≡ array.entry.block.now) }
     ensures offsets { IfSome result (λ items.
@@ -74,7 +74,7 @@ fn spread_of<'a>(array: Items<'a>) -> Option<Spread<'a>>
     })
 }
 
-/// The item that lies so many steps after the first, loaded at once.
+/// The `k`-th item, in a single load.
 #[inline(always)]
 fn item_after<const N: usize>(items: Spread<'_>, steps: usize) -> [u8; N]
     requires few { N ≤ 8 }
@@ -86,7 +86,7 @@ fn item_after<const N: usize>(items: Spread<'_>, steps: usize) -> [u8; N]
     array_at::<N>(items.block.bytes(), items.run.offset_after(steps))
 }
 
-/// The place of `n` that a number names, if it names one.
+/// The index that a number stands for on an axis of `n` items, unless it is out of range.
 pub(crate) fn named_place(n: usize, at: i128) -> Option<u32>
     requires { n ≤ max_items }
     ensures { result ≡ named_place n at }
@@ -97,7 +97,8 @@ pub(crate) fn named_place(n: usize, at: i128) -> Option<u32>
     Some(from_front(n, at) as u32)
 }
 
-/// The place of `n` that a number of 64 bits names, if it names one.
+/// The index that a signed number of 64 bits stands for on an axis of `n` items, unless it is out
+/// of range.
 #[inline(always)]
 fn long_place(n: usize, at: i64) -> Option<u32>
     requires { n ≤ max_items }
@@ -111,7 +112,8 @@ fn long_place(n: usize, at: i64) -> Option<u32>
     Some(place as u32)
 }
 
-/// The place of `n` that a number of 64 bits without a sign names, if it names one.
+/// The index that an unsigned number of 64 bits stands for on an axis of `n` items, unless it is
+/// out of range.
 #[inline(always)]
 fn natural_place(n: usize, at: u64) -> Option<u32>
     requires { n ≤ max_items }
@@ -123,7 +125,8 @@ fn natural_place(n: usize, at: u64) -> Option<u32>
     Some(at as u32)
 }
 
-/// The place of `n` that an integer in so many bytes names, if it names one.
+/// The index that an integer of `N` bytes stands for on an axis of `n` items, unless it is out of
+/// range.
 #[inline(always)]
 fn word_place<const N: usize>(reading: Reading, item: &[u8; N], n: usize) -> Option<u32>
     requires some { 1 ≤ N }
@@ -139,7 +142,8 @@ fn word_place<const N: usize>(reading: Reading, item: &[u8; N], n: usize) -> Opt
     }
 }
 
-/// The places of `n` that integers name, or the refusal of one that names none.
+/// The indexes that integers stand for on an axis of `n` items, or the refusal of one that is out
+/// of range.
 fn places_in<const N: usize>(
     alloc: Global,
     reading: Reading,
@@ -162,7 +166,7 @@ fn places_in<const N: usize>(
     Ok(places)
 }
 
-/// Whether a number of 32 bits names one of `n` places.
+/// Whether a number of 32 bits is in range for an axis of `n` items.
 #[inline(always)]
 fn is_int_place(n: usize, at: i32) -> bool
     requires { n ≤ max_items }
@@ -172,7 +176,7 @@ fn is_int_place(n: usize, at: i32) -> bool
     -end <= at && at < end
 }
 
-/// The place that it names, if it names one.
+/// The index that it stands for, if it is in range.
 #[inline(always)]
 fn int_place(n: usize, at: i32) -> u32
     requires { n ≤ max_items }
@@ -182,7 +186,7 @@ fn int_place(n: usize, at: i32) -> u32
     place.max(0) as u32
 }
 
-/// Whether a number of 64 bits names one of `n` places.
+/// Whether a number of 64 bits is in range for an axis of `n` items.
 #[inline(always)]
 fn is_long_place(n: usize, at: i64) -> bool
     requires { n ≤ max_items }
@@ -192,7 +196,7 @@ fn is_long_place(n: usize, at: i64) -> bool
     -end <= at && at < end
 }
 
-/// The place that it names, or 0 if it names none.
+/// The index that it stands for, or 0 if it is out of range.
 #[inline(always)]
 fn long_place_of(n: usize, at: i64) -> u32
     requires { n ≤ max_items }
@@ -206,8 +210,9 @@ fn long_place_of(n: usize, at: i64) -> u32
     }
 }
 
-/// The places of `n` that numbers of four bytes name, or the refusal of one that names none. All are looked
-/// at, which takes less time than to stop at the first that names none.
+/// The indexes that numbers of four bytes stand for on an axis of `n` items, or a refusal if one is
+/// out of range. All numbers are visited, which is faster than stopping at the first that is out of
+/// range.
 fn int_places(alloc: Global, numbers: RunI32<'_>, n: usize) -> Result<Vec<u32>, Refusal>
     requires { n ≤ max_items }
     ensures { Gives (λ v. v.items) result (named_places n numbers.entry) }
@@ -225,8 +230,8 @@ fn int_places(alloc: Global, numbers: RunI32<'_>, n: usize) -> Result<Vec<u32>, 
     Ok(places)
 }
 
-/// The places of `n` that numbers of eight bytes name, or the refusal of one that names none. All are looked
-/// at, as those of four bytes are.
+/// The indexes that numbers of eight bytes stand for on an axis of `n` items, or a refusal if one
+/// is out of range. All numbers are visited, as for four bytes.
 fn long_places(alloc: Global, numbers: RunI64<'_>, n: usize) -> Result<Vec<u32>, Refusal>
     requires { n ≤ max_items }
     ensures { Gives (λ v. v.items) result (named_places n numbers.entry) }
@@ -244,7 +249,7 @@ fn long_places(alloc: Global, numbers: RunI64<'_>, n: usize) -> Result<Vec<u32>,
     Ok(places)
 }
 
-/// Whether integers that are read so lie one right after another, as the machine's own.
+/// Whether integers that are read like this are adjacent and in the machine's own byte order.
 fn is_native(reading: Reading, width: usize, run: Run) -> bool
     requires { width ≤ 8 }
     ensures { IsTrue result → IsNative reading width run }
@@ -255,7 +260,8 @@ fn is_native(reading: Reading, width: usize, run: Run) -> bool
     }
 }
 
-/// The places of `n` that the numbers of an array name, one by one, or the refusal of one that names none.
+/// The indexes that the numbers of an array stand for on an axis of `n` items, one by one, or the
+/// refusal of one that is out of range.
 fn places_each(alloc: Global, array: Items<'_>, n: usize) -> Result<Vec<u32>, Refusal>
     requires small { n ≤ max_items }
     requires kind { kind_in array ≢ NoIndex }
@@ -271,7 +277,8 @@ fn places_each(alloc: Global, array: Items<'_>, n: usize) -> Result<Vec<u32>, Re
     Ok(places)
 }
 
-/// Adds the places of `n` that integers name, or refuses one that names none.
+/// Adds the indexes that integers stand for on an axis of `n` items, or refuses one that is out of
+/// range.
 fn push_places<const N: usize>(
     places: &mut Vec<u32>,
     reading: Reading,
@@ -296,8 +303,8 @@ fn push_places<const N: usize>(
     Ok(())
 }
 
-/// The places of `n` that the integers of an array name, read run by run, or the refusal of one that names
-/// none.
+/// The indexes that the integers of an array stand for on an axis of `n` items, read run by run, or
+/// the refusal of one that is out of range.
 fn places_by_runs<const N: usize>(
     alloc: Global,
     reading: Reading,
@@ -318,8 +325,8 @@ fn places_by_runs<const N: usize>(
     Ok(places)
 }
 
-/// The places of `n` that integers in so many bytes name, read run by run, or the refusal of one
-/// that names none.
+/// The indexes that integers of `N` bytes stand for on an axis of `n` items, read run by run, or
+/// the refusal of one that is out of range.
 fn places_apart(
     alloc: Global,
     reading: Reading,
@@ -341,8 +348,9 @@ fn places_apart(
     }
 }
 
-/// The places of `n` that the numbers of an array name, whatever their type and wherever they lie, or the
-/// refusal of one that names none. Native integers that lie one right after another are read as numbers.
+/// The indexes that the numbers of an array stand for on an axis of `n` items, whatever their type
+/// and layout, or the refusal of one that is out of range. Adjacent integers in the machine's byte
+/// order are read as numbers.
 pub(crate) fn places(alloc: Global, array: Items<'_>, n: usize) -> Result<Vec<u32>, Refusal>
     requires small { n ≤ max_items }
     requires kind { kind_in array ≢ NoIndex }

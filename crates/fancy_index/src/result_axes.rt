@@ -1,4 +1,4 @@
-//! The axes of the result, and where those of the points stand among them.
+//! The axes of the result, and the place of the points' axes among them.
 ghost use Rattle.fancy_index.specs.Indexed.{all_axes};
 ghost use Rattle.fancy_index.specs.Parts.{are_points, axes_before, axes_of_part, other_axes, points_place, side_by_side};
 ghost use Rattle.fancy_index.specs.Words.{Gives, axis_of, pick_shown, shape_of};
@@ -33,7 +33,7 @@ fn push_axis(lengths: &mut SmallVec<usize, 4>, part: &IndexPart<'_>) -> Result<(
     }
 }
 
-/// The lengths of all axes but those of the points.
+/// The lengths of all axes except those of the points.
 fn other_axes(alloc: Global, parts: &[IndexPart<'_>]) -> Result<SmallVec<usize, 4>, AllocError>
     ensures { IfOk result (λ v. v.items ≡ other_axes (map shown_part parts.now)) }
 {
@@ -44,7 +44,7 @@ fn other_axes(alloc: Global, parts: &[IndexPart<'_>]) -> Result<SmallVec<usize, 
     Ok(lengths)
 }
 
-/// The lengths of all axes: those of the points at their place among the others.
+/// The lengths of all axes, with those of the points at their place among the others.
 fn all_axes(
     alloc: Global,
     parts: &[IndexPart<'_>],
@@ -72,7 +72,7 @@ pub(crate) fn shape_of_all(
     Shape::try_new(alloc, lengths.as_slice())
 }
 
-/// How far parts were gone through: no points so far, points that go on, or something after points.
+/// The progress through the parts: no points so far, within points, or after points.
 #[derive(Clone, Copy, Debug, PartialEq, Eq)]
 enum Stretch {
     Before,
@@ -87,7 +87,7 @@ impl IndexPart<'_> {
         matches!(self, IndexPart::Points(_))
     }
 
-    /// How many axes of the result it has beside those of the points.
+    /// How many axes of the result a part has, not counting those of points.
     fn axes(&self) -> usize
         ensures value { result ≡ length (axes_of_part (shown_part self.now)) }
         ensures few { result ≤ 1 }
@@ -99,7 +99,7 @@ impl IndexPart<'_> {
     }
 }
 
-/// How far it is after one more part, or nothing where points stand apart.
+/// The progress after one more part, or nothing if the points are separated.
 fn gone_on(stretch: Stretch, is_points: bool) -> Option<Stretch>
     ensures { result ≡ gone_on stretch is_points }
 {
@@ -111,7 +111,7 @@ fn gone_on(stretch: Stretch, is_points: bool) -> Option<Stretch>
     }
 }
 
-/// Whether all points stand side by side.
+/// Whether all points are side by side.
 fn side_by_side(parts: &[IndexPart<'_>]) -> bool
     ensures { result ≡ side_by_side (map shown_part parts.now) }
 {
@@ -125,7 +125,7 @@ fn side_by_side(parts: &[IndexPart<'_>]) -> bool
     true
 }
 
-/// How many other axes stand before the first points.
+/// How many other axes come before the first points.
 fn axes_before(parts: &[IndexPart<'_>]) -> usize
     ensures { result ≡ axes_before (map shown_part parts.now) }
 {
@@ -139,8 +139,8 @@ fn axes_before(parts: &[IndexPart<'_>]) -> usize
     axes
 }
 
-/// How many other axes stand before those of the points: where the points are not side by side, theirs
-/// come first.
+/// How many other axes come before those of the points. If the points are not side by side, their
+/// axes come first.
 pub(crate) fn points_place(parts: &[IndexPart<'_>]) -> usize
     ensures value { result ≡ points_place (map shown_part parts.now) }
     ensures within { result ≤ length (other_axes (map shown_part parts.now)) }

@@ -1,4 +1,5 @@
-//! Where the first item with each point lies: what each array adds to where all points are 0.
+//! The offset of the first item with each point: how far each array moves it from the item with all
+//! points at 0.
 ghost use Rattle.fancy_index.specs.Words.{IsShape, LieWithin, can_stretch, count, first_of, indexes, max_bytes, max_items, offsets, run_offsets};
 ghost use Rattle.fancy_index.specs.inside.Items.{IsWithin};
 ghost use Rattle.fancy_index.specs.inside.Moved.{IsMoved};
@@ -15,7 +16,7 @@ use smallvec::SmallVec;
 use std::alloc::{AllocError, Global};
 use view_ops::AxisPick;
 
-/// The item of a layout where all points are 0, and the lengths that the points have in common.
+/// The item of a layout with all points at 0, and the common lengths of the points.
 #[derive(Clone, Copy)]
 struct Origin<'a> {
     layout: &'a Layout,
@@ -52,7 +53,7 @@ fn push_start(numbers: &mut SmallVec<usize, 4>, part: &IndexPart<'_>) -> Result<
     }
 }
 
-/// The index of the first item where all points are 0.
+/// The index of the first item with all points at 0.
 fn starts(alloc: Global, parts: &[IndexPart<'_>]) -> Result<SmallVec<usize, 4>, AllocError>
     ensures { IfOk result (λ v. v.items ≡ starts parts.now) }
 {
@@ -74,7 +75,7 @@ fn axes_of(part: &IndexPart<'_>) -> usize
     }
 }
 
-/// The strides of so many axes from one on.
+/// The strides of some axes, starting with one of them.
 fn strides_from(strides: &[isize], axis: usize, axes: usize) -> &[isize]
     requires { axis + axes ≤ length strides.now }
     ensures { result.now ≡ take axes (drop axis strides.now) }
@@ -82,7 +83,8 @@ fn strides_from(strides: &[isize], axis: usize, axes: usize) -> &[isize]
     &strides[axis..axis + axes]
 }
 
-/// The items along axes from one on, where all other numbers are those of the start.
+/// The items along some axes, starting with one of them. On all other axes the index is that of the
+/// start.
 fn along(
     alloc: Global,
     layout: &Layout,
@@ -107,8 +109,9 @@ fn along(
     })
 }
 
-/// Adds to each shift how far the point of a part leads from the start, if the part has points. Their
-/// ranks are read now, become offsets, and are let go. A number that names no place is refused.
+/// Adds to each shift the distance from the start of a part's point, if the part has points. Their
+/// ranks are read now and replaced by offsets, and freed at the end. A number that is out of range
+/// is refused.
 fn add_part(
     alloc: Global,
     origin: Origin<'_>,
@@ -147,8 +150,8 @@ fn add_part(
     Ok(())
 }
 
-/// The offset of the first item with the points of each of so many indexes of the common lengths, or
-/// the refusal of a number. No more than the ranks of one part are read at a time.
+/// The offset of the first item with the points at each index of the common lengths, or the refusal
+/// of a number. The ranks of only one part are stored at a time.
 pub(crate) fn shifts(
     alloc: Global,
     layout: &Layout,
@@ -185,14 +188,14 @@ pub(crate) fn shifts(
     Ok(shifts)
 }
 
-/// Points in a shape of their own: the offset of the item to which each leads.
+/// Points with a shape of their own: for each of them, the offset of its item.
 #[derive(Drop)]
 pub(crate) struct PointOffsets<'a> {
     pub lengths: &'a [usize],
     pub offsets: Vec<u32>,
 }
 
-/// Adds to each shift how far the offset at its place lies from the start.
+/// Adds to each shift the distance of its offset from the start.
 fn grow(shifts: &mut [u32], start: u32, offsets: &[u32])
     requires start { start ≤ max_bytes }
     requires many { length offsets.now ≡ length shifts.old }
@@ -204,7 +207,7 @@ fn grow(shifts: &mut [u32], start: u32, offsets: &[u32])
     }
 }
 
-/// Adds it to the shifts from one on, as many as there are in a run of places.
+/// Adds it to as many shifts as a run of places has, starting with one of them.
 fn grow_run(shifts: &mut [u32], at: usize, start: u32, offsets: &[u32], places: Run)
     requires start { start ≤ max_bytes }
     requires few { places.count ≤ max_items }
@@ -222,7 +225,7 @@ fn grow_run(shifts: &mut [u32], at: usize, start: u32, offsets: &[u32], places: 
     }
 }
 
-/// Adds it to all shifts, whose places are the offsets of a layout.
+/// Adds it to all shifts; their places are the offsets of a layout.
 fn grow_along(shifts: &mut [u32], start: u32, numbers: &[u32], places: &Layout)
     requires start { start ≤ max_bytes }
     requires many { length (offsets places.now) ≡ length shifts.old }
@@ -238,7 +241,7 @@ fn grow_along(shifts: &mut [u32], start: u32, numbers: &[u32], places: &Layout)
     }
 }
 
-/// The places of the items of a shape that its stretched one shows, in C order.
+/// The places of a shape's items in the shape that it is stretched to, in C order.
 fn stretched_places(
     alloc: Global,
     lengths: &[usize],
@@ -256,7 +259,7 @@ fn stretched_places(
     stretched_to(alloc, &places, &shape)
 }
 
-/// Makes so many shifts, each at the start, where there are none so far.
+/// Makes `count` shifts, all at the start, if there are none so far.
 pub(crate) fn begin(
     alloc: Global,
     shifts: &mut Vec<u32>,
@@ -274,8 +277,8 @@ pub(crate) fn begin(
     Ok(())
 }
 
-/// Adds to each shift how far the offset of its point lies from the start. Where there are no shifts so
-/// far, they become the offsets, if there is one for each.
+/// Adds to each shift the distance of its point's offset from the start. If there are no shifts so
+/// far, the offsets become the shifts, if there is one for each.
 pub(crate) fn add_points(
     alloc: Global,
     shifts: &mut Vec<u32>,

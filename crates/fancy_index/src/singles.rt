@@ -1,4 +1,4 @@
-//! Single items, each at a shifted place: read, written and filled, one after the other.
+//! Single items at shifted places: gathered, copied and filled, one after the other.
 ghost use Rattle.std.specs.Prelude.{◌≡◌, ◌+◌, ◌*◌, ◌≤◌, ◌++◌, length, map, All};
 ghost use Rattle.fancy_index.specs.Words.{item_at, put, assigned, joined_at};
 ghost use Rattle.fancy_index.specs.Plans.{put_each};
@@ -9,7 +9,7 @@ use crate::plan_rows::{Shifted, moved};
 use arrays::{copy_run, packed_run};
 use raw_block::{BlockBuilder, RawBlock};
 
-/// The `N` bytes from `at` on, loaded at once.
+/// The `N` bytes that start at `at`, in a single load.
 #[inline(always)]
 pub(crate) fn array_at<const N: usize>(bytes: &[u8], at: usize) -> [u8; N]
     requires { at + N ≤ length bytes.now }
@@ -21,68 +21,47 @@ pub(crate) fn array_at<const N: usize>(bytes: &[u8], at: usize) -> [u8; N]
     }
 }
 
-/// The `n` bytes from `at` on.
-pub(crate) fn bytes_at(bytes: &[u8], at: usize, n: usize) -> &[u8]
-    requires { at + n ≤ length bytes.now }
-    ensures { result.now ≡ item_at at n bytes.now }
+/// Appends the `width` bytes that start at `at`. If the compiler knows the width, and it is a
+/// common one, this is a single load and store.
+#[inline(always)]
+fn push_item(items: &mut BlockBuilder, bytes: &[u8], at: usize, width: usize)
+    requires inside { at + width ≤ length bytes.now }
+    requires room { width ≤ items.old.1 }
+    ensures bytes { items.new.0 ≡ items.old.0 ++ item_at at width bytes.now }
+    ensures left { width + items.new.1 ≡ items.old.1 }
 {
-    &bytes[at..at + n]
+    match width {
+        1 => items.push_array::<1>(array_at::<1>(bytes, at)),
+        2 => items.push_array::<2>(array_at::<2>(bytes, at)),
+        4 => items.push_array::<4>(array_at::<4>(bytes, at)),
+        8 => items.push_array::<8>(array_at::<8>(bytes, at)),
+        16 => items.push_array::<16>(array_at::<16>(bytes, at)),
+        _ => items.push_bytes(&bytes[at..at + width]),
+    }
 }
 
-/// Copies `N` bytes of another block, which are loaded and stored at once.
+/// Copies `width` bytes, starting at `at`, over those of a block. If the compiler knows the width,
+/// and it is a common one, this is a single load and store.
 #[inline(always)]
-fn copy_array<const N: usize>(block: &mut RawBlock, to: usize, other: &RawBlock, from: usize)
-    requires to { to + N ≤ length block.old }
-    requires from { from + N ≤ length other.now }
-    ensures copied { block.new ≡ put to (item_at from N other.now) block.old }
-    ensures len { length block.new ≡ length block.old }
-{
-    let item = array_at::<N>(other.bytes(), from);
-    block.put(to, &item);
-}
-
-/// Copies `width` bytes of another block. Where it is called with a width that is known, and is a usual
-/// one, they are loaded and stored at once.
-#[inline(always)]
-fn copy_item(block: &mut RawBlock, to: usize, other: &RawBlock, from: usize, width: usize)
+fn put_item(block: &mut RawBlock, to: usize, bytes: &[u8], at: usize, width: usize)
     requires to { to + width ≤ length block.old }
-    requires from { from + width ≤ length other.now }
-    ensures copied { block.new ≡ put to (item_at from width other.now) block.old }
+    requires from { at + width ≤ length bytes.now }
+    ensures written { block.new ≡ put to (item_at at width bytes.now) block.old }
     ensures len { length block.new ≡ length block.old }
 {
     match width {
-        1 => copy_array::<1>(block, to, other, from),
-        2 => copy_array::<2>(block, to, other, from),
-        4 => copy_array::<4>(block, to, other, from),
-        8 => copy_array::<8>(block, to, other, from),
-        _ => block.copy_from(to, other, from, width),
+        1 => block.put(to, &array_at::<1>(bytes, at)),
+        2 => block.put(to, &array_at::<2>(bytes, at)),
+        4 => block.put(to, &array_at::<4>(bytes, at)),
+        8 => block.put(to, &array_at::<8>(bytes, at)),
+        _ => block.put(to, &bytes[at..at + width]),
     }
 }
 
-/// Pushes the `N` bytes at a place that is shifted by each shift, each item loaded and stored at once.
-fn push_each<const N: usize>(
-    items: BlockBuilder,
-    block: &RawBlock,
-    rows: Shifted<'_>,
-) -> BlockBuilder
-    requires few { N ≤ 16 }
-    requires inside { All (λ offset. offset + N ≤ length block.now) (first_offsets rows) }
-    requires room { length (first_offsets rows) * N ≤ items.1 }
-    ensures bytes { result.0 ≡ items.0 ++ joined_at (first_offsets rows.entry) N block.now }
-    ensures left { length (first_offsets rows.entry) * N + result.1 ≡ items.1 }
-{
-    let base = rows.inner.offset;
-    let bytes = block.bytes();
-    let mut items = items;
-    for shift in rows.shifts {
-        let from = moved(base, rows.place, *shift as usize);
-        items.push_array::<N>(array_at::<N>(bytes, from));
-    }
-    items
-}
-
-/// Pushes the `width` bytes at a place that is shifted by each shift.
-fn push_any(items: BlockBuilder, block: &RawBlock, rows: Shifted<'_>, width: usize) -> BlockBuilder
+/// Appends the `width` bytes at each shifted place. If the compiler knows the width, each is a
+/// single load and store.
+#[inline(always)]
+fn push_each(items: BlockBuilder, block: &RawBlock, rows: Shifted<'_>, width: usize) -> BlockBuilder
     requires inside { All (λ offset. offset + width ≤ length block.now) (first_offsets rows) }
     requires room { length (first_offsets rows) * width ≤ items.1 }
     ensures bytes { result.0 ≡ items.0 ++ joined_at (first_offsets rows.entry) width block.now }
@@ -93,34 +72,13 @@ fn push_any(items: BlockBuilder, block: &RawBlock, rows: Shifted<'_>, width: usi
     let mut items = items;
     for shift in rows.shifts {
         let from = moved(base, rows.place, *shift as usize);
-        items.push_bytes(bytes_at(bytes, from, width));
+        push_item(&mut items, bytes, from, width);
     }
     items
 }
 
-/// Pushes the items at the shifted places, with a loop of its own for each usual width.
-fn push_apart(
-    items: BlockBuilder,
-    block: &RawBlock,
-    rows: Shifted<'_>,
-    width: usize,
-) -> BlockBuilder
-    requires inside { All (λ offset. offset + width ≤ length block.now) (first_offsets rows) }
-    requires room { length (first_offsets rows) * width ≤ items.1 }
-    ensures bytes { result.0 ≡ items.0 ++ joined_at (first_offsets rows.entry) width block.now }
-    ensures left { length (first_offsets rows.entry) * width + result.1 ≡ items.1 }
-{
-    match width {
-        1 => push_each::<1>(items, block, rows),
-        2 => push_each::<2>(items, block, rows),
-        4 => push_each::<4>(items, block, rows),
-        8 => push_each::<8>(items, block, rows),
-        16 => push_each::<16>(items, block, rows),
-        _ => push_any(items, block, rows, width),
-    }
-}
-
-/// Pushes the items at the shifted places, all at once where they lie one right after another.
+/// Appends the items at the shifted places: as one range if they are adjacent, and otherwise with a
+/// loop of its own for each common width.
 fn push_stretch(
     items: BlockBuilder,
     block: &RawBlock,
@@ -134,17 +92,22 @@ fn push_stretch(
     ensures bytes { result.0 ≡ items.0 ++ joined_at (first_offsets rows.entry) width block.now }
     ensures left { length (first_offsets rows.entry) * width + result.1 ≡ items.1 }
 {
-    match rows.as_run(width) {
-        Some(run) => {
+    match (rows.as_run(width), width) {
+        (Some(run), _) => {
             let mut items = items;
             items.push_strided(block, run.offset, run.step, width, run.count);
             items
         }
-        None => push_apart(items, block, rows, width),
+        (_, 1) => push_each(items, block, rows, 1),
+        (_, 2) => push_each(items, block, rows, 2),
+        (_, 4) => push_each(items, block, rows, 4),
+        (_, 8) => push_each(items, block, rows, 8),
+        (_, 16) => push_each(items, block, rows, 16),
+        _ => push_each(items, block, rows, width),
     }
 }
 
-/// Pushes the items at the shifted places, stretch by stretch.
+/// Appends the items at the shifted places, range by range.
 pub(crate) fn push_singles(
     items: BlockBuilder,
     block: &RawBlock,
@@ -166,9 +129,9 @@ pub(crate) fn push_singles(
     items
 }
 
-/// Copies the items of `width` bytes that lie one after another from `at` on, each to a place that is
-/// shifted by one of the shifts. The result is where they end. Where it is called with a width that is
-/// known, each is loaded and stored at once.
+/// Copies adjacent items of `width` bytes, starting at `at`, each to one of the shifted places.
+/// Returns where the copied items end. If the compiler knows the width, each is a single load and
+/// store.
 #[inline(always)]
 fn scatter_each(
     block: &mut RawBlock,
@@ -185,40 +148,19 @@ fn scatter_each(
     ensures end { result ≡ at + length rows.entry.shifts.now * width }
 {
     let _len = items.len();
+    let base = rows.inner.offset;
+    let bytes = items.bytes();
     let mut from = at;
     for shift in rows.shifts {
-        let to = moved(rows.inner.offset, rows.place, *shift as usize);
-        copy_item(block, to, items, from, width);
+        let to = moved(base, rows.place, *shift as usize);
+        put_item(block, to, bytes, from, width);
         from += width;
     }
     from
 }
 
-/// Copies items to the shifted places, with a loop of its own for each usual width.
-fn scatter_apart(
-    block: &mut RawBlock,
-    rows: Shifted<'_>,
-    items: &RawBlock,
-    at: usize,
-    width: usize,
-) -> usize
-    requires inside { All (λ offset. offset + width ≤ length block.old) (first_offsets rows) }
-    requires room { at + length rows.shifts.now * width ≤ length items.now }
-    ensures written { let from = packed at width (length rows.entry.shifts.now) in
-        block.new ≡ assigned (first_offsets rows.entry) from width items.now block.old }
-    ensures len { length block.new ≡ length block.old }
-    ensures end { result ≡ at + length rows.entry.shifts.now * width }
-{
-    match width {
-        1 => scatter_each(block, rows, items, at, 1),
-        2 => scatter_each(block, rows, items, at, 2),
-        4 => scatter_each(block, rows, items, at, 4),
-        8 => scatter_each(block, rows, items, at, 8),
-        _ => scatter_each(block, rows, items, at, width),
-    }
-}
-
-/// Copies items to the shifted places, all at once where these lie one right after another.
+/// Copies items to the shifted places: as one range if these are adjacent, and otherwise with a
+/// loop of its own for each common width.
 fn scatter_stretch(
     block: &mut RawBlock,
     rows: Shifted<'_>,
@@ -236,17 +178,21 @@ fn scatter_stretch(
     ensures end { result ≡ at + length rows.entry.shifts.now * width }
 {
     let len = items.len();
-    match rows.as_run(width) {
-        Some(run) => {
+    match (rows.as_run(width), width) {
+        (Some(run), _) => {
             let from = packed_run(at, width, run.count, len);
             copy_run(block, run, items, from, width);
             at + run.count * width
         }
-        None => scatter_apart(block, rows, items, at, width),
+        (_, 1) => scatter_each(block, rows, items, at, 1),
+        (_, 2) => scatter_each(block, rows, items, at, 2),
+        (_, 4) => scatter_each(block, rows, items, at, 4),
+        (_, 8) => scatter_each(block, rows, items, at, 8),
+        _ => scatter_each(block, rows, items, at, width),
     }
 }
 
-/// Copies items to the shifted places, stretch by stretch.
+/// Copies items to the shifted places, range by range.
 pub(crate) fn scatter_singles(
     block: &mut RawBlock,
     rows: Shifted<'_>,
@@ -271,20 +217,21 @@ pub(crate) fn scatter_singles(
     at
 }
 
-/// Writes the item at a place that is shifted by each shift. Where it is called with an item whose
-/// length is known, each is stored at once.
+/// Writes the item at each shifted place. If the compiler knows the length of the item, each is a
+/// single store.
 #[inline(always)]
 fn fill_each(block: &mut RawBlock, rows: Shifted<'_>, item: &[u8])
     requires { All (λ offset. offset + length item.now ≤ length block.old) (first_offsets rows) }
     ensures written { block.new ≡ put_each (first_offsets rows.entry) item.now block.old }
     ensures len { length block.new ≡ length block.old }
 {
+    let base = rows.inner.offset;
     for shift in rows.shifts {
-        block.put(moved(rows.inner.offset, rows.place, *shift as usize), item);
+        block.put(moved(base, rows.place, *shift as usize), item);
     }
 }
 
-/// Writes the item at the shifted places, with a loop of its own for each usual length.
+/// Writes the item at the shifted places, with a loop of its own for each common width.
 pub(crate) fn fill_singles(block: &mut RawBlock, rows: Shifted<'_>, item: &[u8])
     requires { All (λ offset. offset + length item.now ≤ length block.old) (first_offsets rows) }
     ensures written { block.new ≡ put_each (first_offsets rows.entry) item.now block.old }

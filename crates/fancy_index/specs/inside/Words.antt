@@ -7,11 +7,7 @@ use Rattle.fancy_index.specs.declared.positions.Reading.{Reading}
 use Rattle.fancy_index.specs.declared.positions.Spread.{Spread}
 use Rattle.fancy_index.specs.inside.PointLists.{place_of}
 
--- the number of the bool in a byte
-abbrev pub bool_number : ℕ → ℤ
-bool_number byte = pos (truth byte)
-
--- the integer in so many bytes
+-- the integer in `width` bytes
 abbrev pub word : Reading → ℕ → List ℕ → ℤ
 word reading width item = integer reading.signed width (number_in reading.order width item)
 
@@ -19,7 +15,7 @@ word reading width item = integer reading.signed width (number_in reading.order 
 abbrev pub spread_numbers : Reading → ℕ → Spread → List ℤ
 spread_numbers reading width items = map (λ offset. word reading width (item_at offset width items.block.now)) (run_offsets items.run)
 
--- the items of this type are integers of so many bytes, which are read so
+-- items of this type are integers of `width` bytes, and read like this
 pub record AreWords (reading : Reading) (width : ℕ) (descr : Descr) : Type 0 where
   pub size : item_size descr ≡ width
   pub few : width ≤ 8
@@ -31,7 +27,7 @@ pub record IsNative (reading : Reading) (width : ℕ) (run : Run) : Type 0 where
   pub order : reading.order ≡ Little
   pub step : run.step ≡ pos width
 
--- items of so many bytes that lie in their block
+-- items of `width` bytes that lie in their block
 pub record IsSpread (width : ℕ) (items : Spread) : Type 0 where
   pub some : 1 ≤ items.run.count
   pub few : items.run.count ≤ max_items

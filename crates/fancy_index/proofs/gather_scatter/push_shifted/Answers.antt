@@ -5,14 +5,14 @@ use Rattle.fancy_index.specs.inside.Moved.{shifted_all}
 use Rattle.fancy_index.proofs.Passes.{push_front, pushed_front, pushed_all, split-shifts}
 use Rattle.fancy_index.proofs.gather_scatter.push_shifted.Goals as goal
 
-pub push_from-items-requires-clause-inside : goal.push_from-items-requires-clause-inside
-push_from-items-requires-clause-inside c =
+pub push_moved-items-requires-clause-inside : goal.push_moved-items-requires-clause-inside
+push_moved-items-requires-clause-inside c =
     let rows = c.args.rows in
     let split = split-shifts rows.inner.now.offset (offsets rows.inner.now) rows.place rows.shifts.now c.loop-shift.shift-index c.moved-from.result c.loop-shift-test.true c.moved-from.ensures.value in
     (push_front _ _ _ _ _ _ _ _ split c.loop-shift.invariant).inside
 
-pub push_from-items-requires-clause-room : goal.push_from-items-requires-clause-room
-push_from-items-requires-clause-room c =
+pub push_moved-items-requires-clause-room : goal.push_moved-items-requires-clause-room
+push_moved-items-requires-clause-room c =
     let rows = c.args.rows in
     let split = split-shifts rows.inner.now.offset (offsets rows.inner.now) rows.place rows.shifts.now c.loop-shift.shift-index c.moved-from.result c.loop-shift-test.true c.moved-from.ensures.value in
     (push_front _ _ _ _ _ _ _ _ split c.loop-shift.invariant).room
@@ -21,7 +21,7 @@ pub loop-shift-preserved : goal.loop-shift-preserved
 loop-shift-preserved c =
     let rows = c.args.rows in
     let split = split-shifts rows.inner.now.offset (offsets rows.inner.now) rows.place rows.shifts.now c.loop-shift.shift-index c.moved-from.result c.loop-shift-test.true c.moved-from.ensures.value in
-    pushed_front _ _ _ _ _ _ _ _ _ split c.push_from-items.ensures.bytes c.push_from-items.ensures.left c.loop-shift.invariant
+    pushed_front _ _ _ _ _ _ _ _ _ split c.push_moved-items.ensures.bytes c.push_moved-items.ensures.left c.loop-shift.invariant
 
 pub returns : goal.returns
 returns c =

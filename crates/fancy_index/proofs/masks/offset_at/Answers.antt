@@ -1,10 +1,8 @@
-use Rattle.std.proofs.Common.{◌≡◌, get_or, ap, ◌∙◌, arith}
+use Rattle.std.proofs.Common.{get_or, ap, ◌∙◌, arith}
 use Rattle.std.proofs.lemmas.Int.{ints}
 use Rattle.fancy_index.specs.Words.{Layout, offsets}
-use Rattle.fancy_index.specs.declared.masks.RunAt.{RunAt}
 use Rattle.fancy_index.proofs.RankLaws.{start, low, high, offset-is}
 use Rattle.fancy_index.proofs.masks.offset_at.Goals as goal
-use Rattle.fancy_index.proofs.masks.offset_at.Goals.{then-rank-at, else-rank-at}
 
 pub offset_after-requires-clause-start : goal.offset_after-requires-clause-start
 offset_after-requires-clause-start c = start c.go_to.new.at c.go_to.ensures.at c.args.rank c.go_to.ensures.from c.go_to.ensures.below
@@ -17,12 +15,8 @@ offset_after-requires-clause-high c = high c.go_to.new.at c.go_to.ensures.at c.a
 
 pub returns-clause-value : goal.returns-clause-value
 returns-clause-value c =
-    let same : c.if-rank-at.at.layout.now ≡ c.args.at.now.layout.now = elim c.if-rank-at.branch [
-      | then-rank-at w ↦ ap (λ (a : RunAt). a.layout.now) w.at-is ∙ w.begin_again.ensures.layout
-      | else-rank-at w ↦ ap (λ (a : RunAt). a.layout.now) w.at-is
-    ] in
     offset-is c.go_to.new.at c.go_to.ensures.at c.args.rank c.go_to.ensures.from c.go_to.ensures.below c.offset_after.result c.offset_after.ensures
-    ∙ ap (λ (l : Layout). get_or (offsets l) c.args.rank 0) (c.go_to.ensures.layout ∙ same)
+    ∙ ap (λ (l : Layout). get_or (offsets l) c.args.rank 0) c.go_to.ensures.layout
 
 pub returns-clause-bound : goal.returns-clause-bound
 returns-clause-bound c = omega (arith, ints, c.offset_after.ensures, high c.go_to.new.at c.go_to.ensures.at c.args.rank c.go_to.ensures.from c.go_to.ensures.below)

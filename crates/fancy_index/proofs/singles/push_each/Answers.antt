@@ -1,4 +1,4 @@
-use Rattle.std.proofs.Common.{◌≡◌, ◌++◌, length, map, ap, ◌∙◌, arith}
+use Rattle.std.proofs.Common.{◌++◌, length, map, ap, ◌∙◌, arith}
 use Rattle.std.proofs.lemmas.List.{drop_all}
 use Rattle.fancy_index.specs.Words.{item_at}
 use Rattle.fancy_index.specs.inside.Moved.{moved_offset}
@@ -6,21 +6,20 @@ use Rattle.fancy_index.proofs.Passes.{pushed_all}
 use Rattle.fancy_index.proofs.SingleLaws.{push_one, pushed_one}
 use Rattle.fancy_index.proofs.singles.push_each.Goals as goal
 
-pub array_at-requires : goal.array_at-requires
-array_at-requires g c =
+pub push_item-requires : goal.push_item-requires
+push_item-requires c =
     let rows = c.args.rows in
-    let can = push_one rows.inner.now.offset rows.place rows.shifts.now c.loop-shift.shift-index c.moved-from.result c.loop-shift-test.true c.moved-from.ensures.value _ g.row.N c.args.block.now _ _ c.loop-shift.invariant in
-    (omega (arith, c.requires.few), omega (arith, can.0, ap length c.bytes-bytes.ensures))
+    let can = push_one rows.inner.now.offset rows.place rows.shifts.now c.loop-shift.shift-index c.moved-from.result c.loop-shift-test.true c.moved-from.ensures.value _ c.args.width c.args.block.now _ _ c.loop-shift.invariant in
+    record { inside = omega (arith, can.0, ap length c.bytes-bytes.ensures); room = omega (arith, can.1) }
 
 pub loop-shift-preserved : goal.loop-shift-preserved
-loop-shift-preserved g c =
+loop-shift-preserved c =
     let rows = c.args.rows in
-    let item : c.array_at.result ≡ item_at c.moved-from.result g.row.N c.args.block.now = c.array_at.ensures ∙ ap (item_at c.moved-from.result g.row.N) c.bytes-bytes.ensures in
-    pushed_one rows.inner.now.offset rows.place rows.shifts.now c.loop-shift.shift-index c.moved-from.result c.loop-shift-test.true c.moved-from.ensures.value _ g.row.N c.args.block.now _ _ c.push_array.new.self
-    (c.push_array.ensures.bytes ∙ ap (λ l. c.loop-shift.items.0 ++ l) item) c.push_array.ensures.left c.loop-shift.invariant
+    pushed_one rows.inner.now.offset rows.place rows.shifts.now c.loop-shift.shift-index c.moved-from.result c.loop-shift-test.true c.moved-from.ensures.value _ c.args.width c.args.block.now _ _ c.push_item.new.items
+    (c.push_item.ensures.bytes ∙ ap (λ b. c.loop-shift.items.0 ++ item_at c.moved-from.result c.args.width b) c.bytes-bytes.ensures) c.push_item.ensures.left c.loop-shift.invariant
 
 pub returns : goal.returns
-returns g c =
+returns c =
     let rows = c.args.rows in
     let done = pushed_all _ _ _ _ _ _ (ap (map (moved_offset rows.inner.now.offset rows.place)) (drop_all c.loop-shift.shift-index rows.shifts.now (omega (arith, c.loop-shift-test.false)))) c.loop-shift.invariant in
     record { bytes = done.0; left = done.1 }

@@ -3,7 +3,7 @@ use Rattle.fancy_index.specs.Words.{assigned}
 use Rattle.fancy_index.specs.inside.Kept.{moved_offsets}
 use Rattle.arrays.specs.Packed.{row_offsets as packed}
 use Rattle.fancy_index.proofs.Passes.{RunsLeft, Scattering, moved_runs}
-use Rattle.fancy_index.proofs.gather_scatter.scatter_by_runs.Given as goal
+use Rattle.fancy_index.proofs.gather_scatter.scatter_moved.Given as goal
 
 abbrev pub invariant-loop-run : goal.invariant-loop-run
 invariant-loop-run l = record {

@@ -1,6 +1,6 @@
 use Rattle.fancy_index.specs.inside.Kept.{moved_offsets}
 use Rattle.fancy_index.proofs.Passes.{RunsLeft, Pushing, moved_runs}
-use Rattle.fancy_index.proofs.gather_scatter.push_by_runs.Given as goal
+use Rattle.fancy_index.proofs.gather_scatter.push_moved.Given as goal
 
 abbrev pub invariant-loop-run : goal.invariant-loop-run
 invariant-loop-run l = record {

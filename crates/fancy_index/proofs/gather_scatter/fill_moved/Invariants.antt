@@ -2,7 +2,7 @@ use Rattle.std.proofs.Common.{◌≡◌, length}
 use Rattle.fancy_index.specs.Plans.{put_each}
 use Rattle.fancy_index.specs.inside.Kept.{moved_offsets}
 use Rattle.fancy_index.proofs.Passes.{RunsLeft, Filling, moved_runs}
-use Rattle.fancy_index.proofs.gather_scatter.fill_by_runs.Given as goal
+use Rattle.fancy_index.proofs.gather_scatter.fill_moved.Given as goal
 
 abbrev pub invariant-loop-run : goal.invariant-loop-run
 invariant-loop-run l = record {
