@@ -5,7 +5,7 @@ use Rattle.std.proofs.Math.Seq.{take-append_seam, drop-append-add}
 use Rattle.std.proofs.lemmas.List.Folds.{concat-append}
 use Rattle.std.proofs.lemmas.List.{nil_from_length, length-replicate}
 use Rattle.std.proofs.lemmas.List.Elements.{All-from_recursion}
-use Rattle.elementwise.specs.Words.{place, put, item_at, joined, EachWithin, Run, RunPair, run_offsets, length-run_offsets, items_at, with_items, length-row, row-split, row_offsets}
+use Rattle.elementwise.specs.Words.{place, put, item_at, joined, EachWithin, RunPair, run_offsets, length-run_offsets, items_at, with_items, length-row, row-split, row_offsets}
 use Rattle.elementwise.specs.Results.{pairwise}
 use Rattle.elementwise.specs.inside.PairPasses.{pair_from}
 use Rattle.elementwise.proofs.PairLaws.{pairwise-append, joined_pairs, firsts, seconds}
@@ -67,11 +67,6 @@ bytes-next item left left' pair walked =
     ap (λ l. length (firsts l) * item) walked
     ∙ ap (λ n. n * item) (length-append (run_offsets pair.first) (firsts left') ∙ ap (λ n. n + length (firsts left')) (length-run_offsets pair.first))
     ∙ add-mul pair.first.count (length (firsts left')) item
-
--- the items of a run lie in these bytes too
-pub lies-in : (b left : List ℕ) (w width : ℕ) (run : Run) → b ≡ left → w ≡ width → EachWithin (length left) run.offset run.step width run.count → EachWithin (length b) run.offset run.step w run.count
-lies-in b left w width run bytes wide there =
-    subst (λ (n : ℕ). EachWithin (length b) run.offset run.step n run.count) (sym wide) (subst (λ (xs : List ℕ). EachWithin (length xs) run.offset run.step width run.count) (sym bytes) there)
 
 -- a row of pairs, as the code has it
 pub row-made : (f : List ℕ → List ℕ → List ℕ) (width width' w w' : ℕ) (left right b b' : List ℕ) (row : RunPair) (block block' : List ℕ) → w ≡ width → w' ≡ width' → b ≡ left → b' ≡ right → row.first.count ≡ row.second.count →

@@ -1,15 +1,14 @@
 -- Numbers by their lowest 64 bits.
-use Rattle.std.proofs.Common.{◌≡◌, ℕ, zero, suc, ◌+◌, ◌-◌, ◌*◌, ◌/◌, ◌%◌, ◌^◌, ◌<◌, ◌≤◌, inl, inr, cond, nat_lt, Bool, true, false, refl, sym, ap, ◌∙◌, arith}
-use Rattle.std.specs.Prelude.{ℤ, pos, negsuc, neg_ℤ, ◌+ℤ◌, ◌-ℤ◌, ◌*ℤ◌, nat_le}
+use Rattle.std.proofs.Common.{◌≡◌, ℕ, zero, suc, ◌+◌, ◌-◌, ◌*◌, ◌/◌, ◌%◌, ◌^◌, ◌<◌, ◌≤◌, max, inl, inr, cond, nat_lt, Bool, true, false, refl, sym, ap, ◌∙◌, arith}
+use Rattle.std.specs.Prelude.{ℤ, pos, negsuc, neg_ℤ, ◌+ℤ◌, ◌-ℤ◌, ◌*ℤ◌}
 use Rattle.std.specs.Int.{w64, cast_signed, cast_unsigned, int_wrap}
 use Rattle.std.proofs.lemmas.Bool.{cases_lt}
 use Rattle.std.proofs.lemmas.Bool.Decides.{nat_tests}
-use Rattle.std.proofs.lemmas.Int.{ints, wrapping_add-bits, wrapping_sub-bits, wrapping_mul-bits, int_wrap-add_left, int_wrap-add_right, int_wrap-sub_right, int_wrap-mul_left, int_wrap-mul_right, of_z-to_z}
+use Rattle.std.proofs.lemmas.Int.{wrapping_add-bits, wrapping_sub-bits, wrapping_mul-bits, int_wrap-add_left, int_wrap-add_right, int_wrap-sub_right, int_wrap-mul_left, int_wrap-mul_right, of_z-to_z}
 use Rattle.std.proofs.lemmas.Nat.{pow_below}
 use Rattle.std.proofs.Math.Nat.{div-add-mod, mod-lt, mod-eq_of_lt, mul-le-mul_left, mul-le-mul_right, div-div-eq-div-mul}
 use Rattle.elementwise.specs.Words.{integer, low_bits, low_bits-lt, low_bits-integer, int_wrap-low_bits}
-use Rattle.elementwise.specs.Operations.{floor_quotient, modulo, shifted_left}
-use Rattle.elementwise.specs.Bits.{is_negative}
+use Rattle.elementwise.specs.Operations.{floor_quotient, modulo, sign_bits, shifted_left, shifted_right}
 
 -- the lowest bits of a sum, a difference or a product are what the lowest bits give
 module _ (f : ℕ → ℕ → ℕ) (op : ℤ → ℤ → ℤ) (first : (a b : ℤ) → int_wrap w64 (op (int_wrap w64 a) b) ≡ int_wrap w64 (op a b)) (second : (a b : ℤ) → int_wrap w64 (op a (int_wrap w64 b)) ≡ int_wrap w64 (op a b)) (word : (m n : ℕ) → m < 2 ^ 64 → n < 2 ^ 64 → cast_signed w64 (f m n) ≡ int_wrap w64 (op (cast_signed w64 m) (cast_signed w64 n))) (below : (m n : ℕ) → f m n < 2 ^ 64) where
@@ -49,18 +48,8 @@ product_low = words_low (λ x y. (x * y) % 2 ^ 64) (λ a b. a *ℤ b) (int_wrap-
 low_bits-small : (x : ℕ) → x < 2 ^ 64 → low_bits 8 (pos x) ≡ x
 low_bits-small x below = mod-eq_of_lt below
 
--- bits that are those of no number below 0, and those of one
-is_small : (x : ℕ) → x < 2 ^ 63 → (is_negative true x ≡ false) × (integer true 8 x ≡ pos x)
-is_small x small =
-    let test : nat_lt x (2 ^ 63) ≡ true = grind (arith, nat_tests) in
-    let other : nat_le (2 ^ 63) x ≡ false = grind (arith, nat_tests) in
-    (other, ap (λ t. cond t (pos x) (pos x -ℤ pos (2 ^ 64))) test)
-
-is_large : (x : ℕ) → 2 ^ 63 ≤ x → x < 2 ^ 64 → (is_negative true x ≡ true) × (integer true 8 x ≡ negsuc (2 ^ 64 - 1 - x))
-is_large x large below =
-    let test : nat_lt x (2 ^ 63) ≡ false = grind (arith, nat_tests) in
-    let other : nat_le (2 ^ 63) x ≡ true = grind (arith, nat_tests) in
-    (other, ap (λ t. cond t (pos x) (pos x -ℤ pos (2 ^ 64))) test ∙ omega (arith, ints))
+is_small : (x : ℕ) → x < 2 ^ 63 → integer true 8 x ≡ pos x
+is_small x small = let test : nat_lt x (2 ^ 63) ≡ true = grind (arith, nat_tests) in ap (λ t. cond t (pos x) (pos x -ℤ pos (2 ^ 64))) test
 
 -- ---- what is left of a number by another
 
@@ -137,14 +126,26 @@ module _ (v n d m low near : ℕ) (few : n ≤ v) (some : 1 ≤ d) (is : m ≡ v
 pub reciprocal-high : (v k w d : ℕ) → v / k ≡ w → v / d / k ≡ w / d
 reciprocal-high v k w d is = div-div-eq-div-mul v d k ∙ ap (λ n. v / n) (omega arith) ∙ sym (div-div-eq-div-mul v k d) ∙ ap (λ n. n / d) is
 
--- ---- bits that move up
+-- ---- bits that move
+
+-- by fewer than there are
+pub kept : (by width m : ℕ) → by < width → m ≡ max width 1 → by % m ≡ by
+kept by width m near is = mod-eq_of_lt (omega (arith, near, is))
+
+amount : (signed : Bool) (by width : ℕ) → by < width → width ≤ 64 → integer signed 8 by ≡ pos by
+amount false by width near few = refl
+amount true by width near few = is_small by (omega (arith, near, few))
+
+pub moved_down_is : (signed : Bool) (width by : ℕ) (z : ℤ) → by < width → width ≤ 64 → floor_quotient z (pos (2 ^ by)) ≡ shifted_right width z (integer signed 8 by)
+moved_down_is signed width by z near few =
+    let test : nat_lt by width ≡ true = grind (arith, nat_tests) in
+    ap (λ t. cond t (floor_quotient z (pos (2 ^ by))) (sign_bits z)) (sym test) ∙ ap (shifted_right width z) (sym (amount signed by width near few))
 
 pub moved_up_low : (signed : Bool) (width x by : ℕ) → by < width → width ≤ 64 → x < 2 ^ 64 → (x * 2 ^ by) % 2 ^ 64 ≡ low_bits 8 (shifted_left width (integer signed 8 x) (integer signed 8 by))
 moved_up_low signed width x by near few below =
     let power : 2 ^ by < 2 ^ 64 = pow_below by 64 (omega (arith, near, few)) in
     let test : nat_lt by width ≡ true = grind (arith, nat_tests) in
-    let amount : integer signed 8 by ≡ pos by = elim signed as (λ s. integer s 8 by ≡ pos by) [ false ↦ refl | true ↦ (is_small by (omega (arith, near, few))).1 ] in
     (λ i. (sym (low_bits-integer signed 8 x below) i * sym (low_bits-small (2 ^ by) power) i) % 2 ^ 64)
     ∙ sym (low_bits-mul (integer signed 8 x) (pos (2 ^ by)))
     ∙ ap (λ t. low_bits 8 (cond t (integer signed 8 x *ℤ pos (2 ^ by)) (pos 0))) (sym test)
-    ∙ ap (λ b. low_bits 8 (shifted_left width (integer signed 8 x) b)) (sym amount)
+    ∙ ap (λ b. low_bits 8 (shifted_left width (integer signed 8 x) b)) (sym (amount signed by width near few))

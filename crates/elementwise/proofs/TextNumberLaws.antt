@@ -3,7 +3,7 @@ use Rattle.std.proofs.Common.{◌≡◌, ◌+◌, ◌*◌, ◌^◌, ◌<◌, ◌
 use Rattle.std.proofs.lemmas.Bool.{cases_lt, lt-ltb}
 use Rattle.std.proofs.lemmas.Bool.Decides.{nat_tests}
 use Rattle.std.proofs.lemmas.List.Elements.{All-tail}
-use Rattle.elementwise.specs.Words.{big_number, little_number, big_from-cons, big_from-lt, AreBytes, bytes-take, bytes-drop, Big, Scalar, Byte, Int, IsNumber, size, width_size, encode, number, item_at, is_bool, Comparison}
+use Rattle.elementwise.specs.Words.{big_number, little_number, big_from-cons, big_from-lt, AreBytes, bytes-take, bytes-drop, Big, Scalar, Byte, Int, width_size, encode, number, item_at, Comparison}
 use Rattle.elem_descr.specs.declared.scalar.Scalar.TheVariants.{Bool as BoolScalar}
 use Rattle.elementwise.specs.Comparisons.{text_below, says}
 use Rattle.elementwise.specs.Results.{pairwise}
@@ -76,11 +76,6 @@ words-compared c (Int false width Big) n xs ys is long long' are are' =
     let w = width_size width in
     said-alike c (big_number w xs) (big_number w ys) xs ys (words-below w xs ys (long ∙ is) (long' ∙ is) are are') (words-below w ys xs (long' ∙ is) (long ∙ is) are' are) (long ∙ sym long')
 words-compared c _ n xs ys never long long' are are' = absurd never
-
-pub word-is : (s : Scalar) (n : ℕ) → IsWord s n → IsNumber s × (size s ≡ n) × (is_bool s ≡ false)
-word-is (Byte false) n is = (tt, sym is, refl)
-word-is (Int false width Big) n is = (tt, sym is, refl)
-word-is _ n never = absurd never
 
 -- ---- all pairs of items
 

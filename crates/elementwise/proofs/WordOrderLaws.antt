@@ -1,5 +1,5 @@
 -- Byte strings that are in the order of words of theirs, the highest byte first.
-use Rattle.std.proofs.Common.{◌≡◌, ◌+◌, ◌≤◌, ◌==◌, ◌&&◌, ◌||◌, inl, inr, ◌⊎◌, nat_lt, false, ℕ, List, [], ◌∷◌, ◌++◌, length, take, drop, refl, sym, ap, ◌∙◌, arith, length-take, length-drop}
+use Rattle.std.proofs.Common.{◌≡◌, ◌+◌, ◌*◌, ◌^◌, ◌<◌, ◌≤◌, ◌==◌, ◌&&◌, ◌||◌, inl, inr, ◌⊎◌, nat_lt, false, ℕ, List, [], ◌∷◌, ◌++◌, length, take, drop, refl, sym, ap, ◌∙◌, arith, length-take, length-drop}
 use Rattle.std.proofs.lemmas.Bool.{cases_eq}
 use Rattle.std.proofs.lemmas.Bool.Decides.{nat_tests}
 use Rattle.std.proofs.lemmas.List.{take-append-drop, take_all, take-take}
@@ -95,3 +95,16 @@ same-front n at xs ys few some some' are are' same =
     let none' : nat_lt m' m ≡ false = grind (arith, nat_tests) in
     let front = neither-below (take n xs) (take n ys) (long ∙ sym long') (sym (words-below n (take n xs) (take n ys) long long' b b') ∙ none) (sym (words-below n (take n ys) (take n xs) long' long b' b) ∙ none') in
     sym (take-take at n xs few) ∙ ap (take at) front ∙ take-take at n ys few
+
+-- numbers of two words are in the order of the first ones, or where these are the same of the last ones
+pub two-in-order : (a b p q : ℕ) (xs ys : List ℕ) → p < 2 ^ 64 → q < 2 ^ 64 → (a ≡ b → AreInOrder (p, q) xs ys) → ((a ≡ b → ⊥) → AreInOrder (a, b) xs ys) → AreInOrder (a * 2 ^ 64 + p, b * 2 ^ 64 + q) xs ys
+two-in-order a b p q xs ys low low' last first = elim (cases_eq a b) as (λ _. AreInOrder (a * 2 ^ 64 + p, b * 2 ^ 64 + q) xs ys) [
+  | inl same ↦
+      let below : nat_lt (a * 2 ^ 64 + p) (b * 2 ^ 64 + q) ≡ nat_lt p q = grind (arith, nat_tests) in
+      let above : nat_lt (b * 2 ^ 64 + q) (a * 2 ^ 64 + p) ≡ nat_lt q p = grind (arith, nat_tests) in
+      (below ∙ (last same).0, above ∙ (last same).1)
+  | inr differ ↦
+      let below : nat_lt (a * 2 ^ 64 + p) (b * 2 ^ 64 + q) ≡ nat_lt a b = grind (arith, nat_tests) in
+      let above : nat_lt (b * 2 ^ 64 + q) (a * 2 ^ 64 + p) ≡ nat_lt b a = grind (arith, nat_tests) in
+      (below ∙ (first differ).0, above ∙ (first differ).1)
+]

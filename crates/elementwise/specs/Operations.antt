@@ -27,7 +27,7 @@ abbrev pub sign_bits : ℤ → ℤ
 sign_bits (pos a) = pos 0
 sign_bits (negsuc a) = negsuc 0
 
--- a moved up or down by b of so many bits; where that is all of them or more, no bit of a is left
+-- a shifted left or right by b of `bits` bits; if b is `bits` or more, no bit of a is left
 abbrev pub shifted_left : ℕ → ℤ → ℤ → ℤ
 shifted_left bits a (pos b) = if nat_lt b bits then a *ℤ pos (2 ^ b) else pos 0
 shifted_left bits a (negsuc b) = pos 0

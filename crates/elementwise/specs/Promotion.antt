@@ -24,7 +24,7 @@ integer_type signed bytes =
     else (if bytes == 4 then Int signed Four Little
     else Int signed Eight Little))
 
--- the smallest integers with a sign that hold those of so many bytes without one, and those of so many with one
+-- the smallest signed integers that hold unsigned integers of one width and signed integers of another
 abbrev pub mixed_type : ℕ → ℕ → Result Scalar Refusal
 mixed_type unsigned signed = do
   _ ← check (nat_le (2 * unsigned) 8) NeedsFloats

@@ -23,9 +23,10 @@ use elem_descr::{BinOp, Descr, MemoryOrder, Refusal, UnOp};
 use shape_strides::{Layout, Shape};
 use std::alloc::{AllocError, Global};
 
-/// What an operation gives on the items of two arrays that are broadcast together, in a block of their
-/// own in C order, of the type that `promote` tells. Refused as `promote` refuses, records as
-/// `NotForThisKind`; then as `common` refuses: `ShapesDoNotBroadcast`, `TooLarge`.
+/// The result of an operation on the items of two arrays, which are broadcast together, in a block
+/// of its own in C order. Its type is that of `promote`.
+/// Refusals, in this order: those of `promote`, with records as `NotForThisKind`; then those of
+/// `common`, `ShapesDoNotBroadcast` and `TooLarge`.
 pub fn apply2(alloc: Global, op: BinOp, left: Items<'_>, right: Items<'_>) -> Result<Owned, Refusal>
     ensures gives { Gives (λ o. (o.descr, o.layout.shape)) result
         (binary_result op left.entry.descr.now left.entry.layout.now.shape right.entry.descr.now
@@ -52,8 +53,8 @@ pub fn apply2(alloc: Global, op: BinOp, left: Items<'_>, right: Items<'_>) -> Re
     Ok(make_cast(alloc, &pairing, left, right, &shape)?)
 }
 
-/// What an operation gives on the items of an array, in a block of their own in C order. Refused as
-/// `promote_one` refuses, and records as `NotForThisKind`.
+/// The result of an operation on the items of an array, in a block of its own in C order. The
+/// refusals are those of `promote_one`, with records as `NotForThisKind`.
 pub fn apply1(alloc: Global, op: UnOp, operand: Items<'_>) -> Result<Owned, Refusal>
     ensures gives { Gives (λ o. (o.descr, o.layout.shape)) result
         (unary_result op operand.entry.descr.now operand.entry.layout.now.shape) }
@@ -75,7 +76,7 @@ pub fn apply1(alloc: Global, op: UnOp, operand: Items<'_>) -> Result<Owned, Refu
     Ok(make_cast(alloc, &pairing, operand, operand, &operand.layout.shape)?)
 }
 
-/// Items where they lie, or in a block of their own.
+/// Items in place, or in a block of their own.
 #[derive(Drop)]
 pub(crate) enum Held<'a> {
     Kept(Items<'a>),
@@ -86,7 +87,7 @@ impl<'a> Held<'a> {
     ghost use Rattle.arrays.specs.ItemLists.{items};
     ghost use Rattle.elementwise.specs.inside.Held.{held_items, held_descr, held_shape};
 
-    /// Items as those of a small element type: where they lie, if a cast leaves them as they are.
+    /// Items cast to a small element type. If the cast keeps their bytes, they stay in place.
     pub(crate) fn of(alloc: Global, from: Items<'a>, to: &'a Descr) -> Result<Held<'a>, AllocError>
         requires can { can_cast from.descr.now to.now ≡ true }
         requires small { item_size to.now ≤ 8 }
@@ -107,8 +108,8 @@ impl<'a> Held<'a> {
         Ok(Held::Made(made))
     }
 
-    /// The items where they lie or, if there are many and they go by columns, a copy in C order, so that
-    /// one loop reads them all. Without memory for the copy they stay where they lie.
+    /// The items in place or, if there are many and they are stored by columns, a copy in C order,
+    /// so that a single loop reads them all. Without memory for the copy, they stay in place.
     pub(crate) fn near(alloc: Global, from: Items<'a>) -> Held<'a>
         ensures descr { held_descr result ≡ from.entry.descr.now }
         ensures shape { held_shape result ≡ from.entry.layout.now.shape }
@@ -135,7 +136,7 @@ impl<'a> Held<'a> {
     }
 }
 
-/// A layout that has a shape already, or is stretched to it.
+/// A layout, stretched to a shape unless it has the shape already.
 #[derive(Drop)]
 pub(crate) enum Fitted<'a> {
     Same(&'a Layout),
@@ -164,8 +165,8 @@ impl<'a> Fitted<'a> {
     }
 }
 
-/// What is made of the items of two arrays that are cast, each as a whole, and then stretched. Its frame
-/// is large, so it stays out of line.
+/// The results for the items of two arrays, each of which is cast as a whole and then stretched.
+/// Its frame is large, so it is not inlined.
 #[inline(never)]
 pub(crate) fn make_whole(
     alloc: Global,
@@ -213,7 +214,7 @@ pub(crate) fn make_whole(
     made(alloc, pairing, operands)
 }
 
-/// Whether items have a shape already, and a cast to an element type leaves them as they are.
+/// Whether items have a shape already, and a cast to an element type keeps their bytes.
 fn stays(from: Items<'_>, to: &Descr, shape: &Shape) -> bool
     ensures shape { IsTrue result → from.entry.layout.now.shape ≡ shape.now }
     ensures alike { IsTrue result → AreAlike from.entry.descr.now to.now }
@@ -224,7 +225,7 @@ fn stays(from: Items<'_>, to: &Descr, shape: &Shape) -> bool
     from.layout.shape.as_slice() == shape.as_slice() && keeps_items(from.block, from.descr, to)
 }
 
-/// The operands as runs of items, if they are many and need not be stretched.
+/// The operands as runs of items, if there are many and they need not be stretched.
 fn in_runs<'a>(left: Items<'a>, right: Items<'a>, shape: &Shape) -> Option<InRuns<'a>>
     ensures left { IfSome result (λ both. both.left.items ≡ left.entry) }
     ensures right { IfSome result (λ both. both.right.items ≡ right.entry) }
@@ -250,7 +251,7 @@ fn in_runs<'a>(left: Items<'a>, right: Items<'a>, shape: &Shape) -> Option<InRun
     })
 }
 
-/// What is made of the items of two arrays that are cast, and then stretched.
+/// The results for the items of two arrays, which are cast and then stretched.
 pub(crate) fn make_cast(
     alloc: Global,
     pairing: &Pairing<'_>,

@@ -1,11 +1,11 @@
-//! Operations on numbers given by their lowest 64 bits; all higher bits repeat the sign.
-ghost use Rattle.std.specs.Prelude.{◌≡◌, ◌≤◌, ◌/◌, ◌^◌, nat_lt, if◌then◌else◌, Bool, int_lt};
+//! Operations on numbers that are given by their lowest 64 bits; all higher bits repeat the sign.
+ghost use Rattle.std.specs.Prelude.{◌≡◌, ◌<◌, ◌≤◌, ◌^◌, pos, Bool, int_lt};
 ghost use Rattle.elementwise.specs.Words.{Scalar, integer, low_bits};
 ghost use Rattle.elementwise.specs.Operations.{exact, floor_quotient, modulo, shifted_left, shifted_right};
 ghost use Rattle.elementwise.specs.inside.PairPasses.{division_op};
 ghost use Rattle.elementwise.specs.Bits.{is_negative, magnitude_of};
 
-/// Whether bits are those of a number below 0.
+/// Whether the number is negative.
 #[inline(always)]
 pub(crate) fn is_negative(signed: bool, bits: u64) -> bool
     ensures { result ≡ is_negative signed bits }
@@ -13,7 +13,7 @@ pub(crate) fn is_negative(signed: bool, bits: u64) -> bool
     signed && bits >= 1 << 63
 }
 
-/// How far a number is from 0.
+/// The absolute value of a number.
 #[inline(always)]
 pub(crate) fn magnitude(negative: bool, bits: u64) -> u64
     ensures { result ≡ magnitude_of negative bits }
@@ -21,7 +21,7 @@ pub(crate) fn magnitude(negative: bool, bits: u64) -> u64
     if negative { bits.wrapping_neg() } else { bits }
 }
 
-/// The bits of a quotient that is rounded down, 0 by 0.
+/// The bits of a quotient, rounded down. Division by 0 gives 0.
 #[inline(always)]
 fn quotient(signed: bool, left: u64, right: u64) -> u64
     ensures { result
@@ -40,7 +40,7 @@ fn quotient(signed: bool, left: u64, right: u64) -> u64
     !((size - 1) / divisor)
 }
 
-/// The bits of what is left of a number by another, 0 by 0.
+/// The bits of a remainder. Division by 0 gives 0.
 #[inline(always)]
 fn rest(signed: bool, left: u64, right: u64) -> u64
     ensures { result ≡ low_bits 8 (modulo (integer signed 8 left) (integer signed 8 right)) }
@@ -51,7 +51,7 @@ fn rest(signed: bool, left: u64, right: u64) -> u64
     left.wrapping_sub(right.wrapping_mul(quotient(signed, left, right)))
 }
 
-/// The bits of a quotient, or of what is left.
+/// The bits of a quotient or a remainder.
 #[inline(always)]
 pub(crate) fn division(leaves: bool, signed: bool, left: u64, right: u64) -> u64
     ensures { (scalar : Scalar)
@@ -66,7 +66,8 @@ pub(crate) fn division(leaves: bool, signed: bool, left: u64, right: u64) -> u64
     }
 }
 
-/// The bits of a number that is moved up by so many of the `width` bits of a scalar.
+/// The bits of a number of `width` bits, shifted left. The shift itself is by less than `width`,
+/// and a longer one selects 0, so there is no branch.
 #[inline(always)]
 pub(crate) fn moved_up(width: u64, left: u64, right: u64) -> u64
     requires { width ≤ 64 }
@@ -74,32 +75,39 @@ pub(crate) fn moved_up(width: u64, left: u64, right: u64) -> u64
         → result
         ≡ low_bits 8 (shifted_left width (integer signed 8 left) (integer signed 8 right)) }
 {
-    if right < width { left << right } else { 0 }
+    let moved = left << (right % width.max(1));
+    if right < width { moved } else { 0 }
 }
 
-/// Bits that are moved down by so many of `width`.
+/// The bits of a number, shifted right, with copies of its sign above them.
 #[inline(always)]
-fn kept_bits(width: u64, bits: u64, by: u64) -> u64
-    requires { width ≤ 64 }
-    ensures { result ≡ (if nat_lt by width then bits / 2 ^ by else 0) }
+fn down(signed: bool, bits: u64, by: u64) -> u64
+    requires { by < 64 }
+    ensures { result ≡ low_bits 8 (floor_quotient (integer signed 8 bits) (pos (2 ^ by))) }
 {
-    if by < width { bits >> by } else { 0 }
+    if signed {
+        return (bits.cast_signed() >> by).cast_unsigned();
+    }
+    bits >> by
 }
 
-/// The bits of a number that is moved down by so many of the `width` bits of a scalar.
+/// The bits of a number of `width` bits, shifted right.
 #[inline(always)]
 pub(crate) fn moved_down(signed: bool, width: u64, left: u64, right: u64) -> u64
     requires { width ≤ 64 }
     ensures { result
         ≡ low_bits 8 (shifted_right width (integer signed 8 left) (integer signed 8 right)) }
 {
-    if is_negative(signed, left) {
-        return !kept_bits(width, !left, right);
-    }
-    kept_bits(width, left, right)
+    let moved = down(signed, left, right % width.max(1));
+    let sign = if is_negative(signed, left) {
+        u64::MAX
+    } else {
+        0
+    };
+    if right < width { moved } else { sign }
 }
 
-/// Whether a number is below another. Where both have a sign, one comparison does it.
+/// Whether a number is less than another. If both are signed, a single comparison decides.
 #[inline(always)]
 pub(crate) fn is_below(left_signed: bool, left: u64, right_signed: bool, right: u64) -> bool
     ensures { result ≡ int_lt (integer left_signed 8 left) (integer right_signed 8 right) }

@@ -20,7 +20,7 @@ use elem_descr::{BytesLen, Comparison, Refusal, Scalar};
 use raw_block::{BlockBuilder, RawBlock};
 use std::alloc::{AllocError, Global};
 
-/// A comparison of the byte strings of an array with one that no NULs end.
+/// Compares the byte strings of an array with one that does not end with NULs.
 fn compare_with(
     alloc: Global,
     comparison: Comparison,
@@ -48,7 +48,7 @@ fn compare_with(
     made(alloc, &pairing, operands)
 }
 
-/// A comparison with bytes that no NULs end, made once where the items repeat.
+/// Compares items with bytes that do not end with NULs. Items that repeat are compared once.
 fn compare_once(
     alloc: Global,
     comparison: Comparison,
@@ -77,7 +77,7 @@ fn compare_once(
     spread(alloc, &made, &layout.shape)
 }
 
-/// Bytes and the NULs that they lack.
+/// Bytes, padded with NULs.
 fn filled_up(alloc: Global, width: BytesLen, bytes: &[u8]) -> Result<RawBlock, AllocError>
     requires { length bytes.now ≤ width }
     ensures len { IfOk result (λ b. length b ≡ width) }
@@ -90,7 +90,7 @@ fn filled_up(alloc: Global, width: BytesLen, bytes: &[u8]) -> Result<RawBlock, A
     Ok(block.finish())
 }
 
-/// A comparison of the byte strings of an array with one that they can hold.
+/// Compares the byte strings of an array with bytes that fit into an item.
 fn compare_with_item(
     alloc: Global,
     comparison: Comparison,
@@ -116,9 +116,9 @@ fn compare_with_item(
     comparisons::compare_once(alloc, comparison, both)
 }
 
-/// What a comparison says of the byte strings of an array and of bytes, which may be more than an item
-/// has, as bools in a block of their own in C order. NULs at the end of the bytes do not count. Refused
-/// are records and numbers, as `NotForThisKind`.
+/// Compares the byte strings of an array with bytes, which may be longer than an item. Returns
+/// bools in a block of their own in C order. Trailing NULs of the bytes do not count. Records and
+/// numbers are refused as `NotForThisKind`.
 pub fn compare_bytes(
     alloc: Global,
     comparison: Comparison,

@@ -14,7 +14,7 @@ use elem_descr::{BytesLen, Comparison};
 use machine_numbers::{LowFirst, Number, Side};
 use raw_block::BlockBuilder;
 
-/// A byte string without the NULs at its end.
+/// A byte string without its trailing NULs.
 pub(crate) fn without_nuls(item: &[u8]) -> &[u8]
     ensures { result.now ≡ without_nuls item.now }
 {
@@ -23,7 +23,7 @@ pub(crate) fn without_nuls(item: &[u8]) -> &[u8]
     &item[..item.len() - nuls]
 }
 
-/// What a comparison says of two byte strings.
+/// Compares two byte strings.
 pub(crate) fn are_compared(comparison: Comparison, left: &[u8], right: &[u8]) -> bool
     ensures { result ≡ compared comparison (text left.now) (text right.now) }
 {
@@ -45,14 +45,14 @@ pub(crate) struct ComparingTexts {
     pub(crate) other_width: BytesLen,
 }
 
-/// A comparison of byte strings with one that no NULs end.
+/// A comparison of byte strings with one that does not end with NULs.
 #[derive(Clone, Copy, Drop)]
 pub(crate) struct ComparingWith<'a> {
     pub(crate) comparison: Comparison,
     pub(crate) other: &'a [u8],
 }
 
-/// Byte strings that are cut to this length, or filled up with NULs.
+/// Byte strings that are cut to this length or padded with NULs.
 #[derive(Clone, Copy, Drop)]
 pub(crate) struct Cutting {
     pub(crate) width: usize,
@@ -104,7 +104,7 @@ impl<'a> Pass for ComparingWith<'a> {
     }
 }
 
-/// The bytes of items that lie one right after another.
+/// The bytes of adjacent items.
 fn adjacent_bytes(items: Side<'_>) -> Option<&[u8]>
     ensures { IfSome result
         (λ bytes. bytes.now ≡ joined (item_in items.entry) items.entry.run.count) }

@@ -1,4 +1,4 @@
-//! Byte strings: without the trailing NULs that all of them have, and eight bytes at a time.
+//! Byte strings: without the trailing NULs that all of them have, and by words of eight bytes.
 ghost use Rattle.elem_descr.specs.declared.descr.Descr.TheVariants.{Scalar as ScalarDescr};
 ghost use Rattle.elementwise.specs.Words.{Bytes, big_number, item_at, offsets, without_nuls};
 ghost use Rattle.elementwise.specs.inside.Words.{IsWordLen};
@@ -13,7 +13,7 @@ use machine_numbers::{HighFirst, LowFirst, Ordered};
 use shape_strides::{Layout, Shape, Walk};
 use std::alloc::{AllocError, Global};
 
-/// The length of the longest byte string, the NULs at its end not counted, and at least 1.
+/// The length of the longest byte string without its trailing NULs, and at least 1.
 fn longest(block: &[u8], layout: &Layout, width: usize) -> usize
     requires some { 1 ≤ width }
     requires inside { All (λ offset. offset + width ≤ length block.now) (offsets layout.now) }
@@ -29,7 +29,8 @@ fn longest(block: &[u8], layout: &Layout, width: usize) -> usize
     most
 }
 
-/// The length to which the byte strings of an array can be cut: that of the longest, each looked at once.
+/// The length to which the byte strings of an array can be cut: that of the longest one. Items that
+/// repeat are looked at once.
 fn trimmed(alloc: Global, items: Items<'_>, width: BytesLen) -> Result<BytesLen, AllocError>
     requires { items.descr.now ≡ ScalarDescr (Bytes width) }
     ensures within { IfOk result (λ n. n ≤ width) }
@@ -44,8 +45,8 @@ fn trimmed(alloc: Global, items: Items<'_>, width: BytesLen) -> Result<BytesLen,
     Ok(BytesLen::try_new(most).unwrap())
 }
 
-/// `trimmed`, if the array shows more places in a shape than it has items, and is compared with byte strings
-/// of another length; if not, the length that it has.
+/// `trimmed`, if the array is stretched to a shape with more items and compared with byte strings
+/// of another length; otherwise the length of its items.
 pub(crate) fn trimmed_in(
     alloc: Global,
     items: Items<'_>,
@@ -67,7 +68,7 @@ pub(crate) fn trimmed_in(
     Ok(width)
 }
 
-/// How many bytes two byte strings have in common at the front, as far as whole words go.
+/// How many whole words, in bytes, two byte strings have in common at the front.
 pub(crate) fn shared_words(left: &[u8], right: &[u8]) -> usize
     ensures left { result ≤ length left.now }
     ensures right { result ≤ length right.now }
@@ -87,7 +88,7 @@ pub(crate) fn shared_words(left: &[u8], right: &[u8]) -> usize
     8 * words
 }
 
-/// The number that a word of a byte string is, its highest byte first.
+/// A word of a byte string as a number, highest byte first.
 #[inline(always)]
 pub(crate) fn word_at<const LEN: usize>(bytes: &[u8], at: usize) -> u64
     requires len { IsWordLen LEN }
@@ -102,7 +103,7 @@ pub(crate) fn word_at<const LEN: usize>(bytes: &[u8], at: usize) -> u64
     }
 }
 
-/// How many bytes of a byte string there are before the words of NULs at its end.
+/// The length of a byte string without whole words of trailing NULs.
 pub(crate) fn without_nul_words(item: &[u8]) -> usize
     ensures few { result ≤ length item.now }
     ensures same { without_nuls (take result item.now) ≡ without_nuls item.now }

@@ -10,7 +10,7 @@ use elem_descr::{Order, Scalar, Width};
 use machine_numbers::{HighFirst, LowFirst, Number, Ordered};
 use raw_block::BlockBuilder;
 
-/// The first number as one of another type.
+/// The first number, cast to another type.
 struct Casting;
 
 impl<S: Number, T: Number> Kernel<S, S, T> for Casting {
@@ -22,7 +22,8 @@ impl<S: Number, T: Number> Kernel<S, S, T> for Casting {
     }
 }
 
-/// The first of two numbers of one type as one of a scalar. Its sign makes no difference to its bytes.
+/// The first of two numbers of one type, cast to a scalar. Whether the scalar is signed makes no
+/// difference to the bytes.
 pub(crate) fn cast<S: Number, P: Ordered>(
     scalar: &Scalar,
     block: BlockBuilder,

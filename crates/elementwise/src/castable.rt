@@ -1,4 +1,4 @@
-//! Which casts exist, and which of them leave the bytes of items as they are.
+//! Which casts exist, and which of them keep the bytes of items.
 ghost use Rattle.elementwise.specs.Casts.{can_cast, can_cast_fields, can_cast_scalar, cast_item};
 ghost use Rattle.elementwise.specs.Words.{AreAlike, item_from, item_size, leaf_at, leaves_of, listed};
 ghost use Rattle.elementwise.specs.inside.FieldCasts.{can_cast_field};
@@ -84,7 +84,7 @@ fn is_same_leaf(a: &Descr, b: &Descr, k: usize) -> bool
     leaf == other
 }
 
-/// Whether items of two element types lie alike in bytes.
+/// Whether items of two element types are stored in the same way.
 pub fn are_alike(a: &Descr, b: &Descr) -> bool
     ensures { IsTrue result ↔ AreAlike a.now b.now }
 {
@@ -103,7 +103,8 @@ pub fn are_alike(a: &Descr, b: &Descr) -> bool
     true
 }
 
-/// Whether a cast leaves the items of a block as they are, byte for byte: whether they lie alike.
+/// Whether a cast keeps the bytes of the items of a block: whether both types are stored in the
+/// same way.
 pub fn keeps_items(block: &RawBlock, from: &Descr, to: &Descr) -> bool
     ensures alike { IsTrue result → AreAlike from.now to.now }
     ensures known { AreAlike from.now to.now → IsTrue result }

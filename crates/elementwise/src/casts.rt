@@ -20,13 +20,13 @@ use raw_block::{BlockBuilder, RawBlock};
 use shape_strides::{MAX_BYTES, Run};
 use std::alloc::{AllocError, Global};
 
-/// How many bytes stay near while a band is cast.
+/// How many bytes stay in the cache while a band is cast.
 const NEAR: usize = 8192;
 
 /// The fewest items of a band.
 const FEW: usize = 32;
 
-/// The leaf with a number.
+/// The leaf with this number.
 pub(crate) fn leaf_of(descr: &Descr, k: usize) -> Leaf
     requires { k < length (leaves_of descr.now) }
     ensures value { result ≡ leaf_at descr.now k }
@@ -36,7 +36,7 @@ pub(crate) fn leaf_of(descr: &Descr, k: usize) -> Leaf
     Leaf { scalar, at }
 }
 
-/// The leaf that is cast to the one with a number.
+/// The leaf that is cast to the one with this number.
 fn source_of(descr: &Descr, k: usize) -> Leaf
     requires { HasSource descr.now k }
     ensures value { result ≡ source descr.now k }
@@ -48,7 +48,7 @@ fn source_of(descr: &Descr, k: usize) -> Leaf
     }
 }
 
-/// Numbers or byte strings as those of another scalar, each pushed once.
+/// Numbers or byte strings, cast to another scalar. Each byte is written once.
 pub(crate) fn cast_scalars(
     alloc: Global,
     from: Items<'_>,
@@ -87,7 +87,7 @@ pub(crate) fn cast_scalars(
     }
 }
 
-/// The bytes from a place on, which may lie behind the last one.
+/// The bytes from a place on, which may be past the end.
 fn bytes_from(bytes: &[u8], at: usize) -> &[u8]
     ensures { result.now ≡ drop at bytes.now }
 {
@@ -105,7 +105,7 @@ struct ItemRun<'a, 'b> {
 impl<'a, 'b> ItemRun<'a, 'b> {
     ghost use Rattle.elementwise.specs.inside.LeafCasts.{run_part};
 
-    /// So many of the items, from one of them on.
+    /// Some of the items, starting with one of them.
     fn part(self, first: usize, count: usize) -> ItemRun<'a, 'b>
         requires some { 1 ≤ count }
         requires within { first + count ≤ self.items.run.count }
@@ -130,8 +130,8 @@ impl<'a, 'b> ItemRun<'a, 'b> {
     }
 }
 
-/// Casts a leaf of each item of a run, and puts it where it lies in rows of items. The block is taken
-/// and given back.
+/// Casts a leaf of each item of a run, and writes it to its place in the rows of the result. The
+/// block is passed in and returned.
 fn cast_leaf(rows: RawBlock, from: ItemRun<'_, '_>, to: &Descr, k: usize) -> RawBlock
     requires can { can_cast from.descr.now to.now ≡ true }
     requires k { k < length (leaves_of to.now) }
@@ -159,7 +159,7 @@ fn cast_leaf(rows: RawBlock, from: ItemRun<'_, '_>, to: &Descr, k: usize) -> Raw
     column.cast(&source.scalar, &leaf.scalar)
 }
 
-/// A block that the items of a run, cast leaf by leaf, just fill.
+/// A block with exactly the items of a run, cast leaf by leaf.
 fn cast_band(alloc: Global, from: ItemRun<'_, '_>, to: &Descr) -> Result<RawBlock, AllocError>
     requires can { can_cast from.descr.now to.now ≡ true }
     requires few { from.items.run.count * item_size to.now ≤ max_bytes }
@@ -176,8 +176,8 @@ fn cast_band(alloc: Global, from: ItemRun<'_, '_>, to: &Descr) -> Result<RawBloc
     Ok(rows)
 }
 
-/// A block that the items of a run, cast, just fill. They are cast in bands that stay near, so that each
-/// line of the block is written once.
+/// A block with exactly the items of a run, cast. They are cast in bands that stay in the cache, so
+/// that each line of the block is written once.
 fn cast_run(alloc: Global, from: ItemRun<'_, '_>, to: &Descr) -> Result<RawBlock, AllocError>
     requires can { can_cast from.descr.now to.now ≡ true }
     requires few { from.items.run.count * item_size to.now ≤ max_bytes }
@@ -200,7 +200,7 @@ fn cast_run(alloc: Global, from: ItemRun<'_, '_>, to: &Descr) -> Result<RawBlock
     Ok(cast.finish())
 }
 
-/// A block that items, cast, just fill. Items that make no one run are first put one after another.
+/// A block with exactly these items, cast. Items that are not a single run are copied to one first.
 fn cast_block(alloc: Global, from: Items<'_>, to: &Descr) -> Result<RawBlock, AllocError>
     requires can { can_cast from.descr.now to.now ≡ true }
     requires few { count from.layout.now.shape * item_size to.now ≤ max_bytes }
@@ -249,7 +249,7 @@ fn cast_records(alloc: Global, from: Items<'_>, to: &Descr) -> Result<Owned, All
     Owned::over(alloc, descr, &from.layout.shape, MemoryOrder::C, cast)
 }
 
-/// Items as items to which they can be cast.
+/// Items, cast to an element type for which the cast exists.
 pub(crate) fn cast_items(alloc: Global, from: Items<'_>, to: &Descr) -> Result<Owned, AllocError>
     requires can { can_cast from.descr.now to.now ≡ true }
     requires few { count from.layout.now.shape * item_size to.now ≤ max_bytes }
@@ -269,8 +269,8 @@ pub(crate) fn cast_items(alloc: Global, from: Items<'_>, to: &Descr) -> Result<O
     }
 }
 
-/// Items as items of another element type, in a block of their own in C order. Where there is no such
-/// cast that is the refusal, and more than `MAX_BYTES` bytes of items are too many.
+/// Items, cast to another element type, in a block of their own in C order. A cast that does not
+/// exist is refused, and then more than `MAX_BYTES` bytes of items.
 pub fn cast(alloc: Global, from: Items<'_>, to: &Descr) -> Result<Owned, Refusal>
     ensures descr { IfOk result (λ o. o.descr ≡ to.now) }
     ensures shape { IfOk result (λ o. o.layout.shape ≡ from.entry.layout.now.shape) }

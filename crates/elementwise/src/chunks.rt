@@ -1,4 +1,5 @@
-//! Operands of two types: cast and combined chunk by chunk, so that what is cast stays in the cache.
+//! Operands of two types, cast and combined chunk by chunk, so that the cast items stay in the
+//! cache.
 ghost use Rattle.std.specs.Prelude.{◌≡◌, ◌+◌, ◌*◌, ◌<◌, ◌≤◌, [], ◌∷◌, true, IfOk};
 ghost use Rattle.std.specs.List.{flat_map};
 ghost use Rattle.elem_descr.specs.declared.descr.Descr.TheVariants.{Scalar as ScalarDescr};
@@ -18,13 +19,13 @@ use raw_block::{BlockBuilder, RawBlock};
 use shape_strides::{Layout, Run, Shape, Strides};
 use std::alloc::{AllocError, Global};
 
-/// Fewer items than these are cast as a whole: what is cast stays in the cache.
+/// Fewer items than this are cast as a whole: the cast items stay in the cache.
 pub(crate) const MANY: usize = 262_144;
 
 /// How many items of each operand are cast at a time.
 const CHUNK: usize = 16_384;
 
-/// Items that are one run.
+/// Items that are a single run.
 #[derive(Clone, Copy, Drop)]
 pub(crate) struct ItemsInRun<'a> {
     pub(crate) items: Items<'a>,
@@ -34,7 +35,7 @@ pub(crate) struct ItemsInRun<'a> {
     pub(crate) ghost few: { run.count ≤ max_items },
 }
 
-/// The layout of so many items of a run, from one on.
+/// The layout of some items of a run, starting with one of them.
 fn part(alloc: Global, run: Run, first: usize, count: usize) -> Result<Layout, AllocError>
     requires begins { BeginsWithin run }
     requires few { run.count ≤ max_items }
@@ -51,7 +52,7 @@ fn part(alloc: Global, run: Run, first: usize, count: usize) -> Result<Layout, A
     }
 }
 
-/// Two operands of as many items.
+/// Two operands with the same number of items.
 #[derive(Clone, Copy, Drop)]
 pub(crate) struct InRuns<'a> {
     pub(crate) left: ItemsInRun<'a>,
@@ -59,7 +60,7 @@ pub(crate) struct InRuns<'a> {
     pub(crate) ghost even: { left.run.count ≡ right.run.count },
 }
 
-/// What is made of so many pairs of items, from one pair on.
+/// The results for some pairs of items, starting with one of them.
 fn make_part(
     alloc: Global,
     pairing: &Pairing<'_>,
@@ -96,7 +97,7 @@ fn make_part(
     Ok(block)
 }
 
-/// What is made of the items of two operands in a shape.
+/// The results for the items of two operands, in a shape.
 pub(crate) fn make_by_chunks(
     alloc: Global,
     pairing: &Pairing<'_>,

@@ -13,7 +13,7 @@ use elem_descr::Comparison;
 use machine_numbers::{LowFirst, Number, Ordered};
 use raw_block::BlockBuilder;
 
-/// What a comparison says of two values of which it is known whether the first is below or above the second.
+/// The result of a comparison, given whether the first value is less or greater than the second.
 pub(crate) fn says(comparison: Comparison, below: bool, above: bool) -> bool
     ensures { result ≡ says comparison below above }
 {
@@ -27,8 +27,20 @@ pub(crate) fn says(comparison: Comparison, below: bool, above: bool) -> bool
     }
 }
 
-/// A comparison as what is made of two numbers, which may be of two types: `HOLDS` where the first is below
-/// the second, if `BELOW`, and where it is above, if `ABOVE`; else the other bool.
+/// `HOLDS` if `BELOW` and `below` are both true, or `ABOVE` and `above`; otherwise the other bool.
+#[inline(always)]
+pub(crate) fn is_said<const BELOW: bool, const ABOVE: bool, const HOLDS: bool>(
+    below: bool,
+    above: bool,
+) -> bool
+    ensures { result ≡ said BELOW ABOVE HOLDS below above }
+{
+    (BELOW & below | ABOVE & above) == HOLDS
+}
+
+/// A comparison of two numbers, which may be of two types. It is `HOLDS` if the first is less than
+/// the second and `BELOW` is true, or if it is greater and `ABOVE` is true; otherwise the other
+/// bool.
 struct Said<const BELOW: bool, const ABOVE: bool, const HOLDS: bool>;
 
 impl<const BELOW: bool, const ABOVE: bool, const HOLDS: bool, A: Number, B: Number> Kernel<
@@ -45,11 +57,11 @@ impl<const BELOW: bool, const ABOVE: bool, const HOLDS: bool, A: Number, B: Numb
         let second = right.bits();
         let below = bits::is_below(A::SIGNED, first, B::SIGNED, second);
         let above = bits::is_below(B::SIGNED, second, A::SIGNED, first);
-        (BELOW & below | ABOVE & above) == HOLDS
+        is_said::<BELOW, ABOVE, HOLDS>(below, above)
     }
 }
 
-/// A comparison of numbers of two types, whose bools are pushed.
+/// A comparison of numbers of two types, which appends bools.
 #[inline(never)]
 pub(crate) fn compare<A: Number, B: Number, O: Ordered>(
     comparison: Comparison,

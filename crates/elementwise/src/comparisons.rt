@@ -22,9 +22,8 @@ use elem_descr::{Comparison, Descr, Refusal, Scalar};
 use machine_numbers::{is_signed, little};
 use std::alloc::{AllocError, Global};
 
-/// How numbers of two scalars are compared: as those of the smallest scalar that holds both, and where there
-/// is none as integers of eight bytes, of which the first have a sign where the second have none, or the
-/// other way round.
+/// How numbers of two scalars are compared: cast to the smallest scalar that holds both. If there
+/// is none, both are integers of eight bytes, one signed and the other unsigned.
 fn number_pairing<'a>(
     comparison: Comparison,
     left: &Scalar,
@@ -73,8 +72,7 @@ fn compare_numbers(
     make_cast(alloc, &pairing, both.left, both.right, both.shape)
 }
 
-/// A comparison of byte strings. The NULs at the ends of those that are shown more than once are looked at
-/// once.
+/// A comparison of byte strings. Trailing NULs of items that repeat are looked at once.
 fn compare_texts(
     alloc: Global,
     texts: ComparingTexts,
@@ -143,7 +141,7 @@ fn compare_scalars(
     }
 }
 
-/// A comparison of numbers, or of byte strings, made once where the items of both repeat.
+/// A comparison of numbers, or of byte strings. Pairs of items that repeat are compared once.
 pub(crate) fn compare_once(
     alloc: Global,
     comparison: Comparison,
@@ -177,10 +175,11 @@ pub(crate) fn compare_once(
     spread(alloc, &made, shape)
 }
 
-/// What a comparison says of the items of two arrays that are broadcast together, as bools in a block of
-/// their own in C order: of numbers by value, and of byte strings byte by byte, where bytes have no sign
-/// and a byte string is below a longer one that begins with it. Refused as `compared_type` refuses,
-/// records as `NotForThisKind`; then as `common` refuses: `ShapesDoNotBroadcast`, `TooLarge`.
+/// Compares the items of two arrays, which are broadcast together. Returns bools in a block of
+/// their own in C order. Numbers are compared by value, and byte strings by unsigned bytes: a byte
+/// string is less than a longer one that begins with it.
+/// Refusals, in this order: those of `compared_type`, with records as `NotForThisKind`; then those
+/// of `common`, `ShapesDoNotBroadcast` and `TooLarge`.
 pub fn compare(
     alloc: Global,
     comparison: Comparison,

@@ -1,4 +1,5 @@
-//! Divisions of pairs of numbers. Many numbers are divided by one through its reciprocal.
+//! Divisions of pairs of numbers. If there are many numbers and a single divisor, its reciprocal is
+//! used.
 ghost use Rattle.elementwise.specs.Bits.{IsTruth};
 ghost use Rattle.elementwise.specs.Operations.{binary, exact, floor_quotient};
 ghost use Rattle.elementwise.specs.Words.{Little, Scalar, integer, is_bool, joined, low_bits, number_of_side};
@@ -16,10 +17,10 @@ use machine_numbers::{LowFirst, Number, Ordered};
 use raw_block::BlockBuilder;
 use std::marker::PhantomData;
 
-/// Fewer pairs than these are divided one by one.
+/// Fewer pairs than this are divided one by one.
 const FEW: usize = 4;
 
-/// The number that each second one of many pairs is, if it is not 0.
+/// The divisor of all pairs, if there are many pairs with a single divisor other than 0.
 fn divisor_of<N: Number, O: Ordered>(pairs: Pairs<'_, '_>) -> Option<Divisor>
     requires { pairs.right.width ≡ N.WIDTH }
     ensures signed { IfSome result (λ d. d.signed ≡ N.SIGNED) }
@@ -40,7 +41,7 @@ fn divisor_of<N: Number, O: Ordered>(pairs: Pairs<'_, '_>) -> Option<Divisor>
     }
 }
 
-/// The quotient of a number, or what is left of it.
+/// The quotient or the remainder of a number.
 #[inline(always)]
 fn divided<const LEAVES: bool, N: Number>(left: N, divisor: Divisor) -> N
     requires signed { divisor.signed ≡ N.SIGNED }
@@ -54,8 +55,7 @@ fn divided<const LEAVES: bool, N: Number>(left: N, divisor: Divisor) -> N
     N::of_bits(divisor.division(LEAVES, N::SIGNED, N::WIDTH, left.bits()))
 }
 
-/// Pushes the quotients of the first numbers of pairs, or what is left of them, where each second one is
-/// this divisor.
+/// Appends the quotients or remainders of the first numbers of pairs, which all have this divisor.
 #[inline(always)]
 fn push_divided<const LEAVES: bool, N: Number, O: Ordered>(
     block: BlockBuilder,
@@ -84,7 +84,7 @@ fn push_divided<const LEAVES: bool, N: Number, O: Ordered>(
     block
 }
 
-/// Quotients of numbers that are read in a byte order, or what the divisions leave.
+/// Quotients or remainders of numbers in a byte order.
 #[derive_where(Clone, Copy)]
 pub(crate) struct Divisions<const LEAVES: bool, N, O>(pub(crate) PhantomData<(N, O)>);
 
@@ -115,8 +115,8 @@ impl<const LEAVES: bool, N: Number, O: Ordered> Pass for Divisions<LEAVES, N, O>
     }
 }
 
-/// A number of 16 bits, divided by another. The product with its reciprocal, which is rounded down, gives
-/// the quotient or one less.
+/// A number of 16 bits, divided by another. The product with the reciprocal, rounded down, is the
+/// quotient or one less.
 #[inline(always)]
 fn divided_16(number: u16, by: u16, reciprocal: u16) -> u16
     requires some { 1 ≤ by }
@@ -152,14 +152,14 @@ fn divided_64(number: u64, by: u64, reciprocal: u64) -> u64
     if rest >= by { near + 1 } else { near }
 }
 
-/// A number other than 0, given by its lowest 64 bits.
+/// A divisor other than 0, given by its lowest 64 bits.
 #[derive(Clone, Copy, Drop)]
 pub(crate) struct Divisor {
     pub(crate) signed: bool,
     pub(crate) bits: u64,
-    /// How far the number is from 0.
+    /// The absolute value of the divisor.
     size: u64,
-    /// The largest 64 bits, divided by that.
+    /// The largest number of 64 bits, divided by the absolute value.
     reciprocal: u64,
     ghost some: { 1 ≤ size },
     ghost far: { size ≡ unsigned_abs (integer signed 8 bits) },
@@ -167,7 +167,7 @@ pub(crate) struct Divisor {
 }
 
 impl Divisor {
-    /// None for 0.
+    /// `None` for 0.
     pub(crate) fn new(signed: bool, bits: u64) -> Option<Divisor>
         ensures { IfSome result (λ d. (d.signed ≡ signed) × (d.bits ≡ bits)) }
     {
@@ -183,8 +183,8 @@ impl Divisor {
         })
     }
 
-    /// A number of so many bytes, divided by how far the divisor is from 0. It is computed with as few bits
-    /// as hold both.
+    /// A number of `width` bytes, divided by the absolute value of the divisor. It is computed with
+    /// as few bits as hold both.
     #[inline(always)]
     fn divided(self, width: usize, number: u64) -> u64
         requires number { number < 2 ^ (8 * width) }
@@ -204,8 +204,8 @@ impl Divisor {
         }
     }
 
-    /// The bits of the quotient of a number of so many bytes, rounded down. Each step is the same for all
-    /// numbers, so that one instruction does it for many.
+    /// The bits of the quotient of a number of `width` bytes, rounded down. Each step is the same
+    /// for all numbers, so the loop can use vector instructions.
     #[inline(always)]
     fn quotient(self, signed: bool, width: usize, left: u64) -> u64
         requires signed { self.signed ≡ signed }
@@ -223,7 +223,7 @@ impl Divisor {
         if below { !whole } else { whole }
     }
 
-    /// The bits of the quotient of a number of so many bytes, or of what is left of it.
+    /// The bits of the quotient or the remainder of a number of `width` bytes.
     #[inline(always)]
     pub(crate) fn division(self, leaves: bool, signed: bool, width: usize, left: u64) -> u64
         requires signed { self.signed ≡ signed }

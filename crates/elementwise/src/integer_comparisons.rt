@@ -18,7 +18,7 @@ use raw_block::RawBlock;
 use shape_strides::Shape;
 use std::alloc::{AllocError, Global};
 
-/// A number as a block.
+/// A block with one number.
 fn number_block(alloc: Global, scalar: &Scalar, integer: i128) -> Result<RawBlock, AllocError>
     requires { IsNumber scalar.now }
     ensures len { IfOk result (λ b. length b ≡ size scalar.now) }
@@ -42,7 +42,7 @@ pub(crate) fn one_item(alloc: Global, scalar: &Scalar, block: RawBlock) -> Resul
     Owned::over(alloc, descr, &shape, MemoryOrder::C, block)
 }
 
-/// A comparison of the numbers of an array with an integer that their type holds.
+/// Compares the numbers of an array with an integer that their type holds.
 fn compare_with_value(
     alloc: Global,
     comparison: Comparison,
@@ -70,7 +70,7 @@ fn compare_with_value(
     compare_once(alloc, comparison, both)
 }
 
-/// One bool so many times, as a block.
+/// A block with copies of one bool.
 fn bool_block(alloc: Global, holds: bool, len: usize) -> Result<RawBlock, AllocError>
     ensures { IfOk result (λ b. b ≡ replicate len (if holds then 1 else 0)) }
 {
@@ -90,7 +90,8 @@ fn all_alike(alloc: Global, holds: bool, shape: &Shape) -> Result<Owned, AllocEr
     Owned::over(alloc, descr, shape, MemoryOrder::C, block)
 }
 
-/// A comparison of the numbers of an array with an integer that is above all numbers of their type, or below.
+/// Compares the numbers of an array with an integer that is greater than all numbers of their type,
+/// or less.
 fn compare_beyond(
     alloc: Global,
     comparison: Comparison,
@@ -113,8 +114,8 @@ fn compare_beyond(
     all_alike(alloc, holds, &operand.layout.shape)
 }
 
-/// What a comparison says of the numbers of an array and of an integer, which may be larger than their
-/// type holds, as bools in a block of their own in C order. Refused are records and byte strings, as
+/// Compares the numbers of an array with an integer, which may be out of range for their type.
+/// Returns bools in a block of their own in C order. Records and byte strings are refused as
 /// `NotForThisKind`.
 pub fn compare_integer(
     alloc: Global,

@@ -1,4 +1,4 @@
-//! Passes over pairs of numbers, which push the results of a kernel.
+//! Loops over pairs of numbers, which append the results of a kernel.
 ghost use Rattle.std.specs.Prelude.{◌≡◌, ◌+◌, ◌*◌, ◌≤◌, ◌++◌, ◌/◌, ℕ, ℤ, List};
 ghost use Rattle.elementwise.specs.Words.{item_size, joined};
 ghost use Rattle.elementwise.specs.inside.PairPasses.{number_pair};
@@ -11,7 +11,7 @@ use machine_numbers::{Number, Ordered};
 use raw_block::BlockBuilder;
 use std::marker::PhantomData;
 
-/// What is made of two numbers.
+/// A function of two numbers.
 pub(crate) trait Kernel<A: Number, B: Number, T: Number> {
     ghost makes: { ℤ → ℤ → ℤ };
 
@@ -19,8 +19,8 @@ pub(crate) trait Kernel<A: Number, B: Number, T: Number> {
         ensures { T.value result ≡ makes (A.value left) (B.value right) };
 }
 
-/// Pushes what is made of the pairs from one on. The block is taken and given back, so that how far it is
-/// filled stays in a register.
+/// Appends the results for the pairs, starting with one of them. The block is passed in and
+/// returned, so that its length stays in a register.
 #[inline(always)]
 fn push_from<K: Kernel<A, B, T>, A: Number, B: Number, T: Number, O: Ordered, Q: Ordered>(
     block: BlockBuilder,
@@ -53,7 +53,7 @@ fn push_from<K: Kernel<A, B, T>, A: Number, B: Number, T: Number, O: Ordered, Q:
     block
 }
 
-/// What is made of sixteen pairs from one on, a byte each.
+/// The results for sixteen pairs, a byte each, starting with one of them.
 #[inline(always)]
 fn made_sixteen<K: Kernel<A, B, T>, A: Number, B: Number, T: Number, O: Ordered, Q: Ordered>(
     pairs: Pairs<'_, '_>,
@@ -79,8 +79,8 @@ fn made_sixteen<K: Kernel<A, B, T>, A: Number, B: Number, T: Number, O: Ordered,
     made
 }
 
-/// Pushes what is made of the first pairs, a byte each, as far as it goes by sixteens. Each sixteen fill a
-/// vector, however wide the numbers are.
+/// Appends the results for the pairs, a byte each, in groups of sixteen, as far as there are whole
+/// groups. Each group fills a vector, however wide the numbers are.
 #[inline(always)]
 fn push_sixteens<K: Kernel<A, B, T>, A: Number, B: Number, T: Number, O: Ordered, Q: Ordered>(
     block: BlockBuilder,
@@ -104,7 +104,7 @@ fn push_sixteens<K: Kernel<A, B, T>, A: Number, B: Number, T: Number, O: Ordered
     block
 }
 
-/// Pushes what is made of each pair.
+/// Appends the result for each pair.
 #[inline(always)]
 fn push_each<K: Kernel<A, B, T>, A: Number, B: Number, T: Number, O: Ordered, Q: Ordered>(
     block: BlockBuilder,
@@ -126,7 +126,7 @@ fn push_each<K: Kernel<A, B, T>, A: Number, B: Number, T: Number, O: Ordered, Q:
     push_from::<K, A, B, T, O, Q>(block, pairs, 16 * (pairs.left.run.count / 16))
 }
 
-/// A kernel over numbers that are read in a byte order, and pushed in one.
+/// A kernel over numbers that are read in one byte order and written in another.
 #[derive_where(Clone, Copy)]
 pub(crate) struct Numbers<K, A, B, T, O, Q>(pub(crate) PhantomData<(K, A, B, T, O, Q)>);
 
@@ -141,7 +141,7 @@ impl<K: Kernel<A, B, T>, A: Number, B: Number, T: Number, O: Ordered, Q: Ordered
 
     ghost not_empty = { λ _. T.is_small.0 };
 
-    // With a loop of its own where each side is items one right after the other, or one item.
+    // There is a loop of its own if each side is adjacent items or a single item.
     #[inline(always)]
     fn push_row(&self, block: BlockBuilder, pairs: Pairs<'_, '_>) -> BlockBuilder {
         let near = A::WIDTH as isize;
@@ -164,7 +164,7 @@ impl<K: Kernel<A, B, T>, A: Number, B: Number, T: Number, O: Ordered, Q: Ordered
     }
 }
 
-/// Pushes what a kernel makes of each pair of items of operands.
+/// Appends the results of a kernel for each pair of items of operands.
 pub(crate) fn push_made<
     K: Kernel<A, B, T>,
     A: Number,

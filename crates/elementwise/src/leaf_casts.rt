@@ -1,4 +1,4 @@
-//! Casts of leaves that lie at equal steps, each of them to its place in a row of its own.
+//! Casts of leaves at equal steps, each to its place in a row of its own.
 ghost use Rattle.std.specs.Prelude.{◌≡◌, ◌+◌, ◌*◌, ◌≤◌, ℕ, List, length, take};
 ghost use Rattle.elementwise.specs.Words.{IsNumber, size, put, padded, without_nuls, item_in};
 ghost use Rattle.elementwise.specs.inside.LeafCasts.{leaf_cast};
@@ -10,15 +10,15 @@ use machine_numbers::{Number, NumberTask, Ordered, Side, on_number};
 use raw_block::RawBlock;
 use std::marker::PhantomData;
 
-/// How the bytes of a leaf become those of another.
+/// A cast of a leaf, as bytes to bytes.
 pub(crate) trait LeafCast {
-    // The bytes that are made.
+    // The bytes of the result.
     ghost makes: { Self → List ℕ → List ℕ };
 
-    // How many bytes there may be.
+    // The sizes that it accepts.
     ghost Reads: { Self → ℕ → Type 0 };
 
-    // How many are made.
+    // The size of the result.
     ghost width: { Self → ℕ };
 
     fn cast(&self, item: &[u8], place: &mut [u8])
@@ -27,7 +27,7 @@ pub(crate) trait LeafCast {
         ensures { place.new ≡ makes self.now item.now };
 }
 
-/// A number as one of another type.
+/// A number, cast to another type.
 struct CastingNumbers<S, P, T, Q>(PhantomData<(S, P, T, Q)>);
 
 impl<S: Number, P: Ordered, T: Number, Q: Ordered> LeafCast for CastingNumbers<S, P, T, Q> {
@@ -58,16 +58,16 @@ impl LeafCast for Cutting {
     }
 }
 
-/// Where a leaf lies in each of many rows, one right after another.
+/// The place of a leaf in each of many adjacent rows.
 #[derive(Clone, Copy, Drop)]
 pub(crate) struct Places {
     pub(crate) at: usize,
     pub(crate) width: usize,
-    /// How many bytes a row has.
+    /// The size of a row in bytes.
     pub(crate) row: usize,
 }
 
-/// Casts a leaf, and writes it to the bytes from a place on.
+/// Casts a leaf, and writes it at a place.
 #[inline(always)]
 fn put_one<C: LeafCast>(cast: &C, item: &[u8], at: usize, width: usize, bytes: &mut [u8])
     requires reads { C.Reads cast.now (length item.now) }
@@ -102,7 +102,7 @@ pub(crate) struct Column<'a> {
 }
 
 impl<'a> Column<'a> {
-    /// The rows, once the leaves are cast. The block is taken and given back.
+    /// The rows with the cast leaves. The block is passed in and returned.
     fn cast_by<C: LeafCast>(self, cast: &C) -> RawBlock
         requires reads { C.Reads cast.now self.from.width }
         requires width { self.to.width ≡ C.width cast.now }
@@ -116,7 +116,7 @@ impl<'a> Column<'a> {
     }
 }
 
-/// A column of numbers that are cast to those of a scalar.
+/// A column of numbers that are cast to a scalar.
 struct CastingTo<'a> {
     column: Column<'a>,
     to: Scalar,
@@ -165,7 +165,7 @@ impl<'a> Column<'a> {
     ghost use Rattle.elementwise.specs.Casts.{can_cast_scalar};
     ghost use Rattle.std.specs.Prelude.{true};
 
-    /// The rows, once the leaves of one scalar are cast to those of another.
+    /// The rows with the leaves of one scalar, cast to another.
     pub(crate) fn cast(self, scalar: &Scalar, to: &Scalar) -> RawBlock
         requires can { can_cast_scalar scalar.now to.now ≡ true }
         requires from { self.from.width ≡ size scalar.now }

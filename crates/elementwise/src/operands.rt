@@ -1,4 +1,4 @@
-//! The operands of operations, and arrays of the results of their pairs.
+//! The operands of operations, and arrays of the results for their pairs.
 ghost use Rattle.elem_descr.specs.declared.descr.Descr.TheVariants.{Scalar as ScalarDescr};
 ghost use Rattle.elem_descr.specs.declared.scalar.Scalar.TheVariants.{Bool as BoolScalar};
 ghost use Rattle.elementwise.specs.Results.{stretched_items};
@@ -45,8 +45,8 @@ pub(crate) fn note_slice(bytes: &[u8])
     let _len = bytes.len();
 }
 
-/// The scalar as which two operands are read: a little-endian one, or the same in the byte order of the
-/// larger operand, so that this one is read where it stands.
+/// The scalar in which two operands are read: a little-endian one, or the same in the byte order of
+/// the larger operand, so that this operand is read in place.
 pub(crate) fn read_as(scalar: &Scalar, left: Items<'_>, right: Items<'_>) -> Scalar
     requires { little scalar.now ≡ scalar.now }
     ensures { little result ≡ scalar.now }
@@ -59,10 +59,10 @@ pub(crate) fn read_as(scalar: &Scalar, left: Items<'_>, right: Items<'_>) -> Sca
     }
 }
 
-/// Operands with fewer items than this are combined as they lie.
+/// Operands with fewer items than this are combined in the order of their axes.
 pub(crate) const FEW: usize = 4096;
 
-/// How far apart the items of a row lie.
+/// The distance between the items of a row.
 fn step(layout: &Layout) -> usize {
     let Rows { starts: _, along } = layout.rows();
     along.stride.unsigned_abs()
@@ -107,8 +107,9 @@ fn made_by_rows(
     Owned::over(alloc, Descr::Scalar(scalar), shape, MemoryOrder::C, block)
 }
 
-/// Combines many pairs, column by column if both operands lie that way, and row by row otherwise, after an
-/// operand that goes by columns is copied into C order. Its frame is large, so it stays out of line.
+/// Combines many pairs: column by column if both operands are stored so, and otherwise row by row,
+/// after an operand that is stored by columns is copied into C order. Its frame is large, so it is
+/// not inlined.
 #[inline(never)]
 fn made_of_many(
     alloc: Global,
@@ -175,7 +176,7 @@ pub(crate) fn made(
     made_of_many(alloc, pairing, operands)
 }
 
-/// Two layouts of one shape, which show their items once where both repeat them.
+/// Two layouts of one shape, with length 1 on each axis along which the items of both repeat.
 #[derive(Drop)]
 pub(crate) struct Shrunk {
     pub(crate) shape: Shape,

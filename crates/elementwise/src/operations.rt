@@ -1,5 +1,5 @@
-//! Work on operands of numbers in the type that their scalar names, and which kernel does it. Each
-//! operation is done on the lowest 64 bits, and a number keeps as many as its type has.
+//! Operations on operands of one number type, and the kernels that do them. Each operation works on
+//! the lowest 64 bits, of which a number keeps as many as its type has.
 ghost use Rattle.std.specs.Prelude.{◌≡◌, ◌+◌, ◌*◌, ◌≤◌, ◌++◌, true, ◌-ℤ◌};
 ghost use Rattle.elementwise.specs.Words.{Little, size, integer, wrap, item_size, Add, Subtract, Multiply, And, Or, Xor, ShiftLeft, ShiftRight, is_bool};
 ghost use Rattle.elementwise.specs.Operations.{binary, unary, serves_bools, serves_one};
@@ -52,7 +52,7 @@ impl<N: Number> Kernel<N, N, N> for Multiplying {
     }
 }
 
-/// Gives quotients, or what the divisions leave.
+/// Computes quotients or remainders.
 pub(crate) struct Dividing<const LEAVES: bool>;
 
 impl<const LEAVES: bool, N: Number> Kernel<N, N, N> for Dividing<LEAVES> {
@@ -119,7 +119,7 @@ impl<N: Number> Kernel<N, N, N> for MovingDown {
     }
 }
 
-/// What the second number leaves of the integer with these bits.
+/// The remainder of these bits by the second number.
 struct TakingFrom<const BITS: u64>;
 
 impl<const BITS: u64, N: Number> Kernel<N, N, N> for TakingFrom<BITS> {
@@ -131,7 +131,7 @@ impl<const BITS: u64, N: Number> Kernel<N, N, N> for TakingFrom<BITS> {
     }
 }
 
-/// Work on operands of one scalar, whose results are pushed.
+/// An operation on operands of one scalar, which appends its results.
 pub(crate) struct Working<'a, 'b> {
     pub(crate) work: Work,
     /// Whether the numbers are bools.

@@ -13,41 +13,41 @@ use elem_descr::{BinOp, BytesLen, Comparison, Scalar, UnOp};
 use machine_numbers::{LowFirst, Side, is_bool, little, on_number};
 use raw_block::BlockBuilder;
 
-/// What is made of two numbers.
+/// A function of two numbers of one type.
 #[derive(Clone, Copy)]
 pub(crate) enum Work {
-    /// What an operation gives on them.
+    /// The result of an operation on them.
     Combine(BinOp),
-    /// What one gives on the second of them.
+    /// The result of an operation on the second of them.
     Change(UnOp),
-    /// What a comparison says of them.
+    /// The result of a comparison of them.
     Compare(Comparison),
-    /// The first of them as one of another scalar of numbers.
+    /// The first of them, cast to another scalar of numbers.
     Cast(Scalar),
 }
 
-/// What is made of pairs of values of two scalars.
+/// A function of pairs of values of two scalars.
 #[derive(Clone, Copy)]
 pub(crate) enum Pairing<'a> {
-    /// Work on numbers of one scalar.
+    /// A function of numbers of one scalar.
     Alike {
         work: Work,
         scalar: Scalar,
     },
-    /// A comparison of little-endian integers of eight bytes, the first of which have a sign where the
-    /// second have none.
+    /// A comparison of little-endian integers of eight bytes, of which the first are signed and the
+    /// second are not.
     Signs {
         comparison: Comparison,
         left_signed: bool,
     },
     Texts(ComparingTexts),
-    /// A comparison of byte strings with one that no NULs end.
+    /// A comparison of byte strings with one that does not end with NULs.
     With {
         comparison: Comparison,
         width: BytesLen,
         other: &'a [u8],
     },
-    /// The first of two byte strings, cut or filled up with NULs.
+    /// The first of two byte strings, cut or padded with NULs.
     Cut {
         width: BytesLen,
         target: BytesLen,
@@ -81,7 +81,7 @@ impl<'a> Pairing<'a> {
         }
     }
 
-    /// The scalar of what is made.
+    /// The scalar of the results.
     pub(crate) fn target(&self) -> Scalar
         ensures { result ≡ target_of self.now }
     {
@@ -96,7 +96,7 @@ impl<'a> Pairing<'a> {
         }
     }
 
-    /// Pushes what is made of each pair of items.
+    /// Appends the result for each pair of items.
     pub(crate) fn push(&self, block: BlockBuilder, operands: Operands<'_, '_>) -> BlockBuilder
         requires can { CanPair self.now }
         requires left { item_size operands.left.descr.now ≡ size (left_of self.now) }
@@ -140,7 +140,7 @@ impl<'a> Pairing<'a> {
     }
 }
 
-/// Two runs of as many items.
+/// Two runs with the same number of items.
 #[derive(Clone, Copy, Drop)]
 pub(crate) struct Pairs<'a, 'b> {
     pub(crate) left: Side<'a>,
@@ -151,7 +151,7 @@ pub(crate) struct Pairs<'a, 'b> {
 impl<'a, 'b> Pairs<'a, 'b> {
     ghost use Rattle.machine_numbers.specs.Sides.{AreSame};
 
-    /// Two runs whose steps are known to be these.
+    /// The same runs, with steps that the compiler knows.
     #[inline(always)]
     pub(crate) fn with_steps(self, left: isize, right: isize) -> Pairs<'a, 'b>
         requires left { self.left.run.step ≡ left }

@@ -9,7 +9,7 @@ use crate::operations::{serves_bools, serves_one};
 use elem_descr::{BinOp, Descr, Order, Refusal, Scalar, UnOp, Width};
 use machine_numbers::{is_bool, is_signed, is_text, little};
 
-/// The place of a kind of numbers in their order.
+/// The rank of a kind of numbers.
 fn rank_of_kind(scalar: &Scalar) -> usize
     ensures { result ≡ rank_of_kind scalar.now }
 {
@@ -19,9 +19,9 @@ fn rank_of_kind(scalar: &Scalar) -> usize
     if is_signed(scalar) { 2 } else { 1 }
 }
 
-/// Whether a result of one type may be written to items of another: its kind must not be above theirs in
-/// the order bool, unsigned, signed, whatever the widths. `NotSameKind` where it is, and for byte
-/// strings on either side.
+/// Whether a result of one type may be written to items of another: its kind must not come after
+/// theirs in the order bool, unsigned, signed, whatever the widths. If it does, or for byte strings
+/// on either side, the refusal is `NotSameKind`.
 #[tactic(auto, unfolding(crate::specs::Promotion::same_kind))]
 pub fn same_kind(from: Scalar, to: Scalar) -> Result<(), Refusal>
     ensures { Answers (λ _. tt) result (same_kind from to) }
@@ -46,7 +46,7 @@ pub(crate) fn eight_bytes(signed: bool) -> Scalar
     }
 }
 
-/// The little-endian integers of so many bytes.
+/// The little-endian integers of `width` bytes.
 fn integer_type(signed: bool, bytes: usize) -> Scalar
     ensures { result ≡ integer_type signed bytes }
 {
@@ -63,8 +63,8 @@ fn integer_type(signed: bool, bytes: usize) -> Scalar
     }
 }
 
-/// The smallest integers with a sign that hold those of so many bytes without one, and those of so
-/// many with one.
+/// The smallest signed integers that hold unsigned integers of one width and signed integers of
+/// another.
 fn mixed_type(unsigned: usize, signed: usize) -> Result<Scalar, Refusal>
     requires { unsigned ≤ 65536 }
     ensures { Answers (λ s. s) result (mixed_type unsigned signed) }
@@ -87,7 +87,7 @@ fn common_integers(left: &Scalar, right: &Scalar) -> Result<Scalar, Refusal>
     }
 }
 
-/// The smallest type that holds the numbers of two types. `NeedsFloats` where there is none.
+/// The smallest type that holds the numbers of two types, or `NeedsFloats` if there is none.
 pub(crate) fn common_type(left: &Scalar, right: &Scalar) -> Result<Scalar, Refusal>
     ensures { Answers (λ s. s) result (common_type left.now right.now) }
 {
@@ -100,16 +100,18 @@ pub(crate) fn common_type(left: &Scalar, right: &Scalar) -> Result<Scalar, Refus
     common_integers(left, right)
 }
 
-/// Whether there is an operation of items of two types, as far as bools go.
+/// Whether an operation is defined for two types. Only two bools can rule it out.
 fn serves(op: BinOp, left: &Scalar, right: &Scalar) -> bool
     ensures { result ≡ (serves_bools op || not (is_bool left.now && is_bool right.now)) }
 {
     serves_bools(op) || !(is_bool(left) && is_bool(right))
 }
 
-/// The type of what an operation gives on items of two types: of bools and integers the smallest that
-/// holds both, little-endian. `NotForThisKind` for byte strings, and for two bools where there is no
-/// such operation; then `NeedsFloats` for `Divide`, and for integers that no integer type holds.
+/// The type of the result of an operation on items of two types: for bools and integers the
+/// smallest type that holds both, little-endian.
+/// Refusals, in this order: `NotForThisKind` for byte strings, and for two bools if the operation
+/// is not defined for them; `NeedsFloats` for `Divide`, and for integers that no integer type
+/// holds.
 #[tactic(auto, unfolding(crate::specs::Promotion::promote))]
 pub fn promote(op: BinOp, left: Scalar, right: Scalar) -> Result<Scalar, Refusal>
     ensures { Answers (λ s. s) result (promote op left right) }
@@ -126,15 +128,16 @@ pub fn promote(op: BinOp, left: Scalar, right: Scalar) -> Result<Scalar, Refusal
     common_type(&left, &right)
 }
 
-/// Whether items of two types are compared: numbers with numbers, and byte strings with byte strings.
+/// Whether items of two types can be compared: numbers with numbers, and byte strings with byte
+/// strings.
 fn are_comparable(left: &Scalar, right: &Scalar) -> bool
     ensures { result ≡ are_comparable left.now right.now }
 {
     is_text(left) == is_text(right)
 }
 
-/// The type of what a comparison gives on items of two types, which is that of bools. `NotForThisKind` for
-/// numbers with byte strings.
+/// The type of the result of a comparison of items of two types, which is bool. `NotForThisKind`
+/// for numbers with byte strings.
 #[tactic(auto, unfolding(crate::specs::Promotion::compared_type))]
 pub fn compared_type(left: Scalar, right: Scalar) -> Result<Scalar, Refusal>
     ensures { Answers (λ s. s) result (compared_type left right) }
@@ -145,7 +148,8 @@ pub fn compared_type(left: Scalar, right: Scalar) -> Result<Scalar, Refusal>
     Ok(Scalar::Bool)
 }
 
-/// The type of an integer literal beside items of a type: theirs, little-endian, and beside bools `<i8`.
+/// The type of an integer literal as the other operand of items of a type: theirs, little-endian,
+/// or `<i8` for bools.
 pub fn literal_type(scalar: Scalar) -> Scalar
     ensures { result ≡ literal_type scalar }
 {
@@ -155,8 +159,8 @@ pub fn literal_type(scalar: Scalar) -> Scalar
     }
 }
 
-/// The type of what an operation gives on items of one type. `NotForThisKind` for byte strings, and
-/// for `Negate` of bools.
+/// The type of the result of an operation on items of one type. `NotForThisKind` for byte strings,
+/// and for `Negate` of bools.
 #[tactic(auto, unfolding(crate::specs::Promotion::promote_one))]
 pub fn promote_one(op: UnOp, scalar: Scalar) -> Result<Scalar, Refusal>
     ensures { Answers (λ s. s) result (promote_one op scalar) }

@@ -19,20 +19,20 @@ pub(crate) struct Operands<'a, 'b> {
     pub(crate) ghost even: { left.layout.now.shape ≡ right.layout.now.shape },
 }
 
-/// What is made of pairs of items, and pushed.
+/// A function of pairs of items, which appends its results.
 pub(crate) trait Pass {
     ghost use Rattle.elementwise.specs.inside.Sides.{pair_count, made_of};
 
-    // The bytes that are made of those of two items.
+    // The bytes of the result for the bytes of two items.
     ghost makes: { Self → List ℕ → List ℕ → List ℕ };
 
-    // Of what widths the items may be.
+    // The sizes of items that it accepts.
     ghost Reads: { Self → ℕ → ℕ → Type 0 };
 
-    // How many bytes are made of a pair.
+    // The size of a result.
     ghost width: { Self → ℕ };
 
-    /// Pushes what is made of each pair of two runs.
+    /// Appends the result for each pair of items of two runs.
     fn push_row(&self, block: BlockBuilder, pairs: Pairs<'_, '_>) -> BlockBuilder
         requires reads { Reads self.now pairs.left.width pairs.right.width }
         requires room { pair_count pairs * width self.now ≤ block.1 }
@@ -46,7 +46,7 @@ pub(crate) trait Pass {
 impl<'a, 'b> Operands<'a, 'b> {
     ghost use Rattle.elementwise.specs.inside.Operands.{pairs_of, made_of_all};
 
-    /// The row that all pairs of items make, if they make one.
+    /// All pairs of items as a single row, if they are one.
     pub(crate) fn as_row(self) -> Option<RunPair>
         ensures first { IfSome result
             (λ row. run_offsets row.first ≡ offsets self.entry.left.layout.now) }
@@ -60,7 +60,7 @@ impl<'a, 'b> Operands<'a, 'b> {
         Some(RunPair { first, second })
     }
 
-    /// Pushes what is made of each pair of items of a row.
+    /// Appends the result for each pair of items of a row.
     fn push_row<P: Pass>(self, pass: &P, block: BlockBuilder, row: RunPair) -> BlockBuilder
         requires reads { P.Reads pass.now (item_size self.left.descr.now)
             (item_size self.right.descr.now) }
@@ -93,8 +93,8 @@ impl<'a, 'b> Operands<'a, 'b> {
         pass.push_row(block, pairs)
     }
 
-    /// Pushes what is made of each pair of items, in C order, row by row. The block is moved into each
-    /// row and back. Its frame is large, so it stays out of line.
+    /// Appends the result for each pair of items in C order, row by row. The block is moved into
+    /// each row and back. Its frame is large, so it is not inlined.
     #[inline(never)]
     fn push_rows<P: Pass>(self, pass: &P, block: BlockBuilder) -> BlockBuilder
         requires reads { P.Reads pass.now (item_size self.left.descr.now)
@@ -110,7 +110,7 @@ impl<'a, 'b> Operands<'a, 'b> {
         block
     }
 
-    /// Pushes what is made of each pair of items, in C order.
+    /// Appends the result for each pair of items in C order.
     pub(crate) fn push_all<P: Pass>(self, pass: &P, block: BlockBuilder) -> BlockBuilder
         requires reads { P.Reads pass.now (item_size self.left.descr.now)
             (item_size self.right.descr.now) }

@@ -1,15 +1,16 @@
-//! Comparisons of byte strings, pair by pair. Those of one length are compared by words.
+//! Comparisons of byte strings, pair by pair. Byte strings of the same length are compared by
+//! words.
 ghost use Rattle.elem_descr.specs.declared.scalar.Order.TheVariants.{Big as BigOrder};
 ghost use Rattle.elementwise.specs.Words.{item_size};
 ghost use Rattle.elementwise.specs.inside.Operands.{made_of_all, pairs_of};
-ghost use Rattle.elementwise.specs.inside.PairPasses.{said, text_pair, text_said};
+ghost use Rattle.elementwise.specs.inside.PairPasses.{text_pair, text_said};
 ghost use Rattle.elementwise.specs.inside.Words.{AreInOrder, IsWord, IsWordLen};
 ghost use Rattle.std.proofs.Common.{arith};
-ghost use Rattle.std.specs.Prelude.{length, ℕ, ◌*◌, ◌++◌, ◌+◌, ◌≡◌, ◌≤◌};
+ghost use Rattle.std.specs.Prelude.{length, ℕ, ◌*◌, ◌++◌, ◌+◌, ◌^◌, ◌≡◌, ◌≤◌};
 
 use crate::byte_string_pairs::ComparingTexts;
 use crate::byte_strings::{shared_words, word_at};
-use crate::comparison_kernels::compare;
+use crate::comparison_kernels::{compare, is_said};
 use crate::operands::note_slice;
 use crate::pairing::Pairs;
 use crate::row_pairs::{Operands, Pass};
@@ -20,38 +21,42 @@ use std::marker::PhantomData;
 
 /// How byte strings of one length are compared as numbers.
 trait Deciding {
-    // How long the byte strings may be.
+    // The lengths that it accepts.
     ghost Fits: { ℕ → Type 0 };
 
-    /// A word of each of two byte strings: these decide how they compare.
-    fn words(left: &[u8], right: &[u8]) -> (u64, u64)
+    /// A number for each of two byte strings; the numbers decide how the strings compare.
+    fn numbers(left: &[u8], right: &[u8]) -> (u128, u128)
         requires even { length left.now ≡ length right.now }
         requires fits { Fits (length left.now) }
         ensures { AreInOrder result left.now right.now };
 }
 
-/// By the words of this length at both ends, if there is nothing between them. Where the first words are
-/// equal, so are the bytes that the last words share with them.
+/// By words of this length at both ends, if together they cover the string. If the first words are
+/// equal, so are the bytes that the last words share with them. No branch depends on the bytes.
 struct Ends<const LEN: usize>;
 
-/// By the first words that differ, or the last eight bytes.
+/// By the first words that differ, or else the last eight bytes.
 struct Longer;
+
+/// Two words as one number: the second decides only if the first words are equal.
+#[inline(always)]
+fn two_words(first: u64, last: u64) -> u128
+    ensures { result ≡ first * 2 ^ 64 + last }
+{
+    u128::from(first) * (1 << 64) + u128::from(last)
+}
 
 impl<const LEN: usize> Deciding for Ends<LEN> {
     ghost Fits = { λ n. IsWordLen LEN × (LEN ≤ n) × (n ≤ 2 * LEN) };
 
     #[inline(always)]
-    fn words(left: &[u8], right: &[u8]) -> (u64, u64) {
+    fn numbers(left: &[u8], right: &[u8]) -> (u128, u128) {
         let end = left.len() - LEN;
         let first = word_at::<LEN>(left, 0);
         let second = word_at::<LEN>(right, 0);
         let first_end = word_at::<LEN>(left, end);
         let second_end = word_at::<LEN>(right, end);
-        if first == second {
-            (first_end, second_end)
-        } else {
-            (first, second)
-        }
+        (two_words(first, first_end), two_words(second, second_end))
     }
 }
 
@@ -59,27 +64,23 @@ impl Deciding for Longer {
     ghost Fits = { λ n. 8 ≤ n };
 
     #[inline(always)]
-    fn words(left: &[u8], right: &[u8]) -> (u64, u64) {
+    fn numbers(left: &[u8], right: &[u8]) -> (u128, u128) {
         let at = shared_words(left, right).min(left.len() - 8);
-        (word_at::<8>(left, at), word_at::<8>(right, at))
+        (
+            u128::from(word_at::<8>(left, at)),
+            u128::from(word_at::<8>(right, at)),
+        )
     }
 }
 
-/// `holds` where `is_below` and `below`, or `is_above` and `above`; else the other bool.
-#[inline(always)]
-fn is_said(below: bool, above: bool, holds: bool, is_below: bool, is_above: bool) -> bool
-    ensures { result ≡ said below above holds is_below is_above }
-{
-    (below & is_below | above & is_above) == holds
-}
-
-/// A comparison by the words that decide: the last bool where the first word is below the second, if the
-/// first bool is true, and where it is above, if the second is; else the other bool.
+/// A comparison by the deciding numbers. It is `HOLDS` if the first is less than the second and
+/// `BELOW` is true, or if it is greater and `ABOVE` is true; otherwise the other bool.
 #[derive_where(Clone, Copy)]
-struct Texts<D>(bool, bool, bool, PhantomData<D>);
+struct Texts<const BELOW: bool, const ABOVE: bool, const HOLDS: bool, D>(PhantomData<D>);
 
-impl<D: Deciding> Pass for Texts<D> {
-    ghost makes = { λ t. text_said t.0 t.1 t.2 };
+impl<const BELOW: bool, const ABOVE: bool, const HOLDS: bool, D: Deciding> Pass
+    for Texts<BELOW, ABOVE, HOLDS, D> {
+    ghost makes = { λ _. text_said BELOW ABOVE HOLDS };
 
     ghost Reads = { λ _ width width'. (width ≡ width') × D.Fits width };
 
@@ -90,15 +91,15 @@ impl<D: Deciding> Pass for Texts<D> {
     fn push_row(&self, block: BlockBuilder, pairs: Pairs<'_, '_>) -> BlockBuilder {
         let mut block = block;
         for k in 0..pairs.left.run.count {
-            let (first, second) = D::words(pairs.left.item(k), pairs.right.item(k));
-            let holds = is_said(self.0, self.1, self.2, first < second, second < first);
+            let (first, second) = D::numbers(pairs.left.item(k), pairs.right.item(k));
+            let holds = is_said::<BELOW, ABOVE, HOLDS>(first < second, second < first);
             holds.push::<LowFirst>(&mut block);
         }
         block
     }
 }
 
-/// Pushes what a comparison says of each pair of byte strings, by the words that decide.
+/// Appends the result of a comparison for each pair of byte strings, by the deciding numbers.
 fn push_decided<D: Deciding>(
     comparison: Comparison,
     block: BlockBuilder,
@@ -112,16 +113,16 @@ fn push_decided<D: Deciding>(
 {
     let by = PhantomData;
     match comparison {
-        Comparison::Equal => operands.push_all(&Texts::<D>(true, true, false, by), block),
-        Comparison::NotEqual => operands.push_all(&Texts::<D>(true, true, true, by), block),
-        Comparison::Less => operands.push_all(&Texts::<D>(true, false, true, by), block),
-        Comparison::LessOrEqual => operands.push_all(&Texts::<D>(false, true, false, by), block),
-        Comparison::Greater => operands.push_all(&Texts::<D>(false, true, true, by), block),
-        Comparison::GreaterOrEqual => operands.push_all(&Texts::<D>(true, false, false, by), block),
+        Comparison::Equal => operands.push_all(&Texts::<true, true, false, D>(by), block),
+        Comparison::NotEqual => operands.push_all(&Texts::<true, true, true, D>(by), block),
+        Comparison::Less => operands.push_all(&Texts::<true, false, true, D>(by), block),
+        Comparison::LessOrEqual => operands.push_all(&Texts::<false, true, false, D>(by), block),
+        Comparison::Greater => operands.push_all(&Texts::<false, true, true, D>(by), block),
+        Comparison::GreaterOrEqual => operands.push_all(&Texts::<true, false, false, D>(by), block),
     }
 }
 
-/// Pushes what a comparison says of each pair of byte strings that are as long as a number.
+/// Appends the result of a comparison for each pair of byte strings that have the size of a number.
 fn push_numbers<N: Number>(
     comparison: Comparison,
     block: BlockBuilder,
@@ -138,7 +139,7 @@ fn push_numbers<N: Number>(
     compare::<N, N, HighFirst>(comparison, block, operands)
 }
 
-/// Pushes what a comparison says of each pair of byte strings.
+/// Appends the result of a comparison for each pair of byte strings.
 pub(crate) fn push_texts(
     texts: &ComparingTexts,
     block: BlockBuilder,

@@ -4,12 +4,12 @@ use Rattle.elementwise.specs.Words.{put, Side, item_in}
 use Rattle.elementwise.specs.declared.leaf_casts.Places.{Places}
 use Rattle.elementwise.specs.declared.leaf_casts.Column.{Column}
 
--- rows of so many bytes, with the first n leaves put from this byte of their row on
+-- rows of `row` bytes, with the first n leaves written from this byte of their row on
 abbrev pub with_leaves : (ℕ → List ℕ) → ℕ → ℕ → ℕ → List ℕ → List ℕ
 with_leaves leaf at row zero rows = rows
 with_leaves leaf at row (suc n) rows = put (at + n * row) (leaf n) (with_leaves leaf at row n rows)
 
--- there is a row for each leaf, within so many bytes
+-- there is a row for each leaf, within `len` bytes
 abbrev pub HasRoom : Side → Places → ℕ → Type 0
 HasRoom from to len = (to.at + to.width ≤ to.row) × (from.run.count * to.row ≤ len)
 

@@ -35,6 +35,6 @@ with_leaf from to other offsets k rows =
 abbrev pub cast_items : Descr → Descr → List ℕ → List ℕ → List (List LeafValue)
 cast_items from to other offsets = map (λ offset. cast_item from to (item_from from other offset)) offsets
 
--- so many items of a run, from one of them on
+-- some items of a run, starting with one of them
 abbrev pub run_part : Run → ℕ → ℕ → Run
 run_part run first n = record { offset = place run.offset run.step first; count = n; step = run.step }

@@ -1,4 +1,5 @@
 use Rattle.std.proofs.Common.{◌≡◌, ◌+◌, ◌++◌, cond, suc, pos, ap, ◌∙◌, append_assoc, arith}
+use Rattle.std.specs.Prelude.{not, ◌==◌}
 use Rattle.elem_descr.specs.declared.scalar.Scalar.TheVariants.{Bool as BoolScalar}
 use Rattle.elementwise.specs.Words.{number, encode, joined}
 use Rattle.elementwise.specs.inside.PairPasses.{said, text_said}
@@ -8,11 +9,11 @@ use Rattle.elementwise.proofs.text_comparisons.TextsPass.push_row.Goals as goal
 pub loop-k-preserved : goal.loop-k-preserved
 loop-k-preserved g c =
     let k = c.loop-k.k in
-    let below = c.args.self.now.0 in
-    let above = c.args.self.now.1 in
-    let holds = c.args.self.now.2 in
+    let below = not (g.row.BELOW == 0) in
+    let above = not (g.row.ABOVE == 0) in
+    let holds = not (g.row.HOLDS == 0) in
     let made = made_of (text_said below above holds) c.args.pairs in
-    let order = c.words-first.ensures in
+    let order = c.numbers-first.ensures in
     let is = ap (λ b. encode BoolScalar (number (cond b (pos 1) (pos 0)))) c.is_said-holds.ensures ∙ (λ i. encode BoolScalar (number (cond (said below above holds (order.0 i) (order.1 i)) (pos 1) (pos 0)))) ∙ λ i. text_said below above holds (c.item.ensures i) (c.item-in-loop-k.ensures i) in
     let next : suc k ≡ k + 1 = omega arith in
     record {

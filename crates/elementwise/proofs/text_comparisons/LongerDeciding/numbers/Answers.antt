@@ -1,9 +1,9 @@
-use Rattle.std.proofs.Common.{◌≡◌, ◌≤◌, ◌+◌, ◌-◌, ◌⊎◌, inl, inr, length, take, drop, ap, sym, ◌∙◌, arith, rules}
+use Rattle.std.proofs.Common.{nat_lt, ◌≡◌, ◌≤◌, ◌+◌, ◌-◌, ◌⊎◌, inl, inr, length, take, drop, ap, sym, ◌∙◌, arith, rules}
 use Rattle.std.proofs.lemmas.Bool.{cases_lt}
 use Rattle.std.proofs.lemmas.List.{take-take}
 use Rattle.elementwise.specs.Words.{item_at}
 use Rattle.elementwise.proofs.WordOrderLaws.{in-order}
-use Rattle.elementwise.proofs.text_comparisons.LongerDeciding.words.Goals as goal
+use Rattle.elementwise.proofs.text_comparisons.LongerDeciding.numbers.Goals as goal
 
 pub returns : goal.returns
 returns c =
@@ -22,4 +22,5 @@ returns c =
       | inl near ↦ let is : at ≡ k = omega (arith, c.min-at.ensures, near) in inr (λ same. shared.stops (omega (arith, near)) (omega (arith, near, even)) ((λ i. take 8 (drop (sym is i) l)) ∙ same ∙ λ i. take 8 (drop (is i) r)))
       | inr far ↦ inl (omega (arith, c.min-at.ensures, far, some))
     ] in
-    in-order 8 at l r c.word_at.result c.word_at-2.result even within (λ i. search (rules, c.type_inv.left i)) (λ i. search (rules, c.type_inv.right i)) c.word_at.ensures c.word_at-2.ensures front ends
+    let order = in-order 8 at l r c.word_at.result c.word_at-2.result even within (λ i. search (rules, c.type_inv.left i)) (λ i. search (rules, c.type_inv.right i)) c.word_at.ensures c.word_at-2.ensures front ends in
+    ((λ i. nat_lt (c.from.ensures i) (c.from-2.ensures i)) ∙ order.0, (λ i. nat_lt (c.from-2.ensures i) (c.from.ensures i)) ∙ order.1)
