@@ -15,7 +15,7 @@ use Rattle.bench_c.specs.declared.status.Status.TheVariants.{Done, Refused, Sile
 abbrev pub world_of : OpenBench → World
 world_of bench = world bench.bench.state (mem_store.ghosts.shelf bench.files)
 
--- No name is bound and no file is there, and so many earlier states are kept.
+-- No name is bound, there are no files, and `depth` earlier states are kept.
 pub record IsJustOpened (depth : ℕ) (bench : OpenBench) : Type 0 where
   pub names : bench.bench.state ≡ start depth
   pub files : mem_store.ghosts.shelf bench.files ≡ empty_shelf (2 ^ 29)

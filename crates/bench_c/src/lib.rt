@@ -12,7 +12,6 @@ mod copying;
 mod handle;
 mod open_bench;
 mod parts;
-mod reply_text;
 mod status;
 
 use handle::Handle;

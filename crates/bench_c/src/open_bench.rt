@@ -5,8 +5,8 @@ ghost use Rattle.npy_files.specs.Stores.{IsNextName};
 ghost use Rattle.bench_c.specs.Benches.{world_of, IsJustOpened, AnswersAsMachine, PutsFile, CopiesOut, CopiesOutIfAny};
 
 use crate::copying::{copy_if_any, copy_out};
-use crate::reply_text::ReplyText;
 use crate::status::Status;
+use bench_engine::{ReplyText, answer};
 use name_store::Bench;
 use npy_files::{MAX_FILE, MemStore, NpyStore, StoreFault};
 use std::alloc::{AllocError, Global};
@@ -37,7 +37,7 @@ impl OpenBench {
     pub fn answer(&mut self, line: &[u8]) -> Status
         ensures { AnswersAsMachine self.old line.now self.new result }
     {
-        match self.reply.answer(&mut self.bench, &mut self.files, line) {
+        match answer(&mut self.bench, &mut self.files, line, &mut self.reply) {
             None => Status::Silent,
             Some(true) => Status::Done,
             Some(false) => Status::Refused,

@@ -37,7 +37,7 @@ held-none (b ∷ bytes) false piece none holds = absurd (false≢true (rw (eqb-s
 
 -- a reply that stands in out, and a part of it that has gone out
 pub told-in-part : (shelf shelf' : StoreState) (old new : Session) (answered : Option Bool) (written written' : Option (List ℕ)) → true ≡ is_some answered → AnswersHeld shelf shelf' old new answered →
-    ((gone missing : List ℕ) × (new.out.items ++ 10 ∷ [] ≡ gone ++ missing) × (0 < length missing) × Appends written written' gone) → ToldInPart (world old.bench.state shelf) (world new.bench.state shelf') written written' old
+    ((gone missing : List ℕ) × (new.out ++ 10 ∷ [] ≡ gone ++ missing) × (0 < length missing) × Appends written written' gone) → ToldInPart (world old.bench.state shelf) (world new.bench.state shelf') written written' old
 told-in-part shelf shelf' old new None written written' some held part = cc
 told-in-part shelf shelf' old new (Some accepted) written written' some held part = record {
   reply = held.tells.0;

@@ -56,16 +56,16 @@ done-step : (s t : State) (old new : StoreState) (name file text : List ℕ) (fo
 done-step s t old new name file text found choice room may allowed is = rw room (found, may, (choice, allowed, is))
 
 -- the name is bound to what is loaded
-pub load-answers : (s t : State) (old new : StoreState) (name file before after : List ℕ) (o : Owned) (rest : ℕ) (result : Result (Unit {0}) Refusal) → has_room_for s name ≡ true → Finds old new file (Ok (o, rest)) →
-    CarriesOut true (λ choice. bound_loaded choice s name rest (held o)) s t before after result → Carried (MayAnswer (world s old) (Bind name (LoadValue file)) (world t new)) before after result
-load-answers s t old new name file before after o rest (Ok done) room finds h =
+pub load-answers : (s t : State) (old new : StoreState) (name file text : List ℕ) (o : Owned) (rest : ℕ) (result : Result (Unit {0}) Refusal) → has_room_for s name ≡ true → Finds old new file (Ok (o, rest)) →
+    CarriesOut true (λ choice. bound_loaded choice s name rest (held o)) s t text result → Carried (MayAnswer (world s old) (Bind name (LoadValue file)) (world t new)) text result
+load-answers s t old new name file text o rest (Ok done) room finds h =
     let l : Loaded = finds.loads.0 in
     let is : load_outcome h.0 s name finds.found ≡ bound_loaded h.0 s name rest (held o) =
     load-done h.0 s name finds.found l finds.loads.1 ∙ (λ i. bound_loaded h.0 s name (sym finds.loads.3 i) (contents-held o l finds.loads.2 i)) in
-    (h.2, inl (done-step s t old new name file h.2 finds.found h.0 room finds.may h.1 (ap (after_outcome s) (is ∙ h.3))), h.4)
-load-answers s t old new name file before after o rest (Err e) room finds (kept, starts, inl lacks) =
-    (starts, inl (load-lacks s t old new name file finds.found e room finds.may kept lacks.0))
-load-answers s t old new name file before after o rest (Err e) room finds (kept, starts, inr bad) =
+    inl (done-step s t old new name file text finds.found h.0 room finds.may h.1 (ap (after_outcome s) (is ∙ h.2)))
+load-answers s t old new name file text o rest (Err e) room finds (kept, inl lacks) =
+    inl (load-lacks s t old new name file finds.found e room finds.may kept lacks.0)
+load-answers s t old new name file text o rest (Err e) room finds (kept, inr bad) =
     let any = spare s in let no = bad any.0 in cc
 
 -- what a store answers, its bytes as a view shows them

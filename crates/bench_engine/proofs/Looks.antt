@@ -1,6 +1,5 @@
 -- Names that are looked up, and what is answered of their arrays.
-use Rattle.std.proofs.Common.{◌≡◌, ℕ, true, List, [], Ok, length, refl, sym, ap, subst, take_all, Option, Some, None, Err, is_some, arith}
-use Rattle.std.specs.Io.{StartsWith}
+use Rattle.std.proofs.Common.{◌≡◌, ℕ, true, List, [], Ok, refl, sym, ap, Option, Some, None, Err, is_some}
 use Rattle.bench_engine.specs.Words.{UnknownName, Refusal, Ask, Print, offsets, array_text, items_from, State, find_array, is_bound, Finds, Shows, ArrayRef}
 use Rattle.name_store.specs.States.{Array}
 use Rattle.script_lang.specs.declared.command.Question.TheVariants as question
@@ -12,10 +11,6 @@ use Rattle.bench_engine.specs.inside.Contract.{IsRefused}
 use Rattle.bench_engine.specs.inside.Printing.{MayPrint}
 use Rattle.bench_engine.proofs.Steps.{spare, carried}
 use Rattle.bench_engine.specs.Machine.{question_outcome, print_outcome, accepted_with}
-
--- what has not changed
-pub unchanged : (xs : List ℕ) → StartsWith xs xs
-unchanged xs = take_all (length xs) xs (omega arith)
 
 -- a name is bound, or not
 pub not_found : (s : State) (found : Option Array) → Finds s found None → found ≡ None
@@ -39,9 +34,8 @@ print-found s name a r is shows = rw is (λ i. accepted_with s (array_text (show
 pub may-print : (s : State) (name text : List ℕ) → print_outcome s name ≡ accepted_with s text → MayPrint s name (record { text = text; accepted = true })
 may-print s name text is shelf =
     let any = spare s in
-    let done = carried s s shelf (may_lack_memory s (Ask (Print name))) (λ choice. question_outcome s (question.Print name)) [] text (Ok tt) (any.0, any.1, text, is, refl) in
-    subst (λ (t : List ℕ). MayAnswer (world s shelf) (Ask (Print name)) (world s shelf) (record { text = t; accepted = true })) (sym done.2) done.1
+    carried s s shelf (may_lack_memory s (Ask (Print name))) (λ choice. question_outcome s (question.Print name)) text (Ok tt) (any.0, any.1, is)
 
 pub may-refuse : (s : State) (name : List ℕ) (r : Refusal) → IsRefused (is_bound s name) (λ choice. print_outcome s name) r → MayPrint s name (refusal r)
 may-refuse s name r is shelf =
-    (carried s s shelf (may_lack_memory s (Ask (Print name))) (λ choice. question_outcome s (question.Print name)) [] [] (Err r) (refl, unchanged [], rw and-true is)).1
+    carried s s shelf (may_lack_memory s (Ask (Print name))) (λ choice. question_outcome s (question.Print name)) [] (Err r) (refl, rw and-true is)

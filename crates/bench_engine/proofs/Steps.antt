@@ -61,10 +61,10 @@ refused old new shelf may outcome r same (inr is) =
     inl (refl, (any.0, any.1, ap (after_outcome old) (is any.0) ∙ ap (λ (s : State). (s, refusal r)) (sym same)))
 
 -- carried out, or refused, over a store that is not asked
-pub carried : (old new : State) (shelf : StoreState) (may : Bool) (outcome : Choice → Outcome) (before after : List ℕ) (result : Result (Unit {0}) Refusal) → CarriesOut may outcome old new before after result →
-    Carried (λ reply. DoesAlone (world old shelf) outcome (world new shelf) reply ⊎ (IsTrue may × Refuses (world old shelf) (world new shelf) OutOfMemory reply)) before after result
-carried old new shelf may outcome before after (Ok done) h = (h.2, inl (refl, (h.0, h.1, ap (after_outcome old) h.3)), h.4)
-carried old new shelf may outcome before after (Err e) h = (h.1, refused old new shelf may outcome e h.0 h.2)
+pub carried : (old new : State) (shelf : StoreState) (may : Bool) (outcome : Choice → Outcome) (text : List ℕ) (result : Result (Unit {0}) Refusal) → CarriesOut may outcome old new text result →
+    Carried (λ reply. DoesAlone (world old shelf) outcome (world new shelf) reply ⊎ (IsTrue may × Refuses (world old shelf) (world new shelf) OutOfMemory reply)) text result
+carried old new shelf may outcome text (Ok done) h = inl (refl, (h.0, h.1, ap (after_outcome old) h.2))
+carried old new shelf may outcome text (Err e) h = refused old new shelf may outcome e h.0 h.1
 
 -- a line that asks for a command
 asked : (old new : World) (line : Line) (command : Command) (reply : Reply) → line ≡ asks command → MayAnswer old command new reply → MayAnswerLine old (says line) new (reply ∷ [])

@@ -1,5 +1,5 @@
 -- Views of arrays: places for offsets, and names that are bound to them.
-use Rattle.std.proofs.Common.{◌≡◌, ◌⊎◌, ℕ, Bool, true, false, List, ◌++◌, refl, sym, ap, ◌∙◌, subst, Result, Ok, Err, inl, inr, Bor, IsTrue}
+use Rattle.std.proofs.Common.{◌≡◌, ◌⊎◌, ℕ, Bool, true, false, List, refl, sym, ap, ◌∙◌, subst, Result, Ok, Err, inl, inr, Bor, IsTrue}
 use Rattle.bench_engine.specs.Words.{Refusal, OutOfMemory, ◌>>=◌, Descr, Layout, IsViewOf, GivesView, KeepsNested, State, has_room_for, bound_to, bound_view, addresses, AnswersBind, IsViewIn, MayBind, Shows, Bound, ArrayRef}
 use Rattle.view_ops.specs.Views.{View}
 use Rattle.name_store.specs.States.{Array}
@@ -12,7 +12,7 @@ use Rattle.bench_engine.specs.inside.Meeting.{Meets}
 use Rattle.bench_engine.specs.declared.replies.Origin.TheVariants as origin
 use Rattle.bench_engine.specs.Replies.{bound_text}
 use Rattle.bench_engine.specs.Machine.{Choice, Outcome, ViewOrCopy, a_view, a_copy, viewed, bound_seen, accepted_with}
-use Rattle.bench_engine.proofs.Creates.{starts, fresh-answers}
+use Rattle.bench_engine.proofs.Creates.{fresh-answers}
 use Rattle.bench_engine.proofs.Assigns.{lies-whole, lies-viewed}
 use Rattle.bench_engine.proofs.Steps.{spare}
 
@@ -41,16 +41,15 @@ viewed-part s base r writable (Ok view) x layout shows is descr given free =
     (subst (λ (b : Bound). IsOf s b (a_view (record (viewed base view) { writable = writable }))) (sym is) (seen s base r view layout writable shows given free), shows.descr ∙ ap (λ (d : Bor Descr). d.now) (sym descr))
 
 -- the name is bound to the view, or refused as out of memory
-bound-answers : (s new : State) (name : List ℕ) (may : Bool) (outcome : Choice → Outcome) (number : ℕ) (path : List ℕ) (layout : Layout) (writable : Bool) (array : Array) (result : Result (Unit {0}) Refusal) (text before after : List ℕ) → may ≡ true →
-    has_room_for s name ≡ true → ((choice : Choice) → outcome choice ≡ accepted_with (bound_view s name array) text) → after ≡ before ++ text → IsViewIn s number path layout writable array →
-    AnswersBind s name (bound.View number path layout writable) result new → CarriesOut may outcome s new before after result
-bound-answers s new name may outcome number path layout writable array (Ok done) text before after can room is told in' (_, binds) =
+bound-answers : (s new : State) (name : List ℕ) (may : Bool) (outcome : Choice → Outcome) (number : ℕ) (path : List ℕ) (layout : Layout) (writable : Bool) (array : Array) (result : Result (Unit {0}) Refusal) (text told : List ℕ) → may ≡ true →
+    has_room_for s name ≡ true → ((choice : Choice) → outcome choice ≡ accepted_with (bound_view s name array) text) → told ≡ text → IsViewIn s number path layout writable array →
+    AnswersBind s name (bound.View number path layout writable) result new → CarriesOut may outcome s new told result
+bound-answers s new name may outcome number path layout writable array (Ok done) text told can room is same in' (_, binds) =
     let any = spare s in
-    (any.0, any.1, text, is any.0 ∙ ap (λ (t : State). accepted_with t text) (sym (binds array in')), told)
-bound-answers s new name may outcome number path layout writable array (Err e) text before after can room is told in' (kept, inl full) =
+    (any.0, any.1, is any.0 ∙ λ i. accepted_with (sym (binds array in') i) (sym same i))
+bound-answers s new name may outcome number path layout writable array (Err e) text told can room is same in' (kept, inl full) =
     let no : true ≡ false = sym room ∙ full.0 in cc
-bound-answers s new name may outcome number path layout writable array (Err e) text before after can room is told in' (kept, inr lacks) =
-    (kept, starts before text after told, inl (lacks.1, can))
+bound-answers s new name may outcome number path layout writable array (Err e) text told can room is same in' (kept, inr lacks) = (kept, inl (lacks.1, can))
 
 -- what is seen may be bound
 pub may-bind-seen : (s : State) (what : Bound) (there : ViewOrCopy) → IsOf s what there → MayBind s what
@@ -59,17 +58,17 @@ may-bind-seen s (bound.View number path layout writable) (a_copy contents) is = 
 may-bind-seen s (bound.Fresh o) there is = tt
 
 -- the name is bound to what is seen, or refused as out of memory
-pub seen-answers : (s new : State) (name : List ℕ) (may : Bool) (outcome : Choice → Outcome) (what : Bound) (descr : Descr) (there : ViewOrCopy) (result : Result (Unit {0}) Refusal) (before after : List ℕ) → may ≡ true → has_room_for s name ≡ true →
-    ((choice : Choice) → outcome choice ≡ bound_seen choice s name there) → after ≡ before ++ bound_text name descr (shape_of_bound what) (origin_of_bound what) → IsOf s what there → descr_seen s there ≡ descr →
-    AnswersBind s name what result new → CarriesOut may outcome s new before after result
-seen-answers s new name may outcome (bound.View number path layout writable) descr (a_view array) result before after can room is told view typed binds =
-    bound-answers s new name may outcome number path layout writable array result (bound_text name descr layout.shape origin.View) before after can room
-    (λ choice. is choice ∙ λ i. accepted_with (bound_view s name array) (bound_text name (typed i) (sym view.laid.shape i) origin.View)) told view binds
-seen-answers s new name may outcome (bound.View number path layout writable) descr (a_copy contents) result before after can room is told view typed binds = absurd view
-seen-answers s new name may outcome (bound.Fresh o) descr (a_view array) result before after can room is told holds typed binds = absurd holds
-seen-answers s new name may outcome (bound.Fresh o) descr (a_copy contents) result before after can room is told holds typed binds =
-    fresh-answers s new name may outcome o contents result (bound_text name descr o.layout.shape origin.Copy) before after can room holds
-    (λ choice. is choice ∙ λ i. accepted_with (bound_to s name (array_over choice.fresh contents) contents.buffer) (bound_text name (typed i) (holds i).shape origin.Copy)) told binds
+pub seen-answers : (s new : State) (name : List ℕ) (may : Bool) (outcome : Choice → Outcome) (what : Bound) (descr : Descr) (there : ViewOrCopy) (result : Result (Unit {0}) Refusal) (told : List ℕ) → may ≡ true → has_room_for s name ≡ true →
+    ((choice : Choice) → outcome choice ≡ bound_seen choice s name there) → told ≡ bound_text name descr (shape_of_bound what) (origin_of_bound what) → IsOf s what there → descr_seen s there ≡ descr →
+    AnswersBind s name what result new → CarriesOut may outcome s new told result
+seen-answers s new name may outcome (bound.View number path layout writable) descr (a_view array) result told can room is same view typed binds =
+    bound-answers s new name may outcome number path layout writable array result (bound_text name descr layout.shape origin.View) told can room
+    (λ choice. is choice ∙ λ i. accepted_with (bound_view s name array) (bound_text name (typed i) (sym view.laid.shape i) origin.View)) same view binds
+seen-answers s new name may outcome (bound.View number path layout writable) descr (a_copy contents) result told can room is same view typed binds = absurd view
+seen-answers s new name may outcome (bound.Fresh o) descr (a_view array) result told can room is same holds typed binds = absurd holds
+seen-answers s new name may outcome (bound.Fresh o) descr (a_copy contents) result told can room is same holds typed binds =
+    fresh-answers s new name may outcome o contents result (bound_text name descr o.layout.shape origin.Copy) told can room holds
+    (λ choice. is choice ∙ λ i. accepted_with (bound_to s name (array_over choice.fresh contents) contents.buffer) (bound_text name (typed i) (holds i).shape origin.Copy)) same binds
 
 -- what a call that gives a view answers
 pub given-view : (old new : Layout) (there : Result View Refusal) → GivesView old (Ok new) there → (view : View) × (there ≡ Ok view) × IsViewOf old new view

@@ -1,4 +1,4 @@
--- What the commands that make an array put into it.
+-- The contents of new arrays.
 use Rattle.std.specs.Prelude.{ℕ, ◌*◌, ℤ, pos, true, List, [], ◌∷◌, length, map, replicate, reverse, Result, Ok, Err, nat_eq, nat_le}
 use Rattle.std.specs.List.{range_with_len}
 use Rattle.bench_engine.specs.Words.{Refusal, TooLarge, NotForThisKind, NumberOfValues, Scalar, Byte, Int, Descr, ◌>>=◌, check, descriptor, item_size, leaves_of, LeafValue, number, text, max_bytes, MemoryOrder, C, Fortran, count, indexes, rank, shape_of, Literal, NewItems, Zeros, Full, Arange, Buffer, item_value, item_values, range_items, ordered}
@@ -7,29 +7,29 @@ use Rattle.elem_descr.specs.declared.descr.Descr.TheVariants.{Scalar as ScalarDe
 use Rattle.script_lang.specs.declared.command.NewItems.TheVariants.{Array}
 use Rattle.name_store.specs.States as states
 
--- a shape, for each of its indices in C order the place of an item, and a buffer in which the items stand
+-- a shape, a place for each of its indexes in C order, and a buffer with the items
 pub record Contents : Type 0 where
   pub shape : List ℕ
   pub places : List ℕ
   pub buffer : Buffer
 
--- the places of a shape's items where these are stored in C order, or in Fortran order, where the first number of an index runs fastest
+-- the places of a shape's items, stored in C order or in Fortran order, in which the first index changes fastest
 abbrev pub places_in : MemoryOrder → List ℕ → List ℕ
 places_in C shape = range_with_len 0 (count shape)
 places_in Fortran shape = map (λ index. rank (reverse shape) (reverse index)) (indexes shape)
 
--- these items, one for each index of the shape in C order, stored in an order
+-- items, given one for each index of the shape in C order, and stored in C or Fortran order
 abbrev pub new_contents_in : MemoryOrder → Descr → List ℕ → List (List LeafValue) → Contents
 new_contents_in order descr shape items = record { shape = shape; places = places_in order shape; buffer = record { descr = descr; items = ordered order shape items } }
 
 abbrev pub new_contents : Descr → List ℕ → List (List LeafValue) → Contents
 new_contents descr shape items = new_contents_in C descr shape items
 
--- a writable array over contents, in the buffer with this number
+-- a writable array with these contents, in the buffer with this number
 abbrev pub array_over : ℕ → Contents → states.Array
 array_over at contents = record { buffer = at; path = []; shape = contents.shape; places = contents.places; writable = true }
 
--- the value 0, and the byte string of no bytes
+-- the value 0 of each type: for byte strings, the empty one
 abbrev pub zero_of : Scalar → LeafValue
 zero_of (Bytes n) = text []
 zero_of scalar = number (pos 0)
@@ -37,7 +37,7 @@ zero_of scalar = number (pos 0)
 abbrev pub zero_item : Descr → List LeafValue
 zero_item descr = map (λ leaf. zero_of leaf.scalar) (leaves_of descr)
 
--- the element type and the shape of a new array, whose items have at most 2^28 bytes in all
+-- the element type and the shape of a new array, which has at most 2^28 bytes
 unfoldable pub array_type : List ℕ → List ℕ → Result (Descr × List ℕ) Refusal
 array_type descr lengths = do
   descr ← descriptor descr
@@ -85,7 +85,7 @@ arange_contents descr start stop step = do
   items ← range_items scalar start stop step
   Ok (new_contents (ScalarDescr scalar) (length items ∷ []) items)
 
--- what a command that makes an array puts into it
+-- the contents of the array that a command makes
 abbrev pub contents_of : List ℕ → NewItems → Result Contents Refusal
 contents_of descr (Zeros shape) = zeros_contents descr shape
 contents_of descr (Full shape value) = full_contents descr shape value

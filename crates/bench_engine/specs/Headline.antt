@@ -1,5 +1,5 @@
--- The headline: what a run comes to, for every script, store and undo depth. `run` ensures `ComesTo`, the last definition. Each
--- definition uses those above it, and `Step`, a step of the machine.
+-- The headline: the outcome of a run, for every script, store and undo depth. `run` ensures `ComesTo`, the last
+-- definition. Each definition uses those above it, and `Step`, a step of the machine.
 use Rattle.std.specs.Prelude.{◌≡◌, ◌≢◌, ◌⊎◌, ◌<◌, ◌-◌, ℕ, List, [], ◌∷◌, ◌++◌, length, map, take, count_by, not, nat_eq, nat_lt, if◌then◌else◌, All, Option, IfSome, Result, Ok, Err}
 use Rattle.std.specs.Io.KnownBytes.{Appends, Consumes, IsAtEnd}
 use Rattle.std.specs.List.{ends_with, flat_map}
@@ -16,7 +16,7 @@ use Rattle.bench_engine.specs.Steps.{World, world, Refuses, Step}
 abbrev pub limit : ℕ
 limit = 65536
 
--- what a line means: it is too long, or it says what the grammar reads in it
+-- the meaning of a line: it is too long, or what the grammar reads in it
 pub data Meaning : Type 0 where
   too_long : Meaning
   says : Line → Meaning
@@ -24,11 +24,11 @@ pub data Meaning : Type 0 where
 unfoldable pub meaning_of : List ℕ → Meaning
 meaning_of line = if nat_lt limit (length line) then too_long else says (line_of line)
 
--- exactly one reply, and this holds of it
+-- there is exactly one reply, and P holds for it
 abbrev pub OneReply : List Reply → (Reply → Type 0) → Type 0
 OneReply replies P = (reply : Reply) × (replies ≡ reply ∷ []) × P reply
 
--- A command is a step of the machine, or refused as out of memory with nothing changed.
+-- A command is a step of the machine, or it is refused as out of memory with nothing changed.
 abbrev pub AnswersMeaning : World → Meaning → World → List Reply → Type 0
 AnswersMeaning old too_long new replies = OneReply replies (Refuses old new LineTooLong)
 AnswersMeaning old (says silent) new replies = (new ≡ old) × (replies ≡ [])
@@ -36,11 +36,11 @@ AnswersMeaning old (says bad_byte) new replies = OneReply replies (Refuses old n
 AnswersMeaning old (says misspelt) new replies = OneReply replies (λ reply. Refuses old new Syntax reply ⊎ Refuses old new OutOfMemory reply)
 AnswersMeaning old (says (asks command)) new replies = OneReply replies (λ reply. Step old command new reply ⊎ Refuses old new OutOfMemory reply)
 
--- how a line may be answered, and the world that this leads to
+-- how a line may be answered, and the world after it
 abbrev pub AnswersLine : World → List ℕ → World → List Reply → Type 0
 AnswersLine old line new replies = AnswersMeaning old (meaning_of line) new replies
 
--- lines are answered so, one after the other
+-- the lines are answered one after the other
 abbrev pub Run : World → List (List ℕ) → List Reply → World → Type 0
 Run old [] replies new = (replies ≡ []) × (new ≡ old)
 Run old (line ∷ lines) replies new = (mid : World) × (first rest : List Reply) × (replies ≡ first ++ rest) × AnswersLine old line mid first × Run mid lines rest new
@@ -51,7 +51,7 @@ Run old (line ∷ lines) replies new = (mid : World) × (first rest : List Reply
 abbrev pub IsUnbroken : List ℕ → Type 0
 IsUnbroken bytes = All (λ b. b ≢ 10) bytes
 
--- The bytes are pieces, each with a newline behind it, and then the rest. Neither a piece nor the rest contains a newline.
+-- The bytes are pieces, each followed by a newline, and then a rest. Neither the pieces nor the rest contain a newline.
 pub record Splits (bytes : List ℕ) (pieces : List (List ℕ)) (rest : List ℕ) : Type 0 where
   pub joined : bytes ≡ flat_map (λ piece. piece ++ 10 ∷ []) pieces ++ rest
   pub pieces_unbroken : All IsUnbroken pieces
@@ -70,7 +70,7 @@ if_any (b ∷ bytes) = (b ∷ bytes) ∷ []
 abbrev pub AreWholeLines : List ℕ → List (List ℕ) → Type 0
 AreWholeLines bytes lines = (pieces : List (List ℕ)) × (rest : List ℕ) × Splits bytes pieces rest × (lines ≡ map trimmed pieces)
 
--- those, and the rest as the last line, unless it is empty
+-- the lines that a newline ends, and the rest as the last line unless it is empty
 abbrev pub AreLines : List ℕ → List (List ℕ) → Type 0
 AreLines bytes lines = (pieces : List (List ℕ)) × (rest : List ℕ) × Splits bytes pieces rest × (lines ≡ map trimmed (pieces ++ if_any rest))
 
@@ -91,7 +91,8 @@ refused_count replies = count_by (λ r. not r.accepted) replies
 
 -- ---- what a run comes to
 
--- What is outside of a run: the bytes still to be read and the bytes written, where they are known, and the store of files.
+-- The surroundings of a run: the bytes still to be read and the bytes written, if they are known, and the store of
+-- files.
 pub record Outside : Type 0 where
   pub unread : Option (List ℕ)
   pub written : Option (List ℕ)
@@ -104,9 +105,9 @@ outside unread written store = record { unread = unread; written = written; stor
 abbrev pub first_world : ℕ → Outside → World
 first_world depth before = world (start depth) before.store
 
--- The bytes read, up to the end of the input, are a script: the known one, where it was known. A run of the machine answers its
--- lines, and leads to the summary's bench and to the files that are left. The replies and nothing else are written, and the
--- summary counts them.
+-- The bytes read, up to the end of the input, are a script: the known one, if it was known. A run of the machine
+-- answers its lines, and ends with the summary's bench and the files that are left. Exactly the replies are written,
+-- and the summary counts them.
 pub record AnswersScript (depth : ℕ) (before after : Outside) (summary : Summary) : Type 0 where
   pub script : List ℕ
   pub lines : List (List ℕ)
@@ -120,7 +121,7 @@ pub record AnswersScript (depth : ℕ) (before after : Outside) (summary : Summa
   pub accepted : summary.accepted ≡ accepted_count replies
   pub refused : summary.refused ≡ refused_count replies
 
--- Of the bytes read, the lines that a newline ends are answered, and all their replies are written.
+-- The lines that a newline ends in the bytes read are answered, and all their replies are written.
 pub record AnswersWholeLines (depth : ℕ) (before after : Outside) : Type 0 where
   pub input : List ℕ
   pub lines : List (List ℕ)
@@ -131,14 +132,14 @@ pub record AnswersWholeLines (depth : ℕ) (before after : Outside) : Type 0 whe
   pub run : Run (first_world depth before) lines replies (world state after.store)
   pub sent : Appends before.written after.written (output replies)
 
--- The source may be read while no read has failed and each line that a newline has ended is answered, with all replies written.
+-- The source may be read if no read has failed, each line that a newline ends is answered, and all replies are written.
 abbrev pub ReadsInTime : {S : Type 0} → (S → Option (List ℕ)) → (S → ℕ) → (S → Option (List ℕ) → Type 0) → ℕ → S → Outside → Type 0
 ReadsInTime {S} remaining failures MayRead depth source before =
     (now : S) (written : Option (List ℕ)) (store : StoreState) → failures now ≡ failures source
     → AnswersWholeLines depth before (outside (remaining now) written store) → MayRead now written
 
--- Of these lines the first ones are answered, and the files are as they leave them. All their replies are written but for a last
--- part of the last one, which is not empty.
+-- The first of these lines are answered, and the files are as they leave them. All their replies are written, except
+-- for a non-empty last part of the last one.
 pub record AnswersInPart (lines : List (List ℕ)) (first : World) (shelf : StoreState) (written written' : Option (List ℕ)) : Type 0 where
   pub answered : List (List ℕ)
   pub later : List (List ℕ)
@@ -153,8 +154,8 @@ pub record AnswersInPart (lines : List (List ℕ)) (first : World) (shelf : Stor
   pub some_missing : 0 < length missing
   pub sent : Appends written written' (output replies ++ gone)
 
--- Of the lines that a newline ends, or of all lines where the input has ended, the first ones are answered in part; and so are the
--- first lines of the script, where it was known.
+-- Some first lines are answered, the last of them in part: of the lines that a newline ends, or of all lines if the
+-- input has ended; and of the script, if it was known.
 pub record AnswersFirstLines (depth : ℕ) (before after : Outside) : Type 0 where
   pub input : List ℕ
   pub lines : List (List ℕ)
@@ -163,8 +164,9 @@ pub record AnswersFirstLines (depth : ℕ) (before after : Outside) : Type 0 whe
   pub some : AnswersInPart lines (first_world depth before) after.store before.written after.written
   pub known : IfSome before.unread (λ script. (all : List (List ℕ)) × AreLines script all × AnswersInPart all (first_world depth before) after.store before.written after.written)
 
--- After Ok the script is answered. After a failed read, or too many reads, the whole lines are answered; after a failed write the
--- first lines, the last one in part. Without the memory to begin with, nothing has changed.
+-- After Ok, the whole script is answered. After a failed read, or too many reads, the complete lines are answered;
+-- after a failed write, some first lines, the last of them in part. Without enough memory to start, nothing has
+-- changed.
 abbrev pub ComesTo : ℕ → Outside → Outside → Result Summary RunFault → Type 0
 ComesTo depth before after (Ok summary) = AnswersScript depth before after summary
 ComesTo depth before after (Err Read) = AnswersWholeLines depth before after

@@ -15,7 +15,7 @@ pub record Reply : Type 0 where
 abbrev pub refusal : Refusal → Reply
 refusal r = record { text = refusal_text r; accepted = false }
 
--- at most one reply, which stands in out, and whether it accepts
+-- at most one reply, its text, and whether it accepts
 abbrev pub Tells : List Reply → Option Bool → List ℕ → Type 0
 Tells replies None out = (replies ≡ []) × (out ≡ [])
 Tells replies (Some accepted) out = (reply : Reply) × (replies ≡ reply ∷ []) × (reply.accepted ≡ accepted) × (out ≡ reply.text)
@@ -41,7 +41,7 @@ bound_text name descr shape origin = codes "ok " ++ array_words name descr shape
 abbrev pub yes_or_no : Bool → List ℕ
 yes_or_no is = if is then codes "yes" else codes "no"
 
--- the orders in which the items lie one after another, at these addresses
+-- the orders in which items at these addresses are adjacent
 abbrev pub order_text : ℕ → List ℕ → List ℕ → List ℕ
 order_text item shape addresses =
     if is_c_contiguous item addresses then (if is_f_contiguous item shape addresses then codes "CF" else codes "C")
@@ -62,7 +62,7 @@ info_text name descr shape addresses writable =
 abbrev pub shares_text : Bool → List ℕ
 shares_text is = codes "shares " ++ yes_or_no is
 
--- names, and each name that is bound behind a blank
+-- names, followed by a blank and each name that is bound
 abbrev pub names_text : State → List ℕ
 names_text s = codes "names" ++ flat_map (λ entry. codes " " ++ entry.0) s.names
 

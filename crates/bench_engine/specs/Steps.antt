@@ -1,4 +1,4 @@
--- Steps of the machine: what each command comes to, and what it asks of the store of files.
+-- Steps of the machine: the outcome of each command, and its requests to the store of files.
 use Rattle.std.specs.Prelude.{◌≡◌, ℕ, true, List, ◌++◌, length, codes, decimal, MatchBool, Option, Some, None, MatchResult, Result, Ok, Err}
 use Rattle.std.specs.FinMap.{get}
 use Rattle.bench_engine.specs.Words.{Refusal, TooManyNames, NoSuchFile, FileTooLong, OutOfMemory, ◌>>=◌, items_in, count, Value, Make, Compute, Load, Command, Bind, Set, Update, Delete, Ask, Save, Undo, State, has_room_for, bound_to, descr_of, addresses, read, Loaded, load, file_order, saved, StoreState, IsSameStore, FaultHasCause, IsRead, IsKept, IsWritten, StoreFault, Device, TooLong, Memory}
@@ -21,15 +21,15 @@ world state shelf = record { state = state; shelf = shelf }
 abbrev pub Refuses : World → World → Refusal → Reply → Type 0
 Refuses old new refused reply = (new ≡ old) × (reply ≡ refusal refused)
 
--- the state changes so, for some choice that the machine is free to make
+-- the state changes like this for some choice that the machine is free to make
 abbrev pub Does : State → (Choice → Outcome) → State → Reply → Type 0
 Does old outcome new reply = (choice : Choice) × IsAllowed old choice × (after_outcome old (outcome choice) ≡ (new, reply))
 
--- so it does, and the store is not asked
+-- the same, without a request to the store
 abbrev pub DoesAlone : World → (Choice → Outcome) → World → Reply → Type 0
 DoesAlone old outcome new reply = (new.shelf ≡ old.shelf) × Does old.state outcome new.state reply
 
--- the refusal that reports a fault of the store
+-- the refusal for a fault of the store
 abbrev pub store_refusal : StoreFault → Refusal
 store_refusal Device = StoreFailed
 store_refusal TooLong = FileTooLong
@@ -41,20 +41,21 @@ store_refusal Memory = OutOfMemory
 abbrev pub Found : Type 0
 Found = Result (Option (List ℕ)) StoreFault
 
--- The store may answer so: no file changes, a fault of its device has a cause, and an honest store gives the file that it has.
+-- A possible answer of the store: no file changes, a fault of its device has a cause, and an honest store returns the
+-- file that it has.
 pub record MayFind (old new : StoreState) (file : List ℕ) (found : Found) : Type 0 where
   pub same : IsSameStore old new
   pub files : new.files ≡ old.files
   pub cause : FaultHasCause old new found
   pub read : old.honest ≡ true → IsRead (λ bytes. bytes) old.limit (get old.files file) found
 
--- what is loaded from the file, or the refusal
+-- the array in the file, or the refusal
 abbrev pub loaded : Found → Result Loaded Refusal
 loaded (Ok (Some bytes)) = load bytes
 loaded (Ok None) = Err NoSuchFile
 loaded (Err fault) = Err (store_refusal fault)
 
--- the items stand in the new buffer as they lie in the file
+-- the items are in the new buffer in the order of the file
 abbrev pub loaded_contents : Loaded → Contents
 loaded_contents l = record {
   shape = l.head.shape;
@@ -62,7 +63,7 @@ loaded_contents l = record {
   buffer = record { descr = l.head.descr; items = items_in l.head.descr (count l.head.shape) l.items };
 }
 
--- a name is bound to what is loaded: ok X DESCR SHAPE new rest N
+-- a name is bound to the array: ok X DESCR SHAPE new rest N
 abbrev pub bound_loaded : Choice → State → List ℕ → ℕ → Contents → Outcome
 bound_loaded choice s name rest new =
     accepted_with (bound_to s name (array_over choice.fresh new) new.buffer) (bound_text name new.buffer.descr new.shape origin.New ++ (codes " rest " ++ decimal rest))
@@ -72,7 +73,7 @@ load_outcome choice s name found = do
   new ← loaded found
   bound_loaded choice s name new.rest (loaded_contents new)
 
--- the store is asked for a file, and its answer is loaded
+-- the store is asked for a file, and the array in its answer is bound
 abbrev pub AsksForFile : World → List ℕ → List ℕ → World → Reply → Type 0
 AsksForFile old name file new reply = (found : Found) × MayFind old.shelf new.shelf file found × Does old.state (λ choice. load_outcome choice old.state name found) new.state reply
 
@@ -88,12 +89,12 @@ file_of_name s name = do
   array ← array_of s name
   saved (descr_of s array) array.shape (addresses s array) (read s array)
 
--- a store's answer to a file that it is given
+-- a store's answer to a request to write a file
 abbrev pub Stored : Type 0
 Stored = Result (Unit {0}) StoreFault
 
--- The store may answer so: a fault of its device has a cause, no other file changes, and none at all if the file was too long or
--- memory ran out. An honest store is left as a write with this answer leaves it.
+-- A possible answer of the store: a fault of its device has a cause, no other file changes, and none at all if the file
+-- was too long or memory ran out. An honest store is left as a write with this answer leaves it.
 pub record MayStore (old new : StoreState) (file bytes : List ℕ) (stored : Stored) : Type 0 where
   pub same : IsSameStore old new
   pub cause : FaultHasCause old new stored
@@ -105,7 +106,7 @@ abbrev pub save_reply : ℕ → Stored → Reply
 save_reply n (Ok done) = record { text = codes "ok save " ++ decimal n; accepted = true }
 save_reply n (Err fault) = refusal (store_refusal fault)
 
--- the store is given a file, and its answer is the reply
+-- the store is asked to write a file, and its answer decides the reply
 abbrev pub StoresFile : World → List ℕ → List ℕ → World → Reply → Type 0
 StoresFile old file bytes new reply = (new.state ≡ old.state) × (stored : Stored) × MayStore old.shelf new.shelf file bytes stored × (reply ≡ save_reply (length bytes) stored)
 

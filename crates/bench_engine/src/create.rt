@@ -1,5 +1,5 @@
 //! `X = zeros ..`, `full`, `arange`, `array`: bind a name to a new array.
-ghost use Rattle.std.specs.Prelude.{◌≡◌, IfOk, ◌≤◌, ◌-◌, ◌*◌, ◌^◌, length, map, min, replicate, true, vec_capacity};
+ghost use Rattle.std.specs.Prelude.{◌≡◌, IfOk, ◌≤◌, ◌-◌, ◌*◌, ◌^◌, length, map, min, replicate, true};
 ghost use Rattle.bench_engine.specs.Words.{Gives, Answers, item_size, decode_item, item_value, item_values, blocks, IsNumber, size, max_bytes, max_items, count, shape_of, range_count, range_items, has_room_for};
 ghost use Rattle.elem_descr.specs.declared.descr.Descr.TheVariants.{Scalar as ScalarDescr};
 ghost use Rattle.bench_engine.specs.Contents.{array_type, zeros_contents, full_contents, array_contents, arange_contents, contents_of, integer_scalar, range_scalar};
@@ -7,7 +7,8 @@ ghost use Rattle.bench_engine.specs.inside.OwnContents.{held};
 ghost use Rattle.bench_engine.specs.inside.Contract.{CarriesOut};
 ghost use Rattle.bench_engine.specs.Machine.{bound_new, creation_outcome};
 
-use crate::replies::{Origin, push_bound_text};
+use crate::replies::{Origin, set_bound_text};
+use crate::reply_text::ReplyText;
 use arrays::Owned;
 use elem_descr::{Descr, MemoryOrder, Name, Refusal, Scalar, descr_read};
 use literal_items::{range_block, range_len, write_item, write_items};
@@ -18,7 +19,7 @@ use shape_strides::{MAX_BYTES, Shape};
 use smallvec::{SmallVec, smallvec};
 use std::alloc::{AllocError, Global};
 
-/// The bytes of the item that a literal is.
+/// The bytes of a literal as an item.
 pub fn item_of(alloc: Global, descr: &Descr, literal: &Literal) -> Result<SmallVec<u8, 16>, Refusal>
     ensures value { Gives (λ item. decode_item descr.now item.items) result
         (item_value descr.now literal.now) }
@@ -29,7 +30,7 @@ pub fn item_of(alloc: Global, descr: &Descr, literal: &Literal) -> Result<SmallV
     Ok(item)
 }
 
-/// The lengths as numbers of the machine: one that is larger than those is the largest.
+/// The lengths as machine numbers. A length that is too large becomes the largest number.
 fn capped(alloc: Global, lengths: &[u128]) -> Result<SmallVec<usize, 4>, AllocError>
     ensures { IfOk result (λ axes. axes.items ≡ map (λ n. min n (2 ^ 64 - 1)) lengths.now) }
 {
@@ -69,7 +70,7 @@ fn zeros(alloc: Global, descr: &Text, lengths: &Lengths) -> Result<Owned, Refusa
     Owned::zeroed(alloc, descr, &shape)
 }
 
-/// A block of so many items, each with these bytes.
+/// A block of `items` items with these bytes.
 pub fn filled(alloc: Global, item: &[u8], items: usize) -> Result<RawBlock, AllocError>
     requires bytes { items * length item.now ≤ max_bytes }
     ensures whole { IfOk result (λ block. length block ≡ items * length item.now) }
@@ -93,7 +94,7 @@ fn full(alloc: Global, descr: &Text, lengths: &Lengths, literal: &Literal) -> Re
     Ok(owned)
 }
 
-/// A block of the items that these literals are, one after another.
+/// A block of the items that these literals stand for, one after another.
 fn listed(alloc: Global, descr: &Descr, literals: &[Literal]) -> Result<RawBlock, Refusal>
     requires bytes { length literals.now * item_size descr.now ≤ max_bytes }
     ensures whole { IfOk result
@@ -159,7 +160,7 @@ fn arange(
     Ok(owned)
 }
 
-/// What a command that makes an array puts into it.
+/// The array that a creating command describes.
 fn contents_of(alloc: Global, descr: &Text, items: &NewItems) -> Result<Owned, Refusal>
     ensures { Gives held result (contents_of descr.now items.now) }
 {
@@ -171,23 +172,22 @@ fn contents_of(alloc: Global, descr: &Text, items: &NewItems) -> Result<Owned, R
     }
 }
 
-/// Binds a name, for which there is room, to a new array. The reply is appended before the change,
-/// which is the last step that may lack memory.
+/// Binds a name, for which there is room, to a new array. The reply is made before the change,
+/// which is the last step that may run out of memory.
 pub fn bind_new(
     bench: &mut Bench,
     name: &Name,
     owned: Owned,
     origin: Origin,
-    out: &mut Vec<u8>,
+    out: &mut ReplyText,
 ) -> Result<(), Refusal>
     requires room { has_room_for bench.old.state name.now ≡ true }
-    ensures room { vec_capacity out.old ≤ vec_capacity out.new }
-    ensures answers { CarriesOut true
+    ensures { CarriesOut true
         (λ choice. bound_new choice bench.old.state name.now origin (held owned))
-        bench.old.state bench.new.state out.old.items out.new.items result }
+        bench.old.state bench.new.state out.new result }
 {
-    push_bound_text(out, name, &owned.descr, &owned.layout.shape, origin)?;
-    bench.bind(*out.allocator(), name, Bound::Fresh(owned))
+    set_bound_text(out, name, &owned.descr, &owned.layout.shape, origin)?;
+    bench.bind(out.allocator(), name, Bound::Fresh(owned))
 }
 
 /// Binds a name to a new array.
@@ -196,17 +196,16 @@ pub fn make(
     name: &Name,
     descr: &Text,
     items: &NewItems,
-    out: &mut Vec<u8>,
+    out: &mut ReplyText,
 ) -> Result<(), Refusal>
-    ensures room { vec_capacity out.old ≤ vec_capacity out.new }
-    ensures answers { CarriesOut true
+    ensures { CarriesOut true
         (λ choice.
         creation_outcome choice bench.old.state name.now (contents_of descr.now items.now))
-        bench.old.state bench.new.state out.old.items out.new.items result }
+        bench.old.state bench.new.state out.new result }
 {
     if !bench.has_room_for(name) {
         return Err(Refusal::TooManyNames);
     }
-    let owned = contents_of(*out.allocator(), descr, items)?;
+    let owned = contents_of(out.allocator(), descr, items)?;
     bind_new(bench, name, owned, Origin::New, out)
 }

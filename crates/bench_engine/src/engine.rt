@@ -1,5 +1,5 @@
-//! Carries out one line, and appends the reply to `out`.
-ghost use Rattle.std.specs.Prelude.{◌≡◌, ◌≤◌, ◌+◌, ◌++◌, ◌&&◌, [], List, vec_len, vec_capacity};
+//! Carries out one line, and makes its reply.
+ghost use Rattle.std.specs.Prelude.{◌≡◌, List};
 ghost use Rattle.std.specs.List.{list_all};
 ghost use Rattle.bench_engine.specs.Words.{Bind, is_bound};
 ghost use Rattle.bench_engine.specs.inside.Contract.{CarriesOut, Carried};
@@ -15,6 +15,7 @@ use crate::create::make;
 use crate::delete::delete;
 use crate::files::{load, save};
 use crate::operate::compute;
+use crate::reply_text::ReplyText;
 use crate::session::{Line, MAX_LINE_LEN};
 use crate::undo::undo;
 use crate::view::view;
@@ -25,17 +26,12 @@ use npy_files::NpyStore;
 use script_lang::{Command, Question, Value, parse, word};
 use std::alloc::Global;
 
-/// The most bytes of a refusal's text.
-pub const MAX_REFUSAL_LEN: usize = 64;
-
-/// Appends what is asked.
-fn reply(bench: &Bench, question: &Question, out: &mut Vec<u8>) -> Result<(), Refusal>
-    requires room { vec_len out.old + 64 ≤ vec_capacity out.old }
-    ensures answers { CarriesOut
+/// Answers a question.
+fn reply(bench: &Bench, question: &Question, out: &mut ReplyText) -> Result<(), Refusal>
+    ensures { CarriesOut
         (list_all (is_bound bench.now.state) (bound_in_question question.now))
         (λ choice. question_outcome bench.now.state question.now)
-        bench.now.state bench.now.state out.old.items out.new.items result }
-    ensures room { vec_capacity out.old ≤ vec_capacity out.new }
+        bench.now.state bench.now.state out.new result }
 {
     match question {
         Question::Print { name } => print(bench, name, out),
@@ -46,19 +42,17 @@ fn reply(bench: &Bench, question: &Question, out: &mut Vec<u8>) -> Result<(), Re
     }
 }
 
-/// Carries out a command and appends its reply. A refusal changes nothing, but for what stands past
-/// the old end of `out`.
+/// Carries out a command, and makes its reply. After a refusal, only the text of the reply has
+/// changed.
 fn perform<N: NpyStore>(
     bench: &mut Bench,
     store: &mut N,
     command: &Command,
-    out: &mut Vec<u8>,
+    out: &mut ReplyText,
 ) -> Result<(), Refusal>
-    requires room { vec_len out.old + 64 ≤ vec_capacity out.old }
-    ensures answers { Carried (MayAnswer (world bench.old.state (N.shelf store.old)) command.now
+    ensures { Carried (MayAnswer (world bench.old.state (N.shelf store.old)) command.now
         (world bench.new.state (N.shelf store.new)))
-        out.old.items out.new.items result }
-    ensures room { vec_capacity out.old ≤ vec_capacity out.new }
+        out.new result }
 {
     match command {
         Command::Bind { name, value } => match value {
@@ -97,34 +91,29 @@ fn perform<N: NpyStore>(
     }
 }
 
-/// Carries out a command, appends its reply, and answers whether it was accepted. A refused
-/// command changes nothing. Out of memory is never the answer where a name is unknown, nor for `del`
-/// where no state is kept, nor for `undo`.
+/// Carries out a command, makes its reply, and returns whether it was accepted. A refused command
+/// changes nothing. The reply is never `out of memory` for an unknown name, for `del` at depth 0,
+/// or for `undo`.
 pub fn execute<N: NpyStore>(
     bench: &mut Bench,
     store: &mut N,
     command: &Command,
-    out: &mut Vec<u8>,
+    out: &mut ReplyText,
 ) -> bool
-    requires room { vec_len out.old + 64 ≤ vec_capacity out.old }
-    ensures case { (reply : Reply) × (out.new.items ≡ out.old.items ++ reply.text)
-        × (reply.accepted ≡ result)
+    ensures { (reply : Reply) × (out.new ≡ reply.text) × (reply.accepted ≡ result)
         × MayAnswer (world bench.old.state (N.shelf store.old)) command.now
         (world bench.new.state (N.shelf store.new)) reply }
-    ensures room { vec_capacity out.old ≤ vec_capacity out.new }
 {
-    let before = out.len();
     match perform(bench, store, command, out) {
         Ok(()) => true,
         Err(refusal) => {
-            out.truncate(before);
-            out.extend_from_slice(word(refusal)).unwrap();
+            out.set(word(refusal), b"");
             false
         }
     }
 }
 
-/// What a line says.
+/// The command that a line asks for.
 pub fn read_line(alloc: Global, line: Line<'_>) -> Result<Option<Command>, Refusal>
     ensures { ReadsAs result (meaning_of_read line.entry) }
 {
@@ -137,56 +126,54 @@ pub fn read_line(alloc: Global, line: Line<'_>) -> Result<Option<Command>, Refus
     parse(alloc, bytes)
 }
 
-/// Answers a line as it was read: whether its command was accepted, or nothing where it asks for nothing.
+/// Answers a line. Returns whether its command was accepted, or `None` if the line asks for
+/// nothing.
 pub fn answer_read<N: NpyStore>(
     bench: &mut Bench,
     store: &mut N,
     line: Line<'_>,
-    out: &mut Vec<u8>,
+    out: &mut ReplyText,
 ) -> Option<bool>
-    requires empty { out.old.items ≡ [] }
-    requires room { 64 ≤ vec_capacity out.old }
-    ensures answered { (replies : List Reply) × Tells replies result out.new.items
+    ensures answered { (replies : List Reply) × Tells replies result out.new
         × AnswersMeaning (world bench.old.state (N.shelf store.old)) (meaning_of_read line.entry)
         (world bench.new.state (N.shelf store.new)) replies }
-    ensures memory { (replies : List Reply) × Tells replies result out.new.items
+    ensures memory { (replies : List Reply) × Tells replies result out.new
         × MayAnswerLine (world bench.old.state (N.shelf store.old)) (meaning_of_read line.entry)
         (world bench.new.state (N.shelf store.new)) replies }
-    ensures room { vec_capacity out.old ≤ vec_capacity out.new }
 {
-    match read_line(*out.allocator(), line) {
-        Ok(None) => None,
+    match read_line(out.allocator(), line) {
+        Ok(None) => {
+            out.set(b"", b"");
+            None
+        }
         Ok(Some(command)) => {
             let accepted = execute(bench, store, &command, out);
             drop(command);
             Some(accepted)
         }
         Err(refusal) => {
-            out.extend_from_slice(word(refusal)).unwrap();
+            out.set(word(refusal), b"");
             Some(false)
         }
     }
 }
 
-/// Answers one line, given without its newline: whether its command was accepted, or nothing where the line asks for
-/// nothing. `out`, which has room for `MAX_REFUSAL_LEN` bytes, holds the reply afterwards, without a newline. What is refused,
-/// also for want of memory, changes nothing, but for a store that failed in the midst of a `save`.
+/// Answers a line, given without its newline. Returns whether its command was accepted, or `None`
+/// if the line asks for nothing. `out` is then the reply, without a newline. A refused command
+/// changes nothing, even if memory ran out, except that a store may have failed during a `save`.
 pub fn answer<N: NpyStore>(
     bench: &mut Bench,
     store: &mut N,
     line: &[u8],
-    out: &mut Vec<u8>,
+    out: &mut ReplyText,
 ) -> Option<bool>
-    requires room { 64 ≤ vec_capacity out.old }
-    ensures answered { (replies : List Reply) × Tells replies result out.new.items
+    ensures answered { (replies : List Reply) × Tells replies result out.new
         × AnswersLine (world bench.old.state (N.shelf store.old)) line.now
         (world bench.new.state (N.shelf store.new)) replies }
-    // Out of memory is the answer only where memory may be asked for.
-    ensures memory { (replies : List Reply) × Tells replies result out.new.items
+    // The reply is `out of memory` only if the command may ask for memory.
+    ensures memory { (replies : List Reply) × Tells replies result out.new
         × MayAnswerLine (world bench.old.state (N.shelf store.old)) (meaning_of line.now)
         (world bench.new.state (N.shelf store.new)) replies }
-    ensures room { vec_capacity out.old ≤ vec_capacity out.new }
 {
-    out.clear();
     answer_read(bench, store, Line::Held(line), out)
 }

@@ -1,5 +1,5 @@
-//! Index lists, in which names stand for arrays, and what they select from an array: a view if no array
-//! is named, and a copy otherwise.
+//! Index lists, in which names stand for arrays, and what they select from an array: a view if they
+//! name no array, and a copy otherwise.
 ghost use Rattle.std.specs.Prelude.{◌≡◌, true, map, IfOk};
 ghost use Rattle.std.specs.List.{list_all};
 ghost use Rattle.bench_engine.specs.Words.{index_item_of, index_items, is_bound, Shows, is_basic};
@@ -37,7 +37,7 @@ pub fn are_bound(bench: &Bench, index: &[IndexItem<Name>]) -> bool
     true
 }
 
-/// An item with the array in the place of its name.
+/// An item with the array in place of its name.
 fn with_array<'a>(bench: &'a Bench, item: &IndexItem<Name>) -> IndexItem<Items<'a>>
     requires { list_all (is_bound bench.now.state) (names_in_item item.now) ≡ true }
     ensures { index_item_of result ≡ array_by_items bench.now.state item.now }
@@ -58,7 +58,7 @@ fn with_array<'a>(bench: &'a Bench, item: &IndexItem<Name>) -> IndexItem<Items<'
     }
 }
 
-/// An index list with the arrays in the place of their names.
+/// An index list with the arrays in place of their names.
 fn with_arrays<'a>(
     alloc: Global,
     bench: &'a Bench,
@@ -75,8 +75,8 @@ fn with_arrays<'a>(
     Ok(items)
 }
 
-/// Where the items lie that an index list takes of an array. More than `MAX_BYTES` bytes of items to
-/// which arrays lead are too many.
+/// The places that an index list selects from an array. If it names arrays, more than `MAX_BYTES`
+/// bytes of items are refused.
 pub fn named_target(
     alloc: Global,
     bench: &Bench,

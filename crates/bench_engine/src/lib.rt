@@ -1,5 +1,5 @@
-//! The workbench: the commands of a script that make, change and print named arrays, and a whole run
-//! from what is read to what is written.
+//! The workbench: the commands of a script, which make, change and print named arrays, and whole
+//! runs of scripts.
 #![tactic(auto)]
 
 mod ask;
@@ -11,6 +11,7 @@ mod index_list;
 mod operate;
 mod printing;
 mod replies;
+mod reply_text;
 pub mod runner;
 mod session;
 mod undo;
@@ -19,6 +20,7 @@ mod view;
 mod write;
 
 pub use array_print::WriteFault;
-pub use engine::{MAX_REFUSAL_LEN, answer, execute};
+pub use engine::{answer, execute};
+pub use reply_text::ReplyText;
 pub use runner::{RunFault, ScriptSource, run};
 pub use session::{Session, Summary};

@@ -1,6 +1,6 @@
-//! `X = copy Y C`, `cast Y D`, `OP operand Z`, `neg operand`, `RED Y [axis] [keep]`: apply an operation to
-//! operands, and bind a name to the result.
-ghost use Rattle.std.specs.Prelude.{◌≡◌, ◌≤◌, ◌+◌, true, length, All, ◌∷◌, [], map, IfOk, Some, vec_capacity};
+//! `X = copy Y C`, `cast Y D`, `OP operand Z`, `neg operand`, `RED Y [axis] [keep]`: compute an
+//! array, and bind a name to it.
+ghost use Rattle.std.specs.Prelude.{◌≡◌, ◌≤◌, ◌+◌, true, length, All, ◌∷◌, [], map, IfOk, Some};
 ghost use Rattle.std.specs.List.{list_all};
 ghost use Rattle.bench_engine.specs.Words.{item_size, offsets, is_bound, State, Gives, Answers, item_from, promote, integer_compared_result, compared_item, item_value, literal_number, Boolean};
 ghost use Rattle.name_store.specs.States.{Array};
@@ -18,6 +18,7 @@ ghost use Rattle.bench_engine.specs.inside.Meeting.{Meets};
 use crate::create::{bind_new, filled, item_of};
 use crate::index_list::{are_bound, named_target};
 use crate::replies::Origin;
+use crate::reply_text::ReplyText;
 use crate::write::{Given, given_by};
 use arrays::Owned;
 use elem_descr::{BinOp, Comparison, Descr, MemoryOrder, Name, Red, Refusal, Scalar, descr_read};
@@ -30,7 +31,8 @@ use script_lang::{Argument, Computation, Literal, Operand, Operation, ScalarLite
 use shape_strides::{Layout, Shape};
 use std::alloc::Global;
 
-/// The array of an operand's name. `UnknownName` where this, or a name in the index list, is not bound.
+/// The array of an operand's name. `UnknownName` if this name, or one in the index list, is not
+/// bound.
 fn operand_array<'a>(bench: &'a Bench, operand: &Operand) -> Result<ArrayRef<'a>, Refusal>
     ensures { Knows bench.now.state (names_in_operand operand.now)
         (IsNamed bench.now.state operand.now.name) result }
@@ -44,7 +46,7 @@ fn operand_array<'a>(bench: &'a Bench, operand: &Operand) -> Result<ArrayRef<'a>
     Ok(array)
 }
 
-/// The array of an argument's name; a literal has none. `UnknownName` as for an operand.
+/// The array of an argument's name, or `None` for a literal. `UnknownName` as for an operand.
 pub fn argument_array<'a>(
     bench: &'a Bench,
     value: &Argument,
@@ -58,7 +60,7 @@ pub fn argument_array<'a>(
     }
 }
 
-/// The items that a layout shows of the buffer of an array.
+/// The items that a layout selects from the buffer of an array.
 pub fn items_of_view<'a>(array: &'a ArrayRef<'_>, view: &'a Layout) -> Items<'a>
     requires inside { All (λ offset. offset + item_size array.now.descr.now
         ≤ length array.now.block.now) (offsets view.now) }
@@ -73,10 +75,10 @@ pub fn items_of_view<'a>(array: &'a ArrayRef<'_>, view: &'a Layout) -> Items<'a>
     }
 }
 
-/// The part of an array that an operand is.
+/// The part of an array that an operand stands for.
 #[derive(Drop)]
 pub enum Part<'a> {
-    /// All of the array.
+    /// The whole array.
     Whole(ArrayRef<'a>),
     /// A view of it.
     View(ArrayRef<'a>, Layout),
@@ -100,7 +102,7 @@ impl Part<'_> {
         }
     }
 
-    /// The number of the buffer in which the items stand, unless they are a copy.
+    /// The number of the buffer that holds the items, unless they are a copy.
     pub fn number(&self) -> Option<u64>
         ensures { result ≡ buffer_number self.now }
     {
@@ -112,7 +114,7 @@ impl Part<'_> {
     }
 }
 
-/// The part that an operand is of the array of its name. The refusals are those of its index list.
+/// The part of an array that an operand selects. The refusals are those of its index list.
 pub fn operand_part<'a>(
     alloc: Global,
     bench: &Bench,
@@ -136,7 +138,7 @@ pub fn operand_part<'a>(
     }
 }
 
-/// The type of what an operation gives on items of two types.
+/// The type of the result of an operation on items of two types.
 pub fn result_scalar(operation: Operation, left: &Descr, right: &Descr) -> Result<Scalar, Refusal>
     ensures { Answers (λ s. s) result (operation_scalar operation left.now right.now) }
 {
@@ -148,7 +150,7 @@ pub fn result_scalar(operation: Operation, left: &Descr, right: &Descr) -> Resul
     }
 }
 
-/// What an operation gives on items that are broadcast together.
+/// The result of an operation on two operands, which are broadcast together.
 pub fn work(
     alloc: Global,
     operation: Operation,
@@ -165,7 +167,7 @@ pub fn work(
     }
 }
 
-/// The one item that a literal is of a scalar, in an array of no axes.
+/// A literal as an array of one item and no axes.
 fn single(alloc: Global, scalar: &Scalar, literal: &Literal) -> Result<Owned, Refusal>
     ensures descr { IfOk result (λ o. o.descr ≡ ScalarDescr scalar.now) }
     ensures shape { IfOk result (λ o. o.layout.shape ≡ []) }
@@ -174,7 +176,7 @@ fn single(alloc: Global, scalar: &Scalar, literal: &Literal) -> Result<Owned, Re
         (item_value (ScalarDescr scalar.now) literal.now) }
 {
     let descr = Descr::Scalar(*scalar);
-    // What is known of the size of an item comes with this call.
+    // This call tells the prover how large an item may be.
     let _size = descr.size();
     let item = item_of(alloc, &descr, literal)?;
     let block = filled(alloc, item.as_slice(), 1)?;
@@ -184,7 +186,7 @@ fn single(alloc: Global, scalar: &Scalar, literal: &Literal) -> Result<Owned, Re
     Ok(owned)
 }
 
-/// The type that a literal has beside a scalar. Bytes and records are no operands.
+/// The type of a literal beside a scalar. Byte strings and records cannot be operands.
 fn literal_scalar(beside: &Scalar, literal: &Literal) -> Result<Scalar, Refusal>
     ensures { Answers (λ s. s) result (literal_scalar beside.now literal.now) }
 {
@@ -198,7 +200,7 @@ fn literal_scalar(beside: &Scalar, literal: &Literal) -> Result<Scalar, Refusal>
     }
 }
 
-/// The item that a literal is beside items of an element type.
+/// A literal as an item of the type that an operation gives it beside an element type.
 fn worked_literal(
     alloc: Global,
     op: BinOp,
@@ -213,7 +215,7 @@ fn worked_literal(
     single(alloc, &scalar, literal)
 }
 
-/// A comparison of items with a literal, by value.
+/// Compares items with a literal, by value.
 fn compare_literal(
     alloc: Global,
     comparison: Comparison,
@@ -228,7 +230,7 @@ fn compare_literal(
     let Literal::Scalar(literal) = literal else {
         return Err(Refusal::NotForThisKind);
     };
-    // What is known of a shape comes with this call.
+    // This call tells the prover what lengths a shape may have.
     let _lengths = left.layout.shape.as_slice();
     match literal {
         ScalarLiteral::Integer(value) => compare_integer(alloc, comparison, left, *value),
@@ -242,7 +244,7 @@ fn compare_literal(
     }
 }
 
-/// What an operation gives on items and a literal.
+/// The result of an operation on items and a literal.
 pub fn work_literal(
     alloc: Global,
     operation: Operation,
@@ -270,7 +272,7 @@ pub struct Sources<'a> {
     pub second: Option<ArrayRef<'a>>,
 }
 
-/// The arrays of the names in a computation. `UnknownName` where a name is not bound.
+/// The arrays that a computation names. `UnknownName` if a name is not bound.
 fn find_sources<'a>(bench: &'a Bench, computation: &Computation) -> Result<Sources<'a>, Refusal>
     ensures { Knows bench.now.state (bound_in_computation computation.now)
         (AreSources bench.now.state computation.now) result }
@@ -300,7 +302,7 @@ fn find_sources<'a>(bench: &'a Bench, computation: &Computation) -> Result<Sourc
     }
 }
 
-/// What a computation gives.
+/// The result of a computation.
 fn computed(
     alloc: Global,
     bench: &Bench,
@@ -350,7 +352,7 @@ fn computed(
     }
 }
 
-/// Whether what is computed is told as new or as a copy.
+/// Whether the reply calls the result new or a copy.
 fn origin_of(computation: &Computation) -> Origin
     ensures { result ≡ origin_of computation.now }
 {
@@ -360,23 +362,22 @@ fn origin_of(computation: &Computation) -> Origin
     }
 }
 
-/// Binds a name to what is computed, and appends the reply.
+/// Binds a name to the result of a computation, and makes the reply.
 pub fn compute(
     bench: &mut Bench,
     name: &Name,
     computation: &Computation,
-    out: &mut Vec<u8>,
+    out: &mut ReplyText,
 ) -> Result<(), Refusal>
-    ensures answers { CarriesOut
+    ensures { CarriesOut
         (list_all (is_bound bench.old.state) (bound_in_computation computation.now))
         (λ choice. compute_outcome choice bench.old.state name.now computation.now)
-        bench.old.state bench.new.state out.old.items out.new.items result }
-    ensures room { vec_capacity out.old ≤ vec_capacity out.new }
+        bench.old.state bench.new.state out.new result }
 {
     let sources = find_sources(bench, computation)?;
     if !bench.has_room_for(name) {
         return Err(Refusal::TooManyNames);
     }
-    let owned = computed(*out.allocator(), bench, computation, sources)?;
+    let owned = computed(out.allocator(), bench, computation, sources)?;
     bind_new(bench, name, owned, origin_of(computation), out)
 }

@@ -1,4 +1,4 @@
-//! A whole run, from the source that it reads to the writer that it writes to.
+//! A whole run: it reads a script and writes the replies.
 ghost use Rattle.std.specs.Prelude.{◌≡◌, ◌≤◌, ◌<◌, ◌+◌, List, ℕ, Option, IsSome, length, take, MatchOption, ◌*◌, ◌^◌, IfOk, OnOk, IsErrOf};
 ghost use Rattle.std.specs.Io.KnownBytes.{Consumes, Keeps, IsAtEnd};
 ghost use Rattle.bench_engine.specs.Headline.{Outside, outside, ReadsInTime, ComesTo};
@@ -12,22 +12,24 @@ use std::alloc::{AllocError, Global};
 use std::io::{Read, Write};
 use thiserror::Error;
 
-/// What a script is read from. Each reader is one; one that counts its reads shows how many a run makes.
+/// A reader of a script. Every `Read` is one; a source that counts its reads shows how many a run
+/// makes.
 pub trait ScriptSource {
-    // The bytes that are left, where they are known.
+    // The bytes that are still to be read, if they are known.
     ghost remaining: { Self → Option (List ℕ) };
 
-    // How many reads were made, where they are counted.
+    // How many reads were made, if they are counted.
     ghost reads: { Self → ℕ };
 
-    // How many reads have failed, where they are counted.
+    // How many reads have failed, if they are counted.
     ghost failures: { Self → ℕ };
 
-    // It may be read once this was written, where that is known. A source that asks for nothing may be read always.
+    // Whether the source may be read once these bytes are written. Most sources may be read at any
+    // time.
     ghost MayRead: { Self → Option (List ℕ) → Type 0 };
 
-    /// One read: how many bytes came, 0 at the end, or nothing where it failed. What was written before it stands in the
-    /// writer.
+    /// Reads once. Returns how many bytes came, 0 at the end, or `None` if the read failed.
+    /// `writer` shows what was written before the read.
     fn read_some<W: Write>(&mut self, writer: &W, chunk: &mut [u8]) -> Option<usize>
         requires some { 0 < length chunk.old }
         requires size { length chunk.old ≤ 65538 }
@@ -54,16 +56,16 @@ impl<R: Read> ScriptSource for R {
     }
 }
 
-/// Why a run stops before the end.
+/// Why a run stops before the end of its script.
 #[derive(Clone, Copy, Debug, PartialEq, Eq, Error)]
 pub enum RunFault {
-    /// A read failed, or too many were made.
+    /// A read failed, or there were too many reads.
     #[error("read fault")]
     Read,
     /// A write failed or took nothing.
     #[error("write fault")]
     Write,
-    /// No memory was found to begin with.
+    /// There is not enough memory to start.
     #[error("out of memory")]
     Memory,
 }
@@ -87,10 +89,10 @@ impl From<WriteFault> for RunFault {
 /// How many bytes a read asks for: a longest line, with a carriage return and a newline.
 const READ_SIZE: usize = 65_538;
 
-/// The most reads of one run.
+/// The most reads of a run.
 const MAX_READS: u64 = 1 << 32;
 
-/// Takes what one read gives, and answers whether that is the end.
+/// Reads once and answers the lines that are complete. Returns whether the script has ended.
 fn take_turn<S: ScriptSource, W: Write, N: NpyStore>(
     source: &mut S,
     writer: &mut W,
@@ -122,7 +124,8 @@ fn take_turn<S: ScriptSource, W: Write, N: NpyStore>(
     Ok(false)
 }
 
-/// How many earlier states a run keeps, how many reads it makes at most, and for how many bytes each asks.
+/// How many earlier states a run keeps, how many reads it makes at most, and how many bytes each
+/// read asks for.
 #[derive(Clone, Copy)]
 pub struct Limits {
     pub depth: usize,
@@ -142,21 +145,21 @@ pub fn run_within<S: ScriptSource, W: Write, N: NpyStore>(
     requires reads { limits.reads ≤ 2 ^ 32 }
     requires some { 1 ≤ limits.size }
     requires size { limits.size ≤ 65538 }
-    // The source is read only where all lines so far are answered.
+    // The source is read only when all lines so far are answered.
     requires in_time { ReadsInTime S.remaining S.failures S.MayRead limits.depth source.old
         (outside (S.remaining source.old) (W.contents writer.old) (N.shelf store.old)) }
-    // Each line was answered by a step of the machine, up to the end of what there was to read; or a read or a write failed, or
-    // no memory was found to begin with.
+    // Each line was answered by a step of the machine, up to the end of the script; or a read or a
+    // write failed, or there was not enough memory to start.
     ensures comes_to { let before
         = outside (S.remaining source.old) (W.contents writer.old) (N.shelf store.old) in
         let after = outside (S.remaining source.new) (W.contents writer.new) (N.shelf store.new) in
         ComesTo limits.depth before after result }
-    // No memory was found to begin with: nothing was read, written or stored.
+    // If there was not enough memory to start, nothing was read, written or stored.
     ensures no_memory { IsErrOf result RunFault.Memory →
         (source.new ≡ source.old) × (writer.new ≡ writer.old) × (store.new ≡ store.old) }
     // No read has failed.
     ensures reads_well { OnOk result (S.failures source.new ≡ S.failures source.old) }
-    // So many reads are made at most.
+    // There are at most this many reads.
     ensures reads { S.reads source.new ≤ S.reads source.old + limits.reads }
     ensures counts { IfOk result (λ summary. summary.accepted + summary.refused
         ≤ 65538 * limits.reads) }
@@ -171,13 +174,13 @@ pub fn run_within<S: ScriptSource, W: Write, N: NpyStore>(
     Err(RunFault::Read)
 }
 
-/// Runs the script that is read, and writes the replies: for every script the bytes that are
-/// written, the state and the files that are left are those of the machine, in which each command is the
-/// machine's step or is refused as out of memory with nothing changed. So many earlier states as `depth` says
-/// are kept for `undo`.
+/// Runs a script and writes the replies. For every script, the bytes that are written, the final
+/// state and the files that are left are those of the machine, in which each command is the
+/// machine's step or is refused as out of memory with nothing changed. `undo` can go back `depth`
+/// states.
 ///
-/// A script ends where a read gives no byte. Each reply is written whole before the next line is
-/// looked at. `RunFault::Memory` comes before the first read.
+/// The script ends with the first read that returns no byte. Each reply is written before the next
+/// line is looked at. `RunFault::Memory` is returned only before the first read.
 pub fn run<S: ScriptSource, W: Write, N: NpyStore>(
     alloc: Global,
     source: &mut S,
@@ -186,22 +189,22 @@ pub fn run<S: ScriptSource, W: Write, N: NpyStore>(
     depth: usize,
 ) -> Result<Summary, RunFault>
     requires depth { depth ≤ 64 }
-    // It is read only where the lines that newlines have ended so far are answered and all replies are written, and no
-    // read has failed: what asks for that may be read so.
+    // The source is read only when all complete lines are answered, all replies are written, and no
+    // read has failed: a source may demand this.
     requires in_time { ReadsInTime S.remaining S.failures S.MayRead depth source.old
         (outside (S.remaining source.old) (W.contents writer.old) (N.shelf store.old)) }
-    // Each line was answered by a step of the machine, up to the end of what there was to read; or a read or a write failed, or
-    // no memory was found to begin with.
+    // Each line was answered by a step of the machine, up to the end of the script; or a read or a
+    // write failed, or there was not enough memory to start.
     ensures comes_to { let before
         = outside (S.remaining source.old) (W.contents writer.old) (N.shelf store.old) in
         let after = outside (S.remaining source.new) (W.contents writer.new) (N.shelf store.new) in
         ComesTo depth before after result }
-    // No memory was found to begin with: nothing was read, written or stored.
+    // If there was not enough memory to start, nothing was read, written or stored.
     ensures no_memory { IsErrOf result RunFault.Memory →
         (source.new ≡ source.old) × (writer.new ≡ writer.old) × (store.new ≡ store.old) }
     // No read has failed.
     ensures reads_well { OnOk result (S.failures source.new ≡ S.failures source.old) }
-    // So many reads are made at most.
+    // There are at most this many reads.
     ensures reads { S.reads source.new ≤ S.reads source.old + 2 ^ 32 }
     ensures counts { IfOk result (λ summary. summary.accepted + summary.refused < 2 ^ 49) }
 {

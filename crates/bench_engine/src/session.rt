@@ -1,45 +1,29 @@
-//! What a run holds between two reads: the line that is being read, and how far replies are sent.
+//! What a run keeps between two reads: the state, and the line that is being read.
 ghost use Rattle.std.specs.Prelude.{◌≡◌, ◌≤◌, ◌<◌, ◌++◌, ◌∷◌, [], List, ℕ, length, OnOk, OnErr, vec_capacity, IfOk, false, ◌&&◌, nat_eq, not, ◌+◌, ◌^◌, Option};
 ghost use Rattle.std.specs.Io.KnownBytes.{Appends};
 ghost use Rattle.std.specs.List.{position};
 
-use crate::engine::{MAX_REFUSAL_LEN, answer_read};
+use crate::engine::answer_read;
 use crate::printing::{asks_to_print, print};
-use array_print::{WriteFault, send};
+use crate::reply_text::ReplyText;
+use array_print::WriteFault;
 use elem_descr::Name;
 use name_store::Bench;
 use npy_files::NpyStore;
 use std::alloc::{AllocError, Global};
 use std::io::Write;
 
-/// Writes a text and a newline: in one piece where the room of the text has a byte left.
-fn send_line<W: Write>(writer: &mut W, text: &mut Vec<u8>) -> Result<(), WriteFault>
-    ensures ok { OnOk result
-        (Appends (W.contents writer.old) (W.contents writer.new) (text.old.items ++ 10 ∷ [])) }
-    ensures err { OnErr result ((gone missing : List ℕ)
-        × (text.old.items ++ 10 ∷ [] ≡ gone ++ missing)
-        × (0 < length missing) × Appends (W.contents writer.old) (W.contents writer.new) gone) }
-    ensures room { vec_capacity text.old ≤ vec_capacity text.new }
-{
-    if text.len() < text.capacity() {
-        text.push(b'\n').unwrap();
-        return send(writer, text.as_slice());
-    }
-    send(writer, text.as_slice())?;
-    send(writer, b"\n")
-}
-
 /// The most bytes of a line.
 pub const MAX_LINE_LEN: usize = 65_536;
 
-/// A line as it was read: whole, or only that it is too long.
+/// A line that was read, or only the fact that it is too long.
 #[derive(Clone, Copy)]
 pub enum Line<'a> {
     Held(&'a [u8]),
     TooLong,
 }
 
-/// What has come of a line so far. Of one that is too long only that is held.
+/// The part of a line that was read so far, or the fact that it is too long already.
 #[derive(Drop)]
 pub struct HeldLine {
     bytes: Vec<u8>,
@@ -52,7 +36,7 @@ impl HeldLine {
     ghost use Rattle.bench_engine.specs.inside.ReadLines.{meaning_of_read};
     ghost use Rattle.bench_engine.specs.Sessions.{HoldsPiece};
 
-    /// No byte yet, and room for a line with a carriage return.
+    /// An empty line, with room for a longest line and a carriage return.
     pub fn new(alloc: Global) -> Result<HeldLine, AllocError>
         ensures bytes { IfOk result (λ line. line.bytes.items ≡ []) }
         ensures whole { IfOk result (λ line. line.is_long ≡ false) }
@@ -77,14 +61,14 @@ impl HeldLine {
         }
     }
 
-    /// Whether nothing has come.
+    /// Whether no byte was read yet.
     pub fn is_empty(&self) -> bool
         ensures { result ≡ (nat_eq (length self.now.bytes.items) 0 && not self.now.is_long) }
     {
         self.bytes.is_empty() && !self.is_long
     }
 
-    /// The line without one carriage return at its end.
+    /// The line, without a carriage return at its end.
     pub fn line(&self) -> Line<'_>
         ensures { (piece : List ℕ) → HoldsPiece self.now piece
             → meaning_of_read result ≡ meaning_of (trimmed piece) }
@@ -106,8 +90,8 @@ impl HeldLine {
     }
 }
 
-/// What a whole run came to: the number of replies that accept a command and of those that refuse
-/// one, and the bench as the last command left it.
+/// The outcome of a whole run: how many commands were accepted and how many refused, and the bench
+/// after the last command.
 #[derive(Drop)]
 pub struct Summary {
     pub accepted: u64,
@@ -115,16 +99,15 @@ pub struct Summary {
     pub bench: Bench,
 }
 
-/// The line that is being read, and what the lines before it came to. It is fed bytes as they come; `end`
-/// says that no more will.
+/// The state of a run: the bench, the line that is being read, and the counts so far. `feed` takes
+/// bytes as they come, and `end` says that no more will come.
 #[derive(Drop)]
 pub struct Session {
     bench: Bench,
     line: HeldLine,
-    out: Vec<u8>,
+    out: ReplyText,
     accepted: u64,
     refused: u64,
-    ghost room: { 64 ≤ vec_capacity out },
 }
 
 impl Session {
@@ -135,7 +118,7 @@ impl Session {
     ghost use Rattle.bench_engine.specs.Sessions.{HoldsPiece, Fed, FedInPart, Feeds, Ends, EndsInPart, IsNew};
     ghost use Rattle.bench_engine.specs.inside.Sessions.{Told, ToldInPart, AnswersHeld};
 
-    /// Answers the line, and begins the next one. What is answered stands in `out`.
+    /// Answers the line, and begins the next one. The reply is in `out`.
     fn answer_line<N: NpyStore>(&mut self, store: &mut N) -> Option<bool>
         requires few { self.old.accepted + self.old.refused < 2 ^ 50 }
         ensures next { HoldsPiece self.new.line [] }
@@ -144,7 +127,6 @@ impl Session {
         ensures answered { AnswersHeld (N.shelf store.old)
             (N.shelf store.new) self.old self.new result }
     {
-        self.out.clear();
         let answered = answer_read(&mut self.bench, store, self.line.line(), &mut self.out);
         self.line.clear();
         match answered {
@@ -155,8 +137,8 @@ impl Session {
         answered
     }
 
-    /// Answers the line, which asks to print the array of a name, begins the next one, and sends
-    /// the reply as it is made.
+    /// Answers a line that asks to print the array of a name, begins the next line, and sends the
+    /// reply while it is made.
     fn send_print<W: Write>(&mut self, writer: &mut W, name: &Name) -> Result<(), WriteFault>
         requires few { self.old.accepted + self.old.refused < 2 ^ 50 }
         requires asked { (piece : List ℕ) → HoldsPiece self.old.line piece
@@ -171,14 +153,13 @@ impl Session {
             ToldInPart (world self.old.bench.state shelf) (world self.new.bench.state shelf)
             (W.contents writer.old) (W.contents writer.new) self.old) }
     {
-        self.out.clear();
         self.line.clear();
         if print(&self.bench, name, writer, &mut self.out)? {
             self.accepted += 1;
         } else {
             self.refused += 1;
         }
-        send_line(writer, &mut self.out)
+        self.out.send_line(writer)
     }
 
     /// Answers the line, begins the next one, and sends the reply.
@@ -200,18 +181,18 @@ impl Session {
             (world self.new.bench.state (N.shelf store.new)) (W.contents writer.old)
             (W.contents writer.new) self.old) }
     {
-        let alloc = *self.out.allocator();
+        let alloc = self.out.allocator();
         if let Some(name) = asks_to_print(alloc, self.line.line()) {
             return self.send_print(writer, &name);
         }
         if self.answer_line(store).is_none() {
             return Ok(());
         }
-        send_line(writer, &mut self.out)
+        self.out.send_line(writer)
     }
 
-    /// Takes the next bytes that were read. After `Ok` each line that a newline has ended is answered, and
-    /// its reply is written.
+    /// Takes the next bytes of the script. After `Ok`, each line that a newline ended is answered,
+    /// and its reply is written.
     pub fn feed<W: Write, N: NpyStore>(
         &mut self,
         writer: &mut W,
@@ -221,7 +202,7 @@ impl Session {
         requires few { self.old.accepted + self.old.refused + length bytes.now < 2 ^ 50 }
         ensures few { self.new.accepted + self.new.refused
             ≤ self.old.accepted + self.old.refused + length bytes.now }
-        // What is held of a line is whole, or is only known to be too long.
+        // The part of a line that is held is complete, or known to be too long.
         ensures told { OnOk result ((held : List ℕ) → IsUnbroken held
             → HoldsPiece self.old.line held →
             Feeds (N.shelf store.old) (N.shelf store.new) (W.contents writer.old)
@@ -241,14 +222,14 @@ impl Session {
         Ok(())
     }
 
-    /// An empty bench that keeps so many earlier states, and no byte yet. All room that a run needs for
-    /// itself is taken here.
+    /// An empty bench that keeps `depth` earlier states. All memory that a run needs for itself is
+    /// allocated here.
     pub fn new(alloc: Global, depth: usize) -> Result<Session, AllocError>
         requires { depth ≤ 64 }
         ensures { IfOk result (IsNew depth) }
     {
         let line = HeldLine::new(alloc)?;
-        let out = Vec::with_capacity(alloc, MAX_REFUSAL_LEN)?;
+        let out = ReplyText::new(alloc)?;
         Ok(Session {
             bench: Bench::try_new(alloc, depth)?,
             line,
@@ -258,7 +239,7 @@ impl Session {
         })
     }
 
-    /// Answers a last line that no newline ends, if there is one.
+    /// Answers the last line if no newline ended it.
     pub fn end<W: Write, N: NpyStore>(
         &mut self,
         writer: &mut W,
@@ -284,7 +265,7 @@ impl Session {
         self.finish_line(writer, store)
     }
 
-    /// What all came to.
+    /// The outcome of the run.
     pub fn into_summary(self) -> Summary
         ensures bench { result.bench ≡ self.bench }
         ensures accepted { result.accepted ≡ self.accepted }
@@ -298,7 +279,7 @@ impl Session {
     }
 }
 
-/// Where the first newline stands.
+/// The place of the first newline.
 fn newline(bytes: &[u8]) -> Option<usize>
     ensures { result ≡ position (λ b. nat_eq b 10) bytes.now }
 {

@@ -1,4 +1,4 @@
-//! Items of an array, changed by an operation, and the places to which they are written.
+//! `upd X[ix] OP Z`: the new items, and the places where they are written.
 ghost use Rattle.std.specs.Prelude.{◌≡◌, ◌≤◌, ◌*◌, true, map, Ok, IfSome};
 ghost use Rattle.std.specs.List.Sorted.{IsPermutation};
 ghost use Rattle.bench_engine.specs.Words.{item_from, item_size, can_cast, cast_item, offsets, count, max_bytes, IsShape, Argument, State};
@@ -19,7 +19,7 @@ use script_lang::{Literal, Operation};
 use shape_strides::{Layout, LayoutPair, in_memory_order, lies_in_c_order};
 use std::alloc::Global;
 
-/// New items as items of the type of the old ones.
+/// New items, cast to the type of the old ones.
 fn as_old(alloc: Global, new: Owned, descr: &Descr) -> Result<Owned, Refusal>
     requires can { can_cast new.descr descr.now ≡ true }
     requires few { count new.layout.shape * item_size descr.now ≤ max_bytes }
@@ -33,7 +33,8 @@ fn as_old(alloc: Global, new: Owned, descr: &Descr) -> Result<Owned, Refusal>
     elementwise::cast(alloc, new.items(), descr)
 }
 
-/// Items, changed by an operation with other items, which are stretched to their shape.
+/// The result of an operation on items and other items, which are stretched to their shape, in the
+/// type of the first.
 fn changed_by_items(
     alloc: Global,
     operation: Operation,
@@ -52,7 +53,7 @@ fn changed_by_items(
     as_old(alloc, new, old.descr)
 }
 
-/// Items, changed by an operation with a literal.
+/// The result of an operation on items and a literal, in the type of the items.
 fn changed_by_literal(
     alloc: Global,
     operation: Operation,
@@ -65,7 +66,7 @@ fn changed_by_literal(
         (changed_with operation old.entry.descr.now v
         (literal_values operation old.entry.descr.now literal.now)) }
 {
-    // What is known of a shape comes with this call.
+    // This call tells the prover what lengths a shape may have.
     let _lengths = old.layout.shape.as_slice();
     let new = work_literal(alloc, operation, old, literal)?;
     let scalar = scalar_of(&new.descr)?;
@@ -73,7 +74,7 @@ fn changed_by_literal(
     as_old(alloc, new, old.descr)
 }
 
-/// Items, changed by an operation with what an argument gives.
+/// The result of an operation on items and the value of an argument, in the type of the items.
 fn changed(
     alloc: Global,
     operation: Operation,
@@ -94,14 +95,14 @@ fn changed(
     }
 }
 
-/// Items, and the places to which they are written, in the same order.
+/// Items, and the places where they are written, in the same order.
 #[derive(Drop)]
 pub struct Writing {
     pub target: Target,
     pub source: Source,
 }
 
-/// The places of a view as they lie in memory.
+/// The places of a view, in the order of memory.
 fn near(alloc: Global, view: Layout) -> Layout
     ensures { IsPermutation (offsets view) (offsets result) }
 {
@@ -114,8 +115,8 @@ fn near(alloc: Global, view: Layout) -> Layout
     }
 }
 
-/// The items of a view of an array, changed by an operation with a literal. They are read, and written, in
-/// the order in which they lie in memory.
+/// The result of an operation on the items of a view and a literal. They are read, and written, in
+/// the order of memory.
 fn view_by_literal(
     alloc: Global,
     array: &ArrayRef<'_>,
@@ -128,7 +129,7 @@ fn view_by_literal(
         (λ s part. updated s array.now.descr.now part operation (LiteralArgument literal.now))
         result }
 {
-    // What is known of shapes, and of the size of an item, comes with these calls.
+    // These calls tell the prover what lengths shapes may have, and how large an item may be.
     let _size = array.descr.size();
     let _before = view.shape.as_slice();
     let moved = near(alloc, view);
@@ -140,8 +141,8 @@ fn view_by_literal(
     })
 }
 
-/// A view, and items that are stretched to its shape, both in the order in which the view lies in memory.
-/// Nothing where that is C order, where they do not stretch, or if there is no memory.
+/// A view, and items that are stretched to its shape, both in the order of the view in memory.
+/// `None` if that is C order, if they do not stretch, or if there is no memory.
 fn near_both(alloc: Global, view: &Layout, items: &Layout) -> Option<LayoutPair>
     ensures { IfSome result (GoTogether view.now items.now) }
 {
@@ -154,7 +155,7 @@ fn near_both(alloc: Global, view: &Layout, items: &Layout) -> Option<LayoutPair>
     }
 }
 
-/// The items of the first view of a pair, changed by an operation with those of the second.
+/// The result of an operation on the items of the first view of a pair and those of the second.
 fn pair_by_items(
     alloc: Global,
     array: &ArrayRef<'_>,
@@ -170,7 +171,7 @@ fn pair_by_items(
         (λ s part. updated_items operation array.now.descr.now (operand_values s part) w) result }
 {
     let LayoutPair { target, source } = pair;
-    // What is known of a shape, and of the size of an item, comes with these calls.
+    // These calls tell the prover what lengths a shape may have, and how large an item may be.
     let _size = array.descr.size();
     let _lengths = target.shape.as_slice();
     let beside = Items {
@@ -185,8 +186,8 @@ fn pair_by_items(
     })
 }
 
-/// The items of a view of an array, changed by an operation with other items, which are stretched to the
-/// shape of the view.
+/// The result of an operation on the items of a view and other items, which are stretched to its
+/// shape.
 fn view_by_items(
     alloc: Global,
     array: &ArrayRef<'_>,
@@ -198,7 +199,7 @@ fn view_by_items(
     ensures { (w : OperandValues) → Stands w items.entry → Writes array.now (View view)
         (λ s part. updated_items operation array.now.descr.now (operand_values s part) w) result }
 {
-    // What is known of a shape comes with this call.
+    // This call tells the prover what lengths a shape may have.
     let _lengths = view.shape.as_slice();
     if let Some(pair) = near_both(alloc, &view, items.layout) {
         return pair_by_items(alloc, array, pair, operation, items);
@@ -210,8 +211,8 @@ fn view_by_items(
     })
 }
 
-/// The items of a target in an array, changed by an operation with what an argument gives, and their
-/// places in the same order, which may be another one than that of the target.
+/// The result of an operation on the items of a target and an argument, and the places where it is
+/// written, in the same order. This may be another order than that of the target.
 pub fn updated(
     alloc: Global,
     array: &ArrayRef<'_>,

@@ -1,6 +1,6 @@
-//! `X = Y`, `X = Y[ix]`, `X = transpose Y`, `X = reshape Y S`, `X = broadcast Y S`, `X = field Y "f"`: bind a
-//! name to items of another name's array, to one field of each, or to a copy of them.
-ghost use Rattle.std.specs.Prelude.{◌≡◌, true, option_copied, ◌≤◌, ◌∷◌, vec_capacity};
+//! `X = Y`, `X = Y[ix]`, `X = transpose Y`, `X = reshape Y S`, `X = broadcast Y S`, `X = field Y
+//! "f"`: bind a name to a view of another name's array, or to a copy of some of its items.
+ghost use Rattle.std.specs.Prelude.{◌≡◌, true, option_copied, ◌∷◌};
 ghost use Rattle.std.specs.List.{list_all};
 ghost use Rattle.bench_engine.specs.Words.{count, Whole, Indexed, Transposed, Reshaped, Broadcast, is_bound, Shows};
 ghost use Rattle.script_lang.specs.declared.command.Viewing.TheVariants.{Field};
@@ -13,7 +13,8 @@ ghost use Rattle.bench_engine.specs.inside.Contract.{CarriesOut};
 
 use crate::create::shape_of;
 use crate::index_list::{are_bound, named_target};
-use crate::replies::{Origin, push_bound_text};
+use crate::replies::{Origin, set_bound_text};
+use crate::reply_text::ReplyText;
 use arrays::Owned;
 use elem_descr::{Descr, MemoryOrder, Name, Refusal};
 use name_store::{ArrayRef, Bench, Bound, Target};
@@ -21,15 +22,15 @@ use script_lang::{Index, Lengths, Text, Viewing};
 use shape_strides::{Layout, Shape};
 use std::alloc::Global;
 
-/// What is seen of an array, to be bound: items of the buffer that it lies in, or a copy of its items in
-/// C order; and their element type.
+/// A view of an array, or a copy of its items in C order, that a name will be bound to; and the
+/// element type.
 #[derive(Drop)]
 pub struct Viewed<'a> {
     pub bound: Bound,
     pub descr: &'a Descr,
 }
 
-/// The shape of what is bound, and whether it is a view or a copy.
+/// The shape, and whether the reply calls it a view or a copy.
 fn shape_and_origin(bound: &Bound) -> (&Shape, Origin)
     ensures shape { result.0.now ≡ shape_of_bound bound.now }
     ensures origin { result.1 ≡ origin_of_bound bound.now }
@@ -40,7 +41,7 @@ fn shape_and_origin(bound: &Bound) -> (&Shape, Origin)
     }
 }
 
-/// The items of an array with this layout.
+/// The view of an array with this layout.
 fn items<'a>(array: &ArrayRef<'a>, layout: Layout, writable: bool) -> Viewed<'a>
     ensures bound { result.bound ≡ View array.now.number array.now.path.now layout writable }
     ensures descr { result.descr ≡ array.now.descr }
@@ -65,7 +66,7 @@ fn whole<'a>(alloc: Global, array: &ArrayRef<'a>) -> Result<Viewed<'a>, Refusal>
     Ok(items(array, layout, array.writable))
 }
 
-/// `Y[ix]`, which is a copy where the list names an array.
+/// `Y[ix]`: a copy if the list names an array.
 fn indexed<'a>(
     alloc: Global,
     bench: &Bench,
@@ -122,7 +123,7 @@ fn field<'a>(alloc: Global, array: &ArrayRef<'a>, field: &Text) -> Result<Viewed
     })
 }
 
-/// `broadcast Y S`: it may not be written, since one item may stand at many indexes.
+/// `broadcast Y S`: it is read-only, since one item may be at many indexes.
 fn broadcast<'a>(
     alloc: Global,
     array: &ArrayRef<'a>,
@@ -135,7 +136,7 @@ fn broadcast<'a>(
     Ok(items(array, layout, false))
 }
 
-/// The items of an array in a block of their own, in C order, under a shape with as many items.
+/// A copy of an array in C order, with a shape that has as many items.
 fn duplicate<'a>(alloc: Global, array: &ArrayRef<'a>, shape: &Shape) -> Result<Viewed<'a>, Refusal>
     requires shown { IsShown array.now }
     requires items { count shape.now ≡ count array.now.layout.now.shape }
@@ -155,7 +156,7 @@ fn duplicate<'a>(alloc: Global, array: &ArrayRef<'a>, shape: &Shape) -> Result<V
     })
 }
 
-/// `reshape Y S`: where no strides lead to the items under the new shape, they are copied.
+/// `reshape Y S`: the items are copied if no strides lead to them in the new shape.
 fn reshaped<'a>(
     alloc: Global,
     array: &ArrayRef<'a>,
@@ -171,7 +172,7 @@ fn reshaped<'a>(
     duplicate(alloc, array, &shape)
 }
 
-/// Whether the names in a way of seeing an array are bound.
+/// Whether all names in a view's description are bound.
 pub fn has_bound(bench: &Bench, how: &Viewing) -> bool
     ensures { result ≡ list_all (is_bound bench.now.state) (names_in_viewing how.now) }
 {
@@ -181,7 +182,7 @@ pub fn has_bound(bench: &Bench, how: &Viewing) -> bool
     }
 }
 
-/// What is seen of an array. The refusals are those of the way it is seen.
+/// The view of an array, or the copy. The refusals are those of the kind of view.
 fn seen<'a>(
     alloc: Global,
     bench: &Bench,
@@ -205,20 +206,19 @@ fn seen<'a>(
     }
 }
 
-/// Binds a name to an array, seen in some way. The reply is appended before the change, which is the
-/// last step that may lack memory.
+/// Binds a name to a view of an array. The reply is made before the change, which is the last step
+/// that may run out of memory.
 pub fn view(
     bench: &mut Bench,
     name: &Name,
     source: &Name,
     how: &Viewing,
-    out: &mut Vec<u8>,
+    out: &mut ReplyText,
 ) -> Result<(), Refusal>
-    ensures room { vec_capacity out.old ≤ vec_capacity out.new }
-    ensures answers { CarriesOut
+    ensures { CarriesOut
         (list_all (is_bound bench.old.state) (source.now ∷ names_in_viewing how.now))
         (λ choice. view_outcome choice bench.old.state name.now source.now how.now)
-        bench.old.state bench.new.state out.old.items out.new.items result }
+        bench.old.state bench.new.state out.new result }
 {
     let Some(array) = bench.get(source) else {
         return Err(Refusal::UnknownName);
@@ -229,9 +229,9 @@ pub fn view(
     if !bench.has_room_for(name) {
         return Err(Refusal::TooManyNames);
     }
-    let viewed = seen(*out.allocator(), bench, &array, how)?;
+    let viewed = seen(out.allocator(), bench, &array, how)?;
     let bound = viewed.bound;
     let (shape, origin) = shape_and_origin(&bound);
-    push_bound_text(out, name, viewed.descr, shape, origin)?;
-    bench.bind(*out.allocator(), name, bound)
+    set_bound_text(out, name, viewed.descr, shape, origin)?;
+    bench.bind(out.allocator(), name, bound)
 }

@@ -1,5 +1,5 @@
 //! `set X[ix] = Z` and `upd X[ix] OP Z`: write to items of an array.
-ghost use Rattle.std.specs.Prelude.{◌≡◌, ◌≤◌, ◌*◌, true, ℕ, List, Some, ◌<◌, ◌+◌, ◌++◌, ◌∷◌, vec_len, vec_capacity};
+ghost use Rattle.std.specs.Prelude.{◌≡◌, ◌≤◌, ◌*◌, true, ℕ, List, Some, ◌++◌, ◌∷◌};
 ghost use Rattle.std.specs.List.{list_all};
 ghost use Rattle.bench_engine.specs.Words.{item_size, count, max_bytes, max_items, is_bound, find_array, State, Argument, Shows, Supplies};
 ghost use Rattle.name_store.specs.States.{Array};
@@ -14,6 +14,7 @@ ghost use Rattle.bench_engine.specs.inside.Writings.{IsTargetIn, Prepares, Write
 use crate::create::item_of;
 use crate::index_list::{are_bound, named_target};
 use crate::operate::{Part, argument_array, operand_part};
+use crate::reply_text::ReplyText;
 use crate::update::{Writing, updated};
 use elem_descr::{Descr, IndexItem, Name, Refusal};
 use elementwise::Items;
@@ -23,8 +24,8 @@ use script_lang::{Argument, Index, Literal, Operation};
 use shape_strides::Shape;
 use std::alloc::Global;
 
-/// Items, stretched into a shape and cast to an element type. Those of the buffer that has a number stay
-/// there where the cast leaves them as they are.
+/// Items, stretched to a shape and cast to an element type. Items of the buffer with this number
+/// are not copied if the cast keeps their bytes.
 fn fitted(
     alloc: Global,
     items: Items<'_>,
@@ -53,14 +54,15 @@ fn fitted(
     Ok(Source::Block(owned))
 }
 
-/// What stands behind `=` or an operation: a literal, or the part that an operand is.
+/// The right side of `=` or of an operation: a literal, or the part that an operand stands for.
 #[derive(Drop)]
 pub enum Given<'a> {
     Literal(&'a Literal),
     Items(Part<'a>),
 }
 
-/// What an argument gives, with the array of its name. The refusals are those of its operand's index list.
+/// The value of an argument, given the array of its name. The refusals are those of the operand's
+/// index list.
 pub fn given_by<'a>(
     alloc: Global,
     bench: &Bench,
@@ -80,8 +82,8 @@ pub fn given_by<'a>(
     }
 }
 
-/// The items that are written, one for each index of a shape: those of an operand, stretched into the
-/// shape and cast to an element type, or one that a literal is of that type.
+/// The items to write, one for each index of a shape: those of an operand, stretched to the shape
+/// and cast to an element type, or a literal of that type, repeated.
 fn source_of(
     alloc: Global,
     given: &Given<'_>,
@@ -100,7 +102,7 @@ fn source_of(
     }
 }
 
-/// Where the items lie that an index list takes of an array, which are to be written.
+/// The places of an array that an index list selects for writing.
 fn target_of(
     alloc: Global,
     bench: &Bench,
@@ -116,29 +118,25 @@ fn target_of(
     if !array.writable {
         return Err(Refusal::ReadOnly);
     }
-    // What is known of the size of an item comes with this call.
+    // This call tells the prover how large an item may be.
     let _size = array.descr.size();
     Ok(target)
 }
 
-/// Appends `ok set N`, or `ok upd N`. It takes no memory.
-fn push_count(out: &mut Vec<u8>, operation: Option<Operation>, count: usize)
-    requires count { count ≤ max_items }
-    requires room { vec_len out.old + 64 ≤ vec_capacity out.old }
-    ensures told { out.new.items ≡ out.old.items ++ write_reply operation count }
-    ensures room { vec_capacity out.old ≤ vec_capacity out.new }
+/// Makes `ok set N` or `ok upd N` the reply. It takes no memory.
+fn set_count(out: &mut ReplyText, operation: Option<Operation>, count: usize)
+    requires { count ≤ max_items }
+    ensures { out.new ≡ write_reply operation count }
 {
     let mut buffer = Buffer::new();
     let done = match operation {
         None => b"ok set ",
         Some(_) => b"ok upd ",
     };
-    out.extend_from_slice(done).unwrap();
-    out.extend_from_slice(buffer.format(count).as_bytes())
-        .unwrap();
+    out.set(done, buffer.format(count).as_bytes());
 }
 
-/// What `set X[ix] = Z` says, or `upd X[ix] OP Z`, where there is an operation.
+/// `set X[ix] = Z`, or with an operation `upd X[ix] OP Z`.
 #[derive(Clone, Copy)]
 pub struct Assignment<'a> {
     pub name: &'a Name,
@@ -147,8 +145,8 @@ pub struct Assignment<'a> {
     pub value: &'a Argument,
 }
 
-/// The new items of a target in an array, and their places: those that an argument gives, or what an
-/// operation gives with it.
+/// The new items of a target, and their places: the items of an argument, or the result of an
+/// operation on the old items and the argument.
 fn new_items(
     alloc: Global,
     array: &ArrayRef<'_>,
@@ -171,7 +169,7 @@ fn new_items(
     }
 }
 
-/// What an assignment writes, and where. A name that is not bound is refused before memory is asked for.
+/// What an assignment writes, and where. Unknown names are refused before any memory is allocated.
 fn writing_of(alloc: Global, bench: &Bench, assignment: Assignment<'_>) -> Result<Writing, Refusal>
     ensures { Prepares bench.now.state assignment.entry.name.now assignment.entry.index.now
         assignment.entry.operation assignment.entry.value.now result }
@@ -183,28 +181,29 @@ fn writing_of(alloc: Global, bench: &Bench, assignment: Assignment<'_>) -> Resul
     }
     let source = argument_array(bench, assignment.value)?;
     let target = target_of(alloc, bench, &array, index)?;
-    // What is known of the number of items of a shape comes with this call.
+    // This call tells the prover how many items a shape may have.
     let _count = target.shape().items();
     let given = given_by(alloc, bench, assignment.value, source)?;
     new_items(alloc, &array, target, assignment.operation, &given)
 }
 
-/// Writes to the items of a name's array that an index list takes: what stands behind `=`, or what the
-/// operation of `upd` gives on them and what stands behind it.
-pub fn set(bench: &mut Bench, assignment: Assignment<'_>, out: &mut Vec<u8>) -> Result<(), Refusal>
-    requires room { vec_len out.old + 64 ≤ vec_capacity out.old }
-    ensures room { vec_capacity out.old ≤ vec_capacity out.new }
-    ensures answers { CarriesOut
+/// Carries out `set` or `upd`, and makes the reply.
+pub fn set(
+    bench: &mut Bench,
+    assignment: Assignment<'_>,
+    out: &mut ReplyText,
+) -> Result<(), Refusal>
+    ensures { CarriesOut
         (list_all (is_bound bench.old.state)
         (assignment.entry.name.now ∷ names_in_index assignment.entry.index.now
         ++ names_in_argument assignment.entry.value.now))
         (λ choice. write_outcome bench.old.state assignment.entry.name.now
         assignment.entry.index.now assignment.entry.operation assignment.entry.value.now)
-        bench.old.state bench.new.state out.old.items out.new.items result }
+        bench.old.state bench.new.state out.new result }
 {
-    let alloc = *out.allocator();
+    let alloc = out.allocator();
     let writing = writing_of(alloc, bench, assignment)?;
     let count = bench.write_items(alloc, assignment.name, writing.target, writing.source)?;
-    push_count(out, assignment.operation, count);
+    set_count(out, assignment.operation, count);
     Ok(())
 }

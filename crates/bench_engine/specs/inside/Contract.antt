@@ -1,23 +1,22 @@
--- What a call that carries out a command answers.
-use Rattle.std.specs.Prelude.{◌≡◌, ◌⊎◌, ℕ, Bool, true, IsTrue, List, ◌++◌, Result, Ok, Err}
-use Rattle.std.specs.Io.{StartsWith}
+-- What a call ensures that carries out a command.
+use Rattle.std.specs.Prelude.{◌≡◌, ◌⊎◌, ℕ, Bool, true, IsTrue, List, Result, Ok, Err}
 use Rattle.bench_engine.specs.Words.{Refusal, OutOfMemory, State}
 use Rattle.bench_engine.specs.Replies.{Reply, refusal}
 use Rattle.bench_engine.specs.Machine.{Choice, Outcome, IsAllowed, accepted_with}
 
--- a refusal is that of the machine, whatever it chooses, or out of memory, where that may be
+-- a refusal is the machine's, for every choice, or out of memory if that is possible
 abbrev pub IsRefused : Bool → (Choice → Outcome) → Refusal → Type 0
 IsRefused may_lack outcome refusal =
     ((refusal ≡ OutOfMemory) × IsTrue may_lack) ⊎ ((choice : Choice) → outcome choice ≡ Err refusal)
 
--- Done as the machine does it for some choice, with the reply at the end of out; or refused, with nothing changed.
-abbrev pub CarriesOut : Bool → (Choice → Outcome) → State → State → List ℕ → List ℕ → Result (Unit {0}) Refusal → Type 0
-CarriesOut may_lack outcome old new before after (Ok _) =
-    (choice : Choice) × IsAllowed old choice × (reply : List ℕ) × (outcome choice ≡ accepted_with new reply) × (after ≡ before ++ reply)
-CarriesOut may_lack outcome old new before after (Err refusal) =
-    (new ≡ old) × StartsWith after before × IsRefused may_lack outcome refusal
+-- The command is carried out as the machine does it for some choice, with this text as the reply; or it is refused with
+-- nothing changed.
+abbrev pub CarriesOut : Bool → (Choice → Outcome) → State → State → List ℕ → Result (Unit {0}) Refusal → Type 0
+CarriesOut may_lack outcome old new text (Ok _) =
+    (choice : Choice) × IsAllowed old choice × (outcome choice ≡ accepted_with new text)
+CarriesOut may_lack outcome old new text (Err refusal) = (new ≡ old) × IsRefused may_lack outcome refusal
 
--- Carried out with a reply, which stands at the end of out, or refused.
-abbrev pub Carried : (Reply → Type 0) → List ℕ → List ℕ → Result (Unit {0}) Refusal → Type 0
-Carried Done before after (Ok _) = (text : List ℕ) × Done (record { text = text; accepted = true }) × (after ≡ before ++ text)
-Carried Done before after (Err refused) = StartsWith after before × Done (refusal refused)
+-- The command is carried out with this text as the reply, or refused.
+abbrev pub Carried : (Reply → Type 0) → List ℕ → Result (Unit {0}) Refusal → Type 0
+Carried Done text (Ok _) = Done (record { text = text; accepted = true })
+Carried Done text (Err refused) = Done (refusal refused)

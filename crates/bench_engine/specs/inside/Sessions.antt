@@ -10,15 +10,15 @@ use Rattle.bench_engine.specs.Steps.{World, world}
 use Rattle.bench_engine.specs.Headline.{AnswersLine, trimmed, AreLines, output, reply_line, accepted_count, refused_count, Outside, first_world, AnswersWholeLines, AnswersFirstLines}
 use Rattle.bench_engine.specs.Sessions.{HoldsPiece, HasTold, Fed}
 
--- The line that is held is answered, what is answered stands in out, and the next line is empty.
+-- The line that is held is answered, `out` has the reply, and the next line is empty.
 pub record AnswersHeld (shelf shelf' : StoreState) (old new : Session) (answered : Option Bool) : Type 0 where
   pub replies : List Reply
-  pub tells : Tells replies answered new.out.items
+  pub tells : Tells replies answered new.out
   pub answers : (piece : List ℕ) → HoldsPiece old.line piece → AnswersLine (world old.bench.state shelf) (trimmed piece) (world new.bench.state shelf') replies
   pub accepted : new.accepted ≡ old.accepted + accepted_count replies
   pub refused : new.refused ≡ old.refused + refused_count replies
 
--- The line that is held is answered, and the reply has gone out.
+-- The line that is held is answered, and the reply is written.
 pub record Told (from to : World) (written written' : Option (List ℕ)) (old new : Session) : Type 0 where
   pub replies : List Reply
   pub answers : (piece : List ℕ) → HoldsPiece old.line piece → AnswersLine from (trimmed piece) to replies
@@ -26,7 +26,7 @@ pub record Told (from to : World) (written written' : Option (List ℕ)) (old ne
   pub accepted : new.accepted ≡ old.accepted + accepted_count replies
   pub refused : new.refused ≡ old.refused + refused_count replies
 
--- The line that is held is answered, and only a part of the reply has gone out.
+-- The line that is held is answered, and only a part of the reply is written.
 pub record ToldInPart (from to : World) (written written' : Option (List ℕ)) (old : Session) : Type 0 where
   pub reply : Reply
   pub answers : (piece : List ℕ) → HoldsPiece old.line piece → AnswersLine from (trimmed piece) to (reply ∷ [])
@@ -42,7 +42,7 @@ pub record Reading (depth : ℕ) (before after : Outside) (s : Session) : Type 0
   pub read : Consumes before.unread after.unread input
   pub fed : Fed (first_world depth before) (world s.bench.state after.store) before.written after.written input 0 0 s
 
--- All lines of what was read are answered, and nothing is left.
+-- All lines of the bytes read are answered, and nothing is left.
 pub record Ended (depth : ℕ) (before after : Outside) (s : Session) : Type 0 where
   pub input : List ℕ
   pub lines : List (List ℕ)
@@ -51,7 +51,7 @@ pub record Ended (depth : ℕ) (before after : Outside) (s : Session) : Type 0 w
   pub are_lines : AreLines input lines
   pub told : HasTold (first_world depth before) (world s.bench.state after.store) before.written after.written lines 0 0 s
 
--- what one turn comes to: the end, or more is to be read, or a fault
+-- the outcome of one turn: the end of the script, more to read, or a fault
 abbrev pub Turned : Result Bool RunFault → ℕ → Outside → Outside → Session → Type 0
 Turned (Ok true) depth before after s = Ended depth before after s
 Turned (Ok false) depth before after s = Reading depth before after s

@@ -3,17 +3,16 @@ use Rattle.std.proofs.lemmas.Result.{err_from_is_err_and}
 use Rattle.bench_engine.specs.Contents.{contents_of}
 use Rattle.bench_engine.specs.Machine.{creation_outcome}
 use Rattle.bench_engine.proofs.Creates.{creation-refused, made-answers}
-use Rattle.bench_engine.proofs.Looks.{unchanged}
 use Rattle.bench_engine.proofs.create.make.Goals as goal
 
-pub returns-then-not-has_room_for-clause-answers : goal.returns-then-not-has_room_for-clause-answers
+pub returns-then-not-has_room_for : goal.returns-then-not-has_room_for
 unfolding creation_outcome
-returns-then-not-has_room_for-clause-answers c = (refl, unchanged _, inr (λ choice. rw (sym c.if-not-has_room_for.ensures) refl))
+returns-then-not-has_room_for c = (refl, inr (λ choice. rw (sym c.if-not-has_room_for.ensures) refl))
 
-pub returns-in_err-owned-clause-answers : goal.returns-in_err-owned-clause-answers
-returns-in_err-owned-clause-answers c =
+pub returns-in_err-owned : goal.returns-in_err-owned
+returns-in_err-owned c =
     let p = err_from_is_err_and c.from_residual.result c.from_residual.ensures.1 in
-    rw (p.1, p.2) (refl, unchanged _, creation-refused _ _ (contents_of c.args.descr.now c.args.items.now) _ (sym c.if-not-has_room_for.ensures) c.in_err-owned.ensures)
+    rw (p.1, p.2) (refl, creation-refused _ _ (contents_of c.args.descr.now c.args.items.now) _ (sym c.if-not-has_room_for.ensures) c.in_err-owned.ensures)
 
-pub returns-clause-answers : goal.returns-clause-answers
-returns-clause-answers c = made-answers _ _ _ (contents_of c.args.descr.now c.args.items.now) c.in_ok-owned.owned _ _ _ (sym c.if-not-has_room_for.ensures) c.in_ok-owned.ensures c.bind_new.ensures.answers
+pub returns : goal.returns
+returns c = made-answers _ _ _ (contents_of c.args.descr.now c.args.items.now) c.in_ok-owned.owned _ _ (sym c.if-not-has_room_for.ensures) c.in_ok-owned.ensures c.bind_new.ensures

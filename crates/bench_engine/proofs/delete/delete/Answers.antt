@@ -5,7 +5,6 @@ use Rattle.std.proofs.lemmas.Result.{err_from_is_err_and}
 use Rattle.bench_engine.specs.Words.{Refusal, UnknownName, OutOfMemory, State, is_bound}
 use Rattle.bench_engine.specs.Machine.{delete_outcome, accepted_with}
 use Rattle.bench_engine.specs.inside.Contract.{IsRefused}
-use Rattle.bench_engine.proofs.Looks.{unchanged}
 use Rattle.bench_engine.proofs.Steps.{spare}
 use Rattle.bench_engine.proofs.delete.delete.Goals as goal
 
@@ -14,18 +13,14 @@ unfolding delete_outcome
 refused s name e (inl (none, is)) = inr (λ choice. rw (none, is) refl)
 refused s name e (inr (bound, is, deep)) = inl (is, rw (lt-ltb 0 s.depth deep, bound) refl)
 
-pub returns-in_err-unbind-clause-answers : goal.returns-in_err-unbind-clause-answers
-returns-in_err-unbind-clause-answers c =
+pub returns-in_err-unbind : goal.returns-in_err-unbind
+returns-in_err-unbind c =
     let p = err_from_is_err_and c.from_residual.result c.from_residual.ensures.1 in
-    rw (p.1, p.2) (c.in_err-unbind.ensures.answers.0, unchanged _, refused _ _ _ c.in_err-unbind.ensures.answers.1)
+    rw (p.1, p.2) (c.in_err-unbind.ensures.answers.0, refused _ _ _ c.in_err-unbind.ensures.answers.1)
 
-pub returns-clause-answers : goal.returns-clause-answers
+pub returns : goal.returns
 unfolding delete_outcome
-returns-clause-answers c =
-    let any = spare c.args.bench.now.state in (
-      any.0,
-      any.1,
-      codes "ok del " ++ c.args.name.now,
-      rw c.in_ok-unbind.ensures.answers.0 (λ i. accepted_with (sym c.in_ok-unbind.ensures.answers.1 i) (codes "ok del " ++ c.args.name.now)),
-      grind (arith, common_steps, c.as_slice.ensures.value),
-    )
+returns c =
+    let any = spare c.args.bench.now.state in
+    let told : c.set.new.self ≡ codes "ok del " ++ c.args.name.now = grind (arith, common_steps, c.as_slice.ensures.value) in
+    (any.0, any.1, rw c.in_ok-unbind.ensures.answers.0 (λ i. accepted_with (sym c.in_ok-unbind.ensures.answers.1 i) (sym told i)))

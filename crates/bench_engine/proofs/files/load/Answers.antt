@@ -1,29 +1,28 @@
-use Rattle.std.proofs.Common.{refl, sym, inl, Err}
+use Rattle.std.proofs.Common.{[], refl, sym, inl, Err}
 use Rattle.std.proofs.lemmas.Result.{err_from_is_err_and}
 use Rattle.bench_engine.specs.inside.OwnContents.{held}
 use Rattle.bench_engine.specs.Steps.{bound_loaded}
 use Rattle.bench_engine.proofs.Creates.{fresh-answers}
-use Rattle.bench_engine.proofs.Looks.{unchanged}
 use Rattle.bench_engine.proofs.LoadedFiles.{load-full, find-refused, load-answers}
 use Rattle.bench_engine.proofs.files.load.Goals as goal
 
-pub returns-then-not-has_room_for-clause-answers : goal.returns-then-not-has_room_for-clause-answers
-returns-then-not-has_room_for-clause-answers g c = (unchanged _, load-full c.args.bench.now.state (g.N.NpyStore.shelf c.args.store.now) c.args.name.now c.args.file.now (sym c.if-not-has_room_for.ensures))
+pub returns-then-not-has_room_for : goal.returns-then-not-has_room_for
+returns-then-not-has_room_for g c = load-full c.args.bench.now.state (g.N.NpyStore.shelf c.args.store.now) c.args.name.now c.args.file.now (sym c.if-not-has_room_for.ensures)
 
-pub returns-in_err-owned-clause-answers : goal.returns-in_err-owned-clause-answers
-returns-in_err-owned-clause-answers g c =
+pub returns-in_err-owned : goal.returns-in_err-owned
+returns-in_err-owned g c =
     let p = err_from_is_err_and c.from_residual.result c.from_residual.ensures.1 in
-    rw (p.1, p.2) (unchanged _, find-refused c.args.bench.now.state _ _ c.args.name.now _ _ (sym c.if-not-has_room_for.ensures) c.in_err-owned.ensures)
+    rw (p.1, p.2) (find-refused c.args.bench.now.state _ _ c.args.name.now _ _ (sym c.if-not-has_room_for.ensures) c.in_err-owned.ensures)
 
-pub returns-in_err-push_loaded_text-clause-answers : goal.returns-in_err-push_loaded_text-clause-answers
-returns-in_err-push_loaded_text-clause-answers g c =
-    let p = err_from_is_err_and c.from_residual-in_err-push_loaded_text.result c.from_residual-in_err-push_loaded_text.ensures.1 in
-    rw p.1 (load-answers c.args.bench.now.state _ _ _ _ _ _ _ c.in_ok-owned.owned c.in_ok-owned.rest (Err _) (sym c.if-not-has_room_for.ensures) c.in_ok-owned.ensures (refl, c.in_err-push_loaded_text.ensures.kept, inl (p.2, refl)))
+pub returns-in_err-set_loaded_text : goal.returns-in_err-set_loaded_text
+returns-in_err-set_loaded_text g c =
+    let p = err_from_is_err_and c.from_residual-in_err-set_loaded_text.result c.from_residual-in_err-set_loaded_text.ensures.1 in
+    rw p.1 (load-answers c.args.bench.now.state _ _ _ _ _ [] c.in_ok-owned.owned c.in_ok-owned.rest (Err _) (sym c.if-not-has_room_for.ensures) c.in_ok-owned.ensures (refl, inl (p.2, refl)))
 
-pub returns-clause-answers : goal.returns-clause-answers
-returns-clause-answers g c =
+pub returns : goal.returns
+returns g c =
     let s = c.args.bench.now.state in
     let o = c.in_ok-owned.owned in
-    load-answers s _ _ _ _ _ _ _ o c.in_ok-owned.rest c.bind.result (sym c.if-not-has_room_for.ensures) c.in_ok-owned.ensures
-    (fresh-answers _ _ _ _ (λ choice. bound_loaded choice s c.args.name.now c.in_ok-owned.rest (held o)) o (held o) c.bind.result _ c.args.out.now.items c.push_loaded_text.new.out.items refl (sym c.if-not-has_room_for.ensures) refl (λ choice. refl)
-    c.in_ok-push_loaded_text.ensures.ok c.bind.ensures.answers)
+    load-answers s _ _ _ _ _ _ o c.in_ok-owned.rest c.bind.result (sym c.if-not-has_room_for.ensures) c.in_ok-owned.ensures
+    (fresh-answers _ _ _ _ (λ choice. bound_loaded choice s c.args.name.now c.in_ok-owned.rest (held o)) o (held o) c.bind.result _ c.set_loaded_text.new.out refl (sym c.if-not-has_room_for.ensures) refl (λ choice. refl)
+    c.in_ok-set_loaded_text.ensures c.bind.ensures.answers)

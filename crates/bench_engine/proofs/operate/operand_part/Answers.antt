@@ -1,9 +1,6 @@
-use Rattle.std.proofs.Common.{◌≡◌, ◌∙◌, refl, sym, ap, subst, map, inl, Some, Ok}
-use Rattle.std.specs.List.{list_all}
+use Rattle.std.proofs.Common.{◌∙◌, refl, sym, ap, subst, map, inl, Ok}
 use Rattle.std.proofs.lemmas.Result.{err_from_is_err_and}
-use Rattle.bench_engine.specs.Words.{Descr, Target, is_basic, item_from, offsets}
-use Rattle.view_ops.specs.Views.{View}
-use Rattle.name_store.specs.States.{Array}
+use Rattle.bench_engine.specs.Words.{Descr, item_from, offsets}
 use Rattle.bench_engine.specs.IndexLists.{taken}
 use Rattle.bench_engine.specs.Machine.{operand_part}
 use Rattle.bench_engine.specs.declared.operate.Part.TheVariants as part

@@ -1,15 +1,14 @@
-use Rattle.std.proofs.Common.{◌≡◌, ap, sym, refl, ◌∙◌, ◌++◌, inl, arith, subst, ℕ}
+use Rattle.std.proofs.Common.{◌≡◌, ap, sym, refl, ◌∙◌, inl, arith, subst, ℕ}
 use Rattle.std.proofs.lemmas.Result.{err_from_is_err_and}
-use Rattle.bench_engine.specs.Words.{Supplies, count, descr_of, written}
+use Rattle.bench_engine.specs.Words.{Supplies, descr_of, written}
 use Rattle.bench_engine.specs.Machine.{accepted_with, write_reply}
-use Rattle.bench_engine.proofs.Looks.{unchanged}
 use Rattle.bench_engine.proofs.Steps.{spare}
 use Rattle.bench_engine.proofs.write.set.Goals as goal
 
-pub returns-in_err-writing-clause-answers : goal.returns-in_err-writing-clause-answers
-returns-in_err-writing-clause-answers c =
+pub returns-in_err-writing : goal.returns-in_err-writing
+returns-in_err-writing c =
     let e = err_from_is_err_and c.from_residual.result c.from_residual.ensures.1 in
-    rw (e.1, e.2) (refl, unchanged _, c.in_err-writing.ensures)
+    rw (e.1, e.2) (refl, c.in_err-writing.ensures)
 
 pub write_items-requires : goal.write_items-requires
 write_items-requires c =
@@ -17,27 +16,23 @@ write_items-requires c =
     let leaves = is.leaves in
     record { aim = record { array = is.array; places = leaves.places; items = leaves.items; leads = leaves.leads; may_write = leaves.may_write; supplies = leaves.supplies } }
 
-pub returns-in_err-count-clause-answers : goal.returns-in_err-count-clause-answers
-returns-in_err-count-clause-answers c =
+pub returns-in_err-count : goal.returns-in_err-count
+returns-in_err-count c =
     let e = err_from_is_err_and c.from_residual-in_err-count.result c.from_residual-in_err-count.ensures.1 in
-    rw e.1 (c.in_err-count.ensures.answers.0, unchanged _, inl (e.2 ∙ c.in_err-count.ensures.answers.1, rw c.in_ok-writing.ensures.bound refl))
+    rw e.1 (c.in_err-count.ensures.answers.0, inl (e.2 ∙ c.in_err-count.ensures.answers.1, rw c.in_ok-writing.ensures.bound refl))
 
-pub push_count-requires-clause-count : goal.push_count-requires-clause-count
-push_count-requires-clause-count c =
+pub set_count-requires : goal.set_count-requires
+set_count-requires c =
     let is = c.in_ok-writing.ensures in
     omega (arith, c.in_ok-count.ensures.answers.0, is.leaves.counted, is.few)
 
-pub returns-clause-answers : goal.returns-clause-answers
-returns-clause-answers c =
+pub returns : goal.returns
+returns c =
     let s = c.args.bench.now.state in
     let is = c.in_ok-writing.ensures in
     let leaves = is.leaves in
     let done : c.write_items.new.self.state ≡ written s is.array is.part.places is.new =
     c.in_ok-count.ensures.answers.1 is.array leaves.places leaves.items leaves.leads (subst (λ (k : ℕ). Supplies s (descr_of s is.array) k c.in_ok-writing.writing.source leaves.items) (sym c.in_ok-count.ensures.answers.0) leaves.supplies) ∙ leaves.same in
-    let any = spare s in (
-      any.0,
-      any.1,
-      write_reply c.args.assignment.operation (count is.part.shape),
-      is.outcome ∙ (λ i. accepted_with (sym done i) (write_reply c.args.assignment.operation (count is.part.shape))),
-      c.push_count.ensures.told ∙ ap (λ n. c.args.out.now.items ++ (write_reply c.args.assignment.operation n)) (c.in_ok-count.ensures.answers.0 ∙ leaves.counted),
-    )
+    let any = spare s in
+    let told = c.set_count.ensures ∙ ap (write_reply c.args.assignment.operation) (c.in_ok-count.ensures.answers.0 ∙ leaves.counted) in
+    (any.0, any.1, is.outcome ∙ (λ i. accepted_with (sym done i) (sym told i)))

@@ -1,7 +1,13 @@
 use Rattle.std.proofs.Common.{sym}
-use Rattle.std.proofs.lemmas.Result.{on_err_weaker}
+use Rattle.std.proofs.lemmas.Result.{on_ok_weaker, on_err_weaker}
 use Rattle.bench_engine.proofs.Feeding.{told-in-part}
 use Rattle.bench_engine.proofs.session.Session.finish_line.Goals as goal
+
+pub returns-in-Some-clause-ok : goal.returns-in-Some-clause-ok
+returns-in-Some-clause-ok g c = on_ok_weaker c.send_print.result (λ told. told (g.N.NpyStore.shelf c.args.store.now)) c.send_print.ensures.ok
+
+pub returns-in-Some-clause-err : goal.returns-in-Some-clause-err
+returns-in-Some-clause-err g c = on_err_weaker c.send_print.result (λ told. told (g.N.NpyStore.shelf c.args.store.now)) c.send_print.ensures.err
 
 pub returns-clause-err : goal.returns-clause-err
 returns-clause-err g c =
