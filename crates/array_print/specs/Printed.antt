@@ -107,9 +107,8 @@ structure_text (RecordDescr structure) texts = in_parentheses (field_texts struc
 abbrev pub item_text : Descr → List ℕ → List LeafValue → List ℕ
 item_text descr widths values = structure_text descr (all_justified widths (leaf_texts (leaves_of descr) values))
 
--- What stands between two blocks, below an axis that has `inner` axes inside it and so many
--- brackets open before its own: a space between items, and else as many newlines as there are inner axes and
--- as many spaces as there are brackets open.
+-- What separates two blocks along an axis that has `inner` axes inside it and `brackets` brackets open before its own: a
+-- space between items, and otherwise one newline for each inner axis and one space for each open bracket.
 abbrev pub separator : ℕ → ℕ → List ℕ
 separator brackets zero = codes " "
 separator brackets (suc inner) = replicate (suc inner) 10 ++ replicate (brackets + 1) 32

@@ -2,12 +2,12 @@
 use Rattle.std.specs.Prelude.{◌≡◌, ◌≤◌, ◌*◌, ◌/◌, ◌||◌, ℕ, List, length, map, IsTrue}
 use Rattle.arrays.specs.Words.{Descr, item_size, Layout, MemoryOrder, C, Fortran, max_bytes, count, is_c_contiguous, is_f_contiguous, offsets, multiples, f_multiples, Fits, IsNested}
 
--- the offsets of items of so many bytes, one after another in this order
+-- the offsets of items of `item` bytes that are adjacent in this order
 abbrev pub offsets_in : MemoryOrder → ℕ → List ℕ → List ℕ
 offsets_in C item shape = multiples item (count shape)
 offsets_in Fortran item shape = f_multiples item shape
 
--- the places of items of so many bytes that have these offsets
+-- the places of items of `item` bytes with these offsets
 abbrev pub places_of : ℕ → List ℕ → List ℕ
 places_of item offsets = map (λ offset. offset / item) offsets
 

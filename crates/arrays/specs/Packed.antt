@@ -2,7 +2,7 @@
 use Rattle.std.specs.Prelude.{ℕ, pos, List}
 use Rattle.arrays.specs.Words.{Run, run_offsets}
 
--- n items of so many bytes, from `at` on
+-- n adjacent items of `width` bytes, starting at `at`
 abbrev pub packed_run : ℕ → ℕ → ℕ → Run
 packed_run at width n = record { offset = at; count = n; step = pos width }
 

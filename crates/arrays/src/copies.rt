@@ -1,4 +1,4 @@
-//! The items of a layout, copied to a block of their own.
+//! Copies of a layout's items in a block of their own.
 ghost use Rattle.arrays.specs.Assignments.{assigned, items_at};
 ghost use Rattle.arrays.specs.Blocks.{offsets_in};
 ghost use Rattle.arrays.specs.Words.{EachWithin, OutOfMemory, TooLarge, count, item_at, item_from, item_size, max_bytes, offsets, run_offsets};
@@ -11,7 +11,7 @@ use raw_block::RawBlock;
 use shape_strides::{Layout, MAX_BYTES, Run};
 use std::alloc::{AllocError, Global};
 
-/// The items of `width` bytes of a layout, one after another in this order in a block of their own.
+/// The items, of `width` bytes, of a layout, adjacent in this order in a block of their own.
 fn gather_in(
     alloc: Global,
     order: MemoryOrder,
@@ -34,8 +34,8 @@ fn gather_in(
     }
 }
 
-/// The items of a layout in a block of their own, which they just fill. More than `MAX_BYTES` bytes of
-/// them are too many.
+/// The items of a layout in a block of their own, which has exactly their size. More than
+/// `MAX_BYTES` bytes are refused.
 pub fn copy(
     alloc: Global,
     block: &RawBlock,
@@ -70,7 +70,8 @@ pub fn copy(
     Ok(copy)
 }
 
-/// Copies the items of `width` bytes of a run of `other` to those of a run of the block, as many.
+/// Copies the items, of `width` bytes, of a run of `other` to a run of the block with as many
+/// items.
 pub fn copy_run(block: &mut RawBlock, to: Run, other: &RawBlock, from: Run, width: usize)
     requires count { to.count ≡ from.count }
     requires to { EachWithin (length block.old) to.offset to.step width to.count }

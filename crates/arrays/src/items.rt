@@ -1,4 +1,4 @@
-//! Items that are lent: where they lie, and that they lie there.
+//! Borrowed items: a block, a layout within it, and their element type.
 ghost use Rattle.std.specs.Prelude.{◌≡◌, ◌+◌, ◌≤◌, length, All};
 ghost use Rattle.arrays.specs.Words.{item_size, offsets};
 
@@ -7,7 +7,7 @@ use elem_descr::Descr;
 use raw_block::RawBlock;
 use shape_strides::Layout;
 
-/// The items of a layout, of an element type, which lie in a block.
+/// The items of a layout, of an element type, in a block.
 #[derive(Clone, Copy, Drop)]
 pub struct Items<'a> {
     pub block: &'a RawBlock,
@@ -20,7 +20,7 @@ pub struct Items<'a> {
 impl Owned {
     ghost use Rattle.arrays.specs.ItemLists.{items, owned_items};
 
-    /// The items that lie in the block.
+    /// The items of the array, borrowed.
     pub fn items(&self) -> Items<'_>
         ensures block { result.block.now ≡ self.now.block }
         ensures layout { result.layout.now ≡ self.now.layout }

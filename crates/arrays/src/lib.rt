@@ -1,4 +1,4 @@
-//! Arrays over a block of their own, in C or Fortran order, and copies of items between blocks.
+//! Arrays that own their block, in C or Fortran order, and copies of items between blocks.
 #![tactic(auto)]
 
 mod copies;

@@ -1,4 +1,4 @@
-//! Arrays over a block of their own.
+//! Arrays that own their block.
 ghost use Rattle.std.specs.Prelude.{◌≡◌, ◌*◌, ◌≤◌, length, nat_le, replicate, if◌then◌else◌, IfOk, IfErr};
 ghost use Rattle.arrays.specs.Words.{OutOfMemory, TooLarge, item_size, C, max_bytes, count, offsets};
 ghost use Rattle.arrays.specs.Blocks.{FillsBlock, offsets_in};
@@ -8,8 +8,8 @@ use raw_block::RawBlock;
 use shape_strides::{Layout, MAX_BYTES, Shape};
 use std::alloc::{AllocError, Global};
 
-/// A block with the items that lie in it: of one descriptor, in C order or in Fortran order, from its
-/// start to its end.
+/// A block and the items in it: of one descriptor, adjacent in C order or in Fortran order, from
+/// the start of the block to its end.
 #[derive(Drop)]
 pub struct Owned {
     pub block: RawBlock,
@@ -19,7 +19,7 @@ pub struct Owned {
 }
 
 impl Owned {
-    /// An array of zero bytes, in C order. More than `MAX_BYTES` of them are too many.
+    /// An array of zero bytes, in C order. More than `MAX_BYTES` bytes are refused.
     pub fn zeroed(alloc: Global, descr: Descr, shape: &Shape) -> Result<Owned, Refusal>
         ensures descr { IfOk result (λ o. o.descr ≡ descr) }
         ensures shape { IfOk result (λ o. o.layout.shape ≡ shape.now) }
@@ -41,7 +41,7 @@ impl Owned {
         Ok(owned)
     }
 
-    /// An array over a block that its items just fill.
+    /// An array over a block that has exactly the size of its items.
     pub fn over(
         alloc: Global,
         descr: Descr,

@@ -1,4 +1,4 @@
-//! The items of a layout, one after another in a block of their own.
+//! The items of a layout, adjacent in a block of their own.
 ghost use Rattle.arrays.specs.Assignments.{assigned, items_at};
 ghost use Rattle.arrays.specs.Joined.{joined_at};
 ghost use Rattle.arrays.specs.Packed.{row_offsets};
@@ -12,8 +12,8 @@ use raw_block::{BlockBuilder, Grid, RawBlock};
 use shape_strides::{Layout, Rows, Run, Runs, StridedAxis};
 use std::alloc::{AllocError, Global};
 
-/// The run of `count` items of `width` bytes that lie one after another from `at` on, in a block of
-/// `len` bytes.
+/// The run of `count` adjacent items of `width` bytes that starts at `at` in a block of `len`
+/// bytes.
 pub fn packed_run(at: usize, width: usize, count: usize, len: usize) -> Run
     requires some { 1 ≤ count }
     requires within { at + count * width ≤ len }
@@ -28,7 +28,7 @@ pub fn packed_run(at: usize, width: usize, count: usize, len: usize) -> Run
     }
 }
 
-/// Fills the next bytes of a block with the items of `width` bytes of runs, one after another.
+/// Appends the items, of `width` bytes, of runs to a block, one after another.
 pub(crate) fn push_runs(items: &mut BlockBuilder, runs: Runs<'_>, block: &RawBlock, width: usize)
     requires from { All (λ run.
         EachWithin (length block.now) run.offset run.step width run.count) runs }
@@ -42,7 +42,7 @@ pub(crate) fn push_runs(items: &mut BlockBuilder, runs: Runs<'_>, block: &RawBlo
     }
 }
 
-/// Copies items that lie one after another from a block's start on to those of runs.
+/// Copies adjacent items from the start of a block to the items of runs.
 fn scatter_runs(block: &mut RawBlock, runs: Runs<'_>, items: &RawBlock, width: usize)
     requires some { All (λ run. 1 ≤ run.count) runs }
     requires to { All (λ run.
@@ -67,7 +67,7 @@ fn scatter_runs(block: &mut RawBlock, runs: Runs<'_>, items: &RawBlock, width: u
     }
 }
 
-/// The `len` bytes from `at` on.
+/// The `len` bytes that start at `at`.
 fn stretch(bytes: &[u8], at: usize, len: usize) -> &[u8]
     requires { at + len ≤ length bytes.now }
     ensures bytes { result.now ≡ item_at at len bytes.now }
@@ -76,7 +76,7 @@ fn stretch(bytes: &[u8], at: usize, len: usize) -> &[u8]
     &bytes[at..at + len]
 }
 
-/// `gather` of items that lie one right after another: they are copied as one stretch.
+/// `gather` for adjacent items: they are copied as one range.
 fn gather_whole(
     alloc: Global,
     block: &RawBlock,
@@ -97,7 +97,7 @@ fn gather_whole(
     RawBlock::try_copied(alloc, whole)
 }
 
-/// `gather` of items that lie otherwise: run by run, or by columns.
+/// `gather` for all other items: run by run, or by columns.
 fn gather_each(
     alloc: Global,
     block: &RawBlock,
@@ -110,16 +110,16 @@ fn gather_each(
         (λ items. items_at (multiples width (length (offsets layout.now))) width items
         ≡ items_at (offsets layout.now) width block.now) }
 {
-    // More bytes than there can be are refused as any others.
+    // More bytes than a block can have are refused like any others that cannot be allocated.
     let bytes = layout.shape.items().saturating_mul(width);
     let mut items = BlockBuilder::try_new(alloc, bytes)?;
-    // For the prover alone: the bytes that are asked for are within the limit of a block.
+    // For the prover alone: the number of bytes is within the limit of a block.
     let _filled = items.filled();
     push_layout(&mut items, layout, block, width);
     Ok(items.finish())
 }
 
-/// The items of `width` bytes of a layout, one after another in C order in a block of their own.
+/// The items, of `width` bytes, of a layout, adjacent and in C order in a block of their own.
 pub fn gather(
     alloc: Global,
     block: &RawBlock,
@@ -138,8 +138,8 @@ pub fn gather(
     gather_each(alloc, block, layout, width)
 }
 
-/// Copies items of `width` bytes that lie one after another from a block's start on to those of a
-/// layout, in C order.
+/// Copies adjacent items of `width` bytes from the start of a block to the items of a layout, in C
+/// order.
 pub fn scatter(block: &mut RawBlock, layout: &Layout, items: &RawBlock, width: usize)
     requires inside { All (λ offset. offset + width ≤ length block.old) (offsets layout.now) }
     requires items { length (offsets layout.now) * width ≤ length items.now }
@@ -151,14 +151,14 @@ pub fn scatter(block: &mut RawBlock, layout: &Layout, items: &RawBlock, width: u
     scatter_runs(block, Runs::new(layout), items, width);
 }
 
-/// Fewer rows than these are copied one by one.
+/// Fewer rows than this are copied one by one.
 const FEW: usize = 16;
 
-/// Rows of fewer items than these are short.
+/// Rows with fewer items than this are short.
 const SHORT: usize = 32;
 
-/// Whether many rows of a layout begin at equal steps and are short, or lie nearer to one another than
-/// their items do. A hint: either answer is right.
+/// Whether a layout has many rows at equal steps that are short, or closer to each other than their
+/// items are. A hint: either answer is right.
 pub fn goes_by_columns(layout: &Layout) -> bool {
     let Rows { starts, along } = layout.rows();
     let mut starts = starts;
@@ -171,7 +171,7 @@ pub fn goes_by_columns(layout: &Layout) -> bool {
     }
 }
 
-/// The grid of rows that begin at a run of offsets.
+/// The grid of the rows that begin at a run of offsets.
 fn grid_of(along: StridedAxis, starts: Run) -> Grid
     ensures { result ≡ grid_of along starts }
 {
@@ -184,8 +184,8 @@ fn grid_of(along: StridedAxis, starts: Run) -> Grid
     }
 }
 
-/// Fills the next bytes of a block with the items of `N` bytes of a layout, in C order, as many rows
-/// at a time as begin at equal steps.
+/// Appends the items, of `N` bytes, of a layout in C order. Rows that begin at equal steps are
+/// copied together.
 fn push_grids<const N: usize>(items: &mut BlockBuilder, layout: &Layout, block: &RawBlock)
     requires inside { All (λ offset. offset + N ≤ length block.now) (offsets layout.now) }
     requires room { length (offsets layout.now) * N ≤ items.old.1 }
@@ -198,7 +198,7 @@ fn push_grids<const N: usize>(items: &mut BlockBuilder, layout: &Layout, block: 
     }
 }
 
-/// Appends the items of a layout, of any width: those of unusual widths, and long rows, go run by run.
+/// Appends the items of a layout. Items of unusual widths, and long rows, are copied run by run.
 pub(crate) fn push_layout(items: &mut BlockBuilder, layout: &Layout, block: &RawBlock, width: usize)
     requires inside { All (λ offset. offset + width ≤ length block.now) (offsets layout.now) }
     requires room { length (offsets layout.now) * width ≤ items.old.1 }

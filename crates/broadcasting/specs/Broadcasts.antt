@@ -3,7 +3,7 @@ use Rattle.std.specs.Prelude.{ℕ, ◌-◌, max, ◌==◌, Bool, true, false, �
 use Rattle.std.specs.List.{list_all}
 use Rattle.broadcasting.specs.Words.{Refusal, ShapesDoNotBroadcast, ◌>>=◌, check, shape_of, View}
 
--- a shape lined up at the last of so many axes: those that it lacks come first, with length 1
+-- a shape aligned at the last of `rank` axes: missing axes come first, with length 1
 abbrev pub aligned : ℕ → List ℕ → List ℕ
 aligned rank shape = replicate (rank - length shape) 1 ++ shape
 
@@ -76,7 +76,7 @@ stretched shape target = do
 
 -- ---- stretching into a target, as an assignment does
 
--- the axes that a shape has beyond so many, which come first
+-- the number of axes beyond `rank`, which come first
 abbrev pub axes_beyond : ℕ → List ℕ → ℕ
 axes_beyond rank shape = length shape - rank
 

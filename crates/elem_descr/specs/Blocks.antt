@@ -4,7 +4,7 @@ use Rattle.elem_descr.specs.declared.descr.Descr.{Descr}
 use Rattle.elem_descr.specs.Items.{item_size, decode_item}
 use Rattle.elem_descr.specs.Values.{LeafValue}
 
--- the next n blocks of so many elements each
+-- the next n blocks of `size` elements each
 abbrev pub blocks : {A : Type 0} → ℕ → ℕ → List A → List (List A)
 blocks size zero xs = []
 blocks size (suc n) xs = take size xs ∷ blocks size n (drop size xs)

@@ -69,7 +69,7 @@ own_alignment scalar = size scalar
 abbrev pub aligned_to : Mark → ℕ → ℕ
 aligned_to mark own = if is_aligning mark then own else 1
 
--- a member without its name: a value, so many bytes of padding, or the begin of a record
+-- a member without its name: a value, padding of a number of bytes, or the beginning of a record
 pub data Member : Type 0 where
   Value : Scalar → Member
   Pad : ℕ → Member
@@ -84,12 +84,12 @@ count_of (d ∷ digits) = value_of (d ∷ digits)
 abbrev pub number_member : List ℕ → Scalar → Result Member Refusal
 number_member digits scalar = if is_empty digits then Ok (Value scalar) else Err DescriptorLeftOut
 
--- a byte string of so many bytes
+-- a byte string of n bytes
 abbrev pub text_member : ℕ → Result Member Refusal
 text_member zero = Err DescriptorLeftOut
 text_member (suc n) = Ok (Value (Bytes (suc n)))
 
--- the letters that are left out
+-- the unsupported letters
 abbrev pub is_left_out : ℕ → Bool
 is_left_out letter = is_one_of (codes "cnNPpefdgOZuwt&X(") letter
 

@@ -72,7 +72,7 @@ with_record mark p body behind = do
   bytes ← next_name p behind
   added p bytes (aligned_to mark body.alignment) (RecordDescr body.whole)
 
--- a record at its opening brace, where so many levels of records may lie
+-- a record at its opening brace, in which records may be nested this deep
 abbrev pub opened : ℕ → ℕ → Result Partial Refusal
 opened zero leaves = Err DescriptorLeftOut
 opened (suc levels) leaves = Ok (empty levels leaves)
@@ -115,7 +115,7 @@ in_record mark p around (member (Pad n) behind) = with_pad p n behind >>= λ nex
 in_record mark p around (member Opened behind) = opened p.levels p.leaves >>= λ inner. Ok (within mark inner ((mark, p) ∷ around))
 in_record mark p around (closing_brace behind) = closed_body mark p >>= λ body. closed_in around body behind
 
--- only blanks may follow: a second member is left out
+-- only blanks may follow: a second member is unsupported
 abbrev pub behind_member : Reading → PieceKind → Result Reading Refusal
 behind_member now blank = Ok now
 behind_member now (marking next) = Ok beyond

@@ -30,7 +30,7 @@ leaves_of (RecordDescr structure) = leaves_from 0 structure.fields
 abbrev pub no_leaf : Leaf
 no_leaf = record { scalar = BoolScalar; at = 0 }
 
--- a leaf so many bytes further on
+-- a leaf, `by` bytes further on
 abbrev pub moved_leaf : ℕ → Leaf → Leaf
 moved_leaf by leaf = record { scalar = leaf.scalar; at = by + leaf.at }
 

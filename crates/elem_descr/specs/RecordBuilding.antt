@@ -71,11 +71,11 @@ added p name alignment descr = do
   _ ← check (nat_le (p.leaves + length (leaves_of descr)) max_leaves) TooLarge
   if_small (with_field p name alignment descr)
 
--- so many bytes of padding are added
+-- n bytes of padding are added
 unfoldable pub widened : Partial → ℕ → Result Partial Refusal
 widened p n = if_small (record p { size = p.size + n })
 
--- a field that may lie in a record in which so many levels of records may
+-- a field that fits into a record in which records may be nested `levels` deep
 abbrev pub IsShallow : ℕ → Descr → Type 0
 IsShallow levels (ScalarDescr scalar) = Unit {0}
 IsShallow levels (RecordDescr structure) = IsLegal structure × (depth structure.fields ≤ levels)

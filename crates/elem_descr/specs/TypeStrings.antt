@@ -51,7 +51,7 @@ of_length n = if nat_eq n 0 then Err DescriptorLeftOut else if nat_le n 65536 th
 abbrev pub byte_string : List ℕ → Result Scalar Refusal
 byte_string digits = if list_all is_ascii_digit digits then of_length (value_of digits) else Err BadDescriptor
 
--- the kinds that are no numbers, and those that are left out
+-- the kinds that are not numbers, and the unsupported ones
 abbrev pub by_letter : List ℕ → Result Scalar Refusal
 by_letter [] = Err BadDescriptor
 by_letter (letter ∷ rest) =

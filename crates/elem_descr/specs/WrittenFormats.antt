@@ -36,7 +36,7 @@ written_count scalar = []
 abbrev pub written_scalar : Scalar → List ℕ
 written_scalar scalar = written_mark scalar ++ written_count scalar ++ written_letter scalar
 
--- so many bytes of padding
+-- n bytes of padding
 abbrev pub written_pad : ℕ → List ℕ
 written_pad zero = []
 written_pad (suc n) = decimal (suc n) ++ codes "x"

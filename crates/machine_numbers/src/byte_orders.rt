@@ -35,10 +35,10 @@ pub trait Ordered {
         ensures { bytes.new ≡ bytes_of order 8 bits };
 }
 
-/// The lowest byte first.
+/// Lowest byte first.
 pub struct LowFirst;
 
-/// The highest byte first.
+/// Highest byte first.
 pub struct HighFirst;
 
 #[tactic(auto, using(crate::proofs::ByteLaws::over_all))]

@@ -1,5 +1,5 @@
-//! Work on numbers whose type only a scalar tells: the one place that goes from a scalar to a Rust
-//! type.
+//! Work on numbers whose type is known only at run time, from a scalar: the one place that goes
+//! from a scalar to a Rust type.
 ghost use Rattle.elem_descr.specs.declared.scalar.Scalar.{Scalar};
 ghost use Rattle.elem_descr.specs.Encoding.{IsNumber};
 
@@ -9,13 +9,13 @@ use elem_descr::{Order, Scalar, Width};
 
 /// Work on numbers of any type, in either byte order.
 pub trait NumberTask {
-    /// What it returns.
+    /// What the work returns.
     type Out;
 
-    // What it needs of a scalar.
+    // What the work requires of a scalar.
     ghost Needs: { Self → Scalar → Type 0 };
 
-    // What then holds of what it gives.
+    // What the work ensures of its result.
     ghost Gives: { Self → Scalar → Self.Out → Type 0 };
 
     fn run<N: Number, O: Ordered>(self) -> Self::Out
@@ -23,7 +23,7 @@ pub trait NumberTask {
         ensures { Gives self (N.scalar O.order) result };
 }
 
-/// Does the work at the type that a scalar of numbers names.
+/// Does the work for the type that a scalar of numbers stands for.
 pub fn on_number<T: NumberTask>(scalar: &Scalar, task: T) -> T::Out
     requires number { IsNumber scalar.now }
     requires needs { T.Needs task scalar.now }

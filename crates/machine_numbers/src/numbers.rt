@@ -19,10 +19,10 @@ use raw_block::BlockBuilder;
 pub trait Number: Copy {
     ghost value: { Self → ℤ };
 
-    // The scalar whose values these numbers are, in a byte order. One byte has none.
+    // The scalar with these values in a byte order. One byte has no byte order.
     ghost scalar: { Order → Scalar };
 
-    /// The bytes of a number.
+    /// The size of a number in bytes.
     const WIDTH: usize;
 
     ghost WIDTH: { ℕ };
@@ -36,24 +36,24 @@ pub trait Number: Copy {
         requires { length bytes.now ≡ WIDTH }
         ensures { decode (scalar O.order) bytes.now ≡ number (value result) };
 
-    /// Writes a number over its bytes, from which it reads back.
+    /// Writes a number over its bytes. Reading them back gives the number.
     fn write<O: Ordered>(self, bytes: &mut [u8])
         requires { length bytes.old ≡ WIDTH }
         ensures bytes { bytes.new ≡ encode (scalar O.order) (number (value self)) }
         ensures value { decode (scalar O.order) bytes.new ≡ number (value self) };
 
-    /// Fills the next bytes of a block with a number, which is stored at once.
+    /// Appends a number to a block, in a single store.
     fn push<O: Ordered>(self, block: &mut BlockBuilder)
         requires { WIDTH ≤ block.old.1 }
         ensures bytes { block.new.0 ≡ block.old.0 ++ encode (scalar O.order) (number (value self)) }
         ensures left { WIDTH + block.new.1 ≡ block.old.1 };
 
-    /// The lowest 64 bits; those above its own bits are copies of its sign.
+    /// The lowest 64 bits. The bits above the number's own are copies of its sign.
     fn bits(self) -> u64
         ensures lowest { AreBits result (value self) }
         ensures exact { value self ≡ integer SIGNED 8 result };
 
-    /// The number that has the lowest of these bits, or for a bool whether any bit is set.
+    /// The number with the lowest of these bits; for a bool, whether any bit is set.
     fn of_bits(bits: u64) -> Self
         ensures { (order : Order) (z : ℤ) → AreBits bits z → value result ≡ wrap (scalar order) z };
 

@@ -6,7 +6,7 @@ use crate::byte_orders::Ordered;
 use crate::numbers::Number;
 use shape_strides::Run;
 
-/// Where the `k`-th item of a run lies.
+/// The place of the `k`-th item of a run.
 #[inline(always)]
 pub fn place(run: Run, k: usize) -> usize
     requires few { k < 2 ^ 63 }
@@ -31,7 +31,7 @@ pub struct Side<'a> {
 impl<'a> Side<'a> {
     ghost use Rattle.machine_numbers.specs.Sides.{AreSame, item_in, number_of_side};
 
-    /// These items, whose step is known to be this one.
+    /// The same items, with a step that the compiler knows.
     #[inline(always)]
     pub fn with_step(self, step: isize) -> Side<'a>
         requires { self.run.step ≡ step }

@@ -8,7 +8,7 @@ abbrev pub IsElementType : Descr → Type 0
 IsElementType (ScalarDescr scalar) = 1 ≤ size scalar
 IsElementType (RecordDescr structure) = IsLegal structure
 
--- the block has so many items and no other byte
+-- the block has `items` items and no other byte
 pub record HasJustItems (descr : Descr) (items : ℕ) (block : List ℕ) : Type 0 where
   pub legal : IsElementType descr
   pub whole : length block ≡ items * item_size descr

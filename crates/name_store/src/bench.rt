@@ -11,12 +11,12 @@ use elem_descr::{Name, Refusal};
 use std::alloc::{AllocError, Global};
 use std::marker::Model;
 
-/// The most names that are bound at one time.
+/// The most names that can be bound at a time.
 const MAX_NAMES: usize = 1024;
 
-/// Named arrays and their buffers, seen as a state: the names in the order in which they were
-/// first bound, the buffers by their numbers, and the states that are kept, each with the bytes of old
-/// items that are held for it.
+/// Named arrays and their buffers. A contract sees them as a state: the names in the order in which
+/// they were first bound, the buffers by their numbers, and the kept states, each with the number
+/// of bytes of old items that it takes.
 #[derive(Drop)]
 pub struct Bench {
     alloc: Global,
@@ -51,8 +51,7 @@ impl Bench {
     ghost use Rattle.name_store.specs.Targets.{IsAim};
     ghost use Rattle.name_store.specs.Views.{MayBind};
 
-    /// Makes a bench on which no name is bound, and that keeps so many earlier states. One that keeps
-    /// none takes no memory.
+    /// A bench without names that keeps `depth` earlier states. With depth 0, it takes no memory.
     pub fn try_new(alloc: Global, depth: usize) -> Result<Bench, AllocError>
         requires { depth ≤ 64 }
         ensures empty { IfOk result (λ bench. bench.state ≡ start depth) }
@@ -82,15 +81,15 @@ impl Bench {
         })
     }
 
-    /// Whether a name may be bound: it is, or fewer than 1,024 are.
+    /// Whether a name can be bound: it is bound already, or fewer than 1,024 names are.
     pub fn has_room_for(&self, name: &Name) -> bool
         ensures { result ≡ has_room_for self.now.state name.now }
     {
         self.table.names.len() < MAX_NAMES || self.table.names.contains_key(name)
     }
 
-    /// Binds a name. One that is bound keeps its place among the names. A view may be one of the
-    /// array that the name itself was bound to.
+    /// Binds a name. If it was bound before, it keeps its place among the names. A view may be of
+    /// the array that the name was bound to.
     pub fn bind(&mut self, alloc: Global, name: &Name, bound: Bound) -> Result<(), Refusal>
         requires { MayBind self.old.state bound }
         ensures answers { AnswersBind self.old.state name.now bound result self.new.state }
@@ -110,8 +109,8 @@ impl Bench {
         Ok(())
     }
 
-    /// Writes items to places of a name's array, and answers how many. It asks for all memory before
-    /// the first change.
+    /// Writes items to places of a name's array, and returns how many. All memory is allocated
+    /// before the first change.
     pub fn write_items(
         &mut self,
         alloc: Global,
@@ -140,7 +139,7 @@ impl Bench {
         Ok(count)
     }
 
-    /// Unbinds a name. The names after it close up. It takes memory only to keep the state before.
+    /// Unbinds a name. It takes memory only to keep the state before.
     pub fn unbind(&mut self, alloc: Global, name: &Name) -> Result<(), Refusal>
         ensures answers { AnswersUnbind self.old.state name.now result self.new.state }
         ensures patches { Counts 0 self.old result self.new }
@@ -159,7 +158,7 @@ impl Bench {
         Ok(())
     }
 
-    /// Goes back to the state that was kept last. It takes no memory.
+    /// Goes back to the last state that was kept. It takes no memory.
     pub fn undo(&mut self) -> Result<(), Refusal>
         ensures answers { AnswersUndo self.old.state result self.new.state }
         ensures patches { CountsUndo self.old result self.new }
@@ -173,16 +172,15 @@ impl Bench {
         }
     }
 
-    /// The bytes of old items that are held to go back to the k-th of the states that are kept, counted
-    /// from 0, the oldest first.
+    /// How many bytes of old items are kept for the k-th kept state, counted from 0, oldest first.
     pub fn patch_bytes(&self, k: usize) -> Option<usize>
         ensures { result ≡ slice_get self.now.patches k }
     {
         Some(self.history.get(k)?.patch_size())
     }
 
-    /// Whether the arrays of two names share cells. A name that is not bound is refused before any
-    /// memory is asked for.
+    /// Whether the arrays of two names share cells. Unknown names are refused before any memory is
+    /// allocated.
     pub fn shares(&self, alloc: Global, left: &Name, right: &Name) -> Result<bool, Refusal>
         ensures answers { AnswersShares self.now.state left.now right.now result }
         ensures no_memory { LieInTwo self.now.state left.now right.now → IsOk result }
@@ -198,7 +196,7 @@ impl Bench {
         self.table.names.len()
     }
 
-    /// The name that was bound as the k-th, counted from 0.
+    /// The k-th name in the order in which they were first bound, counted from 0.
     pub fn name_at(&self, k: usize) -> &[u8]
         requires { k < length self.now.state.names }
         ensures { option_map (λ entry. entry.0) (slice_get self.now.state.names k)

@@ -1,4 +1,4 @@
-//! What a name is bound to: its entry in the table, and the array that a look-up finds.
+//! What a name is bound to: its entry in the table, and the array that a lookup returns.
 
 use crate::path::Path;
 use arrays::Owned;
@@ -6,9 +6,9 @@ use elem_descr::Descr;
 use raw_block::RawBlock;
 use shape_strides::Layout;
 
-/// What a name is bound to: an array with a block of its own, or a view in a buffer that is there, by
-/// the number of the buffer, the path to the part that it has of each item, and a layout whose offsets
-/// are bytes in the buffer's block.
+/// What a name is bound to: a new array with a block of its own, or a view of an existing buffer. A
+/// view has the number of the buffer, the path to the part of each item that it shows, and a layout
+/// with offsets in bytes of the buffer's block.
 #[derive(Drop)]
 pub enum Bound {
     Fresh(Owned),
@@ -20,8 +20,8 @@ pub enum Bound {
     },
 }
 
-/// The array of a name: the number of its buffer, the path to the part that it has of each item, where
-/// in the buffer its items lie, and the bytes of an item of the buffer.
+/// The array of a name: the number of its buffer, the path to the part of each item that it shows,
+/// its layout in the buffer, and the size of the buffer's items.
 #[derive(Drop)]
 pub struct Entry {
     pub number: usize,
@@ -31,8 +31,8 @@ pub struct Entry {
     pub writable: bool,
 }
 
-/// A name's array: its element type, its buffer's block and number, the path to the part that it has
-/// of each item of the buffer, and where in the block its items lie.
+/// A name's array: its element type, the block and the number of its buffer, the path to the part
+/// of each item that it shows, and its layout in the block.
 #[derive(Drop)]
 pub struct ArrayRef<'a> {
     pub block: &'a RawBlock,

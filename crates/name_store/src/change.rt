@@ -1,4 +1,4 @@
-//! What undoes a change of the bench.
+//! Changes of the bench, as `undo` needs them.
 ghost use Rattle.std.specs.Prelude.{◌≡◌};
 ghost use Rattle.name_store.specs.Kept.{patch_size};
 
@@ -7,24 +7,24 @@ use crate::write::Target;
 use elem_descr::Name;
 use raw_block::RawBlock;
 
-/// Items of `width` bytes, one after another.
+/// Adjacent items of `width` bytes.
 #[derive(Drop)]
 pub struct OldItems {
     pub block: RawBlock,
     pub width: usize,
 }
 
-/// A change of the bench, by what is needed to undo it. An array that it has holds its buffer. A
-/// write holds none: a name uses its buffer then, and the later change that ends this use holds the
-/// buffer until after the write is forgotten.
+/// A change of the bench, with all that is needed to undo it. A binding that it has keeps its
+/// buffer alive. A write keeps no buffer alive: a name uses the buffer at that time, and the later
+/// change that ends this use keeps it alive until after the write is forgotten.
 #[derive(Drop)]
 pub enum Change {
-    /// A name was bound: what it was bound to before, if it was.
+    /// A name was bound: what it was bound to before, if anything.
     Bind {
         key: Name,
         earlier: Option<Entry>,
     },
-    /// A name was unbound: where it stood among the names, and its array.
+    /// A name was unbound: its place among the names, and its array.
     Unbind {
         place: usize,
         key: Name,
@@ -39,7 +39,7 @@ pub enum Change {
 }
 
 impl Change {
-    /// The bytes of the old items.
+    /// How many bytes the old items have.
     pub(crate) fn patch_size(&self) -> usize
         ensures { result ≡ patch_size self.now }
     {

@@ -15,8 +15,7 @@ use indexmap::IndexMap;
 use std::alloc::{AllocError, Global};
 use std::marker::Model;
 
-/// The changes that can be undone, the oldest first, and at most so many. Where that is none, there is
-/// no block for them.
+/// The changes that can be undone, oldest first, up to a limit. With limit 0, it takes no memory.
 #[derive(Drop)]
 pub struct History {
     ring: Option<HeapCircularBuffer<Change>>,
@@ -33,7 +32,7 @@ impl Model for History {
 }
 
 impl History {
-    /// None yet, and at most so many.
+    /// An empty history with this limit.
     pub(crate) fn try_new(alloc: Global, depth: usize) -> Result<History, AllocError>
         ensures empty { IfOk result (λ history. history ≡ buffer [] depth) }
         ensures no_memory { depth ≡ 0 → IsOk result }
@@ -45,7 +44,7 @@ impl History {
         Ok(History { ring: Some(ring) })
     }
 
-    /// How many are kept at most.
+    /// The limit.
     pub(crate) fn capacity(&self) -> usize
         ensures capacity { result ≡ self.now.capacity }
         ensures within { (length self.now.items ≤ result) × (result < 2 ^ 63) }
@@ -56,7 +55,7 @@ impl History {
         }
     }
 
-    /// How many are kept.
+    /// How many changes are kept.
     pub(crate) fn len(&self) -> usize
         ensures len { result ≡ length self.now.items }
         ensures within { (result ≤ self.now.capacity) × (self.now.capacity < 2 ^ 63) }
@@ -67,7 +66,7 @@ impl History {
         }
     }
 
-    /// The k-th, counted from 0, the oldest first.
+    /// The k-th change, counted from 0, oldest first.
     pub(crate) fn get(&self, k: usize) -> Option<&Change>
         ensures { option_copied result ≡ slice_get self.now.items k }
     {
@@ -77,7 +76,7 @@ impl History {
         }
     }
 
-    /// Keeps one more. Where as many are kept as can be, the oldest is handed out.
+    /// Adds a change. If the history is full, its oldest change is removed and returned.
     pub(crate) fn push(&mut self, change: Change) -> Option<Change>
         ensures items { self.new
             ≡ buffer (keep_last self.old.capacity (self.old.items ++ change ∷ []))
@@ -92,7 +91,7 @@ impl History {
         }
     }
 
-    /// Hands out the last.
+    /// Removes and returns the last change.
     pub(crate) fn pop(&mut self) -> Option<Change>
         ensures value { result ≡ last_item self.old.items }
         ensures items { self.new
@@ -105,8 +104,8 @@ impl History {
     }
 }
 
-/// Makes room among the names to undo each change that the history keeps and one more, and to bind so
-/// many names more.
+/// Makes room among the names to undo every change of the history and one more, and to bind `more`
+/// new names.
 pub(crate) fn make_room(
     names: &mut IndexMap<Name, Entry>,
     history: &History,
@@ -126,8 +125,8 @@ pub(crate) fn make_room(
     names.reserve(changes + more)
 }
 
-/// Keeps a change that was made. A full history forgets its oldest change, which lets go the buffer that
-/// it held.
+/// Adds a change. A full history forgets its oldest change, and the buffer that this change kept
+/// alive loses a user.
 pub(crate) fn keep(slots: &mut Slots, history: &mut History, change: Change)
     requires held { (q : ℕ) → all_pins q (history.old.items ++ change ∷ [])
         ≤ users_at slots.old.cells.items q }

@@ -1,5 +1,5 @@
 //! A bench of named arrays: the names in the order in which they were first bound, and the buffers
-//! that their arrays lie in.
+//! of their arrays.
 #![tactic(auto)]
 
 mod bench;

@@ -5,8 +5,8 @@ ghost use Rattle.name_store.specs.Parts.{IsPathOf, descr_at};
 use elem_descr::{Descr, MAX_DEPTH};
 use std::marker::Model;
 
-/// The numbers of the fields that lead to a part of an item, the outermost first: none for the whole,
-/// and at most as many as records may lie one within another.
+/// The numbers of the fields that lead to a part of an item, outermost first. The path to the whole
+/// item is empty, and a path has at most as many fields as records can be nested.
 #[derive(Clone, Copy)]
 pub struct Path {
     numbers: [usize; MAX_DEPTH],
@@ -40,7 +40,7 @@ impl Path {
         }
     }
 
-    /// The path to a field of what this one leads to.
+    /// The path to a field of the part that this path leads to.
     pub fn then(self, field: usize) -> Path
         requires { length self < 4 }
         ensures { result ≡ self ++ field ∷ [] }
@@ -59,7 +59,7 @@ impl Path {
         &self.numbers[..self.len]
     }
 
-    /// The element type of what the path leads to, in items of this one.
+    /// The element type of the part that the path leads to, in items of this type.
     pub fn descr_in<'a>(&self, whole: &'a Descr) -> &'a Descr
         requires { IsPathOf whole.now self.now }
         ensures { result.now ≡ descr_at whole.now self.now }

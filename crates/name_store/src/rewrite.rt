@@ -40,8 +40,8 @@ fn fill_each(block: &mut RawBlock, layout: &Layout, item: &[u8])
     }
 }
 
-/// Writes the bytes of an item at the offsets of a layout, which are gone over as they lie in memory
-/// where they are apart.
+/// Writes the bytes of an item at the offsets of a layout, in the order of memory if the items do
+/// not overlap.
 fn fill_layout(alloc: Global, block: &mut RawBlock, layout: &Layout, item: &[u8])
     requires { All (λ offset. offset + length item.now ≤ length block.old) (offsets layout.now) }
     ensures bytes { block.new ≡ put_each (offsets layout.now) item.now block.old }
@@ -93,7 +93,7 @@ pub(crate) fn copy_to(
     }
 }
 
-/// Whether the items of one layout lie as those of the other do, some bytes further on or back.
+/// Whether two layouts differ in their first offset only.
 fn have_same_strides(to: &Layout, from: &Layout) -> bool
     ensures shape { IsTrue result → from.now.shape ≡ to.now.shape }
     ensures strides { IsTrue result → from.now.strides ≡ to.now.strides }
@@ -103,7 +103,7 @@ fn have_same_strides(to: &Layout, from: &Layout) -> bool
     from.shape.as_slice() == to.shape.as_slice() && from.strides.as_slice() == to.strides.as_slice()
 }
 
-/// Whether, besides, no axis steps into what the others reach.
+/// Whether, besides, no axis steps into the range of the others.
 fn are_shifted(to: &Layout, from: &Layout, width: usize) -> bool
     requires { 1 ≤ width }
     ensures sound { IsTrue result → AreShifted to.now from.now width }
@@ -112,8 +112,8 @@ fn are_shifted(to: &Layout, from: &Layout, width: usize) -> bool
     have_same_strides(to, from) && to.is_stacked(width)
 }
 
-/// The items of a target become those of a layout in the same block as they were before. All memory
-/// is asked for before the first change.
+/// Copies the items of a layout to a target in the same block; each is read as it was before. All
+/// memory is allocated before the first change.
 pub(crate) fn move_to(
     alloc: Global,
     block: &mut RawBlock,
@@ -148,7 +148,7 @@ pub(crate) fn move_to(
     }
 }
 
-/// The items of a target, one after another.
+/// The items of a target, adjacent in a block of their own.
 pub(crate) fn old_items(
     alloc: Global,
     block: &RawBlock,
@@ -165,7 +165,7 @@ pub(crate) fn old_items(
     Ok(OldItems { block, width })
 }
 
-/// Writes items that lie one after another to a target.
+/// Writes adjacent items to a target.
 pub(crate) fn put_back(block: &mut RawBlock, target: &Target, items: &OldItems)
     requires inside { All (λ offset. offset + items.now.width ≤ length block.old)
         (target_offsets target.now) }

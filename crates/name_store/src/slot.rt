@@ -6,8 +6,8 @@ ghost use Rattle.name_store.specs.inside.Props.{IsWhole-prop};
 use elem_descr::Descr;
 use raw_block::RawBlock;
 
-/// A buffer: so many items of one element type, one after another in a block, and how many names and
-/// changes hold it.
+/// A buffer: adjacent items of one element type in a block, and the number of names and changes
+/// that use it.
 #[derive(Drop)]
 pub struct Slot {
     pub descr: Descr,

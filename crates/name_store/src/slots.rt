@@ -1,4 +1,4 @@
-//! The slots, in which buffers stand by their numbers.
+//! The slots of the buffers, by number.
 ghost use Rattle.std.specs.Prelude.{◌≡◌, ◌≤◌, ◌<◌, ℕ, nat_eq, true, is_some, length, Some, None, if◌then◌else◌, vec_len, vec_capacity};
 ghost use Rattle.name_store.specs.View.{slot_at};
 ghost use Rattle.name_store.specs.inside.Held.{IsLowest, IsLowest-prop};
@@ -6,7 +6,7 @@ ghost use Rattle.name_store.specs.inside.Held.{IsLowest, IsLowest-prop};
 use crate::slot::Slot;
 use std::alloc::{AllocError, Global};
 
-/// The buffers by their numbers. No number below the lowest is free.
+/// The buffers by their numbers. No number below `lowest` is free.
 #[derive(Drop)]
 pub struct Slots {
     pub cells: Vec<Option<Slot>>,
@@ -14,7 +14,7 @@ pub struct Slots {
     ghost taken: { IsLowest cells.items lowest } by { IsLowest-prop cells.items lowest },
 }
 
-/// The first slot that is free, from one of them on, or the next one.
+/// The first free slot from one of them on, or the one after the last.
 fn first_free(cells: &[Option<Slot>], from: usize) -> usize
     requires { from ≤ length cells.now }
     ensures free { slot_at cells.now result ≡ None }
@@ -30,7 +30,7 @@ fn first_free(cells: &[Option<Slot>], from: usize) -> usize
     cells.len()
 }
 
-/// Puts a buffer in the slot with this number, which is one of those that are there or the next one.
+/// Puts a buffer in the slot with this number, which is an existing slot or the one after the last.
 fn put_slot(cells: &mut Vec<Option<Slot>>, number: usize, slot: Slot)
     requires number { number ≤ vec_len cells.old }
     requires room { vec_len cells.old < vec_capacity cells.old }
@@ -61,7 +61,7 @@ impl Slots {
         }
     }
 
-    /// Puts a buffer in the first slot that is free, and answers its number.
+    /// Puts a buffer in the first free slot, and returns its number.
     pub(crate) fn add(&mut self, slot: Slot) -> Result<usize, AllocError>
         ensures adds { IfOk result
             (λ number. Adds self.old.cells.items slot number self.new.cells.items) }
@@ -82,7 +82,7 @@ impl Slots {
         self.cells[number].as_ref().unwrap()
     }
 
-    /// One more holds the buffer with this number.
+    /// Counts one more user of the buffer with this number.
     pub(crate) fn share(&mut self, number: usize)
         requires there { 1 ≤ users_at self.old.cells.items number }
         requires few { users_at self.old.cells.items number < usize.MAX }
@@ -95,8 +95,8 @@ impl Slots {
         slot.users += 1;
     }
 
-    /// Lets one fewer hold the buffer with this number. The last that lets it go frees the buffer, and
-    /// empties its slot.
+    /// Counts one user less of the buffer with this number. Without users the buffer is freed, and
+    /// its slot is empty.
     pub(crate) fn release(&mut self, number: usize)
         requires { 1 ≤ users_at self.old.cells.items number }
         ensures users { (other : ℕ) → users_at self.new.cells.items other + one_at other number

@@ -1,4 +1,4 @@
-//! Names and the slots that their arrays lie in.
+//! Names, and the slots of their arrays.
 ghost use Rattle.std.specs.Prelude.{◌≡◌};
 ghost use Rattle.name_store.specs.Invariants.{Holds};
 ghost use Rattle.name_store.specs.Places.{IsElementType};
@@ -18,15 +18,15 @@ use indexmap::IndexMap;
 use overlap_copy::share_cell;
 use std::alloc::{AllocError, Global};
 
-/// Where an array lies: the number of its buffer, and how many bytes each of its items has.
+/// Where an array is: the number of its buffer, and the size of its items.
 #[derive(Clone, Copy)]
 pub struct Home {
     pub number: usize,
     pub width: usize,
 }
 
-/// Names and their arrays, in the order in which the names were first bound, and the buffers that the
-/// arrays lie in, by their numbers.
+/// Names and their arrays, in the order in which the names were first bound, and the buffers of the
+/// arrays, by number.
 #[derive(Drop)]
 pub struct Table {
     pub names: IndexMap<Name, Entry>,
@@ -34,7 +34,8 @@ pub struct Table {
     ghost holds: { Holds names.entries slots.cells.items } by { Holds-prop names.entries slots.cells.items },
 }
 
-/// The bytes of an item, with what is known of the sizes and offsets of the fields.
+/// The size of an item. The contract also says what the prover needs of the sizes and offsets of
+/// fields.
 fn legal_size(descr: &Descr) -> usize
     ensures value { result ≡ item_size descr.now }
     ensures legal { IsElementType descr.now }
@@ -70,7 +71,7 @@ impl Table {
         }
     }
 
-    /// Where the array of a name lies that is bound.
+    /// Where the array of a bound name is.
     pub(crate) fn home(&self, key: &Name) -> Home
         requires { is_bound (table_state self.now) key.now ≡ true }
         ensures { IsHome self.now.names.entries self.now.slots.cells.items key.now
@@ -84,8 +85,8 @@ impl Table {
         }
     }
 
-    /// Whether the arrays of two names share cells. Arrays in two buffers share none, and only for those
-    /// in one is memory asked for.
+    /// Whether the arrays of two names share cells. Memory may be needed only if both are in the
+    /// same buffer.
     pub(crate) fn shares(&self, alloc: Global, left: &Name, right: &Name) -> Result<bool, Refusal>
         ensures answers { AnswersShares (table_state self.now) left.now
             right.now result }
@@ -112,8 +113,8 @@ impl Table {
         Ok(has_common)
     }
 
-    /// Makes an entry for what a name is to be bound to, and lets one more hold its buffer. A fresh
-    /// array gets a slot of its own: only this takes memory, before anything changes.
+    /// Makes an entry for what a name will be bound to, and counts one more user of its buffer. A
+    /// new array gets a slot of its own: only this takes memory, before anything changes.
     fn lodge(&mut self, bound: Bound) -> Result<Entry, AllocError>
         requires may { MayBind (table_state self.old) bound }
         requires few { (q : ℕ) → users_at self.old.slots.cells.items q < usize.MAX }
@@ -166,7 +167,7 @@ impl Table {
         }
     }
 
-    /// Binds a name, and answers what it was bound to.
+    /// Binds a name, and returns what it was bound to before.
     pub(crate) fn bind(&mut self, key: Name, bound: Bound) -> Result<Option<Entry>, AllocError>
         requires room { has_room_for (table_state self.old) key ≡ true }
         requires spare { 0 < spare self.old.names }
@@ -184,8 +185,8 @@ impl Table {
         Ok(self.names.insert(key, entry).unwrap())
     }
 
-    /// Undoes a change, and frees a buffer that nothing holds any more. It asks for no memory:
-    /// `make_room` took the room for a name that comes back, before the change.
+    /// Undoes a change, and frees a buffer that has no users left. It takes no memory: the room for
+    /// a name that comes back was made by `make_room` before the change.
     pub(crate) fn undo(&mut self, change: Change)
         requires can { CanUndo self.old change }
         ensures { IsUndone self.old change self.new }
@@ -214,7 +215,7 @@ impl Table {
         }
     }
 
-    /// Binds a name to the array that it was bound to before.
+    /// Binds a name to its earlier array.
     fn undo_rebinding(&mut self, key: Name, earlier: Entry)
         requires can { CanUndo self.old (Bind key (Some earlier)) }
         ensures { IsUndone self.old (Bind key (Some earlier)) self.new }
@@ -224,7 +225,7 @@ impl Table {
         }
     }
 
-    /// Binds a name again, in its place among the names.
+    /// Binds a name again, at its earlier place among the names.
     fn undo_unbinding(&mut self, place: usize, key: Name, entry: Entry)
         requires can { CanUndo self.old (Unbind place key entry) }
         ensures { IsUndone self.old (Unbind place key entry) self.new }

@@ -1,5 +1,4 @@
-//! What is written, and where. Writes items to the places of a target in a buffer, and hands out the
-//! old ones if they are kept.
+//! Writes items to the places of a target in a buffer, and returns the old ones if they are kept.
 ghost use Rattle.name_store.specs.Targets.{target_offsets, target_shape};
 ghost use Rattle.name_store.specs.View.{slot_at};
 ghost use Rattle.name_store.specs.Words.{is_c_contiguous, item_size, items_at, offsets, put_each};
@@ -23,16 +22,16 @@ use smallvec::SmallVec;
 use std::alloc::{AllocError, Global};
 use std::mem::swap;
 
-/// Items of fewer bytes are still near when they are gone over again.
+/// Fewer bytes than this are still in the cache on a second pass.
 const MANY_BYTES: usize = 32_768;
 
-/// Where in a name's array items are written.
+/// The places of a name's array where items are written.
 #[derive(Drop)]
 pub enum Target {
-    /// A layout whose items are items of the array.
+    /// A view of the array.
     View(Layout),
-    /// The items that an index list with arrays takes of it. Where one of them is taken more than
-    /// once, the last that is written stands.
+    /// The items that an index list with arrays selects. If an item is selected more than once, the
+    /// last write stands.
     Plan(Plan),
 }
 
@@ -47,7 +46,7 @@ impl Target {
         }
     }
 
-    /// How many items they are.
+    /// How many items there are.
     pub(crate) fn count(&self) -> usize
         ensures { result ≡ length (target_offsets self.now) }
     {
@@ -58,18 +57,18 @@ impl Target {
     }
 }
 
-/// What is written. An item of a block or of a buffer is of the same bytes as one of the target.
+/// The items to write. They have the element type of the target.
 #[derive(Drop)]
 pub enum Source {
-    /// The bytes of one item, for every place.
+    /// The bytes of one item, which is written to every place.
     One(SmallVec<u8, 16>),
-    /// The items of a block of its own, one for each place.
+    /// An array that owns its block, with one item for each place.
     Block(Owned),
-    /// Items of the buffer with this number, one for each place: those where a layout says.
+    /// The items of a layout in the buffer with this number, one for each place.
     Buffer(u64, Layout),
 }
 
-/// What a write needs beside the block that it changes: how many bytes an item has, and the other
+/// What a write needs besides the block that it changes: the size of an item, and the other
 /// buffers, from which items may come.
 #[derive(Clone, Copy)]
 pub struct Beside<'a> {
@@ -77,7 +76,7 @@ pub struct Beside<'a> {
     pub others: &'a [Option<Slot>],
 }
 
-/// Whether the items of a target are all those of a block, one after another.
+/// Whether a target is the whole block, in order.
 fn is_all(block: &RawBlock, target: &Target, width: usize) -> bool
     ensures { IsTrue result → AreAll width block.now (target_offsets target.now) }
 {
@@ -89,7 +88,7 @@ fn is_all(block: &RawBlock, target: &Target, width: usize) -> bool
     }
 }
 
-/// Whether the items lie in a block of their own, one after another.
+/// Whether the items are adjacent in a block of their own.
 fn are_packed(source: &Source, width: usize) -> bool
     ensures { result ≡ are_packed width source.now }
 {
@@ -99,7 +98,7 @@ fn are_packed(source: &Source, width: usize) -> bool
     }
 }
 
-/// A block of one item, over and over.
+/// A block with copies of one item.
 fn repeated(alloc: Global, item: &[u8], count: usize) -> Result<RawBlock, AllocError>
     ensures { IfOk result (IsPacked count (length item.now) (replicate count item.now)) }
 {
@@ -109,7 +108,7 @@ fn repeated(alloc: Global, item: &[u8], count: usize) -> Result<RawBlock, AllocE
     Ok(items.finish())
 }
 
-/// A block of the items of an array, which is its own where they lie one after another.
+/// A block with the items of an array. It is the array's own block if they are adjacent in it.
 fn own_block(alloc: Global, owned: Owned, width: usize) -> Result<RawBlock, AllocError>
     requires width { item_size owned.descr ≡ width }
     ensures packed { IfOk result (IsPacked (length (offsets owned.layout)) width
@@ -127,7 +126,8 @@ fn own_block(alloc: Global, owned: Owned, width: usize) -> Result<RawBlock, Allo
     Ok(block)
 }
 
-/// The block of the buffer with a number: the one that is written is not among the others.
+/// The block of the buffer with this number. The buffer that is being written is not among the
+/// others.
 fn block_of<'a>(others: &'a [Option<Slot>], number: u64, block: &'a RawBlock) -> &'a RawBlock
     requires { number < length others.now }
     ensures { result.now ≡ block_from (slot_at others.now number) block.now }
@@ -138,7 +138,7 @@ fn block_of<'a>(others: &'a [Option<Slot>], number: u64, block: &'a RawBlock) ->
     }
 }
 
-/// A block of so many items, one after another.
+/// A block with the items to write, adjacent.
 fn packed(
     alloc: Global,
     block: &RawBlock,
@@ -161,8 +161,8 @@ fn packed(
     }
 }
 
-/// Puts a block of the items in the place of the whole block, and hands this out. Memory is asked
-/// for before the change, and only where the items are in no block of their own.
+/// Replaces the whole block by a block with the items to write, and returns the old one. Memory is
+/// allocated before the change, and only if the items are not in a block of their own.
 fn replace(
     alloc: Global,
     block: &mut RawBlock,
@@ -186,8 +186,8 @@ fn replace(
     })
 }
 
-/// Copies the items to the target's places. Only where they are of the buffer itself, and cannot move
-/// in place, is memory asked for, and before the first change.
+/// Copies the items to the target. Memory is needed only if they are in the same buffer and cannot
+/// be moved in place; it is allocated before the first change.
 fn copy_items(
     alloc: Global,
     block: &mut RawBlock,
@@ -214,7 +214,7 @@ fn copy_items(
     Ok(())
 }
 
-/// Writes the items to the target's places. Their block takes the place of the whole one if it can.
+/// Writes the items to the target. If possible, their block replaces the whole block.
 fn put_items(
     alloc: Global,
     block: &mut RawBlock,
@@ -236,7 +236,7 @@ fn put_items(
     copy_items(alloc, block, beside, target, &source)
 }
 
-/// The places of a view as they lie in memory, where that is another order.
+/// The places of a view in the order of memory, if that is another order.
 fn near(alloc: Global, target: &Target, width: usize) -> Option<Target>
     ensures moved { IfSome result (λ t.
         IsPermutation (target_offsets target.now) (target_offsets t)) }
@@ -264,16 +264,16 @@ fn near(alloc: Global, target: &Target, width: usize) -> Option<Target>
     }
 }
 
-/// Whether the items of a view are written part by part as the old ones are taken, so that they are
-/// still near: many of them, in long rows, and not one after another. A hint: either answer is right.
+/// Whether the items of a view are kept and written part by part, so that each part is still in the
+/// cache: if there are many of them, in long rows, and not adjacent. A hint: either answer is
+/// right.
 fn goes_by_parts(layout: &Layout, width: usize) -> bool {
     layout.shape.items().saturating_mul(width) >= MANY_BYTES
         && !layout.is_c(width)
         && !goes_by_columns(layout)
 }
 
-/// Copies the items to the target's places once copies of all the old ones are made, and hands out
-/// these.
+/// Copies all old items, then writes the new ones to the target, and returns the old ones.
 fn copy_after(
     alloc: Global,
     block: &mut RawBlock,
@@ -292,8 +292,8 @@ fn copy_after(
     Ok(old)
 }
 
-/// Copies the items to the target's places, and hands out copies of the old ones: in one pass if they
-/// are many, and one item over and over or those of another buffer.
+/// Writes the items to the target, and returns copies of the old ones. This is a single pass if
+/// there are many items, and they are copies of one item or come from another buffer.
 fn copy_over(
     alloc: Global,
     block: &mut RawBlock,
@@ -326,8 +326,8 @@ fn copy_over(
     }
 }
 
-/// Exchanges the items of a view with those of a block of its own where these lie one after another,
-/// which takes no memory, and copies others.
+/// Exchanges the items of a view with adjacent items in a block of their own, which takes no
+/// memory; other items are copied.
 fn trade_over(
     alloc: Global,
     block: &mut RawBlock,
@@ -359,9 +359,9 @@ fn trade_over(
     }
 }
 
-/// Writes the items to the target's places, and hands out the old ones: the whole block where they
-/// are all of its items, the block of the new ones where these lie one after another in one of their
-/// own, else copies of them. All memory is asked for before the first change.
+/// Writes the items to the target, and returns the old ones: the old block if the target is the
+/// whole block, the block of the new items if these are adjacent in a block of their own, and
+/// otherwise copies. All memory is allocated before the first change.
 fn put_over(
     alloc: Global,
     block: &mut RawBlock,
@@ -391,9 +391,8 @@ pub struct Overwritten {
     pub items: OldItems,
 }
 
-/// Writes the items to the target's places. If the old ones are to be kept, hands out these with the
-/// places in the order in which they lie one after another: that of memory, unless they come in
-/// exchange for those of a block.
+/// Writes the items to the target. If the old ones are to be kept, returns them with their places
+/// in the same order: the order of memory, unless they were exchanged with the items of a block.
 fn put_near(
     alloc: Global,
     block: &mut RawBlock,
@@ -446,8 +445,8 @@ fn put_near(
 }
 
 /// Writes items to places of a buffer, whose slot is taken out meanwhile. If the old ones are to be
-/// kept, hands out these, with the target's places in their order. All memory is asked for before the
-/// first change.
+/// kept, returns them with their places in the same order. All memory is allocated before the first
+/// change.
 pub(crate) fn write_items(
     alloc: Global,
     cells: &mut Vec<Option<Slot>>,

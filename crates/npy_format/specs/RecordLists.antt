@@ -14,7 +14,7 @@ pad_kind (b ∷ digits) =
     if nat_eq b 86 && not (is_empty digits) && list_all is_ascii_digit digits then Ok (value_of digits)
     else Err DescriptorLeftOut
 
--- under the name '': a mark or none, V and digits are so many bytes of padding
+-- an entry with the name '': an optional mark, V and the number of bytes of padding
 abbrev pub pad_in : Partial → Literal → Result Partial Refusal
 pad_in p (Plain (Text text)) = pad_kind (marked text).1 >>= widened p
 pad_in p other = Err DescriptorLeftOut
@@ -29,7 +29,7 @@ type_in record_in (Plain (Text text)) = scalar_in text
 type_in record_in (Row Square values) = record_in (value_literals values) >>= λ whole. Ok (RecordDescr whole)
 type_in record_in other = Err DescriptorLeftOut
 
--- what reads the fields of a record, after so many leaves of the whole type
+-- reads the fields of a record, given the number of leaves of the whole type before it
 abbrev pub Reader : Type 0
 Reader = ℕ → List Literal → Result Structure Refusal
 

@@ -79,7 +79,8 @@ abbrev pub first_token : (List ℕ → List Token) → List ℕ → List Token
 first_token later [] = []
 first_token later (b ∷ rest) = let t = token_from b rest in t.0 ∷ later t.1
 
--- the tokens in so many turns, each of which takes a byte or more; spaces may stand between them, before and after
+-- the tokens, in at most `turns` turns, each of which takes a byte or more; spaces may come before, between and after
+-- them
 abbrev pub tokens_in : ℕ → List ℕ → List Token
 tokens_in zero bytes = []
 tokens_in (suc turns) bytes = first_token (tokens_in turns) (unspaced_text bytes)

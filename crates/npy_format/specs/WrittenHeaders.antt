@@ -59,7 +59,7 @@ written_text descr fortran shape =
 abbrev pub max_short_text : ℕ
 max_short_text = 65525
 
--- the fewest spaces with which so many bytes and a newline fill whole blocks of 64
+-- the fewest spaces with which `bytes` bytes and a newline fill whole blocks of 64
 abbrev pub spaces_after : ℕ → ℕ
 spaces_after bytes = (64 - (bytes + 1) % 64) % 64
 
@@ -67,7 +67,7 @@ spaces_after bytes = (64 - (bytes + 1) % 64) % 64
 abbrev pub padded_text : ℕ → List ℕ → List ℕ
 padded_text before text = text ++ (replicate (spaces_after (before + length text)) 32 ++ codes "\n")
 
--- a header with its length before it, in so many bytes
+-- a header with its length before it, in `width` bytes
 abbrev pub with_length : ℕ → List ℕ → List ℕ
 with_length width text = little_bytes width (length text) ++ text
 

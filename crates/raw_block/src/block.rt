@@ -1,4 +1,4 @@
-//! A block of bytes: made, read and written whole, and dropped.
+//! A block of bytes: how it is made, read and written as a whole, and dropped.
 ghost use Rattle.std.specs.Prelude.{◌≡◌, ℕ, pos, ◌+◌, ◌*◌, ◌/◌, ◌^◌, ◌<◌, ◌≤◌, List, length, replicate, slice_index_or, IfOk};
 ghost use Rattle.std.specs.Borrow.{sem};
 ghost use Rattle.std.specs.List.{refill};
@@ -16,8 +16,8 @@ pub use builder::BlockBuilder;
 use std::alloc::{AllocError, Global};
 use std::marker::Model;
 
-/// One block of memory, of zeros or of given bytes when it is made, which starts at a multiple of 16.
-/// A contract sees a block as the list of its bytes.
+/// One block of memory, which starts at a multiple of 16. It is made from zeros or from given
+/// bytes. A contract sees a block as the list of its bytes.
 pub struct RawBlock {
     base: Base,
     len: usize,
@@ -38,7 +38,7 @@ impl Model for RawBlock {
     ghost invariant = { IsBlock };
 }
 
-/// The bytes of the words that hold `len` bytes.
+/// The size of the words that hold `len` bytes.
 fn padded(len: usize) -> usize
     requires { len + 15 < 2 ^ 63 }
     ensures value { result ≡ (len + 15) / 16 * 16 }
@@ -50,8 +50,8 @@ fn padded(len: usize) -> usize
 impl RawBlock {
     ghost use Rattle.raw_block.specs.BlockLends.{lends_block, lends_run};
 
-    /// Takes memory for `len` zeros. An `Err` says that there is none; above `isize::MAX - 15` there
-    /// never is.
+    /// Allocates a block of `len` zeros. Returns `Err` if memory runs out, and always if `len` is
+    /// above `isize::MAX - 15`.
     pub fn try_zeroed(alloc: Global, len: usize) -> Result<RawBlock, AllocError>
         ensures { IfOk result (λ b. b ≡ replicate len 0) }
     {
@@ -60,7 +60,8 @@ impl RawBlock {
         Ok(block.finish())
     }
 
-    /// Takes memory for these bytes, and writes each of them once. An `Err` says that there is none.
+    /// Allocates a block with these bytes, and writes each of them once. Returns `Err` if memory
+    /// runs out.
     pub fn try_copied(alloc: Global, bytes: &[u8]) -> Result<RawBlock, AllocError>
         ensures { IfOk result (λ b. b ≡ bytes.now) }
     {
@@ -77,14 +78,14 @@ impl RawBlock {
         self.len
     }
 
-    /// All bytes, to read.
+    /// All bytes, for reading.
     pub fn bytes(&self) -> &[u8]
         ensures { result.now ≡ self.now }
     {
         self.bytes.as_slice(self.base, self.len)
     }
 
-    /// All bytes, to write to.
+    /// All bytes, for writing.
     pub fn bytes_mut(&mut self) -> &mut [u8]
         ensures* writes_back { sem 𝓛 (lends_block self.entry result) }
         ensures value { result.now ≡ self.old }
@@ -94,7 +95,7 @@ impl RawBlock {
         self.bytes.as_mut_slice(self.base, self.len)
     }
 
-    /// The `n` numbers of four bytes that lie one right after another from `at` on.
+    /// The `n` adjacent numbers of four bytes that start at `at`.
     pub fn run_i32(&self, at: usize, n: usize) -> RunI32<'_>
         requires { at + 4 * n ≤ length self.now }
         ensures len { length result ≡ n }
@@ -104,7 +105,7 @@ impl RawBlock {
         RunI32::over(items_at::<4>(self.bytes(), at, n))
     }
 
-    /// Numbers of four bytes, to write to: each is its bytes, the lowest first.
+    /// Numbers of four bytes, for writing. Each is stored with its lowest byte first.
     pub fn run_i32_mut(&mut self, at: usize, n: usize) -> &mut [[u8; 4]]
         requires { at + 4 * n ≤ length self.old }
         ensures* writes_back { sem 𝓛 (lends_run 4 at self.entry result) }
@@ -119,7 +120,7 @@ impl RawBlock {
         self.bytes.run_mut::<4>(self.base, at, n)
     }
 
-    /// The `n` numbers of eight bytes that lie one right after another from `at` on.
+    /// The `n` adjacent numbers of eight bytes that start at `at`.
     pub fn run_i64(&self, at: usize, n: usize) -> RunI64<'_>
         requires { at + 8 * n ≤ length self.now }
         ensures len { length result ≡ n }
@@ -129,7 +130,7 @@ impl RawBlock {
         RunI64::over(items_at::<8>(self.bytes(), at, n))
     }
 
-    /// Numbers of eight bytes, to write to: each is its bytes, the lowest first.
+    /// Numbers of eight bytes, for writing. Each is stored with its lowest byte first.
     pub fn run_i64_mut(&mut self, at: usize, n: usize) -> &mut [[u8; 8]]
         requires { at + 8 * n ≤ length self.old }
         ensures* writes_back { sem 𝓛 (lends_run 8 at self.entry result) }
@@ -144,7 +145,7 @@ impl RawBlock {
         self.bytes.run_mut::<8>(self.base, at, n)
     }
 
-    /// The number in the `width` bytes from `at` on, the lowest byte first.
+    /// The number in the `width` bytes that start at `at`, lowest byte first.
     pub fn load(&self, at: usize, width: usize) -> u64
         requires width { width ≤ 8 }
         requires bounds { at + width ≤ length self.now }
@@ -154,7 +155,7 @@ impl RawBlock {
         number_of(&self.bytes()[at..at + width])
     }
 
-    /// Writes the lowest `width` bytes of `bits` to those from `at` on, the lowest byte first.
+    /// Writes the lowest `width` bytes of `bits` at `at`, lowest byte first.
     pub fn store(&mut self, at: usize, width: usize, bits: u64)
         requires width { width ≤ 8 }
         requires bounds { at + width ≤ length self.old }
@@ -164,7 +165,7 @@ impl RawBlock {
         put_number(self.bytes_mut(), at, width, bits);
     }
 
-    /// Writes the item to the bytes from `at` on.
+    /// Writes the item at `at`.
     pub fn put(&mut self, at: usize, item: &[u8])
         requires { at + length item.now ≤ length self.old }
         ensures written { self.new ≡ put at item.now self.old }
@@ -173,7 +174,7 @@ impl RawBlock {
         put_item(self.bytes_mut(), at, item);
     }
 
-    /// Copies the `n` bytes from `src` on to those from `dst` on, as if they were read first.
+    /// Copies `n` bytes from `src` to `dst`. The two ranges may overlap.
     pub fn move_within(&mut self, dst: usize, src: usize, n: usize)
         requires dst { dst + n ≤ length self.old }
         requires src { src + n ≤ length self.old }
@@ -183,7 +184,7 @@ impl RawBlock {
         move_item(self.bytes_mut(), dst, src, n);
     }
 
-    /// Copies the `n` bytes of `other` from `src` on to those from `dst` on.
+    /// Copies `n` bytes of `other` from `src` to `dst`.
     pub fn copy_from(&mut self, dst: usize, other: &RawBlock, src: usize, n: usize)
         requires dst { dst + n ≤ length self.old }
         requires src { src + n ≤ length other.now }
@@ -193,8 +194,8 @@ impl RawBlock {
         put_item(self.bytes_mut(), dst, &other.bytes()[src..src + n]);
     }
 
-    /// Copies `n` items of `width` bytes of `other`. The first lies at `src` and goes to `dst`, and
-    /// each next one lies and goes a step further, in bytes.
+    /// Copies `n` items of `width` bytes from `other`. The first is read at `src` and written at
+    /// `dst`; each next one is read and written one step further, in bytes.
     pub fn copy_strided(
         &mut self,
         dst: usize,
@@ -219,8 +220,8 @@ impl RawBlock {
         );
     }
 
-    /// Copies `n` items of `width` bytes of the block itself, one after the other: where they overlap,
-    /// later ones are read as earlier ones left them.
+    /// Copies `n` items of `width` bytes within the block, one after the other. Where source and
+    /// destination overlap, an item is read as earlier copies left it.
     pub fn copy_strided_within(
         &mut self,
         dst: usize,
@@ -239,7 +240,7 @@ impl RawBlock {
         strided::copy_within(self.bytes_mut(), Steps::new(dst, dst_step), from);
     }
 
-    /// Writes the item `n` times, first to `dst`, and each time a step further, in bytes.
+    /// Writes the item `n` times: first at `dst`, then each time one step further, in bytes.
     pub fn fill_strided(&mut self, dst: usize, step: isize, item: &[u8], n: usize)
         requires { EachWithin (length self.old) dst step (length item.now) n }
         ensures filled { self.new ≡ filled dst step item.now n self.old }
@@ -249,7 +250,7 @@ impl RawBlock {
     }
 
     /// Exchanges `n` pairs of items of `width` bytes, one pair after the other. The two items of a
-    /// pair may overlap: their bytes are exchanged one by one, from the first on.
+    /// pair may overlap: their bytes are exchanged one by one, from the first to the last.
     pub fn swap_strided(
         &mut self,
         a: usize,
@@ -268,7 +269,7 @@ impl RawBlock {
         strided::swap(self.bytes_mut(), a, b, width, n);
     }
 
-    /// Exchanges `n` items of `width` bytes with as many of `other`, one pair after the other.
+    /// Exchanges `n` items of `width` bytes with `n` items of `other`, one pair after the other.
     pub fn trade_strided(
         &mut self,
         a: usize,

@@ -1,12 +1,12 @@
-//! Copies the items of a grid column by column to where they lie row by row.
+//! Copies the items of a grid column by column to where they are row by row.
 ghost use Rattle.std.specs.Prelude.{◌≡◌, ◌+◌, ◌*◌, ◌^◌, ◌<◌, ◌≤◌, ◌++◌, pos, ◌≤ℤ◌, ◌<ℤ◌, length, take};
 ghost use Rattle.raw_block.specs.Bytes.{position, place, grid_items, GridWithin};
 ghost use Rattle.raw_block.specs.inside.Bands.{band};
 
 use crate::strided::{Steps, copy_arrays};
 
-/// Where items lie row by row: the first, and by how many bytes further the next row and the next
-/// column are.
+/// Where the items of a grid are: the first one, and the distances to the next row and the next
+/// column, in bytes.
 #[derive(Clone, Copy, Drop)]
 pub struct Grid {
     pub at: usize,
@@ -17,7 +17,7 @@ pub struct Grid {
 }
 
 impl Grid {
-    /// So many of its rows, from one on.
+    /// Some of its rows, starting with one of them.
     pub(crate) fn band(self, first: usize, rows: usize) -> Grid
         requires low { pos 0 ≤ℤ position self.at self.row_step first }
         requires high { position self.at self.row_step first <ℤ pos (2 ^ 64) }
@@ -30,7 +30,7 @@ impl Grid {
         }
     }
 
-    /// Where the items of a column lie.
+    /// Where the items of a column are.
     fn column(self, j: usize) -> Steps
         requires low { pos 0 ≤ℤ position self.at self.column_step j }
         requires high { position self.at self.column_step j <ℤ pos (2 ^ 64) }
@@ -41,8 +41,8 @@ impl Grid {
     }
 }
 
-/// Copies the items of a grid of `other`, of `N` bytes, over as many that lie one right after another.
-/// They are read and written by columns, so that each line of memory is used while it is near.
+/// Copies the items, of `N` bytes, of a grid in `other` over adjacent items. They are read and
+/// written by columns, so that each cache line is used while it is in the cache.
 pub(crate) fn copy_by_columns<const N: usize>(bytes: &mut [u8], other: &[u8], grid: Grid)
     requires some { 0 < grid.rows }
     requires bytes { length bytes.old ≡ grid.rows * (grid.columns * N) }
@@ -61,7 +61,7 @@ pub(crate) fn copy_by_columns<const N: usize>(bytes: &mut [u8], other: &[u8], gr
     }
 }
 
-/// Copies the items of a grid by columns over the bytes from `from` on, which are as many.
+/// Copies the items of a grid by columns over the bytes that start at `from`.
 pub(crate) fn copy_to_end<const N: usize>(bytes: &mut [u8], from: usize, other: &[u8], grid: Grid)
     requires some { 0 < grid.rows }
     requires bytes { length bytes.old ≡ from + grid.rows * (grid.columns * N) }

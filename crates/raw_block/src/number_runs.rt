@@ -1,5 +1,4 @@
-//! Numbers that lie one right after another: each is what its bytes mean in two's complement, the
-//! lowest byte first.
+//! Adjacent numbers, stored in two's complement with the lowest byte first.
 ghost use Rattle.std.specs.Prelude.{◌≡◌, ℕ, pos, ◌+◌, ◌*◌, ◌<◌, ◌≤◌, [], length, slice_index_or};
 ghost use Rattle.raw_block.specs.Bytes.{item_at};
 ghost use Rattle.raw_block.specs.NumberRuns.{signed_numbers};
@@ -7,7 +6,7 @@ ghost use Rattle.raw_block.specs.NumberRuns.{signed_numbers};
 use byteorder::{ByteOrder, LittleEndian};
 use std::marker::Model;
 
-/// The `n` items of `N` bytes that lie one right after another from `at` on.
+/// The `n` adjacent items of `N` bytes that start at `at`.
 pub(crate) fn items_at<const N: usize>(bytes: &[u8], at: usize, n: usize) -> &[[u8; N]]
     requires some { 0 < N }
     requires within { at + N * n ≤ length bytes.now }
@@ -18,7 +17,7 @@ pub(crate) fn items_at<const N: usize>(bytes: &[u8], at: usize, n: usize) -> &[[
     bytes[at..at + N * n].as_chunks::<N>().0
 }
 
-/// Numbers of four bytes, to read. A contract sees them as a list.
+/// Numbers of four bytes, for reading. A contract sees them as a list.
 #[derive(Drop)]
 pub struct RunI32<'a> {
     items: &'a [[u8; 4]],
@@ -34,14 +33,14 @@ impl<'a> Model for RunI32<'a> {
 }
 
 impl<'a> RunI32<'a> {
-    /// The numbers in these bytes.
+    /// The numbers that these bytes store.
     pub(crate) fn over(items: &'a [[u8; 4]]) -> RunI32<'a>
         ensures { result ≡ signed_numbers 4 items.now }
     {
         RunI32 { items }
     }
 
-    /// How many there are.
+    /// How many numbers there are.
     #[inline(always)]
     pub fn len(&self) -> usize
         ensures { result ≡ length self.now }
@@ -49,7 +48,7 @@ impl<'a> RunI32<'a> {
         self.items.len()
     }
 
-    /// The number at this place.
+    /// The number at this index.
     #[inline(always)]
     pub fn get(&self, place: usize) -> i32
         requires { place < length self.now }
@@ -60,7 +59,7 @@ impl<'a> RunI32<'a> {
     }
 }
 
-/// Numbers of eight bytes, to read. A contract sees them as a list.
+/// Numbers of eight bytes, for reading. A contract sees them as a list.
 #[derive(Drop)]
 pub struct RunI64<'a> {
     items: &'a [[u8; 8]],
@@ -76,14 +75,14 @@ impl<'a> Model for RunI64<'a> {
 }
 
 impl<'a> RunI64<'a> {
-    /// The numbers in these bytes.
+    /// The numbers that these bytes store.
     pub(crate) fn over(items: &'a [[u8; 8]]) -> RunI64<'a>
         ensures { result ≡ signed_numbers 8 items.now }
     {
         RunI64 { items }
     }
 
-    /// How many there are.
+    /// How many numbers there are.
     #[inline(always)]
     pub fn len(&self) -> usize
         ensures { result ≡ length self.now }
@@ -91,7 +90,7 @@ impl<'a> RunI64<'a> {
         self.items.len()
     }
 
-    /// The number at this place.
+    /// The number at this index.
     #[inline(always)]
     pub fn get(&self, place: usize) -> i64
         requires { place < length self.now }

@@ -14,7 +14,7 @@ use Rattle.elem_descr.specs.declared.operators.Red.TheVariants.{All as AllOf}
 use Rattle.reductions.proofs.RowLaws.{swapped}
 use Rattle.reductions.specs.inside.Numbers.{AreReduced, IsReduced, IsStored, number_at, numbers_at}
 use Rattle.reductions.specs.Reductions.{reduced, result_scalar, least, greatest, is_true}
-use Rattle.reductions.specs.inside.Orders.{hangs_on_order}
+use Rattle.reductions.specs.inside.Orders.{depends_on_order}
 
 -- ---- a fold that takes any two numbers in either order
 
@@ -147,7 +147,7 @@ all_is p (x ∷ l) = ap (λ b. p x && b) (all_is p l) ∙ turned (p x) (list_any
     turned true b = refl
     turned false b = refl
 
-pub reduced-reordered : (reduction : Red) (scalar : Scalar) (xs ys : List ℤ) → hangs_on_order reduction ≡ false → IsPermutation xs ys → reduced reduction scalar ys ≡ reduced reduction scalar xs
+pub reduced-reordered : (reduction : Red) (scalar : Scalar) (xs ys : List ℤ) → depends_on_order reduction ≡ false → IsPermutation xs ys → reduced reduction scalar ys ≡ reduced reduction scalar xs
 reduced-reordered Sum scalar xs ys free same = ap (wrap scalar) (fold-reordered (λ sum value. sum +ℤ value) swapped (pos 0) xs ys same)
 reduced-reordered Product scalar xs ys free same = ap (wrap scalar) (fold-reordered (λ product value. product *ℤ value) product_turns (pos 1) xs ys same)
 reduced-reordered Minimum scalar xs ys free same = least-reordered xs ys same
@@ -159,7 +159,7 @@ reduced-reordered ArgMin scalar xs ys free same = absurd (false≢true (sym free
 reduced-reordered ArgMax scalar xs ys free same = absurd (false≢true (sym free))
 
 -- what comes of all numbers at offsets comes of those at them in another order
-pub results-reordered : (reduction : Red) (scalar : Scalar) (bytes os os' out : List ℕ) (width : ℕ) → hangs_on_order reduction ≡ false → IsPermutation os os' → AreReduced reduction scalar bytes width (os' ∷ []) out → AreReduced reduction scalar bytes width (os ∷ []) out
+pub results-reordered : (reduction : Red) (scalar : Scalar) (bytes os os' out : List ℕ) (width : ℕ) → depends_on_order reduction ≡ false → IsPermutation os os' → AreReduced reduction scalar bytes width (os' ∷ []) out → AreReduced reduction scalar bytes width (os ∷ []) out
 results-reordered reduction scalar bytes os os' out width free same are = record { len = are.len; each = each }
   where
     each : (k : ℕ) → k < length (os ∷ []) → IsReduced reduction scalar (numbers_at scalar bytes (get_or (os ∷ []) k [])) (item_at (k * width) width out)

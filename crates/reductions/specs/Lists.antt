@@ -13,7 +13,7 @@ abbrev pub is_axis : ℕ → Option ℤ → Bool
 is_axis rank None = true
 is_axis rank (Some axis) = is_place rank axis
 
--- one of so many, or none
+-- one of `rank` axes, or none
 abbrev pub IsAxisOf : ℕ → Option ℕ → Type 0
 IsAxisOf rank None = Unit {0}
 IsAxisOf rank (Some axis) = axis < rank

@@ -1,9 +1,9 @@
-//! All that depends on the reduction: the type of its result, whether it needs items, its result without
-//! items, and the loop that computes it.
+//! All that depends on the reduction: the type of its result, whether it needs items, its result
+//! without items, and the loop that computes it.
 ghost use Rattle.reductions.specs.Reductions.{needs_items, result_scalar, wide};
 ghost use Rattle.reductions.specs.Words.{Little, item_at, max_items, size};
 ghost use Rattle.reductions.specs.inside.Numbers.{AreReduced, HaveItems, IsReduced, IsStored, lists_from};
-ghost use Rattle.reductions.specs.inside.Orders.{hangs_on_order};
+ghost use Rattle.reductions.specs.inside.Orders.{depends_on_order};
 ghost use Rattle.std.specs.Prelude.{IfOk, [], length, true, ℕ, ◌*◌, ◌<◌, ◌≡◌, ◌≤◌};
 
 use crate::fills::reduced;
@@ -14,7 +14,7 @@ use machine_numbers::{LowFirst, Number, NumberTask, Ordered, little};
 use raw_block::{BlockBuilder, RawBlock};
 use std::alloc::{AllocError, Global};
 
-/// An integer of 64 bits, with a sign unless the items are integers without one.
+/// The 64-bit integer of a sum: signed, unless the items are unsigned integers.
 fn wide(scalar: &Scalar) -> Scalar
     ensures { result ≡ wide scalar.now }
 {
@@ -46,7 +46,7 @@ pub(crate) fn result_scalar(reduction: Red, scalar: &Scalar) -> Scalar
     }
 }
 
-/// Whether a reduction is one of some items at least.
+/// Whether a reduction needs at least one item.
 pub(crate) fn needs_items(reduction: Red) -> bool
     ensures { result ≡ needs_items reduction }
 {
@@ -56,14 +56,14 @@ pub(crate) fn needs_items(reduction: Red) -> bool
     }
 }
 
-/// Whether what it makes hangs on the order of the numbers.
-pub(crate) fn hangs_on_order(reduction: Red) -> bool
-    ensures { result ≡ hangs_on_order reduction }
+/// Whether the result depends on the order of the numbers.
+pub(crate) fn depends_on_order(reduction: Red) -> bool
+    ensures { result ≡ depends_on_order reduction }
 {
     matches!(reduction, Red::ArgMin | Red::ArgMax)
 }
 
-/// A block of one number, `count` times.
+/// A block with `count` copies of one number.
 fn repeated<T: Number>(alloc: Global, total: T, count: usize) -> Result<RawBlock, AllocError>
     requires { count ≤ max_items }
     ensures items { IfOk result (λ b. (k : ℕ) → k < count
@@ -77,7 +77,7 @@ fn repeated<T: Number>(alloc: Global, total: T, count: usize) -> Result<RawBlock
     Ok(block.finish())
 }
 
-/// A block of what a reduction makes of no items, `count` times, where it is one of no items.
+/// A block with `count` results of a reduction of no items, if it is defined for no items.
 pub(crate) fn empty_block(
     alloc: Global,
     reduction: Red,
@@ -100,7 +100,7 @@ pub(crate) fn empty_block(
     }
 }
 
-/// A reduction of lists, whose results lie one after another in a block.
+/// A block with the reductions of lists, one after another.
 #[derive(Drop)]
 pub(crate) struct Reducing<'a> {
     pub(crate) alloc: Global,

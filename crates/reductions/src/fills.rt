@@ -1,5 +1,5 @@
-//! Reduces all items of a layout, or the lines along an axis that start at each of them: one line after
-//! another, or all at once, row by row.
+//! Reduces all items of a layout, or the lines along an axis that start at each of its items: one
+//! line after another, or all lines at once, row by row.
 ghost use Rattle.std.specs.Prelude.{◌≡◌, ◌+◌, ◌*◌, ◌<◌, ◌≤◌, [], ◌∷◌, length, IfOk, OnOk, Some};
 ghost use Rattle.reductions.specs.Words.{Little, number_of_side, count, offsets, run_offsets};
 ghost use Rattle.reductions.specs.inside.Numbers.{number_at, numbers_at, lines, lists_from, TakesIn, IsPushed, AreReduced, AddsReduced, HaveItems};
@@ -20,7 +20,7 @@ fn number_at<S: Number, O: Ordered>(bytes: &[u8], at: usize) -> S
     S::read::<O>(&bytes[at..at + S::WIDTH])
 }
 
-/// What comes of all items of a layout.
+/// The result for all items of a layout.
 fn fold_all<S: Number, O: Ordered, F: Fold<S>>(lists: Lists<'_>) -> F::Total
     requires width { lists.width ≡ S.WIDTH }
     requires some { 0 < count lists.starts.now.shape }
@@ -43,7 +43,7 @@ fn fold_all<S: Number, O: Ordered, F: Fold<S>>(lists: Lists<'_>) -> F::Total
     F::finish(held)
 }
 
-/// What is held of each line before its numbers.
+/// The state of each line before its first number.
 fn begin<S: Number, O: Ordered, F: Fold<S>>(
     alloc: Global,
     firsts: Side<'_>,
@@ -61,7 +61,7 @@ fn begin<S: Number, O: Ordered, F: Fold<S>>(
     Ok(held)
 }
 
-/// Takes each number of a row, which has `seen` before it on its line, into what is held of the line.
+/// Adds each number of a row to the state of its line, on which `seen` numbers come before it.
 #[inline(always)]
 fn take_each<S: Number, O: Ordered, F: Fold<S>>(held: &mut [F::Held], row: Side<'_>, seen: usize)
     requires width { row.width ≡ S.WIDTH }
@@ -76,8 +76,7 @@ fn take_each<S: Number, O: Ordered, F: Fold<S>>(held: &mut [F::Held], row: Side<
     }
 }
 
-/// Takes each number of a row into what is held of its line, with a loop of its own where they lie one
-/// right after the other.
+/// Adds each number of a row to the state of its line, with a loop of its own for adjacent numbers.
 fn take_row<S: Number, O: Ordered, F: Fold<S>>(held: &mut [F::Held], row: Side<'_>, seen: usize)
     requires width { row.width ≡ S.WIDTH }
     requires even { length held.old ≡ row.run.count }
@@ -92,7 +91,7 @@ fn take_row<S: Number, O: Ordered, F: Fold<S>>(held: &mut [F::Held], row: Side<'
     take_each::<S, O, F>(held, row, seen);
 }
 
-/// What is held of each line after all its numbers, where it is taken row by row; else nothing.
+/// The final state of each line, if the lines are reduced row by row; otherwise nothing.
 fn held_by_rows<S: Number, O: Ordered, F: Fold<S>>(
     alloc: Global,
     lines: Lines<'_>,
@@ -112,7 +111,7 @@ fn held_by_rows<S: Number, O: Ordered, F: Fold<S>>(
     Ok(held)
 }
 
-/// What comes of the `j`-th line, by what is held of it, if anything is.
+/// The result of the `j`-th line, from its final state if there is one.
 fn line_total<S: Number, O: Ordered, F: Fold<S>>(
     held: &[F::Held],
     lines: Lines<'_>,
@@ -133,19 +132,19 @@ fn line_total<S: Number, O: Ordered, F: Fold<S>>(
     fold_line::<S, O, F>(lines.line(j))
 }
 
-/// Pushes a number, the lowest byte first.
+/// Appends a number, lowest byte first.
 #[inline(always)]
 fn push_total<T: Number>(block: &mut BlockBuilder, total: T)
     requires { T.WIDTH ≤ block.old.1 }
     ensures { IsPushed (T.scalar Little) T.WIDTH (T.value total) block.old block.new }
 {
-    // What is pushed is read back as the number: so much is told of what is written.
+    // Reading the bytes back gives the number: this is what the contract says of them.
     let mut item = [0; 8];
     total.write::<LowFirst>(&mut item[..T::WIDTH]);
     total.push::<LowFirst>(block);
 }
 
-/// Pushes what comes of each line.
+/// Appends the result of each line.
 fn push_lines<S: Number, O: Ordered, F: Fold<S>>(
     alloc: Global,
     block: &mut BlockBuilder,
@@ -165,7 +164,7 @@ fn push_lines<S: Number, O: Ordered, F: Fold<S>>(
     Ok(())
 }
 
-/// Pushes what comes of the lines along an axis from the items of a layout on.
+/// Appends the results of the lines along an axis that start at the items of a layout.
 fn push_along<S: Number, O: Ordered, F: Fold<S>>(
     alloc: Global,
     block: &mut BlockBuilder,
@@ -191,7 +190,7 @@ fn push_along<S: Number, O: Ordered, F: Fold<S>>(
     Ok(())
 }
 
-/// A block of what comes of each list.
+/// A block with the result of each list.
 #[inline(never)]
 pub(crate) fn reduced<S: Number, O: Ordered, F: Fold<S>>(
     alloc: Global,

@@ -11,18 +11,18 @@ ghost use Rattle.reductions.specs.inside.Extremes.{reduction_of, places_of, is_b
 use crate::lines::{BLOCK, fold_each, part, place_of};
 use machine_numbers::{Number, Ordered, Side};
 
-/// A reduction of numbers of a type, as it goes over them. It is given the first of them when it starts, and
-/// then all of them, that one too.
+/// A reduction of numbers of one type, number by number. It starts with the first number, and then
+/// visits all numbers, the first one included.
 pub(crate) trait Fold<S: Number> {
-    /// What is known of the numbers so far.
+    /// The state: what is known of the numbers so far.
     type Held: Copy;
 
-    /// What comes of them.
+    /// The result.
     type Total: Number;
 
     ghost reduction: { Red };
 
-    // What is held belongs to a first number and the numbers so far.
+    // What the state says, given the first number and the numbers so far.
     ghost holds: { Self.Held → ℤ → List ℤ → Type 0 };
 
     ghost meaning: { List ℤ → ℤ };
@@ -30,7 +30,7 @@ pub(crate) trait Fold<S: Number> {
     fn start(first: S) -> Self::Held
         ensures { holds result (S.value first) [] };
 
-    /// One number more, which has so many before it.
+    /// Visits one more number, which has `place` numbers before it.
     fn step(held: Self::Held, item: S, place: usize) -> Self::Held
         ensures { (first : ℤ) (seen : List ℤ) → place ≡ length seen → holds held first seen
             → holds result first (seen ++ S.value item ∷ []) };
@@ -39,7 +39,7 @@ pub(crate) trait Fold<S: Number> {
         ensures { (first : ℤ) (rest : List ℤ) → holds held first (first ∷ rest)
             → Self.Total.value result ≡ meaning (first ∷ rest) };
 
-    /// Whether no number more changes what is held.
+    /// Whether no further number can change the state.
     #[inline(always)]
     fn is_decided(held: Self::Held) -> bool
         ensures { IsTrue result
@@ -50,14 +50,14 @@ pub(crate) trait Fold<S: Number> {
         false
     }
 
-    /// Whether it is worth asking that on the way. A hint: either answer is right.
+    /// Whether `is_decided` is worth asking along the way. A hint: either answer is right.
     #[inline(always)]
     fn may_end_early() -> bool {
         false
     }
 
-    /// Goes over numbers that lie one right after the other, and have `seen` before them, where it does so
-    /// otherwise than one by one.
+    /// Visits adjacent numbers, which have `seen` numbers before them, if there is a faster way
+    /// than one by one.
     fn fold_near<O: Ordered>(held: Self::Held, seen: usize, near: Side<'_>) -> Option<Self::Held>
         requires width { near.width ≡ S.WIDTH }
         requires few { seen + near.run.count < 2 ^ 63 }
@@ -75,7 +75,7 @@ pub(crate) trait Fold<S: Number> {
         ≡ Self.Total.WIDTH };
 }
 
-/// Sums or products, in as many bits as a total has.
+/// Sums or products, modulo 2^64.
 pub(crate) struct Wrapping<const PRODUCT: bool>;
 
 impl<S: Number, const PRODUCT: bool> Fold<S> for Wrapping<PRODUCT> {
@@ -110,7 +110,7 @@ impl<S: Number, const PRODUCT: bool> Fold<S> for Wrapping<PRODUCT> {
     }
 }
 
-/// The least or the greatest of numbers.
+/// The least or the greatest number.
 pub(crate) struct Best<const GREATEST: bool>;
 
 /// Whether a number is better than the best one so far.
@@ -124,7 +124,7 @@ fn is_better<S: Number, const GREATEST: bool>(item: S, best: S) -> bool
     item.is_less(best)
 }
 
-/// Whether no number of the type is better; asked only for bools.
+/// Whether no number of the type is better. It is used for bools only.
 #[inline(always)]
 fn is_last<S: Number, const GREATEST: bool>(best: S) -> bool
     ensures { IsTrue result → (order : Order) (bytes : List ℕ) (offset : ℕ)
@@ -216,21 +216,21 @@ impl<S: Number, const ALL: bool> Fold<S> for Truth<ALL> {
     }
 }
 
-/// The best number so far, and where it stands first.
+/// The best number so far, and its first place.
 #[derive(Clone, Copy)]
 pub(crate) struct Found<S> {
     best: S,
     place: usize,
 }
 
-/// The best number so far, and how many numbers stand before the block in which it came.
+/// The best number so far, and how many numbers come before the block that contains it.
 #[derive(Clone, Copy)]
 struct Sought<S> {
     best: S,
     before: usize,
 }
 
-/// Goes over the numbers of a block, before which stand so many.
+/// Visits the numbers of a block, which has `before` numbers before it.
 #[inline(always)]
 fn seek_in<S: Number, O: Ordered, const GREATEST: bool>(
     held: Sought<S>,

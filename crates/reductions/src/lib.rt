@@ -1,5 +1,5 @@
-//! Reductions: sums and products, least and greatest items and their places, of all items of an array or
-//! along one of its axes.
+//! Reductions: sums, products, least and greatest items and their places, over all items of an
+//! array or along one of its axes.
 #![tactic(auto)]
 
 mod by_reduction;

@@ -9,7 +9,7 @@ use elem_descr::Scalar;
 use machine_numbers::{Number, Ordered, Side, place};
 use shape_strides::{Layout, Run, StridedAxis};
 
-/// The numbers of a layout, which are reduced along an axis, or all of them.
+/// The numbers of a layout that are reduced along an axis, or all of them.
 #[derive(Clone, Copy, Drop)]
 pub(crate) struct Source<'a> {
     pub(crate) bytes: &'a [u8],
@@ -20,8 +20,8 @@ pub(crate) struct Source<'a> {
         (offsets layout.now) },
 }
 
-/// The lists of items, of `width` bytes, that are reduced: all items of a layout, or those along an axis
-/// from each of them on.
+/// The lists of items, of `width` bytes, that are reduced: all items of a layout, or the items
+/// along an axis from each of its items on.
 #[derive(Clone, Copy, Drop)]
 pub(crate) struct Lists<'a> {
     pub(crate) bytes: &'a [u8],
@@ -32,7 +32,7 @@ pub(crate) struct Lists<'a> {
         (offsets starts.now) },
 }
 
-/// Lines along an axis, one from each of some items on.
+/// Lines along an axis, one for each start.
 #[derive(Clone, Copy, Drop)]
 pub(crate) struct Lines<'a> {
     pub(crate) starts: Side<'a>,
@@ -43,7 +43,7 @@ pub(crate) struct Lines<'a> {
         axis.stride starts.width axis.len },
 }
 
-/// As many steps as long as those of a run.
+/// An axis of `len` items with the step of a run.
 #[inline(always)]
 fn axis_of(run: Run, len: usize) -> StridedAxis
     ensures { result ≡ record { len = len; stride = run.step } }
@@ -54,7 +54,7 @@ fn axis_of(run: Run, len: usize) -> StridedAxis
     }
 }
 
-/// The items that an axis leads to from an offset on, among the bytes of a side and as wide as its items.
+/// The items along an axis from an offset on, in the bytes of a side and of its width.
 #[inline(always)]
 fn items_along<'a>(side: Side<'a>, offset: usize, axis: StridedAxis) -> Side<'a>
     requires few { axis.len < 2 ^ 63 }
@@ -72,7 +72,7 @@ fn items_along<'a>(side: Side<'a>, offset: usize, axis: StridedAxis) -> Side<'a>
     }
 }
 
-/// Some of the items, from one of them on.
+/// Some of the items, starting with one of them.
 #[inline(always)]
 pub(crate) fn part<'a>(side: Side<'a>, from: usize, count: usize) -> Side<'a>
     requires from { from < side.run.count }
@@ -85,7 +85,7 @@ pub(crate) fn part<'a>(side: Side<'a>, from: usize, count: usize) -> Side<'a>
 impl<'a> Lines<'a> {
     ghost use Rattle.reductions.specs.inside.Lines.{IsLine, IsRow};
 
-    /// The line from the `j`-th item on.
+    /// The line that starts at the `j`-th item.
     #[inline(always)]
     pub(crate) fn line(self, j: usize) -> Side<'a>
         requires { j < self.starts.run.count }
@@ -106,7 +106,7 @@ impl<'a> Lines<'a> {
         items_along(self.starts, offset, axis_of(starts, starts.count))
     }
 
-    /// Whether rows lie closer together than the items of a line.
+    /// Whether rows are closer together than the items of a line.
     pub(crate) fn goes_by_rows(self) -> bool
         ensures { IsTrue result → 1 ≤ self.entry.starts.run.count }
     {
@@ -115,7 +115,7 @@ impl<'a> Lines<'a> {
     }
 }
 
-/// Goes over numbers one by one. They have `seen` before them.
+/// Reduces numbers one by one. `seen` numbers come before them.
 #[inline(always)]
 pub(crate) fn fold_each<S: Number, O: Ordered, F: Fold<S>>(
     held: F::Held,
@@ -133,10 +133,10 @@ pub(crate) fn fold_each<S: Number, O: Ordered, F: Fold<S>>(
     held
 }
 
-/// The numbers that are gone over at once where it may turn out that no others matter.
+/// How many numbers are reduced before asking whether the result is already decided.
 pub(crate) const BLOCK: usize = 4096;
 
-/// Goes over numbers until no number more changes what is held. They have `seen` before them.
+/// Reduces numbers until the result is decided. `seen` numbers come before them.
 pub(crate) fn fold_blocks<S: Number, O: Ordered, F: Fold<S>>(
     held: F::Held,
     seen: usize,
@@ -159,7 +159,8 @@ pub(crate) fn fold_blocks<S: Number, O: Ordered, F: Fold<S>>(
     held
 }
 
-/// Where a number stands first among others; how many there are where it does not.
+/// The place of a number's first occurrence among others, or the number of them if it does not
+/// occur.
 #[inline(always)]
 pub(crate) fn place_of<S: Number, O: Ordered>(number: S, side: Side<'_>) -> usize
     requires { side.width ≡ S.WIDTH }
@@ -176,8 +177,7 @@ pub(crate) fn place_of<S: Number, O: Ordered>(number: S, side: Side<'_>) -> usiz
     side.run.count
 }
 
-/// Goes over numbers, with a loop of its own for those that lie one right after the other. They have
-/// `seen` before them.
+/// Reduces numbers, with a loop of its own for adjacent ones. `seen` numbers come before them.
 pub(crate) fn fold_run<S: Number, O: Ordered, F: Fold<S>>(
     held: F::Held,
     seen: usize,
@@ -200,7 +200,7 @@ pub(crate) fn fold_run<S: Number, O: Ordered, F: Fold<S>>(
     }
 }
 
-/// What comes of numbers.
+/// The result for some numbers.
 pub(crate) fn fold_line<S: Number, O: Ordered, F: Fold<S>>(line: Side<'_>) -> F::Total
     requires width { line.width ≡ S.WIDTH }
     requires some { 1 ≤ line.run.count }

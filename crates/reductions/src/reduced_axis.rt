@@ -1,4 +1,4 @@
-//! The axis that a reduction goes along, the shape of its result, where its lists begin, and what is refused.
+//! The axis of a reduction, the shape of its result, where its lists begin, and what is refused.
 ghost use Rattle.elem_descr.specs.declared.descr.Descr.TheVariants.{Scalar as ScalarDescr};
 ghost use Rattle.reductions.specs.Lists.{IsAxisOf, is_axis, list_length, named_axis, reduced_shape};
 ghost use Rattle.reductions.specs.Outcomes.{has_empty_list, number_scalar};
@@ -28,7 +28,7 @@ pub(crate) fn number_scalar(descr: &Descr) -> Result<Scalar, Refusal>
     }
 }
 
-/// The axis that is named, as counted from the front.
+/// The axis that is given, counted from the front.
 pub(crate) fn named_axis(rank: usize, axis: Option<i128>) -> Result<Option<usize>, Refusal>
     ensures ok { IfOk result (λ named. (is_axis rank axis ≡ true) × (named ≡ named_axis rank axis)
         × IsAxisOf rank named) }
@@ -41,7 +41,7 @@ pub(crate) fn named_axis(rank: usize, axis: Option<i128>) -> Result<Option<usize
     Ok(Some(from_front(rank, axis) as usize))
 }
 
-/// The numbers of axes without that of one axis.
+/// The numbers of the axes without one of them.
 fn without<T: Copy + Default>(
     alloc: Global,
     numbers: &[T],
@@ -55,7 +55,7 @@ fn without<T: Copy + Default>(
     Ok(others)
 }
 
-/// The lengths of the axes of the result: without an axis, or with a 1 in its place.
+/// The lengths of the result's axes: without an axis, or with a 1 in its place.
 fn reduced_lengths(
     alloc: Global,
     lengths: &[usize],
@@ -91,7 +91,7 @@ pub(crate) fn list_length(shape: &Shape, axis: Option<usize>) -> usize
     }
 }
 
-/// Whether there are items along axes of these lengths.
+/// Whether axes of these lengths have items.
 fn have_items(lengths: &[usize]) -> bool
     ensures { result ≡ not (count lengths.now == 0) }
 {
@@ -103,7 +103,8 @@ fn have_items(lengths: &[usize]) -> bool
     true
 }
 
-/// Whether some item of the result would be made of no items, though a reduction needs some.
+/// Whether some item of the result would be the reduction of no items, although the reduction needs
+/// some.
 fn lacks_items(reduction: Red, shape: &Shape, axis: Option<usize>, lengths: &[usize]) -> bool
     requires { IsAxisOf (length shape.now) axis }
     ensures { result ≡ (needs_items reduction && has_empty_list shape.now axis lengths.now) }
@@ -129,7 +130,7 @@ pub(crate) fn shape_after(
     Shape::try_new(alloc, lengths.as_slice())
 }
 
-/// A shape without an axis of 1 item or more.
+/// A shape without one of its axes, which has items.
 fn shape_without(alloc: Global, shape: &Shape, axis: usize) -> Result<Shape, AllocError>
     requires axis { axis < length shape.now }
     requires some { 1 ≤ slice_index shape.now axis }
@@ -139,7 +140,7 @@ fn shape_without(alloc: Global, shape: &Shape, axis: usize) -> Result<Shape, All
     Shape::from_lengths(alloc, lengths.as_slice())
 }
 
-/// The items where the lists along an axis begin: those at 0 on it.
+/// The starts of the lists along an axis: the items at index 0 on it.
 pub(crate) fn starts_of(alloc: Global, layout: &Layout, axis: usize) -> Result<Layout, AllocError>
     requires axis { axis < length layout.now.shape }
     requires some { 1 ≤ slice_index layout.now.shape axis }

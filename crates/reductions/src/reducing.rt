@@ -7,10 +7,10 @@ ghost use Rattle.reductions.specs.Lists.{named_axis, list_length, lists, IsAxisO
 ghost use Rattle.reductions.specs.Outcomes.{reduced_type, outcome_of};
 ghost use Rattle.reductions.specs.Reductions.{needs_items, reduced_items};
 ghost use Rattle.reductions.specs.inside.Numbers.{lists_from, HaveItems};
-ghost use Rattle.reductions.specs.inside.Orders.{hangs_on_order};
+ghost use Rattle.reductions.specs.inside.Orders.{depends_on_order};
 ghost use Rattle.reductions.specs.inside.Sources.{lists_of, AreResults};
 
-use crate::by_reduction::{Reducing, empty_block, hangs_on_order, result_scalar};
+use crate::by_reduction::{Reducing, depends_on_order, empty_block, result_scalar};
 use crate::lines::{Lists, Source};
 use crate::reduced_axis::{list_length, named_axis, number_scalar, shape_after, starts_of};
 use arrays::{Items, Owned, copy, goes_by_columns};
@@ -20,7 +20,7 @@ use raw_block::RawBlock;
 use shape_strides::{Layout, StridedAxis, in_memory_order, lies_in_c_order};
 use std::alloc::{AllocError, Global};
 
-/// The axis with a number.
+/// The axis with this number.
 fn axis_at(layout: &Layout, axis: usize) -> StridedAxis
     requires { axis < length layout.now.shape }
     ensures value { result
@@ -37,7 +37,7 @@ fn axis_at(layout: &Layout, axis: usize) -> StridedAxis
     }
 }
 
-/// A block of what comes of the lists that begin at these items.
+/// A block with the reductions of the lists that begin at these items.
 fn reduced_from(
     alloc: Global,
     reduction: Red,
@@ -66,7 +66,7 @@ fn reduced_from(
     on_number(source.scalar, task)
 }
 
-/// A block of what comes of all items, which are gone over in the order of another layout of them.
+/// A block with the reduction of all items, visited in the order of another layout of them.
 fn reduced_near(
     alloc: Global,
     reduction: Red,
@@ -76,7 +76,7 @@ fn reduced_near(
     requires number { IsNumber source.scalar.now }
     requires all { source.axis ≡ None }
     requires some { 0 < count source.layout.now.shape }
-    requires free { hangs_on_order reduction ≡ false }
+    requires free { depends_on_order reduction ≡ false }
     requires same { IsPermutation (offsets source.layout.now) (offsets near.now) }
     ensures { IfOk result (AreResults reduction source.entry) }
 {
@@ -89,15 +89,15 @@ fn reduced_near(
     reduced_from(alloc, reduction, source, near, None)
 }
 
-/// A block of what comes of all items, which are gone over as they lie in memory where their order does
-/// not matter.
+/// A block with the reduction of all items, visited in the order of memory if their order does not
+/// matter.
 fn reduced_all(alloc: Global, reduction: Red, source: Source<'_>) -> Result<RawBlock, AllocError>
     requires number { IsNumber source.scalar.now }
     requires all { source.axis ≡ None }
     requires some { 0 < count source.layout.now.shape }
     ensures { IfOk result (AreResults reduction source.entry) }
 {
-    if hangs_on_order(reduction) {
+    if depends_on_order(reduction) {
         return reduced_from(alloc, reduction, source, source.layout, None);
     }
     match in_memory_order(alloc, source.layout, source.layout) {
@@ -106,7 +106,7 @@ fn reduced_all(alloc: Global, reduction: Red, source: Source<'_>) -> Result<RawB
     }
 }
 
-/// A block of what comes of each of so many lists.
+/// A block with the reduction of each list.
 fn reduced_block(
     alloc: Global,
     items: usize,
@@ -133,7 +133,7 @@ fn reduced_block(
     reduced_from(alloc, reduction, source, &starts, Some(along))
 }
 
-/// What `reduce` gives, however the items lie.
+/// The result of `reduce`, whatever the order of the items in memory.
 fn reduce_items(
     alloc: Global,
     reduction: Red,
@@ -166,16 +166,17 @@ fn reduce_items(
     Ok(owned)
 }
 
-/// Whether all items are gone over as they lie in memory, and in another order than C order.
+/// Whether all items are visited in the order of memory, and that is not C order.
 fn goes_by_memory(reduction: Red, layout: &Layout, axis: Option<i128>) -> bool {
-    axis.is_none() && !hangs_on_order(reduction) && !lies_in_c_order(layout)
+    axis.is_none() && !depends_on_order(reduction) && !lies_in_c_order(layout)
 }
 
-/// Items reduced along an axis, where a negative number counts from the end, or all of
-/// them where no axis is named, in a block of their own in C order. The axes that go have length 1 in the
-/// result if they are to be kept. Refused are, in this order, items that are no numbers as
-/// `NotForThisKind`, an axis out of range as `BadAxis`, the least or greatest of no items and its place as
-/// `EmptyReduction`, and a result of more than 2^24 items as `TooLarge`.
+/// Reduces items along an axis, or all of them if no axis is given, into a block of their own in C
+/// order. A negative axis counts from the end. With `keep`, a reduced axis stays in the result with
+/// length 1.
+/// Refusals, in this order: items that are not numbers (`NotForThisKind`); an axis out of range
+/// (`BadAxis`); the least or greatest of no items, or its place (`EmptyReduction`); a result of
+/// more than 2^24 items (`TooLarge`).
 pub fn reduce(
     alloc: Global,
     reduction: Red,
@@ -200,7 +201,7 @@ pub fn reduce(
     {
         return reduce_items(alloc, reduction, items, axis, keep);
     }
-    // For the prover alone: so few items of so few bytes are within the limit of a block.
+    // For the prover alone: the bytes of the result are within the limit of a block.
     let _items = items.layout.shape.items();
     let near = copy(
         alloc,

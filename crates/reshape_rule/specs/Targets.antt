@@ -15,8 +15,8 @@ given [] = 1
 given (pos n ∷ numbers) = n * given numbers
 given (negsuc n ∷ numbers) = given numbers
 
--- so many lengths that are left open and others of this product make up so many items: one that is left open comes out whole,
--- and does not stand beside a product of 0
+-- whether `opened` lengths of -1, and other lengths with this product, can have `items` items: one -1 must come out
+-- whole, and cannot be used with a product of 0
 abbrev pub make_up : ℕ → ℕ → ℕ → Bool
 make_up items opened product = if opened == 0 then product == items else (not (product == 0) && (items % product == 0))
 
@@ -25,7 +25,7 @@ abbrev pub length_or : ℕ → ℤ → ℕ
 length_or rest (pos n) = n
 length_or rest (negsuc n) = rest
 
--- the shape that the numbers mean for an array of so many items
+-- the shape that the numbers mean for an array of `items` items
 unfoldable pub target_of : ℕ → List ℤ → Result (List ℕ) Refusal
 target_of items numbers = do
   _ ← check (nat_le (length numbers) max_axes) TooManyAxes

@@ -3,7 +3,7 @@ use Rattle.std.specs.Prelude.{◌≡◌, ◌<◌, ℕ, zero, suc, List, [], ◌�
 use Rattle.std.specs.Option.{option_and_then}
 use Rattle.script_lang.specs.Tokens.{symbol_at, ◌>>=◌, ◌or_else◌}
 
--- what is read by a rule that is used so many times at most
+-- what a rule reads that is applied at most `turns` times
 unfoldable pub in_turns : {B : Type 0} → ((List ℕ → Option B) → List ℕ → Option B) → ℕ → List ℕ → Option B
 in_turns rule zero bytes = None
 in_turns rule (suc turns) bytes = rule (in_turns rule turns) bytes

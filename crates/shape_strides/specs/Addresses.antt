@@ -16,7 +16,7 @@ abbrev pub natural : ℤ → ℕ
 natural (pos n) = n
 natural (negsuc n) = 0
 
--- every item, of so many bytes, lies in the first `len` bytes: so too where there is no item
+-- every item, of `item` bytes, lies in the first `len` bytes; this holds if there are no items
 pub record LieWithin (shape : List ℕ) (strides : List ℤ) (offset len item : ℕ) : Type 0 where
   pub from_zero : (index : List ℕ) → IsIndex shape index → pos 0 ≤ℤ address_at strides offset index
   pub within : (index : List ℕ) → IsIndex shape index → (address_at strides offset index +ℤ pos item) ≤ℤ pos len

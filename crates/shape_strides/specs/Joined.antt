@@ -12,7 +12,7 @@ strided_axes _ _ = []
 abbrev pub leads_over : StridedAxis → StridedAxis → Bool
 leads_over outer inner = int_eq outer.stride (inner.stride *ℤ pos inner.len)
 
--- an axis outside of axes that are joined: one of length 1 is left out, and one that leads over the next joins it
+-- an axis outside of joined axes: an axis of length 1 is skipped, and one that leads over the next is joined with it
 abbrev pub join_outside : StridedAxis → List StridedAxis → List StridedAxis
 join_outside axis [] = if axis.len == 1 then [] else axis ∷ []
 join_outside axis (inner ∷ axes) = if axis.len == 1 then inner ∷ axes else if leads_over axis inner then record { len = axis.len * inner.len; stride = inner.stride } ∷ axes else axis ∷ inner ∷ axes

@@ -15,7 +15,7 @@ address l index = address_at l.strides l.offset index
 unfoldable pub offsets : Layout → List ℕ
 offsets l = map (λ index. natural (address l index)) (indexes l.shape)
 
--- every item, of so many bytes, lies in the first `len` bytes: so too where there is no item
+-- every item, of `item` bytes, lies in the first `len` bytes; this holds if there are no items
 abbrev pub Fits : Layout → ℕ → ℕ → Type 0
 Fits l len item = LieWithin l.shape l.strides l.offset len item
 
@@ -45,6 +45,6 @@ f_strides item (n ∷ shape) = pos item ∷ f_strides (item * n) shape
 abbrev pub f_multiples : ℕ → List ℕ → List ℕ
 f_multiples item shape = map (λ index. item * rank (reverse shape) (reverse index)) (indexes shape)
 
--- the offsets of items of so many bytes, each of which begins so many bytes after its place
+-- the offsets of items of `item` bytes, each of which begins `start` bytes after its place
 abbrev pub offsets_of : ℕ → ℕ → List ℕ → List ℕ
 offsets_of item start places = map (λ place. item * place + start) places

@@ -21,7 +21,7 @@ abbrev pub AreWhole : List Run → Type 0
 AreWhole [] = Unit {0}
 AreWhole (run ∷ runs) = IsWhole run × AreWhole runs
 
--- two walks with as many items left, at most so many
+-- two walks with the same number of items left, which is at most `most`
 pub record AreEven (most : ℕ) (xs ys : List Run) : Type 0 where
   pub whole : AreWhole xs
   pub whole' : AreWhole ys

@@ -22,7 +22,7 @@ cut n run runs = if run.count == n then runs else run_after n run ∷ runs
 abbrev pub shorter : Run → Run → ℕ
 shorter x y = min x.count y.count
 
--- pair by pair, each as long as the shorter run; there are at most so many
+-- pair by pair, each as long as the shorter run, and at most `most` pairs
 abbrev pub paired : ℕ → List Run → List Run → List RunPair
 paired (suc most) (x ∷ xs) (y ∷ ys) = record { first = run_front (shorter x y) x; second = run_front (shorter x y) y } ∷ paired most (cut (shorter x y) x xs) (cut (shorter x y) y ys)
 paired _ _ _ = []

@@ -15,7 +15,7 @@ pub record AreAxes (shape : List ℕ) (strides : List ℤ) (offset : ℕ) : Type
 abbrev pub offsets_at : List ℕ → List ℤ → ℕ → List ℕ
 offsets_at shape strides offset = map (λ index. natural (address_at strides offset index)) (indexes shape)
 
--- the item at this index, at this offset, is next, and so many items are left
+-- the item at this index and offset is next, and `left` items are left
 pub record IsNext (shape : List ℕ) (strides : List ℤ) (start : ℕ) (index : List ℕ) (offset left : ℕ) : Type 0 where
   pub in_shape : IsIndex shape index
   pub place : rank shape index + left ≡ count shape

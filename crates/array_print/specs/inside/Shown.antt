@@ -34,7 +34,7 @@ abbrev pub lead : ℕ → List ℕ → List ℕ
 lead zero separator = []
 lead (suc k) separator = separator
 
--- a text so many times
+-- a text, n times
 abbrev pub repeated : List ℕ → ℕ → List ℕ
 repeated text zero = []
 repeated text (suc n) = repeated text n ++ text

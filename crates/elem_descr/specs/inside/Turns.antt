@@ -88,8 +88,8 @@ name_at text =
 abbrev pub named : ℕ → List ℕ → Result (List ℕ × List ℕ) Refusal
 named number text = if is_named text then name_at (drop 1 text) else Ok (codes "f" ++ decimal number, text)
 
--- what reads the members of a record up to its closing brace, begun under a mark and after so many
--- leaves of the text, and answers what follows the brace
+-- reads the members of a record up to its closing brace, given the mark in force and the number of leaves before it,
+-- and returns what follows the brace
 abbrev pub Reader : Type 0
 Reader = Mark → ℕ → List ℕ → Result (Body × List ℕ) Refusal
 
@@ -140,7 +140,7 @@ abbrev pub turn : Reader → Mark → Partial → Option (List ℕ) → List ℕ
 turn within mark p None text later = next_field within mark p text >>= later
 turn within mark p (Some rest) text later = closed_body mark p >>= λ body. Ok (body, rest)
 
--- the members of a record up to its closing brace, in at most so many turns
+-- the members of a record up to its closing brace, in at most `turns` turns
 abbrev pub members : Reader → ℕ → Mark → Partial → List ℕ → Result (Body × List ℕ) Refusal
 members within zero mark p text = Err BadDescriptor
 members within (suc turns) mark p text =
@@ -152,7 +152,7 @@ record_within zero mark leaves text = Err DescriptorLeftOut
 record_within (suc levels) mark leaves text =
     members (record_within levels) (length text) mark (empty levels leaves) text
 
--- nothing more may follow: a name and a second member are left out, all else does not fit
+-- nothing may follow: a name or a second member is unsupported, and anything else is invalid
 unfoldable pub nothing_follows : List ℕ → Result (Unit {0}) Refusal
 nothing_follows text = if list_all (is_one_of (codes " ")) text then Ok tt else do
   _ ← check (not (is_named text)) DescriptorLeftOut

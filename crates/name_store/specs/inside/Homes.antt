@@ -8,7 +8,7 @@ use Rattle.name_store.specs.View.{array_at, named_array, slot_at}
 use Rattle.name_store.specs.declared.bound.Entry.{Entry}
 use Rattle.name_store.specs.declared.slot.Slot.{Slot}
 
--- the name's array lies in the slot with this number, and each of its items has so many bytes
+-- the name's array is in the slot with this number, and its items have `width` bytes
 pub record IsHome (names : List (List ℕ × Entry)) (slots : List (Option Slot)) (name : List ℕ) (number width : ℕ) : Type 0 where
   pub entry : Entry
   pub slot : Slot

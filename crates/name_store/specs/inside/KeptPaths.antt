@@ -1,7 +1,7 @@
 -- What is kept of a path: its numbers, in four places.
 use Rattle.std.proofs.Common.{◌≡◌, ◌≤◌, ◌-◌, ℕ, List, ◌++◌, length, take, replicate, sym, ap, ◌∙◌, arith, length-take}
 
--- so many numbers in four places, and zeros behind them
+-- `len` numbers in four places, followed by zeros
 pub record IsKept (len : ℕ) (numbers : List ℕ) : Type 0 where
   pub short : len ≤ 4
   pub four : length numbers ≡ 4

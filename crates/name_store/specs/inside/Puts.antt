@@ -12,7 +12,7 @@ use Rattle.name_store.specs.declared.write.Target.{Target}
 use Rattle.name_store.specs.declared.write.Target.TheVariants.{View, Plan}
 use Rattle.name_store.specs.inside.Homes.{HasNew}
 
--- the items of a target lie within so many bytes, and no two of a layout have one in common
+-- the items of a target lie within `len` bytes, and those of a layout do not overlap
 abbrev pub MayPut : Target → ℕ → ℕ → Type 0
 MayPut (View layout) len width = Fits layout len width × IsNested (offsets layout) width
 MayPut (Plan plan) len width = All (λ offset. offset + width ≤ len) plan.offsets
@@ -22,7 +22,7 @@ abbrev pub block_from : Option Slot → List ℕ → List ℕ
 block_from None block = block
 block_from (Some slot) block = slot.block
 
--- there are n of them, each of so many bytes
+-- there are n items of `width` bytes
 abbrev pub AreItems : List (Option Slot) → ℕ → List ℕ → ℕ → Source → Type 0
 AreItems others width block n (One item) = length item.items ≡ width
 AreItems others width block n (Block owned) = (item_size owned.descr ≡ width) × (length (offsets owned.layout) ≡ n)

@@ -27,14 +27,14 @@ shelf_of files limit failures = record { files = files_of files; failures = fail
 abbrev pub IsNamed : List StoredFile → ℕ → List ℕ → Type 0
 IsNamed files place name = (file : StoredFile) × (slice_get files place ≡ Some file) × (file.name.items ≡ name)
 
--- Of the first files of a list, so many, the one at this place has the first name after another one.
+-- Of the first `count` files of a list, the file at this place has the first name after another one.
 abbrev pub IsFirstOf : List StoredFile → List ℕ → ℕ → Option ℕ → Type 0
 IsFirstOf files after count None = (place : ℕ) (name : List ℕ) → place < count → IsNamed files place name → comes_before after name ≡ false
 IsFirstOf files after count (Some best) =
     (name : List ℕ) × IsNamed files best name × (comes_before after name ≡ true)
     × ((place : ℕ) (other : List ℕ) → place < count → IsNamed files place other → comes_before after other ≡ true → comes_before other name ≡ false)
 
--- how often a device has failed that fails once, after so many calls
+-- how often a device has failed that fails once, after a number of calls
 abbrev pub failures_of : Option ℕ → ℕ
 failures_of (Some calls) = 0
 failures_of None = 1

@@ -41,11 +41,11 @@ IsPlain from (leaf ∷ leaves) bytes = (leaf.at ≡ from) × (limit leaf.scalar 
 abbrev pub addresses_in_file : ℕ → List ℕ → List ℕ → List ℕ
 addresses_in_file item shape addresses = if is_fortran item shape addresses then fortran_order shape addresses else addresses
 
--- the items of so many bytes at these addresses
+-- the items of `width` bytes at these addresses
 abbrev pub gathered : ℕ → List ℕ → List ℕ → List ℕ
 gathered width bytes addresses = flat_map (λ address. item_at address width bytes) addresses
 
--- so many adjacent items, as a file has them
+-- `count` adjacent items, as a file stores them
 abbrev pub as_in_file : Descr → ℕ → List ℕ → List ℕ
 as_in_file descr count bytes = flat_map (λ item. encode_item descr (decode_item descr item)) (blocks (item_size descr) count bytes)
 

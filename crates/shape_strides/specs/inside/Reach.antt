@@ -12,7 +12,7 @@ abbrev pub reach_below : List ℤ → List ℕ → ℕ
 reach_below (stride ∷ strides) (n ∷ shape) = natural (neg_ℤ stride) * (n - 1) + reach_below strides shape
 reach_below _ _ = 0
 
--- either way: the axes that step over so many bytes at most
+-- the reach, in either direction, of the axes that step over at most `step` bytes
 abbrev pub reach_within : ℕ → List ℤ → List ℕ → ℕ
 reach_within step (stride ∷ strides) (n ∷ shape) = (if nat_le (unsigned_abs stride) step then unsigned_abs stride * (n - 1) else 0) + reach_within step strides shape
 reach_within step _ _ = 0

@@ -2,6 +2,6 @@
 use Rattle.std.specs.Prelude.{◌==◌, if◌then◌else◌, List, [], ◌∷◌}
 use Rattle.shape_strides.specs.declared.single_run.StridedAxis.{StridedAxis}
 
--- an axis as joined axes: one of length 1 is left out
+-- a single axis as joined axes: an axis of length 1 is skipped
 abbrev pub if_long : StridedAxis → List StridedAxis
 if_long axis = if axis.len == 1 then [] else axis ∷ []
