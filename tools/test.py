@@ -1,9 +1,9 @@
 #!/usr/bin/env python3
 """Runs the tests of everything but the proofs: tools/test.py [WORD ..] runs those whose names have one of the words, or all.
 
-Two minutes on two cores, and no toolchain. What is left out is told with its reason. The last line is `N passed, M failed, K skipped`.
-With --gate `rt ci` comes first, which proves all from scratch, then dist/ is compared with the program that it built, and no test
-may be left out for want of the program."""
+It takes two minutes on two cores, and needs no toolchain. Skipped tests are listed with the reason. The last line is
+`N passed, M failed, K skipped`. With --gate, `rt ci` runs first and proves everything from scratch, then dist/ is compared with the
+program that it built, and no test may be skipped because there is no program."""
 import concurrent.futures
 import io
 import os
@@ -38,14 +38,14 @@ def names_of(suite):
 
 
 def run_test(name):
-    """Runs a test: its name, what it says of failures, why it is left out, and its seconds."""
+    """Runs a test. Returns its name, what it says about failures, why it was skipped, and how many seconds it took."""
     began, said = time.monotonic(), io.StringIO()
     result = unittest.TextTestRunner(said, verbosity=0).run(unittest.defaultTestLoader.loadTestsFromName(name))
     return name, "" if result.wasSuccessful() else said.getvalue(), [why for _, why in result.skipped], time.monotonic() - began
 
 
 def run_tests(words, counts, is_gate):
-    """Runs the tests, on all cores, and tells those that failed, and those that were left out."""
+    """Runs the tests on all cores, and reports those that failed and those that were skipped."""
     found = names_of(unittest.defaultTestLoader.discover(str(TOOLS), "test_*.py"))
     names = [name for name in found if not words or any(word in name for word in words)]
     with concurrent.futures.ProcessPoolExecutor() as pool:

@@ -20,7 +20,7 @@ CALLS = "".join(f"unsigned char bench_c_{call}(void *handle) {{ return handle ? 
 WHY = "is not what these sources and this toolchain give: run `make`, `make page`, then `make dist`"
 
 
-@unittest.skipUnless(sources.kit_folder(), "left out: the toolchain is not installed")
+@unittest.skipUnless(sources.kit_folder(), "the toolchain is not installed")
 class MadeAnew(unittest.TestCase):
     def setUp(self):
         made = tempfile.TemporaryDirectory()
@@ -72,7 +72,7 @@ class MadeAnew(unittest.TestCase):
             self.assertEqual(list(dist.made_anew("a kit")), ["the library and the page are not compared: no library"])
 
 
-@unittest.skipUnless(sources.kit_folder(), "left out: the toolchain is not installed")
+@unittest.skipUnless(sources.kit_folder(), "the toolchain is not installed")
 class Module(unittest.TestCase):
     def test_the_module_is_kept(self):
         """The clang of the folder of links compiles as the real one does, and keeps the module."""

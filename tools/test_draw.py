@@ -20,7 +20,7 @@ from bench_tool.session import literal
 from test_page import vectors
 
 HAS_PAGE = any(map(pathlib.Path.is_file, pages.PLACES))
-needs_node = unittest.skipUnless(HAS_PAGE and shutil.which("node"), "left out: Node is not installed, or `make page` has made no page")
+needs_node = unittest.skipUnless(HAS_PAGE and shutil.which("node"), "Node is not installed, or `make page` has made no page")
 LONG = "name_of_just_thirty_two_bytes_ab"
 SCRIPTS = {
     "refused in part": ["a = arange <i4 0 3 1", "b = nothing", "set a[3] = 1", "what is this?", "set a[0] = 7", "\x7f", "x = load \"none.npy\""],
@@ -296,7 +296,7 @@ process.stdout.write(JSON.stringify(rows.map((row, k) => [row.hue, row.label, ro
         self.assertEqual(made, {path.name: path.read_text() for path in (TOP / "docs/pictures").iterdir()}, "make pictures draws them anew")
 
 
-@unittest.skipUnless(HAS_PAGE, "left out: `make page` has made no page")
+@unittest.skipUnless(HAS_PAGE, "`make page` has made no page")
 class Pages(unittest.TestCase):
     def words(self, **words):
         return argparse.Namespace(**{"undo": 16, "dir": "/nowhere", "line": None, **words})

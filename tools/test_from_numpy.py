@@ -15,7 +15,7 @@ from trials.companion_trials import COMPANION, PROGRAM, TOP, environment, needs_
 from bench_tool import ProgramEnded, Session, language
 
 np = numpy_or_none()
-needs_numpy = unittest.skipIf(np is None, "left out: NumPy is not installed")
+needs_numpy = unittest.skipIf(np is None, "NumPy is not installed")
 PAGE = (TOP / "docs/FROM-NUMPY.md").read_text()
 BLOCKS = dict(zip(("python", "bench"), re.findall(r"```(?:python)?\n(.*?)```", PAGE, re.S)))
 SLICES = 2912
@@ -112,7 +112,7 @@ class FromNumPy(unittest.TestCase):
         try:
             bench = self.session(program, dir=folder)
         except ProgramEnded:
-            self.skipTest(f"left out: this program does not start with as little memory as {code} wants")
+            self.skipTest(f"this program does not start with as little memory as {code} wants")
         replies = bench.run(before + lines)
         (self.ours / "a").unlink(missing_ok=True)
         self.assertEqual([reply.code for reply in replies[:-1]], [""] * (len(replies) - 1))

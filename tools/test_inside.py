@@ -13,7 +13,7 @@ from bench_tool import BenchError, Info, ProgramEnded, Refused, Session, library
 numpy = numpy_or_none()
 LIBRARY = library.loaded()
 needs_library = unittest.skipUnless(LIBRARY, "there is no libbench here")
-needs_numpy = unittest.skipUnless(numpy, "left out: NumPy is not installed")
+needs_numpy = unittest.skipUnless(numpy, "NumPy is not installed")
 
 
 def arrays():

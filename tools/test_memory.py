@@ -54,7 +54,7 @@ class LittleMemory(unittest.TestCase):
     def last_reply(self, kilobytes, *lines):
         limited = ["sh", "-c", f'ulimit -v {kilobytes}; exec "$@"', "sh", PROGRAM]
         if not works(*limited):
-            self.skipTest("left out: the program does not start with as little memory")
+            self.skipTest("the program does not start with as little memory")
         replies = subprocess.run(limited, input="\n".join(lines).encode(), capture_output=True, timeout=15).stdout
         return replies[replies.rindex(b"\n", 0, -1) + 1 :]
 

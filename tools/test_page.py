@@ -24,10 +24,10 @@ import retarget  # noqa: E402
 
 DIST, TRIALS = TOP / "dist", TOP / "tools/trials"
 PAGE = DIST / "bench.html"
-needs_page = unittest.skipUnless(PAGE.is_file(), "left out: `make page` has made no page")
-needs_node = unittest.skipUnless(shutil.which("node"), "left out: Node is not installed (Debian: nodejs)")
-needs_chromium = unittest.skipUnless(browsers.CHROMIUM, "left out: no chromium is installed (Debian: chromium)")
-needs_firefox = unittest.skipUnless(browsers.FIREFOX, "left out: no Firefox is installed (Debian: firefox-esr)")
+needs_page = unittest.skipUnless(PAGE.is_file(), "`make page` has made no page")
+needs_node = unittest.skipUnless(shutil.which("node"), "Node is not installed (Debian: nodejs)")
+needs_chromium = unittest.skipUnless(browsers.CHROMIUM, "no chromium is installed (Debian: chromium)")
+needs_firefox = unittest.skipUnless(browsers.FIREFOX, "no Firefox is installed (Debian: firefox-esr)")
 
 
 def coded(data):
@@ -168,7 +168,7 @@ console.log(JSON.stringify(told));
         done = subprocess.run(["node", TRIALS / "page_heap.mjs", str(share(200_000, 1_000_000))], capture_output=True, text=True)
         self.assertEqual((done.returncode, done.stderr), (0, ""), done.stdout)
 
-    @unittest.skipUnless(shutil.which("cc"), "left out: the C compiler is not installed")
+    @unittest.skipUnless(shutil.which("cc"), "the C compiler is not installed")
     def test_wide_numbers(self):
         names = {"__ashlti3": "shl", "__lshrti3": "shr", "__multi3": "mul", "__udivti3": "div"}
         with tempfile.TemporaryDirectory() as folder:
@@ -176,7 +176,7 @@ console.log(JSON.stringify(told));
             subprocess.run(["cc", "-O2", *(f"-D{name}=wide_{short}" for name, short in names.items()), TRIALS / "wide_calls.c", TOP / "page/wide.c", "-o", made], check=True)
             self.assertEqual(subprocess.run([made, str(share(300_000, 3_000_000))], capture_output=True, text=True).stdout, "")
 
-    @unittest.skipUnless(share("", "all"), "left out: 4 GB of memory are taken with BENCH_TESTS=all")
+    @unittest.skipUnless(share("", "all"), "4 GB of memory are taken with BENCH_TESTS=all")
     def test_memory(self):
         """At 4 GB a line is refused for want of memory, and the bench goes on."""
         lines = [*(f"a{k} = zeros <i8 (16777216)".encode() for k in range(40)), b"b = arange <i4 0 3 1", b"print b"]
@@ -211,7 +211,7 @@ class InBrowser:
         try:
             cls.browser = cls.OPENS()
         except (OSError, RuntimeError) as fault:  # (a time limit is an OSError)
-            raise unittest.SkipTest(f"left out: the browser that is installed does not run here: {fault}")
+            raise unittest.SkipTest(f"the browser that is installed does not run here: {fault}")
         cls.addClassCleanup(cls.browser.close)
 
     def page(self, uri=PAGE.as_uri(), **look):

@@ -93,7 +93,7 @@ class Runs(InFolder):
 
     def test_scripts_of_the_comparison_with_numpy(self):
         if numpy_or_none() is None:
-            self.skipTest("left out: NumPy is not installed")
+            self.skipTest("NumPy is not installed")
         from trials import beside_numpy
         for number in range(share(5, 200)):
             reference, lines, files = beside_numpy.script(f"run {number}", "mixed", 30)
@@ -263,7 +263,7 @@ class Runs(InFolder):
         """Its memory is constant, and so is what is said of it."""
         limited = ["sh", "-c", 'ulimit -v 250000; exec "$@"', "sh", TOOL, "run"]  # kilobytes
         if not works(*limited, "/dev/null", env=environment()):
-            self.skipTest("left out: this Python does not start with as little memory")
+            self.skipTest("this Python does not start with as little memory")
         path = self.folder / "long.bench"
         with open(path, "wb") as file:
             for _ in range(300):

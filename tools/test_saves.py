@@ -14,7 +14,7 @@ from trials.errors import FOLDER, HIDDEN, NAME, NEW, SAVE, Call
 
 FAULT = "no E27 store fault"
 SAVED = "ok save 131"
-needs_another_user = unittest.skipUnless(nobody(), "left out: a run as another user wants root's rights")
+needs_another_user = unittest.skipUnless(nobody(), "a run as another user wants root's rights")
 
 
 class Folder(InFolder):
@@ -126,7 +126,7 @@ class Leftovers(Folder):
         super().setUp()
         self.who = nobody()
         if os.getuid() == 0 and not self.who:
-            self.skipTest("left out: root may open all, and no other user can run this")
+            self.skipTest("root may open all, and no other user can run this")
         self.give(self.dir)
 
     def give(self, path):
@@ -167,7 +167,7 @@ class Leftovers(Folder):
 
     def test_a_save_that_is_killed_over_a_file_that_may_not_be_read(self):
         if not works("strace", "-qq", "-o", "/dev/null", "true", **self.who):
-            self.skipTest("left out: there is no strace, or it may trace nothing here")
+            self.skipTest("there is no strace, or it may trace nothing here")
         for mode in (0o200, 0o000):
             self.put(NAME, b"old", mode)
             self.folder.chmod(0o777)

@@ -15,7 +15,7 @@ from trials import npy_rule
 from trials.companion_trials import PROGRAM, TOP, InFolder, needs_compiler, needs_program, numpy_or_none, share
 from bench_tool import Session, scripts
 
-needs_numpy = unittest.skipUnless(numpy_or_none(), "left out: NumPy is not installed")
+needs_numpy = unittest.skipUnless(numpy_or_none(), "NumPy is not installed")
 KINDS = ("mixed", "indexes", "masks", "shares", "computing", "formats")
 
 
@@ -102,11 +102,11 @@ class Tools(unittest.TestCase):
         done = subprocess.run(words, cwd=TOP, capture_output=True, text=True)
         self.assertEqual(done.returncode, 0, done.stdout + done.stderr)
 
-    @unittest.skipUnless(shutil.which("mypy") and numpy_or_none(), "left out: mypy or NumPy is not installed")
+    @unittest.skipUnless(shutil.which("mypy") and numpy_or_none(), "mypy or NumPy is not installed")
     def test_types(self):
         self.clean("mypy", "--cache-dir", os.devnull, "--python-executable", sys.executable)
 
-    @unittest.skipUnless(shutil.which("ruff"), "left out: ruff is not installed")
+    @unittest.skipUnless(shutil.which("ruff"), "ruff is not installed")
     def test_style(self):
         self.clean("ruff", "check", ".")
 

@@ -1,4 +1,4 @@
-"""`Session`: the bench in this process where its library can be loaded, and else the program behind a pipe.
+"""`Session`: the bench in this process if its library can be loaded, and otherwise the program behind a pipe.
 
     >>> with Session() as bench:
     ...     bench.ask("a = arange <i4 0 6 1")
@@ -32,8 +32,8 @@ ANSWERED = re.compile(b"|".join(map(re.escape, ENDS)))
 
 
 class Info(NamedTuple):
-    """What `info` tells of an array: its type, its shape, its strides and the place of its first item in bytes, its order in memory
-    (C, F, CF or -), and whether it can be written to."""
+    """What `info` reports about an array: its type, its shape, its strides and the place of its first item in bytes, its order in
+    memory (C, F, CF or -), and whether it is writable."""
 
     name: str
     type: str
@@ -45,7 +45,7 @@ class Info(NamedTuple):
 
 
 def _split(lines: Union[str, Iterable[Line]]) -> Iterable[Line]:
-    """The lines of a text, or those that are given."""
+    """The lines of a text, or the given lines."""
     return lines.removesuffix("\n").split("\n") if isinstance(lines, str) else lines
 
 
@@ -101,11 +101,11 @@ class Files(Mapping[str, bytes]):
 
 
 class Session(session.Session):
-    """A bench, from here to `close`. Its calls are the same wherever it runs: in this process, where libbench can be loaded, or as the
-    program behind a pipe, where it cannot, or where a program or a folder is named.
+    """A bench, open until `close`. It runs in this process if libbench can be loaded, and otherwise, or if a program or a folder is
+    given, as the program behind a pipe. The calls are the same.
 
-    In the process its files are in memory. Behind a pipe they are in the folder `dir`; where none is named, in a temporary one, which
-    is removed at the end. `undo` is how many changes `undo` can take back, 0 to 64. One thread at a time uses a session.
+    In the process, files are in memory. Behind a pipe, they are in the folder `dir`, or by default in a temporary one, which is
+    removed at the end. `undo` says how many changes `undo` can take back, 0 to 64. Only one thread at a time may use a session.
 
     >>> with Session(undo=1) as bench:
     ...     bench.send("a = zeros <i4 (2)").text
@@ -134,8 +134,8 @@ class Session(session.Session):
         self.files = Files(Path(dir))
 
     def send(self, line: Line, take: Optional[Callable[[bytes], Any]] = None) -> Reply:
-        """The reply to one line. With `take` the reply is handed over in parts, each line of it with its newline, and the text of the
-        reply is its begin alone.
+        """The reply to one line. With `take`, the reply is passed to it in parts, each line with its newline, and the text that is
+        returned is only the beginning.
 
         >>> Session().send("print nowhere")
         Reply(accepted=False, code='E06', meaning='unknown name', text='no E06 unknown name')
@@ -149,8 +149,8 @@ class Session(session.Session):
         return Reply(reply.accepted, reply.code, reply.meaning, reply.text[:256])
 
     def run(self, lines: Union[str, Iterable[Line]], check: bool = False) -> list[Reply]:
-        """The replies to several lines, one for each. With `check`, `Refused` at the first that is refused; it tells the line, the code
-        and the text, and no further line is sent.
+        """The replies to several lines, one for each. With `check`, `Refused` is raised at the first line that is refused: it has the
+        line, the code and the text, and no further line is sent.
 
         >>> with Session() as bench:
         ...     bench.run("a = zeros <i4 (2)\\nb = a[5]\\ndel a", check=True)
@@ -166,7 +166,7 @@ class Session(session.Session):
         return replies
 
     def batch(self, lines: Union[str, Iterable[Line]]) -> list[str]:
-        """The texts of the replies to many lines, one for each, with the least to do for each of them.
+        """The texts of the replies to many lines, one for each. This is the fastest way to send them.
 
         >>> Session().batch(["a = zeros <i4 (2)", "", "print a", "print b"])
         ['ok a <i4 (2,) new', '', '[0 0]', 'no E06 unknown name']
@@ -186,7 +186,7 @@ class Session(session.Session):
         return super().names()
 
     def info(self, name: str) -> Info:
-        """What `info` tells of a name; `Refused` where it is not bound.
+        """What `info` reports about a name. `Refused` is raised if it is not bound.
 
         >>> with Session() as bench:
         ...     bench.batch(["a = arange <i4 0 6 1", "b = a[::-2]"]) and bench.info("b")
@@ -196,7 +196,7 @@ class Session(session.Session):
         return Info(found.name, found.type, found.shape, found.strides, found.at, found.order, found.writable)
 
     def put(self, name: str, array: Any) -> None:
-        """Binds a name to a new array with the type, the shape and the items of a NumPy array, or of what `numpy.asarray` makes one of.
+        """Binds a name to a new array with the type, the shape and the items of a NumPy array, or of anything that `numpy.asarray` takes.
         `Refused` where the bench has no such type.
 
         >>> import numpy
@@ -222,7 +222,7 @@ class Session(session.Session):
             self._clear()
 
     def get(self, name: str) -> "numpy.ndarray[Any, Any]":
-        """A copy of a name's array as a NumPy array; `Refused` where it is not bound.
+        """A copy of a name's array as a NumPy array. `Refused` is raised if the name is not bound.
 
         >>> with Session() as bench:
         ...     bench.ask("a = array T{<i:n:2s:s:} (2) (1,b'a') (2,b'b')")
@@ -245,12 +245,12 @@ class Session(session.Session):
             self._clear()
 
     def kill(self) -> None:
-        """Kills the program, also from another thread. In the process there is nothing to kill."""
+        """Kills the program. Another thread may call it. In the process there is nothing to kill."""
         if self._inside is None:
             super().kill()
 
     def close(self) -> int:
-        """Ends the session, and answers the status of the program, 0 in the process. A second call does nothing more."""
+        """Ends the session and returns the exit status of the program, or 0 in the process. A second call returns the same."""
         if self._inside is None:
             try:
                 return super().close()
@@ -304,7 +304,7 @@ class Session(session.Session):
         return [reply.decode("ascii", "replace").removesuffix("\n") for reply in ANSWERED.split(bytes(told))[:-1]]
 
     def _clear(self) -> None:
-        """Lets go of the file by which an array went in or out."""
+        """Removes the file through which an array went in or out."""
         if self._inside is not None:
             with suppress(MemoryError):
                 self._inside.put(EXCHANGE.encode(), b"")

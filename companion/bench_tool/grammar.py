@@ -1,4 +1,4 @@
-"""How far a line reads as a command, and what may stand where it stops. The forms are those of LANGUAGE's table of commands."""
+"""How much of a line is a command, and what could come where it stops. The forms are those of LANGUAGE's table of commands."""
 import re
 from functools import lru_cache
 from typing import Any, Collection, NamedTuple, Optional
@@ -27,7 +27,7 @@ class Part(NamedTuple):
 
 
 class Token(NamedTuple):
-    """A pattern, and how it is called where it is missing; one without a name is not called for. `is_glued`: no blank is before it."""
+    """A pattern, and its name in messages that say it is missing; one without a name is never missed. `is_glued`: no blank before it."""
 
     pattern: str
     what: str = ""
@@ -71,7 +71,7 @@ def shape(length: str) -> Any:
 
 
 def index() -> Any:
-    """An index, at once behind the name: entries of which at most one is `...`."""
+    """An index, directly after the name: entries of which at most one is `...`."""
     number = maybe(Token(INTEGER))
     entry = [(number, Token(":"), number, maybe((Token(":"), number))), Token(INTEGER, ENTRY), Token(rf"None(?!\w){PARTED}"), name(ENTRY)]
     more, dots = Many((mark(","), entry)), Token(r"\.\.\.")
@@ -80,7 +80,7 @@ def index() -> Any:
 
 @lru_cache(None)
 def reserved() -> frozenset[str]:
-    """The words that are no names."""
+    """The words that cannot be names."""
     verbs = [*language.verbs(True), *language.verbs(False), *(word for words in language.operations().values() for word in words)]
     return frozenset([*verbs, "True", "False", "None"])
 
@@ -90,7 +90,7 @@ def name(what: str) -> Token:
 
 
 def rule_of(piece: str, what: str) -> Any:
-    """What a piece of a form is in a line; `what` is the name of an array or of a word there."""
+    """The rule for a piece of a form; `what` is the name of an array or of a word there."""
     rules: dict[str, Any] = {
         "=": mark("="), "X": name(what), "Y": name(what), "D": TYPE, "S": shape(INTEGER.replace("[+-]?", "")), "S-": shape(INTEGER),
         "(axes)": shape(INTEGER), "L": literal(LITERAL), "L..": Many(literal(LITERAL)), "a": Token(INTEGER, "the first integer"),
@@ -121,8 +121,8 @@ def compiled(pattern: str) -> "re.Pattern[str]":
 
 
 class Reading:
-    """A line read as each form: `parts` of the form that it has as a whole, else `far`, the place up to which it reads as some form,
-    and `wanted`, what may stand there, each with the pieces of the form from there on. Where `names` are given, only these are arrays."""
+    """A line, matched against each form: `parts` if it matches one as a whole; otherwise `far`, the place up to which it matches some
+    form, and `wanted`, what could come there, each with the remaining pieces of the form. If `names` are given, only these are arrays."""
 
     def __init__(self, line: str, names: Optional[Collection[str]] = None):
         self.line, self.names = line, names
@@ -144,7 +144,7 @@ class Reading:
         return parts if self._skip(at) == len(self.line) or self._want(at, END) else []
 
     def _read(self, rule: Any, at: int) -> Optional[int]:
-        """Where a rule ends that begins at a place."""
+        """The end of a rule that begins at a place."""
         if isinstance(rule, Token):
             return self._token(rule, at)
         if rule is TYPE:
@@ -171,7 +171,7 @@ class Reading:
         return self._want(at, token.what + " at once behind the name" * is_apart)
 
     def _type(self, at: int) -> Optional[int]:
-        """A type: behind a blank, and up to the next one, or up to the brace that closes a record."""
+        """A type: after a blank, up to the next blank or the brace that closes a record."""
         begin = self._skip(at)
         if begin == at or begin == len(self.line):
             return self._want(at, TYPE)
@@ -187,7 +187,7 @@ class Reading:
         return end if compiled(PARTED).match(self.line, end) else self._want(end, "a blank")
 
     def _want(self, at: int, what: str) -> Optional[int]:
-        """Notes that something is missing at a place, where nothing ends therefore."""
+        """Notes that something is missing at a place."""
         at = self._skip(at)
         if what and at > self.far:
             self.far, self.wanted = at, {}
@@ -201,7 +201,7 @@ class Reading:
         return at
 
     def stop(self) -> tuple[int, str]:
-        """The place where the line stops being a command, and what may stand there."""
+        """The place where the line stops being a command, and what could come there."""
         begin = self._skip(0)
         first, behind = re.match(r"(\w*)\s*(.?)", self.line[begin:]).groups()  # type: ignore[union-attr]
         if self.far == begin and first in reserved():
@@ -214,7 +214,7 @@ class Reading:
         return self.far, " or ".join([", ".join(wanted[:-1]), wanted[-1]] if len(wanted) > 1 else wanted)
 
     def place(self) -> list[str]:
-        """The line, cut around the place where it stops being a command, and under that a caret and what may stand there."""
+        """The line, cut around the place where it stops being a command, and below it a caret and what could come there."""
         far, wanted = self.stop()
         begin = max(0, far - 50)
         cut = self.line[begin:begin + 70].rstrip()

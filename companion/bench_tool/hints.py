@@ -1,4 +1,4 @@
-"""What is said of a refused line: the place where it stops being a command, what to write instead, the numbers behind a code.
+"""Hints for refused lines: where a line stops being a command, what to write instead, the numbers behind a code.
 
 What is to be written is tried first, in a second session with arrays like those that the line names, and is said only where
 it is accepted there.
@@ -40,7 +40,7 @@ def items(count: int) -> str:
 
 
 class Hints(ExitStack):
-    """What is said of the refused lines of a session."""
+    """The hints for the refused lines of a session."""
 
     def __init__(self, session: Session, seconds: float = 0):
         super().__init__()
@@ -50,14 +50,14 @@ class Hints(ExitStack):
         self._spare = self._start()
 
     def _start(self) -> Session:
-        """A second session; its start is not waited for."""
+        """Starts a second session, without waiting for it."""
         spare = Session(self.session.program, 64, self._folder, wait=False)
         self.callback(spare.close)
         self.callback(spare.kill)
         return spare
 
     def meant(self, line: str, reply: Reply) -> list[str]:
-        """What is said of a refused line, in a few lines. It takes no longer than `seconds`, and no fault comes of it."""
+        """The hint for a refused line, in a few lines. It takes at most `seconds`, and raises nothing."""
         self._end = time.monotonic() + self.seconds
         try:
             said = self._said(line, reply)
@@ -90,7 +90,7 @@ class Hints(ExitStack):
         return f"`{printable(line[at])}` in column {at + 1}: a line has letters, digits and signs of ASCII; in b'..' write \\xhh"
 
     def _of_syntax(self, line: str, names: list[str], known: Known) -> list[str]:
-        """What to write in the place of a line that is no command, else where it stops being one."""
+        """What to write instead of a line that is not a command, or where it stops being one."""
         bare = re.fullmatch(r"([^#'\"]*[^#\s'\"])\s*#.*", line)
         offered = translated(bare[1] if bare else line, known, self.session.fields) or ([bare[1]] if bare else [])
         said = ["a comment needs a line of its own"] * bool(bare)
@@ -110,7 +110,7 @@ class Hints(ExitStack):
         return [*said, *reading.place(), *[f"did you mean {' or '.join(near)}?"] * bool(near)] if reading.wanted else said
 
     def _of_name(self, line: str, names: list[str]) -> list[str]:
-        """What is said of a name that is not bound."""
+        """The hint for a name that is not bound."""
         words = WORD.findall(re.sub(r'^\s*\w+\s*=|"[^"]*"', "", line))
         word = next(word for word in words if word not in names and word not in reserved())
         near = self._near(word, names)
@@ -118,7 +118,7 @@ class Hints(ExitStack):
         return [f"{word} is not bound", f"did you mean {near}?" if near else bound]
 
     def _of_file(self, line: str) -> list[str]:
-        """What is said of a file that is not there."""
+        """The hint for a file that does not exist."""
         folder = self.session.dir
         if not os.path.isdir(folder):
             return [f"there is no folder {printable(folder)}"]
@@ -127,12 +127,12 @@ class Hints(ExitStack):
         return [f"did you mean {printable(near)}?" if near else f"looked for in {printable(os.path.abspath(folder))}"]
 
     def _near(self, word: str, among: Iterable[str]) -> str:
-        """The nearest of some words, as far as there is time to look."""
+        """The nearest of some words, as far as time allows."""
         until = min(self._end, time.monotonic() + self.seconds / 2)
         return next(iter(difflib.get_close_matches(word, takewhile(lambda _: time.monotonic() < until, among), 1, 0.7)), "")
 
     def tried(self, lines: list[str], known: Known, shown: Optional[Callable[[Session], None]] = None) -> list[Reply]:
-        """The replies to lines in a session with arrays like these; `BenchError` where there is no time for it."""
+        """The replies to lines in a session with arrays like these. `BenchError` is raised if time runs out."""
         for name in os.listdir(self._folder):  # what an earlier trial saved or loaded
             os.unlink(os.path.join(self._folder, name))
         alarm = threading.Timer(max(0.001, self._end - time.monotonic()), self._spare.kill)
@@ -157,7 +157,7 @@ class Hints(ExitStack):
             alarm.cancel()
 
     def _like(self, array: Array) -> list[str]:
-        """The lines that bind a name to an array like one of the session: of its type and shape, and with its items where these are few."""
+        """The lines that bind a name to an array like one of the session: with its type and shape, and with its items if there are few."""
         shape = f"({','.join(map(str, array.shape))})"
         made = f"{array.name} = zeros {array.type} {shape}"
         if prod(array.shape) <= MOST_ITEMS:
@@ -166,7 +166,7 @@ class Hints(ExitStack):
         return [made] + [f"{array.name} = broadcast {array.name} {shape}"] * (not array.writable)
 
     def _link(self, line: str) -> None:
-        """Makes the file that a line loads one of the spare folder."""
+        """Puts the file that a line loads into the spare folder."""
         if found := re.search(r'= load "([\w.-]+)"', line):
             path = os.path.join(os.path.abspath(self.session.dir), found[1])
             with suppress(FileExistsError):
@@ -184,7 +184,7 @@ class Numbers:
         self.operands = [part.text for part in self.parts if part.piece in OPERANDS and part.text.partition("[")[0].strip() in known]
 
     def said(self, code: str) -> str:
-        """What is told of a code by numbers of its own, else when it comes, where that is short, and which arrays there are."""
+        """The numbers behind a code; or when it occurs, if that is short, and the arrays of the line."""
         reader: Callable[[], str] = getattr(self, f"_{code.lower()}", lambda: "")
         with suppress(LookupError, TypeError):
             if told := reader():
@@ -193,7 +193,7 @@ class Numbers:
         return facts if facts and len(when) > 80 else f"{when}: {facts}" if facts else when
 
     def facts(self) -> list[str]:
-        """The operands, and the arrays of indexes, each with its type and shape."""
+        """The operands and the index arrays, each with its type and shape."""
         found = dict(self.known)
         for operand in self.operands:
             with suppress(LookupError):
@@ -201,7 +201,7 @@ class Numbers:
         return [f"{name} is {array.type} {array.shape}" for name, array in found.items()]
 
     def array(self, operand: str) -> Array:
-        """An operand as an array, with its index, as a session with such arrays knows it."""
+        """An operand with its index as an array, as a session with such arrays shows it."""
         if operand in self.known:
             return self.known[operand]
         found: list[Array] = []
@@ -226,7 +226,7 @@ class Numbers:
         return f"{count}{' of that type' * above.endswith('s')} are more than {above}"
 
     def _e11(self) -> str:
-        """The first number that is outside of its axis."""
+        """The first number that is out of range for its axis."""
         operand = next(operand for operand in self.operands if "[" in operand and not self._is_within(operand))
         name, _, index = operand.rstrip("] \t").partition("[")
         entries, lengths = [entry.strip() for entry in index.split(",")], self.known[name].shape

@@ -1,4 +1,4 @@
-"""What docs/LANGUAGE.md says of commands and codes: the words of `help`, of Tab and of refusals, read off its tables."""
+"""What docs/LANGUAGE.md says about commands and codes: the texts of `help`, Tab and refusals, read from its tables."""
 import re
 import textwrap
 from functools import lru_cache
@@ -47,7 +47,7 @@ class Command(NamedTuple):
     refused: str
 
     def words(self) -> set[str]:
-        """The words that name the command: those of its forms, and those that OP, UN and RED stand for."""
+        """The words of the command: those of its forms, and those that OP, UN and RED stand for."""
         parts = " ".join(self.forms).split()
         return {word for part in parts for word in operations().get(part, re.findall(r"\b[a-z]{2,}\b", part))}
 
@@ -65,7 +65,7 @@ def text() -> str:
 
 
 def rows(begin: str) -> list[list[str]]:
-    """The rows of the table whose head begins so, without Markdown's marks for code."""
+    """The rows of the table with this head, without Markdown's marks for code."""
     table = text().partition(f"\n| {begin} |")[2].partition("\n\n")[0].splitlines()[2:]
     return [[cell.strip() for cell in re.split(r"(?<!\\)\|", line)[1:-1]] for line in table]
 
@@ -91,12 +91,12 @@ def commands() -> list[Command]:
 
 @lru_cache(None)
 def codes() -> dict[str, tuple[str, str]]:
-    """The text of each code, and when it comes."""
+    """The text of each code, and when it occurs."""
     return {code: (words, when.replace("`", "")) for code, words, when in rows("Code")}
 
 
 def verbs(behind: bool) -> list[str]:
-    """The verbs that begin a line, or those that stand behind `X =`."""
+    """The verbs that begin a line, or those that follow `X =`."""
     forms = [form for command in commands() for form in command.forms if form.startswith("X = ") == behind]
     firsts = [form.replace("X = ", "").split()[0] for form in forms]
     return sorted({word for first in firsts for word in operations().get(first, [first]) if word[0].islower()})
@@ -113,7 +113,7 @@ def plain(markdown: str) -> str:
 
 
 def help_text(word: str = "", columns: int = 0) -> str:
-    """All forms; of one command its form, what it does, its reply, its refusals and an example; of a code when it comes; or a section."""
+    """All forms; for a command its form, what it does, its reply, its refusals and an example; for a code when it occurs; or a section."""
     if word in codes():
         return f"  {word} {codes()[word][0]}: {codes()[word][1]}"
     if word:

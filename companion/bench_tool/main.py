@@ -1,4 +1,4 @@
-"""The words of bench-tool."""
+"""The command line of bench-tool."""
 import argparse
 import errno
 import os
@@ -50,14 +50,14 @@ def parser() -> argparse.ArgumentParser:
 
 
 def ended(number: int, _: Any) -> None:
-    """A signal ends what runs, and the programs below it; another one does not disturb that."""
+    """A signal ends this program and the programs that it started; a second signal changes nothing."""
     for each in SIGNALS:
         signal.signal(each, signal.SIG_IGN)
     sys.exit(128 + number)
 
 
 def called(words: argparse.Namespace, arguments: Optional[Sequence[str]]) -> int:
-    """Does what the arguments ask for, and writes out what it printed."""
+    """Carries out what the arguments ask for, and flushes the output."""
     try:
         parser().parse_args(arguments, words)
         if words.call:

@@ -1,4 +1,4 @@
-"""NPY files of NumPy arrays: the header as bytes beside the items where they lie, and an array over the bytes of a file."""
+"""NPY files of NumPy arrays: the header as bytes, with the items in place, and an array over the bytes of a file."""
 from __future__ import annotations
 
 import io
@@ -11,7 +11,7 @@ npy: Any = np.lib.format  # its functions have no types
 
 
 def laid_out(array: "np.ndarray[Any, Any]") -> "tuple[bytes, np.ndarray[Any, Any]]":
-    """The bytes that an NPY file of this array begins with, and an array whose memory is the rest of the file."""
+    """The bytes before the items of an NPY file of this array, and an array whose memory is the rest of the file."""
     if array.dtype.hasobject:
         raise TypeError(f"an array of Python objects has no bytes: {array.dtype}")
     fortran = array.flags.f_contiguous and not array.flags.c_contiguous
@@ -27,7 +27,7 @@ def laid_out(array: "np.ndarray[Any, Any]") -> "tuple[bytes, np.ndarray[Any, Any
 
 @lru_cache(maxsize=64)
 def _fields(header: bytes) -> "tuple[tuple[int, ...], bool, np.dtype[Any]]":
-    """The shape, whether the order is Fortran's, and the type that a header says."""
+    """The shape, whether the order is Fortran order, and the type in a header."""
     begin = io.BytesIO(header)
     version = npy.read_magic(begin)
     found: "tuple[tuple[int, ...], bool, np.dtype[Any]]" = (npy.read_array_header_1_0 if version == (1, 0) else npy.read_array_header_2_0)(begin)
@@ -35,7 +35,7 @@ def _fields(header: bytes) -> "tuple[tuple[int, ...], bool, np.dtype[Any]]":
 
 
 def over(file: "np.ndarray[Any, Any]") -> "np.ndarray[Any, Any]":
-    """The array of an NPY file, over the bytes of the file themselves."""
+    """The array of an NPY file, without a copy of the file's bytes."""
     behind = 10 if file[6] == 1 else 12  # the length of the text, in two bytes or four
     start = behind + int.from_bytes(file[8:behind].tobytes(), "little")
     shape, fortran, dtype = _fields(file[:start].tobytes())

@@ -54,7 +54,7 @@ def form() -> str:
 
 
 def given(title: str, lines: Sequence[bytes], words: argparse.Namespace) -> dict[str, Any]:
-    """What goes into the page: the script, and the files that it loads."""
+    """The data of the page: the script, and the files that it loads."""
     if words.undo > MOST_UNDO:
         raise BenchError(f"a script that is drawn may go back {MOST_UNDO} changes, not {words.undo}")
     names = {found[1].decode() for line in lines if (found := LOADED.match(line))}
@@ -73,7 +73,7 @@ def drawn(title: str, lines: Sequence[bytes], words: argparse.Namespace) -> str:
 
 
 def asked(text: str, lines: Sequence[bytes], words: argparse.Namespace) -> str:
-    """What Node tells of a script, by the modules of the page."""
+    """What Node returns for a script, with the modules of the page."""
     node = shutil.which("node")
     if node is None:
         raise BenchError("a picture needs Node; a page does not, and saves its pictures too")
@@ -91,14 +91,14 @@ def asked(text: str, lines: Sequence[bytes], words: argparse.Namespace) -> str:
 
 
 def picture(lines: Sequence[bytes], words: argparse.Namespace) -> str:
-    """One picture, of the line that is chosen."""
+    """A picture of the chosen line."""
     if not 1 <= (words.line or 0) <= len(lines):
         raise BenchError(f"--svg needs --line, 1 to {len(lines)}")
     return asked(PICTURE, lines[:words.line], words)
 
 
 def write(path: str, text: str) -> None:
-    """Writes a file whole, or leaves that which is there; what is no plain file is written to."""
+    """Replaces a file as a whole, or leaves the old one. Anything that is not a regular file is written to directly."""
     if os.path.exists(path) and not os.path.isfile(path):
         Path(path).write_text(text, encoding="utf-8")
         return

@@ -15,19 +15,19 @@ MOST_NOTES = 100  # refused lines of which more is said than code and place
 
 
 def shown(line: bytes) -> str:
-    """A line as a message has it."""
+    """A line as it is shown in a message."""
     return printable(line.decode("utf-8", "backslashreplace").strip(), SHOWN)
 
 
 def refusal(hints: Hints, place: str, line: bytes, reply: Reply, is_noted: bool) -> None:
-    """Says which line is refused, and what may be meant."""
+    """Reports a refused line, with a hint."""
     say(f"{place} {reply.code} {reply.meaning}: {shown(line)}")
     for text in hints.meant(line.decode("utf-8", "surrogateescape"), reply) if is_noted else []:
         say(f"{place} note: {text}")
 
 
 def lines(script: BinaryIO, session: Session, words: argparse.Namespace, hints: Hints) -> int:
-    """Runs all lines, or with --stop those until one is refused; answers the status."""
+    """Runs all lines, or with --stop only up to the first that is refused. Returns the exit status."""
     begun, codes, name = time.perf_counter(), collections.Counter[str](), printable(words.script)
     for number, line in enumerate(lines_of(script), 1):
         sent = time.perf_counter()

@@ -92,7 +92,7 @@ PROFILES = {
 
 
 def members(type_: str) -> list[tuple[str, str]]:
-    """The fields of a record, as the program writes its type: their names and types. Other types have none."""
+    """The names and types of a record's fields, given its type as the program writes it. Other types have none."""
     found, at = [], 2
     while type_.startswith("T{") and type_[at] != "}":
         if type_.startswith("T{", at):
@@ -117,13 +117,13 @@ def members(type_: str) -> list[tuple[str, str]]:
 
 
 def pattern(type_: str) -> str:
-    """How a type is built: n for each number, s for each byte string, brackets around the fields of a record."""
+    """The structure of a type: n for each number, s for each byte string, brackets around the fields of a record."""
     inner = members(type_)
     return f"({''.join(pattern(each) for _, each in inner)})" if inner else "s" if "S" in type_ else "n"
 
 
 def can_cast(old: str, new: str) -> bool:
-    """Whether there is a cast: between equal patterns, and from a scalar to every value of a record of its kind."""
+    """Whether the cast exists: between equal patterns, and from a scalar to every value of a record of its kind."""
     was, becomes = pattern(old), pattern(new)
     return was == becomes or len(was) == 1 and set(becomes) <= {was, "(", ")"}
 
@@ -142,7 +142,7 @@ def shown(data: bytes) -> str:
 
 
 def literal(rng: Random, type_: str, edges: bool = False) -> str:
-    """A literal that stands for an item of a type; with edges, often one near the ends of a number's range, or of a shorter one's."""
+    """A literal for an item of a type; with edges, often one near the ends of a number's range, or of a narrower type's."""
     if inner := members(type_):
         texts = [literal(rng, each, edges) for _, each in inner]
         return f"({','.join(texts)}{',' * (len(texts) == 1)})"
@@ -174,7 +174,7 @@ class Writer:
         self.binary, self.comparisons, self.unaries, self.reductions = language.lists()
 
     def write(self, size: int) -> list[str]:
-        """So many commands, and then what every name is bound to."""
+        """This many commands, followed by questions that show what every name is bound to."""
         for _ in range(size):
             self.step()
         return self.end()
@@ -184,7 +184,7 @@ class Writer:
         getattr(self, self.rng.choice(self.deck) if self.bound or "make" not in self.deck else "make")()
 
     def end(self) -> list[str]:
-        """All lines, the last of which ask what every name is bound to."""
+        """All lines; the last ones ask what every name is bound to."""
         for name in list(self.bound):
             self.send(f"info {name}")
             self.send(f"print {name}")
@@ -272,7 +272,7 @@ class Writer:
         return str(self.rng.randint(-length, length - 1))
 
     def bound_of(self, length: int) -> str:
-        """The begin or the end of a slice, often left out."""
+        """The start or the stop of a slice, often omitted."""
         if self.chance(0.8 if self.roomy else 0.4):
             return ""
         return str(self.rng.choice([FAR, -FAR]) if self.chance(0.05) else self.rng.randint(-length - 2, length + 2))
@@ -282,7 +282,7 @@ class Writer:
         return f"{self.bound_of(length)}:{self.bound_of(length)}{step}"
 
     def items(self, name: str) -> str:
-        """An index list: at least one item, `...` at most once, seldom one axis too many; in some, names of arrays."""
+        """An index list: at least one item, `...` at most once, rarely one axis too many, and sometimes names of arrays."""
         shape = self.known(name).shape
         shape = (*shape, 3)[:len(shape) + self.chance(0.05)]
         axes = self.rng.randint(min(self.profile.fewest, len(shape)), len(shape))
@@ -357,7 +357,7 @@ class Writer:
         self.send(f'{self.name()} = field {source} "{chosen}"', source)
 
     def broadcast(self) -> None:
-        """To a shape that mostly fits."""
+        """A shape that mostly fits."""
         source = self.source()
         lengths = [self.rng.randint(0, 4) if length == 1 else length for length in self.known(source).shape]
         if len(lengths) < 5:
@@ -391,7 +391,7 @@ class Writer:
         return lengths + self.factored(joined)
 
     def spoiled(self, numbers: list[int]) -> list[int]:
-        """The numbers of a reshape with a fault."""
+        """The numbers of an invalid reshape."""
         at, low = self.rng.randint(0, len(numbers)), self.rng.choice([-2, -7, -FAR])
         before, rest = numbers[:at], numbers[at:]
         faults = [[-1, *numbers, -1], [*before, low, *rest], [*before, 0, *rest], [*before, 0, -1, *rest], [*before, *rest[1:]],
@@ -419,7 +419,7 @@ class Writer:
         self.send(f"{self.name()} = copy {self.scattered()} {self.rng.choice('CF')}")
 
     def value(self, type_: str) -> str:
-        """A literal for an item of a type: for a record often one number, seldom one that does not fit."""
+        """A literal for an item of a type: for a record often a single number, and rarely one that does not fit."""
         if self.chance(0.08):
             return literal(self.rng, self.rng.choice([*RECORDS, "|S3", "<i8"]))
         if members(type_) and "s" not in pattern(type_) and self.chance(0.3) or self.chance(0.05):
@@ -432,7 +432,7 @@ class Writer:
         self.send(f"set {source}[{items}] = {self.value(self.known(source).type)}")
 
     def steps(self, length: int, count: int) -> str:
-        """A slice of so many items of an axis that has as many."""
+        """A slice with `count` items of an axis that has at least as many."""
         if count == 0:
             at = self.rng.randint(0, length)
             return f"{at}:{at}{self.rng.choice(['', ':1', ':-1'])}"
@@ -460,7 +460,7 @@ class Writer:
         return [self.steps(target, count)], [self.steps(source, count)]
 
     def pair(self, target: str) -> tuple[str, str]:
-        """The items of a target that are written, and a source that mostly stretches to them."""
+        """The items of a target to write, and a source that mostly broadcasts to them."""
         if self.chance(self.profile.fitted):
             items = self.items(target)
             return items, self.fitting(target, items)
@@ -475,7 +475,7 @@ class Writer:
         return taken, f"{source}[{given}]"
 
     def fitting(self, target: str, items: str) -> str:
-        """A name of an array that stretches to some items of a target, mostly of a new one of their type."""
+        """The name of an array that broadcasts to some items of a target, mostly a new one of their type."""
         if not self.send(f"v = {target}[{items}]", target):
             return self.source()
         known = self.bound["v"]
@@ -530,7 +530,7 @@ class Writer:
             self.files.append(file)
 
     def load(self) -> None:
-        """Mostly a file that was there from the start, or that was saved."""
+        """Mostly a file that existed from the start, or that was saved."""
         file = self.new_files.pop() if self.new_files and self.chance(0.6) else self.rng.choice([*self.files, *FILES, "none.npy"])
         self.send(f'{self.name()} = load "{file}"')
 
@@ -539,7 +539,7 @@ class Writer:
         self.send(f"shares {name} {self.related(name)}")
 
     def twins(self) -> None:
-        """Two views at the same steps, from places of their own on, and whether they share bytes."""
+        """Two views with the same steps and different starts, and whether they share bytes."""
         source, names = self.scattered(), self.rng.sample(NAMES, 2)
         steps = [self.rng.choice([1, 2, 3, 4, -2, -3]) if length > 2 else 1 for length in self.known(source).shape]
         for name in names:
@@ -587,5 +587,5 @@ class Writer:
 
 
 def write(rng: Random, ask: Callable[[str], str], profile: Profile = MIXED, size: int = 30, files: Sequence[str] = ()) -> list[str]:
-    """The lines of a random script of so many commands, which have all been sent. The files may be loaded."""
+    """The lines of a random script with this many commands, which have all been sent. The files may be loaded."""
     return Writer(rng, ask, profile, files).write(size)

@@ -1,4 +1,4 @@
-"""`shell`: a prompt over a session, with history, Tab, help, and what is said of a refused line."""
+"""`shell`: a prompt over a session, with history, Tab, help, and hints for refused lines."""
 import argparse
 import os
 import re
@@ -41,8 +41,8 @@ DOTS = """  .read FILE    runs the lines of a script
 
 
 class Interrupts:
-    """Ctrl-C while a line is worked on. A thread of its own waits for the signal, so no other code is ever interrupted by it: the
-    thread notes it, which drops the rest of a reply, and if the line is still at work a little later stops what works on it."""
+    """Ctrl-C while a line runs. A separate thread waits for the signal, so it never interrupts other code: the thread notes the
+    signal, which drops the rest of a reply, and stops whatever is still running a little later."""
 
     def __init__(self) -> None:
         self.is_noted = self.is_stopped = False
@@ -66,7 +66,7 @@ class Interrupts:
 
     @contextmanager
     def during(self, stop: Callable[[], None]) -> Iterator[None]:
-        """While something is worked on, which `stop` ends."""
+        """While something runs that `stop` ends."""
         self._ended.clear()
         self.is_noted, self.is_stopped, self._stop = False, False, stop
         try:
@@ -78,7 +78,7 @@ class Interrupts:
 
 
 class Keys:
-    """Lines typed at a terminal, with editing, Tab and history. Ctrl-C is a key there and no signal: it ends the line with a mark."""
+    """Lines typed at a terminal, with editing, Tab and history. Ctrl-C is a key here, not a signal: it ends the line with a mark."""
 
     def __init__(self, complete: Callable[[str, int], Optional[str]]) -> None:
         self._path = history()
@@ -98,7 +98,7 @@ class Keys:
             readline.read_history_file(self._path)
 
     def read(self, prompt: str) -> str:
-        """The next line, empty where Ctrl-C ended it."""
+        """The next line, or an empty one if Ctrl-C ended it."""
         termios.tcsetattr(0, termios.TCSADRAIN, self._without)
         try:
             line = input(prompt)
@@ -115,7 +115,7 @@ class Keys:
 
 
 def history() -> str:
-    """The file of the lines of earlier shells: BENCH_HISTORY, where an empty one means none, else in the user's state."""
+    """The history file: BENCH_HISTORY, none if that is empty, and by default one in the user's state directory."""
     if "BENCH_HISTORY" in os.environ:
         return os.environ["BENCH_HISTORY"] or os.devnull
     with suppress(RuntimeError):  # there is no home
@@ -138,7 +138,7 @@ class Shell:
         self.begin()
 
     def begin(self) -> None:
-        """Starts a program, in which no name is bound."""
+        """Starts a new program, without names."""
         self.session = Session(undo=self.words.undo, dir=self.words.dir, wait=False)
         self.hints = Hints(self.session)
 
@@ -157,7 +157,7 @@ class Shell:
         print(end="\n" if self.is_terminal else "")
 
     def answer(self, line: str) -> None:
-        """Does what a line says. Where Ctrl-C stopped the program, the accepted lines are run again in a new one."""
+        """Carries out a line. If Ctrl-C stopped the program, the accepted lines run again in a new one."""
         begun = time.perf_counter()
         try:
             with self.interrupts.during(self.session.kill):
@@ -186,7 +186,7 @@ class Shell:
             self.send(f"print {bare}" if is_name else line)
 
     def send(self, line: str, place: str = "", is_whole: bool = False) -> None:
-        """Sends a line; writes its reply as it comes, a printed array cut to the window, and what is said of a refused line."""
+        """Sends a line, writes its reply as it arrives, with a printed array cut to the window, and gives a hint if it is refused."""
         is_cut = self.is_terminal and not is_whole and line.split()[:1] == ["print"]
         window = Window(room()[0] - 4, room()[1] - 1)
 
@@ -217,11 +217,11 @@ class Shell:
                 self.changes.append(line)
 
     def note(self, text: str) -> None:
-        """Says something beside a reply."""
+        """Prints a note next to a reply."""
         print(painted(f"    {text}", BLUE) + "\n" if text else "", end="", flush=True)
 
     def again(self) -> None:
-        """A new program, in which the lines that were accepted so far are run again. Ctrl-C asks whether to give them up."""
+        """Starts a new program and runs the accepted lines again. Ctrl-C asks whether to give them up."""
         is_whole = False
         while not is_whole:
             with self.interrupts.during(lambda: self.session.kill()), suppress(ProgramEnded):
@@ -277,7 +277,7 @@ class Shell:
             webbrowser.open(path.as_uri())
 
     def complete(self, text: str, state: int) -> Optional[str]:
-        """The words that may stand where the cursor is, one for each state, as readline asks for them."""
+        """The words that could come at the cursor, one for each state, as readline asks for them."""
         if state == 0:
             self.found = []
             with suppress(BenchError, OSError, LookupError):
@@ -286,7 +286,7 @@ class Shell:
         return self.found[state] if state < len(self.found) else None
 
     def words_at(self, before: str) -> list[str]:
-        """What may stand behind a text: between quotes fields and files, else what the grammar has there."""
+        """What could come after a text: fields and files between quotes, otherwise what the grammar allows."""
         said = before.replace("=", " = ").split()
         if before.count('"') % 2:
             if "field" in said:

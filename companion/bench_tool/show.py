@@ -31,7 +31,7 @@ def kinds_of(descr: Any) -> set[str]:
 
 
 def told(file: BinaryIO) -> list[str]:
-    """What a file is by its first bytes: the parts of its header, and whether its items are all there."""
+    """What the first bytes of a file say: the parts of its header, and whether all items are present."""
     begin, length = file.read(12), os.fstat(file.fileno()).st_size
     if begin.startswith(b"PK"):
         return ["a ZIP file, like every NPZ file: unpack it to get an NPY file for each array"]
@@ -62,7 +62,7 @@ def told(file: BinaryIO) -> list[str]:
 
 
 def explained(path: Path) -> list[str]:
-    """What a file is that is refused, as far as it can be read."""
+    """What can be read of a file that is refused."""
     if path.is_dir():
         return ["a folder"]
     if not path.is_file():
@@ -75,7 +75,7 @@ def explained(path: Path) -> list[str]:
 
 
 def show(words: argparse.Namespace) -> int:
-    """Says what the four commands reply, or why the file is refused."""
+    """Prints the replies of the four commands, or why the file is refused."""
     with tempfile.TemporaryDirectory() as folder, Session(undo=0, dir=folder) as session:
         # Under a name of the program's own, so that the file may have any.
         if os.path.lexists(path := Path(words.file).absolute()):

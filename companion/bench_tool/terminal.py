@@ -14,20 +14,20 @@ RED, BLUE = "31", "34"
 
 
 def printable(text: str, most: int = 0) -> str:
-    """A text without control characters and without bytes that are no text; cut to `most` letters."""
+    """A text without control characters and without bytes that are not text, cut to `most` characters."""
     cut = text[:most] if most else text
     return "".join(letter if letter.isprintable() else repr(letter)[1:-1] for letter in cut) + ".." * (len(cut) < len(text))
 
 
 def say(text: str) -> None:
-    """Writes to standard error, where that can be written."""
+    """Writes to standard error, if possible."""
     with suppress(OSError, ValueError):
         print(text, file=sys.stderr, flush=True)
 
 
 def open_streams() -> None:
-    """Makes a closed standard stream one that cannot be read or written, for messages the null device; no encoding refuses a text.
-    With PYTHONUNBUFFERED too, output is written when it is flushed: argparse passes over errors of the writes that it makes."""
+    """Replaces a closed standard stream by one that cannot be read or written, or by the null device for messages; no encoding
+    refuses a text. Output is written only when it is flushed, also with PYTHONUNBUFFERED, since argparse ignores write errors."""
     for number, flags in enumerate((os.O_WRONLY, os.O_RDONLY, os.O_RDWR)):
         try:
             os.fstat(number)
@@ -44,7 +44,7 @@ def open_streams() -> None:
 
 
 def lines_of(script: BinaryIO) -> Iterator[bytes]:
-    """The lines of a script without their newlines. Of one that is too long only so much is kept that it still is too long."""
+    """The lines of a script without their newlines. A line that is too long is cut to a length that is still too long."""
     def read(most: int) -> bytes:
         try:
             return script.readline(most)
@@ -59,19 +59,19 @@ def lines_of(script: BinaryIO) -> Iterator[bytes]:
 
 
 def painted(text: str, colour: str) -> str:
-    """A text in a colour, where the terminal has colours and its user wants them."""
+    """A text in a colour, if the terminal has colours and the user wants them."""
     plain = not colour or not sys.stdout.isatty() or os.environ.get("TERM", "dumb") == "dumb" or os.environ.get("NO_COLOR")
     return text if plain else f"\x1b[{colour}m{text}\x1b[0m"
 
 
 def room() -> tuple[int, int]:
-    """The lines and columns of the window; of one that tells none, the usual ones."""
+    """The lines and columns of the window, or the usual ones if they are unknown."""
     size = shutil.get_terminal_size()
     return size.lines or 24, size.columns or 80
 
 
 class Window:
-    """What a window has room for of a printed array that comes in parts: its first and last lines, each cut in its middle."""
+    """The part of a printed array that fits the window, as it arrives: its first and last lines, each cut in the middle."""
 
     def __init__(self, rows: int, columns: int):
         self.rows, self.columns = max(3, rows), max(20, columns)

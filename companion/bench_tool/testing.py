@@ -1,4 +1,4 @@
-"""For test suites: `scripts()`, a Hypothesis strategy of scripts, and the pytest fixture `bench`. It wants the extra `[test]`.
+"""For test suites: `scripts()`, a Hypothesis strategy for scripts, and the pytest fixture `bench`. It needs the extra `[test]`.
 
     from bench_tool.testing import bench, scripts
 
@@ -63,12 +63,12 @@ def _drawn(draw: Callable[[Any], Any], size: int, profile: str) -> list[str]:
 
 
 def scripts(size: int = 30, profile: str = "small") -> "st.SearchStrategy[list[str]]":
-    """Scripts of at most so many commands, and then what each name is bound to; `bench_tool.scripts.PROFILES` has the profiles."""
+    """Scripts of at most `size` commands, followed by questions about each name. `bench_tool.scripts.PROFILES` has the profiles."""
     return _drawn(size, profile)
 
 
 @pytest.fixture
 def bench() -> Iterator[Session]:
-    """A session with nothing in it, closed after the test."""
+    """An empty session, closed after the test."""
     with Session() as session:
         yield session

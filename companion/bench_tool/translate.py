@@ -43,12 +43,12 @@ NAME = r"[A-Za-z_]\w*"
 
 
 class Unknown(Exception):
-    """There is no translation; what is to be said of it, where something is known."""
+    """There is no translation; the reason, if it is known."""
 
 
 @lru_cache(None)
 def pieces(word: str) -> list[str]:
-    """The pieces behind a word in its form, the longest where there are several; none where it is no word of a command."""
+    """The pieces after a word in its form, of the longest form if there are several; none if it is not a word of a command."""
     found = []
     for form in grammar.forms():
         names = [piece for piece, _ in form]
@@ -59,13 +59,13 @@ def pieces(word: str) -> list[str]:
 
 
 def split(text: str) -> list[str]:
-    """The words of a text, parted by blanks and commas that are not within brackets or quotes."""
+    """The words of a text, separated by blanks and commas outside brackets and quotes."""
     nested = r"\((?:[^()]|\([^()]*\))*\)?|\[(?:[^\[\]]|\[[^\[\]]*\])*\]?"
     return re.findall(rf"""(?:[^\s,()\[\]"']|"[^"]*"?|'[^']*'?|{nested}|[)\]])+""", text)
 
 
 def member(kind: str) -> str:
-    """A type string as it stands in a record."""
+    """A type string as it is written in a record."""
     if kind[1] in "bS":
         return "?" if kind[1] == "b" else f"{kind[2:]}s"
     letter = {"1": "b", "2": "h", "4": "i", "8": "q"}[kind[2]]
@@ -73,25 +73,25 @@ def member(kind: str) -> str:
 
 
 def flat(node: Any) -> list[Any]:
-    """The items of lists, or of a display of lists, within one another."""
+    """The items of nested lists."""
     inner = node.elts if isinstance(node, ast.List) else node
     return [item for each in inner for item in flat(each)] if isinstance(inner, list) else [node]
 
 
 def shape_of(lists: Any) -> tuple[int, ...]:
-    """The shape of lists within lists."""
+    """The shape of nested lists."""
     return (len(lists), *(shape_of(lists[0]) if lists else ())) if isinstance(lists, list) else ()
 
 
 def kind_of(items: Sequence[Any]) -> str:
-    """The type that NumPy makes of literals."""
+    """The type that NumPy gives literals."""
     if items and all(isinstance(item, (bytes, str)) for item in items):
         return f"|S{max(1, *map(len, items))}"
     return "|b1" if items and all(isinstance(item, bool) for item in items) else "<i8"
 
 
 def is_type(node: Optional[ast.AST]) -> bool:
-    """Whether a node is a dtype: a string that is one, a name as np.int16, or a list of fields."""
+    """Whether a node is a dtype: a string, a name such as np.int16, or a list of fields."""
     if isinstance(node, ast.List):
         return bool(node.elts) and all(isinstance(field, ast.Tuple) and isinstance(field.elts[0], ast.Constant) for field in node.elts)
     word = node.attr if isinstance(node, ast.Attribute) else getattr(node, "id", getattr(node, "value", None))
@@ -117,7 +117,7 @@ class Translation:
         return name
 
     def bound(self, text: str) -> str:
-        """A text as a name: itself where it is one, else a free one that is bound to it."""
+        """A text as a name: the text itself if it is a name, otherwise a free name that is bound to it."""
         if re.fullmatch(NAME, text) and text not in ("True", "False", "None"):
             return text
         name = self.free()
@@ -128,7 +128,7 @@ class Translation:
         return node.id if isinstance(node, ast.Name) else self.bound(self.value(node))
 
     def constant(self, node: ast.AST) -> Any:
-        """The value of what is written out."""
+        """The value of a constant."""
         try:
             found = ast.literal_eval(node)
         except (ValueError, TypeError, SyntaxError, MemoryError, RecursionError):
@@ -146,7 +146,7 @@ class Translation:
         return isinstance(inner, ast.Constant) and inner.value not in (None, ...) or isinstance(inner, ast.Tuple)
 
     def operand(self, node: ast.expr) -> str:
-        """What may stand as an operand: a name, a name with an index, or a literal."""
+        """An operand: a name, a name with an index, or a literal."""
         if self.is_constant(node):
             return self.literal(node)
         text = self.value(node)
@@ -179,7 +179,7 @@ class Translation:
         return self.literal(node) if self.is_constant(node) else self.name(node)
 
     def value(self, node: ast.expr) -> str:
-        """What stands behind `X =`."""
+        """What follows `X =`."""
         reader = getattr(self, f"_{type(node).__name__.lower()}", None)
         return str(reader(node)) if reader else self.refuse()
 
@@ -261,7 +261,7 @@ class Translation:
         return function.attr, given if is_numpy else [function.value, *given]
 
     def command(self, raw: str, given: list[ast.expr], named: dict[str, ast.expr]) -> str:
-        """What stands behind `X =` for a function with these arguments."""
+        """What follows `X =` for a function with these arguments."""
         word = WORDS.get(raw, raw)
         if word == "view" and len(given) > 1:
             self.refuse("there is no view under another type; `cast` makes an array with the same values")
@@ -293,7 +293,7 @@ class Translation:
         return made if not given and not named else self.refuse()
 
     def piece(self, piece: str, given: list[ast.expr], named: dict[str, ast.expr]) -> str:
-        """The text of a piece of a form, with the arguments that it takes away."""
+        """The text of a piece of a form, given the arguments, of which it takes some."""
         if piece == "D":
             of = named.pop("dtype", None) or next((node for node in given if is_type(node)), None)
             given[:] = [node for node in given if node is not of]
@@ -322,7 +322,7 @@ class Translation:
         return self.literal(of) if piece in ("L", "a", "b", "s") else self.operand(of) if piece == "Y[?]" else self.name(of)
 
     def several(self, word: str, given: list[ast.expr]) -> str:
-        """What takes several lines: at once under the name that it is for, if this is not read."""
+        """An expression that takes several lines; it is bound directly to its final name, unless that name is read."""
         values = dict(zip("abc", map(self.operand, [part for node in given for part in flat(node)])))
         values.update(x=self.goal or self.free(), t=self.free())
         if word == "where" and not self.is_constant(given[2]):
@@ -350,7 +350,7 @@ class Translation:
             self.lines.append(f"set {self.target(target)} = {text}")
 
     def target(self, node: ast.expr) -> str:
-        """What is written to: a name and an index."""
+        """The target of a write: a name and an index."""
         text = self.value(node)
         return text if text.endswith("]") else f"{self.bound(text)}[...]"
 
@@ -371,7 +371,7 @@ class Translation:
             self.refuse(f"there is no {re.sub('from|def', '', type(node).__name__.lower())}: each line is one command")
 
     def expression(self, node: ast.expr, is_set: bool) -> None:
-        """What is asked of an array, or shown."""
+        """A question about an array, or a print."""
         raw, given = self.called(node) if isinstance(node, ast.Call) else ("", [])
         word = WORDS.get(raw, raw)
         if is_set and isinstance(node, ast.Compare) and isinstance(node.ops[0], ast.Eq):
@@ -390,7 +390,7 @@ class Translation:
 
 
 def python_of(line: str) -> tuple[str, bool]:
-    """A line as Python would have it, and whether items are set in it."""
+    """A line in Python's form, and whether it sets items."""
     line = line.strip()
     signs = r"=?=|[-+*&|^%]=|//=|<<=|>>="
     if found := re.fullmatch(rf"(set|let|var|upd)\s+({NAME}(?:\.{NAME})*\s*(?:\[.*?\])?)\s*({signs})?\s*(.+)", line):
@@ -411,7 +411,7 @@ def python_of(line: str) -> tuple[str, bool]:
 
 
 def quoted(text: str) -> str:
-    """A file's name without its folder, as Python has it."""
+    """A file's name without its folder, quoted for Python."""
     return repr(text.strip("\"'").rpartition("/")[2])
 
 
@@ -428,7 +428,7 @@ def call_of(text: str) -> str:
 
 
 def translated(line: str, arrays: Mapping[str, Array], fields: Callable[[str], Sequence[str]]) -> list[str]:
-    """The lines that say what a line says; a sentence behind `#` where there are none and it is known why; else nothing."""
+    """The lines with the meaning of a line; if there are none, a sentence after `#` that says why, or nothing."""
     made = Translation(arrays, fields)
     try:
         for part in line.rstrip("; \t").split(";") if "'" not in line and '"' not in line else [line]:

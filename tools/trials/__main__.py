@@ -2,7 +2,7 @@
 where, what happened, and what should have. The status is 1 where something was.
 
 The scripts of `hostile` are those of examples/ and tools/trials/scripts/, and random ones. It needs a C compiler and `prlimit`; trials
-with another user or a full disk need root's rights and are left out elsewhere. The others need NumPy."""
+with another user or a full disk need root, and are skipped otherwise. The others need NumPy."""
 from __future__ import annotations
 
 import argparse

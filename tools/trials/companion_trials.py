@@ -22,7 +22,7 @@ TOOL = COMPANION / "bench-tool"
 PLACES = (TOP / "crates/bench_main/out/bench_main", TOP / "dist/bench-x86_64-linux")
 PROGRAM = os.environ.get("BENCH") or str(next((path for path in PLACES if os.access(path, os.X_OK)), "none"))
 needs_program = unittest.skipUnless(os.access(PROGRAM, os.X_OK), "no program: none is built or in dist/, and BENCH names none")
-needs_compiler = unittest.skipUnless(shutil.which("cc"), "left out: no C compiler is installed")
+needs_compiler = unittest.skipUnless(shutil.which("cc"), "no C compiler is installed")
 PATIENT = 600  # seconds, after which nothing will come
 SETTINGS = ("BASH_ENV", "BENCH_HISTORY", "CDPATH", "COLUMNS", "ENV", "GLIBC_TUNABLES", "LINES", "MAKEFLAGS", "MAKELEVEL", "MFLAGS",
             "NO_COLOR", "POSIXLY_CORRECT", "PYTHONIOENCODING", "PYTHONUTF8", "PYTHONWARNINGS")

@@ -150,7 +150,7 @@ class Trials:
         self.ends("an empty name as DIR", (0, REPLIES, ""), SCRIPT, ["--dir", ""])
         self.ends("a file as DIR", (1, TOLD["no load"], ""), SCRIPT, ["--dir", self.program])
         if not nobody():
-            return self.part.note("left out, as they want root's rights", "another user and a full disk")
+            return self.part.note("skipped, since they need root", "another user and a full disk")
         locked = self.folder / "locked"
         locked.mkdir(mode=0o700)
         self.ends("DIR without rights", (1, TOLD["no load"], ""), SCRIPT, ["--dir", locked], **nobody())
