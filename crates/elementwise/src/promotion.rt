@@ -46,7 +46,7 @@ pub(crate) fn eight_bytes(signed: bool) -> Scalar
     }
 }
 
-/// The little-endian integers of `width` bytes.
+/// The little-endian integers of `bytes` bytes.
 fn integer_type(signed: bool, bytes: usize) -> Scalar
     ensures { result ≡ integer_type signed bytes }
 {

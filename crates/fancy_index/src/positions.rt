@@ -74,7 +74,7 @@ fn spread_of<'a>(array: Items<'a>) -> Option<Spread<'a>>
     })
 }
 
-/// The `k`-th item, in a single load.
+/// The item that comes `steps` steps after the first, in a single load.
 #[inline(always)]
 fn item_after<const N: usize>(items: Spread<'_>, steps: usize) -> [u8; N]
     requires few { N ≤ 8 }
@@ -325,8 +325,8 @@ fn places_by_runs<const N: usize>(
     Ok(places)
 }
 
-/// The indexes that integers of `N` bytes stand for on an axis of `n` items, read run by run, or
-/// the refusal of one that is out of range.
+/// The indexes that integers of `width` bytes stand for on an axis of `n` items, read run by run,
+/// or the refusal of one that is out of range.
 fn places_apart(
     alloc: Global,
     reading: Reading,

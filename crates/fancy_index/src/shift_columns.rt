@@ -259,7 +259,7 @@ fn stretched_places(
     stretched_to(alloc, &places, &shape)
 }
 
-/// Makes `count` shifts, all at the start, if there are none so far.
+/// Makes `many` shifts, all at the start, if there are none so far.
 pub(crate) fn begin(
     alloc: Global,
     shifts: &mut Vec<u32>,
