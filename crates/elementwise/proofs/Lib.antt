@@ -7,6 +7,7 @@ pub mod CommonLaws
 pub mod EncodedLaws
 pub mod WorkLaws
 pub mod ColumnLaws
+mod CutLaws
 pub mod ChunkLaws
 pub mod AlikeLaws
 pub mod PairLaws

@@ -9,7 +9,7 @@ use Rattle.elementwise.specs.inside.PairPasses.{compared_value, truth_value}
 use Rattle.elementwise.specs.inside.Works.{target, meaning, IsWork, target_of, gives, CanPair}
 use Rattle.elementwise.specs.declared.pairing.Work.{Work}
 use Rattle.elementwise.specs.declared.pairing.Pairing.{Pairing}
-use Rattle.elementwise.specs.declared.pairing.Pairing.TheVariants.{Alike, Signs, Texts, With, Cut}
+use Rattle.elementwise.specs.declared.pairing.Pairing.TheVariants.{Alike, Signs, Texts, With}
 use Rattle.elementwise.specs.declared.pairing.Work.TheVariants.{Combine, Change, Compare, Cast}
 use Rattle.elementwise.proofs.LeafLaws.{read_back}
 
@@ -49,4 +49,3 @@ pair_reads_back (Alike work scalar) x y can = work_reads_back work scalar (numbe
 pair_reads_back (Signs comparison left_signed) x y can = compared_reads_back comparison x y
 pair_reads_back (Texts texts) x y can = truth_reads_back texts.comparison x y
 pair_reads_back (With comparison width other) x y can = truth_reads_back comparison x (text other.now)
-pair_reads_back (Cut width target) x y can = read_back (Bytes target) x

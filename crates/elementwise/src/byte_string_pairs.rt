@@ -1,4 +1,4 @@
-//! Comparisons and casts of byte strings, row by row.
+//! Comparisons of byte strings, row by row.
 ghost use Rattle.elem_descr.specs.declared.scalar.Scalar.TheVariants.{Bool as BoolScalar};
 ghost use Rattle.elementwise.specs.Comparisons.{compared};
 ghost use Rattle.elementwise.specs.Words.{encode, item_in, joined, padded, text, without_nuls};
@@ -52,13 +52,6 @@ pub(crate) struct ComparingWith<'a> {
     pub(crate) other: &'a [u8],
 }
 
-/// Byte strings that are cut to this length or padded with NULs.
-#[derive(Clone, Copy, Drop)]
-pub(crate) struct Cutting {
-    pub(crate) width: usize,
-    pub(crate) ghost some: { 1 ≤ width },
-}
-
 impl Pass for ComparingTexts {
     ghost makes = { λ t. text_pair t.comparison };
 
@@ -99,45 +92,6 @@ impl<'a> Pass for ComparingWith<'a> {
                 self.other,
             );
             says.push::<LowFirst>(&mut block);
-        }
-        block
-    }
-}
-
-/// The bytes of adjacent items.
-fn adjacent_bytes(items: Side<'_>) -> Option<&[u8]>
-    ensures { IfSome result
-        (λ bytes. bytes.now ≡ joined (item_in items.entry) items.entry.run.count) }
-{
-    let run = items.run;
-    if run.count == 0 || !run.is_packed(items.width) {
-        return None;
-    }
-    Some(&items.bytes[run.offset..run.offset + run.count * items.width])
-}
-
-impl Pass for Cutting {
-    ghost makes = { λ t x _. padded t.width (without_nuls (take t.width (without_nuls x))) };
-
-    ghost Reads = { λ _ _ _. Unit {0} };
-
-    ghost width = { λ t. t.width };
-
-    ghost not_empty = { λ t. t.some };
-
-    fn push_row(&self, block: BlockBuilder, pairs: Pairs<'_, '_>) -> BlockBuilder {
-        let mut block = block;
-        if pairs.left.width == self.width {
-            if let Some(bytes) = adjacent_bytes(pairs.left) {
-                block.push_bytes(bytes);
-                return block;
-            }
-        }
-        for k in 0..pairs.left.run.count {
-            let item = pairs.left.item(k);
-            let kept = item.len().min(self.width);
-            block.push_bytes(&item[..kept]);
-            block.push_zeros(self.width - kept);
         }
         block
     }

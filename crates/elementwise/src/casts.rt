@@ -1,11 +1,11 @@
 //! Casts: the items of an array as items of another element type.
 ghost use Rattle.elem_descr.specs.declared.descr.Descr.TheVariants.{Scalar as ScalarDescr};
 ghost use Rattle.elementwise.specs.Casts.{can_cast, can_cast_scalar, cast_item};
-ghost use Rattle.elementwise.specs.Words.{C, NoSuchCast, OutOfMemory, TooLarge, count, encode_item, item_from, item_size, leaf_at, leaves_of, max_bytes, offsets, offsets_in, owned_items, place, run_offsets, size};
-ghost use Rattle.elementwise.specs.inside.LeafCasts.{HasSource, cast_items, source, with_leaf};
+ghost use Rattle.elementwise.specs.Words.{C, IsNumber, NoSuchCast, OutOfMemory, TooLarge, count, encode_item, item_from, item_size, leaf_at, leaves_of, max_bytes, offsets, offsets_in, owned_items, place, run_offsets, size};
+ghost use Rattle.elementwise.specs.inside.LeafCasts.{HasSource, IsCut, cast_items, source, with_leaf};
 ghost use Rattle.elementwise.specs.inside.Made.{AreItems, IsMade};
 ghost use Rattle.std.specs.List.{flat_map};
-ghost use Rattle.std.specs.Prelude.{IfErr, IfOk, drop, if◌then◌else◌, length, map, nat_le, true, ◌*◌, ◌+◌, ◌<◌, ◌≡◌, ◌≤◌};
+ghost use Rattle.std.specs.Prelude.{IfErr, IfOk, IsTrue, drop, if◌then◌else◌, length, map, nat_le, true, ◌*◌, ◌+◌, ◌<◌, ◌≡◌, ◌≤◌};
 
 use crate::apply::Held;
 use crate::castable::can_cast;
@@ -15,7 +15,7 @@ use crate::pairing::{Pairing, Work};
 use crate::row_pairs::Operands;
 use arrays::{Items, Owned, gather};
 use elem_descr::{Descr, Leaf, MemoryOrder, Refusal, Scalar};
-use machine_numbers::{Side, place};
+use machine_numbers::{Side, is_text, place};
 use raw_block::{BlockBuilder, RawBlock};
 use shape_strides::{MAX_BYTES, Run};
 use std::alloc::{AllocError, Global};
@@ -48,15 +48,16 @@ fn source_of(descr: &Descr, k: usize) -> Leaf
     }
 }
 
-/// Numbers or byte strings, cast to another scalar. Each byte is written once.
-pub(crate) fn cast_scalars(
+/// Numbers, cast to another scalar. Each byte is written once.
+pub(crate) fn cast_numbers(
     alloc: Global,
     from: Items<'_>,
     scalar: &Scalar,
     to: &Scalar,
 ) -> Result<Owned, AllocError>
     requires from { from.descr.now ≡ ScalarDescr scalar.now }
-    requires can { can_cast_scalar scalar.now to.now ≡ true }
+    requires number { IsNumber scalar.now }
+    requires to { IsNumber to.now }
     requires few { count from.layout.now.shape * size to.now ≤ max_bytes }
     ensures { IfOk result
         (IsMade (ScalarDescr to.now) from.entry.layout.now.shape
@@ -69,22 +70,11 @@ pub(crate) fn cast_scalars(
         left: from,
         right: from,
     };
-    match (scalar, to) {
-        (Scalar::Bytes(width), Scalar::Bytes(target)) => {
-            let pairing = Pairing::Cut {
-                width: *width,
-                target: *target,
-            };
-            made(alloc, &pairing, operands)
-        }
-        _ => {
-            let pairing = Pairing::Alike {
-                work: Work::Cast(*to),
-                scalar: *scalar,
-            };
-            made(alloc, &pairing, operands)
-        }
-    }
+    let pairing = Pairing::Alike {
+        work: Work::Cast(*to),
+        scalar: *scalar,
+    };
+    made(alloc, &pairing, operands)
 }
 
 /// The bytes from a place on, which may be past the end.
@@ -200,6 +190,18 @@ fn cast_run(alloc: Global, from: ItemRun<'_, '_>, to: &Descr) -> Result<RawBlock
     Ok(cast.finish())
 }
 
+/// Whether a cast keeps the first bytes of each item: that of byte strings which do not get longer.
+fn is_cut(from: &Descr, to: &Descr) -> bool
+    ensures { IsTrue result → IsCut from.now to.now }
+{
+    match (from, to) {
+        (Descr::Scalar(Scalar::Bytes(width)), Descr::Scalar(Scalar::Bytes(target))) => {
+            target.get() <= width.get()
+        }
+        _ => false,
+    }
+}
+
 /// A block with exactly these items, cast. Items that are not a single run are copied to one first.
 fn cast_block(alloc: Global, from: Items<'_>, to: &Descr) -> Result<RawBlock, AllocError>
     requires can { can_cast from.descr.now to.now ≡ true }
@@ -212,6 +214,9 @@ fn cast_block(alloc: Global, from: Items<'_>, to: &Descr) -> Result<RawBlock, Al
     let descr = from.descr;
     let width = descr.size();
     let count = from.layout.shape.items();
+    if is_cut(descr, to) {
+        return gather(alloc, from.block, from.layout, to.size());
+    }
     if let Some(run) = from.layout.as_one_run() {
         let items = Side {
             bytes: from.block.bytes(),
@@ -234,7 +239,7 @@ fn cast_block(alloc: Global, from: Items<'_>, to: &Descr) -> Result<RawBlock, Al
 }
 
 /// Items, cast leaf by leaf, in a block of their own in C order.
-fn cast_records(alloc: Global, from: Items<'_>, to: &Descr) -> Result<Owned, AllocError>
+fn cast_by_leaves(alloc: Global, from: Items<'_>, to: &Descr) -> Result<Owned, AllocError>
     requires can { can_cast from.descr.now to.now ≡ true }
     requires few { count from.layout.now.shape * item_size to.now ≤ max_bytes }
     ensures { IfOk result
@@ -261,11 +266,11 @@ pub(crate) fn cast_items(alloc: Global, from: Items<'_>, to: &Descr) -> Result<O
         (offsets from.entry.layout.now))) }
 {
     match (from.descr, to) {
-        (Descr::Scalar(scalar), Descr::Scalar(target)) => {
+        (Descr::Scalar(scalar), Descr::Scalar(target)) if !is_text(target) => {
             let near = Held::near(alloc, from);
-            cast_scalars(alloc, near.items(), scalar, target)
+            cast_numbers(alloc, near.items(), scalar, target)
         }
-        _ => cast_records(alloc, from, to),
+        _ => cast_by_leaves(alloc, from, to),
     }
 }
 

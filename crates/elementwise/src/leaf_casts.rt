@@ -4,7 +4,6 @@ ghost use Rattle.elementwise.specs.Words.{IsNumber, size, put, padded, without_n
 ghost use Rattle.elementwise.specs.inside.LeafCasts.{leaf_cast};
 ghost use Rattle.elementwise.specs.inside.Columns.{HasRoom, with_leaves, AreRows};
 
-use crate::byte_string_pairs::Cutting;
 use elem_descr::Scalar;
 use machine_numbers::{Number, NumberTask, Ordered, Side, on_number};
 use raw_block::RawBlock;
@@ -41,6 +40,13 @@ impl<S: Number, P: Ordered, T: Number, Q: Ordered> LeafCast for CastingNumbers<S
     fn cast(&self, item: &[u8], place: &mut [u8]) {
         T::of_bits(S::read::<P>(item).bits()).write::<Q>(place);
     }
+}
+
+/// Byte strings that are cut to this length or padded with NULs.
+#[derive(Clone, Copy, Drop)]
+pub(crate) struct Cutting {
+    pub(crate) width: usize,
+    pub(crate) ghost some: { 1 ≤ width },
 }
 
 impl LeafCast for Cutting {

@@ -10,7 +10,7 @@ ghost use Rattle.elementwise.specs.inside.Works.{CanPair, left_of, right_of, tar
 ghost use Rattle.std.specs.Prelude.{IfOk, IfSome, IsTrue, slice_index_or, ℕ, ◌*◌, ◌<◌, ◌≡◌, ◌≤◌};
 
 use crate::apply::Held;
-use crate::casts::cast_scalars;
+use crate::casts::cast_numbers;
 use crate::pairing::Pairing;
 use crate::row_pairs::Operands;
 use arrays::{Items, Owned, gather, goes_by_columns};
@@ -62,10 +62,13 @@ pub(crate) fn read_as(scalar: &Scalar, left: Items<'_>, right: Items<'_>) -> Sca
 /// Operands with fewer items than this are combined in the order of their axes.
 pub(crate) const FEW: usize = 4096;
 
+/// Items that are closer to each other than this, or at one place, are as near as adjacent ones.
+const NEAR: usize = 8;
+
 /// The distance between the items of a row.
 fn step(layout: &Layout) -> usize {
     let Rows { starts: _, along } = layout.rows();
-    along.stride.unsigned_abs()
+    along.stride.unsigned_abs().max(NEAR)
 }
 
 /// Both layouts with their axes reversed, if that brings successive items closer together and leaves no
@@ -225,5 +228,5 @@ pub(crate) fn spread(alloc: Global, made: &Owned, shape: &Shape) -> Result<Owned
         layout: &wide,
         descr: items.descr,
     };
-    cast_scalars(alloc, bools, &Scalar::Bool, &Scalar::Bool)
+    cast_numbers(alloc, bools, &Scalar::Bool, &Scalar::Bool)
 }

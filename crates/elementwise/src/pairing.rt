@@ -3,7 +3,7 @@ ghost use Rattle.elementwise.specs.Words.{item_size, size};
 ghost use Rattle.elementwise.specs.inside.Operands.{made_of_all, pairs_of};
 ghost use Rattle.std.specs.Prelude.{◌*◌, ◌++◌, ◌+◌, ◌≡◌, ◌≤◌};
 
-use crate::byte_string_pairs::{ComparingTexts, ComparingWith, Cutting};
+use crate::byte_string_pairs::{ComparingTexts, ComparingWith};
 use crate::comparison_kernels::compare;
 use crate::operations::Working;
 use crate::promotion::eight_bytes;
@@ -47,11 +47,6 @@ pub(crate) enum Pairing<'a> {
         width: BytesLen,
         other: &'a [u8],
     },
-    /// The first of two byte strings, cut or padded with NULs.
-    Cut {
-        width: BytesLen,
-        target: BytesLen,
-    },
 }
 
 impl<'a> Pairing<'a> {
@@ -65,7 +60,7 @@ impl<'a> Pairing<'a> {
             Pairing::Alike { scalar, .. } => *scalar,
             Pairing::Signs { left_signed, .. } => eight_bytes(*left_signed),
             Pairing::Texts(texts) => Scalar::Bytes(texts.width),
-            Pairing::With { width, .. } | Pairing::Cut { width, .. } => Scalar::Bytes(*width),
+            Pairing::With { width, .. } => Scalar::Bytes(*width),
         }
     }
 
@@ -77,7 +72,7 @@ impl<'a> Pairing<'a> {
             Pairing::Alike { scalar, .. } => *scalar,
             Pairing::Signs { left_signed, .. } => eight_bytes(!*left_signed),
             Pairing::Texts(texts) => Scalar::Bytes(texts.other_width),
-            Pairing::With { width, .. } | Pairing::Cut { width, .. } => Scalar::Bytes(*width),
+            Pairing::With { width, .. } => Scalar::Bytes(*width),
         }
     }
 
@@ -91,7 +86,6 @@ impl<'a> Pairing<'a> {
                 Work::Compare(_) => Scalar::Bool,
                 Work::Cast(to) => *to,
             },
-            Pairing::Cut { target, .. } => Scalar::Bytes(*target),
             _ => Scalar::Bool,
         }
     }
@@ -131,10 +125,6 @@ impl<'a> Pairing<'a> {
             } => {
                 let comparison = *comparison;
                 operands.push_all(&ComparingWith { comparison, other }, block)
-            }
-            Pairing::Cut { target, .. } => {
-                let width = target.get();
-                operands.push_all(&Cutting { width }, block)
             }
         }
     }

@@ -1,6 +1,6 @@
 -- The leaves of items that are cast, one by one.
-use Rattle.std.specs.Prelude.{◌≡◌, ℕ, ◌+◌, ◌<◌, List, length, map}
-use Rattle.elementwise.specs.Words.{Descr, Leaf, LeafValue, Scalar, size, decode, encode, item_size, leaves_of, leaf_at, item_from, item_at, with_items, row_offsets, place, Run}
+use Rattle.std.specs.Prelude.{◌≡◌, ℕ, ◌+◌, ◌<◌, ◌≤◌, List, length, map}
+use Rattle.elementwise.specs.Words.{Descr, Leaf, LeafValue, Scalar, Bytes, size, decode, encode, item_size, leaves_of, leaf_at, item_from, item_at, with_items, row_offsets, place, Run}
 use Rattle.elem_descr.specs.declared.descr.Descr.TheVariants.{Scalar as ScalarDescr, Record as RecordDescr}
 use Rattle.elementwise.specs.Casts.{cast_value, cast_item}
 
@@ -34,6 +34,14 @@ with_leaf from to other offsets k rows =
 -- the items at these offsets, cast
 abbrev pub cast_items : Descr → Descr → List ℕ → List ℕ → List (List LeafValue)
 cast_items from to other offsets = map (λ offset. cast_item from to (item_from from other offset)) offsets
+
+-- a cast keeps the first bytes of each item: byte strings that do not get longer
+pub record IsCut (from to : Descr) : Type 0 where
+  pub width : ℕ
+  pub target : ℕ
+  pub from_is : from ≡ ScalarDescr (Bytes width)
+  pub to_is : to ≡ ScalarDescr (Bytes target)
+  pub shorter : target ≤ width
 
 -- some items of a run, starting with one of them
 abbrev pub run_part : Run → ℕ → ℕ → Run

@@ -9,7 +9,7 @@ use Rattle.elementwise.specs.Operations.{binary, unary}
 use Rattle.elementwise.specs.inside.PairPasses.{says_number, compared_value, truth_value, value_pair, Holds}
 use Rattle.elementwise.specs.declared.pairing.Work.{Work}
 use Rattle.elementwise.specs.declared.pairing.Pairing.{Pairing}
-use Rattle.elementwise.specs.declared.pairing.Pairing.TheVariants.{Alike, Signs, Texts, With, Cut}
+use Rattle.elementwise.specs.declared.pairing.Pairing.TheVariants.{Alike, Signs, Texts, With}
 use Rattle.elementwise.specs.declared.pairing.Work.TheVariants.{Combine, Change, Compare, Cast}
 
 -- ---- of numbers of one scalar
@@ -43,14 +43,12 @@ left_of (Alike work scalar) = scalar
 left_of (Signs comparison left_signed) = Int left_signed Eight Little
 left_of (Texts texts) = Bytes texts.width
 left_of (With comparison width other) = Bytes width
-left_of (Cut width target) = Bytes width
 
 abbrev pub right_of : Pairing → Scalar
 right_of (Alike work scalar) = scalar
 right_of (Signs comparison left_signed) = Int (not left_signed) Eight Little
 right_of (Texts texts) = Bytes texts.other_width
 right_of (With comparison width other) = Bytes width
-right_of (Cut width target) = Bytes width
 
 -- and of what is made
 abbrev pub target_of : Pairing → Scalar
@@ -58,7 +56,6 @@ target_of (Alike work scalar) = target work scalar
 target_of (Signs comparison left_signed) = BoolScalar
 target_of (Texts texts) = BoolScalar
 target_of (With comparison width other) = BoolScalar
-target_of (Cut width target) = Bytes target
 
 -- what is made of two values
 abbrev pub gives : Pairing → LeafValue → LeafValue → LeafValue
@@ -66,7 +63,6 @@ gives (Alike work scalar) x y = number (meaning work scalar (number_of x) (numbe
 gives (Signs comparison left_signed) x y = compared_value comparison x y
 gives (Texts texts) x y = truth_value texts.comparison x y
 gives (With comparison width other) x y = truth_value comparison x (text other.now)
-gives (Cut width target) x y = cast_value (Bytes target) x
 
 -- its bytes, of those of two items
 abbrev pub pair_made : Pairing → List ℕ → List ℕ → List ℕ
@@ -78,7 +74,6 @@ CanPair (Alike work scalar) = IsNumber scalar × IsWork work
 CanPair (Signs comparison left_signed) = Unit {0}
 CanPair (Texts texts) = Unit {0}
 CanPair (With comparison width other) = Unit {0}
-CanPair (Cut width target) = Unit {0}
 
 -- ---- comparisons
 

@@ -1,11 +1,13 @@
-use Rattle.std.proofs.Common.{◌≡◌, ◌+◌, ◌*◌, ◌≤◌, All, pos, w64, length, sym, ap, subst, ◌∙◌, arith}
+use Rattle.std.proofs.Common.{◌≡◌, ◌+◌, ◌*◌, ◌≤◌, ℕ, List, Result, Ok, Err, IfOk, All, pos, w64, length, sym, ap, subst, ◌∙◌, arith}
 use Rattle.std.proofs.lemmas.Int.{ints}
 use Rattle.std.proofs.lemmas.Result.{IfOk-weaker}
+use Rattle.std.specs.declared.alloc.AllocError.{AllocError}
 use mir.Val.{to_z}
-use Rattle.elementwise.specs.Words.{item_size, EachWithin, max_bytes, count, offsets, length-offsets, run_offsets, length-run_offsets, row_offsets, row-multiples, run-within, items_at}
+use Rattle.elementwise.specs.Words.{item_size, EachWithin, max_bytes, count, offsets, length-offsets, run_offsets, length-run_offsets, row_offsets, row-multiples, multiples, run-within, items_at}
 use Rattle.elementwise.specs.inside.LeafCasts.{cast_items}
 use Rattle.elementwise.specs.inside.Made.{AreItems}
 use Rattle.elementwise.proofs.ColumnLaws.{same-cast}
+use Rattle.elementwise.proofs.CutLaws.{first-bytes-cast}
 use Rattle.elementwise.proofs.RowLaws.{row-within}
 use Rattle.elementwise.proofs.casts.cast_block.Goals as goal
 
@@ -57,3 +59,19 @@ returns c =
     let same = (λ i. items_at (row-multiples w (length os) i) w (c.bytes-2.ensures i)) ∙ c.in_ok-packed.ensures.items in
     let values = (λ i. cast_items from to c.bytes-2.result.now (here i)) ∙ same-cast from to w c.bytes-2.result.now x.block.now (row_offsets 0 w (length os)) os c.size-width.ensures.value same in
     IfOk-weaker c.cast_run-2.result _ _ (λ bytes are. subst (λ vs. AreItems to vs bytes) values are) c.cast_run-2.ensures
+
+-- ---- byte strings that are cut
+
+pub returns-then-is_cut : goal.returns-then-is_cut
+returns-then-is_cut c = told c.gather.result c.gather.ensures.len c.gather.ensures.items
+  where
+    told : (result : Result (List ℕ) AllocError) → IfOk result (λ bytes. length bytes ≡ length (offsets c.args.from.layout.now) * c.size.result)
+        → IfOk result (λ bytes. items_at (multiples c.size.result (length (offsets c.args.from.layout.now))) c.size.result bytes ≡ items_at (offsets c.args.from.layout.now) c.size.result c.args.from.block.now)
+        → IfOk result (AreItems c.args.to.now (cast_items c.args.from.descr.now c.args.to.now c.args.from.block.now (offsets c.args.from.layout.now)))
+    told (Err e) long same = tt
+    told (Ok bytes) long same =
+        let os = offsets c.args.from.layout.now in
+        first-bytes-cast c.args.from.descr.now c.args.to.now c.args.from.block.now os bytes (c.is_cut.ensures c.if-is_cut.true) c.args.from.inside
+        (long ∙ ap (λ w. length os * w) c.size.ensures.value)
+        (subst (λ w. items_at (multiples w (length os)) w bytes ≡ items_at os w c.args.from.block.now) c.size.ensures.value same)
+        c.size.ensures.apart

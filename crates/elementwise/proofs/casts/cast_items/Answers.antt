@@ -5,18 +5,26 @@ use Rattle.elementwise.specs.Words.{Descr, item_size, item_from, count, max_byte
 use Rattle.elem_descr.specs.declared.descr.Descr.TheVariants.{Scalar as ScalarDescr}
 use Rattle.elementwise.specs.Casts.{can_cast_scalar, can_cast, cast_item}
 use Rattle.elementwise.specs.inside.Made.{IsMade}
+use Rattle.elementwise.proofs.CutLaws.{no_text, numbers_cast}
 use Rattle.elementwise.proofs.MadeLaws.{made-in}
 use Rattle.elementwise.proofs.casts.cast_items.Goals as goal
 
-pub cast_scalars-requires-clause-from : goal.cast_scalars-requires-clause-from
-cast_scalars-requires-clause-from c = c.items.ensures.descr ∙ c.near-near.ensures.descr ∙ c.in-Scalar-Scalar.is-0
+pub cast_numbers-requires-clause-from : goal.cast_numbers-requires-clause-from
+cast_numbers-requires-clause-from c = c.items.ensures.descr ∙ c.near-near.ensures.descr ∙ c.in-Scalar-Scalar.is-0
 
-pub cast_scalars-requires-clause-can : goal.cast_scalars-requires-clause-can
-cast_scalars-requires-clause-can c =
-    (and_parts (can_cast_scalar c.in-Scalar-Scalar.scalar c.in-Scalar-Scalar.target) true ((λ i. can_cast (sym c.in-Scalar-Scalar.is-0 i) (sym c.in-Scalar-Scalar.is-1 i)) ∙ c.requires.can)).0
+pub cast_numbers-requires-clause-to : goal.cast_numbers-requires-clause-to
+cast_numbers-requires-clause-to c = no_text c.in-Scalar-Scalar.target (sym c.is_text.ensures ∙ c.if-not-is_text.true)
 
-pub cast_scalars-requires-clause-few : goal.cast_scalars-requires-clause-few
-cast_scalars-requires-clause-few c =
+pub cast_numbers-requires-clause-number : goal.cast_numbers-requires-clause-number
+cast_numbers-requires-clause-number c =
+    let s = c.in-Scalar-Scalar.scalar in
+    let t = c.in-Scalar-Scalar.target in
+    numbers_cast s t
+    (and_parts (can_cast_scalar s t) true ((λ i. can_cast (sym c.in-Scalar-Scalar.is-0 i) (sym c.in-Scalar-Scalar.is-1 i)) ∙ c.requires.can)).0
+    (no_text t (sym c.is_text.ensures ∙ c.if-not-is_text.true))
+
+pub cast_numbers-requires-clause-few : goal.cast_numbers-requires-clause-few
+cast_numbers-requires-clause-few c =
     let same = ap count (c.items.ensures.shape ∙ c.near-near.ensures.shape) in
     omega (arith, ap (λ n. n * item_size (ScalarDescr c.in-Scalar-Scalar.target)) same, subst (λ (d : Descr). count c.args.from.layout.now.shape * item_size d ≤ max_bytes) c.in-Scalar-Scalar.is-1 c.requires.few)
 
@@ -25,10 +33,10 @@ returns-in-Scalar-Scalar c =
     let x = c.args.from in
     let z = c.items.result in
     let to = ScalarDescr c.in-Scalar-Scalar.target in
-    subst (λ (d : Descr). IfOk c.cast_scalars.result (IsMade d x.layout.now.shape (map (λ offset. cast_item x.descr.now d (item_from x.descr.now x.block.now offset)) (offsets x.layout.now)))) (sym c.in-Scalar-Scalar.is-1)
-    (made-in to z.layout.now.shape x.layout.now.shape _ _ c.cast_scalars.result (c.items.ensures.shape ∙ c.near-near.ensures.shape)
+    subst (λ (d : Descr). IfOk c.cast_numbers.result (IsMade d x.layout.now.shape (map (λ offset. cast_item x.descr.now d (item_from x.descr.now x.block.now offset)) (offsets x.layout.now)))) (sym c.in-Scalar-Scalar.is-1)
+    (made-in to z.layout.now.shape x.layout.now.shape _ _ c.cast_numbers.result (c.items.ensures.shape ∙ c.near-near.ensures.shape)
     (sym (map-map (cast_item z.descr.now to) (item_from z.descr.now z.block.now) (offsets z.layout.now))
     ∙ ap (map (cast_item z.descr.now to)) (c.items.ensures.items ∙ c.near-near.ensures.items)
     ∙ (λ i. map (cast_item ((c.items.ensures.descr ∙ c.near-near.ensures.descr) i) to) (map (item_from x.descr.now x.block.now) (offsets x.layout.now)))
     ∙ map-map (cast_item x.descr.now to) (item_from x.descr.now x.block.now) (offsets x.layout.now))
-    c.cast_scalars.ensures)
+    c.cast_numbers.ensures)

@@ -3,7 +3,7 @@ use Rattle.elementwise.specs.Words.{item_size, item_from, offsets, length-offset
 use Rattle.elementwise.proofs.ColumnLaws.{length-cast_items}
 use Rattle.elementwise.proofs.EncodedLaws.{items-read}
 use Rattle.elementwise.proofs.MadeLaws.{over-made}
-use Rattle.elementwise.proofs.casts.cast_records.Goals as goal
+use Rattle.elementwise.proofs.casts.cast_by_leaves.Goals as goal
 
 pub over-requires-clause-whole : goal.over-requires-clause-whole
 over-requires-clause-whole c =
