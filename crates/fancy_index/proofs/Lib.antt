@@ -1,4 +1,5 @@
 mod Vectors
+mod WideLaws
 pub mod PlanLaws
 pub mod RunLaws
 pub mod Passes

@@ -35,7 +35,7 @@ fn push_moved(
     items
 }
 
-/// Appends the items of the inner axes, once for each shift. Inner axes of one item need no walk.
+/// Appends the items of the inner axes, once for each shift. One item, or adjacent ones, need no walk.
 fn push_shifted(
     items: BlockBuilder,
     block: &RawBlock,
@@ -49,6 +49,9 @@ fn push_shifted(
 {
     if rows.is_single() {
         return push_singles(items, block, rows, width);
+    }
+    if let Some(bytes) = rows.row_bytes(width) {
+        return push_singles(items, block, rows, bytes);
     }
     let inner = rows.inner;
     let mut items = items;

@@ -2,7 +2,7 @@
 ghost use Rattle.fancy_index.specs.Plans.{put_each};
 ghost use Rattle.fancy_index.specs.Words.{EachWithin, LieWithin, max_bytes, offsets, run_offsets};
 ghost use Rattle.fancy_index.specs.inside.Moved.{AllStart, AreStarts, IsMoved, moved_offset};
-ghost use Rattle.std.specs.Prelude.{All, IsTrue, [], get_or, length, map, ℕ, ◌*◌, ◌+◌, ◌<◌, ◌∷◌, ◌≡◌, ◌≤◌};
+ghost use Rattle.std.specs.Prelude.{All, IsTrue, [], get_or, length, map, pos, ℕ, ◌*◌, ◌+◌, ◌<◌, ◌∷◌, ◌≡◌, ◌≤◌};
 
 use raw_block::RawBlock;
 use shape_strides::{Layout, Run};
@@ -50,6 +50,13 @@ pub(crate) fn moved(base: usize, start: usize, offset: usize) -> usize
     start + offset - base
 }
 
+/// Whether items with this step between them, of `width` bytes, are adjacent.
+pub(crate) fn is_step(step: isize, width: usize) -> bool
+    ensures { IsTrue result → step ≡ pos width }
+{
+    step >= 0 && step.unsigned_abs() == width
+}
+
 /// Whether each shift is the one before it plus a step.
 fn rise_evenly(shifts: &[u32], step: u32) -> bool
     requires some { 1 ≤ length shifts.now }
@@ -93,13 +100,27 @@ impl PlanAxes {
 
 impl<'a> Shifted<'a> {
     ghost use Rattle.std.specs.Prelude.{◌+◌, length, map, slice_range, IsTrue, IfSome};
-    ghost use Rattle.fancy_index.specs.inside.Kept.{first_offsets, shifted_offsets, IsRunOf};
+    ghost use Rattle.fancy_index.specs.inside.Kept.{AreWide, first_offsets, shifted_offsets, IsRunOf};
 
     /// Whether the inner axes have one item.
     pub(crate) fn is_single(self) -> bool
         ensures { IsTrue result → shifted_offsets self.entry ≡ first_offsets self.entry }
     {
         self.inner.shape.items() == 1
+    }
+
+    /// The bytes of the inner items together, if they are adjacent items of `width` bytes.
+    pub(crate) fn row_bytes(self, width: usize) -> Option<usize>
+        ensures { IfSome result (AreWide self.entry width) }
+    {
+        if self.inner.shape.items() == 0 {
+            return None;
+        }
+        let run = self.inner.as_one_run()?;
+        if !is_step(run.step, width) {
+            return None;
+        }
+        run.count.checked_mul(width)
     }
 
     /// Those with the shifts in a range.

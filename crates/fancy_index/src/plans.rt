@@ -1,12 +1,12 @@
 //! Plans: where in a buffer the items are that an index list with arrays selects.
-ghost use Rattle.std.specs.Prelude.{◌≡◌, ◌+◌, ◌*◌, ◌<◌, ◌≤◌, length, map, nat_le, pos, slice_index, if◌then◌else◌, All, IfOk, IfErr, IsTrue};
+ghost use Rattle.std.specs.Prelude.{◌≡◌, ◌+◌, ◌*◌, ◌<◌, ◌≤◌, length, map, nat_le, slice_index, if◌then◌else◌, All, IfOk, IfErr, IsTrue};
 ghost use Rattle.fancy_index.specs.Words.{OutOfMemory, TooLarge, item_from, item_size, C, max_bytes, max_items, count, offsets, multiples, items_at, assigned, offsets_in};
 ghost use Rattle.fancy_index.specs.Plans.{put_each};
 ghost use Rattle.fancy_index.specs.inside.Moved.{laid_offsets, AllStart};
 ghost use Rattle.fancy_index.specs.inside.Kept.{offsets_from};
 
 use crate::gather_scatter::{fill, push_all, scatter};
-use crate::plan_rows::{PlanAxes, moved};
+use crate::plan_rows::{PlanAxes, is_step, moved};
 use arrays::Owned;
 use elem_descr::{Descr, MemoryOrder, Refusal};
 use raw_block::{BlockBuilder, RawBlock};
@@ -73,12 +73,6 @@ fn offset_in(axes: &PlanAxes, rank: usize) -> usize
     let place = axes.outer.at_rank(at.place);
     let start = moved(base, place, shifts[at.shift] as usize);
     moved(base, start, axes.inner.at_rank(at.item))
-}
-
-fn is_step(step: isize, width: usize) -> bool
-    ensures { IsTrue result → step ≡ pos width }
-{
-    step >= 0 && step.unsigned_abs() == width
 }
 
 /// Whether these are two or more adjacent items of `width` bytes that start at the block's start.

@@ -9,6 +9,9 @@ use crate::plan_rows::{Shifted, moved};
 use arrays::{copy_run, packed_run};
 use raw_block::{BlockBuilder, RawBlock};
 
+/// Among fewer items than this, ranges are not looked for.
+const FEW: usize = 16;
+
 /// The `N` bytes that start at `at`, in a single load.
 #[inline(always)]
 pub(crate) fn array_at<const N: usize>(bytes: &[u8], at: usize) -> [u8; N]
@@ -77,8 +80,9 @@ fn push_each(items: BlockBuilder, block: &RawBlock, rows: Shifted<'_>, width: us
     items
 }
 
-/// Appends the items at the shifted places: as one range if they are adjacent, and otherwise with a
-/// loop of its own for each common width.
+/// Appends the items at the shifted places: as one range if they are adjacent, and otherwise one by
+/// one.
+#[inline(always)]
 fn push_stretch(
     items: BlockBuilder,
     block: &RawBlock,
@@ -92,22 +96,41 @@ fn push_stretch(
     ensures bytes { result.0 ≡ items.0 ++ joined_at (first_offsets rows.entry) width block.now }
     ensures left { length (first_offsets rows.entry) * width + result.1 ≡ items.1 }
 {
-    match (rows.as_run(width), width) {
-        (Some(run), _) => {
-            let mut items = items;
-            items.push_strided(block, run.offset, run.step, width, run.count);
-            items
-        }
-        (_, 1) => push_each(items, block, rows, 1),
-        (_, 2) => push_each(items, block, rows, 2),
-        (_, 4) => push_each(items, block, rows, 4),
-        (_, 8) => push_each(items, block, rows, 8),
-        (_, 16) => push_each(items, block, rows, 16),
-        _ => push_each(items, block, rows, width),
-    }
+    let Some(run) = rows.as_run(width) else {
+        return push_each(items, block, rows, width);
+    };
+    let mut items = items;
+    items.push_strided(block, run.offset, run.step, width, run.count);
+    items
 }
 
-/// Appends the items at the shifted places, range by range.
+/// Appends the items at the shifted places: a few one by one, and many range by range.
+#[inline(always)]
+fn push_ranges(
+    items: BlockBuilder,
+    block: &RawBlock,
+    rows: Shifted<'_>,
+    width: usize,
+) -> BlockBuilder
+    requires inside { All (λ offset. offset + width ≤ length block.now) (first_offsets rows) }
+    requires room { length (first_offsets rows) * width ≤ items.1 }
+    ensures bytes { result.0 ≡ items.0 ++ joined_at (first_offsets rows.entry) width block.now }
+    ensures left { length (first_offsets rows.entry) * width + result.1 ≡ items.1 }
+{
+    if rows.shifts.len() < FEW {
+        return push_each(items, block, rows, width);
+    }
+    let mut items = items;
+    let mut from = 0;
+    while from < rows.shifts.len() {
+        let end = rows.shifts.len().min(from + 128);
+        items = push_stretch(items, block, rows.part(from, end), width);
+        from = end;
+    }
+    items
+}
+
+/// Appends the items at the shifted places, with loops of their own for each common width.
 pub(crate) fn push_singles(
     items: BlockBuilder,
     block: &RawBlock,
@@ -119,14 +142,14 @@ pub(crate) fn push_singles(
     ensures bytes { result.0 ≡ items.0 ++ joined_at (first_offsets rows.entry) width block.now }
     ensures left { length (first_offsets rows.entry) * width + result.1 ≡ items.1 }
 {
-    let mut items = items;
-    let mut from = 0;
-    while from < rows.shifts.len() {
-        let end = rows.shifts.len().min(from + 128);
-        items = push_stretch(items, block, rows.part(from, end), width);
-        from = end;
+    match width {
+        1 => push_ranges(items, block, rows, 1),
+        2 => push_ranges(items, block, rows, 2),
+        4 => push_ranges(items, block, rows, 4),
+        8 => push_ranges(items, block, rows, 8),
+        16 => push_ranges(items, block, rows, 16),
+        _ => push_ranges(items, block, rows, width),
     }
-    items
 }
 
 /// Copies adjacent items of `width` bytes, starting at `at`, each to one of the shifted places.
@@ -159,8 +182,8 @@ fn scatter_each(
     from
 }
 
-/// Copies items to the shifted places: as one range if these are adjacent, and otherwise with a
-/// loop of its own for each common width.
+/// Copies items to the shifted places: as one range if these are adjacent, and otherwise one by one.
+#[inline(always)]
 fn scatter_stretch(
     block: &mut RawBlock,
     rows: Shifted<'_>,
@@ -178,21 +201,44 @@ fn scatter_stretch(
     ensures end { result ≡ at + length rows.entry.shifts.now * width }
 {
     let len = items.len();
-    match (rows.as_run(width), width) {
-        (Some(run), _) => {
-            let from = packed_run(at, width, run.count, len);
-            copy_run(block, run, items, from, width);
-            at + run.count * width
-        }
-        (_, 1) => scatter_each(block, rows, items, at, 1),
-        (_, 2) => scatter_each(block, rows, items, at, 2),
-        (_, 4) => scatter_each(block, rows, items, at, 4),
-        (_, 8) => scatter_each(block, rows, items, at, 8),
-        _ => scatter_each(block, rows, items, at, width),
-    }
+    let Some(run) = rows.as_run(width) else {
+        return scatter_each(block, rows, items, at, width);
+    };
+    let from = packed_run(at, width, run.count, len);
+    copy_run(block, run, items, from, width);
+    at + run.count * width
 }
 
-/// Copies items to the shifted places, range by range.
+/// Copies items to the shifted places: a few one by one, and many range by range.
+#[inline(always)]
+fn scatter_ranges(
+    block: &mut RawBlock,
+    rows: Shifted<'_>,
+    items: &RawBlock,
+    at: usize,
+    width: usize,
+) -> usize
+    requires inside { All (λ offset. offset + width ≤ length block.old) (first_offsets rows) }
+    requires room { at + length rows.shifts.now * width ≤ length items.now }
+    ensures written { let from = packed at width (length rows.entry.shifts.now) in
+        block.new ≡ assigned (first_offsets rows.entry) from width items.now block.old }
+    ensures len { length block.new ≡ length block.old }
+    ensures end { result ≡ at + length rows.entry.shifts.now * width }
+{
+    if rows.shifts.len() < FEW {
+        return scatter_each(block, rows, items, at, width);
+    }
+    let mut at = at;
+    let mut from = 0;
+    while from < rows.shifts.len() {
+        let end = rows.shifts.len().min(from + 128);
+        at = scatter_stretch(block, rows.part(from, end), items, at, width);
+        from = end;
+    }
+    at
+}
+
+/// Copies items to the shifted places, with loops of their own for each common width.
 pub(crate) fn scatter_singles(
     block: &mut RawBlock,
     rows: Shifted<'_>,
@@ -207,14 +253,13 @@ pub(crate) fn scatter_singles(
     ensures len { length block.new ≡ length block.old }
     ensures end { result ≡ at + length rows.entry.shifts.now * width }
 {
-    let mut at = at;
-    let mut from = 0;
-    while from < rows.shifts.len() {
-        let end = rows.shifts.len().min(from + 128);
-        at = scatter_stretch(block, rows.part(from, end), items, at, width);
-        from = end;
+    match width {
+        1 => scatter_ranges(block, rows, items, at, 1),
+        2 => scatter_ranges(block, rows, items, at, 2),
+        4 => scatter_ranges(block, rows, items, at, 4),
+        8 => scatter_ranges(block, rows, items, at, 8),
+        _ => scatter_ranges(block, rows, items, at, width),
     }
-    at
 }
 
 /// Writes the item at each shifted place. If the compiler knows the length of the item, each is a

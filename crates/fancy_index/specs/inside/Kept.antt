@@ -1,6 +1,6 @@
 -- Where the items lie to which the axes of a plan lead.
-use Rattle.std.specs.Prelude.{◌≡◌, ◌+◌, ◌≤◌, ℕ, List, map, length, All}
-use Rattle.fancy_index.specs.Words.{assigned, row_offsets, offsets, EachWithin, Run, run_offsets}
+use Rattle.std.specs.Prelude.{◌≡◌, ◌+◌, ◌*◌, ◌≤◌, ℕ, List, map, length, All}
+use Rattle.fancy_index.specs.Words.{assigned, joined_at, row_offsets, offsets, EachWithin, Run, run_offsets}
 use Rattle.fancy_index.specs.declared.plan_rows.MovedLayout.{MovedLayout}
 use Rattle.fancy_index.specs.declared.plan_rows.PlanAxes.{PlanAxes}
 use Rattle.fancy_index.specs.declared.plan_rows.Shifted.{Shifted}
@@ -28,3 +28,9 @@ pub record IsRunOf (offsets : List ℕ) (run : Run) : Type 0 where
   pub same : run_offsets run ≡ offsets
   pub count : run.count ≡ length offsets
   pub within : (len width : ℕ) → All (λ offset. offset + width ≤ len) offsets → EachWithin len run.offset run.step width run.count
+
+-- the inner items are adjacent: with each shift they are one item of so many bytes
+pub record AreWide (rows : Shifted) (width bytes : ℕ) : Type 0 where
+  pub size : length (shifted_offsets rows) * width ≡ length (first_offsets rows) * bytes
+  pub joined : (block : List ℕ) → joined_at (shifted_offsets rows) width block ≡ joined_at (first_offsets rows) bytes block
+  pub inside : (len : ℕ) → All (λ o. o + width ≤ len) (shifted_offsets rows) → All (λ o. o + bytes ≤ len) (first_offsets rows)

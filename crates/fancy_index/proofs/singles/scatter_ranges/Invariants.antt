@@ -4,7 +4,7 @@ use Rattle.fancy_index.specs.inside.Moved.{moved_offset}
 use Rattle.fancy_index.specs.inside.Kept.{first_offsets}
 use Rattle.arrays.specs.Packed.{row_offsets as packed}
 use Rattle.fancy_index.proofs.Passes.{Scattering}
-use Rattle.fancy_index.proofs.singles.scatter_singles.Given as goal
+use Rattle.fancy_index.proofs.singles.scatter_ranges.Given as goal
 
 abbrev pub invariant-loop-from : goal.invariant-loop-from
 invariant-loop-from l = record {
