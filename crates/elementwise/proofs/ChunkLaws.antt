@@ -13,7 +13,7 @@ use Rattle.elementwise.specs.Results.{pairwise, value_in}
 use Rattle.elementwise.specs.Casts.{cast_item}
 use Rattle.elementwise.specs.declared.chunks.ItemsInRun.{ItemsInRun}
 use Rattle.elementwise.specs.declared.pairing.Pairing.{Pairing}
-use Rattle.elementwise.specs.inside.Chunks.{given, run_items, all_given}
+use Rattle.elementwise.specs.inside.Combined.{given, run_items, all_given}
 use Rattle.elementwise.specs.inside.Held.{stretched}
 use Rattle.elementwise.specs.inside.LeafCasts.{run_part}
 use Rattle.elementwise.specs.inside.Made.{AreItems}

@@ -5,7 +5,7 @@ ghost use Rattle.std.specs.List.{flat_map};
 ghost use Rattle.elem_descr.specs.declared.descr.Descr.TheVariants.{Scalar as ScalarDescr};
 ghost use Rattle.elementwise.specs.Words.{size, encode_item, count, offsets, run_offsets, max_items, BeginsWithin};
 ghost use Rattle.elementwise.specs.Casts.{can_cast};
-ghost use Rattle.elementwise.specs.inside.Chunks.{all_given};
+ghost use Rattle.elementwise.specs.inside.Combined.{all_given};
 ghost use Rattle.elementwise.specs.inside.LeafCasts.{run_part};
 ghost use Rattle.elementwise.specs.inside.Made.{IsMade};
 ghost use Rattle.elementwise.specs.inside.Works.{left_of, right_of, target_of, CanPair};

@@ -3,6 +3,7 @@ ghost use Rattle.elem_descr.specs.declared.descr.Descr.TheVariants.{Scalar as Sc
 ghost use Rattle.elem_descr.specs.declared.scalar.Scalar.TheVariants.{Bool as BoolScalar};
 ghost use Rattle.elementwise.specs.Results.{compared_item, integer_compared_result, truth_item};
 ghost use Rattle.elementwise.specs.Words.{C, Gives, IsNumber, count, decode, encode_item, item_from, item_size, little, max_bytes, number, offsets, offsets_in, owned_items, size, wrap};
+ghost use Rattle.elementwise.specs.inside.Combined.{AreComparedWith};
 ghost use Rattle.elementwise.specs.inside.Made.{IsMade};
 ghost use Rattle.std.specs.List.{flat_map};
 ghost use Rattle.std.specs.Prelude.{IfOk, [], if◌then◌else◌, length, map, replicate, ◌∷◌, ◌≡◌, ◌≢◌, ◌≤◌};
@@ -53,11 +54,7 @@ fn compare_with_value(
     requires from { operand.descr.now ≡ ScalarDescr from.now }
     requires number { IsNumber from.now }
     requires held { wrap (little from.now) integer ≡ integer }
-    ensures { IfOk result
-        (IsMade (ScalarDescr BoolScalar) operand.entry.layout.now.shape
-        (map (λ offset.
-        compared_item comparison (item_from operand.entry.descr.now operand.entry.block.now offset)
-        (number integer ∷ [])) (offsets operand.entry.layout.now))) }
+    ensures { IfOk result (AreComparedWith comparison operand.entry (number integer)) }
 {
     let scalar = little(from);
     let block = number_block(alloc, &scalar, integer)?;
@@ -102,11 +99,7 @@ fn compare_beyond(
     requires from { operand.descr.now ≡ ScalarDescr from.now }
     requires number { IsNumber from.now }
     requires beyond { wrap (little from.now) integer ≢ integer }
-    ensures { IfOk result
-        (IsMade (ScalarDescr BoolScalar) operand.entry.layout.now.shape
-        (map (λ offset.
-        compared_item comparison (item_from operand.entry.descr.now operand.entry.block.now offset)
-        (number integer ∷ [])) (offsets operand.entry.layout.now))) }
+    ensures { IfOk result (AreComparedWith comparison operand.entry (number integer)) }
 {
     note_slice(operand.block.bytes());
     let above = integer.is_positive();

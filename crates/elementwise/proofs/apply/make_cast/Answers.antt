@@ -4,7 +4,7 @@ use Rattle.elem_descr.specs.declared.descr.Descr.TheVariants.{Scalar as ScalarDe
 use Rattle.elementwise.specs.Words.{Descr, Items, LeafValue, count, size, item_from, items, offsets, can_stretch}
 use Rattle.elementwise.specs.Casts.{cast_item}
 use Rattle.elementwise.specs.Results.{pairwise, value_in}
-use Rattle.elementwise.specs.inside.Chunks.{given}
+use Rattle.elementwise.specs.inside.Combined.{given}
 use Rattle.elementwise.specs.inside.Held.{stretched}
 use Rattle.elementwise.specs.inside.Works.{left_of, right_of, target_of, gives}
 use Rattle.elementwise.proofs.ChunkLaws.{count-run, run-stretched}

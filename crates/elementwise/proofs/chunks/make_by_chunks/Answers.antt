@@ -4,7 +4,7 @@ use Rattle.std.specs.List.{flat_map}
 use Rattle.std.proofs.lemmas.Grind.{flat_map-append}
 use Rattle.elem_descr.specs.declared.descr.Descr.TheVariants.{Scalar as ScalarDescr}
 use Rattle.elementwise.specs.Words.{size, item_size, item_from, encode_item, count, multiples, run_front}
-use Rattle.elementwise.specs.inside.Chunks.{run_items, all_given}
+use Rattle.elementwise.specs.inside.Combined.{run_items, all_given}
 use Rattle.elementwise.specs.inside.LeafCasts.{run_part}
 use Rattle.elementwise.specs.inside.Works.{target_of}
 use Rattle.elementwise.proofs.ChunkLaws.{count-given, given-are, given-more}

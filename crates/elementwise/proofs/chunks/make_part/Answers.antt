@@ -3,7 +3,7 @@ use Rattle.std.specs.List.{flat_map}
 use Rattle.elem_descr.specs.declared.descr.Descr.TheVariants.{Scalar as ScalarDescr}
 use Rattle.elementwise.specs.Words.{item_size, item_from, encode_item}
 use Rattle.elementwise.specs.Results.{pairwise}
-use Rattle.elementwise.specs.inside.Chunks.{given}
+use Rattle.elementwise.specs.inside.Combined.{given}
 use Rattle.elementwise.specs.inside.Works.{target_of}
 use Rattle.elementwise.proofs.ChunkLaws.{part-inside}
 use Rattle.elementwise.proofs.StretchedLaws.{stretches-itself}
