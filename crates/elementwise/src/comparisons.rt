@@ -64,7 +64,7 @@ fn compare_numbers(
     note_slice(both.left.block.bytes());
     note_slice(both.right.block.bytes());
     let pairing = number_pairing(comparison, left, right, both);
-    make_cast(alloc, &pairing, both.left, both.right, both.shape)
+    make_cast(alloc, &pairing, both)
 }
 
 /// A comparison of byte strings. Trailing NULs of items that repeat are looked at once.
