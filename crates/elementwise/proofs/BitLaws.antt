@@ -136,10 +136,10 @@ amount : (signed : Bool) (by width : ℕ) → by < width → width ≤ 64 → in
 amount false by width near few = refl
 amount true by width near few = is_small by (omega (arith, near, few))
 
-pub moved_down_is : (signed : Bool) (width by : ℕ) (z : ℤ) → by < width → width ≤ 64 → floor_quotient z (pos (2 ^ by)) ≡ shifted_right width z (integer signed 8 by)
-moved_down_is signed width by z near few =
+pub moved_down_is : (signed : Bool) (width by m : ℕ) (z : ℤ) → by < width → width ≤ 64 → m ≡ max width 1 → floor_quotient z (pos (2 ^ (by % m))) ≡ shifted_right width z (integer signed 8 by)
+moved_down_is signed width by m z near few is =
     let test : nat_lt by width ≡ true = grind (arith, nat_tests) in
-    ap (λ t. cond t (floor_quotient z (pos (2 ^ by))) (sign_bits z)) (sym test) ∙ ap (shifted_right width z) (sym (amount signed by width near few))
+    ap (λ n. floor_quotient z (pos (2 ^ n))) (kept by width m near is) ∙ ap (λ t. cond t (floor_quotient z (pos (2 ^ by))) (sign_bits z)) (sym test) ∙ ap (shifted_right width z) (sym (amount signed by width near few))
 
 pub moved_up_low : (signed : Bool) (width x by : ℕ) → by < width → width ≤ 64 → x < 2 ^ 64 → (x * 2 ^ by) % 2 ^ 64 ≡ low_bits 8 (shifted_left width (integer signed 8 x) (integer signed 8 by))
 moved_up_low signed width x by near few below =

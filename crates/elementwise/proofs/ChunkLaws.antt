@@ -11,9 +11,10 @@ use lib.Signed.{◌≤ℤ◌}
 use Rattle.elementwise.specs.Words.{Descr, Scalar, LeafValue, Items, size, encode, decode, encode_item, decode_item, item_from, one-encoded, length-encode, run_front, Layout, Run, BeginsWithin, IsIndex, address_at, natural, position, place, position-add, rank, count, offsets, run_offsets, max_bytes, lie-within, run-ends, run-within, nth-offset, get_or-offsets, length-offsets, length-run_offsets}
 use Rattle.elementwise.specs.Results.{pairwise, value_in}
 use Rattle.elementwise.specs.Casts.{cast_item}
-use Rattle.elementwise.specs.declared.chunks.ItemsInRun.{ItemsInRun}
+use Rattle.elementwise.specs.declared.chunks.InRuns.{InRuns}
+use Rattle.elementwise.specs.declared.operands.Broadcast.{Broadcast}
 use Rattle.elementwise.specs.declared.pairing.Pairing.{Pairing}
-use Rattle.elementwise.specs.inside.Chunks.{given, run_items, all_given}
+use Rattle.elementwise.specs.inside.Combined.{given, run_items, all_given}
 use Rattle.elementwise.specs.inside.Held.{stretched}
 use Rattle.elementwise.specs.inside.LeafCasts.{run_part}
 use Rattle.elementwise.specs.inside.Made.{AreItems}
@@ -107,17 +108,23 @@ module _ (p : Pairing) (can : CanPair p) (from other : Descr) where
 
 -- ---- what is given on the first items of two runs, and on those of a part behind them
 
-pub count-given : (p : Pairing) (x y : Items) (run other : Run) → run.count ≡ other.count → length (all_given p x y run other) ≡ run.count
-count-given p x y run other even =
-    let xs = run_items x run in
-    let ys = run_items y other in
-    let many : length xs ≡ run.count = length-map (run_offsets run) (item_from x.descr.now x.block.now) ∙ length-run_offsets run in
-    let many' : length ys ≡ other.count = length-map (run_offsets other) (item_from y.descr.now y.block.now) ∙ length-run_offsets other in
-    length-pairwise (given p x.descr.now y.descr.now) xs ys (many ∙ even ∙ sym many') ∙ many
+pub count-given : (p : Pairing) (b : Broadcast) (run other : Run) → run.count ≡ other.count → length (all_given p b run other) ≡ run.count
+count-given p b run other even =
+    let x = b.left in let y = b.right in
+    let many : length (run_items x run) ≡ run.count = length-map (run_offsets run) (item_from x.descr.now x.block.now) ∙ length-run_offsets run in
+    let many' : length (run_items y other) ≡ other.count = length-map (run_offsets other) (item_from y.descr.now y.block.now) ∙ length-run_offsets other in
+    length-pairwise (given p x.descr.now y.descr.now) (run_items x run) (run_items y other) (many ∙ even ∙ sym many') ∙ many
 
-pub given-more : (p : Pairing) (x y : Items) (run other : Run) (k n : ℕ) → BeginsWithin run → BeginsWithin other → run.count ≡ other.count → k < run.count →
-    all_given p x y (run_front (k + n) run) (run_front (k + n) other) ≡ all_given p x y (run_front k run) (run_front k other) ++ all_given p x y (run_part run k n) (run_part other k n)
-given-more p x y run other k n lies lies' even low =
+-- how many bytes that is
+pub long-given : (p : Pairing) (b : Broadcast) (run other : Run) → CanPair p → run.count ≡ other.count → length (flat_map (encode_item (ScalarDescr (target_of p))) (all_given p b run other)) ≡ run.count * size (target_of p)
+long-given p b run other can even =
+    (given-are p can b.left.descr.now b.right.descr.now (run_items b.left run) (run_items b.right other)).long
+    ∙ ap (λ n. n * size (target_of p)) (count-given p b run other even)
+
+pub given-more : (p : Pairing) (b : Broadcast) (run other : Run) (k n : ℕ) → BeginsWithin run → BeginsWithin other → run.count ≡ other.count → k < run.count →
+    all_given p b (run_front (k + n) run) (run_front (k + n) other) ≡ all_given p b (run_front k run) (run_front k other) ++ all_given p b (run_part run k n) (run_part other k n)
+given-more p b run other k n lies lies' even low =
+    let x = b.left in let y = b.right in
     let give = given p x.descr.now y.descr.now in
     let read = item_from x.descr.now x.block.now in
     let read' = item_from y.descr.now y.block.now in
@@ -133,8 +140,16 @@ pub count-run : (l : Layout) (run : Run) → run_offsets run ≡ offsets l → r
 count-run l run same = sym (length-run_offsets run) ∙ ap length same ∙ length-offsets l
 
 -- the items along it, in the layout's own shape
-pub run-stretched : (x : ItemsInRun) (given : Items) (shape : List ℕ) → x.items ≡ given → given.layout.now.shape ≡ shape → run_items x.items x.run ≡ stretched given shape
-run-stretched x given shape is same =
-    ap (map (item_from x.items.descr.now x.items.block.now)) x.same
-    ∙ (λ i. map (item_from (is i).descr.now (is i).block.now) (offsets (is i).layout.now))
-    ∙ ap (map (item_from given.descr.now given.block.now)) (stretches-itself given.layout.now shape same).places
+run-stretched : (x : Items) (run : Run) (shape : List ℕ) → run_offsets run ≡ offsets x.layout.now → x.layout.now.shape ≡ shape → run_items x run ≡ stretched x shape
+run-stretched x run shape same there = ap (map (item_from x.descr.now x.block.now)) (same ∙ (stretches-itself x.layout.now shape there).places)
+
+-- two such runs
+module _ (r : InRuns) where
+  pub many_left : r.left.count ≡ count r.both.shape.now
+  many_left = count-run r.both.left.layout.now r.left r.same ∙ ap count r.shape
+
+  pub many_right : r.right.count ≡ count r.both.shape.now
+  many_right = count-run r.both.right.layout.now r.right r.also ∙ ap count r.other
+
+  pub runs_given : (p : Pairing) → all_given p r.both r.left r.right ≡ pairwise (given p r.both.left.descr.now r.both.right.descr.now) (stretched r.both.left r.both.shape.now) (stretched r.both.right r.both.shape.now)
+  runs_given p = λ i. pairwise (given p r.both.left.descr.now r.both.right.descr.now) (run-stretched r.both.left r.left r.both.shape.now r.same r.shape i) (run-stretched r.both.right r.right r.both.shape.now r.also r.other i)

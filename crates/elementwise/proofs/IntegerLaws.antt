@@ -1,5 +1,5 @@
 -- Numbers that are compared with one integer.
-use Rattle.std.proofs.Common.{◌≡◌, ◌*◌, ◌-◌, ◌^◌, ◌≤◌, ◌<◌, ◌⊎◌, inl, inr, ℕ, zero, suc, Bool, true, false, cond, Result, Ok, Err, List, IfOk, [], ◌∷◌, ◌++◌, map, length, get_or, take, drop, replicate, refl, sym, ap, ◌∙◌, arith}
+use Rattle.std.proofs.Common.{◌≡◌, ◌*◌, ◌-◌, ◌^◌, ◌≤◌, ◌<◌, ◌⊎◌, inl, inr, ℕ, zero, suc, Bool, true, false, Result, Ok, Err, List, IfOk, [], ◌∷◌, ◌++◌, map, length, get_or, take, drop, replicate, refl, sym, ap, ◌∙◌, arith}
 use Rattle.std.specs.Prelude.{ℤ, pos, negsuc, neg_ℤ, ◌≤ℤ◌, ◌<ℤ◌, int_lt, not, ◌==◌, ◌&&◌, ◌||◌}
 use Rattle.std.proofs.lemmas.Int.{ints}
 use Rattle.std.proofs.lemmas.Nat.{pow_pos}
@@ -13,7 +13,7 @@ use Rattle.elem_descr.specs.declared.descr.Descr.TheVariants.{Scalar as ScalarDe
 use Rattle.elem_descr.specs.declared.scalar.Scalar.TheVariants.{Bool as BoolScalar}
 use Rattle.elementwise.specs.Comparisons.{says, compared}
 use Rattle.elementwise.specs.Results.{scalar_of, integer_compared_result, compared_item, truth_item, stretched_items, pairwise}
-use Rattle.elementwise.proofs.MadeLaws.{bool_bytes}
+use mir.Val.{bool_byte}
 use Rattle.elementwise.proofs.PairLaws.{pairwise-map}
 use Rattle.elementwise.proofs.AppliedLaws.{pairwise-same}
 use Rattle.elementwise.proofs.HeldLaws.{value-of, is-number}
@@ -103,31 +103,35 @@ all_beyond comparison s d block l z holds one are is none said =
     ∙ (λ i. map (λ offset. compared_item comparison (item_from (sym one i) block offset) (number z ∷ [])) (offsets l))
 
 -- one bool many times
-bool_read : (holds : Bool) (n k : ℕ) → k < n → item_from (ScalarDescr BoolScalar) (replicate n (cond holds 1 0)) (1 * k) ≡ truth_item holds
+bool_read : (holds : Bool) (n k : ℕ) → k < n → item_from (ScalarDescr BoolScalar) (replicate n (bool_byte holds)) (1 * k) ≡ truth_item holds
 bool_read holds n k low =
-    let byte : ℕ = cond holds 1 0 in
+    let byte : ℕ = bool_byte holds in
     let at : 1 * k ≡ k = omega arith in
     let few : 1 ≤ n - k = omega arith in
     (λ i. item_from (ScalarDescr BoolScalar) (replicate n byte) (at i))
     ∙ (λ i. decode BoolScalar (take 1 (take 1 (drop-replicate k n byte i))) ∷ [])
     ∙ (λ i. decode BoolScalar (take 1 (take-replicate 1 (n - k) byte few i)) ∷ [])
-    ∙ elim holds as (λ t. (decode BoolScalar (take 1 (replicate 1 (cond t 1 0))) ∷ []) ≡ truth_item t) [ true ↦ refl | false ↦ refl ]
+    ∙ elim holds as (λ t. (decode BoolScalar (take 1 (replicate 1 (bool_byte t))) ∷ []) ≡ truth_item t) [ true ↦ refl | false ↦ refl ]
 
-alike_read : (holds : Bool) (n : ℕ) → map (item_from (ScalarDescr BoolScalar) (replicate n (cond holds 1 0))) (multiples 1 n) ≡ replicate n (truth_item holds)
+alike_read : (holds : Bool) (n : ℕ) → map (item_from (ScalarDescr BoolScalar) (replicate n (bool_byte holds))) (multiples 1 n) ≡ replicate n (truth_item holds)
 alike_read holds n =
-    let all = replicate n (cond holds 1 0) in
+    let all = replicate n (bool_byte holds) in
     let read = λ (k : ℕ). item_from (ScalarDescr BoolScalar) all (1 * k) in
     map-map (item_from (ScalarDescr BoolScalar) all) (λ (k : ℕ). 1 * k) (range_with_len 0 n)
     ∙ sym (fill_by_all read (replicate n (truth_item holds)) n [] (length-replicate n (truth_item holds)) (λ k low. get_or-replicate n k (truth_item holds) [] low ∙ sym (bool_read holds n k low)))
 
-alike_encoded : (holds : Bool) (n : ℕ) → replicate n (cond holds 1 0) ≡ flat_map (encode_item (ScalarDescr BoolScalar)) (replicate n (truth_item holds))
+bool_bytes : (holds : Bool) → (bool_byte holds ∷ []) ≡ encode_item (ScalarDescr BoolScalar) (truth_item holds)
+bool_bytes true = refl
+bool_bytes false = refl
+
+alike_encoded : (holds : Bool) (n : ℕ) → replicate n (bool_byte holds) ≡ flat_map (encode_item (ScalarDescr BoolScalar)) (replicate n (truth_item holds))
 alike_encoded holds zero = refl
 alike_encoded holds (suc n) = λ i. bool_bytes holds i ++ alike_encoded holds n i
 
-pub alike_made : (holds : Bool) (shape b : List ℕ) (n : ℕ) → b ≡ replicate n (cond holds 1 0) → n ≡ count shape →
+pub alike_made : (holds : Bool) (shape b : List ℕ) (n : ℕ) → b ≡ replicate n (bool_byte holds) → n ≡ count shape →
     (map (item_from (ScalarDescr BoolScalar) b) (multiples 1 (count shape)) ≡ replicate (count shape) (truth_item holds)) × (b ≡ flat_map (encode_item (ScalarDescr BoolScalar)) (replicate (count shape) (truth_item holds)))
 alike_made holds shape b n filled many =
-    let is : b ≡ replicate (count shape) (cond holds 1 0) = filled ∙ λ i. replicate (many i) (cond holds 1 0) in
+    let is : b ≡ replicate (count shape) (bool_byte holds) = filled ∙ λ i. replicate (many i) (bool_byte holds) in
     ((λ i. map (item_from (ScalarDescr BoolScalar) (is i)) (multiples 1 (count shape))) ∙ alike_read holds (count shape), is ∙ alike_encoded holds (count shape))
 
 -- ---- integers that are values

@@ -1,12 +1,9 @@
 -- Arrays that are made, as the results of calls tell them.
-use Rattle.std.proofs.Common.{◌≡◌, ℕ, Result, Ok, Err, List, map, IfOk, sym, ap, subst, ◌∙◌, Bool, true, false, cond, [], ◌∷◌, refl}
+use Rattle.std.proofs.Common.{◌≡◌, ℕ, Result, Ok, Err, List, map, IfOk, sym, ap, subst, ◌∙◌}
 use Rattle.std.specs.List.{flat_map}
 use Rattle.std.specs.declared.alloc.AllocError.{AllocError}
 use Rattle.elementwise.specs.Words.{Refusal, Descr, LeafValue, item_size, encode_item, item_from, C, count, offsets, multiples, offsets_in, owned_items, Owned}
-use Rattle.elem_descr.specs.declared.descr.Descr.TheVariants.{Scalar as ScalarDescr}
-use Rattle.elem_descr.specs.declared.scalar.Scalar.TheVariants.{Bool as BoolScalar}
 use Rattle.elementwise.specs.inside.Made.{IsMade}
-use Rattle.elementwise.specs.Results.{truth_item}
 
 -- an array over a block of items
 pub over-made : (t d : Descr) (shape : List ℕ) (values : List (List LeafValue)) (result : Result Owned AllocError) (block : List ℕ) → t ≡ d →
@@ -46,7 +43,3 @@ module _ (d : Descr) (shape : List ℕ) (values : List (List LeafValue)) (o : Ow
       made.encoded
       ∙ ap (flat_map (encode_item d)) (sym made.items)
       ∙ λ i. flat_map (encode_item (sym made.descr_is i)) (map (item_from (sym made.descr_is i) o.block) (offsets o.layout))
-
-pub bool_bytes : (holds : Bool) → (cond holds 1 0 ∷ []) ≡ encode_item (ScalarDescr BoolScalar) (truth_item holds)
-bool_bytes true = refl
-bool_bytes false = refl

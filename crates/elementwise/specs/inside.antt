@@ -1,4 +1,4 @@
-pub mod Chunks
+pub mod Combined
 pub mod FieldCasts
 pub mod LeafCasts
 pub mod PairPasses

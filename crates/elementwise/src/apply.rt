@@ -1,19 +1,17 @@
 //! Operations on all items of arrays: operands are cast, stretched and combined.
-ghost use Rattle.elem_descr.specs.declared.descr.Descr.TheVariants.{Scalar as ScalarDescr};
 ghost use Rattle.elementwise.specs.Casts.{can_cast, cast_item};
-ghost use Rattle.elementwise.specs.Results.{binary_item, binary_result, pairwise, stretched_items, unary_item, unary_result, value_in};
-ghost use Rattle.elementwise.specs.Words.{AreAlike, C, Gives, can_stretch, encode_item, item_from, item_size, items, offsets, offsets_in, owned_items, size};
-ghost use Rattle.elementwise.specs.inside.Held.{fitted_layout, stretched};
-ghost use Rattle.elementwise.specs.inside.Made.{IsMade};
+ghost use Rattle.elementwise.specs.Results.{binary_item, binary_result, pairwise, stretched_items, unary_item, unary_result};
+ghost use Rattle.elementwise.specs.Words.{AreAlike, C, Gives, can_stretch, encode_item, item_from, item_size, items, offsets, offsets_in, owned_items};
+ghost use Rattle.elementwise.specs.inside.Combined.{AreCastable, IsCombined};
+ghost use Rattle.elementwise.specs.inside.Held.{fitted_layout};
 ghost use Rattle.elementwise.specs.inside.Shrunk.{IsStretched};
-ghost use Rattle.elementwise.specs.inside.Works.{CanPair, gives, left_of, right_of, target_of};
 ghost use Rattle.std.specs.List.{flat_map};
-ghost use Rattle.std.specs.Prelude.{IfOk, IfSome, IsTrue, [], map, true, ◌*◌, ◌∷◌, ◌≡◌, ◌≤◌};
+ghost use Rattle.std.specs.Prelude.{IfOk, IfSome, IsTrue, map, true, ◌≡◌, ◌≤◌};
 
 use crate::castable::keeps_items;
 use crate::casts::cast_items;
-use crate::chunks::{InRuns, ItemsInRun, MANY, make_by_chunks};
-use crate::operands::{FEW, made, read_as};
+use crate::chunks::{InRuns, MANY, make_by_chunks};
+use crate::operands::{Broadcast, FEW, made, read_as};
 use crate::pairing::{Pairing, Work};
 use crate::promotion::{promote, promote_one, scalar_of};
 use crate::row_pairs::Operands;
@@ -45,12 +43,16 @@ pub fn apply2(alloc: Global, op: BinOp, left: Items<'_>, right: Items<'_>) -> Re
     let other = scalar_of(right.descr)?;
     let scalar = promote(op, from, other)?;
     let shape = common(alloc, &[&left.layout.shape, &right.layout.shape])?;
-    let read = read_as(&scalar, left, right);
     let pairing = Pairing::Alike {
         work: Work::Combine(op),
-        scalar: read,
+        scalar: read_as(&scalar, left, right),
     };
-    Ok(make_cast(alloc, &pairing, left, right, &shape)?)
+    let both = Broadcast {
+        left,
+        right,
+        shape: &shape,
+    };
+    Ok(make_cast(alloc, &pairing, both)?)
 }
 
 /// The result of an operation on the items of an array, in a block of its own in C order. The
@@ -68,12 +70,16 @@ pub fn apply1(alloc: Global, op: UnOp, operand: Items<'_>) -> Result<Owned, Refu
 {
     let from = scalar_of(operand.descr)?;
     let scalar = promote_one(op, from)?;
-    let read = read_as(&scalar, operand, operand);
     let pairing = Pairing::Alike {
         work: Work::Change(op),
-        scalar: read,
+        scalar: read_as(&scalar, operand, operand),
     };
-    Ok(make_cast(alloc, &pairing, operand, operand, &operand.layout.shape)?)
+    let both = Broadcast {
+        left: operand,
+        right: operand,
+        shape: &operand.layout.shape,
+    };
+    Ok(make_cast(alloc, &pairing, both)?)
 }
 
 /// Items in place, or in a block of their own.
@@ -171,25 +177,12 @@ impl<'a> Fitted<'a> {
 pub(crate) fn make_whole(
     alloc: Global,
     pairing: &Pairing<'_>,
-    left: Items<'_>,
-    right: Items<'_>,
-    shape: &Shape,
+    both: Broadcast<'_>,
 ) -> Result<Owned, AllocError>
-    requires can { CanPair pairing.now }
-    requires small { (size (left_of pairing.now) ≤ 8) × (size (right_of pairing.now) ≤ 8)
-        × (size (target_of pairing.now) ≤ 8) }
-    requires left { can_cast left.descr.now (ScalarDescr (left_of pairing.now)) ≡ true }
-    requires right { can_cast right.descr.now (ScalarDescr (right_of pairing.now)) ≡ true }
-    requires stretches { IsTrue (can_stretch left.layout.now.shape shape.now) }
-    requires also { IsTrue (can_stretch right.layout.now.shape shape.now) }
-    ensures { IfOk result
-        (IsMade (ScalarDescr (target_of pairing.now)) shape.now
-        (pairwise (λ x y.
-        gives pairing.now
-        (value_in (cast_item left.entry.descr.now (ScalarDescr (left_of pairing.now)) x))
-        (value_in (cast_item right.entry.descr.now (ScalarDescr (right_of pairing.now)) y)) ∷ [])
-        (stretched left.entry shape.now) (stretched right.entry shape.now))) }
+    requires { AreCastable pairing.now both }
+    ensures { IfOk result (IsCombined pairing.now both.entry) }
 {
+    let Broadcast { left, right, shape } = both;
     let _items = shape.items();
     let left_to = Descr::Scalar(pairing.left());
     let right_to = Descr::Scalar(pairing.right());
@@ -226,12 +219,10 @@ fn stays(from: Items<'_>, to: &Descr, shape: &Shape) -> bool
 }
 
 /// The operands as runs of items, if there are many and they need not be stretched.
-fn in_runs<'a>(left: Items<'a>, right: Items<'a>, shape: &Shape) -> Option<InRuns<'a>>
-    ensures left { IfSome result (λ both. both.left.items ≡ left.entry) }
-    ensures right { IfSome result (λ both. both.right.items ≡ right.entry) }
-    ensures shape { IfSome result (λ _. left.entry.layout.now.shape ≡ shape.now) }
-    ensures other { IfSome result (λ _. right.entry.layout.now.shape ≡ shape.now) }
+fn in_runs(both: Broadcast<'_>) -> Option<InRuns<'_>>
+    ensures { IfSome result (λ runs. runs.both ≡ both.entry) }
 {
+    let Broadcast { left, right, shape } = both;
     let lengths = shape.as_slice();
     if shape.items() < MANY
         || left.layout.shape.as_slice() != lengths
@@ -239,41 +230,21 @@ fn in_runs<'a>(left: Items<'a>, right: Items<'a>, shape: &Shape) -> Option<InRun
     {
         return None;
     }
-    Some(InRuns {
-        left: ItemsInRun {
-            items: left,
-            run: left.layout.as_one_run()?,
-        },
-        right: ItemsInRun {
-            items: right,
-            run: right.layout.as_one_run()?,
-        },
-    })
+    let left = left.layout.as_one_run()?;
+    let right = right.layout.as_one_run()?;
+    Some(InRuns { both, left, right })
 }
 
 /// The results for the items of two arrays, which are cast and then stretched.
 pub(crate) fn make_cast(
     alloc: Global,
     pairing: &Pairing<'_>,
-    left: Items<'_>,
-    right: Items<'_>,
-    shape: &Shape,
+    both: Broadcast<'_>,
 ) -> Result<Owned, AllocError>
-    requires can { CanPair pairing.now }
-    requires small { (size (left_of pairing.now) ≤ 8) × (size (right_of pairing.now) ≤ 8)
-        × (size (target_of pairing.now) ≤ 8) }
-    requires left { can_cast left.descr.now (ScalarDescr (left_of pairing.now)) ≡ true }
-    requires right { can_cast right.descr.now (ScalarDescr (right_of pairing.now)) ≡ true }
-    requires stretches { IsTrue (can_stretch left.layout.now.shape shape.now) }
-    requires also { IsTrue (can_stretch right.layout.now.shape shape.now) }
-    ensures { IfOk result
-        (IsMade (ScalarDescr (target_of pairing.now)) shape.now
-        (pairwise (λ x y.
-        gives pairing.now
-        (value_in (cast_item left.entry.descr.now (ScalarDescr (left_of pairing.now)) x))
-        (value_in (cast_item right.entry.descr.now (ScalarDescr (right_of pairing.now)) y)) ∷ [])
-        (stretched left.entry shape.now) (stretched right.entry shape.now))) }
+    requires { AreCastable pairing.now both }
+    ensures { IfOk result (IsCombined pairing.now both.entry) }
 {
+    let Broadcast { left, right, shape } = both;
     let _items = shape.items();
     let left_to = Descr::Scalar(pairing.left());
     let right_to = Descr::Scalar(pairing.right());
@@ -292,8 +263,8 @@ pub(crate) fn make_cast(
         };
         return made(alloc, pairing, operands);
     }
-    if let Some(both) = in_runs(left, right, shape) {
-        return make_by_chunks(alloc, pairing, both, shape);
+    match in_runs(both) {
+        Some(runs) => make_by_chunks(alloc, pairing, runs),
+        None => make_whole(alloc, pairing, both),
     }
-    make_whole(alloc, pairing, left, right, shape)
 }

@@ -1,5 +1,5 @@
 //! Operations on numbers that are given by their lowest 64 bits; all higher bits repeat the sign.
-ghost use Rattle.std.specs.Prelude.{◌≡◌, ◌<◌, ◌≤◌, ◌^◌, pos, Bool, int_lt};
+ghost use Rattle.std.specs.Prelude.{◌≡◌, ◌≤◌, Bool, int_lt};
 ghost use Rattle.elementwise.specs.Words.{Scalar, integer, low_bits};
 ghost use Rattle.elementwise.specs.Operations.{exact, floor_quotient, modulo, shifted_left, shifted_right};
 ghost use Rattle.elementwise.specs.inside.PairPasses.{division_op};
@@ -79,18 +79,6 @@ pub(crate) fn moved_up(width: u64, left: u64, right: u64) -> u64
     if right < width { moved } else { 0 }
 }
 
-/// The bits of a number, shifted right, with copies of its sign above them.
-#[inline(always)]
-fn down(signed: bool, bits: u64, by: u64) -> u64
-    requires { by < 64 }
-    ensures { result ≡ low_bits 8 (floor_quotient (integer signed 8 bits) (pos (2 ^ by))) }
-{
-    if signed {
-        return (bits.cast_signed() >> by).cast_unsigned();
-    }
-    bits >> by
-}
-
 /// The bits of a number of `width` bits, shifted right.
 #[inline(always)]
 pub(crate) fn moved_down(signed: bool, width: u64, left: u64, right: u64) -> u64
@@ -98,7 +86,12 @@ pub(crate) fn moved_down(signed: bool, width: u64, left: u64, right: u64) -> u64
     ensures { result
         ≡ low_bits 8 (shifted_right width (integer signed 8 left) (integer signed 8 right)) }
 {
-    let moved = down(signed, left, right % width.max(1));
+    let by = right % width.max(1);
+    let moved = if signed {
+        (left.cast_signed() >> by).cast_unsigned()
+    } else {
+        left >> by
+    };
     let sign = if is_negative(signed, left) {
         u64::MAX
     } else {

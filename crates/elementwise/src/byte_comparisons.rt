@@ -1,9 +1,8 @@
 //! Comparisons of all items of arrays of byte strings with bytes.
 ghost use Rattle.elem_descr.specs.declared.descr.Descr.TheVariants.{Scalar as ScalarDescr};
-ghost use Rattle.elem_descr.specs.declared.scalar.Scalar.TheVariants.{Bool as BoolScalar};
 ghost use Rattle.elementwise.specs.Results.{bytes_compared_result, compared_item};
 ghost use Rattle.elementwise.specs.Words.{Bytes, C, Gives, encode_item, item_from, item_size, offsets, offsets_in, owned_items, text, without_nuls};
-ghost use Rattle.elementwise.specs.inside.Made.{IsMade};
+ghost use Rattle.elementwise.specs.inside.Combined.{AreComparedWith};
 ghost use Rattle.std.specs.List.{flat_map};
 ghost use Rattle.std.specs.Prelude.{IfOk, [], length, map, ◌∷◌, ◌≡◌, ◌≤◌};
 
@@ -29,11 +28,7 @@ fn compare_with(
     other: &[u8],
 ) -> Result<Owned, AllocError>
     requires { operand.descr.now ≡ ScalarDescr (Bytes width) }
-    ensures { IfOk result
-        (IsMade (ScalarDescr BoolScalar) operand.entry.layout.now.shape
-        (map (λ offset.
-        compared_item comparison (item_from operand.entry.descr.now operand.entry.block.now offset)
-        (text other.now ∷ [])) (offsets operand.entry.layout.now))) }
+    ensures { IfOk result (AreComparedWith comparison operand.entry (text other.now)) }
 {
     let operands = Operands {
         left: operand,
@@ -57,11 +52,7 @@ fn compare_once(
     other: &[u8],
 ) -> Result<Owned, AllocError>
     requires { operand.descr.now ≡ ScalarDescr (Bytes width) }
-    ensures { IfOk result
-        (IsMade (ScalarDescr BoolScalar) operand.entry.layout.now.shape
-        (map (λ offset.
-        compared_item comparison (item_from operand.entry.descr.now operand.entry.block.now offset)
-        (text other.now ∷ [])) (offsets operand.entry.layout.now))) }
+    ensures { IfOk result (AreComparedWith comparison operand.entry (text other.now)) }
 {
     let layout = operand.layout;
     if !repeats(layout) {
@@ -101,10 +92,7 @@ fn compare_with_item(
     requires from { operand.descr.now ≡ ScalarDescr (Bytes width) }
     requires held { length bytes.now ≤ width }
     ensures { IfOk result
-        (IsMade (ScalarDescr BoolScalar) operand.entry.layout.now.shape
-        (map (λ offset.
-        compared_item comparison (item_from operand.entry.descr.now operand.entry.block.now offset)
-        (text (without_nuls bytes.now) ∷ [])) (offsets operand.entry.layout.now))) }
+        (AreComparedWith comparison operand.entry (text (without_nuls bytes.now))) }
 {
     let block = filled_up(alloc, width, bytes)?;
     let item = one_item(alloc, &Scalar::Bytes(width), block)?;

@@ -1,7 +1,7 @@
 //! Byte strings: without the trailing NULs that all of them have, and by words of eight bytes.
 ghost use Rattle.elem_descr.specs.declared.descr.Descr.TheVariants.{Scalar as ScalarDescr};
 ghost use Rattle.elementwise.specs.Words.{Bytes, big_number, item_at, offsets, without_nuls};
-ghost use Rattle.elementwise.specs.inside.Words.{IsWordLen};
+ghost use Rattle.elementwise.specs.inside.Words.{CanCut, IsWordLen};
 ghost use Rattle.std.specs.Prelude.{All, IfOk, drop, length, take, ◌+◌, ◌≡◌, ◌≤◌};
 
 use crate::byte_string_pairs::without_nuls;
@@ -33,11 +33,7 @@ fn longest(block: &[u8], layout: &Layout, width: usize) -> usize
 /// repeat are looked at once.
 fn trimmed(alloc: Global, items: Items<'_>, width: BytesLen) -> Result<BytesLen, AllocError>
     requires { items.descr.now ≡ ScalarDescr (Bytes width) }
-    ensures within { IfOk result (λ n. n ≤ width) }
-    ensures same { IfOk result
-        (λ n. All (λ offset. without_nuls (item_at offset n items.entry.block.now)
-        ≡ without_nuls (item_at offset width items.entry.block.now))
-        (offsets items.entry.layout.now)) }
+    ensures { IfOk result (CanCut items.entry width) }
 {
     let layout = items.layout;
     let small = without_repeats(alloc, layout, layout, &layout.shape)?;
@@ -55,11 +51,7 @@ pub(crate) fn trimmed_in(
     shape: &Shape,
 ) -> Result<BytesLen, AllocError>
     requires { items.descr.now ≡ ScalarDescr (Bytes width) }
-    ensures within { IfOk result (λ n. n ≤ width) }
-    ensures same { IfOk result
-        (λ n. All (λ offset. without_nuls (item_at offset n items.entry.block.now)
-        ≡ without_nuls (item_at offset width items.entry.block.now))
-        (offsets items.entry.layout.now)) }
+    ensures { IfOk result (CanCut items.entry width) }
 {
     let shown_again = repeats(items.layout) || items.layout.shape.items() < shape.items();
     if shown_again && width.get() != other_width.get() {

@@ -1,9 +1,9 @@
 //! Casts: the items of an array as items of another element type.
 ghost use Rattle.elem_descr.specs.declared.descr.Descr.TheVariants.{Scalar as ScalarDescr};
-ghost use Rattle.elementwise.specs.Casts.{can_cast, can_cast_scalar, cast_item};
+ghost use Rattle.elementwise.specs.Casts.{can_cast, cast_item};
 ghost use Rattle.elementwise.specs.Words.{C, IsNumber, NoSuchCast, OutOfMemory, TooLarge, count, encode_item, item_from, item_size, leaf_at, leaves_of, max_bytes, offsets, offsets_in, owned_items, place, run_offsets, size};
 ghost use Rattle.elementwise.specs.inside.LeafCasts.{HasSource, IsCut, cast_items, source, with_leaf};
-ghost use Rattle.elementwise.specs.inside.Made.{AreItems, IsMade};
+ghost use Rattle.elementwise.specs.inside.Made.{AreCast, AreItems, IsCast};
 ghost use Rattle.std.specs.List.{flat_map};
 ghost use Rattle.std.specs.Prelude.{IfErr, IfOk, IsTrue, drop, if◌then◌else◌, length, map, nat_le, true, ◌*◌, ◌+◌, ◌<◌, ◌≡◌, ◌≤◌};
 
@@ -59,12 +59,7 @@ pub(crate) fn cast_numbers(
     requires number { IsNumber scalar.now }
     requires to { IsNumber to.now }
     requires few { count from.layout.now.shape * size to.now ≤ max_bytes }
-    ensures { IfOk result
-        (IsMade (ScalarDescr to.now) from.entry.layout.now.shape
-        (map (λ offset.
-        cast_item from.entry.descr.now (ScalarDescr to.now)
-        (item_from from.entry.descr.now from.entry.block.now offset))
-        (offsets from.entry.layout.now))) }
+    ensures { IfOk result (IsCast from.entry (ScalarDescr to.now)) }
 {
     let operands = Operands {
         left: from,
@@ -153,10 +148,7 @@ fn cast_leaf(rows: RawBlock, from: ItemRun<'_, '_>, to: &Descr, k: usize) -> Raw
 fn cast_band(alloc: Global, from: ItemRun<'_, '_>, to: &Descr) -> Result<RawBlock, AllocError>
     requires can { can_cast from.descr.now to.now ≡ true }
     requires few { from.items.run.count * item_size to.now ≤ max_bytes }
-    ensures { IfOk result
-        (AreItems to.now
-        (cast_items from.entry.descr.now to.now from.entry.items.bytes.now
-        (run_offsets from.entry.items.run))) }
+    ensures { IfOk result (AreCast from.entry.items from.entry.descr.now to.now) }
 {
     let _from_item = from.descr.size();
     let mut rows = RawBlock::try_zeroed(alloc, from.items.run.count * to.size())?;
@@ -171,10 +163,7 @@ fn cast_band(alloc: Global, from: ItemRun<'_, '_>, to: &Descr) -> Result<RawBloc
 fn cast_run(alloc: Global, from: ItemRun<'_, '_>, to: &Descr) -> Result<RawBlock, AllocError>
     requires can { can_cast from.descr.now to.now ≡ true }
     requires few { from.items.run.count * item_size to.now ≤ max_bytes }
-    ensures { IfOk result
-        (AreItems to.now
-        (cast_items from.entry.descr.now to.now from.entry.items.bytes.now
-        (run_offsets from.entry.items.run))) }
+    ensures { IfOk result (AreCast from.entry.items from.entry.descr.now to.now) }
 {
     let count = from.items.run.count;
     let size = to.size();
@@ -242,12 +231,7 @@ fn cast_block(alloc: Global, from: Items<'_>, to: &Descr) -> Result<RawBlock, Al
 fn cast_by_leaves(alloc: Global, from: Items<'_>, to: &Descr) -> Result<Owned, AllocError>
     requires can { can_cast from.descr.now to.now ≡ true }
     requires few { count from.layout.now.shape * item_size to.now ≤ max_bytes }
-    ensures { IfOk result
-        (IsMade to.now from.entry.layout.now.shape
-        (map (λ offset.
-        cast_item from.entry.descr.now to.now
-        (item_from from.entry.descr.now from.entry.block.now offset))
-        (offsets from.entry.layout.now))) }
+    ensures { IfOk result (IsCast from.entry to.now) }
 {
     let cast = cast_block(alloc, from, to)?;
     let descr = Descr::try_copy(alloc, to)?;
@@ -258,12 +242,7 @@ fn cast_by_leaves(alloc: Global, from: Items<'_>, to: &Descr) -> Result<Owned, A
 pub(crate) fn cast_items(alloc: Global, from: Items<'_>, to: &Descr) -> Result<Owned, AllocError>
     requires can { can_cast from.descr.now to.now ≡ true }
     requires few { count from.layout.now.shape * item_size to.now ≤ max_bytes }
-    ensures { IfOk result
-        (IsMade to.now from.entry.layout.now.shape
-        (map (λ offset.
-        cast_item from.entry.descr.now to.now
-        (item_from from.entry.descr.now from.entry.block.now offset))
-        (offsets from.entry.layout.now))) }
+    ensures { IfOk result (IsCast from.entry to.now) }
 {
     match (from.descr, to) {
         (Descr::Scalar(scalar), Descr::Scalar(target)) if !is_text(target) => {

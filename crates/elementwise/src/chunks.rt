@@ -1,16 +1,15 @@
 //! Operands of two types, cast and combined chunk by chunk, so that the cast items stay in the
 //! cache.
-ghost use Rattle.std.specs.Prelude.{◌≡◌, ◌+◌, ◌*◌, ◌<◌, ◌≤◌, [], ◌∷◌, true, IfOk};
+ghost use Rattle.std.specs.Prelude.{◌≡◌, ◌+◌, ◌≤◌, [], ◌∷◌, IfOk};
 ghost use Rattle.std.specs.List.{flat_map};
 ghost use Rattle.elem_descr.specs.declared.descr.Descr.TheVariants.{Scalar as ScalarDescr};
-ghost use Rattle.elementwise.specs.Words.{size, encode_item, count, offsets, run_offsets, max_items, BeginsWithin};
-ghost use Rattle.elementwise.specs.Casts.{can_cast};
-ghost use Rattle.elementwise.specs.inside.Chunks.{all_given};
+ghost use Rattle.elementwise.specs.Words.{encode_item, offsets, run_offsets, max_items, BeginsWithin};
+ghost use Rattle.elementwise.specs.inside.Combined.{AreCastable, IsCombined, all_given};
 ghost use Rattle.elementwise.specs.inside.LeafCasts.{run_part};
-ghost use Rattle.elementwise.specs.inside.Made.{IsMade};
-ghost use Rattle.elementwise.specs.inside.Works.{left_of, right_of, target_of, CanPair};
+ghost use Rattle.elementwise.specs.inside.Works.{target_of};
 
 use crate::apply::make_whole;
+use crate::operands::Broadcast;
 use crate::pairing::Pairing;
 use arrays::{Items, Owned};
 use elem_descr::{Descr, MemoryOrder};
@@ -25,14 +24,18 @@ pub(crate) const MANY: usize = 262_144;
 /// How many items of each operand are cast at a time.
 const CHUNK: usize = 16_384;
 
-/// Items that are a single run.
+/// Operands of the shape of the results, with the items of each in a single run.
 #[derive(Clone, Copy, Drop)]
-pub(crate) struct ItemsInRun<'a> {
-    pub(crate) items: Items<'a>,
-    pub(crate) run: Run,
-    pub(crate) ghost same: { run_offsets run ≡ offsets items.layout.now },
-    pub(crate) ghost begins: { BeginsWithin run },
-    pub(crate) ghost few: { run.count ≤ max_items },
+pub(crate) struct InRuns<'a> {
+    pub(crate) both: Broadcast<'a>,
+    pub(crate) left: Run,
+    pub(crate) right: Run,
+    pub(crate) ghost same: { run_offsets left ≡ offsets both.left.layout.now },
+    pub(crate) ghost also: { run_offsets right ≡ offsets both.right.layout.now },
+    pub(crate) ghost shape: { both.left.layout.now.shape ≡ both.shape.now },
+    pub(crate) ghost other: { both.right.layout.now.shape ≡ both.shape.now },
+    pub(crate) ghost begins: { BeginsWithin left × BeginsWithin right },
+    pub(crate) ghost few: { left.count ≤ max_items },
 }
 
 /// The layout of some items of a run, starting with one of them.
@@ -52,77 +55,59 @@ fn part(alloc: Global, run: Run, first: usize, count: usize) -> Result<Layout, A
     }
 }
 
-/// Two operands with the same number of items.
-#[derive(Clone, Copy, Drop)]
-pub(crate) struct InRuns<'a> {
-    pub(crate) left: ItemsInRun<'a>,
-    pub(crate) right: ItemsInRun<'a>,
-    pub(crate) ghost even: { left.run.count ≡ right.run.count },
-}
-
 /// The results for some pairs of items, starting with one of them.
 fn make_part(
     alloc: Global,
     pairing: &Pairing<'_>,
-    both: InRuns<'_>,
+    runs: InRuns<'_>,
     first: usize,
     count: usize,
 ) -> Result<RawBlock, AllocError>
-    requires can { CanPair pairing.now }
-    requires small { (size (left_of pairing.now) ≤ 8) × (size (right_of pairing.now) ≤ 8)
-        × (size (target_of pairing.now) ≤ 8) }
-    requires left { can_cast both.left.items.descr.now (ScalarDescr (left_of pairing.now)) ≡ true }
-    requires right { can_cast both.right.items.descr.now (ScalarDescr (right_of pairing.now))
-        ≡ true }
+    requires can { AreCastable pairing.now runs.both }
     requires some { 1 ≤ count }
-    requires within { first + count ≤ both.left.run.count }
+    requires within { first + count ≤ runs.left.count }
     ensures { IfOk result (λ block. block
         ≡ flat_map (encode_item (ScalarDescr (target_of pairing.now)))
-        (all_given pairing.now both.entry.left.items both.entry.right.items
-        (run_part both.entry.left.run first count) (run_part both.entry.right.run first count))) }
+        (all_given pairing.now runs.entry.both (run_part runs.entry.left first count)
+        (run_part runs.entry.right first count))) }
 {
-    let near = part(alloc, both.left.run, first, count)?;
-    let far = part(alloc, both.right.run, first, count)?;
-    let left = Items {
-        block: both.left.items.block,
-        layout: &near,
-        descr: both.left.items.descr,
+    let Broadcast { left, right, .. } = runs.both;
+    let near = part(alloc, runs.left, first, count)?;
+    let far = part(alloc, runs.right, first, count)?;
+    let both = Broadcast {
+        left: Items {
+            block: left.block,
+            layout: &near,
+            descr: left.descr,
+        },
+        right: Items {
+            block: right.block,
+            layout: &far,
+            descr: right.descr,
+        },
+        shape: &near.shape,
     };
-    let right = Items {
-        block: both.right.items.block,
-        layout: &far,
-        descr: both.right.items.descr,
-    };
-    let Owned { block, .. } = make_whole(alloc, pairing, left, right, &near.shape)?;
+    let Owned { block, .. } = make_whole(alloc, pairing, both)?;
     Ok(block)
 }
 
-/// The results for the items of two operands, in a shape.
+/// The results for the items of two operands, in their shape.
 pub(crate) fn make_by_chunks(
     alloc: Global,
     pairing: &Pairing<'_>,
-    both: InRuns<'_>,
-    shape: &Shape,
+    runs: InRuns<'_>,
 ) -> Result<Owned, AllocError>
-    requires can { CanPair pairing.now }
-    requires small { (size (left_of pairing.now) ≤ 8) × (size (right_of pairing.now) ≤ 8)
-        × (size (target_of pairing.now) ≤ 8) }
-    requires left { can_cast both.left.items.descr.now (ScalarDescr (left_of pairing.now)) ≡ true }
-    requires right { can_cast both.right.items.descr.now (ScalarDescr (right_of pairing.now))
-        ≡ true }
-    requires items { count shape.now ≡ both.left.run.count }
-    ensures { IfOk result
-        (IsMade (ScalarDescr (target_of pairing.now)) shape.now
-        (all_given pairing.now both.entry.left.items both.entry.right.items
-        both.entry.left.run both.entry.right.run)) }
+    requires { AreCastable pairing.now runs.both }
+    ensures { IfOk result (IsCombined pairing.now runs.entry.both) }
 {
+    let shape = runs.both.shape;
     let scalar = pairing.target();
     let many = shape.items();
     let mut block = BlockBuilder::try_new(alloc, many * scalar.size())?;
     let mut done = 0;
     while done < many {
         let count = CHUNK.min(many - done);
-        let made = make_part(alloc, pairing, both, done, count)?;
+        let made = make_part(alloc, pairing, runs, done, count)?;
         block.push_bytes(made.bytes());
         done += count;
     }

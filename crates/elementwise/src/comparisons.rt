@@ -1,10 +1,8 @@
 //! Comparisons of all items of arrays.
 ghost use Rattle.elem_descr.specs.declared.descr.Descr.TheVariants.{Scalar as ScalarDescr};
-ghost use Rattle.elem_descr.specs.declared.scalar.Scalar.TheVariants.{Bool as BoolScalar};
 ghost use Rattle.elementwise.specs.Results.{compared_item, compared_result, pairwise, stretched_items};
 ghost use Rattle.elementwise.specs.Words.{Bytes, C, Gives, IsNumber, encode_item, item_from, item_size, offsets, offsets_in, owned_items};
-ghost use Rattle.elementwise.specs.inside.Held.{stretched};
-ghost use Rattle.elementwise.specs.inside.Made.{IsMade};
+ghost use Rattle.elementwise.specs.inside.Combined.{AreCompared};
 ghost use Rattle.elementwise.specs.inside.Works.{AreComparable, IsComparing};
 ghost use Rattle.std.specs.List.{flat_map};
 ghost use Rattle.std.specs.Prelude.{IfOk, map, ◌≡◌};
@@ -61,15 +59,12 @@ fn compare_numbers(
     requires other { both.right.descr.now ≡ ScalarDescr right.now }
     requires left { IsNumber left.now }
     requires right { IsNumber right.now }
-    ensures { IfOk result
-        (IsMade (ScalarDescr BoolScalar) both.entry.shape.now
-        (pairwise (compared_item comparison) (stretched both.entry.left both.entry.shape.now)
-        (stretched both.entry.right both.entry.shape.now))) }
+    ensures { IfOk result (AreCompared comparison both.entry) }
 {
     note_slice(both.left.block.bytes());
     note_slice(both.right.block.bytes());
     let pairing = number_pairing(comparison, left, right, both);
-    make_cast(alloc, &pairing, both.left, both.right, both.shape)
+    make_cast(alloc, &pairing, both)
 }
 
 /// A comparison of byte strings. Trailing NULs of items that repeat are looked at once.
@@ -80,10 +75,7 @@ fn compare_texts(
 ) -> Result<Owned, AllocError>
     requires left { both.left.descr.now ≡ ScalarDescr (Bytes texts.width) }
     requires right { both.right.descr.now ≡ ScalarDescr (Bytes texts.other_width) }
-    ensures { IfOk result
-        (IsMade (ScalarDescr BoolScalar) both.entry.shape.now
-        (pairwise (compared_item texts.comparison) (stretched both.entry.left both.entry.shape.now)
-        (stretched both.entry.right both.entry.shape.now))) }
+    ensures { IfOk result (AreCompared texts.comparison both.entry) }
 {
     let Broadcast { left, right, shape } = both;
     let _items = shape.items();
@@ -120,10 +112,7 @@ fn compare_scalars(
     both: Broadcast<'_>,
 ) -> Result<Owned, AllocError>
     requires { AreComparable both.left.descr.now both.right.descr.now }
-    ensures { IfOk result
-        (IsMade (ScalarDescr BoolScalar) both.entry.shape.now
-        (pairwise (compared_item comparison) (stretched both.entry.left both.entry.shape.now)
-        (stretched both.entry.right both.entry.shape.now))) }
+    ensures { IfOk result (AreCompared comparison both.entry) }
 {
     match (both.left.descr, both.right.descr) {
         (Descr::Scalar(Scalar::Bytes(width)), Descr::Scalar(Scalar::Bytes(other_width))) => {
@@ -148,10 +137,7 @@ pub(crate) fn compare_once(
     both: Broadcast<'_>,
 ) -> Result<Owned, AllocError>
     requires { AreComparable both.left.descr.now both.right.descr.now }
-    ensures { IfOk result
-        (IsMade (ScalarDescr BoolScalar) both.entry.shape.now
-        (pairwise (compared_item comparison) (stretched both.entry.left both.entry.shape.now)
-        (stretched both.entry.right both.entry.shape.now))) }
+    ensures { IfOk result (AreCompared comparison both.entry) }
 {
     let Broadcast { left, right, shape } = both;
     if !repeats(left.layout) && !repeats(right.layout) {

@@ -1,11 +1,10 @@
 //! Comparisons of all items of arrays of numbers with one integer.
 ghost use Rattle.elem_descr.specs.declared.descr.Descr.TheVariants.{Scalar as ScalarDescr};
-ghost use Rattle.elem_descr.specs.declared.scalar.Scalar.TheVariants.{Bool as BoolScalar};
-ghost use Rattle.elementwise.specs.Results.{compared_item, integer_compared_result, truth_item};
-ghost use Rattle.elementwise.specs.Words.{C, Gives, IsNumber, count, decode, encode_item, item_from, item_size, little, max_bytes, number, offsets, offsets_in, owned_items, size, wrap};
-ghost use Rattle.elementwise.specs.inside.Made.{IsMade};
+ghost use Rattle.elementwise.specs.Results.{compared_item, integer_compared_result};
+ghost use Rattle.elementwise.specs.Words.{C, Gives, IsNumber, decode, encode_item, item_from, item_size, little, max_bytes, number, offsets, offsets_in, owned_items, size, wrap};
+ghost use Rattle.elementwise.specs.inside.Combined.{AreComparedWith};
 ghost use Rattle.std.specs.List.{flat_map};
-ghost use Rattle.std.specs.Prelude.{IfOk, [], if◌then◌else◌, length, map, replicate, ◌∷◌, ◌≡◌, ◌≢◌, ◌≤◌};
+ghost use Rattle.std.specs.Prelude.{IfOk, [], length, map, ◌∷◌, ◌≡◌, ◌≢◌, ◌≤◌};
 
 use crate::comparison_kernels::says;
 use crate::comparisons::compare_once;
@@ -17,17 +16,6 @@ use machine_numbers::{is_text, little};
 use raw_block::RawBlock;
 use shape_strides::Shape;
 use std::alloc::{AllocError, Global};
-
-/// A block with one number.
-fn number_block(alloc: Global, scalar: &Scalar, integer: i128) -> Result<RawBlock, AllocError>
-    requires { IsNumber scalar.now }
-    ensures len { IfOk result (λ b. length b ≡ size scalar.now) }
-    ensures value { IfOk result (λ b. decode scalar.now b ≡ number (wrap scalar.now integer)) }
-{
-    let mut block = RawBlock::try_zeroed(alloc, scalar.size())?;
-    num_write(*scalar, integer, block.bytes_mut());
-    Ok(block)
-}
 
 /// A value as an array of one item without axes, over its bytes.
 pub(crate) fn one_item(alloc: Global, scalar: &Scalar, block: RawBlock) -> Result<Owned, AllocError>
@@ -53,14 +41,11 @@ fn compare_with_value(
     requires from { operand.descr.now ≡ ScalarDescr from.now }
     requires number { IsNumber from.now }
     requires held { wrap (little from.now) integer ≡ integer }
-    ensures { IfOk result
-        (IsMade (ScalarDescr BoolScalar) operand.entry.layout.now.shape
-        (map (λ offset.
-        compared_item comparison (item_from operand.entry.descr.now operand.entry.block.now offset)
-        (number integer ∷ [])) (offsets operand.entry.layout.now))) }
+    ensures { IfOk result (AreComparedWith comparison operand.entry (number integer)) }
 {
     let scalar = little(from);
-    let block = number_block(alloc, &scalar, integer)?;
+    let mut block = RawBlock::try_zeroed(alloc, scalar.size())?;
+    num_write(scalar, integer, block.bytes_mut());
     let item = one_item(alloc, &scalar, block)?;
     let both = Broadcast {
         left: operand,
@@ -70,28 +55,8 @@ fn compare_with_value(
     compare_once(alloc, comparison, both)
 }
 
-/// A block with copies of one bool.
-fn bool_block(alloc: Global, holds: bool, len: usize) -> Result<RawBlock, AllocError>
-    ensures { IfOk result (λ b. b ≡ replicate len (if holds then 1 else 0)) }
-{
-    let mut block = RawBlock::try_zeroed(alloc, len)?;
-    block.bytes_mut().fill(u8::from(holds));
-    Ok(block)
-}
-
-/// One bool for all items of a shape.
-fn all_alike(alloc: Global, holds: bool, shape: &Shape) -> Result<Owned, AllocError>
-    ensures { IfOk result
-        (IsMade (ScalarDescr BoolScalar) shape.now
-        (replicate (count shape.now) (truth_item holds))) }
-{
-    let block = bool_block(alloc, holds, shape.items())?;
-    let descr = Descr::Scalar(Scalar::Bool);
-    Owned::over(alloc, descr, shape, MemoryOrder::C, block)
-}
-
 /// Compares the numbers of an array with an integer that is greater than all numbers of their type,
-/// or less.
+/// or less: one bool for all items.
 fn compare_beyond(
     alloc: Global,
     comparison: Comparison,
@@ -102,16 +67,16 @@ fn compare_beyond(
     requires from { operand.descr.now ≡ ScalarDescr from.now }
     requires number { IsNumber from.now }
     requires beyond { wrap (little from.now) integer ≢ integer }
-    ensures { IfOk result
-        (IsMade (ScalarDescr BoolScalar) operand.entry.layout.now.shape
-        (map (λ offset.
-        compared_item comparison (item_from operand.entry.descr.now operand.entry.block.now offset)
-        (number integer ∷ [])) (offsets operand.entry.layout.now))) }
+    ensures { IfOk result (AreComparedWith comparison operand.entry (number integer)) }
 {
     note_slice(operand.block.bytes());
     let above = integer.is_positive();
     let holds = says(comparison, above, !above);
-    all_alike(alloc, holds, &operand.layout.shape)
+    let shape = &operand.layout.shape;
+    let mut block = RawBlock::try_zeroed(alloc, shape.items())?;
+    block.bytes_mut().fill(u8::from(holds));
+    let descr = Descr::Scalar(Scalar::Bool);
+    Owned::over(alloc, descr, shape, MemoryOrder::C, block)
 }
 
 /// Compares the numbers of an array with an integer, which may be out of range for their type.

@@ -2,12 +2,11 @@
 ghost use Rattle.elem_descr.specs.declared.descr.Descr.TheVariants.{Scalar as ScalarDescr};
 ghost use Rattle.elem_descr.specs.declared.scalar.Scalar.TheVariants.{Bool as BoolScalar};
 ghost use Rattle.elementwise.specs.Results.{stretched_items};
-ghost use Rattle.elementwise.specs.Words.{can_stretch, little, max_bytes, size};
+ghost use Rattle.elementwise.specs.Words.{can_stretch, little};
 ghost use Rattle.elementwise.specs.inside.Made.{IsMade, IsTurned};
-ghost use Rattle.elementwise.specs.inside.Operands.{all_made, pairs_of};
+ghost use Rattle.elementwise.specs.inside.Operands.{AreMatched, IsPaired};
 ghost use Rattle.elementwise.specs.inside.Shrunk.{IsShrunk};
-ghost use Rattle.elementwise.specs.inside.Works.{CanPair, left_of, right_of, target_of};
-ghost use Rattle.std.specs.Prelude.{IfOk, IfSome, IsTrue, slice_index_or, ℕ, ◌*◌, ◌<◌, ◌≡◌, ◌≤◌};
+ghost use Rattle.std.specs.Prelude.{IfOk, IfSome, IsTrue, slice_index_or, ℕ, ◌<◌, ◌≡◌};
 
 use crate::apply::Held;
 use crate::casts::cast_numbers;
@@ -17,7 +16,7 @@ use arrays::{Items, Owned, gather, goes_by_columns};
 use broadcasting::{shrink, shrunk_shape, stretched_to};
 use elem_descr::{Descr, MemoryOrder, Scalar};
 use machine_numbers::little;
-use raw_block::{BlockBuilder, RawBlock};
+use raw_block::BlockBuilder;
 use shape_strides::{Layout, Rows, Shape};
 use std::alloc::{AllocError, Global};
 
@@ -95,13 +94,8 @@ fn made_by_rows(
     pairing: &Pairing<'_>,
     operands: Operands<'_, '_>,
 ) -> Result<Owned, AllocError>
-    requires can { CanPair pairing.now }
-    requires left { operands.left.descr.now ≡ ScalarDescr (left_of pairing.now) }
-    requires right { operands.right.descr.now ≡ ScalarDescr (right_of pairing.now) }
-    requires few { pairs_of operands * size (target_of pairing.now) ≤ max_bytes }
-    ensures { IfOk result
-        (IsMade (ScalarDescr (target_of pairing.now)) operands.entry.left.layout.now.shape
-        (all_made pairing.now operands.entry)) }
+    requires { AreMatched pairing.now operands }
+    ensures { IfOk result (IsPaired pairing.now operands.entry) }
 {
     let shape = &operands.left.layout.shape;
     let scalar = pairing.target();
@@ -119,13 +113,8 @@ fn made_of_many(
     pairing: &Pairing<'_>,
     operands: Operands<'_, '_>,
 ) -> Result<Owned, AllocError>
-    requires can { CanPair pairing.now }
-    requires left { operands.left.descr.now ≡ ScalarDescr (left_of pairing.now) }
-    requires right { operands.right.descr.now ≡ ScalarDescr (right_of pairing.now) }
-    requires few { pairs_of operands * size (target_of pairing.now) ≤ max_bytes }
-    ensures { IfOk result
-        (IsMade (ScalarDescr (target_of pairing.now)) operands.entry.left.layout.now.shape
-        (all_made pairing.now operands.entry)) }
+    requires { AreMatched pairing.now operands }
+    ensures { IfOk result (IsPaired pairing.now operands.entry) }
 {
     let Operands { left, right } = operands;
     let shape = &left.layout.shape;
@@ -165,13 +154,8 @@ pub(crate) fn made(
     pairing: &Pairing<'_>,
     operands: Operands<'_, '_>,
 ) -> Result<Owned, AllocError>
-    requires can { CanPair pairing.now }
-    requires left { operands.left.descr.now ≡ ScalarDescr (left_of pairing.now) }
-    requires right { operands.right.descr.now ≡ ScalarDescr (right_of pairing.now) }
-    requires few { pairs_of operands * size (target_of pairing.now) ≤ max_bytes }
-    ensures { IfOk result
-        (IsMade (ScalarDescr (target_of pairing.now)) operands.entry.left.layout.now.shape
-        (all_made pairing.now operands.entry)) }
+    requires { AreMatched pairing.now operands }
+    ensures { IfOk result (IsPaired pairing.now operands.entry) }
 {
     if operands.left.layout.shape.items() < FEW || operands.as_row().is_some() {
         return made_by_rows(alloc, pairing, operands);

@@ -1,7 +1,8 @@
 -- Arrays that are made.
 use Rattle.std.specs.Prelude.{◌≡◌, ◌*◌, ℕ, List, length, map, reverse, All}
 use Rattle.std.specs.List.{flat_map}
-use Rattle.elementwise.specs.Words.{Descr, LeafValue, item_size, decode_item, encode_item, item_from, Layout, fortran_order, count, offsets, multiples, Owned}
+use Rattle.elementwise.specs.Words.{Descr, LeafValue, item_size, decode_item, encode_item, item_from, Items, Layout, fortran_order, count, offsets, run_offsets, multiples, Owned, Side}
+use Rattle.elementwise.specs.inside.LeafCasts.{cast_items}
 
 -- an array of this element type and shape, in C order, with these items, whose bytes are theirs as they are encoded
 pub record IsMade (descr : Descr) (shape : List ℕ) (values : List (List LeafValue)) (o : Owned) : Type 0 where
@@ -10,6 +11,10 @@ pub record IsMade (descr : Descr) (shape : List ℕ) (values : List (List LeafVa
   pub order : offsets o.layout ≡ multiples (item_size descr) (count shape)
   pub items : map (item_from descr o.block) (offsets o.layout) ≡ values
   pub encoded : o.block ≡ flat_map (encode_item descr) values
+
+-- the items of an array, cast to an element type
+abbrev pub IsCast : Items → Descr → Owned → Type 0
+IsCast from to = IsMade to from.layout.now.shape (cast_items from.descr.now to from.block.now (offsets from.layout.now))
 
 -- a layout shows what another one does with its axes in reverse
 pub record IsTurned (turned layout : Layout) : Type 0 where
@@ -22,3 +27,7 @@ pub record AreItems (descr : Descr) (values : List (List LeafValue)) (bytes : Li
   pub encoded : bytes ≡ flat_map (encode_item descr) values
   pub wide : All (λ value. length (encode_item descr value) ≡ item_size descr) values
   pub back : All (λ value. decode_item descr (encode_item descr value) ≡ value) values
+
+-- the items of a run, cast to an element type
+abbrev pub AreCast : Side → Descr → Descr → List ℕ → Type 0
+AreCast side from to = AreItems to (cast_items from to side.bytes.now (run_offsets side.run))

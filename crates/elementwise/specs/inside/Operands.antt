@@ -1,10 +1,12 @@
 -- What is made of the items of two operands, one after another.
-use Rattle.std.specs.Prelude.{ℕ, List, [], ◌∷◌}
+use Rattle.std.specs.Prelude.{◌≡◌, ◌≤◌, ◌*◌, ℕ, List, [], ◌∷◌}
 use Rattle.std.specs.List.{concat}
-use Rattle.elementwise.specs.Words.{LeafValue, item_size, items, count, offsets}
+use Rattle.elementwise.specs.Words.{LeafValue, item_size, items, count, offsets, size, max_bytes, Owned}
+use Rattle.elem_descr.specs.declared.descr.Descr.TheVariants.{Scalar as ScalarDescr}
 use Rattle.elementwise.specs.Results.{pairwise, value_in}
 use Rattle.elementwise.specs.inside.PairPasses.{pair_from}
-use Rattle.elementwise.specs.inside.Works.{gives}
+use Rattle.elementwise.specs.inside.Made.{IsMade}
+use Rattle.elementwise.specs.inside.Works.{left_of, right_of, target_of, gives, CanPair}
 use Rattle.elementwise.specs.declared.pairing.Pairing.{Pairing}
 use Rattle.elementwise.specs.declared.row_pairs.Operands.{Operands}
 
@@ -21,3 +23,14 @@ made_of_all f o =
 -- the items that a pairing makes of each pair
 abbrev pub all_made : Pairing → Operands → List (List LeafValue)
 all_made p o = pairwise (λ x y. gives p (value_in x) (value_in y) ∷ []) (items o.left) (items o.right)
+
+-- the operands are of the scalars of a pairing, and what it makes of them fits a block
+pub record AreMatched (p : Pairing) (o : Operands) : Type 0 where
+  pub can : CanPair p
+  pub left : o.left.descr.now ≡ ScalarDescr (left_of p)
+  pub right : o.right.descr.now ≡ ScalarDescr (right_of p)
+  pub few : pairs_of o * size (target_of p) ≤ max_bytes
+
+-- an array of what it makes
+abbrev pub IsPaired : Pairing → Operands → Owned → Type 0
+IsPaired p o = IsMade (ScalarDescr (target_of p)) o.left.layout.now.shape (all_made p o)

@@ -20,50 +20,37 @@ returns-in_err-scalar-clause-gives c =
     let p = err_from_is_err_and c.from_residual-in_err-scalar.result c.from_residual-in_err-scalar.ensures.1 in
     rw (p.1, p.2) (inr (kind_refused c.args.op c.args.operand.descr.now c.args.operand.layout.now.shape c.in_ok-from.from c.in_err-scalar.field-0.0 c.in_ok-from.ensures c.in_err-scalar.ensures))
 
-pub read_as-read-requires : goal.read_as-read-requires
-read_as-read-requires c = native-little c.in_ok-scalar.scalar (promoted_one c.args.op c.in_ok-from.from c.in_ok-scalar.scalar c.in_ok-scalar.ensures).0
+pub read_as-requires : goal.read_as-requires
+read_as-requires c = native-little c.in_ok-scalar.scalar (promoted_one c.args.op c.in_ok-from.from c.in_ok-scalar.scalar c.in_ok-scalar.ensures).0
 
-pub make_cast-requires-clause-can : goal.make_cast-requires-clause-can
-make_cast-requires-clause-can c = (number-read c.read_as-read.result c.in_ok-scalar.scalar c.read_as-read.ensures (promoted_one c.args.op c.in_ok-from.from c.in_ok-scalar.scalar c.in_ok-scalar.ensures).0, tt)
+pub invariant_of-both : goal.invariant_of-both
+invariant_of-both c = let itself = can-itself c.args.operand.layout.now.shape in record { first = itself; second = itself }
 
-pub make_cast-requires-clause-small : goal.make_cast-requires-clause-small
-make_cast-requires-clause-small c =
-    let number = number-read c.read_as-read.result c.in_ok-scalar.scalar c.read_as-read.ensures (promoted_one c.args.op c.in_ok-from.from c.in_ok-scalar.scalar c.in_ok-scalar.ensures).0 in
-    (number_size c.read_as-read.result number, number_size c.read_as-read.result number, number_small c.read_as-read.result number)
-
-pub make_cast-requires-clause-left : goal.make_cast-requires-clause-left
-make_cast-requires-clause-left c =
+pub make_cast-requires : goal.make_cast-requires
+make_cast-requires c =
     let is = promoted_one c.args.op c.in_ok-from.from c.in_ok-scalar.scalar c.in_ok-scalar.ensures in
-    can-number c.args.operand.descr.now c.in_ok-from.from c.read_as-read.result (is_scalar c.args.operand.descr.now c.in_ok-from.from c.in_ok-from.ensures) is.1 (number-read c.read_as-read.result c.in_ok-scalar.scalar c.read_as-read.ensures is.0)
-
-pub make_cast-requires-clause-right : goal.make_cast-requires-clause-right
-make_cast-requires-clause-right c =
-    let is = promoted_one c.args.op c.in_ok-from.from c.in_ok-scalar.scalar c.in_ok-scalar.ensures in
-    can-number c.args.operand.descr.now c.in_ok-from.from c.read_as-read.result (is_scalar c.args.operand.descr.now c.in_ok-from.from c.in_ok-from.ensures) is.1 (number-read c.read_as-read.result c.in_ok-scalar.scalar c.read_as-read.ensures is.0)
-
-pub make_cast-requires-clause-stretches : goal.make_cast-requires-clause-stretches
-make_cast-requires-clause-stretches c = can-itself c.args.operand.layout.now.shape
-
-pub make_cast-requires-clause-also : goal.make_cast-requires-clause-also
-make_cast-requires-clause-also c = can-itself c.args.operand.layout.now.shape
+    let read = c.read_as.result in
+    let number = number-read read c.in_ok-scalar.scalar c.read_as.ensures is.0 in
+    let can = can-number c.args.operand.descr.now c.in_ok-from.from read (is_scalar c.args.operand.descr.now c.in_ok-from.from c.in_ok-from.ensures) is.1 number in
+    record { can = (number, tt); small = (number_size read number, number_size read number, number_small read number); left = can; right = can }
 
 pub returns-clause-gives : goal.returns-clause-gives
 returns-clause-gives c =
-    made-gives (ScalarDescr (little c.read_as-read.result)) c.args.operand.layout.now.shape _ _ c.in_ok-make_cast.ensures _
+    made-gives (ScalarDescr (little c.read_as.result)) c.args.operand.layout.now.shape _ _ c.in_ok-make_cast.ensures _
     (one_given c.args.op c.args.operand.descr.now c.args.operand.layout.now.shape c.in_ok-from.from c.in_ok-scalar.scalar c.in_ok-from.ensures c.in_ok-scalar.ensures
-    ∙ λ i. Ok (ScalarDescr (sym c.read_as-read.ensures i), c.args.operand.layout.now.shape))
+    ∙ λ i. Ok (ScalarDescr (sym c.read_as.ensures i), c.args.operand.layout.now.shape))
 
 pub returns-clause-order : goal.returns-clause-order
-returns-clause-order c = made-order (ScalarDescr (little c.read_as-read.result)) c.args.operand.layout.now.shape _ _ c.in_ok-make_cast.ensures
+returns-clause-order c = made-order (ScalarDescr (little c.read_as.result)) c.args.operand.layout.now.shape _ _ c.in_ok-make_cast.ensures
 
 pub returns-clause-items : goal.returns-clause-items
 returns-clause-items c =
     let x = c.args.operand in
-    let read = c.read_as-read.result in
+    let read = c.read_as.result in
     let is = promoted_one c.args.op c.in_ok-from.from c.in_ok-scalar.scalar c.in_ok-scalar.ensures in
-    let number = number-read read c.in_ok-scalar.scalar c.read_as-read.ensures is.0 in
+    let number = number-read read c.in_ok-scalar.scalar c.read_as.ensures is.0 in
     made-items (ScalarDescr (little read)) x.layout.now.shape _ _ c.in_ok-make_cast.ensures (λ d _. map (λ offset. unary_item c.args.op d (item_from x.descr.now x.block.now offset)) (offsets x.layout.now))
     (changed c.args.op read x.descr.now x.layout.now x.block.now number (can-number x.descr.now c.in_ok-from.from read (is_scalar x.descr.now c.in_ok-from.from c.in_ok-from.ensures) is.1 number))
 
 pub returns-clause-encoded : goal.returns-clause-encoded
-returns-clause-encoded c = made-encoded (ScalarDescr (little c.read_as-read.result)) c.args.operand.layout.now.shape _ _ c.in_ok-make_cast.ensures
+returns-clause-encoded c = made-encoded (ScalarDescr (little c.read_as.result)) c.args.operand.layout.now.shape _ _ c.in_ok-make_cast.ensures

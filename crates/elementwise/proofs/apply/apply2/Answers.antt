@@ -33,50 +33,41 @@ returns-in_err-shape-clause-gives c =
       | inr there ↦ inr (shapes_refused c.args.op c.args.left.descr.now c.args.left.layout.now.shape c.args.right.descr.now c.args.right.layout.now.shape c.in_ok-from.from c.in_ok-other.other c.in_ok-scalar.scalar c.in_err-shape.field-0.0 c.in_ok-from.ensures c.in_ok-other.ensures c.in_ok-scalar.ensures there)
     ])
 
-pub read_as-read-requires : goal.read_as-read-requires
-read_as-read-requires c = native-little c.in_ok-scalar.scalar (promoted c.args.op c.in_ok-from.from c.in_ok-other.other c.in_ok-scalar.scalar c.in_ok-scalar.ensures).native
+pub read_as-requires : goal.read_as-requires
+read_as-requires c = native-little c.in_ok-scalar.scalar (promoted c.args.op c.in_ok-from.from c.in_ok-other.other c.in_ok-scalar.scalar c.in_ok-scalar.ensures).native
 
-pub make_cast-requires-clause-can : goal.make_cast-requires-clause-can
-make_cast-requires-clause-can c =
+pub make_cast-requires : goal.make_cast-requires
+make_cast-requires c =
     let is = promoted c.args.op c.in_ok-from.from c.in_ok-other.other c.in_ok-scalar.scalar c.in_ok-scalar.ensures in
-    (number-read c.read_as-read.result c.in_ok-scalar.scalar c.read_as-read.ensures is.native, is.no_division)
-
-pub make_cast-requires-clause-small : goal.make_cast-requires-clause-small
-make_cast-requires-clause-small c =
-    let is = promoted c.args.op c.in_ok-from.from c.in_ok-other.other c.in_ok-scalar.scalar c.in_ok-scalar.ensures in
-    let number = number-read c.read_as-read.result c.in_ok-scalar.scalar c.read_as-read.ensures is.native in
-    (number_size c.read_as-read.result number, number_size c.read_as-read.result number, number_small c.read_as-read.result number)
-
-pub make_cast-requires-clause-left : goal.make_cast-requires-clause-left
-make_cast-requires-clause-left c =
-    let is = promoted c.args.op c.in_ok-from.from c.in_ok-other.other c.in_ok-scalar.scalar c.in_ok-scalar.ensures in
-    can-number c.args.left.descr.now c.in_ok-from.from c.read_as-read.result (is_scalar c.args.left.descr.now c.in_ok-from.from c.in_ok-from.ensures) is.left (number-read c.read_as-read.result c.in_ok-scalar.scalar c.read_as-read.ensures is.native)
-
-pub make_cast-requires-clause-right : goal.make_cast-requires-clause-right
-make_cast-requires-clause-right c =
-    let is = promoted c.args.op c.in_ok-from.from c.in_ok-other.other c.in_ok-scalar.scalar c.in_ok-scalar.ensures in
-    can-number c.args.right.descr.now c.in_ok-other.other c.read_as-read.result (is_scalar c.args.right.descr.now c.in_ok-other.other c.in_ok-other.ensures) is.right (number-read c.read_as-read.result c.in_ok-scalar.scalar c.read_as-read.ensures is.native)
+    let read = c.read_as.result in
+    let number = number-read read c.in_ok-scalar.scalar c.read_as.ensures is.native in
+    record {
+      can = (number, is.no_division);
+      small = (number_size read number, number_size read number, number_small read number);
+      left = can-number c.args.left.descr.now c.in_ok-from.from read (is_scalar c.args.left.descr.now c.in_ok-from.from c.in_ok-from.ensures) is.left number;
+      right = can-number c.args.right.descr.now c.in_ok-other.other read (is_scalar c.args.right.descr.now c.in_ok-other.other c.in_ok-other.ensures) is.right number;
+    }
 
 pub returns-clause-gives : goal.returns-clause-gives
 returns-clause-gives c =
-    made-gives (ScalarDescr (little c.read_as-read.result)) c.in_ok-shape.shape _ _ c.in_ok-make_cast.ensures _
+    made-gives (ScalarDescr (little c.read_as.result)) c.in_ok-shape.shape _ _ c.in_ok-make_cast.ensures _
     (all_given c.args.op c.args.left.descr.now c.args.left.layout.now.shape c.args.right.descr.now c.args.right.layout.now.shape c.in_ok-from.from c.in_ok-other.other c.in_ok-scalar.scalar c.in_ok-shape.shape c.in_ok-from.ensures c.in_ok-other.ensures c.in_ok-scalar.ensures c.in_ok-shape.ensures.value
-    ∙ λ i. Ok (ScalarDescr (sym c.read_as-read.ensures i), c.in_ok-shape.shape))
+    ∙ λ i. Ok (ScalarDescr (sym c.read_as.ensures i), c.in_ok-shape.shape))
 
 pub returns-clause-order : goal.returns-clause-order
-returns-clause-order c = made-order (ScalarDescr (little c.read_as-read.result)) c.in_ok-shape.shape _ _ c.in_ok-make_cast.ensures
+returns-clause-order c = made-order (ScalarDescr (little c.read_as.result)) c.in_ok-shape.shape _ _ c.in_ok-make_cast.ensures
 
 pub returns-clause-items : goal.returns-clause-items
 returns-clause-items c =
     let x = c.args.left in
     let y = c.args.right in
-    let read = c.read_as-read.result in
+    let read = c.read_as.result in
     let shape = c.in_ok-shape.shape in
     let is = promoted c.args.op c.in_ok-from.from c.in_ok-other.other c.in_ok-scalar.scalar c.in_ok-scalar.ensures in
-    let number = number-read read c.in_ok-scalar.scalar c.read_as-read.ensures is.native in
+    let number = number-read read c.in_ok-scalar.scalar c.read_as.ensures is.native in
     made-items (ScalarDescr (little read)) shape _ _ c.in_ok-make_cast.ensures (λ d shape. pairwise (binary_item c.args.op d) (stretched_items x.descr.now x.block.now x.layout.now shape) (stretched_items y.descr.now y.block.now y.layout.now shape))
     (combined c.args.op read x.descr.now y.descr.now (stretched_items x.descr.now x.block.now x.layout.now shape) (stretched_items y.descr.now y.block.now y.layout.now shape) number
     (can-number x.descr.now c.in_ok-from.from read (is_scalar x.descr.now c.in_ok-from.from c.in_ok-from.ensures) is.left number) (can-number y.descr.now c.in_ok-other.other read (is_scalar y.descr.now c.in_ok-other.other c.in_ok-other.ensures) is.right number))
 
 pub returns-clause-encoded : goal.returns-clause-encoded
-returns-clause-encoded c = made-encoded (ScalarDescr (little c.read_as-read.result)) c.in_ok-shape.shape _ _ c.in_ok-make_cast.ensures
+returns-clause-encoded c = made-encoded (ScalarDescr (little c.read_as.result)) c.in_ok-shape.shape _ _ c.in_ok-make_cast.ensures

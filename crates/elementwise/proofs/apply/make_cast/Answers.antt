@@ -1,14 +1,12 @@
-use Rattle.std.proofs.Common.{◌≡◌, ◌*◌, ◌≤◌, ℕ, true, List, [], ◌∷◌, map, refl, sym, ap, ◌∙◌, arith}
+use Rattle.std.proofs.Common.{◌≡◌, ◌*◌, ◌≤◌, ℕ, true, List, [], ◌∷◌, map, refl, ap, ◌∙◌, arith}
 use Rattle.std.proofs.Math.Nat.{mul-le-mul_left}
 use Rattle.elem_descr.specs.declared.descr.Descr.TheVariants.{Scalar as ScalarDescr}
 use Rattle.elementwise.specs.Words.{Descr, Items, LeafValue, count, size, item_from, items, offsets, can_stretch}
 use Rattle.elementwise.specs.Casts.{cast_item}
 use Rattle.elementwise.specs.Results.{pairwise, value_in}
-use Rattle.elementwise.specs.inside.Chunks.{given}
 use Rattle.elementwise.specs.inside.Held.{stretched}
 use Rattle.elementwise.specs.inside.Works.{left_of, right_of, target_of, gives}
-use Rattle.elementwise.proofs.ChunkLaws.{count-run, run-stretched}
-use Rattle.elementwise.proofs.MadeLaws.{made-as, made-in}
+use Rattle.elementwise.proofs.MadeLaws.{made-in}
 use Rattle.elementwise.proofs.PairLaws.{pairwise-map}
 use Rattle.elementwise.proofs.StretchedLaws.{stretches-itself}
 use Rattle.elementwise.proofs.TypedLaws.{stretched-cast}
@@ -25,41 +23,29 @@ as_cast x to shape same can kept =
     ap (map (item_from to x.block.now)) (stretches-itself l shape same).places
     ∙ stretched-cast (cast_item x.descr.now to) x.descr.now to x.block.now x.block.now l l shape refl can kept
 
-pub made-requires-clause-few : goal.made-requires-clause-few
-made-requires-clause-few c =
-    let n = count c.args.shape.now in
+pub made-requires : goal.made-requires
+made-requires c =
+    let n = count c.args.both.shape.now in
     let to = size (target_of c.args.pairing.now) in
-    let same : count c.args.left.layout.now.shape * to ≡ n * to = ap (λ s. count s * to) (c.if-stays.ensures.shape refl) in
+    let same : count c.args.both.left.layout.now.shape * to ≡ n * to = ap (λ s. count s * to) (c.if-stays.ensures.shape refl) in
     let most : n * to ≤ n * 8 = mul-le-mul_left n c.requires.small.2 in
-    omega (arith, same, most, c.items-items.ensures.value, c.items-items.ensures.limit)
+    record {
+      can = c.requires.can;
+      left = ap ScalarDescr c.left.ensures;
+      right = ap ScalarDescr c.right.ensures;
+      few = omega (arith, same, most, c.items-items.ensures.value, c.items-items.ensures.limit);
+    }
 
 pub returns-then-stays-2 : goal.returns-then-stays-2
 returns-then-stays-2 c =
     let p = c.args.pairing.now in
-    let x = c.args.left in
-    let y = c.args.right in
-    let shape = c.args.shape.now in
+    let x = c.args.both.left in
+    let y = c.args.both.right in
+    let shape = c.args.both.shape.now in
     let make = λ (u v : List LeafValue). gives p (value_in u) (value_in v) ∷ [] in
-    let first = as_cast x (ScalarDescr c.left.result) shape (c.if-stays.ensures.shape refl) c.requires.stretches (c.if-stays.ensures.items refl) ∙ λ i. map (cast_item x.descr.now (ScalarDescr (c.left.ensures i))) (stretched x shape) in
-    let second = as_cast y (ScalarDescr c.right.result) shape (c.if-stays-2.ensures.shape refl) c.requires.also (c.if-stays-2.ensures.items refl) ∙ λ i. map (cast_item y.descr.now (ScalarDescr (c.right.ensures i))) (stretched y shape) in
+    let first = as_cast x (ScalarDescr c.left.result) shape (c.if-stays.ensures.shape refl) c.args.both.first (c.if-stays.ensures.items refl) ∙ λ i. map (cast_item x.descr.now (ScalarDescr (c.left.ensures i))) (stretched x shape) in
+    let second = as_cast y (ScalarDescr c.right.result) shape (c.if-stays-2.ensures.shape refl) c.args.both.second (c.if-stays-2.ensures.items refl) ∙ λ i. map (cast_item y.descr.now (ScalarDescr (c.right.ensures i))) (stretched y shape) in
     made-in (ScalarDescr (target_of p)) x.layout.now.shape shape _ _ c.made.result (c.if-stays.ensures.shape refl)
     ((λ i. pairwise make (first i) (second i))
     ∙ pairwise-map make (cast_item x.descr.now (ScalarDescr (left_of p))) (cast_item y.descr.now (ScalarDescr (right_of p))) (stretched x shape) (stretched y shape))
     c.made.ensures
-
--- ---- chunk by chunk
-
-pub make_by_chunks-requires-clause-items : goal.make_by_chunks-requires-clause-items
-make_by_chunks-requires-clause-items c =
-    let both = c.in-Some.both in
-    ap count (sym c.in-Some.ensures.shape ∙ ap (λ x. x.layout.now.shape) (sym c.in-Some.ensures.left)) ∙ sym (count-run both.left.items.layout.now both.left.run both.left.same)
-
-pub returns-in-Some : goal.returns-in-Some
-returns-in-Some c =
-    let p = c.args.pairing.now in
-    let both = c.in-Some.both in
-    let told = c.in-Some.ensures in
-    let shape = c.args.shape.now in
-    let first = run-stretched both.left c.args.left shape told.left told.shape in
-    let second = run-stretched both.right c.args.right shape told.right told.other in
-    made-as (ScalarDescr (target_of p)) shape _ _ c.make_by_chunks.result (λ i. pairwise (given p (told.left i).descr.now (told.right i).descr.now) (first i) (second i)) c.make_by_chunks.ensures

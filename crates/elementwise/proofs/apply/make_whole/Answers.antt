@@ -11,10 +11,10 @@ use Rattle.elementwise.proofs.MadeLaws.{made-in}
 use Rattle.elementwise.proofs.apply.make_whole.Goals as goal
 
 pub to-requires : goal.to-requires
-to-requires c = (λ i. can_stretch ((c.items-left.ensures.shape ∙ c.in_ok-left_held.ensures.shape) i) c.args.shape.now) ∙ c.requires.stretches
+to-requires c = (λ i. can_stretch ((c.items-left.ensures.shape ∙ c.in_ok-left_held.ensures.shape) i) c.args.both.shape.now) ∙ c.args.both.first
 
 pub to-requires-2 : goal.to-requires-2
-to-requires-2 c = (λ i. can_stretch ((c.items-right.ensures.shape ∙ c.in_ok-right_held.ensures.shape) i) c.args.shape.now) ∙ c.requires.also
+to-requires-2 c = (λ i. can_stretch ((c.items-right.ensures.shape ∙ c.in_ok-right_held.ensures.shape) i) c.args.both.shape.now) ∙ c.args.both.second
 
 pub invariant_of-operands : goal.invariant_of-operands
 invariant_of-operands c =
@@ -26,34 +26,33 @@ invariant_of-operands-2 c =
     let y = c.items-right.result in
     record { inside = subst (λ l. All (λ offset. offset + item_size y.descr.now ≤ length y.block.now) (offsets l)) (sym c.layout-2.ensures) (c.in_ok-second.ensures.inside (length y.block.now) (item_size y.descr.now) y.inside) }
 
-pub made-requires-clause-left : goal.made-requires-clause-left
-made-requires-clause-left c = c.items-left.ensures.descr ∙ c.in_ok-left_held.ensures.descr ∙ ap ScalarDescr c.left.ensures
-
-pub made-requires-clause-right : goal.made-requires-clause-right
-made-requires-clause-right c = c.items-right.ensures.descr ∙ c.in_ok-right_held.ensures.descr ∙ ap ScalarDescr c.right.ensures
-
-pub made-requires-clause-few : goal.made-requires-clause-few
-made-requires-clause-few c =
-    let n = count c.args.shape.now in
+pub made-requires : goal.made-requires
+made-requires c =
+    let n = count c.args.both.shape.now in
     let to = size (target_of c.args.pairing.now) in
     let same : count c.layout.result.now.shape * to ≡ n * to = ap (λ s. count s * to) (ap (λ l. l.shape) c.layout.ensures ∙ c.in_ok-first.ensures.shape_is) in
     let most : n * to ≤ n * 8 = mul-le-mul_left n c.requires.small.2 in
-    omega (arith, same, most, c.items-items.ensures.value, c.items-items.ensures.limit)
+    record {
+      can = c.requires.can;
+      left = c.items-left.ensures.descr ∙ c.in_ok-left_held.ensures.descr ∙ ap ScalarDescr c.left.ensures;
+      right = c.items-right.ensures.descr ∙ c.in_ok-right_held.ensures.descr ∙ ap ScalarDescr c.right.ensures;
+      few = omega (arith, same, most, c.items-items.ensures.value, c.items-items.ensures.limit);
+    }
 
 pub returns : goal.returns
 returns c =
     let p = c.args.pairing.now in
-    let x = c.args.left in
-    let y = c.args.right in
-    let shape = c.args.shape.now in
+    let x = c.args.both.left in
+    let y = c.args.both.right in
+    let shape = c.args.both.shape.now in
     let held = c.items-left.result in
     let held' = c.items-right.result in
     let cast = cast_item x.descr.now (ScalarDescr (left_of p)) in
     let cast' = cast_item y.descr.now (ScalarDescr (right_of p)) in
     let make = λ (u v : List LeafValue). gives p (value_in u) (value_in v) ∷ [] in
-    let first = ap (map (item_from held.descr.now held.block.now)) (ap offsets c.layout.ensures ∙ c.in_ok-first.ensures.places) ∙ stretched-cast cast x.descr.now held.descr.now x.block.now held.block.now x.layout.now held.layout.now shape (c.items-left.ensures.shape ∙ c.in_ok-left_held.ensures.shape) c.requires.stretches
+    let first = ap (map (item_from held.descr.now held.block.now)) (ap offsets c.layout.ensures ∙ c.in_ok-first.ensures.places) ∙ stretched-cast cast x.descr.now held.descr.now x.block.now held.block.now x.layout.now held.layout.now shape (c.items-left.ensures.shape ∙ c.in_ok-left_held.ensures.shape) c.args.both.first
     (c.items-left.ensures.items ∙ c.in_ok-left_held.ensures.items ∙ λ i. map (cast_item x.descr.now (ScalarDescr (c.left.ensures i))) (map (item_from x.descr.now x.block.now) (offsets x.layout.now))) in
-    let second = ap (map (item_from held'.descr.now held'.block.now)) (ap offsets c.layout-2.ensures ∙ c.in_ok-second.ensures.places) ∙ stretched-cast cast' y.descr.now held'.descr.now y.block.now held'.block.now y.layout.now held'.layout.now shape (c.items-right.ensures.shape ∙ c.in_ok-right_held.ensures.shape) c.requires.also
+    let second = ap (map (item_from held'.descr.now held'.block.now)) (ap offsets c.layout-2.ensures ∙ c.in_ok-second.ensures.places) ∙ stretched-cast cast' y.descr.now held'.descr.now y.block.now held'.block.now y.layout.now held'.layout.now shape (c.items-right.ensures.shape ∙ c.in_ok-right_held.ensures.shape) c.args.both.second
     (c.items-right.ensures.items ∙ c.in_ok-right_held.ensures.items ∙ λ i. map (cast_item y.descr.now (ScalarDescr (c.right.ensures i))) (map (item_from y.descr.now y.block.now) (offsets y.layout.now))) in
     made-in (ScalarDescr (target_of p)) c.layout.result.now.shape shape _ _ c.made.result (ap (λ l. l.shape) c.layout.ensures ∙ c.in_ok-first.ensures.shape_is)
     ((λ i. pairwise make (first i) (second i))

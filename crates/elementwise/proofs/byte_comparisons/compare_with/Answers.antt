@@ -8,8 +8,8 @@ use Rattle.elementwise.proofs.AppliedLaws.{pairwise-same}
 use Rattle.elementwise.proofs.MadeLaws.{made-as}
 use Rattle.elementwise.proofs.byte_comparisons.compare_with.Goals as goal
 
-pub made-requires-clause-few : goal.made-requires-clause-few
-made-requires-clause-few c = omega (arith, c.items-items.ensures.value, c.items-items.ensures.limit)
+pub made-requires : goal.made-requires
+made-requires c = record { can = tt; left = c.requires; right = c.requires; few = omega (arith, c.items-items.ensures.value, c.items-items.ensures.limit) }
 
 pub returns : goal.returns
 returns c =

@@ -10,8 +10,8 @@ without_repeats-requires-clause-stretches c = can-itself c.args.items.layout.now
 pub without_repeats-requires-clause-also : goal.without_repeats-requires-clause-also
 without_repeats-requires-clause-also c = can-itself c.args.items.layout.now.shape
 
-pub returns-clause-same : goal.returns-clause-same
-returns-clause-same c =
+pub returns : goal.returns
+returns c =
     let block = c.args.items.block.now in
     let width = c.args.width in
     let n = c.unwrap.result in
@@ -22,9 +22,11 @@ returns-clause-same c =
     let most : All (λ offset. length (without_nuls (item_at offset width block)) ≤ n) os =
     subst (λ (w : ℕ). All (λ offset. length (without_nuls (item_at offset w block)) ≤ n) os) c.get.ensures.value
     (subst (λ (bytes : List ℕ). All (λ offset. length (without_nuls (item_at offset c.get.result bytes)) ≤ n) os) c.bytes.ensures
-    (subst (λ (m : ℕ). All (λ offset. length (without_nuls (item_at offset c.get.result c.bytes.result.now)) ≤ m) os) is c.longest-most.ensures.least)) in
-    all_seen (λ offset. without_nuls (item_at offset n block) ≡ without_nuls (item_at offset width block)) c.args.items.layout.now small.first small.shape c.in_ok-small.ensures.first
-    (cut_all block width n os (omega (arith, is, c.longest-most.ensures.within, c.get.ensures.value)) (c.in_ok-small.ensures.first.inside (length block) width inside) most)
+    (subst (λ (m : ℕ). All (λ offset. length (without_nuls (item_at offset c.get.result c.bytes.result.now)) ≤ m) os) is c.longest-most.ensures.least)) in (
+      omega (arith, is, c.longest-most.ensures.within, c.get.ensures.value),
+      all_seen (λ offset. without_nuls (item_at offset n block) ≡ without_nuls (item_at offset width block)) c.args.items.layout.now small.first small.shape c.in_ok-small.ensures.first
+          (cut_all block width n os (omega (arith, is, c.longest-most.ensures.within, c.get.ensures.value)) (c.in_ok-small.ensures.first.inside (length block) width inside) most),
+    )
 
 pub longest-most-requires-clause-inside : goal.longest-most-requires-clause-inside
 longest-most-requires-clause-inside c =

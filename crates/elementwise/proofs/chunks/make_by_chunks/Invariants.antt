@@ -2,14 +2,14 @@ use Rattle.std.proofs.Common.{◌≡◌, ◌+◌, ◌-◌, ◌*◌, ◌≤◌}
 use Rattle.std.specs.List.{flat_map}
 use Rattle.elem_descr.specs.declared.descr.Descr.TheVariants.{Scalar as ScalarDescr}
 use Rattle.elementwise.specs.Words.{size, encode_item, run_front}
-use Rattle.elementwise.specs.inside.Chunks.{all_given}
+use Rattle.elementwise.specs.inside.Combined.{all_given}
 use Rattle.elementwise.specs.inside.Works.{target_of}
 use Rattle.elementwise.proofs.chunks.make_by_chunks.Given as goal
 
 -- what is given on the first items has been pushed, and there is room for the rest
 abbrev pub invariant-loop-done : goal.invariant-loop-done
 invariant-loop-done l = record {
-  made : l.block.0 ≡ flat_map (encode_item (ScalarDescr (target_of l.pairing))) (all_given l.pairing l.both.left.items l.both.right.items (run_front l.done l.both.left.run) (run_front l.done l.both.right.run));
+  made : l.block.0 ≡ flat_map (encode_item (ScalarDescr (target_of l.pairing))) (all_given l.pairing l.runs.both (run_front l.done l.runs.left) (run_front l.done l.runs.right));
   room : l.done * size (target_of l.pairing) + l.block.1 ≡ l.many * size (target_of l.pairing);
   most : l.done ≤ l.many;
 }

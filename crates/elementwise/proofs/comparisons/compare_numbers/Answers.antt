@@ -13,20 +13,17 @@ use Rattle.elementwise.proofs.HeldLaws.{number-no_text, compared_all}
 use Rattle.elementwise.proofs.MadeLaws.{made-as}
 use Rattle.elementwise.proofs.comparisons.compare_numbers.Goals as goal
 
-pub make_cast-requires-clause-can : goal.make_cast-requires-clause-can
-make_cast-requires-clause-can c = c.number_pairing-pairing.ensures.can
-
-pub make_cast-requires-clause-small : goal.make_cast-requires-clause-small
-make_cast-requires-clause-small c =
+pub make_cast-requires : goal.make_cast-requires
+make_cast-requires c =
     let p = c.number_pairing-pairing.result in
     let is = c.number_pairing-pairing.ensures in
-    (number_size (left_of p) is.left.0, number_size (right_of p) is.right.0, subst (λ (s : Scalar). size s ≤ 8) (sym is.target) bool_small)
-
-pub make_cast-requires-clause-left : goal.make_cast-requires-clause-left
-make_cast-requires-clause-left c = can-number c.args.both.left.descr.now c.args.left.now (left_of c.number_pairing-pairing.result) c.requires.from (number-no_text c.args.left.now c.requires.left) c.number_pairing-pairing.ensures.left.0
-
-pub make_cast-requires-clause-right : goal.make_cast-requires-clause-right
-make_cast-requires-clause-right c = can-number c.args.both.right.descr.now c.args.right.now (right_of c.number_pairing-pairing.result) c.requires.other (number-no_text c.args.right.now c.requires.right) c.number_pairing-pairing.ensures.right.0
+    let b = c.args.both in
+    record {
+      can = is.can;
+      small = (number_size (left_of p) is.left.0, number_size (right_of p) is.right.0, subst (λ (s : Scalar). size s ≤ 8) (sym is.target) bool_small);
+      left = can-number b.left.descr.now c.args.left.now (left_of p) c.requires.from (number-no_text c.args.left.now c.requires.left) is.left.0;
+      right = can-number b.right.descr.now c.args.right.now (right_of p) c.requires.other (number-no_text c.args.right.now c.requires.right) is.right.0;
+    }
 
 pub returns : goal.returns
 returns c =

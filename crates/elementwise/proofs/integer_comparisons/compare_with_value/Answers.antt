@@ -1,17 +1,17 @@
-use Rattle.std.proofs.Common.{[], ◌∷◌, sym, ap, subst, ◌∙◌}
+use Rattle.std.proofs.Common.{length, [], ◌∷◌, sym, ap, subst, ◌∙◌}
 use Rattle.std.specs.Int.{w128}
 use Rattle.std.proofs.lemmas.Int.{to_z-of_z}
 use Rattle.elem_descr.specs.declared.descr.Descr.TheVariants.{Scalar as ScalarDescr}
 use Rattle.elem_descr.specs.declared.scalar.Scalar.TheVariants.{Bool as BoolScalar}
-use Rattle.elementwise.specs.Words.{IsNumber, wrap, number, can-itself, little}
+use Rattle.elementwise.specs.Words.{IsNumber, decode, wrap, number, can-itself, little}
 use Rattle.elementwise.proofs.WorkLaws.{number-little}
 use Rattle.elementwise.proofs.ComparedLaws.{comparable_scalars, comparable_numbers}
 use Rattle.elementwise.proofs.MadeLaws.{made-as}
 use Rattle.elementwise.proofs.IntegerLaws.{one-stretches, all_held}
 use Rattle.elementwise.proofs.integer_comparisons.compare_with_value.Goals as goal
 
-pub number_block-requires : goal.number_block-requires
-number_block-requires c = subst IsNumber (sym c.little-scalar.ensures) (number-little c.args.from.now c.requires.number)
+pub num_write-requires-clause-number : goal.num_write-requires-clause-number
+num_write-requires-clause-number c = subst IsNumber (sym c.little-scalar.ensures) (number-little c.args.from.now c.requires.number)
 
 pub invariant_of-both : goal.invariant_of-both
 invariant_of-both c =
@@ -27,7 +27,8 @@ pub returns : goal.returns
 returns c =
     let x = c.args.operand in
     let y = c.items.result in
+    let wrote = c.bytes_mut.ensures.same_len c.num_write.new.bytes (c.num_write.auto.bytes ∙ ap length c.bytes_mut.ensures.value) in
     made-as (ScalarDescr BoolScalar) x.layout.now.shape _ _ c.compare_once.result
     (all_held c.args.comparison x.descr.now y.descr.now x.block.now y.block.now x.layout.now y.layout.now (number c.args.integer ∷ []) (ap (λ l. l.shape) c.items.ensures.layout ∙ c.in_ok-item.ensures.shape)
-    (c.items.ensures.items ∙ c.in_ok-item.ensures.items ∙ (λ i. (c.in_ok-block.ensures.value i ∷ []) ∷ []) ∙ (λ i. (number (wrap (c.little-scalar.ensures i) (to_z-of_z w128 c.args.integer c.ranges.integer i)) ∷ []) ∷ []) ∙ λ i. (number (c.requires.held i) ∷ []) ∷ []))
+    (c.items.ensures.items ∙ c.in_ok-item.ensures.items ∙ (λ i. ((ap (decode c.little-scalar.result) wrote ∙ c.num_write.ensures.reads_back) i ∷ []) ∷ []) ∙ (λ i. (number (wrap (c.little-scalar.ensures i) (to_z-of_z w128 c.args.integer c.ranges.integer i)) ∷ []) ∷ []) ∙ λ i. (number (c.requires.held i) ∷ []) ∷ []))
     c.compare_once.ensures

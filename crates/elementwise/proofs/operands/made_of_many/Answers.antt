@@ -16,15 +16,13 @@ pub invariant_of-near : goal.invariant_of-near
 invariant_of-near c =
     record { even = c.items.ensures.shape ∙ c.near-left.ensures.shape ∙ c.args.operands.even ∙ sym (c.items-in_default.ensures.shape ∙ c.near-right.ensures.shape) }
 
-pub made_by_rows-requires-clause-left : goal.made_by_rows-requires-clause-left
-made_by_rows-requires-clause-left c = c.items.ensures.descr ∙ c.near-left.ensures.descr ∙ c.requires.left
-
-pub made_by_rows-requires-clause-right : goal.made_by_rows-requires-clause-right
-made_by_rows-requires-clause-right c = c.items-in_default.ensures.descr ∙ c.near-right.ensures.descr ∙ c.requires.right
-
-pub made_by_rows-requires-clause-few : goal.made_by_rows-requires-clause-few
-made_by_rows-requires-clause-few c =
-    omega (arith, ap (λ shape. count shape * size (target_of c.args.pairing.now)) (c.items.ensures.shape ∙ c.near-left.ensures.shape), c.requires.few)
+pub made_by_rows-requires : goal.made_by_rows-requires
+made_by_rows-requires c = record {
+  can = c.requires.can;
+  left = c.items.ensures.descr ∙ c.near-left.ensures.descr ∙ c.requires.left;
+  right = c.items-in_default.ensures.descr ∙ c.near-right.ensures.descr ∙ c.requires.right;
+  few = omega (arith, ap (λ shape. count shape * size (target_of c.args.pairing.now)) (c.items.ensures.shape ∙ c.near-left.ensures.shape), c.requires.few);
+}
 
 pub returns-in_default : goal.returns-in_default
 returns-in_default c =
