@@ -1,7 +1,7 @@
 -- The parts that items come to, item by item.
 use Rattle.std.proofs.Common.{◌≡◌, inl, inr, Ok, is_ok, ℕ, ◌+◌, ℤ, ◌<◌, ◌≤◌, Bool, true, false, ◌&&◌, List, [], ◌∷◌, ◌++◌, map, length, get_or, take, refl, sym, ap, subst, ◌∙◌, arith, append_assoc, append-nil}
 use Rattle.std.specs.List.{list_all, flat_map}
-use Rattle.std.proofs.Math.Bool.{and-true, and-false}
+use Rattle.std.proofs.Math.Bool.{and-true, and-false, and_assoc}
 use Rattle.std.proofs.lemmas.Bool.{and_parts, false≢true}
 use Rattle.std.proofs.lemmas.List.{map-append, take_all}
 use Rattle.std.proofs.lemmas.List.Folds.{list_all-append, list_all_at, list_all_more}
@@ -16,7 +16,6 @@ use Rattle.fancy_index.specs.inside.Lists.{IsNext}
 use Rattle.fancy_index.specs.inside.Items.{IsOutside}
 use Rattle.fancy_index.specs.inside.PointLists.{place_of, ranks_of, are_named, IsPart}
 use Rattle.fancy_index.proofs.PointLaws.{integer-part}
-use Rattle.fancy_index.proofs.WordLaws.{and_assoc}
 use Rattle.fancy_index.specs.inside.PartLists.{IsChecked, shown_part, is_named, all_named, AreParts, AddsParts}
 
 -- ---- parts of axes
