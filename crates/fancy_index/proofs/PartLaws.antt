@@ -129,10 +129,6 @@ module _ (shape axes axes' taken : List ℕ) (items left left' : List (IndexItem
             ∙ have.show all;
       }
 
-  -- a refusal of the next item is one of all
-  pub outside_more : (e : Refusal) → IsOutside (is_within taken item) e → IsOutside (are_within shape items) e
-  outside_more e outside = outside-by (is_within taken item) (are_within shape items) e (λ fails. sym tested ∙ ap (λ b. all_named done && (b && are_within axes' left')) fails ∙ and-false (all_named done)) outside
-
 -- ---- what a test says
 
 pub passed : (test : Bool) (refusal : Refusal) → check test refusal ≡ Ok tt → test ≡ true

@@ -226,9 +226,6 @@ module _ (layout : Layout) (parts : List IndexPart) (lengths : List ℕ) (ready 
         further _ _ _ start _ (ap (address layout) (next k r (PointsPart p) low is) ∙ adds ∙ ap (λ l. address layout l +ℤ dot (strides_along layout axis p.axes.items) (point_of p at)) (sym (here k r (PointsPart p) low is)))
         (pos-along layout axis start p.axes.items begin (point_number lengths p.lengths.items (ranks_of p.ranks) r) (point-low at p 0 has))
 
-    pub sums_none : AreSums layout parts lengths start [] 0 0
-    sums_none = record { many = inl refl; axes = refl; each = λ r low. ap natural start-is }
-
     module _ (k axis : ℕ) (part : IndexPart) (below : k < length parts) (is : get_or parts k part ≡ part) (begin : BeginsAt layout axis start part) (shifts : List ℕ) (sums : AreSums layout parts lengths start shifts k axis) where
       sum-is : (r : ℕ) → r < count lengths → address layout (partly parts (k + 1) (tuple lengths r)) +ℤ pos start ≡ pos (get_or shifts r start) +ℤ pos (part_offset layout axis start lengths part r)
       sum-is r low =
