@@ -1,9 +1,9 @@
 -- The parts that items come to, item by item.
 use Rattle.std.proofs.Common.{◌≡◌, inl, inr, Ok, is_ok, ℕ, ◌+◌, ℤ, ◌<◌, ◌≤◌, Bool, true, false, ◌&&◌, List, [], ◌∷◌, ◌++◌, map, length, get_or, take, refl, sym, ap, subst, ◌∙◌, arith, append_assoc, append-nil}
 use Rattle.std.specs.List.{list_all, flat_map}
-use Rattle.std.proofs.Math.Bool.{and-true, and-false, and_assoc}
+use Rattle.std.proofs.Math.Bool.{and-true, and_assoc}
 use Rattle.std.proofs.lemmas.Bool.{and_parts, false≢true}
-use Rattle.std.proofs.lemmas.List.{map-append, take_all}
+use Rattle.std.proofs.lemmas.List.{map-append}
 use Rattle.std.proofs.lemmas.List.Folds.{list_all-append, list_all_at, list_all_more}
 use Rattle.fancy_index.specs.Words.{Refusal, IndexOutOfRange, check, IndexItem, Integer, AxisPick, is_place, whole, has_step, pick_shown, ArePicks}
 use Rattle.view_ops.specs.declared.picks.AxisPick.TheVariants.{At as AtAxis, Along as AlongAxis, New as NewAxis}

@@ -13,7 +13,7 @@ use Rattle.fancy_index.specs.Words.{Refusal, Gives, count, indexes, rank, get_or
 use Rattle.fancy_index.specs.declared.points.PointList.{PointList}
 use Rattle.fancy_index.specs.declared.index_parts.Kind.{Kind}
 use Rattle.fancy_index.specs.declared.index_parts.Kind.TheVariants.{Integers, Mask}
-use Rattle.fancy_index.specs.IndexArrays.{axes_of_kind, covers_kind, are_places}
+use Rattle.fancy_index.specs.IndexArrays.{covers_kind, are_places}
 use Rattle.fancy_index.specs.Parts.{Points, true_indexes, point_at, points_of}
 use Rattle.fancy_index.specs.inside.PointLists.{place_of, named_places, rank_on, HavePlaces, true_ranks, tuple, ranks_of, are_named, IsPart}
 use Rattle.fancy_index.proofs.WordLaws.{places-named}

@@ -1,4 +1,4 @@
-use Rattle.std.proofs.Common.{rules, ◌≡◌, ◌+◌, ◌-◌, ◌++◌, List, ℕ, [], ◌∷◌, length, map, take, drop, All, refl, sym, ap, subst, ◌∙◌, inr, arith, append_assoc, length-append}
+use Rattle.std.proofs.Common.{rules, ◌≡◌, ◌+◌, ◌-◌, ◌++◌, ℕ, [], length, map, take, drop, All, refl, sym, ap, subst, ◌∙◌, arith, append_assoc, length-append}
 use lib.IntN.{ℤ}
 use Rattle.std.specs.List.{flat_map}
 use Rattle.std.proofs.lemmas.List.{map-append}
@@ -7,7 +7,7 @@ use Rattle.std.proofs.lemmas.Slice.{take-put_mid}
 use borrow.Rule.Slice.PartMut.{mid_len, same_len_mid}
 use Rattle.fancy_index.specs.Words.{offsets, length-offsets, run_offsets, length-run_offsets}
 use Rattle.fancy_index.specs.Sources.{number_from}
-use Rattle.fancy_index.specs.inside.Words.{LiesIn, ArePlaces}
+use Rattle.fancy_index.specs.inside.Words.{LiesIn}
 use Rattle.fancy_index.proofs.WordLaws.{runs-lie, length-numbers, more_places}
 use Rattle.fancy_index.proofs.positions.places.Goals as goal
 use Rattle.fancy_index.proofs.positions.places.Goals.{In-Some}

@@ -1,6 +1,5 @@
-use Rattle.std.proofs.Common.{◌≡◌, ◌∙◌, List, length, refl, sym, ap, subst}
-use lib.IntN.{ℤ}
-use Rattle.fancy_index.specs.inside.Words.{numbers_along, ArePlaces}
+use Rattle.std.proofs.Common.{◌∙◌, refl, sym, subst}
+use Rattle.fancy_index.specs.inside.Words.{ArePlaces}
 use Rattle.fancy_index.proofs.WordLaws.{length-numbers, native-end, native-numbers}
 use Rattle.fancy_index.proofs.positions.put_run.Goals as goal
 

@@ -1,6 +1,6 @@
 use Rattle.std.proofs.Common.{◌≤◌, ◌∙◌, length, sym, ap, subst, arith}
-use Rattle.fancy_index.specs.Words.{item_at, Run, Items}
-use Rattle.fancy_index.specs.inside.Words.{word, numbers_along, IsPlaceOf}
+use Rattle.fancy_index.specs.Words.{item_at}
+use Rattle.fancy_index.specs.inside.Words.{word, IsPlaceOf}
 use Rattle.fancy_index.proofs.RunLaws.{first-low, steps-low, steps-high, lies-there}
 use Rattle.fancy_index.proofs.WordLaws.{below-count, ends-there, number-there}
 use Rattle.fancy_index.proofs.positions.WordsIntegral.place.Goals as goal
