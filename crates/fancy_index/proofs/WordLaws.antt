@@ -8,29 +8,29 @@ use Rattle.std.proofs.lemmas.List.Concat.{get_or-flat_map}
 use Rattle.std.proofs.lemmas.List.Folds.{list_all-append, length-flat_map-take}
 use lib.IntN.{ℤ, pos}
 use Rattle.fancy_index.specs.Words.{IndexOutOfRange, integer, number_in, item_size, item_at, signed_number, LieWithin, max_bytes, max_items, count, offsets, length-offsets, Run, run_offsets, length-run_offsets, is_place, Items}
-use Rattle.fancy_index.specs.Sources.{number_from}
 use Rattle.fancy_index.specs.declared.positions.Form.{Form}
-use Rattle.fancy_index.specs.inside.Words.{numbers_along, AreWords, IsNative, LiesIn, ArePlaces}
+use Rattle.fancy_index.specs.inside.Words.{word, words_along, IsNative, LiesIn, ArePlaces}
 use Rattle.fancy_index.specs.inside.PointLists.{place_of, named_places}
 use Rattle.fancy_index.proofs.RunLaws.{packed-entry}
 
 -- ---- a run of integers
 
-pub length-numbers : (array : Items) (run : Run) → length (numbers_along array run) ≡ run.count
-length-numbers array run = length-map (run_offsets run) (number_from array.descr.now array.block.now) ∙ length-run_offsets run
+pub length-words : (form : Form) (block : List ℕ) (run : Run) → length (words_along form block run) ≡ run.count
+length-words form block run = length-map (run_offsets run) (λ offset. word form (item_at offset form.width block)) ∙ length-run_offsets run
 
-pub below-count : (array : Items) (run : Run) (k : ℕ) → k < length (numbers_along array run) → k < run.count
-below-count array run k low = omega (arith, low, length-numbers array run)
+pub below-count : (form : Form) (block : List ℕ) (run : Run) (k : ℕ) → k < length (words_along form block run) → k < run.count
+below-count form block run k low = omega (arith, low, length-words form block run)
 
-module _ (array : Items) (run : Run) (lies : LiesIn array run) (k : ℕ) (low : k < run.count) where
-  pub ends-there : get_or (run_offsets run) k 0 + item_size array.descr.now ≤ length array.block.now
-  ends-there = lies.ends k 0 (omega (arith, low, length-run_offsets run))
+module _ (form : Form) (block : List ℕ) (run : Run) (k : ℕ) (low : k < run.count) where
+  pub word-there : get_or (words_along form block run) k (pos 0) ≡ word form (item_at (get_or (run_offsets run) k 0) form.width block)
+  word-there = get_or-map (λ offset. word form (item_at offset form.width block)) (run_offsets run) k 0 (pos 0) (omega (arith, low, length-run_offsets run))
 
-  pub number-there : get_or (numbers_along array run) k (pos 0) ≡ number_from array.descr.now array.block.now (get_or (run_offsets run) k 0)
-  number-there = get_or-map (number_from array.descr.now array.block.now) (run_offsets run) k 0 (pos 0) (omega (arith, low, length-run_offsets run))
+  pub ends-there : LiesIn block form.width run → get_or (run_offsets run) k 0 + form.width ≤ length block
+  ends-there lies = lies.ends k 0 (omega (arith, low, length-run_offsets run))
 
--- the runs of all its items
-pub runs-lie : (array : Items) (runs : List Run) → count array.layout.now.shape ≤ max_items → flat_map run_offsets runs ≡ offsets array.layout.now → All (λ (run : Run). 1 ≤ run.count) runs → All (λ (run : Run). LieWithin (run.count ∷ []) (run.step ∷ []) run.offset max_bytes 1) runs → All (LiesIn array) runs
+-- the runs of all items of an array
+pub runs-lie : (array : Items) (runs : List Run) → count array.layout.now.shape ≤ max_items → flat_map run_offsets runs ≡ offsets array.layout.now → All (λ (run : Run). 1 ≤ run.count) runs → All (λ (run : Run). LieWithin (run.count ∷ []) (run.step ∷ []) run.offset max_bytes 1) runs →
+    All (LiesIn array.block.now (item_size array.descr.now)) runs
 runs-lie array runs few all some lie = λ k d below.
     let run = get_or runs k d in
     let room = length-flat_map-take run_offsets runs k d below in
@@ -44,29 +44,28 @@ runs-lie array runs few all some lie = λ k d below.
     }
 
 -- integers of the machine, one right after another
-module _ (form : Form) (width : ℕ) (array : Items) (run : Run) (is : form.width ≡ width) (words : AreWords form array.descr.now) (lies : LiesIn array run) (native : IsNative form run) where
+module _ (form : Form) (width : ℕ) (block : List ℕ) (run : Run) (is : form.width ≡ width) (lies : LiesIn block form.width run) (native : IsNative form run) where
   entry : (k : ℕ) → k < run.count → get_or (run_offsets run) k 0 ≡ run.offset + width * k
   entry k low = (λ i. get_or (run_offsets (record { offset = run.offset; count = run.count; step = (native.step ∙ ap pos is) i })) k 0) ∙ packed-entry run.offset width run.count k low
 
   -- the last of them ends in the block
-  pub native-end : run.offset + width * run.count ≤ length array.block.now
+  pub native-end : run.offset + width * run.count ≤ length block
   native-end =
       let last = run.count - 1 in
       let low : last < run.count = omega (arith, lies.some) in
       let next : run.count ≡ suc last = omega (arith, lies.some) in
       let end : width * run.count ≡ width * last + width = ap (λ n. width * n) next ∙ mul-suc width last ∙ omega arith in
-      omega (arith, end, ends-there array run lies last low, entry last low, words.size, is)
+      omega (arith, end, ends-there form block run last low lies, entry last low, is)
 
-  pub native-numbers : (numbers : List ℤ) → length numbers ≡ run.count → ((k : ℕ) → k < run.count → get_or numbers k (pos 0) ≡ signed_number width (item_at (run.offset + width * k) width array.block.now)) → numbers ≡ numbers_along array run
+  pub native-numbers : (numbers : List ℤ) → length numbers ≡ run.count → ((k : ℕ) → k < run.count → get_or numbers k (pos 0) ≡ signed_number width (item_at (run.offset + width * k) width block)) → numbers ≡ words_along form block run
   native-numbers numbers many each =
-      same_lists numbers (numbers_along array run) (many ∙ sym (length-numbers array run)) (λ k d below.
+      same_lists numbers (words_along form block run) (many ∙ sym (length-words form block run)) (λ k d below.
       let low : k < run.count = omega (arith, below, many) in
       sym (get_or_default numbers k (pos 0) d below)
       ∙ each k low
-      ∙ (λ i. integer (sym native.signed i) (sym is i) (number_in (sym native.order i) (sym is i) (item_at (sym (entry k low) i) (sym is i) array.block.now)))
-      ∙ sym (words.read array.block.now (get_or (run_offsets run) k 0))
-      ∙ sym (number-there array run lies k low)
-      ∙ get_or_default (numbers_along array run) k (pos 0) d (omega (arith, low, length-numbers array run)))
+      ∙ (λ i. integer (sym native.signed i) (sym is i) (number_in (sym native.order i) (sym is i) (item_at (sym (entry k low) i) (sym is i) block)))
+      ∙ sym (word-there form block run k low)
+      ∙ get_or_default (words_along form block run) k (pos 0) d (omega (arith, low, length-words form block run)))
 
 -- ---- the places that numbers name
 

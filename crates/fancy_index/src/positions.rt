@@ -1,16 +1,16 @@
 //! The integers of an array, read in place, and the indexes that they stand for.
 ghost use Rattle.std.specs.Prelude.{◌≡◌, ◌≤◌, ◌<◌, ℤ, List, length, get_or, pos, IsTrue};
-ghost use Rattle.fancy_index.specs.Words.{Gives, max_items};
+ghost use Rattle.fancy_index.specs.Words.{Gives, count, max_items};
 ghost use Rattle.fancy_index.specs.declared.index_parts.Kind.TheVariants.{Integers};
 ghost use Rattle.fancy_index.specs.inside.Items.{kind_in, numbers_in};
 ghost use Rattle.fancy_index.specs.inside.PointLists.{named_place, named_places};
-ghost use Rattle.fancy_index.specs.inside.Words.{word, numbers_along, AreWords, IsNative, LiesIn, IsPlaceOf, ArePlaces};
+ghost use Rattle.fancy_index.specs.inside.Words.{word, words_along, AreWords, IsNative, LiesIn, IsPlaceOf, ArePlaces};
 
 use crate::singles::array_at;
 use arrays::Items;
 use byteorder::{BigEndian, ByteOrder, LittleEndian};
 use elem_descr::{Descr, Order, Refusal, Scalar};
-use raw_block::{RunI32, RunI64};
+use raw_block::{RawBlock, RunI32, RunI64};
 use shape_strides::{Run, Runs};
 use std::alloc::Global;
 use view_ops::{from_front, is_place};
@@ -100,7 +100,7 @@ fn word_place<const N: usize>(form: Form, item: &[u8; N], n: usize) -> (bool, u3
 }
 
 /// Integers that are read one by one.
-trait Integral {
+trait Integral: Drop {
     ghost numbers: { Self → List ℤ };
 
     /// Whether the number at `k` is in range for an axis of `n` items, and if so, the index that it
@@ -131,24 +131,23 @@ impl Integral for RunI64<'_> {
     }
 }
 
-/// The integers of `N` bytes in a run of an array's items.
+/// The integers of `N` bytes in a run of items.
 #[derive(Clone, Copy, Drop)]
 struct Words<'a, const N: usize> {
-    array: Items<'a>,
+    bytes: &'a [u8],
     form: Form,
     run: Run,
     ghost width: { form.width ≡ N },
-    ghost words: { AreWords form array.descr.now },
-    ghost lies: { LiesIn array run },
+    ghost few: { (1 ≤ N) × (N ≤ 8) },
+    ghost lies: { LiesIn bytes.now form.width run },
 }
 
 impl<const N: usize> Integral for Words<'_, N> {
-    ghost numbers = { λ words. numbers_along words.array words.run };
+    ghost numbers = { λ words. words_along words.form words.bytes.now words.run };
 
     #[inline(always)]
     fn place(&self, k: usize, n: usize) -> (bool, u32) {
-        let at = self.run.offset_after(k);
-        let item = array_at::<N>(self.array.block.bytes(), at);
+        let item = array_at::<N>(self.bytes, self.run.offset_after(k));
         word_place::<N>(self.form, &item, n)
     }
 }
@@ -156,10 +155,10 @@ impl<const N: usize> Integral for Words<'_, N> {
 /// Writes the indexes that integers stand for on an axis of `n` items, and returns whether all are
 /// in range. All integers are visited, which is faster than stopping at the first that is out of
 /// range.
-fn put_places<R: Integral>(places: &mut [u32], integers: &R, n: usize) -> bool
+fn put_places<R: Integral>(places: &mut [u32], integers: R, n: usize) -> bool
     requires small { n ≤ max_items }
-    requires many { length places.old ≡ length (R.numbers integers.now) }
-    ensures { ArePlaces n (R.numbers integers.now) result places.new }
+    requires many { length places.old ≡ length (R.numbers integers) }
+    ensures { ArePlaces n (R.numbers integers) result places.new }
 {
     let mut are = true;
     for k in 0..places.len() {
@@ -177,25 +176,50 @@ fn is_native(form: Form, run: Run) -> bool
     form.signed && form.order == Order::Little && run.is_packed(form.width)
 }
 
-/// Writes the indexes that a run of an array's integers stands for on an axis of `n` items, and
-/// returns whether all are in range. Adjacent integers in the machine's byte order are read as
-/// numbers.
-fn put_run(places: &mut [u32], array: Items<'_>, form: Form, run: Run, n: usize) -> bool
+/// Writes the indexes that a run of integers stands for on an axis of `n` items, and returns whether
+/// all are in range. Adjacent integers in the machine's byte order are read as numbers.
+fn put_run<const N: usize>(
+    places: &mut [u32],
+    block: &RawBlock,
+    form: Form,
+    run: Run,
+    n: usize,
+) -> bool
+    requires few { (1 ≤ N) × (N ≤ 8) }
+    requires width { form.width ≡ N }
+    requires small { n ≤ max_items }
+    requires lies { LiesIn block.now form.width run }
+    requires many { length places.old ≡ length (words_along form block.now run) }
+    ensures { ArePlaces n (words_along form block.now run) result places.new }
+{
+    let bytes = block.bytes();
+    match (N, is_native(form, run)) {
+        (4, true) => put_places(places, block.run_i32(run.offset, run.count), n),
+        (8, true) => put_places(places, block.run_i64(run.offset, run.count), n),
+        _ => put_places(places, Words::<N> { bytes, form, run }, n),
+    }
+}
+
+/// Writes the indexes that the integers of an array, of `N` bytes, stand for on an axis of `n`
+/// items, and returns whether all are in range. It has registers of its own, so it is not inlined.
+#[inline(never)]
+fn put_all<const N: usize>(places: &mut [u32], array: Items<'_>, form: Form, n: usize) -> bool
+    requires few { (1 ≤ N) × (N ≤ 8) }
+    requires width { form.width ≡ N }
     requires small { n ≤ max_items }
     requires words { AreWords form array.descr.now }
-    requires lies { LiesIn array run }
-    requires many { length places.old ≡ length (numbers_along array run) }
-    ensures { ArePlaces n (numbers_along array.entry run) result places.new }
+    requires many { length places.old ≡ count array.layout.now.shape }
+    ensures { ArePlaces n (numbers_in array.entry) result places.new }
 {
-    let Run { offset, count, .. } = run;
-    match (form.width, is_native(form, run)) {
-        (4, true) => put_places(places, &array.block.run_i32(offset, count), n),
-        (8, true) => put_places(places, &array.block.run_i64(offset, count), n),
-        (1, _) => put_places(places, &Words::<1> { array, form, run }, n),
-        (2, _) => put_places(places, &Words::<2> { array, form, run }, n),
-        (4, _) => put_places(places, &Words::<4> { array, form, run }, n),
-        _ => put_places(places, &Words::<8> { array, form, run }, n),
+    let _items = array.layout.shape.items();
+    let mut are = true;
+    let mut at = 0;
+    for run in Runs::new(array.layout) {
+        let end = at + run.count;
+        are = are & put_run::<N>(&mut places[at..end], array.block, form, run, n);
+        at = end;
     }
+    are
 }
 
 /// The indexes that the integers of an array stand for on an axis of `n` items, or the refusal of
@@ -208,13 +232,12 @@ pub(crate) fn places(alloc: Global, array: Items<'_>, n: usize) -> Result<Vec<u3
     let form = form_of(array);
     let mut places = vec![in alloc; 0u32; array.layout.shape.items()]?;
     let slots = places.as_mut_slice();
-    let mut are = true;
-    let mut at = 0;
-    for run in Runs::new(array.layout) {
-        let end = at + run.count;
-        are = are & put_run(&mut slots[at..end], array, form, run, n);
-        at = end;
-    }
+    let are = match form.width {
+        1 => put_all::<1>(slots, array, form, n),
+        2 => put_all::<2>(slots, array, form, n),
+        4 => put_all::<4>(slots, array, form, n),
+        _ => put_all::<8>(slots, array, form, n),
+    };
     if !are {
         return Err(Refusal::IndexOutOfRange);
     }

@@ -1,7 +1,7 @@
 -- Integers by the bytes that they stand in.
 use Rattle.std.specs.Prelude.{◌≡◌, ◌+◌, ◌≤◌, ◌==◌, ◌||◌, ℕ, Bool, true, IsTrue, ℤ, pos, List, [], ◌∷◌, map, length, All}
 use Rattle.std.specs.List.{list_all}
-use Rattle.fancy_index.specs.Words.{Descr, Little, integer, number_in, item_size, item_at, LieWithin, max_items, max_bytes, Run, run_offsets, is_place, Items}
+use Rattle.fancy_index.specs.Words.{Descr, Little, integer, number_in, item_size, item_at, LieWithin, max_items, max_bytes, Run, run_offsets, is_place}
 use Rattle.fancy_index.specs.Sources.{number_from}
 use Rattle.fancy_index.specs.declared.positions.Form.{Form}
 use Rattle.fancy_index.specs.inside.PointLists.{place_of}
@@ -10,9 +10,13 @@ use Rattle.fancy_index.specs.inside.PointLists.{place_of}
 abbrev pub word : Form → List ℕ → ℤ
 word form item = integer form.signed form.width (number_in form.order form.width item)
 
--- items of this type are integers of this form, of 1, 2, 4 or 8 bytes
+-- a number of bytes that an integer may have
+abbrev pub is_word_width : ℕ → Bool
+is_word_width width = width == 1 || width == 2 || width == 4 || width == 8
+
+-- items of this type are integers of this form
 pub record AreWords (form : Form) (descr : Descr) : Type 0 where
-  pub width : IsTrue (form.width == 1 || form.width == 2 || form.width == 4 || form.width == 8)
+  pub width : IsTrue (is_word_width form.width)
   pub size : item_size descr ≡ form.width
   pub read : (block : List ℕ) (offset : ℕ) → number_from descr block offset ≡ word form (item_at offset form.width block)
 
@@ -22,16 +26,16 @@ pub record IsNative (form : Form) (run : Run) : Type 0 where
   pub order : form.order ≡ Little
   pub step : run.step ≡ pos form.width
 
--- the numbers of a run of an array's items
-abbrev pub numbers_along : Items → Run → List ℤ
-numbers_along array run = map (number_from array.descr.now array.block.now) (run_offsets run)
+-- the integers of a run of items
+abbrev pub words_along : Form → List ℕ → Run → List ℤ
+words_along form block run = map (λ offset. word form (item_at offset form.width block)) (run_offsets run)
 
--- a run of items that lie in the array's block
-pub record LiesIn (array : Items) (run : Run) : Type 0 where
+-- a run of items of `width` bytes that lie in a block
+pub record LiesIn (block : List ℕ) (width : ℕ) (run : Run) : Type 0 where
   pub some : 1 ≤ run.count
   pub few : run.count ≤ max_items
   pub limit : LieWithin (run.count ∷ []) (run.step ∷ []) run.offset max_bytes 1
-  pub ends : All (λ offset. offset + item_size array.descr.now ≤ length array.block.now) (run_offsets run)
+  pub ends : All (λ offset. offset + width ≤ length block) (run_offsets run)
 
 -- whether a number names one of n places, and if so, that place
 abbrev pub IsPlaceOf : ℕ → ℤ → Bool × ℕ → Type 0

@@ -21,7 +21,7 @@ loop-run-init c =
     let are = c.into_iter-run-iterator.ensures.into_iter_gives ∙ ens.runs in
     let all : flat_map run_offsets c.into_iter-run-iterator.result ≡ offsets mask.layout.now = ap (flat_map run_offsets) are ∙ ens.offsets in
     record {
-      lies = subst (All (LiesIn mask)) (sym are) (runs-lie mask _ (omega (arith, c.items-items.ensures.value, c.items-items.ensures.limit)) ens.offsets ens.some (ens.lie max_bytes 1 (search rules)));
+      lies = subst (All (LiesIn mask.block.now (item_size mask.descr.now))) (sym are) (runs-lie mask _ (omega (arith, c.items-items.ensures.value, c.items-items.ensures.limit)) ens.offsets ens.some (ens.lie max_bytes 1 (search rules)));
       few = omega (arith, ap length all, length-offsets mask.layout.now, c.items-items.ensures.value, c.items-items.ensures.limit);
       left = λ i. c.new-ranks.ensures.items i ++ true_ranks 0 (map (bool_at mask.block.now) (all i));
     }
@@ -29,7 +29,7 @@ loop-run-init c =
 pub push_true-requires : goal.push_true-requires
 push_true-requires c =
     let mask = c.args.mask in
-    let here = (subst (All (LiesIn mask)) c.in-Some.ensures.steps c.loop-run.invariant.lies) 0 c.in-Some.run' (omega arith) in
+    let here = (subst (All (LiesIn mask.block.now (item_size mask.descr.now))) c.in-Some.ensures.steps c.loop-run.invariant.lies) 0 c.in-Some.run' (omega arith) in
     let size = ap item_size (mask-bool mask.descr.now mask.layout.now.shape c.requires.kind) in
     record {
       few = omega (arith, long (goal.at.push_true-requires c).In-Some);
@@ -46,7 +46,7 @@ loop-run-preserved c =
     let steps = c.in-Some.ensures.steps in
     let later = true_ranks (c.loop-run.rank + run.count) (map (bool_at c.args.mask.block.now) (flat_map run_offsets c.next.new.self)) in
     record {
-      lies = All-rest (LiesIn c.args.mask) _ _ _ steps c.loop-run.invariant.lies;
+      lies = All-rest (LiesIn c.args.mask.block.now (item_size c.args.mask.descr.now)) _ _ _ steps c.loop-run.invariant.lies;
       few = long (goal.at.loop-run-preserved c).In-Some;
       left = found_added c.loop-run.ranks.items _ _ _ _ _ c.in_ok-push_true.ensures
           ((λ i. true_ranks c.loop-run.rank (map (bool_at (c.bytes-bytes.ensures i)) (run_offsets run)) ++ later) ∙ run_noted (bool_at c.args.mask.block.now) run _ _ c.loop-run.rank steps)

@@ -1,6 +1,6 @@
 use Rattle.std.proofs.Common.{◌≡◌, ◌+◌, ◌≤◌, ◌++◌, length, map, All}
 use Rattle.std.specs.List.{flat_map}
-use Rattle.fancy_index.specs.Words.{offsets, max_items, run_offsets}
+use Rattle.fancy_index.specs.Words.{item_size, offsets, max_items, run_offsets}
 use Rattle.fancy_index.specs.inside.Bools.{bool_at}
 use Rattle.fancy_index.specs.inside.PointLists.{true_ranks}
 use Rattle.fancy_index.specs.inside.Words.{LiesIn}
@@ -8,7 +8,7 @@ use Rattle.fancy_index.proofs.masks.ranks_in.Given as goal
 
 abbrev pub invariant-loop-run : goal.invariant-loop-run
 invariant-loop-run l = record {
-  lies : All (LiesIn l.mask) l.run-iterator;
+  lies : All (LiesIn l.mask.block.now (item_size l.mask.descr.now)) l.run-iterator;
   few : l.rank + length (flat_map run_offsets l.run-iterator) ≤ max_items;
   left : l.ranks.items ++ true_ranks l.rank (map (bool_at l.mask.block.now) (flat_map run_offsets l.run-iterator)) ≡ true_ranks 0 (map (bool_at l.mask.block.now) (offsets l.mask.layout.now));
 }
