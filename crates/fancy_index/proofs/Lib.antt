@@ -5,10 +5,8 @@ pub mod RunLaws
 pub mod Passes
 pub mod GatherLaws
 pub mod SingleLaws
-pub mod SourceLaws
 pub mod NumberLoops
 pub mod WordLaws
-pub mod PushedLaws
 pub mod BoolLaws
 pub mod PointLaws
 pub mod PartLaws

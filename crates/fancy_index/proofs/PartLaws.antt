@@ -1,9 +1,9 @@
 -- The parts that items come to, item by item.
 use Rattle.std.proofs.Common.{◌≡◌, inl, inr, Ok, is_ok, ℕ, ◌+◌, ℤ, ◌<◌, ◌≤◌, Bool, true, false, ◌&&◌, List, [], ◌∷◌, ◌++◌, map, length, get_or, take, refl, sym, ap, subst, ◌∙◌, arith, append_assoc, append-nil}
 use Rattle.std.specs.List.{list_all, flat_map}
-use Rattle.std.proofs.Math.Bool.{and-true, and-false}
+use Rattle.std.proofs.Math.Bool.{and-true, and_assoc}
 use Rattle.std.proofs.lemmas.Bool.{and_parts, false≢true}
-use Rattle.std.proofs.lemmas.List.{map-append, take_all}
+use Rattle.std.proofs.lemmas.List.{map-append}
 use Rattle.std.proofs.lemmas.List.Folds.{list_all-append, list_all_at, list_all_more}
 use Rattle.fancy_index.specs.Words.{Refusal, IndexOutOfRange, check, IndexItem, Integer, AxisPick, is_place, whole, has_step, pick_shown, ArePicks}
 use Rattle.view_ops.specs.declared.picks.AxisPick.TheVariants.{At as AtAxis, Along as AlongAxis, New as NewAxis}
@@ -16,7 +16,6 @@ use Rattle.fancy_index.specs.inside.Lists.{IsNext}
 use Rattle.fancy_index.specs.inside.Items.{IsOutside}
 use Rattle.fancy_index.specs.inside.PointLists.{place_of, ranks_of, are_named, IsPart}
 use Rattle.fancy_index.proofs.PointLaws.{integer-part}
-use Rattle.fancy_index.proofs.WordLaws.{and_assoc}
 use Rattle.fancy_index.specs.inside.PartLists.{IsChecked, shown_part, is_named, all_named, AreParts, AddsParts}
 
 -- ---- parts of axes
@@ -129,10 +128,6 @@ module _ (shape axes axes' taken : List ℕ) (items left left' : List (IndexItem
             ∙ sym (λ i. map shown_part done ++ (flat_map (λ p. parts_of p.axes p.item) (next.placed i) ++ wholes (next.over i)))
             ∙ have.show all;
       }
-
-  -- a refusal of the next item is one of all
-  pub outside_more : (e : Refusal) → IsOutside (is_within taken item) e → IsOutside (are_within shape items) e
-  outside_more e outside = outside-by (is_within taken item) (are_within shape items) e (λ fails. sym tested ∙ ap (λ b. all_named done && (b && are_within axes' left')) fails ∙ and-false (all_named done)) outside
 
 -- ---- what a test says
 

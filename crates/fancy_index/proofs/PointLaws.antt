@@ -12,8 +12,8 @@ use lib.IntN.{ℤ, pos}
 use Rattle.fancy_index.specs.Words.{Refusal, Gives, count, indexes, rank, get_or-indexes, length-indexes, axis_below, from_front, is_place}
 use Rattle.fancy_index.specs.declared.points.PointList.{PointList}
 use Rattle.fancy_index.specs.declared.index_parts.Kind.{Kind}
-use Rattle.fancy_index.specs.declared.index_parts.Kind.TheVariants.{Integers, Mask, NoIndex}
-use Rattle.fancy_index.specs.IndexArrays.{axes_of_kind, covers_kind, are_places}
+use Rattle.fancy_index.specs.declared.index_parts.Kind.TheVariants.{Integers, Mask}
+use Rattle.fancy_index.specs.IndexArrays.{covers_kind, are_places}
 use Rattle.fancy_index.specs.Parts.{Points, true_indexes, point_at, points_of}
 use Rattle.fancy_index.specs.inside.PointLists.{place_of, named_places, rank_on, HavePlaces, true_ranks, tuple, ranks_of, are_named, IsPart}
 use Rattle.fancy_index.proofs.WordLaws.{places-named}
@@ -153,24 +153,15 @@ pub part-of_mask : (k : Kind) (axes shape : List ℕ) (numbers : List ℤ) (p : 
 part-of_mask k axes shape numbers p is covers many lengths axes_are named ranks =
     subst (λ k. IsPart axes (are_places k axes numbers) p (points_of k axes shape numbers)) (sym is) (mask-part axes shape numbers p (sym (ap (λ k. covers_kind k shape axes) is) ∙ covers) many lengths axes_are named ranks)
 
-pub part-of_integers : (k : Kind) (axes shape : List ℕ) (numbers : List ℤ) (p : PointList) (n : ℕ) → (k ≡ NoIndex → ⊥) → (k ≡ Mask → ⊥) → length axes ≡ axes_of_kind k shape → HavePlaces n numbers → length numbers ≡ count shape → n ≡ get_or axes 0 0 →
-    p.lengths.items ≡ shape → p.axes.items ≡ n ∷ [] → are_named p.ranks ≡ list_all (is_place n) numbers → ranks_of p.ranks ≡ map (rank_on n) numbers → IsPart axes (are_places k axes numbers) p (points_of k axes shape numbers)
-part-of_integers NoIndex axes shape numbers p n index mask one have many first lengths axes_are named ranks = absurd (index refl)
-part-of_integers Mask axes shape numbers p n index mask one have many first lengths axes_are named ranks = absurd (mask refl)
-part-of_integers Integers [] shape numbers p n index mask one have many first lengths axes_are named ranks = absurd (omega arith)
-part-of_integers Integers (m ∷ m' ∷ axes) shape numbers p n index mask one have many first lengths axes_are named ranks = absurd (omega arith)
-part-of_integers Integers (m ∷ []) shape numbers p n index mask one have many first lengths axes_are named ranks =
+-- an array of integers has one axis
+pub part-of_integers : (axes shape : List ℕ) (numbers : List ℤ) (p : PointList) (n : ℕ) → length axes ≡ 1 → HavePlaces n numbers → length numbers ≡ count shape → n ≡ get_or axes 0 0 →
+    p.lengths.items ≡ shape → p.axes.items ≡ n ∷ [] → are_named p.ranks ≡ list_all (is_place n) numbers → ranks_of p.ranks ≡ map (rank_on n) numbers → IsPart axes (are_places Integers axes numbers) p (points_of Integers axes shape numbers)
+part-of_integers [] shape numbers p n one have many first lengths axes_are named ranks = absurd (omega (arith, one))
+part-of_integers (m ∷ m' ∷ axes) shape numbers p n one have many first lengths axes_are named ranks = absurd (omega (arith, one))
+part-of_integers (m ∷ []) shape numbers p n one have many first lengths axes_are named ranks =
     integers-part m shape numbers p (subst (λ n. HavePlaces n numbers) first have) many lengths (axes_are ∙ ap (λ n. n ∷ []) first) (named ∙ ap (λ n. list_all (is_place n) numbers) first) (ranks ∙ ap (λ n. map (rank_on n) numbers) first)
 
--- an axis for an array of integers
-pub one_axis : (k : Kind) (axes shape : List ℕ) → (k ≡ NoIndex → ⊥) → (k ≡ Mask → ⊥) → length axes ≡ axes_of_kind k shape → 0 < length axes
-one_axis NoIndex axes shape index mask one = absurd (index refl)
-one_axis Mask axes shape index mask one = absurd (mask refl)
-one_axis Integers axes shape index mask one = omega arith
-
 -- its numbers are tested against that axis
-pub places_tested : (k : Kind) (axes shape : List ℕ) (numbers : List ℤ) (n : ℕ) → (k ≡ NoIndex → ⊥) → (k ≡ Mask → ⊥) → length axes ≡ axes_of_kind k shape → n ≡ get_or axes 0 0 → are_places k axes numbers ≡ list_all (is_place n) numbers
-places_tested NoIndex axes shape numbers n index mask one first = absurd (index refl)
-places_tested Mask axes shape numbers n index mask one first = absurd (mask refl)
-places_tested Integers [] shape numbers n index mask one first = absurd (omega arith)
-places_tested Integers (m ∷ axes) shape numbers n index mask one first = ap (λ n. list_all (is_place n) numbers) (sym first)
+pub places_tested : (axes : List ℕ) (numbers : List ℤ) (n : ℕ) → length axes ≡ 1 → n ≡ get_or axes 0 0 → are_places Integers axes numbers ≡ list_all (is_place n) numbers
+places_tested [] numbers n one first = absurd (omega (arith, one))
+places_tested (m ∷ axes) numbers n one first = ap (λ n. list_all (is_place n) numbers) (sym first)

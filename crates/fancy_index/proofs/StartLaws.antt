@@ -1,5 +1,5 @@
 -- Sums over parts are the offsets of the first items.
-use Rattle.std.proofs.Common.{◌≡◌, inl, ℕ, ◌+◌, ◌<◌, ◌≤◌, ◌≤ℤ◌, true, List, [], ◌∷◌, ◌++◌, map, length, get_or, take, drop, All, refl, sym, ap, subst, ◌∙◌, arith, length-append, append_assoc, append-nil}
+use Rattle.std.proofs.Common.{◌≡◌, ℕ, ◌+◌, ◌<◌, ◌≤◌, ◌≤ℤ◌, true, List, [], ◌∷◌, ◌++◌, map, length, get_or, take, drop, All, refl, sym, ap, subst, ◌∙◌, arith, length-append, append_assoc, append-nil}
 use Rattle.std.proofs.Math.Seq.{take-append_seam}
 use Rattle.std.proofs.lemmas.Int.{ints}
 use Rattle.std.proofs.lemmas.Grind.{flat_map-append}
@@ -225,9 +225,6 @@ module _ (layout : Layout) (parts : List IndexPart) (lengths : List ℕ) (ready 
         let adds = along-adds layout p.axes.items front (point_of p at) back axis (front-length k r below ∙ sym axes) (point-length at p has) in
         further _ _ _ start _ (ap (address layout) (next k r (PointsPart p) low is) ∙ adds ∙ ap (λ l. address layout l +ℤ dot (strides_along layout axis p.axes.items) (point_of p at)) (sym (here k r (PointsPart p) low is)))
         (pos-along layout axis start p.axes.items begin (point_number lengths p.lengths.items (ranks_of p.ranks) r) (point-low at p 0 has))
-
-    pub sums_none : AreSums layout parts lengths start [] 0 0
-    sums_none = record { many = inl refl; axes = refl; each = λ r low. ap natural start-is }
 
     module _ (k axis : ℕ) (part : IndexPart) (below : k < length parts) (is : get_or parts k part ≡ part) (begin : BeginsAt layout axis start part) (shifts : List ℕ) (sums : AreSums layout parts lengths start shifts k axis) where
       sum-is : (r : ℕ) → r < count lengths → address layout (partly parts (k + 1) (tuple lengths r)) +ℤ pos start ≡ pos (get_or shifts r start) +ℤ pos (part_offset layout axis start lengths part r)

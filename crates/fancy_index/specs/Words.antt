@@ -1,13 +1,13 @@
 -- The words of the crates below, for this crate's clauses, definitions and proofs.
 pub use Rattle.elem_descr.specs.Blocks.{item_from}
-pub use Rattle.elem_descr.specs.Encoding.{decode, integer, number_in, number_of, size, truth}
+pub use Rattle.elem_descr.specs.Encoding.{integer, number_in, number_of, truth}
 pub use Rattle.elem_descr.specs.IndexItems.{is_ellipsis}
 pub use Rattle.elem_descr.specs.Items.{decode_item, item_size}
 pub use Rattle.elem_descr.specs.ListLaws.{flat_map-flat_map, flat_map_same, map-flat_map}
 pub use Rattle.elem_descr.specs.ListLaws.{slice-rest}
 pub use Rattle.elem_descr.specs.Refusals.{Gives, check, ◌>>=◌}
 unfoldable pub use Rattle.elem_descr.specs.Steps.{stepped}
-pub use Rattle.elem_descr.specs.Values.{LeafValue, number}
+pub use Rattle.elem_descr.specs.Values.{LeafValue}
 pub use Rattle.elem_descr.specs.declared.descr.Descr.{Descr}
 pub use Rattle.elem_descr.specs.declared.index_item.IndexItem.{IndexItem}
 pub use Rattle.elem_descr.specs.declared.index_item.IndexItem.TheVariants.{Array, Ellipsis, Integer}
@@ -20,10 +20,9 @@ pub use Rattle.elem_descr.specs.declared.refusal.Refusal.TheVariants.{OutOfMemor
 pub use Rattle.elem_descr.specs.declared.refusal.Refusal.TheVariants.{TooManyAxes, TooManyIndices}
 pub use Rattle.elem_descr.specs.declared.refusal.Refusal.TheVariants.{ZeroStep}
 pub use Rattle.elem_descr.specs.declared.scalar.Order.TheVariants.{Little}
-pub use Rattle.elem_descr.specs.declared.scalar.Scalar.{Scalar}
 pub use Rattle.elem_descr.specs.declared.scalar.Scalar.TheVariants.{Byte, Bytes, Int}
 pub use Rattle.raw_block.specs.Bytes.{EachWithin, filled, item_at, joined, place, position, put}
-pub use Rattle.raw_block.specs.BytesLaws.{fewer, length-item_at, not_negative}
+pub use Rattle.raw_block.specs.BytesLaws.{fewer, not_negative}
 pub use Rattle.raw_block.specs.NumberRuns.{signed_number}
 pub use Rattle.shape_strides.specs.Addresses.{LieWithin, address_at, dot, natural}
 pub use Rattle.shape_strides.specs.AxisIndexes.{zero_filled}

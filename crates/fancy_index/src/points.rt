@@ -5,7 +5,7 @@ ghost use Rattle.fancy_index.specs.Indexed.{as_index_shapes, points_shape};
 ghost use Rattle.fancy_index.specs.Parts.{parts_of, shapes_of_part};
 ghost use Rattle.fancy_index.specs.Sources.{index_array_of};
 ghost use Rattle.fancy_index.specs.Words.{Gives, common_with, is_place, max_items};
-ghost use Rattle.fancy_index.specs.declared.index_parts.Kind.TheVariants.{Mask, NoIndex};
+ghost use Rattle.fancy_index.specs.declared.index_parts.Kind.TheVariants.{Integers, Mask, NoIndex};
 ghost use Rattle.fancy_index.specs.inside.Items.{IsOutside, IsWithin, array_item, kind_in, numbers_in};
 ghost use Rattle.fancy_index.specs.inside.PartLists.{shown_part};
 ghost use Rattle.fancy_index.specs.inside.PointLists.{HavePlaces, IsPart, are_named, place_of, rank_on, ranks_of, true_ranks};
@@ -83,7 +83,7 @@ pub(crate) fn integer_point(
 /// the axis is empty, any number is refused.
 fn integer_points<'a>(alloc: Global, n: usize, array: Items<'a>) -> Result<PointList<'a>, Refusal>
     requires small { n ≤ max_items }
-    requires kind { kind_in array ≢ NoIndex }
+    requires kind { kind_in array ≡ Integers }
     ensures places { IfOk result (λ _. HavePlaces n (numbers_in array.entry)) }
     ensures lengths { IfOk result (λ p. p.lengths.items ≡ (index_array_of array.entry).shape) }
     ensures axes { IfOk result (λ p. p.axes.items ≡ n ∷ []) }
@@ -139,7 +139,8 @@ pub(crate) fn array_points<'a>(
 {
     match kind(array) {
         Kind::Mask => Ok(mask_points(alloc, array)?),
-        _ => Ok(integer_points(alloc, axes[0], array)?),
+        Kind::Integers => Ok(integer_points(alloc, axes[0], array)?),
+        Kind::NoIndex => unreachable!(),
     }
 }
 

@@ -1,46 +1,46 @@
 -- Integers by the bytes that they stand in.
-use Rattle.std.specs.Prelude.{◌≡◌, ℕ, ◌+◌, ◌<◌, ◌≤◌, Bool, true, ◌&&◌, ℤ, pos, List, [], ◌∷◌, ◌++◌, map, length, get_or, drop, All}
+use Rattle.std.specs.Prelude.{◌≡◌, ◌+◌, ◌≤◌, ◌==◌, ◌||◌, ℕ, Bool, true, IsTrue, ℤ, pos, List, [], ◌∷◌, map, length, All}
 use Rattle.std.specs.List.{list_all}
-use Rattle.fancy_index.specs.Words.{Descr, Little, integer, number_in, truth, item_size, item_at, LieWithin, max_items, max_bytes, Run, run_offsets, is_place}
+use Rattle.fancy_index.specs.Words.{Descr, Little, integer, number_in, item_size, item_at, LieWithin, max_items, max_bytes, Run, run_offsets, is_place}
 use Rattle.fancy_index.specs.Sources.{number_from}
-use Rattle.fancy_index.specs.declared.positions.Reading.{Reading}
-use Rattle.fancy_index.specs.declared.positions.Spread.{Spread}
+use Rattle.fancy_index.specs.declared.positions.Form.{Form}
 use Rattle.fancy_index.specs.inside.PointLists.{place_of}
 
--- the integer in `width` bytes
-abbrev pub word : Reading → ℕ → List ℕ → ℤ
-word reading width item = integer reading.signed width (number_in reading.order width item)
+-- the integer in the bytes of an item
+abbrev pub word : Form → List ℕ → ℤ
+word form item = integer form.signed form.width (number_in form.order form.width item)
 
--- the integers of items at equal steps
-abbrev pub spread_numbers : Reading → ℕ → Spread → List ℤ
-spread_numbers reading width items = map (λ offset. word reading width (item_at offset width items.block.now)) (run_offsets items.run)
+-- a number of bytes that an integer may have
+abbrev pub is_word_width : ℕ → Bool
+is_word_width width = width == 1 || width == 2 || width == 4 || width == 8
 
--- items of this type are integers of `width` bytes, and read like this
-pub record AreWords (reading : Reading) (width : ℕ) (descr : Descr) : Type 0 where
-  pub size : item_size descr ≡ width
-  pub few : width ≤ 8
-  pub read : (block : List ℕ) (offset : ℕ) → number_from descr block offset ≡ word reading width (item_at offset width block)
+-- items of this type are integers of this form
+pub record AreWords (form : Form) (descr : Descr) : Type 0 where
+  pub width : IsTrue (is_word_width form.width)
+  pub size : item_size descr ≡ form.width
+  pub read : (block : List ℕ) (offset : ℕ) → number_from descr block offset ≡ word form (item_at offset form.width block)
 
 -- little-endian integers with a sign, one right after another
-pub record IsNative (reading : Reading) (width : ℕ) (run : Run) : Type 0 where
-  pub signed : reading.signed ≡ true
-  pub order : reading.order ≡ Little
-  pub step : run.step ≡ pos width
+pub record IsNative (form : Form) (run : Run) : Type 0 where
+  pub signed : form.signed ≡ true
+  pub order : form.order ≡ Little
+  pub step : run.step ≡ pos form.width
 
--- items of `width` bytes that lie in their block
-pub record IsSpread (width : ℕ) (items : Spread) : Type 0 where
-  pub some : 1 ≤ items.run.count
-  pub few : items.run.count ≤ max_items
-  pub limit : LieWithin (items.run.count ∷ []) (items.run.step ∷ []) items.run.offset max_bytes 1
-  pub ends : All (λ offset. offset + width ≤ length items.block.now) (run_offsets items.run)
+-- the integers of a run of items
+abbrev pub words_along : Form → List ℕ → Run → List ℤ
+words_along form block run = map (λ offset. word form (item_at offset form.width block)) (run_offsets run)
 
--- whether each of the first k numbers names one of n places is known, and if so, these stand in a list as long as the numbers
-pub record ArePlacesTo (n k : ℕ) (are : Bool) (numbers : List ℤ) (places : List ℕ) : Type 0 where
-  pub many : length places ≡ length numbers
-  pub done : are ≡ true → (j : ℕ) → j < k → get_or places j 0 ≡ place_of n (get_or numbers j (pos 0))
-  pub left : (are && list_all (is_place n) (drop k numbers)) ≡ list_all (is_place n) numbers
+-- a run of items of `width` bytes that lie in a block
+pub record LiesIn (block : List ℕ) (width : ℕ) (run : Run) : Type 0 where
+  pub some : 1 ≤ run.count
+  pub few : run.count ≤ max_items
+  pub limit : LieWithin (run.count ∷ []) (run.step ∷ []) run.offset max_bytes 1
+  pub ends : All (λ offset. offset + width ≤ length block) (run_offsets run)
 
--- the places that numbers name were added to others, but for the numbers that are left
-pub record ArePushed (n : ℕ) (left numbers : List ℤ) (before places : List ℕ) : Type 0 where
-  pub within : list_all (is_place n) left ≡ list_all (is_place n) numbers
-  pub added : places ++ map (place_of n) left ≡ before ++ map (place_of n) numbers
+-- whether a number names one of n places, and if so, that place
+abbrev pub IsPlaceOf : ℕ → ℤ → Bool × ℕ → Type 0
+IsPlaceOf n number found = (found.0 ≡ is_place n number) × (found.0 ≡ true → found.1 ≡ place_of n number)
+
+-- whether all numbers name places of n, and if so, these places
+abbrev pub ArePlaces : ℕ → List ℤ → Bool → List ℕ → Type 0
+ArePlaces n numbers are places = (are ≡ list_all (is_place n) numbers) × (are ≡ true → places ≡ map (place_of n) numbers)

@@ -1,20 +1,16 @@
-use Rattle.std.proofs.Common.{rules, ◌≡◌, ◌+◌, ◌<◌, ◌≤◌, ℕ, List, [], ◌∷◌, ◌++◌, length, map, All, sym, ap, subst, ◌∙◌, arith, append-nil, length-append}
+use Rattle.std.proofs.Common.{rules, ◌≡◌, ◌+◌, ◌≤◌, ◌++◌, length, map, All, sym, ap, subst, ◌∙◌, arith, append-nil, length-append}
 use Rattle.std.specs.List.{flat_map}
 use Rattle.std.proofs.lemmas.List.Elements.{All-rest}
-use Rattle.fancy_index.specs.Words.{Descr, item_size, Run, LieWithin, max_bytes, max_items, offsets, length-offsets, run_offsets, length-run_offsets, All-front, All-back}
+use Rattle.fancy_index.specs.Words.{item_size, max_bytes, max_items, offsets, length-offsets, run_offsets, length-run_offsets}
 use Rattle.fancy_index.specs.inside.Bools.{bool_at}
 use Rattle.fancy_index.specs.inside.PointLists.{true_ranks}
+use Rattle.fancy_index.specs.inside.Words.{LiesIn}
 use Rattle.fancy_index.proofs.BoolLaws.{mask-bool, numbers-are, found_added, run_noted}
+use Rattle.fancy_index.proofs.WordLaws.{runs-lie}
 use Rattle.fancy_index.proofs.masks.ranks_in.Goals as goal
 use Rattle.fancy_index.proofs.masks.ranks_in.Goals.{In-Some}
 
 module _ (c : In-Some) where
-  abbrev lies-within : ℕ → Type 0
-  lies-within offset = offset < length c.args.mask.block.now
-
-  inside : All lies-within (run_offsets c.in-Some.run' ++ flat_map run_offsets c.next.new.self)
-  inside = subst (λ l. All lies-within (flat_map run_offsets l)) c.in-Some.ensures.steps c.loop-run.invariant.inside
-
   long : c.loop-run.rank + c.in-Some.run'.count + length (flat_map run_offsets c.next.new.self) ≤ max_items
   long = omega (arith, c.loop-run.invariant.few, ap (λ l. length (flat_map run_offsets l)) c.in-Some.ensures.steps, length-append (run_offsets c.in-Some.run') (flat_map run_offsets c.next.new.self), length-run_offsets c.in-Some.run')
 
@@ -24,22 +20,21 @@ loop-run-init c =
     let ens = c.new-run-items.ensures in
     let are = c.into_iter-run-iterator.ensures.into_iter_gives ∙ ens.runs in
     let all : flat_map run_offsets c.into_iter-run-iterator.result ≡ offsets mask.layout.now = ap (flat_map run_offsets) are ∙ ens.offsets in
-    let lies = subst (λ (d : Descr). All (λ offset. offset + item_size d ≤ length mask.block.now) (offsets mask.layout.now)) (mask-bool mask.descr.now mask.layout.now.shape c.requires.kind) mask.inside in
     record {
-      lie = subst (All (λ (run : Run). LieWithin (run.count ∷ []) (run.step ∷ []) run.offset max_bytes 1)) (sym are) (ens.lie max_bytes 1 (search rules));
+      lies = subst (All (LiesIn mask.block.now (item_size mask.descr.now))) (sym are) (runs-lie mask _ (omega (arith, c.items-items.ensures.value, c.items-items.ensures.limit)) ens.offsets ens.some (ens.lie max_bytes 1 (search rules)));
       few = omega (arith, ap length all, length-offsets mask.layout.now, c.items-items.ensures.value, c.items-items.ensures.limit);
-      inside = subst (All (λ offset. offset < length mask.block.now)) (sym all) (λ k d below. omega (arith, lies k d below));
       left = λ i. c.new-ranks.ensures.items i ++ true_ranks 0 (map (bool_at mask.block.now) (all i));
     }
 
 pub push_true-requires : goal.push_true-requires
 push_true-requires c =
-    let now = (goal.at.push_true-requires c).In-Some in
-    let run = c.in-Some.run' in
+    let mask = c.args.mask in
+    let here = (subst (All (LiesIn mask.block.now (item_size mask.descr.now))) c.in-Some.ensures.steps c.loop-run.invariant.lies) 0 c.in-Some.run' (omega arith) in
+    let size = ap item_size (mask-bool mask.descr.now mask.layout.now.shape c.requires.kind) in
     record {
-      few = omega (arith, long now);
-      limit = (subst (All (λ (run : Run). LieWithin (run.count ∷ []) (run.step ∷ []) run.offset max_bytes 1)) c.in-Some.ensures.steps c.loop-run.invariant.lie) 0 run (omega arith);
-      inside = subst (λ (b : List ℕ). All (λ offset. offset < length b) (run_offsets run)) (sym c.bytes-bytes.ensures) (All-front (lies-within now) (run_offsets run) _ (inside now));
+      few = omega (arith, long (goal.at.push_true-requires c).In-Some);
+      limit = here.limit;
+      inside = λ k d below. omega (arith, here.ends k d below, size, ap length c.bytes-bytes.ensures);
     }
 
 pub overflow_add-rank : goal.overflow_add-rank
@@ -47,14 +42,12 @@ overflow_add-rank c = record { fits = omega (arith, long (goal.at.overflow_add-r
 
 pub loop-run-preserved : goal.loop-run-preserved
 loop-run-preserved c =
-    let now = (goal.at.loop-run-preserved c).In-Some in
     let run = c.in-Some.run' in
     let steps = c.in-Some.ensures.steps in
     let later = true_ranks (c.loop-run.rank + run.count) (map (bool_at c.args.mask.block.now) (flat_map run_offsets c.next.new.self)) in
     record {
-      lie = All-rest (λ (run : Run). LieWithin (run.count ∷ []) (run.step ∷ []) run.offset max_bytes 1) _ _ _ steps c.loop-run.invariant.lie;
-      few = long now;
-      inside = All-back (lies-within now) (run_offsets run) _ (inside now);
+      lies = All-rest (LiesIn c.args.mask.block.now (item_size c.args.mask.descr.now)) _ _ _ steps c.loop-run.invariant.lies;
+      few = long (goal.at.loop-run-preserved c).In-Some;
       left = found_added c.loop-run.ranks.items _ _ _ _ _ c.in_ok-push_true.ensures
           ((λ i. true_ranks c.loop-run.rank (map (bool_at (c.bytes-bytes.ensures i)) (run_offsets run)) ++ later) ∙ run_noted (bool_at c.args.mask.block.now) run _ _ c.loop-run.rank steps)
           c.loop-run.invariant.left;

@@ -1,14 +1,14 @@
-use Rattle.std.proofs.Common.{◌≡◌, ◌+◌, ◌<◌, ◌≤◌, [], ◌∷◌, ◌++◌, length, map, All}
+use Rattle.std.proofs.Common.{◌≡◌, ◌+◌, ◌≤◌, ◌++◌, length, map, All}
 use Rattle.std.specs.List.{flat_map}
-use Rattle.fancy_index.specs.Words.{LieWithin, offsets, max_bytes, max_items, run_offsets}
+use Rattle.fancy_index.specs.Words.{item_size, offsets, max_items, run_offsets}
 use Rattle.fancy_index.specs.inside.Bools.{bool_at}
 use Rattle.fancy_index.specs.inside.PointLists.{true_ranks}
+use Rattle.fancy_index.specs.inside.Words.{LiesIn}
 use Rattle.fancy_index.proofs.masks.ranks_in.Given as goal
 
 abbrev pub invariant-loop-run : goal.invariant-loop-run
 invariant-loop-run l = record {
-  lie : All (λ run. LieWithin (run.count ∷ []) (run.step ∷ []) run.offset max_bytes 1) l.run-iterator;
+  lies : All (LiesIn l.mask.block.now (item_size l.mask.descr.now)) l.run-iterator;
   few : l.rank + length (flat_map run_offsets l.run-iterator) ≤ max_items;
-  inside : All (λ offset. offset < length l.mask.block.now) (flat_map run_offsets l.run-iterator);
   left : l.ranks.items ++ true_ranks l.rank (map (bool_at l.mask.block.now) (flat_map run_offsets l.run-iterator)) ≡ true_ranks 0 (map (bool_at l.mask.block.now) (offsets l.mask.layout.now));
 }

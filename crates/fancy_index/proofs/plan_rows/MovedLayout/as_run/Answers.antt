@@ -1,7 +1,5 @@
-use Rattle.std.proofs.Common.{◌≡◌, ◌≤◌, ◌+◌, All, map, length, subst, sym, ap, ◌∙◌, arith}
-use Rattle.std.proofs.lemmas.List.{length-map}
-use Rattle.std.proofs.lemmas.List.Elements.{All-map}
-use Rattle.fancy_index.specs.Words.{count, length-offsets, length-run_offsets, max_bytes, offsets, run_offsets}
+use Rattle.std.proofs.Common.{◌≤◌, ◌+◌, All, map, length, subst, sym, ap, ◌∙◌, arith}
+use Rattle.fancy_index.specs.Words.{length-offsets, length-run_offsets, max_bytes, run_offsets}
 use Rattle.fancy_index.specs.inside.Moved.{IsMoved, moved_offset}
 use Rattle.fancy_index.proofs.Passes.{All-unmap}
 use Rattle.fancy_index.proofs.plan_rows.MovedLayout.as_run.Goals as goal

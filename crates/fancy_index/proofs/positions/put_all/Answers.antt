@@ -1,0 +1,66 @@
+use Rattle.std.proofs.Common.{rules, ◌≡◌, ◌+◌, ◌-◌, ◌++◌, ℕ, [], length, map, take, drop, All, refl, sym, ap, subst, ◌∙◌, arith, append_assoc, length-append}
+use lib.IntN.{ℤ}
+use Rattle.std.specs.List.{flat_map}
+use Rattle.std.proofs.lemmas.List.{map-append}
+use Rattle.std.proofs.lemmas.List.Elements.{All-rest}
+use Rattle.std.proofs.lemmas.Slice.{take-put_mid}
+use borrow.Rule.Slice.PartMut.{mid_len, same_len_mid}
+use Rattle.fancy_index.specs.Words.{item_size, length-offsets, offsets, run_offsets, length-run_offsets}
+use Rattle.fancy_index.specs.Sources.{number_from}
+use Rattle.fancy_index.specs.inside.Words.{words_along, LiesIn, ArePlaces}
+use Rattle.fancy_index.proofs.WordLaws.{runs-lie, length-words, more_places}
+use Rattle.fancy_index.proofs.positions.put_all.Goals as goal
+use Rattle.fancy_index.proofs.positions.put_all.Goals.{In-Some}
+
+module _ (g : _) (c : In-Some g) where
+  abbrev number : ℕ → ℤ
+  number = number_from c.args.array.descr.now c.args.array.block.now
+
+  left : c.loop-run.at + c.in-Some.run'.count + length (flat_map run_offsets c.next.new.self) ≡ length c.loop-run.places
+  left = omega (arith, c.loop-run.invariant.room, ap (λ l. length (flat_map run_offsets l)) c.in-Some.ensures.steps, length-append (run_offsets c.in-Some.run') (flat_map run_offsets c.next.new.self), length-run_offsets c.in-Some.run')
+
+  long : length (take (c.loop-run.at + c.in-Some.run'.count - c.loop-run.at) (drop c.loop-run.at c.loop-run.places)) ≡ c.in-Some.run'.count
+  long = mid_len c.loop-run.at (c.loop-run.at + c.in-Some.run'.count) c.loop-run.places (omega (arith, left)) ∙ omega arith
+
+pub loop-run-init : goal.loop-run-init
+loop-run-init g c =
+    let a = c.args.array in
+    let ens = c.new-run-items.ensures in
+    let are = c.into_iter-run-iterator.ensures.into_iter_gives ∙ ens.runs in
+    let all : flat_map run_offsets c.into_iter-run-iterator.result ≡ offsets a.layout.now = ap (flat_map run_offsets) are ∙ ens.offsets in
+    record {
+      lies = subst (All (LiesIn a.block.now (item_size a.descr.now))) (sym are) (runs-lie a _ (omega (arith, c.items-items.ensures.value, c.items-items.ensures.limit)) ens.offsets ens.some (ens.lie _ 1 (search rules)));
+      room = omega (arith, ap length all, c.requires.many, length-offsets a.layout.now);
+      read = ([], sym all, (refl, λ _. refl));
+    }
+
+pub slice_bounds-put_run-end : goal.slice_bounds-put_run-end
+slice_bounds-put_run-end g c = omega (arith, left g (goal.at.slice_bounds-put_run-end g c).In-Some)
+
+pub put_run-are-requires-clause-lies : goal.put_run-are-requires-clause-lies
+put_run-are-requires-clause-lies g c =
+    let words = c.requires.words in
+    subst (λ width. LiesIn c.args.array.block.now width c.in-Some.run') words.size ((subst (All (LiesIn c.args.array.block.now (item_size c.args.array.descr.now))) c.in-Some.ensures.steps c.loop-run.invariant.lies) 0 c.in-Some.run' (omega arith))
+
+pub put_run-are-requires-clause-many : goal.put_run-are-requires-clause-many
+put_run-are-requires-clause-many g c =
+    let now = (goal.at.put_run-are-requires-clause-many g c).In-Some in
+    long g now ∙ sym (length-words c.args.form c.args.array.block.now c.in-Some.run')
+
+pub loop-run-preserved : goal.loop-run-preserved
+loop-run-preserved g c =
+    let now = (goal.at.loop-run-preserved g c).In-Some in
+    let run = c.in-Some.run' in
+    let read = c.loop-run.invariant.read in
+    let same : words_along c.args.form c.args.array.block.now run ≡ map (number g now) (run_offsets run) = λ i. map (λ offset. sym (c.requires.words.read c.args.array.block.now offset) i) (run_offsets run) in
+    let put = subst (λ numbers. ArePlaces c.args.n numbers c.put_run-are.result c.put_run-are.new.places) same c.put_run-are.ensures in
+    record {
+      lies = All-rest (LiesIn c.args.array.block.now (item_size c.args.array.descr.now)) _ _ _ c.in-Some.ensures.steps c.loop-run.invariant.lies;
+      room = left g now ∙ sym (same_len_mid c.loop-run.at _ c.loop-run.places c.put_run-are.new.places c.put_run-are.auto.places);
+      read = (
+        read.0 ++ run_offsets run,
+        read.1 ∙ ap (λ l. read.0 ++ flat_map run_offsets l) c.in-Some.ensures.steps ∙ sym (append_assoc read.0 (run_offsets run) (flat_map run_offsets c.next.new.self)),
+        rw (map-append (number g now) read.0 (run_offsets run), take-put_mid c.loop-run.at _ c.loop-run.places c.put_run-are.new.places (c.loop-run.at + run.count) (omega (arith, c.put_run-are.auto.places, long g now)) (omega (arith, left g now)))
+            (more_places c.args.n (map (number g now) read.0) (map (number g now) (run_offsets run)) _ _ _ _ read.2 put),
+      );
+    }

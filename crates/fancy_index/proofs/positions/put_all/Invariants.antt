@@ -1,0 +1,14 @@
+use Rattle.std.proofs.Common.{◌≡◌, ◌+◌, ◌++◌, ℕ, List, length, map, take, All}
+use Rattle.std.specs.List.{flat_map}
+use Rattle.fancy_index.specs.Words.{item_size, offsets, run_offsets}
+use Rattle.fancy_index.specs.Sources.{number_from}
+use Rattle.fancy_index.specs.inside.Words.{LiesIn, ArePlaces}
+use Rattle.fancy_index.proofs.positions.put_all.Given as goal
+
+abbrev pub invariant-loop-run : goal.invariant-loop-run
+invariant-loop-run g l = record {
+  lies : All (LiesIn l.array.block.now (item_size l.array.descr.now)) l.run-iterator;
+  room : l.at + length (flat_map run_offsets l.run-iterator) ≡ length l.places;
+  read : (done : List ℕ) × (offsets l.array.layout.now ≡ done ++ flat_map run_offsets l.run-iterator)
+      × ArePlaces l.n (map (number_from l.array.descr.now l.array.block.now) done) l.are (take l.at l.places);
+}
