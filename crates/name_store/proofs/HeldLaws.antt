@@ -8,7 +8,6 @@ use Rattle.name_store.specs.View.{slot_at}
 use Rattle.name_store.specs.declared.slot.Slot.{Slot}
 use Rattle.name_store.specs.inside.Held.{IsLowest, stand}
 use Rattle.name_store.proofs.SlotLaws.{slot_at-set, slot_at-past, slot_at-within}
-use Rattle.name_store.proofs.NameLaws.{nat_itself}
 
 one-when : (t : Bool) (q n : ℕ) → nat_eq q n ≡ t → one_at q n ≡ cond t 1 0
 one-when t q n is = let flipped : nat_eq n q ≡ t = (nat_eq_equiv).symm n q ∙ is in λ i. cond (flipped i) 1 0
@@ -18,9 +17,6 @@ one-same = one-when true
 
 pub one-apart : (q n : ℕ) → nat_eq q n ≡ false → one_at q n ≡ 0
 one-apart = one-when false
-
-pub one-itself : (n : ℕ) → one_at n n ≡ 1
-one-itself n = one-same n n (nat_itself n)
 
 -- what holds at the slot that is set, and at all others
 pub set-case : (P : Option Slot → Option Slot → ℕ → Type 0) (slots : List (Option Slot)) (n : ℕ) (cell : Option Slot) → n < length slots → P cell (slot_at slots n) 1 → ((o : Option Slot) → P o o 0) →

@@ -26,8 +26,7 @@ pub mod ShareLaws
 pub mod WriteKept
 pub mod ExchangeLaws
 pub mod UndoLaws
-pub mod UndoFirst
-pub mod UndoRebinding
+pub mod UndoBinding
 pub mod UndoUnbinding
 pub mod UndoWrite
 mod Vectors

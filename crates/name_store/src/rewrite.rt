@@ -13,7 +13,7 @@ use crate::write::Target;
 use arrays::{gather, scatter};
 use overlap_copy::{assign, assign_from, assign_shifted, in_any_order};
 use raw_block::RawBlock;
-use shape_strides::{Layout, Runs, lies_in_c_order};
+use shape_strides::{Layout, Runs};
 use std::alloc::{AllocError, Global};
 
 /// Writes the bytes of an item at the offsets of runs.
@@ -40,24 +40,8 @@ fn fill_each(block: &mut RawBlock, layout: &Layout, item: &[u8])
     }
 }
 
-/// Writes the bytes of an item at the offsets of a layout, in the order of memory if the items do
-/// not overlap.
-fn fill_layout(alloc: Global, block: &mut RawBlock, layout: &Layout, item: &[u8])
-    requires { All (λ offset. offset + length item.now ≤ length block.old) (offsets layout.now) }
-    ensures bytes { block.new ≡ put_each (offsets layout.now) item.now block.old }
-    ensures len { length block.new ≡ length block.old }
-{
-    if lies_in_c_order(layout) {
-        fill_each(block, layout, item);
-        return;
-    }
-    match in_any_order(alloc, layout, layout, item.len()) {
-        Some(pair) => fill_each(block, &pair.target, item),
-        None => fill_each(block, layout, item),
-    }
-}
-
-/// Writes the bytes of an item at the offsets of a target.
+/// Writes the bytes of an item at the offsets of a target: in the order of memory, if it is a view
+/// whose items do not overlap.
 pub(crate) fn fill(alloc: Global, block: &mut RawBlock, target: &Target, item: &[u8])
     requires { All (λ offset. offset + length item.now ≤ length block.old)
         (target_offsets target.now) }
@@ -65,7 +49,10 @@ pub(crate) fn fill(alloc: Global, block: &mut RawBlock, target: &Target, item: &
     ensures len { length block.new ≡ length block.old }
 {
     match target {
-        Target::View(layout) => fill_layout(alloc, block, layout, item),
+        Target::View(layout) => match in_any_order(alloc, layout, layout, item.len()) {
+            Some(pair) => fill_each(block, &pair.target, item),
+            None => fill_each(block, layout, item),
+        },
         Target::Plan(plan) => plan.fill(block, item),
     }
 }
@@ -93,23 +80,17 @@ pub(crate) fn copy_to(
     }
 }
 
-/// Whether two layouts differ in their first offset only.
-fn have_same_strides(to: &Layout, from: &Layout) -> bool
-    ensures shape { IsTrue result → from.now.shape ≡ to.now.shape }
-    ensures strides { IsTrue result → from.now.strides ≡ to.now.strides }
-    ensures found { from.now.shape ≡ to.now.shape → from.now.strides ≡ to.now.strides
-        → IsTrue result }
-{
-    from.shape.as_slice() == to.shape.as_slice() && from.strides.as_slice() == to.strides.as_slice()
-}
-
-/// Whether, besides, no axis steps into the range of the others.
+/// Whether two layouts differ in their first offset only, and no axis steps into the range of the
+/// others.
 fn are_shifted(to: &Layout, from: &Layout, width: usize) -> bool
     requires { 1 ≤ width }
     ensures sound { IsTrue result → AreShifted to.now from.now width }
     ensures found { AreShifted to.now from.now width → IsTrue result }
 {
-    have_same_strides(to, from) && to.is_stacked(width)
+    if from.shape.as_slice() != to.shape.as_slice() {
+        return false;
+    }
+    from.strides.as_slice() == to.strides.as_slice() && to.is_stacked(width)
 }
 
 /// Copies the items of a layout to a target in the same block; each is read as it was before. All

@@ -1,7 +1,7 @@
-use Rattle.std.proofs.Common.{◌∙◌, refl, sym, arith}
+use Rattle.std.proofs.Common.{◌∙◌, refl, sym, Some, None, arith}
 use Rattle.name_store.specs.Words.{spare}
-use Rattle.name_store.proofs.StateLaws.{found-held}
-use Rattle.name_store.proofs.UndoFirst.{undo-first-some, undo-first-none}
+use Rattle.name_store.proofs.StateLaws.{found-held, freed-none}
+use Rattle.name_store.proofs.UndoBinding.{undo-binding}
 use Rattle.name_store.proofs.table.Table.undo_first.Goals as goal
 
 pub release-requires : goal.release-requires
@@ -9,16 +9,16 @@ release-requires c = found-held c.args.self.now.names.entries c.args.self.now.sl
 
 pub returns-in-Some : goal.returns-in-Some
 returns-in-Some c ring sound =
-    undo-first-some c.args.self.now.names.entries c.args.self.now.slots.cells.items ring _ c.args.key sound _ (λ _. refl) c.shift_remove.new.self.entries c.shift_remove.ensures.entries _ (omega (arith, c.shift_remove.ensures.room.0))
-    c.in-Some.entry (sym c.shift_remove.ensures.value ∙ c.in-Some.is) c.release.new.self.cells.items c.release.ensures.swept c.release.ensures.users
+    undo-binding c.args.self.now.names.entries c.args.key c.args.self.now.slots.cells.items ring _ None sound c.shift_remove.new.self.entries c.shift_remove.ensures.entries _ (omega (arith, c.shift_remove.ensures.room.0))
+    (Some c.in-Some.entry) (sym c.in-Some.is ∙ c.shift_remove.ensures.value) c.release.new.self.cells.items c.release.ensures.swept c.release.ensures.users
 
 pub returns : goal.returns
 returns c ring sound =
-    undo-first-none c.args.self.now.names.entries c.args.self.now.slots.cells.items ring _ c.args.key sound _ (λ _. refl) c.shift_remove.new.self.entries c.shift_remove.ensures.entries _ (omega (arith, c.shift_remove.ensures.room.0))
-    (sym c.shift_remove.ensures.value ∙ c.in_default.is)
+    undo-binding c.args.self.now.names.entries c.args.key c.args.self.now.slots.cells.items ring _ None sound c.shift_remove.new.self.entries c.shift_remove.ensures.entries _ (omega (arith, c.shift_remove.ensures.room.0))
+    None (sym c.in_default.is ∙ c.shift_remove.ensures.value) _ (freed-none c.args.self.now.slots.cells.items) (λ q. omega arith)
 
 pub invariant_of-self : goal.invariant_of-self
 invariant_of-self c = record {
-  holds = (undo-first-some c.args.self.now.names.entries c.args.self.now.slots.cells.items c.requires.can.0 _ c.args.key c.requires.can.1 _ (λ _. refl) c.shift_remove.new.self.entries c.shift_remove.ensures.entries (spare c.shift_remove.new.self) (omega (arith, c.shift_remove.ensures.room.0))
-      c.in-Some.entry (sym c.shift_remove.ensures.value ∙ c.in-Some.is) c.release.new.self.cells.items c.release.ensures.swept c.release.ensures.users).sound.holds;
+  holds = (undo-binding c.args.self.now.names.entries c.args.key c.args.self.now.slots.cells.items c.requires.can.0 _ None c.requires.can.1 c.shift_remove.new.self.entries c.shift_remove.ensures.entries (spare c.shift_remove.new.self) (omega (arith, c.shift_remove.ensures.room.0))
+      (Some c.in-Some.entry) (sym c.in-Some.is ∙ c.shift_remove.ensures.value) c.release.new.self.cells.items c.release.ensures.swept c.release.ensures.users).sound.holds;
 }
