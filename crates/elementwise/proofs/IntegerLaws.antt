@@ -1,12 +1,11 @@
 -- Numbers that are compared with one integer.
-use Rattle.std.proofs.Common.{◌≡◌, ◌*◌, ◌-◌, ◌^◌, ◌≤◌, ◌<◌, ◌⊎◌, inl, inr, ℕ, zero, suc, Bool, true, false, Result, Ok, Err, List, IfOk, [], ◌∷◌, ◌++◌, map, length, get_or, take, drop, replicate, refl, sym, ap, ◌∙◌, arith}
+use Rattle.std.proofs.Common.{◌≡◌, ◌*◌, ◌-◌, ◌^◌, ◌≤◌, ◌<◌, ◌⊎◌, inl, inr, ℕ, zero, suc, Bool, true, false, Ok, Err, List, [], ◌∷◌, ◌++◌, map, length, get_or, take, drop, replicate, refl, sym, ap, ◌∙◌, arith}
 use Rattle.std.specs.Prelude.{ℤ, pos, negsuc, neg_ℤ, ◌≤ℤ◌, ◌<ℤ◌, int_lt, not, ◌==◌, ◌&&◌, ◌||◌}
 use Rattle.std.proofs.lemmas.Int.{ints}
 use Rattle.std.proofs.lemmas.Nat.{pow_pos}
 use Rattle.std.proofs.lemmas.List.{take_all, length-replicate, get_or-replicate, take-replicate, drop-replicate}
 use Rattle.std.proofs.lemmas.List.FromFn.{fill_by_all}
 use Rattle.std.specs.List.{range_with_len, flat_map}
-use Rattle.std.specs.declared.alloc.AllocError.{AllocError}
 use Rattle.std.proofs.lemmas.Simd.{map-map, splat_is_map}
 use Rattle.elementwise.specs.Words.{Refusal, NotForThisKind, Little, Descr, LeafValue, number, encode_item, item_from, Layout, count, indexes, rank, length-indexes, offsets, multiples, length-offsets, all_stretch, can_stretch, broadcast_index, stretched-self, Owned, owned_items, Comparison, Scalar, Byte, Int, Bytes, IsNumber, IsValueOf, FitsBytes, size, width_size, wrap, number_of, decode, wrap_stays, AreBytes, bytes-drop, bytes-take, is_text, little}
 use Rattle.elem_descr.specs.declared.descr.Descr.TheVariants.{Scalar as ScalarDescr}
@@ -168,16 +167,14 @@ all_held comparison d d' block block' l l' item point is =
     ∙ pairwise-map (compared_item comparison) read (λ _. item) (offsets l) (offsets l)
     ∙ pairwise-same (λ x y. compared_item comparison (read x) item) (offsets l)
 
-pub one_read : (s : Scalar) (result : Result Owned AllocError) (shape b : List ℕ) → shape ≡ [] →
-    IfOk result (λ o. o.descr ≡ ScalarDescr s) → IfOk result (λ o. offsets o.layout ≡ multiples (size s) (count shape)) → IfOk result (λ o. o.block ≡ b) → length b ≡ size s → IfOk result (λ o. owned_items o ≡ (decode s b ∷ []) ∷ [])
-one_read s (Ok o) shape b point descr order block whole =
+pub one_read : (s : Scalar) (o : Owned) (shape b : List ℕ) → shape ≡ [] → o.descr ≡ ScalarDescr s → offsets o.layout ≡ multiples (size s) (count shape) → o.block ≡ b → length b ≡ size s → owned_items o ≡ (decode s b ∷ []) ∷ []
+one_read s o shape b point descr order block whole =
     let first : size s * 0 ≡ 0 = omega arith in
     (λ i. map (item_from (descr i) (block i)) (order i))
     ∙ (λ i. map (item_from (ScalarDescr s) b) (multiples (size s) (count (point i))))
     ∙ (λ i. item_from (ScalarDescr s) b (first i) ∷ [])
     ∙ (λ i. (decode s (take (size s) (take_all (size s) b (omega (arith, whole)) i)) ∷ []) ∷ [])
     ∙ (λ i. (decode s (take_all (size s) b (omega (arith, whole)) i) ∷ []) ∷ [])
-one_read s (Err e) shape b point descr order block whole = tt
 
 -- ---- results
 

@@ -7,9 +7,8 @@ ghost use Rattle.std.specs.List.{flat_map};
 ghost use Rattle.std.specs.Prelude.{IfOk, [], length, map, ◌∷◌, ◌≡◌, ◌≤◌};
 
 use crate::byte_string_pairs::without_nuls;
-use crate::comparisons;
-use crate::integer_comparisons::one_item;
-use crate::operands::{Broadcast, made, spread, without_repeats};
+use crate::comparisons::compare_with_one;
+use crate::operands::{made, spread, without_repeats};
 use crate::pairing::Pairing;
 use crate::promotion::scalar_of;
 use crate::row_pairs::Operands;
@@ -95,13 +94,7 @@ fn compare_with_item(
         (AreComparedWith comparison operand.entry (text (without_nuls bytes.now))) }
 {
     let block = filled_up(alloc, width, bytes)?;
-    let item = one_item(alloc, &Scalar::Bytes(width), block)?;
-    let both = Broadcast {
-        left: operand,
-        right: item.items(),
-        shape: &operand.layout.shape,
-    };
-    comparisons::compare_once(alloc, comparison, both)
+    compare_with_one(alloc, comparison, operand, &Scalar::Bytes(width), block)
 }
 
 /// Compares the byte strings of an array with bytes, which may be longer than an item. Returns

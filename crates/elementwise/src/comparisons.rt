@@ -1,11 +1,11 @@
 //! Comparisons of all items of arrays.
 ghost use Rattle.elem_descr.specs.declared.descr.Descr.TheVariants.{Scalar as ScalarDescr};
 ghost use Rattle.elementwise.specs.Results.{compared_item, compared_result, pairwise, stretched_items};
-ghost use Rattle.elementwise.specs.Words.{Bytes, C, Gives, IsNumber, encode_item, item_from, item_size, offsets, offsets_in, owned_items};
-ghost use Rattle.elementwise.specs.inside.Combined.{AreCompared};
+ghost use Rattle.elementwise.specs.Words.{Bytes, C, Gives, IsNumber, decode, encode_item, item_from, item_size, max_bytes, offsets, offsets_in, owned_items, size};
+ghost use Rattle.elementwise.specs.inside.Combined.{AreCompared, AreComparedWith};
 ghost use Rattle.elementwise.specs.inside.Works.{AreComparable, IsComparing};
 ghost use Rattle.std.specs.List.{flat_map};
-ghost use Rattle.std.specs.Prelude.{IfOk, map, ◌≡◌};
+ghost use Rattle.std.specs.Prelude.{IfOk, length, map, ◌≡◌, ◌≤◌};
 
 use crate::apply::make_cast;
 use crate::byte_string_pairs::ComparingTexts;
@@ -16,8 +16,10 @@ use crate::promotion::{common_type, compared_type, scalar_of};
 use crate::row_pairs::Operands;
 use arrays::{Items, Owned};
 use broadcasting::{common, repeats, stretched_to};
-use elem_descr::{Comparison, Descr, Refusal, Scalar};
+use elem_descr::{Comparison, Descr, MemoryOrder, Refusal, Scalar};
 use machine_numbers::{is_signed, little};
+use raw_block::RawBlock;
+use shape_strides::Shape;
 use std::alloc::{AllocError, Global};
 
 /// How numbers of two scalars are compared: cast to the smallest scalar that holds both. If there
@@ -131,7 +133,7 @@ fn compare_scalars(
 }
 
 /// A comparison of numbers, or of byte strings. Pairs of items that repeat are compared once.
-pub(crate) fn compare_once(
+fn compare_once(
     alloc: Global,
     comparison: Comparison,
     both: Broadcast<'_>,
@@ -159,6 +161,30 @@ pub(crate) fn compare_once(
     };
     let made = compare_scalars(alloc, comparison, once)?;
     spread(alloc, &made, shape)
+}
+
+/// Compares the items of an array with one value, which is given by its bytes.
+pub(crate) fn compare_with_one(
+    alloc: Global,
+    comparison: Comparison,
+    operand: Items<'_>,
+    scalar: &Scalar,
+    block: RawBlock,
+) -> Result<Owned, AllocError>
+    requires can { AreComparable operand.descr.now (ScalarDescr scalar.now) }
+    requires whole { length block ≡ size scalar.now }
+    requires small { length block ≤ max_bytes }
+    ensures { IfOk result (AreComparedWith comparison operand.entry (decode scalar.now block)) }
+{
+    let shape = Shape::from_lengths(alloc, &[])?;
+    let descr = Descr::Scalar(*scalar);
+    let item = Owned::over(alloc, descr, &shape, MemoryOrder::C, block)?;
+    let both = Broadcast {
+        left: operand,
+        right: item.items(),
+        shape: &operand.layout.shape,
+    };
+    compare_once(alloc, comparison, both)
 }
 
 /// Compares the items of two arrays, which are broadcast together. Returns bools in a block of

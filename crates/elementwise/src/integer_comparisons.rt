@@ -1,34 +1,20 @@
 //! Comparisons of all items of arrays of numbers with one integer.
 ghost use Rattle.elem_descr.specs.declared.descr.Descr.TheVariants.{Scalar as ScalarDescr};
 ghost use Rattle.elementwise.specs.Results.{compared_item, integer_compared_result};
-ghost use Rattle.elementwise.specs.Words.{C, Gives, IsNumber, decode, encode_item, item_from, item_size, little, max_bytes, number, offsets, offsets_in, owned_items, size, wrap};
+ghost use Rattle.elementwise.specs.Words.{C, Gives, IsNumber, encode_item, item_from, item_size, little, number, offsets, offsets_in, owned_items, wrap};
 ghost use Rattle.elementwise.specs.inside.Combined.{AreComparedWith};
 ghost use Rattle.std.specs.List.{flat_map};
-ghost use Rattle.std.specs.Prelude.{IfOk, [], length, map, ◌∷◌, ◌≡◌, ◌≢◌, ◌≤◌};
+ghost use Rattle.std.specs.Prelude.{IfOk, [], map, ◌∷◌, ◌≡◌, ◌≢◌};
 
 use crate::comparison_kernels::says;
-use crate::comparisons::compare_once;
-use crate::operands::{Broadcast, note_slice};
+use crate::comparisons::compare_with_one;
+use crate::operands::note_slice;
 use crate::promotion::scalar_of;
 use arrays::{Items, Owned};
 use elem_descr::{Comparison, Descr, MemoryOrder, Refusal, Scalar, is_value, num_write};
 use machine_numbers::{is_text, little};
 use raw_block::RawBlock;
-use shape_strides::Shape;
 use std::alloc::{AllocError, Global};
-
-/// A value as an array of one item without axes, over its bytes.
-pub(crate) fn one_item(alloc: Global, scalar: &Scalar, block: RawBlock) -> Result<Owned, AllocError>
-    requires whole { length block ≡ size scalar.now }
-    requires small { length block ≤ max_bytes }
-    ensures descr { IfOk result (λ o. o.descr ≡ ScalarDescr scalar.now) }
-    ensures shape { IfOk result (λ o. o.layout.shape ≡ []) }
-    ensures items { IfOk result (λ o. owned_items o ≡ (decode scalar.now block ∷ []) ∷ []) }
-{
-    let shape = Shape::from_lengths(alloc, &[])?;
-    let descr = Descr::Scalar(*scalar);
-    Owned::over(alloc, descr, &shape, MemoryOrder::C, block)
-}
 
 /// Compares the numbers of an array with an integer that their type holds.
 fn compare_with_value(
@@ -46,13 +32,7 @@ fn compare_with_value(
     let scalar = little(from);
     let mut block = RawBlock::try_zeroed(alloc, scalar.size())?;
     num_write(scalar, integer, block.bytes_mut());
-    let item = one_item(alloc, &scalar, block)?;
-    let both = Broadcast {
-        left: operand,
-        right: item.items(),
-        shape: &operand.layout.shape,
-    };
-    compare_once(alloc, comparison, both)
+    compare_with_one(alloc, comparison, operand, &scalar, block)
 }
 
 /// Compares the numbers of an array with an integer that is greater than all numbers of their type,
