@@ -212,11 +212,15 @@ fn put_all<const N: usize>(places: &mut [u32], array: Items<'_>, form: Form, n: 
     ensures { ArePlaces n (numbers_in array.entry) result places.new }
 {
     let _items = array.layout.shape.items();
+    if let Some(run) = array.layout.as_run() {
+        return put_run::<N>(places, array.block, form, run, n);
+    }
+    let bytes = array.block.bytes();
     let mut are = true;
     let mut at = 0;
     for run in Runs::new(array.layout) {
         let end = at + run.count;
-        are = are & put_run::<N>(&mut places[at..end], array.block, form, run, n);
+        are = are & put_places(&mut places[at..end], Words::<N> { bytes, form, run }, n);
         at = end;
     }
     are
