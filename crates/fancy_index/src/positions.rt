@@ -177,7 +177,9 @@ fn is_native(form: Form, run: Run) -> bool
 }
 
 /// Writes the indexes that a run of integers stands for on an axis of `n` items, and returns whether
-/// all are in range. Adjacent integers in the machine's byte order are read as numbers.
+/// all are in range. Adjacent integers in the machine's byte order are read as numbers. Its loops
+/// need all registers, so it is not inlined.
+#[inline(never)]
 fn put_run<const N: usize>(
     places: &mut [u32],
     block: &RawBlock,
@@ -201,8 +203,7 @@ fn put_run<const N: usize>(
 }
 
 /// Writes the indexes that the integers of an array, of `N` bytes, stand for on an axis of `n`
-/// items, and returns whether all are in range. It has registers of its own, so it is not inlined.
-#[inline(never)]
+/// items, and returns whether all are in range.
 fn put_all<const N: usize>(places: &mut [u32], array: Items<'_>, form: Form, n: usize) -> bool
     requires few { (1 ≤ N) × (N ≤ 8) }
     requires width { form.width ≡ N }
