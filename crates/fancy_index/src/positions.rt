@@ -177,7 +177,9 @@ fn is_native(form: Form, run: Run) -> bool
 }
 
 /// Writes the indexes that a run of integers stands for on an axis of `n` items, and returns whether
-/// all are in range. Adjacent integers in the machine's byte order are read as numbers.
+/// all are in range. Adjacent integers in the machine's byte order are read as numbers. Its loops
+/// need all registers, so it is not inlined.
+#[inline(never)]
 fn put_run<const N: usize>(
     places: &mut [u32],
     block: &RawBlock,
@@ -201,8 +203,7 @@ fn put_run<const N: usize>(
 }
 
 /// Writes the indexes that the integers of an array, of `N` bytes, stand for on an axis of `n`
-/// items, and returns whether all are in range. It has registers of its own, so it is not inlined.
-#[inline(never)]
+/// items, and returns whether all are in range.
 fn put_all<const N: usize>(places: &mut [u32], array: Items<'_>, form: Form, n: usize) -> bool
     requires few { (1 ≤ N) × (N ≤ 8) }
     requires width { form.width ≡ N }
@@ -212,11 +213,15 @@ fn put_all<const N: usize>(places: &mut [u32], array: Items<'_>, form: Form, n: 
     ensures { ArePlaces n (numbers_in array.entry) result places.new }
 {
     let _items = array.layout.shape.items();
+    if let Some(run) = array.layout.as_run() {
+        return put_run::<N>(places, array.block, form, run, n);
+    }
+    let bytes = array.block.bytes();
     let mut are = true;
     let mut at = 0;
     for run in Runs::new(array.layout) {
         let end = at + run.count;
-        are = are & put_run::<N>(&mut places[at..end], array.block, form, run, n);
+        are = are & put_places(&mut places[at..end], Words::<N> { bytes, form, run }, n);
         at = end;
     }
     are

@@ -10,17 +10,17 @@ use Rattle.fancy_index.specs.Sources.{number_from}
 use Rattle.fancy_index.specs.inside.Words.{words_along, LiesIn, ArePlaces}
 use Rattle.fancy_index.proofs.WordLaws.{runs-lie, length-words, more_places}
 use Rattle.fancy_index.proofs.positions.put_all.Goals as goal
-use Rattle.fancy_index.proofs.positions.put_all.Goals.{In-Some}
+use Rattle.fancy_index.proofs.positions.put_all.Goals.{In-Some-run}
 
-module _ (g : _) (c : In-Some g) where
+module _ (g : _) (c : In-Some-run g) where
   abbrev number : ℕ → ℤ
   number = number_from c.args.array.descr.now c.args.array.block.now
 
-  left : c.loop-run.at + c.in-Some.run'.count + length (flat_map run_offsets c.next.new.self) ≡ length c.loop-run.places
-  left = omega (arith, c.loop-run.invariant.room, ap (λ l. length (flat_map run_offsets l)) c.in-Some.ensures.steps, length-append (run_offsets c.in-Some.run') (flat_map run_offsets c.next.new.self), length-run_offsets c.in-Some.run')
+  left : c.loop-run.at + c.in-Some-run.run'.count + length (flat_map run_offsets c.next.new.self) ≡ length c.loop-run.places
+  left = omega (arith, c.loop-run.invariant.room, ap (λ l. length (flat_map run_offsets l)) c.in-Some-run.ensures.steps, length-append (run_offsets c.in-Some-run.run') (flat_map run_offsets c.next.new.self), length-run_offsets c.in-Some-run.run')
 
-  long : length (take (c.loop-run.at + c.in-Some.run'.count - c.loop-run.at) (drop c.loop-run.at c.loop-run.places)) ≡ c.in-Some.run'.count
-  long = mid_len c.loop-run.at (c.loop-run.at + c.in-Some.run'.count) c.loop-run.places (omega (arith, left)) ∙ omega arith
+  long : length (take (c.loop-run.at + c.in-Some-run.run'.count - c.loop-run.at) (drop c.loop-run.at c.loop-run.places)) ≡ c.in-Some-run.run'.count
+  long = mid_len c.loop-run.at (c.loop-run.at + c.in-Some-run.run'.count) c.loop-run.places (omega (arith, left)) ∙ omega arith
 
 pub loop-run-init : goal.loop-run-init
 loop-run-init g c =
@@ -34,33 +34,39 @@ loop-run-init g c =
       read = ([], sym all, (refl, λ _. refl));
     }
 
-pub slice_bounds-put_run-end : goal.slice_bounds-put_run-end
-slice_bounds-put_run-end g c = omega (arith, left g (goal.at.slice_bounds-put_run-end g c).In-Some)
+pub put_run-requires-clause-many : goal.put_run-requires-clause-many
+put_run-requires-clause-many g c =
+    omega (arith, c.requires.many, length-offsets c.args.array.layout.now, ap length c.in-Some.ensures.items, length-run_offsets c.in-Some.run', length-words c.args.form c.args.array.block.now c.in-Some.run')
 
-pub put_run-are-requires-clause-lies : goal.put_run-are-requires-clause-lies
-put_run-are-requires-clause-lies g c =
-    let words = c.requires.words in
-    subst (λ width. LiesIn c.args.array.block.now width c.in-Some.run') words.size ((subst (All (LiesIn c.args.array.block.now (item_size c.args.array.descr.now))) c.in-Some.ensures.steps c.loop-run.invariant.lies) 0 c.in-Some.run' (omega arith))
+pub invariant_of-put_places-clause-lies : goal.invariant_of-put_places-clause-lies
+invariant_of-put_places-clause-lies g c =
+    let run = c.in-Some-run.run' in
+    let block = c.args.array.block.now in
+    let here = (subst (All (LiesIn block (item_size c.args.array.descr.now))) c.in-Some-run.ensures.steps c.loop-run.invariant.lies) 0 run (omega arith) in
+    subst (λ bytes. LiesIn bytes c.args.form.width run) (sym c.bytes-bytes.ensures) (subst (λ width. LiesIn block width run) c.requires.words.size here)
 
-pub put_run-are-requires-clause-many : goal.put_run-are-requires-clause-many
-put_run-are-requires-clause-many g c =
-    let now = (goal.at.put_run-are-requires-clause-many g c).In-Some in
-    long g now ∙ sym (length-words c.args.form c.args.array.block.now c.in-Some.run')
+pub slice_bounds-put_places-end : goal.slice_bounds-put_places-end
+slice_bounds-put_places-end g c = omega (arith, left g (goal.at.slice_bounds-put_places-end g c).In-Some-run)
+
+pub put_places-are-requires-clause-many : goal.put_places-are-requires-clause-many
+put_places-are-requires-clause-many g c =
+    let now = (goal.at.put_places-are-requires-clause-many g c).In-Some-run in
+    long g now ∙ sym (length-words c.args.form c.bytes-bytes.result.now c.in-Some-run.run')
 
 pub loop-run-preserved : goal.loop-run-preserved
 loop-run-preserved g c =
-    let now = (goal.at.loop-run-preserved g c).In-Some in
-    let run = c.in-Some.run' in
+    let now = (goal.at.loop-run-preserved g c).In-Some-run in
+    let run = c.in-Some-run.run' in
     let read = c.loop-run.invariant.read in
-    let same : words_along c.args.form c.args.array.block.now run ≡ map (number g now) (run_offsets run) = λ i. map (λ offset. sym (c.requires.words.read c.args.array.block.now offset) i) (run_offsets run) in
-    let put = subst (λ numbers. ArePlaces c.args.n numbers c.put_run-are.result c.put_run-are.new.places) same c.put_run-are.ensures in
+    let same : words_along c.args.form c.bytes-bytes.result.now run ≡ map (number g now) (run_offsets run) = (λ i. words_along c.args.form (c.bytes-bytes.ensures i) run) ∙ λ i. map (λ offset. sym (c.requires.words.read c.args.array.block.now offset) i) (run_offsets run) in
+    let put = subst (λ numbers. ArePlaces c.args.n numbers c.put_places-are.result c.put_places-are.new.places) same c.put_places-are.ensures in
     record {
-      lies = All-rest (LiesIn c.args.array.block.now (item_size c.args.array.descr.now)) _ _ _ c.in-Some.ensures.steps c.loop-run.invariant.lies;
-      room = left g now ∙ sym (same_len_mid c.loop-run.at _ c.loop-run.places c.put_run-are.new.places c.put_run-are.auto.places);
+      lies = All-rest (LiesIn c.args.array.block.now (item_size c.args.array.descr.now)) _ _ _ c.in-Some-run.ensures.steps c.loop-run.invariant.lies;
+      room = left g now ∙ sym (same_len_mid c.loop-run.at _ c.loop-run.places c.put_places-are.new.places c.put_places-are.auto.places);
       read = (
         read.0 ++ run_offsets run,
-        read.1 ∙ ap (λ l. read.0 ++ flat_map run_offsets l) c.in-Some.ensures.steps ∙ sym (append_assoc read.0 (run_offsets run) (flat_map run_offsets c.next.new.self)),
-        rw (map-append (number g now) read.0 (run_offsets run), take-put_mid c.loop-run.at _ c.loop-run.places c.put_run-are.new.places (c.loop-run.at + run.count) (omega (arith, c.put_run-are.auto.places, long g now)) (omega (arith, left g now)))
+        read.1 ∙ ap (λ l. read.0 ++ flat_map run_offsets l) c.in-Some-run.ensures.steps ∙ sym (append_assoc read.0 (run_offsets run) (flat_map run_offsets c.next.new.self)),
+        rw (map-append (number g now) read.0 (run_offsets run), take-put_mid c.loop-run.at _ c.loop-run.places c.put_places-are.new.places (c.loop-run.at + run.count) (omega (arith, c.put_places-are.auto.places, long g now)) (omega (arith, left g now)))
             (more_places c.args.n (map (number g now) read.0) (map (number g now) (run_offsets run)) _ _ _ _ read.2 put),
       );
     }
