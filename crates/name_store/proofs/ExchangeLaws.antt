@@ -75,10 +75,10 @@ own-offsets o width size test =
     let inside = offsets-within o.layout (length o.block) width (subst (Fits o.layout (length o.block)) size o.fills_block.fits) in
     c-packed width (offsets o.layout) test (subst (λ n. AllByRecursion (λ a. a + width ≤ n) (offsets o.layout)) (own-whole o width size) inside)
 
-pub own-packed : (o : Owned) (width : ℕ) → item_size o.descr ≡ width → is_c_contiguous width (offsets o.layout) ≡ true → IsPacked (length (offsets o.layout)) width (items_at (offsets o.layout) width o.block) o.block
-own-packed o width size test = record {
-  long = own-whole o width size;
-  items = ap (λ os. items_at os width o.block) (sym (own-offsets o width size test));
+pub own-packed : (o : Owned) (width n : ℕ) → item_size o.descr ≡ width → length (offsets o.layout) ≡ n → is_c_contiguous width (offsets o.layout) ≡ true → IsPacked n width (items_at (offsets o.layout) width o.block) o.block
+own-packed o width n size many test = record {
+  long = own-whole o width size ∙ ap (λ n. n * width) many;
+  items = ap (λ os. items_at os width o.block) (ap (multiples width) (sym many) ∙ sym (own-offsets o width size test));
 }
 
 module _ (width : ℕ) (block os : List ℕ) (within : All (λ o. o + width ≤ length block) os) (all : AreAll width block os) where

@@ -1,11 +1,11 @@
 -- Items that are put in a slot that was lent.
-use Rattle.std.proofs.Common.{◌≡◌, ◌+◌, ◌≤◌, ◌<◌, ℕ, zero, suc, true, false, List, [], ◌∷◌, length, refl, sym, ap, subst, ◌∙◌, cond, Option, Some, nat_eq, slice_set, All, Result, Ok, Err, IfOk, IfErr, None}
+use Rattle.std.proofs.Common.{◌≡◌, ◌+◌, ◌*◌, ◌≤◌, ◌<◌, ℕ, zero, suc, true, false, List, [], ◌∷◌, length, refl, sym, ap, subst, ◌∙◌, cond, Option, Some, nat_eq, get_or, slice_set, All, Result, Ok, Err, IfOk, IfErr, None}
 use Rattle.std.specs.List.{AllByRecursion}
 use Rattle.std.specs.Option.{option_map}
 use Rattle.std.proofs.lemmas.Bool.{eqb-true}
 use Rattle.std.proofs.lemmas.List.Elements.{recursion_from_All}
 use Rattle.std.proofs.lemmas.Option.{same_Some}
-use Rattle.name_store.specs.Words.{item_size, offsets, Fits, offsets_within, Owned}
+use Rattle.name_store.specs.Words.{item_size, items_at, Layout, multiples, offsets, Fits, offsets_within, Owned}
 use Rattle.name_store.specs.Invariants.{users_of, users_at}
 use Rattle.name_store.specs.Targets.{target_offsets}
 use Rattle.name_store.specs.View.{slot_at}
@@ -14,13 +14,14 @@ use Rattle.name_store.specs.declared.table.Home.{Home}
 use Rattle.name_store.specs.declared.write.Source.{Source}
 use Rattle.name_store.specs.declared.write.Source.TheVariants.{One, Block, Buffer}
 use Rattle.name_store.specs.declared.write.Target.{Target}
+use Rattle.name_store.specs.inside.Exchanges.{IsPacked}
 use Rattle.name_store.specs.inside.Homes.{HasNew}
 use Rattle.name_store.specs.inside.Held.{stand}
 use Rattle.name_store.specs.inside.OldItems.{AreSame}
 use Rattle.name_store.specs.inside.Puts.{AreItems, CanPut, CanWrite, Puts, block_from, parts_of, with_source, without_slot}
 use Rattle.name_store.proofs.LaidLaws.{offsets-within}
 use Rattle.name_store.proofs.RestoreLaws.{length-with}
-use Rattle.name_store.proofs.SlotLaws.{slot_at-set, slot_at-within}
+use Rattle.name_store.proofs.SlotLaws.{slot_at-get_or, slot_at-set, slot_at-within}
 use Rattle.name_store.proofs.SourceLaws.{all-replicated, items-whole}
 
 pub lent-new : (slots : List (Option Slot)) (number : ℕ) (was now old : Slot) (bytes : Slot → List ℕ) → number < length slots → slot_at slots number ≡ Some was → now.descr ≡ was.descr → now.items ≡ was.items → now.users ≡ was.users → now.block ≡ bytes was → slot_at slots number ≡ Some old →
@@ -80,6 +81,25 @@ none-other slots number s q x here there none =
 
 pub owned-within : (owned : Owned) (width : ℕ) → item_size owned.descr ≡ width → All (λ offset. offset + width ≤ length owned.block) (offsets owned.layout)
 owned-within owned width size = offsets_within owned.layout (length owned.block) width (subst (Fits owned.layout (length owned.block)) size owned.fills_block.fits)
+
+-- the items of a buffer lie in its block, and they are those to write
+module _ (others : List (Option Slot)) (width : ℕ) (block : List ℕ) (n number : ℕ) (from : Layout) (are : AreItems others width block n (Buffer number from)) (o d : Option Slot) (is : get_or others number d ≡ o) where
+  there : slot_at others number ≡ o
+  there = sym (slot_at-get_or others number d are.0) ∙ is
+
+  pub lent-fits : Fits from (length (block_from o block)) width
+  lent-fits = subst (λ o. Fits from (length (block_from o block)) width) there are.1
+
+  pub lent-within : All (λ offset. offset + width ≤ length (block_from o block)) (offsets from)
+  lent-within = offsets_within from (length (block_from o block)) width lent-fits
+
+  pub lent-parts : items_at (offsets from) width (block_from o block) ≡ parts_of others width block n (Buffer number from)
+  lent-parts = ap (λ o. items_at (offsets from) width (block_from o block)) (sym there)
+
+  pub lent-packed : {E : Type 0} (r : Result (List ℕ) E) → IfOk r (λ items. length items ≡ length (offsets from) * width) → IfOk r (λ items. items_at (multiples width (length (offsets from))) width items ≡ items_at (offsets from) width (block_from o block)) →
+      IfOk r (IsPacked n width (parts_of others width block n (Buffer number from)))
+  lent-packed (Ok items) long same = record { long = long ∙ ap (λ n. n * width) are.2; items = ap (λ n. items_at (multiples width n) width items) (sym are.2) ∙ same ∙ lent-parts }
+  lent-packed (Err e) _ _ = tt
 
 -- each item has as many bytes as it must
 pub parts-whole : (others : List (Option Slot)) (width : ℕ) (block : List ℕ) (n : ℕ) (source : Source) → AreItems others width block n source → AllByRecursion (λ part. length part ≡ width) (parts_of others width block n source)

@@ -1,5 +1,5 @@
 -- Items are written, and the old ones are kept.
-use Rattle.std.proofs.Common.{◌≡◌, ◌+◌, ◌*◌, ◌≤◌, ℕ, true, false, List, [], ◌∷◌, ◌++◌, length, map, min, refl, sym, ap, subst, ◌∙◌, cond, Option, Some, None, Result, Ok, Err, IfOk, IfErr, nat_eq, All, arith, ◌⊎◌, inl, inr}
+use Rattle.std.proofs.Common.{◌≡◌, ◌+◌, ◌*◌, ◌≤◌, ℕ, true, false, List, [], ◌∷◌, ◌++◌, length, map, min, refl, sym, ap, subst, ◌∙◌, cond, Option, Some, None, Result, Ok, Err, nat_eq, All, arith, ◌⊎◌, inl, inr}
 use Rattle.std.specs.List.Sorted.{IsPermutation}
 use Rattle.std.proofs.lemmas.List.Sorted.{All-permutation, length_permutation}
 use Rattle.std.specs.List.{AllByRecursion}
@@ -22,14 +22,15 @@ use Rattle.name_store.specs.declared.change.Change.TheVariants.{Write}
 use Rattle.name_store.specs.declared.bound.Entry.{Entry}
 use Rattle.name_store.specs.declared.change.OldItems.{OldItems}
 use Rattle.name_store.specs.declared.slot.Slot.{Slot}
+use Rattle.name_store.specs.declared.write.Overwritten.{Overwritten}
 use Rattle.name_store.specs.declared.write.Source.{Source}
 use Rattle.name_store.specs.declared.write.Source.TheVariants.{One, Block, Buffer}
 use Rattle.name_store.specs.declared.write.Target.{Target}
 use Rattle.name_store.specs.declared.write.Target.TheVariants.{View, Plan}
 use Rattle.name_store.specs.inside.Homes.{IsHome, HasNew}
-use Rattle.name_store.specs.inside.Puts.{CanWrite, NeedsNone, Puts, parts_of, without_slot}
+use Rattle.name_store.specs.inside.Puts.{CanWrite, NeedsNone, Puts, Writes, parts_of, without_slot}
 use Rattle.name_store.specs.inside.Held.{IsLowest, stand}
-use Rattle.name_store.specs.inside.OldItems.{AreOld, AreOldAt, AreSame}
+use Rattle.name_store.specs.inside.OldItems.{AreKeptAt, AreOld, AreSame}
 use Rattle.name_store.proofs.BindLaws.{view-present}
 use Rattle.name_store.proofs.AimLaws.{can-here, can-put, put-answers, whole-parts}
 use Rattle.name_store.proofs.HeldLaws.{lowest-same}
@@ -213,15 +214,21 @@ module _ (es : List (List ℕ × Entry)) (slots : Slots) (ring : Ring Change) (s
     )
 
     -- the old items are kept, those of the target's places in any order
-    module _ (aside : Target) (moved : IsPermutation (target_offsets target) (target_offsets aside)) (items : OldItems) (olds : AreOldAt slots (record { number = number; width = width }) aside items) where
+    module _ (over : Overwritten) (olds : AreKeptAt slots (record { number = number; width = width }) target over) where
+      abbrev items : OldItems
+      items = over.items
+
       abbrev os : List ℕ
-      os = target_offsets aside
+      os = target_offsets over.target
+
+      moved : IsPermutation (target_offsets target) os
+      moved = (olds s home.there).moved
 
       old : AreOld width s.block os items
-      old = olds s home.there
+      old = (olds s home.there).old
 
       abbrev c : Change
-      c = Write number aside items
+      c = Write number over.target items
 
       all-within : All (λ o. o + width ≤ length s.block) (target_offsets target)
       all-within = (can-here es slots name number width home target source now-aim).inside
@@ -249,7 +256,7 @@ module _ (es : List (List ℕ × Entry)) (slots : Slots) (ring : Ring Change) (s
           elsewhere None e = refl
           elsewhere (Some x) e = ap (λ t. Some (x.descr, x.items, cond t (with_old os items x.block) x.block)) e
 
-      goes : GoBack aside items s'
+      goes : GoBack over.target items s'
       goes = record {
         inside = subst (λ n. All (λ o. o + items.width ≤ n) os) (s.is_whole.whole ∙ λ i. sym new.rewritten.items i * item_size (sym new.rewritten.descr i))
             (subst (λ n. All (λ o. o + n ≤ length s.block) os) (sym old.size) (All-from_recursion (λ o. o + width ≤ length s.block) os within));
@@ -259,7 +266,7 @@ module _ (es : List (List ℕ × Entry)) (slots : Slots) (ring : Ring Change) (s
       own' : IsUndoable c names after
       own' = (
         ap (is_in_use names) home.number_is ∙ found-used names name (array_at home.entry) home.found,
-        subst (GoBackAt aside items) (sym (new.set number ∙ ap (λ t. cond t (Some s') (slot_at slots number)) (nat_itself number))) goes,
+        subst (GoBackAt over.target items) (sym (new.set number ∙ ap (λ t. cond t (Some s') (slot_at slots number)) (nat_itself number))) goes,
       )
 
       -- what was written is held by a name
@@ -297,9 +304,9 @@ module _ (es : List (List ℕ × Entry)) (slots : Slots) (ring : Ring Change) (s
 -- Whether items were put or not, names' arrays lie in their slots, and as many hold each.
 module _ (es : List (List ℕ × Entry)) (slots : Slots) (ring : Ring Change) (spare : ℕ) (sound : IsSound es slots ring spare) (name : List ℕ) (number width : ℕ) (home : IsHome es slots name number width) (target : Target) (source : Source)
     (aim : IsAim (state_of es slots ring) name target source) (after : Slots) where
-  pub tried-sound : {A E : Type 0} (r : Result A E) → IfOk r (λ _. Puts slots (record { number = number; width = width }) target source after) → IfErr r (λ _. AreSame slots after) → IsSound es after ring spare
-  tried-sound (Ok a) puts _ = wrote-sound es slots ring spare sound name number width home target source aim after puts
-  tried-sound (Err e) _ same = same-still es slots after ring spare same sound
+  pub tried-sound : {A E : Type 0} (r : Result A E) → Writes slots (record { number = number; width = width }) target source r after → IsSound es after ring spare
+  tried-sound (Ok a) wrote = wrote-sound es slots ring spare sound name number width home target source aim after wrote.0
+  tried-sound (Err e) wrote = same-still es slots after ring spare wrote.1 sound
 
-  pub tried-lowest : {A E : Type 0} (r : Result A E) → IfOk r (λ _. Puts slots (record { number = number; width = width }) target source after) → IfErr r (λ _. AreSame slots after) → (low : ℕ) → IsLowest slots low → IsLowest after low
-  tried-lowest r puts same low = lowest-same slots after low (λ q. (tried-sound r puts same).counted q ∙ sym (sound.counted q))
+  pub tried-lowest : {A E : Type 0} (r : Result A E) → Writes slots (record { number = number; width = width }) target source r after → (low : ℕ) → IsLowest slots low → IsLowest after low
+  tried-lowest r wrote low = lowest-same slots after low (λ q. (tried-sound r wrote).counted q ∙ sym (sound.counted q))

@@ -1,5 +1,6 @@
 -- Old items, one after another.
 use Rattle.std.specs.Prelude.{◌≡◌, ◌*◌, ℕ, List, length, Option, Some}
+use Rattle.std.specs.List.Sorted.{IsPermutation}
 use Rattle.std.specs.Option.{option_map}
 use Rattle.name_store.specs.Words.{multiples, items_at}
 use Rattle.name_store.specs.Invariants.{users_at}
@@ -8,6 +9,7 @@ use Rattle.name_store.specs.View.{slot_at}
 use Rattle.name_store.specs.declared.table.Home.{Home}
 use Rattle.name_store.specs.declared.change.OldItems.{OldItems}
 use Rattle.name_store.specs.declared.slot.Slot.{Slot}
+use Rattle.name_store.specs.declared.write.Overwritten.{Overwritten}
 use Rattle.name_store.specs.declared.write.Target.{Target}
 use Rattle.name_store.specs.inside.Held.{stand}
 
@@ -17,9 +19,14 @@ pub record AreOld (width : ℕ) (block os : List ℕ) (o : OldItems) : Type 0 wh
   pub whole : length o.block ≡ length os * o.width
   pub bytes : items_at (multiples o.width (length os)) o.width o.block ≡ items_at os width block
 
--- those that a buffer has at the offsets of a target
-abbrev pub AreOldAt : List (Option Slot) → Home → Target → OldItems → Type 0
-AreOldAt slots home target o = (s : Slot) → slot_at slots home.number ≡ Some s → AreOld home.width s.block (target_offsets target) o
+-- those of a block at the places of a target, in some order
+pub record AreKept (width : ℕ) (block : List ℕ) (target : Target) (over : Overwritten) : Type 0 where
+  pub moved : IsPermutation (target_offsets target) (target_offsets over.target)
+  pub old : AreOld width block (target_offsets over.target) over.items
+
+-- of a buffer's block
+abbrev pub AreKeptAt : List (Option Slot) → Home → Target → Overwritten → Type 0
+AreKeptAt slots home target over = (s : Slot) → slot_at slots home.number ≡ Some s → AreKept home.width s.block target over
 
 -- each slot stands as it did, and as many hold it
 abbrev pub AreSame : List (Option Slot) → List (Option Slot) → Type 0

@@ -1,5 +1,6 @@
 -- Items that are put in a block, and in the slot that it stands in.
-use Rattle.std.specs.Prelude.{◌≡◌, ◌+◌, ◌≤◌, ◌<◌, ℕ, List, length, replicate, Option, Some, None, All, slice_set}
+use Rattle.std.specs.Prelude.{◌≡◌, ◌+◌, ◌≤◌, ◌<◌, ℕ, List, length, replicate, Option, Some, None, Result, IfOk, IfErr, All, slice_set}
+use Rattle.std.specs.List.Sorted.{IsPermutation}
 use Rattle.name_store.specs.Words.{item_size, Layout, offsets, Fits, IsNested, max_bytes, items_at, with_items}
 use Rattle.name_store.specs.Memory.{MoveInPlace}
 use Rattle.name_store.specs.Targets.{target_offsets}
@@ -10,7 +11,9 @@ use Rattle.name_store.specs.declared.write.Source.{Source}
 use Rattle.name_store.specs.declared.write.Source.TheVariants.{One, Block, Buffer}
 use Rattle.name_store.specs.declared.write.Target.{Target}
 use Rattle.name_store.specs.declared.write.Target.TheVariants.{View, Plan}
+use Rattle.name_store.specs.declared.write.Writer.{Writer}
 use Rattle.name_store.specs.inside.Homes.{HasNew}
+use Rattle.name_store.specs.inside.OldItems.{AreSame}
 
 -- the items of a target lie within `len` bytes, and those of a layout do not overlap
 abbrev pub MayPut : Target → ℕ → ℕ → Type 0
@@ -59,6 +62,29 @@ NeedsNone others width target (One item) = Unit {0}
 NeedsNone others width target (Block owned) = Unit {0}
 NeedsNone others width target (Buffer number from) = slot_at others number ≡ None → InPlace target from width
 
+-- the same of a writer: it can put items in a block
+abbrev pub MayRun : Writer → Source → List ℕ → Type 0
+MayRun w source block = CanPut w.others.now w.width w.target source block
+
+-- the bytes of each of the items
+abbrev pub parts_for : Writer → Source → List ℕ → List (List ℕ)
+parts_for w source block = parts_of w.others.now w.width block (length (target_offsets w.target)) source
+
+-- they are put there; where memory runs out, the block is as it was
+abbrev pub Runs : {A E : Type 0} → Writer → Source → List ℕ → Result A E → List ℕ → Type 0
+Runs w source before result after = IfOk result (λ _. after ≡ with_source w.others.now w.width w.target source before) × IfErr result (λ _. after ≡ before)
+
+-- it takes no memory to put them
+abbrev pub RunsInPlace : Writer → Source → Type 0
+RunsInPlace w source = NeedsNone w.others.now w.width w.target source
+
+-- the places of a target in another order, at which one item leaves the same bytes
+pub record IsNear (target other : Target) : Type 0 where
+  pub moved : IsPermutation (target_offsets target) (target_offsets other)
+  pub may : (len width : ℕ) → MayPut target len width → MayPut other len width
+  pub fills : (item block : List ℕ) → MayPut target (length block) (length item)
+      → with_items (target_offsets other) (replicate (length (target_offsets other)) item) block ≡ with_items (target_offsets target) (replicate (length (target_offsets target)) item) block
+
 -- the slots but for the one with a number
 abbrev pub without_slot : List (Option Slot) → ℕ → List (Option Slot)
 without_slot slots number = slice_set slots number None
@@ -74,3 +100,7 @@ abbrev pub Puts : List (Option Slot) → Home → Target → Source → List (Op
 Puts slots home target source slots' =
     (s : Slot) → slot_at slots home.number ≡ Some s
     → HasNew slots home.number s (with_source (without_slot slots home.number) home.width target source s.block) slots'
+
+-- and where memory runs out, nothing changes
+abbrev pub Writes : {A E : Type 0} → List (Option Slot) → Home → Target → Source → Result A E → List (Option Slot) → Type 0
+Writes slots home target source result slots' = IfOk result (λ _. Puts slots home target source slots') × IfErr result (λ _. AreSame slots slots')

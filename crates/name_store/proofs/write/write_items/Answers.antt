@@ -2,10 +2,9 @@ use Rattle.std.proofs.Common.{◌≡◌, ◌≤◌, refl, sym, ap, subst, ◌∙
 use Rattle.std.proofs.lemmas.Option.{same_Some, IfSome_then}
 use Rattle.std.proofs.lemmas.Result.{IfOk-weaker, IfErr-weaker}
 use Rattle.name_store.specs.Words.{max_bytes}
-use Rattle.name_store.specs.Targets.{target_offsets}
 use Rattle.name_store.specs.View.{slot_at}
 use Rattle.name_store.specs.declared.slot.Slot.{Slot}
-use Rattle.name_store.specs.inside.OldItems.{AreOld}
+use Rattle.name_store.specs.inside.OldItems.{AreKept}
 use Rattle.name_store.specs.inside.Puts.{CanPut, NeedsNone, with_source, without_slot}
 use Rattle.name_store.proofs.RewriteLaws.{can-slot, puts-back, keeps-back, length-tried}
 use Rattle.name_store.proofs.SlotLaws.{slot_at-get_or, slot_at-within}
@@ -33,13 +32,13 @@ can c =
     subst (λ os. CanPut os c.args.home.width c.args.target c.args.source c.unwrap-slot.result.block) (sym (others c))
     (can-slot c.args.cells.now.items c.args.home c.args.target c.args.source c.requires c.unwrap-slot.result (there c))
 
-pub put_near-written-requires : goal.put_near-written-requires
-put_near-written-requires c = can (goal.at.put_near-written-requires c).After-as_slice
+pub put-written-requires : goal.put-written-requires
+put-written-requires c = can (goal.at.put-written-requires c).After-as_slice
 
 pub invariant_of-slot-clause-is_whole : goal.invariant_of-slot-clause-is_whole
 invariant_of-slot-clause-is_whole c =
     let s = c.unwrap-slot.result in
-    let len = length-tried c.as_slice.result.now c.args.home.width c.args.target c.args.source s.block (can (goal.at.invariant_of-slot-clause-is_whole c).After-as_slice) c.put_near-written.result c.put_near-written.new.block c.put_near-written.ensures.written c.put_near-written.ensures.kept in
+    let len = length-tried c.as_slice.result.now c.args.home.width c.args.target c.args.source s.block (can (goal.at.invariant_of-slot-clause-is_whole c).After-as_slice) c.put-written.result c.put-written.new.block c.put-written.ensures.put.0 c.put-written.ensures.put.1 in
     record { legal = s.is_whole.legal; whole = len ∙ s.is_whole.whole; small = subst (λ n. n ≤ max_bytes) (sym len) s.is_whole.small }
 
 pub index_mut-requires-2 : goal.index_mut-requires-2
@@ -48,23 +47,20 @@ index_mut-requires-2 c = omega (arith, c.args.cells.now.ok.0, slot_at-within c.a
 pub returns-clause-written : goal.returns-clause-written
 returns-clause-written c =
     let s = c.unwrap-slot.result in
-    let h = (goal.at.returns-clause-written c).After-as_slice in
-    IfOk-weaker c.put_near-written.result _ _ (λ _ (bytes : c.put_near-written.new.block ≡ with_source c.as_slice.result.now c.args.home.width c.args.target c.args.source s.block).
-    puts-back c.args.cells.now.items c.args.home c.args.target c.args.source c.requires s (there h) _ _ refl refl refl
-    (bytes ∙ ap (λ os. with_source os c.args.home.width c.args.target c.args.source s.block) (others h))) c.put_near-written.ensures.written
-
-pub returns-clause-kept : goal.returns-clause-kept
-returns-clause-kept c =
-    IfErr-weaker c.put_near-written.result _ _ (λ _ same.
-    keeps-back c.args.cells.now.items c.args.home c.args.target c.args.source c.requires c.unwrap-slot.result (there (goal.at.returns-clause-kept c).After-as_slice) _ _ refl refl refl same) c.put_near-written.ensures.kept
+    let h = (goal.at.returns-clause-written c).After-as_slice in (
+      IfOk-weaker c.put-written.result _ _ (λ _ (bytes : c.put-written.new.block ≡ with_source c.as_slice.result.now c.args.home.width c.args.target c.args.source s.block).
+          puts-back c.args.cells.now.items c.args.home c.args.target c.args.source c.requires s (there h) _ _ refl refl refl
+          (bytes ∙ ap (λ os. with_source os c.args.home.width c.args.target c.args.source s.block) (others h))) c.put-written.ensures.put.0,
+      IfErr-weaker c.put-written.result _ _ (λ _ same. keeps-back c.args.cells.now.items c.args.home c.args.target c.args.source c.requires s (there h) _ _ refl refl refl same) c.put-written.ensures.put.1,
+    )
 
 pub returns-clause-old : goal.returns-clause-old
 returns-clause-old c =
     let s = c.unwrap-slot.result in
     let was = there (goal.at.returns-clause-old c).After-as_slice in
-    IfOk-weaker c.put_near-written.result _ _ (λ over olds.
-    IfSome_then over olds (λ w old x is. subst (λ (y : Slot). AreOld c.args.home.width y.block (target_offsets w.target) w.items) (same_Some s x (sym was ∙ is)) old)) c.put_near-written.ensures.old
+    IfOk-weaker c.put-written.result _ _ (λ over olds.
+    IfSome_then over olds (λ w kept x is. subst (λ (y : Slot). AreKept c.args.home.width y.block c.args.target w) (same_Some s x (sym was ∙ is)) kept)) c.put-written.ensures.old
 
 pub returns-clause-no_memory : goal.returns-clause-no_memory
 returns-clause-no_memory c = λ drops none.
-    c.put_near-written.ensures.no_memory drops (subst (λ os. NeedsNone os c.args.home.width c.args.target c.args.source) (sym (others (goal.at.returns-clause-no_memory c).After-as_slice)) none)
+    c.put-written.ensures.no_memory drops (subst (λ os. NeedsNone os c.args.home.width c.args.target c.args.source) (sym (others (goal.at.returns-clause-no_memory c).After-as_slice)) none)

@@ -1,0 +1,47 @@
+use Rattle.std.proofs.Common.{Some, None, sym, ap, ◌∙◌}
+use Rattle.std.proofs.lemmas.Result.{IfOk-weaker}
+use Rattle.name_store.specs.Words.{with_items, put_each}
+use Rattle.name_store.specs.Targets.{target_offsets}
+use Rattle.name_store.specs.declared.write.Source.{Source}
+use Rattle.name_store.specs.inside.Puts.{with_source}
+use Rattle.name_store.proofs.RewriteLaws.{owned-within, lent-fits, lent-within, lent-parts}
+use Rattle.name_store.proofs.SlotLaws.{slot_at-get_or}
+use Rattle.name_store.proofs.SourceLaws.{put_each-items}
+use Rattle.name_store.proofs.write.Writer.copy_items.Goals as goal
+
+pub copy_to-requires-clause-from : goal.copy_to-requires-clause-from
+copy_to-requires-clause-from c = owned-within c.in-Block.owned c.args.self.now.width (rw c.in-Block.is at c.requires.are).0
+
+pub copy_to-requires-in-Some-clause-from : goal.copy_to-requires-in-Some-clause-from
+copy_to-requires-in-Some-clause-from c = lent-within _ _ c.args.block.now _ _ _ (rw c.in-Buffer.is at c.requires.are) (Some c.in-Some.slot) _ c.in-Some.is
+
+pub move_to-requires-clause-from : goal.move_to-requires-clause-from
+move_to-requires-clause-from c = lent-fits _ _ c.args.block.now _ _ _ (rw c.in-Buffer.is at c.requires.are) None _ c.in-None.is
+
+pub returns-in-None-clause-put : goal.returns-in-None-clause-put
+returns-in-None-clause-put c =
+    let parts = lent-parts _ c.args.self.now.width c.args.block.now _ _ _ (rw c.in-Buffer.is at c.requires.are) None _ c.in-None.is in
+    rw c.in-Buffer.is (
+      IfOk-weaker c.move_to.result _ _ (λ _ bytes. bytes ∙ ap (λ ps. with_items (target_offsets c.args.self.now.target) ps c.args.block.now) parts) c.move_to.ensures.bytes,
+      c.move_to.ensures.kept,
+    )
+
+pub returns-in-None-clause-no_memory : goal.returns-in-None-clause-no_memory
+returns-in-None-clause-no_memory c = λ needs.
+    let are = rw c.in-Buffer.is at c.requires.are in
+    c.move_to.ensures.in_place ((rw c.in-Buffer.is at needs) (sym (slot_at-get_or c.args.self.now.others.now c.in-Buffer.number _ are.0) ∙ c.in-None.is))
+
+pub returns-in-One-clause-put : goal.returns-in-One-clause-put
+returns-in-One-clause-put c =
+    let os = target_offsets c.args.self.now.target in (
+      c.fill.ensures.bytes
+          ∙ (λ i. put_each os (c.as_slice.ensures i) c.args.block.now)
+          ∙ put_each-items os c.in-One.item.items c.args.block.now
+          ∙ ap (λ (s : Source). with_source c.args.self.now.others.now c.args.self.now.width c.args.self.now.target s c.args.block.now) (sym c.in-One.is),
+      tt,
+    )
+
+pub returns-in-Some-clause-put : goal.returns-in-Some-clause-put
+returns-in-Some-clause-put c =
+    let parts = lent-parts _ c.args.self.now.width c.args.block.now _ _ _ (rw c.in-Buffer.is at c.requires.are) (Some c.in-Some.slot) _ c.in-Some.is in
+    rw c.in-Buffer.is (c.copy_to-in-Some.ensures.bytes ∙ ap (λ ps. with_items (target_offsets c.args.self.now.target) ps c.args.block.now) parts, tt)

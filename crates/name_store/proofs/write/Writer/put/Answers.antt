@@ -1,0 +1,20 @@
+use Rattle.std.proofs.Common.{◌+◌, ◌≤◌, length}
+use Rattle.std.proofs.lemmas.List.Sorted.{All-permutation}
+use Rattle.name_store.specs.Targets.{target_offsets}
+use Rattle.name_store.proofs.write.Writer.put.Goals as goal
+
+pub put_over-requires : goal.put_over-requires
+put_over-requires c =
+    let can = c.requires in
+    let near = c.in-Some-One.ensures in
+    record {
+      small = can.small;
+      some = can.some;
+      inside = All-permutation (λ o. o + c.args.self.width ≤ length c.args.block.now) (target_offsets c.args.self.target) (target_offsets c.in-Some-One.target) near.moved can.inside;
+      may = near.may (length c.args.block.now) c.args.self.width can.may;
+      are = rw c.in-Some-One.is-1 at can.are;
+    }
+
+pub old_items-requires : goal.old_items-requires
+old_items-requires c =
+    All-permutation (λ o. o + c.args.self.width ≤ length c.args.block.now) (target_offsets c.args.self.target) (target_offsets c.in-Some-Buffer.target) c.in-Some-Buffer.ensures.moved c.requires.inside
