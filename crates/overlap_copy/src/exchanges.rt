@@ -6,7 +6,7 @@ ghost use Rattle.overlap_copy.specs.inside.Trades.{traded_at};
 
 use crate::pair_copies::as_runs;
 use raw_block::RawBlock;
-use shape_strides::{Layout, Run, RunPairs, in_memory_order, lies_in_c_order};
+use shape_strides::{Layout, Run, RunPairs, in_memory_order};
 use std::alloc::Global;
 
 /// Exchanges the items, of `width` bytes, of a run with those of a run of `other` that has as many.
@@ -100,10 +100,6 @@ pub fn exchange(
     ensures len { length block.new ≡ length block.old }
     ensures other_len { length other.new ≡ length other.old }
 {
-    if lies_in_c_order(dst) {
-        exchange_pairs(block, dst, other, src, width);
-        return;
-    }
     match in_memory_order(alloc, dst, src) {
         Some(pair) => exchange_pairs(block, &pair.target, other, &pair.source, width),
         None => exchange_pairs(block, dst, other, src, width),
