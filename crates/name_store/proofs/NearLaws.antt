@@ -1,5 +1,5 @@
 -- Targets whose places stand in another order.
-use Rattle.std.proofs.Common.{◌≡◌, ◌+◌, ◌≤◌, length, refl}
+use Rattle.std.proofs.Common.{◌+◌, ◌≤◌, length, refl}
 use Rattle.std.specs.List.Sorted.{IsPermutation}
 use Rattle.std.proofs.lemmas.List.Sorted.{All-permutation}
 use Rattle.name_store.specs.Words.{Layout, LayoutPair, item_pairs, offsets_within, offsets, fits-offsets, pair_even, firsts-reordered, nested-reordered, filled-reordered}

@@ -1,9 +1,9 @@
 //! Writes items to the places of a target in a buffer, and returns the old ones if they are kept.
 ghost use Rattle.name_store.specs.Targets.{target_offsets, target_shape};
-ghost use Rattle.name_store.specs.inside.Exchanges.{IsPacked};
-ghost use Rattle.name_store.specs.inside.OldItems.{AreKeptAt};
-ghost use Rattle.name_store.specs.inside.Puts.{CanWrite, IsNear, NeedsNone, Writes, without_slot};
-ghost use Rattle.std.specs.Prelude.{IfOk, IfSome, IsFalse, IsOk, is_some, length, replicate, ◌≡◌};
+ghost use Rattle.name_store.specs.inside.Exchanges.{AreAll, IsPacked};
+ghost use Rattle.name_store.specs.inside.OldItems.{AreKept, AreKeptAt, AreOld};
+ghost use Rattle.name_store.specs.inside.Puts.{CanWrite, IsNear, MayRun, NeedsNone, Runs, RunsInPlace, Writes, parts_for, without_slot};
+ghost use Rattle.std.specs.Prelude.{IfOk, IfSome, IsFalse, IsOk, IsTrue, is_some, length, replicate, ◌≡◌};
 
 use crate::change::OldItems;
 use crate::rewrite::{copy_to, fill, move_to, old_items};
@@ -16,7 +16,7 @@ use raw_block::{BlockBuilder, RawBlock};
 use shape_strides::{Layout, Shape, in_memory_order};
 use smallvec::SmallVec;
 use std::alloc::{AllocError, Global};
-use std::mem::swap;
+use std::mem::replace;
 
 /// Fewer bytes than this are still in the cache on a second pass.
 const MANY_BYTES: usize = 32_768;
@@ -114,12 +114,6 @@ pub struct Writer<'a> {
 }
 
 impl Writer<'_> {
-    ghost use Rattle.std.specs.Prelude.{◌≡◌, IfOk, IfSome, IsFalse, IsOk, IsTrue, is_some, length};
-    ghost use Rattle.name_store.specs.Targets.{target_offsets};
-    ghost use Rattle.name_store.specs.inside.Exchanges.{AreAll, IsPacked};
-    ghost use Rattle.name_store.specs.inside.OldItems.{AreKept, AreOld};
-    ghost use Rattle.name_store.specs.inside.Puts.{MayRun, Runs, RunsInPlace, parts_for};
-
     /// Whether the target is the whole block, in order.
     fn is_all(&self, block: &RawBlock) -> bool
         ensures { IsTrue result → AreAll self.now.width block.now (target_offsets self.now.target) }
@@ -231,12 +225,9 @@ impl Writer<'_> {
     {
         let (alloc, width) = (self.alloc, self.width);
         if self.is_all(block) {
-            let mut items = self.packed(block, source)?;
-            swap(block, &mut items);
-            return Ok(OldItems {
-                block: items,
-                width,
-            });
+            let items = self.packed(block, source)?;
+            let block = replace(block, items);
+            return Ok(OldItems { block, width });
         }
         match source {
             Source::Block(owned) => match &self.target {

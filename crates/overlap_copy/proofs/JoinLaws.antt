@@ -13,9 +13,6 @@ use Rattle.overlap_copy.specs.inside.Joins.{GoesOn, SameSums, AreJoined}
 
 -- ---- lists of axes that lead as far
 
-pub same_refl : (axes : List Axis) → SameSums axes axes
-same_refl axes = record { to = λ low high s. s; from = λ low high s. s }
-
 pub same_trans : (axes others more : List Axis) → SameSums axes others → SameSums others more → SameSums axes more
 same_trans axes others more a b = record {
   to = λ low high s. b.to low high (a.to low high s);
@@ -150,15 +147,6 @@ narrow_some wide axes from d below are = first_some (get_or axes from d) (drop (
 
 -- ---- an axis before others
 
-joined_refl : (axes : List Axis) → AreForward axes → AreJoined axes axes
-joined_refl axes are = record { forward = are; reach = refl; same = same_refl axes }
-
-pub put_first : (wide : Axis) (axes : List Axis) (from : ℕ) → 0 < from → from ≤ length axes → AreForward (wide ∷ drop from axes) → AreJoined (wide ∷ drop from axes) (drop (from - 1) (set axes (from - 1) wide))
-put_first wide axes from some within are =
-    let after : from - 1 + 1 ≡ from = omega (arith, some) in
-    let is = drop-set axes (from - 1) wide (omega (arith, some, within)) ∙ ap (λ n. wide ∷ drop n axes) after in
-    subst (AreJoined (wide ∷ drop from axes)) (sym is) (joined_refl (wide ∷ drop from axes) are)
-
 pub put_joined : (wide both : Axis) (axes : List Axis) (from : ℕ) (d : Axis) → from < length axes → AreForward (wide ∷ drop from axes) → both.step ≡ (get_or axes from d).step → 0 < both.len → reach both ≡ reach wide + reach (get_or axes from d) → SameSums (wide ∷ get_or axes from d ∷ drop (from + 1) axes) (both ∷ drop (from + 1) axes) → AreJoined (wide ∷ drop from axes) (drop from (set axes from both))
 put_joined wide both axes from d below are step len far same =
     let narrow = get_or axes from d in
@@ -239,9 +227,6 @@ forward_order axes order same are = record {
 -- those from one on, as a slice's range takes them
 last_part : (axes : List Axis) (from : ℕ) → take (length axes - from) (drop from axes) ≡ drop from axes
 last_part axes from = take_all (length axes - from) (drop from axes) (omega (arith, length-drop from axes))
-
-pub forward_part : (order axes : List Axis) (from : ℕ) → AreJoined order (drop from axes) → AreForward (take (length axes - from) (drop from axes))
-forward_part order axes from is = subst AreForward (sym (last_part axes from)) is.forward
 
 -- ordered, and then joined
 pub same_part : (axes order now : List Axis) (from : ℕ) → IsPermutation axes order → AreJoined order (drop from now) → SameSums axes (take (length now - from) (drop from now))

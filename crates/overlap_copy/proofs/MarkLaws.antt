@@ -31,14 +31,6 @@ pub record Widens (old now : List Bool) (width i left : ℕ) : Type 0 where
   pub all : (j : ℕ) → j < i → IsTrue (get_or old j false) → j + width ≤ i + left
   pub some : 0 < left → (j : ℕ) × (j < i) × (i + left ≤ j + width) × IsTrue (get_or old j false)
 
-pub widens-start : (old : List Bool) (width : ℕ) → Widens old old width 0 0
-widens-start old width = record {
-  rest = λ k _. refl;
-  done = λ k below. absurd (omega (arith, below));
-  all = λ j below _. absurd (omega (arith, below));
-  some = λ more. absurd (omega (arith, more));
-}
-
 module _ (old now : List Bool) (width i left here : ℕ) (wide : 1 ≤ width) (inside : i < length now) (so_far : Widens old now width i left) where
   -- how far marks up to i go on, where that at i is set and where it is not
   abbrev Goes : Type 0

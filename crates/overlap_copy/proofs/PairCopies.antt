@@ -3,6 +3,7 @@ use Rattle.std.proofs.Common.{◌≡◌, ℕ, ◌+◌, ◌≤◌, List, [], ◌�
 use Rattle.std.specs.List.{flat_map, AllByRecursion as Each}
 use Rattle.std.proofs.lemmas.List.Elements.{All-from_recursion, recursion_from_All}
 use Rattle.overlap_copy.specs.Words.{EachWithin, Run, RunPair, run_offsets, length-run_offsets, Layout, count, offsets, length-offsets, BeginsWithin, run-within, run-ends, assigned-append, assigned}
+use Rattle.overlap_copy.specs.inside.Moves.{firsts, seconds}
 use Rattle.overlap_copy.proofs.MovingLaws.{Each-append}
 
 -- ---- layouts that are runs
@@ -16,13 +17,6 @@ pub one-within : (len width : ℕ) (run : Run) (os : List ℕ) → BeginsWithin 
 one-within len width run os begins is ends = run-within len width run begins (subst (All (λ offset. offset + width ≤ len)) (sym is) ends)
 
 -- ---- pair after pair
-
--- the offsets of the first runs, and of the second ones
-abbrev pub firsts : List RunPair → List ℕ
-firsts pairs = flat_map (λ (pair : RunPair). run_offsets pair.first) pairs
-
-abbrev pub seconds : List RunPair → List ℕ
-seconds pairs = flat_map (λ (pair : RunPair). run_offsets pair.second) pairs
 
 -- the next pair is copied
 pub copied-pair : (left left' : List RunPair) (pair : RunPair) (width : ℕ) (other block block' whole : List ℕ) → left ≡ pair ∷ left' → pair.first.count ≡ pair.second.count →

@@ -7,7 +7,7 @@ use Rattle.overlap_copy.specs.Words.{put, item_at, place, EachWithin, traded, le
 use Rattle.overlap_copy.specs.inside.Trades.{traded_at}
 use Rattle.overlap_copy.proofs.MoveLaws.{assigned_is}
 use Rattle.overlap_copy.proofs.MovingLaws.{nested-back}
-use Rattle.overlap_copy.proofs.PairCopies.{firsts, seconds}
+use Rattle.overlap_copy.specs.inside.Moves.{firsts, seconds}
 
 abbrev Both : Type 0
 Both = List ℕ × List ℕ

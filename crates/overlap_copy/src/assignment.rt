@@ -12,7 +12,7 @@ use crate::pair_copies::{
 };
 use arrays::{copy_run, gather, scatter};
 use raw_block::RawBlock;
-use shape_strides::{Layout, LayoutPair, RunPairs, in_memory_order, lies_in_c_order};
+use shape_strides::{Layout, LayoutPair, RunPairs, in_memory_order};
 use std::alloc::{AllocError, Global};
 
 /// Copies the items, of `width` bytes, of the layout `src` in `other` to those of the layout `dst`,
@@ -63,10 +63,6 @@ pub fn assign_from(
         ≡ assigned (offsets dst.now) (offsets src.now) width other.now block.old }
     ensures len { length block.new ≡ length block.old }
 {
-    if lies_in_c_order(dst) {
-        assign_in_order(block, dst, other, src, width);
-        return;
-    }
     match in_any_order(alloc, dst, src, width) {
         Some(pair) => assign_in_order(block, &pair.target, other, &pair.source, width),
         None => assign_in_order(block, dst, other, src, width),

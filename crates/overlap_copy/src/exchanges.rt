@@ -1,19 +1,19 @@
 //! Exchanges items of two blocks in one pass.
 ghost use Rattle.std.specs.Prelude.{◌≡◌, ◌+◌, ◌≤◌, length, All};
-ghost use Rattle.std.specs.List.{flat_map};
-ghost use Rattle.overlap_copy.specs.Words.{EachWithin, count, offsets, IsNested, run_offsets, assigned, items_at};
+ghost use Rattle.overlap_copy.specs.Words.{count, offsets, IsNested, run_offsets, assigned, items_at};
+ghost use Rattle.overlap_copy.specs.inside.Moves.{RunLies, firsts, seconds};
 ghost use Rattle.overlap_copy.specs.inside.Trades.{traded_at};
 
 use crate::pair_copies::as_runs;
 use raw_block::RawBlock;
-use shape_strides::{Layout, Run, RunPairs, in_memory_order, lies_in_c_order};
+use shape_strides::{Layout, Run, RunPairs, in_memory_order};
 use std::alloc::Global;
 
 /// Exchanges the items, of `width` bytes, of a run with those of a run of `other` that has as many.
 fn trade_run(block: &mut RawBlock, to: Run, other: &mut RawBlock, from: Run, width: usize)
     requires count { to.count ≡ from.count }
-    requires to { EachWithin (length block.old) to.offset to.step width to.count }
-    requires from { EachWithin (length other.old) from.offset from.step width from.count }
+    requires to { RunLies (length block.old) width to }
+    requires from { RunLies (length other.old) width from }
     ensures traded { (block.new, other.new)
         ≡ traded_at (run_offsets to) (run_offsets from) width (block.old, other.old) }
     ensures len { length block.new ≡ length block.old }
@@ -33,15 +33,10 @@ fn trade_run(block: &mut RawBlock, to: Run, other: &mut RawBlock, from: Run, wid
 /// Exchanges the items of the first run of each pair with those of its second run, in `other`.
 fn trade_pairs(block: &mut RawBlock, pairs: RunPairs<'_>, other: &mut RawBlock, width: usize)
     requires counts { All (λ pair. pair.first.count ≡ pair.second.count) pairs }
-    requires to { All (λ pair.
-        EachWithin (length block.old) pair.first.offset pair.first.step width pair.first.count)
-        pairs }
-    requires from { All (λ pair.
-        EachWithin (length other.old) pair.second.offset pair.second.step width pair.second.count)
-        pairs }
+    requires to { All (λ pair. RunLies (length block.old) width pair.first) pairs }
+    requires from { All (λ pair. RunLies (length other.old) width pair.second) pairs }
     ensures traded { (block.new, other.new)
-        ≡ traded_at (flat_map (λ pair. run_offsets pair.first) pairs.entry)
-        (flat_map (λ pair. run_offsets pair.second) pairs.entry) width (block.old, other.old) }
+        ≡ traded_at (firsts pairs.entry) (seconds pairs.entry) width (block.old, other.old) }
     ensures len { length block.new ≡ length block.old }
     ensures other_len { length other.new ≡ length other.old }
 {
@@ -100,10 +95,6 @@ pub fn exchange(
     ensures len { length block.new ≡ length block.old }
     ensures other_len { length other.new ≡ length other.old }
 {
-    if lies_in_c_order(dst) {
-        exchange_pairs(block, dst, other, src, width);
-        return;
-    }
     match in_memory_order(alloc, dst, src) {
         Some(pair) => exchange_pairs(block, &pair.target, other, &pair.source, width),
         None => exchange_pairs(block, dst, other, src, width),

@@ -1,7 +1,7 @@
 //! Writes items over others and keeps the old ones, in a single pass.
 ghost use Rattle.std.specs.Prelude.{◌≡◌, ◌+◌, ◌*◌, ◌++◌, ◌<◌, ◌≤◌, length, replicate, All, IfOk, IfErr};
-ghost use Rattle.std.specs.List.{flat_map};
-ghost use Rattle.overlap_copy.specs.Words.{BeginsWithin, EachWithin, IsNested, assigned, count, items_at, joined_at, max_items, multiples, offsets, run_offsets, with_items};
+ghost use Rattle.overlap_copy.specs.Words.{BeginsWithin, IsNested, assigned, count, items_at, joined_at, max_items, multiples, offsets, run_offsets, with_items};
+ghost use Rattle.overlap_copy.specs.inside.Moves.{RunLies, firsts, seconds};
 
 use arrays::copy_run;
 use raw_block::{BlockBuilder, RawBlock};
@@ -48,10 +48,8 @@ fn overwrite_part(
     kept: &mut BlockBuilder,
 )
     requires count { pair.first.count ≡ pair.second.count }
-    requires to { EachWithin
-        (length block.old) pair.first.offset pair.first.step width pair.first.count }
-    requires from { EachWithin
-        (length other.now) pair.second.offset pair.second.step width pair.second.count }
+    requires to { RunLies (length block.old) width pair.first }
+    requires from { RunLies (length other.now) width pair.second }
     requires room { pair.first.count * width ≤ kept.old.1 }
     ensures written { block.new ≡ assigned
         (run_offsets pair.first) (run_offsets pair.second) width other.now block.old }
@@ -114,19 +112,15 @@ fn overwrite_pairs(
     requires counts { All (λ pair. pair.first.count ≡ pair.second.count) pairs }
     requires begin { All (λ pair. BeginsWithin pair.first) pairs }
     requires other_begin { All (λ pair. BeginsWithin pair.second) pairs }
-    requires to { All (λ offset. offset + width ≤ length block.old)
-        (flat_map (λ pair. run_offsets pair.first) pairs) }
-    requires from { All (λ offset. offset + width ≤ length other.now)
-        (flat_map (λ pair. run_offsets pair.second) pairs) }
-    requires nested { IsNested (flat_map (λ pair. run_offsets pair.first) pairs) width }
-    requires room { length (flat_map (λ pair. run_offsets pair.first) pairs) * width ≤ kept.old.1 }
-    ensures written { block.new ≡ assigned (flat_map (λ pair. run_offsets pair.first) pairs.entry)
-        (flat_map (λ pair. run_offsets pair.second) pairs.entry) width other.now block.old }
+    requires to { All (λ offset. offset + width ≤ length block.old) (firsts pairs) }
+    requires from { All (λ offset. offset + width ≤ length other.now) (seconds pairs) }
+    requires nested { IsNested (firsts pairs) width }
+    requires room { length (firsts pairs) * width ≤ kept.old.1 }
+    ensures written { block.new
+        ≡ assigned (firsts pairs.entry) (seconds pairs.entry) width other.now block.old }
     ensures len { length block.new ≡ length block.old }
-    ensures old { kept.new.0 ≡ kept.old.0
-        ++ joined_at (flat_map (λ pair. run_offsets pair.first) pairs.entry) width block.old }
-    ensures left { length (flat_map (λ pair. run_offsets pair.first) pairs.entry) * width
-        + kept.new.1 ≡ kept.old.1 }
+    ensures old { kept.new.0 ≡ kept.old.0 ++ joined_at (firsts pairs.entry) width block.old }
+    ensures left { length (firsts pairs.entry) * width + kept.new.1 ≡ kept.old.1 }
 {
     for pair in pairs {
         overwrite_run(block, pair, other, width, kept);

@@ -1,7 +1,6 @@
 //! Pairs of runs: copies or moves the items of the second run to the first.
-ghost use Rattle.overlap_copy.specs.Words.{BeginsWithin, EachWithin, IsNested, assigned, max_bytes, max_items, offsets, run_offsets};
-ghost use Rattle.overlap_copy.specs.inside.Moves.{AreAlike, IsAssigned, IsLine, IsTurned, LieApart, place_in};
-ghost use Rattle.std.specs.List.{flat_map};
+ghost use Rattle.overlap_copy.specs.Words.{BeginsWithin, IsNested, assigned, max_bytes, max_items, offsets, run_offsets};
+ghost use Rattle.overlap_copy.specs.inside.Moves.{AreAlike, IsAssigned, IsLine, IsTurned, LieApart, RunLies, firsts, place_in, seconds};
 ghost use Rattle.std.specs.Prelude.{All, IfSome, IsTrue, length, neg_ℤ, pos, ◌*ℤ◌, ◌*◌, ◌+ℤ◌, ◌↔◌, ◌≡◌, ◌≤ℤ◌, ◌≤◌};
 
 use arrays::copy_run;
@@ -24,14 +23,10 @@ pub(crate) fn as_runs(first: &Layout, second: &Layout) -> Option<RunPair>
 /// run.
 pub(crate) fn copy_pairs(block: &mut RawBlock, pairs: RunPairs<'_>, other: &RawBlock, width: usize)
     requires counts { All (λ pair. pair.first.count ≡ pair.second.count) pairs }
-    requires to { All (λ pair.
-        EachWithin (length block.old) pair.first.offset pair.first.step width pair.first.count)
-        pairs }
-    requires from { All (λ pair.
-        EachWithin (length other.now) pair.second.offset pair.second.step width pair.second.count)
-        pairs }
-    ensures written { block.new ≡ assigned (flat_map (λ pair. run_offsets pair.first) pairs.entry)
-        (flat_map (λ pair. run_offsets pair.second) pairs.entry) width other.now block.old }
+    requires to { All (λ pair. RunLies (length block.old) width pair.first) pairs }
+    requires from { All (λ pair. RunLies (length other.now) width pair.second) pairs }
+    ensures written { block.new
+        ≡ assigned (firsts pairs.entry) (seconds pairs.entry) width other.now block.old }
     ensures len { length block.new ≡ length block.old }
 {
     for pair in pairs {
@@ -43,8 +38,8 @@ pub(crate) fn copy_pairs(block: &mut RawBlock, pairs: RunPairs<'_>, other: &RawB
 /// The two share no byte.
 fn move_apart(block: &mut RawBlock, to: Run, from: Run, width: usize)
     requires count { to.count ≡ from.count }
-    requires to { EachWithin (length block.old) to.offset to.step width to.count }
-    requires from { EachWithin (length block.old) from.offset from.step width from.count }
+    requires to { RunLies (length block.old) width to }
+    requires from { RunLies (length block.old) width from }
     requires nested { IsNested (run_offsets to) width }
     requires apart { LieApart width (run_offsets to) (run_offsets from) }
     ensures written { block.new
@@ -64,17 +59,12 @@ fn move_apart(block: &mut RawBlock, to: Run, from: Run, width: usize)
 /// that is written shares a byte with one that is read.
 pub(crate) fn move_pairs(block: &mut RawBlock, pairs: RunPairs<'_>, width: usize)
     requires counts { All (λ pair. pair.first.count ≡ pair.second.count) pairs }
-    requires to { All (λ pair.
-        EachWithin (length block.old) pair.first.offset pair.first.step width pair.first.count)
-        pairs }
-    requires from { All (λ pair.
-        EachWithin (length block.old) pair.second.offset pair.second.step width pair.second.count)
-        pairs }
-    requires nested { IsNested (flat_map (λ pair. run_offsets pair.first) pairs) width }
-    requires apart { LieApart width (flat_map (λ pair. run_offsets pair.first) pairs)
-        (flat_map (λ pair. run_offsets pair.second) pairs) }
-    ensures written { block.new ≡ assigned (flat_map (λ pair. run_offsets pair.first) pairs.entry)
-        (flat_map (λ pair. run_offsets pair.second) pairs.entry) width block.old block.old }
+    requires to { All (λ pair. RunLies (length block.old) width pair.first) pairs }
+    requires from { All (λ pair. RunLies (length block.old) width pair.second) pairs }
+    requires nested { IsNested (firsts pairs) width }
+    requires apart { LieApart width (firsts pairs) (seconds pairs) }
+    ensures written { block.new
+        ≡ assigned (firsts pairs.entry) (seconds pairs.entry) width block.old block.old }
     ensures len { length block.new ≡ length block.old }
 {
     for pair in pairs {
@@ -150,8 +140,8 @@ pub(crate) fn move_run(block: &mut RawBlock, to: Run, from: Run, width: usize)
     requires step { from.step ≡ to.step }
     requires to_limit { BeginsWithin to }
     requires from_limit { BeginsWithin from }
-    requires to { EachWithin (length block.old) to.offset to.step width to.count }
-    requires from { EachWithin (length block.old) from.offset from.step width from.count }
+    requires to { RunLies (length block.old) width to }
+    requires from { RunLies (length block.old) width from }
     requires nested { IsNested (run_offsets to) width }
     ensures written { block.new
         ≡ assigned (run_offsets to) (run_offsets from) width block.old block.old }
@@ -172,7 +162,7 @@ pub(crate) fn move_run(block: &mut RawBlock, to: Run, from: Run, width: usize)
 
 /// Reverses the items of a run in place.
 pub(crate) fn turn_run(block: &mut RawBlock, run: Run, back: Run, width: usize)
-    requires run { EachWithin (length block.old) run.offset run.step width run.count }
+    requires run { RunLies (length block.old) width run }
     requires back { IsTurned run back }
     requires nested { IsNested (run_offsets run) width }
     ensures written { block.new

@@ -1,7 +1,18 @@
 -- Moves of items within one block, by index: the k-th item goes to one place from another.
 use Rattle.std.specs.Prelude.{◌≡◌, ℕ, ◌+◌, ◌-◌, ◌<◌, ◌≤◌, ◌⊎◌, pos, neg_ℤ, ◌+ℤ◌, ◌*ℤ◌, List, [], ◌∷◌, length, slice_index}
-use Rattle.std.specs.List.{AllByRecursion as Each}
-use Rattle.overlap_copy.specs.Words.{EachWithin, item_at, place, Run, max_items, LieWithin, distance}
+use Rattle.std.specs.List.{flat_map, AllByRecursion as Each}
+use Rattle.overlap_copy.specs.Words.{EachWithin, item_at, place, Run, RunPair, run_offsets, max_items, LieWithin, distance}
+
+-- the items of a run, of `width` bytes, lie within `len` bytes
+abbrev pub RunLies : ℕ → ℕ → Run → Type 0
+RunLies len width run = EachWithin len run.offset run.step width run.count
+
+-- the offsets of the first runs of pairs, and of the second ones
+abbrev pub firsts : List RunPair → List ℕ
+firsts pairs = flat_map (λ (pair : RunPair). run_offsets pair.first) pairs
+
+abbrev pub seconds : List RunPair → List ℕ
+seconds pairs = flat_map (λ (pair : RunPair). run_offsets pair.second) pairs
 
 -- a byte lies outside of n items
 abbrev pub IsOutside : ℕ → (ℕ → ℕ) → ℕ → ℕ → Type 0

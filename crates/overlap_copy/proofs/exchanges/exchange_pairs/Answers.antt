@@ -1,7 +1,8 @@
 use Rattle.std.proofs.Common.{◌≡◌, ◌+◌, ◌≤◌, ℕ, List, All, length, ap, ◌∙◌}
 use Rattle.overlap_copy.specs.Words.{max_bytes, Layout, count, offsets, IsNested, assigned, walked-within, even}
 use Rattle.overlap_copy.specs.inside.Trades.{traded_at}
-use Rattle.overlap_copy.proofs.PairCopies.{as_many, one-within, firsts, seconds}
+use Rattle.overlap_copy.specs.inside.Moves.{firsts, seconds}
+use Rattle.overlap_copy.proofs.PairCopies.{as_many, one-within}
 use Rattle.overlap_copy.proofs.TradeLaws.{traded-apart}
 use Rattle.overlap_copy.proofs.exchanges.exchange_pairs.Goals as goal
 use Rattle.overlap_copy.proofs.exchanges.exchange_pairs.Goals.{After-trade_run, After-trade_pairs}

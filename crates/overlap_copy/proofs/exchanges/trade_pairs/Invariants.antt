@@ -1,7 +1,7 @@
 use Rattle.std.proofs.Common.{◌≡◌, length, All}
 use Rattle.overlap_copy.specs.Words.{EachWithin}
 use Rattle.overlap_copy.specs.inside.Trades.{traded_at}
-use Rattle.overlap_copy.proofs.PairCopies.{firsts, seconds}
+use Rattle.overlap_copy.specs.inside.Moves.{firsts, seconds}
 use Rattle.overlap_copy.proofs.exchanges.trade_pairs.Given as goal
 
 -- the pairs that are left lead to what all of them do

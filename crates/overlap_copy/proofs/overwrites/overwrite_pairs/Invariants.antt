@@ -1,7 +1,7 @@
 use Rattle.std.proofs.Common.{◌≡◌, ◌-◌, ◌*◌, length, All}
 use Rattle.overlap_copy.specs.Words.{BeginsWithin}
 use Rattle.overlap_copy.proofs.OverwriteLaws.{IsLeft, overwritten}
-use Rattle.overlap_copy.proofs.PairCopies.{firsts, seconds}
+use Rattle.overlap_copy.specs.inside.Moves.{firsts, seconds}
 use Rattle.overlap_copy.proofs.overwrites.overwrite_pairs.Given as goal
 
 -- the pairs that are left lead to what all of them do

@@ -1,6 +1,6 @@
 use Rattle.std.proofs.Common.{◌≡◌, length, All}
 use Rattle.overlap_copy.specs.Words.{EachWithin, assigned}
-use Rattle.overlap_copy.proofs.PairCopies.{firsts, seconds}
+use Rattle.overlap_copy.specs.inside.Moves.{firsts, seconds}
 use Rattle.overlap_copy.proofs.pair_copies.copy_pairs.Given as goal
 
 -- the pairs that are left lead to what all of them do

@@ -1,6 +1,6 @@
-use Rattle.std.proofs.Common.{◌+◌, ◌≤◌, Some, None, length, sym, ap, ◌∙◌}
+use Rattle.std.proofs.Common.{Some, None, sym, ap, ◌∙◌}
 use Rattle.std.proofs.lemmas.Result.{IfOk-weaker}
-use Rattle.name_store.specs.Words.{offsets, with_items, put_each}
+use Rattle.name_store.specs.Words.{with_items, put_each}
 use Rattle.name_store.specs.Targets.{target_offsets}
 use Rattle.name_store.specs.declared.write.Source.{Source}
 use Rattle.name_store.specs.inside.Puts.{with_source}

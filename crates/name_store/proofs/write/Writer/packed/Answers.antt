@@ -1,9 +1,4 @@
-use Rattle.std.proofs.Common.{length, sym, ap, subst, ◌∙◌, rules, Some, None, IfOk}
-use Rattle.name_store.specs.Words.{items_at, offsets}
-use Rattle.name_store.specs.Targets.{target_offsets}
-use Rattle.name_store.specs.declared.write.Source.{Source}
-use Rattle.name_store.specs.inside.Exchanges.{IsPacked}
-use Rattle.name_store.specs.inside.Puts.{AreItems, parts_for}
+use Rattle.std.proofs.Common.{sym, ◌∙◌, Some, None}
 use Rattle.name_store.proofs.ExchangeLaws.{own-packed}
 use Rattle.name_store.proofs.RewriteLaws.{owned-within, lent-within, lent-packed}
 use Rattle.name_store.proofs.write.Writer.packed.Goals as goal

@@ -1,8 +1,6 @@
-use Rattle.std.proofs.Common.{◌≡◌, ◌+◌, ◌≤◌, length, sym, ap, subst, ◌∙◌}
+use Rattle.std.proofs.Common.{◌+◌, ◌≤◌, length}
 use Rattle.std.proofs.lemmas.List.Sorted.{All-permutation}
 use Rattle.name_store.specs.Targets.{target_offsets}
-use Rattle.name_store.specs.declared.write.Source.{Source}
-use Rattle.name_store.specs.inside.Puts.{AreItems, with_source}
 use Rattle.name_store.proofs.write.Writer.put.Goals as goal
 
 pub put_over-requires : goal.put_over-requires

@@ -1,6 +1,5 @@
-use Rattle.std.proofs.Common.{length, sym, subst, ◌∙◌}
+use Rattle.std.proofs.Common.{sym, ◌∙◌}
 use Rattle.name_store.specs.Targets.{target_offsets}
-use Rattle.name_store.specs.inside.Exchanges.{IsPacked}
 use Rattle.name_store.proofs.ExchangeLaws.{own-packed, replaced}
 use Rattle.name_store.proofs.write.Writer.put_items.Goals as goal
 

@@ -1,4 +1,4 @@
-use Rattle.std.proofs.Common.{◌≡◌, ◌*◌, refl, sym, ap, ◌∙◌, length}
+use Rattle.std.proofs.Common.{◌≡◌, refl, sym, ap, ◌∙◌, length}
 use Rattle.name_store.specs.Words.{length-offsets, offsets, multiples, items_at}
 use Rattle.name_store.specs.Targets.{target_offsets}
 use Rattle.name_store.specs.declared.write.Target.{Target}
@@ -8,13 +8,13 @@ use Rattle.name_store.proofs.write.Writer.put_over.Goals as goal
 
 pub returns-then-is_all-clause-put : goal.returns-then-is_all-clause-put
 returns-then-is_all-clause-put c = (
-  c.swap.ensures.x_after
+  c.replace-block.ensures.after
       ∙ replaced c.args.self.now.width c.args.block.now (target_offsets c.args.self.now.target) c.requires.inside (c.is_all.ensures c.if-is_all.true) _ c.in_ok-items.items c.in_ok-items.ensures,
   tt,
 )
 
 pub returns-then-is_all-clause-old : goal.returns-then-is_all-clause-old
-returns-then-is_all-clause-old c = replaced-old c.args.self.now.width c.args.block.now (target_offsets c.args.self.now.target) c.requires.inside (c.is_all.ensures c.if-is_all.true) _ refl c.swap.ensures.y_after
+returns-then-is_all-clause-old c = replaced-old c.args.self.now.width c.args.block.now (target_offsets c.args.self.now.target) c.requires.inside (c.is_all.ensures c.if-is_all.true) _ refl c.replace-block.ensures.value
 
 pub exchange-requires-clause-src : goal.exchange-requires-clause-src
 exchange-requires-clause-src c = owned-within c.in-Block.owned c.args.self.now.width (rw c.in-Block.is at c.requires.are).0
