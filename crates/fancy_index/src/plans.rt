@@ -75,12 +75,6 @@ fn offset_in(axes: &PlanAxes, rank: usize) -> usize
     moved(base, start, axes.inner.at_rank(at.item))
 }
 
-fn is_step(step: isize, width: usize) -> bool
-    ensures { IsTrue result → step ≡ pos width }
-{
-    step >= 0 && step.unsigned_abs() == width
-}
-
 /// Whether these are two or more adjacent items of `width` bytes that start at the block's start.
 fn is_packed(layout: &Layout, width: usize) -> bool
     ensures { IsTrue result → offsets layout.now ≡ multiples width (length (offsets layout.now)) }
@@ -91,7 +85,7 @@ fn is_packed(layout: &Layout, width: usize) -> bool
     if run.offset > 0 {
         return false;
     }
-    is_step(run.step, width)
+    run.is_packed(width)
 }
 
 impl Plan {
