@@ -1,12 +1,12 @@
 //! Gathers the items of a plan, copies items to them, and fills them with one item, strictly one
 //! after the other.
 ghost use Rattle.fancy_index.specs.Plans.{put_each};
-ghost use Rattle.fancy_index.specs.Words.{joined_at};
-ghost use Rattle.fancy_index.specs.inside.Kept.{moved_offsets, offsets_from, put_packed, shifted_offsets};
+ghost use Rattle.fancy_index.specs.Words.{assigned, joined_at, row_offsets};
+ghost use Rattle.fancy_index.specs.inside.Kept.{FitAt, end_of, moved_offsets, offsets_from, put_packed, shifted_offsets};
 ghost use Rattle.std.specs.Prelude.{All, length, ◌*◌, ◌++◌, ◌+◌, ◌≡◌, ◌≤◌};
 
 use crate::plan_rows::{MovedLayout, PlanAxes, Shifted, fill_run, moved, moved_run};
-use crate::singles::{fill_singles, push_singles, scatter_singles};
+use crate::singles::{Source, fill_singles, push_singles, scatter_singles};
 use arrays::{copy_run, packed_run};
 use raw_block::{BlockBuilder, RawBlock};
 use shape_strides::{Runs, Walk};
@@ -85,22 +85,16 @@ pub(crate) fn push_all(
     items
 }
 
-/// Copies adjacent items of `width` bytes, starting at `at`, to those of a shifted layout, run by
-/// run. Returns where the copied items end.
-fn scatter_moved(
-    block: &mut RawBlock,
-    target: MovedLayout<'_>,
-    items: &RawBlock,
-    at: usize,
-    width: usize,
-) -> usize
-    requires inside { All (λ offset. offset + width ≤ length block.old) (moved_offsets target) }
-    requires room { at + length (moved_offsets target) * width ≤ length items.now }
-    ensures written { block.new
-        ≡ put_packed (moved_offsets target.entry) at width items.now block.old }
+/// Copies the items of a source to those of a shifted layout, run by run. Returns where the copied
+/// items end.
+fn scatter_moved(block: &mut RawBlock, target: MovedLayout<'_>, source: Source<'_>) -> usize
+    requires inside { FitAt (moved_offsets target) source.width block.old }
+    requires room { end_of source (length (moved_offsets target)) ≤ length source.items.now }
+    ensures written { block.new ≡ put_packed (moved_offsets target.entry) source.entry block.old }
     ensures len { length block.new ≡ length block.old }
-    ensures end { result ≡ at + length (moved_offsets target.entry) * width }
+    ensures end { result ≡ end_of source.entry (length (moved_offsets target.entry)) }
 {
+    let Source { items, at, width } = source;
     let len = items.len();
     if let Some(run) = target.as_run() {
         let from = packed_run(at, width, run.count, len);
@@ -117,47 +111,42 @@ fn scatter_moved(
     at
 }
 
-/// Copies items to the inner axes, once for each shift. Inner axes of one item need no walk.
-fn scatter_shifts(
-    block: &mut RawBlock,
-    rows: Shifted<'_>,
-    items: &RawBlock,
-    at: usize,
-    width: usize,
-) -> usize
-    requires inside { All (λ offset. offset + width ≤ length block.old) (shifted_offsets rows) }
-    requires room { at + length (shifted_offsets rows) * width ≤ length items.now }
-    ensures written { block.new
-        ≡ put_packed (shifted_offsets rows.entry) at width items.now block.old }
+/// Copies the items of a source to the inner axes, once for each shift. Inner axes of one item need
+/// no walk.
+fn scatter_shifts(block: &mut RawBlock, rows: Shifted<'_>, source: Source<'_>) -> usize
+    requires inside { FitAt (shifted_offsets rows) source.width block.old }
+    requires room { end_of source (length (shifted_offsets rows)) ≤ length source.items.now }
+    ensures written { block.new ≡ put_packed (shifted_offsets rows.entry) source.entry block.old }
     ensures len { length block.new ≡ length block.old }
-    ensures end { result ≡ at + length (shifted_offsets rows.entry) * width }
+    ensures end { result ≡ end_of source.entry (length (shifted_offsets rows.entry)) }
 {
     if rows.is_single() {
-        return scatter_singles(block, rows, items, at, width);
+        return scatter_singles(block, rows, source);
     }
     let inner = rows.inner;
-    let mut at = at;
+    let mut at = source.at;
     for shift in rows.shifts {
         let to = moved(inner.offset, rows.place, *shift as usize);
         let target = MovedLayout {
             layout: inner,
             start: to,
         };
-        at = scatter_moved(block, target, items, at, width);
+        at = scatter_moved(block, target, Source { at, ..source });
     }
     at
 }
 
 /// Copies the items to all items of the axes.
 pub(crate) fn scatter(block: &mut RawBlock, axes: &PlanAxes, items: &RawBlock, width: usize)
-    requires inside { All (λ offset. offset + width ≤ length block.old) (offsets_from axes.now) }
+    requires inside { FitAt (offsets_from axes.now) width block.old }
     requires room { length (offsets_from axes.now) * width ≤ length items.now }
-    ensures written { block.new ≡ put_packed (offsets_from axes.now) 0 width items.now block.old }
+    ensures written { let packed = row_offsets 0 width (length (offsets_from axes.now)) in
+        block.new ≡ assigned (offsets_from axes.now) packed width items.now block.old }
     ensures len { length block.new ≡ length block.old }
 {
     let mut at = 0;
     for place in Walk::new(&axes.outer) {
-        at = scatter_shifts(block, axes.rows(place), items, at, width);
+        at = scatter_shifts(block, axes.rows(place), Source { items, at, width });
     }
 }
 

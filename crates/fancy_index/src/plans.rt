@@ -85,7 +85,7 @@ fn is_packed(layout: &Layout, width: usize) -> bool
     if run.offset > 0 {
         return false;
     }
-    is_step(run.step, width)
+    run.is_packed(width)
 }
 
 impl Plan {

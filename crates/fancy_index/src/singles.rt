@@ -1,9 +1,8 @@
 //! Single items at shifted places: gathered, copied and filled, one after the other.
 ghost use Rattle.std.specs.Prelude.{◌≡◌, ◌+◌, ◌*◌, ◌≤◌, ◌++◌, length, map, All};
-ghost use Rattle.fancy_index.specs.Words.{item_at, put, assigned, joined_at};
+ghost use Rattle.fancy_index.specs.Words.{item_at, put, joined_at};
 ghost use Rattle.fancy_index.specs.Plans.{put_each};
-ghost use Rattle.arrays.specs.Packed.{row_offsets as packed};
-ghost use Rattle.fancy_index.specs.inside.Kept.{first_offsets};
+ghost use Rattle.fancy_index.specs.inside.Kept.{first_offsets, put_packed, end_of, FitAt};
 
 use crate::plan_rows::{Shifted, moved};
 use arrays::{copy_run, packed_run};
@@ -152,24 +151,25 @@ pub(crate) fn push_singles(
     }
 }
 
-/// Copies adjacent items of `width` bytes, starting at `at`, each to one of the shifted places.
-/// Returns where the copied items end. If the compiler knows the width, each is a single load and
-/// store.
+/// Adjacent items of `width` bytes in a block, starting at `at`.
+#[derive(Clone, Copy)]
+pub(crate) struct Source<'a> {
+    pub items: &'a RawBlock,
+    pub at: usize,
+    pub width: usize,
+}
+
+/// Copies the items of a source, each to one of the shifted places. Returns where the copied items
+/// end. If the compiler knows the width, each is a single load and store.
 #[inline(always)]
-fn scatter_each(
-    block: &mut RawBlock,
-    rows: Shifted<'_>,
-    items: &RawBlock,
-    at: usize,
-    width: usize,
-) -> usize
-    requires inside { All (λ offset. offset + width ≤ length block.old) (first_offsets rows) }
-    requires room { at + length rows.shifts.now * width ≤ length items.now }
-    ensures written { let from = packed at width (length rows.entry.shifts.now) in
-        block.new ≡ assigned (first_offsets rows.entry) from width items.now block.old }
+fn scatter_each(block: &mut RawBlock, rows: Shifted<'_>, source: Source<'_>) -> usize
+    requires inside { FitAt (first_offsets rows) source.width block.old }
+    requires room { end_of source (length (first_offsets rows)) ≤ length source.items.now }
+    ensures written { block.new ≡ put_packed (first_offsets rows.entry) source.entry block.old }
     ensures len { length block.new ≡ length block.old }
-    ensures end { result ≡ at + length rows.entry.shifts.now * width }
+    ensures end { result ≡ end_of source.entry (length (first_offsets rows.entry)) }
 {
+    let Source { items, at, width } = source;
     let _len = items.len();
     let base = rows.inner.offset;
     let bytes = items.bytes();
@@ -182,83 +182,65 @@ fn scatter_each(
     from
 }
 
-/// Copies items to the shifted places: as one range if these are adjacent, and otherwise one by one.
+/// Copies the items of a source to the shifted places: as one range if these are adjacent, and
+/// otherwise one by one.
 #[inline(always)]
-fn scatter_stretch(
-    block: &mut RawBlock,
-    rows: Shifted<'_>,
-    items: &RawBlock,
-    at: usize,
-    width: usize,
-) -> usize
+fn scatter_stretch(block: &mut RawBlock, rows: Shifted<'_>, source: Source<'_>) -> usize
     requires some { 1 ≤ length rows.shifts.now }
     requires few { length rows.shifts.now ≤ 128 }
-    requires inside { All (λ offset. offset + width ≤ length block.old) (first_offsets rows) }
-    requires room { at + length rows.shifts.now * width ≤ length items.now }
-    ensures written { let from = packed at width (length rows.entry.shifts.now) in
-        block.new ≡ assigned (first_offsets rows.entry) from width items.now block.old }
+    requires inside { FitAt (first_offsets rows) source.width block.old }
+    requires room { end_of source (length (first_offsets rows)) ≤ length source.items.now }
+    ensures written { block.new ≡ put_packed (first_offsets rows.entry) source.entry block.old }
     ensures len { length block.new ≡ length block.old }
-    ensures end { result ≡ at + length rows.entry.shifts.now * width }
+    ensures end { result ≡ end_of source.entry (length (first_offsets rows.entry)) }
 {
+    let Source { items, at, width } = source;
     let len = items.len();
     let Some(run) = rows.as_run(width) else {
-        return scatter_each(block, rows, items, at, width);
+        return scatter_each(block, rows, source);
     };
     let from = packed_run(at, width, run.count, len);
     copy_run(block, run, items, from, width);
     at + run.count * width
 }
 
-/// Copies items to the shifted places: a few one by one, and many range by range.
+/// Copies the items of a source to the shifted places: a few one by one, and many range by range.
 #[inline(always)]
-fn scatter_ranges(
-    block: &mut RawBlock,
-    rows: Shifted<'_>,
-    items: &RawBlock,
-    at: usize,
-    width: usize,
-) -> usize
-    requires inside { All (λ offset. offset + width ≤ length block.old) (first_offsets rows) }
-    requires room { at + length rows.shifts.now * width ≤ length items.now }
-    ensures written { let from = packed at width (length rows.entry.shifts.now) in
-        block.new ≡ assigned (first_offsets rows.entry) from width items.now block.old }
+fn scatter_ranges(block: &mut RawBlock, rows: Shifted<'_>, source: Source<'_>) -> usize
+    requires inside { FitAt (first_offsets rows) source.width block.old }
+    requires room { end_of source (length (first_offsets rows)) ≤ length source.items.now }
+    ensures written { block.new ≡ put_packed (first_offsets rows.entry) source.entry block.old }
     ensures len { length block.new ≡ length block.old }
-    ensures end { result ≡ at + length rows.entry.shifts.now * width }
+    ensures end { result ≡ end_of source.entry (length (first_offsets rows.entry)) }
 {
     if rows.shifts.len() < FEW {
-        return scatter_each(block, rows, items, at, width);
+        return scatter_each(block, rows, source);
     }
-    let mut at = at;
+    let mut at = source.at;
     let mut from = 0;
     while from < rows.shifts.len() {
         let end = rows.shifts.len().min(from + 128);
-        at = scatter_stretch(block, rows.part(from, end), items, at, width);
+        at = scatter_stretch(block, rows.part(from, end), Source { at, ..source });
         from = end;
     }
     at
 }
 
-/// Copies items to the shifted places, with loops of their own for each common width.
-pub(crate) fn scatter_singles(
-    block: &mut RawBlock,
-    rows: Shifted<'_>,
-    items: &RawBlock,
-    at: usize,
-    width: usize,
-) -> usize
-    requires inside { All (λ offset. offset + width ≤ length block.old) (first_offsets rows) }
-    requires room { at + length rows.shifts.now * width ≤ length items.now }
-    ensures written { let from = packed at width (length rows.entry.shifts.now) in
-        block.new ≡ assigned (first_offsets rows.entry) from width items.now block.old }
+/// Copies the items of a source to the shifted places, with loops of their own for each common
+/// width.
+pub(crate) fn scatter_singles(block: &mut RawBlock, rows: Shifted<'_>, source: Source<'_>) -> usize
+    requires inside { FitAt (first_offsets rows) source.width block.old }
+    requires room { end_of source (length (first_offsets rows)) ≤ length source.items.now }
+    ensures written { block.new ≡ put_packed (first_offsets rows.entry) source.entry block.old }
     ensures len { length block.new ≡ length block.old }
-    ensures end { result ≡ at + length rows.entry.shifts.now * width }
+    ensures end { result ≡ end_of source.entry (length (first_offsets rows.entry)) }
 {
-    match width {
-        1 => scatter_ranges(block, rows, items, at, 1),
-        2 => scatter_ranges(block, rows, items, at, 2),
-        4 => scatter_ranges(block, rows, items, at, 4),
-        8 => scatter_ranges(block, rows, items, at, 8),
-        _ => scatter_ranges(block, rows, items, at, width),
+    match source.width {
+        1 => scatter_ranges(block, rows, Source { width: 1, ..source }),
+        2 => scatter_ranges(block, rows, Source { width: 2, ..source }),
+        4 => scatter_ranges(block, rows, Source { width: 4, ..source }),
+        8 => scatter_ranges(block, rows, Source { width: 8, ..source }),
+        _ => scatter_ranges(block, rows, source),
     }
 }
 

@@ -4,6 +4,7 @@ use Rattle.fancy_index.specs.Words.{assigned, joined_at, row_offsets, offsets, E
 use Rattle.fancy_index.specs.declared.plan_rows.MovedLayout.{MovedLayout}
 use Rattle.fancy_index.specs.declared.plan_rows.PlanAxes.{PlanAxes}
 use Rattle.fancy_index.specs.declared.plan_rows.Shifted.{Shifted}
+use Rattle.fancy_index.specs.declared.singles.Source.{Source}
 use Rattle.fancy_index.specs.inside.Moved.{moved_offset, shifted_all, laid_offsets}
 
 abbrev pub moved_offsets : MovedLayout → List ℕ
@@ -19,9 +20,17 @@ shifted_offsets rows = shifted_all rows.inner.now.offset rows.shifts.now (offset
 abbrev pub offsets_from : PlanAxes → List ℕ
 offsets_from axes = laid_offsets axes.outer axes.shifts.items axes.inner
 
--- a block, with the items that lie one after another from `at` on put to these offsets
-abbrev pub put_packed : List ℕ → ℕ → ℕ → List ℕ → List ℕ → List ℕ
-put_packed to at width items block = assigned to (row_offsets at width (length to)) width items block
+-- where so many items of a source end
+abbrev pub end_of : Source → ℕ → ℕ
+end_of source n = source.at + n * source.width
+
+-- a block, with the items of a source put to these offsets
+abbrev pub put_packed : List ℕ → Source → List ℕ → List ℕ
+put_packed to source block = assigned to (row_offsets source.at source.width (length to)) source.width source.items.now block
+
+-- items of `width` bytes at these offsets lie in the block
+abbrev pub FitAt : List ℕ → ℕ → List ℕ → Type 0
+FitAt offsets width block = All (λ offset. offset + width ≤ length block) offsets
 
 -- a run of items that lie at these offsets
 pub record IsRunOf (offsets : List ℕ) (run : Run) : Type 0 where

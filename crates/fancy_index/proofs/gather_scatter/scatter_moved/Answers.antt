@@ -15,7 +15,7 @@ packed_run-from-requires-in-loop-run-clause-within c =
 pub copy_run-requires-in-loop-run-clause-to : goal.copy_run-requires-in-loop-run-clause-to
 copy_run-requires-in-loop-run-clause-to c =
     let can = scatter_run _ _ _ _ _ _ _ _ _ _ _ c.in-Some-run.ensures.steps c.loop-run.invariant.pass in
-    c.moved_run-to.ensures.within (length c.loop-run.block) c.args.width can.inside
+    c.moved_run-to.ensures.within (length c.loop-run.block) c.args.source.width can.inside
 
 pub overflow_mul-at : goal.overflow_mul-at
 overflow_mul-at c =
@@ -33,6 +33,6 @@ loop-run-preserved c =
     let steps = c.in-Some-run.ensures.steps in
     record {
       left = later_runs base c.args.target.start c.in-Some-run.run' c.next.new.self (subst (RunsLeft base c.args.target.start) steps c.loop-run.invariant.left);
-      pass = scattered_run base c.args.target.start c.loop-run.at c.args.width _ c.in-Some-run.run' c.moved_run-to.result c.packed_run-from-in-loop-run.result _ _ _ _ _ _ steps c.moved_run-to.ensures.offsets c.packed_run-from-in-loop-run.ensures.run c.copy_run-in-loop-run.ensures.written c.copy_run-in-loop-run.ensures.len c.loop-run.invariant.pass;
+      pass = scattered_run base c.args.target.start c.loop-run.at c.args.source.width _ c.in-Some-run.run' c.moved_run-to.result c.packed_run-from-in-loop-run.result _ _ _ _ _ _ steps c.moved_run-to.ensures.offsets c.packed_run-from-in-loop-run.ensures.run c.copy_run-in-loop-run.ensures.written c.copy_run-in-loop-run.ensures.len c.loop-run.invariant.pass;
       len = c.copy_run-in-loop-run.ensures.len ∙ c.loop-run.invariant.len;
     }

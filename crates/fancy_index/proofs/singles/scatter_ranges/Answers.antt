@@ -1,8 +1,4 @@
-use Rattle.std.proofs.Common.{◌+◌, ◌*◌, sym, ap, ◌∙◌, arith}
-use Rattle.std.proofs.lemmas.List.{length-map}
-use Rattle.fancy_index.specs.Words.{assigned}
-use Rattle.arrays.specs.Packed.{row_offsets as packed}
-use Rattle.fancy_index.specs.inside.Moved.{moved_offset}
+use Rattle.std.proofs.Common.{◌∙◌, arith}
 use Rattle.fancy_index.specs.inside.Kept.{first_offsets}
 use Rattle.fancy_index.proofs.Passes.{scatter_front, scattered_front}
 use Rattle.fancy_index.proofs.SingleLaws.{split-part}
@@ -12,20 +8,17 @@ pub scatter_stretch-at-requires-clause-inside : goal.scatter_stretch-at-requires
 scatter_stretch-at-requires-clause-inside c =
     let rows = c.args.rows in
     let split = split-part rows.inner.now.offset rows.place rows.shifts.now _ c.loop-from.from c.min-end.result (omega (arith, c.loop-from-test.true, c.min-end.ensures)) c.part.ensures.offsets in
-    (scatter_front _ (first_offsets c.part.result) _ c.loop-from.at c.args.width _ c.args.items.now c.loop-from.block _ split c.loop-from.invariant.pass).inside
+    (scatter_front _ (first_offsets c.part.result) _ c.loop-from.at c.args.source.width _ c.args.source.items.now c.loop-from.block _ split c.loop-from.invariant.pass).inside
 
 pub loop-from-preserved : goal.loop-from-preserved
 loop-from-preserved c =
     let rows = c.args.rows in
     let part = c.part.result in
     let split = split-part rows.inner.now.offset rows.place rows.shifts.now _ c.loop-from.from c.min-end.result (omega (arith, c.loop-from-test.true, c.min-end.ensures)) c.part.ensures.offsets in
-    let long = sym (length-map part.shifts.now (moved_offset part.inner.now.offset part.place)) in
     record {
       low = omega (arith, c.min-end.ensures);
-      pass = scattered_front _ (first_offsets part) _ c.loop-from.at c.scatter_stretch-at.result c.args.width _ c.args.items.now c.loop-from.block c.scatter_stretch-at.new.block _ split
-          (c.scatter_stretch-at.ensures.written ∙ ap (λ n. assigned (first_offsets part) (packed c.loop-from.at c.args.width n) c.args.width c.args.items.now c.loop-from.block) long)
-          c.scatter_stretch-at.ensures.len
-          (c.scatter_stretch-at.ensures.end ∙ ap (λ n. c.loop-from.at + n * c.args.width) long)
+      pass = scattered_front _ (first_offsets part) _ c.loop-from.at c.scatter_stretch-at.result c.args.source.width _ c.args.source.items.now c.loop-from.block c.scatter_stretch-at.new.block _ split
+          c.scatter_stretch-at.ensures.written c.scatter_stretch-at.ensures.len c.scatter_stretch-at.ensures.end
           c.loop-from.invariant.pass;
       len = c.scatter_stretch-at.ensures.len ∙ c.loop-from.invariant.len;
     }
