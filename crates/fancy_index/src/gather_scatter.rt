@@ -6,7 +6,7 @@ ghost use Rattle.fancy_index.specs.inside.Kept.{FitAt, end_of, moved_offsets, of
 ghost use Rattle.std.specs.Prelude.{All, length, ◌*◌, ◌++◌, ◌+◌, ◌≡◌, ◌≤◌};
 
 use crate::plan_rows::{MovedLayout, PlanAxes, Shifted, fill_run, moved, moved_run};
-use crate::singles::{Source, fill_singles, push_singles, scatter_singles};
+use crate::singles::{PackedItems, fill_singles, push_singles, scatter_singles};
 use arrays::{copy_run, packed_run};
 use raw_block::{BlockBuilder, RawBlock};
 use shape_strides::{Runs, Walk};
@@ -87,14 +87,14 @@ pub(crate) fn push_all(
 
 /// Copies the items of a source to those of a shifted layout, run by run. Returns where the copied
 /// items end.
-fn scatter_moved(block: &mut RawBlock, target: MovedLayout<'_>, source: Source<'_>) -> usize
+fn scatter_moved(block: &mut RawBlock, target: MovedLayout<'_>, source: PackedItems<'_>) -> usize
     requires inside { FitAt (moved_offsets target) source.width block.old }
     requires room { end_of source (length (moved_offsets target)) ≤ length source.items.now }
     ensures written { block.new ≡ put_packed (moved_offsets target.entry) source.entry block.old }
     ensures len { length block.new ≡ length block.old }
     ensures end { result ≡ end_of source.entry (length (moved_offsets target.entry)) }
 {
-    let Source { items, at, width } = source;
+    let PackedItems { items, at, width } = source;
     let len = items.len();
     if let Some(run) = target.as_run() {
         let from = packed_run(at, width, run.count, len);
@@ -113,7 +113,7 @@ fn scatter_moved(block: &mut RawBlock, target: MovedLayout<'_>, source: Source<'
 
 /// Copies the items of a source to the inner axes, once for each shift. Inner axes of one item need
 /// no walk.
-fn scatter_shifts(block: &mut RawBlock, rows: Shifted<'_>, source: Source<'_>) -> usize
+fn scatter_shifts(block: &mut RawBlock, rows: Shifted<'_>, source: PackedItems<'_>) -> usize
     requires inside { FitAt (shifted_offsets rows) source.width block.old }
     requires room { end_of source (length (shifted_offsets rows)) ≤ length source.items.now }
     ensures written { block.new ≡ put_packed (shifted_offsets rows.entry) source.entry block.old }
@@ -131,7 +131,7 @@ fn scatter_shifts(block: &mut RawBlock, rows: Shifted<'_>, source: Source<'_>) -
             layout: inner,
             start: to,
         };
-        at = scatter_moved(block, target, Source { at, ..source });
+        at = scatter_moved(block, target, PackedItems { at, ..source });
     }
     at
 }
@@ -146,7 +146,7 @@ pub(crate) fn scatter(block: &mut RawBlock, axes: &PlanAxes, items: &RawBlock, w
 {
     let mut at = 0;
     for place in Walk::new(&axes.outer) {
-        at = scatter_shifts(block, axes.rows(place), Source { items, at, width });
+        at = scatter_shifts(block, axes.rows(place), PackedItems { items, at, width });
     }
 }
 

@@ -153,7 +153,7 @@ pub(crate) fn push_singles(
 
 /// Adjacent items of `width` bytes in a block, starting at `at`.
 #[derive(Clone, Copy)]
-pub(crate) struct Source<'a> {
+pub(crate) struct PackedItems<'a> {
     pub items: &'a RawBlock,
     pub at: usize,
     pub width: usize,
@@ -162,14 +162,14 @@ pub(crate) struct Source<'a> {
 /// Copies the items of a source, each to one of the shifted places. Returns where the copied items
 /// end. If the compiler knows the width, each is a single load and store.
 #[inline(always)]
-fn scatter_each(block: &mut RawBlock, rows: Shifted<'_>, source: Source<'_>) -> usize
+fn scatter_each(block: &mut RawBlock, rows: Shifted<'_>, source: PackedItems<'_>) -> usize
     requires inside { FitAt (first_offsets rows) source.width block.old }
     requires room { end_of source (length (first_offsets rows)) ≤ length source.items.now }
     ensures written { block.new ≡ put_packed (first_offsets rows.entry) source.entry block.old }
     ensures len { length block.new ≡ length block.old }
     ensures end { result ≡ end_of source.entry (length (first_offsets rows.entry)) }
 {
-    let Source { items, at, width } = source;
+    let PackedItems { items, at, width } = source;
     let _len = items.len();
     let base = rows.inner.offset;
     let bytes = items.bytes();
@@ -185,7 +185,7 @@ fn scatter_each(block: &mut RawBlock, rows: Shifted<'_>, source: Source<'_>) -> 
 /// Copies the items of a source to the shifted places: as one range if these are adjacent, and
 /// otherwise one by one.
 #[inline(always)]
-fn scatter_stretch(block: &mut RawBlock, rows: Shifted<'_>, source: Source<'_>) -> usize
+fn scatter_stretch(block: &mut RawBlock, rows: Shifted<'_>, source: PackedItems<'_>) -> usize
     requires some { 1 ≤ length rows.shifts.now }
     requires few { length rows.shifts.now ≤ 128 }
     requires inside { FitAt (first_offsets rows) source.width block.old }
@@ -194,7 +194,7 @@ fn scatter_stretch(block: &mut RawBlock, rows: Shifted<'_>, source: Source<'_>) 
     ensures len { length block.new ≡ length block.old }
     ensures end { result ≡ end_of source.entry (length (first_offsets rows.entry)) }
 {
-    let Source { items, at, width } = source;
+    let PackedItems { items, at, width } = source;
     let len = items.len();
     let Some(run) = rows.as_run(width) else {
         return scatter_each(block, rows, source);
@@ -206,7 +206,7 @@ fn scatter_stretch(block: &mut RawBlock, rows: Shifted<'_>, source: Source<'_>) 
 
 /// Copies the items of a source to the shifted places: a few one by one, and many range by range.
 #[inline(always)]
-fn scatter_ranges(block: &mut RawBlock, rows: Shifted<'_>, source: Source<'_>) -> usize
+fn scatter_ranges(block: &mut RawBlock, rows: Shifted<'_>, source: PackedItems<'_>) -> usize
     requires inside { FitAt (first_offsets rows) source.width block.old }
     requires room { end_of source (length (first_offsets rows)) ≤ length source.items.now }
     ensures written { block.new ≡ put_packed (first_offsets rows.entry) source.entry block.old }
@@ -220,7 +220,7 @@ fn scatter_ranges(block: &mut RawBlock, rows: Shifted<'_>, source: Source<'_>) -
     let mut from = 0;
     while from < rows.shifts.len() {
         let end = rows.shifts.len().min(from + 128);
-        at = scatter_stretch(block, rows.part(from, end), Source { at, ..source });
+        at = scatter_stretch(block, rows.part(from, end), PackedItems { at, ..source });
         from = end;
     }
     at
@@ -228,7 +228,11 @@ fn scatter_ranges(block: &mut RawBlock, rows: Shifted<'_>, source: Source<'_>) -
 
 /// Copies the items of a source to the shifted places, with loops of their own for each common
 /// width.
-pub(crate) fn scatter_singles(block: &mut RawBlock, rows: Shifted<'_>, source: Source<'_>) -> usize
+pub(crate) fn scatter_singles(
+    block: &mut RawBlock,
+    rows: Shifted<'_>,
+    source: PackedItems<'_>,
+) -> usize
     requires inside { FitAt (first_offsets rows) source.width block.old }
     requires room { end_of source (length (first_offsets rows)) ≤ length source.items.now }
     ensures written { block.new ≡ put_packed (first_offsets rows.entry) source.entry block.old }
@@ -236,10 +240,10 @@ pub(crate) fn scatter_singles(block: &mut RawBlock, rows: Shifted<'_>, source: S
     ensures end { result ≡ end_of source.entry (length (first_offsets rows.entry)) }
 {
     match source.width {
-        1 => scatter_ranges(block, rows, Source { width: 1, ..source }),
-        2 => scatter_ranges(block, rows, Source { width: 2, ..source }),
-        4 => scatter_ranges(block, rows, Source { width: 4, ..source }),
-        8 => scatter_ranges(block, rows, Source { width: 8, ..source }),
+        1 => scatter_ranges(block, rows, PackedItems { width: 1, ..source }),
+        2 => scatter_ranges(block, rows, PackedItems { width: 2, ..source }),
+        4 => scatter_ranges(block, rows, PackedItems { width: 4, ..source }),
+        8 => scatter_ranges(block, rows, PackedItems { width: 8, ..source }),
         _ => scatter_ranges(block, rows, source),
     }
 }

@@ -4,7 +4,7 @@ use Rattle.fancy_index.specs.Words.{assigned, joined_at, row_offsets, offsets, E
 use Rattle.fancy_index.specs.declared.plan_rows.MovedLayout.{MovedLayout}
 use Rattle.fancy_index.specs.declared.plan_rows.PlanAxes.{PlanAxes}
 use Rattle.fancy_index.specs.declared.plan_rows.Shifted.{Shifted}
-use Rattle.fancy_index.specs.declared.singles.Source.{Source}
+use Rattle.fancy_index.specs.declared.singles.PackedItems.{PackedItems}
 use Rattle.fancy_index.specs.inside.Moved.{moved_offset, shifted_all, laid_offsets}
 
 abbrev pub moved_offsets : MovedLayout → List ℕ
@@ -21,11 +21,11 @@ abbrev pub offsets_from : PlanAxes → List ℕ
 offsets_from axes = laid_offsets axes.outer axes.shifts.items axes.inner
 
 -- where so many items of a source end
-abbrev pub end_of : Source → ℕ → ℕ
+abbrev pub end_of : PackedItems → ℕ → ℕ
 end_of source n = source.at + n * source.width
 
 -- a block, with the items of a source put to these offsets
-abbrev pub put_packed : List ℕ → Source → List ℕ → List ℕ
+abbrev pub put_packed : List ℕ → PackedItems → List ℕ → List ℕ
 put_packed to source block = assigned to (row_offsets source.at source.width (length to)) source.width source.items.now block
 
 -- items of `width` bytes at these offsets lie in the block
