@@ -61,7 +61,7 @@ pub(crate) fn named_place(n: usize, at: i128) -> Option<u32>
 }
 
 /// Whether a signed number is in range for an axis of `n` items, and if so, the index that it
-/// stands for.
+/// stands for. There is no branch: as an unsigned number, a negative one is not less than `n`.
 #[inline(always)]
 fn signed_place(n: usize, at: i64) -> (bool, u32)
     requires { n ≤ max_items }
@@ -85,8 +85,7 @@ fn unsigned_place(n: usize, at: u64) -> (bool, u32)
 /// it stands for.
 #[inline(always)]
 fn word_place<const N: usize>(form: Form, item: &[u8; N], n: usize) -> (bool, u32)
-    requires some { 1 ≤ N }
-    requires few { N ≤ 8 }
+    requires few { (1 ≤ N) × (N ≤ 8) }
     requires width { form.width ≡ N }
     requires small { n ≤ max_items }
     ensures { IsPlaceOf n (word form item.now) result }

@@ -10,13 +10,9 @@ use Rattle.fancy_index.specs.inside.PointLists.{place_of}
 abbrev pub word : Form → List ℕ → ℤ
 word form item = integer form.signed form.width (number_in form.order form.width item)
 
--- a number of bytes that an integer may have
-abbrev pub is_word_width : ℕ → Bool
-is_word_width width = width == 1 || width == 2 || width == 4 || width == 8
-
--- items of this type are integers of this form
+-- items of this type are integers of this form, of 1, 2, 4 or 8 bytes
 pub record AreWords (form : Form) (descr : Descr) : Type 0 where
-  pub width : IsTrue (is_word_width form.width)
+  pub width : IsTrue (form.width == 1 || form.width == 2 || form.width == 4 || form.width == 8)
   pub size : item_size descr ≡ form.width
   pub read : (block : List ℕ) (offset : ℕ) → number_from descr block offset ≡ word form (item_at offset form.width block)
 
