@@ -2,7 +2,7 @@
 ghost use Rattle.fancy_index.specs.Plans.{put_each};
 ghost use Rattle.fancy_index.specs.Words.{EachWithin, LieWithin, max_bytes, offsets, run_offsets};
 ghost use Rattle.fancy_index.specs.inside.Moved.{AllStart, AreStarts, IsMoved, moved_offset};
-ghost use Rattle.std.specs.Prelude.{All, IsTrue, [], get_or, length, map, pos, ℕ, ◌*◌, ◌+◌, ◌<◌, ◌∷◌, ◌≡◌, ◌≤◌};
+ghost use Rattle.std.specs.Prelude.{All, IsTrue, [], get_or, length, map, ℕ, ◌*◌, ◌+◌, ◌<◌, ◌∷◌, ◌≡◌, ◌≤◌};
 
 use raw_block::RawBlock;
 use shape_strides::{Layout, Run};
@@ -48,13 +48,6 @@ pub(crate) fn moved(base: usize, start: usize, offset: usize) -> usize
     ensures bound { result < max_bytes }
 {
     start + offset - base
-}
-
-/// Whether items with this step between them, of `width` bytes, are adjacent.
-pub(crate) fn is_step(step: isize, width: usize) -> bool
-    ensures { IsTrue result → step ≡ pos width }
-{
-    step >= 0 && step.unsigned_abs() == width
 }
 
 /// Whether each shift is the one before it plus a step.
@@ -117,7 +110,7 @@ impl<'a> Shifted<'a> {
             return None;
         }
         let run = self.inner.as_one_run()?;
-        if !is_step(run.step, width) {
+        if !run.is_packed(width) {
             return None;
         }
         run.count.checked_mul(width)

@@ -6,7 +6,7 @@ ghost use Rattle.fancy_index.specs.inside.Moved.{laid_offsets, AllStart};
 ghost use Rattle.fancy_index.specs.inside.Kept.{offsets_from};
 
 use crate::gather_scatter::{fill, push_all, scatter};
-use crate::plan_rows::{PlanAxes, is_step, moved};
+use crate::plan_rows::{PlanAxes, moved};
 use arrays::Owned;
 use elem_descr::{Descr, MemoryOrder, Refusal};
 use raw_block::{BlockBuilder, RawBlock};

@@ -1,6 +1,4 @@
-use Rattle.std.proofs.Common.{rules, w64, ◌≡◌, ◌≤◌, ◌<◌, ◌*◌, ◌^◌, ℕ, Option, None, Some, SomeIff, IfSome, length, pos, sym, ap, subst, ◌∙◌, arith}
-use Rattle.std.proofs.lemmas.Int.{to_z-of_z}
-use mir.Val.{SFits}
+use Rattle.std.proofs.Common.{◌≡◌, ◌≤◌, ◌<◌, ◌*◌, ◌^◌, ℕ, Option, None, Some, SomeIff, IfSome, length, pos, sym, ap, subst, ◌∙◌, arith}
 use Rattle.fancy_index.specs.Words.{length-offsets, length-run_offsets, run_offsets}
 use Rattle.fancy_index.specs.inside.Kept.{AreWide}
 use Rattle.fancy_index.proofs.WideLaws.{are-wide}
@@ -10,8 +8,7 @@ pub returns : goal.returns
 returns c =
     let run = c.in_ok-run.run' in
     let same = c.in_ok-run.ensures.items in
-    let fits : SFits w64 run.step = search rules in
-    let step : run.step ≡ pos c.args.width = sym (to_z-of_z w64 run.step fits) ∙ c.is_step.ensures c.if-not-is_step.false in
+    let step : run.step ≡ pos c.args.width = c.is_packed.ensures.0 c.if-not-is_packed.false in
     let some : 1 ≤ run.count = omega (arith, length-run_offsets run, ap length same, length-offsets c.args.self.inner.now, c.items.ensures.value, c.if-items-eq0.false) in
     told c.checked_mul.result c.checked_mul.ensures (are-wide c.args.self c.args.width run.offset run.count ((λ i. run_offsets (record { offset = run.offset; count = run.count; step = sym step i })) ∙ same) some)
   where
