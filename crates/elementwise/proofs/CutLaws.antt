@@ -1,5 +1,5 @@
 -- Casts of byte strings that do not get longer, and of numbers.
-use Rattle.std.proofs.Common.{◌≡◌, ◌+◌, ◌-◌, ◌*◌, ◌<◌, ◌≤◌, ◌++◌, inl, inr, true, false, ℕ, zero, suc, List, [], ◌∷◌, map, length, take, drop, replicate, sym, ap, subst, ◌∙◌, All, arith, refl, append-nil}
+use Rattle.std.proofs.Common.{◌≡◌, ◌+◌, ◌-◌, ◌*◌, ◌≤◌, ◌++◌, inl, inr, true, false, ℕ, zero, suc, List, [], ◌∷◌, map, length, take, drop, replicate, sym, subst, ◌∙◌, All, arith, refl, append-nil}
 use Rattle.std.proofs.lemmas.Bool.{false≢true}
 use Rattle.std.proofs.lemmas.List.{take-take}
 use Rattle.std.proofs.lemmas.List.Elements.{All-head, All-rest}

@@ -11,7 +11,6 @@ use Rattle.elementwise.specs.declared.pairing.Work.{Work}
 use Rattle.elementwise.specs.declared.pairing.Pairing.{Pairing}
 use Rattle.elementwise.specs.declared.pairing.Pairing.TheVariants.{Alike, Signs, Texts, With}
 use Rattle.elementwise.specs.declared.pairing.Work.TheVariants.{Combine, Change, Compare, Cast}
-use Rattle.elementwise.proofs.LeafLaws.{read_back}
 
 pub number-little : (scalar : Scalar) → IsNumber scalar → IsNumber (little scalar)
 number-little BoolScalar is = tt

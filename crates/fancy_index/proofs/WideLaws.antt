@@ -1,5 +1,5 @@
 -- Adjacent items, taken together as one.
-use Rattle.std.proofs.Common.{◌≡◌, ◌+◌, ◌-◌, ◌*◌, ◌≤◌, ◌++◌, get_or, ℕ, zero, suc, pos, List, [], ◌∷◌, map, length, take, drop, refl, sym, ap, subst, ◌∙◌, All, arith, length-append, suc-mul, zero-mul, add-mul}
+use Rattle.std.proofs.Common.{◌≡◌, ◌+◌, ◌-◌, ◌*◌, ◌≤◌, ◌++◌, get_or, ℕ, zero, suc, List, [], ◌∷◌, map, length, take, drop, refl, sym, ap, subst, ◌∙◌, All, arith, length-append, suc-mul, zero-mul, add-mul}
 use Rattle.std.proofs.Math.Seq.{take-add}
 use Rattle.std.proofs.lemmas.Grind.{flat_map-append}
 use Rattle.std.proofs.lemmas.List.{length-map, drop-drop}

@@ -1,4 +1,4 @@
-use Rattle.std.proofs.Common.{length, ap, arith}
+use Rattle.std.proofs.Common.{ap, arith}
 use Rattle.std.proofs.lemmas.List.{drop_all}
 use Rattle.fancy_index.specs.Words.{offsets}
 use Rattle.fancy_index.specs.inside.Moved.{shifted_all}
