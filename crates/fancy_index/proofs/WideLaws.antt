@@ -31,17 +31,16 @@ module _ (base : ℕ) where
       let from : start + 0 ≡ start = omega arith in
       (λ i. map (moved_offset base start) (row_offsets (none i) width n)) ∙ moved-row start 0 width n ∙ λ i. row_offsets (from i) width n
 
-cut : (bytes : List ℕ) (o a b : ℕ) → item_at o (a + b) bytes ≡ item_at o a bytes ++ item_at (o + a) b bytes
-cut bytes o a b = take-add a b (drop o bytes) ∙ ap (λ rest. take a (drop o bytes) ++ take b rest) (drop-drop a o bytes)
-
 -- the bytes of adjacent items are those of one item
 row-joined : (block : List ℕ) (width n at : ℕ) → joined_at (row_offsets at width n) width block ≡ item_at at (n * width) block
 row-joined block width zero at = ap (λ n. item_at at n block) (sym (zero-mul width))
 row-joined block width (suc n) at =
     let more : width + n * width ≡ suc n * width = omega (arith, suc-mul n width) in
+    let parts : item_at at (width + n * width) block ≡ item_at at width block ++ item_at (at + width) (n * width) block =
+    take-add width (n * width) (drop at block) ∙ ap (λ rest. item_at at width block ++ take (n * width) rest) (drop-drop width at block) in
     ap (λ os. joined_at os width block) (packed-suc at width n)
     ∙ ap (λ rest. item_at at width block ++ rest) (row-joined block width n (at + width))
-    ∙ sym (cut block at width (n * width))
+    ∙ sym parts
     ∙ ap (λ bytes. item_at at bytes block) more
 
 -- and where they end
