@@ -79,9 +79,31 @@ fn push_each(items: BlockBuilder, block: &RawBlock, rows: Shifted<'_>, width: us
     items
 }
 
+/// Appends the items at the shifted places one by one, with a loop of its own for each common
+/// width.
+fn push_one_by_one(
+    items: BlockBuilder,
+    block: &RawBlock,
+    rows: Shifted<'_>,
+    width: usize,
+) -> BlockBuilder
+    requires inside { All (λ offset. offset + width ≤ length block.now) (first_offsets rows) }
+    requires room { length (first_offsets rows) * width ≤ items.1 }
+    ensures bytes { result.0 ≡ items.0 ++ joined_at (first_offsets rows.entry) width block.now }
+    ensures left { length (first_offsets rows.entry) * width + result.1 ≡ items.1 }
+{
+    match width {
+        1 => push_each(items, block, rows, 1),
+        2 => push_each(items, block, rows, 2),
+        4 => push_each(items, block, rows, 4),
+        8 => push_each(items, block, rows, 8),
+        16 => push_each(items, block, rows, 16),
+        _ => push_each(items, block, rows, width),
+    }
+}
+
 /// Appends the items at the shifted places: as one range if they are adjacent, and otherwise one by
 /// one.
-#[inline(always)]
 fn push_stretch(
     items: BlockBuilder,
     block: &RawBlock,
@@ -96,7 +118,7 @@ fn push_stretch(
     ensures left { length (first_offsets rows.entry) * width + result.1 ≡ items.1 }
 {
     let Some(run) = rows.as_run(width) else {
-        return push_each(items, block, rows, width);
+        return push_one_by_one(items, block, rows, width);
     };
     let mut items = items;
     items.push_strided(block, run.offset, run.step, width, run.count);
@@ -104,32 +126,6 @@ fn push_stretch(
 }
 
 /// Appends the items at the shifted places: a few one by one, and many range by range.
-#[inline(always)]
-fn push_ranges(
-    items: BlockBuilder,
-    block: &RawBlock,
-    rows: Shifted<'_>,
-    width: usize,
-) -> BlockBuilder
-    requires inside { All (λ offset. offset + width ≤ length block.now) (first_offsets rows) }
-    requires room { length (first_offsets rows) * width ≤ items.1 }
-    ensures bytes { result.0 ≡ items.0 ++ joined_at (first_offsets rows.entry) width block.now }
-    ensures left { length (first_offsets rows.entry) * width + result.1 ≡ items.1 }
-{
-    if rows.shifts.len() < FEW {
-        return push_each(items, block, rows, width);
-    }
-    let mut items = items;
-    let mut from = 0;
-    while from < rows.shifts.len() {
-        let end = rows.shifts.len().min(from + 128);
-        items = push_stretch(items, block, rows.part(from, end), width);
-        from = end;
-    }
-    items
-}
-
-/// Appends the items at the shifted places, with loops of their own for each common width.
 pub(crate) fn push_singles(
     items: BlockBuilder,
     block: &RawBlock,
@@ -141,14 +137,17 @@ pub(crate) fn push_singles(
     ensures bytes { result.0 ≡ items.0 ++ joined_at (first_offsets rows.entry) width block.now }
     ensures left { length (first_offsets rows.entry) * width + result.1 ≡ items.1 }
 {
-    match width {
-        1 => push_ranges(items, block, rows, 1),
-        2 => push_ranges(items, block, rows, 2),
-        4 => push_ranges(items, block, rows, 4),
-        8 => push_ranges(items, block, rows, 8),
-        16 => push_ranges(items, block, rows, 16),
-        _ => push_ranges(items, block, rows, width),
+    if rows.shifts.len() < FEW {
+        return push_one_by_one(items, block, rows, width);
     }
+    let mut items = items;
+    let mut from = 0;
+    while from < rows.shifts.len() {
+        let end = rows.shifts.len().min(from + 128);
+        items = push_stretch(items, block, rows.part(from, end), width);
+        from = end;
+    }
+    items
 }
 
 /// Adjacent items of `width` bytes in a block, starting at `at`.
@@ -182,9 +181,26 @@ fn scatter_each(block: &mut RawBlock, rows: Shifted<'_>, source: PackedItems<'_>
     from
 }
 
+/// Copies the items of a source to the shifted places one by one, with a loop of its own for each
+/// common width.
+fn scatter_one_by_one(block: &mut RawBlock, rows: Shifted<'_>, source: PackedItems<'_>) -> usize
+    requires inside { FitAt (first_offsets rows) source.width block.old }
+    requires room { end_of source (length (first_offsets rows)) ≤ length source.items.now }
+    ensures written { block.new ≡ put_packed (first_offsets rows.entry) source.entry block.old }
+    ensures len { length block.new ≡ length block.old }
+    ensures end { result ≡ end_of source.entry (length (first_offsets rows.entry)) }
+{
+    match source.width {
+        1 => scatter_each(block, rows, PackedItems { width: 1, ..source }),
+        2 => scatter_each(block, rows, PackedItems { width: 2, ..source }),
+        4 => scatter_each(block, rows, PackedItems { width: 4, ..source }),
+        8 => scatter_each(block, rows, PackedItems { width: 8, ..source }),
+        _ => scatter_each(block, rows, source),
+    }
+}
+
 /// Copies the items of a source to the shifted places: as one range if these are adjacent, and
 /// otherwise one by one.
-#[inline(always)]
 fn scatter_stretch(block: &mut RawBlock, rows: Shifted<'_>, source: PackedItems<'_>) -> usize
     requires some { 1 ≤ length rows.shifts.now }
     requires few { length rows.shifts.now ≤ 128 }
@@ -197,7 +213,7 @@ fn scatter_stretch(block: &mut RawBlock, rows: Shifted<'_>, source: PackedItems<
     let PackedItems { items, at, width } = source;
     let len = items.len();
     let Some(run) = rows.as_run(width) else {
-        return scatter_each(block, rows, source);
+        return scatter_one_by_one(block, rows, source);
     };
     let from = packed_run(at, width, run.count, len);
     copy_run(block, run, items, from, width);
@@ -205,29 +221,6 @@ fn scatter_stretch(block: &mut RawBlock, rows: Shifted<'_>, source: PackedItems<
 }
 
 /// Copies the items of a source to the shifted places: a few one by one, and many range by range.
-#[inline(always)]
-fn scatter_ranges(block: &mut RawBlock, rows: Shifted<'_>, source: PackedItems<'_>) -> usize
-    requires inside { FitAt (first_offsets rows) source.width block.old }
-    requires room { end_of source (length (first_offsets rows)) ≤ length source.items.now }
-    ensures written { block.new ≡ put_packed (first_offsets rows.entry) source.entry block.old }
-    ensures len { length block.new ≡ length block.old }
-    ensures end { result ≡ end_of source.entry (length (first_offsets rows.entry)) }
-{
-    if rows.shifts.len() < FEW {
-        return scatter_each(block, rows, source);
-    }
-    let mut at = source.at;
-    let mut from = 0;
-    while from < rows.shifts.len() {
-        let end = rows.shifts.len().min(from + 128);
-        at = scatter_stretch(block, rows.part(from, end), PackedItems { at, ..source });
-        from = end;
-    }
-    at
-}
-
-/// Copies the items of a source to the shifted places, with loops of their own for each common
-/// width.
 pub(crate) fn scatter_singles(
     block: &mut RawBlock,
     rows: Shifted<'_>,
@@ -239,13 +232,17 @@ pub(crate) fn scatter_singles(
     ensures len { length block.new ≡ length block.old }
     ensures end { result ≡ end_of source.entry (length (first_offsets rows.entry)) }
 {
-    match source.width {
-        1 => scatter_ranges(block, rows, PackedItems { width: 1, ..source }),
-        2 => scatter_ranges(block, rows, PackedItems { width: 2, ..source }),
-        4 => scatter_ranges(block, rows, PackedItems { width: 4, ..source }),
-        8 => scatter_ranges(block, rows, PackedItems { width: 8, ..source }),
-        _ => scatter_ranges(block, rows, source),
+    if rows.shifts.len() < FEW {
+        return scatter_one_by_one(block, rows, source);
     }
+    let mut at = source.at;
+    let mut from = 0;
+    while from < rows.shifts.len() {
+        let end = rows.shifts.len().min(from + 128);
+        at = scatter_stretch(block, rows.part(from, end), PackedItems { at, ..source });
+        from = end;
+    }
+    at
 }
 
 /// Writes the item at each shifted place. If the compiler knows the length of the item, each is a

@@ -13,7 +13,7 @@ use crate::write::Target;
 use arrays::{gather, scatter};
 use overlap_copy::{assign, assign_from, assign_shifted, in_any_order};
 use raw_block::RawBlock;
-use shape_strides::{Layout, Runs};
+use shape_strides::{Layout, Runs, lies_in_c_order};
 use std::alloc::{AllocError, Global};
 
 /// Writes the bytes of an item at the offsets of runs.
@@ -49,6 +49,7 @@ pub(crate) fn fill(alloc: Global, block: &mut RawBlock, target: &Target, item: &
     ensures len { length block.new ≡ length block.old }
 {
     match target {
+        Target::View(layout) if lies_in_c_order(layout) => fill_each(block, layout, item),
         Target::View(layout) => match in_any_order(alloc, layout, layout, item.len()) {
             Some(pair) => fill_each(block, &pair.target, item),
             None => fill_each(block, layout, item),

@@ -13,7 +13,7 @@ use arrays::{Owned, gather, goes_by_columns};
 use fancy_index::Plan;
 use overlap_copy::{exchange, overwrite, overwrite_each};
 use raw_block::{BlockBuilder, RawBlock};
-use shape_strides::{Layout, Shape, in_memory_order};
+use shape_strides::{Layout, Shape, in_memory_order, lies_in_c_order};
 use smallvec::SmallVec;
 use std::alloc::{AllocError, Global};
 use std::mem::replace;
@@ -86,11 +86,11 @@ fn near(alloc: Global, target: &Target) -> Option<Target>
     ensures { IfSome result (IsNear target.now) }
 {
     match target {
-        Target::View(layout) => {
+        Target::View(layout) if !lies_in_c_order(layout) => {
             let pair = in_memory_order(alloc, layout, layout)?;
             Some(Target::View(pair.target))
         }
-        Target::Plan(_) => None,
+        _ => None,
     }
 }
 

@@ -2,7 +2,7 @@ use Rattle.std.proofs.Common.{◌-◌, ◌≤◌, length, map, drop}
 use Rattle.fancy_index.specs.inside.Moved.{moved_offset}
 use Rattle.fancy_index.specs.inside.Kept.{first_offsets}
 use Rattle.fancy_index.proofs.Passes.{Pushing}
-use Rattle.fancy_index.proofs.singles.push_ranges.Given as goal
+use Rattle.fancy_index.proofs.singles.push_singles.Given as goal
 
 abbrev pub invariant-loop-from : goal.invariant-loop-from
 invariant-loop-from l = record {

@@ -2,7 +2,7 @@ use Rattle.std.proofs.Common.{◌≡◌, ◌-◌, ◌≤◌, length, map, drop}
 use Rattle.fancy_index.specs.inside.Moved.{moved_offset}
 use Rattle.fancy_index.specs.inside.Kept.{first_offsets, end_of, put_packed}
 use Rattle.fancy_index.proofs.Passes.{Scattering}
-use Rattle.fancy_index.proofs.singles.scatter_ranges.Given as goal
+use Rattle.fancy_index.proofs.singles.scatter_singles.Given as goal
 
 abbrev pub invariant-loop-from : goal.invariant-loop-from
 invariant-loop-from l = record {

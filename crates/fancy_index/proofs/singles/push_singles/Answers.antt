@@ -1,7 +1,7 @@
 use Rattle.std.proofs.Common.{arith}
 use Rattle.fancy_index.proofs.Passes.{push_front, pushed_front}
 use Rattle.fancy_index.proofs.SingleLaws.{split-part}
-use Rattle.fancy_index.proofs.singles.push_ranges.Goals as goal
+use Rattle.fancy_index.proofs.singles.push_singles.Goals as goal
 
 pub push_stretch-items-requires-clause-inside : goal.push_stretch-items-requires-clause-inside
 push_stretch-items-requires-clause-inside c =

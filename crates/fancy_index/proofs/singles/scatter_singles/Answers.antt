@@ -2,7 +2,7 @@ use Rattle.std.proofs.Common.{◌∙◌, arith}
 use Rattle.fancy_index.specs.inside.Kept.{first_offsets}
 use Rattle.fancy_index.proofs.Passes.{scatter_front, scattered_front}
 use Rattle.fancy_index.proofs.SingleLaws.{split-part}
-use Rattle.fancy_index.proofs.singles.scatter_ranges.Goals as goal
+use Rattle.fancy_index.proofs.singles.scatter_singles.Goals as goal
 
 pub scatter_stretch-at-requires-clause-inside : goal.scatter_stretch-at-requires-clause-inside
 scatter_stretch-at-requires-clause-inside c =
