@@ -8,9 +8,6 @@ use crate::plan_rows::{Shifted, moved};
 use arrays::{copy_run, packed_run};
 use raw_block::{BlockBuilder, RawBlock};
 
-/// Among fewer items than this, ranges are not looked for.
-const FEW: usize = 16;
-
 /// The `N` bytes that start at `at`, in a single load.
 #[inline(always)]
 pub(crate) fn array_at<const N: usize>(bytes: &[u8], at: usize) -> [u8; N]
@@ -79,31 +76,8 @@ fn push_each(items: BlockBuilder, block: &RawBlock, rows: Shifted<'_>, width: us
     items
 }
 
-/// Appends the items at the shifted places one by one, with a loop of its own for each common
-/// width.
-fn push_one_by_one(
-    items: BlockBuilder,
-    block: &RawBlock,
-    rows: Shifted<'_>,
-    width: usize,
-) -> BlockBuilder
-    requires inside { All (λ offset. offset + width ≤ length block.now) (first_offsets rows) }
-    requires room { length (first_offsets rows) * width ≤ items.1 }
-    ensures bytes { result.0 ≡ items.0 ++ joined_at (first_offsets rows.entry) width block.now }
-    ensures left { length (first_offsets rows.entry) * width + result.1 ≡ items.1 }
-{
-    match width {
-        1 => push_each(items, block, rows, 1),
-        2 => push_each(items, block, rows, 2),
-        4 => push_each(items, block, rows, 4),
-        8 => push_each(items, block, rows, 8),
-        16 => push_each(items, block, rows, 16),
-        _ => push_each(items, block, rows, width),
-    }
-}
-
-/// Appends the items at the shifted places: as one range if they are adjacent, and otherwise one by
-/// one.
+/// Appends the items at the shifted places: as one range if they are adjacent, and otherwise with a
+/// loop of its own for each common width.
 fn push_stretch(
     items: BlockBuilder,
     block: &RawBlock,
@@ -117,15 +91,22 @@ fn push_stretch(
     ensures bytes { result.0 ≡ items.0 ++ joined_at (first_offsets rows.entry) width block.now }
     ensures left { length (first_offsets rows.entry) * width + result.1 ≡ items.1 }
 {
-    let Some(run) = rows.as_run(width) else {
-        return push_one_by_one(items, block, rows, width);
-    };
-    let mut items = items;
-    items.push_strided(block, run.offset, run.step, width, run.count);
-    items
+    match (rows.as_run(width), width) {
+        (Some(run), _) => {
+            let mut items = items;
+            items.push_strided(block, run.offset, run.step, width, run.count);
+            items
+        }
+        (_, 1) => push_each(items, block, rows, 1),
+        (_, 2) => push_each(items, block, rows, 2),
+        (_, 4) => push_each(items, block, rows, 4),
+        (_, 8) => push_each(items, block, rows, 8),
+        (_, 16) => push_each(items, block, rows, 16),
+        _ => push_each(items, block, rows, width),
+    }
 }
 
-/// Appends the items at the shifted places: a few one by one, and many range by range.
+/// Appends the items at the shifted places, range by range.
 pub(crate) fn push_singles(
     items: BlockBuilder,
     block: &RawBlock,
@@ -137,9 +118,6 @@ pub(crate) fn push_singles(
     ensures bytes { result.0 ≡ items.0 ++ joined_at (first_offsets rows.entry) width block.now }
     ensures left { length (first_offsets rows.entry) * width + result.1 ≡ items.1 }
 {
-    if rows.shifts.len() < FEW {
-        return push_one_by_one(items, block, rows, width);
-    }
     let mut items = items;
     let mut from = 0;
     while from < rows.shifts.len() {
@@ -181,26 +159,8 @@ fn scatter_each(block: &mut RawBlock, rows: Shifted<'_>, source: PackedItems<'_>
     from
 }
 
-/// Copies the items of a source to the shifted places one by one, with a loop of its own for each
-/// common width.
-fn scatter_one_by_one(block: &mut RawBlock, rows: Shifted<'_>, source: PackedItems<'_>) -> usize
-    requires inside { FitAt (first_offsets rows) source.width block.old }
-    requires room { end_of source (length (first_offsets rows)) ≤ length source.items.now }
-    ensures written { block.new ≡ put_packed (first_offsets rows.entry) source.entry block.old }
-    ensures len { length block.new ≡ length block.old }
-    ensures end { result ≡ end_of source.entry (length (first_offsets rows.entry)) }
-{
-    match source.width {
-        1 => scatter_each(block, rows, PackedItems { width: 1, ..source }),
-        2 => scatter_each(block, rows, PackedItems { width: 2, ..source }),
-        4 => scatter_each(block, rows, PackedItems { width: 4, ..source }),
-        8 => scatter_each(block, rows, PackedItems { width: 8, ..source }),
-        _ => scatter_each(block, rows, source),
-    }
-}
-
 /// Copies the items of a source to the shifted places: as one range if these are adjacent, and
-/// otherwise one by one.
+/// otherwise with a loop of its own for each common width.
 fn scatter_stretch(block: &mut RawBlock, rows: Shifted<'_>, source: PackedItems<'_>) -> usize
     requires some { 1 ≤ length rows.shifts.now }
     requires few { length rows.shifts.now ≤ 128 }
@@ -212,15 +172,21 @@ fn scatter_stretch(block: &mut RawBlock, rows: Shifted<'_>, source: PackedItems<
 {
     let PackedItems { items, at, width } = source;
     let len = items.len();
-    let Some(run) = rows.as_run(width) else {
-        return scatter_one_by_one(block, rows, source);
-    };
-    let from = packed_run(at, width, run.count, len);
-    copy_run(block, run, items, from, width);
-    at + run.count * width
+    match (rows.as_run(width), width) {
+        (Some(run), _) => {
+            let from = packed_run(at, width, run.count, len);
+            copy_run(block, run, items, from, width);
+            at + run.count * width
+        }
+        (_, 1) => scatter_each(block, rows, PackedItems { width: 1, ..source }),
+        (_, 2) => scatter_each(block, rows, PackedItems { width: 2, ..source }),
+        (_, 4) => scatter_each(block, rows, PackedItems { width: 4, ..source }),
+        (_, 8) => scatter_each(block, rows, PackedItems { width: 8, ..source }),
+        _ => scatter_each(block, rows, source),
+    }
 }
 
-/// Copies the items of a source to the shifted places: a few one by one, and many range by range.
+/// Copies the items of a source to the shifted places, range by range.
 pub(crate) fn scatter_singles(
     block: &mut RawBlock,
     rows: Shifted<'_>,
@@ -232,9 +198,6 @@ pub(crate) fn scatter_singles(
     ensures len { length block.new ≡ length block.old }
     ensures end { result ≡ end_of source.entry (length (first_offsets rows.entry)) }
 {
-    if rows.shifts.len() < FEW {
-        return scatter_one_by_one(block, rows, source);
-    }
     let mut at = source.at;
     let mut from = 0;
     while from < rows.shifts.len() {
