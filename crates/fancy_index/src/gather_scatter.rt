@@ -47,9 +47,6 @@ fn push_shifted(
     ensures bytes { result.0 ≡ items.0 ++ joined_at (shifted_offsets rows.entry) width block.now }
     ensures left { length (shifted_offsets rows.entry) * width + result.1 ≡ items.1 }
 {
-    if rows.is_single() {
-        return push_singles(items, block, rows, width);
-    }
     if let Some(bytes) = rows.row_bytes(width) {
         return push_singles(items, block, rows, bytes);
     }

@@ -102,10 +102,14 @@ impl<'a> Shifted<'a> {
         self.inner.shape.items() == 1
     }
 
-    /// The bytes of the inner items together, if they are adjacent items of `width` bytes.
+    /// The bytes of the inner items together, if they are a single item or adjacent ones, of `width`
+    /// bytes.
     pub(crate) fn row_bytes(self, width: usize) -> Option<usize>
         ensures { IfSome result (AreWide self.entry width) }
     {
+        if self.is_single() {
+            return Some(width);
+        }
         if self.inner.shape.items() == 0 {
             return None;
         }

@@ -6,11 +6,11 @@ use Rattle.fancy_index.proofs.Passes.{push_front, pushed_front, pushed_all, spli
 use Rattle.fancy_index.proofs.gather_scatter.push_shifted.Goals as goal
 
 -- adjacent items have as many bytes, each by itself and together
-pub push_singles-requires-in-Some-clause-room : goal.push_singles-requires-in-Some-clause-room
-push_singles-requires-in-Some-clause-room c = omega (arith, c.in-Some.ensures.size, c.requires.room)
+pub push_singles-requires-clause-room : goal.push_singles-requires-clause-room
+push_singles-requires-clause-room c = omega (arith, c.in-Some.ensures.size, c.requires.room)
 
 pub returns-in-Some-clause-left : goal.returns-in-Some-clause-left
-returns-in-Some-clause-left c = omega (arith, c.in-Some.ensures.size, c.push_singles-in-Some.ensures.left)
+returns-in-Some-clause-left c = omega (arith, c.in-Some.ensures.size, c.push_singles.ensures.left)
 
 pub push_moved-items-requires-clause-inside : goal.push_moved-items-requires-clause-inside
 push_moved-items-requires-clause-inside c =

@@ -1,5 +1,5 @@
-use Rattle.std.proofs.Common.{◌≡◌, ◌≤◌, ◌<◌, ◌*◌, ◌^◌, ℕ, Option, None, Some, SomeIff, IfSome, length, pos, sym, ap, subst, ◌∙◌, arith}
-use Rattle.fancy_index.specs.Words.{length-offsets, length-run_offsets, run_offsets}
+use Rattle.std.proofs.Common.{◌≡◌, ◌+◌, ◌≤◌, ◌<◌, ◌*◌, ◌^◌, ℕ, Option, None, Some, SomeIff, IfSome, List, All, length, pos, sym, ap, subst, ◌∙◌, arith}
+use Rattle.fancy_index.specs.Words.{joined_at, length-offsets, length-run_offsets, run_offsets}
 use Rattle.fancy_index.specs.inside.Kept.{AreWide}
 use Rattle.fancy_index.proofs.WideLaws.{are-wide}
 use Rattle.fancy_index.proofs.plan_rows.Shifted.row_bytes.Goals as goal
@@ -15,3 +15,13 @@ returns c =
     told : (result : Option ℕ) → SomeIff result (c.in_ok-run.run'.count * c.args.width < 2 ^ 64) (c.in_ok-run.run'.count * c.args.width) → AreWide c.args.self c.args.width (c.in_ok-run.run'.count * c.args.width) → IfSome result (AreWide c.args.self c.args.width)
     told None is wide = tt
     told (Some bytes) is wide = subst (AreWide c.args.self c.args.width) (sym is.1) wide
+
+pub returns-then-is_single : goal.returns-then-is_single
+returns-then-is_single c =
+    let width = c.args.width in
+    let same = c.is_single.ensures c.if-is_single.true in
+    record {
+      size = ap (λ (os : List ℕ). length os * width) same;
+      joined = λ block. ap (λ os. joined_at os width block) same;
+      inside = λ len. subst (All (λ o. o + width ≤ len)) same;
+    }
