@@ -1,4 +1,4 @@
--- What is there where a call does not refuse.
+-- If a call is not refused, the definition gives a result too.
 use Rattle.std.proofs.Common.{◌≡◌, refl, Result, Ok, Err}
 use Rattle.bench_engine.specs.Words.{Refusal}
 use Rattle.bench_engine.specs.inside.Meeting.{Meets}

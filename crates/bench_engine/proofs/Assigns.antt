@@ -9,7 +9,7 @@ use Rattle.name_store.specs.States.{Array}
 use Rattle.bench_engine.specs.Machine.{viewed}
 use Rattle.bench_engine.specs.inside.Assigns.{LiesIn}
 
--- an array that is shown is a part of itself
+-- a shown array is a part of itself
 pub lies-whole : (s : State) (a : Array) (r : ArrayRef) → Shows s a r → LiesIn s a a r.layout.now
 lies-whole s a r shows = record {
   places = a.places;
@@ -44,13 +44,13 @@ lies-viewed s a part old new view lies is = record {
         let here : rank old.shape (view.leads index) < length (offsets old) = is.inside k d below in
         subst (λ (n : ℕ). rank lies.shape (view.leads index) < n) counted (subst (λ (l : List ℕ). rank l (view.leads index) < length (offsets old)) lies.shape_is here)
 
--- what holds of all offsets of a layout holds of those of a view of it
+-- what holds for all offsets of a layout holds for those of a view of it
 pub all-viewed : (P : ℕ → Type 0) (old new : Layout) (view : View) → IsViewOf old new view → All P (offsets old) → All P (offsets new)
 all-viewed P old new view is all = subst (All P) (sym is.places)
     (All-map P (λ index. slice_index (offsets old) (rank old.shape (view.leads index))) (indexes view.shape)
     (λ k d below. all (rank old.shape (view.leads (get_or (indexes view.shape) k d))) 0 (is.inside k d below)))
 
--- ---- the shape of what is stretched
+-- ---- the shape of stretched items
 
 shape-then : (can : Bool) (e : Refusal) (there : Result View Refusal) (f : View → View) (target : List ℕ) → ((view : View) → (f view).shape ≡ target) → IfOk (check can e >>= (λ _. there >>= (λ view. Ok (f view)))) (λ view. view.shape ≡ target)
 shape-then true e (Ok view) f target is = is view
@@ -73,7 +73,7 @@ stretched-shape old result target is = view-shape old result (stretched_into old
 
 -- ---- items that a cast leaves as they are
 
--- items of types that lie alike
+-- items of element types that are alike are the same
 alike-item : (a b : Descr) (block : List ℕ) (offset : ℕ) → AreAlike a b → item_from a block offset ≡ item_from b block offset
 alike-item a b block offset alike = λ i. map (λ leaf. decode leaf.scalar (take (size leaf.scalar) (drop leaf.at (take (alike.size i) (drop offset block))))) (alike.leaves i)
 

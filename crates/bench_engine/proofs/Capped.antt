@@ -1,11 +1,11 @@
--- Lengths of a script as numbers of the machine.
+-- Lengths of a script, capped to 64 bits.
 use Rattle.std.proofs.Common.{◌≡◌, ◌≤◌, ◌-◌, ◌^◌, ℕ, true, false, List, [], ◌∷◌, length, map, min, refl, sym, ap, ◌∙◌, Err, nat_le, arith}
 use Rattle.std.specs.List.{list_all}
 use Rattle.std.proofs.lemmas.Bool.{le-leb, leb-true, leb-false, lt-leb, and_parts}
 use Rattle.std.proofs.lemmas.List.{length-map}
 use Rattle.bench_engine.specs.Words.{◌>>=◌, check, TooManyAxes, TooLarge, max_items, shape_of}
 
--- a length that is capped is as much too large
+-- a capped length is too large exactly if the length is
 pub capped-fits : (n : ℕ) → nat_le (min n (2 ^ 64 - 1)) max_items ≡ nat_le n max_items
 capped-fits n = elim (nat_le n max_items) as (λ t. nat_le n max_items ≡ t → nat_le (min n (2 ^ 64 - 1)) max_items ≡ t) [
   | true ↦ λ e. le-leb _ _ (omega (arith, leb-true n max_items e))
@@ -23,7 +23,7 @@ capped-same (x ∷ xs) h =
     let same : min x (2 ^ 64 - 1) ≡ x = omega arith in
     λ i. same i ∷ capped-same xs (and_parts (nat_le x max_items) _ h).1 i
 
--- a shape with a length that is too large
+-- the answer to a shape with a length that is too large
 shape_of-wide : (xs : List ℕ) → list_all (λ n. nat_le n max_items) xs ≡ false → shape_of xs ≡ (check (nat_le (length xs) 64) TooManyAxes >>= λ _. Err TooLarge)
 unfolding shape_of
 shape_of-wide xs wide = rw wide refl

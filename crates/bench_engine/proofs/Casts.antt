@@ -9,7 +9,7 @@ use Rattle.bench_engine.specs.inside.OwnContents.{held}
 use Rattle.bench_engine.specs.Machine.{cast_items, cast_contents}
 use Rattle.bench_engine.proofs.Copies.{made-held}
 
--- ---- what is made
+-- ---- the array that is made
 
 pub cast-none : (s : State) (a : Array) (descr : Descr) → can_cast (descr_of s a) descr ≡ false → cast_items s a descr ≡ Err NoSuchCast
 unfolding cast_items

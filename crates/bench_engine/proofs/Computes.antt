@@ -1,4 +1,4 @@
--- A name bound to what is computed of other arrays.
+-- A name that is bound to the result of a computation.
 use Rattle.std.proofs.Common.{◌≡◌, ℕ, true, false, Some, None, List, map, IfOk, Option, Result, Ok, Err, refl, sym, ap, ◌∙◌, ◌⊎◌, inl, inr}
 use Rattle.std.specs.List.{list_all}
 use Rattle.std.proofs.lemmas.Simd.{map-map}
@@ -16,7 +16,7 @@ use Rattle.bench_engine.proofs.Copies.{made-held}
 
 -- ---- the command
 
--- a computation is carried out where its names are bound and there is room for one more
+-- a computation is carried out if its names are bound and there is room for the new name
 unfoldable computing : Choice → State → List ℕ → Computation → Outcome
 computing choice s name c = do
   _ ← check (list_all (is_bound s) (bound_in_computation c)) UnknownName

@@ -16,7 +16,7 @@ pub copied-done : (s : State) (a : Array) (order : MemoryOrder) (shape : List �
 unfolding copied_contents
 copied-done s a order shape small = rw small refl
 
--- what a block holds whose items stand in an order
+-- the contents of an owned array whose items are stored in this order
 pub made-held : (order : MemoryOrder) (descr : Descr) (shape : List ℕ) (items : List (List LeafValue)) (o : Owned) → o.descr ≡ descr → o.layout.shape ≡ shape → offsets o.layout ≡ offsets_in order (item_size descr) shape →
     map (item_from descr o.block) (offsets o.layout) ≡ items → new_contents_in order descr shape items ≡ held o
 made-held order descr shape items o typed shaped laid is = λ i. record {

@@ -1,4 +1,4 @@
--- A session, some bytes more.
+-- A session that is fed more bytes.
 use Rattle.std.proofs.Common.{◌≡◌, ◌≢◌, ◌<◌, ◌+◌, ℕ, Bool, true, false, List, [], ◌∷◌, ◌++◌, length, map, Option, Some, None, is_some, refl, sym, ap, ◌∙◌, subst, arith, append_assoc, add_assoc, not, cond, ◌&&◌, nat_eq}
 use Rattle.std.specs.Io.KnownBytes.{Appends}
 use Rattle.std.specs.List.{count_by}
@@ -22,20 +22,20 @@ use Rattle.bench_engine.proofs.Lines.{splits, splits-one, splits-more, splits-th
 count_by-append : (p : Reply → Bool) (xs ys : List Reply) → count_by p (xs ++ ys) ≡ count_by p xs + count_by p ys
 count_by-append p xs ys = sum_by-append (λ r. cond (p r) 1 0) xs ys
 
--- a piece of which something is held
+-- if something is held, the piece is not empty
 held-some : (bytes : List ℕ) (is_long : Bool) (piece : List ℕ) → (nat_eq (length bytes) 0 && not is_long) ≡ false → HoldsBytes bytes is_long piece → 0 < length piece
 held-some bytes true piece some holds = omega arith
 held-some [] false piece some holds = cc
 held-some (b ∷ bytes) false piece some holds = omega (arith, ap length holds)
 
--- and one of which nothing is
+-- if nothing is held, the piece is empty
 held-none : (bytes : List ℕ) (is_long : Bool) (piece : List ℕ) → (nat_eq (length bytes) 0 && not is_long) ≡ true → HoldsBytes bytes is_long piece → piece ≡ []
 held-none [] true piece none holds = cc
 held-none (b ∷ bytes) true piece none holds = absurd (false≢true (rw (eqb-suc-zero (length bytes)) at none))
 held-none [] false piece none holds = sym holds
 held-none (b ∷ bytes) false piece none holds = absurd (false≢true (rw (eqb-suc-zero (length bytes)) at none))
 
--- a reply that stands in out, and a part of it that has gone out
+-- the reply in `out`, of which only a part was written
 pub told-in-part : (shelf shelf' : StoreState) (old new : Session) (answered : Option Bool) (written written' : Option (List ℕ)) → true ≡ is_some answered → AnswersHeld shelf shelf' old new answered →
     ((gone missing : List ℕ) × (new.out ++ 10 ∷ [] ≡ gone ++ missing) × (0 < length missing) × Appends written written' gone) → ToldInPart (world old.bench.state shelf) (world new.bench.state shelf') written written' old
 told-in-part shelf shelf' old new None written written' some held part = cc
@@ -49,7 +49,7 @@ told-in-part shelf shelf' old new (Some accepted) written written' some held par
   sent = part.4;
 }
 
--- a reply that has gone out but for a rest, which follows with a newline; and one of which the rest is cut
+-- a reply whose rest is written, followed by a newline; and one that is cut short in its rest
 sent-line : (w w' w'' : Option (List ℕ)) (rest text : List ℕ) → Sends w w' rest text → Appends w' w'' (rest ++ 10 ∷ []) → Appends w w'' (text ++ 10 ∷ [])
 sent-line w w' w'' rest text sent more =
     subst (Appends w w'') (sym (append_assoc sent.0 rest (10 ∷ [])) ∙ ap (λ t. t ++ 10 ∷ []) (sym sent.1)) (appends_then w w' w'' sent.0 (rest ++ 10 ∷ []) sent.2 more)
@@ -91,7 +91,7 @@ run-one : (old new : World) (line : List ℕ) (replies : List Reply) → Answers
 run-one old new line replies answered = (new, replies, [], sym (append-nil replies), answered, (refl, refl))
 
 module _ (start mid to : World) (before written written' : Option (List ℕ)) (a r : ℕ) (old new : Session) where
-  -- more lines are answered, and counted beside those before them
+  -- more lines are answered, and their counts are added
   pub told-on : (first second : List (List ℕ)) → HasTold start mid before written first a r old → HasTold mid to written written' second old.accepted old.refused new → HasTold start to before written' (first ++ second) a r new
   told-on first second early late = record {
     replies = early.replies ++ late.replies;
@@ -101,7 +101,7 @@ module _ (start mid to : World) (before written written' : Option (List ℕ)) (a
     refused = late.refused ∙ ap (λ n. n + refused_count late.replies) early.refused ∙ add_assoc r (refused_count early.replies) (refused_count late.replies) ∙ ap (λ n. r + n) (sym (count_by-append (λ x. not x.accepted) early.replies late.replies));
   }
 
-  -- more bytes come
+  -- more bytes are fed
   pub fed-on : (read bytes : List ℕ) (early : Fed start mid before written read a r old) → Fed mid to written written' (early.rest ++ bytes) old.accepted old.refused new → Fed start to before written' (read ++ bytes) a r new
   fed-on read bytes early late = record {
     pieces = early.pieces ++ late.pieces;
@@ -112,7 +112,7 @@ module _ (start mid to : World) (before written written' : Option (List ℕ)) (a
   }
 
 module _ (start mid : World) (shelf : StoreState) (before written written' : Option (List ℕ)) (a r : ℕ) (old : Session) where
-  -- more lines are answered in part
+  -- more lines are answered, and the last reply is cut short
   pub cut-on : (first second : List (List ℕ)) → HasTold start mid before written first a r old → AnswersInPart second mid shelf written written' → AnswersInPart (first ++ second) start shelf before written'
   cut-on first second early part = record {
     answered = first ++ part.answered;
@@ -139,7 +139,7 @@ told-one from to written written' piece old new holds told = record {
   refused = told.refused;
 }
 
--- the first of some lines is answered, its reply cut
+-- the first of some lines is answered, and its reply is cut short
 cut-one : (from : World) (state : State) (shelf : StoreState) (written written' : Option (List ℕ)) (piece : List ℕ) (later : List (List ℕ)) (old : Session) → HoldsPiece old.line piece → ToldInPart from (world state shelf) written written' old →
     AnswersInPart (trimmed piece ∷ later) from shelf written written'
 cut-one from state shelf written written' piece later old holds part = record {
@@ -157,7 +157,7 @@ cut-one from state shelf written written' piece later old holds part = record {
   sent = part.sent;
 }
 
--- A session that holds the beginning of a line, before any byte more.
+-- a session that holds a piece of a line, before it is fed more bytes
 pub fed-nothing : (shelf : StoreState) (written : Option (List ℕ)) (held : List ℕ) (s : Session) → IsUnbroken held → HoldsPiece s.line held →
     Fed (world s.bench.state shelf) (world s.bench.state shelf) written written held s.accepted s.refused s
 fed-nothing shelf written held s unbroken holds = record {
@@ -175,7 +175,7 @@ fed-nothing shelf written held s unbroken holds = record {
 }
 
 module _ (start : World) (before : Option (List ℕ)) (a r : ℕ) where
-  -- a piece in which no newline stands is held
+  -- a piece without a newline is held
   pub fed-piece : (to : World) (written : Option (List ℕ)) (read piece : List ℕ) (old new : Session) → IsUnbroken piece → new.accepted ≡ old.accepted → new.refused ≡ old.refused →
       ((held : List ℕ) → HoldsPiece old.line held → HoldsPiece new.line (held ++ piece)) → Fed start to before written read a r old → Fed start to before written (read ++ piece) a r new
   fed-piece to written read piece old new unbroken same-accepted same-refused holds fed = record {
@@ -192,7 +192,7 @@ module _ (start : World) (before : Option (List ℕ)) (a r : ℕ) where
     held = holds fed.rest fed.held;
   }
 
-  -- a newline, its line answered
+  -- a newline comes, and the line before it is answered
   pub fed-newline : (mid to : World) (written written' : Option (List ℕ)) (read : List ℕ) (old new : Session) → HoldsPiece new.line [] → Told mid to written written' old new →
       Fed start mid before written read a r old → Fed start to before written' (read ++ 10 ∷ []) a r new
   fed-newline mid to written written' read old new empty line fed = record {
@@ -204,7 +204,7 @@ module _ (start : World) (before : Option (List ℕ)) (a r : ℕ) where
     held = empty;
   }
 
-  -- a newline, its reply cut
+  -- a newline comes, and the reply to the line before it is cut short
   pub cut-newline : (mid : World) (state : State) (shelf : StoreState) (written written' : Option (List ℕ)) (read more : List ℕ) (old : Session) → ToldInPart mid (world state shelf) written written' old →
       Fed start mid before written read a r old → FedInPart start shelf before written' (read ++ 10 ∷ more)
   cut-newline mid state shelf written written' read more old part fed =
@@ -222,19 +222,19 @@ fed_in_part_along start shelf before written xs ys same cut = subst (λ bytes. F
 
 -- ---- the end
 
--- a last line, answered
+-- the last line is answered
 pub ends-told : (shelf shelf' : StoreState) (written written' : Option (List ℕ)) (held : List ℕ) (old new : Session) → IsUnbroken held → (nat_eq (length old.line.bytes.items) 0 && not old.line.is_long) ≡ false → HoldsPiece old.line held →
     Told (world old.bench.state shelf) (world new.bench.state shelf') written written' old new → Ends shelf shelf' written written' held old new
 ends-told shelf shelf' written written' held old new unbroken some holds told =
     (trimmed held ∷ [], lines-one held unbroken (held-some _ _ held some holds), told-one _ _ written written' held old new holds told)
 
--- a last line, its reply cut
+-- the last line is answered, and its reply is cut short
 pub ends-cut : (from : World) (state : State) (shelf : StoreState) (written written' : Option (List ℕ)) (held : List ℕ) (old : Session) → IsUnbroken held → (nat_eq (length old.line.bytes.items) 0 && not old.line.is_long) ≡ false → HoldsPiece old.line held →
     ToldInPart from (world state shelf) written written' old → EndsInPart from shelf written written' held
 ends-cut from state shelf written written' held old unbroken some holds part =
     (trimmed held ∷ [], lines-one held unbroken (held-some _ _ held some holds), cut-one from state shelf written written' held [] old holds part)
 
--- no last line
+-- there is no last line
 pub ends-empty : (shelf : StoreState) (written : Option (List ℕ)) (held : List ℕ) (s : Session) → (nat_eq (length s.line.bytes.items) 0 && not s.line.is_long) ≡ true → HoldsPiece s.line held → Ends shelf shelf written written held s s
 ends-empty shelf written held s none holds =
     subst (λ (bytes : List ℕ). Ends shelf shelf written written bytes s s) (sym (held-none _ _ held none holds)) (

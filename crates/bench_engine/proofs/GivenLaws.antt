@@ -32,14 +32,14 @@ wide-inside block item view wide shape gives inside =
     let is = given-view view wide (stretched_into view.shape shape) gives in
     all-viewed (λ offset. offset + item ≤ length block) view wide is.0 is.2 inside
 
--- a cast that there is, of few bytes, is refused as out of memory alone
+-- a cast that exists, to at most 2^28 bytes, is refused only as out of memory
 pub cast-lacks : (can : Bool) (shape wide : List ℕ) (item : ℕ) (e : Refusal) → can ≡ true → wide ≡ shape → count shape * item ≤ max_bytes →
     e ≡ (if can then (if nat_le (count wide * item) max_bytes then OutOfMemory else TooLarge) else NoSuchCast) → e ≡ OutOfMemory
 cast-lacks can shape wide item e is shaped few refused =
     let small : count wide * item ≤ max_bytes = subst (λ (l : List ℕ). count l * item ≤ max_bytes) (sym shaped) few in
     refused ∙ (λ i. if is i then (if le-leb (count wide * item) max_bytes small i then OutOfMemory else TooLarge) else NoSuchCast)
 
--- ---- items of a part of an array, as those of a view of them
+-- ---- the items of a view of a part
 
 pub stands-wide : (s : State) (part : Array) (x : Items) → StandsFor s part x → (wide : Layout) (seen : View) → IsViewOf x.layout.now wide seen → map (item_from x.descr.now x.block.now) (offsets wide) ≡ read s (viewed part seen)
 stands-wide s part x stands wide seen is =
@@ -71,14 +71,14 @@ stands-wide s part x stands wide seen is =
         ∙ ap (λ (l : List ℕ). placed (slice_index part.places (rank l (seen.leads index)))) (sym stands.shape)) i
         ∷ through list (λ k d below. inside (suc k) d (omega (arith, below))) i
 
--- ---- what an operand comes to
+-- ---- the items of an operand
 
 -- a part of an array, of this shape, at these places
 abbrev part_in : Array → List ℕ → List ℕ → Array
 part_in array shape places = record array { shape = shape; places = places }
 
 module _ (s : State) (operand : Operand) (descr : Descr) (shape : List ℕ) where
-  -- the items of the part, which stand in a block
+  -- the items of the part, in a block
   module _ (part : Array) (good : operand_part s operand ≡ Ok part) (x : Items) (stands : StandsFor s part x) where
     items-narrow : (e : Refusal) → stretched_into part.shape shape ≡ Err e → argument_items s (argument.Operand operand) descr shape ≡ Err e
     items-narrow e narrow = rw (good, narrow) refl
@@ -119,7 +119,7 @@ module _ (s : State) (operand : Operand) (descr : Descr) (shape : List ℕ) wher
     copy-given (Ok (source.Block o)) is = block-given None o is
     copy-given (Err e) is = none-given None e is
 
-  -- items that stand in the buffer of an array that is shown
+  -- items in the buffer of a shown array
   module _ (b : Array) (r : ArrayRef) (shows : Shows s b r) (lengths places : List ℕ) (good : operand_part s operand ≡ Ok (part_in b lengths places)) (x : Items) (stands : StandsFor s (part_in b lengths places) x)
       (lies : LiesIn s b (part_in b lengths places) x.layout.now) where
     buffer-given : (number : ℕ) (wide : Layout) → Fitted x (Some r.number) shape descr (Ok (source.Buffer number wide)) → Meets (Supplies s descr (count shape)) (Ok (source.Buffer number wide)) (argument_items s (argument.Operand operand) descr shape)

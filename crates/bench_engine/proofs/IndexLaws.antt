@@ -1,4 +1,4 @@
--- Index lists whose names stand for arrays.
+-- Index lists with names of arrays.
 use Rattle.std.proofs.Common.{◌≡◌, ◌<◌, ◌≤◌, ◌+◌, ◌*◌, ◌&&◌, ℕ, zero, suc, true, false, nat_le, List, [], ◌∷◌, ◌++◌, length, map, take, get_or, slice_index, Some, refl, sym, ap, ◌∙◌, subst, All, Result, Ok, Err, arith}
 use Rattle.std.specs.List.{Contains, list_all}
 use Rattle.std.proofs.lemmas.Bool.{le-leb, lt-leb, and_parts}
@@ -66,7 +66,7 @@ each-bound s (item ∷ index) (suc k) d all below = each-bound s index k d (and_
 
 -- ---- where a plan leads
 
--- the array as a plan of its layout leads
+-- a plan leads to items of its layout
 pub plan-inside : (layout : Layout) (plan : Planned) (view : View) → IsPlanOf layout plan view → All (λ index. rank layout.shape (view.leads index) < length (offsets layout)) (indexes view.shape)
 plan-inside layout plan view is k d below =
     let found = index_at view.shape k (omega (arith, length-indexes view.shape)) in
@@ -98,7 +98,7 @@ module _ (s : State) (a : Array) (r : ArrayRef) (shows : Shows s a r) (plan : Pl
       contains : (xs : List ℕ) (k : ℕ) → k < length xs → Contains xs (slice_index xs k)
       contains xs k below = Contains-get_or xs k 0 below
 
--- ---- what is gathered
+-- ---- the items that are gathered
 
 pub given-plan : (layout : Layout) (plan : Planned) (there : Result View Refusal) → GivesPlan layout (Ok plan) there → (view : View) × (there ≡ Ok view) × IsPlanOf layout plan view
 given-plan layout plan (Ok view) is = (view, refl, is)

@@ -11,7 +11,7 @@ none-legal = record { axes = omega arith; lengths = λ k d below. absurd (omega 
 pub no-refusal : (e : Refusal) → shape_of [] ≡ Err e → ⊥
 no-refusal e bad = false≢true (sym (ap is_ok bad) ∙ ap is_ok (shape_read [] none-legal))
 
--- a shape and one that stretches to it have the first in common
+-- the common shape of a shape and one that stretches to it is the first of them
 pub legal-common : (target shape : List ℕ) → IsShape target → can_stretch shape target ≡ true → common_shape (target ∷ shape ∷ []) ≡ Ok target
 unfolding common_shape
 legal-common target shape is can = ap (λ (r : Result (List ℕ) Refusal). r >>= shape_of) (common-lengths target shape can) ∙ shape_read target is

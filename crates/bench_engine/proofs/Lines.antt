@@ -1,4 +1,4 @@
--- Bytes in pieces that newlines end, and more bytes behind them.
+-- Bytes that are split at newlines, and more bytes after them.
 use Rattle.std.proofs.Common.{◌≡◌, ◌≢◌, ◌<◌, ◌≤◌, ◌+◌, ℕ, true, false, List, [], ◌∷◌, ◌++◌, length, map, refl, sym, ap, ◌∙◌, cond, arith, nat_eq, take, get_or, Some, None, nat_lt, one-add, subst, take_all, not, drop, append_assoc, add-one, drop-cons, suc}
 use Rattle.std.specs.List.{position, position_or_len, flat_map}
 use Rattle.std.proofs.lemmas.Bool.{eqb-true, eqb-false, ltb-false}
@@ -14,11 +14,11 @@ with_newlines pieces = flat_map (λ piece. piece ++ 10 ∷ []) pieces
 
 -- ---- splits
 
--- one piece without a newline
+-- bytes without a newline
 pub splits-one : (bytes : List ℕ) → IsUnbroken bytes → Splits bytes [] bytes
 splits-one bytes unbroken = record { joined = refl; pieces_unbroken = All-nil IsUnbroken; rest_unbroken = unbroken }
 
--- more bytes, which are split behind the rest
+-- more bytes, which are split together with the rest
 pub splits-on : (bytes more : List ℕ) (pieces later : List (List ℕ)) (rest rest' : List ℕ) → Splits bytes pieces rest → Splits (rest ++ more) later rest' → Splits (bytes ++ more) (pieces ++ later) rest'
 splits-on bytes more pieces later rest rest' first then = record {
   joined = ap (λ b. b ++ more) first.joined ∙ append_assoc (with_newlines pieces) rest more ∙ ap (λ b. with_newlines pieces ++ b) then.joined ∙ sym (append_assoc (with_newlines pieces) (with_newlines later) rest')
@@ -44,7 +44,7 @@ splits-newline piece more later rest unbroken then = record {
     regrouped : (piece later rest : List ℕ) → piece ++ 10 ∷ (later ++ rest) ≡ ((piece ++ 10 ∷ []) ++ later) ++ rest
     regrouped piece later rest = simp append_assoc
 
--- a newline, and more
+-- a newline, and more bytes
 pub splits-then : (bytes more : List ℕ) (pieces later : List (List ℕ)) (rest rest' : List ℕ) → Splits bytes pieces rest → Splits more later rest' → Splits (bytes ++ 10 ∷ more) (pieces ++ rest ∷ later) rest'
 splits-then bytes more pieces later rest rest' first then =
     splits-on bytes (10 ∷ more) pieces (rest ∷ later) rest rest' first (splits-newline rest more later rest' first.rest_unbroken then)
@@ -61,7 +61,7 @@ splits-byte b bytes (piece ∷ pieces) rest other s = (
   },
 )
 
--- all bytes are split
+-- all bytes can be split
 pub splits : (bytes : List ℕ) → (pieces : List (List ℕ)) × (rest : List ℕ) × Splits bytes pieces rest
 splits [] = ([], [], splits-one [] (All-nil (λ b. b ≢ 10)))
 splits (b ∷ bytes) =
@@ -73,7 +73,7 @@ splits (b ∷ bytes) =
 
 -- ---- lines
 
--- more lines come behind those of the pieces
+-- more lines follow those of the pieces
 pub whole_lines-on : (bytes more : List ℕ) (pieces : List (List ℕ)) (rest : List ℕ) (lines : List (List ℕ)) → Splits bytes pieces rest → AreWholeLines (rest ++ more) lines → AreWholeLines (bytes ++ more) (map trimmed pieces ++ lines)
 whole_lines-on bytes more pieces rest lines first then =
     (pieces ++ then.0, then.1, splits-on bytes more pieces then.0 rest then.1 first then.2, ap (λ l. map trimmed pieces ++ l) then.3 ∙ sym (map-append trimmed pieces then.0))
@@ -86,12 +86,12 @@ lines-on bytes more pieces rest lines first then = (
   ap (λ l. map trimmed pieces ++ l) then.3 ∙ sym (map-append trimmed pieces (then.0 ++ if_any then.1)) ∙ ap (λ l. map trimmed l) (sym (append_assoc pieces then.0 (if_any then.1))),
 )
 
--- and none more
+-- no more bytes follow, and the rest has the last line
 pub lines-end : (bytes : List ℕ) (pieces : List (List ℕ)) (rest : List ℕ) (lines : List (List ℕ)) → Splits bytes pieces rest → AreLines rest lines → AreLines bytes (map trimmed pieces ++ lines)
 lines-end bytes pieces rest lines first then =
     subst (λ (b : List ℕ). AreLines b (map trimmed pieces ++ lines)) (append-nil bytes) (lines-on bytes [] pieces rest lines first (subst (λ (b : List ℕ). AreLines b lines) (sym (append-nil rest)) then))
 
--- the lines of a piece
+-- the one line of a piece that is not empty
 pub lines-one : (piece : List ℕ) → IsUnbroken piece → 0 < length piece → AreLines piece (trimmed piece ∷ [])
 lines-one [] unbroken some = absurd (omega arith)
 lines-one (b ∷ bytes) unbroken some = ([], b ∷ bytes, splits-one (b ∷ bytes) unbroken, refl)
@@ -99,7 +99,7 @@ lines-one (b ∷ bytes) unbroken some = ([], b ∷ bytes, splits-one (b ∷ byte
 pub lines-none : AreLines [] []
 lines-none = ([], [], splits-one [] (All-nil (λ b. b ≢ 10)), refl)
 
--- the lines that newlines end are first lines of a script that goes on
+-- the lines that a newline ends are a prefix of the lines of a longer script
 pub lines-front : (bytes more : List ℕ) (lines : List (List ℕ)) → AreWholeLines bytes lines → (later : List (List ℕ)) × AreLines (bytes ++ more) (lines ++ later)
 lines-front bytes more lines whole =
     let s = splits (whole.1 ++ more) in
@@ -108,7 +108,7 @@ lines-front bytes more lines whole =
 
 -- ---- the first newline
 
--- the bytes before it
+-- the bytes before the first newline
 before_newline : (bytes : List ℕ) → IsUnbroken (take (position_or_len (λ b. nat_eq b 10) bytes) bytes)
 before_newline [] = All-nil (λ b. b ≢ 10)
 before_newline (b ∷ bytes) =
@@ -124,7 +124,7 @@ place q n end is =
       | false ↦ λ e. cc
     ] is
 
--- the first newline, after bytes without one
+-- the bytes up to the first newline contain no other
 pub first_newline : (bytes : List ℕ) (end : ℕ) → position (λ b. nat_eq b 10) bytes ≡ Some end → (end < length bytes) × IsUnbroken (take end bytes) × (get_or bytes end 10 ≡ 10)
 first_newline bytes end is =
     let at = position-Some (λ b. nat_eq b 10) bytes end 10 is in
@@ -142,7 +142,7 @@ pub no_newline : (bytes : List ℕ) → position (λ b. nat_eq b 10) bytes ≡ N
 no_newline bytes none =
     subst IsUnbroken (take_all _ bytes (nowhere (position_or_len (λ b. nat_eq b 10) bytes) (length bytes) none)) (before_newline bytes)
 
--- the bytes before a newline, it, and those after it
+-- the bytes before a newline, the newline, and the bytes after it
 at_newline : (bytes : List ℕ) (end : ℕ) → end < length bytes → get_or bytes end 10 ≡ 10 → bytes ≡ take end bytes ++ 10 ∷ drop (end + 1) bytes
 at_newline bytes end here is = sym (take-append-drop end bytes) ∙ ap (λ d. take end bytes ++ d) (rw add-one (drop-cons bytes end 10 here ∙ ap (λ b. b ∷ drop (suc end) bytes) is))
 

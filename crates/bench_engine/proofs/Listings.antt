@@ -4,7 +4,7 @@ use Rattle.std.specs.List.{flat_map}
 use Rattle.std.specs.Option.{option_map}
 use Rattle.name_store.specs.States.{Array}
 
--- the names from one on, each behind a blank
+-- the names, each after a space
 abbrev pub listed : List (List ℕ × Array) → List ℕ
 listed names = flat_map (λ entry. codes " " ++ entry.0) names
 

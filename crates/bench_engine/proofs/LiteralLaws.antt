@@ -21,7 +21,7 @@ use Rattle.bench_engine.specs.inside.Meeting.{Meets}
 
 -- ---- a comparison with the value of a literal
 
--- where a scalar passes a test there are truths of the same shape
+-- the type and the shape of a comparison with a literal: bools of the same shape, if the scalar passes a test
 abbrev pub truths_of : (Scalar → Bool) → Descr → List ℕ → Result (Descr × List ℕ) Refusal
 truths_of test d t = scalar_of d >>= (λ from. check (test from) NotForThisKind >>= (λ _. Ok (ScalarDescr BoolScalar, t)))
 
@@ -59,14 +59,14 @@ pub bytes-are : (bytes : List ℕ) (d : Descr) (t : List ℕ) → bytes_compared
 unfolding bytes_compared_result
 bytes-are bytes d t = truths-same is_text (λ s. is_castable s (Bytes bytes)) d t (λ s. castable-bytes s bytes)
 
--- items that are compared with one value
+-- items compared with one repeated value
 pairwise-one : {A B : Type 0} (f : A → A → B) (xs : List A) (y : A) (n : ℕ) → length xs ≡ n → pairwise f xs (replicate n y) ≡ map (λ x. f x y) xs
 pairwise-one f [] y zero long = refl
 pairwise-one f [] y (suc n) long = absurd (omega (arith, long))
 pairwise-one f (x ∷ xs) y zero long = absurd (omega (arith, long))
 pairwise-one f (x ∷ xs) y (suc n) long = λ i. f x y ∷ pairwise-one f xs y n (omega (arith, long)) i
 
--- numbers are compared with numbers of their own scalar, and texts with texts
+-- values of the same scalar can be compared
 own-compared : (s : Scalar) → compared_type s s ≡ Ok BoolScalar
 unfolding compared_type
 own-compared BoolScalar = refl
@@ -150,7 +150,7 @@ unfolding compared_literal
 compared-record c v (literal.Scalar s) not-scalar = absurd (not-scalar s refl)
 compared-record c v (literal.Record values) not-scalar = refl
 
--- comparisons with a number are those with an equal one
+-- a comparison with a number is the same as one with an equal number
 pub number-items : (c : Comparison) (x : Items) (z n : ℤ) (result : Result Owned Refusal) → z ≡ n →
     IfOk result (λ o. map (item_from o.descr o.block) (offsets o.layout) ≡ map (λ offset. compared_item c (item_from x.descr.now x.block.now offset) (number z ∷ [])) (offsets x.layout.now)) →
     IfOk result (λ o. map (item_from o.descr o.block) (offsets o.layout) ≡ map (λ offset. compared_item c (item_from x.descr.now x.block.now offset) (number n ∷ [])) (offsets x.layout.now))
@@ -179,7 +179,7 @@ pub literal-done : (op : BinOp) (d : Descr) (l : Literal) (s own to : Scalar) (i
 unfolding operand_of_literal
 literal-done op d l s own to item is good typed there = rw (is, good, typed, there) refl
 
--- the one item of a block stands for the literal
+-- an owned array with this one item is the literal as an operand
 pub single-gives : (op : BinOp) (d : Descr) (l : Literal) (s own to : Scalar) (result : Result Owned Refusal) → scalar_of d ≡ Ok s → literal_scalar s l ≡ Ok own → promote op s own ≡ Ok to → IfOk result (λ o. o.descr ≡ ScalarDescr own) → IfOk result (λ o. o.layout.shape ≡ []) →
     IfOk result (λ o. offsets o.layout ≡ 0 ∷ []) → Gives (λ o. item_from o.descr o.block 0) result (item_value (ScalarDescr own) l) → Meets OwnStands result (operand_of_literal op d l)
 single-gives op d l s own to (Ok o) is good kind typed shaped laid item =

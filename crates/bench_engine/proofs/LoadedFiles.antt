@@ -13,7 +13,7 @@ use Rattle.bench_engine.specs.Steps.{world, Found, MayFind, loaded, loaded_conte
 use Rattle.bench_engine.proofs.Stored.{places-stored}
 use Rattle.bench_engine.proofs.Steps.{spare}
 
--- what a block holds whose items lie as in a file
+-- the contents of an owned array whose items lie as in a file
 pub contents-held : (o : Owned) (l : Loaded) → HoldsFileItems o l.head l.items → loaded_contents l ≡ held o
 contents-held o l has = λ i. record {
   shape = sym has.shape i;
@@ -33,7 +33,7 @@ load-done choice s name found l good = rw good refl
 pub load-full : (s : State) (shelf : StoreState) (name file : List ℕ) → has_room_for s name ≡ false → MayAnswer (world s shelf) (Bind name (LoadValue file)) (world s shelf) (refusal TooManyNames)
 load-full s shelf name file full = inl (rw full (refl, refl))
 
--- want of memory once the store was asked is an answer of the store
+-- out of memory, after the store was asked, counts as an answer of the store
 load-lacks : (s t : State) (old new : StoreState) (name file : List ℕ) (found : Found) (e : Refusal) → has_room_for s name ≡ true → MayFind old new file found → t ≡ s → e ≡ OutOfMemory → LoadStep (world s old) name file (world t new) (refusal e)
 load-lacks s t old new name file found e room may same lacks =
     let any = spare s in
@@ -43,7 +43,7 @@ load-lacks s t old new name file found e room may same lacks =
       (any.0, any.1, ap (after_outcome s) (load-bad any.0 s name (Err Memory) OutOfMemory refl) ∙ (λ i. (sym same i, refusal (sym lacks i)))),
     )
 
--- the answer of the store is refused
+-- the answer of the store leads to a refusal
 pub find-refused : (s : State) (old new : StoreState) (name file : List ℕ) (e : Refusal) → has_room_for s name ≡ true → Finds old new file (Err e) → MayAnswer (world s old) (Bind name (LoadValue file)) (world s new) (refusal e)
 find-refused s old new name file e room finds =
     inl (elim finds.loads as (λ _. LoadStep (world s old) name file (world s new) (refusal e)) [
@@ -55,7 +55,7 @@ done-step : (s t : State) (old new : StoreState) (name file text : List ℕ) (fo
     after_outcome s (load_outcome choice s name found) ≡ (t, record { text = text; accepted = true }) → LoadStep (world s old) name file (world t new) (record { text = text; accepted = true })
 done-step s t old new name file text found choice room may allowed is = rw room (found, may, (choice, allowed, is))
 
--- the name is bound to what is loaded
+-- the name is bound to the loaded array
 pub load-answers : (s t : State) (old new : StoreState) (name file text : List ℕ) (o : Owned) (rest : ℕ) (result : Result (Unit {0}) Refusal) → has_room_for s name ≡ true → Finds old new file (Ok (o, rest)) →
     CarriesOut true (λ choice. bound_loaded choice s name rest (held o)) s t text result → Carried (MayAnswer (world s old) (Bind name (LoadValue file)) (world t new)) text result
 load-answers s t old new name file text o rest (Ok done) room finds h =
@@ -68,7 +68,7 @@ load-answers s t old new name file text o rest (Err e) room finds (kept, inl lac
 load-answers s t old new name file text o rest (Err e) room finds (kept, inr bad) =
     let any = spare s in let no = bad any.0 in cc
 
--- what a store answers, its bytes as a view shows them
+-- an answer of the store, with the bytes as a view shows them
 abbrev pub as-found : {V : Type 0} → (V → List ℕ) → Result (Option V) StoreFault → Found
 as-found view (Ok None) = Ok None
 as-found view (Ok (Some bytes)) = Ok (Some (view bytes))

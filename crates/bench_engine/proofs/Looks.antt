@@ -1,4 +1,4 @@
--- Names that are looked up, and what is answered of their arrays.
+-- Names that are looked up, and questions about their arrays.
 use Rattle.std.proofs.Common.{◌≡◌, ℕ, true, List, [], Ok, refl, sym, ap, Option, Some, None, Err, is_some}
 use Rattle.bench_engine.specs.Words.{UnknownName, Refusal, Ask, Print, offsets, array_text, items_from, State, find_array, is_bound, Finds, Shows, ArrayRef}
 use Rattle.name_store.specs.States.{Array}
@@ -12,7 +12,7 @@ use Rattle.bench_engine.specs.inside.Printing.{MayPrint}
 use Rattle.bench_engine.proofs.Steps.{spare, carried}
 use Rattle.bench_engine.specs.Machine.{question_outcome, print_outcome, accepted_with}
 
--- a name is bound, or not
+-- a lookup finds the array of a bound name, and nothing for an unbound one
 pub not_found : (s : State) (found : Option Array) → Finds s found None → found ≡ None
 not_found s None h = refl
 not_found s (Some array) h = absurd h
@@ -30,7 +30,7 @@ pub print-found : (s : State) (name : List ℕ) (a : Array) (r : ArrayRef) → f
 unfolding print_outcome
 print-found s name a r is shows = rw is (λ i. accepted_with s (array_text (shows.descr i) (sym shows.view.laid.shape i) (shows.reads i)))
 
--- what is printed, and what is refused
+-- the reply to `print`, and its refusal
 pub may-print : (s : State) (name text : List ℕ) → print_outcome s name ≡ accepted_with s text → MayPrint s name (record { text = text; accepted = true })
 may-print s name text is shelf =
     let any = spare s in

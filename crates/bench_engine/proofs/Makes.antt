@@ -1,4 +1,4 @@
--- What the commands that make an array put into it, by the ways in which they end.
+-- The contents of the arrays that commands make, for each way in which a command may end.
 use Rattle.std.proofs.Common.{◌≡◌, ◌≢◌, ◌≤◌, ◌*◌, ℕ, zero, suc, ℤ, List, [], ◌∷◌, length, drop, map, replicate, refl, sym, ap, ◌∙◌, Result, Ok, Err, IfOk, IfErr, nat_le, if◌then◌else◌, ◌⊎◌, inl, inr, arith}
 use Rattle.std.proofs.lemmas.Bool.{le-leb, ne_eqb, eq-eqb}
 use Rattle.std.proofs.lemmas.List.{length-map}
@@ -16,7 +16,7 @@ pub passed : {X Y : Type 0} (x : Result X Refusal) (y : Result Y Refusal) (e : R
 passed x y e on (inl lacks) = inl lacks
 passed x y e on (inr is) = inr (on is)
 
--- what a block holds
+-- the contents of an owned array with this block
 pub held-is : (o : Owned) (descr : Descr) (shape bytes : List ℕ) (items : List (List LeafValue)) → o.descr ≡ descr → o.layout.shape ≡ shape → o.block ≡ bytes → items ≡ items_in descr (count shape) bytes → IsInCOrder o → new_contents descr shape items ≡ held o
 held-is o descr shape bytes items typed shaped filled is order = λ i. record {
   shape = sym shaped i;
@@ -27,7 +27,7 @@ held-is o descr shape bytes items typed shaped filled is order = λ i. record {
     places : range_with_len 0 (count shape) ≡ places_of (item_size o.descr) (offsets o.layout)
     places = ap (λ s. range_with_len 0 (count s)) (sym shaped) ∙ sym (ap (places_of (item_size o.descr)) order ∙ divided (item_size o.descr) (range_with_len 0 (count o.layout.shape)) (omega (arith, o.fills_block.some)))
 
--- it stands in C order
+-- its items lie in C order
 pub in-order : (o : Owned) (descr : Descr) (shape : List ℕ) → o.descr ≡ descr → o.layout.shape ≡ shape → offsets o.layout ≡ offsets_in C (item_size descr) shape → IsInCOrder o
 in-order o descr shape typed shaped laid = laid ∙ λ i. offsets_in C (item_size (sym typed i)) (sym shaped i)
 

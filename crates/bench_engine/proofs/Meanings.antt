@@ -1,4 +1,4 @@
--- What a line means, by its length.
+-- The meaning of a line, by its length.
 use Rattle.std.proofs.Common.{◌≡◌, ◌<◌, ◌≤◌, ◌+◌, ℕ, Bool, true, false, List, [], ◌∷◌, length, refl, sym, cond, arith, nat_eq, take, ◌-◌, length-take}
 use Rattle.std.specs.List.{ends_with}
 use Rattle.std.proofs.lemmas.Bool.{lt-ltb, le-ltb}
@@ -17,7 +17,7 @@ pub meaning_of-short : (line : List ℕ) → length line ≤ limit → meaning_o
 unfolding meaning_of
 meaning_of-short line short = rw (le-ltb limit (length line) short) refl
 
--- bytes that are too many for a line
+-- a piece that is too long for a line
 pub too_long-held : (bytes : List ℕ) (is_long : Bool) (piece : List ℕ) → is_long ≡ true → HoldsBytes bytes is_long piece → too_long ≡ meaning_of (trimmed piece)
 too_long-held bytes true piece long holds = sym (meaning_of-long (trimmed piece) (omega (arith, length-trimmed piece)))
 too_long-held bytes false piece long holds = cc

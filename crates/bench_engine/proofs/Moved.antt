@@ -1,4 +1,4 @@
--- A view whose places stand in another order: what is written there leaves the same.
+-- A view with its places in another order: writing to it has the same effect.
 use Rattle.std.proofs.Common.{◌≡◌, ◌+◌, ◌*◌, ◌≤◌, ◌⊎◌, ℕ, true, List, length, map, get_or, All, IfOk, IfSome, Option, None, Some, Result, Ok, Err, refl, sym, ap, subst, ◌∙◌, arith, inl, inr}
 use Rattle.std.specs.List.{zip, Contains}
 use Rattle.std.specs.List.Sorted.{IsPermutation}
@@ -45,7 +45,7 @@ leaves-itself s name a part t source new is has =
       same = ap (λ (x : Array). written s a x.places new) (sym is.part_is);
     }
 
--- ---- what is read of a part at its own shape
+-- ---- the items of a part, read at its own shape
 
 own-read : (s : State) (name : List ℕ) (a part : Array) (r : ArrayRef) (l : Layout) → Shows s a r → IsTarget s name a (View l) part → (operand_values s part).stretched_to part.shape ≡ read s part
 own-read s name a part r l shows is =
@@ -67,7 +67,7 @@ own-read s name a part r l shows is =
 
 -- ---- places in another order
 
--- what lies apart, lies at places no two of which are the same
+-- items that do not overlap have different places
 places-apart : (f : ℕ → ℕ) (places os : List ℕ) (width : ℕ) → 1 ≤ width → os ≡ map f places → IsNested os width → IsNested places 1
 places-apart f places os width some are nested = record {
   apart = λ j k before below.
@@ -81,7 +81,7 @@ places-apart f places os width some are nested = record {
       ];
 }
 
--- numbers, each beside itself
+-- numbers, each paired with itself
 pub beside-itself : (os os' : List ℕ) → IsPermutation os os' → IsPermutation (zip os os) (zip os' os')
 beside-itself os os' same =
     let twice : ℕ → ℕ × ℕ = λ o. (o, o) in
@@ -132,7 +132,7 @@ module _ (s : State) (name : List ℕ) (a part : Array) (r : ArrayRef) (shows : 
     few = subst (λ n. n * item_size (descr_of s a) ≤ max_bytes) (sym (length_permutation (offsets l) (offsets l') moved-offsets)) is.few;
   }
 
-  -- what is changed there is the same
+  -- the changed items are the same, in the new order
   pub moved-items : (op : Operation) (w w' : OperandValues) (g : ℕ → List LeafValue) → w'.descr ≡ w.descr → IsShape part.shape → IsShape l'.shape → can_stretch w.shape part.shape ≡ true → can_stretch w'.shape l'.shape ≡ true →
       w.stretched_to part.shape ≡ map g os → w'.stretched_to l'.shape ≡ map g os' → Reorders is.places places (updated_items op r.descr.now (operand_values s part) w) (updated_items op r.descr.now (operand_values s moved_part) w')
   moved-items op w w' g types legal legal' can can' ws ws' =
@@ -140,7 +140,7 @@ module _ (s : State) (name : List ℕ) (a part : Array) (r : ArrayRef) (shows : 
       (ap (descr_of s) is.part_is ∙ shows.descr) shows.descr types legal legal' can can'
       (own-read s name a part r l shows is ∙ ap (read s) is.part_is) ws (own-read s name a moved_part r l' shows moved-target) ws' (sym many) (sym many') found.2
 
-  -- also with a literal, which is the same beside each
+  -- also with a literal, which is the same for each item
   pub moved-literal : (op : Operation) (value : Literal) → IsShape part.shape → IsShape l'.shape →
       Reorders is.places places (changed_with op r.descr.now (operand_values s part) (literal_values op r.descr.now value)) (changed_with op r.descr.now (operand_values s moved_part) (literal_values op r.descr.now value))
   moved-literal op value legal legal' = by-literal (literal_values op r.descr.now value) refl
@@ -154,7 +154,7 @@ module _ (s : State) (name : List ℕ) (a part : Array) (r : ArrayRef) (shows : 
           moved-items op w w (λ _. one.1) refl legal legal' (stretches part.shape) (stretches l'.shape)
           (each part.shape os (long ∙ is.counted ∙ ap count (ap (λ (x : Array). x.shape) (sym is.part_is)))) (each l'.shape os' (long' ∙ length-offsets l'))
 
-  -- so what is written there leaves the same
+  -- writing them has the same effect
   pub moved-leaves : 1 ≤ item_size r.descr.now → (there there' : Result (List (List LeafValue)) Refusal) (o : Owned) → Reorders is.places places there there' → Meets (HoldsItems r.descr.now (count l'.shape)) (Ok o) there' →
       Meets (Leaves s name a part) (Ok (record { target = View l'; source = Block o })) there
   moved-leaves some (Ok new) (Ok new') o kept gives = record {
@@ -180,7 +180,7 @@ module _ (s : State) (name : List ℕ) (a part : Array) (r : ArrayRef) (shows : 
   moved-refused (Err e'') (Ok new') e kept (inr bad) = absurd kept
   moved-refused (Err e'') (Err e') e kept (inr bad) = inr (ap Err (sym kept) ∙ bad)
 
--- ---- a view and what is stretched to its shape
+-- ---- a view, and items that are stretched to its shape
 
 pub near-together : (view items wide : Layout) (result : Option LayoutPair) → GivesView items (Ok wide) (stretched items.shape view.shape) → IfSome result (λ pair. IsPermutation (item_pairs view wide) (item_pairs pair.target pair.source)) →
     IfSome result (GoTogether view items)
@@ -202,14 +202,14 @@ together-inside view items pair P together all =
     All-seconds P (offsets view) (offsets together.wide) (offsets pair.target) (offsets pair.source) (wide-even view items together.wide together.seen together.there together.is_wide) (pair_even pair) together.same
     (all-viewed P items together.wide together.seen together.is_wide all)
 
--- ---- what is written once it is changed
+-- ---- writing the changed items
 
--- the block's items, at a target's places
+-- a writing of an owned array's items to a target
 abbrev pub as_writing : Target → Result Owned Refusal → Result Writing Refusal
 as_writing t (Ok o) = Ok (record { target = t; source = Block o })
 as_writing t (Err e) = Err e
 
--- as they stand in a source, for a target of the part itself
+-- the items of a source, for a target of the part itself
 pub supplied-gives : (s : State) (name : List ℕ) (a part : Array) (r : ArrayRef) (t : Target) (source : Source) (there : Result (List (List LeafValue)) Refusal) → Shows s a r → IsTarget s name a t part → Meets (Supplies s r.descr.now (count part.shape)) (Ok source) there →
     Meets (Leaves s name a part) (Ok (record { target = t; source = source })) there
 supplied-gives s name a part r t source (Ok new) shows is gives = leaves-itself s name a part t source new is (subst (λ (d : Descr). Supplies s d (count part.shape) source new) (sym shows.descr) gives)

@@ -1,4 +1,4 @@
--- Items that have no byte in common fill no more bytes than there are.
+-- Items that do not overlap have no more bytes than there are.
 use Rattle.std.proofs.Common.{◌≡◌, ◌+◌, ◌*◌, ◌/◌, ◌<◌, ◌≤◌, ℕ, zero, suc, true, false, List, [], ◌∷◌, length, map, slice_index, All, inl, inr, sym, ap, subst, arith}
 use Rattle.std.specs.List.{list_any, IsDistinct, AllByRecursion}
 use Rattle.std.proofs.lemmas.List.{length-map}
@@ -9,7 +9,7 @@ use Rattle.std.proofs.Math.Dec.{eqb}
 use Rattle.std.proofs.Math.Nat.{lt-div-mul-add, div-mul-le_self, div-lt_iff_lt-mul, mul-le-mul_left}
 use Rattle.bench_engine.specs.Words.{IsNested, distance}
 
--- two places that are one are less than an item apart
+-- offsets with the same quotient by the width are less than a width apart
 close : (w o p : ℕ) → 1 ≤ w → o / w ≡ p / w → w ≤ distance o p → ⊥
 close w o p some same far =
     let above : o < o / w * w + w = lt-div-mul-add some in
@@ -44,7 +44,7 @@ below w len (o ∷ os) q some within there =
       | inr is ↦ below w len os q some (λ k d low. within (suc k) d (omega (arith, low))) (rw is.0 at there)
     ]
 
--- so many items of so many bytes are not more than all bytes
+-- items of `w` bytes that lie within `len` bytes and do not overlap have at most `len` bytes
 pub nested-fits : (w len : ℕ) (os : List ℕ) → 1 ≤ w → All (λ o. o + w ≤ len) os → IsNested os w → length os * w ≤ len
 nested-fits w len os some within nested =
     let few : length (map (λ p. p / w) os) ≤ len / w = length-le_from_distinct_below (map (λ p. p / w) os) (len / w) (distinct w os some nested) (λ q there. below w len os q some within there) in

@@ -10,7 +10,7 @@ use Rattle.bench_engine.proofs.Assigns.{all-viewed, lies-whole, lies-viewed}
 use Rattle.bench_engine.proofs.Sets.{read-part}
 use Rattle.bench_engine.proofs.StretchLaws.{stretched-same, one-stretched, map-replicate}
 
--- ---- what is taken of an array
+-- ---- items taken from an array
 
 pub view-within : (s : State) (a : Array) (r : ArrayRef) (layout : Layout) (view : View) → Shows s a r → IsViewOf r.layout.now layout view → All (λ offset. offset + item_size r.descr.now ≤ length r.block.now) (offsets layout)
 view-within s a r layout view shows is = all-viewed (λ offset. offset + item_size r.descr.now ≤ length r.block.now) r.layout.now layout view is shows.inside

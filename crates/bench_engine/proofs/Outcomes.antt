@@ -1,4 +1,4 @@
--- What the question whether two arrays share cells comes to.
+-- The outcome of the question whether two arrays share cells.
 use Rattle.std.proofs.Common.{◌≡◌, ℕ, false, ◌&&◌, is_some, inl, inr, List, refl, sym, ap, ◌∙◌, Option, Some, None, Err}
 use Rattle.bench_engine.specs.Words.{Refusal, UnknownName, State, find_array, is_bound, share_cells, AnswersShares}
 use Rattle.name_store.specs.States.{Array}

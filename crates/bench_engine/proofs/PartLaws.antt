@@ -1,4 +1,4 @@
--- What an index list shows of an array.
+-- What an index list selects from an array.
 use Rattle.std.proofs.Common.{◌≡◌, true, false, ℕ, List, refl, sym, ap, ◌∙◌, subst, Bor, Ok}
 use Rattle.std.specs.List.{list_all}
 use Rattle.bench_engine.specs.Words.{IndexItem, C, is_basic, item_size, Layout, Owned, offsets_in, State, descr_of, read, Shows, ArrayRef}

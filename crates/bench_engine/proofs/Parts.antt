@@ -13,7 +13,7 @@ use Rattle.bench_engine.specs.inside.Meeting.{Meets}
 abbrev pub part_of : Array → ℕ → Array
 part_of a k = record a { path = a.path ++ k ∷ [] }
 
--- the offsets of a part of what has these offsets
+-- the offsets of a part of each item
 further : (item start at : ℕ) (places : List ℕ) → map (λ offset. offset + at) (offsets_of item start places) ≡ offsets_of item (start + at) places
 further item start at [] = refl
 further item start at (p ∷ places) =

@@ -1,4 +1,4 @@
--- What a reduction makes of an array.
+-- The result of a reduction.
 use Rattle.std.proofs.Common.{◌≡◌, ◌<◌, ◌≤◌, ◌+◌, ℕ, ℤ, zero, suc, Bool, true, Option, Some, None, List, [], ◌∷◌, length, map, get_or, slice_index, IfOk, Result, Ok, Err, refl, sym, ap, ◌∙◌, inl, inr, arith}
 use Rattle.std.specs.List.{insert, remove, range_with_len}
 use Rattle.std.proofs.lemmas.List.{length-map, get_or-map}
@@ -17,7 +17,7 @@ same-range : {A : Type 0} (f g : ℕ → A) (a n : ℕ) → ((k : ℕ) → a ≤
 same-range f g a zero same = refl
 same-range f g a (suc n) same = λ i. same a (omega arith) (omega arith) i ∷ same-range f g (a + 1) n (λ k low high. same k (omega (arith, low)) (omega (arith, high))) i
 
--- lists of which each item gives the same give the same along an axis
+-- lists that agree item by item agree along an axis
 lists-same : {A : Type 0} (f g : ℕ → A) (shape : List ℕ) (axis : Option ℕ) (xs ys : List ℕ) → IsAxisOf (length shape) axis → length xs ≡ count shape → map f xs ≡ map g ys → map (map f) (lists shape axis xs) ≡ map (map g) (lists shape axis ys)
 lists-same f g shape None xs ys is whole same = λ i. same i ∷ []
 lists-same f g shape (Some a) xs ys is whole same =
@@ -55,7 +55,7 @@ is-axis : (rank : ℕ) (named : Option ℤ) → is_axis rank named ≡ true → 
 is-axis rank None is = tt
 is-axis rank (Some axis) is = axis_below rank (from_front rank axis) is
 
--- ---- what is reduced
+-- ---- the reduced array
 
 reduced-bad : (s : State) (reduction : Red) (source : List ℕ) (a : Array) (axis : Option ℤ) (keep : Bool) (e : Refusal) → find_array s.names source ≡ Some a → reductions.reduced_type reduction (descr_of s a) a.shape axis keep ≡ Err e →
     reduced_contents s reduction source axis keep ≡ Err e

@@ -18,7 +18,7 @@ Item = List LeafValue
 
 -- ---- lists in another order
 
--- what the elements are made into can only change places with them
+-- a reordering of mapped elements is a reordering of the elements
 lifted : {X Y : Type 0} (f : X → Y) (d : X) (xs : List X) (ys : List Y) → IsPermutation (map f xs) ys → (xs' : List X) × IsPermutation xs xs' × (map f xs' ≡ ys)
 lifted {X} {Y} f d xs ys same = IsPermutation-keeps (map f xs) (λ l. (xs' : List X) × IsPermutation xs xs' × (map f xs' ≡ l)) (xs, IsPermutation-refl xs, refl) step ys same
   where
@@ -50,7 +50,7 @@ pub zip-itself : (os : List ℕ) → zip os os ≡ map (λ o. (o, o)) os
 zip-itself [] = refl
 zip-itself (o ∷ os) = λ i. (o, o) ∷ zip-itself os i
 
--- places of which something is made that stands in another order, each beside another number
+-- a reordering of offsets, each paired with another number, is one of their places
 pub places-moved : (f : ℕ → ℕ) (places os ats ats' os' : List ℕ) → ats ≡ map f places → length os' ≡ length ats' → IsPermutation (zip ats os) (zip ats' os') →
     (places' : List ℕ) × (ats' ≡ map f places') × IsPermutation (zip places os) (zip places' os')
 places-moved f places os ats ats' os' are long same =
@@ -65,9 +65,9 @@ places-moved f places os ats ats' os' are long same =
       subst (IsPermutation (zip places os)) (sym (taken-apart h.0) ∙ ap (zip (map (λ (p : Pair). p.0) h.0)) seconds) h.1,
     )
 
--- ---- what an operation makes of items
+-- ---- an operation on items
 
--- the type of it, where it may be written
+-- the type of the result, if it may be written back
 abbrev typed : Operation → Descr → Descr → Result Scalar Refusal
 typed op d e = operation_scalar op d e >>= (λ s. scalar_of d >>= (λ from. same_kind s from >>= (λ _. Ok s)))
 
@@ -92,7 +92,7 @@ as-typed op d v w same legal can = by-type (operation_scalar op d w.descr) refl
     by-type (Err e) bad = changed-type op d v w e bad ∙ rw bad refl
     by-type (Ok s) good = by-own s (scalar_of d) good refl
 
--- new items, each beside its place: what is made of the place and of the other operand's item
+-- new items, each paired with its place: made of the item at the place and the item of the other operand
 beside : (h : ℕ → Item) (f : Item → Item → Item) (c : Item → Item) (g : ℕ → Item) (places os : List ℕ) →
     zip places (map c (pairwise f (map h places) (map g os))) ≡ map (λ (p : Pair). (p.0, c (f (h p.0) (g p.1)))) (zip places os)
 beside h f c g [] os = refl
@@ -104,13 +104,13 @@ as-many h f c g [] os long = refl
 as-many h f c g (p ∷ places) [] long = absurd (omega (arith, long))
 as-many h f c g (p ∷ places) (o ∷ os) long = ap suc (as-many h f c g places os (omega (arith, long)))
 
--- items and their places in another order, or the refusal that there was
+-- the same items, with their places, in another order; or the same refusal
 abbrev pub Reorders : List ℕ → List ℕ → Result (List Item) Refusal → Result (List Item) Refusal → Type 0
 Reorders places places' (Ok new) (Ok new') = (length new ≡ length places) × (length new' ≡ length places') × IsPermutation (zip places new) (zip places' new')
 Reorders places places' (Err e) (Err e') = e' ≡ e
 Reorders places places' _ _ = ⊥
 
--- the other operand's items are made of numbers that go with the places
+-- the items of the other operand are made of numbers that are paired with the places
 pub updates-reorder : (op : Operation) (d : Descr) (v w v' w' : OperandValues) (h g : ℕ → Item) (places os places' os' : List ℕ) → v.descr ≡ d → v'.descr ≡ d → w'.descr ≡ w.descr → IsShape v.shape → IsShape v'.shape → can_stretch w.shape v.shape ≡ true → can_stretch w'.shape v'.shape ≡ true →
     v.stretched_to v.shape ≡ map h places → w.stretched_to v.shape ≡ map g os → v'.stretched_to v'.shape ≡ map h places' → w'.stretched_to v'.shape ≡ map g os' → length os ≡ length places → length os' ≡ length places' → IsPermutation (zip places os) (zip places' os') →
     Reorders places places' (updated_items op d v w) (updated_items op d v' w')

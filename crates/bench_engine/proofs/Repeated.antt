@@ -1,4 +1,4 @@
--- An item over and over.
+-- A repeated item.
 use Rattle.std.proofs.Common.{◌≡◌, ℕ, zero, suc, ◌+◌, List, ◌∷◌, ◌++◌, length, replicate, refl, sym, ap, ◌∙◌, arith}
 use Rattle.std.proofs.Math.Seq.{take-append_seam, drop-append_seam}
 use Rattle.bench_engine.specs.Words.{blocks, joined, joined-add}

@@ -11,13 +11,13 @@ unknown : (s : State) (name : List ℕ) → find_array s.names name ≡ None →
 unfolding file_of_name
 unknown s name none = rw none refl
 
--- the file of an array as it is shown
+-- the file of a shown array
 file-shown : (s : State) (name : List ℕ) (a : Array) (r : ArrayRef) → find_array s.names name ≡ Some a → Shows s a r →
     file_of_name s name ≡ saved r.descr.now r.layout.now.shape (offsets r.layout.now) (map (item_from r.descr.now r.block.now) (offsets r.layout.now))
 unfolding file_of_name
 file-shown s name a r is shows = rw is (λ i. saved (shows.descr i) (sym shows.view.laid.shape i) (sym shows.view.laid.places i) (shows.reads i))
 
--- there is no file
+-- there is no file to write
 not-there : (s : State) (shelf : StoreState) (name file : List ℕ) (e : Refusal) → file_of_name s name ≡ Err e → SaveStep (world s shelf) name file (world s shelf) (refusal e)
 not-there s shelf name file e bad = rw bad (refl, refl)
 
@@ -43,21 +43,21 @@ asked : (s : State) (old new : StoreState) (name file bytes : List ℕ) (result 
     MayAnswer (world s old) (Save name file) (world s new) reply
 asked s old new name file bytes result reply is puts told = inl (rw is (refl, puts.stored, puts.may, told))
 
--- the store has the file
+-- the store has written the file
 pub save-done : (s : State) (old new : StoreState) (name file bytes : List ℕ) (a : Array) (r : ArrayRef) (done : Unit {0}) → find_array s.names name ≡ Some a → Shows s a r →
     saved r.descr.now r.layout.now.shape (offsets r.layout.now) (map (item_from r.descr.now r.block.now) (offsets r.layout.now)) ≡ Ok bytes → Puts old new file bytes (Ok done) →
     MayAnswer (world s old) (Save name file) (world s new) (record { text = codes "ok save " ++ decimal (length bytes); accepted = true })
 save-done s old new name file bytes a r done is shows good puts =
     asked s old new name file bytes (Ok done) _ (file-shown s name a r is shows ∙ good) puts (told-done (length bytes) puts.stored done puts.tells)
 
--- the store refuses it
+-- the store reports a fault
 pub save-not-stored : (s : State) (old new : StoreState) (name file bytes : List ℕ) (a : Array) (r : ArrayRef) (e : Refusal) → find_array s.names name ≡ Some a → Shows s a r →
     saved r.descr.now r.layout.now.shape (offsets r.layout.now) (map (item_from r.descr.now r.block.now) (offsets r.layout.now)) ≡ Ok bytes → Puts old new file bytes (Err e) →
     MayAnswer (world s old) (Save name file) (world s new) (refusal e)
 save-not-stored s old new name file bytes a r e is shows good puts =
     asked s old new name file bytes (Err e) _ (file-shown s name a r is shows ∙ good) puts (told-refusal (length bytes) puts.stored e puts.tells)
 
--- a store that was given the file answers so
+-- the answer of a store that was asked to write the file
 pub puts-answer : (old new : StoreState) (name file bytes : List ℕ) (answer answer' : Stored) (result : Result (Unit {0}) Refusal) → name ≡ file → answer ≡ answer' → IsSameStore old new → FaultHasCause old new answer → IsKept name answer old.files new.files →
     (old.honest ≡ true → IsWritten old name bytes answer new.files) → result ≡ refused answer' → Puts old new file bytes result
 puts-answer old new name file bytes answer answer' result same is store cause kept written tells = record {

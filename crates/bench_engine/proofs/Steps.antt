@@ -1,4 +1,4 @@
--- The cases of a command and of a line, from what carries them out.
+-- The answers to a command and to a line, from what the calls that carry them out ensure.
 use Rattle.std.proofs.Common.{◌⊎◌, Bool, IsTrue, Result, ◌≡◌, ◌≢◌, ◌≤◌, ◌+◌, ℕ, suc, false, List, [], ◌∷◌, Some, None, refl, sym, ap, subst, ◌∙◌, inl, inr, arith, Err, Ok}
 use Rattle.std.specs.Ordering.{nat_cmp, eq_by_cmp, is_eq}
 use Rattle.std.specs.declared.cmp.Ordering.TheVariants.{Less, Equal, Greater}
@@ -60,7 +60,7 @@ refused old new shelf may outcome r same (inr is) =
     let any = spare old in
     inl (refl, (any.0, any.1, ap (after_outcome old) (is any.0) ∙ ap (λ (s : State). (s, refusal r)) (sym same)))
 
--- carried out, or refused, over a store that is not asked
+-- a command that does not ask the store is carried out, or is refused
 pub carried : (old new : State) (shelf : StoreState) (may : Bool) (outcome : Choice → Outcome) (text : List ℕ) (result : Result (Unit {0}) Refusal) → CarriesOut may outcome old new text result →
     Carried (λ reply. DoesAlone (world old shelf) outcome (world new shelf) reply ⊎ (IsTrue may × Refuses (world old shelf) (world new shelf) OutOfMemory reply)) text result
 carried old new shelf may outcome text (Ok done) h = inl (refl, (h.0, h.1, ap (after_outcome old) h.2))
@@ -98,13 +98,13 @@ pub silent_line : (old : World) (meaning : Meaning) → ReadsAs (Ok None) meanin
 silent_line old too_long is = cc
 silent_line old (says line) is = nothing_asked old line is
 
--- what may be answered a command is a step, or want of memory
+-- the answer to a command is a step, or out of memory
 command_weaker : (old new : World) (command : Command) (may : Type 0) (reply : Reply) → MayAnswer old command new reply ⊎ (may × Refuses old new OutOfMemory reply) → Step old command new reply ⊎ Refuses old new OutOfMemory reply
 command_weaker old new command may reply (inl (inl step)) = inl step
 command_weaker old new command may reply (inl (inr lacks)) = inr lacks.1
 command_weaker old new command may reply (inr lacks) = inr lacks.1
 
--- what may be answered a line is what the headline says
+-- the answer to a line is one that the headline allows
 line_weaker : (old new : World) (meaning : Meaning) (replies : List Reply) → MayAnswerLine old meaning new replies → AnswersMeaning old meaning new replies
 line_weaker old new too_long replies is = is
 line_weaker old new (says silent) replies is = is
@@ -112,7 +112,7 @@ line_weaker old new (says bad_byte) replies is = is
 line_weaker old new (says misspelt) replies is = is
 line_weaker old new (says (asks command)) replies is = (is.0, is.1, command_weaker old new command (IsTrue (parts_take_memory command)) is.0 is.2)
 
--- so for each way in which a line is answered
+-- the same for a line that asks for a command
 pub answered_weaker : (old new : World) (meaning : Meaning) (command : Command) (reply : Reply) → ReadsAs (Ok (Some command)) meaning → MayAnswer old command new reply → AnswersMeaning old meaning new (reply ∷ [])
 answered_weaker old new meaning command reply reads done = line_weaker old new meaning (reply ∷ []) (answered old new meaning command reply reads done)
 

@@ -23,7 +23,7 @@ places-stored Fortran item shape some = divided-each item (λ index. rank (rever
 
 -- ---- items
 
--- items one after another, from one of them on
+-- adjacent items, from the one at `a` on
 blocks-from : (size a n : ℕ) (bytes : List ℕ) → map (λ offset. take size (drop offset bytes)) (map (λ k. size * k) (range_with_len a n)) ≡ blocks size n (drop (size * a) bytes)
 blocks-from size a zero bytes = refl
 blocks-from size a (suc n) bytes = λ i. take size (drop (size * a) bytes) ∷ (blocks-from size (a + 1) n bytes ∙ ap (blocks size n) (ap (λ m. drop m bytes) (more size a) ∙ drop-drop (size * a) size bytes)) i
@@ -50,7 +50,7 @@ items-from descr n bytes = sym (twice (multiples (item_size descr) n)) ∙ ap (m
     none : (size : ℕ) → size * 0 ≡ 0
     none size = omega arith
 
--- the item at an index, where items lie in Fortran order
+-- the item at an index, if the items are stored in Fortran order
 at-index : (descr : Descr) (shape index block : List ℕ) (items : List (List LeafValue)) → map (item_from descr block) (f_multiples (item_size descr) shape) ≡ items → IsIndex (reverse shape) index →
     get_or items (rank shape (reverse index)) [] ≡ item_from descr block (item_size descr * rank (reverse shape) index)
 at-index descr shape index block items is in' =

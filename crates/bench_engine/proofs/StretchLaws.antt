@@ -1,4 +1,4 @@
--- What is stretched to a shape.
+-- Items that are stretched to a shape.
 use Rattle.std.proofs.Common.{◌≡◌, ◌<◌, ℕ, zero, suc, ◌-◌, ◌&&◌, max, true, false, List, [], ◌∷◌, ◌++◌, length, map, get_or, slice_index, replicate, Result, Ok, refl, sym, ap, ◌∙◌, arith}
 use Rattle.std.specs.Result.{is_ok}
 use Rattle.std.proofs.lemmas.Bool.{false≢true, and_parts}
@@ -9,7 +9,7 @@ use Rattle.bench_engine.specs.Words.{Refusal, ◌>>=◌, count, indexes, rank, I
 
 -- ---- items, stretched
 
--- lists that give the same items give the same ones where they are stretched
+-- lists with the same items have the same items when they are stretched
 pub stretched-same : {A : Type 0} (f g : ℕ → A) (xs ys shape target : List ℕ) → map f xs ≡ map g ys → length xs ≡ count shape → can_stretch shape target ≡ true →
     map f (view_through xs shape target (broadcast_index shape)) ≡ map g (view_through ys shape target (broadcast_index shape))
 stretched-same f g xs ys shape target same whole can =
@@ -24,7 +24,7 @@ stretched-same f g xs ys shape target same whole can =
         let low' : k < length ys = omega (arith, low, length-map xs f, length-map ys g, ap length same) in
         sym (get_or-map f xs k 0 (f 0) low) ∙ ap (λ items. get_or items k (f 0)) same ∙ get_or-map g ys k 0 (f 0) low'
 
--- one item shows at each index
+-- a single item is at each index
 pub one-stretched : (at : ℕ) (target : List ℕ) → view_through (at ∷ []) [] target (broadcast_index []) ≡ replicate (count target) at
 one-stretched at target = all-alike (indexes target) ∙ ap (λ n. replicate n at) (length-indexes target)
   where
@@ -36,7 +36,7 @@ pub map-replicate : {A B : Type 0} (f : A → B) (n : ℕ) (x : A) → map f (re
 map-replicate f zero x = refl
 map-replicate f (suc n) x = λ i. f x ∷ map-replicate f n x i
 
--- ---- what has no axes stretches to every shape
+-- ---- a shape without axes stretches to every shape
 
 ones-fit : (target : List ℕ) → all_stretch (replicate (length target) 1 ++ []) target ≡ true
 ones-fit [] = refl
@@ -50,7 +50,7 @@ none-fits target =
     let whole : length target - 0 ≡ length target = omega arith in
     ap (λ k. all_stretch (replicate k 1 ++ []) target) whole ∙ ones-fit target
 
--- ---- the common shape of a shape and what stretches to it
+-- ---- the common shape of a shape and one that stretches to it
 
 ones-go : (target : List ℕ) → all_go_together (replicate (length target) 1 ++ []) target ≡ true
 ones-go [] = refl
@@ -109,7 +109,7 @@ unfolding common_shape
 common-onto target shape common can found =
     sym (shape_of-same target common (sym (ap (λ (r : Result (List ℕ) Refusal). r >>= shape_of) (common-lengths target shape can)) ∙ found))
 
--- ---- whether something stretches
+-- ---- whether a shape stretches
 
 pub stretched-can : (shape target : List ℕ) → is_ok (stretched shape target) ≡ true → can_stretch shape target ≡ true
 unfolding stretched

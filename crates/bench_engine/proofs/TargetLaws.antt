@@ -1,4 +1,4 @@
--- What an index list takes of an array, to be read or to be written.
+-- The items that an index list selects from an array, to be read or to be written.
 use Rattle.std.proofs.Common.{Some, get_or, slice_index, ◌≡◌, ◌⊎◌, ◌≤◌, if◌then◌else◌, nat_le, ◌+◌, ◌*◌, ℕ, true, false, List, length, map, refl, sym, ap, ◌∙◌, subst, All, Ok, Err}
 use Rattle.std.specs.List.{list_all}
 use Rattle.std.proofs.lemmas.List.Elements.{All-map}
@@ -52,16 +52,16 @@ module _ (s : State) (a : Array) (r : ArrayRef) (shows : Shows s a r) (index : L
     items = items ∙ plan-read plan view is;
   }
 
-  -- the view to which a target leads
+  -- the view that a target leads to
   pub aimed : (t t' : Target) → t ≡ t' → Meets (IsAimed r (list_all is_basic index)) (Ok t) (taken s a index) → (view : View) × (taken s a index ≡ Ok view) × IsAimed r (list_all is_basic index) t' view
   aimed t t' same gives = met (IsAimed r (list_all is_basic index)) t' (taken s a index) (subst (λ (t : Target). Meets (IsAimed r (list_all is_basic index)) (Ok t) (taken s a index)) same gives)
 
-  -- a copy of the items of a plan is refused as out of memory alone
+  -- a copy of the items of a plan is refused only as out of memory
   pub copy-lacks : (plan : Planned) (view : View) (e : Refusal) → IsPlanOf r.layout.now plan view → length plan.offsets * item_size r.descr.now ≤ max_bytes → e ≡ (if nat_le (count plan.shape * item_size r.descr.now) max_bytes then OutOfMemory else TooLarge) → e ≡ OutOfMemory
   copy-lacks plan view e is few refused =
       cast-lacks true plan.shape plan.shape (item_size r.descr.now) e refl refl (subst (λ n. n * item_size r.descr.now ≤ max_bytes) (plan-counted r.layout.now plan view is) few) refused
 
-  -- the items to which a plan leads lie in the block
+  -- the items that a plan leads to lie in the block
   pub plan-within : (plan : Planned) (view : View) → IsPlanOf r.layout.now plan view → All (λ offset. offset + item_size r.descr.now ≤ length r.block.now) plan.offsets
   plan-within plan view is =
       subst (All (λ offset. offset + item_size r.descr.now ≤ length r.block.now)) (sym is.places) (All-map (λ offset. offset + item_size r.descr.now ≤ length r.block.now) (λ index. slice_index (offsets r.layout.now) (rank r.layout.now.shape (view.leads index))) (indexes view.shape)

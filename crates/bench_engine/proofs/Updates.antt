@@ -19,7 +19,7 @@ use Rattle.bench_engine.proofs.StretchLaws.{common-onto, none-fits, stretched-ca
 use Rattle.bench_engine.proofs.WorkLaws.{same_refusal, worked-bad, worked-done}
 use Rattle.bench_engine.specs.inside.Meeting.{Meets}
 
--- ---- the exits
+-- ---- the refusals
 
 module _ (op : Operation) (d : Descr) (v w : OperandValues) where
   pub changed-type : (e : Refusal) → operation_scalar op d w.descr ≡ Err e → updated_items op d v w ≡ Err e
@@ -47,7 +47,7 @@ module _ (op : Operation) (d : Descr) (v w : OperandValues) where
   unfolding updated_items
   changed-done s from view new typed own kind fits good = rw (typed, own, kind, fits, good) refl
 
--- ---- what is worked has the old shape
+-- ---- the result has the old shape
 
 worked-parts : (op : Operation) (v w : OperandValues) (new : Contents) → operation_on op v w ≡ Ok new → (s : Scalar) × (operation_scalar op v.descr w.descr ≡ Ok s) × (new.buffer.descr ≡ ScalarDescr s) × (common_shape (v.shape ∷ w.shape ∷ []) ≡ Ok new.shape)
 unfolding operation_on
@@ -68,7 +68,7 @@ worked-shape op v w o can is = common-onto v.shape w.shape o.layout.shape can (w
 pub view-can : (shape target : List ℕ) (view : View) → stretched shape target ≡ Ok view → can_stretch shape target ≡ true
 view-can shape target view is = stretched-can shape target (ap is_ok is)
 
--- where the common shape is there, only the type is refused
+-- if there is a common shape, only the type can be refused
 pub worked-type : (op : Operation) (v w : OperandValues) (e : Refusal) → common_shape (v.shape ∷ w.shape ∷ []) ≡ Ok v.shape → operation_on op v w ≡ Err e → operation_scalar op v.descr w.descr ≡ Err e
 worked-type op v w e common is = by-type (operation_scalar op v.descr w.descr) refl
   where
@@ -76,7 +76,7 @@ worked-type op v w e common is = by-type (operation_scalar op v.descr w.descr) r
     by-type (Ok s) typed = absurd (false≢true (sym (ap is_ok is) ∙ ap is_ok (worked-done op v w s v.shape typed common)))
     by-type (Err e') bad = same_refusal e' e (sym (worked-bad op v w e' bad) ∙ is)
 
--- ---- numbers that may be written are cast
+-- ---- a result that may be written back can be cast
 
 pub kind-casts : (s from : Scalar) → same_kind s from ≡ Ok tt → can_cast (ScalarDescr s) (ScalarDescr from) ≡ true
 unfolding same_kind
@@ -96,11 +96,11 @@ kind-casts (Int signed width order) (Int signed' width' order') is = refl
 
 -- ---- the items that are written
 
--- those of a block in C order
+-- the items of an owned array in C order
 pub items-held : (o : Owned) → IsInCOrder o → (held o).buffer.items ≡ map (item_from o.descr o.block) (offsets o.layout)
 items-held o order = sym (ap (map (item_from o.descr o.block)) order ∙ items-from o.descr (count o.layout.shape) o.block)
 
--- what is changed is what is cast
+-- the changed items are the cast ones
 pub changed-gives : (d : Descr) (n : ℕ) (new : Owned) (result : Result Owned Refusal) (there : Result (List (List LeafValue)) Refusal) → IsInCOrder new → there ≡ Ok (map (cast_item new.descr d) (held new).buffer.items) → n ≡ count new.layout.shape →
     Meets (HoldsItems d (count new.layout.shape)) result (Ok (map (cast_item new.descr d) (map (item_from new.descr new.block) (offsets new.layout)))) → Meets (HoldsItems d n) result there
 changed-gives d n new result there order is counted gives =
@@ -118,7 +118,7 @@ cast-changed new d (Ok o) can few typed shaped items refused = (
 )
 cast-changed new d (Err e) can few typed shaped items refused = inl (cast-lacks (can_cast new.descr d) new.layout.shape new.layout.shape (item_size d) e can refl few refused)
 
--- ---- items as operands of their own
+-- ---- items as an operand
 
 abbrev pub own_values : Items → OperandValues
 own_values x = record { descr = x.descr.now; shape = x.layout.now.shape; stretched_to = stretched_items x.descr.now x.block.now x.layout.now }

@@ -1,4 +1,4 @@
--- What `broadcast` shows of an array, as NumPy's `broadcast_to` has it.
+-- What `broadcast` gives, compared with NumPy's `broadcast_to`.
 use Rattle.std.proofs.Common.{◌≡◌, ℕ, Bool, true, false, List, [], ◌∷◌, Ok, Err, refl}
 use Rattle.bench_engine.specs.Words.{TooLarge, ShapesDoNotBroadcast, shape_of, stretched, Broadcast, State}
 use Rattle.name_store.specs.States.{Array}
@@ -8,17 +8,17 @@ use Rattle.bench_engine.specs.Machine.{a_view, seen}
 over_places : List ℕ → List ℕ → Bool → Array
 over_places shape places writable = record { buffer = 0; path = []; shape = shape; places = places; writable = writable }
 
--- `numpy.broadcast_to(numpy.array([[0], [1]]), (2, 3))`, which may not be written
+-- `numpy.broadcast_to(numpy.array([[0], [1]]), (2, 3))`, which is read-only
 repeated : (s : State) → seen (Broadcast (2 ∷ 3 ∷ [])) s (over_places (2 ∷ 1 ∷ []) (0 ∷ 1 ∷ []) true) ≡ Ok (a_view (over_places (2 ∷ 3 ∷ []) (0 ∷ 0 ∷ 0 ∷ 1 ∷ 1 ∷ 1 ∷ []) false))
 unfolding shape_of stretched over_places
 repeated s = refl
 
--- `numpy.broadcast_to(numpy.arange(3), (3,))` may not be written either
+-- `numpy.broadcast_to(numpy.arange(3), (3,))`, which is read-only too
 as_it_is : (s : State) → seen (Broadcast (3 ∷ [])) s (over_places (3 ∷ []) (0 ∷ 1 ∷ 2 ∷ []) true) ≡ Ok (a_view (over_places (3 ∷ []) (0 ∷ 1 ∷ 2 ∷ []) false))
 unfolding shape_of stretched over_places
 as_it_is s = refl
 
--- an array without items shows in no shape with some; the shape is checked first
+-- an array without items does not broadcast to a shape with items. Whether the shape is too large is checked first.
 no_items : (s : State) → seen (Broadcast (2 ∷ 1 ∷ [])) s (over_places (0 ∷ []) [] true) ≡ Err ShapesDoNotBroadcast
 unfolding shape_of stretched over_places
 no_items s = refl

@@ -1,4 +1,4 @@
--- What a session comes to outside of the run.
+-- The outcome of a run, from the state of its session.
 use Rattle.std.proofs.Common.{◌≡◌, ◌≢◌, [], ◌⊎◌, inl, inr, ◌++◌, ap, ◌∙◌, sym, append_assoc, zero-add, ℕ, List, Option, Some, None, Err, subst, IfSome, refl, map}
 use Rattle.std.specs.Io.KnownBytes.{Consumes, IsAtEnd}
 use Rattle.bench_engine.specs.Words.{StoreState}
@@ -19,7 +19,7 @@ known : (a b : Option (List ℕ)) (script : List ℕ) → Consumes a b script �
 known None b script read ended = tt
 known (Some bytes) b script read ended = all_read bytes b script read ended
 
--- the session has come to its end
+-- the session has ended
 pub answers-script : (depth : ℕ) (before after : Outside) (session : Session) (summary : Summary) → Ended depth before after session → summary.bench ≡ session.bench → summary.accepted ≡ session.accepted → summary.refused ≡ session.refused → AnswersScript depth before after summary
 answers-script depth before after session summary end bench accepted refused = record {
   script = end.input;
@@ -35,7 +35,7 @@ answers-script depth before after session summary end bench accepted refused = r
   refused = refused ∙ end.told.refused ∙ zero-add _;
 }
 
--- some first ones of these lines are some first ones of more
+-- a prefix of some lines is a prefix of more lines
 extended : (lines later : List (List ℕ)) (first : World) (shelf : StoreState) (written written' : Option (List ℕ)) → AnswersInPart lines first shelf written written' → AnswersInPart (lines ++ later) first shelf written written'
 extended lines later first shelf written written' part = record {
   answered = part.answered;
@@ -52,7 +52,7 @@ extended lines later first shelf written written' part = record {
   sent = part.sent;
 }
 
--- the lines of what was read are first lines of the script
+-- the lines of the bytes read are a prefix of the lines of the script
 known-part : (first : World) (shelf : StoreState) (a b written written' : Option (List ℕ)) (input : List ℕ) (lines : List (List ℕ)) → Consumes a b input → AreWholeLines input lines ⊎ (IsAtEnd b × AreLines input lines) → AnswersInPart lines first shelf written written' →
     IfSome a (λ script. (all : List (List ℕ)) × AreLines script all × AnswersInPart all first shelf written written')
 known-part first shelf None b written written' input lines read come some = tt
@@ -97,7 +97,7 @@ reading-new depth before session new = record {
   };
 }
 
--- before a read all whole lines are answered
+-- before a read, all lines that a newline ends are answered
 pub whole-lines : (depth : ℕ) (before after : Outside) (session : Session) → Reading depth before after session → AnswersWholeLines depth before after
 whole-lines depth before after session reading = record {
   input = reading.input;

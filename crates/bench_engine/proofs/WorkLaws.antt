@@ -1,4 +1,4 @@
--- What an operation gives on operands.
+-- The result of an operation on operands.
 use Rattle.std.proofs.Common.{◌≡◌, ◌⊎◌, ℕ, true, List, [], ◌∷◌, map, Result, Ok, Err, IfOk, refl, sym, ap, ◌∙◌, subst, inl, inr, arith}
 use Rattle.std.specs.Result.{is_ok}
 use Rattle.std.proofs.lemmas.Bool.{false≢true}
@@ -10,7 +10,7 @@ use Rattle.bench_engine.specs.inside.Operands.{Stands}
 use Rattle.bench_engine.specs.inside.OwnContents.{held, IsInCOrder}
 use Rattle.bench_engine.proofs.Copies.{made-held}
 
--- what a type and a common shape come to
+-- the element type and the shape of a result, or the refusal
 abbrev pub typed_in : Result Scalar Refusal → Result (List ℕ) Refusal → Result (Descr × List ℕ) Refusal
 typed_in scalar shape = scalar >>= (λ s. shape >>= (λ l. Ok (ScalarDescr s, l)))
 
@@ -18,7 +18,7 @@ chained : {X Y Z : Type 0} (x : Result X Refusal) (f : X → Result Y Refusal) (
 chained (Ok a) f g = refl
 chained (Err e) f g = refl
 
--- a refusal is one of answers of any type
+-- the same refusal is the same in results of any type
 pub same_refusal : {X Y : Type 0} (e e' : Refusal) → ◌≡◌ {A = Result X Refusal} (Err e) (Err e') → ◌≡◌ {A = Result Y Refusal} (Err e) (Err e')
 same_refusal e e' same = let is : e ≡ e' = cc in ap Err is
 
@@ -36,7 +36,7 @@ compared-is c d d' t u = sym (
     ∙ bind_same (scalar_of d) (λ from. (scalar_of d' >>= (λ other. compared_type from other)) >>= (λ s. common_shape (t ∷ u ∷ []) >>= (λ l. Ok (ScalarDescr s, l)))) (λ from. scalar_of d' >>= (λ other. compared_type from other >>= (λ s. common_shape (t ∷ u ∷ []) >>= (λ l. Ok (ScalarDescr s, l)))))
     (λ from _. chained (scalar_of d') (λ other. compared_type from other) (λ s. common_shape (t ∷ u ∷ []) >>= (λ l. Ok (ScalarDescr s, l)))))
 
--- ---- what is worked
+-- ---- the result
 
 pub worked-bad : (op : Operation) (v w : OperandValues) (e : Refusal) → operation_scalar op v.descr w.descr ≡ Err e → operation_on op v w ≡ Err e
 unfolding operation_on
@@ -51,7 +51,7 @@ pub worked-done : (op : Operation) (v w : OperandValues) (s : Scalar) (shape : L
 unfolding operation_on
 worked-done op v w s shape good there = rw (good, there) refl
 
--- a type and a shape that come to something
+-- if there is a result, there are a type and a shape
 typed-both : (scalar : Result Scalar Refusal) (shape : Result (List ℕ) Refusal) (d : Descr) (l : List ℕ) → typed_in scalar shape ≡ Ok (d, l) → (s : Scalar) × (scalar ≡ Ok s) × (shape ≡ Ok l) × (d ≡ ScalarDescr s)
 typed-both (Ok s) (Ok m) d l is =
     let both : (ScalarDescr s, m) ≡ (d, l) = same_answer (ScalarDescr s, m) (d, l) is in
@@ -59,13 +59,13 @@ typed-both (Ok s) (Ok m) d l is =
 typed-both (Ok s) (Err e) d l is = absurd (false≢true (ap is_ok is))
 typed-both (Err e) shape d l is = absurd (false≢true (ap is_ok is))
 
--- or to a refusal
+-- if there is none, the type or the shape is refused
 typed-neither : (scalar : Result Scalar Refusal) (shape : Result (List ℕ) Refusal) (e : Refusal) → typed_in scalar shape ≡ Err e → (scalar ≡ Err e) ⊎ ((s : Scalar) × (scalar ≡ Ok s) × (shape ≡ Err e))
 typed-neither (Ok s) (Ok m) e is = absurd (false≢true (sym (ap is_ok is)))
 typed-neither (Ok s) (Err e') e is = inr (s, refl, same_refusal e' e is)
 typed-neither (Err e') shape e is = inl (same_refusal e' e is)
 
--- the two shapes stretch to what they have in common
+-- both shapes stretch to their common shape
 fits-common : (t u common : List ℕ) → common_shape (t ∷ u ∷ []) ≡ Ok common → (can_stretch t common ≡ true) × (can_stretch u common ≡ true)
 fits-common t u common is =
     let all = common-fits (t ∷ u ∷ []) common is in

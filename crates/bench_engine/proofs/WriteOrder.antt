@@ -1,4 +1,4 @@
--- Items that are written at places no two of which are the same: whatever their order, the same items are left.
+-- Items that are written at different places: the order does not matter.
 use Rattle.std.proofs.Common.{◌≡◌, ◌≢◌, ◌<◌, ◌≤◌, ◌⊎◌, inl, inr, ℕ, zero, suc, List, [], ◌∷◌, length, get_or, set, refl, sym, ap, ◌∙◌, arith, length-set, get_or-set_same, get_or-set_other}
 use Rattle.std.specs.List.{zip}
 use Rattle.std.specs.List.Sorted.{IsPermutation}
@@ -37,7 +37,7 @@ module _ (span : ℕ × ℕ) where
   abbrev AreApart : List Placed → Type 0
   AreApart ps = (j k : ℕ) → j < k → k < length ps → 1 ≤ distance (get_or ps j nowhere).0 (get_or ps k nowhere).0
 
-  -- what is at a place, where there is one
+  -- the new item at a place that is written
   abbrev IsNew : List Placed → ℕ → Item → Item → Type 0
   IsNew ps j old item = (k : ℕ) × (k < length ps) × ((get_or ps k nowhere).0 ≡ j) × (item ≡ with_part span (get_or ps k nowhere).1 old)
 

@@ -10,7 +10,7 @@ use Rattle.bench_engine.specs.inside.Assigns.{LiesIn, IsTarget}
 use Rattle.bench_engine.specs.inside.Operands.{StandsFor}
 use Rattle.bench_engine.proofs.Sets.{items-at, read-part, part-inside}
 
--- what holds of all addresses holds of some of them
+-- what holds for all addresses holds for some of them
 some-inside : (P : ℕ → Type 0) (item start : ℕ) (places some : List ℕ) → All P (offsets_of item start places) → All (Contains places) some → All P (offsets_of item start some)
 some-inside P item start places some all among =
     All-map P (λ place. item * place + start) some (λ k d below. All-contains (λ place. P (item * place + start)) places (get_or some k d) each (among k d below))

@@ -7,29 +7,30 @@ use Rattle.elem_descr.specs.declared.descr.Descr.TheVariants.{Scalar as ScalarDe
 use Rattle.script_lang.specs.declared.command.NewItems.TheVariants.{Array}
 use Rattle.name_store.specs.States as states
 
--- a shape, a place for each of its indexes in C order, and a buffer with the items
+-- the contents of a new array: its shape, the place of each index in C order, and the buffer that holds its items
 pub record Contents : Type 0 where
   pub shape : List ℕ
   pub places : List ℕ
   pub buffer : Buffer
 
--- the places of a shape's items, stored in C order or in Fortran order, in which the first index changes fastest
+-- The place of each index of a shape, in C order, if the items are stored in this memory order. In Fortran order, the
+-- first number of an index changes fastest.
 abbrev pub places_in : MemoryOrder → List ℕ → List ℕ
 places_in C shape = range_with_len 0 (count shape)
 places_in Fortran shape = map (λ index. rank (reverse shape) (reverse index)) (indexes shape)
 
--- items, given one for each index of the shape in C order, and stored in C or Fortran order
+-- the contents of an array whose items are given in C order and stored in this memory order
 abbrev pub new_contents_in : MemoryOrder → Descr → List ℕ → List (List LeafValue) → Contents
 new_contents_in order descr shape items = record { shape = shape; places = places_in order shape; buffer = record { descr = descr; items = ordered order shape items } }
 
 abbrev pub new_contents : Descr → List ℕ → List (List LeafValue) → Contents
 new_contents descr shape items = new_contents_in C descr shape items
 
--- a writable array with these contents, in the buffer with this number
+-- a writable array with these contents, in the buffer with the number `at`
 abbrev pub array_over : ℕ → Contents → states.Array
 array_over at contents = record { buffer = at; path = []; shape = contents.shape; places = contents.places; writable = true }
 
--- the value 0 of each type: for byte strings, the empty one
+-- the value that `zeros` gives to a scalar: 0, or the empty byte string
 abbrev pub zero_of : Scalar → LeafValue
 zero_of (Bytes n) = text []
 zero_of scalar = number (pos 0)
@@ -37,7 +38,7 @@ zero_of scalar = number (pos 0)
 abbrev pub zero_item : Descr → List LeafValue
 zero_item descr = map (λ leaf. zero_of leaf.scalar) (leaves_of descr)
 
--- the element type and the shape of a new array, which has at most 2^28 bytes
+-- the element type and the shape of a new array, which may have at most 2^28 bytes
 unfoldable pub array_type : List ℕ → List ℕ → Result (Descr × List ℕ) Refusal
 array_type descr lengths = do
   descr ← descriptor descr
@@ -66,13 +67,13 @@ array_contents descr lengths literals = do
   items ← item_values type.0 literals
   Ok (new_contents type.0 type.1 items)
 
--- the scalar of an element type whose values are integers
+-- the scalar of an integer element type. Other element types are refused.
 abbrev pub integer_scalar : Descr → Result Scalar Refusal
 integer_scalar (ScalarDescr (Byte signed)) = Ok (Byte signed)
 integer_scalar (ScalarDescr (Int signed width order)) = Ok (Int signed width order)
 integer_scalar _ = Err NotForThisKind
 
--- the scalar of a descriptor whose values are integers
+-- the same for the text of a descriptor
 unfoldable pub range_scalar : List ℕ → Result Scalar Refusal
 range_scalar descr = do
   descr ← descriptor descr

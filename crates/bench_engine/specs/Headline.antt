@@ -36,7 +36,7 @@ AnswersMeaning old (says bad_byte) new replies = OneReply replies (Refuses old n
 AnswersMeaning old (says misspelt) new replies = OneReply replies (λ reply. Refuses old new Syntax reply ⊎ Refuses old new OutOfMemory reply)
 AnswersMeaning old (says (asks command)) new replies = OneReply replies (λ reply. Step old command new reply ⊎ Refuses old new OutOfMemory reply)
 
--- how a line may be answered, and the world after it
+-- the ways to answer a line, with the world and the replies after it
 abbrev pub AnswersLine : World → List ℕ → World → List Reply → Type 0
 AnswersLine old line new replies = AnswersMeaning old (meaning_of line) new replies
 
@@ -89,7 +89,7 @@ accepted_count replies = count_by (λ r. r.accepted) replies
 abbrev pub refused_count : List Reply → ℕ
 refused_count replies = count_by (λ r. not r.accepted) replies
 
--- ---- what a run comes to
+-- ---- the outcome of a run
 
 -- The surroundings of a run: the bytes still to be read and the bytes written, if they are known, and the store of
 -- files.
@@ -105,9 +105,9 @@ outside unread written store = record { unread = unread; written = written; stor
 abbrev pub first_world : ℕ → Outside → World
 first_world depth before = world (start depth) before.store
 
--- The bytes read, up to the end of the input, are a script: the known one, if it was known. A run of the machine
--- answers its lines, and ends with the summary's bench and the files that are left. Exactly the replies are written,
--- and the summary counts them.
+-- The bytes read are a whole script, up to the end of the input. If the script was known, they are that script. A run
+-- of the machine answers its lines, and ends with the summary's bench and the files in the store. Exactly its replies
+-- are written, and the summary counts them.
 pub record AnswersScript (depth : ℕ) (before after : Outside) (summary : Summary) : Type 0 where
   pub script : List ℕ
   pub lines : List (List ℕ)
@@ -121,7 +121,7 @@ pub record AnswersScript (depth : ℕ) (before after : Outside) (summary : Summa
   pub accepted : summary.accepted ≡ accepted_count replies
   pub refused : summary.refused ≡ refused_count replies
 
--- The lines that a newline ends in the bytes read are answered, and all their replies are written.
+-- The lines that a newline ends in the bytes read are answered, and exactly their replies are written.
 pub record AnswersWholeLines (depth : ℕ) (before after : Outside) : Type 0 where
   pub input : List ℕ
   pub lines : List (List ℕ)
@@ -138,8 +138,8 @@ ReadsInTime {S} remaining failures MayRead depth source before =
     (now : S) (written : Option (List ℕ)) (store : StoreState) → failures now ≡ failures source
     → AnswersWholeLines depth before (outside (remaining now) written store) → MayRead now written
 
--- The first of these lines are answered, and the files are as they leave them. All their replies are written, except
--- for a non-empty last part of the last one.
+-- A prefix of these lines is answered, and the store is as they leave it. All their replies are written, except that
+-- the last one is cut short: at least its newline is missing.
 pub record AnswersInPart (lines : List (List ℕ)) (first : World) (shelf : StoreState) (written written' : Option (List ℕ)) : Type 0 where
   pub answered : List (List ℕ)
   pub later : List (List ℕ)
@@ -154,8 +154,8 @@ pub record AnswersInPart (lines : List (List ℕ)) (first : World) (shelf : Stor
   pub some_missing : 0 < length missing
   pub sent : Appends written written' (output replies ++ gone)
 
--- Some first lines are answered, the last of them in part: of the lines that a newline ends, or of all lines if the
--- input has ended; and of the script, if it was known.
+-- A prefix of the lines is answered, and the last reply is cut short. The lines are those that a newline ends in the
+-- bytes read, or all lines if the input has ended. If the script was known, the same holds for all lines of the script.
 pub record AnswersFirstLines (depth : ℕ) (before after : Outside) : Type 0 where
   pub input : List ℕ
   pub lines : List (List ℕ)
@@ -164,9 +164,9 @@ pub record AnswersFirstLines (depth : ℕ) (before after : Outside) : Type 0 whe
   pub some : AnswersInPart lines (first_world depth before) after.store before.written after.written
   pub known : IfSome before.unread (λ script. (all : List (List ℕ)) × AreLines script all × AnswersInPart all (first_world depth before) after.store before.written after.written)
 
--- After Ok, the whole script is answered. After a failed read, or too many reads, the complete lines are answered;
--- after a failed write, some first lines, the last of them in part. Without enough memory to start, nothing has
--- changed.
+-- After `Ok`, the whole script is answered. After `Read` (a read failed, or there were too many), the lines that a
+-- newline ends are answered. After `Write`, a prefix of the lines is answered, and the last reply is cut short. After
+-- `Memory`, there was not enough memory to start, and nothing has changed.
 abbrev pub ComesTo : ℕ → Outside → Outside → Result Summary RunFault → Type 0
 ComesTo depth before after (Ok summary) = AnswersScript depth before after summary
 ComesTo depth before after (Err Read) = AnswersWholeLines depth before after

@@ -1,4 +1,4 @@
--- What an index list selects from an array of a state. Names in the list stand for arrays of the state.
+-- What an index list selects from an array of a state. A name in the list means the array that it is bound to.
 use Rattle.std.specs.Prelude.{ℕ, ◌*◌, if◌then◌else◌, List, [], ◌∷◌, map, Option, Some, None, Result, Ok, nat_le}
 use Rattle.std.specs.List.{list_all, flat_map}
 use Rattle.bench_engine.specs.Words.{Refusal, TooLarge, ◌>>=◌, check, item_size, IndexItem, Slice, Ellipsis, NewAxis, is_basic, max_bytes, count, basic, IndexArray, no_array, indexed, first_number, State, find_array, descr_of, read}
@@ -14,12 +14,13 @@ names_in_item item = []
 abbrev pub names_in_index : List (IndexItem (List ℕ)) → List (List ℕ)
 names_in_index index = flat_map names_in_item index
 
--- the array that a name stands for, as its items
+-- the array as an index array: its element type, its shape, and the first number of each item; or the placeholder for a
+-- missing array
 abbrev pub by_items : State → Option states.Array → IndexArray
 by_items s None = no_array
 by_items s (Some array) = record { descr = descr_of s array; shape = array.shape; numbers = map first_number (read s array) }
 
--- an item with the array in place of its name
+-- an item of an index list, with the array itself in place of its name
 abbrev pub array_by_items : State → IndexItem (List ℕ) → IndexItem IndexArray
 array_by_items s (Integer at) = Integer at
 array_by_items s (Slice start stop step) = Slice start stop step
@@ -27,7 +28,7 @@ array_by_items s Ellipsis = Ellipsis
 array_by_items s NewAxis = NewAxis
 array_by_items s (Array name) = Array (by_items s (find_array s.names name))
 
--- the items that index arrays select, at most 2^28 bytes
+-- the items that an index list with arrays selects, which may have at most 2^28 bytes
 unfoldable pub gathered : State → states.Array → List (IndexItem (List ℕ)) → Result View Refusal
 gathered s array index = do
   view ← indexed array.shape (map (array_by_items s) index)

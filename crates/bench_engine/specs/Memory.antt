@@ -1,4 +1,5 @@
--- When a command may be refused as out of memory: what `execute` and `answer` promise beyond the machine.
+-- When a command may be refused as out of memory. `execute` and `answer` promise this in addition to a step of the
+-- machine.
 use Rattle.std.specs.Prelude.{◌⊎◌, ℕ, Bool, true, false, IsTrue, ◌&&◌, ◌++◌, List, [], ◌∷◌, nat_lt}
 use Rattle.std.specs.List.{list_all}
 use Rattle.bench_engine.specs.Words.{OutOfMemory, Computation, Value, Question, Command, asks, parts_take_memory, State, is_bound}
@@ -12,7 +13,7 @@ use Rattle.bench_engine.specs.Replies.{Reply}
 use Rattle.bench_engine.specs.Steps.{World, Refuses, Step}
 use Rattle.bench_engine.specs.Headline.{Meaning, says, OneReply, AnswersMeaning}
 
--- The names that must be bound, from left to right.
+-- ---- the names that must be bound for a command, from left to right
 
 abbrev pub bound_in_computation : Computation → List (List ℕ)
 bound_in_computation (computation.Duplicate source order) = source ∷ []
@@ -43,8 +44,8 @@ must_be_bound (command.Ask question) = bound_in_question question
 must_be_bound (command.Save name file) = name ∷ []
 must_be_bound command.Undo = []
 
--- Whether a command takes memory while it is carried out. If memory runs out in a load, this counts as an answer of the
--- store. Unbinding a name takes memory only if the state before it is kept, and undo takes none.
+-- Whether a command asks for memory while it is carried out. A load that runs out of memory does not count here: that
+-- is an answer of the store. `del` asks for memory only to keep the state before it, and `undo` never does.
 abbrev pub asks_for_memory : State → Command → Bool
 asks_for_memory s (command.Bind name (value.Load file)) = false
 asks_for_memory s (command.Bind name value) = true
@@ -55,15 +56,15 @@ asks_for_memory s (command.Ask question) = true
 asks_for_memory s (command.Save name file) = true
 asks_for_memory s command.Undo = false
 
--- whether a command may be refused as out of memory: never if a name that must be bound is not
+-- whether a command may be refused as out of memory: not if one of the names that must be bound is unbound
 abbrev pub may_lack_memory : State → Command → Bool
 may_lack_memory s command = asks_for_memory s command && list_all (is_bound s) (must_be_bound command)
 
--- A command is a step of the machine, or it is refused as out of memory if it may ask for memory.
+-- The command is a step of the machine, or, if it may lack memory, it is refused as out of memory.
 abbrev pub MayAnswer : World → Command → World → Reply → Type 0
 MayAnswer old command new reply = Step old command new reply ⊎ (IsTrue (may_lack_memory old.state command) × Refuses old new OutOfMemory reply)
 
--- The same for a line. Parsing its command takes memory too, if a part of the command does.
+-- The same for a line. If parsing its command takes memory, this may also run out.
 abbrev pub MayAnswerLine : World → Meaning → World → List Reply → Type 0
 MayAnswerLine old (says (asks command)) new replies = OneReply replies (λ reply. MayAnswer old command new reply ⊎ (IsTrue (parts_take_memory command) × Refuses old new OutOfMemory reply))
 MayAnswerLine old meaning new replies = AnswersMeaning old meaning new replies

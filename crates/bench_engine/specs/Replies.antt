@@ -11,11 +11,11 @@ pub record Reply : Type 0 where
   pub text : List ℕ
   pub accepted : Bool
 
--- the reply to what is refused
+-- the reply for a refusal
 abbrev pub refusal : Refusal → Reply
 refusal r = record { text = refusal_text r; accepted = false }
 
--- at most one reply, its text, and whether it accepts
+-- There is no reply and `out` is empty, or `out` is the text of the one reply, which is accepted or refused.
 abbrev pub Tells : List Reply → Option Bool → List ℕ → Type 0
 Tells replies None out = (replies ≡ []) × (out ≡ [])
 Tells replies (Some accepted) out = (reply : Reply) × (replies ≡ reply ∷ []) × (reply.accepted ≡ accepted) × (out ≡ reply.text)
@@ -41,13 +41,13 @@ bound_text name descr shape origin = codes "ok " ++ array_words name descr shape
 abbrev pub yes_or_no : Bool → List ℕ
 yes_or_no is = if is then codes "yes" else codes "no"
 
--- the orders in which items at these addresses are adjacent
+-- the memory orders in which items of this size, at these addresses, are contiguous: CF, C, F, or - for none
 abbrev pub order_text : ℕ → List ℕ → List ℕ → List ℕ
 order_text item shape addresses =
     if is_c_contiguous item addresses then (if is_f_contiguous item shape addresses then codes "CF" else codes "C")
     else if is_f_contiguous item shape addresses then codes "F" else codes "-"
 
--- strides SHAPE at N order O write W, of the addresses of the items
+-- strides SHAPE at N order O write W, for items of this size at these addresses
 abbrev pub layout_words : ℕ → List ℕ → List ℕ → Bool → List ℕ
 layout_words item shape addresses writable =
     codes "strides " ++ strides_text (printed_strides shape addresses) ++ codes " at " ++ decimal (first_address addresses)
@@ -62,7 +62,7 @@ info_text name descr shape addresses writable =
 abbrev pub shares_text : Bool → List ℕ
 shares_text is = codes "shares " ++ yes_or_no is
 
--- names, followed by a blank and each name that is bound
+-- names X Y .., for all bound names
 abbrev pub names_text : State → List ℕ
 names_text s = codes "names" ++ flat_map (λ entry. codes " " ++ entry.0) s.names
 

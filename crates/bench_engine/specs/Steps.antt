@@ -21,11 +21,11 @@ world state shelf = record { state = state; shelf = shelf }
 abbrev pub Refuses : World → World → Refusal → Reply → Type 0
 Refuses old new refused reply = (new ≡ old) × (reply ≡ refusal refused)
 
--- the state changes like this for some choice that the machine is free to make
+-- the new state and the reply are those of the outcome, for a choice that the machine is free to make
 abbrev pub Does : State → (Choice → Outcome) → State → Reply → Type 0
 Does old outcome new reply = (choice : Choice) × IsAllowed old choice × (after_outcome old (outcome choice) ≡ (new, reply))
 
--- the same, without a request to the store
+-- the same, and the store does not change
 abbrev pub DoesAlone : World → (Choice → Outcome) → World → Reply → Type 0
 DoesAlone old outcome new reply = (new.shelf ≡ old.shelf) × Does old.state outcome new.state reply
 
@@ -37,25 +37,25 @@ store_refusal Memory = OutOfMemory
 
 -- ---- X = load "f"
 
--- a store's answer to a request for a file
+-- a store's answer to a request to read a file
 abbrev pub Found : Type 0
 Found = Result (Option (List ℕ)) StoreFault
 
 -- A possible answer of the store: no file changes, a fault of its device has a cause, and an honest store returns the
--- file that it has.
+-- file, or reports that it is missing or too long, unless there is a fault.
 pub record MayFind (old new : StoreState) (file : List ℕ) (found : Found) : Type 0 where
   pub same : IsSameStore old new
   pub files : new.files ≡ old.files
   pub cause : FaultHasCause old new found
   pub read : old.honest ≡ true → IsRead (λ bytes. bytes) old.limit (get old.files file) found
 
--- the array in the file, or the refusal
+-- the array in the file that was found, or the refusal
 abbrev pub loaded : Found → Result Loaded Refusal
 loaded (Ok (Some bytes)) = load bytes
 loaded (Ok None) = Err NoSuchFile
 loaded (Err fault) = Err (store_refusal fault)
 
--- the items are in the new buffer in the order of the file
+-- the contents of the array in a file: its buffer has the items in the order of the file
 abbrev pub loaded_contents : Loaded → Contents
 loaded_contents l = record {
   shape = l.head.shape;
@@ -63,7 +63,7 @@ loaded_contents l = record {
   buffer = record { descr = l.head.descr; items = items_in l.head.descr (count l.head.shape) l.items };
 }
 
--- a name is bound to the array: ok X DESCR SHAPE new rest N
+-- binds the name to the array: ok X DESCR SHAPE new rest N
 abbrev pub bound_loaded : Choice → State → List ℕ → ℕ → Contents → Outcome
 bound_loaded choice s name rest new =
     accepted_with (bound_to s name (array_over choice.fresh new) new.buffer) (bound_text name new.buffer.descr new.shape origin.New ++ (codes " rest " ++ decimal rest))
@@ -73,17 +73,17 @@ load_outcome choice s name found = do
   new ← loaded found
   bound_loaded choice s name new.rest (loaded_contents new)
 
--- the store is asked for a file, and the array in its answer is bound
+-- the store is asked for a file, and the name is bound to the array in its answer
 abbrev pub AsksForFile : World → List ℕ → List ℕ → World → Reply → Type 0
 AsksForFile old name file new reply = (found : Found) × MayFind old.shelf new.shelf file found × Does old.state (λ choice. load_outcome choice old.state name found) new.state reply
 
--- Without room for the name, the store is not asked.
+-- If there is no room for the name, the store is not asked.
 abbrev pub LoadStep : World → List ℕ → List ℕ → World → Reply → Type 0
 LoadStep old name file new reply = MatchBool (has_room_for old.state name) (AsksForFile old name file new reply) (Refuses old new TooManyNames reply)
 
 -- ---- save X "f"
 
--- the file of a name's array, or the refusal
+-- the bytes of the file for a name's array, or the refusal
 unfoldable pub file_of_name : State → List ℕ → Result (List ℕ) Refusal
 file_of_name s name = do
   array ← array_of s name
@@ -93,8 +93,8 @@ file_of_name s name = do
 abbrev pub Stored : Type 0
 Stored = Result (Unit {0}) StoreFault
 
--- A possible answer of the store: a fault of its device has a cause, no other file changes, and none at all if the file
--- was too long or memory ran out. An honest store is left as a write with this answer leaves it.
+-- A possible answer of the store: a fault of its device has a cause, no other file changes, and no file at all changes
+-- if this one is too long or memory runs out. An honest store is left as a write with this answer leaves it.
 pub record MayStore (old new : StoreState) (file bytes : List ℕ) (stored : Stored) : Type 0 where
   pub same : IsSameStore old new
   pub cause : FaultHasCause old new stored
@@ -110,7 +110,7 @@ save_reply n (Err fault) = refusal (store_refusal fault)
 abbrev pub StoresFile : World → List ℕ → List ℕ → World → Reply → Type 0
 StoresFile old file bytes new reply = (new.state ≡ old.state) × (stored : Stored) × MayStore old.shelf new.shelf file bytes stored × (reply ≡ save_reply (length bytes) stored)
 
--- What can be refused without the store is refused before it is asked.
+-- If the command is refused without the store, the store is not asked.
 abbrev pub SaveStep : World → List ℕ → List ℕ → World → Reply → Type 0
 SaveStep old name file new reply = MatchResult (file_of_name old.state name) (λ bytes. StoresFile old file bytes new reply) (λ refused. Refuses old new refused reply)
 

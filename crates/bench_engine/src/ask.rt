@@ -25,7 +25,7 @@ pub fn print(bench: &Bench, name: &Name, out: &mut ReplyText) -> Result<(), Refu
     Ok(())
 }
 
-/// The orders in which items of `item` bytes are adjacent.
+/// The memory orders in which items of `item` bytes are contiguous.
 fn order_text(layout: &Layout, item: usize) -> &'static [u8]
     ensures { result.now ≡ order_text item layout.now.shape (offsets layout.now) }
 {
@@ -116,7 +116,7 @@ pub fn format(bench: &Bench, name: &Name, out: &mut ReplyText) -> Result<(), Ref
     Ok(())
 }
 
-/// Appends a blank and a name.
+/// Appends a space and a name.
 fn push_name(out: &mut ReplyText, name: &[u8]) -> Result<(), AllocError>
     ensures { OnOk result (out.new ≡ out.old ++ (codes " " ++ name.now)) }
 {

@@ -94,7 +94,7 @@ fn full(alloc: Global, descr: &Text, lengths: &Lengths, literal: &Literal) -> Re
     Ok(owned)
 }
 
-/// A block of the items that these literals stand for, one after another.
+/// A block of the items that these literals mean, one after another.
 fn listed(alloc: Global, descr: &Descr, literals: &[Literal]) -> Result<RawBlock, Refusal>
     requires bytes { length literals.now * item_size descr.now ≤ max_bytes }
     ensures whole { IfOk result
@@ -127,7 +127,7 @@ fn array(
     Ok(owned)
 }
 
-/// The scalar of an element type whose values are integers.
+/// The scalar of an integer element type.
 fn integer_scalar(descr: &Descr) -> Result<Scalar, Refusal>
     ensures value { Answers (λ scalar. scalar) result (integer_scalar descr.now) }
     ensures number { IfOk result IsNumber }

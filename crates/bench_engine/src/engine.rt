@@ -43,7 +43,7 @@ fn reply(bench: &Bench, question: &Question, out: &mut ReplyText) -> Result<(), 
 }
 
 /// Carries out a command, and makes its reply. After a refusal, only the text of the reply has
-/// changed.
+/// changed, except that a store may have failed during a `save`.
 fn perform<N: NpyStore>(
     bench: &mut Bench,
     store: &mut N,
@@ -92,8 +92,8 @@ fn perform<N: NpyStore>(
 }
 
 /// Carries out a command, makes its reply, and returns whether it was accepted. A refused command
-/// changes nothing. The reply is never `out of memory` for an unknown name, for `del` at depth 0,
-/// or for `undo`.
+/// changes nothing, except that a store may have failed during a `save`. The reply is never `out of
+/// memory` for an unknown name, for `del` at depth 0, or for `undo`.
 pub fn execute<N: NpyStore>(
     bench: &mut Bench,
     store: &mut N,

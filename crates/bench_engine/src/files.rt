@@ -1,4 +1,5 @@
-//! `save X "f"` and `X = load "f"`: write an array to a file, and bind a name to the array in a file.
+//! `save X "f"` and `X = load "f"`: write an array to a file, and bind a name to the array in a
+//! file.
 ghost use Rattle.std.specs.Prelude.{◌≡◌, ◌++◌, codes, decimal, OnOk};
 ghost use Rattle.bench_engine.specs.Steps.{store_refusal, world, bound_loaded};
 ghost use Rattle.bench_engine.specs.Words.{Save, Bind, has_room_for, Load};
@@ -56,8 +57,8 @@ fn set_saved_text(out: &mut ReplyText, len: usize)
     out.set(b"ok save ", buffer.format(len).as_bytes());
 }
 
-/// Writes a name's array to a file. Everything that can be refused without the store is refused
-/// before it is asked.
+/// Writes a name's array to a file. If the command is refused without the store, the store is not
+/// asked.
 pub fn save<N: NpyStore>(
     bench: &Bench,
     store: &mut N,

@@ -1,5 +1,5 @@
-//! Index lists, in which names stand for arrays, and what they select from an array: a view if they
-//! name no array, and a copy otherwise.
+//! Index lists, which may name arrays, and what they select from an array: a view if they name no
+//! array, and a copy otherwise.
 ghost use Rattle.std.specs.Prelude.{◌≡◌, true, map, IfOk};
 ghost use Rattle.std.specs.List.{list_all};
 ghost use Rattle.bench_engine.specs.Words.{index_item_of, index_items, is_bound, Shows, is_basic};

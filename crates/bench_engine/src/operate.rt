@@ -75,7 +75,7 @@ pub fn items_of_view<'a>(array: &'a ArrayRef<'_>, view: &'a Layout) -> Items<'a>
     }
 }
 
-/// The part of an array that an operand stands for.
+/// The part of an array that an operand selects.
 #[derive(Drop)]
 pub enum Part<'a> {
     /// The whole array.
@@ -186,7 +186,7 @@ fn single(alloc: Global, scalar: &Scalar, literal: &Literal) -> Result<Owned, Re
     Ok(owned)
 }
 
-/// The type of a literal beside a scalar. Byte strings and records cannot be operands.
+/// The type of a literal next to a scalar operand. Byte strings and records cannot be operands.
 fn literal_scalar(beside: &Scalar, literal: &Literal) -> Result<Scalar, Refusal>
     ensures { Answers (λ s. s) result (literal_scalar beside.now literal.now) }
 {
@@ -200,7 +200,8 @@ fn literal_scalar(beside: &Scalar, literal: &Literal) -> Result<Scalar, Refusal>
     }
 }
 
-/// A literal as an item of the type that an operation gives it beside an element type.
+/// A literal as an array of one item, of the type that an operation gives it next to an element
+/// type.
 fn worked_literal(
     alloc: Global,
     op: BinOp,

@@ -33,8 +33,8 @@ fn as_old(alloc: Global, new: Owned, descr: &Descr) -> Result<Owned, Refusal>
     elementwise::cast(alloc, new.items(), descr)
 }
 
-/// The result of an operation on items and other items, which are stretched to their shape, in the
-/// type of the first.
+/// The result of an operation on the old items and other items, which are stretched to the shape of
+/// the old ones, in the type of the old ones.
 fn changed_by_items(
     alloc: Global,
     operation: Operation,
@@ -102,7 +102,7 @@ pub struct Writing {
     pub source: Source,
 }
 
-/// The places of a view, in the order of memory.
+/// The places of a view, in memory order.
 fn near(alloc: Global, view: Layout) -> Layout
     ensures { IsPermutation (offsets view) (offsets result) }
 {
@@ -116,7 +116,7 @@ fn near(alloc: Global, view: Layout) -> Layout
 }
 
 /// The result of an operation on the items of a view and a literal. They are read, and written, in
-/// the order of memory.
+/// memory order.
 fn view_by_literal(
     alloc: Global,
     array: &ArrayRef<'_>,
@@ -141,8 +141,8 @@ fn view_by_literal(
     })
 }
 
-/// A view, and items that are stretched to its shape, both in the order of the view in memory.
-/// `None` if that is C order, if they do not stretch, or if there is no memory.
+/// A view, and items that are stretched to its shape, both in the memory order of the view. `None`
+/// if that is C order, if they do not stretch, or if there is no memory.
 fn near_both(alloc: Global, view: &Layout, items: &Layout) -> Option<LayoutPair>
     ensures { IfSome result (GoTogether view.now items.now) }
 {
@@ -212,7 +212,7 @@ fn view_by_items(
 }
 
 /// The result of an operation on the items of a target and an argument, and the places where it is
-/// written, in the same order. This may be another order than that of the target.
+/// written, in the same order. This order may differ from that of the target.
 pub fn updated(
     alloc: Global,
     array: &ArrayRef<'_>,

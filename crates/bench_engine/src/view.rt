@@ -136,7 +136,7 @@ fn broadcast<'a>(
     Ok(items(array, layout, false))
 }
 
-/// A copy of an array in C order, with a shape that has as many items.
+/// A copy of an array in C order, under a shape with the same number of items.
 fn duplicate<'a>(alloc: Global, array: &ArrayRef<'a>, shape: &Shape) -> Result<Viewed<'a>, Refusal>
     requires shown { IsShown array.now }
     requires items { count shape.now ≡ count array.now.layout.now.shape }

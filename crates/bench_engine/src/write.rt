@@ -54,7 +54,7 @@ fn fitted(
     Ok(Source::Block(owned))
 }
 
-/// The right side of `=` or of an operation: a literal, or the part that an operand stands for.
+/// The right side of `=` or of an operation: a literal, or the part that an operand selects.
 #[derive(Drop)]
 pub enum Given<'a> {
     Literal(&'a Literal),

@@ -10,21 +10,22 @@ use Rattle.name_store.specs.declared.write.Target.TheVariants as target
 use Rattle.bench_engine.specs.Machine.{viewed}
 use Rattle.bench_engine.specs.inside.OwnContents.{IsInCOrder}
 
--- a block of its own has the items of an array of the state
+-- an owned array has the element type, the shape and the items of an array of the state, in C order
 pub record Holds (s : State) (part : Array) (o : Owned) : Type 0 where
   pub descr : o.descr ≡ descr_of s part
   pub shape : o.layout.shape ≡ part.shape
   pub order : IsInCOrder o
   pub items : map (item_from o.descr o.block) (offsets o.layout) ≡ read s part
 
--- ---- where items are written
+-- ---- where the items are written
 
--- a target is a view of the array's layout, or a plan that leads to at most 2^28 bytes
+-- The target is the part that a view selects: a view of the array's layout if `plain`, and otherwise a plan of at most
+-- 2^28 bytes.
 abbrev pub IsAimed : ArrayRef → Bool → Target → View → Type 0
 IsAimed r plain (target.View layout) view = (plain ≡ true) × IsViewOf r.layout.now layout view × KeepsNested r.layout.now layout
 IsAimed r plain (target.Plan plan) view = (plain ≡ false) × IsPlanOf r.layout.now plan view × (length plan.offsets * item_size r.descr.now ≤ max_bytes)
 
--- a target in a name's array is a part of it that may be written
+-- the target leads to a part of the array that the name is bound to, and may be written
 pub record IsTarget (s : State) (name : List ℕ) (array : Array) (target : Target) (part : Array) : Type 0 where
   pub places : List ℕ
   pub part_is : part ≡ record array { shape = target_shape target; places = places }
@@ -33,9 +34,9 @@ pub record IsTarget (s : State) (name : List ℕ) (array : Array) (target : Targ
   pub may_write : MayWrite s array target
   pub few : length (target_offsets target) * item_size (descr_of s array) ≤ max_bytes
 
--- ---- where they come from
+-- ---- where the items come from
 
--- a layout has the items of a part of an array, at some of the array's places
+-- The layout has the items of the part, which are some of the array's items, and fits into the array's buffer.
 pub record LiesIn (s : State) (array part : Array) (layout : Layout) : Type 0 where
   pub places : List ℕ
   pub shape : List ℕ
@@ -45,17 +46,19 @@ pub record LiesIn (s : State) (array part : Array) (layout : Layout) : Type 0 wh
   pub among : All (Contains array.places) places
   pub fits : FitsBuffer s array layout
 
--- a view of a layout that is stretched into a shape
+-- `wide` is a view of a layout, stretched into a shape
 pub record Stretches (view : Layout) (shape : List ℕ) (wide : Layout) : Type 0 where
   pub seen : View
   pub there : stretched_into view.shape shape ≡ Ok seen
   pub is : IsViewOf view wide seen
 
--- the items of a layout in a block, as those of another element type
+-- the items of a layout in a block, cast to another element type
 abbrev pub cast_from : List ℕ → Descr → Layout → Descr → List (List LeafValue)
 cast_from block from layout to = map (λ offset. cast_item from to (item_from from block offset)) (offsets layout)
 
--- items, stretched into a shape and cast: as they stand in the buffer that has a number, or in a block of their own
+-- The source has the items, stretched into a shape and cast to an element type: in place, in the buffer with this
+-- number, or in a block of its own. A refusal means that the items do not stretch, that there is no such cast, or that
+-- memory ran out.
 abbrev pub Fitted : Items → Option ℕ → List ℕ → Descr → Result Source Refusal → Type 0
 Fitted x number shape to (Ok (source.One bytes)) = ⊥
 Fitted x number shape to (Ok (source.Buffer number' wide)) =

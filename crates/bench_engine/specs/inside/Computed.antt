@@ -1,4 +1,4 @@
--- What a computation gives, and how it is told.
+-- The result of a computation: its contents, and its origin in the reply.
 use Rattle.std.specs.Prelude.{Result}
 use Rattle.bench_engine.specs.Words.{Refusal, ◌>>=◌, Computation, Duplicate, Cast, Combine, Transform, Reduce, State}
 use Rattle.bench_engine.specs.Contents.{Contents}

@@ -2,7 +2,7 @@
 use Rattle.std.specs.Prelude.{◌≡◌, ◌⊎◌, Result, Ok, Err}
 use Rattle.bench_engine.specs.Words.{Refusal, OutOfMemory}
 
--- A result is related by R to the defined one; a refusal is the defined one, or out of memory.
+-- R relates the result to the defined one. A refusal is the defined one, or out of memory.
 abbrev pub Meets : {X Y : Type 0} → (X → Y → Type 0) → Result X Refusal → Result Y Refusal → Type 0
 Meets R (Ok x) (Ok y) = R x y
 Meets R (Ok x) (Err refusal) = ⊥

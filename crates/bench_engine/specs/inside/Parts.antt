@@ -1,4 +1,4 @@
--- Parts of an array that is shown: what is seen of it, in the block of its buffer.
+-- Views of an array, and copies of its items, compared with those of the machine.
 use Rattle.std.specs.Prelude.{◌≡◌, ℕ, List, Result}
 use Rattle.bench_engine.specs.Words.{Descr, Refusal, Viewing, State, descr_of, Shows, IsViewIn, ArrayRef, Bound}
 use Rattle.name_store.specs.States.{Array}
@@ -10,38 +10,38 @@ use Rattle.bench_engine.specs.declared.replies.Origin.{Origin}
 use Rattle.bench_engine.specs.declared.replies.Origin.TheVariants as origin
 use Rattle.bench_engine.specs.inside.Meeting.{Meets}
 
--- it is an array of some state
+-- the lookup shows an array of some state
 abbrev pub IsShown : ArrayRef → Type 0
 IsShown r = (s : State) × (array : Array) × Shows s array r
 
--- what is bound is the view that is there, or has the contents of the copy
+-- what is bound is the machine's view, or it has the contents of the machine's copy
 abbrev pub IsOf : State → Bound → ViewOrCopy → Type 0
 IsOf s (bound.View number path layout writable) (a_view array) = IsViewIn s number path layout writable array
 IsOf s (bound.Fresh o) (a_copy contents) = contents ≡ held o
 IsOf s bound there = ⊥
 
--- its element type
+-- the element type of a view or a copy
 abbrev pub descr_seen : State → ViewOrCopy → Descr
 descr_seen s (a_view array) = descr_of s array
 descr_seen s (a_copy contents) = contents.buffer.descr
 
--- what is viewed is what is there, with its element type
+-- what is viewed is the machine's view or copy, with its element type
 abbrev pub IsSeen : State → Viewed → ViewOrCopy → Type 0
 IsSeen s x there = IsOf s x.bound there × (descr_seen s there ≡ x.descr.now)
 
--- what is given is what is seen of the array, in each state that has it
+-- in each state that has the array, the result is the machine's view or copy of it
 abbrev pub Sees : Viewing → ArrayRef → Result Viewed Refusal → Type 0
 Sees how r result = (s : State) (array : Array) → Shows s array r → Meets (IsSeen s) result (seen how s array)
 
--- so it is in this state
+-- the same in one state
 abbrev pub SeesIn : State → Viewing → ArrayRef → Result Viewed Refusal → Type 0
 SeesIn s how r result = (array : Array) → Shows s array r → Meets (IsSeen s) result (seen how s array)
 
--- so it is the copy of its items under this shape
+-- the same for a copy of the items under this shape
 abbrev pub Duplicates : List ℕ → ArrayRef → Result Viewed Refusal → Type 0
 Duplicates shape r result = (s : State) (array : Array) → Shows s array r → Meets (IsSeen s) result (as_copy s array shape)
 
--- the shape of what is bound, and where the reply says that it is from
+-- the shape of what is bound, and its origin in the reply
 abbrev pub shape_of_bound : Bound → List ℕ
 shape_of_bound (bound.View number path layout writable) = layout.shape
 shape_of_bound (bound.Fresh o) = o.layout.shape

@@ -1,4 +1,4 @@
--- What a session stands for, once some bytes have come.
+-- What a session has done: after one line, after one turn, and when the script has ended.
 use Rattle.std.specs.Prelude.{◌≡◌, ◌<◌, ◌+◌, ℕ, Bool, true, false, List, [], ◌∷◌, ◌++◌, length, Option, Result, Ok, Err}
 use Rattle.std.specs.Io.KnownBytes.{Appends, Consumes, IsAtEnd}
 use Rattle.bench_engine.specs.declared.session.Session.{Session}
@@ -10,7 +10,7 @@ use Rattle.bench_engine.specs.Steps.{World, world}
 use Rattle.bench_engine.specs.Headline.{AnswersLine, trimmed, AreLines, output, reply_line, accepted_count, refused_count, Outside, first_world, AnswersWholeLines, AnswersFirstLines}
 use Rattle.bench_engine.specs.Sessions.{HoldsPiece, HasTold, Fed}
 
--- The line that is held is answered, `out` has the reply, and the next line is empty.
+-- The held line is answered, `out` is the reply, and the session has counted it.
 pub record AnswersHeld (shelf shelf' : StoreState) (old new : Session) (answered : Option Bool) : Type 0 where
   pub replies : List Reply
   pub tells : Tells replies answered new.out
@@ -18,7 +18,7 @@ pub record AnswersHeld (shelf shelf' : StoreState) (old new : Session) (answered
   pub accepted : new.accepted ≡ old.accepted + accepted_count replies
   pub refused : new.refused ≡ old.refused + refused_count replies
 
--- The line that is held is answered, and the reply is written.
+-- The held line is answered, and the session has written and counted the reply.
 pub record Told (from to : World) (written written' : Option (List ℕ)) (old new : Session) : Type 0 where
   pub replies : List Reply
   pub answers : (piece : List ℕ) → HoldsPiece old.line piece → AnswersLine from (trimmed piece) to replies
@@ -26,7 +26,7 @@ pub record Told (from to : World) (written written' : Option (List ℕ)) (old ne
   pub accepted : new.accepted ≡ old.accepted + accepted_count replies
   pub refused : new.refused ≡ old.refused + refused_count replies
 
--- The line that is held is answered, and only a part of the reply is written.
+-- The held line is answered, and the reply is cut short: at least its newline is missing.
 pub record ToldInPart (from to : World) (written written' : Option (List ℕ)) (old : Session) : Type 0 where
   pub reply : Reply
   pub answers : (piece : List ℕ) → HoldsPiece old.line piece → AnswersLine from (trimmed piece) to (reply ∷ [])
@@ -36,13 +36,13 @@ pub record ToldInPart (from to : World) (written written' : Option (List ℕ)) (
   pub some_missing : 0 < length missing
   pub sent : Appends written written' gone
 
--- What was read so far is fed to the session.
+-- The session was fed the bytes read so far.
 pub record Reading (depth : ℕ) (before after : Outside) (s : Session) : Type 0 where
   pub input : List ℕ
   pub read : Consumes before.unread after.unread input
   pub fed : Fed (first_world depth before) (world s.bench.state after.store) before.written after.written input 0 0 s
 
--- All lines of the bytes read are answered, and nothing is left.
+-- The input has ended, and all lines of the bytes read are answered.
 pub record Ended (depth : ℕ) (before after : Outside) (s : Session) : Type 0 where
   pub input : List ℕ
   pub lines : List (List ℕ)
@@ -51,7 +51,7 @@ pub record Ended (depth : ℕ) (before after : Outside) (s : Session) : Type 0 w
   pub are_lines : AreLines input lines
   pub told : HasTold (first_world depth before) (world s.bench.state after.store) before.written after.written lines 0 0 s
 
--- the outcome of one turn: the end of the script, more to read, or a fault
+-- the outcome of one turn: the end of the script, more to read, or a fault, which is never `Memory`
 abbrev pub Turned : Result Bool RunFault → ℕ → Outside → Outside → Session → Type 0
 Turned (Ok true) depth before after s = Ended depth before after s
 Turned (Ok false) depth before after s = Reading depth before after s

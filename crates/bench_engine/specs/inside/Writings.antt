@@ -1,4 +1,4 @@
--- Items that are written to a part of an array, and the places to which they are.
+-- Writings: new items for a part of an array, and the target that they are written to.
 use Rattle.std.specs.Prelude.{◌≡◌, ◌≤◌, ℕ, List, ◌∷◌, ◌++◌, length, true, Option, Some, Result, Ok, Err}
 use Rattle.std.specs.List.{list_all}
 use Rattle.std.specs.List.Sorted.{IsPermutation}
@@ -12,7 +12,8 @@ use Rattle.bench_engine.specs.inside.Assigns.{IsTarget}
 use Rattle.bench_engine.specs.inside.Contract.{IsRefused}
 use Rattle.bench_engine.specs.inside.Meeting.{Meets}
 
--- They leave what these new items of the part do, one for each of its places, in whatever order both stand.
+-- The writing has the same effect as writing these new items to the part, one for each of its places. The writing may
+-- have its places and items in another order.
 pub record Leaves (s : State) (name : List ℕ) (array part : Array) (w : Writing) (new : List (List LeafValue)) : Type 0 where
   pub places : List ℕ
   pub items : List (List LeafValue)
@@ -22,23 +23,25 @@ pub record Leaves (s : State) (name : List ℕ) (array part : Array) (w : Writin
   pub counted : length (target_offsets w.target) ≡ count part.shape
   pub same : written s array places items ≡ written s array part.places new
 
--- a target is one of an array that is shown
+-- the target leads to a part of a shown array of this state
 abbrev pub IsTargetIn : State → ArrayRef → Target → Type 0
 IsTargetIn s r target = (name : List ℕ) × (a : Array) × (part : Array) × Shows s a r × IsTarget s name a target part
 
--- so it is in some state
+-- the same for some state
 abbrev pub IsTargetOf : ArrayRef → Target → Type 0
 IsTargetOf r target = (s : State) × (name : List ℕ) × (a : Array) × (part : Array) × Shows s a r × IsTarget s name a target part
 
--- what is written to a target leaves what these new items of its part do
+-- The result has the same effect as writing the new items to the part that the target leads to. A refusal is that of
+-- the new items, or out of memory.
 abbrev pub WritesIn : State → ArrayRef → Target → (Array → Result (List (List LeafValue)) Refusal) → Result Writing Refusal → Type 0
 WritesIn s r target new result = (name : List ℕ) (a part : Array) → Shows s a r → IsTarget s name a target part → Meets (Leaves s name a part) result (new part)
 
--- so it does in each state that has the array
+-- the same in each state that has the array
 abbrev pub Writes : ArrayRef → Target → (State → Array → Result (List (List LeafValue)) Refusal) → Result Writing Refusal → Type 0
 Writes r target new result = (s : State) → WritesIn s r target (new s) result
 
--- a view and items that are stretched to its shape: in the pair, each place of the one stands beside that of the same item
+-- The pair has the offsets of a view, and of items that are stretched to its shape, in some common order: each item of
+-- the view is still paired with the same other item.
 pub record GoTogether (view items : Layout) (pair : LayoutPair) : Type 0 where
   pub wide : Layout
   pub seen : View
@@ -46,7 +49,7 @@ pub record GoTogether (view items : Layout) (pair : LayoutPair) : Type 0 where
   pub is_wide : IsViewOf items wide seen
   pub same : IsPermutation (item_pairs view wide) (item_pairs pair.target pair.source)
 
--- The names of an assignment are bound, the machine carries it out, and what is written leaves what it does.
+-- The names in an assignment are bound, the machine accepts it, and the writing has the same effect.
 pub record IsReady (s : State) (name : List ℕ) (index : List (IndexItem (List ℕ))) (op : Option Operation) (value : Argument) (w : Writing) : Type 0 where
   pub bound : list_all (is_bound s) (name ∷ names_in_index index ++ names_in_argument value) ≡ true
   pub array : Array
@@ -57,7 +60,7 @@ pub record IsReady (s : State) (name : List ℕ) (index : List (IndexItem (List 
   pub outcome : write_outcome s name index op value ≡ accepted_with (written s array part.places new) (write_reply op (count part.shape))
   pub leaves : Leaves s name array part w new
 
--- what an assignment writes, or that it is refused
+-- the writing that an assignment gives, or its refusal
 abbrev pub Prepares : State → List ℕ → List (IndexItem (List ℕ)) → Option Operation → Argument → Result Writing Refusal → Type 0
 Prepares s name index op value (Ok w) = IsReady s name index op value w
 Prepares s name index op value (Err refusal) = IsRefused (list_all (is_bound s) (name ∷ names_in_index index ++ names_in_argument value)) (λ choice. write_outcome s name index op value) refusal

@@ -3,7 +3,7 @@ use Rattle.bench_engine.specs.Headline.{outside}
 use Rattle.bench_engine.specs.inside.Sessions.{Reading}
 use Rattle.bench_engine.proofs.runner.run_within.Given as goal
 
--- what was read so far is fed to the session
+-- the session was fed what was read so far
 abbrev pub invariant-loop-turn : goal.invariant-loop-turn
 invariant-loop-turn g l = record {
   few : l.session.accepted + l.session.refused ≤ 65538 * l.turn;

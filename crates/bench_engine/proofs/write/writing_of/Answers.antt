@@ -18,13 +18,13 @@ use Rattle.bench_engine.proofs.Views.{refused-or}
 use Rattle.bench_engine.proofs.write.writing_of.Goals.{In_ok-array, In_ok-source, In_ok-target, After-items-count}
 use Rattle.bench_engine.proofs.write.writing_of.Goals as goal
 
--- what is not given is no new items
+-- if the argument is refused, so are the new items
 ungiven : (s : State) (descr : Descr) (part : Array) (op : Option Operation) (value : Argument) (e : Refusal) → GivesGiven s value (Err e) → (e ≡ OutOfMemory) ⊎ (new_items s descr part op value ≡ Err e)
 ungiven s descr part op value e (inl lacks) = inl lacks
 ungiven s descr part None value e (inr (operand, is, wrong)) = inr (rw (is, wrong) refl)
 ungiven s descr part (Some op) value e (inr (operand, is, wrong)) = inr (rw (is, wrong) refl)
 
--- what the machine does with the new items of a target
+-- the outcome of the machine, from the new items of a target
 carries : (s : State) (name : List ℕ) (index : List (IndexItem (List ℕ))) (op : Option Operation) (value : Argument) (a part : Array) (new : List (List LeafValue)) → find_array s.names name ≡ Some a → list_all (is_bound s) (names_in_index index ++ names_in_argument value) ≡ true → target_part s a index ≡ Ok part →
     new_items s (descr_of s a) part op value ≡ Ok new → write_outcome s name index op value ≡ accepted_with (written s a part.places new) (write_reply op (count part.shape))
 unfolding write_outcome
@@ -49,7 +49,7 @@ all-bound c =
     list_all-append (is_bound c.args.bench.now.state) (names_in_index c.args.assignment.index.now) (names_in_argument c.args.assignment.value.now)
     ∙ λ i. (rw c.as_slice-index.ensures at (sym c.if-not-are_bound.ensures)) i && c.in_ok-source.ensures.0 i
 
--- the part that is written, and where it lies
+-- the part that is written, and the target that leads to it
 aimed : (c : In_ok-target) (a : Array) → find_array c.args.bench.now.state.names c.args.assignment.name.now ≡ Some a → Shows c.args.bench.now.state a c.in_ok-array.array →
     (part : Array) × (target_part c.args.bench.now.state a c.args.assignment.index.now ≡ Ok part) × IsTarget c.args.bench.now.state c.args.assignment.name.now a c.in_ok-target.target part
 aimed c a is shows =
@@ -57,7 +57,7 @@ aimed c a is shows =
     let p = met (IsTarget s c.args.assignment.name.now a) c.in_ok-target.target (target_part s a c.as_slice-index.result.now) (c.in_ok-target.ensures c.args.assignment.name.now a is shows) in
     (p.0, ap (target_part s a) (sym c.as_slice-index.ensures) ∙ p.1, p.2)
 
--- they are not too many
+-- the part does not have too many items
 few : (c : After-items-count) (part : Array) {a : Array} → IsTarget c.args.bench.now.state c.args.assignment.name.now a c.in_ok-target.target part → count part.shape ≤ max_items
 few c part is = omega (arith, ap count (ap (λ (a : Array). a.shape) is.part_is), ap count c.shape.ensures, c.items-count.ensures.value, c.items-count.ensures.limit)
 

@@ -3,7 +3,7 @@ use Rattle.bench_engine.specs.Headline.{IsUnbroken}
 use Rattle.bench_engine.specs.Sessions.{HoldsPiece, Feeds}
 use Rattle.bench_engine.proofs.session.Session.feed.Given as goal
 
--- some first bytes are taken, up to a newline
+-- a prefix of the bytes was fed, up to a newline
 abbrev pub invariant-loop-end : goal.invariant-loop-end
 invariant-loop-end g l = record {
   few : l.self.accepted + l.self.refused + length l.rest ≤ l.fn.self.accepted + l.fn.self.refused + length l.bytes;
