@@ -11,7 +11,7 @@ use Rattle.array_print.specs.inside.Shown.{IsWidth, AreWidths, lead}
 
 -- ---- values in a block
 
--- the bytes of a leaf of an item, by their place in the block
+-- the bytes of a leaf of an item, by their position in the block
 pub bytes-at : (block : List ℕ) (offset at wide n : ℕ) → at + wide ≤ n → take wide (drop at (take n (drop offset block))) ≡ take wide (drop (offset + at) block)
 bytes-at block offset at wide n fits =
     let more : n ≡ at + (n - at) = omega arith in
@@ -66,7 +66,7 @@ text-at (leaf ∷ leaves) (w ∷ ws) bytes zero scalar at are below is =
     λ i. right_justified w (leaf_text (sym is.0 i) (decode (sym is.0 i) (take (size (sym is.0 i)) (drop (sym is.1 i) bytes))))
 text-at (leaf ∷ leaves) (w ∷ ws) bytes (suc k) scalar at are below is = text-at leaves ws bytes k scalar at are.1 (omega arith) is
 
--- one text more, with what leads it
+-- one more text, with the separator before it
 joined-push : (separator text : List ℕ) (texts : List (List ℕ)) → join_texts separator (texts ++ text ∷ []) ≡ join_texts separator texts ++ lead (length texts) separator ++ text
 joined-push separator text [] = refl
 joined-push separator text (first ∷ []) = refl

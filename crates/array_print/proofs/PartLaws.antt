@@ -8,7 +8,7 @@ use Rattle.array_print.specs.inside.Parts.{IsPart, part_offsets}
 
 -- ---- one axis, and those inside it
 
--- an address, from where the first number leads to
+-- an address, from the offset that the first number leads to
 inner-address : (s : ℤ) (strides : List ℤ) (start k next : ℕ) (index : List ℕ) → pos next ≡ pos start +ℤ s *ℤ pos k → address_at (s ∷ strides) start (k ∷ index) ≡ address_at strides next index
 inner-address s strides start k next index is = sym (+ℤ_assoc (pos start) (s *ℤ pos k) (dot strides index)) ∙ ap (λ z. z +ℤ dot strides index) (sym is)
 
@@ -18,7 +18,7 @@ inner-lies n shape s strides start k next len item below is lie = record {
   within = λ index in'. subst (λ z. (z +ℤ pos item) ≤ℤ pos len) (inner-address s strides start k next index is) (lie.within (k ∷ index) (below, in'));
 }
 
--- where a step along the axis leads to
+-- a step along the axis leads to an item within the limits
 step-lies : (n : ℕ) (shape : List ℕ) (s : ℤ) (strides : List ℤ) (start k len item : ℕ) → k < n → 0 < count shape → LieWithin (n ∷ shape) (s ∷ strides) start len item → (pos 0 ≤ℤ (pos start +ℤ s *ℤ pos k)) × (((pos start +ℤ s *ℤ pos k) +ℤ pos item) ≤ℤ pos len)
 step-lies n shape s strides start k len item below some lie =
     let zeros = zero_filled shape [] in
@@ -29,7 +29,7 @@ step-lies n shape s strides start k len item below some lie =
 length-offsets_at : (shape : List ℕ) (strides : List ℤ) (start : ℕ) → length (offsets_at shape strides start) ≡ count shape
 length-offsets_at shape strides start = length-map (indexes shape) (λ index. natural (address_at strides start index)) ∙ length-indexes shape
 
--- the offsets of the block at k
+-- the offsets of block `k`
 inner-block : (n : ℕ) (shape : List ℕ) (s : ℤ) (strides : List ℤ) (start k next : ℕ) → k < n → pos next ≡ pos start +ℤ s *ℤ pos k → take (count shape) (drop (k * count shape) (offsets_at (n ∷ shape) (s ∷ strides) start)) ≡ offsets_at shape strides next
 inner-block n shape s strides start k next below is =
     let c = count shape in
@@ -53,11 +53,11 @@ inner-block n shape s strides start k next below is =
     ∙ ap natural (inner-address s strides start k next (get_or (indexes shape) j []) is)
     ∙ sym (get_or-map (λ index. natural (address_at strides next index)) (indexes shape) j [] d inside))
 
--- no step leads nowhere
+-- zero steps stay at the start
 pub at-first : (s : ℤ) (start : ℕ) → pos start ≡ pos start +ℤ s *ℤ pos 0
 at-first s start = sym (ap (λ z. pos start +ℤ z) (*ℤ-zero s) ∙ +ℤ_idr (pos start))
 
--- and so do steps of a stride of 0
+-- steps of stride 0 stay at the start
 pub stays : (s : ℤ) (start k : ℕ) → s ≡ pos 0 → pos start ≡ pos start +ℤ s *ℤ pos k
 stays s start k none = sym (ap (λ z. pos start +ℤ z *ℤ pos k) none ∙ ap (λ m. pos start +ℤ pos m) (zero-mul k) ∙ +ℤ_idr (pos start))
 
@@ -66,7 +66,7 @@ stays s start k none = sym (ap (λ z. pos start +ℤ z *ℤ pos k) none ∙ ap (
 outer : (l : Layout) (axis : ℕ) → axis < length l.shape → (drop axis l.shape ≡ get_or l.shape axis 0 ∷ drop (axis + 1) l.shape) × (drop axis l.strides ≡ get_or l.strides axis (pos 0) ∷ drop (axis + 1) l.strides)
 outer l axis below = (drop_more l.shape axis 0 below, drop_more l.strides axis (pos 0) (omega (arith, l.one_stride_an_axis)))
 
--- both lists of a part, one axis further
+-- a part, and the parts one axis further inside
 module _ (l : Layout) (axis start len item : ℕ) (below : axis < length l.shape) (is_part : IsPart l axis start len item) where
   lie : (len' item' : ℕ) → LieWithin (drop axis l.shape) (drop axis l.strides) start len' item' → LieWithin ((get_or l.shape axis 0) ∷ (drop (axis + 1) l.shape)) ((get_or l.strides axis (pos 0)) ∷ drop (axis + 1) l.strides) start len' item'
   lie len' item' given = subst (λ strides. LieWithin ((get_or l.shape axis 0) ∷ (drop (axis + 1) l.shape)) strides start len' item') (outer l axis below).1 (subst (λ shape. LieWithin shape (drop axis l.strides) start len' item') (outer l axis below).0 given)
@@ -115,7 +115,7 @@ part-item-inside l axis start len item all is_part =
     let ends : ((pos start +ℤ pos 0) +ℤ pos item) ≤ℤ pos len = lie.within [] tt in
     omega (arith, ints)
 
--- the whole
+-- the whole array is a part
 pub whole-part : (l : Layout) (len item : ℕ) → 0 < count l.shape → All (λ offset. offset + item ≤ len) (offsets l) → IsPart l 0 l.offset len item
 whole-part l len item some inside = record {
   axes = omega arith;

@@ -1,4 +1,4 @@
--- Laws of printed text: blocks, what joins them, and what stays in front.
+-- Laws of printed text: blocks, what joins them, and what stays at the start.
 use Rattle.std.proofs.Common.{Option, ◌≡◌, ℕ, zero, suc, ◌+◌, ◌-◌, ◌*◌, ◌<◌, ◌≤◌, List, [], ◌∷◌, ◌++◌, codes, map, length, length-append, take_all, take-add, take, drop, slice_range, get_or, refl, sym, ◌∙◌, ap, arith, add-one, suc-mul, zero-mul, append_assoc}
 use Rattle.std.proofs.lemmas.List.{append-nil, take_at, drop_at, take-take, take-map, drop-map, drop-drop, drop-take, length-drop, drop_more}
 use lib.Seq.{drop-append-le, take-append-le}
@@ -15,14 +15,14 @@ use Rattle.array_print.specs.StartLaws.{StartsWith-trans}
 pub StartsWith-append : (xs ys : List ℕ) → StartsWith (xs ++ ys) xs
 StartsWith-append xs ys = take_at xs ys (length xs) refl
 
--- a text that grew, and then became one that begins with it
+-- a text that starts with a longer text starts with its beginning
 pub StartsWith-along : (new mid old more : List ℕ) → mid ≡ old ++ more → StartsWith new mid → StartsWith new old
 StartsWith-along new mid old more grown kept =
     StartsWith-trans new mid old kept (ap (λ l. take (length old) l) grown ∙ StartsWith-append old more)
 
 -- ---- blocks
 
--- blocks look at no more than they take
+-- blocks depend only on the elements that they take
 pub blocks-take : {A : Type 0} (c n : ℕ) (xs : List A) → blocks c n (take (n * c) xs) ≡ blocks c n xs
 blocks-take c zero xs = refl
 blocks-take c (suc n) xs =
@@ -33,7 +33,7 @@ blocks-take c (suc n) xs =
     ∙ ap (λ l. take c xs ∷ blocks c n l) (drop-take c (n * c) xs)
     ∙ ap (λ l. take c xs ∷ l) (blocks-take c n (drop c xs))
 
--- one block more, with what leads it
+-- one more block, with the separator before it
 pub joined-more : {A : Type 0} (separator : List ℕ) (text : List A → List ℕ) (c k : ℕ) (xs : List A) → join_texts separator (map text (blocks c (suc k) xs)) ≡ join_texts separator (map text (blocks c k xs)) ++ lead k separator ++ text (take c (drop (k * c) xs))
 joined-more separator text c zero xs = ap (λ m. text (take c (drop m xs))) (sym (zero-mul c))
 joined-more separator text c (suc zero) xs =
@@ -50,13 +50,13 @@ joined-more separator text c (suc (suc k)) xs =
     ∙ ap (λ l. l ++ last) (sym (append_assoc (first ++ separator) rest separator))
     ∙ ap (λ l. first ++ separator ++ rest ++ separator ++ text (take c l)) moved
 
--- one block more of mapped items is joined to those before it
+-- the same for mapped items
 pub joined-map-more : (separator : List ℕ) (text : List (List ℕ) → List ℕ) (f : ℕ → List ℕ) (c k : ℕ) (xs : List ℕ) → join_texts separator (map text (blocks c (suc k) (map f xs))) ≡ join_texts separator (map text (blocks c k (map f xs))) ++ lead k separator ++ text (map f (take c (drop (k * c) xs)))
 joined-map-more separator text f c k xs =
     let here : take c (drop (k * c) (map f xs)) ≡ map f (take c (drop (k * c) xs)) = ap (λ l. take c l) (drop-map f (k * c) xs) ∙ take-map f c (drop (k * c) xs) in
     joined-more separator text c k (map f xs) ∙ ap (λ l. join_texts separator (map text (blocks c k (map f xs))) ++ lead k separator ++ text l) here
 
--- the blocks of the items that are taken are those of all
+-- mapped items have the same blocks if no more of them are taken
 pub blocks-map-take : (f : ℕ → List ℕ) (c n : ℕ) (xs : List ℕ) → blocks c n (map f (take (n * c) xs)) ≡ blocks c n (map f xs)
 blocks-map-take f c n xs = ap (blocks c n) (sym (take-map f (n * c) xs)) ∙ blocks-take c n (map f xs)
 
@@ -66,7 +66,7 @@ blocks-map-take f c n xs = ap (blocks c n) (sym (take-map f (n * c) xs)) ∙ blo
 pub regroup : (old bracket so_far leads next : List ℕ) → old ++ (bracket ++ so_far) ++ leads ++ next ≡ old ++ (bracket ++ (so_far ++ leads ++ next))
 regroup old bracket so_far leads next = simp append_assoc
 
--- one block more is pushed
+-- one more block is appended
 pub opened-more : (f : ℕ → List ℕ) (axes : List ℕ) (axis k : ℕ) (offsets walk old out led out' : List ℕ) → out ≡ old ++ opened f axes axis k offsets → walk ≡ drop (k * count (drop (axis + 1) axes)) offsets → led ≡ out ++ lead k (separator axis (length axes - axis - 1)) → out' ≡ led ++ block_text (axis + 1) (drop (axis + 1) axes) (map f (take (count (drop (axis + 1) axes)) walk)) → out' ≡ old ++ opened f axes axis (k + 1) offsets
 opened-more f axes axis k offsets walk old out led out' pushed walked leads block =
     let c = count (drop (axis + 1) axes) in
@@ -96,18 +96,18 @@ opened-all f axes axis k offsets old out out' below all pushed closed =
     ∙ ap (λ bs. old ++ (codes "[" ++ body bs (length rest) ++ codes "]")) (sym (blocks-map-take f c n offsets))
     ∙ ap (λ s. old ++ block_text axis s (map f (take (count s) offsets))) (sym (drop_more axes axis 0 below))
 
--- ---- what an axis is made of
+-- ---- the text of an axis
 
 module _ (f : ℕ → List ℕ) (axes : List ℕ) (axis : ℕ) where
-  -- the text of the k-th block
+  -- the text of block `k`
   abbrev pub block_at : ℕ → List ℕ → List ℕ
   block_at k offsets = block_text (axis + 1) (drop (axis + 1) axes) (map f (take (count (drop (axis + 1) axes)) (drop (k * count (drop (axis + 1) axes)) offsets)))
 
-  -- what stands between two blocks
+  -- the separator of two blocks
   abbrev between : List ℕ
   between = separator axis (length axes - axis - 1)
 
-  -- one block more
+  -- one more block
   pub opened-next : (k : ℕ) (offsets : List ℕ) → opened f axes axis (k + 1) offsets ≡ opened f axes axis k offsets ++ (lead k between ++ block_at k offsets)
   opened-next k offsets =
       let text = block_text (axis + 1) (drop (axis + 1) axes) in
@@ -115,7 +115,7 @@ module _ (f : ℕ → List ℕ) (axes : List ℕ) (axis : ℕ) where
       let joined : ℕ → List ℕ = λ m. join_texts between (map text (blocks c m (map f offsets))) in
       ap (λ l. codes "[" ++ l) (ap joined (add-one k) ∙ joined-map-more between text f c k offsets ∙ append_assoc (joined k) (lead k between) (block_at k offsets))
 
-  -- some blocks more that are all the same
+  -- some more blocks that are all the same
   pub opened-run : (k more : ℕ) (offsets one : List ℕ) → ((j : ℕ) → j < k + (more + 1) → k ≤ j → block_at j offsets ≡ one) →
       opened f axes axis (k + (more + 1)) offsets ≡ opened f axes axis k offsets ++ ((lead k between ++ one) ++ repeated (between ++ one) more)
   opened-run k zero offsets one same =
@@ -156,7 +156,7 @@ made-again sep led one old o1 o2 o3 first times length-is leads made again =
     ∙ ap (λ l. l ++ repeated (sep ++ one) times) (made ∙ ap (λ l. l ++ one) leads ∙ append_assoc old led one)
     ∙ append_assoc old (led ++ one) (repeated (sep ++ one) times)
 
--- two slices, one behind the other
+-- two adjacent slices
 pub slices-join : (xs : List ℕ) (a b c : ℕ) → a ≤ b → b ≤ c → slice_range xs a b ++ slice_range xs b c ≡ slice_range xs a c
 slices-join xs a b c low high =
     let at : a + (b - a) ≡ b = omega arith in
@@ -165,13 +165,13 @@ slices-join xs a b c low high =
     ∙ sym (take-add (b - a) (c - b) (drop a xs))
     ∙ ap (λ m. take m (drop a xs)) all
 
--- a slice that ends before more bytes
+-- a slice does not depend on the bytes after it
 pub slice-front : (old more : List ℕ) (a b : ℕ) → a ≤ b → b ≤ length old → slice_range (old ++ more) a b ≡ slice_range old a b
 slice-front old more a b low high =
     ap (take (b - a)) (drop-append-le a old more (omega arith))
     ∙ take-append-le (b - a) (drop a old) more (omega (arith, length-drop a old))
 
--- the first copy stands where it was made
+-- the first copy stays where it was made
 pub first-copy : (old unit : List ℕ) (n from to : ℕ) (out : List ℕ) → 1 ≤ n → out ≡ old ++ repeated unit n → from ≡ length old → to ≡ length (old ++ unit) → (to ≤ length out) × (take (to - from) (drop from out) ≡ unit)
 first-copy old unit zero from to out some is start end = absurd (omega arith)
 first-copy old unit (suc n) from to out some is start end =
@@ -190,7 +190,7 @@ first-copy old unit (suc n) from to out some is start end =
     repeated-front zero = sym (append-nil unit)
     repeated-front (suc m) = ap (λ l. l ++ unit) (repeated-front m) ∙ append_assoc unit (repeated unit m) unit
 
--- the whole axis, of which one block is made
+-- the whole axis, of which only one block is made
 pub opened-again : (f : ℕ → List ℕ) (axes : List ℕ) (axis first times inner : ℕ) (offsets old o1 o2 o3 o4 one : List ℕ) → axis < length axes → times + 1 ≡ get_or axes axis 0 → inner ≡ length axes - axis - 1 → length offsets ≡ count (drop axis axes) →
     ((j : ℕ) → j < get_or axes axis 0 → block_at f axes axis j offsets ≡ one) →
     first ≡ length o1 → o1 ≡ old ++ codes "[" → o2 ≡ o1 ++ one → o3 ≡ o2 ++ repeated (separator axis inner ++ drop first o2) times → o4 ≡ o3 ++ codes "]" →
@@ -209,7 +209,7 @@ opened-again f axes axis first times inner offsets old o1 o2 o3 o4 one below all
 
 -- ---- an axis that is sent
 
--- more of it is made
+-- more of the text is made
 pub sends-grown : (w w' : Option (List ℕ)) (rest rest' old head head' more : List ℕ) → Sends w w' rest (old ++ head) → rest' ≡ rest ++ more → head' ≡ head ++ more → Sends w w' rest' (old ++ head')
 sends-grown w w' rest rest' old head head' more sent made grown =
     (sent.0, ap (λ h. old ++ h) grown ∙ sym (append_assoc old head more) ∙ ap (λ t. t ++ more) sent.1 ∙ append_assoc sent.0 rest more ∙ ap (λ r. sent.0 ++ r) (sym made), sent.2)

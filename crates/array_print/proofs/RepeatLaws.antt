@@ -1,4 +1,4 @@
--- The widths of leaves do not change where items repeat.
+-- Repeated items do not change the widths of leaves.
 use Rattle.std.proofs.Common.{◌≡◌, ℕ, zero, suc, ◌+◌, ◌*◌, ◌<◌, List, [], ◌∷◌, ◌++◌, length, map, take, drop, get_or, pos, max, refl, sym, ap, ap₂, ◌∙◌, ◌-◌, arith, take-add, take_all}
 use Rattle.std.specs.List.{fold}
 use Rattle.std.proofs.lemmas.List.{map-append, drop_more}
@@ -73,7 +73,7 @@ again offsets block c (suc n) each text =
     ∙ ap widest (map-append text front back) ∙ widest-append (map text front) (map text back) in
     omega (arith, split, so_far, next)
 
--- the widths of the first block are those of all
+-- the widths of the first block are the widths of all blocks
 pub widths-of-one : (descr : Descr) (block seen : List ℕ) (l : Layout) (axis start len item : ℕ) → axis < length l.shape → IsPart l axis start len item → get_or l.strides axis (pos 0) ≡ pos 0 →
     widths_at descr block (seen ++ take (1 * count (drop (axis + 1) l.shape)) (part_offsets l axis start)) ≡ widths_at descr block (seen ++ part_offsets l axis start)
 widths-of-one descr block seen l axis start len item below is_part none =

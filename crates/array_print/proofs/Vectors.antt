@@ -6,7 +6,7 @@ use Rattle.elem_descr.specs.declared.scalar.Scalar.TheVariants.{Bool as BoolScal
 use Rattle.elem_descr.specs.declared.descr.Descr.TheVariants.{Scalar as ScalarDescr, Record as RecordDescr}
 use Rattle.array_print.specs.Printed.{array_text, items_from}
 
--- the items of a block in a shape
+-- the text of items of a block, under a shape
 abbrev text_of_array : Descr → List ℕ → List ℕ → List ℕ → List ℕ
 text_of_array descr shape offsets block = array_text descr shape (items_from descr block offsets)
 

@@ -21,11 +21,11 @@ width-at : (descr : Descr) (block seen : List ℕ) (k : ℕ) (scalar : Scalar) (
     get_or (widths_at descr block seen) k 0 ≡ leaf_width scalar (texts_of descr block scalar at seen)
 width-at descr block seen k scalar at below is = leaf-width-at (leaves_of descr) (λ offset. take (item_size descr) (drop offset block)) seen k scalar at below is
 
--- of no items
+-- the width of a leaf, of no items
 pub least-at : (descr : Descr) (k : ℕ) (scalar : Scalar) (at : ℕ) → k < length (leaves_of descr) → IfSome (slice_get (leaves_of descr) k) (λ leaf. (scalar ≡ leaf.scalar) × (at ≡ leaf.at)) → leaf_width scalar [] ≡ get_or (leaf_widths (leaves_of descr) []) k 0
 least-at descr k scalar at below is = sym (width-at descr [] [] k scalar at below is)
 
--- of one item more
+-- the width of a leaf, with one more item
 pub one-wider : (descr : Descr) (block seen : List ℕ) (offset k : ℕ) (scalar : Scalar) (at width wider : ℕ) → k < length (leaves_of descr) → at + size scalar ≤ item_size descr → IfSome (slice_get (leaves_of descr) k) (λ leaf. (scalar ≡ leaf.scalar) × (at ≡ leaf.at)) →
     width ≡ get_or (widths_at descr block seen) k 0 →
     ((texts : List (List ℕ)) → width ≡ leaf_width scalar texts → wider ≡ leaf_width scalar (texts ++ leaf_text scalar (decode scalar (take (size scalar) (drop (offset + at) block))) ∷ [])) →
@@ -37,11 +37,11 @@ one-wider descr block seen offset k scalar at width wider below within is so_far
     ∙ ap (leaf_width scalar) (sym (map-append read seen (offset ∷ [])))
     ∙ sym (width-at descr block (seen ++ offset ∷ []) k scalar at below is)
 
--- of an array with axes
+-- the widths of an array with axes
 pub with-axes : (descr : Descr) (shape block offsets : List ℕ) → 0 < length shape → widths_at descr block offsets ≡ widths descr shape (items_from descr block offsets)
 with-axes descr [] block offsets some = absurd (omega (arith, some))
 with-axes descr (n ∷ shape) block offsets some = refl
 
--- widths that are written over as many others
+-- new widths written over the same number of old ones
 pub refilled : (ws new : List ℕ) → length new ≡ length ws → refill (length ws) ws new ≡ new
 refilled ws new same = ap (λ n. take n (new ++ drop (length new) ws)) (sym same) ∙ take-append_seam new (drop (length new) ws)

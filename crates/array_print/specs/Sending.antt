@@ -2,10 +2,10 @@
 use Rattle.std.specs.Prelude.{◌≡◌, ℕ, List, ◌++◌, Option}
 use Rattle.std.specs.Io.KnownBytes.{Appends}
 
--- all of the text was written but this last part
+-- all of the text was written, except for this suffix
 abbrev pub Sends : Option (List ℕ) → Option (List ℕ) → List ℕ → List ℕ → Type 0
 Sends written written' rest text = (gone : List ℕ) × (text ≡ gone ++ rest) × Appends written written' gone
 
--- a first part of the text was written
+-- a prefix of the text was written
 abbrev pub SendsPart : Option (List ℕ) → Option (List ℕ) → List ℕ → Type 0
 SendsPart written written' text = (rest : List ℕ) × Sends written written' rest text

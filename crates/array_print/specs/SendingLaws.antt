@@ -14,7 +14,7 @@ pub appends_nothing : (a : Option (List ℕ)) → Appends a a []
 appends_nothing None = tt
 appends_nothing (Some xs) = sym (append-nil xs)
 
--- what is left of a slice once its first n elements are gone
+-- after the first `n` elements of a slice come as many as are left
 pub rest_of : (xs : List ℕ) (n : ℕ) → take (length xs - n) (drop n xs) ≡ drop n xs
 rest_of xs n = let short : length (drop n xs) ≤ length xs - n = omega (arith, length-drop n xs) in take_all _ _ short
 
@@ -25,7 +25,7 @@ split_later all gone rest n e = e ∙ ap (λ r. gone ++ r) (sym (take-append-dro
 pub sends-none : (w : Option (List ℕ)) (text : List ℕ) → Sends w w text text
 sends-none w text = ([], refl, appends_nothing w)
 
--- more text is behind what was written
+-- more text is appended to what is to be sent
 pub sends-more : (w w' : Option (List ℕ)) (rest text more : List ℕ) → Sends w w' rest text → Sends w w' (rest ++ more) (text ++ more)
 sends-more w w' rest text more sent = (sent.0, ap (λ t. t ++ more) sent.1 ∙ append_assoc sent.0 rest more, sent.2)
 

@@ -1,4 +1,4 @@
--- Laws of bytes that start with others.
+-- Laws of bytes that start with other bytes.
 use Rattle.std.proofs.Common.{ℕ, ◌≤◌, List, length, take, sym, ◌∙◌, ap, arith}
 use Rattle.std.specs.Io.{StartsWith}
 use Rattle.std.proofs.lemmas.List.{take-take, length-take}

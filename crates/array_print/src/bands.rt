@@ -1,4 +1,4 @@
-//! The text of an array, sent as it is made. Of a long text little more than a band is held.
+//! The text of an array, sent while it is made. Of a long text, little more than a band is held.
 ghost use Rattle.array_print.specs.Printed.{array_text, block_text, items_from};
 ghost use Rattle.array_print.specs.Sending.{Sends, SendsPart};
 ghost use Rattle.array_print.specs.Words.{item_size, leaves_of, offsets};
@@ -45,7 +45,7 @@ impl From<WriteFault> for PrintFault {
 }
 
 /// An array whose text is sent in bands. Blocks along an axis before `small` may be longer than a
-/// band; one that the axes from `small` on lead to has at most `room` bytes.
+/// band. A block that the axes from `small` on lead to has at most `room` bytes.
 #[derive(Clone, Copy)]
 struct Bands<'a> {
     items: Items<'a>,
@@ -63,7 +63,7 @@ fn item_room(items: &Items<'_>) -> usize {
     room
 }
 
-/// The most bytes of the text of an axis with blocks of at most so many bytes.
+/// The most bytes of the text of an axis whose blocks have at most `room` bytes.
 fn axis_room(room: usize, layout: &Layout, axis: usize) -> usize
     requires { axis < length layout.now.shape }
 {
@@ -73,16 +73,16 @@ fn axis_room(room: usize, layout: &Layout, axis: usize) -> usize
         .saturating_add(2)
 }
 
-/// The most bytes of items that are made anew where stride 0 repeats them and they lie in another band.
+/// The most bytes of an item whose text is made again in each band if stride 0 repeats it.
 const SHORT_ITEM: usize = 64;
 
-/// Whether long items are repeated: their text is made whole, so that each is read once.
+/// Whether long items are repeated. If so, the text is made whole, so that each item is read once.
 fn repeats_long_items(items: &Items<'_>, layout: &Layout) -> bool {
     items.descr.size() > SHORT_ITEM && layout.strides.as_slice().contains(&0)
 }
 
-/// The first axis with blocks that are made whole, since a band has room for each, and the most bytes
-/// of such a block. There may be no such axis: then each item is made whole.
+/// The first axis with blocks that are made whole, since each fits into a band, and the most bytes
+/// of such a block. If there is no such axis, each item is made whole.
 fn small_blocks(items: &Items<'_>, layout: &Layout) -> (usize, usize)
     ensures { result.0 ≤ length layout.now.shape }
 {
@@ -98,8 +98,8 @@ fn small_blocks(items: &Items<'_>, layout: &Layout) -> (usize, usize)
     (small, room)
 }
 
-/// Appends block `k` of an axis behind what comes before it and, where they are the same, as many of
-/// the next blocks as there is room for. Returns how many blocks these are.
+/// Appends block `k` of an axis, and the separator before it. If the next blocks are the same, it
+/// appends as many of them as there is room for. Returns the number of blocks that were appended.
 fn push_run(
     out: &mut Vec<u8>,
     bands: &Bands<'_>,
@@ -139,8 +139,8 @@ fn push_run(
     Ok(1)
 }
 
-/// Sends the text of the items that the axes from `axis` on lead to, starting at an offset, but for
-/// a last part of it.
+/// Sends the text of the items that the axes from `axis` on lead to, starting at an offset, except
+/// for the end of it.
 fn send_block<W: Write>(
     writer: &mut W,
     out: &mut Vec<u8>,
@@ -183,9 +183,9 @@ fn send_block<W: Write>(
     Ok(out.extend_from_slice(b"]")?)
 }
 
-/// Appends the text of an array whose items are at the layout's offsets in a block, and sends what comes
-/// before, band by band: the rest is left to be sent. All memory is asked for before the first
-/// byte goes out.
+/// Appends the text of an array whose items are at the layout's offsets in a block, and sends what
+/// comes before the end, band by band. The end is left to be sent. All memory is allocated before
+/// the first byte is written.
 pub fn print_by_bands<'a, W: Write>(
     writer: &mut W,
     out: &mut Vec<u8>,
@@ -235,15 +235,15 @@ pub fn print_by_bands<'a, W: Write>(
 #[error("write fault")]
 pub struct WriteFault;
 
-/// All room that a text needs is asked for before its first byte goes out. If it were not enough, the
-/// reply would end as it does where a write fails.
+/// All memory that a text needs is allocated before its first byte is written. If it were not
+/// enough, the reply would end as if a write had failed.
 impl From<AllocError> for WriteFault {
     fn from(_error: AllocError) -> WriteFault {
         WriteFault
     }
 }
 
-/// Writes all of the bytes; after a fault some first ones, not all, have gone out.
+/// Writes all of the bytes. After a fault, a prefix was written, but not all of them.
 pub fn send<W: Write>(writer: &mut W, bytes: &[u8]) -> Result<(), WriteFault>
     ensures ok { OnOk result (Appends (W.contents writer.old) (W.contents writer.new) bytes.now) }
     ensures err { OnErr result ((gone missing : List ℕ) × (bytes.now ≡ gone ++ missing)
@@ -259,10 +259,10 @@ pub fn send<W: Write>(writer: &mut W, bytes: &[u8]) -> Result<(), WriteFault>
     Ok(())
 }
 
-/// How many bytes of a long text are sent at once, at least.
+/// The least number of bytes of a long text that are sent at once.
 pub const BAND: usize = 65_536;
 
-/// Sends what has come of a text, where that is a band.
+/// Sends the text made so far, if it is at least a band.
 pub fn send_band<W: Write>(writer: &mut W, out: &mut Vec<u8>) -> Result<(), WriteFault>
     ensures ok { OnOk result
         (Sends (W.contents writer.old) (W.contents writer.new) out.new.items out.old.items) }

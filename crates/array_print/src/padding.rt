@@ -54,8 +54,9 @@ fn push_separator(out: &mut Vec<u8>, brackets: usize, inner: usize) -> Result<()
 /// How many bytes of a text are copied at once.
 const COPIED: usize = 1024;
 
-/// Appends the bytes from `from` on once more, as far as it goes by 1,024 at once, but not beyond `to`.
-/// Returns how far that is. They are held in between, so no other memory is asked for than room at the end.
+/// Appends a copy of the bytes from `from` on, by 1,024 at once, as far as that goes without
+/// passing `to`. Returns how far it went. The bytes are held in between, so no memory is needed
+/// except room at the end.
 fn push_blocks(out: &mut Vec<u8>, from: usize, to: usize) -> Result<usize, AllocError>
     requires order { from ≤ to }
     requires inside { to ≤ length out.old.items }
@@ -76,7 +77,7 @@ fn push_blocks(out: &mut Vec<u8>, from: usize, to: usize) -> Result<usize, Alloc
     Ok(done)
 }
 
-/// Appends the bytes from `from` to `to` once more, in place.
+/// Appends a copy of the bytes from `from` to `to`, in place.
 fn push_within(out: &mut Vec<u8>, from: usize, to: usize) -> Result<(), AllocError>
     requires order { from ≤ to }
     requires inside { to ≤ length out.old.items }
@@ -93,7 +94,7 @@ fn push_within(out: &mut Vec<u8>, from: usize, to: usize) -> Result<(), AllocErr
     Ok(())
 }
 
-/// Appends the text from `start` on `times` more times, each after what comes between two blocks.
+/// Appends `times` copies of the text from `start` on, each after what comes between two blocks.
 /// The copies are made in place.
 pub fn push_again(
     out: &mut Vec<u8>,

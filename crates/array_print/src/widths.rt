@@ -66,7 +66,7 @@ fn widened(width: usize, scalar: &Scalar, block: &[u8], place: usize) -> usize
     }
 }
 
-/// Makes the widths of some items those of one more.
+/// Widens the widths for one more item.
 fn widen(widths: &mut [usize], descr: &Descr, block: &[u8], offset: usize)
     requires leaves { length widths.old ≡ length (leaves_of descr.now) }
     requires inside { offset + item_size descr.now ≤ length block.now }
@@ -79,7 +79,7 @@ fn widen(widths: &mut [usize], descr: &Descr, block: &[u8], offset: usize)
     }
 }
 
-/// Items of one descriptor, where a layout shows them in a block of bytes.
+/// Items of one descriptor, at the layout's offsets in a block of bytes.
 #[derive(Clone, Copy)]
 struct ShownItems<'a> {
     block: &'a [u8],
@@ -87,7 +87,8 @@ struct ShownItems<'a> {
     descr: &'a Descr,
 }
 
-/// How many steps along an axis lead to items of their own: those of stride 0 all lead to the same ones.
+/// The number of steps along an axis that lead to different items. All steps of stride 0 lead to
+/// the same items.
 fn different_steps(lengths: &[usize], strides: &[isize], axis: usize) -> usize
     requires axis { axis < length lengths.now }
     requires one_each { length strides.now ≡ length lengths.now }
@@ -103,8 +104,8 @@ fn different_steps(lengths: &[usize], strides: &[isize], axis: usize) -> usize
     }
 }
 
-/// Makes the widths of some items those of the items too that the axes from `axis` on lead to, starting
-/// at an offset. What stride 0 repeats is measured once.
+/// Widens the widths for the items that the axes from `axis` on lead to, starting at an offset.
+/// Items that stride 0 repeats are measured once.
 fn widen_part(widths: &mut [usize], items: ShownItems<'_>, axis: usize, offset: usize)
     requires leaves { length widths.old ≡ length (leaves_of items.descr.now) }
     requires part { IsPart items.layout.now axis offset (length items.block.now)

@@ -2,11 +2,12 @@
 use Rattle.std.specs.Prelude.{ℕ, ◌<◌, ◌≤◌, List, length, drop}
 use Rattle.array_print.specs.Words.{Layout, count, LieWithin, max_bytes, offsets_at}
 
--- the offsets that the axes from one on lead to, from a first one on
+-- the offsets that the axes from `axis` on lead to, beginning at `start`
 abbrev pub part_offsets : Layout → ℕ → ℕ → List ℕ
 part_offsets l axis start = offsets_at (drop axis l.shape) (drop axis l.strides) start
 
--- there are such axes and such items, and each, of so many bytes, lies in so many bytes
+-- The axes from `axis` on lead to at least one item. Each item has `item` bytes and lies within `len` bytes, and each
+-- offset is below 2^28.
 pub record IsPart (l : Layout) (axis start len item : ℕ) : Type 0 where
   pub axes : axis ≤ length l.shape
   pub some : 0 < count (drop axis l.shape)

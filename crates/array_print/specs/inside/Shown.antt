@@ -6,11 +6,11 @@ use Rattle.array_print.specs.Words.{Scalar, Byte, Int, Bytes, Leaf, Descr, size,
 use Rattle.elem_descr.specs.declared.scalar.Scalar.TheVariants.{Bool as BoolScalar}
 use Rattle.array_print.specs.Printed.{leaf_texts, leaf_widths, all_justified, item_text, items_from}
 
--- the text of the integer whose bytes begin at a place
+-- the text of the integer whose bytes begin at this place of a block
 abbrev pub integer_at : Scalar → List ℕ → ℕ → List ℕ
 integer_at scalar block place = signed_decimal (number_of (decode scalar (take (size scalar) (drop place block))))
 
--- the widths that texts of a scalar may have: a byte string has none
+-- the widths that texts of a scalar may have: 0 for a byte string, and any width for the others
 abbrev pub IsWidth : Scalar → ℕ → Type 0
 IsWidth BoolScalar width = Unit {0}
 IsWidth (Byte signed) width = Unit {0}
@@ -21,7 +21,7 @@ IsWidth (Bytes n) width = width ≡ 0
 abbrev pub AreWidths : List Leaf → List ℕ → Type 0
 AreWidths leaves widths = AllZip (λ leaf width. IsWidth leaf.scalar width) leaves widths
 
--- the texts of the item whose bytes begin at an offset, each as wide as it is to be
+-- the texts of the item whose bytes begin at an offset, each padded to its width
 abbrev pub texts_at : Descr → List ℕ → List ℕ → ℕ → List (List ℕ)
 texts_at descr widths block offset = all_justified widths (leaf_texts (leaves_of descr) (item_from descr block offset))
 
@@ -29,12 +29,12 @@ texts_at descr widths block offset = all_justified widths (leaf_texts (leaves_of
 abbrev pub shown : Descr → List ℕ → List ℕ → ℕ → List ℕ
 shown descr widths block offset = item_text descr widths (item_from descr block offset)
 
--- what stands before the k-th of some texts that a separator joins
+-- what comes before text `k` of texts that a separator joins: nothing before the first
 abbrev pub lead : ℕ → List ℕ → List ℕ
 lead zero separator = []
 lead (suc k) separator = separator
 
--- a text, n times
+-- a text, repeated `n` times
 abbrev pub repeated : List ℕ → ℕ → List ℕ
 repeated text zero = []
 repeated text (suc n) = repeated text n ++ text

@@ -5,7 +5,7 @@ use Rattle.array_print.specs.inside.Parts.{part_offsets}
 use Rattle.array_print.specs.inside.Opened.{opened}
 use Rattle.array_print.proofs.bands.+send_block.Given as goal
 
--- the blocks so far are made, and sent but for the rest
+-- the blocks so far are made, and sent except for the rest
 abbrev pub invariant-loop-k : goal.invariant-loop-k
 invariant-loop-k g l = record {
   sent : Sends (g.W.Write.contents l.fn.writer) (g.W.Write.contents l.writer) l.out.items

@@ -3,7 +3,7 @@ use Rattle.array_print.specs.Printed.{separator}
 use Rattle.array_print.specs.inside.Shown.{repeated}
 use Rattle.array_print.proofs.padding.push_again.Given as goal
 
--- the copies so far stand at the end, and the first of them where it was made
+-- the copies so far are at the end, and the first of them is where it was made
 abbrev pub invariant-loop-i : goal.invariant-loop-i
 invariant-loop-i l = record {
   pushed : l.out.items ≡ l.fn.out.items ++ repeated (separator l.brackets l.inner ++ drop l.start l.fn.out.items) l._i;

@@ -1,7 +1,7 @@
 use Rattle.std.proofs.Common.{◌≡◌, ◌≤◌, ◌-◌, ◌++◌, slice_range, vec_capacity}
 use Rattle.array_print.proofs.padding.push_blocks.Given as goal
 
--- the bytes so far stand at the end
+-- the bytes so far are copied to the end
 abbrev pub invariant-loop-done : goal.invariant-loop-done
 invariant-loop-done l = record {
   pushed : l.out.items ≡ l.fn.out.items ++ slice_range l.fn.out.items l.from l.done;

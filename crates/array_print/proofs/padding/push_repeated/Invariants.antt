@@ -1,7 +1,7 @@
 use Rattle.std.proofs.Common.{◌≡◌, ◌≤◌, ◌++◌, replicate, vec_capacity}
 use Rattle.array_print.proofs.padding.push_repeated.Given as goal
 
--- the copies so far stand at the end
+-- the copies so far are at the end
 abbrev pub invariant-loop-i : goal.invariant-loop-i
 invariant-loop-i l = record {
   pushed : l.out.items ≡ l.fn.out.items ++ replicate l._i l.byte;

@@ -10,7 +10,7 @@ use Rattle.array_print.specs.StartLaws.{StartsWith-trans}
 use Rattle.array_print.proofs.PrintLaws.{StartsWith-along, regroup}
 use Rattle.array_print.proofs.printer.+fields.Goals as goal
 
--- one text more is pushed
+-- one more text is appended
 text-more : (texts : List (List ℕ)) (k : ℕ) (old out led out' : List ℕ) → k < length texts → out ≡ old ++ (codes "(" ++ join_texts (codes ", ") (take k texts)) → led ≡ out ++ lead k (codes ", ") → out' ≡ led ++ get_or texts k [] → out' ≡ old ++ (codes "(" ++ join_texts (codes ", ") (take (k + 1) texts))
 text-more texts k old out led out' below pushed leads text =
     let comma = lead k (codes ", ") in
@@ -29,7 +29,7 @@ texts-all texts k n old out out' all count pushed closed =
     ∙ append_assoc old (codes "(" ++ join_texts (codes ", ") texts) (record_end n)
     ∙ ap (λ m. old ++ (codes "(" ++ join_texts (codes ", ") texts ++ record_end m)) count
 
--- the fields of a record, seen as such
+-- the fields of a record, as a list
 seen : (structure : Structure) (fields : List Field) → fields ≡ fields_of structure.fields → listed fields ≡ structure.fields
 seen structure fields is = ap listed is ∙ listed-fields_of structure.fields
 
@@ -81,7 +81,7 @@ pub push_record-returns-in_err-push_record_end-clause-kept : goal.push_record-re
 push_record-returns-in_err-push_record_end-clause-kept t c =
     StartsWith-along _ _ _ _ c.loop-i.invariant.pushed c.push_record_end.ensures.kept
 
--- the leaves of the fields that are left
+-- the leaves of the remaining fields
 left : (fields : List Field) (field : Field) (i : ℕ) → i < length fields → field ≡ get_or fields i field → leaf_count (listed (drop i fields)) ≡ length (leaves_of field.descr) + leaf_count (listed (drop (i + 1) fields))
 left fields field i below is = ap (λ fs. leaf_count (listed fs)) (rest_at fields field i below is) ∙ leaf_count-before field.name field.at field.descr (listed (drop (i + 1) fields))
 

@@ -4,7 +4,7 @@ use Rattle.array_print.specs.Printed.{join_texts, field_texts}
 use Rattle.array_print.specs.inside.Shown.{texts_at}
 use Rattle.array_print.proofs.printer.+fields.Given as goal
 
--- the texts so far stand behind their parenthesis
+-- the texts so far follow the opening parenthesis
 abbrev pub invariant-push_record-loop-i : goal.invariant-push_record-loop-i
 invariant-push_record-loop-i l =
     let leaves = texts_at l.items.descr.now l.items.widths.now l.items.block.now l.offset in

@@ -4,7 +4,7 @@ use Rattle.array_print.specs.inside.Parts.{part_offsets}
 use Rattle.array_print.specs.inside.Opened.{opened}
 use Rattle.array_print.proofs.printer.+push_block.Given as goal
 
--- the blocks so far stand behind their bracket
+-- the blocks so far follow the opening bracket
 abbrev pub invariant-loop-k : goal.invariant-loop-k
 invariant-loop-k l = record {
   pushed : l.out.items ≡ l.fn.out.items ++ opened (shown l.items.descr.now l.items.widths.now l.items.block.now) l.layout.shape l.axis l.k (part_offsets l.layout l.axis l.offset);

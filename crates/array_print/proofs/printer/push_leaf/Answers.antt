@@ -7,7 +7,7 @@ use Rattle.array_print.specs.inside.Shown.{AreWidths, texts_at}
 use Rattle.array_print.proofs.LeafLaws.{bytes-at, count-widths, width-at, text-at}
 use Rattle.array_print.proofs.printer.push_leaf.Goals as goal
 
--- the text that is pushed is that of the leaf
+-- the appended text is that of the leaf
 pushed-leaf : (descr : Descr) (ws block old new : List ℕ) (offset k at wide : ℕ) (scalar : Scalar) → AreWidths (leaves_of descr) ws → k < length (leaves_of descr) → IfSome (slice_get (leaves_of descr) k) (λ leaf. (scalar ≡ leaf.scalar) × (at ≡ leaf.at)) →
     at + size scalar ≤ item_size descr → wide ≡ size scalar → new ≡ old ++ right_justified (get_or ws k 0) (leaf_text scalar (decode scalar (take wide (drop (offset + at) block)))) → new ≡ old ++ get_or (texts_at descr ws block offset) k []
 pushed-leaf descr ws block old new offset k at wide scalar are below is fits whole pushed =

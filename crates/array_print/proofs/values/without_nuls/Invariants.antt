@@ -2,7 +2,7 @@ use Rattle.std.proofs.Common.{◌≡◌, ◌+◌, ◌≤◌, nat_eq, length, tak
 use Rattle.std.specs.List.{suffix_len}
 use Rattle.array_print.proofs.values.without_nuls.Given as goal
 
--- as many NULs as were cut off end the whole string
+-- the NULs at the end of the whole string are those cut off so far, and those at the end of what is left
 abbrev pub invariant-loop-len : goal.invariant-loop-len
 invariant-loop-len l = record {
   within : l.len ≤ length l.bytes;
