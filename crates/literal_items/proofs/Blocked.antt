@@ -4,7 +4,7 @@ use Rattle.std.proofs.Math.Nat.{suc-mul}
 use Rattle.std.proofs.lemmas.List.{drop-drop, drop-take, take-take, take_at, drop_at, map-append}
 use Rattle.literal_items.specs.Words.{blocks}
 
--- the blocks depend on the bytes in them alone
+-- blocks depend only on the bytes in them
 pub blocks-front : {A : Type 0} (size n : ℕ) (xs ys : List A) → take (n * size) xs ≡ take (n * size) ys → blocks size n xs ≡ blocks size n ys
 blocks-front size zero xs ys same = refl
 blocks-front size (suc n) xs ys same =
@@ -14,7 +14,7 @@ blocks-front size (suc n) xs ys same =
     let back = sym (drop-take size (n * size) xs) ∙ ap (drop size) split ∙ drop-take size (n * size) ys in
     λ i. front i ∷ blocks-front size n (drop size xs) (drop size ys) back i
 
--- one block more
+-- one more block
 pub blocks-push : {A : Type 0} (size n : ℕ) (xs : List A) → blocks size (n + 1) xs ≡ blocks size n xs ++ take size (drop (n * size) xs) ∷ []
 blocks-push size zero xs =
     let none : 0 ≡ 0 * size = omega arith in
@@ -26,7 +26,7 @@ blocks-push size (suc n) xs =
     ∙ ap (λ back. take size xs ∷ back) (blocks-push size n (drop size xs))
     ∙ ap (λ last. take size xs ∷ (blocks size n (drop size xs) ++ take size last ∷ [])) (drop-drop (n * size) size xs ∙ ap (λ k. drop k xs) whole)
 
--- an item is put behind n blocks
+-- an item is put after `n` blocks
 pub blocks-put : {A : Type 0} (size n at : ℕ) (xs item rest : List A) → at ≡ n * size → at ≤ length xs → length item ≡ size → blocks size (n + 1) (take at xs ++ (item ++ rest)) ≡ blocks size n xs ++ item ∷ []
 blocks-put size n at xs item rest is within whole =
     let long : length (take at xs) ≡ n * size = length-take at xs ∙ omega arith in
@@ -35,7 +35,7 @@ blocks-put size n at xs item rest is within whole =
     blocks-push size n (take at xs ++ (item ++ rest))
     ∙ (λ i. blocks-front size n (take at xs ++ (item ++ rest)) xs front i ++ last i ∷ [])
 
--- what has been read of the blocks so far, with one item more
+-- what was read of the blocks so far, with one more item
 pub map-blocks-put : {A B : Type 0} (f : List A → B) (size n at : ℕ) (xs item rest : List A) (so_far : List B) (next : B) → at ≡ n * size → at ≤ length xs → length item ≡ size → map f (blocks size n xs) ≡ so_far → f item ≡ next → map f (blocks size (n + 1) (take at xs ++ (item ++ rest))) ≡ so_far ++ next ∷ []
 map-blocks-put f size n at xs item rest so_far next is within whole before here =
     ap (map f) (blocks-put size n at xs item rest is within whole)

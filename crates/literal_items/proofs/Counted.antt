@@ -1,4 +1,4 @@
--- Numbers that are counted by their lowest 64 bits, and read from their bytes again.
+-- Numbers that are counted by their lowest 64 bits, and read back from their bytes.
 use Rattle.std.proofs.Common.{◌≡◌, ℕ, zero, suc, ◌+◌, ◌*◌, ◌%◌, ◌^◌, ◌<◌, inl, inr, Bool, true, false, List, [], ◌∷◌, ◌++◌, length, take, map, refl, sym, ap, ◌∙◌, arith, ℤ, pos, ◌+ℤ◌, ◌*ℤ◌, append-nil}
 use Rattle.std.specs.Int.{w64, cast_signed, cast_unsigned, int_wrap}
 use Rattle.std.specs.List.{list_all, range_with_len}
@@ -36,7 +36,7 @@ next_bits start step k bits is =
     let z = start +ℤ step *ℤ pos k in
     ap (λ b. (b + low_bits 8 step) % 2 ^ 64) is ∙ sym (low_bits-add z step) ∙ ap (low_bits 8) (next_number start step z k refl)
 
--- ---- the bits of a value say which it is
+-- ---- a value is known by its bits
 
 fits_eight : (scalar : Scalar) (z : ℤ) → IsValueOf scalar z → (signed : Bool) × FitsBytes signed 8 z
 fits_eight BoolScalar z (inl none) = (false, (omega (arith, ints, none), omega (arith, ints, none)))
@@ -58,7 +58,7 @@ bits_of_value scalar z bits kind held is =
       zero = λ none. sym (integer-low_bits fits.0 8 z (omega arith) fits.1) ∙ ap (integer fits.0 8) (sym is ∙ none) ∙ no_bits fits.0;
     }
 
--- ---- read again
+-- ---- read back
 
 value_read : (scalar : Scalar) (z : ℤ) → IsNumber scalar → is_value scalar z ≡ true → decode_item (ScalarDescr scalar) (encode scalar (number z)) ≡ number z ∷ []
 value_read scalar z kind held =
@@ -80,7 +80,7 @@ read_joined f g item bytes (suc n) each same =
     ∙ sym (map-range_with_len_more g 0 n n (omega arith))
     ∙ ap (λ m. map g (range_with_len 0 m)) (sym next)
 
--- each number of a range of values is one
+-- each number of a range of values is a value
 pub value_at : (scalar : Scalar) (start step : ℤ) (count k : ℕ) → list_all (is_value scalar) (numbers_from start step count) ≡ true → k < count → is_value scalar (start +ℤ step *ℤ pos k) ≡ true
 value_at scalar start step count k held low =
     let z = start +ℤ step *ℤ pos k in let long = length-numbers_from start step count in

@@ -17,7 +17,7 @@ bytes_between : (signed : Bool) (n : ℕ) (a z b : ℤ) → a ≤ℤ z → z ≤
 bytes_between false n a z b low high there here = (omega (arith, ints, there.0), omega (arith, ints, here.1))
 bytes_between true n a z b low high there here = (omega (arith, ints, there.0), omega (arith, ints, here.1))
 
--- what lies between two values is one
+-- a number between two values is a value
 value_between : (scalar : Scalar) (a z b : ℤ) → a ≤ℤ z → z ≤ℤ b → IsValueOf scalar a → IsValueOf scalar b → IsValueOf scalar z
 value_between BoolScalar a z b low high (inl none) (inl neither) = inl (omega (arith, ints))
 value_between BoolScalar a z b low high (inl none) (inr one) = elim (cases_lt (unsigned_abs z) 1) [ inl below ↦ inl (omega (arith, ints)) | inr above ↦ inr (omega (arith, ints)) ]
@@ -32,7 +32,7 @@ between_ends : (start step : ℤ) (k last : ℕ) → k ≤ last → ((start ≤�
 between_ends start (pos s) k last le = let most : s * k ≤ s * last = mul-le-mul_left s le in inl (omega (arith, ints), omega (arith, ints))
 between_ends start (negsuc s) k last le = let most : suc s * k ≤ suc s * last = mul-le-mul_left (suc s) le in inr (omega (arith, ints), omega (arith, ints))
 
--- so they are all values where these two are
+-- if these two are values, all numbers are
 ends_are_values : (scalar : Scalar) (start step : ℤ) (count : ℕ) → IsNumber scalar → 0 < count → is_value scalar start ≡ true → is_value scalar (start +ℤ step *ℤ pos (count - 1)) ≡ true → list_all (is_value scalar) (numbers_from start step count) ≡ true
 ends_are_values scalar start step count kind some first last =
     list_all-from_AllPass (is_value scalar) (numbers_from start step count) (λ k d low.
@@ -44,7 +44,7 @@ ends_are_values scalar start step count kind some first last =
       | inr down ↦ value_between scalar (start +ℤ step *ℤ pos (count - 1)) z start down.0 down.1 other one
     ]))
 
--- and the last decides where the first is one
+-- if the first is a value, the last decides
 pub last_decides : (scalar : Scalar) (start step last : ℤ) (count : ℕ) (b : Bool) → IsNumber scalar → 0 < count → is_value scalar start ≡ true → last ≡ start +ℤ step *ℤ pos (count - 1) → b ≡ is_value scalar last → b ≡ list_all (is_value scalar) (numbers_from start step count)
 last_decides scalar start step last count b kind some first is held =
     let long = length-numbers_from start step count in

@@ -20,7 +20,7 @@ stand_for-before test name at (ScalarDescr scalar) fields (RecordOf literals) la
 stand_for-before test name at (RecordDescr structure) fields (ScalarOf literal) later = refl
 stand_for-before test name at (RecordDescr structure) fields (RecordOf literals) later = refl
 
--- a loop has come to a field and its literal
+-- a loop is at field `k` and its literal
 pub record IsTurn (fields : List Field) (literals : List Literal) (k : ℕ) (field : Field) (literal : Literal) : Type 0 where
   pub low : k < length fields
   pub near : k < length literals
@@ -33,24 +33,24 @@ stand_for-at test fields literals k field literal turn =
     (λ i. stand_for test (listed (rest_at fields field k turn.low turn.is i)) (all_values (rest_at literals literal k turn.near turn.there i)))
     ∙ stand_for-before test field.name field.at field.descr (listed (drop (k + 1) fields)) literal (all_values (drop (k + 1) literals))
 
--- it fails
+-- the field fails the test
 pub turn_fails : (test : Scalar → ScalarLiteral → Bool) (fields : List Field) (literals : List Literal) (k : ℕ) (field : Field) (literal : Literal) → IsTurn fields literals k field literal → stands_for test field.descr literal ≡ false → stand_for test (listed (drop k fields)) (all_values (drop k literals)) ≡ false
 turn_fails test fields literals k field literal turn fails =
     stand_for-at test fields literals k field literal turn
     ∙ ap (λ first. first && stand_for test (listed (drop (k + 1) fields)) (all_values (drop (k + 1) literals))) fails
 
--- it passes
+-- the field passes the test
 pub turn_passes : (test : Scalar → ScalarLiteral → Bool) (fields : List Field) (literals : List Literal) (k : ℕ) (field : Field) (literal : Literal) → IsTurn fields literals k field literal → stands_for test field.descr literal ≡ true → stand_for test (listed (drop (k + 1) fields)) (all_values (drop (k + 1) literals)) ≡ stand_for test (listed (drop k fields)) (all_values (drop k literals))
 turn_passes test fields literals k field literal turn passes =
     sym (stand_for-at test fields literals k field literal turn
     ∙ ap (λ first. first && stand_for test (listed (drop (k + 1) fields)) (all_values (drop (k + 1) literals))) passes)
 
--- it has passed
+-- the field has passed the test
 pub turn_passed : (test : Scalar → ScalarLiteral → Bool) (fields : List Field) (literals : List Literal) (k : ℕ) (field : Field) (literal : Literal) → IsTurn fields literals k field literal → stand_for test (listed (drop k fields)) (all_values (drop k literals)) ≡ true → stands_for test field.descr literal ≡ true
 turn_passed test fields literals k field literal turn passed =
     (and_parts (stands_for test field.descr literal) (stand_for test (listed (drop (k + 1) fields)) (all_values (drop (k + 1) literals))) (sym (stand_for-at test fields literals k field literal turn) ∙ passed)).0
 
--- none is left
+-- no field is left
 pub none_left : (test : Scalar → ScalarLiteral → Bool) (fields : List Field) (literals : List Literal) (k : ℕ) → length fields ≤ k → length literals ≤ k → stand_for test (listed (drop k fields)) (all_values (drop k literals)) ≡ true
 none_left test fields literals k past over = λ i. stand_for test (listed (drop_all k fields past i)) (all_values (drop_all k literals over i))
 
@@ -75,7 +75,7 @@ no_value_left : (test : Scalar → ScalarLiteral → Bool) (name : List ℕ) (at
 no_value_left test name at (ScalarDescr scalar) fields = refl
 no_value_left test name at (RecordDescr structure) fields = refl
 
--- there are as many literals as fields
+-- there is one literal for each field
 pub stand_for-length : (test : Scalar → ScalarLiteral → Bool) (fields : List Field) (literals : List Literal) → stand_for test (listed fields) (all_values literals) ≡ true → length fields ≡ length literals
 stand_for-length test [] [] passed = refl
 stand_for-length test [] (literal ∷ literals) passed = let none = no_field_left test literal (all_values literals) in cc
@@ -118,7 +118,7 @@ leaves_sound : (leaves : List Leaf) (literal : ScalarLiteral) → AreSound leave
 leaves_sound [] literal = tt
 leaves_sound (leaf ∷ leaves) literal = (leaf_sound leaf.scalar literal, leaves_sound leaves literal)
 
--- the leaves of a record that begins at a byte
+-- the leaves of a record that begins at an offset
 pub record_leaves : (by : ℕ) (fields : Fields) → map (moved_leaf by) (leaves_from 0 fields) ≡ leaves_from by fields
 record_leaves by fields = let none : by + 0 ≡ by = omega arith in sym (leaves_from-moved by 0 fields) ∙ ap (λ start. leaves_from start fields) none
 
@@ -132,7 +132,7 @@ field_sound by (RecordDescr structure) (ScalarOf literal) can = cc
 field_sound by (RecordDescr structure) (RecordOf literals) can =
     sound_along (leaves_from by structure.fields) (map (moved_leaf by) (leaves_from 0 structure.fields)) (field_values structure.fields literals) (sym (record_leaves by structure.fields)) (fields_sound by structure.fields literals can)
 
--- the bytes of each value are as many as its leaf has, and mean it
+-- the bytes of each value have the size of its leaf, and read back as the value
 pub item_sound : (descr : Descr) (literal : Literal) → can_be_item descr literal ≡ true → AreSound (leaves_of descr) (values_of descr literal)
 item_sound descr (ScalarOf literal) can = leaves_sound (leaves_of descr) literal
 item_sound (ScalarDescr scalar) (RecordOf literals) can = cc
@@ -146,7 +146,7 @@ field_values-before name at (ScalarDescr scalar) fields (RecordOf literals) late
 field_values-before name at (RecordDescr structure) fields (ScalarOf literal) later can = cc
 field_values-before name at (RecordDescr structure) fields (RecordOf literals) later can = refl
 
--- the bytes of an item, with those of the fields from the k-th on
+-- the bytes of an item, with the literals written as these fields
 abbrev pub put_fields : List ℕ → ℕ → List Field → List Literal → List ℕ
 put_fields item start fields literals = put_leaves item (leaves_from start (listed fields)) (field_values (listed fields) (all_values literals))
 
@@ -168,7 +168,7 @@ turn_within structure fields k field legal are low is =
     let order : InOrder 0 (listed fields) structure.size = rw (seen_fields fields structure.fields are) legal.in_order in
     field_within 0 fields structure.size k field order low is
 
--- a record that begins at a byte
+-- a record that begins at an offset
 pub put_record : (item : List ℕ) (at : ℕ) (descr : Descr) (literal : Literal) (structure : Structure) (values : Values) (literals : List Literal) → descr ≡ RecordDescr structure → literal ≡ RecordOf values → literals ≡ literals_of values → put_leaves item (leaves_from at structure.fields) (field_values structure.fields (all_values literals)) ≡ put_leaves item (map (moved_leaf at) (leaves_of descr)) (field_value descr literal)
 put_record item at descr literal structure values literals is there have =
     (λ i. put_leaves item (sym (record_leaves at structure.fields) i) (field_values structure.fields (seen_values literals values have i)))

@@ -5,7 +5,7 @@ use Rattle.std.proofs.lemmas.List.{length-replicate, take_at, drop_at, take-repl
 use Rattle.literal_items.specs.Words.{Leaf, Scalar, LeafValue, size, encode, decode, AreInOrder, encode_from, AreInOrder-within}
 use Rattle.literal_items.specs.inside.FieldItems.{put, put_leaves}
 
--- the bytes of a value are as many as the scalar has, and mean the value
+-- the bytes of a value have the size of the scalar, and read back as the value
 pub record ReadsBack (scalar : Scalar) (value : LeafValue) : Type 0 where
   pub whole : length (encode scalar value) ≡ size scalar
   pub same : decode scalar (encode scalar value) ≡ value
@@ -19,7 +19,7 @@ AreSound-append [] (value ∷ values) later others here there = absurd here
 AreSound-append (leaf ∷ leaves) [] later others here there = absurd here
 AreSound-append (leaf ∷ leaves) (value ∷ values) later others here there = (here.0, AreSound-append leaves values later others here.1 there)
 
--- leaves one after the other
+-- leaves after other leaves
 pub put_leaves-append : (item : List ℕ) (leaves : List Leaf) (values : List LeafValue) (later : List Leaf) (others : List LeafValue) → AreSound leaves values → put_leaves item (leaves ++ later) (values ++ others) ≡ put_leaves (put_leaves item leaves values) later others
 put_leaves-append item [] [] later others sound = refl
 put_leaves-append item [] (value ∷ values) later others sound = absurd sound
@@ -83,13 +83,13 @@ put_over_zeros front from bytes (leaf ∷ leaves) (value ∷ values) is order so
     ∙ put_over_zeros (upto front from leaf value) next bytes leaves values (length-upto front from leaf value is order.0 sound.0) order.2 sound.1
     ∙ append_assoc front (replicate (leaf.at - from) 0 ++ encode leaf.scalar value) (encode_from next leaves values bytes)
 
--- leaves put over zeros are an item's bytes
+-- leaves put over zeros are the bytes of an item
 pub put_encoded : (bytes : ℕ) (leaves : List Leaf) (values : List LeafValue) → AreInOrder 0 leaves bytes → AreSound leaves values → put_leaves (replicate bytes 0) leaves values ≡ encode_from 0 leaves values bytes
 put_encoded bytes leaves values order sound =
     let all : bytes ≡ bytes - 0 = omega arith in
     ap (λ n. put_leaves (replicate n 0) leaves values) all ∙ put_over_zeros [] 0 bytes leaves values refl order sound
 
--- ---- and mean the values
+-- ---- the bytes read back as the values
 
 abbrev meant : List Leaf → List ℕ → List LeafValue
 meant leaves item = map (λ (leaf : Leaf). decode leaf.scalar (take (size leaf.scalar) (drop leaf.at item))) leaves

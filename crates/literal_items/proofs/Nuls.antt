@@ -1,4 +1,4 @@
--- Byte strings with NULs behind them, filled up again.
+-- Byte strings padded with NULs.
 use Rattle.std.proofs.Common.{◌≡◌, ◌+◌, ◌-◌, ◌≤◌, ℕ, min, List, ◌++◌, length, take, drop, replicate, sym, ap, ◌∙◌, arith, append_assoc, length-take}
 use Rattle.std.specs.Prelude.{nat_eq}
 use Rattle.std.proofs.lemmas.List.{take_all, take_min, drop-replicate, replicate-append-replicate}
@@ -16,7 +16,7 @@ padded-without_nuls n bytes fits =
     ∙ sym (append_assoc (without_nuls bytes) (replicate (nuls bytes) 0) (replicate (n - length bytes) 0))
     ∙ ap (λ front. front ++ replicate (n - length bytes) 0) {y = bytes} (without_nuls-back bytes)
 
--- bytes over zeros are the bytes and zeros
+-- bytes put over zeros are the bytes, and zeros after them
 over_zeros : (n kept : ℕ) (bytes : List ℕ) → kept ≡ min (length bytes) n → take kept bytes ++ drop kept (replicate n 0) ≡ take n bytes ++ replicate (n - length (take n bytes)) 0
 over_zeros n kept bytes is =
     let long = length-take n bytes in

@@ -21,7 +21,7 @@ gap_within gap start stop step is =
     (λ below. let far = is.back below in omega (arith, ints, clamps))
     (λ above. let far = is.forth above in omega (arith, ints, clamps))
 
--- how many numbers there are, where it is known how far the stop is
+-- how many numbers there are, if the gap to the stop is known
 module _ (gap : ℕ) (start stop step : ℤ) (some : step ≢ pos 0) (is : IsGap gap start stop step) where
   counts : CountsSteps (div_ceil gap (unsigned_abs step)) gap step
   counts k = steps_end_below gap (unsigned_abs step) k (abs_pos step some)
@@ -34,7 +34,7 @@ module _ (gap : ℕ) (start stop step : ℤ) (some : step ≢ pos 0) (is : IsGap
   pub count-divided : range_count start stop step ≡ div_ceil gap (unsigned_abs step)
   count-divided = ap length numbers-divided ∙ length-numbers_from start step (div_ceil gap (unsigned_abs step))
 
-  -- the numbers are the first ones, as many as there are
+  -- the numbers are the first `range_count` ones from the start on
   pub numbers-counted : range_numbers start stop step ≡ numbers_from start step (range_count start stop step)
   numbers-counted = numbers-divided ∙ ap (numbers_from start step) (sym count-divided)
 
@@ -48,7 +48,7 @@ module _ (gap : ℕ) (start stop step : ℤ) (some : step ≢ pos 0) (is : IsGap
     ],
   )
 
-  -- each number of a range fits
+  -- each number of a range fits into 128 bits
   pub counted_fits : FitsSigned w128 start → FitsSigned w128 stop → (k : ℕ) → k < range_count start stop step → FitsSigned w128 (start +ℤ step *ℤ pos k)
   counted_fits low high k counted =
       let near = (counts k).0 (omega (arith, count-divided)) in

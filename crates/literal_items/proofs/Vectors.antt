@@ -50,7 +50,7 @@ cut : item_value (ScalarDescr (BytesScalar 3)) (ScalarOf (Bytes (codes "abcd")))
 unfolding item_value
 cut = refl
 
--- b'a\x00b\x00' into |S3
+-- b'a\x00b\x00c' into |S4
 nuls_lost : item_value (ScalarDescr (BytesScalar 4)) (ScalarOf (Bytes (97 ∷ 0 ∷ 98 ∷ 0 ∷ 99 ∷ []))) ≡ Ok (text (97 ∷ 0 ∷ 98 ∷ []) ∷ [])
 unfolding item_value
 nuls_lost = refl
@@ -115,7 +115,7 @@ one_value_too_many : item_value pair (RecordOf (scalar_value (Integer (pos 5)) (
 unfolding item_value
 one_value_too_many = refl
 
--- a value that cannot be cast comes before one that is out of range
+-- a value that cannot be cast is refused before one that is out of range
 cast_first : item_value mixed (RecordOf (scalar_value (Integer (pos 300)) (scalar_value (Integer (pos 1)) no_values))) ≡ Err NoSuchCast
 unfolding item_value
 cast_first = refl
@@ -199,7 +199,7 @@ no_step : range_items (Int true Four Little) (pos 0) (pos 5) (pos 0) ≡ Err Zer
 unfolding range_items range_length stepped
 no_step = refl
 
--- ranges whose numbers are too many to list, by the quotient
+-- ranges with too many numbers to list, by the quotient
 
 forth : (gap start stop step : ℕ) → pos gap ≡ int_max (pos stop -ℤ pos start) (pos 0) → IsGap gap (pos start) (pos stop) (pos step)
 forth gap start stop step is = record { back = λ below. absurd (omega (arith, ints)); forth = λ _. is }

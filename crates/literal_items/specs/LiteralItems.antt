@@ -25,51 +25,52 @@ literal_bytes (Integer value) = []
 literal_bytes (Boolean value) = []
 literal_bytes (Bytes bytes) = bytes
 
--- whether a literal can be a value of a scalar: bytes of a byte string, and numbers and bools of the others
+-- whether a literal can be a value of a scalar: bytes for a byte string, and a number or a bool for the others
 abbrev pub is_castable : Scalar → ScalarLiteral → Bool
 is_castable (BytesScalar n) literal = is_text_literal literal
 is_castable _ literal = not (is_text_literal literal)
 
--- a bool takes every number, and an integer those that are its values
+-- whether a number is in range for a scalar. Every number is in range for a bool.
 abbrev pub takes_number : Scalar → ℤ → Bool
 takes_number BoolScalar value = true
 takes_number scalar value = is_value scalar value
 
--- a byte string takes all bytes
+-- whether a literal is in range for a scalar. Every literal is in range for a byte string.
 abbrev pub is_in_range : Scalar → ScalarLiteral → Bool
 is_in_range (BytesScalar n) literal = true
 is_in_range scalar literal = takes_number scalar (literal_number literal)
 
--- the value: of a bool whether the number is not 0; bytes are cut to the length, and then lose the NULs at their end
+-- The value that a literal gives to a scalar. A bool is whether the number is not 0. Bytes are cut to the length, and
+-- then lose the NULs at their end.
 abbrev pub leaf_value : Scalar → ScalarLiteral → LeafValue
 leaf_value (BytesScalar n) literal = text (without_nuls (take n (literal_bytes literal)))
 leaf_value scalar literal = number (wrap scalar (literal_number literal))
 
 -- One item
 
--- Whether the values stand one by one for the fields, and each scalar passes a test at its field: a
--- scalar stands for a scalar, and a record for a record, with as many values as that has fields.
+-- Whether the values match the fields one by one, and each scalar passes a test with its field: a scalar matches a
+-- scalar, and a record matches a record with the same number of fields.
 abbrev pub stand_for : (Scalar → ScalarLiteral → Bool) → Fields → Values → Bool
 stand_for test no_more no_values = true
 stand_for test (scalar_field name at scalar fields) (scalar_value literal values) = test scalar literal && stand_for test fields values
 stand_for test (record_field name at size inner fields) (record_value literals values) = stand_for test inner literals && stand_for test fields values
 stand_for test _ _ = false
 
--- whether values can be those of fields, and whether each is in the range of its field
+-- whether values can be those of the fields, and whether each is in range for its field
 abbrev pub can_hold : Fields → Values → Bool
 can_hold = stand_for is_castable
 
 abbrev pub are_in_range : Fields → Values → Bool
 are_in_range = stand_for is_in_range
 
--- the values, leaf by leaf
+-- the values of the fields, leaf by leaf
 abbrev pub field_values : Fields → Values → List LeafValue
 field_values (scalar_field name at scalar fields) (scalar_value literal values) = leaf_value scalar literal ∷ field_values fields values
 field_values (record_field name at size inner fields) (record_value literals values) = field_values inner literals ++ field_values fields values
 field_values _ _ = []
 
--- Whether a literal can be an item of a descriptor: a scalar literal goes to every leaf, and the
--- values of a record literal to the fields of a record.
+-- Whether a literal can be an item of a descriptor: a scalar literal goes to every leaf, and the values of a record
+-- literal go to the fields of a record.
 abbrev pub can_be_item : Descr → Literal → Bool
 can_be_item descr (ScalarOf literal) = list_all (λ leaf. is_castable leaf.scalar literal) (leaves_of descr)
 can_be_item (RecordDescr structure) (RecordOf literals) = can_hold structure.fields literals
@@ -85,7 +86,7 @@ values_of descr (ScalarOf literal) = map (λ leaf. leaf_value leaf.scalar litera
 values_of (RecordDescr structure) (RecordOf literals) = field_values structure.fields literals
 values_of (ScalarDescr scalar) (RecordOf literals) = []
 
--- the item that a literal means
+-- the item that a literal means, or the refusal
 unfoldable pub item_value : Descr → Literal → Result (List LeafValue) Refusal
 item_value descr literal = do
   _ ← check (can_be_item descr literal) NoSuchCast
@@ -94,7 +95,7 @@ item_value descr literal = do
 
 -- Many items
 
--- the items that literals mean: one that cannot be an item comes before any that is out of range
+-- The items that literals mean. A literal that cannot be an item is refused before any that is out of range.
 unfoldable pub item_values : Descr → List Literal → Result (List (List LeafValue)) Refusal
 item_values descr literals = do
   _ ← check (list_all (can_be_item descr) literals) NoSuchCast

@@ -17,7 +17,7 @@ pub(crate) fn is_castable(scalar: &Scalar, literal: &ScalarLiteral) -> bool
     }
 }
 
-/// Writes bytes as an item: cuts off those that do not fit, and fills up with NULs.
+/// Writes bytes as an item. Bytes that do not fit are cut off, and NULs fill the rest of the item.
 fn write_bytes(bytes: &[u8], item: &mut [u8])
     ensures encoded { item.new
         ≡ padded (length item.old) (without_nuls (take (length item.old) bytes.now)) }
@@ -39,7 +39,7 @@ fn takes_number(scalar: &Scalar, value: &i128) -> bool
     }
 }
 
-/// Whether the value of a literal is one of the scalar.
+/// Whether the value of a literal is in range for the scalar.
 pub(crate) fn is_in_range(scalar: &Scalar, literal: &ScalarLiteral) -> bool
     requires { is_castable scalar.now literal.now ≡ true }
     ensures { result ≡ is_in_range scalar.now literal.now }
@@ -51,7 +51,7 @@ pub(crate) fn is_in_range(scalar: &Scalar, literal: &ScalarLiteral) -> bool
     }
 }
 
-/// Writes a literal as a value of the scalar; a number that is none wraps.
+/// Writes a literal as a value of the scalar. A number that is out of range wraps.
 pub(crate) fn write_leaf(scalar: &Scalar, literal: &ScalarLiteral, item: &mut [u8])
     requires castable { is_castable scalar.now literal.now ≡ true }
     requires whole { length item.old ≡ size scalar.now }

@@ -120,7 +120,7 @@ fn is_item_in_range(descr: &Descr, literal: &Literal) -> bool
     }
 }
 
-/// Writes a literal as the field that begins at a byte of the item.
+/// Writes a literal as the field that begins at an offset in the item.
 #[cycle(write_fields)]
 fn write_field(descr: &Descr, literal: &Literal, at: usize, item: &mut [u8])
     requires castable { can_be_field descr.now literal.now ≡ true }
@@ -140,7 +140,7 @@ fn write_field(descr: &Descr, literal: &Literal, at: usize, item: &mut [u8])
     }
 }
 
-/// Writes literals as the fields of a record that begins at a byte of the item.
+/// Writes literals as the fields of a record that begins at an offset in the item.
 #[cycle(write_fields)]
 fn write_fields(structure: &Record, literals: &[Literal], from: usize, item: &mut [u8])
     requires castable { can_hold structure.now.fields (all_values literals.now) ≡ true }
@@ -201,9 +201,9 @@ fn write_cast(descr: &Descr, literal: &Literal, item: &mut [u8])
     }
 }
 
-/// Writes a literal as the bytes of an item; the bytes of no leaf become zeros. A literal that
-/// cannot be an item is refused as `NoSuchCast`, and one with a value that is out of range as
-/// `LiteralOutOfRange`; then the bytes are as before.
+/// Writes a literal as the bytes of an item. Bytes that belong to no leaf become zeros. A literal
+/// that cannot be an item is refused as `NoSuchCast`, and one with a value that is out of range as
+/// `LiteralOutOfRange`. After a refusal, the bytes are as before.
 pub fn write_item(descr: &Descr, literal: &Literal, item: &mut [u8]) -> Result<(), Refusal>
     requires whole { length item.old ≡ item_size descr.now }
     ensures value { MatchResult result
@@ -260,8 +260,8 @@ fn write_casts(descr: &Descr, literals: &[Literal], block: &mut [u8])
 }
 
 /// Writes literals as items one after another. A literal that cannot be an item is refused as
-/// `NoSuchCast`, and then one with a value that is out of range as `LiteralOutOfRange`; then the
-/// bytes are as before.
+/// `NoSuchCast`, and then one with a value that is out of range as `LiteralOutOfRange`. After a
+/// refusal, the bytes are as before.
 pub fn write_items(descr: &Descr, literals: &[Literal], block: &mut [u8]) -> Result<(), Refusal>
     requires whole { length block.old ≡ length literals.now * item_size descr.now }
     ensures value { MatchResult result

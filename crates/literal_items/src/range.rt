@@ -15,7 +15,8 @@ use std::alloc::Global;
 /// The most numbers that a range may have.
 const MAX_NUMBERS: u128 = 1 << 24;
 
-/// How far the stop is from the start, as the step goes.
+/// The distance from the start to the stop in the direction of the step, or 0 if the stop is not
+/// ahead.
 fn distance(start: &i128, stop: &i128, step: &i128) -> u128
     ensures gap { IsGap result start.now stop.now step.now }
     ensures start_fits { FitsSigned w128 start.now }
@@ -80,8 +81,8 @@ fn low_bits(number: &i128) -> u64
     number.rem_euclid(1 << 64) as u64
 }
 
-/// Pushes the first `count` of the numbers start, start + step, .., which are counted by their lowest 64
-/// bits.
+/// Appends the first `count` of the numbers start, start + step, .., which are counted by their
+/// lowest 64 bits.
 fn push_numbers<N: Number, O: Ordered>(
     block: BlockBuilder,
     start: &i128,
@@ -105,7 +106,7 @@ fn push_numbers<N: Number, O: Ordered>(
     block
 }
 
-/// The first `count` of the numbers start, start + step, .., that are to be pushed.
+/// The first `count` of the numbers start, start + step, .., which are to be appended.
 struct Counting<'a> {
     start: &'a i128,
     step: &'a i128,

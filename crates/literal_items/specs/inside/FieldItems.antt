@@ -5,7 +5,7 @@ use Rattle.elem_descr.specs.declared.descr.Descr.TheVariants.{Scalar as ScalarDe
 use Rattle.script_lang.specs.declared.literal.Literal.TheVariants.{Scalar as ScalarOf, Record as RecordOf}
 use Rattle.literal_items.specs.LiteralItems.{is_castable, is_in_range, leaf_value, stand_for, field_values}
 
--- whether a literal stands for one field, and each scalar passes a test at its field
+-- whether a literal matches one field, and each scalar passes a test with its field
 abbrev pub stands_for : (Scalar → ScalarLiteral → Bool) → Descr → Literal → Bool
 stands_for test (ScalarDescr scalar) (ScalarOf literal) = test scalar literal
 stands_for test (RecordDescr structure) (RecordOf literals) = stand_for test structure.fields literals
@@ -23,11 +23,11 @@ field_value (ScalarDescr scalar) (ScalarOf literal) = leaf_value scalar literal 
 field_value (RecordDescr structure) (RecordOf literals) = field_values structure.fields literals
 field_value _ _ = []
 
--- bytes in place of as many
+-- the item with the `width` bytes at offset `at` replaced by these bytes
 abbrev pub put : ℕ → ℕ → List ℕ → List ℕ → List ℕ
 put at width bytes item = take at item ++ (bytes ++ drop width (drop at item))
 
--- the bytes of an item, with those of leaves at their offsets
+-- the bytes of an item, with the values of leaves written at their offsets
 abbrev pub put_leaves : List ℕ → List Leaf → List LeafValue → List ℕ
 put_leaves item (leaf ∷ leaves) (value ∷ values) = put_leaves (put leaf.at (size leaf.scalar) (encode leaf.scalar value) item) leaves values
 put_leaves item _ _ = item

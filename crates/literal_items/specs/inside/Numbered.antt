@@ -2,6 +2,6 @@
 use Rattle.std.specs.Prelude.{ℕ, ℤ, pos, ◌+ℤ◌, ◌*ℤ◌, List}
 use Rattle.literal_items.specs.Words.{Scalar, encode, number}
 
--- those of start + k * step
+-- the bytes of start + k * step
 abbrev pub numbered : Scalar → ℤ → ℤ → ℕ → List ℕ
 numbered scalar start step k = encode scalar (number (start +ℤ step *ℤ pos k))

@@ -3,7 +3,7 @@ use Rattle.literal_items.specs.Words.{total, listed, weight, all_values}
 use Rattle.literal_items.specs.LiteralItems.{can_hold, are_in_range}
 use Rattle.literal_items.proofs.literal_item.+are_in_range.Given as goal
 
--- it is for the fields that are left to say, and they can hold their literals
+-- the remaining fields decide the answer, and they can hold their literals
 abbrev pub invariant-are_in_range-loop-k : goal.invariant-are_in_range-loop-k
 invariant-are_in_range-loop-k l = record {
   castable : can_hold (listed (drop l.k l.fields)) (all_values (drop l.k l.literals)) ≡ true;

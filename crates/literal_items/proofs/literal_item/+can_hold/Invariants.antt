@@ -3,7 +3,7 @@ use Rattle.literal_items.specs.Words.{total, listed, weight, all_values}
 use Rattle.literal_items.specs.LiteralItems.{can_hold}
 use Rattle.literal_items.proofs.literal_item.+can_hold.Given as goal
 
--- it is for the fields that are left to say
+-- the remaining fields decide the answer
 abbrev pub invariant-can_hold-loop-k : goal.invariant-can_hold-loop-k
 invariant-can_hold-loop-k l = can_hold (listed (drop l.k l.fields)) (all_values (drop l.k l.literals)) ≡ can_hold (listed l.fields) (all_values l.literals)
 

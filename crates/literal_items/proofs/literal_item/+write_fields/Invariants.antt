@@ -4,7 +4,7 @@ use Rattle.literal_items.specs.LiteralItems.{can_hold}
 use Rattle.literal_items.proofs.Fields.{put_fields}
 use Rattle.literal_items.proofs.literal_item.+write_fields.Given as goal
 
--- with the fields that are left the item is as it is to be, and they can hold their literals
+-- the remaining fields complete the item, and they can hold their literals
 abbrev pub invariant-write_fields-loop-k : goal.invariant-write_fields-loop-k
 invariant-write_fields-loop-k l = record {
   castable : can_hold (listed (drop l.k l.fields)) (all_values (drop l.k l.literals)) ≡ true;

@@ -3,7 +3,7 @@ use Rattle.literal_items.specs.LiteralItems.{leaf_value}
 use Rattle.literal_items.specs.inside.FieldItems.{put_leaves}
 use Rattle.literal_items.proofs.literal_item.write_leaves.Given as goal
 
--- with the leaves that are left the item is as it is to be
+-- the remaining leaves complete the item
 abbrev pub invariant-loop-leaf : goal.invariant-loop-leaf
 invariant-loop-leaf l =
     put_leaves l.item (drop l.leaf-index l.leaves) (map (λ leaf. leaf_value leaf.scalar l.literal) (drop l.leaf-index l.leaves))

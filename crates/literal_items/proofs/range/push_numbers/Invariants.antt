@@ -3,7 +3,7 @@ use Rattle.literal_items.specs.Words.{low_bits, joined}
 use Rattle.literal_items.specs.inside.Numbered.{numbered}
 use Rattle.literal_items.proofs.range.push_numbers.Given as goal
 
--- the numbers so far are pushed, and the lowest bits of the next one are at hand
+-- the numbers so far are appended, and the lowest bits of the next one are known
 abbrev pub invariant-loop-done : goal.invariant-loop-done
 invariant-loop-done g l = record {
   bits : l.bits ≡ low_bits 8 (l.fn.start +ℤ l.fn.step *ℤ pos l._done);
