@@ -1,4 +1,4 @@
--- The first name after another one, as a list of files is gone through.
+-- The first name after another one, found by going through a list of files.
 use Rattle.std.proofs.Common.{◌≡◌, ◌<◌, ◌≤◌, ◌+◌, ℕ, zero, suc, Bool, true, false, List, [], ◌∷◌, map, length, refl, sym, ap, subst, ◌∙◌, cond, Option, Some, None, IsSome, MatchOption, arith, ◌⊎◌, inl, inr, is_some}
 use Rattle.std.proofs.Math.Nat.{eq-or-lt_of_le}
 use Rattle.std.specs.Ordering.{nat_cmp, is_lt, eq_by_cmp, ordering_reverse}
@@ -30,7 +30,7 @@ not_itself a =
     let e = is-Less (slice_cmp nat_cmp a a) before in
     true≢false (sym before ∙ ap is_lt (nat_list_cmp_total.antisymm a a) ∙ ap (λ o. is_lt (ordering_reverse o)) e))
 
--- ---- one place more
+-- ---- one more place
 
 file_or : StoredFile → Option StoredFile → StoredFile
 file_or file None = file
@@ -65,7 +65,7 @@ module _ (files : List StoredFile) (after : List ℕ) (count : ℕ) (name : List
         ],
   )
 
-  -- what tells whether the name comes before the best so far
+  -- the answer is whether the name comes before the best so far
   abbrev pub Tells : Option ℕ → Bool → Type 0
   Tells best answer = MatchOption best (answer ≡ true) (λ place. (first : List ℕ) → IsNamed files place first → answer ≡ comes_before name first)
 
@@ -83,7 +83,7 @@ module _ (files : List StoredFile) (after : List ℕ) (count : ℕ) (name : List
         ],
   )
 
-  -- it is the first so far
+  -- the name is the first so far
   pub taken : comes_before after name ≡ true → (best : Option ℕ) (answer : Bool) → answer ≡ true → Tells best answer → IsFirstOf files after count best → IsFirstOf files after (count + 1) (Some count)
   taken after_it None answer so tells old = (
     name,

@@ -3,7 +3,7 @@ use Rattle.std.proofs.Common.{◌≡◌, ◌≤◌, ◌+◌, ◌-◌, ◌++◌, 
 use Rattle.std.proofs.lemmas.List.{take_at, length-take-le, append-nil, nil_from_length}
 use borrow.Rule.Slice.PartMut.{put_mid}
 
--- a piece is put in place of the end of some bytes, and the first of its bytes were read
+-- a piece replaces the end of some bytes, and the first of its bytes were read
 module _ (bytes piece rest next : List ℕ) (at count : ℕ) (within : at ≤ length bytes) (long : length piece ≡ length bytes - at) (few : count ≤ length piece) (taken : rest ≡ take count piece ++ next) where
   abbrev tail : List ℕ
   tail = drop (length bytes - at) (drop at bytes)
@@ -23,7 +23,7 @@ module _ (bytes piece rest next : List ℕ) (at count : ℕ) (within : at ≤ le
       same ∙ ap (λ r. take at bytes ++ r) taken ∙ sym (append_assoc (take at bytes) (take count piece) next)
       ∙ ap (λ l. l ++ next) (sym (ap (take (at + count)) cut ∙ take_at front (drop count piece ++ tail) (at + count) size))
 
--- bytes of which as many are there as were to come
+-- once the expected number of bytes is there, none is left
 pub none_left : (filled new rest next : List ℕ) (len : ℕ) → filled ++ rest ≡ new ++ next → length filled + length rest ≡ len → length new ≡ len → length next ≡ 0
 none_left filled new rest next len read told whole = omega (arith, ap length read, length-append filled rest, length-append new next, told, whole)
 

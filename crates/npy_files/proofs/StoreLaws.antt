@@ -1,4 +1,4 @@
--- Files in memory: what is found by a name, also after a file is put there.
+-- Files in memory: what is found by a name, and also after a file is put there.
 use Rattle.std.proofs.Common.{◌≡◌, ◌<◌, ◌≤◌, ◌+◌, ℕ, zero, suc, Bool, true, false, List, [], ◌∷◌, ◌++◌, map, length, refl, sym, ap, ◌∙◌, cond, not, Some, None, slice_set, get_or, arith, position, is_some, nat_lt}
 use Rattle.std.specs.Cmp.Lexicographic.{slice_cmp, texts_ties, nat_list_cmp_total}
 use Rattle.std.specs.FinMap.{get, insert, find, from_entries, get-from_entries, get-insert, same_map, from_entries_push, IsAntisymmetric, nat_cmp-IsAntisymmetric, slice_cmp-IsAntisymmetric}
@@ -61,7 +61,7 @@ absent q files =
 pub present : (q : List ℕ) (files : List StoredFile) (k : ℕ) (none : StoredFile) → position (is_called q) files ≡ Some k → get (files_of files) q ≡ Some (get_or files k none).bytes.items
 present q files k none e = get-from_entries nat_list_cmp_total (map named_bytes files) q ∙ find-first q files k none (first q files k none e)
 
--- a test that comes again, and two that do not both hold
+-- a repeated test, and two tests that exclude each other
 shadowed : {A : Type 0} (b : Bool) (x y z : A) → cond b x z ≡ cond b x (cond b y z)
 shadowed true x y z = refl
 shadowed false x y z = refl
@@ -95,7 +95,7 @@ find-put q r (f ∷ files) (suc k) none new is same =
 pub exact : IsAntisymmetric (slice_cmp nat_cmp)
 exact = slice_cmp-IsAntisymmetric nat_cmp-IsAntisymmetric
 
--- the files of a name written over
+-- the files after one was overwritten
 pub overwritten : (q : List ℕ) (files : List StoredFile) (k : ℕ) (none new : StoredFile) → position (is_called q) files ≡ Some k → new.name ≡ (get_or files k none).name → files_of (slice_set files k new) ≡ insert (files_of files) q new.bytes.items
 overwritten q files k none new at same =
     same_map nat_list_cmp_total exact _ _ (λ r.
@@ -104,7 +104,7 @@ overwritten q files k none new at same =
     ∙ ap (cond (eq_by_cmp (slice_cmp nat_cmp) r q) (Some new.bytes.items)) (sym (get-from_entries nat_list_cmp_total (map named_bytes files) r))
     ∙ sym (get-insert nat_list_cmp_total (files_of files) q new.bytes.items r))
 
--- and one more
+-- the files after one was added
 pub added : (files : List StoredFile) (new : StoredFile) → position (is_called new.name.items) files ≡ None → files_of (files ++ new ∷ []) ≡ insert (files_of files) new.name.items new.bytes.items
 added files new none =
     ap from_entries (map-append named_bytes files (new ∷ []))

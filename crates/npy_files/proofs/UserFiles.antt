@@ -1,4 +1,4 @@
--- The files that a user sees of a folder.
+-- The files that a user sees in a folder.
 use Rattle.std.proofs.Common.{◌≡◌, ◌≢◌, ℕ, Bool, true, false, List, Option, Some, None, Ok, Err, Result, IsTrue, cond, refl, sym, ap, ◌∙◌, subst}
 use Rattle.std.specs.Cmp.Lexicographic.{texts_ties, nat_list_cmp_total}
 use Rattle.std.specs.FinMap.{empty, get, insert, get-retain_keys, get-insert, same_map}
@@ -31,7 +31,7 @@ pub user_reads : {V : Type 0} (view : V → List ℕ) (files : Files) (name : Li
     → IsRead view limit (get files name) result → IsRead view limit (get (user_files files) name) result
 user_reads view files name limit result user read = subst (λ there. IsRead view limit there result) (sym (user_file files name user)) read
 
--- a name that changes nowhere below changes nowhere above
+-- a name that does not change on the disk does not change for the user
 kept : (old new : Files) (name : List ℕ) → (IsTrue (is_user_name name) → get new name ≡ get old name) → get (user_files new) name ≡ get (user_files old) name
 kept old new name same =
     elim (is_user_name name) as (λ b. is_user_name name ≡ b → get (user_files new) name ≡ get (user_files old) name) [
@@ -51,7 +51,7 @@ replaced name bytes old new user put =
           | false ↦ λ no. kept old new other (λ seen. put.others other seen (λ same. true≢false (sym (ties other name same) ∙ no)))
         ] refl
 
--- the shelf of a folder whose disk is honest
+-- the store of a folder whose disk is honest
 abbrev pub plain_shelf : Files → ℕ → ℕ → Bool → StoreState
 plain_shelf files faults limit honest = record { files = user_files files; failures = faults; limit = limit; honest = honest }
 
@@ -65,7 +65,7 @@ failed name bytes old new faults limit honest Memory user short put = same_map n
       | false ↦ λ no. put.others other seen (λ same. true≢false (sym (ties other name same) ∙ no))
     ] refl))
 
--- what is told of an honest disk's files
+-- a write to the files of an honest disk is a write to the store
 pub told_written : (honest : Bool) (old new : Files) (faults limit : ℕ) (name bytes : List ℕ) (result : Result (Unit {0}) StoreFault) → honest ≡ true
     → IsWritten (plain_shelf old faults limit honest) name bytes result (user_files new) → IsWritten (folder_shelf old faults limit honest) name bytes result (cond honest (user_files new) empty)
 told_written true old new faults limit name bytes result honest written = written
@@ -76,12 +76,12 @@ pub told_read : {V : Type 0} (view : V → List ℕ) (honest : Bool) (files : Fi
 told_read view true files name limit result honest read = read
 told_read view false files name limit result honest read = absurd (true≢false (sym honest))
 
--- files that stay
+-- files that do not change
 pub told_same : (honest : Bool) (old new : Files) → (IsTrue honest → new ≡ old) → cond honest (user_files new) empty ≡ cond honest (user_files old) empty
 told_same true old new same = ap user_files (same refl)
 told_same false old new same = refl
 
--- what is written in a folder leaves all other names
+-- a write to one name leaves all other names as they were
 insert-others : (files : Files) (name bytes other : List ℕ) → other ≢ name → get (insert files name bytes) other ≡ get files other
 insert-others files name bytes other far =
     get-insert nat_list_cmp_total files name bytes other
@@ -90,7 +90,7 @@ insert-others files name bytes other far =
       | false ↦ λ no. refl
     ] refl)
 
--- files with one more, or with one anew
+-- files with one more, or with other bytes in one
 pub insert-kept : (files : Files) (name bytes : List ℕ) (new : Files) → new ≡ insert files name bytes → SameBut name files new
 insert-kept files name bytes new is = λ other far. ap (λ f. get f other) is ∙ insert-others files name bytes other far
 
@@ -100,7 +100,7 @@ written-kept shelf name bytes (Err Device) files written = written
 written-kept shelf name bytes (Err TooLong) files written = written.0
 written-kept shelf name bytes (Err Memory) files written = written
 
--- where nothing is known of the files, none is told
+-- if nothing is known about the files, nothing changes
 nothing-kept : (name : List ℕ) (result : Result (Unit {0}) StoreFault) → IsKept {X = Unit {0}} name result empty empty
 nothing-kept name (Ok done) = λ other far. refl
 nothing-kept name (Err Device) = λ other far. refl

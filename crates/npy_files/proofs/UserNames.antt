@@ -1,4 +1,4 @@
--- What a user sees of a file that was put in place by way of a hidden name.
+-- What a user sees when a file is written under a hidden name, and then put in place.
 use Rattle.std.proofs.Common.{◌≡◌, ◌≢◌, ℕ, List, Some, IsTrue, inl, sym, ◌∙◌, subst}
 use Rattle.std.proofs.lemmas.Bool.{true≢false}
 use Rattle.npy_files.specs.Words.{Files, Same, History, Leaves, Replaces, unmoved, weaker}
@@ -18,6 +18,6 @@ old_or_new hidden name bytes is x y replaced = record {
 pub put_leaves : (hidden name bytes : List ℕ) (a b : History) → hidden ≡ hidden_name name → Leaves (Replaces hidden name (Some bytes)) a b → Leaves (OldOrNew name bytes) a b
 put_leaves hidden name bytes a b is = weaker (Replaces hidden name (Some bytes)) (OldOrNew name bytes) a b (old_or_new hidden name bytes is)
 
--- nor is anything changed by no call at all
+-- without a call, nothing changes
 pub nothing_leaves : (name bytes : List ℕ) (history : History) → Leaves (OldOrNew name bytes) history history
 nothing_leaves name bytes history = weaker Same (OldOrNew name bytes) history history (λ x y same. record { others = λ other user far. same other; whole = λ user. inl (same name) }) (unmoved history)

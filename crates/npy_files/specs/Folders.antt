@@ -8,26 +8,26 @@ use Rattle.npy_files.specs.declared.store.StoreFault.TheVariants as store_fault
 use Rattle.npy_files.specs.Names.{is_user_name}
 use Rattle.npy_files.specs.Stores.{StoreState}
 
--- The store has the files with a user's name, and no other.
+-- the files that the store has: those of the disk with a user's name
 abbrev pub user_files : Files → Files
 user_files files = retain_keys files is_user_name
 
--- the shelf of a folder whose disk has these files, of which nothing is known where the disk is not honest
+-- the store of a folder whose disk has these files. If the disk is not honest, nothing is known about its files.
 abbrev pub folder_shelf : Files → ℕ → ℕ → Bool → StoreState
 folder_shelf files faults limit honest = record { files = cond honest (user_files files) empty; failures = faults; limit = limit; honest = honest }
 
--- Each user's name has what it had, and this one has that, or these bytes, whole.
+-- Each other name of a user has what it had. This name has what it had or these bytes, whole.
 pub record OldOrNew (name bytes : List ℕ) (old new : Files) : Type 0 where
   pub others : (other : List ℕ) → IsTrue (is_user_name other) → other ≢ name → get new other ≡ get old other
   pub whole : IsTrue (is_user_name name) → (get new name ≡ get old name) ⊎ (get new name ≡ Some bytes)
 
--- what the store tells of a fault of its disk
+-- the store's fault for a fault of its disk
 abbrev pub fault_of : DiskFault → StoreFault
 fault_of disk_fault.Failed = store_fault.Device
 fault_of disk_fault.Memory = store_fault.Memory
 
--- What a write leaves on the disk: with Ok the file has these bytes, without memory all is as it was,
--- and no name of a user changes but this one.
+-- What a write leaves on the disk: no other name of a user changes, and this name has what it had or these bytes,
+-- whole. After `Ok` it has these bytes, and if memory ran out it has what it had.
 pub record IsPut (name bytes : List ℕ) (result : Result (Unit {0}) StoreFault) (old new : Files) : Type 0 where
   pub others : (other : List ℕ) → IsTrue (is_user_name other) → other ≢ name → get new other ≡ get old other
   pub whole : (get new name ≡ get old name) ⊎ (get new name ≡ Some bytes)

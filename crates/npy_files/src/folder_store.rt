@@ -55,7 +55,7 @@ fn write_file<D: Disk>(
     Ok(())
 }
 
-/// A count after a fault, which a fault of the device raises.
+/// The count of faults after a fault. A fault of the device raises it.
 fn counted(faults: u64, fault: StoreFault) -> u64
     ensures kept { faults ≤ result }
     ensures raised { fault ≡ Device → calls.HasRisen faults result }
@@ -68,8 +68,8 @@ fn counted(faults: u64, fault: StoreFault) -> u64
 }
 
 impl<D: Disk, C: Cutter> FolderStore<D, C> {
-    /// A store on this disk, whose files have at most `limit` bytes and are cut like this when they
-    /// are read.
+    /// A store on this disk, whose files have at most `limit` bytes and are cut by `cutter` when
+    /// they are read.
     pub fn new(disk: D, cutter: C, limit: usize) -> FolderStore<D, C>
         ensures { ⟦<FolderStore<D, C> as NpyStore>⟧.shelf result
             ≡ folder_shelf (D.files disk) 0 limit D.honest }
@@ -82,7 +82,7 @@ impl<D: Disk, C: Cutter> FolderStore<D, C> {
         }
     }
 
-    /// The disk, for what comes after the store.
+    /// Takes the disk out of the store.
     pub fn into_disk(self) -> D
         ensures { result ≡ self.disk }
     {
@@ -97,8 +97,8 @@ impl<D: Disk, C: Cutter> NpyStore for FolderStore<D, C> {
         self.limit
     }
 
-    /// A fault of the device was one of the disk, and no crash leaves anything but what it might
-    /// have left before.
+    /// A fault of the device is one of the disk, and a crash leaves only what it might have left
+    /// before.
     fn read_parts(&mut self, alloc: Global, name: &[u8]) -> Result<Option<FileParts>, StoreFault>
         ensures same { let shelf = ⟦<FolderStore<D, C> as NpyStore>⟧.shelf in
             IsSameStore (shelf self.old) (shelf self.new) }
@@ -125,9 +125,9 @@ impl<D: Disk, C: Cutter> NpyStore for FolderStore<D, C> {
         }
     }
 
-    /// A fault of the device was one of the disk, but for a name of no file in it. A crash at any
-    /// moment leaves under each name of a user what a crash before might have left, or for this one
-    /// name the new bytes, whole. After `Ok` it leaves the new bytes.
+    /// A fault of the device is one of the disk, unless no file may have this name. A crash at any
+    /// moment leaves under each name of a user what a crash before might have left, or under this
+    /// name the new bytes, whole. After `Ok`, it leaves the new bytes.
     fn write_parts(
         &mut self,
         alloc: Global,

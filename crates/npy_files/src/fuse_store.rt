@@ -21,8 +21,8 @@ pub struct FuseStore {
 impl FuseStore {
     ghost use Rattle.npy_files.specs.Stores.{empty_shelf};
 
-    /// A store without files, of which the call with this number fails, reads and writes counted
-    /// together from 0.
+    /// A store without files. Its call with this number fails. Reads and writes are counted
+    /// together, from 0.
     pub fn new(alloc: Global, limit: usize, failing: usize) -> FuseStore
         ensures shelf { ⟦<FuseStore as NpyStore>⟧.shelf result ≡ empty_shelf limit }
         ensures fuse { result.calls_left ≡ Some failing }

@@ -67,7 +67,7 @@ impl MemStore {
     ghost use Rattle.std.specs.FinMap.{get};
     ghost use Rattle.npy_files.specs.Stores.{empty_shelf, IsNextName};
 
-    /// A store without files, none of which may have more bytes than the limit.
+    /// A store without files, which takes files of at most `limit` bytes.
     pub fn new(alloc: Global, limit: usize) -> MemStore
         ensures { ⟦<MemStore as NpyStore>⟧.shelf result ≡ empty_shelf limit }
     {
@@ -86,9 +86,9 @@ impl MemStore {
         Some(self.files[place].bytes.as_slice())
     }
 
-    /// The first of the files' names that come after this one, in the order of their bytes. All
-    /// names come after the empty one, so that each call with the name before gives them one by
-    /// one.
+    /// The first of the files' names that come after this one, in the order of their bytes. The
+    /// empty name comes before all others, so a call with it, and then with each name that was
+    /// returned, lists all names.
     pub fn next_name(&self, after: &[u8]) -> Option<&[u8]>
         ensures { let files = (⟦<MemStore as NpyStore>⟧.shelf self.now).files in
             MatchOption result (IsNextName files after.now None)

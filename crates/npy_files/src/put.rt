@@ -29,9 +29,9 @@ fn fill<D: Disk>(
     disk.sync(file)
 }
 
-/// Makes a file of two parts that is to take the place of another, and brings its bytes to the
-/// disk. It stays open: while it is, no other program takes it for one that was left. Nothing is
-/// left of it where that fails.
+/// Makes a file of two parts that is to replace another, and syncs its bytes to the disk. The file
+/// stays open: while it is, no other program takes it for a leftover. If this fails, the file is
+/// removed again, unless the disk cannot do that either.
 fn stage<D: Disk>(
     disk: &mut D,
     name: &[u8],
@@ -57,7 +57,8 @@ fn stage<D: Disk>(
     }
 }
 
-/// Gives a file whose bytes are on the disk another name. Nothing is left of it where that fails.
+/// Renames a file whose bytes are on the disk. If this fails, the file is removed, unless the disk
+/// cannot do that either.
 fn take_place<D: Disk>(disk: &mut D, from: &[u8], to: &[u8]) -> Result<(), DiskFault>
     requires apart { to.now ≢ from.now }
     requires synced { IsTrue D.honest → D.Synced disk.old from.now }
@@ -83,8 +84,7 @@ fn take_place<D: Disk>(disk: &mut D, from: &[u8], to: &[u8]) -> Result<(), DiskF
     }
 }
 
-/// Puts a file of two parts in place of the one with this name. A crash leaves the one or the
-/// other.
+/// Replaces the file with this name by a file of two parts. A crash leaves one or the other.
 pub(crate) fn put<D: Disk>(
     disk: &mut D,
     hidden: &[u8],

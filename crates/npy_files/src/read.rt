@@ -14,8 +14,8 @@ use std::alloc::Global;
 /// The most bytes that are read at a time.
 const PIECE: usize = 1 << 16;
 
-/// Fills bytes from `start` on with the next ones of a file. If the file ends before that, it is a
-/// fault: the file has become shorter.
+/// Fills bytes from `start` on with the next ones of a file. If the file ends before that, it has
+/// become shorter, and that is a fault.
 fn fill<D: Disk>(
     disk: &mut D,
     file: &mut D::File,
@@ -71,8 +71,8 @@ fn fill_piece<D: Disk>(
     fill(disk, file, block.bytes_mut(), start)
 }
 
-/// Fills the rest of a block of `len` bytes, piece by piece: what a piece held is written over
-/// while it is near.
+/// Fills the rest of a block of `len` bytes, piece by piece, so that the zeros of a piece are
+/// overwritten while they are near.
 fn fill_rest<D: Disk>(
     disk: &mut D,
     file: &mut D::File,
@@ -100,7 +100,7 @@ fn fill_rest<D: Disk>(
     Ok(())
 }
 
-/// If the file goes on, it is a fault: the file has become longer.
+/// Expects the end of the file. If the file goes on, it has become longer, and that is a fault.
 fn expect_end<D: Disk>(disk: &mut D, file: &mut D::File) -> Result<(), StoreFault>
     requires current { IsTrue D.honest → D.IsCurrent disk.old file.old }
     requires told { IsTrue D.honest → length (D.rest_of file.old) ≡ 0 }
@@ -242,15 +242,16 @@ pub(crate) fn read_file<D: Disk, C: Cutter>(
     }
 }
 
-/// Where a file is cut in two when it is read. Wherever that is, the two parts make the same file.
+/// Decides where a file is cut in two when it is read. Wherever that is, the two parts together
+/// are the same file.
 pub trait Cutter: Drop {
     /// How many bytes go to the front part of a file that begins with these, of which there are at
     /// most 2^16 (fewer only if the file has no more). A greater number means all of them.
     fn front_len(&self, first: &[u8]) -> usize;
 }
 
-/// Cuts NPY files after their headers, so that the second part is the items, and other files in
-/// front of their first byte.
+/// Cuts NPY files after their headers, so that the second part is the items. Other files are cut
+/// before their first byte.
 #[derive(Clone, Copy)]
 pub struct HeaderCutter;
 

@@ -62,9 +62,9 @@ pub(crate) fn is_longer(front: usize, items: usize, limit: usize) -> bool
     front > limit || items > limit - front
 }
 
-/// Where files are kept under their names. Its contracts see a store as its shelf. What a read
-/// gives, what a name has after a write and when a file is too long is said of an honest store
-/// alone.
+/// A store of files by their names. Its contracts describe a store by its `shelf`. Only of an
+/// honest store do they say what a read returns, what a name has after a write, and when a file is
+/// too long.
 pub trait NpyStore {
     ghost shelf: { Self → StoreState };
 
@@ -81,8 +81,8 @@ pub trait NpyStore {
         ensures found { ReadsFile (λ parts. parts.front.items ++ parts.block)
             (shelf self.old) name.now result };
 
-    /// Writes the file that has these bytes in front and these items after them, over the one with
-    /// this name if there is one.
+    /// Writes a file that consists of these two parts, over the one with this name if there is
+    /// one.
     fn write_parts(
         &mut self,
         alloc: Global,
@@ -96,7 +96,7 @@ pub trait NpyStore {
         ensures written { WritesFile (shelf self.old) name.now (front.now ++ items.now) result
             (shelf self.new) };
 
-    /// The bytes of the file that `read_parts` gives.
+    /// The bytes of the file that `read_parts` returns.
     fn read(&mut self, alloc: Global, name: &[u8]) -> Result<Option<Vec<u8>>, StoreFault>
         ensures same { IsSameStore (shelf self.old) (shelf self.new) }
         ensures files { (shelf self.new).files ≡ (shelf self.old).files }

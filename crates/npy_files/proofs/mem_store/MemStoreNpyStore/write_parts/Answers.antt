@@ -28,7 +28,7 @@ returns-clause-written c = λ _.
       omega (arith, within, length-append c.args.front.now c.args.items.now),
     )
 
--- a file with this name, and no other, has changed
+-- only the file with this name has changed
 pub returns-in-Some-clause-kept : goal.returns-in-Some-clause-kept
 returns-in-Some-clause-kept c =
     let files = c.args.self.now.files.items in
