@@ -11,23 +11,25 @@ use Rattle.bench_c.specs.declared.open_bench.OpenBench.{OpenBench}
 use Rattle.bench_c.specs.declared.status.Status.{Status}
 use Rattle.bench_c.specs.declared.status.Status.TheVariants.{Done, Refused, Silent, NoMemory, TooLong, NoFile, NoRoom, Invalid}
 
--- the names and the files of a bench
+-- the world of the machine: the state and the files of a bench
 abbrev pub world_of : OpenBench → World
 world_of bench = world bench.bench.state (mem_store.ghosts.shelf bench.files)
 
--- No name is bound, there are no files, and `depth` earlier states are kept.
+-- No name is bound, there are no files and no reply, up to `depth` earlier states are kept, and a file may have at most
+-- 2^29 bytes.
 pub record IsJustOpened (depth : ℕ) (bench : OpenBench) : Type 0 where
   pub names : bench.bench.state ≡ start depth
   pub files : mem_store.ghosts.shelf bench.files ≡ empty_shelf (2 ^ 29)
   pub reply : bench.reply ≡ []
 
--- whether a line was accepted, refused, or asks for nothing
+-- the status of a line that was accepted, was refused, or asks for nothing
 abbrev pub line_status : Option Bool → Status
 line_status None = Silent
 line_status (Some true) = Done
 line_status (Some false) = Refused
 
--- The machine may answer the line so, and its reply is kept. For want of memory alone the machine may refuse it, with nothing changed.
+-- The machine may answer the line like this, and the bench keeps the reply. If memory runs out, the machine may refuse
+-- the line, with nothing changed.
 pub record AnswersAsMachine (old : OpenBench) (line : List ℕ) (new : OpenBench) (status : Status) : Type 0 where
   pub accepted : Option Bool
   pub says : status ≡ line_status accepted
@@ -35,13 +37,14 @@ pub record AnswersAsMachine (old : OpenBench) (line : List ℕ) (new : OpenBench
   pub reply : Tells replies accepted new.reply
   pub step : AnswersLine (world_of old) line (world_of new) replies
 
--- Bytes are copied to the front of where there is room for them, and else nothing is. Their number is set.
+-- If the bytes fit, they are copied to the front of the caller's bytes, and otherwise nothing is copied. `len` is set
+-- to their number in both cases.
 pub record CopiesOut (bytes old new : List ℕ) (len : ℕ) (status : Status) : Type 0 where
   pub number : len ≡ length bytes
   pub whole : length bytes ≤ length old → (status ≡ Done) × (new ≡ bytes ++ drop (length bytes) old)
   pub short : length old < length bytes → (status ≡ NoRoom) × (new ≡ old)
 
--- Bytes are copied as above if there are any; if not, their number is 0.
+-- The same if there are such bytes. If there are none, nothing is copied, and `len` is set to 0.
 abbrev pub CopiesOutIfAny : Option (List ℕ) → List ℕ → List ℕ → ℕ → Status → Type 0
 CopiesOutIfAny (Some bytes) old new len status = CopiesOut bytes old new len status
 CopiesOutIfAny None old new len status = (status ≡ NoFile) × (new ≡ old) × (len ≡ 0)
@@ -50,7 +53,7 @@ CopiesOutIfAny None old new len status = (status ≡ NoFile) × (new ≡ old) ×
 abbrev pub with_file : StoreState → List ℕ → List ℕ → StoreState
 with_file shelf name bytes = record shelf { files = insert shelf.files name bytes }
 
--- what a store holds once a file was to be put there
+-- the store after a call to put a file there, for each status
 abbrev pub PutsInStore : StoreState → List ℕ → List ℕ → StoreState → Status → Type 0
 PutsInStore old name bytes new Done = (new ≡ with_file old name bytes) × (length bytes ≤ old.limit)
 PutsInStore old name bytes new TooLong = (new ≡ old) × (old.limit < length bytes)
@@ -58,7 +61,7 @@ PutsInStore old name bytes new NoMemory = new ≡ old
 PutsInStore old name bytes new Invalid = (new ≡ old) × (name ≡ [])
 PutsInStore old name bytes new status = ⊥
 
--- A file is put among the files, and nothing else changes.
+-- A file is put in the store, or is refused, and nothing else changes.
 pub record PutsFile (old : OpenBench) (name bytes : List ℕ) (new : OpenBench) (status : Status) : Type 0 where
   pub bench : new.bench ≡ old.bench
   pub reply : new.reply ≡ old.reply

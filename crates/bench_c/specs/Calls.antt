@@ -1,4 +1,4 @@
--- What the calls of C do to a handle, and which numbers they give back.
+-- What the calls from C do to a handle, and which numbers they return.
 use Rattle.std.specs.Prelude.{◌≡◌, ◌⊎◌, ◌<◌, ℕ, List, Option, Some, None}
 use Rattle.std.specs.FinMap.{get}
 use Rattle.npy_files.specs.Stores.{IsNextName}
@@ -8,11 +8,11 @@ use Rattle.bench_c.specs.declared.status.Status.TheVariants.{Done, NoMemory, Inv
 use Rattle.bench_c.specs.Statuses.{code_of}
 use Rattle.bench_c.specs.Benches.{world_of, IsJustOpened, AnswersAsMachine, CopiesOut, CopiesOutIfAny, PutsFile}
 
--- a number that stands for a status of which this is true
+-- the number is the code of a status for which this is true
 abbrev pub StandsFor : (Status → Type 0) → ℕ → Type 0
 StandsFor IsTrueOf code = (status : Status) × (code ≡ code_of status) × IsTrueOf status
 
--- a bench stands open, or there is none where its depth is not valid or no memory was found
+-- The bench is open; or there is none, because the depth is invalid or memory ran out.
 abbrev pub Opens : ℕ → Option OpenBench → ℕ → Type 0
 Opens depth (Some bench) code = IsJustOpened depth bench × (code ≡ code_of Done)
 Opens depth None code = ((64 < depth) × (code ≡ code_of Invalid)) ⊎ (code ≡ code_of NoMemory)
@@ -22,22 +22,22 @@ abbrev pub AnswersBehind : Option OpenBench → List ℕ → Option OpenBench �
 AnswersBehind (Some old) line (Some new) code = StandsFor (AnswersAsMachine old line new) code
 AnswersBehind old line new code = ⊥
 
--- It has a file put among its files.
+-- The bench behind an open handle puts a file in its store.
 abbrev pub PutsBehind : Option OpenBench → List ℕ → List ℕ → Option OpenBench → ℕ → Type 0
 PutsBehind (Some old) name bytes (Some new) code = StandsFor (PutsFile old name bytes new) code
 PutsBehind old name bytes new code = ⊥
 
--- It gives its reply.
+-- The bench behind an open handle copies out its reply.
 abbrev pub GivesReply : Option OpenBench → List ℕ → List ℕ → ℕ → ℕ → Type 0
 GivesReply (Some bench) old new len code = StandsFor (CopiesOut bench.reply old new len) code
 GivesReply None old new len code = ⊥
 
--- It gives the bytes of the file with a name.
+-- It copies out the bytes of the file with this name.
 abbrev pub GivesFile : Option OpenBench → List ℕ → List ℕ → List ℕ → ℕ → ℕ → Type 0
 GivesFile (Some bench) name old new len code = StandsFor (CopiesOutIfAny (get (world_of bench).shelf.files name) old new len) code
 GivesFile None name old new len code = ⊥
 
--- It gives the first of its files' names after this one.
+-- It copies out the first of its files' names after this one.
 abbrev pub GivesNextName : Option OpenBench → List ℕ → List ℕ → List ℕ → ℕ → ℕ → Type 0
 GivesNextName (Some bench) after old new len code =
     (next : Option (List ℕ)) × IsNextName (world_of bench).shelf.files after next × StandsFor (CopiesOutIfAny next old new len) code

@@ -1,4 +1,4 @@
--- The numbers that stand for statuses in C.
+-- The number of each status in C.
 use Rattle.std.specs.Prelude.{ℕ}
 use Rattle.bench_c.specs.declared.status.Status.{Status}
 use Rattle.bench_c.specs.declared.status.Status.TheVariants.{Done, Refused, Silent, NoMemory, TooLong, NoFile, NoRoom, Invalid}

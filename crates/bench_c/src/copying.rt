@@ -5,7 +5,7 @@ ghost use Rattle.bench_c.specs.Benches.{CopiesOut, CopiesOutIfAny};
 
 use crate::status::Status;
 
-/// Copies bytes to where there is room for them, and sets their number.
+/// Copies bytes to `out` if they fit, and sets `len` to their number in any case.
 pub fn copy_out(bytes: &[u8], out: &mut [u8], len: &mut usize) -> Status
     ensures { CopiesOut bytes.now out.old out.new len.new result }
 {
@@ -18,7 +18,7 @@ pub fn copy_out(bytes: &[u8], out: &mut [u8], len: &mut usize) -> Status
     Status::Done
 }
 
-/// Copies bytes to where there is room for them, if there are any, and sets their number, else 0.
+/// The same if there are such bytes. Otherwise, `len` is set to 0.
 pub fn copy_if_any(bytes: Option<&[u8]>, out: &mut [u8], len: &mut usize) -> Status
     ensures { CopiesOutIfAny (option_map (λ b. b.now) bytes.entry) out.old out.new len.new result }
 {

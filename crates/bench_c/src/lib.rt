@@ -1,7 +1,7 @@
 //! The bench for C: a bench with its files in memory, behind a handle, and a call for each line.
 //!
-//! `library/bench.c` makes these calls, and first checks what they require: that no pointer is null, and that the
-//! handle is open. `library/bench.h` documents the library.
+//! `library/bench.c` makes these calls, and first checks what they require: that no pointer is
+//! null, and that the handle is open. `library/bench.h` documents the library.
 #![tactic(auto)]
 
 ghost use Rattle.std.specs.Prelude.{◌≡◌, ◌≤◌, ◌++◌, IsSome, IfOk, None};
@@ -23,7 +23,7 @@ use std::mem;
 /// The most earlier states that a bench keeps.
 const MAX_DEPTH: usize = 64;
 
-/// A bench that keeps so many earlier states, on the heap.
+/// A bench on the heap that keeps up to `depth` earlier states.
 fn opened(alloc: Global, depth: usize) -> Result<Box<OpenBench>, AllocError>
     requires { depth ≤ 64 }
     ensures { IfOk result (λ bench. IsJustOpened depth bench.value) }
@@ -31,7 +31,8 @@ fn opened(alloc: Global, depth: usize) -> Result<Box<OpenBench>, AllocError>
     Ok(Box::new(alloc, OpenBench::new(alloc, depth)?)?)
 }
 
-/// Opens a bench that keeps so many earlier states, at most 64. What the handle held is not closed.
+/// Opens a bench that keeps up to `depth` earlier states, which may be at most 64. What the handle
+/// held before is not closed.
 #[unsafe(no_mangle)]
 pub extern "C" fn bench_c_open(alloc: Global, depth: usize, handle: &mut Handle) -> u8
     ensures { Opens depth handle.new.value result }
@@ -61,7 +62,8 @@ pub extern "C" fn bench_c_answer(alloc: Global, handle: &mut Handle, line: &[u8]
     status.code()
 }
 
-/// Copies the reply to the last line where there is room for all of it, and sets its length.
+/// Copies the reply to the last line if there is room for all of it, and sets its length in any
+/// case.
 #[unsafe(no_mangle)]
 pub extern "C" fn bench_c_reply(
     alloc: Global,
@@ -79,8 +81,8 @@ pub extern "C" fn bench_c_reply(
     status.code()
 }
 
-/// Puts a file where `load` finds it, over the one with this name if there is one. It has these bytes in front, and
-/// these items behind them.
+/// Puts a file where `load` finds it, over the one with this name if there is one. Its bytes are
+/// `front`, and after them `items`.
 #[unsafe(no_mangle)]
 pub extern "C" fn bench_c_put(
     alloc: Global,
@@ -99,7 +101,7 @@ pub extern "C" fn bench_c_put(
     status.code()
 }
 
-/// Copies the bytes of a file where there is room for all of them, and sets their number.
+/// Copies the bytes of a file if there is room for all of them, and sets their number in any case.
 #[unsafe(no_mangle)]
 pub extern "C" fn bench_c_get(
     alloc: Global,
@@ -118,8 +120,8 @@ pub extern "C" fn bench_c_get(
     status.code()
 }
 
-/// Copies the first of the files' names that come after this one, in the order of their bytes, where there is
-/// room for it, and sets its length. All names come after the empty one.
+/// Copies the first of the files' names that come after this one, in the order of their bytes, if
+/// there is room for it, and sets its length in any case. All names come after the empty one.
 #[unsafe(no_mangle)]
 pub extern "C" fn bench_c_file(
     alloc: Global,
@@ -138,7 +140,7 @@ pub extern "C" fn bench_c_file(
     status.code()
 }
 
-/// Closes a bench: its names, arrays and files are dropped, and the handle holds none.
+/// Closes a bench: its names, arrays and files are dropped, and the handle then holds no bench.
 #[unsafe(no_mangle)]
 pub extern "C" fn bench_c_close(alloc: Global, handle: &mut Handle)
     requires { IsSome handle.old.value }

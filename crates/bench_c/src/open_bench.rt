@@ -20,7 +20,7 @@ pub struct OpenBench {
 }
 
 impl OpenBench {
-    /// A bench that keeps so many earlier states, with no names and no files.
+    /// A bench that keeps up to `depth` earlier states, without names and files.
     pub fn new(alloc: Global, depth: usize) -> Result<OpenBench, AllocError>
         requires { depth ≤ 64 }
         ensures { IfOk result (IsJustOpened depth) }
@@ -51,8 +51,8 @@ impl OpenBench {
         copy_out(self.reply.as_slice(), out, len)
     }
 
-    /// Puts a file where `load` finds it, over the one with this name if there is one. It has these bytes in front,
-    /// and these items behind them.
+    /// Puts a file where `load` finds it, over the one with this name if there is one. Its bytes
+    /// are `front`, and after them `items`.
     pub fn put(&mut self, alloc: Global, name: &[u8], front: &[u8], items: &[u8]) -> Status
         ensures { PutsFile self.old name.now (front.now ++ items.now) self.new result }
     {

@@ -2,29 +2,29 @@
 ghost use Rattle.std.specs.Prelude.{◌≡◌};
 ghost use Rattle.bench_c.specs.Statuses.{code_of};
 
-/// What a call came to.
+/// The outcome of a call.
 #[derive(Clone, Copy)]
 pub enum Status {
-    /// It is done; of a line, its command was accepted.
+    /// The call succeeded. If it was a line, its command was accepted.
     Done,
     /// The line was refused.
     Refused,
     /// The line asks for nothing.
     Silent,
-    /// No memory was found, and neither names nor files have changed.
+    /// There was not enough memory, and neither names nor files have changed.
     NoMemory,
     /// The file would have more bytes than a file may have.
     TooLong,
     /// There is no such file.
     NoFile,
-    /// There is not room for all bytes, and none was written.
+    /// There is no room for all bytes, and none was written.
     NoRoom,
-    /// An argument is not valid.
+    /// An argument is invalid.
     Invalid,
 }
 
 impl Status {
-    /// The number that stands for it in C.
+    /// The number of the status in C.
     pub fn code(self) -> u8
         ensures { result ≡ code_of self }
     {
