@@ -1,4 +1,4 @@
--- What a disk with a cache finds, and how crashes go on from one event to the next.
+-- What a disk with a cache finds, and what crashes leave after each event.
 use Rattle.std.proofs.Common.{◌≡◌, ◌≢◌, inl, inr, ⊎_elim, ◌-◌, ◌<◌, ◌≤◌, Bool, true, false, ℕ, suc, List, [], ◌∷◌, length, take, drop, get_or, Option, None, Vec, IsTrue, cond, MatchBool, refl, sym, ap, ◌∙◌, subst, arith}
 use Rattle.std.specs.declared.alloc.Global.{Global}
 use Rattle.std.proofs.lemmas.Grind.{common_steps}
@@ -45,7 +45,7 @@ pub found_nowhere : (rest : List Event) (name : List ℕ) → length rest < 1 �
 found_nowhere [] name none = get-empty (slice_cmp nat_cmp) name
 found_nowhere (first ∷ older) name none = absurd (omega (arith, none))
 
--- One event more: nothing is left that was not before, but for a change.
+-- One more event: a crash leaves what it might have left before, after a change.
 module _ (Change : Files → Files → Type 0) (events : List Event) (event : Event) (stays : (files : Files) → Change files files)
     (steps : (files : Files) → MayStay (event ∷ events) files → (before : Files) × MayStay events before × Change before files) where
   older : (t : ℕ) → t ≤ length events → drop (length (event ∷ events) - t) (event ∷ events) ≡ drop (length events - t) events
@@ -71,7 +71,7 @@ module _ (Change : Files → Files → Type 0) (events : List Event) (event : Ev
     ];
   }
 
--- what a crash leaves after a change, with what was found before it
+-- what a crash leaves after a change, compared with what it might have left before
 module _ (events : List Event) (name : Vec ℕ Global) (bytes : Option (Vec ℕ Global)) (is_whole : Bool) where
   apart : (files : Files) (other : List ℕ) → bytes_eq other name.items ≡ false → MayStay (Changed name bytes is_whole ∷ events) files → MayStand events other (get files other)
   apart files other differs left = when_false _ _ differs (left other)
@@ -108,7 +108,7 @@ module _ (events : List Event) (from : List ℕ) (name : Vec ℕ Global) (bytes 
       ))
       (when_true _ _ ((bytes_eq-Decides name.items name.items).1 refl) (left name.items)))
 
--- what syncs leave
+-- what a crash leaves after a sync
 pub file_synced : (events : List Event) (name : Vec ℕ Global) → Leaves Same (cached_history events) (cached_history (FileSynced name ∷ events))
 file_synced events name = one_event Same events (FileSynced name) (λ files other. refl) (λ files left. (files, left, λ other. refl))
 
@@ -125,7 +125,7 @@ names_synced events = one_event Same events NamesSynced (λ files other. refl) (
 pub has_names : (events : List Event) → HasNames (cached_history (NamesSynced ∷ events)) (λ name. IsTrue (is_synced events name)) (found events)
 has_names events left name may synced = when_true _ _ synced (subst (λ (l : List Event). MayStay l left) (sym (newest (NamesSynced ∷ events))) may name)
 
--- a file that arrives under one name, and is gone under the other
+-- a file arrives under one name, and is gone under the other
 module _ (old new : List Event) (arrived gone : Vec ℕ Global) (bytes : Option (Vec ℕ Global)) (is_whole : Bool) (from to : List ℕ) (distinct : to ≢ from)
     (goes : gone.items ≡ from) (comes : arrived.items ≡ to) (made : Changed gone None true ∷ Changed arrived bytes is_whole ∷ old ≡ new) where
   differ : arrived.items ≢ gone.items
@@ -147,7 +147,7 @@ module _ (old new : List Event) (arrived gone : Vec ℕ Global) (bytes : Option 
     whole = inr (shifted ∙ has);
   }
 
-  -- whatever the disk has of the bytes
+  -- whether or not the bytes are on the disk
   pub shifts_both : Leaves (SameButBoth from to) (cached_history old) (cached_history new)
   shifts_both =
       let both = follows (SameBut arrived.items) (SameBut gone.items) (SameButBoth gone.items arrived.items) (cached_history old) (cached_history (Changed arrived bytes is_whole ∷ old)) (cached_history (Changed gone None true ∷ Changed arrived bytes is_whole ∷ old))
@@ -162,7 +162,7 @@ module _ (old new : List Event) (arrived gone : Vec ℕ Global) (bytes : Option 
       ∙ ap (λ b. cond b true (cond (bytes_eq arrived.items arrived.items) is_whole (is_synced old arrived.items))) (false_from_ne_true _ (λ same. differ ((bytes_eq-Decides arrived.items gone.items).0 same)))
       ∙ ap (λ b. cond b is_whole (is_synced old arrived.items)) ((bytes_eq-Decides arrived.items arrived.items).1 refl)
 
-  -- of bytes that the disk has
+  -- if the bytes are on the disk
   pub shifts_whole : (moved : Option (List ℕ)) → bytes_of_change bytes ≡ moved → is_whole ≡ true → Leaves (Replaces from to moved) (cached_history old) (cached_history new)
   shifts_whole moved has whole =
       let both = then_but gone.items arrived.items (bytes_of_change bytes) differ (cached_history old) (cached_history (Changed arrived bytes true ∷ old)) (cached_history (Changed gone None true ∷ Changed arrived bytes true ∷ old))
@@ -186,7 +186,7 @@ still_both from to = still (SameButBoth from to) (λ x y same other far near. sa
 pub still_in_place : (from to : List ℕ) (moved : Option (List ℕ)) (old new : List Event) → new ≡ old → Leaves (Replaces from to moved) (cached_history old) (cached_history new)
 still_in_place from to moved = still (Replaces from to moved) (λ x y same. record { others = λ other far near. same other; whole = inl (same to) })
 
--- what may stand under one name is left by some crash
+-- each content that a crash may leave under one name is left by some crash
 pub may_be_left : (events : List Event) (name : List ℕ) (left : Option (List ℕ)) → MayStand events name left
     → (files : Files) × MayStay (drop (length events - length events) events) files × (get files name ≡ left)
 may_be_left events name left may = (

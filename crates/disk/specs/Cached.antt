@@ -1,4 +1,4 @@
--- What a disk with a cache finds, and what a crash leaves of it.
+-- A disk with a cache: what a read finds, and what a crash may leave.
 use Rattle.std.specs.Prelude.{◌≡◌, ◌⊎◌, ◌-◌, ◌||◌, ℕ, Bool, true, List, [], ◌∷◌, length, drop, Option, None, MatchBool, cond}
 use Rattle.std.specs.Str.{bytes_eq}
 use Rattle.std.specs.FinMap.{empty, get}
@@ -8,7 +8,7 @@ use Rattle.disk.specs.Files.{Files}
 use Rattle.disk.specs.Crashes.{History}
 use Rattle.disk.specs.Changes.{bytes_of_change, bound}
 
--- the files as a read finds them, after these events, of which the newest comes first
+-- the files as a read finds them, after these events. The newest event comes first.
 abbrev pub found : List Event → Files
 found [] = empty
 found (Changed name bytes is_whole ∷ older) = bound name.items (bytes_of_change bytes) (found older)
@@ -16,7 +16,7 @@ found (FileSynced name ∷ older) = found older
 found (NamesSynced ∷ older) = found older
 found (Restarted ∷ older) = found older
 
--- The bytes of the file with this name are on the disk. The name need not be.
+-- Whether the bytes of the file with this name are on the disk. The name itself may not be.
 abbrev pub is_synced : List Event → List ℕ → Bool
 is_synced [] name = true
 is_synced (Changed other bytes is_whole ∷ older) name = cond (bytes_eq name other.items) is_whole (is_synced older name)
@@ -24,8 +24,9 @@ is_synced (FileSynced other ∷ older) name = bytes_eq name other.items || is_sy
 is_synced (NamesSynced ∷ older) name = is_synced older name
 is_synced (Restarted ∷ older) name = true
 
--- What a crash may leave under a name: of a change what was there or what came, whole, and of bytes that are not
--- synced anything. What is synced when the names are is there, as a read finds it.
+-- What a crash may leave under a name. After a whole change: what the change brought, or what might have been left
+-- before it. After a change that is not whole: anything. Once the names are synced, a file whose bytes were synced
+-- before that is left as a read found it. After a restart, so is every file.
 abbrev pub MayStand : List Event → List ℕ → Option (List ℕ) → Type 0
 MayStand [] name left = left ≡ None
 MayStand (Changed other bytes is_whole ∷ older) name left = MatchBool (bytes_eq name other.items) (MatchBool is_whole (MayStand older name left ⊎ (left ≡ bytes_of_change bytes)) (Unit {0})) (MayStand older name left)

@@ -10,14 +10,15 @@ use Rattle.disk.specs.Changes.{bytes_of_change}
 use Rattle.disk.specs.ChangeLaws.{get-bound}
 use Rattle.disk.specs.Cached.{found, is_synced, MayStand, MayStay}
 
--- what a change brings may stand, and what was there before under another name
+-- after one more change, a crash may leave what a read finds: under its name what it brought, and under another what
+-- was there
 changed_stands : (same is_whole : Bool) (came there left : Option (List ℕ)) (May : Option (List ℕ) → Type 0) → May there → left ≡ cond same came there
     → MatchBool same (MatchBool is_whole (May left ⊎ (left ≡ came)) (Unit {0})) (May left)
 changed_stands true true came there left May was is = inr is
 changed_stands true false came there left May was is = tt
 changed_stands false is_whole came there left May was is = subst May (sym is) was
 
--- what is found may stand
+-- a crash may leave what a read finds
 pub found_may_stand : (events : List Event) (name : List ℕ) → MayStand events name (get (found events) name)
 found_may_stand [] name = get-empty (slice_cmp nat_cmp) name
 found_may_stand (Changed other bytes is_whole ∷ older) name =
@@ -29,7 +30,7 @@ found_may_stand (NamesSynced ∷ older) name = elim (is_synced older name) as (�
 ]
 found_may_stand (Restarted ∷ older) name = refl
 
--- the newest events of all are all
+-- the events up to now are all events
 pub newest : (events : List Event) → events ≡ drop (length events - length events) events
 newest events = ap (λ n. drop n events) (let none : 0 ≡ length events - length events = omega arith in none)
 

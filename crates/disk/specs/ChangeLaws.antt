@@ -1,4 +1,4 @@
--- What is found after changes of files in memory.
+-- The files after changes in memory.
 use Rattle.std.proofs.Common.{◌≡◌, ◌-◌, ℕ, List, length, drop, Option, Some, None, cond, refl, sym, ap, ◌∙◌, arith}
 use Rattle.std.specs.Str.{bytes_eq}
 use Rattle.std.specs.Cmp.Lexicographic.{texts_ties, nat_list_cmp_total}
@@ -13,7 +13,7 @@ pub get-bound : (name : List ℕ) (bytes : Option (List ℕ)) (files : Files) (o
 get-bound name (Some bytes) files other = get-insert nat_list_cmp_total files name bytes other ∙ ap (λ b. cond b (Some bytes) (get files other)) (sym (texts_ties other name))
 get-bound name None files other = get-remove nat_list_cmp_total files name other ∙ ap (λ b. cond b None (get files other)) (sym (texts_ties other name))
 
--- the name that is bound, and every other
+-- the name that is bound has the new bytes, and every other name has what it had
 pub bound_here : (name : List ℕ) (bytes : Option (List ℕ)) (files : Files) → get (bound name bytes files) name ≡ bytes
 bound_here name bytes files = get-bound name bytes files name ∙ ap (λ b. cond b bytes (get files name)) ((bytes_eq-Decides name name).1 refl)
 
@@ -21,6 +21,6 @@ pub bound_else : (name : List ℕ) (bytes : Option (List ℕ)) (files : Files) �
 bound_else name bytes files other far =
     get-bound name bytes files other ∙ ap (λ b. cond b bytes (get files other)) (false_from_ne_true _ (λ same. far ((bytes_eq-Decides other name).0 same)))
 
--- what is there may be left
+-- a crash may leave the files as they are
 pub latest : (changes : List Change) → after changes ≡ after (drop (length changes - length changes) changes)
 latest changes = ap (λ n. after (drop n changes)) (let none : 0 ≡ length changes - length changes = omega arith in none)

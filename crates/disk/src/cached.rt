@@ -17,8 +17,8 @@ use std::alloc::{AllocError, Global};
 /// What a call has done to a disk with a cache.
 #[derive(Drop)]
 pub enum Event {
-    /// A name has these bytes now, or none. If they are whole, a crash leaves them or what was
-    /// there before, otherwise anything.
+    /// A name has these bytes now, or was removed. If they are whole, a crash leaves them or what
+    /// was there before, and otherwise anything.
     Changed {
         name: Vec<u8>,
         bytes: Option<Vec<u8>>,
@@ -30,13 +30,14 @@ pub enum Event {
     },
     /// The names were synced.
     NamesSynced,
-    /// The disk was restarted; all that a read found then was on it.
+    /// The disk was restarted. All that a read found then was on it.
     Restarted,
 }
 
 /// A disk in memory with a cache, as a list of what its calls did, the newest first. It is honest.
-/// Of a file that was not synced, a crash may leave any bytes or none, and it may lose each change
-/// of a name that was not synced. One call can be made to fail, or all calls from one on.
+/// Until a new file, and after it the names, are synced, a crash may leave any bytes or none under
+/// its name. A crash may also undo each change of a name until the names are synced. One call can
+/// be made to fail, or all calls from one on.
 #[derive(Drop)]
 pub struct CachedMemDisk {
     alloc: Global,
@@ -162,7 +163,7 @@ fn may_stand(events: &[Event], name: &[u8], left: &Option<Vec<u8>>) -> bool
     left.is_none()
 }
 
-/// Adds what has happened.
+/// Adds an event.
 fn add(events: &mut Vec<Event>, event: Event) -> Result<(), AllocError>
     ensures ok { OnOk result (events.new.items ≡ event ∷ events.old.items) }
     ensures err { OnErr result (events.new.items ≡ events.old.items) }
@@ -196,7 +197,7 @@ fn change(
     Ok(())
 }
 
-/// Gives one name these bytes, whole or not, and takes the other name away.
+/// Gives one name these bytes, whole or not, and removes the other name.
 fn shift(
     alloc: Global,
     events: &mut Vec<Event>,
@@ -248,7 +249,8 @@ impl CachedMemDisk {
         }
     }
 
-    /// From now on the call with this number fails, counted from 0, or all from that one on.
+    /// Makes the call with this number fail, counted from 0 from now on, or all calls from that one
+    /// on.
     pub fn fail_at(&mut self, call: usize, crashes: bool)
         ensures files { let files = ⟦<CachedMemDisk as Disk>⟧.files in
             files self.new ≡ files self.old }
@@ -379,7 +381,7 @@ impl Disk for CachedMemDisk {
         Ok(change(self.alloc, &mut self.events, name, None, true)?)
     }
 
-    // That no memory is found for it is told as a failure, since this call has no other.
+    // Running out of memory is reported as a failure, since this call may not report anything else.
     fn sync_names(&mut self) -> Result<(), DiskFault> {
         self.failing.count_call()?;
         match add(&mut self.events, Event::NamesSynced) {

@@ -34,12 +34,13 @@ impl<T: Drop> From<AllocFailed<T>> for DiskFault {
     }
 }
 
-/// One folder of files. What its contracts say of files and crashes holds only for an honest disk.
+/// One folder of files. What its contracts say about files and crashes holds only for an honest
+/// disk.
 pub trait Disk {
     /// An open file.
     type File: Drop;
 
-    /// The disk does what its contracts say. This never changes.
+    /// Whether the disk does what its contracts say. This never changes.
     ghost honest: { Bool };
 
     /// The files, as a read finds them.
@@ -48,7 +49,7 @@ pub trait Disk {
     /// What a crash at each moment up to now may leave.
     ghost history: { Self → History };
 
-    /// The bytes of the file that has this name are on the disk. The name need not be.
+    /// The bytes of the file with this name are on the disk. The name itself may not be.
     ghost Synced: { Self → List ℕ → Type 0 };
 
     /// How often the disk has failed.
@@ -104,10 +105,11 @@ pub trait Disk {
         ensures current { IsTrue honest → StayAll (IsCurrent self.old) (IsCurrent self.new) }
         ensures cause { HasCause Failed (failures self.old) (failures self.new) result };
 
-    /// Makes an empty file that is to replace another, and gives it the mode of that. Whatever a
-    /// program that has ended left under its name is removed. It fails if another program is
-    /// writing under that name, or if the file to replace is not a regular file, such as a link.
-    /// Until the file is synced, a crash may leave anything under its name.
+    /// Makes an empty file that is to replace another, and gives it the mode of the other. A
+    /// leftover under its name, of a program that has ended, is removed. It fails if another
+    /// program is writing under that name, or if the file to replace is not a regular file, such as
+    /// a link. Until the file, and after it the names, are synced, a crash may leave anything under
+    /// its name.
     fn create(&mut self, name: &[u8], place: &[u8]) -> Result<Self::File, DiskFault>
         ensures created { IsTrue honest → OnOk result (get (files self.new) name.now ≡ Some []) }
         ensures name { IsTrue honest → IfOk result (λ file. name_of file ≡ name.now) }
@@ -119,8 +121,8 @@ pub trait Disk {
             StayOthers name_of name.now (IsCurrent self.old) (IsCurrent self.new) }
         ensures cause { HasCause Failed (failures self.old) (failures self.new) result };
 
-    /// Writes at the end of a file. Until the file is synced, a crash may leave anything under its
-    /// name.
+    /// Writes at the end of a file. Until the file, and after it the names, are synced, a crash may
+    /// leave anything under its name.
     fn append(&mut self, file: &mut Self::File, bytes: &[u8]) -> Result<(), DiskFault>
         requires { IsTrue honest → IsCurrent self.old file.old }
         ensures appended { IsTrue honest →
@@ -146,8 +148,8 @@ pub trait Disk {
         ensures current { IsTrue honest → StayAll (IsCurrent self.old) (IsCurrent self.new) }
         ensures cause { HasCause Failed (failures self.old) (failures self.new) result };
 
-    /// Renames a file, in place of the file that had the new name. A crash leaves one file or the
-    /// other under that name, if the bytes of the first are on the disk.
+    /// Renames a file, which replaces the file that had the new name. A crash leaves one file or
+    /// the other under the new name, if the bytes of the renamed file are on the disk.
     fn rename(&mut self, from: &[u8], to: &[u8]) -> Result<(), DiskFault>
         requires { to.now ≢ from.now }
         ensures renamed { IsTrue honest →

@@ -25,7 +25,8 @@ impl Failing {
         }
     }
 
-    /// From now on the call with this number fails, counted from 0, or all from that one on.
+    /// Makes the call with this number fail, counted from 0 from now on, or all calls from that one
+    /// on.
     pub(crate) fn fail_at(&mut self, call: usize, crashes: bool)
         ensures { self.new.failures ≡ self.old.failures }
     {
@@ -50,7 +51,7 @@ impl Failing {
         DiskFault::Failed
     }
 
-    /// Counts a call, and fails where it is the one to fail.
+    /// Counts a call, and fails if it is the one to fail.
     pub(crate) fn count_call(&mut self) -> Result<(), DiskFault>
         ensures cause { HasCause Failed self.old.failures self.new.failures result }
         ensures fault { OnErr result (result ≡ Err Failed) }

@@ -33,9 +33,9 @@ pub struct HostDisk<'a, R: Files<File = File>> {
     failures: u64,
 }
 
-/// The path of a name in a folder; there is none for a name that leads out of it. It asks for its
-/// memory at once, so that the memory for the path by which a file was made is enough for the path
-/// by which it is renamed or removed.
+/// The path of a name in a folder. A name that leads out of the folder has none. All memory of the
+/// path is allocated at once, so that the memory for the path by which a file was made is enough
+/// for the path by which it is renamed or removed.
 fn path_in(alloc: Global, dir: &str, name: &[u8]) -> Result<Option<PathBuf>, AllocError> {
     let Ok(name) = str::from_utf8(name) else {
         return Ok(None);
@@ -74,7 +74,7 @@ impl<'a, R: Files<File = File>> HostDisk<'a, R> {
         DiskFault::Failed
     }
 
-    /// The result of a call, whose failure is counted.
+    /// The result of a call. A failure is counted.
     fn told<T: Drop>(&mut self, answer: io::Result<T>) -> Result<T, DiskFault>
         ensures cause { HasCause Failed self.old.failures self.new.failures result }
         ensures ok { IfOk result (λ value. answer ≡ Ok value) }

@@ -1,5 +1,5 @@
-//! The calls of the operating system that a folder needs, each repeated if a signal interrupts it, and
-//! what their errors become. `docs/DECISIONS.md` has the table of calls, errors and answers.
+//! The calls of the operating system that a folder needs, each repeated if a signal interrupts it,
+//! and what their errors become. `docs/DECISIONS.md` has the table of calls, errors and answers.
 ghost use Rattle.disk.specs.inside.HostErrors.{IsUnsupported};
 ghost use Rattle.std.specs.IoError.{error_kind};
 ghost use Rattle.std.specs.Prelude.{IfErr, IfOk, IsErrAnd, IsTrue, OnOk, length, ◌↔◌, ◌≡◌, ◌≢◌, ◌≤◌};
@@ -11,13 +11,13 @@ use std::path::Path;
 use std::rt::Files;
 use std::{fs, io};
 
-/// The mode of a new file, of which the process's mask takes away.
+/// The mode of a new file, before the process's mask is applied.
 const NEW_MODE: u32 = 0o666;
 
-/// The mode of a new file, until it gets that of the file whose place it takes.
+/// The mode of a new file, until it gets the mode of the file that it replaces.
 const PRIVATE_MODE: u32 = 0o600;
 
-/// Makes a call until no signal interrupts it.
+/// Repeats a call until no signal interrupts it.
 fn uninterrupted<T: Drop, F: Fn() -> io::Result<T> + Drop>(call: F) -> io::Result<T>
     requires { F.IsAlwaysCallable call }
 {
@@ -35,7 +35,7 @@ fn look_through<R: Files>(rt: &R, path: Path) -> io::Result<Option<Metadata>> {
     found(uninterrupted(|| fs::metadata(rt, path)))
 }
 
-/// What lies at a path, which may be a link.
+/// What is at a path, which may be a link.
 fn look_at<R: Files>(rt: &R, path: Path) -> io::Result<Option<Metadata>> {
     found(uninterrupted(|| fs::symlink_metadata(rt, path)))
 }
@@ -74,7 +74,7 @@ pub(crate) fn open_file<R: Files>(rt: &R, path: Path) -> io::Result<(R::File, u6
     Ok((file, len))
 }
 
-/// Reads what comes next.
+/// Reads the next bytes.
 pub(crate) fn read_some<F: Read>(file: &mut F, piece: &mut [u8]) -> io::Result<usize>
     ensures { IfOk result (λ count. count ≤ length piece.old) }
 {
@@ -87,7 +87,7 @@ pub(crate) fn read_some<F: Read>(file: &mut F, piece: &mut [u8]) -> io::Result<u
     Err(io::Error::from(ErrorKind::Interrupted))
 }
 
-/// Removes what lies at a path, a link and not what it leads to.
+/// Removes what is at a path: a link itself, and not what it leads to.
 pub(crate) fn remove_file<R: Files>(rt: &R, path: Path) -> io::Result<()> {
     gone(uninterrupted(|| fs::remove_file(rt, path)))
 }
@@ -96,31 +96,30 @@ pub(crate) fn rename_file<R: Files>(rt: &R, from: Path, to: Path) -> io::Result<
     uninterrupted(|| fs::rename(rt, from, to))
 }
 
-/// Brings the bytes of a file to the disk.
+/// Syncs the bytes of a file to the disk.
 pub(crate) fn sync_file<F: OpenFile>(file: &F) -> io::Result<()> {
     uninterrupted(|| file.sync_all())
 }
 
-/// Brings the names in an open folder to the disk, where its file system can do that.
+/// Syncs the names in an open folder to the disk, if its file system can do that.
 fn sync_opened<F: OpenFile + Drop>(folder: io::Result<F>) -> io::Result<()>
     ensures unopened { IfErr folder (λ error. result ≡ Err error) }
 {
     where_supported(sync_file(&folder?))
 }
 
-/// Brings the names in a folder to the disk, where its file system can do that. If the folder
-/// cannot be opened, that is a failure, also where its mode forbids it: the names may not last
-/// then.
+/// Syncs the names in a folder to the disk, if its file system can do that. It fails if the folder
+/// cannot be opened, even if the folder's mode forbids it, since the names may not last then.
 pub(crate) fn sync_folder<R: Files>(rt: &R, dir: Path) -> io::Result<()> {
     sync_opened(open(rt, dir))
 }
 
-/// Whether two looks have seen the same file.
+/// Whether two looks saw the same file.
 fn is_same(one: &Metadata, other: &Metadata) -> bool {
     one.ino() == other.ino() && one.dev() == other.dev()
 }
 
-/// Whether an open file is the one that lies at a path.
+/// Whether an open file is the one at a path.
 fn lies_at<R: Files<File = File>>(rt: &R, file: &File, path: Path) -> io::Result<bool> {
     match look_at(rt, path)? {
         Some(there) => Ok(is_same(&metadata_of(file)?, &there)),
@@ -128,14 +127,14 @@ fn lies_at<R: Files<File = File>>(rt: &R, file: &File, path: Path) -> io::Result
     }
 }
 
-/// Takes the lock of an open file. Where another program has it, that is a failure; where the file
-/// system has no locks, it is as if no other program had it.
+/// Takes the lock of an open file. It fails if another program has the lock. If the file system
+/// has no locks, it is as if no other program had it.
 fn lock(file: &File) -> io::Result<()> {
     where_supported(uninterrupted(|| Ok(file.try_lock()?)))
 }
 
-/// Opens a file for writing, or for reading where its mode forbids that. An NFS client gives no
-/// lock for a file that is only read (flock(2)).
+/// Opens a file for writing, or for reading if its mode forbids writing. An NFS client gives no
+/// lock for a file that is open only for reading (flock(2)).
 fn open_for_lock<R: Files>(rt: &R, path: Path) -> io::Result<R::File> {
     match open_to_write(rt, path) {
         Err(error) if error.kind() == ErrorKind::PermissionDenied => open(rt, path),
@@ -143,9 +142,8 @@ fn open_for_lock<R: Files>(rt: &R, path: Path) -> io::Result<R::File> {
     }
 }
 
-/// Opens a file that was left. Where its mode allows its owner neither to write nor to read it, the
-/// owner gives it another mode for as long as the opening takes, since a program may still be
-/// writing it.
+/// Opens a leftover file. If its mode lets its owner neither write nor read it, the owner changes
+/// the mode, but only while the file is opened, since a program may still be writing it.
 fn open_leftover<R: Files<File = File>>(rt: &R, path: Path, left: &Metadata) -> io::Result<File> {
     match open_for_lock(rt, path) {
         Err(error) if error.kind() == ErrorKind::PermissionDenied => {}
@@ -159,7 +157,8 @@ fn open_leftover<R: Files<File = File>>(rt: &R, path: Path, left: &Metadata) -> 
     Ok(file)
 }
 
-/// Removes a file that a program left which has ended: whoever writes one holds its lock.
+/// Removes a file that was left by a program that has ended. A program that is still writing its
+/// file holds the lock.
 fn remove_leftover<R: Files<File = File>>(rt: &R, path: Path) -> io::Result<()> {
     let Some(left) = look_at(rt, path)? else {
         return Ok(());
@@ -175,8 +174,8 @@ fn remove_leftover<R: Files<File = File>>(rt: &R, path: Path) -> io::Result<()> 
     Ok(())
 }
 
-/// Makes a new file and takes its lock, which lasts while the file is open. That no other program
-/// has taken it for a leftover in between is seen from what lies at the path by then.
+/// Makes a new file and takes its lock, which lasts while the file is open. If another program took
+/// the file for a leftover in between, the file is no longer at the path, and the call fails.
 fn claim_file<R: Files<File = File>>(rt: &R, path: Path, mode: u32) -> io::Result<File> {
     remove_leftover(rt, path)?;
     let mut options = OpenOptions::new();
@@ -189,7 +188,7 @@ fn claim_file<R: Files<File = File>>(rt: &R, path: Path, mode: u32) -> io::Resul
     Ok(file)
 }
 
-/// Gives a new file the mode of the one whose place it is to take.
+/// Gives a new file the mode of the file that it is to replace.
 fn take_mode(file: &File, old: &Metadata) -> io::Result<()> {
     if metadata_of(file)?.mode() == old.mode() {
         return Ok(());
@@ -197,8 +196,8 @@ fn take_mode(file: &File, old: &Metadata) -> io::Result<()> {
     uninterrupted(|| file.set_permissions(old.permissions()))
 }
 
-/// Makes a new file that is to replace another, and gives it the mode of that. Anything that is not
-/// a regular file, such as a folder or a link, is not replaced.
+/// Makes a new file that is to replace another, and gives it the mode of the other. Anything that
+/// is not a regular file, such as a folder or a link, is not replaced.
 pub(crate) fn create_file<R: Files<File = File>>(
     rt: &R,
     path: Path,
@@ -220,7 +219,7 @@ pub(crate) fn create_file<R: Files<File = File>>(
     }
 }
 
-/// Whether an error says that this file system has no such call, and not that the call failed:
+/// Whether an error says that the file system does not support a call, and not that it failed:
 ///
 /// - `EINVAL`, for a sync "fd is bound to a special file which does not support synchronization"
 ///   (fsync(2)), for a lock "operation is invalid" (flock(2));
@@ -228,9 +227,9 @@ pub(crate) fn create_file<R: Files<File = File>>(
 /// - `EOPNOTSUPP`, the same number as `ENOTSUP`, "operation not supported" (errno(3)).
 ///
 /// All other errors are failures. `EROFS` is one, although fsync(2) names it beside `EINVAL`: a
-/// folder is no special file, and where something was written a moment ago it says that a fault has
-/// made the file system read-only. `ENOLCK` is one as well: "the kernel ran out of memory for
-/// allocating lock records" (flock(2)).
+/// folder is no special file, and just after a write it says that a fault has made the file system
+/// read-only. `ENOLCK` is one as well: "the kernel ran out of memory for allocating lock records"
+/// (flock(2)).
 fn is_unsupported(error: &Error) -> bool
     ensures { IsTrue result ↔ IsUnsupported (error_kind error.now) }
 {
@@ -238,7 +237,7 @@ fn is_unsupported(error: &Error) -> bool
     kind == ErrorKind::InvalidInput || kind == ErrorKind::Unsupported
 }
 
-/// Passes over an error that says that the file system has no such call.
+/// Ignores an error that says that the file system does not support the call.
 pub(crate) fn where_supported(answer: io::Result<()>) -> io::Result<()>
     ensures passed { OnOk result (IfErr answer (λ error. IsUnsupported (error_kind error))) }
     ensures failed { IfErr answer
@@ -250,7 +249,7 @@ pub(crate) fn where_supported(answer: io::Result<()>) -> io::Result<()>
     }
 }
 
-/// What a look at a path has found, or `None` where nothing is there (`ENOENT`).
+/// What a look at a path found, or `None` if nothing is there (`ENOENT`).
 pub(crate) fn found(answer: io::Result<Metadata>) -> io::Result<Option<Metadata>>
     ensures none { result ≡ Ok None →
         IsErrAnd answer (λ error. error_kind error ≡ ErrorKind.NotFound) }
@@ -264,7 +263,7 @@ pub(crate) fn found(answer: io::Result<Metadata>) -> io::Result<Option<Metadata>
     }
 }
 
-/// Passes over an error that says that what was to be removed is not there (`ENOENT`).
+/// Ignores an error that says that what was to be removed is not there (`ENOENT`).
 pub(crate) fn gone(answer: io::Result<()>) -> io::Result<()>
     ensures passed { OnOk result (IfErr answer (λ error. error_kind error ≡ ErrorKind.NotFound)) }
     ensures failed { IfErr answer

@@ -12,7 +12,7 @@ use crate::disk::{Disk, DiskFault};
 use crate::failing::Failing;
 use std::alloc::{AllocError, Global};
 
-/// A file that has got these bytes, or that is gone.
+/// A file got these bytes, or was removed.
 #[derive(Drop)]
 pub struct Change {
     name: Vec<u8>,
@@ -20,8 +20,8 @@ pub struct Change {
 }
 
 /// A disk that keeps its files in memory, as a list of their changes, the newest first. It is
-/// honest, and each change lasts at once. One call can be made to fail, or all calls from one on,
-/// as after a crash.
+/// honest, and each change is on the disk at once. One call can be made to fail, or all calls from
+/// one on, as after a crash.
 #[derive(Drop)]
 pub struct MemDisk {
     alloc: Global,
@@ -108,7 +108,8 @@ impl MemDisk {
         }
     }
 
-    /// From now on the call with this number fails, counted from 0, or all from that one on.
+    /// Makes the call with this number fail, counted from 0 from now on, or all calls from that one
+    /// on.
     pub fn fail_at(&mut self, call: usize, crashes: bool)
         ensures files { let files = ⟦<MemDisk as Disk>⟧.files in files self.new ≡ files self.old }
         ensures failures { let failures = ⟦<MemDisk as Disk>⟧.failures in

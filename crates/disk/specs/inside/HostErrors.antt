@@ -1,8 +1,8 @@
--- Which errors of the operating system are no failure.
+-- Errors of the operating system that do not count as failures.
 use Rattle.std.specs.Prelude.{◌≡◌, ◌⊎◌}
 use Rattle.std.specs.declared.io.ErrorKind.{ErrorKind}
 use Rattle.std.specs.declared.io.ErrorKind.TheVariants.{InvalidInput, Unsupported}
 
--- the file system has no such call: EINVAL; ENOSYS or EOPNOTSUPP
+-- the file system does not support the call: EINVAL, ENOSYS or EOPNOTSUPP
 abbrev pub IsUnsupported : ErrorKind → Type 0
 IsUnsupported kind = (kind ≡ InvalidInput) ⊎ (kind ≡ Unsupported)
