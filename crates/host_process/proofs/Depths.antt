@@ -1,4 +1,4 @@
--- What is read of `undo` is a number from 0 to 64.
+-- The value of `undo` is a number from 0 to 64.
 use Rattle.std.proofs.Common.{◌≡◌, ◌≤◌, ◌<◌, ℕ, zero, suc, true, false, List, [], ◌∷◌, ◌++◌, length, Option, Some, None, Result, refl, sym, ap, subst, ◌∙◌, inl, inr, arith, codes, slice_index, unwrap_or, ◌||◌}
 use Rattle.std.specs.Prelude.{pos, option_map, option_and_then, slice_get}
 use Rattle.std.specs.List.{All, slice_index_or}
@@ -23,7 +23,7 @@ use Rattle.clap.proofs.CallerLemmas.{added_plain, entry_by_id, same_rules_by_id}
 use Rattle.clap.proofs.CallerReads.{signed_reads}
 use Rattle.host_process.specs.inside.Depths.{IsDepth, IsNamed, TakesDepth}
 
--- this text is that of a number in the range
+-- the text of a number in the range
 abbrev pub IsSmall : List ℕ → Type 0
 IsSmall text = (given : List ℕ) × (text ≡ without_minus given) × IsSignedIn (pos 0) (pos 64) given
 
@@ -74,7 +74,7 @@ module _ (c : Command) (m : ArgMatches) (h : TakesDepth c) (p : IsParsedFrom c m
   read_so : (how : Reading) → HasReading p.built id how → how ≡ reading_of range
   read_so how (j, y, below, is, holds) = sym holds.1 ∙ ap reading_of (in_range y (kept y j below is holds.0))
 
-  -- what the entry of the id holds
+  -- the value in the entry of the id is small
   small_in : (x : MatchedArg) (e : Entry) → e.1 ≡ x → e.0.now ≡ id → EntryPasses p.built e → (text : List ℕ) → option_map (λ s. read_as x.reading s.now) (slice_get x.vals.items 0) ≡ Some text → IsSmall text
   small_in x e is key passes text read = of_values x.vals.items values read
     where
@@ -109,7 +109,7 @@ module _ (c : Command) (m : ArgMatches) (h : TakesDepth c) (p : IsParsedFrom c m
       let got = entry_by_id (EntryPasses p.built) (found_of m).entries.items id x parsed.values is in
       small_in x got.0 got.1 ((bytes_eq-Decides got.0.0.now id).0 got.2) got.3 text read
 
--- the text that is read of `undo` is that of a number from 0 to 64
+-- the text of `undo` is that of a number from 0 to 64
 small : (c : Command) (m : ArgMatches) → TakesDepth c → IsParsedFrom c m → (text : List ℕ) → one_text (found_of m) (codes "undo") ≡ Some text → IsSmall text
 small c m h p text read = small_at c m h p (matched_of (found_of m) h.undo.id.now) refl text (rw h.depth.named.id read)
 
@@ -136,7 +136,7 @@ named name a b rules n = record {
 local_after : (old new : Command) (a : Arg) → AddsArg old a new → (out-Command old).has_globals ≡ false → a.global ≡ false → (out-Command new).has_globals ≡ false
 local_after old new a added none local = added.globals ∙ ap (λ b. b || a.global) none ∙ ap (λ b. false || b) local
 
--- a command to which the arguments are added one after the other
+-- a command to which the three arguments are added one after the other
 pub takes_depth : (start one two all : Command) (dir undo script : Arg) → args_of start ≡ [] → groups_of start ≡ [] → (out-Command start).has_globals ≡ false →
     AddsArg start dir one → AddsArg one undo two → AddsArg two script all → IsNamed (codes "dir") dir → IsDepth undo → IsNamed (codes "script") script → TakesDepth all
 takes_depth start one two all dir undo script no_args no_groups no_globals add_dir add_undo add_script is_dir depth is_script = record {

@@ -6,7 +6,7 @@ ghost use Rattle.std.specs.Io.KnownBytes.{ReadConsumes, WriteAppends};
 
 use std::io::{Error, ErrorKind, Read, Result, Write};
 
-/// A reader or a writer whose calls are made again where a signal interrupts them.
+/// A reader or a writer whose calls are repeated if a signal interrupts them.
 #[derive(Drop)]
 pub struct Retrying<T> {
     inner: T,

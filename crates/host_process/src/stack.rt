@@ -3,7 +3,7 @@ ghost use Rattle.std.specs.Prelude.{◌<◌, ◌≤◌, ◌*◌, length};
 
 use std::alloc::{AllocError, Global};
 
-/// The bytes of stack that are taken: what the deepest command needs, and room beside it.
+/// The bytes of stack that are taken: what the deepest command needs, and some more.
 const DEEPEST: usize = 262_144;
 
 /// Writes at one place and reads at another, so that the compiler leaves no room out.
@@ -15,7 +15,7 @@ fn touch(room: &mut [u8], at: usize) -> u8
     room[2 * at]
 }
 
-/// Takes the stack; where there is none, the system ends the program here and within no command.
+/// Takes the stack. If there is not enough, the system ends the program here, and not in a command.
 #[inline(never)]
 fn touch_stack(at: usize) -> u8
     requires { at ≤ 64 }
@@ -24,7 +24,7 @@ fn touch_stack(at: usize) -> u8
     touch(&mut room, at)
 }
 
-/// Asks the heap for twice as much, and gives it back.
+/// Allocates twice as much on the heap, and frees it.
 fn touch_heap(alloc: Global, at: usize) -> Result<u8, AllocError>
     requires { at ≤ 64 }
 {
@@ -33,8 +33,8 @@ fn touch_heap(alloc: Global, at: usize) -> Result<u8, AllocError>
     Ok(touch(room.as_mut_slice(), at))
 }
 
-/// Takes the stack that the deepest command needs, and answers whether there is memory for it. No
-/// contract speaks of the stack, so either answer is right.
+/// Takes the stack that the deepest command needs, and returns whether there is memory for it. No
+/// contract is about the stack, so either answer is right.
 pub fn has_stack(alloc: Global, depth: usize) -> bool
     requires { depth ≤ 64 }
 {

@@ -1,4 +1,4 @@
--- The argument that names how many earlier states are kept.
+-- The argument for the number of earlier states to keep.
 use Rattle.std.specs.Prelude.{◌≡◌, ℕ, false, codes, pos, List, [], ◌∷◌, Some}
 use Rattle.clap.specs.Words.{args_of, IsPlain, IsPlainArg}
 use Rattle.clap.specs.declared.builder.arg.Arg.{Arg}
@@ -6,18 +6,18 @@ use Rattle.clap.specs.declared.builder.command.Command.{Command}
 use Rattle.clap.specs.declared.builder.command.Command.TheViews.{out-Command}
 use Rattle.clap.specs.declared.builder.value_parser.ValueParser.TheVariants.{Signed}
 
--- an argument with this id, which stands against no other
+-- an argument with this id, which excludes no other, is in no group, and is not global
 pub record IsNamed (name : List ℕ) (a : Arg) : Type 0 where
   pub id : a.id.now ≡ name
   pub plain : IsPlainArg a
   pub local : a.global ≡ false
 
--- its values are the numbers from 0 to 64
+-- the argument `undo`, whose values are the numbers from 0 to 64
 pub record IsDepth (a : Arg) : Type 0 where
   pub named : IsNamed (codes "undo") a
   pub range : a.value_parser ≡ Some (Signed (pos 0) (pos 64))
 
--- a command takes it between two others
+-- The arguments of the command are `dir`, `undo` and `script`, in this order.
 pub record TakesDepth (c : Command) : Type 0 where
   pub dir : Arg
   pub undo : Arg
