@@ -1,4 +1,4 @@
--- What a write to places of a name's array is, by the number of its buffer.
+-- What a valid write to a name's array means for the buffer with its number.
 use Rattle.std.proofs.Common.{◌≡◌, ◌+◌, ◌*◌, ◌<◌, ◌≤◌, ℕ, List, [], ◌∷◌, length, map, refl, sym, ap, subst, ◌∙◌, Option, Some, None, Ok, All, false, arith}
 use Rattle.std.specs.List.{AllByRecursion}
 use Rattle.std.proofs.lemmas.List.{length-set}
@@ -29,7 +29,7 @@ use Rattle.name_store.proofs.ViewLaws.{view-slot, view-fits, view-reads}
 use Rattle.name_store.proofs.WriteLaws.{home-some, size-is, home-fits, within, spread, written-state}
 use Rattle.name_store.proofs.PastLaws.{Slots}
 
--- parts of items among n of them end within the bytes of all
+-- the parts of n items lie within the bytes of these items
 parts-within : (item start width n : ℕ) (places : List ℕ) → start + width ≤ item → AllByRecursion (λ place. place < n) places → AllByRecursion (λ offset. offset + width ≤ n * item) (offsets_of item start places)
 parts-within item start width n [] inside all = tt
 parts-within item start width n (place ∷ places) inside all =

@@ -1,4 +1,4 @@
--- A name is bound, and what it was bound to is kept.
+-- Binding a name, and keeping the change.
 use Rattle.std.proofs.Common.{◌≡◌, ◌+◌, ◌≤◌, ℕ, Bool, true, false, List, [], ◌∷◌, ◌++◌, length, map, min, refl, sym, ap, subst, ◌∙◌, cond, Option, Some, None, is_some, IfSome, Result, Ok, Err, IsOk, IfOk, OnOk, OnErr, nat_eq, arith, inl, inr}
 use Rattle.std.specs.List.{AllByRecursion, list_any}
 use Rattle.std.specs.Map.{lookup}
@@ -35,7 +35,7 @@ use Rattle.name_store.proofs.StateLaws.{Freed, few-bound, lies-there}
 use Rattle.name_store.proofs.UnbindLaws.{same-content, fewer-buffers}
 use Rattle.name_store.proofs.ViewLaws.{view-used, view-array, view-lies}
 
--- A buffer is put in a slot that was free: what stood in a slot stands there.
+-- A buffer is added in a free slot. The contents of the occupied slots are unchanged.
 added-kept : (slots before : Slots) (slot : Slot) (number : ℕ) → Adds slots slot number before → (q : ℕ) → is_some (slot_at slots q) ≡ true → Alike (slot_at before q) (slot_at slots q)
 added-kept slots before slot number adds q there =
     elim (nat_eq q number) as (λ t. nat_eq q number ≡ t → slot_at before q ≡ cond t (Some slot) (slot_at slots q) → Alike (slot_at before q) (slot_at slots q)) [
@@ -47,7 +47,7 @@ pub tried-kept : {E : Type 0} (r : Result ℕ E) (slots before : Slots) (slot : 
 tried-kept (Ok number) slots before slot adds _ = added-kept slots before slot number adds
 tried-kept (Err e) slots before slot _ same = λ q _. ap (λ (ss : Slots). option_map stand (slot_at ss q)) same
 
--- names' arrays lie where they lay
+-- the arrays of the names still lie in their slots if the contents of occupied slots are unchanged
 pub holds-kept : (es : List (List ℕ × Entry)) (slots now : Slots) → Holds es slots → ((q : ℕ) → is_some (slot_at slots q) ≡ true → Alike (slot_at now q) (slot_at slots q)) → Holds es now
 holds-kept es slots now h kept = record {
   few = h.few;
@@ -55,7 +55,7 @@ holds-kept es slots now h kept = record {
       (λ e there _. lies-shaped (slot_at now e.number) (slot_at slots e.number) e (alike-shape (slot_at now e.number) (slot_at slots e.number) (kept e.number (lies-there (slot_at slots e.number) e there))) there) es h.lie h.lie;
 }
 
--- The table has the new entry.
+-- The entry is inserted in the table.
 module _ (es es' : List (List ℕ × Entry)) (slots now : Slots) (before : Holds es slots) (h : Holds es now) (eq : List ℕ → List ℕ → Bool) (k : List ℕ) (v : Entry) (replaced : Option Entry)
     (inserted : es' ≡ insert_entry eq es k v) (is : TestsName (eq k) k) (was : replaced ≡ lookup (eq k) es) (len : length es' ≡ length es + cond (is_some replaced) 0 1)
     (room : has_room_for (present es slots) k ≡ true) (bound : Bound) (lodges : Lodges es slots bound v now) where
@@ -86,13 +86,13 @@ module _ (es es' : List (List ℕ × Entry)) (slots now : Slots) (before : Holds
         (all-insert (λ e. LiesAt (slot_at now e.number) e) eq k v es lodges.lies h.lie);
   }
 
--- so it is where the table has room
+-- the same for an insertion that succeeds
 pub inserted-holds : {E : Type 0} (r : Result (Option Entry) E) (es es' : List (List ℕ × Entry)) (slots now : Slots) → Holds es slots → Holds es now → (eq : List ℕ → List ℕ → Bool) (k : List ℕ) (v : Entry) → IsOk r → OnOk r (es' ≡ insert_entry eq es k v) → TestsName (eq k) k → IfOk r (λ replaced. replaced ≡ lookup (eq k) es) →
     IfOk r (λ replaced. length es' ≡ length es + cond (is_some replaced) 0 1) → has_room_for (present es slots) k ≡ true → (bound : Bound) → Lodges es slots bound v now → Holds es' now
 inserted-holds (Ok replaced) es es' slots now before h eq k v _ inserted is was len room bound lodges = rebound-holds es es' slots now before h eq k v replaced inserted is was len room bound lodges
 inserted-holds (Err e) es es' slots now before h eq k v bad inserted is was len room bound lodges = let wrong : ⊥ = cc in absurd wrong
 
--- A fresh array: a buffer is put in the first slot that was free.
+-- A new array: its buffer is added in the first free slot.
 module _ (es : List (List ℕ × Entry)) (slots now : Slots) (v : Entry) (slot : Slot) (o : Owned) (adds : Adds slots slot v.number now) (one : slot.users ≡ 1)
     (descr-is : slot.descr ≡ o.descr) (items-are : slot.items ≡ count o.layout.shape) (block-is : slot.block ≡ o.block) (layout-is : v.layout ≡ o.layout) (item-is : v.item ≡ item_size o.descr) (path-is : v.path ≡ [])
     (writable-is : v.writable ≡ true) where
@@ -151,7 +151,7 @@ module _ (es : List (List ℕ × Entry)) (slots now : Slots) (v : Entry) (slot :
     );
   }
 
--- A view: one more holds its buffer.
+-- A view: its buffer gets one more user.
 module _ (es : List (List ℕ × Entry)) (slots : Slots) (number : ℕ) (path : List ℕ) (layout : Layout) (writable : Bool) (array : Array) (view : IsViewIn (present es slots) number path layout writable array)
     (v : Entry) (s : Slot) (there : slot_at slots number ≡ Some s) (v-number : v.number ≡ number) (layout-is : v.layout ≡ layout) (item-is : v.item ≡ item_size s.descr) (writable-is : v.writable ≡ writable) (path-is : v.path ≡ path) where
   module _ (now : Slots) (stays : (q : ℕ) → Alike (slot_at now q) (slot_at slots q)) (users : (q : ℕ) → users_at now q ≡ users_at slots q + one_at q v.number) where
@@ -173,7 +173,7 @@ module _ (es : List (List ℕ × Entry)) (slots : Slots) (number : ℕ) (path : 
               | inr its ↦ ap (is_in_use (map named_array es)) (sym (eqb-true v.number q its) ∙ v-number) ∙ view-used es slots number path layout writable array view
             ])
 
--- What is asked of a state as it is, or with what is kept.
+-- What holds of a state with its kept states also holds of it without them.
 
 pub view-present : (es : List (List ℕ × Entry)) (slots : Slots) (ring : Ring Change) (number : ℕ) (path : List ℕ) (layout : Layout) (writable : Bool) (array : Array) → IsViewIn (state_of es slots ring) number path layout writable array → IsViewIn (present es slots) number path layout writable array
 view-present es slots ring number path layout writable array view = record { number_is = view.number_is; path_is = view.path_is; there = view.there; laid = view.laid }
@@ -224,7 +224,7 @@ module _ (es : List (List ℕ × Entry)) (slots : Slots) (ring : Ring Change) (s
       by None = refl
       by (Some e) = refl
 
-  -- one more holds the buffer of the new array, and the change that of the old one
+  -- the buffer of the new array has one more user, and the change keeps the buffer of the old array
   made : (q : ℕ) → users_at now q + users_in q names ≡ users_at slots q + users_in q names' + pins q c
   made q = omega (arith, r.lodges.users q, users-put q names name (array_at r.entry), was-numbers q, ap (users_in q) r.table)
 

@@ -1,4 +1,4 @@
--- Items in a block of bytes, one after another.
+-- Adjacent items in a block of bytes.
 use Rattle.std.proofs.Common.{◌≡◌, ◌≤◌, ◌<◌, ◌+◌, ◌*◌, ℕ, zero, suc, List, ◌∷◌, ◌++◌, length, take, drop, map, refl, sym, ap, ◌∙◌, Some, slice_get, slice_set, append_assoc, arith, length-take, length-drop}
 use Rattle.std.proofs.Math.Nat.{mul-suc, suc-mul, mul-le-mul_left}
 use Rattle.std.proofs.Math.Seq.{take-add}
@@ -15,7 +15,7 @@ put-add width at item bytes =
     later : drop ((width + at) + length item) bytes ≡ drop (at + length item) (drop width bytes)
     later = ap (λ n. drop n bytes) (omega arith) ∙ sym (drop-drop (at + length item) width bytes)
 
--- one item of a block is put
+-- one item of a block is written
 blocks-put : (width n place at : ℕ) (item bytes : List ℕ) → place < n → at ≡ width * place → length item ≡ width → n * width ≤ length bytes →
     blocks width n (put at item bytes) ≡ slice_set (blocks width n bytes) place item
 blocks-put width zero place at item bytes within is whole fits = absurd (omega arith)
@@ -46,7 +46,7 @@ item-at descr (suc n) (suc place) bytes h =
     item-at descr n place (drop (item_size descr) bytes) (omega arith)
     ∙ ap (λ rest. Some (decode_item descr (take (item_size descr) rest))) (drop-drop (item_size descr * place) (item_size descr) bytes ∙ ap (λ at. drop at bytes) (omega (arith, mul-suc (item_size descr) place)))
 
--- an item's last byte
+-- each item ends within the bytes of all items
 pub item-inside : (width n place : ℕ) → place < n → width * place + width ≤ n * width
 item-inside width n place h =
     let most : width * suc place ≤ width * n = mul-le-mul_left width h in

@@ -1,4 +1,4 @@
--- Blocks are exchanged: what a copy of all the items would have written.
+-- A block that replaces another has the bytes that a copy of all its items would have written.
 use Rattle.std.proofs.Common.{◌≡◌, ◌+◌, ◌*◌, ◌≤◌, ◌<◌, ◌==◌, ℕ, zero, suc, true, List, [], ◌∷◌, length, map, replicate, refl, sym, ap, subst, ◌∙◌, All, arith, inl, inr}
 use Rattle.std.specs.List.{AllByRecursion, range_with_len}
 use Rattle.std.proofs.lemmas.Bool.{cases_lt, eqb-true, and_parts}
@@ -12,7 +12,7 @@ use Rattle.name_store.specs.inside.OldItems.{AreOld}
 use Rattle.name_store.proofs.LaidLaws.{offsets-within}
 use Rattle.name_store.proofs.RestoreLaws.{Within, put-back}
 
--- Items in C order from the start to the end of a block.
+-- Items in C order, from the start to the end of a block.
 
 c-ends : (item a : ℕ) (os : List ℕ) (end : ℕ) → is_c_contiguous item (a ∷ os) ≡ true → AllByRecursion (λ o. o + item ≤ end) (a ∷ os) → a + item * length os + item ≤ end
 c-ends item a [] end test all = omega (arith, all.0)
@@ -26,14 +26,14 @@ c-goes item k a (b ∷ os) is test =
     let parts = and_parts (b == a + item) (is_c_contiguous item (b ∷ os)) test in
     λ i. is i ∷ c-goes item (k + 1) b os (omega (arith, eqb-true b (a + item) parts.0, is, mul-suc item k)) parts.1 i
 
--- they lie one after another
+-- their offsets are the multiples of their size
 pub c-packed : (item : ℕ) (os : List ℕ) → is_c_contiguous item os ≡ true → AllByRecursion (λ o. o + item ≤ length os * item) os → os ≡ multiples item (length os)
 c-packed item [] test all = refl
 c-packed item (a ∷ os) test all =
     let ends = c-ends item a os (suc (length os) * item) test all in
     c-goes item 0 a os (omega (arith, ends, mul-suc item (length os))) test
 
--- each byte is one of some item, where they lie one after another
+-- if the items are adjacent, each byte belongs to one of them
 within-run : (width a n from k : ℕ) → from ≡ width * a → from ≤ k → k < from + width * n → Within width (map (λ j. width * j) (range_with_len a n)) k
 within-run width a zero from k is above below = absurd (omega (arith, above, below))
 within-run width a (suc n) from k is above below =
@@ -42,7 +42,7 @@ within-run width a (suc n) from k is above below =
       | inr past ↦ inr (within-run width (a + 1) n (from + width) k (omega (arith, is, mul-suc width a)) (omega (arith, is, past)) (omega (arith, below, mul-suc width n)))
     ]
 
--- all the items of a block are put in another
+-- if all the items of a block are written over another, the result is the block
 pub all-put : (width : ℕ) (os new old : List ℕ) → os ≡ multiples width (length os) → length old ≡ length new → length new ≡ length os * width → AllByRecursion (λ o. o + width ≤ length new) os → with_items os (items_at os width new) old ≡ new
 all-put width os new old are long whole inside =
     put-back width os new old long inside (λ k. elim (cases_lt k (length new)) [
@@ -50,7 +50,7 @@ all-put width os new old are long whole inside =
       | inr past ↦ inr (get_or_past old k 0 (omega (arith, long, past)) ∙ sym (get_or_past new k 0 past))
     ])
 
--- one item over and over
+-- copies of one item
 repeated-items : (item : List ℕ) (m a n : ℕ) → a + n ≤ m → items_at (map (λ k. length item * k) (range_with_len a n)) (length item) (joined (λ _. item) m) ≡ replicate n item
 repeated-items item m a zero low = refl
 repeated-items item m a (suc n) low = λ i. one i ∷ repeated-items item m (a + 1) n (omega (arith, low)) i
@@ -66,7 +66,7 @@ repeated-packed item block n is = record {
   items = ap (items_at (multiples (length item) n) (length item)) is ∙ repeated-items item n 0 n (omega arith);
 }
 
--- the items of an array that lie one after another
+-- the adjacent items of an array that owns its block
 own-whole : (o : Owned) (width : ℕ) → item_size o.descr ≡ width → length o.block ≡ length (offsets o.layout) * width
 own-whole o width size = o.fills_block.fills ∙ λ i. sym (length-offsets o.layout) i * size i
 
@@ -88,13 +88,13 @@ module _ (width : ℕ) (block os : List ℕ) (within : All (λ o. o + width ≤ 
   to-run : os ≡ multiples width (length os)
   to-run = c-packed width os all.order (subst (λ n. AllByRecursion (λ o. o + width ≤ n) os) all.whole inside)
 
-  -- a block of new items is what writing all of them would have made
+  -- the block of new items is the same as the old block after they are written to it
   pub replaced : (parts : List (List ℕ)) (new : List ℕ) → IsPacked (length os) width parts new → new ≡ with_items os parts block
   replaced parts new packed =
       sym (ap (λ parts. with_items os parts block) (sym packed.items ∙ ap (λ at. items_at at width new) (sym to-run))
       ∙ all-put width os new block to-run (all.whole ∙ sym packed.long) packed.long (subst (λ n. AllByRecursion (λ o. o + width ≤ n) os) (all.whole ∙ sym packed.long) inside))
 
-  -- and the old block has the old ones
+  -- and the old block has the old items
   pub replaced-old : (o : OldItems) → o.width ≡ width → o.block ≡ block → AreOld width block os o
   replaced-old o width-is block-is = record {
     size = width-is;

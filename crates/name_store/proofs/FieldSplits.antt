@@ -1,4 +1,4 @@
--- The fields of a record: where their bytes and leaves are among those of the record.
+-- The fields of a record: where their bytes and leaves are in those of the record.
 use Rattle.std.proofs.Common.{◌≡◌, ◌+◌, ◌<◌, ◌≤◌, ℕ, zero, suc, List, [], ◌∷◌, ◌++◌, length, take, map, get_or, refl, sym, ap, subst, ◌∙◌, append_assoc, arith, length-append}
 use Rattle.std.proofs.lemmas.List.{append-nil, map-append, length-map}
 use Rattle.name_store.specs.Words.{Descr, Field, Leaf, InOrder, AreNamedWithin, fields_of, depth, leaf_count, size, Fields, no_more, scalar_field, record_field, item_size, leaves_of, leaves_from, leaves_in, fields, field_at, no_field, moved_leaf, AreInOrder, leaves_from-in_order, leaves_from-moved, leaves_in_order, length-leaves_from, AreInOrder-earlier, AreInOrder-append, some_leaves, legal_size, InOrder-within, some_depth}
@@ -25,7 +25,7 @@ moved-moved by at (leaf ∷ leaves) =
     let join : by + (at + leaf.at) ≡ by + at + leaf.at = omega arith in
     λ i. record { scalar = leaf.scalar; at = join i } ∷ moved-moved by at leaves i
 
--- ---- the leaves before a part, its own, and those behind it
+-- ---- the leaves before a part, its own leaves, and those after it
 
 pub record Split (leaves : List Leaf) (from start : ℕ) (descr : Descr) (bytes first : ℕ) : Type 0 where
   pub front : List Leaf
@@ -72,12 +72,12 @@ split-within leaves from at whole bytes before start first descr outer inner = r
         ∙ map-append (moved_leaf at) inner.front (map (moved_leaf start) (leaves_of descr) ++ inner.back)
         ∙ ap (λ rest. map (moved_leaf at) inner.front ++ rest) (map-append (moved_leaf at) (map (moved_leaf start) (leaves_of descr)) inner.back ∙ ap (λ rest. rest ++ map (moved_leaf at) inner.back) (moved-moved at start (leaves_of descr)))
 
--- ---- one of some fields
+-- ---- one of the fields of a record
 
 abbrev at_number : Fields → ℕ → Field
 at_number fields k = get_or (fields_of fields) k no_field
 
--- the leaves of fields whose record begins at 0
+-- the leaves of the fields of a record that begins at 0 are in order
 fields-in_order : (from : ℕ) (fields : Fields) (bytes : ℕ) → InOrder from fields bytes → AreInOrder from (leaves_from 0 fields) bytes
 fields-in_order from fields bytes h =
     let first : 0 + from ≡ from = omega arith in
@@ -165,9 +165,9 @@ leaves-before (field ∷ fields) j zero less low = absurd (omega (arith, less))
 leaves-before (field ∷ fields) zero (suc k) less low = omega arith
 leaves-before (field ∷ fields) (suc j) (suc k) less low = omega (arith, leaves-before fields j k (omega (arith, less)) (omega (arith, low)))
 
--- ---- how deep records lie
+-- ---- the depth of records
 
--- how many records lie one within another
+-- the number of records that are nested in each other
 abbrev pub records_deep : Descr → ℕ
 records_deep (ScalarDescr scalar) = 0
 records_deep (RecordDescr structure) = depth structure.fields
@@ -179,7 +179,7 @@ one-deep (scalar_field name at scalar rest) (suc k) low = one-deep rest k (omega
 one-deep (record_field name at width inner rest) zero low = omega arith
 one-deep (record_field name at width inner rest) (suc k) low = omega (arith, one-deep rest k (omega (arith, low)))
 
--- ---- an element type
+-- ---- element types
 
 pub type-some : (descr : Descr) → IsElementType descr → 1 ≤ item_size descr
 type-some (ScalarDescr scalar) legal = legal
@@ -197,7 +197,7 @@ pub type-shallow : (descr : Descr) → IsElementType descr → records_deep desc
 type-shallow (ScalarDescr scalar) legal = omega arith
 type-shallow (RecordDescr structure) legal = legal.shallow
 
--- what has a field is a record
+-- a type that has a field is a record
 pub fields-deep : (descr : Descr) (k : ℕ) → k < length (fields descr) → 1 ≤ records_deep descr
 fields-deep (ScalarDescr scalar) k low = absurd (omega (arith, low))
 fields-deep (RecordDescr structure) k low = some_depth structure.fields
@@ -214,7 +214,7 @@ pub field-split : (descr : Descr) (k : ℕ) → k < length (fields descr) → Is
 field-split (ScalarDescr scalar) k low legal = absurd (omega (arith, low))
 field-split (RecordDescr structure) k low legal = one-split structure.fields k 0 structure.size low legal.in_order
 
--- of two fields the one ends before the other begins
+-- a field ends before any later field begins
 pub field-before : (descr : Descr) (j k : ℕ) → j < k → k < length (fields descr) → IsElementType descr → (field_at descr j).at + item_size (field_at descr j).descr ≤ (field_at descr k).at
 field-before (ScalarDescr scalar) j k less low legal = absurd (omega (arith, low))
 field-before (RecordDescr structure) j k less low legal = one-before structure.fields j k 0 structure.size less low legal.in_order

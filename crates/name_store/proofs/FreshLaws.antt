@@ -1,4 +1,4 @@
--- An array that fills a block of its own.
+-- New arrays, which fill a block of their own.
 use Rattle.std.proofs.Common.{◌≡◌, ◌+◌, ◌*◌, map, ℕ, true, List, [], ◌∷◌, refl, sym, ap, subst, ◌∙◌, arith}
 use Rattle.name_store.specs.Words.{item_size, count, offsets, Fits, offsets_of, Owned, items_in, places_of}
 use Rattle.name_store.specs.Calls.{own_array, own_buffer}

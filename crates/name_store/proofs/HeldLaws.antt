@@ -1,4 +1,4 @@
--- A slot that is set: what stands in each slot then, and who holds it.
+-- Slots after one of them is set: their contents and their users.
 use Rattle.std.proofs.Common.{◌≡◌, ◌+◌, ◌<◌, ◌≤◌, ℕ, Bool, true, false, List, length, refl, sym, ap, subst, ◌∙◌, cond, Option, Some, None, is_some, nat_eq, nat_lt, slice_set, arith}
 use Rattle.std.specs.Option.{option_map}
 use Rattle.std.specs.Cmp.{nat_eq_equiv}
@@ -18,7 +18,7 @@ one-same = one-when true
 pub one-apart : (q n : ℕ) → nat_eq q n ≡ false → one_at q n ≡ 0
 one-apart = one-when false
 
--- what holds at the slot that is set, and at all others
+-- a property that holds for the slot that is set, and for all others
 pub set-case : (P : Option Slot → Option Slot → ℕ → Type 0) (slots : List (Option Slot)) (n : ℕ) (cell : Option Slot) → n < length slots → P cell (slot_at slots n) 1 → ((o : Option Slot) → P o o 0) →
     (q : ℕ) → P (slot_at (slice_set slots n cell) q) (slot_at slots q) (one_at q n)
 set-case P slots n cell inside here there q =
@@ -45,12 +45,12 @@ used-some slots n used = by (slot_at slots n) used
     by None is = absurd (omega arith)
     by (Some s) is = refl
 
--- what stands in a slot is held
+-- every occupied slot has a user
 pub held-stand : (o : Option Slot) → option_map stand o ≡ cond (nat_lt 0 (users_of o)) (option_map stand o) None
 held-stand None = refl
 held-stand (Some s) = ap (λ t. cond t (Some (stand s)) None) (sym (lt-ltb 0 s.users s.is_used))
 
--- The buffer of a slot was lent, and of it only its users changed.
+-- A slot was borrowed, and only its number of users may have changed.
 module _ (slots : List (Option Slot)) (n : ℕ) (was now : Slot) (inside : n < length slots) (there : slot_at slots n ≡ Some was) where
   pub lent-stays : stand now ≡ stand was → (q : ℕ) → option_map stand (slot_at (slice_set slots n (Some now)) q) ≡ option_map stand (slot_at slots q)
   lent-stays same = set-case (λ new old _. option_map stand new ≡ option_map stand old) slots n (Some now) inside (ap Some same ∙ ap (option_map stand) (sym there)) (λ o. refl)
@@ -64,7 +64,7 @@ module _ (slots : List (Option Slot)) (n : ℕ) (was now : Slot) (inside : n < l
   pub lent-freed : stand now ≡ stand was → (q : ℕ) → option_map stand (slot_at (slice_set slots n (Some now)) q) ≡ cond (nat_lt 0 (users_at (slice_set slots n (Some now)) q)) (option_map stand (slot_at slots q)) None
   lent-freed same q = held-stand (slot_at (slice_set slots n (Some now)) q) ∙ ap (λ o. cond (nat_lt 0 (users_at (slice_set slots n (Some now)) q)) o None) (lent-stays same q)
 
--- Numbers below the lowest
+-- Slots below `lowest`
 
 pub lowest-within : (slots : List (Option Slot)) (low : ℕ) → IsLowest slots low → low ≤ length slots
 lowest-within slots low h = by (nat_lt (length slots) low) refl
@@ -76,7 +76,7 @@ lowest-within slots low h = by (nat_lt (length slots) low) refl
         true-not e = cc
     by false past = ltb-false (length slots) low past
 
--- a slot is set that is taken then too
+-- every slot below `low` is still occupied after a slot is set to a buffer
 pub lowest-lent : (slots : List (Option Slot)) (low n : ℕ) (now : Slot) → n < length slots → IsLowest slots low → IsLowest (slice_set slots n (Some now)) low
 lowest-lent slots low n now inside h = record { taken = λ q less. set-case (λ new old _. is_some old ≡ true → is_some new ≡ true) slots n (Some now) inside (λ _. refl) (λ o some. some) q (h.taken q less) }
 
@@ -85,7 +85,7 @@ lowest-emptied slots low n after inside below apart h = record {
   taken = λ q less. ap is_some (slot_at-set slots n None q inside ∙ ap (λ t. cond t None (slot_at slots q)) (ne_eqb q n (λ same. omega (arith, less, apart, same)))) ∙ h.taken q (omega (arith, less, below));
 }
 
--- as many hold each buffer
+-- the same if the numbers of users are unchanged
 pub lowest-same : (slots after : List (Option Slot)) (low : ℕ) → ((q : ℕ) → users_at after q ≡ users_at slots q) → IsLowest slots low → IsLowest after low
 lowest-same slots after low same h = record { taken = λ q less. there-count (slot_at after q) ∙ ap (nat_lt 0) (same q) ∙ sym (there-count (slot_at slots q)) ∙ h.taken q less }
   where

@@ -1,4 +1,4 @@
--- A change is kept.
+-- Keeping a change.
 use Rattle.std.proofs.Common.{◌≡◌, ◌+◌, ◌-◌, ◌≤◌, ℕ, true, false, List, [], ◌∷◌, ◌++◌, length, drop, map, min, refl, sym, ap, subst, ◌∙◌, cond, Some, None, nat_lt, slice_get, arith, length-drop, length-append}
 use Rattle.std.specs.List.{list_any}
 use Rattle.std.specs.Option.{option_map}
@@ -18,7 +18,7 @@ use Rattle.name_store.proofs.Needs.{needs, is_needed}
 use Rattle.name_store.proofs.PastLaws.{Alike, alike-shape, past-alike, lies-shaped, Restored, restored-shape, same-buffers, kept-push, kept-free, kept-drop, kept-length, undoable-push, undoable-drop, undoable-still, Slots}
 use Rattle.name_store.proofs.StateLaws.{Freed, freed-swept}
 
--- What goes when a change is kept is the first.
+-- The change that is forgotten is the first.
 
 pub gone-first : (cap : ℕ) (xs : List Change) (c gone : Change) → length xs ≤ cap → Some gone ≡ cond (nat_lt (length xs) cap) None (slice_get (xs ++ c ∷ []) 0) → gone ∷ keep_last cap (xs ++ c ∷ []) ≡ xs ++ c ∷ []
 gone-first cap xs c gone short is =
@@ -33,7 +33,7 @@ gone-first cap xs c gone short is =
     front [] first = let same : gone ≡ c = cc in ap (λ x. x ∷ []) same
     front (x ∷ xs) first = let same : gone ≡ x = cc in ap (λ y. y ∷ xs ++ c ∷ []) same
 
--- The oldest change is forgotten, and lets go what it held.
+-- The oldest change is forgotten, and its buffer loses a user.
 module _ (ring ring' : Ring Change) (c gone : Change) (short : length ring.items ≤ ring.capacity) (is : Some gone ≡ cond (nat_lt (length ring.items) ring.capacity) None (slice_get (ring.items ++ c ∷ []) 0))
     (ring-is : ring' ≡ buffer (keep_last ring.capacity (ring.items ++ c ∷ [])) ring.capacity) where
   pub first-pins : (q : ℕ) → found_at q (held_number gone) + all_pins q ring'.items ≡ all_pins q (ring.items ++ c ∷ [])
@@ -45,7 +45,7 @@ module _ (ring ring' : Ring Change) (c gone : Change) (short : length ring.items
   pub gone-same : (slots : Slots) → held_number gone ≡ None → (q : ℕ) → users_at slots q + all_pins q (ring.items ++ c ∷ []) ≡ users_at slots q + all_pins q ring'.items
   gone-same slots keeps q = omega (arith, first-pins q, ap (found_at q) keeps)
 
--- the bytes that it takes to undo each change that is kept
+-- the number of bytes that are kept to undo each kept change
 pub patches-push : (ring ring' : Ring Change) (c : Change) → ring' ≡ buffer (keep_last ring.capacity (ring.items ++ c ∷ [])) ring.capacity → map patch_size ring'.items ≡ keep_last ring.capacity (map patch_size ring.items ++ patch_size c ∷ [])
 patches-push ring ring' c ring-is =
     let all = ring.items ++ c ∷ [] in
@@ -54,7 +54,7 @@ patches-push ring ring' c ring-is =
     ∙ ap (λ k. drop (k - ring.capacity) (map patch_size all)) (sym (length-map all patch_size))
     ∙ ap (keep_last ring.capacity) (map-append patch_size ring.items (c ∷ []))
 
--- A change was made to names and slots.
+-- A change was made to the names and slots.
 module _ (es : List (List ℕ × Entry)) (slots : Slots) (ring : Ring Change) (spare : ℕ) (sound : IsSound es slots ring spare) (es' : List (List ℕ × Entry)) (now : Slots) (c : Change)
     (before-is : names_before c (map named_array es') ≡ map named_array es) (holds : Holds es' now) (restored : (q : ℕ) → is_needed (map named_array es) ring.items q ≡ true → Restored c q (slot_at now q) (slot_at slots q))
     (own : IsUndoable c (map named_array es') now) where
@@ -118,6 +118,6 @@ module _ (es : List (List ℕ × Entry)) (slots : Slots) (ring : Ring Change) (s
     buffers-are : past_buffers [] names' after ≡ past_buffers [] names' now
     buffers-are = same-buffers [] [] names' after now (λ q used. past-alike [] q (slot_at after q) (slot_at now q) (stays q (in_front (is_in_use names' q) (list_any (needs q) ring'.items) used)))
 
-    -- what was is kept, and the rest is what is now
+    -- the state before the change is kept, and names and buffers are the new ones
     pub keep-state : state_of es' after ring' ≡ record (keeping (state_of es slots ring)) { names = names'; buffers = past_buffers [] names' now }
     keep-state = λ i. record { names = names'; buffers = buffers-are i; depth = capacity-is i; kept = kept-is i }

@@ -1,4 +1,4 @@
--- Layouts with the items of an array: where their places are.
+-- The places of the items of a layout of an array.
 use Rattle.std.proofs.Common.{◌≡◌, ◌+◌, ◌*◌, ◌<◌, ◌≤◌, ◌⊎◌, inl, inr, map, ℕ, zero, suc, ℤ, pos, negsuc, ◌+ℤ◌, ◌≤ℤ◌, List, [], ◌∷◌, ◌++◌, Bool, subst, arith}
 use Rattle.std.specs.List.{AllByRecursion, flat_map, range_with_len}
 use Rattle.std.proofs.lemmas.Bool.{cases_lt}
@@ -9,7 +9,7 @@ use Rattle.name_store.specs.States.{Array}
 use Rattle.name_store.specs.Parts.{descr_at, start_at}
 use Rattle.name_store.specs.Views.{IsLaidOut}
 
--- all indexes of a shape
+-- a property of all indexes of a shape
 both-parts : {X : Type 0} (P : X → Type 0) (xs ys : List X) → AllByRecursion P xs → AllByRecursion P ys → AllByRecursion P (xs ++ ys)
 both-parts P [] ys all more = more
 both-parts P (x ∷ xs) ys all more = (all.0, both-parts P xs ys all.1 more)
@@ -29,7 +29,7 @@ are-indexes (n ∷ shape) = rows (are-indexes shape) 0 n (omega arith)
         (each-mapped (IsIndex (n ∷ shape)) (IsIndex shape) (λ index. a ∷ index) (indexes shape) (λ index is. (omega (arith, few), is)) all)
         (rows all (a + 1) m (omega (arith, few)))
 
--- the offsets of items that fit so many bytes
+-- the items of a layout that fits lie within the bytes
 pub offsets-within : (l : Layout) (len item : ℕ) → Fits l len item → AllByRecursion (λ offset. offset + item ≤ len) (offsets l)
 unfolding offsets
 offsets-within l len item fits = each-mapped (λ offset. offset + item ≤ len) (IsIndex l.shape) (λ index. natural (address l index)) (indexes l.shape) (λ index is. low (address l index) (fits.from_zero index is) (fits.within index is)) (are-indexes l.shape)
@@ -38,7 +38,7 @@ offsets-within l len item fits = each-mapped (λ offset. offset + item ≤ len) 
     low (pos n) above end = omega (arith, ints, end)
     low (negsuc n) above end = absurd (omega (arith, ints, above))
 
--- the places of parts that end within n items
+-- if parts lie within the bytes of n items, their places are below n
 within-items : (item start width n : ℕ) (places : List ℕ) → 1 ≤ width → AllByRecursion (λ offset. offset + width ≤ n * item) (offsets_of item start places) → AllByRecursion (λ place. place < n) places
 within-items item start width n [] some inside = tt
 within-items item start width n (place ∷ places) some inside = (below (cases_lt place n), within-items item start width n places some inside.1)
@@ -53,7 +53,7 @@ places-within descr n array layout writable laid some =
     within-items (item_size descr) (start_at descr array.path) width n array.places some
     (subst (AllByRecursion (λ offset. offset + width ≤ n * item_size descr)) laid.places (offsets-within layout (n * item_size descr) width laid.fits))
 
--- an array stays laid out where everything that it rests on is equal
+-- a layout of an array stays one if all that it depends on is equal
 pub laid-same : (d d' : Descr) (n n' : ℕ) (a a' : Array) (l l' : Layout) (w w' : Bool) → d ≡ d' → n ≡ n' → a ≡ a' → l ≡ l' → w ≡ w' → IsLaidOut d n a l w → IsLaidOut d' n' a' l' w'
 laid-same d d' n n' a a' l l' w w' d-is n-is a-is l-is w-is laid =
     subst (λ (x : Bool). IsLaidOut d' n' a' l' x) w-is

@@ -1,4 +1,4 @@
--- Names in a table: looked up, put and removed.
+-- Looking up, putting and removing names in a table.
 use Rattle.std.proofs.Common.{◌≡◌, ◌+◌, ℕ, suc, Bool, true, false, List, [], ◌∷◌, take, drop, insert, map, refl, sym, ap, subst, ◌∙◌, cond, ◌||◌, not, Some, None, nat_eq, arith, ◌⊎◌, inl, inr}
 use Rattle.std.specs.List.{AllByRecursion, list_any, position_or_len}
 use Rattle.std.proofs.lemmas.List.{take-append-drop}
@@ -49,7 +49,7 @@ pub in_tail : (a b : Bool) → b ≡ true → (a || b) ≡ true
 in_tail true b h = refl
 in_tail false b h = h
 
--- a test of keys that is that of a name
+-- the test of keys tells whether a key is this name
 abbrev pub TestsName : (List ℕ → Bool) → List ℕ → Type 0
 TestsName test name = (k : List ℕ) → test k ≡ bytes_eq name k
 
@@ -79,7 +79,7 @@ put-insert eq k v is (e ∷ es) =
     ] refl
     ∙ ap (λ t. cond t ((k, array_at v) ∷ map named_array es) (named_array e ∷ put_array (map named_array es) k (array_at v))) (is e.0 ∙ bytes_eq-sym k e.0)
 
--- what holds of each entry holds of one that is found, and of those that are left
+-- a property of all entries holds for one that is found, and for those that remain
 pub all-lookup : (P : Entry → Type 0) (test : List ℕ → Bool) (es : List (List ℕ × Entry)) (v : Entry) → AllByRecursion (λ e. P e.1) es → lookup test es ≡ Some v → P v
 all-lookup P test [] v all found = let no : ⊥ = cc in absurd no
 all-lookup P test (e ∷ es) v all found =
@@ -116,7 +116,7 @@ all-in_use es = within es (map named_array es) (λ q h. h)
         behind : (e : List ℕ × Entry) (es : List (List ℕ × Entry)) (q : ℕ) → is_in_use (map named_array es) q ≡ true → is_in_use (map named_array (e ∷ es)) q ≡ true
         behind e es q later = elim (nat_eq e.1.number q) as (λ t. (t || is_in_use (map named_array es) q) ≡ true) [ true ↦ refl | false ↦ later ]
 
--- the buffers that are in use once an array is put or removed
+-- buffers that are in use after an array is put or removed
 pub used-put : (names : List (List ℕ × Array)) (name : List ℕ) (array : Array) → is_in_use (put_array names name array) array.buffer ≡ true
 used-put [] name array = ap (λ t. t || false) (nat_itself array.buffer)
 used-put (e ∷ names) name array =
@@ -134,11 +134,11 @@ found-used (e ∷ names) name array found =
       | false ↦ λ h. in_tail (nat_eq e.1.buffer array.buffer) (is_in_use names array.buffer) (found-used names name array h)
     ] found
 
--- and so is that of each entry
+-- and so is the buffer of an entry that is found
 pub lookup-used : (test : List ℕ → Bool) (es : List (List ℕ × Entry)) (e : Entry) → lookup test es ≡ Some e → is_in_use (map named_array es) e.number ≡ true
 lookup-used test es e was = all-lookup (λ x. is_in_use (map named_array es) x.number ≡ true) test es e (all-in_use es) was
 
--- what is in use once an array is put or removed was in use before, or is the array's
+-- a buffer that is in use after an array is put or removed was in use before, or it is the array's buffer
 pub used-back-put : (names : List (List ℕ × Array)) (name : List ℕ) (array : Array) (q : ℕ) → is_in_use (put_array names name array) q ≡ true → (is_in_use names q ≡ true) ⊎ (nat_eq array.buffer q ≡ true)
 used-back-put [] name array q used = inr (or_none (nat_eq array.buffer q) used)
 used-back-put (e ∷ names) name array q used =
@@ -161,7 +161,7 @@ used-back-without (e ∷ names) name q used =
       ]
     ] used
 
--- a name that stands between others
+-- a name that is inserted between others
 module _ (names : List (List ℕ × Array)) (place : ℕ) (x : List ℕ × Array) (q : ℕ) where
   abbrev lies_in : List ℕ × Array → Bool
   lies_in entry = nat_eq entry.1.buffer q
@@ -187,7 +187,7 @@ module _ (names : List (List ℕ × Array)) (place : ℕ) (x : List ℕ × Array
       inserted-is
       ∙ in_tail (list_any lies_in (take place names)) (nat_eq x.1.buffer q || list_any lies_in (drop place names)) (in_front (nat_eq x.1.buffer q) (list_any lies_in (drop place names)) own)
 
--- A name is bound and unbound, and unbound and bound.
+-- Binding a name and then unbinding it, and the other way round.
 
 pub without-put : (names : List (List ℕ × Array)) (name : List ℕ) (array : Array) → find_array names name ≡ None → without (put_array names name array) name ≡ names
 without-put [] name array none = ap (λ t. cond t [] ((name, array) ∷ [])) (itself name name refl)
@@ -208,7 +208,7 @@ put-put (e ∷ names) name array before found =
       | false ↦ λ is h. ap (λ t. cond t ((name, before) ∷ put_array names name array) (e ∷ put_array (put_array names name array) name before)) is ∙ ap (λ ns. e ∷ ns) (put-put names name array before h)
     ] refl found
 
--- an entry goes back to where it stood
+-- an entry that is inserted at its former place restores the table
 pub insert-removed : (test : List ℕ → Bool) (name : List ℕ) → TestsName test name → (es : List (List ℕ × Entry)) (e : Entry) (place : ℕ) → lookup test es ≡ Some e → place ≡ position_or_len test (keys_of es) →
     insert (map named_array (shift_remove_entry test es)) place (name, array_at e) ≡ map named_array es
 insert-removed test name is [] e place was at = let no : ⊥ = cc in absurd no

@@ -1,4 +1,4 @@
--- Targets whose places stand in another order.
+-- Targets with their places in another order.
 use Rattle.std.proofs.Common.{◌+◌, ◌≤◌, length, refl}
 use Rattle.std.specs.List.Sorted.{IsPermutation}
 use Rattle.std.proofs.lemmas.List.Sorted.{All-permutation}

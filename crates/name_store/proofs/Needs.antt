@@ -1,4 +1,4 @@
--- Whether a buffer is needed, and how many hold it.
+-- Whether a buffer is needed, and how many users it has.
 use Rattle.std.proofs.Common.{◌≡◌, ◌+◌, ◌-◌, ◌^◌, ◌≤◌, ◌<◌, ℕ, zero, suc, Bool, true, false, List, [], ◌∷◌, ◌++◌, length, insert, map, refl, sym, ap, ◌∙◌, cond, ◌||◌, Option, Some, None, is_some, nat_eq, nat_lt, arith}
 use Rattle.std.specs.List.{list_any}
 use Rattle.std.specs.Option.{option_map}
@@ -16,18 +16,18 @@ use Rattle.name_store.specs.declared.bound.Entry.{Entry}
 use Rattle.name_store.specs.declared.slot.Slot.{Slot}
 use Rattle.circular_buffer.specs.Buffer.{Buffer as Ring}
 
--- whether it takes the buffer with a number to undo a change
+-- whether buffer `number` is needed to undo a change
 abbrev pub needs : ℕ → Change → Bool
 needs number (Bind key None) = false
 needs number (Bind key (Some entry)) = nat_eq entry.number number
 needs number (Unbind place key entry) = nat_eq entry.number number
 needs number (Write written target items) = false
 
--- whether a name or a change needs it
+-- whether buffer `number` is needed by a name or a change
 abbrev pub is_needed : Names → List Change → ℕ → Bool
 is_needed names changes number = is_in_use names number || list_any (needs number) changes
 
--- a count is above zero where what is counted is there
+-- A count is above zero if and only if there is something to count.
 
 one-more : (t : Bool) (n : ℕ) (rest : Bool) → nat_lt 0 n ≡ rest → nat_lt 0 (cond t 1 0 + n) ≡ (t || rest)
 one-more true n rest e = lt-ltb 0 (1 + n) (omega arith)
@@ -54,7 +54,7 @@ either-count (suc m) n = lt-ltb 0 (suc m + n) (omega arith) ∙ sym (ap (λ t. t
 pub needed-count : (names : Names) (cs : List Change) (q : ℕ) → nat_lt 0 (users_in q names + all_pins q cs) ≡ is_needed names cs q
 needed-count names cs q = either-count (users_in q names) (all_pins q cs) ∙ λ i. used-count q names i || all-count q cs i
 
--- a buffer is there where some hold it
+-- a slot is occupied if and only if it has a user
 pub there-count : (o : Option Slot) → is_some o ≡ nat_lt 0 (users_of o)
 there-count None = refl
 there-count (Some s) = sym (lt-ltb 0 s.users s.is_used)
@@ -66,7 +66,7 @@ there-used (Some s) some = s.is_used
 pub needed-there : (names : Names) (cs : List Change) (slots : List (Option Slot)) → ((q : ℕ) → users_at slots q ≡ users_in q names + all_pins q cs) → (q : ℕ) → is_some (slot_at slots q) ≡ is_needed names cs q
 needed-there names cs slots counted q = there-count (slot_at slots q) ∙ ap (nat_lt 0) (counted q) ∙ needed-count names cs q
 
--- just those slots are occupied that a name or a change needs
+-- a slot is occupied if and only if a name or a change needs it
 pub occupied : (es : List (List ℕ × Entry)) (slots : List (Option Slot)) (ring : Ring Change) (spare : ℕ) → IsSound es slots ring spare → (q : ℕ) → is_some (slot_at slots q) ≡ is_needed (map named_array es) ring.items q
 occupied es slots ring spare sound = needed-there (map named_array es) ring.items slots sound.counted
 
@@ -96,7 +96,7 @@ users-insert q names zero e = omega arith
 users-insert q [] (suc place) e = omega arith
 users-insert q (x ∷ names) (suc place) e = omega (arith, users-insert q names place e)
 
--- few hold a buffer
+-- a buffer has at most one user for each name and each change
 pub users-few : (q : ℕ) (names : Names) → users_in q names ≤ length names
 users-few q [] = omega arith
 users-few q (e ∷ names) = elim (nat_eq e.1.buffer q) as (λ t. cond t 1 0 + users_in q names ≤ length (e ∷ names)) [ true ↦ omega (arith, users-few q names) | false ↦ omega (arith, users-few q names) ]
@@ -113,7 +113,7 @@ pub pins-push : (q : ℕ) (cs : List Change) (c : Change) → all_pins q (cs ++ 
 pins-push q [] c = omega arith
 pins-push q (d ∷ cs) c = omega (arith, pins-push q cs c)
 
--- A change was made to names and slots, and is kept: who holds a buffer then.
+-- The users of each buffer after a change was made to the names and slots, and kept.
 module _ (names names' : Names) (cs : List Change) (c : Change) (old now : List (Option Slot)) (counted : (q : ℕ) → users_at old q ≡ users_in q names + all_pins q cs) (made : (q : ℕ) → users_at now q + users_in q names ≡ users_at old q + users_in q names' + pins q c) where
   pub made-held : (q : ℕ) → all_pins q (cs ++ c ∷ []) ≤ users_at now q
   made-held q = omega (arith, counted q, made q, pins-push q cs c)
@@ -121,7 +121,7 @@ module _ (names names' : Names) (cs : List Change) (c : Change) (old now : List 
   pub kept-counted : (cs' : List Change) (after : List (Option Slot)) → ((q : ℕ) → users_at after q + all_pins q (cs ++ c ∷ []) ≡ users_at now q + all_pins q cs') → (q : ℕ) → users_at after q ≡ users_in q names' + all_pins q cs'
   kept-counted cs' after kept q = omega (arith, counted q, made q, kept q, pins-push q cs c)
 
--- fewer hold a buffer than there are numbers
+-- a buffer has few enough users to count one more
 pub users-small : (es : List (List ℕ × Entry)) (slots : List (Option Slot)) (ring : Ring Change) (spare : ℕ) → IsSound es slots ring spare → ring.capacity < 2 ^ 63 → (q : ℕ) → users_at slots q < 2 ^ 64 - 1
 users-small es slots ring spare sound small q =
     omega (arith, sound.counted q, users-few q (map named_array es), pins-few q ring.items, length-map es named_array, sound.holds.few, sound.short, small)

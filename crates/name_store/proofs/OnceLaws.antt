@@ -1,4 +1,4 @@
--- A writable array has no place twice.
+-- No two places of a writable array are equal.
 use Rattle.std.proofs.Common.{◌≡◌, ◌≢◌, ◌+◌, ◌*◌, ◌/◌, ◌<◌, ℕ, List, length, IsTrue, sym, ap, ◌∙◌, slice_index, arith}
 use Rattle.std.proofs.lemmas.List.{length-map}
 use Rattle.name_store.specs.Words.{item_size, offsets, distance, places_of}

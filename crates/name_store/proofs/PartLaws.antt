@@ -1,4 +1,4 @@
--- Parts of an item: where their bytes lie, and what is read and written there.
+-- Parts of an item: where their bytes are, and how they are read and written.
 use Rattle.std.proofs.Common.{◌≡◌, ◌+◌, ◌-◌, ◌<◌, ◌≤◌, ℕ, List, [], ◌∷◌, ◌++◌, length, take, drop, map, refl, sym, ap, ◌∙◌, append_assoc, arith, length-take, length-append}
 use Rattle.std.proofs.Math.Seq.{take-append_seam}
 use Rattle.std.proofs.lemmas.List.{take-take, drop-drop, map-append, length-map, take-append-le, drop-append-le, take-append-drop, drop-take, take_at, drop_at}
@@ -7,23 +7,23 @@ use Rattle.name_store.specs.Parts.{IsPathOf, descr_at, start_at, first_at, span_
 use Rattle.name_store.specs.Places.{IsElementType}
 use Rattle.name_store.proofs.FieldSplits.{Split, split-whole, split-within, records_deep, type-some, type-in_order, type-leaves, type-shallow, fields-deep, field-deep, field-legal, field-split}
 
--- ---- bytes of a part
+-- ---- the bytes of a part
 
--- bytes in the front of a list
+-- bytes within the first `len`
 take-within : (at width len : ℕ) (xs : List ℕ) → at + width ≤ len → take width (drop at (take len xs)) ≡ take width (drop at xs)
 take-within at width len xs fits =
     sym (drop-take at width (take len xs))
     ∙ ap (drop at) (take-take (at + width) len xs fits)
     ∙ drop-take at width xs
 
--- the bytes before those that are put
+-- the bytes before the item that is put
 taken-before : (at width to : ℕ) (item xs : List ℕ) → at + width ≤ to → to ≤ length xs → take width (drop at (put to item xs)) ≡ take width (drop at xs)
 taken-before at width to item xs before within =
     sym (take-within at width to (put to item xs) before)
     ∙ ap (λ front. take width (drop at front)) (ap (take to) (append_assoc (take to xs) item (drop (to + length item) xs)) ∙ take_at (take to xs) (item ++ drop (to + length item) xs) to (omega (arith, length-take to xs)))
     ∙ take-within at width to xs before
 
--- those after them
+-- the bytes after it
 dropped-after : (at to : ℕ) (item xs : List ℕ) → to + length item ≤ at → to ≤ length xs → drop at (put to item xs) ≡ drop at xs
 dropped-after at to item xs after within =
     ap (λ n. drop n (put to item xs)) more
@@ -41,14 +41,14 @@ dropped-after at to item xs after within =
     front : length (take to xs ++ item) ≡ to + length item
     front = omega (arith, within, length-append (take to xs) item, length-take to xs)
 
--- and they themselves
+-- the bytes of the item itself
 taken-there : (to : ℕ) (item xs : List ℕ) → to ≤ length xs → take (length item) (drop to (put to item xs)) ≡ item
 taken-there to item xs within =
     ap (λ bytes. take (length item) (drop to bytes)) (append_assoc (take to xs) item (drop (to + length item) xs))
     ∙ ap (take (length item)) (drop_at (take to xs) (item ++ drop (to + length item) xs) to (omega (arith, length-take to xs)))
     ∙ take-append_seam item (drop (to + length item) xs)
 
--- bytes put in the front of a list
+-- an item that is put within the first `len` bytes
 pub put-front : (at len : ℕ) (item xs : List ℕ) → at + length item ≤ len → len ≤ length xs → put at item xs ≡ put at item (take len xs) ++ drop len xs
 put-front at len item xs fits within =
     ap (put at item) (sym (take-append-drop len xs))
@@ -58,9 +58,9 @@ put-front at len item xs fits within =
     front : length (take len xs) ≡ len
     front = omega (arith, within, length-take len xs)
 
--- ---- values of leaves
+-- ---- the values of leaves
 
--- those of leaves further on
+-- the values of leaves that are moved
 values-moved : (start width from : ℕ) (bytes part : List ℕ) (leaves : List Leaf) → AreInOrder from leaves width → take width (drop start bytes) ≡ part → map (leaf_value bytes) (map (moved_leaf start) leaves) ≡ map (leaf_value part) leaves
 values-moved start width from bytes part [] order is = refl
 values-moved start width from bytes part (leaf ∷ leaves) order is =
@@ -72,21 +72,21 @@ values-moved start width from bytes part (leaf ∷ leaves) order is =
         ∙ sym (take-within leaf.at (size leaf.scalar) width (drop start bytes) (AreInOrder-within (leaf.at + size leaf.scalar) leaves width order.2))
         ∙ ap (λ bytes. take (size leaf.scalar) (drop leaf.at bytes)) is
 
--- those of leaves before the bytes that are put
+-- the values of leaves before the item that is put
 same-before : (to from : ℕ) (item xs : List ℕ) (leaves : List Leaf) → AreInOrder from leaves to → to ≤ length xs → map (leaf_value (put to item xs)) leaves ≡ map (leaf_value xs) leaves
 same-before to from item xs [] order within = refl
 same-before to from item xs (leaf ∷ leaves) order within =
     λ i. decode leaf.scalar (taken-before leaf.at (size leaf.scalar) to item xs (AreInOrder-within (leaf.at + size leaf.scalar) leaves to order.2) within i)
     ∷ same-before to (leaf.at + size leaf.scalar) item xs leaves order.2 within i
 
--- and of leaves behind them
+-- the values of leaves after it
 same-after : (to from bytes : ℕ) (item xs : List ℕ) (leaves : List Leaf) → AreInOrder from leaves bytes → to + length item ≤ from → to ≤ length xs → map (leaf_value (put to item xs)) leaves ≡ map (leaf_value xs) leaves
 same-after to from bytes item xs [] order after within = refl
 same-after to from bytes item xs (leaf ∷ leaves) order after within =
     λ i. decode leaf.scalar (take (size leaf.scalar) (dropped-after leaf.at to item xs (omega (arith, after, order.0)) within i))
     ∷ same-after to (leaf.at + size leaf.scalar) bytes item xs leaves order.2 (omega (arith, after, order.0)) within i
 
--- ---- some of several values
+-- ---- some values among others
 
 module _ (f : Leaf → LeafValue) (front middle back : List Leaf) (first count : ℕ) (before : length front ≡ first) (here : length middle ≡ count) where
   three : map f (front ++ (middle ++ back)) ≡ map f front ++ (map f middle ++ map f back)
@@ -106,7 +106,7 @@ module _ (f : Leaf → LeafValue) (front middle back : List Leaf) (first count :
       ap (drop (first + count)) (three ∙ sym (append_assoc (map f front) (map f middle) (map f back)))
       ∙ drop_at (map f front ++ map f middle) (map f back) (first + count) (omega (arith, length-append (map f front) (map f middle), length-map front f, length-map middle f, before, here))
 
--- ---- a path
+-- ---- paths
 
 pub path-split : (descr : Descr) (path : List ℕ) → IsElementType descr → IsPathOf descr path → Split (leaves_of descr) 0 (start_at descr path) (descr_at descr path) (item_size descr) (first_at descr path)
 path-split descr [] legal is = split-whole descr
@@ -142,16 +142,16 @@ module _ (descr : Descr) (legal : IsElementType descr) (path : List ℕ) (there 
   pub part-leaves : 1 ≤ length (leaves_of own)
   part-leaves = type-leaves own (path-legal descr path legal there)
 
-  -- the leaves of a part are some of the item's
+  -- the leaves of a part are among those of the item
   pub span-within : first_at descr path + length (leaves_of own) ≤ length (leaves_of descr)
   span-within =
       omega (arith, ap length split.all, split.counted, length-append split.front (map (moved_leaf start) (leaves_of own) ++ split.back), length-append (map (moved_leaf start) (leaves_of own)) split.back, length-map (leaves_of own) (moved_leaf start))
 
-  -- a path to a record may go on
+  -- a path to a record is short enough to append a field
   pub part-deeper : (k : ℕ) → k < length (fields own) → length path < 4
   part-deeper k low = omega (arith, path-deep descr path there, type-shallow descr legal, fields-deep own k low)
 
-  -- what is read where a part begins
+  -- the values of a part are those read where it begins
   pub part-read : (block : List ℕ) (at : ℕ) → part_at (span_at descr path) (item_from descr block at) ≡ item_from own block (at + start)
   part-read block at =
       ap (λ leaves. take (length (leaves_of own)) (drop (first_at descr path) (map (leaf_value bytes) leaves))) split.all
@@ -166,7 +166,7 @@ module _ (descr : Descr) (legal : IsElementType descr) (path : List ℕ) (there 
           take-within start (item_size own) (item_size descr) (drop at block) part-within
           ∙ ap (take (item_size own)) (drop-drop start at block)
 
-  -- what is read where the bytes of a part are put
+  -- the values of an item after the bytes of a part are put
   pub part-put : (part bytes : List ℕ) → length part ≡ item_size own → length bytes ≡ item_size descr →
       decode_item descr (put start part bytes) ≡ with_part (span_at descr path) (decode_item own part) (decode_item descr bytes)
   part-put part bytes whole long =

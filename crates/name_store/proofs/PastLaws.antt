@@ -1,4 +1,4 @@
--- The states that are kept, once a change is kept, undone or forgotten.
+-- The kept states after a change is kept, undone or forgotten.
 use Rattle.std.proofs.Common.{◌≡◌, ◌+◌, ◌*◌, ◌≤◌, ℕ, zero, suc, Bool, true, false, List, [], ◌∷◌, ◌++◌, length, drop, refl, sym, ap, subst, ◌∙◌, cond, ◌||◌, Option, Some, None, All, ◌⊎◌, inl, inr}
 use Rattle.std.specs.List.{AllByRecursion, list_any}
 use Rattle.std.specs.Option.{option_map}
@@ -27,9 +27,9 @@ use Rattle.name_store.proofs.SlotLaws.{get-past}
 abbrev pub Slots : Type 0
 Slots = List (Option Slot)
 
--- What is needed
+-- Buffers that are needed
 
--- what is in use before a change is so after it, or the change needs it
+-- a buffer in use before a change is in use after it, or the change needs it
 pub used-before : (c : Change) (names : Names) (q : ℕ) → is_in_use (names_before c names) q ≡ true → (is_in_use names q ≡ true) ⊎ (needs q c ≡ true)
 used-before (Bind key None) names q used = inl (used-back-without names key q used)
 used-before (Bind key (Some e)) names q used = used-back-put names key (array_at e) q used
@@ -67,11 +67,11 @@ past_bytes-push (d ∷ cs) c q bytes = ap (bytes_before d q) (past_bytes-push cs
 abbrev pub content_before : Change → ℕ → Slot → Descr × ℕ × List ℕ
 content_before c q s = (s.descr, s.items, bytes_before c q s.block)
 
--- two slots that hold the same buffer, or are both free
+-- two slots have the same contents, or both are empty
 abbrev pub Alike : Option Slot → Option Slot → Type 0
 Alike now before = option_map stand now ≡ option_map stand before
 
--- a slot that stands as before, once a change is undone
+-- once the change is undone, a slot has the same contents as before
 abbrev pub Restored : Change → ℕ → Option Slot → Option Slot → Type 0
 Restored c q now before = option_map (content_before c q) now ≡ option_map stand before
 
@@ -99,7 +99,7 @@ past-alike cs q now before alike = one now ∙ ap (option_map past) alike ∙ sy
     one None = refl
     one (Some s) = refl
 
--- the buffers that some names use depend on what stands in the slots of these
+-- the buffers that names use depend only on the contents of their slots
 pub same-buffers : (cs cs' : List Change) (names : Names) (slots slots' : Slots) → ((q : ℕ) → is_in_use names q ≡ true → option_map (past_buffer cs q) (slot_at slots q) ≡ option_map (past_buffer cs' q) (slot_at slots' q)) →
     past_buffers cs names slots ≡ past_buffers cs' names slots'
 same-buffers cs cs' names slots slots' same = same_map nat_cmp_total nat_cmp-IsAntisymmetric _ _ (λ q. get-past cs names slots q ∙ at q ∙ sym (get-past cs' names slots' q))
@@ -111,7 +111,7 @@ same-buffers cs cs' names slots slots' same = same_map nat_cmp_total nat_cmp-IsA
           | false ↦ λ _. refl
         ] refl
 
--- With one more change, the states that are kept are those of before, and the state of before.
+-- With one more change, the kept states are the earlier ones, followed by the state before the change.
 pub kept-push : (cs : List Change) (c : Change) (names : Names) (slots before : Slots) → ((q : ℕ) → is_needed (names_before c names) cs q ≡ true → Restored c q (slot_at slots q) (slot_at before q)) →
     kept_states (cs ++ c ∷ []) names slots ≡ kept_states cs (names_before c names) before ++ (names_before c names, past_buffers [] (names_before c names) before) ∷ []
 kept-push [] c names slots before restored =
@@ -125,7 +125,7 @@ kept-push (d ∷ cs) c names slots before restored =
     λ i. (past_names-push (d ∷ cs) c names i, (ap (λ ns. past_buffers ((d ∷ cs) ++ c ∷ []) ns slots) (past_names-push (d ∷ cs) c names) ∙ same-buffers ((d ∷ cs) ++ c ∷ []) (d ∷ cs) past slots before at) i)
     ∷ kept-push cs c names slots before (λ q needed. restored q (needed-more now d cs q needed)) i
 
--- They are the same while what is needed stands where it stood.
+-- The kept states are unchanged if the contents of the slots that are needed are unchanged.
 pub kept-free : (cs : List Change) (names : Names) (slots before : Slots) → ((q : ℕ) → is_needed names cs q ≡ true → Alike (slot_at slots q) (slot_at before q)) → kept_states cs names slots ≡ kept_states cs names before
 kept-free [] names slots before same = refl
 kept-free (c ∷ cs) names slots before same =
@@ -142,7 +142,7 @@ pub kept-length : (cs : List Change) (names : Names) (slots : Slots) → length 
 kept-length [] names slots = refl
 kept-length (c ∷ cs) names slots = ap suc (kept-length cs names slots)
 
--- What can be undone
+-- Changes that can be undone
 
 abbrev pub shape : Slot → Descr × ℕ
 shape s = (s.descr, s.items)
@@ -234,9 +234,9 @@ undoable-drop zero cs names slots can = can
 undoable-drop (suc n) [] names slots can = can
 undoable-drop (suc n) (c ∷ cs) names slots can = undoable-drop n cs names slots can.2
 
--- Numbers
+-- Numbers of buffers
 
--- a number of a slot that is free is in no state that is kept
+-- the number of a free slot is in no kept state
 pub kept-none : (cs : List Change) (names : Names) (slots : Slots) (q : ℕ) → slot_at slots q ≡ None → AllByRecursion (λ state. get state.1 q ≡ None) (kept_states cs names slots)
 kept-none [] names slots q free = tt
 kept-none (c ∷ cs) names slots q free =
@@ -247,14 +247,14 @@ kept-none (c ∷ cs) names slots q free =
     none true = refl
     none false = refl
 
--- what a change needs was in use before it
+-- a buffer that a change needs was in use before the change
 pub needs-used : (c : Change) (names : Names) (slots : Slots) (q : ℕ) → IsUndoable c names slots → needs q c ≡ true → is_in_use (names_before c names) q ≡ true
 needs-used (Bind key None) names slots q can own = let no : ⊥ = cc in absurd no
 needs-used (Bind key (Some e)) names slots q can own = ap (is_in_use (put_array names key (array_at e))) (sym (eqb-true e.number q own)) ∙ used-put names key (array_at e)
 needs-used (Unbind place key e) names slots q can own = used-insert names place (key, array_at e) q own
 needs-used (Write number target items) names slots q can own = let no : ⊥ = cc in absurd no
 
--- and that of one that a change needs is in one
+-- the number of a buffer that a change needs is in some kept state
 pub kept-some : (cs : List Change) (names : Names) (slots : Slots) (q : ℕ) (s : Slot) → slot_at slots q ≡ Some s → AreUndoable cs names slots → list_any (needs q) cs ≡ true → AllByRecursion (λ state. get state.1 q ≡ None) (kept_states cs names slots) → ⊥
 kept-some [] names slots q s there can needed none = let no : ⊥ = cc in no
 kept-some (c ∷ cs) names slots q s there can needed none =

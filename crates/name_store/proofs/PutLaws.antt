@@ -1,4 +1,4 @@
--- Parts of items in a block: read, and put.
+-- Reading and putting parts of items in a block.
 use Rattle.std.proofs.Common.{◌≡◌, ◌+◌, ◌*◌, ◌<◌, ◌≤◌, ℕ, List, [], ◌∷◌, ◌++◌, length, take, drop, map, refl, sym, ap, ◌∙◌, unwrap_or, slice_set, append_assoc, arith, length-take, length-drop}
 use Rattle.std.specs.List.{AllByRecursion}
 use Rattle.std.proofs.lemmas.List.{drop-drop}
@@ -9,7 +9,7 @@ use Rattle.name_store.specs.Places.{IsElementType}
 use Rattle.name_store.proofs.BlockLaws.{put-add, put-item, item-at, item-inside}
 use Rattle.name_store.proofs.PartLaws.{put-front, part-within, part-read, part-put}
 
--- bytes put within an item are the item put, with these bytes in it
+-- putting bytes within an item is the same as putting the item with these bytes in it
 put-part : (width at start : ℕ) (part block : List ℕ) → start + length part ≤ width → at + width ≤ length block →
     put (at + start) part block ≡ put at (put start part (take width (drop at block))) block
 put-part width at start part block fits within =
@@ -33,7 +33,7 @@ module _ (descr : Descr) (legal : IsElementType descr) (path : List ℕ) (there 
   abbrev part_descr : Descr
   part_descr = descr_at descr path
 
-  -- a part of the items at places is what is read where it begins
+  -- the parts of the items at places are read where they begin
   pub items-read : (n : ℕ) (block places : List ℕ) → AllByRecursion (λ place. place < n) places →
       map (λ place. part_at span (placed_item (items_in descr n block) place)) places ≡ map (item_from part_descr block) (offsets_of (item_size descr) start places)
   items-read n block [] within = refl
@@ -65,7 +65,7 @@ module _ (descr : Descr) (legal : IsElementType descr) (path : List ℕ) (there 
       long : length old ≡ item_size descr
       long = omega (arith, length-take (item_size descr) (drop at block), length-drop at block, inside)
 
-  -- parts put in the items at places, one after the other
+  -- parts are put in the items at places, one after the other
   pub with_items-items : (n : ℕ) (places : List ℕ) (parts : List (List ℕ)) (bytes : List ℕ) → AllByRecursion (λ place. place < n) places → AllByRecursion (λ part. length part ≡ item_size part_descr) parts → n * item_size descr ≤ length bytes →
       items_in descr n (with_items (offsets_of (item_size descr) start places) parts bytes) ≡ write span places (map (decode_item part_descr) parts) (items_in descr n bytes)
   with_items-items n [] parts bytes within whole fits = refl

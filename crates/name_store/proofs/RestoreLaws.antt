@@ -1,4 +1,4 @@
--- Old items go back: the bytes are as they were, however the items lie.
+-- Writing old items back restores the bytes, even if the items overlap.
 use Rattle.std.proofs.Common.{◌≡◌, ◌+◌, ◌-◌, ◌<◌, ◌≤◌, ℕ, zero, suc, List, [], ◌∷◌, length, drop, refl, sym, ap, subst, ◌∙◌, get_or, arith, ◌⊎◌, inl, inr}
 use Rattle.std.specs.List.{AllByRecursion}
 use Rattle.std.proofs.lemmas.List.{get_or-take, get_or-drop, ext_get_or}
@@ -9,7 +9,7 @@ use Rattle.std.proofs.lemmas.List.Sorted.{Contains-permutation}
 use Rattle.std.proofs.lemmas.Bool.{cases_lt}
 use Rattle.name_store.specs.Words.{put, item_at, length-put, length-item_at, get_or-put_before, get_or-put_after, item_at-put_same, items_at, with_items}
 
--- the byte k is among those of the items, or it is the same in both
+-- Byte k is in one of the items. For `SameElse`, every other byte is the same in both lists.
 abbrev pub Within : ℕ → List ℕ → ℕ → Type 0
 Within width [] k = ⊥
 Within width (o ∷ os) k = ((o ≤ k) × (k < o + width)) ⊎ Within width os k
@@ -23,7 +23,7 @@ three o width k = elim (cases_lt k o) [
   | inr from ↦ elim (cases_lt k (o + width)) [ inl inside ↦ inr (inl (from, inside)) | inr past ↦ inr (inr past) ]
 ]
 
--- items that are put
+-- items that are written
 pub length-with : (width : ℕ) (os : List ℕ) (parts : List (List ℕ)) (bytes : List ℕ) → AllByRecursion (λ part. length part ≡ width) parts → AllByRecursion (λ o. o + width ≤ length bytes) os → length (with_items os parts bytes) ≡ length bytes
 length-with width [] parts bytes whole inside = refl
 length-with width (o ∷ os) [] bytes whole inside = refl
@@ -38,7 +38,7 @@ put-else width o part bytes k whole inside =
       | inr later ↦ elim later [ inl within ↦ inl within | inr past ↦ inr (get_or-put_after o part bytes (omega (arith, whole, inside)) k (omega (arith, whole, past))) ]
     ]
 
--- they change no other byte
+-- they change no other bytes
 pub with-else : (width : ℕ) (os : List ℕ) (parts : List (List ℕ)) (bytes : List ℕ) → AllByRecursion (λ part. length part ≡ width) parts → AllByRecursion (λ o. o + width ≤ length bytes) os → SameElse width os (with_items os parts bytes) bytes
 with-else width [] parts bytes whole inside k = inr refl
 with-else width (o ∷ os) [] bytes whole inside k = inr refl
@@ -49,7 +49,7 @@ with-else width (o ∷ os) (part ∷ parts) bytes whole inside k =
       | inr later ↦ elim (put-else width o part bytes k whole.0 inside.0) [ inl here ↦ inl (inl here) | inr before ↦ inr (later ∙ before) ]
     ]
 
--- the byte of an item that is put
+-- a byte of an item that is written back
 put-here : (width o : ℕ) (old bytes : List ℕ) (k : ℕ) → o + width ≤ length old → o + width ≤ length bytes → o ≤ k → k < o + width → get_or (put o (item_at o width old) bytes) k 0 ≡ get_or old k 0
 put-here width o old bytes k within inside from below =
     let item : List ℕ = item_at o width old in
@@ -61,7 +61,7 @@ put-here width o old bytes k within inside from below =
     let read : (l : List ℕ) → get_or (item_at o width l) i 0 ≡ get_or l k 0 = λ l. get_or-take width (drop o l) i 0 less ∙ get_or-drop o l i 0 ∙ ap (λ j. get_or l j 0) there in
     sym (read new) ∙ ap (λ (l : List ℕ). get_or l i 0) (ap (λ n. item_at o n new) (sym long) ∙ item_at-put_same o item bytes (omega (arith, long, inside))) ∙ read old
 
--- old items go back over bytes that are new among them alone
+-- writing old items back restores the bytes if all others are unchanged
 pub put-back : (width : ℕ) (os : List ℕ) (old new : List ℕ) → length new ≡ length old → AllByRecursion (λ o. o + width ≤ length old) os → SameElse width os new old → with_items os (items_at os width old) new ≡ old
 put-back width [] old new long inside same = ext_get_or 0 new old long (λ k less. elim (same k) [ inl nothing ↦ absurd nothing | inr is ↦ is ])
 put-back width (o ∷ os) old new long inside same =

@@ -1,4 +1,4 @@
--- Items that are put in a slot that was lent.
+-- Items that are written to a slot that was borrowed.
 use Rattle.std.proofs.Common.{◌≡◌, ◌+◌, ◌*◌, ◌≤◌, ◌<◌, ℕ, zero, suc, true, false, List, [], ◌∷◌, length, refl, sym, ap, subst, ◌∙◌, cond, Option, Some, nat_eq, get_or, slice_set, All, Result, Ok, Err, IfOk, IfErr, None}
 use Rattle.std.specs.List.{AllByRecursion}
 use Rattle.std.specs.Option.{option_map}
@@ -33,13 +33,13 @@ lent-new slots number was now old bytes inside there descr items users block is 
       set = λ other. slot_at-set slots number (Some now) other inside;
     }
 
--- what is set twice is what was set last
+-- of two values set in the same slot, the last one remains
 pub set-twice : (slots : List (Option Slot)) (number : ℕ) (first last : Option Slot) → slice_set (slice_set slots number first) number last ≡ slice_set slots number last
 set-twice [] number first last = refl
 set-twice (slot ∷ slots) zero first last = refl
 set-twice (slot ∷ slots) (suc number) first last = ap (λ rest. slot ∷ rest) (set-twice slots number first last)
 
--- as many hold each buffer
+-- the users of each buffer are unchanged
 pub new-users : (slots : List (Option Slot)) (number : ℕ) (s : Slot) (bytes : List ℕ) (after : List (Option Slot)) → slot_at slots number ≡ Some s → HasNew slots number s bytes after → (q : ℕ) → users_at after q ≡ users_at slots q
 new-users slots number s bytes after there new q =
     elim (nat_eq q number) as (λ t. nat_eq q number ≡ t → slot_at after q ≡ cond t (Some new.new) (slot_at slots q) → users_at after q ≡ users_at slots q) [
@@ -47,7 +47,7 @@ new-users slots number s bytes after there new q =
       | false ↦ λ _ there-is. ap users_of there-is
     ] refl (new.set q)
 
--- with the same bytes, the same stands in each slot
+-- with the same bytes, the contents of each slot are unchanged
 pub kept-same : (slots : List (Option Slot)) (number : ℕ) (s : Slot) (after : List (Option Slot)) → slot_at slots number ≡ Some s → HasNew slots number s s.block after → AreSame slots after
 kept-same slots number s after there new q = (
   elim (nat_eq q number) as (λ t. nat_eq q number ≡ t → slot_at after q ≡ cond t (Some new.new) (slot_at slots q) → option_map stand (slot_at after q) ≡ option_map stand (slot_at slots q)) [
@@ -60,7 +60,7 @@ kept-same slots number s after there new q = (
   new-users slots number s s.block after there new q,
 )
 
--- a buffer is among the others, or it is the one that is written
+-- a buffer is among the others, or it is the one being written
 pub lender-is : (slots : List (Option Slot)) (number : ℕ) (s : Slot) (q : ℕ) (x : Slot) → slot_at slots number ≡ Some s → slot_at slots q ≡ Some x → block_from (slot_at (without_slot slots number) q) s.block ≡ x.block
 lender-is slots number s q x here there =
     ap (λ o. block_from o s.block) (slot_at-set slots number None q (slot_at-within slots number s here))
@@ -69,7 +69,7 @@ lender-is slots number s q x here there =
       | false ↦ λ _. ap (λ o. block_from o s.block) there
     ] refl
 
--- a number that no other has is that of the one that is written
+-- a buffer that is not among the others is the one being written
 pub none-other : (slots : List (Option Slot)) (number : ℕ) (s : Slot) (q : ℕ) (x : Slot) → slot_at slots number ≡ Some s → slot_at slots q ≡ Some x → slot_at (without_slot slots number) q ≡ None → q ≡ number
 none-other slots number s q x here there none =
     elim (nat_eq q number) as (λ t. nat_eq q number ≡ t → q ≡ number) [
@@ -82,7 +82,7 @@ none-other slots number s q x here there none =
 pub owned-within : (owned : Owned) (width : ℕ) → item_size owned.descr ≡ width → All (λ offset. offset + width ≤ length owned.block) (offsets owned.layout)
 owned-within owned width size = offsets_within owned.layout (length owned.block) width (subst (Fits owned.layout (length owned.block)) size owned.fills_block.fits)
 
--- the items of a buffer lie in its block, and they are those to write
+-- the items of a buffer lie in its block, and they are the items to write
 module _ (others : List (Option Slot)) (width : ℕ) (block : List ℕ) (n number : ℕ) (from : Layout) (are : AreItems others width block n (Buffer number from)) (o d : Option Slot) (is : get_or others number d ≡ o) where
   there : slot_at others number ≡ o
   there = sym (slot_at-get_or others number d are.0) ∙ is
@@ -101,14 +101,14 @@ module _ (others : List (Option Slot)) (width : ℕ) (block : List ℕ) (n numbe
   lent-packed (Ok items) long same = record { long = long ∙ ap (λ n. n * width) are.2; items = ap (λ n. items_at (multiples width n) width items) (sym are.2) ∙ same ∙ lent-parts }
   lent-packed (Err e) _ _ = tt
 
--- each item has as many bytes as it must
+-- each item has `width` bytes
 pub parts-whole : (others : List (Option Slot)) (width : ℕ) (block : List ℕ) (n : ℕ) (source : Source) → AreItems others width block n source → AllByRecursion (λ part. length part ≡ width) (parts_of others width block n source)
 parts-whole others width block n (One item) are = all-replicated (λ part. length part ≡ width) n item.items are
 parts-whole others width block n (Block owned) are = items-whole (offsets owned.layout) width owned.block (offsets-within owned.layout (length owned.block) width (subst (Fits owned.layout (length owned.block)) are.0 owned.fills_block.fits))
 parts-whole others width block n (Buffer number layout) are =
     let from = block_from (slot_at others number) block in items-whole (offsets layout) width from (offsets-within layout (length from) width are.1)
 
--- a slot that was taken out is put back with other bytes in its block
+-- a slot that was taken out is put back, with new bytes in its block
 module _ (slots : List (Option Slot)) (home : Home) (target : Target) (source : Source) (can : CanWrite slots home target source) (s : Slot) (there : slot_at slots home.number ≡ Some s) where
   pub can-slot : CanPut (without_slot slots home.number) home.width target source s.block
   can-slot = subst (λ (x : Slot). CanPut (without_slot slots home.number) home.width target source x.block) (same_Some can.slot s (sym can.there ∙ there)) can.can
@@ -129,7 +129,7 @@ module _ (slots : List (Option Slot)) (home : Home) (target : Target) (source : 
     keeps-back block = kept-same slots home.number s after there (back (λ y. y.block) block s there)
 
 module _ (others : List (Option Slot)) (width : ℕ) (target : Target) (source : Source) (block : List ℕ) (can : CanPut others width target source block) where
-  -- the block stays as long as it is
+  -- the length of the block is unchanged
   pub length-put : length (with_source others width target source block) ≡ length block
   length-put =
       let os = target_offsets target in

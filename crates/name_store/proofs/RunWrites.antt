@@ -1,9 +1,9 @@
--- An item that is written at the offsets of runs.
+-- One item written at the offsets of runs.
 use Rattle.std.proofs.Common.{◌≡◌, ℕ, List, ◌∷◌, length, sym, ap, ◌∙◌}
 use Rattle.std.specs.List.{flat_map}
 use Rattle.name_store.specs.Words.{filled, EachWithin, Run, run_offsets, put_each, put_each-append, filled-run}
 
--- the next run is filled
+-- one more run is filled
 pub filled-next : (len : ℕ) (left left' : List Run) (run : Run) (item block block' whole : List ℕ) → left ≡ run ∷ left' → EachWithin len run.offset run.step (length item) run.count →
     block' ≡ filled run.offset run.step item run.count block → put_each (flat_map run_offsets left) item block ≡ whole → put_each (flat_map run_offsets left') item block' ≡ whole
 filled-next len left left' run item block block' whole walked within is so_far =

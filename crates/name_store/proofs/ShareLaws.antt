@@ -1,4 +1,4 @@
--- Arrays in one buffer share cells where their items have a byte in common.
+-- Arrays in one buffer share cells if and only if their items share a byte.
 use Rattle.std.proofs.Common.{◌≡◌, ◌+◌, ◌*◌, ◌<◌, ◌≤◌, ◌&&◌, ◌||◌, ◌⊎◌, inl, inr, ℕ, zero, suc, Bool, true, false, List, [], ◌∷◌, length, take, refl, sym, ap, subst, ◌∙◌, Some, nat_eq, nat_lt, arith, pos, ◌+ℤ◌, ◌≤ℤ◌}
 use Rattle.std.specs.List.{list_any, range_with_len}
 use Rattle.std.specs.Map.{lookup}
@@ -33,7 +33,7 @@ lt-same a b c d there back =
     past (inl less) high = let low : c < d = there less in absurd (omega (arith, low, high))
     past (inr more) high = le-ltb a b more
 
--- parts of two items have a byte in common just where they are parts of one item, and have one in that
+-- parts of two items share a byte if and only if they are in the same item and share a byte there
 same-part : (item start width other other_width p q : ℕ) → start + width ≤ item → other + other_width ≤ item →
     (nat_lt (item * p + start) (item * q + other + other_width) && nat_lt (item * q + other) (item * p + start + width)) ≡ (nat_eq p q && (nat_lt start (other + other_width) && nat_lt other (start + width)))
 same-part item start width other other_width p q few other-few =
@@ -54,7 +54,7 @@ same-part item start width other other_width p q few other-few =
     differ (inr _) (inl more) ne = ap (λ t. t && nat_lt (item * q + other) (item * p + start + width)) (le-ltb (item * p + start) (item * q + other + other_width) (omega (arith, other-few, mul-step item q p more)))
     differ (inr high) (inr low) ne = absurd (ne (omega (arith, high, low)))
 
--- one item among others, and some among others
+-- one item compared with a list of items, and two lists
 module _ (item start width other other_width : ℕ) (meet : Bool) (few : start + width ≤ item) (other-few : other + other_width ≤ item) (is : (nat_lt start (other + other_width) && nat_lt other (start + width)) ≡ meet) where
   one-among : (p : ℕ) (others : List ℕ) →
       list_any (λ q. nat_lt (item * p + start) (q + other_width) && nat_lt q (item * p + start + width)) (offsets_of item other others) ≡ list_any (λ q. nat_eq p q && meet) others
@@ -74,14 +74,14 @@ any-none : {X : Type 0} (f : X → Bool) (xs : List X) → ((x : X) → f x ≡ 
 any-none f [] none = refl
 any-none f (x ∷ xs) none = λ i. none x i || any-none f xs none i
 
--- a test of all pairs beside one of their places
+-- a condition that does not depend on the pair can be moved out of a test of all pairs
 beside : (meet : Bool) (places others : List ℕ) → list_any (λ p. list_any (λ q. nat_eq p q && meet) others) places ≡ (meet && list_any (λ p. list_any (nat_eq p) others) places)
 beside true places others = any-same (λ p. list_any (λ q. nat_eq p q && true) others) (λ p. list_any (nat_eq p) others) places (λ p. any-same (λ q. nat_eq p q && true) (nat_eq p) others (λ q. and-true (nat_eq p q)))
 beside false places others = any-none (λ p. list_any (λ q. nat_eq p q && false) others) places (λ p. any-none (λ q. nat_eq p q && false) others (λ q. and-false (nat_eq p q)))
 
 -- ---- spans of numbers
 
--- whether a number is in a span
+-- a number is in a span if and only if it is between its ends
 number-in : (p from count : ℕ) → list_any (nat_eq p) (range_with_len from count) ≡ true → (from ≤ p) × (p < from + count)
 number-in p from zero none = let no : false ≡ true = none in absurd cc
 number-in p from (suc count) is = first (nat_eq p from) refl is (λ later. number-in p (from + 1) count later)
@@ -105,7 +105,7 @@ in-number p from (suc count) low high =
       | inr more ↦ absurd (ne (omega (arith, low, more)))
     ]
 
--- two spans that have a number in common
+-- each of two spans with a number in common begins before the other ends
 common-span : (from count other others : ℕ) → have_common (range_with_len from count) (range_with_len other others) ≡ true → (from < other + others) × (other < from + count)
 common-span from zero other others none = let no : false ≡ true = none in absurd cc
 common-span from (suc count) other others is = first (list_any (nat_eq from) (range_with_len other others)) refl is (λ later. common-span (from + 1) count other others later)
@@ -126,7 +126,7 @@ span-common from (suc count) other others any some low high =
       ]
     ] refl
 
--- just where each begins before the other ends
+-- two spans have a number in common if and only if each begins before the other ends
 common-ends : (from count other others : ℕ) → 1 ≤ count → 1 ≤ others → (nat_lt from (other + others) && nat_lt other (from + count)) ≡ have_common (range_with_len from count) (range_with_len other others)
 common-ends from count other others some other-some =
     let shared = have_common (range_with_len from count) (range_with_len other others) in
@@ -140,7 +140,7 @@ common-ends from count other others some other-some =
 
 -- ---- two parts of an item
 
--- how two parts begin and end, as bytes and as leaves
+-- the bytes of one part begin before those of the other end if and only if its leaves do
 abbrev BeginsSame : Descr → List ℕ → List ℕ → Type 0
 BeginsSame descr path other =
     nat_lt (start_at descr path) (start_at descr other + item_size (descr_at descr other)) ≡ nat_lt (first_at descr path) (first_at descr other + length (leaves_of (descr_at descr other)))
@@ -148,7 +148,7 @@ BeginsSame descr path other =
 further-same : (by a b width : ℕ) → nat_lt (by + a) (by + b + width) ≡ nat_lt a (b + width)
 further-same by a b width = lt-same (by + a) (by + b + width) a (b + width) (λ h. omega (arith, h)) (λ h. omega (arith, h))
 
--- parts of two fields
+-- parts of different fields
 module _ (descr : Descr) (j k : ℕ) (path other : List ℕ) (legal : IsElementType descr) (is : IsPathOf descr (j ∷ path)) (other-is : IsPathOf descr (k ∷ other)) where
   abbrev left : Descr
   left = (field_at descr j).descr
@@ -176,7 +176,7 @@ module _ (descr : Descr) (j k : ℕ) (path other : List ℕ) (legal : IsElementT
       ∙ sym (le-ltb (first_at descr (j ∷ path)) (first_at descr (k ∷ other) + length (leaves_of (descr_at right other)))
       (omega (arith, field_leaves-before descr k j more is.0, span-within right right-legal other other-is.1)))
 
-  -- and of one
+  -- and of the same field
   one-field : j ≡ k → BeginsSame right path other → BeginsSame descr (j ∷ path) (k ∷ other)
   one-field same within =
       (λ i. nat_lt (start_at descr (same i ∷ path)) (start_at descr (k ∷ other) + item_size (descr_at right other)))
@@ -185,7 +185,7 @@ module _ (descr : Descr) (j k : ℕ) (path other : List ℕ) (legal : IsElementT
       ∙ sym (further-same (leaves_in (take k (fields descr))) (first_at right path) (first_at right other) (length (leaves_of (descr_at right other))))
       ∙ (λ i. nat_lt (first_at descr (sym same i ∷ path)) (first_at descr (k ∷ other) + length (leaves_of (descr_at right other))))
 
--- the bytes of one begin before those of another end just where its leaves do
+-- this holds for all parts
 begins-same : (descr : Descr) (path other : List ℕ) → IsElementType descr → IsPathOf descr path → IsPathOf descr other → BeginsSame descr path other
 begins-same descr [] other legal is other-is =
     lt-ltb 0 (start_at descr other + item_size (descr_at descr other)) (omega (arith, part-some descr legal other other-is))
@@ -203,7 +203,7 @@ begins-same descr (j ∷ path) (k ∷ other) legal is other-is =
     order (inr _) (inl more) one = later-field descr j k path other legal is other-is more
     order (inr high) (inr low) one = one (omega (arith, high, low))
 
--- two parts of an item have a byte in common just where they have a leaf in common
+-- two parts of an item share a byte if and only if they have a leaf in common
 parts-meet : (descr : Descr) (path other : List ℕ) → IsElementType descr → IsPathOf descr path → IsPathOf descr other →
     (nat_lt (start_at descr path) (start_at descr other + item_size (descr_at descr other)) && nat_lt (start_at descr other) (start_at descr path + item_size (descr_at descr path)))
     ≡ share_leaves descr path other
@@ -211,7 +211,7 @@ parts-meet descr path other legal is other-is =
     (λ i. begins-same descr path other legal is other-is i && begins-same descr other path legal other-is is i)
     ∙ common-ends (first_at descr path) (length (leaves_of (descr_at descr path))) (first_at descr other) (length (leaves_of (descr_at descr other))) (part-leaves descr legal path is) (part-leaves descr legal other other-is)
 
--- two arrays in two buffers
+-- two arrays in different buffers
 pub shares-apart : (es : List (List ℕ × Entry)) (slots : Slots) (a b : Entry) → (a.number ≡ b.number → ⊥) → false ≡ share_cells (present es slots) (array_at a) (array_at b)
 shares-apart es slots a b ne =
     sym (ap (λ t. t && share_leaves (buffer_of (present es slots) (array_at a)).descr a.path b.path && have_common (places_of a.item (offsets a.layout)) (places_of b.item (offsets b.layout)))
@@ -240,7 +240,7 @@ module _ (es : List (List ℕ × Entry)) (slots : Slots) (h : Holds es slots) (t
       let small : slot.items * item_size slot.descr ≤ max_bytes = omega (arith, slot.is_whole.whole, slot.is_whole.small) in
       Fits-longer e.layout (slot.items * item_size slot.descr) max_bytes width small lies.laid.fits
 
-  -- two arrays in one buffer
+  -- two arrays in the same buffer
   pub shares-one : (test' : List ℕ → Bool) (name' : List ℕ) → TestsName test' name' → (e' : Entry) → lookup test' es ≡ Some e' → e.number ≡ e'.number →
       have_common_byte (offsets e.layout) width (offsets e'.layout) (item_size (descr_at slot.descr e'.path)) ≡ share_cells (present es slots) (array_at e) (array_at e')
   shares-one test' name' is' e' was' same =

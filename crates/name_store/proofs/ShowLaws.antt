@@ -1,4 +1,4 @@
--- What a look-up shows: an entry, and the slot that its array lies in.
+-- What a lookup shows: an entry, and the slot that its array lies in.
 use Rattle.std.proofs.Common.{◌≡◌, ◌≤◌, ◌<◌, ◌+◌, ◌*◌, ℕ, suc, All, arith, List, [], ◌∷◌, length, map, true, refl, sym, ap, subst, ◌∙◌, Option, Some, is_some, unwrap_or}
 use Rattle.std.specs.FinMap.{get}
 use Rattle.std.specs.List.{AllByRecursion}
@@ -29,7 +29,7 @@ use Rattle.name_store.proofs.PastLaws.{Slots}
 pub buffer-found : (es : List (List ℕ × Entry)) (slots : Slots) (e : Entry) (s : Slot) → is_in_use (map named_array es) e.number ≡ true → slot_at slots e.number ≡ Some s → buffer_of (present es slots) (array_at e) ≡ buffer_in s
 buffer-found es slots e s used there = ap (λ o. unwrap_or o no_buffer) (get-used es slots e.number used ∙ ap (option_map buffer_in) there)
 
--- the last byte of a part of the items at places
+-- the parts of the items at places lie within the bytes
 pub inside-places : (item start width n len : ℕ) (places : List ℕ) → AllByRecursion (λ place. place < n) places → n * item ≡ len → start + width ≤ item → AllByRecursion (λ offset. offset + width ≤ len) (offsets_of item start places)
 inside-places item start width n len [] within whole few = tt
 inside-places item start width n len (place ∷ places) within whole few =

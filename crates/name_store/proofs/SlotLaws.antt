@@ -1,4 +1,4 @@
--- Slots by their numbers, and the buffers in them.
+-- Slots by number, and the buffers in them.
 use Rattle.std.proofs.Common.{◌≡◌, ◌≢◌, ◌+◌, ◌<◌, ◌≤◌, ℕ, zero, suc, Bool, true, false, List, [], ◌∷◌, ◌++◌, length, map, refl, sym, ap, ◌∙◌, cond, Option, Some, None, is_some, nat_eq, slice_set, get_or, arith, MutBor}
 use Rattle.std.specs.Option.{option_copied_mut, option_map}
 use Rattle.std.specs.Ordering.{nat_cmp, eq_by_cmp, is_eq}
@@ -26,7 +26,7 @@ past-zero q = sym (ne_eqb (suc q) 0 (λ s. let no : ⊥ = omega arith in no))
 before-suc : (n : ℕ) → false ≡ nat_eq 0 (suc n)
 before-suc n = sym (ne_eqb 0 (suc n) (λ s. let no : ⊥ = omega arith in no))
 
--- what stands at a number once a slot is set, and once one is pushed
+-- the slot of each number after one slot is set, or one is pushed
 pub slot_at-set : (slots : List (Option Slot)) (n : ℕ) (s : Option Slot) (q : ℕ) → n < length slots → slot_at (slice_set slots n s) q ≡ cond (nat_eq q n) s (slot_at slots q)
 slot_at-set [] n s q h = absurd (omega arith)
 slot_at-set (x ∷ slots) zero s zero h = refl
@@ -55,7 +55,7 @@ slot_at-get_or [] q d h = absurd (omega arith)
 slot_at-get_or (x ∷ slots) zero d h = refl
 slot_at-get_or (x ∷ slots) (suc q) d h = slot_at-get_or slots q d (omega arith)
 
--- what is lent of a slot to write to is what stands there
+-- borrowing an occupied slot to write to it gives its buffer
 pub lent-some : (slots : List (Option Slot)) (n : ℕ) (d : Option Slot) (r : Option (MutBor Slot)) → n < length slots → option_copied_mut r ≡ get_or slots n d → is_some (slot_at slots n) ≡ true → is_some r ≡ true
 lent-some slots n d None inside is there = let no : ⊥ = cc (ap is_some (is ∙ slot_at-get_or slots n d inside), there) in absurd no
 lent-some slots n d (Some r) inside is there = refl
@@ -81,7 +81,7 @@ tests_agree q k = elim (nat_eq q k) as (λ t. nat_eq q k ≡ t → is_number q k
   | false ↦ λ e. apart q k (λ s. eqb-false q k e (sym s))
 ] refl
 
--- no slot from n on has a smaller number
+-- the slots numbered from `n` on have no number below `n`
 find-below : (cs : List Change) (n : ℕ) (slots : List (Option Slot)) (q : ℕ) → q < n → find nat_cmp q (numbered cs n slots) ≡ None
 find-below cs n [] q h = refl
 find-below cs n (None ∷ slots) q h = find-below cs (suc n) slots q (omega arith)

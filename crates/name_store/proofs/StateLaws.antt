@@ -1,4 +1,4 @@
--- Names and slots, and what is freed.
+-- Names and slots after buffers are freed.
 use Rattle.std.proofs.Common.{◌≡◌, ◌+◌, ◌<◌, ◌≤◌, ℕ, Bool, true, List, length, map, refl, sym, ap, subst, ◌∙◌, cond, ◌||◌, Option, Some, None, is_some, nat_lt, arith}
 use Rattle.std.specs.Map.{lookup}
 use Rattle.std.specs.Option.{option_map}
@@ -18,19 +18,19 @@ use Rattle.name_store.proofs.SlotLaws.{slot_at-within}
 use Rattle.name_store.proofs.HeldLaws.{held-stand}
 use Rattle.name_store.proofs.PastLaws.{Slots}
 
--- what stood in the slots that are needed still stands there, and the others are free
+-- the slots that are needed have the same contents as before, and the others are empty
 abbrev pub Swept : (ℕ → Bool) → Slots → Slots → Type 0
 Swept needed before after = (q : ℕ) → option_map stand (slot_at after q) ≡ cond (needed q) (option_map stand (slot_at before q)) None
 
--- what stood in the slots that are held still stands there, and the others are free
+-- the slots with users have the same contents as before, and the others are empty
 abbrev pub Freed : Slots → Slots → Type 0
 Freed before after = Swept (λ q. nat_lt 0 (users_at after q)) before after
 
--- nothing is freed of slots as they are
+-- if no slot changes, nothing is freed
 pub freed-none : (slots : Slots) → Freed slots slots
 freed-none slots q = held-stand (slot_at slots q)
 
--- what is held is needed
+-- the buffers with users are those that are needed
 pub freed-swept : (names : Names) (cs : List Change) (before after : Slots) → ((q : ℕ) → users_at after q ≡ users_in q names + all_pins q cs) → Freed before after → Swept (is_needed names cs) before after
 freed-swept names cs before after counted freed q = freed q ∙ ap (λ t. cond t (option_map stand (slot_at before q)) None) (ap (nat_lt 0) (counted q) ∙ needed-count names cs q)
 
@@ -45,7 +45,7 @@ occupied-within slots q there = by (slot_at slots q) refl there
     by None e h = let no : ⊥ = cc in absurd no
     by (Some s) e h = slot_at-within slots q s e
 
--- how many names there are then
+-- the number of names after one is added
 pub few-bound : (es : List (List ℕ × Entry)) (slots : Slots) (test : List ℕ → Bool) (name : List ℕ) → TestsName test name → has_room_for (present es slots) name ≡ true → lookup test es ≡ None → length es + 1 ≤ 1024
 few-bound es slots test name is room none =
     let unbound : find_array (map named_array es) name ≡ None = find-lookup test name is es ∙ ap (option_map array_at) none in

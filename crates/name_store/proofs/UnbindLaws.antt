@@ -1,4 +1,4 @@
--- A name is unbound, and what it was bound to is kept.
+-- Unbinding a name, and keeping the change.
 use Rattle.std.proofs.Common.{◌≡◌, ◌+◌, ◌<◌, ◌≤◌, ℕ, zero, suc, Bool, true, false, List, [], ◌∷◌, ◌++◌, length, map, min, position, insert, refl, sym, ap, subst, ◌∙◌, cond, Option, Some, None, is_some, nat_lt, arith}
 use Rattle.std.specs.List.{AllByRecursion, position_or_len}
 use Rattle.std.specs.Map.{lookup, keys_of}
@@ -42,7 +42,7 @@ pub same-content : (c : Change) (q : ℕ) (o : Option Slot) → ((bytes : List �
 same-content c q None same = refl
 same-content c q (Some s) same = ap (λ bytes. Some (s.descr, s.items, bytes)) (same s.block)
 
--- the buffers that names use, of those that more of them used
+-- the buffers that names use are among those that more names use
 pub fewer-buffers : (es : List (List ℕ × Entry)) (slots : Slots) (names : Names) → ((q : ℕ) → is_in_use names q ≡ true → is_in_use (map named_array es) q ≡ true) → past_buffers [] names slots ≡ retain_keys (present es slots).buffers (is_in_use names)
 fewer-buffers es slots names fewer = same_map nat_cmp_total nat_cmp-IsAntisymmetric _ _ (λ q.
     get-past [] names slots q
@@ -96,7 +96,7 @@ module _ (es : List (List ℕ × Entry)) (slots : Slots) (ring : Ring Change) (s
   found-is : find_array (map named_array es) key ≡ Some (array_at e)
   found-is = find-lookup test key is es ∙ ap (option_map array_at) was
 
-  -- the change holds the buffer that the name held
+  -- the change keeps the buffer that the name used
   made : (q : ℕ) → users_at slots q + users_in q (map named_array es) ≡ users_at slots q + users_in q names' + pins q c
   made q = omega (arith, users-without q (map named_array es) key, ap (λ o. found_at q (number_of o)) found-is, ap (users_in q) names-are)
 
@@ -116,11 +116,11 @@ module _ (es : List (List ℕ × Entry)) (slots : Slots) (ring : Ring Change) (s
     pub unbind-kept : IsSound es' after ring' spare' × (state_of es' after ring' ≡ unbound (state_of es slots ring) key)
     unbind-kept = (keep-sound es slots ring spare sound es' slots c before-is holds restored own ring' after spare' ring-is freed counted room, state)
 
--- a table that is the same but for its room
+-- the same table with more room
 pub same-sound : (es es' : List (List ℕ × Entry)) (slots : Slots) (ring : Ring Change) (spare spare' : ℕ) → es' ≡ es → spare ≤ spare' → IsSound es slots ring spare → IsSound es' slots ring spare'
 same-sound es es' slots ring spare spare' same more sound = subst (λ (ns : List (List ℕ × Entry)). IsSound ns slots ring spare') (sym same) (record { holds = sound.holds; counted = sound.counted; undoable = sound.undoable; short = sound.short; room = omega (arith, sound.room, more) })
 
--- whether a name is bound is whether it has an entry
+-- a name is bound if and only if it has an entry
 pub bound-has : (test : List ℕ → Bool) (name : List ℕ) → TestsName test name → (es : List (List ℕ × Entry)) → is_some (find_array (map named_array es) name) ≡ is_some (lookup test es)
 bound-has test name is es = ap is_some (find-lookup test name is es) ∙ some-array (lookup test es)
   where
@@ -128,7 +128,7 @@ bound-has test name is es = ap is_some (find-lookup test name is es) ∙ some-ar
     some-array None = refl
     some-array (Some e) = refl
 
--- room is needed only where something is kept
+-- room is needed only if changes are kept
 pub deep : (cap len : ℕ) → (min cap (len + 1) + 0 ≡ 0 → ⊥) → 1 ≤ cap
 deep zero len lacks = absurd (lacks (omega arith))
 deep (suc cap) len lacks = omega arith

@@ -1,4 +1,4 @@
--- A binding is undone: the name is bound to what it was bound to before, or to nothing.
+-- Undoing a binding: the name is bound to its earlier array again, or unbound if it had none.
 use Rattle.std.proofs.Common.{◌≡◌, ◌+◌, ◌≤◌, ℕ, List, [], ◌∷◌, ◌++◌, map, refl, sym, ap, subst, ◌∙◌, Option, Some, None, arith}
 use Rattle.std.specs.List.{AllByRecursion}
 use Rattle.std.specs.Map.{lookup}
@@ -21,7 +21,7 @@ use Rattle.name_store.proofs.UnbindLaws.{same-content}
 use Rattle.name_store.proofs.UndoLaws.{undoes, popped}
 use Rattle.name_store.proofs.PastLaws.{Slots}
 
--- the entries with the earlier one of a name
+-- the entries after a name is bound to its earlier entry, or unbound if it had none
 abbrev pub rebound : List ℕ → Option Entry → List (List ℕ × Entry) → List (List ℕ × Entry)
 rebound key None es = shift_remove_entry (bytes_eq key) es
 rebound key (Some e) es = insert_entry bytes_eq es key e

@@ -1,4 +1,4 @@
--- A change is undone.
+-- Undoing a change.
 use Rattle.std.proofs.Common.{◌≡◌, ◌+◌, ◌-◌, ◌≤◌, ℕ, suc, true, false, List, [], ◌∷◌, ◌++◌, length, take, map, slice_get, refl, sym, ap, subst, ◌∙◌, cond, Some, None, is_some, Result, Ok, Err, IsOk, OnOk, arith, length-append}
 use Rattle.std.specs.List.{AllByRecursion, list_any}
 use Rattle.std.specs.Option.{option_map, option_map_or}
@@ -22,7 +22,7 @@ use Rattle.name_store.proofs.Needs.{needs, is_needed, pins-push}
 use Rattle.name_store.proofs.PastLaws.{Alike, alike-shape, past-alike, lies-shaped, Restored, restored-shape, same-buffers, kept-push, kept-free, undoable-pop, undoable-still, Slots}
 use Rattle.name_store.proofs.StateLaws.{Freed, freed-swept}
 
--- the last is the last
+-- the last item after one is appended
 pub last-push : {X : Type 0} (xs : List X) (x : X) → last_item (xs ++ x ∷ []) ≡ Some x
 last-push {X = X} xs x = ap (λ n. slice_get (xs ++ x ∷ []) n) (omega (arith, length-append xs (x ∷ []))) ∙ at xs
   where
@@ -57,7 +57,7 @@ module _ (es : List (List ℕ × Entry)) (slots : Slots) (ring : Ring Change) (c
   pub popped : AreUndoable ring.items past slots × (length past ≤ 1024) × IsUndoable c names slots
   popped = undoable-pop ring.items c names slots sound.undoable
 
-  -- names and slots are as they were before the change, and then what is not needed is freed
+  -- names and slots are restored, and then the buffers that are not needed are freed
   module _ (es' : List (List ℕ × Entry)) (now after : Slots) (spare' : ℕ) (names-are : map named_array es' ≡ past) (lie : AllByRecursion (λ entry. LiesAt (slot_at now entry.1.number) entry.1) es')
       (restored : (q : ℕ) → is_needed past ring.items q ≡ true → Restored c q (slot_at slots q) (slot_at now q)) (freed : Freed now after)
       (made : (q : ℕ) → users_at after q + users_in q (map named_array es) + pins q c ≡ users_at slots q + users_in q (map named_array es')) (room : spare ≤ spare' + 1) where
@@ -95,7 +95,7 @@ module _ (es : List (List ℕ × Entry)) (slots : Slots) (ring : Ring Change) (c
     pub undoes : Undoes es slots c es' after ring spare'
     undoes = record { sound = undo-sound; kept = undo-kept }
 
--- the state that was kept last is back
+-- the last kept state is restored
 pub undone-state : (es es' : List (List ℕ × Entry)) (slots slots' : Slots) (old ring : Ring Change) (c : Change) (spare : ℕ) → old.items ≡ ring.items ++ c ∷ [] → ring.capacity ≡ old.capacity → Undoes es slots c es' slots' ring spare →
     (has_kept (state_of es slots old) ≡ true) × (state_of es' slots' ring ≡ undone (state_of es slots old))
 undone-state es es' slots slots' old ring c spare items-are deep done =
@@ -112,12 +112,12 @@ undone-state es es' slots slots' old ring c spare items-are deep done =
           ∙ ap (λ o. option_map_or (λ before. record (state_of es slots old) { names = before.0; buffers = before.1; kept = take (length (state_of es slots old).kept - 1) (state_of es slots old).kept }) o (state_of es slots old)) (sym found),
     )
 
--- the bytes that it took to undo the last change are counted no more
+-- the last number of bytes is removed
 pub patches-pop : (old ring : Ring Change) (c : Change) → old.items ≡ ring.items ++ c ∷ [] → map patch_size ring.items ≡ take (length (map patch_size old.items) - 1) (map patch_size old.items)
 patches-pop old ring c items-are =
     sym (front-push (map patch_size ring.items) (patch_size c)) ∙ ap (λ ps. take (length ps - 1) ps) (sym (ap (map patch_size) items-are ∙ map-append patch_size ring.items (c ∷ [])))
 
--- The change that is undone is the last.
+-- The change that is undone is the last one.
 
 pub none-last : {X : Type 0} (xs : List X) → None ≡ last_item xs → xs ≡ []
 none-last {X = X} [] none = refl
@@ -140,11 +140,11 @@ with-last old new c last is =
 pub none-kept : (es : List (List ℕ × Entry)) (slots : Slots) (ring : Ring Change) → None ≡ last_item ring.items → has_kept (state_of es slots ring) ≡ false
 none-kept es slots ring none = ap (λ (cs : List Change). is_some (last_item (kept_states cs (map named_array es) slots))) (none-last ring.items none)
 
--- a call that succeeds does what it does when it succeeds
+-- a call that succeeds does what it does on success
 pub at-ok : {A E P : Type 0} (r : Result A E) → IsOk r → OnOk r P → P
 at-ok (Ok a) _ done = done
 at-ok (Err e) bad _ = let wrong : ⊥ = cc in absurd wrong
 
--- there is room for a name that comes back
+-- there is room to bind a name again
 pub undo-room : (es : List (List ℕ × Entry)) (slots : Slots) (ring : Ring Change) (c : Change) (spare : ℕ) → IsSound es slots (buffer (ring.items ++ c ∷ []) ring.capacity) spare → 1 ≤ spare
 undo-room es slots ring c spare sound = omega (arith, sound.room, length-append ring.items (c ∷ []))

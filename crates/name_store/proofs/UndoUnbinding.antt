@@ -1,4 +1,4 @@
--- An unbinding is undone.
+-- Undoing an unbinding.
 use Rattle.std.proofs.Common.{◌≡◌, ◌+◌, ◌≤◌, ℕ, zero, suc, Bool, true, false, List, [], ◌∷◌, ◌++◌, length, map, insert, refl, sym, ap, subst, ◌∙◌, cond, not, Option, Some, None, arith}
 use Rattle.std.specs.List.{AllByRecursion, position_or_len}
 use Rattle.std.specs.Map.{lookup, keys_of}
@@ -21,7 +21,7 @@ use Rattle.name_store.proofs.UnbindLaws.{same-content}
 use Rattle.name_store.proofs.UndoLaws.{undoes, popped}
 use Rattle.name_store.proofs.PastLaws.{Slots}
 
--- An entry that comes in between.
+-- An entry that is inserted between others.
 
 none-map : (o : Option Entry) → option_map array_at o ≡ None → o ≡ None
 none-map None h = refl
@@ -45,7 +45,7 @@ all-between P es zero x new all = (new, all)
 all-between P [] (suc n) x new all = (new, tt)
 all-between P (e ∷ es) (suc n) x new all = (all.0, all-between P es n x new all.1)
 
--- A name is bound again that was unbound.
+-- A name that was unbound is bound again.
 module _ (es : List (List ℕ × Entry)) (slots : Slots) (ring : Ring Change) (spare : ℕ) (place : ℕ) (key : List ℕ) (entry : Entry) (sound : IsSound es slots (buffer (ring.items ++ Unbind place key entry ∷ []) ring.capacity) spare)
     (test : List ℕ → Bool) (is : TestsName test key) where
   abbrev unbind : Change

@@ -1,4 +1,4 @@
--- A write is undone.
+-- Undoing a write.
 use Rattle.std.proofs.Common.{◌≡◌, ◌<◌, ℕ, true, false, List, [], ◌∷◌, ◌++◌, length, refl, sym, ap, ◌∙◌, cond, Option, Some, None, is_some, nat_eq, arith}
 use Rattle.std.specs.List.{AllByRecursion}
 use Rattle.std.specs.Option.{option_map}
@@ -28,7 +28,7 @@ goes-there : (target : Target) (items : OldItems) (o : Option Slot) → GoBackAt
 goes-there target items None nothing = absurd nothing
 goes-there target items (Some s) goes = refl
 
--- Old items go back.
+-- Old items are written back.
 module _ (es : List (List ℕ × Entry)) (slots : Slots) (ring : Ring Change) (spare : ℕ) (number : ℕ) (target : Target) (items : OldItems) (sound : IsSound es slots (buffer (ring.items ++ Write number target items ∷ []) ring.capacity) spare) where
   abbrev wrote : Change
   wrote = Write number target items

@@ -1,4 +1,4 @@
--- The definitions at arrays of which NumPy's `shares_memory` and rebinding in Python tell.
+-- The definitions applied to examples, with the results of `numpy.shares_memory` and of rebinding names in Python.
 use Rattle.std.proofs.Common.{◌≡◌, ℕ, pos, true, false, List, [], ◌∷◌, Ok, refl}
 use Rattle.std.specs.FinMap.{from_entries}
 use Rattle.name_store.specs.Words.{Descr, Byte, Int, Two, Four, Little, Big, no_more, scalar_field, record_field, number, offsets_of}
@@ -25,7 +25,7 @@ empty_apart = refl
 buffers_apart : share_cells (start 0) (at_places 0 [] (0 ∷ [])) (at_places 1 [] (0 ∷ [])) ≡ false
 buffers_apart = refl
 
--- `a` over buffer 0 and `b` over buffer 1, and then `a = b[1:]`: buffer 0 is gone, and buffer 1 is not
+-- `a` in buffer 0 and `b` in buffer 1, and then `a = b[1:]`: buffer 0 is freed, and buffer 1 is not
 before : State
 before = record {
   names = (97 ∷ [], at_places 0 [] (0 ∷ [])) ∷ (98 ∷ [], at_places 1 [] (0 ∷ 1 ∷ [])) ∷ [];
@@ -50,12 +50,12 @@ second_there : is_in_use after.names 1 ≡ true
 unfolding before after
 second_there = refl
 
--- `b = b[1:]`: the buffer is in use still
+-- `b = b[1:]`: the buffer is still in use
 own_view : is_in_use (bound_view before (98 ∷ []) (at_places 1 [] (1 ∷ []))).names 1 ≡ true
 unfolding before
 own_view = refl
 
--- At depth 1 the state before is kept, and it is whole when it is back: buffer 0 is there, and `a` stands first.
+-- At depth 1 the state before is kept, and undo restores it whole: with buffer 0, and with `a` as the first name.
 one_kept : after.kept ≡ (before.names, before.buffers) ∷ []
 unfolding before after
 one_kept = refl
@@ -72,7 +72,7 @@ written_back : undone (written before (at_places 1 [] (0 ∷ 1 ∷ [])) (0 ∷ 1
 unfolding before
 written_back = refl
 
--- 8 bytes of old items are kept for it, and the oldest 4 are not
+-- 8 bytes of old items are kept for it, and the oldest 4 are forgotten
 eight_bytes : Counts {A = ℕ} 8 (record { state = before; patches = 4 ∷ [] }) (Ok 2) (record { state = before; patches = 8 ∷ [] })
 unfolding before
 eight_bytes = refl
@@ -80,7 +80,7 @@ eight_bytes = refl
 none_counted : CountsUndo (record { state = before; patches = 8 ∷ [] }) (Ok tt) (record { state = before; patches = [] })
 none_counted = refl
 
--- the oldest goes, and nothing is left behind the last
+-- the oldest state is forgotten, and the newest is the last
 newest_kept : (unbound after (98 ∷ [])).kept ≡ (after.names, after.buffers) ∷ []
 unfolding before after
 newest_kept = refl
@@ -89,7 +89,7 @@ once_only : has_kept (undone after) ≡ false
 unfolding before after
 once_only = refl
 
--- at depth 0 none is kept, and there is none to go back to
+-- at depth 0 no state is kept, and there is nothing to undo
 none_kept : (unbound (start 0) (97 ∷ [])).kept ≡ []
 none_kept = refl
 
@@ -100,7 +100,7 @@ none_back = refl
 sample : Descr
 sample = RecordDescr (record { size = 8; fields = scalar_field (120 ∷ []) 0 (Int true Two Big) (scalar_field (121 ∷ []) 4 (Int true Four Little) no_more) })
 
--- `r["y"].dtype`, and where the items of `r["y"]` lie in the buffer
+-- `r["y"].dtype`, and the offsets of the items of `r["y"]` in the buffer
 field_type : descr_at sample (1 ∷ []) ≡ ScalarDescr (Int true Four Little)
 unfolding sample
 field_type = refl
@@ -123,12 +123,12 @@ field_written : write (span_at sample (0 ∷ [])) (0 ∷ 1 ∷ []) ((number (pos
 unfolding sample
 field_written = refl
 
--- `r[1] = (3, 4)` writes the whole of an item
+-- `r[1] = (3, 4)` writes a whole item
 whole_written : with_part (span_at sample []) (number (pos 3) ∷ number (pos 4) ∷ []) (number (pos 6) ∷ number (pos 8) ∷ []) ≡ number (pos 3) ∷ number (pos 4) ∷ []
 unfolding sample
 whole_written = refl
 
--- The dtype of the format `T{<b:x:3xT{<i:y:}:s:}`: `r["s"]` is a record of one field, `r["s"]["y"]` an integer
+-- The dtype of the format `T{<b:x:3xT{<i:y:}:s:}`: `r["s"]` is a record with one field, `r["s"]["y"]` is an integer.
 nested : Descr
 nested = RecordDescr (record { size = 8; fields = scalar_field (120 ∷ []) 0 (Byte true) (record_field (115 ∷ []) 4 4 (scalar_field (121 ∷ []) 0 (Int true Four Little) no_more) no_more) })
 
@@ -161,7 +161,7 @@ inner_written : with_part (span_at nested (1 ∷ 0 ∷ [])) (number (pos 9) ∷ 
 unfolding nested
 inner_written = refl
 
--- `r["s"]` shares with `r["s"]["y"]` and with `r`, and not with `r["x"]`
+-- `r["s"]` shares memory with `r["s"]["y"]` and with `r`, but not with `r["x"]`
 fields_meet : share_leaves nested (1 ∷ []) (1 ∷ 0 ∷ []) ≡ true
 unfolding nested
 fields_meet = refl

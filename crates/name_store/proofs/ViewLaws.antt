@@ -1,4 +1,4 @@
--- A view: places of an array, in a buffer that is there.
+-- Views: places of an array in an existing buffer.
 use Rattle.std.proofs.Common.{◌≡◌, ◌<◌, ◌*◌, ℕ, Bool, List, length, map, refl, sym, ap, subst, ◌∙◌, cond, Option, Some, None, is_some, true, false, unwrap_or, arith}
 use Rattle.std.specs.Option.{option_map}
 use Rattle.name_store.specs.Words.{Descr, item_from, item_size, Layout, offsets, Fits, offsets_of, places_of}
@@ -43,7 +43,7 @@ module _ (es : List (List ℕ × Entry)) (slots : Slots) (number : ℕ) (path : 
   slot-buffer : (s : Slot) → slot_at slots number ≡ Some s → buffer_of (present es slots) array ≡ buffer_in s
   slot-buffer s there = ap (λ n. buffer_of (present es slots) (record array { buffer = n })) (sym view.number_is) ∙ ap (λ o. unwrap_or o no_buffer) (get-used es slots number view-used ∙ ap (option_map buffer_in) there)
 
-  -- what the layout shows in the slot
+  -- what the layout shows in its slot
   module _ (s : Slot) (there : slot_at slots number ≡ Some s) where
     slot-descr : (buffer_of (present es slots) array).descr ≡ s.descr
     slot-descr = ap (λ (b : Buffer). b.descr) (slot-buffer s there)

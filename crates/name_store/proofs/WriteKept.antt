@@ -1,4 +1,4 @@
--- Items are written, and the old ones are kept.
+-- Writing items, and keeping the old ones.
 use Rattle.std.proofs.Common.{◌≡◌, ◌+◌, ◌*◌, ◌≤◌, ℕ, true, false, List, [], ◌∷◌, ◌++◌, length, map, min, refl, sym, ap, subst, ◌∙◌, cond, Option, Some, None, Result, Ok, Err, nat_eq, All, arith, ◌⊎◌, inl, inr}
 use Rattle.std.specs.List.Sorted.{IsPermutation}
 use Rattle.std.proofs.lemmas.List.Sorted.{All-permutation, length_permutation}
@@ -44,7 +44,7 @@ use Rattle.name_store.proofs.StateLaws.{Freed}
 use Rattle.name_store.proofs.ViewLaws.{view-slot}
 use Rattle.name_store.proofs.WriteLaws.{size-is, written-holds}
 
--- What is asked of a state as it is, or with what is kept.
+-- What holds of a state with its kept states also holds of it without them.
 module _ (es : List (List ℕ × Entry)) (slots : Slots) (ring : Ring Change) where
   abbrev whole : State
   whole = state_of es slots ring
@@ -75,7 +75,7 @@ module _ (es : List (List ℕ × Entry)) (slots : Slots) (ring : Ring Change) wh
     supplies = supplies-now (descr_of now aim.array) (length (target_offsets target)) source aim.items aim.supplies;
   }
 
-  -- where no memory is needed, no states are kept
+  -- if no memory is needed, no states are kept
   pub needs-shallow : (name : List ℕ) (target : Target) (source : Source) → NeedsNoMemory whole name target source → ring.capacity ≡ 0
   needs-shallow name (View to) source needs-none = needs-none.0
   needs-shallow name (Plan plan) source needs-none = needs-none.0
@@ -86,7 +86,7 @@ module _ (es : List (List ℕ × Entry)) (slots : Slots) (ring : Ring Change) wh
   needs-now name (View to) (Buffer number from) needs-none = (refl, needs-none.1)
   needs-now name (Plan plan) source needs-none = (refl, needs-none.1)
 
--- no state that is kept is another where the same stands in each slot
+-- the kept states are unchanged if the contents of each slot are
 same-past : (cs : List Change) (names : Names) (slots after : Slots) → AreSame slots after → past_buffers cs names after ≡ past_buffers cs names slots
 same-past cs names slots after same = same-buffers cs cs names after slots (λ q used. past-alike cs q (slot_at after q) (slot_at slots q) (same q).0)
 
@@ -100,7 +100,7 @@ same-state es slots after ring same = λ i. record (state_of es slots ring) { bu
 pub same-value : (es : List (List ℕ × Entry)) (slots after : Slots) (ring : Ring Change) → AreSame slots after → bench_value es after ring ≡ bench_value es slots ring
 same-value es slots after ring same = λ i. record { state = same-state es slots after ring same i; patches = map patch_size ring.items }
 
--- where none is kept
+-- if no states are kept
 none-items : (cap : ℕ) (cs : List Change) → length cs ≤ cap → cap ≡ 0 → cs ≡ []
 none-items cap [] short shallow = refl
 none-items cap (c ∷ cs) short shallow = absurd (omega (arith, short, shallow))
@@ -108,7 +108,7 @@ none-items cap (c ∷ cs) short shallow = absurd (omega (arith, short, shallow))
 none-last : {X : Type 0} (cap : ℕ) (xs : List X) → cap ≡ 0 → keep_last cap xs ≡ []
 none-last cap xs shallow = drop_of_length-le xs (omega (arith, shallow))
 
--- Where a call changed nothing that stands in a slot, all is sound as it was.
+-- If a call left the contents and the users of each slot unchanged, all is still sound.
 pub same-still : (es : List (List ℕ × Entry)) (slots after : Slots) (ring : Ring Change) (spare : ℕ) → AreSame slots after → IsSound es slots ring spare → IsSound es after ring spare
 same-still es slots after ring spare same sound = record {
   holds = record {
@@ -125,7 +125,7 @@ same-still es slots after ring spare same sound = record {
     shaped : (q : ℕ) → SameShape (slot_at after q) (slot_at slots q)
     shaped q = alike-shape (slot_at after q) (slot_at slots q) (same q).0
 
--- Items of a source were put at a target of a name's array.
+-- The items of a source were written to a target in a name's array.
 module _ (es : List (List ℕ × Entry)) (slots : Slots) (ring : Ring Change) (spare : ℕ) (sound : IsSound es slots ring spare) (name : List ℕ) (number width : ℕ) (home : IsHome es slots name number width) (target : Target) (source : Source)
     (aim : IsAim (state_of es slots ring) name target source) where
   now-aim : IsAim (present es slots) name target source
@@ -200,7 +200,7 @@ module _ (es : List (List ℕ × Entry)) (slots : Slots) (ring : Ring Change) (s
       room = sound.room;
     }
 
-    -- nothing is kept
+    -- no states are kept
     pub none-answers : ring.capacity ≡ 0 → AnswersWrite (state_of es slots ring) name target source (Ok n) (state_of es after ring)
     none-answers shallow = (
       refl,
@@ -213,7 +213,7 @@ module _ (es : List (List ℕ × Entry)) (slots : Slots) (ring : Ring Change) (s
           },
     )
 
-    -- the old items are kept, those of the target's places in any order
+    -- the old items are kept, with the target's places in some order
     module _ (over : Overwritten) (olds : AreKeptAt slots (record { number = number; width = width }) target over) where
       abbrev items : OldItems
       items = over.items
@@ -269,7 +269,7 @@ module _ (es : List (List ℕ × Entry)) (slots : Slots) (ring : Ring Change) (s
         subst (GoBackAt over.target items) (sym (new.set number ∙ ap (λ t. cond t (Some s') (slot_at slots number)) (nat_itself number))) goes,
       )
 
-      -- what was written is held by a name
+      -- the change keeps no buffer alive, and the users of each buffer are unchanged
       made : (q : ℕ) → users_at after q + users_in q names ≡ users_at slots q + users_in q names + pins q c
       made q = omega (arith, wrote-users q)
 
@@ -301,7 +301,7 @@ module _ (es : List (List ℕ × Entry)) (slots : Slots) (ring : Ring Change) (s
             patches-push ring ring' c ring-is
             ∙ ap (λ bytes. keep_last ring.capacity (map patch_size ring.items ++ bytes ∷ [])) (old.whole ∙ (λ i. length_permutation (target_offsets target) os moved i * (old.size ∙ sym (size-is es slots name number width home array found)) i))
 
--- Whether items were put or not, names' arrays lie in their slots, and as many hold each.
+-- Whether items were written or not, the arrays of the names lie in their slots, and the users of each are unchanged.
 module _ (es : List (List ℕ × Entry)) (slots : Slots) (ring : Ring Change) (spare : ℕ) (sound : IsSound es slots ring spare) (name : List ℕ) (number width : ℕ) (home : IsHome es slots name number width) (target : Target) (source : Source)
     (aim : IsAim (state_of es slots ring) name target source) (after : Slots) where
   pub tried-sound : {A E : Type 0} (r : Result A E) → Writes slots (record { number = number; width = width }) target source r after → IsSound es after ring spare

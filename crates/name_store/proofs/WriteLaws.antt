@@ -1,4 +1,4 @@
--- Items are written to places of a name's array, and read at places of one.
+-- Writing items to places of a name's array, and reading items.
 use Rattle.std.proofs.Common.{◌≡◌, ◌*◌, ◌<◌, ◌≤◌, ℕ, Bool, true, false, List, [], ◌∷◌, length, map, refl, sym, ap, subst, ◌∙◌, cond, Option, Some, None, is_some, nat_eq, All, Contains, arith}
 use Rattle.std.specs.FinMap.{get, insert, get-insert, same_map, nat_cmp-IsAntisymmetric}
 use Rattle.std.specs.Cmp.{nat_cmp_total}
@@ -29,13 +29,13 @@ use Rattle.name_store.proofs.StateLaws.{none-found}
 use Rattle.name_store.proofs.ShowLaws.{buffer-found}
 use Rattle.name_store.proofs.PastLaws.{Slots}
 
--- what holds of all elements holds of some of them
+-- a property of all elements holds for some of them
 all-among : (P : ℕ → Type 0) (xs ys : List ℕ) → AllByRecursion P xs → All (Contains xs) ys → AllByRecursion P ys
 all-among P xs [] all among = tt
 all-among P xs (y ∷ ys) all among =
     (All-contains P xs y (All-from_recursion P xs all) (All-head (Contains xs) y ys among), all-among P xs ys all (All-tail (Contains xs) y ys among))
 
--- a name that is bound has an entry
+-- a bound name has an entry
 pub entry-bound : (es : List (List ℕ × Entry)) (slots : Slots) (h : Holds es slots) (test : List ℕ → Bool) (name : List ℕ) → TestsName test name → is_bound (present es slots) name ≡ true → is_some (lookup test es) ≡ true
 entry-bound es slots h test name is bound =
     elim (lookup test es) as (λ (o : Option Entry). lookup test es ≡ o → is_some o ≡ true) [
@@ -100,7 +100,7 @@ module _ (es : List (List ℕ × Entry)) (slots : Slots) (name : List ℕ) (numb
     pub spread : (os places : List ℕ) → os ≡ addresses state (record array { places = places }) → os ≡ offsets_of (item_size s.descr) (start_at s.descr e.path) places
     spread os places is = is ∙ λ i. offsets_of (item_size (type-is i)) (start-is i) places
 
-  -- the bytes of its buffer are new
+  -- the bytes of its buffer are replaced
   module _ (h : Holds es slots) (bytes : List ℕ) (after : Slots) (new : HasNew slots number s bytes after) where
     abbrev s' : Slot
     s' = new.new
@@ -126,7 +126,7 @@ module _ (es : List (List ℕ × Entry)) (slots : Slots) (name : List ℕ) (numb
       lie = all-both (λ x. LiesAt (slot_at slots x.number) x) (λ x. LiesAt (slot_at slots x.number) x) (λ x. LiesAt (slot_at after x.number) x) (λ x here _. still x here) es h.lie h.lie;
     }
 
-    -- parts of items are put at the target's offsets
+    -- parts of items are written at the target's offsets
     module _ (target : Target) (array : Array) (places : List ℕ) (leads : LeadsTo state name target array places) (parts : List (List ℕ)) (whole : AllByRecursion (λ part. length part ≡ width) parts) (put-is : bytes ≡ with_items (target_offsets target) parts s.block) where
       abbrev new-buffer : Buffer
       new-buffer = record (buffer_of state array) { items = write (span_of state array) places (map (decode_item (descr_of state array)) parts) (buffer_of state array).items }

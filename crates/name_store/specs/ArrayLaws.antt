@@ -1,4 +1,4 @@
--- Laws of arrays that are looked up, and of their places.
+-- Laws of array lookups, and of the places of arrays.
 use Rattle.std.proofs.Common.{◌≡◌, ◌+◌, ◌*◌, ◌/◌, ◌<◌, ℕ, zero, suc, List, [], ◌∷◌, length, slice_index, Option, Some, None, refl, ap, ◌∙◌, arith, map, All}
 use Rattle.std.proofs.lemmas.Nat.{div-mul-add}
 use Rattle.std.proofs.Math.Nat.{mul_comm}
@@ -7,18 +7,18 @@ use Rattle.name_store.specs.States.{State, Array}
 use Rattle.name_store.specs.Shown.{Shows, Finds}
 use Rattle.name_store.specs.declared.bound.ArrayRef.{ArrayRef}
 
--- where an array is found there is one, and it is shown
+-- If a lookup finds an array, the name is bound to one, and the result shows it.
 pub found-array : (s : State) (found : Option Array) (r : ArrayRef) → Finds s found (Some r) → (array : Array) × (found ≡ Some array) × Shows s array r
 found-array s None r nothing = absurd nothing
 found-array s (Some array) r shows = (array, refl, shows)
 
--- the offset of a place
+-- the k-th offset is that of the k-th place
 pub offset-at : (item start : ℕ) (places : List ℕ) (k : ℕ) → k < length places → slice_index (offsets_of item start places) k ≡ item * slice_index places k + start
 offset-at item start [] k within = absurd (omega (arith, within))
 offset-at item start (place ∷ places) zero within = refl
 offset-at item start (place ∷ places) (suc k) within = offset-at item start places k (omega (arith, within))
 
--- the places that the offsets of a part of the items give are those that they were made of
+-- `places_of` turns the offsets of a part of the items back into their places
 pub places-offsets : (item start : ℕ) (places : List ℕ) → start < item → places_of item (offsets_of item start places) ≡ places
 places-offsets item start [] less = refl
 places-offsets item start (place ∷ places) less =

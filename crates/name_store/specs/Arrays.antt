@@ -1,4 +1,4 @@
--- Names, arrays and buffers of a state: looked up, bound, removed, read and written.
+-- Operations on a state: names are looked up, bound and removed, and arrays are read and written.
 use Rattle.std.specs.Prelude.{ℕ, ◌-◌, Bool, true, List, [], ◌∷◌, ◌++◌, length, take, map, Option, Some, None, slice_get, slice_set, is_some, nat_eq, nat_lt, if◌then◌else◌, unwrap_or, ◌||◌, ◌&&◌}
 use Rattle.std.specs.List.{list_any}
 use Rattle.std.specs.Option.{option_map_or}
@@ -9,17 +9,17 @@ use Rattle.elem_descr.specs.declared.descr.Descr.TheVariants.{Scalar as ScalarDe
 use Rattle.name_store.specs.Parts.{descr_at, start_at, span_at, part_at, with_part, have_common, share_leaves}
 use Rattle.name_store.specs.States.{Buffer, Array, State}
 
--- States that are kept
+-- Kept states
 
--- The state is kept before it changes: the oldest beyond the depth is forgotten.
+-- The names and buffers are appended to the kept states, of which only the last `depth` remain.
 abbrev pub keeping : State → State
 keeping s = record s { kept = keep_last s.depth (s.kept ++ (s.names, s.buffers) ∷ []) }
 
--- whether there is a state to go back to
+-- whether there is a change to undo
 abbrev pub has_kept : State → Bool
 has_kept s = is_some (last_item s.kept)
 
--- The state that was kept last is back, whole, and is kept no more.
+-- The last kept state is restored, and removed from the kept states. If there is none, nothing changes.
 abbrev pub undone : State → State
 undone s = option_map_or (λ before. record s { names = before.0; buffers = before.1; kept = take (length s.kept - 1) s.kept }) (last_item s.kept) s
 
@@ -32,37 +32,37 @@ find_array (entry ∷ names) name = if bytes_eq entry.0 name then Some entry.1 e
 abbrev pub is_bound : State → List ℕ → Bool
 is_bound s name = is_some (find_array s.names name)
 
--- a name that is bound keeps its place, and another comes last
+-- A name that is bound keeps its place among the names. A new name is appended.
 abbrev pub put_array : List (List ℕ × Array) → List ℕ → Array → List (List ℕ × Array)
 put_array [] name array = (name, array) ∷ []
 put_array (entry ∷ names) name array = if bytes_eq entry.0 name then (name, array) ∷ names else entry ∷ put_array names name array
 
--- one name fewer: those after it close up
+-- the names without this one, in the same order
 abbrev pub without : List (List ℕ × Array) → List ℕ → List (List ℕ × Array)
 without [] name = []
 without (entry ∷ names) name = if bytes_eq entry.0 name then names else entry ∷ without names name
 
--- at most 1,024 names are bound at one time
+-- whether a name can be bound: it is bound already, or fewer than 1,024 names are
 abbrev pub has_room_for : State → List ℕ → Bool
 has_room_for s name = is_bound s name || nat_lt (length s.names) 1024
 
--- whether some name's array lies in a buffer
+-- whether the array of some name lies in this buffer
 abbrev pub is_in_use : List (List ℕ × Array) → ℕ → Bool
 is_in_use names buffer = list_any (λ entry. nat_eq entry.1.buffer buffer) names
 
--- A name is bound to an array over a fresh buffer. A buffer that no name uses any more is gone.
+-- The name is bound to an array in a new buffer. Buffers that no name uses any longer are removed.
 abbrev pub bound_to : State → List ℕ → Array → Buffer → State
 bound_to s name array buffer =
     let names = put_array s.names name array in
     record (keeping s) { names = names; buffers = retain_keys (insert s.buffers array.buffer buffer) (is_in_use names) }
 
--- A name is bound to an array that lies in a buffer that is there. A buffer that no name uses any more is gone.
+-- The name is bound to an array in an existing buffer. Buffers that no name uses any longer are removed.
 abbrev pub bound_view : State → List ℕ → Array → State
 bound_view s name array =
     let names = put_array s.names name array in
     record (keeping s) { names = names; buffers = retain_keys s.buffers (is_in_use names) }
 
--- A name is bound no longer. A buffer that no name uses any more is gone.
+-- The name is unbound. Buffers that no name uses any longer are removed.
 abbrev pub unbound : State → List ℕ → State
 unbound s name =
     let names = without s.names name in
@@ -70,45 +70,46 @@ unbound s name =
 
 -- Arrays
 
+-- a placeholder for a missing buffer, with no items
 abbrev pub no_buffer : Buffer
 no_buffer = record { descr = ScalarDescr (Int true Four Little); items = [] }
 
--- the buffer of an array
+-- the buffer that an array lies in, or `no_buffer` if the state does not have it
 abbrev pub buffer_of : State → Array → Buffer
 buffer_of s array = unwrap_or (get s.buffers array.buffer) no_buffer
 
--- the element type of an array: that of its buffer, or of one field
+-- the element type of an array: that of its buffer, or of the field that its path leads to
 abbrev pub descr_of : State → Array → Descr
 descr_of s array = descr_at (buffer_of s array).descr array.path
 
--- the address of each item of an array, in bytes from the start of its buffer
+-- the offsets of an array's items in C order, in bytes from the start of its buffer
 abbrev pub addresses : State → Array → List ℕ
 addresses s array = offsets_of (item_size (buffer_of s array).descr) (start_at (buffer_of s array).descr array.path) array.places
 
 abbrev pub placed_item : List (List LeafValue) → ℕ → List LeafValue
 placed_item items place = unwrap_or (slice_get items place) []
 
--- the leaves that an array has of each item of its buffer: the first of them, and how many they are
+-- the leaves of each item of its buffer that an array has: the number of the first one, and how many there are
 abbrev pub span_of : State → Array → ℕ × ℕ
 span_of s array = span_at (buffer_of s array).descr array.path
 
--- the items of an array, place by place
+-- the items of an array in C order
 abbrev pub read : State → Array → List (List LeafValue)
 read s array = map (λ place. part_at (span_of s array) (placed_item (buffer_of s array).items place)) array.places
 
--- values put in a part of the items at places, one after the other
+-- the items of a buffer after the part `span` of the items at `places` is replaced by new values, one after the other
 abbrev pub write : ℕ × ℕ → List ℕ → List (List LeafValue) → List (List LeafValue) → List (List LeafValue)
 write span (place ∷ places) (part ∷ new) items = write span places new (slice_set items place (with_part span part (placed_item items place)))
 write span places new items = items
 
--- the state in which an array's items at some of its places are new
+-- the state after the items of an array at `places` are replaced by the items `new`
 abbrev pub written : State → Array → List ℕ → List (List LeafValue) → State
 written s array places new =
     record (keeping s) { buffers = insert s.buffers array.buffer (record (buffer_of s array) { items = write (span_of s array) places new (buffer_of s array).items }) }
 
 -- Shared cells
 
--- whether two arrays lie in one buffer, and some leaf of an item and some place are in both
+-- whether two arrays share cells: they lie in the same buffer, and have a leaf of the items and a place in common
 abbrev pub share_cells : State → Array → Array → Bool
 share_cells s a b =
     nat_eq a.buffer b.buffer && share_leaves (buffer_of s a).descr a.path b.path && have_common a.places b.places

@@ -1,4 +1,4 @@
--- What a call that changes a bench answers.
+-- What the calls of a bench return, and how they change it.
 use Rattle.std.specs.Prelude.{◌≡◌, ◌<◌, ◌≤◌, ◌⊎◌, ◌&&◌, ◌-◌, ◌*◌, ℕ, Bool, true, false, List, [], ◌∷◌, ◌++◌, length, take, Result, Ok, Err, Some, None, All}
 use Rattle.std.specs.FinMap.{get}
 use Rattle.name_store.specs.Words.{keep_last, Refusal, OutOfMemory, TooManyNames, UnknownName, NothingToUndo, Owned, item_size, LeafValue, count, offsets, places_of, items_in}
@@ -11,51 +11,52 @@ use Rattle.name_store.specs.declared.bound.Bound.{Bound}
 use Rattle.name_store.specs.declared.bound.Bound.TheVariants.{Fresh, View}
 use Rattle.name_store.specs.Views.{IsViewIn}
 
--- the buffer of an array that has a block of its own
+-- the buffer of an array that owns its block
 abbrev pub own_buffer : Owned → Buffer
 own_buffer o = record { descr = o.descr; items = items_in o.descr (count o.layout.shape) o.block }
 
--- the array itself, in the buffer with this number
+-- an array that owns its block, as an array in buffer `number`
 abbrev pub own_array : ℕ → Owned → Array
 own_array number o =
     record { buffer = number; path = []; shape = o.layout.shape; places = places_of (item_size o.descr) (offsets o.layout); writable = true }
 
--- a number that neither the state nor a kept state uses
+-- a buffer number that neither the state nor a kept state uses
 pub record IsUnused (s : State) (number : ℕ) : Type 0 where
   pub unused : get s.buffers number ≡ None
   pub unkept : All (λ state. get state.1 number ≡ None) s.kept
 
--- the least number that neither the state nor a kept state uses
+-- the smallest buffer number that neither the state nor a kept state uses
 pub record IsLeastUnused (s : State) (number : ℕ) : Type 0 where
   pub unused : IsUnused s number
   pub least : (m : ℕ) → m < number → IsUnused s m → ⊥
 
--- the state once a name is bound; a fresh buffer takes the least number that is in no use
+-- The state after a name is bound. A new buffer gets the smallest unused number.
 abbrev pub Binds : State → List ℕ → Bound → State → Type 0
 Binds old name (Fresh o) new =
     (number : ℕ) × IsLeastUnused old number × (new ≡ bound_to old name (own_array number o) (own_buffer o))
 Binds old name (View number path layout writable) new =
     (array : Array) → IsViewIn old number path layout writable array → new ≡ bound_view old name array
 
--- A name is bound where there is room for it. Else it is refused, as it is where memory runs out, and nothing has changed.
+-- The name is bound if there is room for it. Otherwise, or if memory runs out, the call is refused and nothing changes.
 abbrev pub AnswersBind : State → List ℕ → Bound → Result (Unit {0}) Refusal → State → Type 0
 AnswersBind old name bound (Ok _) new = (has_room_for old name ≡ true) × Binds old name bound new
 AnswersBind old name bound (Err refusal) new =
     (new ≡ old) × (((has_room_for old name ≡ false) × (refusal ≡ TooManyNames)) ⊎ ((has_room_for old name ≡ true) × (refusal ≡ OutOfMemory)))
 
--- A name that is bound is so no longer, and another is refused, with nothing changed, as is one where memory runs
--- out, which it needs only to keep the state before.
+-- A bound name is unbound. If the name is not bound, or if memory runs out, the call is refused and nothing changes.
+-- Memory is needed only to keep the earlier state, so it cannot run out if `depth` is 0.
 abbrev pub AnswersUnbind : State → List ℕ → Result (Unit {0}) Refusal → State → Type 0
 AnswersUnbind old name (Ok _) new = (is_bound old name ≡ true) × (new ≡ unbound old name)
 AnswersUnbind old name (Err refusal) new =
     (new ≡ old) × (((is_bound old name ≡ false) × (refusal ≡ UnknownName)) ⊎ ((is_bound old name ≡ true) × (refusal ≡ OutOfMemory) × (1 ≤ old.depth)))
 
--- The state that was kept last is back. Where none is kept that is refused, and nothing has changed.
+-- The last kept state is restored. If there is none, the call is refused and nothing changes.
 abbrev pub AnswersUndo : State → Result (Unit {0}) Refusal → State → Type 0
 AnswersUndo old (Ok _) new = (has_kept old ≡ true) × (new ≡ undone old)
 AnswersUndo old (Err refusal) new = (has_kept old ≡ false) × (refusal ≡ NothingToUndo) × (new ≡ old)
 
--- The items of the target are written, as many as the answer says. It is refused only as out of memory, and then nothing has changed.
+-- The items are written to the target, and their number is returned. The call is refused only if memory runs out, and
+-- then nothing changes.
 abbrev pub AnswersWrite : State → List ℕ → Target → Source → Result ℕ Refusal → State → Type 0
 AnswersWrite old name target source (Ok n) new =
     (n ≡ length (target_offsets target))
@@ -63,23 +64,24 @@ AnswersWrite old name target source (Ok n) new =
     → new ≡ written old array places items)
 AnswersWrite old name target source (Err refusal) new = (new ≡ old) × (refusal ≡ OutOfMemory)
 
--- A change that is made is counted by the bytes of old items that it takes to undo it, and the oldest beyond the depth
--- is forgotten. Where it is refused, nothing has changed.
+-- A change appends to `patches` the number of old bytes that are kept to undo it. Only the last `depth` numbers remain.
+-- If the call is refused, nothing changes.
 abbrev pub Counts : {A : Type 0} → ℕ → BenchValue → Result A Refusal → BenchValue → Type 0
 Counts bytes old (Ok _) new = new.patches ≡ keep_last old.state.depth (old.patches ++ bytes ∷ [])
 Counts bytes old (Err _) new = new ≡ old
 
--- those of the items of a target in a name's array
+-- the same for a write: the old bytes are those of the target's items in the name's array
 abbrev pub CountsWrite : BenchValue → List ℕ → Target → Result ℕ Refusal → BenchValue → Type 0
 CountsWrite old name target result new =
     (array : Array) → find_array old.state.names name ≡ Some array → Counts (length (target_offsets target) * item_size (descr_of old.state array)) old result new
 
--- The change that is undone is counted no more. Where there is none, nothing has changed.
+-- The last number is removed from `patches`. If the call is refused, nothing changes.
 abbrev pub CountsUndo : BenchValue → Result (Unit {0}) Refusal → BenchValue → Type 0
 CountsUndo old (Ok _) new = new.patches ≡ take (length old.patches - 1) old.patches
 CountsUndo old (Err _) new = new ≡ old
 
--- Whether the arrays of two names share cells. It is refused only where a name is not bound, and as out of memory.
+-- The result is whether the arrays of two names share cells. The call is refused only if one of the names is not bound,
+-- or if memory runs out.
 abbrev pub AnswersShares : State → List ℕ → List ℕ → Result Bool Refusal → Type 0
 AnswersShares s left right (Ok answer) =
     (a : Array) × (b : Array) × (find_array s.names left ≡ Some a) × (find_array s.names right ≡ Some b) × (answer ≡ share_cells s a b)

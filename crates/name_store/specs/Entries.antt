@@ -1,4 +1,4 @@
--- What a name and its array stand for, and the slots by their numbers.
+-- The arrays that the entries of the table represent, and the slots by number.
 use Rattle.std.specs.Prelude.{ℕ, zero, suc, List, [], ◌∷◌, Option, None}
 use Rattle.name_store.specs.Words.{offsets, places_of}
 use Rattle.name_store.specs.States.{Array}
@@ -11,7 +11,7 @@ array_at e = record { buffer = e.number; path = e.path; shape = e.layout.shape; 
 abbrev pub named_array : List ℕ × Entry → List ℕ × Array
 named_array entry = (entry.0, array_at entry.1)
 
--- the slot with a number, where it is occupied
+-- the slot with this number, if it exists and is occupied
 abbrev pub slot_at : List (Option Slot) → ℕ → Option Slot
 slot_at [] number = None
 slot_at (slot ∷ slots) zero = slot

@@ -1,4 +1,4 @@
--- What a path that goes on by one field leads to.
+-- What a path leads to if one more field is appended to it.
 use Rattle.std.proofs.Common.{◌≡◌, ◌<◌, ◌+◌, ℕ, List, [], ◌∷◌, ◌++◌, length, refl, arith}
 use Rattle.name_store.specs.Words.{Descr, fields, field_at}
 use Rattle.name_store.specs.Parts.{IsPathOf, descr_at, start_at}

@@ -1,4 +1,4 @@
--- What takes no memory: writes, where no states are kept, and a question about two buffers.
+-- The calls that take no memory: writes, if no states are kept, and `shares`, if the arrays lie in different buffers.
 use Rattle.std.specs.Prelude.{◌≡◌, ◌≢◌, ◌⊎◌, ℕ, ℤ, List, Some, reverse, IsTrue}
 use Rattle.name_store.specs.Words.{item_size, Layout, is_c_contiguous, offsets, IsStacked, AreApart, IsRun}
 use Rattle.name_store.specs.States.{State, Array}
@@ -8,13 +8,13 @@ use Rattle.name_store.specs.declared.write.Source.TheVariants.{One, Block, Buffe
 use Rattle.name_store.specs.declared.write.Target.{Target}
 use Rattle.name_store.specs.declared.write.Target.TheVariants.{View, Plan}
 
--- both are runs of the same step
+-- both layouts are runs with the same step
 pub record AreRuns (to from : Layout) : Type 0 where
   pub step : ℤ
   pub to_run : IsRun step (offsets to)
   pub from_run : IsRun step (offsets from)
 
--- both are runs, each of them the other from its last item to its first
+-- both layouts are runs, and each is the reverse of the other
 pub record AreReversed (to from : Layout) : Type 0 where
   pub step : ℤ
   pub other : ℤ
@@ -22,24 +22,27 @@ pub record AreReversed (to from : Layout) : Type 0 where
   pub from_run : IsRun other (offsets from)
   pub reversed : offsets from ≡ reverse (offsets to)
 
--- both have the same shape and the same strides, and each axis steps clear of the others
+-- both layouts have the same shape and strides, and in some order of the axes, each steps clear of those before it
 pub record AreShifted (to from : Layout) (item : ℕ) : Type 0 where
   pub shape : from.shape ≡ to.shape
   pub strides : from.strides ≡ to.strides
   pub stacked : IsStacked to item
 
--- the items of a layout can come from those of another in the same buffer, one by one
+-- Items of `item` bytes can be copied one by one, within a buffer, from one layout to the other: the layouts are apart,
+-- are runs with the same step, are the reverse of each other, or are shifted.
 abbrev pub MoveInPlace : Layout → Layout → ℕ → Type 0
 MoveInPlace to from item = AreApart to item from item ⊎ (AreRuns to from ⊎ (AreReversed to from ⊎ AreShifted to from item))
 
--- Into a view, one item, the items of a block and those of another buffer are written without memory, and so are items of the same buffer that can move in place.
+-- A write to a view takes no memory if the source is one item, a block or another buffer, or if the items come from the
+-- same buffer and can be moved in place.
 abbrev pub NeedsNoneInView : State → List ℕ → Layout → Source → Type 0
 NeedsNoneInView s name to (One bytes) = Unit {0}
 NeedsNoneInView s name to (Block owned) = Unit {0}
 NeedsNoneInView s name to (Buffer number from) =
     (array : Array) → find_array s.names name ≡ Some array → array.buffer ≡ number → MoveInPlace to from (item_size (descr_of s array))
 
--- Where a plan leads, one item is, and the items of a block in C order.
+-- A write to the places of a plan takes no memory if the source is one item, or a block whose items are adjacent in C
+-- order.
 abbrev pub NeedsNoneInPlan : Source → Type 0
 NeedsNoneInPlan (One bytes) = Unit {0}
 NeedsNoneInPlan (Block owned) = IsTrue (is_c_contiguous (item_size owned.descr) (offsets owned.layout))
@@ -49,7 +52,7 @@ abbrev pub NeedsNoMemory : State → List ℕ → Target → Source → Type 0
 NeedsNoMemory s name (View to) source = (s.depth ≡ 0) × NeedsNoneInView s name to source
 NeedsNoMemory s name (Plan plan) source = (s.depth ≡ 0) × NeedsNoneInPlan source
 
--- two names are bound to arrays that lie in two buffers
+-- both names are bound, to arrays in different buffers
 pub record LieInTwo (s : State) (left right : List ℕ) : Type 0 where
   pub a : Array
   pub b : Array

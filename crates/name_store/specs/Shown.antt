@@ -1,4 +1,4 @@
--- What a look-up shows of an array.
+-- What a lookup returns for an array.
 use Rattle.std.specs.Prelude.{◌≡◌, ◌≢◌, ◌<◌, ℕ, ◌*◌, slice_index, map, length, Option, Some, None, IsTrue, All, ◌+◌, ◌≤◌}
 use Rattle.name_store.specs.Words.{item_size, fields, offsets, max_bytes, items_in, item_from}
 use Rattle.name_store.specs.States.{State, Array}
@@ -7,7 +7,9 @@ use Rattle.name_store.specs.Parts.{start_at}
 use Rattle.name_store.specs.Views.{IsViewIn}
 use Rattle.name_store.specs.declared.bound.ArrayRef.{ArrayRef}
 
--- the array of a state, as a view in its buffer, and by its buffer's block; where it has fields, its path may go on
+-- `r` shows an array of the state: it is a view of the array in its buffer, and the items of the array are read from
+-- the buffer's block at the offsets of the view. If the array has fields, its path is short enough to append one. If it
+-- is writable, its places are distinct.
 pub record Shows (s : State) (array : Array) (r : ArrayRef) : Type 0 where
   pub view : IsViewIn s r.number r.path.now r.layout.now r.writable array
   pub descr : descr_of s array ≡ r.descr.now
@@ -21,7 +23,7 @@ pub record Shows (s : State) (array : Array) (r : ArrayRef) : Type 0 where
   pub inside : All (λ offset. offset + item_size r.descr.now ≤ length r.block.now) (offsets r.layout.now)
   pub once : IsTrue array.writable → (j k : ℕ) → j < k → k < length array.places → slice_index array.places j ≢ slice_index array.places k
 
--- what is found shows the array that is there, and nothing is found where none is
+-- A lookup returns the array if there is one, and otherwise nothing.
 abbrev pub Finds : State → Option Array → Option ArrayRef → Type 0
 Finds s None None = Unit {0}
 Finds s None (Some r) = ⊥

@@ -1,8 +1,8 @@
--- What is seen of a table.
+-- The state that a table represents.
 use Rattle.name_store.specs.States.{State}
 use Rattle.name_store.specs.View.{present}
 use Rattle.name_store.specs.declared.table.Table.{Table}
 
--- its names and buffers, with no state kept
+-- the names and buffers of a table, without kept states
 abbrev pub table_state : Table → State
 table_state table = present table.names.entries table.slots.cells.items

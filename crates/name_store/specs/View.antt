@@ -1,4 +1,4 @@
--- What the fields of a bench stand for.
+-- The state that the fields of a bench represent.
 pub use Rattle.name_store.specs.Entries.{array_at, named_array, slot_at}
 use Rattle.std.specs.Prelude.{ℕ, List, [], map, Option}
 use Rattle.circular_buffer.specs.Buffer.{Buffer as Ring}
@@ -12,7 +12,7 @@ use Rattle.name_store.specs.declared.slot.Slot.{Slot}
 abbrev pub buffer_in : Slot → Buffer
 buffer_in s = record { descr = s.descr; items = items_in s.descr s.items s.block }
 
--- the names and buffers alone, with no state kept
+-- the names and buffers, without kept states
 abbrev pub present : List (List ℕ × Entry) → List (Option Slot) → State
 present names slots = record { names = map named_array names; buffers = past_buffers [] (map named_array names) slots; depth = 0; kept = [] }
 

@@ -1,4 +1,4 @@
--- The codes of the model's values, by which a proof tells them apart.
+-- Codes of the model's values, which a proof uses to tell values apart.
 use Rattle.std.specs.Prelude.{ℕ, Bool, List, refl}
 use Rattle.std.specs.Ordering.{nat_cmp}
 use Rattle.std.specs.Coded.{Coded, code_by, coded×, coded_ℕ, coded_bool, coded_list}

@@ -1,4 +1,4 @@
--- What holds of a table holds in one way.
+-- The invariant of a table is a proposition: it has at most one proof.
 use Rattle.std.specs.Prelude.{ℕ, Bool, List, [], ◌∷◌, Option, Some, None}
 use Rattle.std.specs.Coded.{Unit-prop, le_prop}
 use Rattle.std.specs.List.{AllByRecursion-prop}

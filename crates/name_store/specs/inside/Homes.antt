@@ -1,4 +1,4 @@
--- Where the array of a name lies, and slots in which the bytes of one block are new.
+-- Where the array of a name lies, and slots after the bytes of one block are replaced.
 use Rattle.std.specs.Prelude.{◌≡◌, ℕ, List, Option, Some, map, nat_eq, if◌then◌else◌}
 use Rattle.name_store.specs.Words.{item_size}
 use Rattle.name_store.specs.Arrays.{find_array}
@@ -18,14 +18,14 @@ pub record IsHome (names : List (List ℕ × Entry)) (slots : List (Option Slot)
   pub lies : LiesIn slot entry
   pub width_is : width ≡ item_size (descr_at slot.descr entry.path)
 
--- a slot with these bytes in its block, and else as it was
+-- the slot has `bytes` in its block, and is otherwise unchanged
 pub record IsRewritten (old : Slot) (bytes : List ℕ) (new : Slot) : Type 0 where
   pub descr : new.descr ≡ old.descr
   pub items : new.items ≡ old.items
   pub block : new.block ≡ bytes
   pub users : new.users ≡ old.users
 
--- the slot with a number is so, and all others are as they were
+-- slot `number` is rewritten in this way, and all other slots are unchanged
 pub record HasNew (before : List (Option Slot)) (number : ℕ) (old : Slot) (bytes : List ℕ) (after : List (Option Slot)) : Type 0 where
   pub new : Slot
   pub rewritten : IsRewritten old bytes new

@@ -1,13 +1,13 @@
--- What is kept of a path: its numbers, in four places.
+-- How a path is stored: as four numbers, padded with zeros.
 use Rattle.std.proofs.Common.{◌≡◌, ◌≤◌, ◌-◌, ℕ, List, ◌++◌, length, take, replicate, sym, ap, ◌∙◌, arith, length-take}
 
--- `len` numbers in four places, followed by zeros
+-- a path of `len` numbers is stored as four numbers: those of the path, followed by zeros
 pub record IsKept (len : ℕ) (numbers : List ℕ) : Type 0 where
   pub short : len ≤ 4
   pub four : length numbers ≡ 4
   pub padded : numbers ≡ take len numbers ++ replicate (4 - len) 0
 
--- the four places of a path
+-- the four numbers that a path is stored as
 abbrev pub in_places : List ℕ → List ℕ
 in_places path = path ++ replicate (4 - length path) 0
 

@@ -1,4 +1,4 @@
--- What is kept of a buffer holds in one way.
+-- The invariant of a buffer is a proposition: it has at most one proof.
 use Rattle.std.specs.Prelude.{◌+◌, ℕ, List}
 use Rattle.std.specs.Coded.{Unit-prop, le_prop}
 use Rattle.std.proofs.Props.{props}

@@ -1,4 +1,4 @@
--- What undoing a change does to names and slots.
+-- How undoing a change changes the names and the slots.
 use Rattle.std.specs.Prelude.{◌≡◌, ℕ, List, [], ◌∷◌, ◌++◌, map, Option}
 use Rattle.name_store.specs.Words.{buffer, spare}
 use Rattle.circular_buffer.specs.Buffer.{Buffer as Ring}
@@ -10,17 +10,17 @@ use Rattle.name_store.specs.declared.bound.Entry.{Entry}
 use Rattle.name_store.specs.declared.slot.Slot.{Slot}
 use Rattle.name_store.specs.declared.table.Table.{Table}
 
--- the states that were kept before the change are kept, and the one before it is the present
+-- the state before the change is the present state, and the states that were kept before it are still kept
 pub record Undoes (names : List (List ℕ × Entry)) (slots : List (Option Slot)) (change : Change) (names' : List (List ℕ × Entry)) (slots' : List (Option Slot)) (ring : Ring Change) (spare : ℕ) : Type 0 where
   pub sound : IsSound names' slots' ring spare
   pub kept : kept_states (ring.items ++ change ∷ []) (map named_array names) slots
       ≡ kept_states ring.items (map named_array names') slots' ++ (map named_array names', past_buffers [] (map named_array names') slots') ∷ []
 
--- the change is the last of some that are kept
+-- the change can be undone: it is the newest of the kept changes, for some changes that are kept before it
 abbrev pub CanUndo : Table → Change → Type 0
 CanUndo table change = (ring : Ring Change) × IsSound table.names.entries table.slots.cells.items (buffer (ring.items ++ change ∷ []) ring.capacity) (spare table.names)
 
--- it is undone, whatever others are kept
+-- the change is undone, whatever changes are kept before it
 abbrev pub IsUndone : Table → Change → Table → Type 0
 IsUndone old change new =
     (ring : Ring Change) → IsSound old.names.entries old.slots.cells.items (buffer (ring.items ++ change ∷ []) ring.capacity) (spare old.names)

@@ -3,7 +3,7 @@ use Rattle.std.specs.List.{flat_map}
 use Rattle.name_store.specs.Words.{EachWithin, run_offsets, put_each}
 use Rattle.name_store.proofs.rewrite.fill_runs.Given as goal
 
--- the runs that are left lead to what all of them do
+-- the remaining runs complete what all runs write
 abbrev pub invariant-loop-run : goal.invariant-loop-run
 invariant-loop-run l = record {
   rest : put_each (flat_map run_offsets l.run-iterator) l.item l.block ≡ put_each (flat_map run_offsets l.fn.runs) l.item l.fn.block;

@@ -9,7 +9,7 @@ none-is : (o : Option Slot) → is_some o ≡ false → o ≡ None
 none-is None h = refl
 none-is (Some s) h = let no : ⊥ = cc in absurd no
 
--- what holds below a number, and at it
+-- a property that holds below a number, and at it
 one-further : (P : ℕ → Type 0) (n : ℕ) → ((q : ℕ) → q < n → P q) → P n → (q : ℕ) → q < n + 1 → P q
 one-further P n below here q less = by (nat_lt q n) refl
   where

@@ -18,7 +18,7 @@ pub unwrap-slot-requires : goal.unwrap-slot-requires
 unwrap-slot-requires c =
     ap is_some (c.take.ensures.value ∙ c.index_mut.ensures.value ∙ slot_at-get_or c.args.cells.now.items c.args.home.number _ (slot_at-within c.args.cells.now.items c.args.home.number c.requires.slot c.requires.there) ∙ c.requires.there)
 
--- the slot stood there, and the others stand where they did
+-- the slot was there, and the other slots are unchanged
 there : (c : After-as_slice) → slot_at c.args.cells.now.items c.args.home.number ≡ Some c.unwrap-slot.result
 there c =
     sym (c.take.ensures.value ∙ c.index_mut.ensures.value ∙ slot_at-get_or c.args.cells.now.items c.args.home.number _ (slot_at-within c.args.cells.now.items c.args.home.number c.requires.slot c.requires.there))

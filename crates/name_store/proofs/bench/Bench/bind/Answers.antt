@@ -13,7 +13,7 @@ use Rattle.name_store.proofs.UnbindLaws.{same-sound}
 use Rattle.name_store.proofs.bench.Bench.bind.Goals as goal
 use Rattle.name_store.proofs.bench.Bench.bind.Goals.{After-keep}
 
--- what is kept, and what is seen
+-- the invariant, and the new state
 kept : (c : After-keep) → IsSound c.bind.new.self.names.entries c.keep.new.slots.cells.items c.keep.new.history (spare c.bind.new.self.names)
     × Binds (state_of c.make_room.new.names.entries c.self.inside.table.slots.cells.items c.self.inside.history) c.copy.result c.args.bound (state_of c.bind.new.self.names.entries c.keep.new.slots.cells.items c.keep.new.history)
 kept c =

@@ -12,7 +12,7 @@ use Rattle.name_store.proofs.UnbindLaws.{same-sound, removed-holds, unbind-held,
 use Rattle.name_store.proofs.bench.Bench.unbind.Goals as goal
 use Rattle.name_store.proofs.bench.Bench.unbind.Goals.{After-keep}
 
--- what is kept, and what is seen
+-- the invariant, and the new state
 kept : (c : After-keep) → IsSound c.shift_remove_full.new.self.entries c.keep.new.slots.cells.items c.keep.new.history (spare c.shift_remove_full.new.self)
     × (state_of c.shift_remove_full.new.self.entries c.keep.new.slots.cells.items c.keep.new.history ≡ unbound (state_of c.make_room.new.names.entries c.self.inside.table.slots.cells.items c.self.inside.history) c.copy-key.result)
 kept c =

@@ -14,7 +14,7 @@ use Rattle.name_store.proofs.WriteKept.{same-still, same-state, same-value, trie
 use Rattle.name_store.proofs.bench.Bench.write_items.Goals as goal
 use Rattle.name_store.proofs.bench.Bench.write_items.Goals.{After-home-home, After-keep}
 
--- where the array lies, and that the target leads there
+-- the array lies in its slot, and the target leads to it
 aimed : (c : After-home-home) → IsHome c.self.inside.table.names.entries c.self.inside.table.slots.cells.items c.args.name.now c.home-home.result.number c.home-home.result.width × IsAim (state_of c.self.inside.table.names.entries c.self.inside.table.slots.cells.items c.self.inside.history) c.args.name.now c.args.target c.args.source
 aimed c = (
   c.home-home.ensures,

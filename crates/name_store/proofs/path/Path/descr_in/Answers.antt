@@ -4,7 +4,7 @@ use Rattle.name_store.specs.Words.{Field}
 use Rattle.name_store.specs.Parts.{IsPathOf, descr_at}
 use Rattle.name_store.proofs.path.Path.descr_in.Goals as goal
 
--- the numbers from one on
+-- the remaining numbers are the next one, and those after it
 next : (numbers : List ℕ) (i : ℕ) → i < length numbers → drop i numbers ≡ slice_index_or numbers i 0 ∷ drop (i + 1) numbers
 next numbers i low = drop-cons numbers i 0 low ∙ rw (add-one i) refl
 

@@ -2,7 +2,7 @@ use Rattle.std.proofs.Common.{◌≡◌, drop}
 use Rattle.name_store.specs.Parts.{IsPathOf, descr_at}
 use Rattle.name_store.proofs.path.Path.descr_in.Given as goal
 
--- the numbers that are left lead from here to what all of them do
+-- the remaining numbers lead from here to where the whole path leads
 abbrev pub invariant-loop-number : goal.invariant-loop-number
 invariant-loop-number l = record {
   path : IsPathOf l.descr (drop l.number-index l.number-items);

@@ -26,7 +26,7 @@ index_mut-requires-else-slot-eq1 c = omega (arith, c.args.self.now.cells.ok.0, u
 pub unwrap-slot-requires : goal.unwrap-slot-requires
 unwrap-slot-requires c = lent-some c.args.self.now.cells.items c.args.number _ c.as_mut.result (used-within c.args.self.now.cells.items c.args.number c.requires) (c.as_mut.ensures.value ∙ c.index_mut-else-slot-eq1.ensures.value) (used-some c.args.self.now.cells.items c.args.number c.requires)
 
--- the buffer stood there
+-- the buffer was in the slot
 was : (c : After-unwrap-slot) → slot_at c.args.self.now.cells.items c.args.number ≡ Some c.unwrap-slot.result.now
 was c = lent-there c.args.self.now.cells.items c.args.number _ c.as_mut.result c.unwrap-slot.result (used-within c.args.self.now.cells.items c.args.number c.requires) (c.as_mut.ensures.value ∙ c.index_mut-else-slot-eq1.ensures.value) c.unwrap-slot.ensures
 

@@ -17,7 +17,7 @@ index_mut-requires c = omega (arith, c.args.self.now.slots.cells.ok.0, goes-with
 pub unwrap-slot-requires : goal.unwrap-slot-requires
 unwrap-slot-requires c = lent-some c.args.self.now.slots.cells.items c.args.number _ c.as_mut.result (goes-within c.args.self.now.names.entries c.args.self.now.slots.cells.items c.requires.can.0 _ c.args.number c.args.target.now c.args.items.now c.requires.can.1) (c.as_mut.ensures.value ∙ c.index_mut.ensures.value) (goes-some c.args.self.now.names.entries c.args.self.now.slots.cells.items c.requires.can.0 _ c.args.number c.args.target.now c.args.items.now c.requires.can.1)
 
--- the buffer stood there
+-- the buffer was in the slot
 was : (c : After-unwrap-slot) → slot_at c.args.self.now.slots.cells.items c.args.number ≡ Some c.unwrap-slot.result.now
 was c = lent-there c.args.self.now.slots.cells.items c.args.number _ c.as_mut.result c.unwrap-slot.result (goes-within c.args.self.now.names.entries c.args.self.now.slots.cells.items c.requires.can.0 _ c.args.number c.args.target.now c.args.items.now c.requires.can.1) (c.as_mut.ensures.value ∙ c.index_mut.ensures.value) c.unwrap-slot.ensures
 
