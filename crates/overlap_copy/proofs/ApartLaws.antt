@@ -1,4 +1,4 @@
--- Laws of layouts that are apart: greatest common divisors, and items that lie between others.
+-- Laws of disjoint layouts: greatest common divisors, and items in the gaps between others.
 use Rattle.std.proofs.Common.{◌≡◌, ◌+◌, ◌-◌, ◌*◌, ◌/◌, ◌%◌, ◌<◌, ◌≤◌, inl, inr, ℕ, zero, suc, ℤ, pos, negsuc, ◌+ℤ◌, ◌*ℤ◌, List, [], ◌∷◌, ◌++◌, length, map, get_or, drop, All, Contains, nat_le, false, refl, sym, ap, subst, ◌∙◌, arith, add-one, mul-suc, mul-zero, mul_assoc, mul-le-mul_left}
 use Rattle.std.specs.Int.{IsGcd, ◌∣◌}
 use Rattle.std.specs.List.{AllByRecursion as Each}
@@ -28,11 +28,11 @@ each_of g numbers all = recursion_from_All (λ n. g ∣ n) numbers all
 all_of : (g : ℕ) (numbers : List ℕ) → DividesEach g numbers → All (λ n. g ∣ n) numbers
 all_of g numbers each = All-from_recursion (λ n. g ∣ n) numbers each
 
--- of one number
+-- the greatest divisor of one number
 pub divisor-one : (n : ℕ) → IsGreatestDivisor n (n ∷ [])
 divisor-one n = record { divides = all_of n (n ∷ []) (dvd_refl n, tt); greatest = λ d all. (each_of d (n ∷ []) all).0 }
 
--- two numbers by their divisor
+-- two numbers can be replaced by their greatest common divisor
 pub divisor-more : (g a b d : ℕ) (numbers : List ℕ) → IsGcd a b d → IsGreatestDivisor g (d ∷ numbers) → IsGreatestDivisor g (a ∷ b ∷ numbers)
 divisor-more g a b d numbers of is =
     let each = each_of g (d ∷ numbers) is.divides in
@@ -41,7 +41,7 @@ divisor-more g a b d numbers of is =
       greatest = λ e all. let these = each_of e (a ∷ b ∷ numbers) all in is.greatest e (all_of e (d ∷ numbers) (of.2 e these.0 these.1.0, these.1.1));
     }
 
--- the numbers of two lists, the second with the divisor of the first
+-- the divisor of two lists: that of the second list together with the divisor of the first
 pub divisor-both : (g d : ℕ) (xs ys : List ℕ) → IsGreatestDivisor d (0 ∷ xs) → IsGreatestDivisor g (d ∷ ys) → IsGreatestDivisor g (xs ++ ys)
 divisor-both g d xs ys first second =
     let those = each_of d (0 ∷ xs) first.divides in
@@ -60,9 +60,9 @@ divisor-both g d xs ys first second =
 pub same_divisor : (g h : ℕ) (numbers : List ℕ) → IsGreatestDivisor g numbers → IsGreatestDivisor h numbers → g ≡ h
 same_divisor g h numbers a b = dvd_antisymm (b.greatest g a.divides) (a.greatest h b.divides)
 
--- ---- addresses in steps of a common divisor
+-- ---- addresses that are multiples of a common divisor apart
 
--- a number of steps above a number, less a number of steps
+-- z is a multiple of g: a number of steps up, minus a number of steps down
 pub record IsStepsFrom (g : ℕ) (z : ℤ) : Type 0 where
   pub up : ℕ
   pub down : ℕ
@@ -101,7 +101,7 @@ dot_steps g (s ∷ strides) shape [] in' each = no_steps g
 dot_steps g (s ∷ strides) [] (k ∷ index) in' each = absurd in'
 dot_steps g (s ∷ strides) (n ∷ shape) (k ∷ index) in' each = sum_steps g (s *ℤ pos k) (dot strides index) (term_steps g k n s in'.0 each.0) (dot_steps g strides shape index in'.1 each.1)
 
--- an offset lies steps from the first
+-- p is a multiple of g away from `at`
 pub record LiesOnSteps (g at p : ℕ) : Type 0 where
   pub up : ℕ
   pub down : ℕ
@@ -117,7 +117,7 @@ offset_steps l g p each at_p =
     let is : pos p ≡ address l found.0 = ap pos (sym at_p.2 ∙ ap (λ r. get_or (offsets l) r p) (sym found.2)) ∙ entry in
     on_steps g l.offset p (dot l.strides found.0) is (dot_steps g l.strides l.shape found.0 found.1 each)
 
--- ---- items that lie between others
+-- ---- items in the gaps between others
 
 between_steps : (g p q p' q' r item other up down up' down' x y m : ℕ) → p' + g * down ≡ p + g * up → q' + g * down' ≡ q + g * up' → g * x + m ≡ p + r → g * y + m ≡ q → r + other ≤ g → item ≤ r → p' < q' + other → q' < p' + item → ⊥
 between_steps g p q p' q' r item other up down up' down' x y m first second left right before after below above =
@@ -149,7 +149,7 @@ between-common l item m other b =
     let left : b.g * ((l.offset + b.r) / b.g) + m.offset % b.g ≡ l.offset + b.r = ap (λ rest. b.g * ((l.offset + b.r) / b.g) + rest) (sym b.difference) ∙ div-add-mod (l.offset + b.r) b.g in
     between_steps b.g l.offset m.offset c.p c.q b.r item other first.up first.down second.up second.down ((l.offset + b.r) / b.g) (m.offset / b.g) (m.offset % b.g) first.is second.is left (div-add-mod m.offset b.g) b.other_ends b.item_ends c.below c.above)
 
--- a number below the modulus is known by what it leaves
+-- numbers below g are equal if they are equal modulo g after p is added
 same_rest : (g p r s : ℕ) → r < g → s < g → (p + r) % g ≡ (p + s) % g → r ≡ s
 same_rest g p r s low low' same =
     let x = (p + r) / g in
@@ -164,7 +164,7 @@ same_rest g p r s low low' same =
       ]
     ]
 
--- the divisor and the difference are the ones that are found
+-- the divisor and the distance of `LieBetween` are the ones that were found
 pub between_found : (l : Layout) (item : ℕ) (m : Layout) (other g r : ℕ) → IsGreatestDivisor g (steps l ++ steps m) → r < g → (l.offset + r) % g ≡ m.offset % g → LieBetween l item m other → (item ≤ r) × (other ≤ g - r)
 between_found l item m other g r divisor low is b =
     let same : b.g ≡ g = same_divisor b.g g (steps l ++ steps m) b.divisor divisor in

@@ -1,4 +1,4 @@
--- Items that lie apart.
+-- Items that have no bytes in common.
 use Rattle.std.proofs.Common.{◌≡◌, ◌+◌, ◌<◌, ◌≤◌, inl, inr, false, ℕ, List, get_or, Contains, arith}
 use Rattle.std.proofs.lemmas.Bool.{both_ways, cases_lt}
 use Rattle.std.proofs.lemmas.List.{get_or_default}
@@ -8,7 +8,7 @@ use Rattle.overlap_copy.specs.Overlaps.{have_common_byte}
 use Rattle.overlap_copy.specs.inside.Moves.{LiesApart, LieApart}
 use Rattle.overlap_copy.proofs.OverlapLaws.{test_from_common}
 
--- items that have no byte in common
+-- if no two items share a byte, they are at least `width` apart
 pub lie_apart : (width : ℕ) (to from : List ℕ) → have_common_byte to width from width ≡ false → LieApart width to from
 lie_apart width to from none =
     recursion_from_All (λ at. LiesApart width at from) to (λ j d inside.

@@ -1,4 +1,4 @@
--- Items of a layout that come from as many bytes further on or back, in the order of their addresses.
+-- Items of a layout that are all moved by the same number of bytes, in the order of their addresses.
 use Rattle.std.proofs.Common.{◌≡◌, ◌+◌, ◌-◌, ◌<◌, ◌≤◌, ◌⊎◌, inl, inr, ℕ, ℤ, pos, ◌+ℤ◌, List, length, get_or, All, Contains, sym, ap, subst, ◌∙◌, arith}
 use Rattle.std.proofs.lemmas.Bool.{cases_lt}
 use Rattle.std.proofs.lemmas.Int.{ints}
@@ -11,7 +11,7 @@ use Rattle.overlap_copy.proofs.MoveLaws.{same_assigned, assigned_is}
 
 -- ---- the same moves in another order
 
--- each move is one of the others, and each place of theirs is one of its own
+-- each move is one of the others, and each target of the others is one of these targets
 same-moves : (n m : ℕ) (to from to' from' : ℕ → ℕ) (width : ℕ) (other old new : List ℕ) → ((k : ℕ) → k < n → (j : ℕ) × (j < m) × (to k ≡ to' j) × (from k ≡ from' j)) → ((j : ℕ) → j < m → (k : ℕ) × (k < n) × (to k ≡ to' j)) → IsAssigned m to' from' width other old new → IsAssigned n to from width other old new
 same-moves n m to from to' from' width other old new there back a = record {
   len = a.len;
@@ -23,7 +23,7 @@ same-moves n m to from to' from' width other old new there back a = record {
       subst (λ p. (j < p) ⊎ (p + width ≤ j)) found.2 (outside found.0 found.1));
 }
 
--- ---- where a layout begins
+-- ---- the first offset of a layout
 
 pub offset-within : (l : Layout) → l.offset ≤ max_bytes
 offset-within l = elim (cases_lt 0 (count l.shape)) [
@@ -31,7 +31,7 @@ offset-within l = elim (cases_lt 0 (count l.shape)) [
   | inr above ↦ omega (arith, (l.zero_if_empty (omega (arith, above))).0)
 ]
 
--- ---- items in order lie apart
+-- ---- items in the order of their addresses do not overlap
 
 pub nested-rising : (order : List ℕ) (width : ℕ) → IsRising width order → IsNested order width
 nested-rising order width rising = record { apart = λ j k before below. let above = rising.apart j k before below in omega (arith, above) }
@@ -57,7 +57,7 @@ module _ (dst src : Layout) (shape : src.shape ≡ dst.shape) (strides : src.str
       let is' : pos (get_or (offsets src) k 0) ≡ pos src.offset +ℤ dot src.strides found.0 = ap (λ r. pos (get_or (offsets src) r 0)) (sym rank') ∙ pos-offset src found.0 0 in' in
       far dst.offset src.offset (get_or (offsets dst) k 0) (get_or (offsets src) k 0) (dot dst.strides found.0) (dot src.strides found.0) is is' (ap (λ s. dot s found.0) strides)
 
-  -- an offset of the first layout and the one of the second at the same index
+  -- an offset of the first layout, and the offset of the second at the same index
   source-of : (o : ℕ) → Contains (offsets dst) o → (k : ℕ) × (k < length (offsets dst)) × (get_or (offsets dst) k 0 ≡ o) × (get_or (offsets src) k 0 + dst.offset ≡ o + src.offset)
   source-of o has =
       let is : get_or (offsets dst) has.0 0 ≡ o = get_or_default (offsets dst) has.0 0 o has.1 ∙ has.2 in
@@ -66,7 +66,7 @@ module _ (dst src : Layout) (shape : src.shape ≡ dst.shape) (strides : src.str
   back-of : (a b p q : ℕ) → a + p ≡ b + q → a ≡ b + q - p
   back-of a b p q is = omega (arith, is)
 
-  -- what is assigned is what is assigned in the order of another list of the same offsets
+  -- the assignment gives the same if it is made in the order of another list of the same offsets
   pub assigned-order : (order : List ℕ) (width : ℕ) (old : List ℕ) → All (Contains order) (offsets dst) → All (Contains (offsets dst)) order → Fits dst (length old) width → Fits src (length old) width → IsNested (offsets dst) width → IsNested order width →
       assigned order (sources dst.offset src.offset order) width old old ≡ assigned (offsets dst) (offsets src) width old old
   assigned-order order width old all only fits fits' nested nested' =
@@ -99,7 +99,7 @@ module _ (dst src : Layout) (shape : src.shape ≡ dst.shape) (strides : src.str
       (found.0, found.1, found.2)) (assigned_is width old order come old (sym long) order_in come_in nested'))
       (assigned_is width old to from old (sym even) (offsets_within dst (length old) width fits) (λ k d below. offsets_within src (length old) width fits' k d below) nested)
 
-  -- ---- items that can come one after the other
+  -- ---- items that can be copied one after the other
 
   come-from : (order : List ℕ) (len width : ℕ) → length order ≤ max_items → All (Contains (offsets dst)) order → Fits dst len width → Fits src len width → IsNested order width → ((j k : ℕ) → j < k → k < length order → width ≤ distance (source dst.offset src.offset (get_or order k 0)) (get_or order j 0)) → MayCome len width dst.offset src.offset order
   come-from order len width few only fits fits' nested unread =

@@ -1,4 +1,4 @@
--- Items that are copied to offsets at which they lie apart.
+-- Copies of items, and what they leave unchanged.
 use Rattle.std.proofs.Common.{◌≡◌, ◌+◌, ◌≤◌, ◌⊎◌, inl, inr, ℕ, List, [], ◌∷◌, length, All, refl, sym, subst, ◌∙◌, arith}
 use Rattle.std.proofs.lemmas.Bool.{cases_lt}
 use Rattle.std.proofs.lemmas.List.Elements.{All-rest, All-head}
@@ -8,7 +8,7 @@ module _ (width : ℕ) (other : List ℕ) where
   abbrev IsIn : List ℕ → ℕ → Type 0
   IsIn block offset = offset + width ≤ length block
 
-  -- one item is put into a block
+  -- one item is written to a block
   put-length : (at offset : ℕ) (block : List ℕ) → IsIn block at → IsIn other offset → length (put at (item_at offset width other) block) ≡ length block
   put-length at offset block in_block in_other = length-put at (item_at offset width other) block (omega (arith, length-item_at offset width other in_other, in_block))
 
@@ -22,7 +22,7 @@ module _ (width : ℕ) (other : List ℕ) where
       ] in
       item_at-put_apart at item block place width (omega (arith, long, in_block)) there sides
 
-  -- what lies apart from all that are copied is as before
+  -- an item that overlaps none of those written is unchanged
   pub kept : (place : ℕ) (to from block : List ℕ) → IsIn block place → All (IsIn block) to → All (IsIn other) from → All (λ at. width ≤ distance place at) to → item_at place width (assigned to from width other block) ≡ item_at place width block
   kept place [] from block there in_block in_other apart = refl
   kept place (at ∷ to) [] block there in_block in_other apart = refl

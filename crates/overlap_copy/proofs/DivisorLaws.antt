@@ -1,4 +1,4 @@
--- Laws of divisors of the first axes' steps.
+-- Laws of the divisors of the steps of the first axes.
 use Rattle.std.proofs.Common.{◌≡◌, ℕ, zero, suc, ◌+◌, ◌-◌, ◌*◌, ◌/◌, ◌<◌, ◌≤◌, inl, inr, List, [], ◌∷◌, length, get_or, take, drop, sym, subst, ap, ◌∙◌, arith, add-one, mul-suc, mul_assoc, mul_comm, mul-zero, zero-mul, mul-add, mul-le-mul_left, mod-lt}
 use Rattle.std.specs.Int.{IsGcd, ◌∣◌}
 use Rattle.std.specs.List.{AllByRecursion as Each}
@@ -14,12 +14,12 @@ use Rattle.overlap_copy.proofs.SearchLaws.{most_sum}
 abbrev pub DividesFirst : ℕ → List Axis → ℕ → Type 0
 DividesFirst g axes k = Each (λ a. g ∣ a.step) (take k axes)
 
--- so it does, and so far the other axes reach
+-- the same, and the other axes reach `beyond`
 pub record IsDividedAt (g beyond : ℕ) (axes : List Axis) (k : ℕ) : Type 0 where
   pub first : DividesFirst g axes k
   pub rest : beyond ≡ reach_of (drop k axes)
 
--- a sum in two parts: that along the first k axes and the rest
+-- a sum in two parts: a multiple of `g` along the first axes, and the rest
 pub record IsParted (g beyond sum : ℕ) : Type 0 where
   pub times : ℕ
   pub rest : ℕ
@@ -37,7 +37,7 @@ parted g (suc k) (a ∷ axes) (i ∷ index) divides in' =
     let own : a.step * i ≡ g * (q * i) = ap (λ n. n * i) (times_of g a.step divides.0) ∙ mul_assoc g q i in
     record { times = q * i + rest.times; rest = rest.rest; is = omega (arith, own, rest.is, mul-add g (q * i) rest.times); most = rest.most }
 
--- one axis more
+-- one more axis
 pub divides_more : (g h k : ℕ) (axes : List Axis) (d : Axis) → k < length axes → g ∣ h → g ∣ (get_or axes k d).step → DividesFirst h axes k → DividesFirst g axes (suc k)
 divides_more g h k [] d below of own divides = absurd (omega arith)
 divides_more g h zero (a ∷ axes) d below of own divides = (own, tt)
@@ -56,7 +56,7 @@ divided_more g h k beyond axes d below before gcd = record {
   rest = omega (arith, before.rest, reach_more k axes d below);
 }
 
--- the greatest multiple below a bound
+-- a multiple of g that is at most `high` is at most the greatest such multiple
 least_multiple : (g q high : ℕ) → 0 < g → g * q ≤ high → g * q ≤ high / g * g
 least_multiple g q high some within =
     let whole = div-add-mod high g in

@@ -1,4 +1,4 @@
--- Laws of axes that are joined.
+-- Laws of joined axes.
 use Rattle.std.proofs.Common.{◌≡◌, ℕ, zero, suc, ◌+◌, ◌-◌, ◌*◌, ◌/◌, ◌%◌, ◌<◌, ◌≤◌, inl, inr, List, [], ◌∷◌, length, get_or, set, take, drop, sum_by, length-drop, sym, subst, ap, refl, ◌∙◌, arith, mul_assoc, mul-add, mul-le-mul_left, zero-mul, mod-lt}
 use Rattle.std.specs.List.Sorted.{IsPermutation}
 use Rattle.std.proofs.lemmas.Bool.{cases_lt}
@@ -11,7 +11,7 @@ use Rattle.overlap_copy.specs.Words.{Axis, IsIndex, reach, lengths_in, reached, 
 use Rattle.overlap_copy.specs.inside.Sums.{reach_of, max_reach, AreForward, HasSum}
 use Rattle.overlap_copy.specs.inside.Joins.{GoesOn, SameSums, AreJoined}
 
--- ---- lists of axes that lead as far
+-- ---- lists of axes with the same sums
 
 pub same_trans : (axes others more : List Axis) → SameSums axes others → SameSums others more → SameSums axes more
 same_trans axes others more a b = record {
@@ -19,7 +19,7 @@ same_trans axes others more a b = record {
   from = λ low high s. a.from low high (b.from low high s);
 }
 
--- for each index of the one an index of the other that reaches as far
+-- for each index of `axes`, an index of `others` reaches as far
 abbrev pub Leads : List Axis → List Axis → Type 0
 Leads axes others = (index : List ℕ) → IsIndex (lengths_in axes) index → (other : List ℕ) × IsIndex (lengths_in others) other × (reached others other ≡ reached axes index)
 
@@ -31,14 +31,14 @@ has_other axes others leads low high s =
 pub same_leads : (axes others : List Axis) → Leads axes others → Leads others axes → SameSums axes others
 same_leads axes others to from = record { to = has_other axes others to; from = has_other others axes from }
 
--- an axis more before both
+-- lists of axes with the same sums lead to each other's places
 leads_from : (a : Axis) (axes others : List Axis) → SameSums axes others → Leads axes others
 leads_from a axes others same index in' =
     let at = reached axes index in
     let found = same.to at at (record { index = index; inside = in'; from = omega arith; to = omega arith }) in
     (found.index, found.inside, omega (arith, found.from, found.to))
 
--- items of the other axis lie as far as those of the one
+-- for each item of `a`, an item of `b` is at the same distance
 abbrev pub LeadsAlong : Axis → Axis → Type 0
 LeadsAlong a b = (k : ℕ) → k < a.len → (j : ℕ) × (j < b.len) × (b.step * j ≡ a.step * k)
 
@@ -59,11 +59,11 @@ same_more a axes others same =
 
 -- ---- a wide axis and a narrow one
 
--- so many steps of the wide one and so many of the narrow one
+-- x steps of the wide axis and y steps of the narrow one
 steps_of : (d q x y : ℕ) → d * (q * x + y) ≡ d * q * x + d * y
 steps_of d q x y = mul-add d (q * x) y ∙ ap (λ n. n + d * y) (sym (mul_assoc d q x))
 
--- a number of steps of the joined axis, taken apart again
+-- a number of steps of the joined axis, split into x steps of the wide axis and y steps of the narrow one
 pub record IsParted (q wide narrow z : ℕ) : Type 0 where
   pub x : ℕ
   pub y : ℕ
@@ -138,7 +138,7 @@ first_some a axes are = (are.steps 0 a (omega arith), are.items 0 a (omega arith
 pub wide_some : (wide : Axis) (axes : List Axis) → AreForward (wide ∷ axes) → 0 < wide.len
 wide_some wide axes are = (first_some wide axes are).1
 
--- the axis behind the first
+-- the axis after the first
 behind : (wide : Axis) (axes : List Axis) (from : ℕ) (d : Axis) → from < length axes → AreForward (wide ∷ drop from axes) → AreForward (get_or axes from d ∷ drop (from + 1) axes)
 behind wide axes from d below are = subst AreForward (drop_more axes from d below) (forward_tail wide (drop from axes) are)
 
@@ -158,7 +158,7 @@ put_joined wide both axes from d below are step len far same =
     let joined : AreJoined (wide ∷ narrow ∷ rest) (both ∷ rest) = record { forward = forward; reach = omega (arith, far); same = same } in
     subst (λ l. AreJoined l (drop from (set axes from both))) (sym split) (subst (AreJoined (wide ∷ narrow ∷ rest)) (sym (drop-set axes from both below)) joined)
 
--- ---- all axes from one on
+-- ---- the axes from one on
 
 reach-drop : (k : ℕ) (axes : List Axis) → reach_of (drop k axes) ≤ reach_of axes
 reach-drop zero axes = omega arith
@@ -168,7 +168,8 @@ reach-drop (suc k) (a ∷ axes) = omega (arith, reach-drop k axes)
 forward_drop : (k : ℕ) (axes : List Axis) → AreForward axes → AreForward (drop k axes)
 forward_drop k axes are = record { steps = All-drop (λ x. 0 < x.step) k axes are.steps; items = All-drop (λ x. 0 < x.len) k axes are.items; near = omega (arith, are.near, reach-drop k axes) }
 
--- how far axes are joined: those before `left` stand as they were, and those from it on lie joined from `from` on
+-- The axes that are joined so far: those before `left` are unchanged, and those from `left` on are joined to the axes
+-- from `from` on.
 pub record IsJoinedDownTo (axes now : List Axis) (left from : ℕ) : Type 0 where
   pub size : length now ≡ length axes
   pub low : left ≤ from
@@ -176,7 +177,7 @@ pub record IsJoinedDownTo (axes now : List Axis) (left from : ℕ) : Type 0 wher
   pub others : (k : ℕ) (d : Axis) → k < left → get_or now k d ≡ get_or axes k d
   pub joined : AreJoined (drop left axes) (drop from now)
 
--- the next axis stands before those that are joined
+-- the next axis is placed before the joined ones
 pub forward_next : (axes now : List Axis) (left from : ℕ) (d : Axis) → AreForward axes → 0 < left → IsJoinedDownTo axes now left from → AreForward (get_or now (left - 1) d ∷ drop from now)
 forward_next axes now left from d are some is =
     let k = left - 1 in
@@ -224,11 +225,11 @@ forward_order axes order same are = record {
   near = omega (arith, are.near, reach-sum axes, reach-sum order, sum_by-IsPermutation reach axes order same);
 }
 
--- those from one on, as a slice's range takes them
+-- the axes from one on, as a range of a slice
 last_part : (axes : List Axis) (from : ℕ) → take (length axes - from) (drop from axes) ≡ drop from axes
 last_part axes from = take_all (length axes - from) (drop from axes) (omega (arith, length-drop from axes))
 
--- ordered, and then joined
+-- axes that are ordered, and then joined
 pub same_part : (axes order now : List Axis) (from : ℕ) → IsPermutation axes order → AreJoined order (drop from now) → SameSums axes (take (length now - from) (drop from now))
 same_part axes order now from order_is is =
     subst (SameSums axes) (sym (last_part now from)) (same_trans axes order (drop from now) (same_order axes order order_is) is.same)

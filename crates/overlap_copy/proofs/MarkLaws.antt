@@ -1,4 +1,4 @@
--- Laws of maps of bytes that are marked.
+-- Laws of maps of bytes.
 use Rattle.std.proofs.Common.{◌≡◌, ◌↔◌, inl, inr, ℕ, ◌+◌, ◌-◌, ◌<◌, ◌≤◌, Bool, true, false, ◌||◌, List, ◌∷◌, length, get_or, set, IsTrue, nat_eq, nat_lt, refl, sym, ap, ◌∙◌, arith}
 use Rattle.std.specs.List.{list_any}
 use Rattle.std.proofs.lemmas.Bool.{both_ways, cases_eq, eq-eqb, ne_eqb, lt-ltb, ltb-true, or_right}
@@ -24,7 +24,7 @@ mark_more marks start o i rest low high =
 
 -- ---- marks are made wider
 
--- the first i places are done, and marks before i go on over `left` places more
+-- the first `i` places are done, and the marks before `i` extend over `left` places more
 pub record Widens (old now : List Bool) (width i left : ℕ) : Type 0 where
   pub rest : (k : ℕ) → i ≤ k → get_or now k false ≡ get_or old k false
   pub done : (k : ℕ) → k < i → IsTrue (get_or now k false) ↔ IsMarkedUpTo old width k
@@ -32,7 +32,7 @@ pub record Widens (old now : List Bool) (width i left : ℕ) : Type 0 where
   pub some : 0 < left → (j : ℕ) × (j < i) × (i + left ≤ j + width) × IsTrue (get_or old j false)
 
 module _ (old now : List Bool) (width i left here : ℕ) (wide : 1 ≤ width) (inside : i < length now) (so_far : Widens old now width i left) where
-  -- how far marks up to i go on, where that at i is set and where it is not
+  -- how far the marks up to `i` extend, with `goes-set` if the mark at `i` is set and `goes-clear` if it is not
   abbrev Goes : Type 0
   Goes = ((j : ℕ) → j < i + 1 → IsTrue (get_or old j false) → j + width ≤ i + here) × (0 < here → (j : ℕ) × (j < i + 1) × (i + here ≤ j + width) × IsTrue (get_or old j false))
 

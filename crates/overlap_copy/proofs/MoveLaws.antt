@@ -1,4 +1,4 @@
--- Moves of items: what an assignment leaves, by index, and that each order of moves that is safe leaves it.
+-- Moves of items: the result of an assignment, by index, and that every safe order of moves gives it.
 use Rattle.std.proofs.Common.{◌≡◌, ◌+◌, ◌-◌, ◌<◌, ◌≤◌, ◌⊎◌, inl, inr, ℕ, zero, suc, ℤ, List, [], ◌∷◌, length, get_or, All, refl, sym, ap, subst, ◌∙◌, arith}
 use Rattle.std.proofs.lemmas.Bool.{cases_lt}
 use Rattle.std.proofs.lemmas.List.{ext_get_or}
@@ -8,7 +8,7 @@ use Rattle.overlap_copy.specs.inside.Moves.{IsOutside, IsAssigned}
 
 -- ---- the bytes of items
 
--- items of the same bytes
+-- items with the same bytes are equal
 pub same_item : (xs ys : List ℕ) (at width : ℕ) → at + width ≤ length ys → length xs ≡ length ys → ((i : ℕ) → i < width → get_or xs (at + i) 0 ≡ get_or ys (at + i) 0) → item_at at width xs ≡ item_at at width ys
 same_item xs ys at width within same bytes =
     let counted = length-item_at at width xs (omega (arith, same, within)) in
@@ -16,14 +16,14 @@ same_item xs ys at width within same bytes =
     let inside : i < width = omega (arith, below, counted) in
     byte_of at width i xs inside ∙ bytes i inside ∙ sym (byte_of at width i ys inside))
 
--- a byte of one item is none of another's
+-- a byte of one item lies outside of an item that is at least `width` away
 pub beside : (p q width i : ℕ) → width ≤ distance p q → i < width → (p + i < q) ⊎ (q + width ≤ p + i)
 beside p q width i apart inside = elim (cases_lt p q) [
   | inl lower ↦ inl (omega (arith, lower, apart, inside))
   | inr upper ↦ inr (omega (arith, upper, apart, inside))
 ]
 
--- one of n items holds a byte
+-- one of n items contains byte `j`
 pub record IsHeld (n : ℕ) (to : ℕ → ℕ) (width j : ℕ) : Type 0 where
   pub k : ℕ
   pub below : k < n
@@ -52,9 +52,9 @@ held_or_outside (suc n) to width j =
           ]
     ]
 
--- ---- what an assignment leaves
+-- ---- the result of an assignment
 
--- that is one list of bytes
+-- the result is unique
 pub same_assigned : (n : ℕ) (to from : ℕ → ℕ) (width : ℕ) (other old new new' : List ℕ) → IsAssigned n to from width other old new → IsAssigned n to from width other old new' → new ≡ new'
 same_assigned n to from width other old new new' a b =
     ext_get_or 0 new new' (a.len ∙ sym b.len) (λ j _. elim (held_or_outside n to width j) [
@@ -67,7 +67,7 @@ same_assigned n to from width other old new new' a b =
       | inr outside ↦ a.rest j outside ∙ sym (b.rest j outside)
     ])
 
--- moves may be made in another order: one that, turned twice, is the first one
+-- moves can be made in another order, if reordering twice restores the first order
 pub reordered : (n : ℕ) (turn : ℕ → ℕ) (to from to' from' : ℕ → ℕ) (width : ℕ) (other old new : List ℕ) → ((k : ℕ) → k < n → (turn k < n) × (turn (turn k) ≡ k)) → ((k : ℕ) → k < n → (to k ≡ to' (turn k)) × (from k ≡ from' (turn k))) → IsAssigned n to' from' width other old new → IsAssigned n to from width other old new
 reordered n turn to from to' from' width other old new turns same a = record {
   len = a.len;
@@ -81,7 +81,7 @@ reordered n turn to from to' from' width other old new turns same a = record {
 pub retold : (n : ℕ) (to from to' from' : ℕ → ℕ) (width : ℕ) (other old new : List ℕ) → ((k : ℕ) → k < n → (to k ≡ to' k) × (from k ≡ from' k)) → IsAssigned n to' from' width other old new → IsAssigned n to from width other old new
 retold n to from to' from' width other old new same a = reordered n (λ k. k) to from to' from' width other old new (λ k below. (below, refl)) same a
 
--- ---- one move more
+-- ---- one more move
 
 pub put_next : (m : ℕ) (to from : ℕ → ℕ) (width : ℕ) (other old now item : List ℕ) → IsAssigned m to from width other old now → ((k : ℕ) → k < suc m → to k + width ≤ length old) → ((k : ℕ) → k < m → width ≤ distance (to k) (to m)) → length item ≡ width → item ≡ item_at (from m) width other → IsAssigned (suc m) to from width other old (put (to m) item now)
 put_next m to from width other old now item so_far within apart long is =
@@ -111,15 +111,15 @@ put_next m to from width other old now item so_far within apart long is =
           ∙ so_far.rest j (λ k below. outside k (omega (arith, below)));
     }
 
--- what no move before has met is as it was
+-- an item that no earlier move overlaps is unchanged
 pub unmet : (m : ℕ) (to from : ℕ → ℕ) (width : ℕ) (other old now : List ℕ) (at : ℕ) → IsAssigned m to from width other old now → at + width ≤ length old → ((k : ℕ) → k < m → width ≤ distance (to k) at) → item_at at width now ≡ item_at at width old
 unmet m to from width other old now at so_far within apart =
     same_item now old at width within so_far.len (λ i inside. so_far.rest (at + i) (λ k before. let clear = apart k before in beside at (to k) width i (omega (arith, clear)) inside))
 
--- ---- moves within bytes, one after the other, none of which meets what a later one reads
+-- ---- moves within bytes, one after the other, none of which overlaps what a later one reads
 
 module _ (dst : ℕ) (dst_step : ℤ) (src : ℕ) (src_step : ℤ) (width : ℕ) (old : List ℕ) where
-  -- the targets lie apart, and none meets what is read later
+  -- the targets do not overlap, and none overlaps an item that is read later
   pub record IsSafe (n : ℕ) : Type 0 where
     pub apart : (j k : ℕ) → j < k → k < n → width ≤ distance (place dst dst_step j) (place dst dst_step k)
     pub unread : (j k : ℕ) → j < k → k < n → width ≤ distance (place dst dst_step j) (place src src_step k)
@@ -133,7 +133,7 @@ module _ (dst : ℕ) (dst_step : ℤ) (src : ℕ) (src_step : ℤ) (width : ℕ)
       let read = place_within (length old) src src_step width (suc n) n from_in (omega arith) in
       put_next n (place dst dst_step) (place src src_step) width old old now (item_at (place src src_step n) width now) so_far (λ k below. place_within (length old) dst dst_step width (suc n) k to_in below) (λ k below. safe.apart k n below (omega arith)) (length-item_at (place src src_step n) width now (omega (arith, so_far.len, read))) (unmet n (place dst dst_step) (place src src_step) width old old now (place src src_step n) so_far read (λ k below. safe.unread k n below (omega arith)))
 
--- ---- what is assigned, by the places in lists
+-- ---- the result of an assignment, by positions in lists
 
 pub assigned_is : (width : ℕ) (other to from block : List ℕ) → length to ≡ length from → All (λ o. o + width ≤ length block) to → All (λ o. o + width ≤ length other) from → IsNested to width → IsAssigned (length to) (λ k. get_or to k 0) (λ k. get_or from k 0) width other block (assigned to from width other block)
 assigned_is width other [] [] block even in_block in_other nested = record { len = refl; items = λ k below. absurd (omega arith); rest = λ j outside. refl }

@@ -1,4 +1,4 @@
--- Runs that move within one block, one after the other.
+-- Runs that are moved within one block, one after the other.
 use Rattle.std.proofs.Common.{◌≡◌, ◌+◌, ◌≤◌, ℕ, suc, List, [], ◌∷◌, ◌++◌, length, get_or, All, refl, sym, ap, subst, ◌∙◌, arith, length-append, get_or-append-add}
 use Rattle.std.specs.List.{AllByRecursion as Each}
 use Rattle.std.proofs.lemmas.List.{get_or_append_left}
@@ -36,7 +36,7 @@ nested-back xs ys width nested = record {
       omega (arith, far, get_or-append-add xs ys j 0, get_or-append-add xs ys k 0);
 }
 
--- targets that lie apart from sources, fewer of either
+-- parts of targets and of sources that do not overlap
 pub fewer-targets : (width : ℕ) (xs ys from : List ℕ) → LieApart width (xs ++ ys) from → LieApart width xs from × LieApart width ys from
 fewer-targets width xs ys from apart = (Each-front (λ at. LiesApart width at from) xs ys apart, Each-back (λ at. LiesApart width at from) xs ys apart)
 
@@ -47,7 +47,7 @@ fewer-sources width (at ∷ to) us vs apart =
     let near = λ (offset : ℕ). width ≤ distance offset at in
     ((Each-front near us vs apart.0, rest.0), (Each-back near us vs apart.0, rest.1))
 
--- ---- what is left to do, in a block where the items that are left to read are as they were
+-- ---- the remaining moves, in a block where the items that are still to be read are unchanged
 
 pub record IsMoving (to from : List ℕ) (width : ℕ) (old block whole : List ℕ) : Type 0 where
   pub rest : assigned to from width old block ≡ whole
@@ -67,12 +67,12 @@ same_items : (from : List ℕ) (width : ℕ) (block old : List ℕ) → Each (λ
 same_items [] width block old same = refl
 same_items (offset ∷ from) width block old same = λ i. same.0 i ∷ same_items from width block old same.1 i
 
--- one source lies apart from all targets
+-- the first source overlaps none of the targets
 apart_from : (width offset : ℕ) (to from : List ℕ) → LieApart width to (offset ∷ from) → Each (λ at. width ≤ distance offset at) to × LieApart width to from
 apart_from width offset [] from apart = (tt, tt)
 apart_from width offset (at ∷ to) from apart = let rest = apart_from width offset to from apart.1 in ((apart.0.0, rest.0), (apart.0.1, rest.1))
 
--- what is read later is as it was
+-- the items that are read later are unchanged
 kept_later : (later to from : List ℕ) (width : ℕ) (old block : List ℕ) → length block ≡ length old → All (λ at. at + width ≤ length old) to → All (λ offset. offset + width ≤ length old) from → All (λ offset. offset + width ≤ length old) later → LieApart width to later → Each (λ offset. item_at offset width block ≡ item_at offset width old) later → Each (λ offset. item_at offset width (assigned to from width old block) ≡ item_at offset width old) later
 kept_later [] to from width old block len to_in from_in in' apart same = tt
 kept_later (offset ∷ later) to from width old block len to_in from_in in' apart same =
@@ -83,7 +83,7 @@ kept_later (offset ∷ later) to from width old block len to_in from_in in' apar
       kept_later later to from width old block len to_in from_in (λ k d below. in' (suc k) d (omega arith)) one.1 same.1,
     )
 
--- some items have moved
+-- some of the items are moved
 pub moving_on : (to to' from from' : List ℕ) (width : ℕ) (old block block' whole : List ℕ) → length to ≡ length from → LieApart width to from' → block' ≡ assigned to from width block block → length block' ≡ length block → IsMoving (to ++ to') (from ++ from') width old block whole → IsMoving to' from' width old block' whole
 moving_on to to' from from' width old block block' whole even apart moved long m =
     let same = Each-front (λ offset. item_at offset width block ≡ item_at offset width old) from from' m.kept in
@@ -101,7 +101,7 @@ moving_on to to' from from' width old block block' whole even apart moved long m
 
 -- ---- one run
 
--- what moves by index is assigned
+-- moves by index are an assignment
 pub assigned_from_moves : (to from : Run) (width : ℕ) (old new : List ℕ) → to.count ≡ from.count → EachWithin (length old) to.offset to.step width to.count → EachWithin (length old) from.offset from.step width from.count → IsNested (run_offsets to) width → IsAssigned to.count (place_in to) (place_in from) width old old new → new ≡ assigned (run_offsets to) (run_offsets from) width old old
 assigned_from_moves to from width old new even to_in from_in nested a =
     let tos = run_offsets to in
@@ -113,7 +113,7 @@ assigned_from_moves to from width old new even to_in from_in nested a =
     retold (length tos) (λ k. get_or tos k 0) (λ k. get_or froms k 0) (place_in to) (place_in from) width old old new (λ k below. (place-at len width to k to_in (omega (arith, below, long)), place-at len width from k from_in (omega (arith, below, long, even)))) (subst (λ m. IsAssigned m (place_in to) (place_in from) width old old new) (sym long) a) in
     same_assigned (length tos) (λ k. get_or tos k 0) (λ k. get_or froms k 0) width old old new (assigned tos froms width old old) by_place (assigned_is width old tos froms old (omega (arith, long, long', even)) (run-ends len width to to_in) (run-ends len width from from_in) nested)
 
--- the items of a run that lie apart from those that are read move one after the other
+-- the items of a run can be moved one after the other if they overlap none of those that are read
 pub apart_passed : (to from : Run) (width : ℕ) (old : List ℕ) → to.count ≡ from.count → EachWithin (length old) to.offset to.step width to.count → EachWithin (length old) from.offset from.step width from.count → IsNested (run_offsets to) width → LieApart width (run_offsets to) (run_offsets from) → IsAssigned to.count (place_in to) (place_in from) width old old (copied_within to.offset to.step from.offset from.step width to.count old)
 apart_passed to from width old even to_in from_in nested apart =
     let len = length old in

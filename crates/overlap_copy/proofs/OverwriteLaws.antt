@@ -1,4 +1,4 @@
--- Items that are kept before others are written over them, part after part.
+-- Items that are kept before others are written over them, part by part.
 use Rattle.std.proofs.Common.{◌≡◌, ◌+◌, ◌-◌, ◌*◌, ◌<◌, ◌≤◌, ℕ, zero, suc, ℤ, pos, ◌+ℤ◌, ◌*ℤ◌, ◌≤ℤ◌, List, [], ◌∷◌, ◌++◌, length, get_or, map, replicate, All, refl, sym, ap, subst, ◌∙◌, arith, append_assoc, get_or-append-add, length-append}
 use Rattle.std.specs.Prelude.{nat_abs}
 use Rattle.std.proofs.Math.IntN.{*ℤ_comm, zero-*ℤ}
@@ -21,7 +21,7 @@ joined-same (o ∷ os) width block block' same =
     let rest : items_at os width block ≡ items_at os width block' = cc in
     λ i. here i ++ joined-same os width block block' rest i
 
--- the items of places that lie apart from those that are written are as they were
+-- items that do not overlap those that are written are unchanged
 kept-behind : (width : ℕ) (to places from other block : List ℕ) → IsNested (to ++ places) width → All (λ o. o + width ≤ length block) (to ++ places) → All (λ o. o + width ≤ length other) from →
     joined_at places width (assigned to from width other block) ≡ joined_at places width block
 kept-behind width [] places from other block nested in_to in_from = refl
@@ -37,7 +37,7 @@ kept-behind width (at ∷ to) places (offset ∷ from) other block nested in_to 
     ∙ joined-same places width (put at item block) block (kept_items width at item places block long here (All-back ends to places behind) (λ k below.
     let far = nested.apart 0 (suc (length to + k)) (omega arith) (omega (arith, below, length-append to places)) in omega (arith, far, get_or-append-add to places k 0)))
 
--- ---- what is left of the places leads to what all of them do
+-- ---- the remaining places complete what all of them do
 
 abbrev pub overwritten : List ℕ → List ℕ → ℕ → List ℕ → List ℕ → List ℕ → List ℕ × List ℕ
 overwritten to from width other block kept = (assigned to from width other block, kept ++ joined_at to width block)
@@ -49,12 +49,12 @@ pub record IsLeft (to from : List ℕ) (width : ℕ) (other block kept : List �
   pub rest : overwritten to from width other block kept ≡ whole
   pub fills : length to * width + spare ≡ room
 
--- at first all of them are left
+-- at first, all of them remain
 pub all-left : (to from : List ℕ) (width : ℕ) (other block kept : List ℕ) (room : ℕ) → IsNested to width → All (λ o. o + width ≤ length block) to → All (λ o. o + width ≤ length other) from → length to * width ≤ room
     → IsLeft to from width other block kept room (overwritten to from width other block kept) (room - length to * width)
 all-left to from width other block kept room nested to_in from_in enough = record { nested = nested; to_in = to_in; from_in = from_in; rest = refl; fills = omega (arith, enough) }
 
--- what holds of all places holds of the next ones
+-- a property of all places holds for the next ones
 pub next-all : (P : ℕ → Type 0) (to to' os : List ℕ) → to ++ to' ≡ os → All P os → All P to
 next-all P to to' os is all = All-front P to to' (subst (All P) (sym is) all)
 
@@ -114,7 +114,7 @@ rest-begins run n offset low is begins =
           subst (λ z. (pos 0 ≤ℤ z) × ((z +ℤ pos 1) ≤ℤ pos max_bytes)) (sym there) (within.each (n + k) (omega (arith, below)));
     })
 
--- where its rest begins
+-- where the rest of the run begins
 pub rest-start : (run : Run) (n : ℕ) → n < run.count → BeginsWithin run → (pos 0 ≤ℤ (pos run.offset +ℤ run.step *ℤ pos n)) × (((pos run.offset +ℤ run.step *ℤ pos n) +ℤ pos 1) ≤ℤ pos max_bytes)
 rest-start run n low begins =
     let is = add-nothing (pos run.offset) (run.step *ℤ pos n) (run.step *ℤ pos n) refl in

@@ -1,4 +1,4 @@
--- Runs of items in pairs: those that layouts are, and those that are copied pair after pair.
+-- Pairs of runs: those of layouts that are single runs, and those that are copied pair by pair.
 use Rattle.std.proofs.Common.{◌≡◌, ℕ, ◌+◌, ◌≤◌, List, [], ◌∷◌, All, length, sym, ap, subst, ◌∙◌}
 use Rattle.std.specs.List.{flat_map, AllByRecursion as Each}
 use Rattle.std.proofs.lemmas.List.Elements.{All-from_recursion, recursion_from_All}
@@ -8,7 +8,7 @@ use Rattle.overlap_copy.proofs.MovingLaws.{Each-append}
 
 -- ---- layouts that are runs
 
--- those of as many items are runs of as many
+-- layouts with the same number of items are runs with the same number of items
 pub as_many : (first second : Layout) (to from : Run) → count first.shape ≡ count second.shape → run_offsets to ≡ offsets first → run_offsets from ≡ offsets second → to.count ≡ from.count
 as_many first second to from same is is' =
     sym (length-run_offsets to) ∙ ap length is ∙ length-offsets first ∙ same ∙ sym (length-offsets second) ∙ ap length (sym is') ∙ length-run_offsets from
@@ -16,7 +16,7 @@ as_many first second to from same is is' =
 pub one-within : (len width : ℕ) (run : Run) (os : List ℕ) → BeginsWithin run → run_offsets run ≡ os → All (λ offset. offset + width ≤ len) os → EachWithin len run.offset run.step width run.count
 one-within len width run os begins is ends = run-within len width run begins (subst (All (λ offset. offset + width ≤ len)) (sym is) ends)
 
--- ---- pair after pair
+-- ---- pair by pair
 
 -- the next pair is copied
 pub copied-pair : (left left' : List RunPair) (pair : RunPair) (width : ℕ) (other block block' whole : List ℕ) → left ≡ pair ∷ left' → pair.first.count ≡ pair.second.count →

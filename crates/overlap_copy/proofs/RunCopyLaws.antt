@@ -1,13 +1,13 @@
--- Runs that are copied from one block to another, and what that assigns.
+-- Runs that are copied from one block to another, and the assignment that this makes.
 use Rattle.std.proofs.Common.{◌≡◌, inl, inr, ◌+◌, ◌*◌, ◌<◌, ◌≤◌, ℕ, zero, suc, ℤ, pos, List, length, get_or, sym, ap, subst, ◌∙◌, arith, suc-mul, mul-le-mul_right, zero-mul}
 use Rattle.std.proofs.lemmas.List.{ext_get_or}
 use Rattle.std.proofs.lemmas.Bool.{cases_lt}
 use Rattle.overlap_copy.specs.Words.{byte_of, put, item_at, place, EachWithin, length-item_at, length-put, get_or-put_before, get_or-put_after, item_at-put_same, place_within, Run}
 use Rattle.overlap_copy.specs.inside.Moves.{IsAssigned, place_in}
 
--- ---- items that lie one right after another
+-- ---- adjacent items
 
--- the bytes of n items at steps of their width lie within
+-- the bytes of n adjacent items lie within `len` bytes
 pub whole_within : (len at width n : ℕ) (step : ℤ) → 1 ≤ n → step ≡ pos width → EachWithin len at step width n → at + n * width ≤ len
 whole_within len at width zero step some is within = absurd (omega (arith, some))
 whole_within len at width (suc n) step some is within =
@@ -16,7 +16,7 @@ whole_within len at width (suc n) step some is within =
 
 -- ---- items that move within one block
 
--- a byte among n items that lie one right after another lies in one of them
+-- a byte among n adjacent items lies in one of them
 among : (to width n j : ℕ) → to ≤ j → j < to + n * width → (k : ℕ) × (k < n) × (to + k * width ≤ j) × (j < to + k * width + width)
 among to width zero j low high = absurd (omega (arith, low, high, zero-mul width))
 among to width (suc n) j low high = elim (cases_lt j (to + n * width)) [

@@ -1,4 +1,4 @@
--- Laws of sums along axes, and of a search for one within bounds.
+-- Laws of sums along axes, and of the search for a sum within bounds.
 use Rattle.std.proofs.Common.{◌≡◌, ℕ, ◌+◌, ◌-◌, ◌*◌, ◌<◌, ◌≤◌, inl, inr, List, [], ◌∷◌, length, get_or, take, drop, All, sym, subst, ap, refl, arith, mul-suc, mul-le-mul_left, mul_comm}
 use Rattle.std.specs.Int.{div_ceil}
 use Rattle.std.proofs.lemmas.Bool.{cases_lt}
@@ -13,12 +13,12 @@ use Rattle.overlap_copy.specs.inside.Sums.{reach_of, AreForward, HasSum}
 abbrev pub no_axis : Axis
 no_axis = record { step = 0; len = 0 }
 
--- a list that is not empty, as a slice's pattern takes it apart
+-- a list that is not empty, as the pattern of a slice splits it
 pub first_rest : (axes : List Axis) → 1 ≤ length axes → axes ≡ get_or axes 0 no_axis ∷ take (length axes - 1) (drop 1 axes)
 first_rest [] some = absurd (omega arith)
 first_rest (a ∷ axes) some = ap (λ l. a ∷ l) (sym (take_all (length (a ∷ axes) - 1) axes (omega arith)))
 
--- k items on along the first axis
+-- a sum that begins with item k of the first axis
 pub with_first : (a : Axis) (axes : List Axis) (low high k low' : ℕ) → k < a.len → a.step * k ≤ high → low' ≡ low - a.step * k → HasSum axes low' (high - a.step * k) → HasSum (a ∷ axes) low high
 with_first a axes low high k low' below within is s = record {
   index = k ∷ s.index;
@@ -27,7 +27,7 @@ with_first a axes low high k low' below within is s = record {
   to = omega (arith, s.to);
 }
 
--- the item of the first axis, and what it leaves to the others
+-- a sum starts at item k of the first axis, and the others have a sum within the bounds that are left
 pub record StartsAt (a : Axis) (axes : List Axis) (low high : ℕ) : Type 0 where
   pub k : ℕ
   pub below : k < a.len
@@ -46,7 +46,7 @@ first_of a axes low high s = at s.index s.inside s.from s.to
       others = record { index = index; inside = inside.1; from = omega (arith, from); to = omega (arith, to) };
     }
 
--- no sum goes beyond the reach
+-- no sum exceeds the reach
 pub most_sum : (axes : List Axis) (index : List ℕ) → IsIndex (lengths_in axes) index → reached axes index ≤ reach_of axes
 most_sum [] [] inside = omega arith
 most_sum [] (k ∷ index) inside = absurd inside
@@ -57,11 +57,11 @@ most_sum (a ∷ axes) (k ∷ index) inside =
 
 -- ---- the items of the first axis one by one
 
--- with its items below k no sum lies within the bounds
+-- no sum within the bounds has an item below k of the first axis
 pub record NoneBelow (a : Axis) (axes : List Axis) (low high k : ℕ) : Type 0 where
   pub none : (j : ℕ) → j < k → a.step * j ≤ high → HasSum axes (low - a.step * j) (high - a.step * j) → ⊥
 
--- the others do not reach so far from the first items
+-- from the first items, the other axes cannot reach the bounds
 pub none_at_first : (a : Axis) (axes : List Axis) (low high beyond short least : ℕ) → 0 < a.step → beyond ≡ reach_of axes → short ≡ low - beyond → least ≡ div_ceil short a.step → NoneBelow a axes low high least
 none_at_first a axes low high beyond short least forward is left ceil = record { none = none }
   where
@@ -82,7 +82,7 @@ none_more a axes low high k low' before is here = record { none = none }
           here (subst (λ n. HasSum axes n (high - a.step * k)) (sym is) (subst (λ i. HasSum axes (low - a.step * i) (high - a.step * i)) same s))
     ]
 
--- they were all, or the next one goes beyond the bounds alone
+-- there is no sum within the bounds if the remaining items are beyond the bounds by themselves
 pub none_left : (a : Axis) (axes : List Axis) (low high k : ℕ) → NoneBelow a axes low high k → ((j : ℕ) → j < a.len → k ≤ j → high < a.step * j) → HasSum (a ∷ axes) low high → ⊥
 none_left a axes low high k before beyond s =
     let first = first_of a axes low high s in
@@ -94,7 +94,7 @@ none_left a axes low high k before beyond s =
 pub none_beyond : (a : Axis) (axes : List Axis) (low high k : ℕ) → NoneBelow a axes low high k → high < a.step * k → HasSum (a ∷ axes) low high → ⊥
 none_beyond a axes low high k before above = none_left a axes low high k before (λ j below from. omega (arith, mul-le-mul_left a.step from, above))
 
--- without axes there is one sum
+-- without axes, the only sum is 0
 pub no_axes : (low high : ℕ) → HasSum [] low high → low ≡ 0
 no_axes low high s = at s.index s.inside s.from
   where
@@ -102,7 +102,7 @@ no_axes low high s = at s.index s.inside s.from
     at [] inside from = omega (arith, from)
     at (k ∷ index) inside from = absurd inside
 
--- ---- what is known of all axes holds of the rest
+-- ---- what is known of all axes also holds for the rest
 
 pub reach_rest : (axes : List Axis) (whole : ℕ) → 1 ≤ length axes → whole ≡ reach_of axes → whole - reach (get_or axes 0 no_axis) ≡ reach_of (take (length axes - 1) (drop 1 axes))
 reach_rest axes whole some is = omega (arith, is, ap reach_of (first_rest axes some))

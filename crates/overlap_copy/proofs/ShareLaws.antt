@@ -1,4 +1,4 @@
--- Laws of a map of the bytes that items hold, by which shared bytes are found.
+-- Laws of the map of bytes that finds shared bytes.
 use Rattle.std.proofs.Common.{◌≡◌, ◌↔◌, inl, inr, ℕ, ◌+◌, ◌-◌, ◌<◌, ◌≤◌, Bool, false, ◌&&◌, ◌||◌, List, ◌++◌, length, get_or, take, drop, replicate, All, IsTrue, nat_eq, nat_le, sym, ap, ◌∙◌, arith}
 use Rattle.std.specs.List.{list_any}
 use Rattle.std.proofs.lemmas.Bool.{cases_lt, eq-eqb, eqb-true, le-leb, lt-leb, and_left, false_from_ne_true}
@@ -8,7 +8,7 @@ use Rattle.overlap_copy.specs.inside.Marks.{holds_byte, IsMarkedUpTo, is_marked,
 use Rattle.overlap_copy.proofs.OverlapLaws.{all_at, held_from_test, test_from_held}
 use Rattle.overlap_copy.specs.Words.{same_test}
 
--- a vector that was written through a slice of it
+-- a vector that is written through a slice
 pub refilled : (n : ℕ) (xs ws : List Bool) → length ws ≡ n → take n (ws ++ drop (length ws) xs) ≡ ws
 refilled n xs ws same = take-append-le n ws (drop (length ws) xs) (omega (arith, same)) ∙ take_all n ws (omega (arith, same))
 
@@ -21,7 +21,7 @@ none-clear len k clear is =
       | inr past ↦ get_or_past (replicate len false) k false (omega (arith, past, length-replicate len false))
     ]
 
--- the first bytes are marked, and then each mark is made as wide as an item
+-- the first byte of each item is marked, and then each mark is made as wide as an item
 pub held-marks : (xs : List ℕ) (width start len : ℕ) (clear first wide : List Bool) → All (λ p. start ≤ p) xs → ((i : ℕ) → get_or clear i false ≡ false)
     → ((i : ℕ) → i < len → get_or first i false ≡ (get_or clear i false || list_any (nat_eq (start + i)) xs)) → ((i : ℕ) → i < len → IsTrue (get_or wide i false) ↔ IsMarkedUpTo first width i)
     → (i : ℕ) → i < len → get_or wide i false ≡ holds_byte xs width (start + i)
@@ -48,7 +48,7 @@ held-marks xs width start len clear first wide low none firsts wides i inside =
 
 module _ (xs : List ℕ) (width start len : ℕ) (marks : List Bool) (long : length marks ≡ len) (low : All (λ p. start ≤ p) xs) (high : All (λ p. p + width ≤ start + len) xs)
     (held : (i : ℕ) → i < len → get_or marks i false ≡ holds_byte xs width (start + i)) where
-  -- the map says it also of bytes that it leaves out
+  -- the test of the map is right for all bytes, even those outside of it
   is_marked-held : (byte : ℕ) → is_marked marks start byte ≡ holds_byte xs width byte
   is_marked-held byte =
       elim (cases_lt byte start) [

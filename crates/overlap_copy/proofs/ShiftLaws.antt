@@ -1,4 +1,4 @@
--- Items that move by as many bytes each, in the order of their addresses.
+-- Items that are all moved by the same number of bytes, in the order of their addresses.
 use Rattle.std.proofs.Common.{◌≡◌, ◌+◌, ◌-◌, ◌<◌, ◌≤◌, ℕ, ℤ, pos, ◌+ℤ◌, ◌*ℤ◌, ◌≤ℤ◌, List, [], ◌∷◌, ◌++◌, map, length, get_or, All, sym, ap, subst, ◌∙◌, arith, length-append, get_or-append-add}
 use Rattle.std.specs.Prelude.{nat_abs}
 use Rattle.std.specs.List.{flat_map}
@@ -13,7 +13,7 @@ use Rattle.overlap_copy.proofs.MovingLaws.{nested-front, nested-back, IsMoving, 
 use Rattle.overlap_copy.proofs.TurnLaws.{turned_within, add-nothing}
 use Rattle.overlap_copy.proofs.LineLaws.{first_place}
 
--- ---- a run, from its first item to its last and back
+-- ---- a run, from its first item to its last and in reverse
 
 pub lies-from : (len item : ℕ) (run : Run) → EachWithin len run.offset run.step item run.count → LieWithin (run.count ∷ []) (run.step ∷ []) run.offset len item
 lies-from len item run within = record {
@@ -147,7 +147,7 @@ sources-end len width to from offsets come = λ k d below.
     let low : k < length offsets = omega (arith, below, length-map offsets (source to from)) in
     subst (λ o. o + width ≤ len) (sym (get_or-map (source to from) offsets k 0 d low)) (come.sources_are k 0 low)
 
--- what is written first lies apart from what is read later
+-- items that are written first do not overlap those that are read later
 pub apart-later : (len width to from : ℕ) (xs ys : List ℕ) → MayCome len width to from (xs ++ ys) → LieApart width xs (sources to from ys)
 apart-later len width to from xs ys come =
     recursion_from_All (λ at. LiesApart width at (sources to from ys)) xs (λ j d below.
@@ -160,7 +160,7 @@ apart-later len width to from xs ys come =
     (subst (λ a. width ≤ distance (source to from (get_or ys k 0)) a) (get_or_append_left xs ys 0 j below ∙ get_or_default xs j 0 d below)
     (subst (λ b. width ≤ distance (source to from b) (get_or (xs ++ ys) j 0)) second.1 far))))
 
--- ---- run after run
+-- ---- run by run
 
 module _ (len width to from : ℕ) (left rest : List Run) (run : Run) (is : left ≡ run ∷ rest) (some : All (λ r. 1 ≤ r.count) left) (begin : All (λ r. LieWithin (r.count ∷ []) (r.step ∷ []) r.offset max_bytes 1) left) (come : MayCome len width to from (flat_map run_offsets left)) where
   all-come : MayCome len width to from (run_offsets run ++ flat_map run_offsets rest)
@@ -197,7 +197,7 @@ module _ (len width to from : ℕ) (left rest : List Run) (run : Run) (is : left
   pub next-source-within : EachWithin len (source to from run.offset) run.step width run.count
   next-source-within = source-within len width to from run next-some next-within next-come
 
-  -- the run has moved
+  -- the run is moved
   pub run-moved : (old block block' whole : List ℕ) → block' ≡ assigned (run_offsets run) (run_offsets (source_run to from run)) width block block → length block' ≡ length block → IsMoving (flat_map run_offsets left) (sources to from (flat_map run_offsets left)) width old block whole → IsMoving (flat_map run_offsets rest) (sources to from (flat_map run_offsets rest)) width old block' whole
   run-moved old block block' whole moved long m =
       let xs = run_offsets run in

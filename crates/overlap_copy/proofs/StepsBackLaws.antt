@@ -1,4 +1,4 @@
--- Laws of steps along an axis that may be taken back.
+-- Laws of steps along an axis that can be taken back.
 use Rattle.std.proofs.Common.{◌≡◌, ℕ, zero, suc, ◌+◌, ◌-◌, ◌*◌, ◌/◌, ◌<◌, ◌≤◌, inl, inr, List, ◌∷◌, length, get_or, take, drop, sym, subst, ap, ◌∙◌, arith, mul_assoc, mul_comm, mul-zero, mul-add, mul-le-mul_left}
 use Rattle.std.specs.Int.{IsGcd, ◌∣◌}
 use Rattle.std.proofs.lemmas.Bool.{cases_lt}
@@ -7,14 +7,14 @@ use Rattle.overlap_copy.specs.inside.Sums.{reach_of, max_reach, AreForward, HasS
 use Rattle.overlap_copy.specs.inside.Turns.{IsTurn}
 use Rattle.overlap_copy.proofs.SearchLaws.{no_axis, first_rest, with_first, first_of, NoneBelow}
 
--- steps along the one lead as far as others along the next
+-- some steps along one axis lead as far as some steps along the next
 even : (c d g : ℕ) → g ∣ c → g ∣ d → c * (d / g) ≡ d * (c / g)
 even c d g of of' =
     let p = c / g in
     let q = d / g in
     ap (λ n. n * q) (times_of g c of) ∙ mul_assoc g p q ∙ ap (λ n. g * n) (mul_comm p q) ∙ sym (mul_assoc g q p) ∙ ap (λ n. n * p) (sym (times_of g d of'))
 
--- fewer steps, by as much
+-- with q steps fewer, the sum is less by r
 fewer : (c j q r : ℕ) → q ≤ j → c * q ≡ r → c * (j - q) + r ≡ c * j
 fewer c j q r most is =
     let back : j - q + q ≡ j = omega (arith, most) in
@@ -46,7 +46,7 @@ quotient_some g n some divides = elim (cases_lt 0 (n / g)) [
       absurd (omega (arith, some, times_of g n divides, ap (λ m. g * m) zero-is, mul-zero g))
 ]
 
--- with the first of the others
+-- steps can be taken back with the first of the other axes
 pub turn_next : (a : Axis) (others : List Axis) (g far : ℕ) → 1 ≤ length others → AreForward others → IsGcd a.step (get_or others 0 no_axis).step g → far ≡ (get_or others 0 no_axis).step * ((get_or others 0 no_axis).len - a.step / g) → IsTurn a others ((get_or others 0 no_axis).step / g) far
 turn_next a others g far long are gcd is =
     let b = get_or others 0 no_axis in
@@ -56,14 +56,14 @@ turn_next a others g far long are gcd is =
           turned_back a b (take (length others - 1) (drop 1 others)) (b.step / g) (a.step / g) low high j (even a.step b.step g gcd.0 gcd.1) most within (omega (arith, left, is)) s;
     })
 
--- which is near
+-- `far` is within the limit
 pub turn-near : (a : Axis) (others : List Axis) (g far : ℕ) → 0 < a.step → 1 ≤ length others → AreForward others → g ∣ a.step → far ≡ (get_or others 0 no_axis).len - a.step / g → (get_or others 0 no_axis).step * far ≤ max_reach
 turn-near a others g far some long are divides is =
     let b = get_or others 0 no_axis in
     let most : far ≤ b.len - 1 = omega (arith, is, quotient_some g a.step some divides) in
     omega (arith, mul-le-mul_left b.step most, are.near, ap reach_of (first_rest others long))
 
--- steps are taken back until those are left with which none was found
+-- Steps are taken back until the number of steps left is one for which no sum was found.
 pub none_turned : (a : Axis) (axes : List Axis) (low high steps far k : ℕ) → IsTurn a axes steps far → NoneBelow a axes low high k → steps ≤ k → high < a.step * k + far → HasSum (a ∷ axes) low high → ⊥
 none_turned a axes low high steps far k turn before from left s =
     let first = first_of a axes low high s in

@@ -1,4 +1,4 @@
--- Items of a run that change places, the first with the last and so on.
+-- Items of a run that are swapped, the first with the last and so on.
 use Rattle.std.proofs.Common.{◌≡◌, ◌≢◌, ◌+◌, ◌-◌, ◌*◌, ◌/◌, ◌%◌, ◌<◌, ◌≤◌, ◌⊎◌, inl, inr, ℕ, zero, suc, List, length, get_or, refl, sym, ap, subst, ◌∙◌, arith}
 use Rattle.std.proofs.Math.Nat.{div-add-mod, mod-lt}
 use Rattle.std.proofs.lemmas.Bool.{cases_lt}
@@ -12,10 +12,10 @@ kept_beside a b p width bytes in_a in_b in_p off_a off_b =
     same_item (exchanged a b width bytes) bytes p width in_p (length-exchanged a b width bytes) (λ i inside.
     exchanged-outside a b bytes width (p + i) in_a in_b (beside p a width i off_a inside) (beside p b width i off_b inside))
 
--- ---- n items at places that lie apart, of which m at either end have changed places
+-- ---- n disjoint items, of which m at each end are swapped
 
 module _ (n width : ℕ) (at : ℕ → ℕ) (old : List ℕ) where
-  -- the place that a place changes with
+  -- the index that index k is swapped with
   abbrev pub across : ℕ → ℕ
   across k = n - 1 - k
 
@@ -32,7 +32,7 @@ module _ (n width : ℕ) (at : ℕ → ℕ) (old : List ℕ) where
   pub none_swapped : AreSwapped 0 old
   none_swapped = record { len = refl; firsts = λ k below. absurd (omega arith); lasts = λ k below. absurd (omega arith); rest = λ j outside. refl }
 
-  -- an item between is as it was
+  -- an item between them is unchanged
   between : (m k : ℕ) (now : List ℕ) → AreClear → AreSwapped m now → m ≤ k → m ≤ across k → k < n → item_at (at k) width now ≡ item_at (at k) width old
   between m k now clear so_far low high below =
       same_item now old (at k) width (clear.within k below) so_far.len (λ i inside.
@@ -73,7 +73,7 @@ module _ (n width : ℕ) (at : ℕ → ℕ) (old : List ℕ) where
             ∙ so_far.rest j (λ k before. outside k (omega (arith, before)));
       }))
 
-  -- once half of them have, each has
+  -- once half of the items are swapped, all of them are
   pub all_swapped : (m : ℕ) (now : List ℕ) → AreClear → 2 * m ≤ n → n ≤ 2 * m + 1 → AreSwapped m now → IsAssigned n at (λ k. at (across k)) width old old now
   all_swapped m now clear half most so_far = record {
     len = so_far.len;

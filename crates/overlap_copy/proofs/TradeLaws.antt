@@ -1,4 +1,4 @@
--- Items of two blocks that are exchanged: each block has then those that the other one had.
+-- Items of two blocks that are exchanged: each block then has the items that the other one had.
 use Rattle.std.proofs.Common.{◌≡◌, ◌+◌, ◌<◌, ◌≤◌, ◌⊎◌, inl, inr, ℕ, zero, suc, ℤ, List, [], ◌∷◌, ◌++◌, length, get_or, All, refl, sym, ap, subst, ◌∙◌, arith}
 use Rattle.std.proofs.lemmas.Bool.{cases_lt}
 use Rattle.std.proofs.lemmas.List.{same_lists, length-map, get_or-map}
@@ -40,7 +40,7 @@ traded-even to from width block other even lies lies' =
     traded-run (length block) (length other) to.offset to.step from.offset from.step width to.count block other lies (subst (EachWithin (length other) from.offset from.step width) (sym even) lies')
     ∙ ap (λ n. traded_at (run_offsets to) (run_offsets (record { offset = from.offset; count = n; step = from.step })) width (block, other)) even
 
--- ---- pair after pair
+-- ---- pair by pair
 
 pub traded-pair : (left left' : List RunPair) (pair : RunPair) (width : ℕ) (now now' whole : Both) → left ≡ pair ∷ left' → pair.first.count ≡ pair.second.count →
     now' ≡ traded_at (run_offsets pair.first) (run_offsets pair.second) width now → traded_at (firsts left) (seconds left) width now ≡ whole → traded_at (firsts left') (seconds left') width now' ≡ whole
@@ -50,9 +50,9 @@ traded-pair left left' pair width now now' whole walked even is so_far =
     ∙ (λ i. traded_at (firsts (sym walked i)) (seconds (sym walked i)) width now)
     ∙ so_far
 
--- ---- where the places lie apart
+-- ---- disjoint places
 
--- items that lie apart from one that is put are as they were
+-- items that do not overlap the one that is written are unchanged
 pub kept_items : (width at : ℕ) (item : List ℕ) (places block : List ℕ) → length item ≡ width → at + width ≤ length block → All (λ o. o + width ≤ length block) places → ((k : ℕ) → k < length places → width ≤ distance at (get_or places k 0)) →
     items_at places width (put at item block) ≡ items_at places width block
 kept_items width at item [] block long inside within apart = refl
@@ -90,7 +90,7 @@ traded-apart width (at ∷ to) (offset ∷ from) block other even nested nested'
     (subst (λ n. All (λ o. o + width ≤ n) to) (sym same) (All-tail ends at to in_to)) (subst (λ n. All (λ o. o + width ≤ n) from) (sym same') (All-tail ends' offset from in_from))
     ∙ (λ i. (with_items to (kept i) x, with_items from (kept' i) y))
 
--- the items are then read where they were put
+-- the items are read back where they were written
 pub items-assigned : (width : ℕ) (to from other block : List ℕ) → length from ≡ length to → IsNested to width → All (λ o. o + width ≤ length block) to → All (λ o. o + width ≤ length other) from →
     items_at to width (assigned to from width other block) ≡ items_at from width other
 items-assigned width to from other block even nested in_to in_from =

@@ -1,4 +1,4 @@
--- Laws of runs within a block, from the first item to the last and back.
+-- Laws of runs in a block, forward and in reverse.
 use Rattle.std.proofs.Common.{◌≡◌, ◌+◌, ◌-◌, ◌*◌, ◌<◌, ◌≤◌, ℕ, zero, suc, ℤ, pos, negsuc, ◌+ℤ◌, ◌*ℤ◌, ◌≤ℤ◌, List, [], ◌∷◌, length, refl, sym, ap, subst, ◌∙◌, arith, mul-le-mul_right, suc-mul, mul-add}
 use Rattle.std.specs.Prelude.{neg_ℤ, nat_abs}
 use Rattle.std.proofs.Math.IntN.{*ℤ-zero, *ℤ-one, pos-*ℤ-negsuc, negsuc-*ℤ-pos}
@@ -8,7 +8,7 @@ use Rattle.overlap_copy.specs.Words.{position, place, EachWithin, copied_within,
 use Rattle.overlap_copy.specs.inside.Moves.{AreAlike, IsAssigned, IsLine, AreSpaced, IsTurned, place_in}
 use Rattle.overlap_copy.proofs.MoveLaws.{reordered, passed}
 
--- ---- where the items of a run lie
+-- ---- the places of the items of a run
 
 pub add-nothing : (at z y : ℤ) → z ≡ y → at +ℤ (z +ℤ pos 0) ≡ at +ℤ y
 add-nothing at z y same = omega (arith, ints, same)
@@ -55,7 +55,7 @@ back-spaced width run back t s = record {
       omega (arith, far, turned_place run back j t (omega (arith, before, low)), turned_place run back k t low);
 }
 
--- two runs of one step, and both from the last item to the first
+-- two runs with the same step, and both of them in reverse
 module _ (len width : ℕ) (to from to' from' : Run) (a : AreAlike len width to from) (t : IsTurned to to') (t' : IsTurned from from') where
   pub back-alike : AreAlike len width to' from'
   back-alike = record {
@@ -68,7 +68,7 @@ module _ (len width : ℕ) (to from to' from' : Run) (a : AreAlike len width to 
     spaced = back-spaced width to to' t a.spaced;
   }
 
-  -- what moves from the last to the first has moved
+  -- moving the reversed runs moves the same items
   pub back-moved : (old new : List ℕ) → IsAssigned to'.count (place_in to') (place_in from') width old old new → IsAssigned to.count (place_in to) (place_in from) width old old new
   back-moved old new moved =
       let n = to.count in
@@ -81,7 +81,7 @@ module _ (len width : ℕ) (to from to' from' : Run) (a : AreAlike len width to 
       (sym (turned_place to to' j t low ∙ ap (place_in to) back), sym (turned_place from from' j t' (omega (arith, low, a.count)) ∙ ap (place_in from) back')))
       (subst (λ m. IsAssigned m (place_in to') (place_in from') width old old new) t.count moved)
 
--- ---- which way is safe
+-- ---- the direction in which moves are safe
 
 later_by : (t j k : ℕ) → j < k → j * t + t ≤ k * t
 later_by t j k before = let grown : suc j * t ≤ k * t = mul-le-mul_right t before in omega (arith, grown, suc-mul j t)
@@ -89,7 +89,7 @@ later_by t j k before = let grown : suc j * t ≤ k * t = mul-le-mul_right t bef
 rises : (at t k : ℕ) → place at (pos t) k ≡ at + k * t
 rises at t k = refl
 
--- an item of a run is none of the later ones of a run further on
+-- an item of a run does not overlap the later items of the same run further on
 meets-none : (width e d f : ℕ) (s : ℤ) → pos 0 ≤ℤ s → width ≤ distance (place e s 0) (place e s 1) → d ≤ f → (j k : ℕ) → j < k → width ≤ distance (place d s j) (place f s k)
 meets-none width e d f (pos t) rising wide low j k before = let gap = later_by t j k before in omega (arith, wide, gap, low, rises e t 0, rises e t 1, rises d t j, rises f t k)
 meets-none width e d f (negsuc t) rising wide low j k before = absurd (omega (arith, ints))

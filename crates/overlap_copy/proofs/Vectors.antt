@@ -1,9 +1,9 @@
--- The definitions at offsets of views that NumPy gives.
+-- The definitions applied to the offsets of NumPy's views.
 use Rattle.std.proofs.Common.{◌≡◌, true, false, [], ◌∷◌, refl}
 use Rattle.overlap_copy.specs.Overlaps.{have_common_byte, do_ranges_meet, begins_below}
 use Rattle.overlap_copy.specs.inside.Marks.{holds_byte, is_marked, is_end_marked}
 
--- `a = numpy.arange(6, dtype="<i4")`; `numpy.shares_memory(a[::2], a[1::2])`, and with `a[1:]` in place of `a[1::2]`
+-- `a = numpy.arange(6, dtype="<i4")`; `numpy.shares_memory(a[::2], a[1::2])`, and with `a[1:]` instead of `a[1::2]`
 even_and_odd : have_common_byte (0 ∷ 8 ∷ 16 ∷ []) 4 (4 ∷ 12 ∷ 20 ∷ []) 4 ≡ false
 unfolding have_common_byte
 even_and_odd = refl
@@ -21,7 +21,7 @@ halves_ranges : do_ranges_meet (0 ∷ 4 ∷ 8 ∷ []) 4 (12 ∷ 16 ∷ 20 ∷ []
 unfolding begins_below
 halves_ranges = refl
 
--- an empty view shares with none
+-- an empty view shares memory with no other
 empty_and_whole : have_common_byte [] 4 (0 ∷ 4 ∷ []) 4 ≡ false
 unfolding have_common_byte
 empty_and_whole = refl
@@ -30,12 +30,12 @@ empty_ranges : do_ranges_meet (0 ∷ 4 ∷ []) 4 [] 4 ≡ false
 unfolding begins_below
 empty_ranges = refl
 
--- items that overlap in part: bytes 4 and 5, and bytes 5 and 6
+-- items that overlap partly: bytes 4 and 5, and bytes 5 and 6
 one_byte_in_common : have_common_byte (4 ∷ []) 2 (5 ∷ []) 2 ≡ true
 unfolding have_common_byte
 one_byte_in_common = refl
 
--- bytes 4 to 7 are held, and byte 8 is not
+-- the items contain byte 7, but not byte 8
 last_byte_held : holds_byte (0 ∷ 4 ∷ []) 4 7 ≡ true
 unfolding holds_byte
 last_byte_held = refl

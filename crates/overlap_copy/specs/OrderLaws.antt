@@ -1,6 +1,6 @@
--- Items that are put in places that lie apart: whatever their order, the same bytes are left.
+-- Items that are written to disjoint places leave the same bytes in any order.
 --     with_items-reordered         items and their places
---     assigned-reordered           places, and those that items come from
+--     assigned-reordered           places, and the places that the items are copied from
 --     filled-reordered             one item at all places
 use Rattle.std.proofs.Common.{◌≡◌, ◌≢◌, ◌+◌, ◌-◌, ◌<◌, ◌≤◌, ◌⊎◌, inl, inr, ℕ, zero, suc, List, [], ◌∷◌, map, length, get_or, replicate, All, refl, sym, ap, subst, ◌∙◌, arith}
 use Rattle.std.specs.List.{zip, swap, AllByRecursion as Each}
@@ -45,7 +45,7 @@ off_or_at width j p = elim (cases_lt j p.0) [
   | inr low ↦ elim (cases_lt j (p.0 + width)) [ inl high ↦ inr (low, high) | inr after ↦ inl (inr after) ]
 ]
 
--- a byte of one of the items, or of none
+-- `byte` is the byte at `j` of one of the items
 record IsOf (width : ℕ) (ps : List Placed) (j byte : ℕ) : Type 0 where
   k : ℕ
   below : k < length ps
@@ -103,7 +103,7 @@ found ps qs same k below =
 abbrev LieApart : ℕ → List Placed → Type 0
 LieApart width ps = (j k : ℕ) → j < k → k < length ps → width ≤ distance (get_or ps j nowhere).0 (get_or ps k nowhere).0
 
--- a byte is of one item alone
+-- a byte belongs to at most one item
 one : (width : ℕ) (ps : List Placed) (k m j : ℕ) → LieApart width ps → k < length ps → m < length ps → IsAt width j (get_or ps k nowhere) → IsAt width j (get_or ps m nowhere) → k ≡ m
 one width ps k m j apart in_k in_m at_k at_m = elim (cases_eq k m) [
   | inl same ↦ same
@@ -152,7 +152,7 @@ pub with_items-reordered : (width : ℕ) (to : List ℕ) (items : List (List ℕ
 with_items-reordered width to items to' items' block long nested lie same =
     placed to' items' block ∙ put-reordered width (zip to items) (zip to' items') block lie (zip-apart width to items long nested) same ∙ sym (placed to items block)
 
--- ---- items that come from other places
+-- ---- items copied from other places
 
 zip-items : (to from : List ℕ) (width : ℕ) (other : List ℕ) → zip to (items_at from width other) ≡ map (λ (p : ℕ × ℕ). (p.0, item_at p.1 width other)) (zip to from)
 zip-items [] from width other = refl
@@ -197,7 +197,7 @@ filled-reordered os os' item block nested lie same =
         let low : k < length os = omega (arith, below, length-map os with) in
         subst (LiesIn (length block) (length item)) (sym (get_or-map with os k 0 d low)) (lie k 0 low, refl)
 
--- ---- places that lie apart, in another order
+-- ---- disjoint places in another order
 
 either_way : (width : ℕ) (l : List ℕ) → IsNested l width → (j k : ℕ) → j ≢ k → j < length l → k < length l → width ≤ distance (get_or l j 0) (get_or l k 0)
 either_way width l nested j k other in_j in_k = elim (cases_lt j k) [

@@ -1,7 +1,7 @@
--- Runs, by their offsets.
+-- Runs, as lists of offsets.
 use Rattle.std.specs.Prelude.{ℕ, ◌≤◌, ℤ, List, length}
 use Rattle.overlap_copy.specs.Words.{GoesBy}
 
--- a run of this step: two offsets or more, each of them the one before it and the step
+-- a run with this step: at least two offsets, each of which is the one before it plus the step
 abbrev pub IsRun : ℤ → List ℕ → Type 0
 IsRun step offsets = (2 ≤ length offsets) × GoesBy step offsets

@@ -1,4 +1,4 @@
--- The words of the crates below, for this crate's clauses, definitions and proofs.
+-- Names from the crates below, used by the contracts, definitions and proofs of this crate.
 pub use Rattle.elem_descr.specs.ListLaws.{same_test}
 pub use Rattle.elem_descr.specs.StepLaws.{numbers-split}
 pub use Rattle.elem_descr.specs.Steps.{numbers_from}

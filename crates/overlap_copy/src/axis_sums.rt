@@ -104,8 +104,8 @@ pub(crate) enum Answer {
     Undecided,
 }
 
-/// Steps along an axis that lead as far as others along the next one. They may be taken back, unless
-/// the sum leaves the next axis less than so far to go.
+/// Steps along an axis that lead as far as some steps along the next one. They can be taken back if
+/// less than `far` is left for the other axes, since the next one then has enough items left.
 #[derive(Clone, Copy, Drop)]
 struct Turn {
     steps: usize,
@@ -129,9 +129,9 @@ fn turn_at(axis: Axis, others: &[Axis]) -> Turn
     }
 }
 
-/// Whether some sum along the axes lies within the bounds. Tries the items of the first axis that
-/// the others leave, up to where steps back come to those that were tried, each by a search among the
-/// others, and takes a step for each.
+/// Whether some sum along the axes lies within the bounds. Tries the items of the first axis, each
+/// by a search among the others, which takes a step. It starts at the first item from which the
+/// others can reach the bounds, and stops where steps back would lead to items that were tried.
 pub(crate) fn search(
     axes: &[Axis],
     reach: usize,

@@ -1,19 +1,19 @@
--- Axes that lead as far as others.
+-- Axes with the same sums as other axes.
 use Rattle.std.specs.Prelude.{◌≡◌, ℕ, ◌*◌, ◌/◌, ◌≤◌, List}
 use Rattle.overlap_copy.specs.Words.{Axis}
 use Rattle.overlap_copy.specs.inside.Sums.{reach_of, AreForward, HasSum}
 
--- a step of the wide axis is a whole number of steps of the narrow one, at most as many as it has items
+-- a step of the wide axis is a whole number of steps of the narrow one, and at most as many as the narrow one has items
 pub record GoesOn (wide narrow : Axis) : Type 0 where
   pub times : wide.step ≡ narrow.step * (wide.step / narrow.step)
   pub items : wide.step / narrow.step ≤ narrow.len
 
--- whatever the bounds, sums of both lie within them or of neither
+-- for all bounds, either both lists of axes have a sum within them, or neither has
 pub record SameSums (axes others : List Axis) : Type 0 where
   pub to : (low high : ℕ) → HasSum axes low high → HasSum others low high
   pub from : (low high : ℕ) → HasSum others low high → HasSum axes low high
 
--- forward axes with the same sums, which reach as far
+-- `joined` are forward axes with the same sums as `axes`, and they reach as far
 pub record AreJoined (axes joined : List Axis) : Type 0 where
   pub forward : AreForward joined
   pub reach : reach_of joined ≡ reach_of axes

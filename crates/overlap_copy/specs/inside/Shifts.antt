@@ -1,8 +1,8 @@
--- Items that go from one offset to another, all by as many bytes.
+-- Items that are all moved by the same number of bytes.
 use Rattle.std.specs.Prelude.{ℕ, ◌+◌, ◌-◌, ◌<◌, ◌≤◌, List, length, map, slice_index, All}
 use Rattle.overlap_copy.specs.Words.{Run, max_bytes, max_items, IsNested, distance}
 
--- where an item comes from, if that at `to` comes from `from`
+-- the offset that the item at `offset` comes from, if the item at `to` comes from `from`
 abbrev pub source : ℕ → ℕ → ℕ → ℕ
 source to from offset = offset + from - to
 
@@ -12,7 +12,7 @@ sources to from offsets = map (source to from) offsets
 abbrev pub source_run : ℕ → ℕ → Run → Run
 source_run to from run = record { offset = source to from run.offset; count = run.count; step = run.step }
 
--- the items at these offsets of a block can come from there, one after the other: none is written to before it is read
+-- The items at these offsets can be copied from their sources one by one: none is overwritten before it is read.
 pub record MayCome (len width to from : ℕ) (offsets : List ℕ) : Type 0 where
   pub few : length offsets ≤ max_items
   pub targets : All (λ offset. offset + width ≤ len) offsets

@@ -3,6 +3,6 @@ use Rattle.overlap_copy.specs.Words.{axes}
 use Rattle.overlap_copy.specs.Apart.{step_of, IsGreatestDivisor}
 use Rattle.overlap_copy.proofs.apart.divisor_with.Given as goal
 
--- with the axes that are left it gives what all of them do
+-- the divisor so far and the remaining axes have the same greatest divisor as all of them
 abbrev pub invariant-loop-axis : goal.invariant-loop-axis
 invariant-loop-axis l = (g : ℕ) → IsGreatestDivisor g (l.divisor ∷ map step_of (axes (drop l.axis l.strides) (drop l.axis l.lengths))) → IsGreatestDivisor g (l.number ∷ map step_of (axes l.strides l.lengths))

@@ -6,7 +6,7 @@ use Rattle.overlap_copy.proofs.PairCopies.{as_many}
 use Rattle.overlap_copy.proofs.assignment.assign_runs.Goals as goal
 use Rattle.overlap_copy.proofs.assignment.assign_runs.Goals.{In-Some-as_run}
 
--- as many items
+-- both runs have the same number of items
 even : (c : In-Some-as_run) → c.in-Some-as_run.from.count ≡ c.in-Some.to.count
 even c = sym (as_many c.args.dst.now c.args.src.now c.in-Some.to c.in-Some-as_run.from c.requires.count c.in-Some.ensures.items c.in-Some-as_run.ensures.items)
 

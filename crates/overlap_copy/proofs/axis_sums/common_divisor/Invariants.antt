@@ -2,7 +2,7 @@ use Rattle.std.proofs.Common.{ℕ}
 use Rattle.std.specs.Int.{IsGcd}
 use Rattle.overlap_copy.proofs.axis_sums.common_divisor.Given as goal
 
--- what divides both, and is the greatest, is so for the first two
+-- the greatest common divisor of the two numbers is that of the first two
 abbrev pub invariant-loop-rest : goal.invariant-loop-rest
 invariant-loop-rest l = (g : ℕ) → IsGcd l.divisor l.rest g → IsGcd l.fn.a l.fn.b g
 

@@ -25,7 +25,7 @@ trade_run-requires c =
       from = one-within (length c.args.other.now) c.args.width pair.second (offsets c.args.src.now) found.second_lies found.second c.requires.src;
     }
 
--- both are assigned where both are traded at their offsets
+-- an exchange at the offsets of two layouts is an assignment to each block
 assigned_both : (dst src : Layout) (to from : List ℕ) (width : ℕ) (block other : List ℕ) (both : List ℕ × List ℕ) → both ≡ traded_at to from width (block, other) → to ≡ offsets dst → from ≡ offsets src
     → count dst.shape ≡ count src.shape → IsNested (offsets dst) width → IsNested (offsets src) width → All (λ o. o + width ≤ length block) (offsets dst) → All (λ o. o + width ≤ length other) (offsets src)
     → both ≡ (assigned (offsets dst) (offsets src) width other block, assigned (offsets src) (offsets dst) width block other)

@@ -4,7 +4,7 @@ use Rattle.overlap_copy.specs.inside.Trades.{traded_at}
 use Rattle.overlap_copy.specs.inside.Moves.{firsts, seconds}
 use Rattle.overlap_copy.proofs.exchanges.trade_pairs.Given as goal
 
--- the pairs that are left lead to what all of them do
+-- the remaining pairs complete what all pairs do
 abbrev pub invariant-loop-pair : goal.invariant-loop-pair
 invariant-loop-pair l = record {
   rest : traded_at (firsts l.pair-iterator) (seconds l.pair-iterator) l.width (l.block, l.other) ≡ traded_at (firsts l.fn.pairs) (seconds l.fn.pairs) l.width (l.fn.block, l.fn.other);

@@ -4,7 +4,7 @@ use Rattle.overlap_copy.specs.inside.Moves.{firsts}
 use Rattle.overlap_copy.proofs.overwrites.overwrite.Goals as goal
 use Rattle.overlap_copy.proofs.overwrites.overwrite.Goals.{After-new, After-finish}
 
--- the memory is that of all items
+-- the memory is enough for exactly all items
 size : (c : After-new) → length (firsts c.new.result) * c.args.width ≡ c.in_ok-kept.kept.1
 size c =
     let many = ap length (ap firsts c.new.ensures.pairs ∙ c.new.ensures.first) ∙ length-offsets c.args.dst.now ∙ sym c.items.ensures.value in
@@ -16,7 +16,7 @@ overwrite_pairs-requires-clause-room c = omega (arith, size (goal.at.overwrite_p
 pub finish-requires : goal.finish-requires
 finish-requires c = omega (arith, size (goal.at.finish-requires c).After-new, c.overwrite_pairs.ensures.left)
 
--- the old items are joined
+-- the old items are concatenated
 bytes_are : (c : After-finish) → c.finish.result ≡ joined_at (offsets c.args.dst.now) c.args.width c.args.block.now
 bytes_are c = c.finish.ensures ∙ c.overwrite_pairs.ensures.old ∙ (λ i. (c.in_ok-kept.ensures i).0 ++ joined_at ((ap firsts c.new.ensures.pairs ∙ c.new.ensures.first) i) c.args.width c.args.block.now)
 

@@ -4,7 +4,7 @@ use Rattle.overlap_copy.proofs.OverwriteLaws.{IsLeft, overwritten}
 use Rattle.overlap_copy.specs.inside.Moves.{firsts, seconds}
 use Rattle.overlap_copy.proofs.overwrites.overwrite_pairs.Given as goal
 
--- the pairs that are left lead to what all of them do
+-- the remaining pairs complete what all pairs do
 abbrev pub invariant-loop-pair : goal.invariant-loop-pair
 invariant-loop-pair l = record {
   left : IsLeft (firsts l.pair-iterator) (seconds l.pair-iterator) l.width l.other l.block l.kept.0 l.kept.1

@@ -3,7 +3,7 @@ use Rattle.overlap_copy.specs.Words.{BeginsWithin, run_offsets}
 use Rattle.overlap_copy.proofs.OverwriteLaws.{IsLeft, overwritten}
 use Rattle.overlap_copy.proofs.overwrites.overwrite_run.Given as goal
 
--- the rest of the run leads to what all of it does
+-- the rest of the run completes what the whole run does
 abbrev pub invariant-loop-left : goal.invariant-loop-left
 invariant-loop-left l = record {
   left : IsLeft (run_offsets l.left.first) (run_offsets l.left.second) l.width l.other l.block l.kept.0 l.kept.1

@@ -3,7 +3,7 @@ use Rattle.overlap_copy.specs.Words.{EachWithin, assigned}
 use Rattle.overlap_copy.specs.inside.Moves.{firsts, seconds}
 use Rattle.overlap_copy.proofs.pair_copies.copy_pairs.Given as goal
 
--- the pairs that are left lead to what all of them do
+-- the remaining pairs complete what all pairs do
 abbrev pub invariant-loop-pair : goal.invariant-loop-pair
 invariant-loop-pair l = record {
   rest : assigned (firsts l.pair-iterator) (seconds l.pair-iterator) l.width l.other l.block ≡ assigned (firsts l.fn.pairs) (seconds l.fn.pairs) l.width l.other l.fn.block;

@@ -8,7 +8,7 @@ use Rattle.overlap_copy.proofs.RunCopyLaws.{whole_within, packed_moved}
 use Rattle.overlap_copy.proofs.pair_copies.move_forth.Goals as goal
 use Rattle.overlap_copy.proofs.pair_copies.move_forth.Goals.{Then-is_packed}
 
--- ---- items that lie one right after another
+-- ---- adjacent items
 
 to_ends : (c : Then-is_packed) → c.args.to.offset + c.args.to.count * c.args.width ≤ length c.args.block.now
 to_ends c = whole_within _ _ _ _ c.args.to.step (omega (arith, c.requires.alike.two)) (c.is_packed.ensures.0 c.if-is_packed.true) c.requires.alike.to_in

@@ -4,7 +4,7 @@ use Rattle.overlap_copy.specs.inside.Moves.{LieApart, firsts, seconds}
 use Rattle.overlap_copy.proofs.MovingLaws.{IsMoving}
 use Rattle.overlap_copy.proofs.pair_copies.move_pairs.Given as goal
 
--- the pairs that are left lead to what all of them do
+-- the remaining pairs complete what all pairs do
 abbrev pub invariant-loop-pair : goal.invariant-loop-pair
 invariant-loop-pair l = record {
   moving : IsMoving (firsts l.pair-iterator) (seconds l.pair-iterator) l.width l.fn.block l.block (assigned (firsts l.fn.pairs) (seconds l.fn.pairs) l.width l.fn.block l.fn.block);

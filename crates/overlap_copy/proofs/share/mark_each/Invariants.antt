@@ -2,7 +2,7 @@ use Rattle.std.proofs.Common.{◌≡◌, ℕ, ◌+◌, ◌≤◌, ◌<◌, ◌||
 use Rattle.std.specs.List.{list_any}
 use Rattle.overlap_copy.proofs.share.mark_each.Given as goal
 
--- the offsets that are left add what is missing
+-- the remaining offsets add the missing marks
 abbrev pub invariant-loop-offset : goal.invariant-loop-offset
 invariant-loop-offset l = record {
   low : All (λ offset. l.start ≤ offset) l.offset-iterator;

@@ -5,7 +5,7 @@ use Rattle.overlap_copy.specs.inside.Shifts.{sources, MayCome}
 use Rattle.overlap_copy.proofs.MovingLaws.{IsMoving}
 use Rattle.overlap_copy.proofs.shifted.move_shifted.Given as goal
 
--- the runs that are left lead to what all of them do
+-- the remaining runs complete what all runs do
 abbrev pub invariant-loop-run : goal.invariant-loop-run
 invariant-loop-run l = record {
   moving : IsMoving (flat_map run_offsets l.run-iterator) (sources l.to l.from (flat_map run_offsets l.run-iterator)) l.width l.fn.block l.block
