@@ -1,4 +1,4 @@
--- Copies to items that lie apart: each item is then its source's, and all else is as before.
+-- Copies to items that do not overlap: each item then equals its source, and all other bytes are unchanged.
 use Rattle.std.proofs.Common.{◌≡◌, ℕ, zero, suc, ◌+◌, ◌<◌, ◌≤◌, ◌⊎◌, inl, inr, List, length, refl, sym, ap, ◌∙◌, arith}
 use lib.IntN.{ℤ}
 use Rattle.raw_block.specs.Bytes.{place, item_at, copied, EachWithin}

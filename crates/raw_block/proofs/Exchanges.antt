@@ -1,4 +1,4 @@
--- Items that lie apart change places at once, and so do those of runs that lie beside one another.
+-- Disjoint items can be swapped at once, and so can the items of runs that do not overlap.
 use Rattle.std.proofs.Common.{◌≡◌, ℕ, suc, ◌+◌, ◌-◌, ◌*◌, ◌<◌, ◌≤◌, ◌⊎◌, inl, inr, max, min, List, length, get_or, sym, ap, ◌∙◌, arith}
 use Rattle.std.proofs.Math.Nat.{mul-le-mul_right, zero-mul}
 use Rattle.std.proofs.lemmas.Bool.{cases_lt}
@@ -11,7 +11,7 @@ use Rattle.raw_block.specs.BytesLaws.{length-item_at, length-put, get_or-put_bef
 use Rattle.raw_block.specs.ExchangeLaws.{length-exchanged, exchanged-outside, exchanged-first, exchanged-second}
 use Rattle.raw_block.specs.inside.Pairs.{LieApart}
 
--- ---- two items that lie apart
+-- ---- two disjoint items
 
 module _ (at : ℕ) (xs bytes : List ℕ) (le : at + length xs ≤ length bytes) where
   get_or-put_inside : (i : ℕ) → i < length xs → get_or (put at xs bytes) (at + i) 0 ≡ get_or xs i 0
@@ -51,7 +51,7 @@ module _ (a b width : ℕ) (bytes : List ℕ) (in_a : a + width ≤ length bytes
   fits : b + length first ≤ length one_written
   fits = omega (arith, long, same)
 
-  -- what lies outside of the second item
+  -- the bytes outside of the second item
   in_one : (k : ℕ) → (k < b) ⊎ (b + width ≤ k) → get_or both_written k 0 ≡ get_or one_written k 0
   in_one k off = get_or-put_outside b first one_written fits k (elim off [ inl h ↦ inl h | inr h ↦ inr (omega (arith, long)) ])
 
@@ -66,7 +66,7 @@ module _ (a b width : ℕ) (bytes : List ℕ) (in_a : a + width ≤ length bytes
   elsewhere : (k : ℕ) → (k < a) ⊎ (a + width ≤ k) → (k < b) ⊎ (b + width ≤ k) → get_or both_written k 0 ≡ get_or bytes k 0
   elsewhere k off_a off_b = in_one k off_b ∙ get_or-put_outside a second bytes (omega (arith, long')) k (elim off_a [ inl h ↦ inl h | inr h ↦ inr (omega (arith, long')) ])
 
-  -- one is written after the other, both as they were read
+  -- writing one item and then the other, as both were read before, is an exchange
   pub exchanged-apart : both_written ≡ exchanged a b width bytes
   exchanged-apart =
       let new = exchanged a b width bytes in
@@ -85,7 +85,7 @@ pub first_within : (len at : ℕ) (step : ℤ) (width n : ℕ) → EachWithin le
 first_within len at (pos s) width n each some = let here = (each.each 0 some).1 in let none = zero-mul s in omega (arith, ints)
 first_within len at (negsuc s) width n each some = let here = (each.each 0 some).1 in let none = zero-mul (suc s) in omega (arith, ints)
 
--- each item lies between the first and the last
+-- each item is between the first and the last
 between_ends : (at : ℕ) (step : ℤ) (last k : ℕ) → k ≤ last → pos 0 ≤ℤ position at step k → pos 0 ≤ℤ position at step last → (min at (place at step last) ≤ place at step k) × (place at step k ≤ max at (place at step last))
 between_ends at (pos s) last k le low low' = let most : k * s ≤ last * s = mul-le-mul_right s le in (omega arith, omega arith)
 between_ends at (negsuc s) last k le low low' =
@@ -94,7 +94,7 @@ between_ends at (negsuc s) last k le low low' =
     (omega (arith, ints), omega (arith, ints))
 
 module _ (len a : ℕ) (a_step : ℤ) (b : ℕ) (b_step : ℤ) (width n : ℕ) (each_a : EachWithin len a a_step width n) (each_b : EachWithin len b b_step width n) where
-  -- the items of a pair lie apart where all of one run lie before all of the other
+  -- the items of each pair do not overlap if all of one run is before all of the other
   pub beside-apart : 0 < n → (max a (place a a_step (n - 1)) + width ≤ min b (place b b_step (n - 1))) ⊎ (max b (place b b_step (n - 1)) + width ≤ min a (place a a_step (n - 1))) → LieApart a a_step b b_step width n
   beside-apart some beside = record {
     apart = λ k lt.

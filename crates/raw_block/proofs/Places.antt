@@ -1,4 +1,4 @@
--- Where the k-th item lies, as the code computes it.
+-- The place of the k-th item, as the code computes it.
 use Rattle.std.proofs.Common.{◌≡◌, ℕ, suc, ◌+◌, ◌-◌, ◌*◌, ◌%◌, ◌^◌, sym, ap, ◌∙◌, w64, arith}
 use Rattle.std.proofs.Math.Nat.{add-mod-mod, add-mul-mod_self_right, mod-eq_of_lt, mul-add}
 use Rattle.std.proofs.lemmas.Int.{ints}

@@ -1,11 +1,11 @@
--- An item written into a list of bytes, with one byte more on either side.
+-- An item written to a list of bytes, extended by one byte at either end.
 use Rattle.std.proofs.Common.{◌≡◌, ℕ, suc, ◌+◌, ◌<◌, ◌≤◌, List, [], ◌∷◌, ◌++◌, length, take, drop, get_or, set, sym, ap, ◌∙◌, arith, append_assoc, length-append, length-take, length-drop, drop-cons}
 use Rattle.std.proofs.Math.Seq.{set-append_seam}
 use Rattle.std.proofs.lemmas.List.{get_or-drop, take_more}
 use Rattle.raw_block.specs.Bytes.{put, item_at}
 use Rattle.raw_block.specs.BytesLaws.{length-item_at, front_length, get_or-put_before, get_or-put_after}
 
--- one byte more at the end
+-- one more byte at the end
 pub set-put_end : (at : ℕ) (xs bytes : List ℕ) (v : ℕ) → at + length xs < length bytes → set (put at xs bytes) (at + length xs) v ≡ put at (xs ++ v ∷ []) bytes
 set-put_end at xs bytes v lt =
     let front = take at bytes ++ xs in let m = at + length xs in let long : length front ≡ m = front_length at xs bytes (omega arith) in
@@ -14,7 +14,7 @@ set-put_end at xs bytes v lt =
     ap (λ l. set (front ++ l) m v) (drop-cons bytes m 0 lt) ∙ ap (λ k. set (front ++ (get_or bytes m 0 ∷ rest)) k v) (sym long) ∙ set-append_seam front (get_or bytes m 0) rest v
     ∙ ap (λ k. front ++ v ∷ drop k bytes) next ∙ regroup
 
--- one byte more at the front
+-- one more byte at the front
 pub set-put_front : (at : ℕ) (xs bytes : List ℕ) (v : ℕ) → at + suc (length xs) ≤ length bytes → set (put (at + 1) xs bytes) at v ≡ put at (v ∷ xs) bytes
 set-put_front at xs bytes v le =
     let front = take at bytes in let y = get_or bytes at 0 in let rest = drop (at + 1 + length xs) bytes in
@@ -30,7 +30,7 @@ item_at-end at n bytes lt = take_more (drop at bytes) n 0 (omega (arith, length-
 pub item_at-front : (at n : ℕ) (bytes : List ℕ) → at < length bytes → item_at at (suc n) bytes ≡ get_or bytes at 0 ∷ item_at (suc at) n bytes
 item_at-front at n bytes lt = ap (take (suc n)) (drop-cons bytes at 0 lt)
 
--- a move to lower places goes on by one byte, and one to higher places likewise
+-- one more byte of a move to lower places, or of one to higher places
 module _ (dst src : ℕ) (old now : List ℕ) where
   pub moved_down : (i : ℕ) → now ≡ put dst (item_at src i old) old → dst ≤ src → src + i < length old → set now (dst + i) (get_or now (src + i) 0) ≡ put dst (item_at src (i + 1) old) old
   moved_down i so le lt =

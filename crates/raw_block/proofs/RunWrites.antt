@@ -1,4 +1,4 @@
--- Items that are written one right after another: they are read back, and all other bytes stay.
+-- Adjacent items that are written: they are read back, and all other bytes are unchanged.
 use Rattle.std.proofs.Common.{◌≡◌, ℕ, zero, suc, ◌+◌, ◌*◌, ◌≤◌, List, [], ◌∷◌, ◌++◌, length, take, drop, refl, sym, ap, ◌∙◌, arith, append_assoc, length-append, length-take}
 use Rattle.std.proofs.Math.Nat.{suc-mul, mul-suc, mul-zero}
 use Rattle.std.proofs.Math.Seq.{take-append_seam, drop-append_seam}
@@ -14,7 +14,7 @@ abbrev flat : List (List ℕ) → List ℕ
 flat items = flat_map (λ item. item) items
 
 module _ (width : ℕ) where
-  -- the items of a run are made of its own bytes
+  -- the items of a run depend only on its own bytes
   pub chunks-take : (n : ℕ) (bytes : List ℕ) → first_chunks width n (take (n * width) bytes) ≡ first_chunks width n bytes
   chunks-take zero bytes = refl
   chunks-take (suc n) bytes =

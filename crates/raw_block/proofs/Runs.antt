@@ -1,4 +1,4 @@
--- Items that lie one right after the other: their bytes are written as one.
+-- Adjacent items, whose bytes are written as one range.
 use Rattle.std.proofs.Common.{◌≡◌, ℕ, zero, suc, ◌+◌, ◌-◌, ◌*◌, ◌<◌, ◌≤◌, List, [], ◌∷◌, ◌++◌, length, take, drop, get_or, inr, refl, sym, ap, ◌∙◌, subst, arith, append_assoc, length-append, length-take, drop-cons}
 use Rattle.std.proofs.Math.Nat.{suc-mul, mul-suc, mul-zero, mul-le-mul_left}
 use Rattle.std.proofs.Math.Seq.{take-add, drop-append-add}
@@ -8,7 +8,7 @@ use lib.IntN.{ℤ, pos}
 use Rattle.raw_block.specs.Bytes.{place, EachWithin, put, item_at, copied, filled, traded}
 use Rattle.raw_block.specs.BytesLaws.{place_within, length-item_at, item_at-put_apart, item_of_chunks}
 
--- all of the items lie within
+-- all of the items lie within `len` bytes
 pub run_within : (len at : ℕ) (step : ℤ) (width n : ℕ) → 0 < n → step ≡ pos width → EachWithin len at step width n → at + n * width ≤ len
 run_within len at step width zero some is h = absurd (omega arith)
 run_within len at step width (suc m) some is h =
@@ -16,13 +16,13 @@ run_within len at step width (suc m) some is h =
     let last : at + m * width + width ≤ len = place_within len at (pos width) width (suc m) m along (omega arith) in
     omega (arith, suc-mul m width)
 
--- nothing is written
+-- writing no bytes changes nothing
 put-nothing : (at : ℕ) (bytes : List ℕ) → put at [] bytes ≡ bytes
 put-nothing at bytes =
     let none : at + 0 ≡ at = omega arith in let regroup : take at bytes ++ [] ++ drop at bytes ≡ take at bytes ++ drop at bytes = append_assoc (take at bytes) [] (drop at bytes) in
     ap (λ k. take at bytes ++ [] ++ drop k bytes) none ∙ regroup ∙ take-append-drop at bytes
 
--- one item is written right after another
+-- writing one item right after another is writing both as one
 pub put_twice : (at : ℕ) (xs ys bytes : List ℕ) → at + length xs + length ys ≤ length bytes → put (at + length xs) ys (put at xs bytes) ≡ put at (xs ++ ys) bytes
 put_twice at xs ys bytes le =
     let m = at + length xs in let front = take at bytes ++ xs in let rest = drop m bytes in
@@ -32,11 +32,11 @@ put_twice at xs ys bytes le =
     ap (λ k. drop (k + length ys) (front ++ rest)) (sym long) ∙ drop-append-add front rest (length ys) ∙ drop-drop (length ys) m bytes ∙ ap (λ k. drop k bytes) end in
     (λ i. take_at front rest m long i ++ ys ++ after i) ∙ ap (λ l. l ++ drop (at + length (xs ++ ys)) bytes) (append_assoc (take at bytes) xs ys)
 
--- two items that lie one right after the other are read as one
+-- two adjacent items are read as one
 item_at-add : (at m n : ℕ) (bytes : List ℕ) → item_at at m bytes ++ item_at (at + m) n bytes ≡ item_at at (m + n) bytes
 item_at-add at m n bytes = ap (λ l. item_at at m bytes ++ take n l) (sym (drop-drop m at bytes)) ∙ sym (take-add m n (drop at bytes))
 
--- one item more, read right after those that were written
+-- one more item, read right after those that were written
 module _ (dst src m width : ℕ) (other bytes : List ℕ) (to : dst + m + width ≤ length bytes) (from : src + m + width ≤ length other) where
   put_next : put (dst + m) (item_at (src + m) width other) (put dst (item_at src m other) bytes) ≡ put dst (item_at src (m + width) other) bytes
   put_next =
@@ -56,9 +56,9 @@ copied-run dst other src width (suc n) bytes to from =
 abbrev both : List ℕ → List ℕ → List ℕ × List ℕ
 both xs ys = (xs, ys)
 
--- items of two lists that are exchanged are one stretch of each
+-- exchanging adjacent items of two lists is exchanging one range of each
 module _ (a b width : ℕ) where
-  -- the next item is as it was before those that lie below it were written
+  -- the next item is unchanged by writing the items below it
   next_kept : (at m : ℕ) (item bytes : List ℕ) → length item ≡ m → at + m + width ≤ length bytes → item_at (at + m) width (put at item bytes) ≡ item_at (at + m) width bytes
   next_kept at m item bytes long le = item_at-put_apart at item bytes (at + m) width (omega (arith, long)) le (inr (omega (arith, long)))
 
@@ -97,7 +97,7 @@ item_of_run width at n m k bytes run is enough lt =
     ∙ ap (λ j. take width (drop here (take j (drop at bytes)))) all ∙ ap (take width) (drop-take here left (drop at bytes))
     ∙ take-take width left (drop here (drop at bytes)) (omega (arith, within, next)) ∙ ap (take width) (drop-drop here at bytes)
 
--- one item over and over
+-- copies of one item
 same_place : (at k : ℕ) → place at (pos 0) k ≡ at
 same_place at k = let none : k * 0 ≡ 0 = mul-zero k in omega (arith, none)
 

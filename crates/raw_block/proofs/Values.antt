@@ -19,7 +19,7 @@ use Rattle.raw_block.specs.contracts.base.Base as B
 use Rattle.raw_block.specs.contracts.base.Bytes as Y
 use Rattle.raw_block.specs.contracts.base.Deed as D
 
--- a struct of no fields, and one around it
+-- a struct without fields, and one that contains it
 abbrev pub no_fields : Val
 no_fields = vstruct vnil
 

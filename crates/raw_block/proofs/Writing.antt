@@ -1,4 +1,4 @@
--- The owner of the bytes, once others were written to them. Assumes `Logic`.
+-- The owner of the bytes after other bytes are written to them. Assumes `Logic`.
 use Rattle.std.proofs.Common.{◌≡◌, ℕ, ◌+◌, ◌^◌, ◌<◌, List, [], ◌∷◌, length, refl, sym, arith}
 use lib.ListN.{drop as drop_l}
 use lib.Seq.{take_at as take_front}
@@ -22,11 +22,11 @@ use Rattle.raw_block.specs.inside.Lends.{with_items}
 use Rattle.raw_block.specs.Ownership.{unwritten, bytes_own}
 use Rattle.raw_block.specs.contracts.base.Bytes.{the_row as R, the_type}
 
--- the owner, once ws is the last that was written to the slice
+-- the owner, if `ws` was written to the slice last
 abbrev pub written : R.Denot → List ℕ → R.Denot
 written h ws = with_items h (refill (length h.items) h.items ws)
 
--- all that the owner has but its bytes
+-- everything that the owner has except its bytes
 abbrev pub Rest : R.Denot → List Val → ℕ → ℕ → ℕ → ℕ → Fml
 Rest h us rb ro b o = fsep (unwritten b (o + length h.items) h.room) (fsep ((Struct (shape the_type)).own_val tt us) (cell_at full_share R.mir us rb ro))
 

@@ -1,4 +1,4 @@
--- What a block ends as, once a `&mut` to its bytes has ended.
+-- The final value of a block after a `&mut` to its bytes has ended.
 use Rattle.std.specs.Prelude.{ℕ, List, length}
 use Rattle.std.specs.Borrow.{Fml, MutBor, Array, Lends, u8}
 use Rattle.std.specs.List.{refill}
@@ -6,14 +6,14 @@ use Rattle.raw_block.specs.NumberRuns.{with_run}
 use Rattle.raw_block.specs.contracts.block.RawBlock.{the_row}
 use Rattle.raw_block.specs.contracts.block.builder.BlockBuilder.{the_row as the_builder}
 
--- its bytes are the last ones written through r
+-- the bytes of the block are those last written through `r`
 abbrev pub lends_block : MutBor (List ℕ) → MutBor (List ℕ) → Fml
 lends_block b r = Lends the_row (Array u8 0) b r (λ ws. refill (length b.now) b.now ws)
 
--- the bytes from `at` on are those of the items last written through r
+-- the bytes starting at `at` are those of the items last written through `r`
 abbrev pub lends_run : ℕ → ℕ → MutBor (List ℕ) → MutBor (List (List ℕ)) → Fml
 lends_run width at b r = Lends the_row (Array (Array u8 width) 0) b r (λ items. with_run at items b.now)
 
--- the bytes that are there are the last ones written through r, and the room after them stays
+-- the bytes that are filled are those last written through `r`, and the room after them is unchanged
 abbrev pub lends_filled : MutBor (List ℕ × ℕ) → MutBor (List ℕ) → Fml
 lends_filled b r = Lends the_builder (Array u8 0) b r (λ ws. (refill (length b.now.0) b.now.0 ws, b.now.1))

@@ -1,4 +1,4 @@
--- What a write into bytes changes and leaves, and where items at equal steps lie.
+-- What a write to bytes changes and what it does not, and where items at equal steps lie.
 use Rattle.std.proofs.Common.{◌≡◌, ℕ, suc, ◌+◌, ◌-◌, refl, sym, ap, ◌∙◌, arith, ◌<◌, ◌≤◌, List, length, get_or, ◌++◌, take, drop, append_assoc, length-append, length-take, length-drop, ◌⊎◌, inl, inr, ◌*◌, zero, []}
 use Rattle.std.proofs.lemmas.List.{get_or-append_right, get_or_append_left, get_or-take, get_or-drop, ext_get_or, drop-drop}
 use Rattle.std.proofs.Math.Seq.{take-append_seam, drop-append_seam}
@@ -32,14 +32,14 @@ module _ (at : ℕ) (xs bytes : List ℕ) (le : at + length xs ≤ length bytes)
   get_or-put_before j lt =
       get_or_append_left (take at bytes ++ xs) (drop (at + length xs) bytes) 0 j (omega (arith, front_length)) ∙ get_or_append_left (take at bytes) xs 0 j (omega (arith, length-take at bytes)) ∙ get_or-take at bytes j 0 lt
 
--- what was written is read back
+-- an item that was written is read back
 pub item_at-put_same : (at : ℕ) (item bytes : List ℕ) → at + length item ≤ length bytes → item_at at (length item) (put at item bytes) ≡ item
 item_at-put_same at item bytes le =
     let front = take at bytes in let rest = drop (at + length item) bytes in let long : length front ≡ at = omega (arith, length-take at bytes) in
     ap (λ k. take (length item) (drop k (front ++ item ++ rest))) (sym long) ∙ ap (λ l. take (length item) (drop (length front) l)) (append_assoc front item rest)
     ∙ ap (take (length item)) (drop-append_seam front (item ++ rest)) ∙ take-append_seam item rest
 
--- what lies apart is as before
+-- an item that does not overlap the one that was written is unchanged
 pub item_at-put_apart : (at : ℕ) (item bytes : List ℕ) (other width : ℕ) → at + length item ≤ length bytes → other + width ≤ length bytes → other + width ≤ at ⊎ at + length item ≤ other
     → item_at other width (put at item bytes) ≡ item_at other width bytes
 item_at-put_apart at item bytes other width le within apart =
@@ -62,18 +62,18 @@ place_within len at step width n k h lt =
     let here = h.each k lt in let low = here.0 in let high = here.1 in let is : pos (place at step k) ≡ position at step k = not_negative (position at step k) low in
     omega (arith, ints)
 
--- so do fewer
+-- if n + 1 items lie within the bytes, so do the first n
 pub fewer : (len at : ℕ) (step : ℤ) (width n : ℕ) → EachWithin len at step width (suc n) → EachWithin len at step width n
 fewer len at step width n h = record { each = λ k lt. h.each k (omega arith) }
 
--- the first item lies within the bytes
+-- the first item begins within the bytes
 pub begins_within : (len at : ℕ) (step : ℤ) (width n k : ℕ) → EachWithin len at step width n → k < n → at ≤ len
 begins_within len at step width n k within low =
     let first = (within.each 0 (omega (arith, low))).1 in
     let none = zero-*ℤ step in
     omega (arith, ints)
 
--- the first of some items at equal steps
+-- the first item is at `at`
 pub first_position : (at : ℕ) (step : ℤ) → position at step 0 ≡ pos at
 first_position at (pos s) = let none : 0 * s ≡ 0 = zero-mul s in omega (arith, ints)
 first_position at (negsuc s) = let none : 0 * suc s ≡ 0 = zero-mul (suc s) in omega (arith, ints)
@@ -81,7 +81,7 @@ first_position at (negsuc s) = let none : 0 * suc s ≡ 0 = zero-mul (suc s) in 
 pub byte_of : (at width i : ℕ) (bytes : List ℕ) → i < width → get_or (item_at at width bytes) i 0 ≡ get_or bytes (at + i) 0
 byte_of at width i bytes lt = get_or-take width (drop at bytes) i 0 lt ∙ get_or-drop at bytes i 0
 
--- a step on from an item that is some steps on
+-- the item k steps after the m-th item is item m + k
 pub position-add : (at : ℕ) (step : ℤ) (m k : ℕ) → pos 0 ≤ℤ position at step m → position (place at step m) step k ≡ position at step (m + k)
 position-add at (pos s) m k low = let parts : (m + k) * s ≡ m * s + k * s = add-mul m k s in let same : at + m * s + k * s ≡ at + (m + k) * s = omega arith in ap pos same
 position-add at (negsuc s) m k low =
@@ -91,7 +91,7 @@ pub length-chunks : (width n : ℕ) (bytes : List ℕ) → length (first_chunks 
 length-chunks width zero bytes = refl
 length-chunks width (suc n) bytes = ap suc (length-chunks width n (drop width bytes))
 
--- the k-th of several items that lie one right after another
+-- the k-th of n adjacent items
 pub item_of_chunks : (width n k : ℕ) (bytes : List ℕ) → k < n → get_or (first_chunks width n bytes) k [] ≡ item_at (width * k) width bytes
 item_of_chunks width zero k bytes lt = absurd (omega arith)
 item_of_chunks width (suc n) zero bytes lt = let none : 0 ≡ width * 0 = omega arith in ap (λ m. take width (drop m bytes)) none

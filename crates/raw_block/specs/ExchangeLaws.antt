@@ -1,4 +1,4 @@
--- Two items that lie apart change places: what `exchanged` gives there, and that it leaves all other bytes.
+-- What `exchanged` gives for two disjoint items: it swaps them, and leaves all other bytes unchanged.
 use Rattle.std.proofs.Common.{◌≡◌, ◌≢◌, ℕ, zero, suc, ◌+◌, ◌<◌, ◌≤◌, ◌⊎◌, inl, inr, List, length, drop, get_or, set, refl, sym, ap, ◌∙◌, arith, length-set, get_or-set_same, get_or-set_other}
 use Rattle.std.proofs.lemmas.List.{ext_get_or, get_or-take, get_or-drop}
 use Rattle.std.proofs.lemmas.List.Edits.{swap_is, length-swap}
@@ -26,7 +26,7 @@ length-exchanged a b zero bytes = refl
 length-exchanged a b (suc width) bytes = length-swap (exchanged a b width bytes) (a + width) (b + width) ∙ length-exchanged a b width bytes
 
 module _ (a b : ℕ) (bytes : List ℕ) where
-  -- a byte outside both items is as before
+  -- a byte outside both items is unchanged
   pub exchanged-outside : (width k : ℕ) → a + width ≤ length bytes → b + width ≤ length bytes → (k < a) ⊎ (a + width ≤ k) → (k < b) ⊎ (b + width ≤ k) → get_or (exchanged a b width bytes) k 0 ≡ get_or bytes k 0
   exchanged-outside zero k in_a in_b off_a off_b = refl
   exchanged-outside (suc width) k in_a in_b off_a off_b =
@@ -66,7 +66,7 @@ module _ (a b : ℕ) (bytes : List ℕ) where
             ∙ exchanged-outside width p (omega arith) (omega arith) (inr (omega arith)) outside ∙ ap (λ k. get_or bytes (a + k) 0) (sym last)
       ]
 
-  -- the two items have changed places
+  -- the two items are swapped
   pub exchanged-items : (width : ℕ) → a + width ≤ length bytes → b + width ≤ length bytes → (a + width ≤ b) ⊎ (b + width ≤ a)
       → (item_at a width (exchanged a b width bytes) ≡ item_at b width bytes) × (item_at b width (exchanged a b width bytes) ≡ item_at a width bytes)
   exchanged-items width in_a in_b apart =

@@ -1,4 +1,4 @@
--- Laws of items that lie one right after another.
+-- Laws of concatenated items.
 use Rattle.std.proofs.Common.{◌≡◌, ℕ, zero, suc, ◌+◌, ◌*◌, ◌<◌, ◌≤◌, inl, inr, List, ◌++◌, length, take, drop, refl, sym, ap, ◌∙◌, arith, append_assoc, append-nil, length-append, length-drop, [], ◌∷◌, get_or}
 use Rattle.std.proofs.Math.Nat.{suc-mul, zero-mul, mul-le-mul_right}
 use Rattle.std.proofs.Math.Seq.{take-add, drop-append_seam}
@@ -8,7 +8,7 @@ use lib.IntN.{ℤ, pos}
 use Rattle.raw_block.specs.Bytes.{item_at, place, joined}
 use Rattle.raw_block.specs.ExchangeLaws.{last_or_before}
 
--- how many bytes they have
+-- the number of their bytes
 pub length-joined : (item : ℕ → List ℕ) (width n : ℕ) → ((k : ℕ) → k < n → length (item k) ≡ width) → length (joined item n) ≡ n * width
 length-joined item width zero each = sym (zero-mul width)
 length-joined item width (suc n) each =
@@ -30,19 +30,19 @@ item_of_joined item width (suc n) k each lt =
           ap (λ m. take width (drop m (front ++ item n))) here ∙ ap (take width) (drop-append_seam front (item n)) ∙ take_all width (item n) (let w = each n (omega arith) in omega arith) ∙ ap item (sym last)
     ]
 
--- what is joined in two parts
+-- items that are concatenated in two parts
 pub joined-add : (item : ℕ → List ℕ) (m n : ℕ) → joined item m ++ joined (λ k. item (m + k)) n ≡ joined item (m + n)
 joined-add item m zero = let none : m ≡ m + 0 = omega arith in append-nil (joined item m) ∙ ap (joined item) none
 joined-add item m (suc n) =
     let next : suc (m + n) ≡ m + suc n = omega arith in
     sym (append_assoc (joined item m) (joined (λ k. item (m + k)) n) (item (m + n))) ∙ ap (λ l. l ++ item (m + n)) (joined-add item m n) ∙ ap (joined item) next
 
--- items that are the same one by one
+-- items that are equal one by one give the same bytes
 pub joined-same : (item other : ℕ → List ℕ) (n : ℕ) → ((k : ℕ) → k < n → item k ≡ other k) → joined item n ≡ joined other n
 joined-same item other zero same = refl
 joined-same item other (suc n) same = λ i. joined-same item other n (λ k lt. same k (omega arith)) i ++ same n (omega arith) i
 
--- bytes of which each item is known
+-- bytes whose items are known are these items, concatenated
 first_joined : (item : ℕ → List ℕ) (width n : ℕ) (bytes : List ℕ) → ((k : ℕ) → k < n → item_at (k * width) width bytes ≡ item k) → take (n * width) bytes ≡ joined item n
 first_joined item width zero bytes each = let none : 0 * width ≡ 0 = zero-mul width in ap (λ m. take m bytes) none
 first_joined item width (suc n) bytes each =
@@ -52,7 +52,7 @@ first_joined item width (suc n) bytes each =
 pub all_joined : (item : ℕ → List ℕ) (width n : ℕ) (bytes : List ℕ) → length bytes ≡ n * width → ((k : ℕ) → k < n → item_at (k * width) width bytes ≡ item k) → bytes ≡ joined item n
 all_joined item width n bytes long each = sym (take_all (n * width) bytes (omega arith)) ∙ first_joined item width n bytes each
 
--- items that lie one right after another
+-- the bytes of a run of adjacent items are those of its items, concatenated
 pub joined_run : (at : ℕ) (step : ℤ) (width n : ℕ) (bytes : List ℕ) → step ≡ pos width → item_at at (n * width) bytes ≡ joined (λ k. item_at (place at step k) width bytes) n
 joined_run at step width n bytes is =
     first_joined (λ k. item_at (place at (pos width) k) width bytes) width n (drop at bytes) (λ k _. ap (take width) (drop-drop (k * width) at bytes))

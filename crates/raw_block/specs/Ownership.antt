@@ -9,25 +9,25 @@ use denote.Sharing.{said, beside}
 use denote.RawPtr.{Ptr, block_ptr, null_ptr}
 use denote.RawPtr.Bytes.{bytes}
 
--- n bytes that nothing was written to, o bytes into the object b
+-- n bytes without a value, starting `o` bytes into the object `b`
 abbrev pub unwritten : ℕ → ℕ → ℕ → Fml
 unwritten b o n = froom (ty_array (ty_int w8) n) b o
 
--- the bytes xs, and after them n that nothing was written to; together fewer than 2 ^ 63
+-- the bytes `xs`, and after them n bytes without a value; together they are fewer than 2 ^ 63
 abbrev pub bytes_own : Ptr → List ℕ → ℕ → Fml
 bytes_own (block_ptr b o) xs n = fsep (flt (length xs + n) (2 ^ 63)) (fsep (bytes full_share xs b o) (unwritten b (o + length xs) n))
 bytes_own null_ptr xs n = ffalse
 
--- the bytes xs of those, to read
+-- the bytes `xs` of these, lent to be read
 abbrev pub bytes_lent : Ptr → List ℕ → ℕ → Lft → Fml
 bytes_lent (block_ptr b o) xs n = beside (said (flt (length xs + n) (2 ^ 63))) (elements_shared u8 xs b o)
 bytes_lent null_ptr xs n = said ffalse
 
--- the type that a block of that size is allocated for
+-- the type for which a block of `size` bytes is allocated: an array of words of 16 bytes
 abbrev pub words : ℕ → Ty
 words size = ty_array (ty_int w128) (size / 16)
 
--- the allocator's token for the block, and that len bytes without a value make the block whole
+-- the allocator's token for the block, and the means to restore the whole block from `len` bytes without a value
 abbrev pub deed_owns : (Ty → Ptr → Fml) → Ptr → ℕ → ℕ → Fml
 deed_owns token (block_ptr b o) len size = fsep (fwand (unwritten b o len) (froom (words size) b o)) (token (words size) (block_ptr b o))
 deed_owns token null_ptr len size = ffalse

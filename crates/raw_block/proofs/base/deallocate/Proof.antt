@@ -1,4 +1,4 @@
--- `deallocate` makes the block of the bytes' room, and hands it back with the allocator's token. Assumes `Logic`.
+-- `deallocate` restores the block from the bytes, and gives it back with the allocator's token. Assumes `Logic`.
 use Rattle.std.proofs.Common.{◌≡◌, ℕ, ◌+◌, ◌*◌, ◌/◌, ◌^◌, ◌<◌, List, [], ◌∷◌, ◌++◌, length, refl, sym, ap, subst, ◌∙◌, w64, arith, lit<, T}
 use base.Logic.{SProp, id⊢, apply∗}
 use base.Fml.{Lft, Share, ftrue, froom, flft}

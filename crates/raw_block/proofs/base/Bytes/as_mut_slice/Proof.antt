@@ -1,4 +1,4 @@
--- `as_mut_slice` lends the bytes, and the owner follows them. Assumes `Logic`.
+-- `as_mut_slice` lends the bytes, and the owner then has those last written. Assumes `Logic`.
 use Rattle.std.proofs.Common.{◌≡◌, ℕ, ◌*◌, ◌^◌, ◌<◌, List, [], ◌∷◌, length, refl, sym, ◌∙◌, w64, arith}
 use base.Fraction.{full_share}
 use base.Logic.{id⊢}

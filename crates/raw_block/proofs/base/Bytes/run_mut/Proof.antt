@@ -1,4 +1,4 @@
--- `run_mut` lends some of the bytes by arrays, and the owner follows them. Assumes `Logic`.
+-- `run_mut` lends some of the bytes as arrays, and the owner then has those last written. Assumes `Logic`.
 use Rattle.std.proofs.Common.{◌≡◌, ℕ, ◌+◌, ◌*◌, ◌^◌, ◌<◌, ◌≤◌, List, [], ◌∷◌, ◌++◌, length, take, drop as drop_front, refl, sym, ap, subst, ◌∙◌, w64, arith, append_assoc, length-append, length-take, length-drop}
 use Rattle.std.proofs.lemmas.List.{take-append-drop, drop-drop}
 use seplogic.Ra.Ura.{Ura}
@@ -50,7 +50,7 @@ use Rattle.raw_block.specs.contracts.base.Bytes.run_mut as f
 use Rattle.raw_block.proofs.base.Bytes.run_mut.Statement.{statement}
 use Rattle.raw_block.proofs.base.Bytes.run_mut.Code as code
 
--- where the bytes lie that come k bytes after others
+-- the offset of the bytes that are k bytes further on
 past_some : (o k : ℕ) → after_some o 1 k ≡ k + o
 past_some o k = at_mul o 1 k ∙ omega arith
 
@@ -70,11 +70,11 @@ module _ {M : Type 1} {𝓤 : Ura M} (𝓛 : Logic 𝓤) (h : R.Denot) (us : Lis
   abbrev ys : List (List ℕ)
   ys = first_chunks N n mid
 
-  -- the bytes, once ws are the arrays last written
+  -- the bytes, if `ws` are the arrays written last
   abbrev with_run : List (List ℕ) → List ℕ
   with_run ws = put at (flat_map (λ x. x) ws) xs
 
-  -- all that the owner has but the bytes of the arrays
+  -- everything that the owner has except the bytes of the arrays
   abbrev Others : Fml
   Others = fsep (cells (mem u8) (take at xs) b o) (fsep (cells (mem u8) end b (n * N + (at + o))) (Rest h us rb ro b o))
 
