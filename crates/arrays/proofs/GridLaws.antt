@@ -1,4 +1,4 @@
--- Laws of rows that are the rows of grids.
+-- Laws of rows as the rows of grids.
 use Rattle.std.proofs.Common.{◌≡◌, ℕ, ◌+◌, ◌*◌, ◌<◌, ◌≤◌, List, [], ◌∷◌, ◌++◌, map, length, All, refl, sym, ap, subst, ◌∙◌, arith, zero-mul, mul_assoc, add-mul, suc-mul, append_assoc, length-append}
 use Rattle.std.specs.List.{flat_map}
 use Rattle.std.proofs.lemmas.Grind.{flat_map-append}
@@ -12,14 +12,14 @@ use Rattle.arrays.specs.Joined.{joined_at}
 use Rattle.arrays.specs.inside.Rows.{rows_of, grid_of}
 use Rattle.arrays.specs.JoinedLaws.{joined-by, joined-offsets}
 
--- the rows from some offsets on
+-- the rows that begin at these offsets
 abbrev rows_from : StridedAxis → List ℕ → List Run
 rows_from along os = map (run_along along) os
 
--- ---- the rows that begin at one run of offsets
+-- ---- the rows that begin at the offsets of one run
 
 module _ (len width : ℕ) (along : StridedAxis) (starts : Run) (lies : EachWithin max_bytes starts.offset starts.step 1 starts.count) (within : All (λ run. EachWithin len run.offset run.step width run.count) (rows_from along (run_offsets starts))) where
-  -- where a row begins
+  -- the offset at which a row begins
   abbrev start : ℕ → ℕ
   start i = place starts.offset starts.step i
 
@@ -35,7 +35,7 @@ module _ (len width : ℕ) (along : StridedAxis) (starts : Run) (lies : EachWith
   first-row j some lt =
       subst (λ o. (pos 0 ≤ℤ position o along.stride j) × ((position o along.stride j +ℤ pos width) ≤ℤ pos len)) (ap nat_abs (first_position starts.offset starts.step)) ((row-within 0 some).each j lt)
 
-  -- an item by its row and by its column
+  -- an item is the same by its row and by its column
   same-place : (i j : ℕ) → i < starts.count → j < along.len → position (place starts.offset along.stride j) starts.step i ≡ position (start i) along.stride j
   same-place i j less lt =
       let across = not_negative (position starts.offset along.stride j) (first-row j (omega (arith, less)) lt).0 in
@@ -68,7 +68,7 @@ module _ (len width : ℕ) (along : StridedAxis) (starts : Run) (lies : EachWith
       by_rows (o ∷ os) =
           flat_map-append (λ p. item_at p width block) (run_offsets (run_along along o)) (all_offsets (rows_from along os)) ∙ ap (λ l. joined_at (run_offsets (run_along along o)) width block ++ l) (by_rows os)
 
--- ---- the rows that begin at one run of offsets, and those after them
+-- ---- the rows that begin at the offsets of one run, and those after them
 
 rows-next : (along : StridedAxis) (starts : Run) (left : List Run) → rows_of along (starts ∷ left) ≡ rows_from along (run_offsets starts) ++ rows_of along left
 rows-next along starts left = map-append (run_along along) (run_offsets starts) (flat_map run_offsets left)

@@ -1,4 +1,4 @@
--- Items one after another in C order and in Fortran order.
+-- Adjacent items in C order and in Fortran order.
 use Rattle.std.specs.Prelude.{reverse}
 use Rattle.std.proofs.Common.{◌≡◌, ◌+◌, ◌*◌, ◌<◌, ◌≤◌, ◌&&◌, ◌||◌, ℕ, zero, suc, Bool, true, false, List, [], ◌∷◌, map, IsTrue, refl, sym, ap, subst, ◌∙◌, arith}
 use Rattle.std.specs.List.{range_with_len}
@@ -10,7 +10,7 @@ use Rattle.arrays.specs.Blocks.{places_of}
 some-bytes : {item : ℕ} → 1 ≤ item → 0 < item
 some-bytes some = omega (arith, some)
 
--- offsets that are multiples of the bytes of an item
+-- offsets that are multiples of the size of an item
 whole-map : {X : Type 0} (item : ℕ) (f : X → ℕ) (xs : List X) → 1 ≤ item → map (λ x. item * f x) xs ≡ map (λ place. item * place) (places_of item (map (λ x. item * f x) xs))
 whole-map item f [] some = refl
 whole-map item f (x ∷ xs) some = λ i. item * sym (mul-div_cancel_left (f x) (some-bytes some)) i ∷ whole-map item f xs some i

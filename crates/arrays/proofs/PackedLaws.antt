@@ -1,4 +1,4 @@
--- Laws of items that lie one after another.
+-- Laws of adjacent items.
 use Rattle.std.proofs.Common.{◌≡◌, ◌+◌, ◌*◌, ◌≤◌, ℕ, suc, pos, List, ◌∷◌, ◌++◌, length, sym, ap, ◌∙◌, arith, suc-mul, add-mul, mul-le-mul_right, append_assoc}
 use Rattle.std.proofs.lemmas.Int.{ints}
 use Rattle.std.proofs.lemmas.Grind.{flat_map-append}
@@ -16,12 +16,12 @@ row-within len at width n ends = record {
       (omega (arith, ints), omega (arith, ints, most, suc-mul k width));
 }
 
--- the items of a run, and of those after it
+-- the number of bytes of a run and of those after it
 pub parts : (left left' : List Run) (run : Run) (width : ℕ) → left ≡ run ∷ left' → length (all_offsets left) * width ≡ run.count * width + length (all_offsets left') * width
 parts left left' run width walked =
     ap (λ l. length (all_offsets l) * width) walked ∙ ap (λ n. n * width) (length-first run left') ∙ add-mul run.count (length (all_offsets left')) width
 
--- a run is pushed
+-- one more run is appended
 pub joined-next : (left left' : List Run) (run : Run) (width : ℕ) (block pushed before : List ℕ) → left ≡ run ∷ left' → pushed ≡ before ++ joined_at (run_offsets run) width block
     → pushed ++ joined_at (all_offsets left') width block ≡ before ++ joined_at (all_offsets left) width block
 joined-next left left' run width block pushed before walked is =
@@ -29,7 +29,7 @@ joined-next left left' run width block pushed before walked is =
     ap (λ l. l ++ joined_at (all_offsets left') width block) is ∙ append_assoc before (joined_at (run_offsets run) width block) (joined_at (all_offsets left') width block)
     ∙ ap (λ l. before ++ l) (sym (flat_map-append item (run_offsets run) (all_offsets left'))) ∙ ap (λ l. before ++ joined_at (all_offsets l) width block) (sym walked)
 
--- and scattered
+-- one more run is scattered
 pub scattered-next : (left left' : List Run) (run from : Run) (at width : ℕ) (other block block' whole : List ℕ) → left ≡ run ∷ left' → from ≡ packed_run at width run.count → block' ≡ assigned (run_offsets run) (run_offsets from) width other block →
     assigned (all_offsets left) (row_offsets at width (length (all_offsets left))) width other block ≡ whole → assigned (all_offsets left') (row_offsets (at + run.count * width) width (length (all_offsets left'))) width other block' ≡ whole
 scattered-next left left' run from at width other block block' whole walked is moved so_far =

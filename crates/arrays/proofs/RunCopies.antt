@@ -1,4 +1,4 @@
--- Runs of items that are copied: what the operations of a block do, item by item.
+-- Copies of runs: what the operations of a block do, item by item.
 use Rattle.std.proofs.Common.{◌≡◌, ℕ, zero, suc, List, [], ◌∷◌, length, refl, sym, ap, subst, ◌∙◌}
 use lib.IntN.{ℤ}
 use Rattle.arrays.specs.Words.{put, item_at, place, EachWithin, copied, fewer, Run, run_offsets, length-run_offsets}

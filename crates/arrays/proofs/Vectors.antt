@@ -1,4 +1,4 @@
--- Assignments as NumPy does them.
+-- Assignments, with NumPy's results.
 use Rattle.std.proofs.Common.{◌≡◌, [], ◌∷◌, refl}
 use Rattle.arrays.specs.Assignments.{assigned}
 

@@ -1,4 +1,4 @@
--- Items that lie one right after another, copied as one stretch.
+-- Adjacent items that are copied as one range.
 use Rattle.std.proofs.Common.{◌≡◌, ◌+◌, ◌-◌, ◌*◌, ◌≤◌, ◌==◌, ℕ, true, List, [], ◌∷◌, length, map, take, drop, refl, sym, ap, ◌∙◌, All, arith, zero-mul, mul-zero, suc-mul}
 use Rattle.std.specs.List.{range_with_len}
 use Rattle.std.proofs.lemmas.Bool.{eqb-true, and_parts}
@@ -7,7 +7,7 @@ use Rattle.std.proofs.lemmas.List.Elements.{All-head, All-tail}
 use Rattle.std.proofs.Math.Nat.{mul-suc}
 use Rattle.arrays.specs.Words.{item_at, first_address, is_c_contiguous, multiples}
 
--- an item of the stretch is one of the bytes
+-- an item of the range is an item of the bytes
 stretch-item : (first at width len : ℕ) (bytes : List ℕ) → at + width ≤ len → item_at at width (item_at first len bytes) ≡ item_at (first + at) width bytes
 stretch-item first at width len bytes inside =
     let rest : at + (len - at) ≡ len = omega (arith, inside) in
@@ -32,19 +32,19 @@ module _ (width first len : ℕ) (bytes : List ℕ) where
       let rest : width * (k + 1) + length (b ∷ os) * width ≤ len = omega (arith, ends, suc-mul (length (b ∷ os)) width, mul-suc width k) in
       λ i. (stretch-item first (width * k) width len bytes here ∙ ap (λ o. item_at o width bytes) (sym is)) i ∷ from-place (k + 1) b os next parts.1 rest i
 
--- the last of them ends within the bytes
+-- the last item ends within the bytes
 stretch-ends : (width a end : ℕ) (os : List ℕ) → is_c_contiguous width (a ∷ os) ≡ true → All (λ o. o + width ≤ end) (a ∷ os) → a + length (a ∷ os) * width ≤ end
 stretch-ends width a end [] test all = omega (arith, All-head (λ o. o + width ≤ end) a [] all, suc-mul 0 width)
 stretch-ends width a end (b ∷ os) test all =
     let parts = and_parts (b == a + width) (is_c_contiguous width (b ∷ os)) test in
     omega (arith, eqb-true b (a + width) parts.0, stretch-ends width b end os parts.1 (All-tail (λ o. o + width ≤ end) a (b ∷ os) all), suc-mul (length (b ∷ os)) width)
 
--- they lie in the bytes as one stretch
+-- adjacent items are one range of the bytes
 pub whole-ends : (width end : ℕ) (os : List ℕ) → is_c_contiguous width os ≡ true → All (λ o. o + width ≤ end) os → first_address os + length os * width ≤ end
 whole-ends width end [] test all = omega (arith, zero-mul width)
 whole-ends width end (a ∷ os) test all = stretch-ends width a end os test all
 
--- and its items are theirs
+-- and the items of this range are these items
 pub whole-items : (width : ℕ) (os bytes : List ℕ) → is_c_contiguous width os ≡ true
     → map (λ o. item_at o width (item_at (first_address os) (length os * width) bytes)) (multiples width (length os)) ≡ map (λ o. item_at o width bytes) os
 whole-items width [] bytes test = refl

@@ -1,4 +1,4 @@
--- Blocks that a layout just fills.
+-- Blocks that a layout fills exactly.
 use Rattle.std.specs.Prelude.{◌≡◌, ◌≤◌, ◌*◌, ◌/◌, ◌||◌, ℕ, List, length, map, IsTrue}
 use Rattle.arrays.specs.Words.{Descr, item_size, Layout, MemoryOrder, C, Fortran, max_bytes, count, is_c_contiguous, is_f_contiguous, offsets, multiples, f_multiples, Fits, IsNested}
 
@@ -11,7 +11,7 @@ offsets_in Fortran item shape = f_multiples item shape
 abbrev pub places_of : ℕ → List ℕ → List ℕ
 places_of item offsets = map (λ offset. offset / item) offsets
 
--- the items lie one after another in C order or in Fortran order, from the block's start to its end
+-- the items are adjacent in C order or in Fortran order, from the start to the end of the block
 pub record FillsBlock (descr : Descr) (layout : Layout) (block : List ℕ) : Type 0 where
   pub some : 1 ≤ item_size descr
   pub few : item_size descr ≤ 65536

@@ -1,11 +1,11 @@
--- Items that lie one after another in Fortran order: those of the axes in reverse lie so in C order.
+-- Items that are adjacent in Fortran order. If the axes are reversed, they are adjacent in C order.
 use Rattle.std.proofs.Common.{◌≡◌, ◌*◌, ◌<◌, ℕ, List, [], length, map, reverse, get_or, All, sym, ap, subst, ◌∙◌, arith}
 use Rattle.std.proofs.lemmas.List.{length-map, get_or-map, same_lists, reverse-reverse}
 use Rattle.std.proofs.lemmas.List.FromFn.{length-map-range_with_len, get_or-map-range_with_len}
 use Rattle.arrays.specs.Words.{item_at, fortran_order, count, indexes, rank, IsIndex, length-indexes, rank-lt, get_or-indexes, index_at, multiples, f_multiples, count-reverse, IsIndex-reverse, IsIndex-from_reverse}
 use Rattle.arrays.specs.Assignments.{items_at}
 
--- a number for each index, at the index's rank
+-- in a list with a number for each index in C order, the number of an index is at its rank
 at-index : (shape index : List ℕ) (f : List ℕ → ℕ) (d : ℕ) → IsIndex shape index → get_or (map f (indexes shape)) (rank shape index) d ≡ f index
 at-index shape index f d in' =
     let inside : rank shape index < length (indexes shape) = omega (arith, length-indexes shape, rank-lt shape index in') in
@@ -14,7 +14,7 @@ at-index shape index f d in' =
 pub length-fortran : (shape offsets : List ℕ) → length (fortran_order shape offsets) ≡ count shape
 length-fortran shape offsets = length-map (indexes (reverse shape)) _ ∙ length-indexes (reverse shape) ∙ count-reverse shape
 
--- what holds of all offsets holds of them in Fortran order
+-- a property of all offsets also holds for them in Fortran order
 pub fortran-all : (P : ℕ → Type 0) (shape offsets : List ℕ) → length offsets ≡ count shape → All P offsets → All P (fortran_order shape offsets)
 fortran-all P shape offsets long all = λ k d below.
     let f = λ (i : List ℕ). get_or offsets (rank shape (reverse i)) 0 in
@@ -22,13 +22,13 @@ fortran-all P shape offsets long all = λ k d below.
     let here : get_or (fortran_order shape offsets) k d ≡ f found.0 = ap (λ j. get_or (fortran_order shape offsets) j d) (sym found.2) ∙ at-index (reverse shape) found.0 f d found.1 in
     subst P (sym here) (all (rank shape (reverse found.0)) 0 (omega (arith, long, rank-lt shape (reverse found.0) (IsIndex-from_reverse shape found.0 found.1))))
 
--- an entry in Fortran order stands where its index in reverse has its rank
+-- in Fortran order, the offset of an index is at the rank of the reversed index in the reversed shape
 pub fortran-at : (shape index offsets : List ℕ) → IsIndex shape index → get_or (fortran_order shape offsets) (rank (reverse shape) (reverse index)) 0 ≡ get_or offsets (rank shape index) 0
 fortran-at shape index offsets in' =
     at-index (reverse shape) (reverse index) (λ i. get_or offsets (rank shape (reverse i)) 0) 0 (IsIndex-reverse shape index in')
     ∙ ap (λ i. get_or offsets (rank shape i) 0) (reverse-reverse index)
 
--- items that are read in both orders
+-- if `items` has the items of `block` in Fortran order, reading it at the offsets of Fortran order gives their C order
 pub items-in_fortran : (width : ℕ) (shape offsets items block : List ℕ) → length offsets ≡ count shape
     → items_at (multiples width (count shape)) width items ≡ items_at (fortran_order shape offsets) width block → items_at (f_multiples width shape) width items ≡ items_at offsets width block
 items-in_fortran width shape offsets items block long same =

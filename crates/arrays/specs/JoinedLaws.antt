@@ -1,4 +1,4 @@
--- Laws of items that are joined.
+-- Laws of concatenated items.
 use Rattle.std.proofs.Common.{◌≡◌, ◌+◌, ◌*◌, ◌≤◌, ℕ, zero, suc, List, [], ◌∷◌, ◌++◌, All, map, length, take, refl, sym, ap, ◌∙◌, arith, zero-mul, mul-zero, suc-mul, append_assoc, append-nil, length-append}
 use Rattle.std.specs.List.{flat_map, range_with_len}
 use Rattle.std.proofs.Math.Nat.{mul-suc}
@@ -9,7 +9,7 @@ use Rattle.arrays.specs.Words.{place, item_at, joined, EachWithin, length-item_a
 use Rattle.arrays.specs.Joined.{joined_at}
 use Rattle.arrays.specs.RunLaws.{run_offsets-more}
 
--- what is made of its items, joined by their numbers and by their offsets
+-- the parts made from the items of a run are the same, concatenated by number or by offset
 pub joined-by : (f : ℕ → List ℕ) (len width : ℕ) (run : Run) → EachWithin len run.offset run.step width run.count → joined (λ k. f (place run.offset run.step k)) run.count ≡ flat_map f (run_offsets run)
 joined-by f len width run within = by_count run.count within
   where
@@ -27,7 +27,7 @@ pub joined-offsets : (len width : ℕ) (run : Run) (block : List ℕ) → EachWi
     → joined (λ k. item_at (place run.offset run.step k) width block) run.count ≡ joined_at (run_offsets run) width block
 joined-offsets len width run block within = joined-by (λ o. item_at o width block) len width run within
 
--- what is joined has so many bytes
+-- the number of bytes of concatenated items
 pub length-joined_at : (width : ℕ) (os block : List ℕ) → All (λ o. o + width ≤ length block) os → length (joined_at os width block) ≡ length os * width
 length-joined_at width [] block inside = sym (zero-mul width)
 length-joined_at width (o ∷ os) block inside =

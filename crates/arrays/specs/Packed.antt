@@ -1,4 +1,4 @@
--- Items that lie one after another.
+-- Adjacent items.
 use Rattle.std.specs.Prelude.{ℕ, pos, List}
 use Rattle.arrays.specs.Words.{Run, run_offsets}
 
@@ -6,6 +6,6 @@ use Rattle.arrays.specs.Words.{Run, run_offsets}
 abbrev pub packed_run : ℕ → ℕ → ℕ → Run
 packed_run at width n = record { offset = at; count = n; step = pos width }
 
--- their offsets
+-- the offsets of these items
 abbrev pub row_offsets : ℕ → ℕ → ℕ → List ℕ
 row_offsets at width n = run_offsets (packed_run at width n)

@@ -1,4 +1,4 @@
--- Laws of items that lie one after another.
+-- Laws of adjacent items.
 use Rattle.std.proofs.Common.{◌≡◌, ◌+◌, List, ◌∷◌, length, arith, ℕ, ◌*◌, ◌≤◌, ap, ◌∙◌, add-mul, pos, ◌+ℤ◌, ◌*ℤ◌, ◌++◌, map, mul_comm}
 use Rattle.std.proofs.lemmas.List.{map-append}
 use Rattle.std.specs.List.{range_with_len}
@@ -15,7 +15,7 @@ room-next left left' run at width len walked room =
     let sum : length (all_offsets left) * width ≡ run.count * width + length (all_offsets left') * width = ap (λ n. n * width) (ap (λ l. length (all_offsets l)) walked ∙ length-first run left') ∙ add-mul run.count (length (all_offsets left')) width in
     (omega (arith, room, sum), omega (arith, room, sum))
 
--- so many items, and so many after them
+-- n items, and the m items after them
 pub row-split : (at width n m : ℕ) → row_offsets at width (n + m) ≡ row_offsets at width n ++ row_offsets (at + n * width) width m
 row-split at width n m =
     let next : pos at +ℤ pos width *ℤ pos n ≡ pos (at + n * width) = ap (λ k. pos (at + k)) (mul_comm width n) in
@@ -23,7 +23,7 @@ row-split at width n m =
     ∙ map-append natural (numbers_from (pos at) (pos width) n) (numbers_from (pos at +ℤ pos width *ℤ pos n) (pos width) m)
     ∙ ap (λ z. row_offsets at width n ++ map natural (numbers_from z (pos width) m)) next
 
--- from the start on they are the multiples
+-- starting at 0, the offsets are the multiples of `width`
 pub row-multiples : (width n : ℕ) → row_offsets 0 width n ≡ multiples width n
 row-multiples width n =
     map-map natural (λ k. pos 0 +ℤ pos width *ℤ pos k) (range_with_len 0 n) ∙ (λ i. map (λ k. same k i) (range_with_len 0 n))

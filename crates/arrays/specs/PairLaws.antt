@@ -6,7 +6,7 @@ use Rattle.std.proofs.lemmas.List.Sorted.{IsPermutation-map, All-permutation}
 use Rattle.std.proofs.lemmas.Slice.Zip.{firsts-zip, seconds-zip}
 use Rattle.arrays.specs.Words.{Layout, LayoutPair, count, length-offsets, offsets}
 
--- the firsts of pairs in another order, and the seconds
+-- if the pairs are reordered, so are their first parts, and so are their second parts
 pub firsts-reordered : (to from to' from' : List ℕ) → length from ≡ length to → length from' ≡ length to' → IsPermutation (zip to from) (zip to' from') → IsPermutation to to'
 firsts-reordered to from to' from' long long' same =
     subst (λ l. IsPermutation l to') (firsts-zip to from long) (subst (IsPermutation (map (λ p. p.0) (zip to from))) (firsts-zip to' from' long') (IsPermutation-map (λ p. p.0) (zip to from) (zip to' from') same))
@@ -15,14 +15,14 @@ pub seconds-reordered : (to from to' from' : List ℕ) → length from ≡ lengt
 seconds-reordered to from to' from' long long' same =
     subst (λ l. IsPermutation l from') (seconds-zip to from long) (subst (IsPermutation (map (λ p. p.1) (zip to from))) (seconds-zip to' from' long') (IsPermutation-map (λ p. p.1) (zip to from) (zip to' from') same))
 
--- what holds of all places holds of them in another order
+-- a property of all places also holds for them in another order
 pub All-firsts : (P : ℕ → Type 0) (to from to' from' : List ℕ) → length from ≡ length to → length from' ≡ length to' → IsPermutation (zip to from) (zip to' from') → All P to → All P to'
 All-firsts P to from to' from' long long' same all = All-permutation P to to' (firsts-reordered to from to' from' long long' same) all
 
 pub All-seconds : (P : ℕ → Type 0) (to from to' from' : List ℕ) → length from ≡ length to → length from' ≡ length to' → IsPermutation (zip to from) (zip to' from') → All P from → All P from'
 All-seconds P to from to' from' long long' same all = All-permutation P from from' (seconds-reordered to from to' from' long long' same) all
 
--- each pair the other way round
+-- each pair with its parts swapped
 flipped : (to from : List ℕ) → zip from to ≡ map (λ (p : ℕ × ℕ). (p.1, p.0)) (zip to from)
 flipped [] [] = refl
 flipped [] (offset ∷ from) = refl
@@ -34,7 +34,7 @@ flipped-reordered to from to' from' same =
     let flip : ℕ × ℕ → ℕ × ℕ = λ p. (p.1, p.0) in
     subst (λ l. IsPermutation l (zip from' to')) (sym (flipped to from)) (subst (IsPermutation (map flip (zip to from))) (sym (flipped to' from')) (IsPermutation-map flip (zip to from) (zip to' from') same))
 
--- layouts with as many items have as many offsets
+-- layouts with the same number of items have the same number of offsets
 pub even : (dst src : Layout) → count dst.shape ≡ count src.shape → length (offsets src) ≡ length (offsets dst)
 even dst src same = length-offsets src ∙ sym same ∙ sym (length-offsets dst)
 

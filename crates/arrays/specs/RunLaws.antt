@@ -1,12 +1,12 @@
--- Laws of runs, whose items the operations of a block go over.
+-- Laws of runs, as the operations of a block take them.
 --     place_within                 each item lies within the bytes
---     fewer, run_offsets-more      a run with one item fewer, and with one more
---     length-run_offsets           a run has as many offsets as items
---     place-at, run-ends           where an item lies; each ends within the bytes
+--     fewer, run_offsets-more      a run with one item less, and with one more
+--     length-run_offsets           a run has one offset for each item
+--     place-at, run-ends           the offset of an item; each item ends within the bytes
 --     lie-within                   a run that lies within some bytes
 --     run-within                   a run whose items begin within the limit and end within the bytes
---     All-front, All-back          what holds of all holds of the first, and of those after them
---     runs-within, walked-within   runs whose offsets lie within some bytes, with the items there
+--     All-front, All-back          a property of all also holds for the first ones, and for those after them
+--     runs-within, walked-within   runs whose items end within the bytes lie within them
 use Rattle.std.proofs.Common.{◌≡◌, ℕ, zero, suc, ◌+◌, ◌-◌, ◌<◌, ◌≤◌, List, [], ◌∷◌, ◌++◌, All, map, length, get_or, refl, sym, ap, subst, ◌∙◌, arith, length-append}
 use Rattle.std.specs.List.{flat_map, range_with_len, AllByRecursion as Each}
 use Rattle.std.proofs.Math.IntN.{*ℤ_comm, +ℤ_idr}
@@ -19,7 +19,7 @@ use lib.Signed.{◌≤ℤ◌}
 use Rattle.arrays.specs.Words.{position, place, EachWithin, put, item_at, place_within, numbers_from, Run, natural, LieWithin, max_bytes, run_offsets, length-run_offsets, RunPair}
 use Rattle.arrays.specs.Assignments.{assigned}
 
--- ---- where an item lies
+-- ---- the offset of an item
 
 natural-abs : (z : ℤ) → pos 0 ≤ℤ z → natural z ≡ nat_abs z
 natural-abs (pos n) low = refl
@@ -65,7 +65,7 @@ run_offsets-more len at step width n within =
 
 -- ---- runs within some bytes
 
--- the item after k others
+-- the k-th offset of a run
 pub nth-offset : (run : Run) (k : ℕ) → k < run.count → get_or (run_offsets run) k 0 ≡ natural (pos run.offset +ℤ run.step *ℤ pos k)
 nth-offset run k low =
     let number = λ (j : ℕ). pos run.offset +ℤ run.step *ℤ pos j in
@@ -73,7 +73,7 @@ nth-offset run k low =
     get_or-map natural (numbers_from (pos run.offset) run.step run.count) k (pos 0) 0 inside
     ∙ ap natural (get_or-map-range_with_len number 0 run.count k k (pos 0) low (omega arith))
 
--- where the item after k others lies
+-- the k-th offset of a run is the place of its k-th item
 pub place-at : (len width : ℕ) (run : Run) (k : ℕ) → EachWithin len run.offset run.step width run.count → k < run.count → get_or (run_offsets run) k 0 ≡ place run.offset run.step k
 place-at len width run k within low = nth-offset run k low ∙ natural-place run.offset run.step k (within.each k low).0
 
@@ -83,7 +83,7 @@ run-ends len width run within = All-from_get_or (λ offset. offset + width ≤ l
     let low : k < run.count = omega (arith, length-run_offsets run) in
     subst (λ o. o + width ≤ len) (sym (place-at len width run k within low)) (place_within len run.offset run.step width run.count k within low))
 
--- from an item of a run on
+-- the address of the k-th item of a run, as that of a layout with one axis, is its position
 turned' : (run : Run) (k : ℕ) → pos run.offset +ℤ (run.step *ℤ pos k +ℤ pos 0) ≡ position run.offset run.step k
 turned' run k = ap (λ z. pos run.offset +ℤ z) (+ℤ_idr (run.step *ℤ pos k)) ∙ sym (turned run.offset run.step k)
 
@@ -99,11 +99,11 @@ above : (z : ℤ) (width len : ℕ) → pos 0 ≤ℤ z → natural z + width ≤
 above (pos n) width len low high = omega (arith, ints)
 above (negsuc n) width len low high = absurd (omega (arith, ints))
 
--- a run whose items begin within the limit
+-- the items of a run begin within the limit of a buffer
 abbrev pub BeginsWithin : Run → Type 0
 BeginsWithin run = LieWithin (run.count ∷ []) (run.step ∷ []) run.offset max_bytes 1
 
--- and end within the bytes
+-- if they also end within the bytes, each item lies within the bytes
 pub run-within : (len width : ℕ) (run : Run) → BeginsWithin run → All (λ offset. offset + width ≤ len) (run_offsets run) → EachWithin len run.offset run.step width run.count
 run-within len width run lies ends = record {
   each = λ k low.
@@ -124,7 +124,7 @@ All-back P xs ys all = λ k d below.
     let after : length xs + k - length xs ≡ k = omega arith in
     subst P (get_or-append_right xs ys (length xs) (length xs + k) d refl (omega arith) ∙ ap (λ m. get_or ys m d) after) (all (length xs + k) d (omega (arith, length-append xs ys)))
 
--- runs that begin within the limit of a buffer
+-- the items of each run begin within the limit of a buffer
 abbrev BeginWithin : {X : Type 0} → (X → Run) → List X → Type 0
 BeginWithin run_of xs = All (λ x. LieWithin ((run_of x).count ∷ []) ((run_of x).step ∷ []) (run_of x).offset max_bytes 1) xs
 
@@ -145,17 +145,17 @@ runs-within {X} len width run_of xs begin ends = All-from_recursion (λ x. EachW
           each xs (All-tail begins x xs begin) (All-back ends-in (run_offsets (run_of x)) rest ends),
         )
 
--- so are the runs of a walk that gives these
+-- the same for runs that a walk gives
 pub walked-within : {X : Type 0} (len width : ℕ) (run_of : X → Run) (walked xs : List X) (offsets : List ℕ) → walked ≡ xs → BeginWithin run_of xs →
     flat_map (λ x. run_offsets (run_of x)) xs ≡ offsets → All (λ offset. offset + width ≤ len) offsets → AreWithin len width run_of walked
 walked-within {X} len width run_of walked xs offsets are begin is ends =
     subst (AreWithin len width run_of) (sym are) (runs-within len width run_of xs begin (subst (All (λ offset. offset + width ≤ len)) (sym is) ends))
 
--- what holds of all that is left holds of the next pair
+-- a property of all remaining pairs holds of the next one
 pub next_pair : (P : RunPair → Type 0) (left left' : List RunPair) (pair : RunPair) → left ≡ pair ∷ left' → All P left → P pair
 next_pair P left left' pair walked all = All-head P pair left' (subst (All P) walked all)
 
--- first these items, then those
+-- two assignments, one after the other, are a single one
 pub assigned-append : (to from to' from' : List ℕ) (width : ℕ) (other block : List ℕ) → length to ≡ length from →
     assigned (to ++ to') (from ++ from') width other block ≡ assigned to' from' width other (assigned to from width other block)
 assigned-append [] [] to' from' width other block even = refl

@@ -1,4 +1,4 @@
--- The words of the crates below, for this crate's clauses, definitions and proofs.
+-- Names from the crates below, used by the contracts, definitions and proofs of this crate.
 pub use Rattle.elem_descr.specs.Blocks.{item_from}
 pub use Rattle.elem_descr.specs.Items.{decode_item, item_size}
 pub use Rattle.elem_descr.specs.StepLaws.{numbers-split}

@@ -4,7 +4,7 @@ use Rattle.arrays.specs.Blocks.{offsets_in}
 use Rattle.arrays.proofs.ItemLaws.{items-from_bytes}
 use Rattle.arrays.proofs.copies.copy.Goals as goal
 
--- the bytes of the items
+-- the copied items have the same bytes
 same : (c : goal.In_ok-copy) → map (λ o. item_at o (item_size c.args.descr.now) c.in_ok-copy.copy.block) (offsets c.in_ok-copy.copy.layout) ≡ map (λ o. item_at o (item_size c.args.descr.now) c.args.block.now) (offsets c.args.layout.now)
 same c =
     let width = c.size-item.ensures.value in

@@ -6,7 +6,7 @@ use Rattle.arrays.specs.JoinedLaws.{length-joined_at, joined-items}
 use Rattle.arrays.proofs.packed.gather_each.Goals as goal
 use Rattle.arrays.proofs.packed.gather_each.Goals.{After-filled-filled, After-finish}
 
--- the memory is that of all items
+-- the memory is enough for exactly all items
 size : (c : After-filled-filled) → length (offsets c.args.layout.now) * c.args.width ≡ c.in_ok-items.items.1
 size c =
     let long = ap (λ n. n * c.args.width) (length-offsets c.args.layout.now ∙ sym c.items.ensures.value) in
@@ -18,7 +18,7 @@ push_layout-requires-clause-room c = omega (arith, size (goal.at.push_layout-req
 pub finish-requires : goal.finish-requires
 finish-requires c = omega (arith, size (goal.at.finish-requires c).After-filled-filled, c.push_layout.ensures.left)
 
--- they are joined
+-- the items are concatenated
 bytes_are : (c : After-finish) → c.finish.result ≡ joined_at (offsets c.args.layout.now) c.args.width c.args.block.now
 bytes_are c = c.finish.ensures ∙ c.push_layout.ensures.bytes ∙ (λ i. (c.in_ok-items.ensures i).0 ++ joined_at (offsets c.args.layout.now) c.args.width c.args.block.now)
 

@@ -6,7 +6,7 @@ use Rattle.arrays.proofs.WholeLaws.{whole-ends, whole-items}
 use Rattle.arrays.proofs.packed.gather_whole.Goals as goal
 use Rattle.arrays.proofs.packed.gather_whole.Goals.{After-saturating_mul-len}
 
--- the bytes of all items
+-- the number of bytes of all items, which lie within the block
 size : (c : After-saturating_mul-len) → (c.saturating_mul-len.result ≡ length (offsets c.args.layout.now) * c.args.width) × (first_address (offsets c.args.layout.now) + c.saturating_mul-len.result ≤ length c.args.block.now)
 size c =
     let os = offsets c.args.layout.now in

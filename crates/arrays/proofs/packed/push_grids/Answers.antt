@@ -23,7 +23,7 @@ loop-run-init g c =
       some = subst (All (λ (run : Run). 1 ≤ run.count)) (sym same) rows.some;
     }
 
--- the offsets at which the next rows begin
+-- the offsets at which the next rows begin are within the limit
 starts-within : (g : _) (c : After-grid_of g) → EachWithin max_bytes c.in-Some.run'.offset c.in-Some.run'.step 1 c.in-Some.run'.count
 starts-within g c =
     let lies = λ (run : Run). LieWithin (run.count ∷ []) (run.step ∷ []) run.offset max_bytes 1 in
