@@ -1,7 +1,7 @@
 -- Indexes that are 0 along most axes.
 use Rattle.std.proofs.Common.{ℕ, List, zero, suc, [], ◌∷◌}
 
--- the index that begins with these numbers and goes on with zeros
+-- the index that begins with the numbers of the second list and continues with zeros
 abbrev pub zero_filled : List ℕ → List ℕ → List ℕ
 zero_filled [] front = []
 zero_filled (n ∷ shape) [] = 0 ∷ zero_filled shape []

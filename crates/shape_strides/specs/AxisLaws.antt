@@ -1,4 +1,4 @@
--- What single axes add to an address and to a rank, and strides that are all 0.
+-- What single axes add to an address and to a rank, and lists of strides that are all 0.
 use Rattle.std.proofs.Common.{◌≡◌, ℕ, zero, suc, ◌+◌, ◌*◌, ◌<◌, ◌≤◌, ℤ, pos, negsuc, ◌+ℤ◌, ◌*ℤ◌, List, [], ◌∷◌, length, get_or, drop, refl, sym, ◌∙◌, ap, arith, map, zero-mul, one-mul, ◌&&◌, true, not}
 use Rattle.std.proofs.lemmas.List.{length-map, get_or-map, same_lists, get_or_default}
 use Rattle.std.specs.Prelude.{int_lt, negsuc}
@@ -9,12 +9,12 @@ use Rattle.shape_strides.specs.Indexes.{count, rank, IsIndex}
 use Rattle.shape_strides.specs.AxisIndexes.{zero_filled, unit}
 use Rattle.shape_strides.specs.CountLaws.{factors_pos}
 
--- an index without numbers adds nothing
+-- An index without numbers adds nothing.
 pub dot-nil : (strides : List ℤ) → dot strides [] ≡ pos 0
 dot-nil [] = refl
 dot-nil (s ∷ strides) = refl
 
--- and zeros add nothing
+-- An index of zeros adds nothing.
 pub dot-zeros : (strides : List ℤ) (shape : List ℕ) → dot strides (zero_filled shape []) ≡ pos 0
 dot-zeros [] shape = refl
 dot-zeros (s ∷ strides) [] = refl
@@ -24,12 +24,12 @@ pub rank-zeros : (shape : List ℕ) → rank shape (zero_filled shape []) ≡ 0
 rank-zeros [] = refl
 rank-zeros (n ∷ shape) = omega (arith, rank-zeros shape, zero-mul (count shape))
 
--- the zeros are the first index, where there is one
+-- If there are items, the index of zeros is an index of the shape.
 pub IsIndex-first : (shape : List ℕ) → 0 < count shape → IsIndex shape (zero_filled shape [])
 IsIndex-first [] some = tt
 IsIndex-first (n ∷ shape) some = let both = factors_pos n (count shape) some in (both.0, IsIndex-first shape both.1)
 
--- a step along one axis of 2 items or more
+-- If an axis has 2 items or more, the index that is 1 along it is an index of the shape.
 pub IsIndex-unit : (shape : List ℕ) (axis : ℕ) → 0 < count shape → axis < length shape → 2 ≤ get_or shape axis 0 → IsIndex shape (unit shape axis)
 IsIndex-unit [] axis some below long = absurd (omega arith)
 IsIndex-unit (n ∷ shape) zero some below long = let both = factors_pos n (count shape) some in (omega arith, IsIndex-first shape both.1)
@@ -52,13 +52,13 @@ dot-unit (s ∷ strides) [] axis same below = absurd (omega arith)
 dot-unit (s ∷ strides) (n ∷ shape) zero same below = ap (λ z. s *ℤ pos 1 +ℤ z) (dot-zeros strides shape) ∙ +ℤ_idr (s *ℤ pos 1) ∙ one-step s
 dot-unit (s ∷ strides) (n ∷ shape) (suc axis) same below = rw (*ℤ-zero s, +ℤ_idl (dot strides (unit shape axis))) (dot-unit strides shape axis (omega arith) (omega arith))
 
--- strides that are all 0, for an axis each
+-- If every stride is 0 and there is one for each axis, the list of strides is a 0 for each axis.
 pub zeros_are : {X : Type 0} (zeros : List ℤ) (axes : List X) (x : X) → length zeros ≡ length axes → ((k : ℕ) → k < length zeros → get_or zeros k (pos 0) ≡ pos 0) → zeros ≡ map (λ _. pos 0) axes
 zeros_are zeros axes x same are =
     same_lists zeros (map (λ _. pos 0) axes) (same ∙ sym (length-map axes (λ _. pos 0))) (λ k d below.
     get_or_default zeros k d (pos 0) below ∙ are k below ∙ sym (get_or-map (λ _. pos 0) axes k x d (omega arith)))
 
--- a stride taken once more
+-- A stride times k + 1 is the stride times k plus the stride.
 pub *ℤ-more : (s : ℤ) (k : ℕ) → s *ℤ pos (k + 1) ≡ s *ℤ pos k +ℤ s *ℤ pos 1
 *ℤ-more (pos a) k = ap pos (omega arith)
 *ℤ-more (negsuc a) k =

@@ -1,4 +1,4 @@
--- Laws of the strides that are told, axis by axis.
+-- Laws of the first address and of the printed strides.
 use Rattle.std.proofs.Common.{◌≡◌, ℕ, ◌<◌, List, length, arith, zero, suc, [], ◌∷◌, get_or, refl, ap, pos, drop}
 use Rattle.shape_strides.specs.Contiguity.{first_address, printed_stride, printed_strides}
 use Rattle.shape_strides.specs.Indexes.{count}

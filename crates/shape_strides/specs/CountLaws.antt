@@ -1,4 +1,4 @@
--- Laws of products, and of the number of items.
+-- Laws of products and of the number of items.
 use Rattle.std.proofs.Common.{◌≡◌, ℕ, ◌<◌, ◌≤◌, List, length, arith, zero, suc, ◌+◌, ◌*◌, get_or, sym, ◌∙◌, ap, zero-mul, mul-zero, min, drop, inl, inr, mul-suc, mul-le-mul_left, ◌/◌}
 use Rattle.std.proofs.Math.Nat.{min-eq_left, min-eq_right, div-add-mod}
 use Rattle.std.proofs.lemmas.Bool.{cases_lt}
@@ -7,22 +7,22 @@ use Rattle.std.specs.Int.{◌∣◌}
 use Rattle.std.proofs.lemmas.Nat.Gcd.{mod-eq-zero_of_dvd}
 use Rattle.shape_strides.specs.Indexes.{count}
 
--- a factor of a product that is above a number
+-- If a product is above a number, its second factor is not 0.
 pub pos_of_factor : (n c k : ℕ) → k < n * c → 0 < c
 pos_of_factor n zero k below = absurd (omega (arith, mul-zero n))
 pos_of_factor n (suc c) k below = omega arith
 
--- both factors of a product that is not 0
+-- Both factors of a product that is not 0 are not 0.
 pub factors_pos : (n c : ℕ) → 0 < n * c → (0 < n) × (0 < c)
 factors_pos zero c some = absurd (omega (arith, zero-mul c))
 factors_pos (suc n) zero some = absurd (omega (arith, mul-zero (suc n)))
 factors_pos (suc n) (suc c) some = (omega arith, omega arith)
 
--- a step of a product
+-- If j is below n, j steps of `a` and one more are at most n steps.
 pub mul-step : (a j n : ℕ) → j < n → a * j + a ≤ a * n
 mul-step a j n below = omega (arith, mul-le-mul_left a below, mul-suc a j)
 
--- a cap may be put on a factor
+-- Capping a factor does not change the capped product.
 pub min-mul : (a c top : ℕ) → min (min a top * c) top ≡ min (a * c) top
 min-mul a zero top = ap (λ x. min x top) (mul-zero (min a top) ∙ sym (mul-zero a))
 min-mul a (suc c) top =
@@ -34,7 +34,7 @@ min-mul a (suc c) top =
           ap (λ x. min (x * suc c) top) (min-eq_right above) ∙ min-eq_right grown' ∙ sym (min-eq_right grown)
     ]
 
--- the count from an axis on is that axis's length times the count after it
+-- The number of items of the axes from k on is the length of axis k times the number for the axes after it.
 pub count-drop : (shape : List ℕ) (k : ℕ) → k < length shape → count (drop k shape) ≡ get_or shape k 0 * count (drop (k + 1) shape)
 count-drop shape k below = ap count (drop_more shape k 0 below)
 

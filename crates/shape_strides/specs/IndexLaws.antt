@@ -1,4 +1,4 @@
--- Laws of indexes and of their ranks.
+-- Laws of indexes and their ranks.
 use Rattle.std.proofs.Common.{◌≡◌, ℕ, ◌<◌, List, length, arith, zero, suc, ◌+◌, ◌*◌, ◌/◌, ◌%◌, [], ◌∷◌, ◌++◌, map, get_or, refl, sym, ◌∙◌, ap, length-append, get_or-append-add, zero-mul, suc-mul, mod-lt, div-add-mod', mul_comm}
 use Rattle.std.specs.List.{flat_map, range_with_len}
 use Rattle.std.proofs.lemmas.List.{get_or_append_left, length-map, get_or-map, same_lists}
@@ -6,14 +6,14 @@ use Rattle.std.proofs.lemmas.Nat.{mul-add-lt, div_below}
 use Rattle.shape_strides.specs.Indexes.{count, indexes, rank, IsIndex}
 use Rattle.shape_strides.specs.CountLaws.{pos_of_factor}
 
--- ---- blocks of one length, joined end to end
+-- ---- blocks of equal length, concatenated
 
 pub length-blocks : {X : Type 0} (f : ℕ → List X) (m : ℕ) → ((k : ℕ) → length (f k) ≡ m) → (a n : ℕ) → length (flat_map f (range_with_len a n)) ≡ n * m
 length-blocks f m same a zero = sym (zero-mul m)
 length-blocks f m same a (suc n) =
     omega (arith, length-append (f a) (flat_map f (range_with_len (a + 1) n)), same a, length-blocks f m same (a + 1) n, suc-mul n m)
 
--- the entry at j of the block at k
+-- The entry at position k * m + j is entry j of block k.
 pub get_or-blocks : {X : Type 0} (f : ℕ → List X) (m : ℕ) → ((k : ℕ) → length (f k) ≡ m) → (a n k j : ℕ) (d : X) → k < n → j < m → get_or (flat_map f (range_with_len a n)) (k * m + j) d ≡ get_or (f (a + k)) j d
 get_or-blocks f m same a zero k j d below within = absurd (omega arith)
 get_or-blocks f m same a (suc n) zero j d below within =
@@ -42,7 +42,7 @@ rank-lt (n ∷ shape) [] in' = absurd in'
 rank-lt (n ∷ shape) (k ∷ index) in' =
     omega (arith, mul-add-lt k (count shape) (rank shape index) n in'.0 (rank-lt shape index in'.1), mul_comm (count shape) n)
 
--- an index stands at its rank
+-- The position of an index in the list of indexes is its rank.
 pub get_or-indexes : (shape index : List ℕ) (d : List ℕ) → IsIndex shape index → get_or (indexes shape) (rank shape index) d ≡ index
 get_or-indexes [] [] d in' = refl
 get_or-indexes [] (k ∷ index) d in' = absurd in'
@@ -55,7 +55,7 @@ get_or-indexes (n ∷ shape) (k ∷ index) d in' =
     let zero_more : 0 + k ≡ k = omega arith in
     get_or-blocks block (count shape) same 0 n k (rank shape index) d in'.0 low ∙ ap (λ j. get_or (block j) (rank shape index) d) zero_more ∙ get_or-map (λ i. k ∷ i) (indexes shape) (rank shape index) [] d inside ∙ ap (λ i. k ∷ i) (get_or-indexes shape index [] in'.1)
 
--- every number below the count is the rank of an index
+-- Every number below the number of items is the rank of an index.
 pub index_at : (shape : List ℕ) (k : ℕ) → k < count shape → (index : List ℕ) × IsIndex shape index × (rank shape index ≡ k)
 index_at [] k below = ([], tt, omega arith)
 index_at (n ∷ shape) k below =
@@ -64,7 +64,7 @@ index_at (n ∷ shape) k below =
     let rest = index_at shape (k % c) (mod-lt k some) in
     (k / c ∷ rest.0, (div_below k c n some below, rest.1), ap (λ r. k / c * c + r) rest.2 ∙ div-add-mod' k c)
 
--- functions that agree on the indexes
+-- Functions that agree on all indexes give the same list.
 pub same_on_indexes : {A : Type 0} (shape : List ℕ) (f g : List ℕ → A) → ((index : List ℕ) → IsIndex shape index → f index ≡ g index) → map f (indexes shape) ≡ map g (indexes shape)
 same_on_indexes shape f g agree =
     same_lists (map f (indexes shape)) (map g (indexes shape)) (length-map (indexes shape) f ∙ sym (length-map (indexes shape) g)) (λ k d below.
@@ -74,7 +74,7 @@ same_on_indexes shape f g agree =
     let here : get_or (indexes shape) k [] ≡ found.0 = ap (λ r. get_or (indexes shape) r []) (sym found.2) ∙ get_or-indexes shape found.0 [] found.1 in
     get_or-map f (indexes shape) k [] d inside ∙ ap f here ∙ agree found.0 found.1 ∙ ap g (sym here) ∙ sym (get_or-map g (indexes shape) k [] d inside))
 
--- indexes with one rank are one index
+-- Indexes with the same rank are equal.
 pub rank-same : (shape i j : List ℕ) → IsIndex shape i → IsIndex shape j → rank shape i ≡ rank shape j → i ≡ j
 rank-same shape i j in-i in-j same = sym (get_or-indexes shape i [] in-i) ∙ ap (λ r. get_or (indexes shape) r []) same ∙ get_or-indexes shape j [] in-j
 

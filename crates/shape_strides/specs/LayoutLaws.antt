@@ -19,18 +19,18 @@ pub length-offsets : (l : Layout) → length (offsets l) ≡ count l.shape
 unfolding offsets
 length-offsets l = length-map (indexes l.shape) (λ index. natural (address l index)) ∙ length-indexes l.shape
 
--- the entry at an index's rank is the index's address
+-- The offset at the rank of an index is the address of that index.
 pub get_or-offsets : (l : Layout) (index : List ℕ) (d : ℕ) → IsIndex l.shape index → get_or (offsets l) (rank l.shape index) d ≡ natural (address l index)
 unfolding offsets
 get_or-offsets l index d in' =
     let inside : rank l.shape index < length (indexes l.shape) = omega (arith, length-indexes l.shape, rank-lt l.shape index in') in
     get_or-map (λ i. natural (address l i)) (indexes l.shape) (rank l.shape index) [] d inside ∙ ap (λ i. natural (address l i)) (get_or-indexes l.shape index [] in')
 
--- an address is none below 0, and so it is the offset
+-- An address of an item is not below 0, so it equals the offset.
 pub pos-offset : (l : Layout) (index : List ℕ) (d : ℕ) → IsIndex l.shape index → pos (get_or (offsets l) (rank l.shape index) d) ≡ address l index
 pos-offset l index d in' = ap pos (get_or-offsets l index d in') ∙ pos-natural (address l index) (l.within_limit.from_zero index in')
 
--- every offset ends, with its item, within the bytes that a layout fits
+-- If a layout fits in `len` bytes, so does an item at each of its offsets.
 pub offsets_within : (l : Layout) (len item : ℕ) → Fits l len item → All (λ offset. offset + item ≤ len) (offsets l)
 offsets_within l len item fits = λ k d below.
     let found = index_at l.shape k (omega (arith, length-offsets l)) in
@@ -39,20 +39,20 @@ offsets_within l len item fits = λ k d below.
     let high : (address l found.0 +ℤ pos item) ≤ℤ pos len = fits.within found.0 found.1 in
     omega (arith, ints)
 
--- the first of them
+-- The first offset is the offset of the layout.
 pub entry-first : (l : Layout) → 0 < count l.shape → get_or (offsets l) 0 0 ≡ l.offset
 entry-first l some =
     let zeros = zero_filled l.shape [] in
     ap (λ r. get_or (offsets l) r 0) (sym (rank-zeros l.shape)) ∙ get_or-offsets l zeros 0 (IsIndex-first l.shape some) ∙ ap (λ z. natural (pos l.offset +ℤ z)) (dot-zeros l.strides l.shape) ∙ ap natural (+ℤ_idr (pos l.offset))
 
--- where there are no items there are no offsets
+-- A layout without items has no offsets.
 pub offsets-none : (l : Layout) → count l.shape ≡ 0 → offsets l ≡ []
 offsets-none l none = nil_from_length (offsets l) (length-offsets l ∙ none)
 
 pub no_offsets : (a b : Layout) → count a.shape ≡ 0 → count b.shape ≡ 0 → offsets a ≡ offsets b
 no_offsets a b none none' = offsets-none a none ∙ sym (offsets-none b none')
 
--- layouts with the same offsets fit the same bytes
+-- Layouts with the same offsets fit in the same number of bytes.
 pub Fits-same : (old new : Layout) (len item : ℕ) → offsets new ≡ offsets old → Fits old len item → Fits new len item
 Fits-same old new len item same fits =
     let size : length (offsets old) ≡ count new.shape = ap length (sym same) ∙ length-offsets new in

@@ -15,19 +15,19 @@ address l index = address_at l.strides l.offset index
 unfoldable pub offsets : Layout → List ℕ
 offsets l = map (λ index. natural (address l index)) (indexes l.shape)
 
--- every item, of `item` bytes, lies in the first `len` bytes; this holds if there are no items
+-- Every item, of `item` bytes, lies in the first `len` bytes. This holds if there are no items.
 abbrev pub Fits : Layout → ℕ → ℕ → Type 0
 Fits l len item = LieWithin l.shape l.strides l.offset len item
 
--- how far apart two numbers are
+-- the distance between two numbers
 abbrev pub distance : ℕ → ℕ → ℕ
 distance a b = (a - b) + (b - a)
 
--- no two items have a byte in common: any two offsets at different places are an item's size apart
+-- No two items share a byte: offsets at different positions differ by at least the size of an item.
 pub record IsNested (offsets : List ℕ) (item : ℕ) : Type 0 where
   pub apart : (j k : ℕ) → j < k → k < length offsets → item ≤ distance (slice_index offsets j) (slice_index offsets k)
 
--- 0, item, 2 * item, .., of which there are n: the offsets of n items in C order
+-- 0, item, 2 * item, ..: the offsets of the first n items of a buffer in C order
 abbrev pub multiples : ℕ → ℕ → List ℕ
 multiples item n = map (λ k. item * k) (range_with_len 0 n)
 
@@ -41,10 +41,11 @@ abbrev pub f_strides : ℕ → List ℕ → List ℤ
 f_strides item [] = []
 f_strides item (n ∷ shape) = pos item ∷ f_strides (item * n) shape
 
--- the offsets of items in Fortran order: each is the item's size times its rank, where the first axis runs fastest
+-- the offsets of items in Fortran order: each is the size of an item times its rank with the first axis changing
+-- fastest
 abbrev pub f_multiples : ℕ → List ℕ → List ℕ
 f_multiples item shape = map (λ index. item * rank (reverse shape) (reverse index)) (indexes shape)
 
--- the offsets of items of `item` bytes, each of which begins `start` bytes after its place
+-- the offsets that are `start` bytes after the beginning of each place
 abbrev pub offsets_of : ℕ → ℕ → List ℕ → List ℕ
 offsets_of item start places = map (λ place. item * place + start) places

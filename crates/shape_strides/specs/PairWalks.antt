@@ -1,4 +1,4 @@
--- How far a walk over two layouts has come.
+-- The state of a walk over two layouts.
 use Rattle.std.specs.Prelude.{◌≡◌, ℕ, ◌≤◌, ℤ, pos, ◌+ℤ◌, ◌≤ℤ◌, List, [], ◌∷◌, length, Option, Some, None}
 use Rattle.std.specs.List.{AllByRecursion as Each}
 use Rattle.elem_descr.specs.Steps.{numbers_from}
@@ -7,11 +7,11 @@ use Rattle.shape_strides.specs.declared.run_pairs.RunPair.{RunPair}
 use Rattle.shape_strides.specs.Limits.{max_bytes, max_items}
 use Rattle.shape_strides.specs.RunPairs.{all_offsets}
 
--- an item begins within the limit of a buffer
+-- An item of at least one byte at address `z` begins within the limit of a buffer.
 abbrev pub IsInBytes : ℤ → Type 0
 IsInBytes z = (pos 0 ≤ℤ z) × ((z +ℤ pos 1) ≤ℤ pos max_bytes)
 
--- a run with items, each of which does
+-- A run with at least one item, whose items all begin within that limit.
 pub record IsWhole (run : Run) : Type 0 where
   pub some : 1 ≤ run.count
   pub few : run.count ≤ max_items
@@ -21,14 +21,14 @@ abbrev pub AreWhole : List Run → Type 0
 AreWhole [] = Unit {0}
 AreWhole (run ∷ runs) = IsWhole run × AreWhole runs
 
--- two walks with the same number of items left, which is at most `most`
+-- Two walks have the same number of items left, which is at most `most`.
 pub record AreEven (most : ℕ) (xs ys : List Run) : Type 0 where
   pub whole : AreWhole xs
   pub whole' : AreWhole ys
   pub same : length (all_offsets xs) ≡ length (all_offsets ys)
   pub few : length (all_offsets xs) ≤ most
 
--- the walks after a pair, unless they are over
+-- If there is a current pair of runs, the two walks that begin with its runs have the same number of items left.
 abbrev pub IsAtPair : Option RunPair → List Run → List Run → Type 0
 IsAtPair None xs ys = Unit {0}
 IsAtPair (Some pair) xs ys = AreEven (length (all_offsets (pair.first ∷ xs))) (pair.first ∷ xs) (pair.second ∷ ys)

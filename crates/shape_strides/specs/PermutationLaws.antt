@@ -1,4 +1,4 @@
--- Axes in another order: as many items, and as many bytes from the first to each.
+-- Axes in another order have the same number of items and reach the same distances from the first item.
 use Rattle.std.proofs.Common.{◌≡◌, ℕ, zero, suc, ◌+◌, ◌*◌, ◌<◌, List, [], ◌∷◌, map, sum_by, length, get_or, set, Contains, inl, inr, refl, sym, ◌∙◌, ap, subst, arith, mul_comm, mul_assoc, mul-zero, zero-mul}
 use Rattle.std.specs.List.{swap, AllByRecursion as Each}
 use Rattle.std.specs.List.Sorted.{IsPermutation}
@@ -11,7 +11,7 @@ use Rattle.shape_strides.specs.Indexes.{count, IsIndex}
 use Rattle.shape_strides.specs.Stacks.{Axis, lengths_in}
 use Rattle.shape_strides.specs.CountLaws.{factors_pos}
 
--- ---- how many items
+-- ---- the number of items
 
 turn : (a b c : ℕ) → a * b * c ≡ c * b * a
 turn a b c = mul_comm (a * b) c ∙ ap (λ m. c * m) (mul_comm a b) ∙ sym (mul_assoc c b a)
@@ -93,9 +93,9 @@ count-permutation ms ns same = elim (cases_lt 0 (count ms)) [
 pub count-order : (all order : List Axis) → IsPermutation all order → count (lengths_in order) ≡ count (lengths_in all)
 count-order all order same = count-permutation (lengths_in all) (lengths_in order) (IsPermutation-map (λ axis. axis.len) all order same)
 
--- ---- how many bytes
+-- ---- distances in bytes
 
--- how many bytes an index lies from the first one
+-- the number of bytes from the first item to the item at an index
 abbrev pub reached : List Axis → List ℕ → ℕ
 reached (axis ∷ order) (k ∷ index) = axis.step * k + reached order index
 reached _ _ = 0
@@ -139,7 +139,7 @@ map-swap f l i j d below below' =
     ∙ (λ t. set ((map-set f l i (get_or l j d) ∙ ap (set (map f l) i) (sym (get_or-map f l j d (f d) below'))) t) j (sym (get_or-map f l i d (f d) below) t))
     ∙ sym (swap_is (map f l) i j (f d) (omega arith) (omega arith))
 
--- the pairs in the order of the axes
+-- The pairs can be put in the new order of the axes.
 follow : (all order : List Axis) (pairs : List Numbered) → IsPermutation all order → axes_in pairs ≡ all → (turned : List Numbered) × (axes_in turned ≡ order) × IsPermutation pairs turned
 follow all order pairs same are = IsPermutation-keeps all (λ l. (turned : List Numbered) × (axes_in turned ≡ l) × IsPermutation pairs turned) (pairs, are, IsPermutation-refl pairs) step order same
   where
@@ -150,7 +150,7 @@ follow all order pairs same are = IsPermutation-keeps all (λ l. (turned : List 
         let d : Numbered = (record { step = 0; len = 0 }, 0) in
         (swap turned i j, map-swap (λ p. p.0) turned i j d (omega (arith, long)) (omega (arith, long)) ∙ ap (λ a. swap a i j) h.1, IsPermutation-trans pairs turned (swap turned i j) h.2 (IsPermutation-swap turned (swap turned i j) i j (omega (arith, long)) (omega (arith, long)) refl))
 
--- An index lies as far from the first as one of the axes in another order.
+-- For each index there is an index of the reordered axes that is as far from the first item.
 pub reordered : (all order : List Axis) (index : List ℕ) → IsPermutation all order → IsIndex (lengths_in all) index → (turned : List ℕ) × IsIndex (lengths_in order) turned × (reached order turned ≡ reached all index)
 reordered all order index same in' =
     let pairs = paired all index in' in

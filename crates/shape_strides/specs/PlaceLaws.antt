@@ -1,4 +1,4 @@
--- What the places of items say of their layout.
+-- What the offsets of a layout's items imply about the layout.
 use Rattle.std.proofs.Common.{◌+◌, ◌<◌, ◌≤◌, ℕ, get_or, pos, ◌+ℤ◌, ◌≤ℤ◌, All, subst, arith}
 use Rattle.std.proofs.lemmas.Int.{ints}
 use Rattle.shape_strides.specs.declared.layout.Layout.{Layout}
@@ -8,11 +8,11 @@ use Rattle.shape_strides.specs.LayoutLaws.{length-offsets, offsets_within, entry
 use Rattle.shape_strides.specs.Layouts.{offsets, Fits}
 use Rattle.shape_strides.specs.Limits.{max_bytes}
 
--- the first item of a layout that has items lies below the limit
+-- The offset of a layout with items is below the limit of a buffer.
 pub offset_low : (l : Layout) → 0 < count l.shape → l.offset < max_bytes
 offset_low l some = omega (arith, entry-first l some, offsets_within l max_bytes 1 l.within_limit 0 0 (omega (arith, length-offsets l)))
 
--- a layout fits where each of its places, with an item, does
+-- A layout fits if an item at each of its offsets does.
 pub fits-offsets : (l : Layout) (len item : ℕ) → All (λ offset. offset + item ≤ len) (offsets l) → Fits l len item
 fits-offsets l len item inside = record {
   from_zero = l.within_limit.from_zero;

@@ -1,4 +1,4 @@
--- Laws of shapes and indexes whose axes stand in reverse.
+-- Laws of shapes and indexes with their axes reversed.
 use Rattle.std.proofs.Common.{◌≡◌, ℕ, ◌*◌, List, [], ◌∷◌, ◌++◌, reverse, refl, sym, ◌∙◌, ap, mul_comm, mul_assoc, mul-one, one-mul}
 use Rattle.std.proofs.lemmas.List.{reverse-reverse}
 use Rattle.std.proofs.lemmas.Grind.{reverse_onto}
@@ -25,6 +25,6 @@ IsIndex-reverse (n ∷ shape) [] in' = absurd in'
 IsIndex-reverse (n ∷ shape) (k ∷ index) in' =
     rw (reverse-cons n shape, reverse-cons k index) (IsIndex-append (reverse shape) (n ∷ []) (reverse index) (k ∷ []) (IsIndex-reverse shape index in'.1) (in'.0, tt))
 
--- an index of the reversed shape, and back
+-- The reverse of an index of the reversed shape is an index of the shape.
 pub IsIndex-from_reverse : (shape index : List ℕ) → IsIndex (reverse shape) index → IsIndex shape (reverse index)
 IsIndex-from_reverse shape index in' = rw (← reverse-reverse shape) (IsIndex-reverse (reverse shape) index in')

@@ -1,4 +1,4 @@
--- Which lengths are a shape, and which refusal is answered where they are none.
+-- Which lengths make a shape, and which refusal is returned otherwise.
 use Rattle.std.proofs.Common.{◌≡◌, ℕ, ◌<◌, ◌≤◌, min, map, nat_le, true, false, List, length, Ok, Err, inl, inr, refl, ap, sym, ◌∙◌, arith, All, [], ◌∷◌}
 use Rattle.std.specs.List.{list_all}
 use Rattle.std.proofs.lemmas.Bool.{cases_lt, cases_Bool, lt-leb, le-leb, leb-true, leb-false, and_parts}
@@ -27,7 +27,7 @@ pub shape_of-ok : (lengths : List ℕ) → length lengths ≤ max_axes → list_
 unfolding shape_of
 shape_of-ok lengths few short small = rw (le-leb (length lengths) max_axes few, short, le-leb (count lengths) max_items small) refl
 
--- a shape has the lengths that it was made of
+-- A shape has the lengths that it was made from.
 pub shape_of-same : (lengths shape : List ℕ) → shape_of lengths ≡ Ok shape → lengths ≡ shape
 unfolding shape_of
 shape_of-same lengths shape found =
@@ -40,7 +40,7 @@ shape_read shape is = shape_of-ok shape is.axes (all shape is.lengths) is.items
     all [] few = refl
     all (n ∷ lengths) few = rw (le-leb n max_items (All-head (λ m. m ≤ max_items) n lengths few)) (all lengths (All-tail (λ m. m ≤ max_items) n lengths few))
 
--- a length that is capped is as much too large
+-- A length and the capped length are both within the limit, or both above it.
 fits-capped : (top n : ℕ) → max_items < top → nat_le (min n top) max_items ≡ nat_le n max_items
 fits-capped top n above = elim (cases_Bool (nat_le n max_items)) [
   | inl low ↦ le-leb _ _ (omega (arith, above, leb-true n max_items low)) ∙ sym low
@@ -58,7 +58,7 @@ short-capped top (n ∷ lengths) above low =
     let first = leb-true n max_items both.0 in
     ap (λ m. m ∷ map (λ n. min n top) lengths) (min-eq_left (omega (arith, above, first))) ∙ ap (λ rest. n ∷ rest) (short-capped top lengths above both.1)
 
--- lengths mean the same shape, or are refused in the same way, where those above a number that none may be are that number
+-- Capping the lengths at a number above the limit changes neither the shape nor the refusal.
 pub shape_of-capped : (top : ℕ) (lengths : List ℕ) → max_items < top → shape_of (map (λ n. min n top) lengths) ≡ shape_of lengths
 shape_of-capped top lengths above =
     let size : length (map (λ n. min n top) lengths) ≡ length lengths = length-map lengths (λ n. min n top) in

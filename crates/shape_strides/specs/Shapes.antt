@@ -8,13 +8,13 @@ use Rattle.elem_descr.specs.Refusals.{◌>>=◌, check}
 use Rattle.shape_strides.specs.Limits.{max_axes, max_items}
 use Rattle.shape_strides.specs.Indexes.{count}
 
--- within the limits of an array
+-- A shape is within the limits of an array.
 pub record IsShape (shape : List ℕ) : Type 0 where
   pub axes : length shape ≤ max_axes
   pub lengths : All (λ n. n ≤ max_items) shape
   pub items : count shape ≤ max_items
 
--- the shape with these lengths, or the first refusal
+-- the shape with these lengths, or the first refusal that applies
 unfoldable pub shape_of : List ℕ → Result (List ℕ) Refusal
 shape_of lengths = do
   _ ← check (nat_le (length lengths) max_axes) TooManyAxes

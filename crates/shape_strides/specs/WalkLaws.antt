@@ -1,4 +1,4 @@
--- For a loop over a walk.
+-- Laws for loops over a walk.
 use Rattle.std.proofs.Common.{◌≡◌, List, [], ◌∷◌, ◌++◌, map, sym, ◌∙◌, ap, append_assoc, ℕ, ◌+◌, length, arith, length-append}
 use Rattle.std.proofs.lemmas.List.{length-map}
 use Rattle.std.proofs.lemmas.List.FromFn.{length-map-range_with_len}
@@ -9,7 +9,8 @@ use Rattle.shape_strides.specs.Addresses.{natural}
 use Rattle.shape_strides.specs.Runs.{run_offsets, runs}
 use Rattle.shape_strides.specs.RunPairs.{all_offsets}
 
--- One more item of a list that is mapped as it is walked: what was made of the front, with what the rest will make, is the whole.
+-- One more item of a list that is mapped while it is walked: the results so far, with those of the remaining items, are
+-- still the whole.
 pub mapped_more : {X Y : Type 0} (f : X → Y) (made made' : List Y) (left left' all : List X) (x : X) → made' ≡ made ++ f x ∷ [] → left ≡ x ∷ left' → made ++ map f left ≡ map f all → made' ++ map f left' ≡ map f all
 mapped_more f made made' left left' all x pushed walked so_far =
     ap (λ m. m ++ map f left') pushed ∙ append_assoc made (f x ∷ []) (map f left') ∙ ap (λ l. made ++ map f l) (sym walked) ∙ so_far

@@ -1,4 +1,4 @@
--- Axes that are compared one by one.
+-- Whether two lists of axes are equal, compared one by one.
 use Rattle.std.specs.Prelude.{◌==◌, Bool, true, false, ◌&&◌, List, [], ◌∷◌}
 use Rattle.std.specs.Ordering.{int_eq}
 use Rattle.shape_strides.specs.declared.single_run.StridedAxis.{StridedAxis}
