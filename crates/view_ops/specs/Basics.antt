@@ -1,4 +1,4 @@
--- Basic indexes, as NumPy has them: integers, slices, `...` and new axes.
+-- Basic indexes, as in NumPy: integers, slices, `...` and new axes.
 use Rattle.std.specs.Prelude.{ℕ, ◌-◌, nat_le, Bool, true, false, not, pos, unwrap_or, List, [], ◌∷◌, map, take, drop, length, count_by, slice_index, Result, Ok, Err}
 use Rattle.std.specs.Ordering.{int_eq}
 use Rattle.std.specs.List.{list_all, flat_map, range_with_len}
@@ -7,28 +7,28 @@ use Rattle.shape_strides.specs.Addresses.{natural}
 use Rattle.view_ops.specs.Slices.{from_front, is_place, slice_indices}
 use Rattle.view_ops.specs.Views.{View}
 
--- ---- which axes an item takes
+-- ---- the axes that an item takes
 
 abbrev pub takes_axis : {A : Type 0} → IndexItem A → Bool
 takes_axis Ellipsis = false
 takes_axis NewAxis = false
 takes_axis _ = true
 
--- how many axes the items take, beside those of `...`
+-- the number of axes that the items take, not counting those that `...` takes
 abbrev pub axes_taken : {A : Type 0} → List (IndexItem A) → ℕ
 axes_taken items = count_by takes_axis items
 
--- how many of the axes that are left an item takes: `...` takes all but those of the items after it
+-- the number of axes that an item takes if `left` axes remain: `...` takes all but those of the items after it
 abbrev pub width : {A : Type 0} → ℕ → IndexItem A → List (IndexItem A) → ℕ
 width left Ellipsis later = left - axes_taken later
 width left item later = axes_taken (item ∷ [])
 
--- an item, and the lengths of the axes that it takes
+-- an item and the lengths of the axes that it takes
 pub record Placed (A : Type 0) : Type 0 where
   pub item : IndexItem A
   pub axes : List ℕ
 
--- the items of an index over the axes of a shape; those after the last item are taken as by `...`
+-- The items of an index, each with the axes that it takes. The axes after the last item are taken as if by `...`.
 abbrev pub placed : {A : Type 0} → List ℕ → List (IndexItem A) → List (Placed A)
 placed shape [] = record { item = Ellipsis; axes = shape } ∷ []
 placed shape (item ∷ items) =
@@ -48,9 +48,10 @@ is_on_axis _ _ = true
 abbrev pub are_on_axes : {A : Type 0} → List ℕ → List (IndexItem A) → Bool
 are_on_axes shape items = list_all (λ p. is_on_axis p.axes p.item) (placed shape items)
 
--- ---- what is picked
+-- ---- picks
 
--- one number of an axis, which is gone then; these numbers of an axis, in this order; or a new axis of length 1
+-- what is picked of an axis: one number (the axis is dropped), or these numbers in this order; or else a new axis of
+-- length 1
 pub data Pick : Type 0 where
   At : ℕ → Pick
   Along : List ℕ → Pick
@@ -63,7 +64,7 @@ abbrev pub numbers_of : Result (List ℕ) Refusal → List ℕ
 numbers_of (Ok numbers) = numbers
 numbers_of (Err refusal) = []
 
--- what an item picks of the axes that it takes
+-- what an item picks from the axes that it takes
 abbrev pub picks_of : {A : Type 0} → List ℕ → IndexItem A → List Pick
 picks_of axes Ellipsis = map whole axes
 picks_of axes NewAxis = New ∷ []
@@ -84,26 +85,26 @@ axis_of New = 1 ∷ []
 abbrev pub picked_shape : List Pick → List ℕ
 picked_shape picks = flat_map axis_of picks
 
--- where an index of the result leads
+-- the index of the old array to which an index of the result leads
 abbrev pub picked_index : List Pick → List ℕ → List ℕ
 picked_index (At number ∷ picks) index = number ∷ picked_index picks index
 picked_index (Along numbers ∷ picks) (k ∷ index) = slice_index numbers k ∷ picked_index picks index
 picked_index (New ∷ picks) (k ∷ index) = picked_index picks index
 picked_index _ _ = []
 
--- the shape of what is picked
+-- the shape of the result, or the refusal if it has too many axes
 unfoldable pub shape_picked : List Pick → Result (List ℕ) Refusal
 shape_picked picks = do
   _ ← check (nat_le (length (picked_shape picks)) max_axes) TooManyAxes
   Ok (picked_shape picks)
 
--- the view of it
+-- the view that picks make, or the refusal
 unfoldable pub picked_view : List Pick → Result View Refusal
 picked_view picks = do
   shape ← shape_picked picks
   Ok (record { shape = shape; leads = picked_index picks })
 
--- the view that a basic index makes, or the first refusal
+-- the view that a basic index makes, or the first refusal that applies
 unfoldable pub basic : {A : Type 0} → List ℕ → List (IndexItem A) → Result View Refusal
 basic shape items = do
   _ ← check (nat_le (axes_taken items) (length shape)) TooManyIndices

@@ -1,4 +1,4 @@
--- Laws of the numbers of a run.
+-- Laws of runs of numbers.
 use Rattle.std.proofs.Common.{◌≡◌, ℕ, ◌<◌, pos, ◌+ℤ◌, length, get_or, ap, ◌∙◌, arith}
 use Rattle.std.proofs.lemmas.List.FromFn.{length-map-range_with_len, get_or-map-range_with_len}
 use lib.IntN.{*ℤ-zero, +ℤ_idr}

@@ -1,12 +1,13 @@
--- What shows the items of a layout.
+-- Layouts that show the items of another layout.
 use Rattle.std.proofs.Common.{◌≡◌, ℕ, ℤ, List}
 use Rattle.view_ops.specs.Words.{Layout, IsIndex, address_at, address}
 
--- an array with this shape, these strides and this offset shows the items of a layout through m
+-- An array with this shape, these strides and this offset shows items of `old`: its item at each index is the one that
+-- `old` has at the index given by `m`.
 pub record ShowsThrough (old : Layout) (shape : List ℕ) (strides : List ℤ) (offset : ℕ) (m : List ℕ → List ℕ) : Type 0 where
   pub leads : (index : List ℕ) → IsIndex shape index → IsIndex old.shape (m index)
   pub same : (index : List ℕ) → IsIndex shape index → address_at strides offset index ≡ address old (m index)
 
--- so a layout does
+-- The layout `new` shows items of `old` in this way.
 abbrev pub IsView : Layout → Layout → (List ℕ → List ℕ) → Type 0
 IsView old new m = ShowsThrough old new.shape new.strides new.offset m

@@ -1,4 +1,4 @@
--- Transposes, as NumPy has them: axis k of the result is the axis that is named at place k.
+-- Transposes, as in NumPy: axis k of the result is the axis named at position k.
 use Rattle.std.specs.Prelude.{ℕ, ◌-◌, ◌==◌, Bool, true, not, ◌&&◌, ℤ, Option, Some, None, List, [], ◌∷◌, map, length, replicate, slice_index, slice_set, Result, Ok}
 use Rattle.std.specs.List.{list_any, list_all, range_with_len}
 use Rattle.view_ops.specs.Words.{Refusal, BadAxis, ◌>>=◌, check}
@@ -6,12 +6,12 @@ use Rattle.shape_strides.specs.Addresses.{natural}
 use Rattle.view_ops.specs.Slices.{from_front, is_place}
 use Rattle.view_ops.specs.Views.{View}
 
--- no number is repeated
+-- No number is repeated.
 abbrev pub are_distinct : List ℕ → Bool
 are_distinct [] = true
 are_distinct (axis ∷ axes) = not (list_any (λ other. other == axis) axes) && are_distinct axes
 
--- the axes that are named, each once; all of them in reverse order where none is
+-- The named axes, each exactly once, or the refusal. If no axes are named, all axes in reverse order.
 unfoldable pub axes_of : ℕ → Option (List ℤ) → Result (List ℕ) Refusal
 axes_of rank None = Ok (map (λ k. rank - 1 - k) (range_with_len 0 rank))
 axes_of rank (Some named) = do
@@ -21,20 +21,20 @@ axes_of rank (Some named) = do
   _ ← check (are_distinct axes) BadAxis
   Ok axes
 
--- the shape of the result: axis k is as long as the axis that is named at place k
+-- the shape of the result: axis k has the length of the axis named at position k
 abbrev pub transposed_shape : List ℕ → List ℕ → List ℕ
 transposed_shape axes shape = map (λ axis. slice_index shape axis) axes
 
--- numbers put to the axes that are named, over a list of numbers
+-- the list `over` with each number written at the position of its axis
 abbrev pub put_at : List ℕ → List ℕ → List ℕ → List ℕ
 put_at (axis ∷ axes) (number ∷ numbers) over = slice_set (put_at axes numbers over) axis number
 put_at _ _ over = over
 
--- where an index of the result leads: number k goes to the axis that is named at place k
+-- the index of the old array to which an index of the result leads: number k goes to the axis named at position k
 abbrev pub transposed_index : List ℕ → List ℕ → List ℕ
 transposed_index axes index = put_at axes index (replicate (length axes) 0)
 
--- the view with its axes in another order
+-- the view with its axes in another order, or the refusal
 unfoldable pub transposed : List ℕ → Option (List ℤ) → Result View Refusal
 transposed shape named = do
   axes ← axes_of (length shape) named

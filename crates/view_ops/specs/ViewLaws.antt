@@ -1,4 +1,4 @@
--- Laws of layouts that show the items of another.
+-- Laws of layouts that show items of another layout.
 use Rattle.std.proofs.Common.{◌≡◌, ℕ, ℤ, ◌<◌, List, [], All, length, get_or, sym, ap, subst, ◌∙◌, arith}
 use Rattle.std.proofs.lemmas.List.{get_or-map}
 use Rattle.view_ops.specs.Words.{Layout, LieWithin, address, offsets, Fits, indexes, rank, IsIndex, length-indexes, rank-lt, get_or-indexes, index_at, same_on_indexes, length-offsets, get_or-offsets}
@@ -6,21 +6,21 @@ use Rattle.shape_strides.specs.Addresses.{natural}
 use Rattle.view_ops.specs.Views.{View, view_through, IsViewOf}
 use Rattle.view_ops.specs.Shows.{ShowsThrough, IsView}
 
--- they lie within the bytes that the other fits
+-- If the other layout fits in `len` bytes, the items that are shown lie within them.
 pub LieWithin-view : (old : Layout) (shape : List ℕ) (strides : List ℤ) (offset : ℕ) (m : List ℕ → List ℕ) (len item : ℕ) → ShowsThrough old shape strides offset m → Fits old len item → LieWithin shape strides offset len item
 LieWithin-view old shape strides offset m len item view fits = record {
   from_zero = λ index in'. rw (view.same index in') (fits.from_zero (m index) (view.leads index in'));
   within = λ index in'. rw (view.same index in') (fits.within (m index) (view.leads index in'));
 }
 
--- and have its offsets
+-- A view has the offsets that `view_through` gives.
 pub offsets-view : (old new : Layout) (m : List ℕ → List ℕ) → IsView old new m → offsets new ≡ view_through (offsets old) old.shape new.shape m
 unfolding offsets
 offsets-view old new m view =
     same_on_indexes new.shape (λ index. natural (address new index)) (λ index. get_or (offsets old) (rank old.shape (m index)) 0)
     (λ index in'. ap natural (view.same index in') ∙ sym (get_or-offsets old (m index) 0 (view.leads index in')))
 
--- each index leads to one of its items
+-- Each index leads to an item of the other layout.
 inside : (old new : Layout) (m : List ℕ → List ℕ) → IsView old new m → All (λ index. rank old.shape (m index) < length (offsets old)) (indexes new.shape)
 inside old new m view k d below =
     let found = index_at new.shape k (omega (arith, length-indexes new.shape)) in
@@ -30,7 +30,7 @@ inside old new m view k d below =
 pub inside-view : (old new : Layout) (m : List ℕ → List ℕ) (shape : List ℕ) → IsView old new m → new.shape ≡ shape → All (λ index. rank old.shape (m index) < length (offsets old)) (indexes shape)
 inside-view old new m shape view same = subst (λ (s : List ℕ). All (λ index. rank old.shape (m index) < length (offsets old)) (indexes s)) same (inside old new m view)
 
--- a view of a view is a view
+-- A view of a view is a view.
 pub view-twice : (old mid new : Layout) (first second : View) → IsViewOf old mid first → IsViewOf mid new second → IsViewOf old new (record { shape = second.shape; leads = λ index. first.leads (second.leads index) })
 view-twice old mid new first second one two = record {
   shape = two.shape;

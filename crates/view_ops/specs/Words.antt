@@ -1,4 +1,4 @@
--- The words of the crates below, for this crate's clauses, definitions and proofs.
+-- Names from the crates below, which this crate's contracts, definitions and proofs use.
 pub use Rattle.elem_descr.specs.Items.{field_at, field_of, item_size}
 pub use Rattle.elem_descr.specs.RefusalLaws.{same_answer}
 pub use Rattle.elem_descr.specs.Refusals.{Gives, check, ◌>>=◌}

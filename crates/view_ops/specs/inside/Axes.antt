@@ -1,13 +1,13 @@
--- Lists of axes, each of which is named once.
+-- Lists of axes in which each axis is named once.
 use Rattle.std.specs.Prelude.{◌≡◌, ℕ, ◌<◌, ◌==◌, false, List, [], ◌∷◌, length}
 use Rattle.std.specs.List.{list_any}
 
--- different axes of so many
+-- The axes are all below `rank`, and no axis is repeated.
 abbrev pub AreAxes : ℕ → List ℕ → Type 0
 AreAxes rank [] = Unit {0}
 AreAxes rank (axis ∷ axes) = (axis < rank) × (list_any (λ other. other == axis) axes ≡ false) × AreAxes rank axes
 
--- so many axes, all different
+-- There are `rank` axes, all different.
 pub record AreAllAxes (rank : ℕ) (axes : List ℕ) : Type 0 where
   pub size : length axes ≡ rank
   pub are : AreAxes rank axes

@@ -1,4 +1,4 @@
--- How the items of a basic index are picked, with slices as runs.
+-- The picks of a basic index, with slices as runs.
 use Rattle.std.specs.Prelude.{◌≡◌, ◌≤◌, ℕ, nat_lt, if◌then◌else◌, ℤ, pos, neg_ℤ, ◌*ℤ◌, ◌≤ℤ◌, List, [], ◌∷◌, ◌++◌, map}
 use Rattle.view_ops.specs.Words.{max_bytes}
 use Rattle.view_ops.specs.declared.picks.AxisPick.{AxisPick}
@@ -7,7 +7,7 @@ use Rattle.view_ops.specs.declared.slice.Progression.{Progression}
 pub use Rattle.view_ops.specs.Picks.{pick_shown, ArePicks}
 use Rattle.view_ops.specs.Basics.{Pick}
 
--- these picks of these axes come after the old ones
+-- The new list is the old one followed by picks of these axes, which are shown as `picks`.
 pub record AddsPicks (old new : List AxisPick) (axes : List ℕ) (picks : List Pick) : Type 0 where
   pub added : List AxisPick
   pub after : new ≡ old ++ added
@@ -20,11 +20,11 @@ axes_of_pick _ = 1
 
 -- ---- strides
 
--- an axis of less than two items has the stride 0
+-- The stride of an axis of fewer than 2 items is 0.
 abbrev pub run_stride : ℤ → Progression → ℤ
 run_stride stride run = if nat_lt run.count 2 then pos 0 else stride *ℤ run.step
 
--- the stride of the axis that a pick makes of an axis with this stride
+-- the stride of the axis, if any, that a pick makes from an axis with this stride
 abbrev pub stride_of : ℤ → AxisPick → List ℤ
 stride_of stride (AtAxis number) = []
 stride_of stride (AlongAxis run) = run_stride stride run ∷ []
@@ -36,7 +36,7 @@ picked_strides (stride ∷ strides) (AtAxis number ∷ picks) = picked_strides s
 picked_strides (stride ∷ strides) (AlongAxis run ∷ picks) = run_stride stride run ∷ picked_strides strides picks
 picked_strides _ _ = []
 
--- a step along an axis with this stride is small, in items and in bytes
+-- A step along an axis with this stride is within the limit of a buffer, in items and in bytes.
 pub record IsSmallStep (stride step : ℤ) : Type 0 where
   pub step_low : neg_ℤ (pos max_bytes) ≤ℤ step
   pub step_high : step ≤ℤ pos max_bytes
@@ -47,7 +47,7 @@ abbrev pub IsSmallPick : ℤ → AxisPick → Type 0
 IsSmallPick stride (AlongAxis run) = 2 ≤ run.count → IsSmallStep stride run.step
 IsSmallPick stride _ = Unit {0}
 
--- each pick of axes with these strides takes small steps
+-- Each pick of axes with these strides takes small steps.
 abbrev pub HaveSmallSteps : List ℤ → List AxisPick → Type 0
 HaveSmallSteps strides (NewAxis ∷ picks) = HaveSmallSteps strides picks
 HaveSmallSteps [] [] = Unit {0}
