@@ -1,4 +1,5 @@
--- Laws of broadcasting: a shape stretches to itself as it is, and what is stretched into a target has its shape.
+-- Laws of broadcasting: an array stretched to its own shape is unchanged, and one stretched into a target has its
+-- shape.
 use Rattle.std.proofs.Common.{◌≡◌, Result, Ok, Err, ℕ, zero, suc, ◌-◌, ◌<◌, ◌==◌, ◌&&◌, ◌||◌, true, false, if◌then◌else◌, List, [], ◌∷◌, ◌++◌, length, take, drop, replicate, refl, sym, ap, ◌∙◌, arith, get_or}
 use Rattle.std.specs.List.{list_all}
 use Rattle.std.specs.Result.{is_ok}
@@ -7,7 +8,7 @@ use Rattle.std.proofs.lemmas.Bool.Decides.{nat_tests}
 use Rattle.broadcasting.specs.Words.{Refusal, ShapesDoNotBroadcast, ◌>>=◌, same_answer, check_passed, IsIndex, rank, length-index, same_on_indexes, Layout, natural, address, offsets, get_or-offsets, View, view_through}
 use Rattle.broadcasting.specs.Broadcasts.{stretches, all_stretch, can_stretch, within_axes, broadcast_index, stretched, axes_beyond, stretched_into}
 
--- ---- a shape and itself
+-- ---- a shape stretched to itself
 
 fits-itself : (n : ℕ) → stretches n n ≡ true
 fits-itself n = grind (arith, nat_tests)
@@ -35,12 +36,12 @@ within-itself [] (k ∷ index) in' = absurd in'
 within-itself (n ∷ shape) [] in' = absurd in'
 within-itself (n ∷ shape) (k ∷ index) in' = λ i. number-itself n k in'.0 i ∷ within-itself shape index in'.1 i
 
--- each index leads to itself
+-- Each index leads to itself.
 pub broadcast_index-itself : (shape index : List ℕ) → IsIndex shape index → broadcast_index shape index ≡ index
 broadcast_index-itself shape index in' =
     ap (λ n. within_axes shape (drop (n - length shape) index)) (length-index shape index in') ∙ ap (λ k. within_axes shape (drop k index)) (none-beyond shape) ∙ within-itself shape index in'
 
--- ---- where an index of a larger shape leads
+-- ---- the index to which an index of a larger shape leads
 
 number-within : (m n k : ℕ) → stretches m n ≡ true → k < n → (if m == 1 then 0 else k) < m
 number-within m n k can below =
@@ -59,7 +60,7 @@ IsIndex-within (m ∷ shape) (n ∷ target) (k ∷ index) all in' =
     let can = and_parts (stretches m n) (all_stretch shape target) all in
     (number-within m n k can.0 in'.0, IsIndex-within shape target index can.1 in'.1)
 
--- behind so many new axes
+-- An index of a target with `more` new axes leads to an index of the shape.
 IsIndex-behind : (more : ℕ) (shape target index : List ℕ) → all_stretch (replicate more 1 ++ shape) target ≡ true → IsIndex target index → IsIndex shape (within_axes shape (drop more index))
 IsIndex-behind zero shape target index all in' = IsIndex-within shape target index all in'
 IsIndex-behind (suc more) shape [] index all in' = absurd (false≢true all)
@@ -74,7 +75,7 @@ pub IsIndex-broadcast : (shape target index : List ℕ) → can_stretch shape ta
 IsIndex-broadcast shape target index can in' =
     rw (broadcast_index-is shape target index in') (IsIndex-behind (length target - length shape) shape target index can in')
 
--- ---- the shape of what is stretched
+-- ---- the shape of a stretched view
 
 with-shape : (target : List ℕ) (m : View → List ℕ → List ℕ) (there : Result View Refusal) (view : View) → there >>= (λ seen. Ok (record { shape = target; leads = m seen })) ≡ Ok view → view.shape ≡ target
 with-shape target m (Ok seen) view found = sym (ap (λ v. v.shape) (same_answer (record { shape = target; leads = m seen }) view found))
@@ -86,7 +87,7 @@ into-shape shape target view found =
     let more = axes_beyond (length target) shape in
     with-shape target (λ seen index. replicate more 0 ++ seen.leads index) (stretched (drop more shape) target) view (check_passed (list_all (λ n. n == 1) (take more shape)) ShapesDoNotBroadcast _ view found)
 
--- an array that is stretched to its own shape
+-- An array that is stretched to its own shape is unchanged.
 pub stretched-self : (l : Layout) → view_through (offsets l) l.shape l.shape (broadcast_index l.shape) ≡ offsets l
 unfolding offsets
 stretched-self l =

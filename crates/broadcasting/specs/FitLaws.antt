@@ -1,4 +1,4 @@
--- Shapes stretch to the shape that they have in common.
+-- Shapes can be stretched to their common shape.
 use Rattle.std.proofs.Common.{◌≡◌, inl, inr, Result, Ok, Err, ℕ, zero, suc, ◌-◌, ◌+◌, ◌≤◌, ◌&&◌, max, true, false, IsTrue, List, [], ◌∷◌, ◌++◌, All, length, replicate, refl, sym, ap, ◌∙◌, arith, length-append}
 use Rattle.std.specs.Result.{is_ok, IfOk}
 use Rattle.std.proofs.Math.Nat.{le-max_left, le-max_right}
@@ -10,7 +10,7 @@ use Rattle.broadcasting.specs.Words.{same_answer, Refusal, ShapesDoNotBroadcast,
 use Rattle.broadcasting.specs.Broadcasts.{aligned, go_together, common_length, all_go_together, common_lengths, common_of_two, common_with, common_shape, stretches, all_stretch, can_stretch}
 use Rattle.broadcasting.specs.BroadcastLaws.{can-itself}
 
--- ---- shapes that are lined up
+-- ---- aligned shapes
 
 pub length-aligned : (rank : ℕ) (shape : List ℕ) → length shape ≤ rank → length (aligned rank shape) ≡ rank
 length-aligned rank shape few =
@@ -32,7 +32,7 @@ length-all_stretch [] (n ∷ target) all = absurd (false≢true all)
 length-all_stretch (m ∷ shape) [] all = absurd (false≢true all)
 length-all_stretch (m ∷ shape) (n ∷ target) all = ap suc (length-all_stretch shape target (and_parts (stretches m n) (all_stretch shape target) all).1)
 
--- no shape stretches to one of fewer axes
+-- No shape stretches to one with fewer axes.
 pub few-axes : (shape target : List ℕ) → can_stretch shape target ≡ true → length shape ≤ length target
 few-axes shape target can =
     omega (arith, length-all_stretch (aligned (length target) shape) target can, length-append (replicate (length target - length shape) 1) shape, length-replicate {A = ℕ} (length target - length shape) 1)
@@ -80,7 +80,7 @@ all-on (k ∷ first) (m ∷ middle) (n ∷ last) one two =
     let there = and_parts (stretches m n) (all_stretch middle last) two in
     λ i. fits-on k m n here.0 there.0 i && all-on first middle last here.1 there.1 i
 
--- behind so many new axes
+-- Stretching is transitive if `more` axes of length 1 come first.
 all-behind : (more : ℕ) (first middle last : List ℕ) → all_stretch first middle ≡ true → all_stretch (replicate more 1 ++ middle) last ≡ true → all_stretch (replicate more 1 ++ first) last ≡ true
 all-behind zero first middle last one two = all-on first middle last one two
 all-behind (suc more) first middle [] one two = absurd (false≢true two)
@@ -119,7 +119,7 @@ both-fit left right common found =
       | inr other ↦ absurd (false≢true (ap is_ok (sym (common-none left right rank refl other) ∙ found)))
     ]
 
--- what the first shapes have in common stretches to what all have, and so does each of the others
+-- The common lengths so far, and each of the remaining shapes, stretch to the common shape of all.
 abbrev pub AllFit : List ℕ → List (List ℕ) → List ℕ → Type 0
 AllFit lengths shapes common = IsTrue (can_stretch lengths common) × All (λ shape. IsTrue (can_stretch shape common)) shapes
 
@@ -146,7 +146,7 @@ pub common-fits : (shapes : List (List ℕ)) (common : List ℕ) → common_shap
 unfolding common_shape
 common-fits shapes common found = fits-common shapes common (common_with [] shapes) refl found
 
--- so where the call answers the common shape
+-- If a call returns the common shape, all shapes stretch to it.
 pub given-fits : (shapes : List (List ℕ)) (result : Result (List ℕ) Refusal) → Gives (λ s. s) result (common_shape shapes) → IfOk result (λ common. All (λ shape. IsTrue (can_stretch shape common)) shapes)
 given-fits shapes (Ok common) given = common-fits shapes common given
 given-fits shapes (Err e) given = tt

@@ -1,4 +1,4 @@
--- The words of the crates below, for this crate's clauses, definitions and proofs.
+-- Names from the crates below, which this crate's contracts, definitions and proofs use.
 pub use Rattle.elem_descr.specs.ListLaws.{slice-rest}
 pub use Rattle.elem_descr.specs.RefusalLaws.{check_passed, same_answer}
 pub use Rattle.elem_descr.specs.Refusals.{Gives, check, ◌>>=◌}
