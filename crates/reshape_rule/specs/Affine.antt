@@ -1,4 +1,4 @@
--- Whether a list is affine in a shape. Its type says what is proved: nothing depends on the test that finds the answer.
+-- Whether a list is affine in a shape. The type of the answer says what is proved, whichever test finds the answer.
 use Rattle.std.proofs.Common.{◌≡◌, true, false, ℕ, List, refl, sym, ◌∙◌}
 use Rattle.std.proofs.lemmas.Bool.{false≢true}
 use Rattle.reshape_rule.specs.Reshapes.{AffineOrNot, affine, not_affine}

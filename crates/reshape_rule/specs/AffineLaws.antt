@@ -1,4 +1,4 @@
--- Laws of affine lists: the strides at unit indexes are the only ones, so that a test on them decides.
+-- Laws of affine lists: the steps to unit indexes are the only possible strides, so a test of them decides.
 use Rattle.std.proofs.Common.{◌≡◌, Bool, ℕ, zero, suc, ◌<◌, ◌≤◌, nat_le, true, ℤ, pos, ◌+ℤ◌, ◌-ℤ◌, ◌*ℤ◌, List, [], ◌∷◌, length, get_or, drop, refl, sym, ◌∙◌, ap, arith}
 use Rattle.std.proofs.lemmas.Bool.{cond-true}
 use Rattle.std.proofs.lemmas.Bool.Decides.{nat_tests, Decides-int_eq}
@@ -10,9 +10,9 @@ use Rattle.reshape_rule.specs.Words.{count, indexes, rank, IsIndex, dot, address
 use Rattle.reshape_rule.specs.Reshapes.{IsAffine}
 use Rattle.reshape_rule.specs.inside.Tests.{is_affine}
 
--- ---- the only strides
+-- ---- the only possible strides
 
--- strides that differ on axes of length 1 alone lead to the same places
+-- Strides that differ only on axes of length 1 lead to the same entries.
 dot-same : (shape : List ℕ) (s t : List ℤ) (index : List ℕ) → length s ≡ length shape → length t ≡ length shape → ((axis : ℕ) → axis < length shape → 2 ≤ get_or shape axis 0 → get_or s axis (pos 0) ≡ get_or t axis (pos 0)) → IsIndex shape index → dot s index ≡ dot t index
 dot-same [] [] [] index same same' are in' = refl
 dot-same [] (x ∷ s) t index same same' are in' = absurd (omega arith)
@@ -39,7 +39,7 @@ affine-stride list shape some affine axis below long =
     ap (λ r. pos (get_or list r 0)) (sym (rank-unit shape axis below)) ∙ affine.leads (unit shape axis) (IsIndex-unit shape axis some below long) ∙ ap (λ z. affine.first +ℤ z) (dot-unit affine.strides shape axis affine.one_stride_an_axis below) in
     printed-at shape list axis below ∙ cond-true (nat_le 2 (get_or shape axis 0)) _ _ test ∙ difference _ _ affine.first (get_or affine.strides axis (pos 0)) at (affine-first list shape some affine)
 
--- an affine list is led to by the strides at unit indexes
+-- The strides of an affine list are the steps to its unit indexes.
 pub affine-address : (list shape : List ℕ) (first : ℕ) → 0 < count shape → get_or list 0 0 ≡ first → IsAffine list shape → (index : List ℕ) → IsIndex shape index → address_at (printed_strides shape list) first index ≡ pos (get_or list (rank shape index) 0)
 affine-address list shape first some is affine index in' =
     let start : pos first ≡ affine.first = ap pos (sym is) ∙ affine-first list shape some affine in

@@ -1,4 +1,4 @@
--- The words of the crates below, for this crate's clauses, definitions and proofs.
+-- Names from the crates below, which this crate's contracts, definitions and proofs use.
 pub use Rattle.elem_descr.specs.Refusals.{Gives, check, ◌>>=◌}
 pub use Rattle.elem_descr.specs.declared.refusal.Refusal.{Refusal}
 pub use Rattle.elem_descr.specs.declared.refusal.Refusal.TheVariants.{BadReshape, TooLarge}
