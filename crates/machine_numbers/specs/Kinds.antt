@@ -17,7 +17,7 @@ is_signed (Byte signed) = signed
 is_signed (Int signed width order) = signed
 is_signed _ = false
 
--- a scalar in little-endian order
+-- the same scalar in little-endian byte order
 abbrev pub little : Scalar → Scalar
 little (Int signed width order) = Int signed width Little
 little scalar = scalar
