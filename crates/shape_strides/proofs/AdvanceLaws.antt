@@ -1,4 +1,4 @@
--- One turn of the loop that goes on to the next index in C order.
+-- The loop that moves to the next index in C order, one iteration at a time.
 use Rattle.std.proofs.Common.{◌≡◌, ℕ, zero, suc, ◌+◌, ◌-◌, ◌<◌, ◌≤◌, ℤ, pos, ◌+ℤ◌, ◌-ℤ◌, ◌*ℤ◌, ◌≤ℤ◌, List, [], ◌∷◌, ◌++◌, length, get_or, set, take, drop, replicate, refl, sym, ◌∙◌, ap, subst, arith, length-take-le, length-append, take_all}
 use Rattle.std.proofs.lemmas.Int.{ints}
 use Rattle.std.proofs.lemmas.List.{length-map, drop_more, drop_all}
@@ -15,7 +15,7 @@ use Rattle.shape_strides.specs.IndexLaws.{length-index, length-indexes, number-l
 use Rattle.shape_strides.specs.AxisIndexes.{zero_filled}
 use Rattle.shape_strides.proofs.StepLaws.{length-padded, dot-padded, dot-push, dot-take_more, IsIndex-padded_push, rank-stepped, part_low, part_high, sum_start, sum_bounds, IsIndex-zeros, last-more}
 
--- axes as a layout
+-- the layout with these axes
 abbrev pub layout_of : (shape : List ℕ) (strides : List ℤ) (offset : ℕ) → AreAxes shape strides offset → Layout
 layout_of shape strides offset axes = record {
   shape = shape;
@@ -30,7 +30,7 @@ pub offsets-at : (l : Layout) → offsets l ≡ offsets_at l.shape l.strides l.o
 unfolding offsets
 offsets-at l = refl
 
--- the number before the zeros
+-- The number before the zeros is unchanged.
 pub get_or-padded_take : (shape index : List ℕ) (j : ℕ) → IsIndex shape index → j < length shape → get_or (zero_filled shape (take (suc j) index)) j 0 ≡ get_or index j 0
 get_or-padded_take [] index j in' below = absurd (omega arith)
 get_or-padded_take (n ∷ shape) [] j in' below = absurd in'
@@ -49,14 +49,15 @@ set-padded_zero (n ∷ shape) [] j in' below = absurd in'
 set-padded_zero (n ∷ shape) (k ∷ index) zero in' below = refl
 set-padded_zero (n ∷ shape) (k ∷ index) (suc j) in' below = ap (λ i. k ∷ i) (set-padded_zero shape index j in'.1 (omega arith))
 
--- the index as it was, in full
+-- Filling a whole index with zeros changes nothing.
 pub padded-all : (shape index : List ℕ) → IsIndex shape index → zero_filled shape index ≡ index
 padded-all [] [] in' = refl
 padded-all [] (k ∷ index) in' = absurd in'
 padded-all (n ∷ shape) [] in' = absurd in'
 padded-all (n ∷ shape) (k ∷ index) in' = ap (λ i. k ∷ i) (padded-all shape index in'.1)
 
--- The loop before it looks at an axis below a: the axes from a on were at their last numbers and are at 0 now.
+-- the state before the loop looks at the axes below `a`: the axes from `a` on were at their last numbers and are at 0
+-- now
 pub record StandsAt (shape : List ℕ) (strides : List ℤ) (start : ℕ) (old index : List ℕ) (a offset : ℕ) : Type 0 where
   pub within : a ≤ length shape
   pub index_is : index ≡ zero_filled shape (take a old)
@@ -76,7 +77,7 @@ starts_at {shape} {strides} {start} {index} {offset} in' is =
       last = rw (none, none') refl;
     }
 
--- The loop before axis j: the axes after it were at their last numbers and are at 0 now.
+-- the state before the loop looks at axis j: the axes after it were at their last numbers and are at 0 now
 pub record Turns (l : Layout) (old index : List ℕ) (j offset : ℕ) : Type 0 where
   pub in_shape : IsIndex l.shape old
   pub below : j < length l.shape
@@ -92,7 +93,7 @@ turns_at {shape} {strides} {start} {old} {index} {a} {offset} axes in' some at =
     let below : a - 1 < length shape = omega (arith, some, at.within) in
     record { in_shape = in'; below = below; few = axes.small (a - 1) 0 below; index_is = here.index_is; offset_is = here.offset_is; last = here.last }
 
--- what holds at axis j in any case
+-- The number at axis j is still the old one.
 pub number_is : {l : Layout} {old index : List ℕ} {j offset : ℕ} → Turns l old index j offset → get_or index j 0 ≡ get_or old j 0
 number_is {l} {old} {index} {j} {offset} t = ap (λ i. get_or i j 0) t.index_is ∙ get_or-padded_take l.shape old j t.in_shape t.below
 
@@ -106,7 +107,7 @@ pub offset-lt : {l : Layout} {old index : List ℕ} {j offset : ℕ} → Turns l
 offset-lt {l} {old} {index} {j} {offset} t =
     sum_start offset max_bytes (pos l.offset +ℤ dot l.strides (take (suc j) old)) t.offset_is (part_high l old (suc j) t.in_shape)
 
--- ---- one step on at axis j
+-- ---- axis j moves one step on
 
 -- the next index
 abbrev pub stepped : Layout → List ℕ → ℕ → List ℕ
@@ -136,7 +137,7 @@ set-stepped {l} {old} {index} {j} {offset} t = ap (λ i. set i j (get_or old j 0
 pub rank-next : {l : Layout} {old index : List ℕ} {j offset : ℕ} → Turns l old index j offset → rank l.shape (stepped l old j) ≡ rank l.shape old + 1
 rank-next {l} {old} {index} {j} {offset} t = rank-stepped l.shape old j t.in_shape t.below t.last
 
--- ---- back to 0 at axis j
+-- ---- axis j goes back to 0
 
 back_by : (off d d' at p : ℤ) → at ≡ off +ℤ d' → d' ≡ d +ℤ p → at -ℤ p ≡ off +ℤ d
 back_by off d d' at p is one = omega (arith, ints)
@@ -160,7 +161,7 @@ back-bounds {l} {old} {index} {j} {offset} t =
 pub set-back : {l : Layout} {old index : List ℕ} {j offset : ℕ} → Turns l old index j offset → set index j 0 ≡ zero_filled l.shape (take j old)
 set-back {l} {old} {index} {j} {offset} t = ap (λ i. set i j 0) t.index_is ∙ set-padded_zero l.shape old j t.in_shape t.below
 
--- the axis before is at its last number too
+-- If axis j is at its last number too, it goes back to 0, and the loop continues with the axis before it.
 pub stands_before : {l : Layout} {old index : List ℕ} {j offset back : ℕ} → Turns l old index j offset → get_or l.shape j 0 ≤ get_or index j 0 + 1 → pos back ≡ pos offset -ℤ get_or l.strides j (pos 0) *ℤ pos (get_or index j 0) → StandsAt l.shape l.strides l.offset old (set index j 0) j back
 stands_before {l} {old} {index} {j} {offset} {back} t top is =
     let number = number_is t in
@@ -174,24 +175,24 @@ stands_before {l} {old} {index} {j} {offset} {back} t top is =
 pub back-range : {l : Layout} {old index : List ℕ} {j offset : ℕ} → Turns l old index j offset → (pos 0 ≤ℤ (pos offset -ℤ get_or l.strides j (pos 0) *ℤ pos (get_or index j 0))) × ((pos offset -ℤ get_or l.strides j (pos 0) *ℤ pos (get_or index j 0)) ≤ℤ pos max_bytes)
 back-range {l} {old} {index} {j} {offset} t = rw (number_is t) (back-bounds t)
 
--- the index that is written is the next one
+-- The index that is written is the next one.
 pub set-next : {l : Layout} {old index : List ℕ} {j offset : ℕ} → Turns l old index j offset → set index j (get_or index j 0 + 1) ≡ stepped l old j
 set-next {l} {old} {index} {j} {offset} t = ap (λ k. set index j (k + 1)) (number_is t) ∙ set-stepped t
 
--- no axis is left: the index is the first one again
+-- If no axis remains, the index is the first one again.
 pub over : {shape : List ℕ} {strides : List ℤ} {start : ℕ} {old index : List ℕ} {a offset : ℕ} → a ≤ 0 → IsIndex shape old → StandsAt shape strides start old index a offset → IsIndex shape index × (rank shape old + 1 ≡ count shape) × (pos start ≡ address_at strides start index)
 over {shape} {strides} {start} {old} {index} {a} {offset} none in' at =
     let first : a ≡ 0 = omega (arith, none) in
     let here = subst (λ k. StandsAt shape strides start old index k offset) first at in
     (rw here.index_is (IsIndex-zeros shape old in'), here.last, sym (ap (λ z. pos start +ℤ z) (ap (dot strides) here.index_is ∙ dot-zeros strides shape) ∙ +ℤ_idr (pos start)))
 
--- ---- where the walk is over, or has not begun
+-- ---- the start and the end of a walk
 
 pub padded-nil : (shape : List ℕ) → replicate (length shape) 0 ≡ zero_filled shape []
 padded-nil [] = refl
 padded-nil (n ∷ shape) = ap (λ i. 0 ∷ i) (padded-nil shape)
 
--- a walk at the first index
+-- A walk begins at the first index.
 pub walk_begins : (shape : List ℕ) (strides : List ℤ) (start : ℕ) (index : List ℕ) (left : ℕ) → index ≡ zero_filled shape [] → left ≡ count shape → IsOnWalk shape strides start index start left
 walk_begins shape strides start index left zeros all = record {
   most = omega arith;
@@ -203,7 +204,7 @@ walk_begins shape strides start index left zeros all = record {
   };
 }
 
--- one item of a walk
+-- A walk takes one item.
 pub walk_step : (l : Layout) (index : List ℕ) (offset left : ℕ) → IsOnWalk l.shape l.strides l.offset index offset left → 0 < left → drop (count l.shape - left) (offsets l) ≡ offset ∷ drop (count l.shape - (left - 1)) (offsets l)
 walk_step l index offset left on some =
     let next = on.next some in
@@ -220,7 +221,7 @@ walk_step_at shape strides start index offset left axes on some =
     let l = layout_of shape strides start axes in
     subst (λ all. drop (count shape - left) all ≡ offset ∷ drop (count shape - (left - 1)) all) (offsets-at l) (walk_step l index offset left on some)
 
--- none is left
+-- Without items left, a walk is over.
 pub walk_over_at : (shape : List ℕ) (strides : List ℤ) (start left : ℕ) → left ≤ 0 → drop (count shape - left) (offsets_at shape strides start) ≡ []
 walk_over_at shape strides start left none =
     let at = λ (index : List ℕ). natural (address_at strides start index) in

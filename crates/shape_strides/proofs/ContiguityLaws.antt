@@ -1,4 +1,4 @@
--- Laws of addresses that lie one after another, and of the strides that say so.
+-- Laws of adjacent items, and of strides that make items adjacent.
 use Rattle.std.proofs.Common.{◌≡◌, ℕ, zero, suc, ◌+◌, ◌*◌, ◌^◌, ◌<◌, ◌≤◌, ◌≢◌, true, false, ◌==◌, ℤ, pos, ◌+ℤ◌, ◌*ℤ◌, List, [], ◌∷◌, length, get_or, drop, mul-le-mul, mul-le-mul_right, add-one, inl, inr, refl, sym, ◌∙◌, ap, arith, map, nat_le, unsigned_abs, negsuc, mul-zero, one-mul, mul-suc, zero-mul, mul_comm}
 use Rattle.std.proofs.lemmas.Bool.{cases_lt, cases_Bool, cond-true, cond-false, eqb-true, eq-eqb, and_parts, and_from, false_from_ne_true}
 use Rattle.std.proofs.lemmas.Bool.Decides.{nat_tests}
@@ -20,9 +20,9 @@ use Rattle.shape_strides.specs.inside.Reach.{max_reach}
 use Rattle.shape_strides.specs.CountLaws.{factors_pos, count-drop}
 use Rattle.shape_strides.specs.PermutationLaws.{factor-pos}
 
--- ---- addresses that go up by an item
+-- ---- addresses that grow by the size of an item
 
--- each address is an item after the one before
+-- Each address is `item` bytes after the previous one.
 pub record GoesUp (item : ℕ) (addresses : List ℕ) : Type 0 where
   pub next : (k : ℕ) → suc k < length addresses → get_or addresses (suc k) 0 ≡ get_or addresses k 0 + item
 
@@ -42,7 +42,7 @@ test_from_GoesUp item (a ∷ []) up = refl
 test_from_GoesUp item (a ∷ b ∷ addresses) up =
     and_from (b == a + item) (is_c_contiguous item (b ∷ addresses)) (eq-eqb b (a + item) (up.next 0 (omega arith))) (test_from_GoesUp item (b ∷ addresses) (record { next = λ k below. up.next (suc k) (omega arith) }))
 
--- the address at a place
+-- the address of the k-th item
 pub address_of_place : (item : ℕ) (addresses : List ℕ) (k : ℕ) → GoesUp item addresses → k < length addresses → get_or addresses k 0 ≡ get_or addresses 0 0 + item * k
 address_of_place item addresses zero up below = omega (arith, mul-zero item)
 address_of_place item addresses (suc k) up below =
@@ -50,14 +50,14 @@ address_of_place item addresses (suc k) up below =
     let step = up.next k below in
     omega (arith, mul-suc item k)
 
--- ---- strides that step over all the items of the axes after
+-- ---- strides that step over all items of the axes after them
 
--- each axis of 2 items or more does
+-- Each axis of 2 items or more steps over all items of the axes after it.
 abbrev pub StepsOver : ℕ → List ℤ → List ℕ → Type 0
 StepsOver item (stride ∷ strides) (n ∷ shape) = (2 ≤ n → stride ≡ pos (count shape * item)) × StepsOver item strides shape
 StepsOver item _ _ = Unit {0}
 
--- an axis of length 1 adds nothing
+-- An axis of length 1 adds nothing.
 axis_part : (item c k n r : ℕ) (stride : ℤ) → k < n → (2 ≤ n → stride ≡ pos (c * item)) → stride *ℤ pos k +ℤ pos (item * r) ≡ pos (item * (k * c + r))
 axis_part item c zero n r stride below steps =
     let none : r ≡ zero * c + r = omega (arith, zero-mul c) in
@@ -75,12 +75,12 @@ dot-steps item (s ∷ strides) (n ∷ shape) [] same steps in' = absurd in'
 dot-steps item (s ∷ strides) (n ∷ shape) (k ∷ index) same steps in' =
     ap (λ z. s *ℤ pos k +ℤ z) (dot-steps item strides shape index (omega arith) steps.1 in'.1) ∙ axis_part item (count shape) k n (rank shape index) s in'.0 steps.0
 
--- one more axis before
+-- If the axes after axis k have such strides and axis k does too, so do the axes from k on.
 pub StepsOver-more : (item : ℕ) (strides : List ℤ) (shape : List ℕ) (k : ℕ) → length strides ≡ length shape → k < length shape → (2 ≤ get_or shape k 0 → get_or strides k (pos 0) ≡ pos (count (drop (k + 1) shape) * item)) → StepsOver item (drop (k + 1) strides) (drop (k + 1) shape) → StepsOver item (drop k strides) (drop k shape)
 StepsOver-more item strides shape k same below first later =
     rw (drop_more strides k (pos 0) (omega arith), drop_more shape k 0 below) (first, later)
 
--- ---- the addresses of a layout whose strides do
+-- ---- the addresses of a layout with such strides
 
 pub entry-steps : (l : Layout) (item k : ℕ) → StepsOver item l.strides l.shape → k < count l.shape → get_or (offsets l) k 0 ≡ l.offset + item * k
 entry-steps l item k steps below =
@@ -96,7 +96,7 @@ GoesUp-steps l item steps = record {
 
 -- ---- the index that is 1 along an axis and 0 along the others
 
--- the address there
+-- The address at this index is one stride after the first.
 pub entry-unit : (l : Layout) (axis : ℕ) → 0 < count l.shape → axis < length l.shape → 2 ≤ get_or l.shape axis 0 → pos (get_or (offsets l) (count (drop (suc axis) l.shape)) 0) ≡ pos l.offset +ℤ get_or l.strides axis (pos 0)
 entry-unit l axis some below long =
     ap (λ r. pos (get_or (offsets l) r 0)) (sym (rank-unit l.shape axis below)) ∙ pos-offset l (unit l.shape axis) 0 (IsIndex-unit l.shape axis some below long) ∙ ap (λ z. pos l.offset +ℤ z) (dot-unit l.strides l.shape axis l.one_stride_an_axis below)
@@ -105,7 +105,7 @@ unit-lt : (l : Layout) (axis : ℕ) → 0 < count l.shape → axis < length l.sh
 unit-lt l axis some below long =
     omega (arith, length-offsets l, rank-unit l.shape axis below, rank-lt l.shape (unit l.shape axis) (IsIndex-unit l.shape axis some below long))
 
--- where the addresses go up by an item, so do the strides
+-- If the addresses grow by the size of an item, the strides step over all items of the axes after them.
 pub steps_from_GoesUp : (l : Layout) (item axis : ℕ) → 0 < count l.shape → axis < length l.shape → 2 ≤ get_or l.shape axis 0 → GoesUp item (offsets l) → get_or l.strides axis (pos 0) ≡ pos (count (drop (suc axis) l.shape) * item)
 steps_from_GoesUp l item axis some below long up =
     let c = count (drop (suc axis) l.shape) in
@@ -115,7 +115,7 @@ steps_from_GoesUp l item axis some below long up =
     let turned : item * c ≡ c * item = mul_comm item c in
     omega (arith, ints)
 
--- ---- the test of a layout
+-- ---- the test for a layout
 
 pub is_c-empty : (l : Layout) (item : ℕ) → count l.shape ≡ 0 → is_c_contiguous item (offsets l) ≡ true
 is_c-empty l item none =
@@ -124,14 +124,14 @@ is_c-empty l item none =
 pub is_c-true : (l : Layout) (item : ℕ) → StepsOver item l.strides l.shape → is_c_contiguous item (offsets l) ≡ true
 is_c-true l item steps = test_from_GoesUp item (offsets l) (GoesUp-steps l item steps)
 
--- one axis that steps over other bytes
+-- If an axis steps over another number of bytes, the layout is not C contiguous.
 pub is_c-false : (l : Layout) (item axis bytes : ℕ) → 0 < count l.shape → axis < length l.shape → bytes ≡ count (drop (axis + 1) l.shape) * item → get_or l.shape axis 0 ≢ 1 → get_or l.strides axis (pos 0) ≢ pos bytes → is_c_contiguous item (offsets l) ≡ false
 is_c-false l item axis bytes some below is long other =
     let some_there = factor-pos l.shape axis some below in
     false_from_ne_true (is_c_contiguous item (offsets l)) (λ test.
     other (steps_from_GoesUp l item axis some below (omega (arith, long)) (GoesUp-from_test item (offsets l) test) ∙ ap pos (sym (is ∙ ap (λ k. count (drop k l.shape) * item) (add-one axis)))))
 
--- ---- the bytes of the axes from one on
+-- ---- the bytes of the axes from k on
 
 count-drop-le : (shape : List ℕ) (k : ℕ) → 0 < count shape → count (drop k shape) ≤ count shape
 count-drop-le [] zero some = omega arith
@@ -142,7 +142,7 @@ count-drop-le (n ∷ shape) (suc k) some =
     let grown : 1 * count shape ≤ n * count shape = mul-le-mul_right (count shape) both.0 in
     omega (arith, count-drop-le shape k both.1, one-mul (count shape))
 
--- so many items and fewer are no longer than an axis may reach
+-- The bytes of at most max_items items are within the largest reach of an axis.
 pub product-bound : (items bytes item : ℕ) → items ≤ max_items → item < 2 ^ 64 → bytes ≡ items * item → bytes ≤ max_reach
 product-bound items bytes item few small is =
     let most : item ≤ 2 ^ 64 = omega arith in
@@ -158,7 +158,7 @@ bytes-step shape k bytes item below is =
     let turned : c * item * n ≡ n * c * item = grind arith in
     ap (λ b. b * n) is ∙ turned ∙ ap (λ x. x * item) (sym (count-drop shape k below))
 
--- ---- the strides that are printed
+-- ---- printed strides
 
 pub printed-short : (shape addresses : List ℕ) (axis : ℕ) → axis < length shape → get_or shape axis 0 < 2 → get_or (printed_strides shape addresses) axis (pos 0) ≡ pos 0
 printed-short shape addresses axis below short =
@@ -172,7 +172,7 @@ printed-long l axis some below long =
     let first = entry-first l some in
     printed-at l.shape (offsets l) axis below ∙ cond-true (nat_le 2 (get_or l.shape axis 0)) _ _ test ∙ omega (arith, ints)
 
--- without items each is 0
+-- Without items, each printed stride is 0.
 pub printed-empty : (shape : List ℕ) → printed_strides shape [] ≡ map (λ _. pos 0) shape
 printed-empty [] = refl
 printed-empty (n ∷ shape) = elim (cases_Bool (nat_le 2 n)) [
@@ -196,7 +196,7 @@ printed-entry l axis stride below short long = elim (cases_lt (get_or l.shape ax
   ]
 ]
 
--- none is longer than the buffer
+-- A printed stride is not longer than the buffer.
 gap-small : (s : ℤ) (a b n : ℕ) → pos a ≡ pos b +ℤ s → a ≤ n → b ≤ n → unsigned_abs s ≤ n
 gap-small (pos x) a b n is low low' = omega (arith, ints)
 gap-small (negsuc x) a b n is low low' = omega (arith, ints)

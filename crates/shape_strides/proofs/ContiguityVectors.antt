@@ -1,4 +1,4 @@
--- What is said of strides and order, at arrays whose strides and flags NumPy gives.
+-- Examples of the definitions of strides and contiguity: arrays whose strides and flags NumPy gives.
 use Rattle.std.proofs.Common.{◌≡◌, true, false, pos, negsuc, [], ◌∷◌, codes, refl, arith}
 use Rattle.std.proofs.lemmas.List.Sorted.{IsPermutation-refl}
 use Rattle.std.specs.Fmt.{digits}
@@ -49,7 +49,7 @@ backwards_c = refl
 backwards_f : is_f_contiguous 4 (3 ∷ []) (16 ∷ 8 ∷ 0 ∷ []) ≡ false
 backwards_f = refl
 
--- `numpy.zeros(5, "<i4")[3:4]`, whose one item is in both orders
+-- `numpy.zeros(5, "<i4")[3:4]`, whose one item is contiguous in both orders
 single_strides : printed_strides (1 ∷ []) (12 ∷ []) ≡ pos 0 ∷ []
 single_strides = refl
 
@@ -66,7 +66,7 @@ column_f = refl
 column_c_of_12 : is_c_contiguous 12 (0 ∷ 12 ∷ []) ≡ true
 column_c_of_12 = refl
 
--- without items, and without axes
+-- arrays without items, and without axes
 empty_strides : printed_strides (2 ∷ 0 ∷ []) [] ≡ pos 0 ∷ pos 0 ∷ []
 empty_strides = refl
 
@@ -88,7 +88,7 @@ negative_text : strides_text (negsuc 7 ∷ pos 4 ∷ []) ≡ codes "(-8, 4)"
 unfolding digits
 negative_text = refl
 
--- ---- axes that step clear of one another
+-- ---- axes that step over what the axes before them reach
 
 -- `numpy.zeros((2, 3), "<i4").T`: the axis of 4 bytes, then that of 12
 transposed_stacks : CanStack (axes (pos 4 ∷ pos 12 ∷ []) (3 ∷ 2 ∷ [])) 4

@@ -1,4 +1,4 @@
--- Laws of the number of items: the product that is capped, and the one that is divided.
+-- Laws of the number of items: the capped product and its division.
 use Rattle.std.proofs.Common.{◌≡◌, ℕ, suc, ◌+◌, ◌*◌, ◌/◌, ◌<◌, min, ℤ, pos, List, [], ◌∷◌, map, length, get_or, drop, inl, inr, refl, sym, ◌∙◌, ap, arith, mul_assoc, mul_comm, mul-div_cancel}
 use Rattle.std.proofs.lemmas.Bool.{cases_lt}
 use Rattle.std.proofs.lemmas.List.{drop_more, length-map}
@@ -6,14 +6,14 @@ use Rattle.shape_strides.specs.Indexes.{count}
 use Rattle.shape_strides.specs.Layouts.{c_strides}
 use Rattle.shape_strides.specs.CountLaws.{factors_pos, min-mul, count-drop}
 
--- one more factor of the capped product
+-- The capped product takes one more factor.
 pub capped-more : (lengths : List ℕ) (k items top : ℕ) → k < length lengths → min (min (items * get_or lengths k 0) top * count (drop (k + 1) lengths)) top ≡ min (items * count (drop k lengths)) top
 capped-more lengths k items top below =
     let n = get_or lengths k 0 in
     let c = count (drop (k + 1) lengths) in
     min-mul (items * n) c top ∙ ap (λ x. min x top) (mul_assoc items n c ∙ ap (λ x. items * x) (sym (count-drop lengths k below)))
 
--- the bytes of an axis, divided by its length, are the bytes of one step along it
+-- The bytes of an axis divided by its length are the bytes of one step along it.
 pub bytes-more : (lengths : List ℕ) (k bytes item : ℕ) → k < length lengths → 0 < bytes → bytes ≡ count (drop k lengths) * item → (bytes / get_or lengths k 0 ≡ count (drop (k + 1) lengths) * item) × (0 < bytes / get_or lengths k 0)
 bytes-more lengths k bytes item below some is =
     let n = get_or lengths k 0 in
@@ -32,7 +32,7 @@ pub length-c_strides : (item : ℕ) (shape : List ℕ) → length (c_strides ite
 length-c_strides item [] = refl
 length-c_strides item (n ∷ shape) = ap suc (length-c_strides item shape)
 
--- strides of some order, where there is an item, and else of 0
+-- strides in some order if there are items, and 0 otherwise
 pub length-ordered : (shape : List ℕ) (ordered strides : List ℤ) → length ordered ≡ length shape → (0 < count shape → strides ≡ ordered) → (count shape ≡ 0 → strides ≡ map (λ _. pos 0) shape) → length strides ≡ length shape
 length-ordered shape ordered strides same some none =
     elim (cases_lt 0 (count shape)) [

@@ -1,4 +1,4 @@
--- Laws of Fortran order: the axes in reverse.
+-- Laws of Fortran order, which is C order with the axes reversed.
 use Rattle.std.proofs.Common.{◌≡◌, ℕ, zero, suc, ◌+◌, ◌*◌, ◌^◌, ◌-◌, ◌<◌, ◌≤◌, ◌≢◌, true, false, ℤ, pos, ◌+ℤ◌, ◌*ℤ◌, List, [], ◌∷◌, ◌++◌, map, reverse, length, get_or, take, drop, refl, sym, ◌∙◌, ap, arith, mul_comm, mul-one, one-mul, mul-le-mul_left, length-drop, take_all, inl, inr, All, subst}
 use Rattle.std.proofs.lemmas.Bool.{cases_order}
 use Rattle.std.proofs.lemmas.Int.{ints}
@@ -21,7 +21,7 @@ use Rattle.shape_strides.proofs.CountLaws.{length-c_strides, length-ordered}
 use Rattle.shape_strides.proofs.ContiguityLaws.{StepsOver, product-bound, is_c-empty, is_c-true, is_c-false}
 use Rattle.shape_strides.specs.ReverseLaws.{reverse-cons, count-append, count-reverse, IsIndex-reverse, IsIndex-from_reverse}
 
--- ---- lists in reverse
+-- ---- reversed lists
 
 pub dot-append : (strides strides' : List ℤ) (index index' : List ℕ) → length strides ≡ length index → dot (strides ++ strides') (index ++ index') ≡ dot strides index +ℤ dot strides' index'
 dot-append [] strides' [] index' same = sym (+ℤ_idl (dot strides' index'))
@@ -40,7 +40,7 @@ dot-reverse (s ∷ strides) [] same = absurd (omega arith)
 dot-reverse (s ∷ strides) (k ∷ index) same =
     rw (reverse-cons s strides, reverse-cons k index) (dot-append (reverse strides) (s ∷ []) (reverse index) (k ∷ []) (omega (arith, length-reverse strides, length-reverse index)) ∙ turned_sum (dot (reverse strides) (reverse index)) (s *ℤ pos k) ∙ ap (λ z. s *ℤ pos k +ℤ z) (dot-reverse strides index (omega arith)))
 
--- ---- a layout with its axes in reverse
+-- ---- a layout with its axes reversed
 
 address_reversed : (shape : List ℕ) (strides : List ℤ) (offset : ℕ) (index : List ℕ) → length strides ≡ length shape → IsIndex (reverse shape) index → address_at (reverse strides) offset index ≡ address_at strides offset (reverse index)
 address_reversed shape strides offset index one in' =
@@ -73,7 +73,7 @@ reversed l = record {
 pub address-reversed : (l : Layout) (index : List ℕ) → IsIndex (reverse l.shape) index → address (reversed l) index ≡ address l (reverse index)
 address-reversed l index in' = address_reversed l.shape l.strides l.offset index l.one_stride_an_axis in'
 
--- its items in C order are those of the layout in Fortran order
+-- The items of the reversed layout in C order are those of the layout in Fortran order.
 pub fortran_order-offsets : (l : Layout) → fortran_order l.shape (offsets l) ≡ offsets (reversed l)
 unfolding offsets
 fortran_order-offsets l =
@@ -97,13 +97,13 @@ IsShape-reverse shape is = record {
   items = subst (λ n. n ≤ max_items) (sym (count-reverse shape)) is.items;
 }
 
--- ---- the test of a layout
+-- ---- the test for a layout
 
 pub is_f-empty : (l : Layout) (item : ℕ) → count l.shape ≡ 0 → is_f_contiguous item l.shape (offsets l) ≡ true
 is_f-empty l item none =
     ap (is_c_contiguous item) (fortran_order-offsets l) ∙ is_c-empty (reversed l) item (count-reverse l.shape ∙ none)
 
--- the first axes in reverse, with one more
+-- the first k + 1 entries, reversed
 pub reverse-take_more : {X : Type 0} (xs : List X) (k : ℕ) (d : X) → k < length xs → reverse (take (k + 1) xs) ≡ get_or xs k d ∷ reverse (take k xs)
 reverse-take_more xs k d below = ap reverse (take_more xs k d below) ∙ reverse-append (take k xs) (get_or xs k d ∷ [])
 
@@ -135,14 +135,14 @@ is_f-true l item k all steps =
     let whole = rw (lengths, strides) at steps in
     ap (is_c_contiguous item) (fortran_order-offsets l) ∙ is_c-true (reversed l) item whole
 
--- the axes after one, in reverse, stand before it
+-- The axes before axis k come after it in the reversed list.
 drop-reverse : {X : Type 0} (xs : List X) (k : ℕ) → k < length xs → drop (length xs - 1 - k + 1) (reverse xs) ≡ reverse (take k xs)
 drop-reverse xs k below =
     let parts : xs ≡ take k xs ++ drop k xs = sym (take-append-drop k xs) in
     let front : length (reverse (drop k xs)) ≡ length xs - 1 - k + 1 = omega (arith, length-reverse (drop k xs), length-drop k xs) in
     ap (λ ys. drop (length xs - 1 - k + 1) (reverse ys)) parts ∙ ap (drop (length xs - 1 - k + 1)) (reverse-append (take k xs) (drop k xs)) ∙ ap (λ j. drop j (reverse (drop k xs) ++ reverse (take k xs))) (sym front) ∙ drop-append_seam (reverse (drop k xs)) (reverse (take k xs))
 
--- an entry from the front stands so far from the back
+-- The entry at position k is k entries before the last of the reversed list.
 get_or-reverse_back : {X : Type 0} (xs : List X) (k : ℕ) (d : X) → k < length xs → get_or (reverse xs) (length xs - 1 - k) d ≡ get_or xs k d
 get_or-reverse_back xs k d below =
     let back : length xs - 1 - (length xs - 1 - k) ≡ k = omega arith in
@@ -170,7 +170,7 @@ c_strides-push item (m ∷ shape) n =
     let total : count (shape ++ n ∷ []) * item ≡ count shape * (item * n) = ap (λ c. c * item) (count-append shape (n ∷ []) ∙ ap (λ c. count shape * c) last) ∙ turned in
     ap (λ k. pos k ∷ c_strides item (shape ++ n ∷ [])) total ∙ ap (λ s. pos (count shape * (item * n)) ∷ s) (c_strides-push item shape n)
 
--- those of C order for the axes in reverse, in reverse
+-- The strides of Fortran order are those of C order for the reversed axes, reversed.
 pub f_strides-reverse : (item : ℕ) (shape : List ℕ) → f_strides item shape ≡ reverse (c_strides item (reverse shape))
 f_strides-reverse item [] = refl
 f_strides-reverse item (n ∷ shape) =
@@ -187,7 +187,7 @@ dot-f_strides item shape index in' =
     let same : length steps ≡ length (reverse index) = omega (arith, length-c_strides item (reverse shape), length-reverse shape, length-reverse index) in
     ap (λ s. dot s index) (f_strides-reverse item shape) ∙ ap (dot (reverse steps)) (sym (reverse-reverse index)) ∙ dot-reverse steps (reverse index) same ∙ dot-c_strides item (reverse shape) (reverse index) (IsIndex-reverse shape index in')
 
--- each address is the item's size times the rank where the first axis runs fastest
+-- Each address is the size of an item times its rank with the first axis changing fastest.
 pub record StandsInFOrder (shape : List ℕ) (strides : List ℤ) (offset item : ℕ) : Type 0 where
   pub addresses : (index : List ℕ) → IsIndex shape index → address_at strides offset index ≡ pos (item * rank (reverse shape) (reverse index))
 
@@ -199,7 +199,7 @@ unfolding offsets
 f_order_offsets l shape item same stands =
     same_on_indexes l.shape (λ index. natural (address l index)) (λ index. item * rank (reverse l.shape) (reverse index)) (λ index in'. ap natural (stands.addresses index in')) ∙ ap (f_multiples item) same
 
--- with its axes in reverse it stands in C order
+-- With its axes reversed, the layout is in C order.
 reversed_stands : (l : Layout) (item : ℕ) → StandsInFOrder l.shape l.strides l.offset item → StandsInCOrder (reverse l.shape) (reverse l.strides) l.offset item
 reversed_stands l item stands = record {
   addresses = λ index in'.
@@ -237,9 +237,9 @@ step-more lengths k step below =
 pub count-rest : (lengths : List ℕ) (k : ℕ) → k < length lengths → 0 < count (drop k lengths) → 0 < count (drop (k + 1) lengths)
 count-rest lengths k below some = (factors_pos (get_or lengths k 0) (count (drop (k + 1) lengths)) (omega (arith, count-drop lengths k below))).1
 
--- ---- different items lie apart
+-- ---- different items do not overlap
 
--- different multiples of a number
+-- Different multiples of a number differ by at least that number.
 multiples_apart : (item a b : ℕ) → a ≢ b → item ≤ distance (item * a) (item * b)
 multiples_apart item a b other = elim (cases_order a b) [
   | inl same ↦ absurd (other same)

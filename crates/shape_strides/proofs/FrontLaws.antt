@@ -1,4 +1,4 @@
--- Laws of runs along the last one of axes, and of the axes outside of it.
+-- Laws of runs along the last axis, and of the axes outside of it.
 use Rattle.std.proofs.Common.{◌≡◌, ℕ, ◌*◌, ◌<◌, ◌≤◌, ℤ, pos, List, [], ◌∷◌, ◌++◌, map, refl, sym, ◌∙◌, ap, subst, arith, mul-le-mul_left, mul-le-mul_right}
 use Rattle.std.specs.List.{AllByRecursion as Each}
 use Rattle.elem_descr.specs.Steps.{numbers_from}
@@ -18,9 +18,9 @@ use Rattle.shape_strides.proofs.JoinedLaws.{addresses, addresses-indexes, addres
 use Rattle.shape_strides.proofs.RunLaws.{Each-indexes}
 use Rattle.shape_strides.proofs.StartLaws.{count-joined, lengths_of-axes}
 
--- ---- the runs of axes with a last one
+-- ---- the runs of axes that end with one axis
 
--- a run from each address that the axes outside of it lead to
+-- There is a run from each address that the outer axes lead to.
 pub runs_from-front : (at : ℤ) (front : List StridedAxis) (run : StridedAxis) → runs_from at (front ++ run ∷ []) ≡ map (λ z. run_along run (natural z)) (addresses at front)
 runs_from-front at [] run = refl
 runs_from-front at (axis ∷ []) run =
@@ -30,14 +30,14 @@ runs_from-front at (axis ∷ inner ∷ front) run =
     let start : ℤ → Run = λ z. run_along run (natural z) in
     flat_map_same (λ next. runs_from next (inner ∷ front ++ run ∷ [])) (λ next. map start (addresses next (inner ∷ front))) (λ next. runs_from-front next (inner ∷ front) run) (numbers_from at axis.stride axis.len) ∙ sym (map-flat_map start (λ next. addresses next (inner ∷ front)) (numbers_from at axis.stride axis.len))
 
--- ---- each address lies within the limit
+-- ---- each address is within the limit
 
 pub in_bytes : (l : Layout) → Each IsInBytes (addresses (pos l.offset) (all_joined (strided_axes l.strides l.shape)))
 in_bytes l =
     let same = addresses-joined (pos l.offset) (strided_axes l.strides l.shape) ∙ addresses-indexes (pos l.offset) l.strides l.shape l.one_stride_an_axis in
     subst (Each IsInBytes) (sym same) (Each-indexes IsInBytes (address l) l.shape (λ index in'. (l.within_limit.from_zero index in', l.within_limit.within index in')))
 
--- ---- how many they are
+-- ---- the number of runs
 
 pub lengths-low : (lengths : List ℕ) (top : ℕ) → 0 < count lengths → count lengths ≤ top → Each (λ n. n ≤ top) lengths
 lengths-low [] top some low = tt

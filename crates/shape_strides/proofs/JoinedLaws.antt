@@ -27,7 +27,7 @@ pub flat_map-id : (zs : List ℤ) → flat_map (λ z. z ∷ []) zs ≡ zs
 flat_map-id [] = refl
 flat_map-id (z ∷ zs) = ap (λ rest. z ∷ rest) (flat_map-id zs)
 
--- n times m numbers, where one step leads over m steps
+-- n * m numbers, grouped by m: one step of `t` leads over m steps of `s`
 pub numbers-times : (at s t : ℤ) (m n : ℕ) → t ≡ s *ℤ pos m → numbers_from at s (n * m) ≡ flat_map (λ next. numbers_from next s m) (numbers_from at t n)
 numbers-times at s t m zero over = ap (numbers_from at s) (zero-mul m)
 numbers-times at s t m (suc n) over =
@@ -36,7 +36,7 @@ numbers-times at s t m (suc n) over =
 
 -- ---- the addresses that axes lead to
 
--- in C order, from an address on
+-- the addresses in C order, starting at `at`
 abbrev pub addresses : ℤ → List StridedAxis → List ℤ
 addresses at [] = at ∷ []
 addresses at (axis ∷ axes) = flat_map (λ next. addresses next axes) (numbers_from at axis.stride axis.len)
@@ -44,7 +44,7 @@ addresses at (axis ∷ axes) = flat_map (λ next. addresses next axes) (numbers_
 pub flat_map-one : {Y : Type 0} (f : ℤ → List Y) (at s : ℤ) → flat_map f (numbers_from at s 1) ≡ f at
 flat_map-one f at s = append-nil (f (at +ℤ s *ℤ pos 0)) ∙ ap f (none_more at s)
 
--- an axis of length 1
+-- An axis of length 1 does not change the addresses.
 addresses-single : (at : ℤ) (axis : StridedAxis) (axes : List StridedAxis) → axis.len ≡ 1 → addresses at axes ≡ addresses at (axis ∷ axes)
 addresses-single at axis axes one =
     sym (flat_map-one (λ next. addresses next axes) at axis.stride) ∙ ap (λ n. flat_map (λ next. addresses next axes) (numbers_from at axis.stride n)) (sym one)
@@ -79,7 +79,7 @@ addresses-indexes at (s ∷ strides) (n ∷ shape) same =
     addresses-indexes (at +ℤ s *ℤ pos k) strides shape (omega arith) ∙ map_same (λ i. (at +ℤ s *ℤ pos k) +ℤ dot strides i) (λ i. whole (k ∷ i)) (λ i. +ℤ_assoc at (s *ℤ pos k) (dot strides i)) (indexes shape) ∙ sym (map-map whole (λ i. k ∷ i) (indexes shape)) in
     flat_map-map later (λ k. at +ℤ s *ℤ pos k) (range_with_len 0 n) ∙ flat_map_same (λ k. later (at +ℤ s *ℤ pos k)) (λ k. map whole (map (λ i. k ∷ i) (indexes shape))) one (range_with_len 0 n) ∙ sym (map-flat_map whole (λ k. map (λ i. k ∷ i) (indexes shape)) (range_with_len 0 n))
 
--- as the axes lead to them, joined or not
+-- The addresses are the same whether the axes are joined or not.
 pub offsets-addresses : (l : Layout) → offsets l ≡ map natural (addresses (pos l.offset) (strided_axes l.strides l.shape))
 unfolding offsets
 offsets-addresses l =

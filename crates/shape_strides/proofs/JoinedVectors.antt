@@ -1,4 +1,4 @@
--- Axes that join, and the runs of arrays, at arrays whose shapes and strides NumPy gives.
+-- Examples of joined axes and of runs: arrays whose shapes and strides NumPy gives.
 use Rattle.std.proofs.Common.{◌≡◌, pos, negsuc, [], ◌∷◌, refl, arith, lit≤}
 use Rattle.shape_strides.specs.declared.layout.Layout.{Layout}
 use Rattle.shape_strides.specs.Joined.{strided_axes, all_joined}
@@ -36,7 +36,7 @@ one_item_stretched = refl
 row_stretched : all_joined (strided_axes (pos 0 ∷ pos 4 ∷ []) (2 ∷ 3 ∷ [])) ≡ record { len = 2; stride = pos 0 } ∷ record { len = 3; stride = pos 4 } ∷ []
 row_stretched = refl
 
--- `a[:, :1]`, and with odd strides for all axes of length 1, as `numpy.lib.stride_tricks.as_strided` takes them
+-- `a[:, :1]`, and arrays with unusual strides on axes of length 1, as `numpy.lib.stride_tricks.as_strided` makes them
 middle_single : all_joined (strided_axes (pos 48 ∷ pos 16 ∷ pos 4 ∷ []) (2 ∷ 1 ∷ 4 ∷ [])) ≡ record { len = 2; stride = pos 48 } ∷ record { len = 4; stride = pos 4 } ∷ []
 middle_single = refl
 
@@ -80,7 +80,7 @@ empty_runs : runs empty ≡ []
 unfolding empty runs
 empty_runs = refl
 
--- `numpy.zeros((2, 2), "<i4")`, into which those rows are copied
+-- `numpy.zeros((2, 2), "<i4")`, to which those rows are copied
 square : Layout
 square = record { shape = 2 ∷ 2 ∷ []; strides = pos 8 ∷ pos 4 ∷ []; offset = 0; one_stride_an_axis = refl; within_limit = LieWithin-from_reach _ _ _ _ _ (lit≤ tt) (lit≤ tt); zero_if_empty = λ none. absurd (omega arith) }
 

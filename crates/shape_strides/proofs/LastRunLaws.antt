@@ -1,4 +1,4 @@
--- Laws of the run that the last axes of a layout make: a run begins at each offset that the axes outside of it lead to.
+-- Laws of the run that the last axes of a layout make: a run begins at each offset that the outer axes lead to.
 use Rattle.std.proofs.Common.{◌≡◌, ℕ, zero, suc, ◌-◌, ◌*◌, ◌/◌, ◌<◌, ◌≤◌, ◌==◌, cond, ℤ, pos, ◌+ℤ◌, ◌*ℤ◌, ◌≤ℤ◌, List, [], ◌∷◌, ◌++◌, map, length, get_or, take, drop, refl, sym, ◌∙◌, ap, subst, arith, mul_assoc, mul-le-mul_left, length-append, length-take, one-mul}
 use Rattle.std.proofs.Math.Nat.{mul-div_cancel}
 use Rattle.std.proofs.lemmas.Bool.{cond_both, cond-true, cond-false, ne_eqb, eqb-true}
@@ -27,7 +27,7 @@ use Rattle.shape_strides.proofs.FrontLaws.{runs_from-front, lengths-low}
 use Rattle.shape_strides.proofs.SingleLaws.{two_of_later}
 use Rattle.shape_strides.proofs.AdvanceLaws.{offsets-at}
 
--- ---- axes outside of the last two that stay apart
+-- ---- axes outside of two axes that do not join
 
 join-before : (axis : StridedAxis) (front : List StridedAxis) (last : StridedAxis) → 1 ≤ length front → join_outside axis (front ++ last ∷ []) ≡ join_outside axis front ++ last ∷ []
 join-before axis [] last some = absurd (omega arith)
@@ -54,14 +54,14 @@ last_split (s ∷ strides) (n ∷ lengths) (suc j) along same below long two =
 
 -- ---- the runs
 
--- a run from each address that the axes outside lead to
+-- There is a run from each address that the outer axes lead to.
 starts-are : (shape : List ℕ) (strides : List ℤ) (offset : ℕ) (along : StridedAxis) → length strides ≡ length shape → map (run_along along) (offsets_at shape strides offset) ≡ map (λ z. run_along along (natural z)) (addresses (pos offset) (strided_axes strides shape))
 starts-are shape strides offset along same =
     let at = λ (index : List ℕ). address_at strides offset index in
     map-map (run_along along) (λ index. natural (at index)) (indexes shape)
     ∙ sym (ap (map (λ z. run_along along (natural z))) (addresses-indexes (pos offset) strides shape same) ∙ map-map (λ z. run_along along (natural z)) at (indexes shape))
 
--- all axes are joined to one, or to none
+-- If all axes join to at most one, there is one run.
 runs_from-single : (at : ℤ) (along : StridedAxis) → (along.len ≡ 1 → along.stride ≡ pos 0) → runs_from at (if_long along) ≡ run_along along (natural at) ∷ []
 runs_from-single at along single =
     cond_both (along.len == 1) [] (along ∷ []) (λ axes. runs_from at axes ≡ run_along along (natural at) ∷ []) (λ one.
@@ -86,14 +86,14 @@ runs-last l (suc j) along some last =
     ∙ ap (map start) (sym (addresses-joined (pos l.offset) (strided_axes ts th)))
     ∙ sym (runs-some l some ∙ ap (runs_from (pos l.offset)) is ∙ runs_from-front (pos l.offset) (all_joined (strided_axes ts th)) along)
 
--- and no run where there are no items
+-- Without items there is no run.
 pub runs-empty : (l : Layout) (shape : List ℕ) (strides : List ℤ) (offset : ℕ) (along : StridedAxis) → l.shape ≡ shape → l.strides ≡ strides → l.offset ≡ offset → count l.shape ≡ 0 → map (run_along along) (offsets_at shape strides offset) ≡ runs l
 runs-empty l shape strides offset along is is' is'' none =
     (λ i. map (run_along along) (offsets_at (sym is i) (sym is' i) (sym is'' i)))
     ∙ ap (map (run_along along)) (sym (offsets-at l) ∙ offsets-none l none)
     ∙ sym (runs-none l none)
 
--- ---- the axes outside
+-- ---- the outer axes
 
 pub count-split : (shape : List ℕ) (k : ℕ) → count (take k shape) * count (drop k shape) ≡ count shape
 count-split shape zero = one-mul (count shape)
@@ -133,7 +133,7 @@ outside-axes shape strides offset k some low axes =
       zero_if_empty = λ none. absurd (omega (arith, both.0));
     }
 
--- how many runs there are
+-- the number of runs
 pub starts-count : (shape : List ℕ) (strides : List ℤ) (items outside : ℕ) (along : StridedAxis) → items ≡ count shape → 0 < items → IsLastRun strides shape outside along → (0 < along.len) × (items / along.len ≡ count (take outside shape))
 starts-count shape strides items outside along all some last =
     let whole : count (take outside shape) * along.len ≡ items = ap (λ n. count (take outside shape) * n) last.inside.items ∙ count-split shape outside ∙ sym all in

@@ -33,7 +33,7 @@ dot-c_strides item (n ∷ shape) (k ∷ index) in' =
     let total : count shape * item * k + item * rank shape index ≡ item * (k * count shape + rank shape index) = grind arith in
     ap (λ z. pos (count shape * item * k) +ℤ z) later ∙ ap pos total
 
--- each address is the rank times the item size
+-- Each address is the rank times the size of an item.
 pub record StandsInCOrder (shape : List ℕ) (strides : List ℤ) (offset item : ℕ) : Type 0 where
   pub addresses : (index : List ℕ) → IsIndex shape index → address_at strides offset index ≡ pos (item * rank shape index)
 
@@ -74,13 +74,13 @@ IsNested-multiples item n = record {
       omega (arith, mul-step item j k before);
 }
 
--- an address from the start, by strides that were made of a shape where it has items
+-- The address at an index, counted from the start of the buffer, for strides that follow an order if there are items.
 pub address-made : (made : List ℕ) (strides : List ℤ) (shape : List ℕ) (order : List ℕ → List ℤ) → made ≡ shape → (0 < count shape → strides ≡ order shape) → (index : List ℕ) → IsIndex made index → address_at strides 0 index ≡ dot (order made) index
 address-made made strides shape order same some index in' =
     let above : 0 < count shape = omega (arith, ap count same, rank-lt made index in') in
     +ℤ_idl (dot strides index) ∙ ap (λ s. dot s index) (some above ∙ ap order (sym same))
 
--- what is said of numbers that were made in C order
+-- A layout made in C order is in C order.
 pub c_order_stands : (made : List ℕ) (strides : List ℤ) (shape : List ℕ) (item : ℕ) → made ≡ shape → (0 < count shape → strides ≡ c_strides item shape) → StandsInCOrder made strides 0 item
 c_order_stands made strides shape item same some = record { addresses = λ index in'. address-made made strides shape (c_strides item) same some index in' ∙ dot-c_strides item made index in' }
 

@@ -1,4 +1,4 @@
--- Laws of two layouts walked together: the pairs lay out the items of both.
+-- Laws of two layouts that are walked together: the pairs cover the items of both.
 use Rattle.std.proofs.Common.{◌≡◌, ℕ, zero, suc, ◌+◌, ◌-◌, ◌<◌, ◌≤◌, ◌==◌, min, ℤ, pos, ◌+ℤ◌, ◌*ℤ◌, List, [], ◌∷◌, ◌++◌, Option, Some, None, All, map, length, inl, inr, refl, sym, ◌∙◌, ap, subst, arith, append_assoc, length-append}
 use Rattle.std.specs.List.{flat_map, AllByRecursion as Each}
 use Rattle.std.proofs.lemmas.Bool.{cases_lt, cond_both, cond-true, eq-eqb, eqb-true, eqb-false}
@@ -39,7 +39,7 @@ after-lies : (run : Run) (n : ℕ) → n ≤ run.count → IsWhole run → Each 
 after-lies run n low whole =
     Each-back IsInBytes (numbers_from (pos run.offset) run.step n) (numbers_from (pos run.offset +ℤ run.step *ℤ pos n) run.step (run.count - n)) (subst (Each IsInBytes) (split run n low) whole.lies)
 
--- a run is its front and what comes after it
+-- A run is its first n items followed by the rest.
 pub run-split : (run : Run) (n : ℕ) → n ≤ run.count → IsWhole run → run_offsets run ≡ run_offsets (run_front n run) ++ run_offsets (run_after n run)
 run-split run n low whole =
     let later = numbers-natural (pos run.offset +ℤ run.step *ℤ pos n) run.step (run.count - n) (none_low _ (after-lies run n low whole)) in
@@ -77,7 +77,7 @@ even_after most x y xs ys even =
       few = omega (arith, even.few, size, some, some');
     }
 
--- the pairs lay out the items of the first runs, and those of the second
+-- The first runs of the pairs cover the items of `xs`, and the second runs cover those of `ys`.
 pub paired-first : (most : ℕ) (xs ys : List Run) → AreEven most xs ys → flat_map (λ pair. run_offsets pair.first) (paired most xs ys) ≡ all_offsets xs
 paired-first zero xs ys even = sym (empty (all_offsets xs) (omega (arith, even.few)))
 paired-first (suc most) [] ys even = refl
@@ -94,7 +94,7 @@ paired-second (suc most) (x ∷ xs) (y ∷ ys) even =
     let n = min x.count y.count in
     ap (λ os. run_offsets (run_front n y) ++ os) (paired-second most (cut n x xs) (cut n y ys) (even_after most x y xs ys even)) ∙ cut-offsets n y ys (omega arith) even.whole'.0
 
--- how many there may be is no matter, if they are enough
+-- The bound on the number of pairs does not matter if it is large enough.
 pub paired-enough : (most more : ℕ) (xs ys : List Run) → AreEven most xs ys → AreEven more xs ys → paired most xs ys ≡ paired more xs ys
 paired-enough zero zero xs ys even even' = refl
 paired-enough zero (suc more) [] ys even even' = refl
@@ -106,7 +106,7 @@ paired-enough (suc most) (suc more) (x ∷ xs) [] even even' = refl
 paired-enough (suc most) (suc more) (x ∷ xs) (y ∷ ys) even even' =
     ap (λ later. record { first = run_front (min x.count y.count) x; second = run_front (min x.count y.count) y } ∷ later) (paired-enough most more (cut (min x.count y.count) x xs) (cut (min x.count y.count) y ys) (even_after most x y xs ys even) (even_after more x y xs ys even'))
 
--- the item after a front that is not the whole run
+-- If the first n items are not the whole run, the next item is within the limit too.
 pub after-range : (run : Run) (n : ℕ) → n ≤ run.count → (run.count ≡ n → ⊥) → IsWhole run → IsInBytes (pos run.offset +ℤ run.step *ℤ pos n)
 after-range run n low other whole =
     first (run.count - n) (omega arith) (after-lies run n low whole)
@@ -125,7 +125,7 @@ pairs-start : (most : ℕ) (ys : List Run) → paired most [] ys ≡ []
 pairs-start zero ys = refl
 pairs-start (suc most) ys = refl
 
--- what is left, from the heads of both
+-- the pairs that remain, given the first runs of both lists
 pub left-is : (first second : Option Run) (xs xs' ys ys' : List Run) → IsHead first xs' xs → IsHead second ys' ys → pairs_left (both first second) xs' ys' ≡ pairs xs ys
 left-is None second xs xs' ys ys' head head' = sym (ap (λ l. pairs l ys) head.0 ∙ pairs-start 0 ys)
 left-is (Some x) None xs xs' ys ys' head head' = sym (ap (λ l. pairs l ys) head ∙ ap (pairs (x ∷ xs')) head'.0 ∙ pairs-end (length (all_offsets (x ∷ xs'))) x xs')
@@ -149,7 +149,7 @@ pairs-step x y xs ys even = at (length (all_offsets (x ∷ xs))) even (omega (ar
         let exact : AreEven (length (all_offsets (cut (min x.count y.count) x xs))) (cut (min x.count y.count) x xs) (cut (min x.count y.count) y ys) = record { whole = later.whole; whole' = later.whole'; same = later.same; few = omega arith } in
         (exact, ap (λ ps. record { first = run_front (min x.count y.count) x; second = run_front (min x.count y.count) y } ∷ ps) (paired-enough most (length (all_offsets (cut (min x.count y.count) x xs))) (cut (min x.count y.count) x xs) (cut (min x.count y.count) y ys) later exact))
 
--- the pair that a walk stands at, and what is left after it
+-- the current pair of a walk, and the pairs that remain after it
 pub next_pair : (n : ℕ) (pair : RunPair) (first second : Option Run) (xs xs' ys ys' : List Run) → n ≡ min pair.first.count pair.second.count → IsAtPair (Some pair) xs ys → IsHead first xs' (cut n pair.first xs) → IsHead second ys' (cut n pair.second ys) → (IsAtPair (both first second) xs' ys') × (pairs (pair.first ∷ xs) (pair.second ∷ ys) ≡ record { first = run_front n pair.first; second = run_front n pair.second } ∷ pairs_left (both first second) xs' ys')
 next_pair n pair first second xs xs' ys ys' least even head head' =
     let step = pairs-step pair.first pair.second xs ys even in
@@ -160,7 +160,7 @@ next_pair n pair first second xs xs' ys ys' least even head head' =
       step.1 ∙ ap (λ ps. record { first = run_front m pair.first; second = run_front m pair.second } ∷ ps) (sym (left-is first second (cut m pair.first xs) xs' (cut m pair.second ys) ys' h h')) ∙ ap (λ k. record { first = run_front k pair.first; second = run_front k pair.second } ∷ pairs_left (both first second) xs' ys') (sym least),
     )
 
--- ---- the runs of a layout are whole
+-- ---- each run of a layout has items within the limit
 
 whole-gathered : (f : ℤ → List Run) (g : ℤ → List ℤ) → ((at : ℤ) → Each IsInBytes (g at) → AreWhole (f at)) → (zs : List ℤ) → Each IsInBytes (flat_map g zs) → AreWhole (flat_map f zs)
 whole-gathered f g whole [] each = tt

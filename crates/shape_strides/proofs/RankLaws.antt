@@ -1,4 +1,4 @@
--- The index that has a rank, number by number from the last axis on.
+-- Finding the index with a rank, number by number from the last axis to the first.
 use Rattle.std.proofs.Common.{◌≡◌, ℕ, zero, suc, ◌+◌, ◌*◌, ◌/◌, ◌%◌, ◌<◌, ◌≤◌, List, [], ◌∷◌, length, get_or, set, take, drop, sym, ap, ◌∙◌, arith, add-mul, take_all}
 use Rattle.std.proofs.lemmas.List.{drop_more, drop_all, drop-set, take_more, length-set}
 use Rattle.std.proofs.lemmas.Nat.{div-add-mod', div_below}
@@ -7,7 +7,7 @@ use Rattle.shape_strides.specs.Indexes.{count, rank, IsIndex}
 use Rattle.shape_strides.specs.CountLaws.{factors_pos}
 use Rattle.shape_strides.specs.ReverseLaws.{count-append}
 
--- the numbers from an axis on are found, and `left` is the rank along the axes before it
+-- The numbers of the axes from `axis` on are found, and `left` is the rank along the axes before it.
 pub record IsFound (shape index : List ℕ) (at left axis : ℕ) : Type 0 where
   pub within : axis ≤ length shape
   pub size : length index ≡ length shape
@@ -35,7 +35,7 @@ count-front shape axis below =
     one : count (take axis shape) * (get_or shape axis 0 * 1) ≡ count (take axis shape) * get_or shape axis 0
     one = ap (λ n. count (take axis shape) * n) (omega arith)
 
--- the axis is not empty
+-- The axis is not empty.
 pub long_axis : (shape index : List ℕ) (at left axis : ℕ) → axis < length shape → IsFound shape index at left (axis + 1) → 0 < get_or shape axis 0
 long_axis shape index at left axis below found =
     (factors_pos (count (take axis shape)) (get_or shape axis 0) (omega (arith, found.low, count-front shape axis below))).1
@@ -63,7 +63,7 @@ found_more shape index at left axis below found =
       is = rw (here, there) (regroup (left / n) (left % n) n (count (drop (axis + 1) shape)) left (div-add-mod' left n) (rank (drop (axis + 1) shape) (drop (axis + 1) index)) ∙ found.is);
     }
 
--- all numbers are found
+-- All numbers are found.
 pub found_all : (shape index : List ℕ) (at left axis : ℕ) → axis ≡ 0 → IsFound shape index at left axis → IsIndex shape index × (rank shape index ≡ at)
 found_all shape index at left axis none found =
     let f : IsFound shape index at left 0 = rw none at found in

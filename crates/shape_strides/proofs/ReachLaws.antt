@@ -9,7 +9,7 @@ use Rattle.shape_strides.specs.inside.Reach.{reach_above, reach_below}
 use Rattle.shape_strides.specs.IndexLaws.{rank-lt}
 use Rattle.shape_strides.specs.CountLaws.{factors_pos}
 
--- an axis's part of an address, at a number below its length
+-- the part of one axis in an address, for a number below its length
 axis_high : (s : ℤ) (k n : ℕ) → k < n → (s *ℤ pos k) ≤ℤ pos (natural s * (n - 1))
 axis_high (pos a) k n below = let step : a * k ≤ a * (n - 1) = mul-le-mul_left a (omega arith) in omega (arith, ints)
 axis_high (negsuc a) k n below = let is = negsuc-*ℤ-pos a k in omega (arith, ints, zero-mul (n - 1))
@@ -22,7 +22,7 @@ axis_low (negsuc a) k n below =
     let is = negsuc-*ℤ-pos a k in
     omega (arith, ints)
 
--- no index reaches further
+-- No index reaches further.
 pub dot_high : (strides : List ℤ) (shape index : List ℕ) → IsIndex shape index → dot strides index ≤ℤ pos (reach_above strides shape)
 dot_high [] shape index in' = omega (arith, ints)
 dot_high (s ∷ strides) [] [] in' = omega (arith, ints)
@@ -43,7 +43,7 @@ dot_low (s ∷ strides) (n ∷ shape) (k ∷ index) in' =
     let later = dot_low strides shape index in'.1 in
     omega (arith, ints)
 
--- an index that reaches so far up
+-- There is an index that reaches this far up.
 pub top_of : (strides : List ℤ) (shape : List ℕ) → length strides ≡ length shape → 0 < count shape → (index : List ℕ) × IsIndex shape index × (dot strides index ≡ pos (reach_above strides shape))
 top_of [] [] same some = ([], tt, refl)
 top_of [] (n ∷ shape) same some = absurd (omega arith)
@@ -59,7 +59,7 @@ top_of (negsuc a ∷ strides) (n ∷ shape) same some =
     let is = rest.2 in
     (0 ∷ rest.0, (both.0, rest.1), omega (arith, ints, zero-mul (n - 1)))
 
--- an index that reaches so far down
+-- There is an index that reaches this far down.
 pub bottom_of : (strides : List ℤ) (shape : List ℕ) → length strides ≡ length shape → 0 < count shape → (index : List ℕ) × IsIndex shape index × (pos (reach_below strides shape) +ℤ dot strides index ≡ pos 0)
 bottom_of [] [] same some = ([], tt, refl)
 bottom_of [] (n ∷ shape) same some = absurd (omega arith)
@@ -102,14 +102,14 @@ reach_from_LieWithin shape strides offset len item same some lie =
     let low = lie.from_zero bottom.0 bottom.1 in
     (omega (arith, ints), omega (arith, ints))
 
--- without items
+-- Without items, everything lies within.
 pub LieWithin-empty : (shape : List ℕ) (strides : List ℤ) (offset len item : ℕ) → count shape ≡ 0 → LieWithin shape strides offset len item
 LieWithin-empty shape strides offset len item none = record {
   from_zero = λ index in'. absurd (omega (arith, rank-lt shape index in'));
   within = λ index in'. absurd (omega (arith, rank-lt shape index in'));
 }
 
--- ---- tests of numbers
+-- ---- the tests
 
 pub le_from_test : (m n : ℕ) → IsTrue (nat_le m n) → m ≤ n
 le_from_test m n test = grind (arith, nat_tests)

@@ -1,4 +1,4 @@
--- Where a layout fits, each of its runs does.
+-- If a layout fits, so does each of its runs.
 use Rattle.std.proofs.Common.{◌≡◌, ℕ, zero, suc, ◌+◌, ◌-◌, ◌<◌, ◌≤◌, ◌==◌, min, ℤ, pos, ◌+ℤ◌, ◌*ℤ◌, ◌≤ℤ◌, List, [], ◌∷◌, ◌++◌, All, length, inl, inr, sym, ◌∙◌, ap, subst, arith}
 use Rattle.std.specs.List.{flat_map, AllByRecursion as Each}
 use Rattle.std.proofs.lemmas.Bool.{cases_lt, cond_both}
@@ -21,11 +21,11 @@ use Rattle.shape_strides.proofs.JoinedLaws.{flat_map-id, addresses, addresses-jo
 use Rattle.shape_strides.proofs.RunLaws.{NoneBelow, Each-front, Each-back, Each-indexes, numbers-natural, runs-some, runs-none}
 use Rattle.shape_strides.proofs.PairLaws.{split}
 
--- an item of so many bytes, at an address, lies in the first `len` bytes
+-- An item of `item` bytes at this address lies in the first `len` bytes.
 abbrev IsWithin : ℕ → ℕ → ℤ → Type 0
 IsWithin len item z = (pos 0 ≤ℤ z) × ((z +ℤ pos item) ≤ℤ pos len)
 
--- each item of a run does
+-- Each item of the run does.
 abbrev IsRunWithin : ℕ → ℕ → Run → Type 0
 IsRunWithin len item run = Each (IsWithin len item) (numbers_from (pos run.offset) run.step run.count)
 
@@ -60,7 +60,7 @@ runs-within l len item fits =
       | inr above ↦ let none : count l.shape ≡ 0 = omega arith in subst (Each (IsRunWithin len item)) (sym (runs-none l none)) tt
     ]
 
--- a run as a layout of one axis
+-- a run seen as a layout with one axis
 run-lies : (len item : ℕ) (run : Run) → IsRunWithin len item run → LieWithin (run.count ∷ []) (run.step ∷ []) run.offset len item
 run-lies len item run each = record { from_zero = λ index in'. (at index in').0; within = λ index in'. (at index in').1 }
   where
@@ -81,7 +81,7 @@ pub runs-lie : (l : Layout) (len item : ℕ) → Fits l len item → All (λ run
 runs-lie l len item fits =
     All-from_recursion (λ run. LieWithin (run.count ∷ []) (run.step ∷ []) run.offset len item) (runs l) (all_lie len item (λ run. run) (runs l) (runs-within l len item fits))
 
--- ---- where runs are cut
+-- ---- runs that are cut
 
 parts-within : (len item n : ℕ) (run : Run) → n ≤ run.count → IsRunWithin len item run → IsRunWithin len item (run_front n run) × IsRunWithin len item (run_after n run)
 parts-within len item n run low each =

@@ -1,4 +1,4 @@
--- Laws of runs: their items are those of the layout, and one run covers what goes by one step.
+-- Laws of runs: their items are those of the layout, and there is one run if all offsets go by one step.
 use Rattle.std.proofs.Common.{◌≡◌, ℕ, zero, suc, ◌*◌, ◌<◌, ◌≤◌, ◌==◌, false, ℤ, pos, ◌+ℤ◌, ◌*ℤ◌, ◌≤ℤ◌, List, [], ◌∷◌, ◌++◌, map, length, get_or, inl, inr, refl, sym, ◌∙◌, ap, subst, arith, suc-mul}
 use Rattle.std.specs.List.{flat_map, AllByRecursion as Each}
 use Rattle.std.proofs.lemmas.Bool.{cases_lt, cond_both, cond-true, cond-false, eqb-false, eq-eqb, ne_eqb, both_ways}
@@ -23,7 +23,7 @@ use Rattle.shape_strides.specs.AxisLaws.{one-step}
 use Rattle.elem_descr.specs.StepLaws.{numbers-suc, steps_later}
 use Rattle.shape_strides.proofs.JoinedLaws.{flat_map-id, addresses, addresses-indexes, addresses-joined, offsets-joined}
 
--- ---- what holds of each address
+-- ---- properties of each address
 
 pub Each-front : (P : ℤ → Type 0) (xs ys : List ℤ) → Each P (xs ++ ys) → Each P xs
 Each-front P [] ys each = tt
@@ -33,7 +33,7 @@ pub Each-back : (P : ℤ → Type 0) (xs ys : List ℤ) → Each P (xs ++ ys) �
 Each-back P [] ys each = each
 Each-back P (x ∷ xs) ys each = Each-back P xs ys each.1
 
--- what holds at each index of a shape
+-- what holds for each index of a shape
 pub Each-indexes : (P : ℤ → Type 0) (f : List ℕ → ℤ) (shape : List ℕ) → ((index : List ℕ) → IsIndex shape index → P (f index)) → Each P (map f (indexes shape))
 Each-indexes P f shape holds = recursion_from_All P (map f (indexes shape)) (λ k d below.
     let low : k < count shape = omega (arith, length-map (indexes shape) f, length-indexes shape) in
@@ -42,7 +42,7 @@ Each-indexes P f shape holds = recursion_from_All P (map f (indexes shape)) (λ 
     let here : get_or (map f (indexes shape)) k d ≡ f found.0 = get_or-map f (indexes shape) k [] d inside ∙ ap f (ap (λ r. get_or (indexes shape) r []) (sym found.2) ∙ get_or-indexes shape found.0 [] found.1) in
     subst P (sym here) (holds found.0 found.1))
 
--- no address lies below 0
+-- No address is below 0.
 abbrev pub NoneBelow : List ℤ → Type 0
 NoneBelow = Each (λ z. pos 0 ≤ℤ z)
 
@@ -57,7 +57,7 @@ pub numbers-natural : (at s : ℤ) (n : ℕ) → NoneBelow (numbers_from at s n)
 numbers-natural at s zero none = refl
 numbers-natural at s (suc n) none = ap (λ z. numbers_from z s (suc n)) (pos-natural at ((subst NoneBelow (numbers-suc at s n) none).0))
 
--- run after run
+-- The items of consecutive runs are concatenated.
 gathered : (f : ℤ → List Run) (g : ℤ → List ℤ) → ((at : ℤ) → NoneBelow (g at) → flat_map run_offsets (f at) ≡ map natural (g at)) → (zs : List ℤ) → NoneBelow (flat_map g zs) → flat_map run_offsets (flat_map f zs) ≡ map natural (flat_map g zs)
 gathered f g same [] none = refl
 gathered f g same (z ∷ zs) none =
@@ -86,7 +86,7 @@ pub empty : {X : Type 0} (xs : List X) → length xs ≡ 0 → xs ≡ []
 empty [] none = refl
 empty (x ∷ xs) none = absurd (omega arith)
 
--- the runs lay out the offsets of the layout
+-- The runs cover the offsets of the layout.
 pub runs-offsets : (l : Layout) → flat_map run_offsets (runs l) ≡ offsets l
 runs-offsets l =
     elim (cases_lt 0 (count l.shape)) [
@@ -94,14 +94,14 @@ runs-offsets l =
       | inr above ↦ let none : count l.shape ≡ 0 = omega arith in ap (flat_map run_offsets) (runs-none l none) ∙ sym (offsets-none l none)
     ]
 
--- ---- what is joined has no more to join
+-- ---- joined axes cannot be joined further
 
--- an axis does not lead over the next one
+-- An axis does not lead over the next one.
 abbrev pub IsApart : StridedAxis → List StridedAxis → Type 0
 IsApart axis [] = Unit {0}
 IsApart axis (inner ∷ axes) = leads_over axis inner ≡ false
 
--- each axis has 2 items or more and does not lead over the next one
+-- Each axis has 2 items or more and does not lead over the next one.
 abbrev pub IsJoined : List StridedAxis → Type 0
 IsJoined [] = Unit {0}
 IsJoined (axis ∷ axes) = (2 ≤ axis.len) × IsApart axis axes × IsJoined axes
@@ -133,9 +133,9 @@ pub IsJoined-joined : (axes : List StridedAxis) → HasItems axes → IsJoined (
 IsJoined-joined [] some = tt
 IsJoined-joined (axis ∷ axes) some = IsJoined-join_outside axis (all_joined axes) some.0 (IsJoined-joined axes some.1)
 
--- ---- one run where the offsets go by one step
+-- ---- one run if the offsets go by one step
 
--- each address is one step after the one before
+-- Each address is the previous one plus the step.
 abbrev StepsBy : ℤ → List ℤ → Type 0
 StepsBy step (a ∷ b ∷ numbers) = (b ≡ a +ℤ step) × StepsBy step (b ∷ numbers)
 StepsBy step _ = Unit {0}
@@ -155,7 +155,7 @@ StepsBy-tail : (step a : ℤ) (xs : List ℤ) → StepsBy step (a ∷ xs) → St
 StepsBy-tail step a [] by = tt
 StepsBy-tail step a (b ∷ xs) by = by.1
 
--- what comes after numbers that go by the step
+-- The number that follows is one step after the last.
 after_numbers : (at step : ℤ) (k : ℕ) (z : ℤ) (zs : List ℤ) → StepsBy step (numbers_from at step (suc k) ++ z ∷ zs) → z ≡ at +ℤ step *ℤ pos (suc k)
 after_numbers at step zero z zs by =
     let first = subst (λ xs. StepsBy step (xs ++ z ∷ zs)) (numbers-suc at step 0) by in
@@ -164,7 +164,7 @@ after_numbers at step (suc k) z zs by =
     let later = StepsBy-tail step at (numbers_from (at +ℤ step) step (suc k) ++ z ∷ zs) (subst (λ xs. StepsBy step (xs ++ z ∷ zs)) (numbers-suc at step (suc k)) by) in
     after_numbers (at +ℤ step) step k z zs later ∙ sym (steps_later at step (suc k))
 
--- the first numbers are the steps
+-- The step between the first two numbers is `step`.
 first_step : (at step s : ℤ) (m : ℕ) (zs : List ℤ) → 2 ≤ m → StepsBy step (numbers_from at s m ++ zs) → s ≡ step
 first_step at step s zero zs two by = absurd (omega arith)
 first_step at step s (suc zero) zs two by = absurd (omega arith)
@@ -173,7 +173,7 @@ first_step at step s (suc (suc m)) zs two by =
     let first = (subst (λ xs. StepsBy step (xs ++ zs)) start by).0 in
     omega (arith, ints, first)
 
--- two blocks of an outer axis
+-- the first two blocks of an outer axis
 blocks : (f : ℤ → List ℤ) (at s : ℤ) (n : ℕ) → 2 ≤ n → (zs : List ℤ) × (flat_map f (numbers_from at s n) ≡ f at ++ (f (at +ℤ s) ++ zs))
 blocks f at s zero two = absurd (omega arith)
 blocks f at s (suc zero) two = absurd (omega arith)
@@ -184,13 +184,13 @@ blocks f at s (suc (suc n)) two =
 leads : (at t s : ℤ) (n : ℕ) → at +ℤ t ≡ at +ℤ s *ℤ pos n → t ≡ s *ℤ pos n
 leads at t s n same = let z = s *ℤ pos n in let here : at +ℤ t ≡ at +ℤ z = same in omega (arith, ints, here)
 
--- the start of the block after one of m numbers
+-- The next block starts m steps after this one.
 next_block : (at t step : ℤ) (m : ℕ) (zs : List ℤ) → 2 ≤ m → StepsBy step (numbers_from at step m ++ (numbers_from (at +ℤ t) step m ++ zs)) → t ≡ step *ℤ pos m
 next_block at t step zero zs two by = absurd (omega arith)
 next_block at t step (suc m) zs two by =
     leads at t step (suc m) (after_numbers at step m (at +ℤ t) (numbers_from ((at +ℤ t) +ℤ step) step m ++ zs) (subst (λ ys. StepsBy step (numbers_from at step (suc m) ++ (ys ++ zs))) (numbers-suc (at +ℤ t) step m) by))
 
--- two axes that are joined do not go by one step
+-- Two joined axes do not go by one step.
 never : (step at : ℤ) (outer inner : StridedAxis) (axes : List StridedAxis) → IsJoined (outer ∷ inner ∷ axes) → StepsBy step (addresses at (outer ∷ inner ∷ axes)) → ⊥
 never step at outer inner [] done by =
     let row : ℤ → List ℤ = λ next. numbers_from next inner.stride inner.len in
@@ -215,13 +215,13 @@ HasItems-axes [] shape some = tt
 HasItems-axes (s ∷ strides) [] some = tt
 HasItems-axes (s ∷ strides) (n ∷ shape) some = let both = factors_pos n (count shape) some in (both.0, HasItems-axes strides shape both.1)
 
--- where the offsets go by one step there is one run
+-- If the offsets go by one step, there is one run.
 pub runs-alone : (l : Layout) (step : ℤ) → 0 < count l.shape → GoesBy step (offsets l) → length (runs l) ≡ 1
 runs-alone l step some by =
     let axes = strided_axes l.strides l.shape in
     ap length (runs-some l some) ∙ one_alone step (pos l.offset) (all_joined axes) (IsJoined-joined axes (HasItems-axes l.strides l.shape some)) (StepsBy-natural step (addresses (pos l.offset) (all_joined axes)) (none_below l) (subst (GoesBy step) (offsets-joined l) by))
 
--- where two axes are left once all are joined, the offsets do not go by one step
+-- If two axes or more remain after all are joined, the offsets do not go by one step.
 pub two_never : (l : Layout) (step : ℤ) (outer inner : StridedAxis) (axes : List StridedAxis) → 0 < count l.shape → all_joined (strided_axes l.strides l.shape) ≡ outer ∷ inner ∷ axes → GoesBy step (offsets l) → ⊥
 two_never l step outer inner axes some are by =
     let all = strided_axes l.strides l.shape in
@@ -229,7 +229,7 @@ two_never l step outer inner axes some are by =
     let steps = StepsBy-natural step (addresses at (all_joined all)) (none_below l) (subst (GoesBy step) (offsets-joined l) by) in
     never step at outer inner axes (subst IsJoined are (IsJoined-joined all (HasItems-axes l.strides l.shape some))) (subst (λ made. StepsBy step (addresses at made)) are steps)
 
--- the step of offsets that are a run is the run's
+-- If the offsets are one run, their step is the step of the run.
 pub run_goes : (l : Layout) (step : ℤ) (axis : StridedAxis) → 2 ≤ axis.len → all_joined (strided_axes l.strides l.shape) ≡ axis ∷ [] → GoesBy step (offsets l) → axis.stride ≡ step
 run_goes l step axis two are by =
     let all = strided_axes l.strides l.shape in

@@ -1,4 +1,4 @@
--- Layouts with the same offsets have the same first one and the same joined axes.
+-- Layouts with the same offsets have the same first offset and the same joined axes.
 use Rattle.std.proofs.Common.{◌≡◌, ◌↔◌, ◌≢◌, ◌<◌, ◌==◌, Bool, true, false, ◌&&◌, IsTrue, ℤ, pos, List, [], ◌∷◌, map, length, get_or, reverse, inl, inr, refl, sym, ◌∙◌, ap, arith}
 use Rattle.std.proofs.lemmas.Bool.{cases_Bool, eqb-true, eq-eqb, false≢true, and_parts}
 use Rattle.std.proofs.lemmas.Bool.Decides.{Decides-int_eq}
@@ -54,7 +54,7 @@ same_axes a b some some' same =
 same_offsets : (a b : Layout) → a.offset ≡ b.offset → axes_of a ≡ axes_of b → offsets a ≡ offsets b
 same_offsets a b first axes = offsets-joined a ∙ ap (λ o. map natural (addresses (pos o) (axes_of a))) first ∙ ap (λ made. map natural (addresses (pos b.offset) made)) axes ∙ sym (offsets-joined b)
 
--- ---- axes that are compared
+-- ---- comparing axes
 
 alike-same : (xs ys : List StridedAxis) → all_alike xs ys ≡ true → xs ≡ ys
 alike-same [] [] alike = refl
@@ -79,7 +79,7 @@ unalike xs ys other =
       | inr not ↦ sym not
     ]
 
--- axes as they stand, innermost first
+-- If the first offsets are equal, comparing the joined axes, listed innermost first, decides whether all offsets are.
 pub decided : (a b : Layout) (left right : List StridedAxis) (alike : Bool) → 0 < count a.shape → 0 < count b.shape → a.offset ≡ b.offset → reverse left ≡ axes_of a → reverse right ≡ axes_of b → alike ≡ all_alike left right → IsTrue alike ↔ (offsets a ≡ offsets b)
 decided a b left right alike some some' first is is' test =
     let onto : offsets a ≡ offsets b → left ≡ right = λ same. sym (reverse-reverse left) ∙ ap reverse (is ∙ same_axes a b some some' same ∙ sym is') ∙ reverse-reverse right in

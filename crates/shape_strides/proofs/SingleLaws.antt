@@ -1,4 +1,4 @@
--- Laws of layouts whose items are one run.
+-- Laws of layouts whose items make a single run.
 use Rattle.std.proofs.Common.{◌≡◌, ℕ, zero, suc, ◌+◌, ◌-◌, ◌*◌, ◌<◌, ◌≤◌, ◌==◌, inl, inr, ℤ, pos, List, [], ◌∷◌, All, length, get_or, drop, refl, sym, ◌∙◌, ap, subst, arith}
 use Rattle.std.proofs.lemmas.Bool.{cases_lt, cond_both, cond-true, cond-false, eq-eqb, ne_eqb}
 use Rattle.std.proofs.lemmas.List.{append-nil}
@@ -21,7 +21,7 @@ use Rattle.shape_strides.proofs.RunBounds.{runs-lie}
 long_axis : (axis : StridedAxis) → 2 ≤ axis.len → if_long axis ≡ axis ∷ []
 long_axis axis two = cond-false (axis.len == 1) [] (axis ∷ []) (ne_eqb axis.len 1 (λ is. omega arith))
 
--- ---- axes that stay two
+-- ---- two axes that do not join
 
 grows : (axis : StridedAxis) (axes : List StridedAxis) → 2 ≤ length axes → 2 ≤ length (join_outside axis axes)
 grows axis [] two = absurd (omega arith)
@@ -41,7 +41,7 @@ pub stay_two : (l : Layout) (strides : List ℤ) (lengths : List ℕ) (j : ℕ) 
 stay_two l strides lengths j outer inner are are' same two =
     subst (λ s. 2 ≤ length (all_joined (strided_axes s l.shape))) are (subst (λ s. 2 ≤ length (all_joined (strided_axes strides s))) are' (two_of_later strides lengths j same (omega (arith, ap length two))))
 
--- then the layout is no run
+-- Then the layout is not a single run.
 pub no_run : (l : Layout) (step : ℤ) → 0 < count l.shape → 2 ≤ length (all_joined (strided_axes l.strides l.shape)) → GoesBy step (offsets l) → ⊥
 no_run l step some two by = at (all_joined (strided_axes l.strides l.shape)) refl two
   where
@@ -50,9 +50,9 @@ no_run l step some two by = at (all_joined (strided_axes l.strides l.shape)) ref
     at (axis ∷ []) are more = absurd (omega (arith, more))
     at (outer ∷ inner ∷ axes) are more = two_never l step outer inner axes some are by
 
--- ---- an axis before those that are joined to one
+-- ---- an axis outside of joined axes
 
--- where there are items, an axis and those joined behind it have some, and no more than there are
+-- If there are items, an axis and the joined axes inside of it have at least one each, and at most max_items together.
 pub joined_items : (strides : List ℤ) (lengths : List ℕ) (k : ℕ) (along : StridedAxis) → 0 < k → k ≤ length lengths → AreJoinedFrom strides lengths k along → 0 < count lengths → count lengths ≤ max_items → (1 ≤ get_or lengths (k - 1) 0) × (1 ≤ along.len) × (get_or lengths (k - 1) 0 * along.len ≤ max_items) × (get_or lengths (k - 1) 0 * along.len ≡ count (drop (k - 1) lengths))
 joined_items strides lengths k along some most from items few =
     let next : k - 1 + 1 ≡ k = omega arith in
@@ -62,7 +62,7 @@ joined_items strides lengths k along some most from items few =
     let both = factors_pos (get_or lengths (k - 1) 0) along.len (omega (arith, whole, before.0)) in
     (both.0, both.1, omega (arith, whole, before.1, few), sym whole)
 
--- where an axis is left outside, the layout is no run
+-- If an axis remains outside, the layout is not a single run.
 pub outside_no_run : (l : Layout) (outside : ℕ) (along : StridedAxis) (step : ℤ) → 0 < count l.shape → IsLastRun l.strides l.shape outside along → 0 < outside → GoesBy step (offsets l) → ⊥
 outside_no_run l outside along step items last some by =
     no_run l step items (stay_two l l.strides l.shape (outside - 1) (record { len = get_or l.shape (outside - 1) 0; stride = get_or l.strides (outside - 1) (pos 0) }) along refl refl l.one_stride_an_axis (last.apart some)) by
@@ -72,7 +72,7 @@ outside_no_run l outside along step items last some by =
 pub is_axis : (l : Layout) (along : StridedAxis) → 2 ≤ count l.shape → AreJoinedFrom l.strides l.shape 0 along → all_joined (strided_axes l.strides l.shape) ≡ along ∷ []
 is_axis l along two from = sym from.are ∙ long_axis along (omega (arith, two, from.items))
 
--- one item is a run without a step
+-- One item is a run with step 0.
 one_item : (l : Layout) (along : StridedAxis) → 1 ≤ count l.shape → along.len ≡ 1 → AreJoinedFrom l.strides l.shape 0 along → runs l ≡ run_along along l.offset ∷ []
 one_item l along some one from =
     let none : all_joined (strided_axes l.strides l.shape) ≡ [] = sym from.are ∙ cond-true (along.len == 1) [] (along ∷ []) (eq-eqb along.len 1 one) in
@@ -96,7 +96,7 @@ run_fits l along some from len item fits =
 pub run_steps : (l : Layout) (along : StridedAxis) → 2 ≤ count l.shape → AreJoinedFrom l.strides l.shape 0 along → (step : ℤ) → GoesBy step (offsets l) → along.stride ≡ step
 run_steps l along two from step by = run_goes l step along (omega (arith, two, from.items)) (is_axis l along two from) by
 
--- as the slices of a layout have it
+-- the same for the slices of a layout
 pub last_of : (l : Layout) (strides : List ℤ) (lengths : List ℕ) (outside : ℕ) (along : StridedAxis) → strides ≡ l.strides → lengths ≡ l.shape → IsLastRun strides lengths outside along → IsLastRun l.strides l.shape outside along
 last_of l strides lengths outside along are are' last = subst (λ s. IsLastRun s l.shape outside along) are (subst (λ s. IsLastRun strides s outside along) are' last)
 

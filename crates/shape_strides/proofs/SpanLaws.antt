@@ -1,4 +1,4 @@
--- Laws of the range of bytes that a layout's items lie in.
+-- Laws of the range of bytes in which the items of a layout lie.
 use Rattle.std.proofs.Common.{◌≡◌, ℕ, ◌+◌, ◌<◌, ◌≤◌, ℤ, pos, ◌+ℤ◌, ◌≤ℤ◌, List, length, get_or, All, Contains, sym, ap, ◌∙◌, arith}
 use Rattle.std.proofs.lemmas.Int.{ints}
 use Rattle.shape_strides.specs.declared.layout.Layout.{Layout}
@@ -11,7 +11,7 @@ use Rattle.shape_strides.specs.IndexLaws.{rank-lt, index_at}
 use Rattle.shape_strides.specs.LayoutLaws.{length-offsets, pos-offset}
 use Rattle.shape_strides.proofs.ReachLaws.{dot_high, dot_low, top_of, bottom_of, reach_from_LieWithin}
 
--- the plain sums behind it
+-- the arithmetic behind it
 sum_low : (start below off o : ℕ) (d : ℤ) → start + below ≡ off → pos o ≡ pos off +ℤ d → pos 0 ≤ℤ (pos below +ℤ d) → start ≤ o
 sum_low start below off o d is here low = omega (arith, ints)
 
@@ -24,7 +24,7 @@ sum_first start below off o d is here low = omega (arith, ints)
 sum_last : (above off o : ℕ) (d : ℤ) → pos o ≡ pos off +ℤ d → d ≡ pos above → o ≡ off + above
 sum_last above off o d here high = omega (arith, ints)
 
--- the offset with a number is the address of an index
+-- Each offset is the address of an index.
 entry_at : (l : Layout) (k d : ℕ) → k < length (offsets l) → (index : List ℕ) × IsIndex l.shape index × (pos (get_or (offsets l) k d) ≡ pos l.offset +ℤ dot l.strides index)
 entry_at l k d below =
     let found = index_at l.shape k (omega (arith, length-offsets l)) in

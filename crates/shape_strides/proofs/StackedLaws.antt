@@ -1,4 +1,4 @@
--- In a layout whose axes step clear of one another, no two items have a byte in common.
+-- In a stacked layout, no two items share a byte.
 use Rattle.std.proofs.Common.{◌≡◌, ◌≢◌, ◌⊎◌, ℕ, suc, ◌+◌, ◌-◌, ◌*◌, ◌<◌, ◌≤◌, ℤ, pos, negsuc, ◌+ℤ◌, ◌*ℤ◌, ◌≤ℤ◌, unsigned_abs, List, [], ◌∷◌, All, sum_by, length, get_or, inl, inr, refl, sym, ◌∙◌, ap, arith, mul-le-mul_left}
 use Rattle.std.proofs.lemmas.Bool.{cases_lt, cases_eq, cases_order}
 use Rattle.std.proofs.lemmas.Int.{ints}
@@ -17,7 +17,7 @@ use Rattle.shape_strides.proofs.StackLaws.{within, within-all, within-none, with
 
 -- ---- one axis
 
--- two of its numbers lie no further apart than it reaches
+-- Two numbers of an axis are no further apart than the axis reaches.
 part-near : (s : ℤ) (n a b : ℕ) → a < n → b < n → (s *ℤ pos a) ≤ℤ (s *ℤ pos b +ℤ pos (unsigned_abs s * (n - 1)))
 part-near (pos m) n a b low low' = let most : m * a ≤ m * (n - 1) = mul-le-mul_left m (omega arith) in omega (arith, ints)
 part-near (negsuc m) n a b low low' =
@@ -26,7 +26,7 @@ part-near (negsuc m) n a b low low' =
     let second = negsuc-*ℤ-pos m b in
     omega (arith, ints)
 
--- and different ones at least a step
+-- Two different numbers are at least a step apart.
 part-apart : (s : ℤ) (a b : ℕ) → a < b → ((s *ℤ pos a +ℤ pos (unsigned_abs s)) ≤ℤ (s *ℤ pos b)) ⊎ ((s *ℤ pos b +ℤ pos (unsigned_abs s)) ≤ℤ (s *ℤ pos a))
 part-apart (pos m) a b low = inl (let step = mul-step m a b low in omega (arith, ints))
 part-apart (negsuc m) a b low = inr (
@@ -45,8 +45,8 @@ part-different s a b other = elim (cases_order a b) [
 
 -- ---- two sums of strides
 
--- They differ first, from the greatest step down, along this axis: they are no further apart than
--- the axes of no greater step reach, and at least as far as what this one leaves of its step.
+-- This axis has the largest step of those on which the sums x and y differ. The sums are at most as far apart as the
+-- axes of no larger step reach, and at least as far as the step less the reach of the others of these axes.
 pub record DifferBy (all : List Axis) (P : Axis → Type 0) (x y : ℤ) : Type 0 where
   pub axis : Axis
   pub has : P axis
@@ -55,7 +55,7 @@ pub record DifferBy (all : List Axis) (P : Axis → Type 0) (x y : ℤ) : Type 0
   pub below : y ≤ℤ (x +ℤ pos (sum_by (within axis.step) all))
   pub apart : ((x +ℤ pos (axis.step + reach axis)) ≤ℤ (y +ℤ pos (sum_by (within axis.step) all))) ⊎ ((y +ℤ pos (axis.step + reach axis)) ≤ℤ (x +ℤ pos (sum_by (within axis.step) all)))
 
--- the plain sums behind it
+-- the arithmetic behind it
 near_more : (X Y x y : ℤ) (r s t : ℕ) → X ≤ℤ (Y +ℤ pos r) → x ≤ℤ (y +ℤ pos s) → r + s ≤ t → (X +ℤ x) ≤ℤ (Y +ℤ y +ℤ pos t)
 near_more X Y x y r s t first later sum = omega (arith, ints)
 
@@ -68,7 +68,7 @@ apart_here X Y x y g r s t first later sum = omega (arith, ints)
 same_near : (x : ℤ) (r : ℕ) → x ≤ℤ (x +ℤ pos r)
 same_near x r = omega (arith, ints)
 
--- a greater step takes in more axes
+-- A larger step includes more axes.
 sum-within_more : (low high : ℕ) (all : List Axis) → low ≤ high → sum_by (within low) all ≤ sum_by (within high) all
 sum-within_more low high [] more = omega arith
 sum-within_more low high (a ∷ all) more =
@@ -78,7 +78,7 @@ sum-within_more low high (a ∷ all) more =
     ] in
     omega (arith, own, sum_by-cons (within low) a all, sum_by-cons (within high) a all, sum-within_more low high all more)
 
--- the axis is the first one
+-- The first axis is this one.
 differ_here : (P : Axis → Type 0) (s : ℤ) (n : ℕ) (all : List Axis) (a b : ℕ) (x y : ℤ) (m : ℕ) → P (record { step = unsigned_abs s; len = n }) → a < n → b < n → a ≢ b → m ≤ sum_by (within (unsigned_abs s)) all → x ≤ℤ (y +ℤ pos m) → y ≤ℤ (x +ℤ pos m) → DifferBy (record { step = unsigned_abs s; len = n } ∷ all) P (s *ℤ pos a +ℤ x) (s *ℤ pos b +ℤ y)
 differ_here P s n all a b x y m has low low' other few above below =
     let own : Axis = record { step = unsigned_abs s; len = n } in
@@ -97,7 +97,7 @@ differ_here P s n all a b x y m has low low' other few above below =
       ];
     }
 
--- the axis is a later one, and the first one of no greater step, or the same number stands there
+-- It is a later axis, which has at least the step of the first one, or the numbers on the first axis are equal.
 differ_later : (P : Axis → Type 0) (s : ℤ) (own : Axis) (all : List Axis) (a b r : ℕ) (x y : ℤ) (d : DifferBy all P x y) → (s *ℤ pos a) ≤ℤ (s *ℤ pos b +ℤ pos r) → (s *ℤ pos b) ≤ℤ (s *ℤ pos a +ℤ pos r) → r ≤ within d.axis.step own → DifferBy (own ∷ all) P (s *ℤ pos a +ℤ x) (s *ℤ pos b +ℤ y)
 differ_later P s own all a b r x y d first second some =
     let m = sum_by (within d.axis.step) all in
@@ -116,7 +116,7 @@ differ_later P s own all a b r x y d first second some =
       ];
     }
 
--- two indexes are the same, or their sums differ so
+-- Two indexes are equal, or their sums differ in this way.
 pub same_or_differ : (P : Axis → Type 0) (strides : List ℤ) (shape i j : List ℕ) → length strides ≡ length shape → All P (axes strides shape) → IsIndex shape i → IsIndex shape j → (i ≡ j) ⊎ DifferBy (axes strides shape) P (dot strides i) (dot strides j)
 same_or_differ P [] [] [] [] same all in-i in-j = inl refl
 same_or_differ P [] [] [] (b ∷ j) same all in-i in-j = absurd in-j
@@ -149,7 +149,7 @@ same_or_differ P (s ∷ strides) (n ∷ shape) (a ∷ i) (b ∷ j) same all in-i
       ]
     ]
 
--- ---- a stacked layout
+-- ---- stacked layouts
 
 apart_by_item : (x y : ℤ) (item total g : ℕ) → (x +ℤ pos g) ≤ℤ (y +ℤ pos total) → item + total ≤ g → (x +ℤ pos item) ≤ℤ y
 apart_by_item x y item total g far clear = omega (arith, ints)

@@ -1,4 +1,4 @@
--- Laws of the axes outside of a run, and of how they are made.
+-- Laws of the axes outside of a run, and of how they are put together.
 use Rattle.std.proofs.Common.{◌≡◌, ℕ, zero, suc, ◌+◌, ◌-◌, ◌*◌, ◌<◌, ◌≤◌, ◌==◌, ℤ, List, [], ◌∷◌, ◌++◌, reverse, length, get_or, drop, refl, sym, ◌∙◌, ap, subst, arith, mul_assoc, mul-le-mul_left, mul-le-mul_right, one-mul, length-drop}
 use Rattle.std.proofs.lemmas.Bool.{cond_both, eqb-true}
 use Rattle.std.proofs.lemmas.List.{reverse-append, length-map}
@@ -33,7 +33,7 @@ lengths_of-axes (s ∷ strides) (n ∷ shape) same = ap (λ l. n ∷ l) (lengths
 pub length-axes : (strides : List ℤ) (shape : List ℕ) → length strides ≡ length shape → length (strided_axes strides shape) ≡ length shape
 length-axes strides shape same = sym (length-map (strided_axes strides shape) (λ axis. axis.len)) ∙ ap length (lengths_of-axes strides shape same)
 
--- ---- an axis that is put outside
+-- ---- adding an outer axis
 
 pub innermost_first : (old new : List StridedAxis) (inner : StridedAxis) → old ≡ new ++ inner ∷ [] → reverse old ≡ inner ∷ reverse new
 innermost_first old new inner is = ap reverse is ∙ reverse-append new (inner ∷ [])
@@ -52,7 +52,7 @@ put-bounds axis inner old new is some low =
     let same = innermost_first old new inner is in
     factors-le axis.len inner.len (count (lengths_of (reverse new))) max_items (subst (λ axes. 0 < axis.len * count (lengths_of axes)) same some) (subst (λ axes. axis.len * count (lengths_of axes) ≤ max_items) same low)
 
--- ---- the axes from one on
+-- ---- the axes from j on
 
 pub count-later : (lengths : List ℕ) (j : ℕ) → 0 < count lengths → (0 < count (drop j lengths)) × (count (drop j lengths) ≤ count lengths)
 count-later lengths zero some = (some, omega arith)
@@ -63,7 +63,7 @@ count-later (n ∷ lengths) (suc j) some =
     let grown : 1 * count lengths ≤ n * count lengths = mul-le-mul_right (count lengths) both.0 in
     (later.0, omega arith)
 
--- An axis is put outside of those after it, which are joined.
+-- Axis j is outside of the joined axes after it.
 pub record StandsBefore (strides : List ℤ) (lengths : List ℕ) (j : ℕ) (axes : List StridedAxis) : Type 0 where
   pub one_each : length strides ≡ length lengths
   pub below : j < length lengths

@@ -23,7 +23,7 @@ dot-padded (s ∷ strides) shape [] short = dot-zeros (s ∷ strides) shape
 dot-padded (s ∷ strides) [] (k ∷ front) short = absurd (omega arith)
 dot-padded (s ∷ strides) (n ∷ shape) (k ∷ front) short = ap (λ z. s *ℤ pos k +ℤ z) (dot-padded strides shape front (omega arith))
 
--- one more number adds its stride so many times
+-- One more number adds that number times its stride.
 pub dot-push : (strides : List ℤ) (front : List ℕ) (x j : ℕ) → length front ≡ j → j < length strides → dot strides (front ++ x ∷ []) ≡ dot strides front +ℤ (get_or strides j (pos 0) *ℤ pos x)
 dot-push [] front x j same below = absurd (omega arith)
 dot-push (s ∷ strides) [] x zero same below = rw (dot-nil strides, +ℤ_idl (s *ℤ pos x)) (+ℤ_idr (s *ℤ pos x))
@@ -32,14 +32,14 @@ dot-push (s ∷ strides) (k ∷ front) x zero same below = absurd (omega arith)
 dot-push (s ∷ strides) (k ∷ front) x (suc j) same below =
     ap (λ z. s *ℤ pos k +ℤ z) (dot-push strides front x j (omega arith) (omega arith)) ∙ sym (+ℤ_assoc (s *ℤ pos k) (dot strides front) (get_or strides j (pos 0) *ℤ pos x))
 
--- the zeros are an index where there is one
+-- If the shape has an index, the index of zeros is one.
 pub IsIndex-zeros : (shape index : List ℕ) → IsIndex shape index → IsIndex shape (zero_filled shape [])
 IsIndex-zeros [] [] in' = tt
 IsIndex-zeros [] (k ∷ index) in' = absurd in'
 IsIndex-zeros (n ∷ shape) [] in' = absurd in'
 IsIndex-zeros (n ∷ shape) (k ∷ index) in' = (omega (arith, in'.0), IsIndex-zeros shape index in'.1)
 
--- an index with zeros after its first numbers
+-- An index with its numbers from j on replaced by zeros is an index.
 pub IsIndex-padded_take : (shape index : List ℕ) (j : ℕ) → IsIndex shape index → IsIndex shape (zero_filled shape (take j index))
 IsIndex-padded_take [] [] j in' = tt
 IsIndex-padded_take [] (k ∷ index) j in' = absurd in'
@@ -47,14 +47,14 @@ IsIndex-padded_take (n ∷ shape) [] j in' = absurd in'
 IsIndex-padded_take (n ∷ shape) (k ∷ index) zero in' = (omega (arith, in'.0), IsIndex-zeros shape index in'.1)
 IsIndex-padded_take (n ∷ shape) (k ∷ index) (suc j) in' = (in'.0, IsIndex-padded_take shape index j in'.1)
 
--- with one number put after the first ones
+-- So is an index with one more number before the zeros.
 pub IsIndex-padded_push : (shape index : List ℕ) (j x : ℕ) → IsIndex shape index → j < length shape → x < get_or shape j 0 → IsIndex shape (zero_filled shape (take j index ++ x ∷ []))
 IsIndex-padded_push [] index j x in' below fits = absurd (omega arith)
 IsIndex-padded_push (n ∷ shape) [] j x in' below fits = absurd in'
 IsIndex-padded_push (n ∷ shape) (k ∷ index) zero x in' below fits = (fits, IsIndex-zeros shape index in'.1)
 IsIndex-padded_push (n ∷ shape) (k ∷ index) (suc j) x in' below fits = (in'.0, IsIndex-padded_push shape index j x in'.1 (omega arith) fits)
 
--- The index after this one, where the axes after j are at their last numbers.
+-- the rank of the next index, if the axes after j are at their last numbers
 pub rank-stepped : (shape index : List ℕ) (j : ℕ) → IsIndex shape index → j < length shape → rank (drop (suc j) shape) (drop (suc j) index) + 1 ≡ count (drop (suc j) shape) → rank shape (zero_filled shape (take j index ++ (get_or index j 0 + 1) ∷ [])) ≡ rank shape index + 1
 rank-stepped [] index j in' below last = absurd (omega arith)
 rank-stepped (n ∷ shape) [] j in' below last = absurd in'
@@ -77,7 +77,7 @@ pub dot-take_more : (strides : List ℤ) (index : List ℕ) (j : ℕ) → j < le
 dot-take_more strides index j inside below =
     rw (← add-one j, take_more index j 0 inside) (dot-push strides (take j index) (get_or index j 0) j (length-take-le j index (omega arith)) below)
 
--- the sum over the first axes is the address of an index, so it lies in the bytes too
+-- The sum over the first axes is the address of an index, so it is within the limits too.
 pub part-address : (l : Layout) (index : List ℕ) (j : ℕ) → IsIndex l.shape index → address l (zero_filled l.shape (take j index)) ≡ pos l.offset +ℤ dot l.strides (take j index)
 part-address l index j in' =
     let short : length (take j index) ≤ length l.shape = omega (arith, length-take j index, length-index l.shape index in') in
@@ -91,7 +91,7 @@ pub part_high : (l : Layout) (index : List ℕ) (j : ℕ) → IsIndex l.shape in
 part_high l index j in' =
     rw (← part-address l index j in') (l.within_limit.within (zero_filled l.shape (take j index)) (IsIndex-padded_take l.shape index j in'))
 
--- `at` before axis j: the sum so far is at
+-- `at` is the address that the first j numbers give.
 pub record ComesTo (l : Layout) (index : List ℕ) (j at : ℕ) : Type 0 where
   pub in_shape : IsIndex l.shape index
   pub below : j < length index
@@ -104,7 +104,7 @@ pub record GoesOn (l : Layout) (index : List ℕ) (j at : ℕ) : Type 0 where
   pub high : (pos at +ℤ get_or l.strides j (pos 0) *ℤ pos (get_or index j 0)) ≤ℤ pos max_bytes
   pub more : pos at +ℤ get_or l.strides j (pos 0) *ℤ pos (get_or index j 0) ≡ pos l.offset +ℤ dot l.strides (take (suc j) index)
 
--- the plain sums behind it
+-- the arithmetic behind it
 sum_more : (at off d d' p : ℤ) → at ≡ off +ℤ d → d' ≡ d +ℤ p → at +ℤ p ≡ off +ℤ d'
 sum_more at off d d' p so_far next = omega (arith, ints)
 

@@ -1,4 +1,4 @@
--- Axes that are joined are known by the addresses to which they lead.
+-- Joined axes are determined by the addresses to which they lead.
 use Rattle.std.proofs.Common.{◌≡◌, ℕ, zero, suc, ◌+◌, ◌-◌, ◌*◌, ◌<◌, ◌≤◌, ◌==◌, false, ℤ, pos, ◌+ℤ◌, ◌*ℤ◌, List, [], ◌∷◌, ◌++◌, length, drop, reverse, inl, inr, refl, sym, ◌∙◌, ap, subst, arith, append_assoc, mul-le-mul_left}
 use Rattle.std.specs.List.{flat_map}
 use Rattle.std.proofs.lemmas.Bool.{cases_lt, cond_both, eqb-false, false≢true}
@@ -16,21 +16,21 @@ use Rattle.elem_descr.specs.StepLaws.{numbers-suc, numbers-split}
 use Rattle.elem_descr.specs.ListLaws.{flat_map_same, flat_map-flat_map, first_is}
 use Rattle.shape_strides.proofs.JoinedLaws.{flat_map-id, addresses}
 
--- ---- axes as they stand joined
+-- ---- lists of joined axes
 
--- each has 2 items or more, and none leads over the one inside of it
+-- Each axis has 2 items or more, and none leads over the one inside of it.
 abbrev pub AreJoined : List StridedAxis → Type 0
 AreJoined [] = Unit {0}
 AreJoined (axis ∷ []) = 2 ≤ axis.len
 AreJoined (outer ∷ inner ∷ axes) = (2 ≤ outer.len) × (leads_over outer inner ≡ false) × AreJoined (inner ∷ axes)
 
--- such axes, the innermost first
+-- such axes, innermost first
 abbrev pub AreJoinedOut : List StridedAxis → Type 0
 AreJoinedOut [] = Unit {0}
 AreJoinedOut (axis ∷ []) = 2 ≤ axis.len
 AreJoinedOut (inner ∷ outer ∷ axes) = (2 ≤ inner.len) × (leads_over outer inner ≡ false) × AreJoinedOut (outer ∷ axes)
 
--- the first one has 2 items or more, and so with the others inside of them
+-- The first axis has 2 items or more, with or without axes inside of it.
 joined_len : (axis : StridedAxis) (axes : List StridedAxis) → AreJoined (axis ∷ axes) → 2 ≤ axis.len
 joined_len axis [] are = are
 joined_len axis (inner ∷ axes) are = are.0
@@ -48,7 +48,7 @@ reversed_onto axis [] outer are out = out
 reversed_onto axis (inner ∷ axes) outer are out =
     subst AreJoinedOut (sym (ap (λ axes'. axes' ++ axis ∷ outer) (reverse_onto axes inner []) ∙ append_assoc (reverse axes) (inner ∷ []) (axis ∷ outer))) (reversed_onto inner axes (axis ∷ outer) are.2 (joined_len inner axes are.2, are.1, out))
 
--- ---- the addresses, innermost axis first
+-- ---- the addresses, for axes listed innermost first
 
 abbrev pub addresses_out : ℤ → List StridedAxis → List ℤ
 addresses_out at [] = at ∷ []
@@ -73,7 +73,7 @@ rest_is x y xs ys same = ap (drop 1) same
 none_is : {A : Type 0} (y : ℤ) (ys : List ℤ) → [] ≡ y ∷ ys → A
 none_is y ys same = let none : 0 ≡ suc (length ys) = ap length same in absurd (omega arith)
 
--- an axis of so many items
+-- the numbers of an axis of `n` items, starting with the first
 sized : (s : ℤ) (n : ℕ) → 1 ≤ n → (at : ℤ) → numbers_from at s n ≡ at ∷ numbers_from (at +ℤ s) s (n - 1)
 sized s zero some at = absurd (omega arith)
 sized s (suc n) some at =
@@ -96,12 +96,12 @@ two_out at axis axes are =
     let steps : ℤ → List ℤ = λ z. numbers_from z axis.stride axis.len in
     (_, ap (flat_map steps) outer.1 ∙ ap (λ zs. zs ++ flat_map steps outer.0) (sized_two axis.stride axis.len (joined_out_len axis axes are) at))
 
--- ---- the innermost length: so far and no further the addresses go by its stride
+-- ---- the length of the innermost axis: how far the addresses go by its stride
 
 stride_is : (at s t : ℤ) → at +ℤ s ≡ at +ℤ t → s ≡ t
 stride_is at s t same = omega (arith, ints)
 
--- the axis outside begins where the innermost one ends
+-- The next outer axis does not continue where the innermost one ends.
 no_second : (at : ℤ) (axis : StridedAxis) (axes : List StridedAxis) (second : ℤ) (rest : List ℤ) → AreJoinedOut (axis ∷ axes) → addresses_out at axes ≡ at ∷ second ∷ rest → second ≡ at +ℤ axis.stride *ℤ pos axis.len → ⊥
 no_second at axis [] second rest are is ends = none_is second rest (rest_is at at [] (second ∷ rest) is)
 no_second at axis (outer ∷ axes) second rest are is ends =
@@ -110,7 +110,7 @@ no_second at axis (outer ∷ axes) second rest are is ends =
     let over : outer.stride ≡ axis.stride *ℤ pos axis.len = stride_is at outer.stride (axis.stride *ℤ pos axis.len) (same ∙ ends) in
     false≢true (sym are.1 ∙ (Decides-int_eq outer.stride (axis.stride *ℤ pos axis.len)).1 over)
 
--- where steps from some addresses begin
+-- where the first of several blocks begins
 begins : (s : ℤ) (n : ℕ) (xs : List ℤ) (y : ℤ) (ys : List ℤ) → 1 ≤ n → flat_map (λ z. numbers_from z s n) xs ≡ y ∷ ys → (rest : List ℤ) × (xs ≡ y ∷ rest)
 begins s n [] y ys some is = none_is y ys is
 begins s n (x ∷ xs) y ys some is =
@@ -198,13 +198,13 @@ are_joined_out : (axes : List StridedAxis) → AreJoined axes → AreJoinedOut (
 are_joined_out [] are = tt
 are_joined_out (axis ∷ axes) are = subst AreJoinedOut (sym (reverse_onto axes axis [])) (reversed_onto axis axes [] are (joined_len axis axes are))
 
--- two lists of joined axes that lead to the same addresses are the same
+-- Two lists of joined axes that lead to the same addresses are equal.
 pub joined_unique : (at : ℤ) (xs ys : List StridedAxis) → AreJoined xs → AreJoined ys → addresses at xs ≡ addresses at ys → xs ≡ ys
 joined_unique at xs ys of-x of-y same =
     let reversed = unique_out at (reverse xs) (reverse ys) (are_joined_out xs of-x) (are_joined_out ys of-y) (sym (addresses-out at xs) ∙ same ∙ addresses-out at ys) in
     sym (reverse-reverse xs) ∙ ap reverse reversed ∙ reverse-reverse ys
 
--- ---- what is joined
+-- ---- joining gives joined axes
 
 merged_joined : (outer inner : StridedAxis) (axes : List StridedAxis) → 2 ≤ outer.len → AreJoined (inner ∷ axes) → AreJoined (record { len = outer.len * inner.len; stride = inner.stride } ∷ axes)
 merged_joined outer inner [] two are =
@@ -230,7 +230,7 @@ are_joined (axis ∷ axes) some =
     let both = factors_pos axis.len (count (lengths_of axes)) some in
     are_joined_onto axis (all_joined axes) both.0 (are_joined axes both.1)
 
--- where the axes lead first
+-- The first address is the one from which the axes start.
 pub addresses-first : (at : ℤ) (axes : List StridedAxis) → AreJoined axes → (rest : List ℤ) × (addresses at axes ≡ at ∷ rest)
 addresses-first at axes are =
     let found = first_out at (reverse axes) (are_joined_out axes are) in

@@ -1,4 +1,4 @@
--- The definitions at arrays whose shapes, strides and indexes NumPy and Python give.
+-- Examples of the definitions: arrays whose shapes, strides and indexes NumPy and Python give.
 use Rattle.std.proofs.Common.{◌≡◌, pos, negsuc, [], ◌∷◌, Ok, Err, replicate, codes, refl, arith, lit≤}
 use Rattle.std.specs.Fmt.{digits}
 use Rattle.elem_descr.specs.declared.refusal.Refusal.TheVariants.{TooManyAxes, TooLarge}
@@ -46,7 +46,7 @@ backwards_offsets : offsets backwards ≡ 16 ∷ 8 ∷ 0 ∷ []
 unfolding backwards offsets
 backwards_offsets = refl
 
--- the number of items is the exact product, and one length is refused before it
+-- The number of items is the exact product, and a length that is too large is refused first.
 wide_empty : shape_of (0 ∷ 16777216 ∷ 16777216 ∷ []) ≡ Ok (0 ∷ 16777216 ∷ 16777216 ∷ [])
 unfolding shape_of
 wide_empty = refl

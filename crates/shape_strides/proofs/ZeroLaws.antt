@@ -1,9 +1,9 @@
--- Laws of lists that are written over, and of strides of 0.
+-- Laws of overwritten lists and of strides of 0.
 use Rattle.std.proofs.Common.{◌≡◌, ℕ, ℤ, pos, List, [], ◌∷◌, map, length, refl, sym, ap, ◌∙◌, arith}
 use Rattle.std.specs.List.{refill}
 use Rattle.std.proofs.Math.Seq.{take-append_seam}
 
--- numbers that were written over as many others
+-- A list overwritten with the same number of new entries is the new entries.
 pub refilled : {X : Type 0} (n : ℕ) (old new : List X) → length new ≡ n → refill n old new ≡ new
 refilled n old new is = ap (λ m. refill m old new) (sym is) ∙ take-append_seam new _
 

@@ -7,11 +7,11 @@ use Rattle.shape_strides.specs.declared.run_pairs.RunPair.{RunPair}
 use Rattle.shape_strides.specs.Limits.{max_bytes, max_items}
 use Rattle.shape_strides.specs.RunPairs.{all_offsets}
 
--- An item of at least one byte at address `z` begins within the limit of a buffer.
+-- The address `z` is within the limit of a buffer.
 abbrev pub IsInBytes : ℤ → Type 0
 IsInBytes z = (pos 0 ≤ℤ z) × ((z +ℤ pos 1) ≤ℤ pos max_bytes)
 
--- A run with at least one item, whose items all begin within that limit.
+-- A run with 1 to max_items items, which all begin within that limit.
 pub record IsWhole (run : Run) : Type 0 where
   pub some : 1 ≤ run.count
   pub few : run.count ≤ max_items

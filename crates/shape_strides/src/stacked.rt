@@ -32,7 +32,7 @@ fn axis_within(strides: &[isize], axis: usize, len: usize, step: usize) -> u128
     own as u128 * len.saturating_sub(1) as u128
 }
 
-/// How far the axes reach that step over at most `step` bytes.
+/// How far the axes with steps of at most `step` bytes reach.
 fn reach_within(lengths: &[usize], strides: &[isize], step: usize) -> u128
     requires one_each { length strides.now ≡ length lengths.now }
     requires axes { length lengths.now ≤ max_axes }

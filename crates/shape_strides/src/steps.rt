@@ -103,7 +103,7 @@ pub(crate) fn zero_strides(alloc: Global, lengths: &[usize]) -> Result<Strides, 
     Ok(strides)
 }
 
-/// The strides of C order, of which the first axis is `bytes` bytes long.
+/// The strides of C order for `items` items of `item` bytes.
 fn divided_strides(
     alloc: Global,
     lengths: &[usize],
@@ -143,7 +143,7 @@ pub(crate) fn c_order_strides(
     divided_strides(alloc, shape.as_slice(), items, item)
 }
 
-/// The strides of Fortran order, of which the first axis steps over one item.
+/// The strides of Fortran order for items of `item` bytes.
 fn multiplied_strides(alloc: Global, lengths: &[usize], item: usize) -> Result<Strides, AllocError>
     requires some { 0 < count lengths.now }
     requires bytes { count lengths.now * item ≤ max_bytes }

@@ -44,7 +44,7 @@ impl Strides {
         self.steps.as_slice()
     }
 
-    /// As many strides, all 0.
+    /// The same number of strides, all 0.
     pub fn zeroed(self) -> Strides
         ensures { result ≡ map (λ _. pos 0) self }
     {

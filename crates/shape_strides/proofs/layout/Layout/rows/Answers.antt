@@ -18,7 +18,7 @@ use Rattle.shape_strides.proofs.layout.Layout.rows.Goals as goal
 use Rattle.shape_strides.proofs.layout.Layout.rows.Goals.{After-over, After-last_run-last, After-over-starts}
 use Rattle.shape_strides.proofs.AdvanceLaws.{layout_of}
 
--- what holds of the runs of a layout
+-- The items of each run begin within the limit of a buffer.
 lie : (l : Layout) (rs : List Run) → rs ≡ runs l → All (λ run. LieWithin (run.count ∷ []) (run.step ∷ []) run.offset max_bytes 1) rs
 lie l rs are = subst (All (λ (run : Run). LieWithin (run.count ∷ []) (run.step ∷ []) run.offset max_bytes 1)) (sym are) (runs-lie l max_bytes 1 l.within_limit)
 
