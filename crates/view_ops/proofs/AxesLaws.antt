@@ -1,4 +1,4 @@
--- Which axes a list of numbers names.
+-- The axes that a list of numbers names.
 use Rattle.std.proofs.Common.{◌≡◌, ◌≢◌, ℕ, zero, suc, ◌+◌, ◌-◌, ◌<◌, ◌≤◌, ◌==◌, true, false, not, ℤ, Option, Some, None, List, [], ◌∷◌, map, length, get_or, Result, Ok, Err, inl, inr, refl, sym, ap, ◌∙◌, arith}
 use Rattle.std.specs.List.{list_any, list_all, range_with_len}
 use Rattle.std.proofs.lemmas.Bool.{cases_Bool, cases_eq, and_parts, false≢true, not-true}
@@ -37,7 +37,7 @@ axes_of-ok rank named axes size within are once =
     let once' : are_distinct (map (λ axis. natural (from_front rank axis)) named) ≡ true = ap are_distinct (sym are) ∙ once in
     rw (test, within, once') (ap Ok (sym are))
 
--- ---- what is named are axes
+-- ---- the named axes
 
 pub axis-lt : (n : ℕ) (axes : List ℕ) (k : ℕ) → AreAxes n axes → k < length axes → get_or axes k 0 < n
 axis-lt n [] k are low = absurd (omega arith)

@@ -1,4 +1,4 @@
--- Which answer each exit of a basic index has to give.
+-- The result that the definition gives at each exit of a basic index.
 use Rattle.std.proofs.Common.{◌≡◌, ◌⊎◌, inl, inr, Bool, Ok, Err, ℕ, ◌<◌, ◌≤◌, nat_le, true, false, List, All, map, length, ap, ◌∙◌, arith}
 use Rattle.std.specs.List.{list_all}
 use Rattle.std.proofs.lemmas.Bool.{cases_lt}
@@ -11,9 +11,9 @@ use Rattle.view_ops.specs.Views.{IsViewOf, GivesView}
 use Rattle.view_ops.proofs.PickViews.{shape_of_picks, leads_of_picks, shape_of-picks}
 use Rattle.view_ops.proofs.ViewLaws.{gives_refusal}
 
--- ---- the view of what is picked
+-- ---- the view of the picks
 
--- the shape that is made of the lengths
+-- The shape made from the lengths is the shape of the picks.
 pub shape_of-picked : (shape : List ℕ) (picks : List AxisPick) → ArePicks shape picks → All (λ m. m ≤ max_items) shape → count shape ≤ max_items → shape_of (shape_of_picks picks) ≡ shape_picked (map pick_shown picks)
 unfolding shape_picked
 shape_of-picked shape picks are low small =

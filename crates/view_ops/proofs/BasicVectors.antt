@@ -1,4 +1,4 @@
--- What NumPy's basic indexes give: the shape of the result, and where one of its indexes leads.
+-- Examples of NumPy's basic indexes: the shape of the result, and the item to which one of its indexes leads.
 use Rattle.std.proofs.Common.{◌≡◌, ℕ, ◌^◌, pos, negsuc, Some, None, List, [], ◌∷◌, replicate, Result, Ok, Err, refl}
 use Rattle.view_ops.specs.Words.{Refusal, TooManyAxes, TooManyIndices, IndexOutOfRange, ZeroStep, ◌>>=◌, IndexItem, Integer, Slice, Ellipsis, NewAxis, stepped}
 use Rattle.view_ops.specs.Slices.{slice_indices}
@@ -34,7 +34,7 @@ around : seen (2 ∷ 3 ∷ 4 ∷ 5 ∷ []) (NewAxis ∷ Integer (negsuc 0) ∷ E
 unfolding basic picked_view shape_picked slice_indices stepped
 around = refl
 
--- `a[1, ..., 2]` of shape (2, 3), where `...` stands for no axis
+-- `a[1, ..., 2]` of shape (2, 3), where `...` takes no axis
 no_axis_between : seen (2 ∷ 3 ∷ []) (Integer (pos 1) ∷ Ellipsis ∷ Integer (pos 2) ∷ []) [] ≡ Ok (record { shape = []; lead = 1 ∷ 2 ∷ [] })
 unfolding basic picked_view shape_picked
 no_axis_between = refl
@@ -95,17 +95,17 @@ high_last : basic {A = ℕ} (5 ∷ 3 ∷ []) (Ellipsis ∷ Integer (pos 3) ∷ [
 unfolding basic
 high_last = refl
 
--- `a[9, ::0]` of shape (3, 3): the step is looked at before the integer
+-- `a[9, ::0]` of shape (3, 3): the step is checked before the integer
 no_step_first : basic {A = ℕ} (3 ∷ 3 ∷ []) (Integer (pos 9) ∷ Slice None None (Some (pos 0)) ∷ []) ≡ Err ZeroStep
 unfolding basic
 no_step_first = refl
 
--- `a[9, ::0]` of shape (3,): the axes are counted before
+-- `a[9, ::0]` of shape (3,): the number of axes is checked first
 many_first : basic {A = ℕ} (3 ∷ []) (Integer (pos 9) ∷ Slice None None (Some (pos 0)) ∷ []) ≡ Err TooManyIndices
 unfolding basic
 many_first = refl
 
--- 64 axes and one more, and an integer that is out of range beside it
+-- a new axis for an array of 64 axes; and two new axes with an integer out of range, which is refused first
 one_axis_more : basic {A = ℕ} (replicate 64 1) (NewAxis ∷ []) ≡ Err TooManyAxes
 unfolding basic picked_view shape_picked
 one_axis_more = refl

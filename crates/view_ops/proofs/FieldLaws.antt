@@ -7,14 +7,14 @@ use Rattle.view_ops.specs.Words.{Descr, Field, item_size, field_at, Layout, coun
 use Rattle.shape_strides.specs.Addresses.{natural}
 use Rattle.view_ops.specs.FieldViews.{GivesField}
 
--- the first item stands at the offset
+-- The first item is at the offset, so it lies in the first `len` bytes.
 pub offset-within : (l : Layout) (len item : ℕ) → Fits l len item → 0 < count l.shape → l.offset + item ≤ len
 offset-within l len item fits some =
     let first = fits.within (zero_filled l.shape []) (IsIndex-first l.shape some) in
     let is : address l (zero_filled l.shape []) ≡ pos l.offset = ap (λ z. pos l.offset +ℤ z) (dot-zeros l.strides l.shape) ∙ +ℤ_idr (pos l.offset) in
     omega (arith, ints, is, first)
 
--- each address of the new layout is so many bytes further on
+-- Each address of the new layout is `by` bytes further.
 pub record IsMoved (old new : Layout) (by : ℕ) : Type 0 where
   pub shape : new.shape ≡ old.shape
   pub addresses : (index : List ℕ) → IsIndex old.shape index → address new index ≡ address old index +ℤ pos by
@@ -67,7 +67,7 @@ moved-nested old new by item size moved few nested = record {
       further_apart (get_or (offsets new) j 0) (get_or (offsets new) k 0) (get_or (offsets old) j 0) (get_or (offsets old) k 0) by item size (offset_at old new by j 0 moved (omega (arith, same))) (offset_at old new by k 0 moved (omega (arith, same))) few (nested.apart j k before high);
 }
 
--- the field at this place
+-- The layout of field k is the result of the definition.
 pub gives_field : (old new : Layout) (descr : Descr) (there : Option ℕ) (k : ℕ) (field : Field) → there ≡ Some k → field ≡ field_at descr k → field.at + item_size field.descr ≤ item_size descr → IsMoved old new field.at → GivesField old descr there (Ok new)
 gives_field old new descr there k field found is few moved = rw (found, ← is) (record {
   shape = moved.shape;

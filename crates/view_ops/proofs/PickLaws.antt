@@ -1,4 +1,4 @@
--- Laws of what the items of an index take and pick.
+-- Laws of the axes that the items of an index take, and of what they pick.
 use Rattle.std.proofs.Common.{◌≡◌, ℕ, zero, suc, ◌+◌, ◌-◌, ◌<◌, ◌≤◌, Bool, true, ◌&&◌, ℤ, pos, ◌+ℤ◌, ◌*ℤ◌, List, [], ◌∷◌, ◌++◌, map, length, get_or, take, drop, slice_range, refl, sym, ap, ◌∙◌, arith, length-drop, length-take-le, append_assoc, Option}
 use Rattle.std.proofs.lemmas.Int.{ints}
 use Rattle.std.proofs.lemmas.List.{drop-drop, drop_more, append-nil, map-append}
@@ -16,12 +16,12 @@ use Rattle.view_ops.specs.Slices.{slice_indices, IsRunWithin}
 use Rattle.view_ops.specs.Basics.{Placed, takes_axis, axes_taken, width, placed, has_step, is_on_axis, are_on_axes, Pick, whole, picks_of, picks}
 use Rattle.view_ops.specs.inside.Picks.{pick_shown, ArePicks, AddsPicks}
 
--- ---- items over axes
+-- ---- the axes of items
 
 drop_on : (shape : List ℕ) (a end n : ℕ) → a ≤ end → end ≡ a + n → drop n (drop a shape) ≡ drop end shape
 drop_on shape a end n later is = drop-drop n a shape ∙ ap (λ m. drop m shape) (sym is)
 
--- one item further on
+-- one more item
 pub placed_more : {A : Type 0} (shape : List ℕ) (items : List (IndexItem A)) (k a end : ℕ) → k < length items → a ≤ end → end ≡ a + width (length shape - a) (get_or items k (Integer (pos 0))) (drop (k + 1) items) → placed (drop a shape) (drop k items) ≡ record { item = get_or items k (Integer (pos 0)); axes = slice_range shape a end } ∷ placed (drop end shape) (drop (k + 1) items)
 placed_more shape items k a end low later is =
     let x = get_or items k (Integer (pos 0)) in
@@ -88,7 +88,7 @@ pub has_step-ok : (n : ℕ) (start stop step : Option ℤ) → has_step {A = ℕ
 unfolding slice_indices
 has_step-ok n start stop step has = rw has refl
 
--- ---- a loop that picks, before item k
+-- ---- the loop over the items, before item k
 
 pub record HavePicked {A : Type 0} (shape : List ℕ) (items : List (IndexItem A)) (done : List AxisPick) (k axis : ℕ) : Type 0 where
   pub within : axis ≤ length shape
@@ -99,7 +99,7 @@ pub record HavePicked {A : Type 0} (shape : List ℕ) (items : List (IndexItem A
   pub are : (more : List AxisPick) → ArePicks (drop axis shape) more → ArePicks shape (done ++ more)
   pub show : map pick_shown done ++ picks (drop axis shape) (drop k items) ≡ picks shape items
 
--- the item at k may be picked
+-- Item k can be picked.
 pub record CanPick {A : Type 0} (shape : List ℕ) (items : List (IndexItem A)) (k axis end : ℕ) : Type 0 where
   pub basic : is_basic (get_or items k (Integer (pos 0))) ≡ true
   pub step : has_step (get_or items k (Integer (pos 0))) ≡ true
@@ -107,7 +107,7 @@ pub record CanPick {A : Type 0} (shape : List ℕ) (items : List (IndexItem A)) 
   pub one : takes_axis (get_or items k (Integer (pos 0))) ≡ true → length (slice_range shape axis end) ≡ 1
   pub none : get_or items k (Integer (pos 0)) ≡ NewItem → slice_range shape axis end ≡ []
 
--- what holds of all that is left holds of the next, and of all after it
+-- What holds for all remaining items holds for the next one and for all after it.
 next_holds : {X : Type 0} (p : X → Bool) (xs : List X) (k : ℕ) (d : X) → k < length xs → list_all p (drop k xs) ≡ true → p (get_or xs k d) ≡ true
 next_holds p xs k d low all = (and_parts (p (get_or xs k d)) (list_all p (drop (k + 1) xs)) (sym (ap (list_all p) (drop_more xs k d low)) ∙ all)).0
 

@@ -1,4 +1,4 @@
--- The layout of what is picked is a view.
+-- The layout of the picks is a view.
 use Rattle.std.proofs.Common.{◌≡◌, inl, inr, Ok, ℕ, suc, ◌+◌, ◌*◌, ◌<◌, ◌≤◌, nat_lt, nat_le, true, ℤ, pos, neg_ℤ, ◌+ℤ◌, ◌*ℤ◌, ◌≤ℤ◌, List, [], ◌∷◌, ◌++◌, All, map, length, get_or, take, drop, refl, sym, ap, ◌∙◌, arith, mul-le-mul_left, append_assoc}
 use Rattle.std.specs.List.{list_all, flat_map}
 use Rattle.std.proofs.Math.Nat.{mul-le-mul_right}
@@ -24,7 +24,7 @@ use Rattle.view_ops.specs.ViewLaws.{LieWithin-view, inside-view, offsets-view}
 use Rattle.view_ops.proofs.ViewLaws.{IsNested-view}
 use Rattle.view_ops.proofs.StrideLaws.{stride_along, run_number-is, run-one}
 
--- the lengths and the leads of what is picked
+-- the shape of the picks, and the index to which an index of it leads
 abbrev pub shape_of_picks : List AxisPick → List ℕ
 shape_of_picks picks = picked_shape (map pick_shown picks)
 
@@ -69,7 +69,7 @@ short-picks (n ∷ shape) (AlongAxis run ∷ picks) are low =
 pub shape_of-picks : (shape : List ℕ) (picks : List AxisPick) → ArePicks shape picks → All (λ m. m ≤ max_items) shape → count shape ≤ max_items → length (shape_of_picks picks) ≤ max_axes → shape_of (shape_of_picks picks) ≡ Ok (shape_of_picks picks)
 shape_of-picks shape picks are low small few = shape_of-ok (shape_of_picks picks) few (short-picks shape picks are low) (omega (arith, count-picks shape picks are))
 
--- ---- where indexes lead
+-- ---- the indexes to which indexes lead
 
 pub leads-picks : (shape : List ℕ) (picks : List AxisPick) (index : List ℕ) → ArePicks shape picks → IsIndex (shape_of_picks picks) index → IsIndex shape (leads_of_picks picks index)
 leads-picks shape (NewAxis ∷ picks) [] are in' = absurd in'
@@ -84,7 +84,7 @@ leads-picks (n ∷ shape) (AlongAxis run ∷ picks) (k ∷ index) are in' =
     let low : k < run.count = omega (arith, length-run run, in'.0) in
     (rw (number_at run k low) (are.0.below k low), leads-picks shape picks index are.1 in'.1)
 
--- the first item that is picked, where there is one
+-- If the view has items, the first numbers of the picks are an index of the old array.
 pub IsIndex-firsts : (shape : List ℕ) (picks : List AxisPick) → ArePicks shape picks → 0 < count (shape_of_picks picks) → IsIndex shape (firsts picks)
 IsIndex-firsts shape (NewAxis ∷ picks) are some = IsIndex-firsts shape picks are (omega arith)
 IsIndex-firsts [] [] are some = tt
@@ -108,7 +108,7 @@ lengths_on picks i d low =
     let pick = get_or picks i d in
     ap shape_of_picks (take_more picks i d low) ∙ ap picked_shape (map-append pick_shown (take i picks) (pick ∷ [])) ∙ flat_map-append axis_of (map pick_shown (take i picks)) (pick_shown pick ∷ []) ∙ ap (λ l. shape_of_picks (take i picks) ++ l) (append-nil (axis_of (pick_shown pick)))
 
--- the loop over the strides at a pick, with an axis and the picks after it
+-- The loop over the strides can handle a pick of axis `axis`, with the picks after it.
 pub record CanStep (strides : List ℤ) (axis : ℕ) (pick : AxisPick) (later : List AxisPick) : Type 0 where
   pub axis_in : axes_of_pick pick ≡ 1 → axis < length strides
   pub small : IsSmallPick (get_or strides axis (pos 0)) pick
@@ -149,7 +149,7 @@ can_step strides axis (AlongAxis run) later within small =
       | inr none ↦ absurd (rw (drop_all axis strides none) at small)
     ]
 
--- before the i-th pick
+-- the state of the loop before the i-th pick
 pub record HaveStepped (strides made : List ℤ) (picks : List AxisPick) (i axis : ℕ) : Type 0 where
   pub within : axis ≤ length strides
   pub small : HaveSmallSteps (drop axis strides) (drop i picks)
@@ -219,7 +219,7 @@ dot-picks (s ∷ strides) (n ∷ shape) (AlongAxis run ∷ picks) (k ∷ index) 
     let here = along s run n k are.0 low ∙ ap (λ x. s *ℤ pos x) (sym (number_at run k low)) in
     sums (s *ℤ pos run.first) (dot strides (firsts picks)) (run_stride s run *ℤ pos k) (dot (picked_strides strides picks) index) (s *ℤ pos (get_or (run_numbers run) k 0)) (dot strides (leads_of_picks picks index)) here (dot-picks strides shape picks index (omega arith) are.1 in'.1)
 
--- ---- an index can be read back
+-- ---- different indexes lead to different items
 
 pub one-picks : (shape : List ℕ) (picks : List AxisPick) (i j : List ℕ) → ArePicks shape picks → IsIndex (shape_of_picks picks) i → IsIndex (shape_of_picks picks) j → leads_of_picks picks i ≡ leads_of_picks picks j → i ≡ j
 one-picks shape (NewAxis ∷ picks) [] j are in-i in-j same = absurd in-i
@@ -248,14 +248,14 @@ one-picks (n ∷ shape) (AlongAxis run ∷ picks) (k ∷ i) (l ∷ j) are in-i i
     let rest = one-picks shape picks i j are.1 in-i.1 in-j.1 later in
     cc
 
--- ---- no step goes far
+-- ---- no step leaves the limits
 
--- the sums from z on stay within the first bytes
+-- The sums starting at `z` stay within the limit of a buffer.
 pub record StaysWithin (z : ℤ) (strides : List ℤ) (shape : List ℕ) : Type 0 where
   pub low : (index : List ℕ) → IsIndex shape index → pos 0 ≤ℤ (z +ℤ dot strides index)
   pub high : (index : List ℕ) → IsIndex shape index → (z +ℤ dot strides index) ≤ℤ pos max_bytes
 
--- with this number on the first axis
+-- They also do with a number given on the first axis.
 stays_at : (z s : ℤ) (strides : List ℤ) (n x : ℕ) (shape : List ℕ) → x < n → StaysWithin z (s ∷ strides) (n ∷ shape) → StaysWithin (z +ℤ s *ℤ pos x) strides shape
 stays_at z s strides n x shape low stays = record {
   low = λ index in'. rw (+ℤ_assoc z (s *ℤ pos x) (dot strides index)) (stays.low (x ∷ index) (low, in'));
@@ -312,7 +312,7 @@ small-layout old picks low are some =
 
 -- ---- the view
 
--- how the new numbers were made, where there are items
+-- how the shape, the strides and the offset are made, if there are items
 pub record IsPicked (old : Layout) (shape : List ℕ) (strides : List ℤ) (offset : ℕ) (picks : List AxisPick) : Type 0 where
   pub are : ArePicks old.shape picks
   pub shape_is : shape ≡ shape_of_picks picks
@@ -327,7 +327,7 @@ picked_as old shape strides offset picks first seen are shape_is at first_is mad
   strides_are = λ _. made ∙ ap (λ s. picked_strides s picks) is;
 }
 
--- any layout of that shape, where there is no item
+-- Without items, any layout of that shape is made in this way.
 pub picked_empty : (old new : Layout) (shape : List ℕ) (picks : List AxisPick) → ArePicks old.shape picks → new.shape ≡ shape → shape ≡ shape_of_picks picks → count shape ≡ 0 → IsPicked old new.shape new.strides new.offset picks
 picked_empty old new shape picks are same shape_is none = record {
   are = are;

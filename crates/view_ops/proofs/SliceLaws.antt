@@ -18,7 +18,7 @@ clamp_low x low n = omega (arith, ints, clamps)
 pub clamp_high : (x low : ℤ) (n : ℕ) → int_min (int_max x low) (low +ℤ pos n) ≤ℤ (low +ℤ pos n)
 clamp_high x low n = omega (arith, ints, clamps)
 
--- a slice with its bounds in place, how far they are apart, and how many steps lie between
+-- a slice with its bounds in range, the gap between them, and the number of steps in the gap
 pub record IsSpan (n gap count : ℕ) (start stop step : ℤ) : Type 0 where
   pub some : step ≢ pos 0
   pub start_low : lowest step ≤ℤ start
@@ -35,7 +35,7 @@ lowest_back step below = let test : int_lt step (pos 0) ≡ true = grind (arith,
 lowest_forth : (step : ℤ) → pos 0 ≤ℤ step → lowest step ≡ pos 0
 lowest_forth step above = let test : int_lt step (pos 0) ≡ false = grind (arith, ints) in rw test
 
--- ---- where the numbers lie
+-- ---- the numbers are in range
 
 back_range : (start stop low d : ℤ) (m gap n : ℕ) → low ≡ negsuc 0 → d ≡ neg_ℤ (pos m) → pos gap ≡ int_max (start -ℤ stop) (pos 0) → low ≤ℤ stop → start ≤ℤ (low +ℤ pos n) → m < gap → (pos 0 ≤ℤ (start +ℤ d)) × ((start +ℤ d) <ℤ pos n)
 back_range start stop low d m gap n at is far first last near = (omega (arith, ints, clamps), omega (arith, ints, clamps))
@@ -108,7 +108,7 @@ abs_of_max : (m start d : ℤ) → m ≡ int_max start (pos 0) → d ≡ pos 0 �
 abs_of_max (pos m) start d is none low = omega (arith, ints, clamps)
 abs_of_max (negsuc m) start d is none low = absurd (omega (arith, ints, clamps))
 
--- the first number, where there is one
+-- If there are numbers, the first one is the start.
 pub span_first : (n gap count : ℕ) (start stop step m : ℤ) → IsSpan n gap count start stop step → m ≡ int_max start (pos 0) → 0 < count → pos (unsigned_abs m) ≡ start
 span_first n gap count start stop step m s is some =
     abs_of_max m start (step *ℤ pos 0) is (*ℤ-zero step) (span_range n gap count start stop step s 0 some).0

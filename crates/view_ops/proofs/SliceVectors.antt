@@ -1,4 +1,4 @@
--- What Python's `list(range(*slice(start, stop, step).indices(n)))` gives.
+-- Examples of slices: what Python's `list(range(*slice(start, stop, step).indices(n)))` gives.
 use Rattle.std.proofs.Common.{◌≡◌, pos, negsuc, Some, None, [], ◌∷◌, Ok, Err, refl}
 use Rattle.view_ops.specs.Words.{ZeroStep, stepped}
 use Rattle.view_ops.specs.Slices.{slice_indices}

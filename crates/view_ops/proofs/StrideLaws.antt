@@ -23,7 +23,7 @@ back_number x f b k is =
     let p = negsuc-*ℤ-pos b k in
     omega (arith, ints)
 
--- the stride of a run's axis is its step times the stride
+-- The stride along a run is its step times the stride of the axis.
 pub stride_along : (s t : ℤ) (x f k : ℕ) → pos x ≡ pos f +ℤ t *ℤ pos k → s *ℤ pos f +ℤ (s *ℤ t) *ℤ pos k ≡ s *ℤ pos x
 stride_along (pos a) (pos b) x f k is =
     let sum = sum_forth a x f b k (forth_number x f b k is) in
@@ -55,7 +55,7 @@ run_number-is run n k within low = pos-natural (pos run.first +ℤ run.step *ℤ
 same_steps : (x y f p q : ℤ) → x ≡ f +ℤ p → y ≡ f +ℤ q → x ≡ y → p ≡ q
 same_steps x y f p q first second same = omega (arith, ints)
 
--- no number comes twice
+-- No number is repeated.
 pub run-one : (run : Progression) (n k l : ℕ) → IsRunWithin run n → k < run.count → l < run.count → run_number run k ≡ run_number run l → k ≡ l
 run-one run n k l within low-k low-l same =
     let steps = same_steps (pos (run_number run k)) (pos (run_number run l)) (pos run.first) (run.step *ℤ pos k) (run.step *ℤ pos l) (run_number-is run n k within low-k) (run_number-is run n l within low-l) (ap pos same) in

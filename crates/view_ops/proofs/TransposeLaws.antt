@@ -12,7 +12,7 @@ use Rattle.shape_strides.specs.Layouts.{dot}
 use Rattle.view_ops.specs.Transposes.{transposed_shape, transposed_index, put_at}
 use Rattle.view_ops.specs.inside.Axes.{AreAxes}
 
--- ---- numbers that are put to axes
+-- ---- numbers written at the positions of axes
 
 or_false_left : (x y : Bool) → (x || y) ≡ false → x ≡ false
 or_false_left x y none = grind arith
@@ -31,7 +31,7 @@ length-put_at [] numbers over = refl
 length-put_at (a ∷ axes) [] over = refl
 length-put_at (a ∷ axes) (x ∷ numbers) over = length-set (put_at axes numbers over) a x ∙ length-put_at axes numbers over
 
--- another place keeps its number
+-- The number at any other position is unchanged.
 pub put_at-out : (axes numbers over : List ℕ) (j d : ℕ) → list_any (λ b. b == j) axes ≡ false → get_or (put_at axes numbers over) j d ≡ get_or over j d
 put_at-out [] numbers over j d none = refl
 put_at-out (a ∷ axes) [] over j d none = refl
@@ -130,7 +130,7 @@ IsIndex-transposed axes shape index size are in' =
     IsIndex-from_numbers shape (transposed_index axes index) (length-put_at axes index (replicate (length axes) 0) ∙ length-replicate {A = ℕ} (length axes) 0 ∙ size) (λ j low.
     put_at-in (length shape) j axes shape index (replicate (length axes) 0) are (length-replicate {A = ℕ} (length axes) 0 ∙ size) in' (named (length shape) j axes size are low))
 
--- ---- an index can be read back
+-- ---- different indexes lead to different items
 
 map-set_out : (l : List ℕ) (a x : ℕ) (bs : List ℕ) → list_any (λ b. b == a) bs ≡ false → map (λ b. get_or (set l a x) b 0) bs ≡ map (λ b. get_or l b 0) bs
 map-set_out l a x [] none = refl
@@ -157,7 +157,7 @@ transposed-one axes shape i j size are in-i in-j same =
 
 -- ---- the number of items
 
--- the lengths of the axes that are left, where 1 stands for one that is named
+-- the lengths of the axes, with 1 for each axis that is named
 abbrev erased : List ℕ → List ℕ → List ℕ
 erased [] shape = shape
 erased (a ∷ axes) shape = set (erased axes shape) a 1

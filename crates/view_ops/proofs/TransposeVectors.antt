@@ -1,4 +1,4 @@
--- The axes, shapes and strides of NumPy's transposes.
+-- Examples of the axes, shapes and strides of NumPy's transposes.
 use Rattle.std.proofs.Common.{◌≡◌, pos, negsuc, Some, None, [], ◌∷◌, Ok, Err, refl}
 use Rattle.view_ops.specs.Words.{BadAxis}
 use Rattle.view_ops.specs.Transposes.{axes_of, transposed_shape, transposed_index}

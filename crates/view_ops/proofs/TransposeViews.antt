@@ -27,7 +27,7 @@ IsShape-transposed axes shape all is =
 
 -- ---- the view
 
--- how the new numbers were made
+-- how the shape and the strides are made
 pub record IsTurned (old : Layout) (shape : List ℕ) (strides : List ℤ) (axes : List ℕ) : Type 0 where
   pub all : AreAllAxes (length old.shape) axes
   pub shape_is : shape ≡ transposed_shape axes old.shape
@@ -54,7 +54,7 @@ pub turned-lies : (old : Layout) (shape : List ℕ) (strides : List ℤ) (axes :
 turned-lies old shape strides axes turned =
     LieWithin-view old shape strides old.offset (transposed_index axes) max_bytes 1 (turned-shows old shape strides axes turned) old.within_limit
 
--- the strides of an array without items are 0 in any order
+-- Without items, the strides are 0 in any order.
 pub turned-zeros : (old : Layout) (shape : List ℕ) (strides : List ℤ) (axes : List ℕ) → IsTurned old shape strides axes → count shape ≡ 0 → (old.offset ≡ 0) × (strides ≡ map (λ _. pos 0) shape)
 turned-zeros old shape strides axes turned none =
     let zero = old.zero_if_empty (sym (count-transposed axes old.shape turned.all.size turned.all.are) ∙ sym (ap count turned.shape_is) ∙ none) in (
@@ -81,7 +81,7 @@ turned-nested old new axes turned same item nested =
     let view : IsView old new (transposed_index axes) = subst (λ o. ShowsThrough old new.shape new.strides o (transposed_index axes)) (sym same) (turned-shows old new.shape new.strides axes turned) in
     IsNested-view old new (transposed_index axes) item view (λ i j in-i in-j same. transposed-one axes old.shape i j turned.all.size turned.all.are (rw (← turned.shape_is) in-i) (rw (← turned.shape_is) in-j) same) nested
 
--- ---- exits
+-- ---- the exits
 
 pub turned_as : {old : Layout} {axes lengths items seen shape : List ℕ} {steps strides : List ℤ} → lengths ≡ items → items ≡ transposed_shape axes seen → seen ≡ old.shape → AreAllAxes (length old.shape) axes → shape ≡ lengths → strides ≡ map (λ a. get_or steps a (pos 0)) axes → steps ≡ old.strides → IsTurned old shape strides axes
 turned_as {axes = axes} first second third all made are is = record {

@@ -1,4 +1,4 @@
--- The items of views lie apart, and what is answered where there is none.
+-- The items of views do not overlap, and a refusal is the one of the definition.
 use Rattle.std.proofs.Common.{◌≡◌, ℕ, ◌<◌, ◌≤◌, ◌⊎◌, Result, Ok, Err, List, length, get_or, inl, inr, sym, ap, ◌∙◌, arith}
 use Rattle.std.proofs.lemmas.Bool.{cases_lt}
 use Rattle.view_ops.specs.Words.{Refusal, OutOfMemory, Layout, count, rank, IsIndex, offsets, distance, IsNested, rank-lt, rank-same, index_at, length-offsets, get_or-offsets}
@@ -6,7 +6,7 @@ use Rattle.shape_strides.specs.Addresses.{natural}
 use Rattle.view_ops.specs.Views.{View, GivesView}
 use Rattle.view_ops.specs.Shows.{IsView}
 
--- the offset of the view at the rank of an index
+-- The offset of the view at the rank of an index is the offset of the item to which the index leads.
 offset-view : (old new : Layout) (m : List ℕ → List ℕ) → IsView old new m → (index : List ℕ) → IsIndex new.shape index → get_or (offsets new) (rank new.shape index) 0 ≡ get_or (offsets old) (rank old.shape (m index)) 0
 offset-view old new m view index in' = get_or-offsets new index 0 in' ∙ ap natural (view.same index in') ∙ sym (get_or-offsets old (m index) 0 (view.leads index in'))
 

@@ -7,7 +7,7 @@ use Rattle.view_ops.specs.Words.{Refusal, ZeroStep, ◌>>=◌, check, stepped}
 use Rattle.shape_strides.specs.Addresses.{natural}
 use Rattle.view_ops.specs.declared.slice.Progression.{Progression}
 
--- the bounds of a slice: 0 and n for a positive step, -1 and n - 1 for a negative one
+-- the lowest and the highest position of a bound: 0 and n for a positive step, -1 and n - 1 for a negative one
 abbrev pub lowest : ℤ → ℤ
 lowest step = if int_lt step (pos 0) then negsuc 0 else pos 0
 

@@ -28,7 +28,7 @@ fn are_distinct(axes: &[usize]) -> bool
     true
 }
 
-/// The axes from the last one to the first.
+/// The axes from the last to the first.
 fn reversed_axes(alloc: Global, rank: usize) -> Result<SmallVec<usize, 4>, AllocError>
     ensures { IfOk result (λ v. v.items ≡ map (λ k. rank - 1 - k) (range_with_len 0 rank)) }
 {
@@ -39,7 +39,7 @@ fn reversed_axes(alloc: Global, rank: usize) -> Result<SmallVec<usize, 4>, Alloc
     Ok(axes)
 }
 
-/// The axes that are named, as counted from the front.
+/// The named axes, counted from the front.
 fn counted_axes(
     alloc: Global,
     rank: usize,
@@ -71,7 +71,7 @@ fn named_axes(alloc: Global, rank: usize, named: &[i128]) -> Result<SmallVec<usi
     Ok(axes)
 }
 
-/// The axes in the order that a transpose is to have.
+/// The axes in the order of a transpose.
 pub(crate) fn axes_of(
     alloc: Global,
     rank: usize,

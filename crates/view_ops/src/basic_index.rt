@@ -23,7 +23,7 @@ fn takes_axis<A>(item: &IndexItem<A>) -> bool
     !matches!(item, IndexItem::Ellipsis | IndexItem::NewAxis)
 }
 
-/// How many axes the items take, beside those of `...`.
+/// The number of axes that the items take, not counting those that `...` takes.
 pub(crate) fn taken<A>(items: &[IndexItem<A>]) -> usize
     ensures { result ≡ axes_taken items.now }
 {

@@ -75,7 +75,7 @@ fn stop_of(n: usize, step: i128, stop: Option<i128>) -> i128
     }
 }
 
-/// How many steps of this length, from 0 on, end below `gap`.
+/// The number of steps of this length, from 0 on, that end below `gap`.
 fn steps_below(gap: usize, step: i128) -> usize
     requires { step ≢ pos 0 }
     ensures { (k : ℕ) → (k < result) ↔ (k * unsigned_abs step < gap) }
@@ -83,7 +83,7 @@ fn steps_below(gap: usize, step: i128) -> usize
     (gap as u128).div_ceil(step.unsigned_abs()) as usize
 }
 
-/// How far the stop is from the start, as the step goes, or 0.
+/// The distance from the start to the stop in the direction of the step, or 0.
 fn gap(start: i128, stop: i128, step: i128) -> usize
     requires start_low { lowest step ≤ℤ start }
     requires start_high { start ≤ℤ highest usize.MAX step }
