@@ -1,4 +1,4 @@
--- Laws of shapes that are lined up, axis by axis.
+-- Laws of aligned shapes, axis by axis.
 use Rattle.std.proofs.Common.{◌≡◌, ℕ, ◌+◌, ◌<◌, ◌≤◌, ◌&&◌, max, Bool, true, false, Ok, Err, ℤ, pos, List, [], ◌∷◌, ◌++◌, length, drop, get_or, refl, sym, ap, ◌∙◌, arith, append-nil}
 use Rattle.std.proofs.Math.Nat.{le-max_left, le-max_right}
 use Rattle.std.proofs.Math.ListN.{drop_of_length-le}
@@ -14,7 +14,7 @@ use Rattle.broadcasting.specs.inside.Stretches.{kept_stride, kept_strides}
 pub together-drop : (left right : List ℕ) (k : ℕ) → k < length left → k < length right → all_go_together (drop k left) (drop k right) ≡ go_together (get_or left k 0) (get_or right k 0) && all_go_together (drop (k + 1) left) (drop (k + 1) right)
 together-drop left right k in-left in-right = rw (drop_more left k 0 in-left, drop_more right k 0 in-right) refl
 
--- the shapes do not go together at this axis
+-- The shapes are not compatible at this axis.
 pub refused-at : (left right : List ℕ) (rank axis first second : ℕ) (together : Bool) → rank ≡ max (length left) (length right) → axis < rank → first ≡ get_or (aligned rank left) axis 0 → second ≡ get_or (aligned rank right) axis 0 → together ≡ go_together first second → together ≡ false → all_go_together (drop axis (aligned rank left)) (drop axis (aligned rank right)) ≡ all_go_together (aligned rank left) (aligned rank right) → common_of_two left right ≡ Err ShapesDoNotBroadcast
 refused-at left right rank axis first second together is below first-is second-is tested other rest =
     let few-left : length left ≤ rank = omega (arith, le-max_left (length left) (length right)) in
@@ -24,7 +24,7 @@ refused-at left right rank axis first second together is below first-is second-i
     let here : go_together (get_or (aligned rank left) axis 0) (get_or (aligned rank right) axis 0) ≡ false = ap (λ m. go_together m (get_or (aligned rank right) axis 0)) (sym first-is) ∙ ap (λ n. go_together first n) (sym second-is) ∙ sym tested ∙ other in
     common-none left right rank is (sym rest ∙ together-drop (aligned rank left) (aligned rank right) axis in-left in-right ∙ and_left _ (all_go_together (drop (axis + 1) (aligned rank left)) (drop (axis + 1) (aligned rank right))) here)
 
--- they go together at each axis, and these are the lengths
+-- The shapes are compatible at each axis, and these are the common lengths.
 pub found-all : (left right : List ℕ) (rank axis : ℕ) (lengths : List ℕ) → rank ≡ max (length left) (length right) → rank ≤ axis → all_go_together (drop axis (aligned rank left)) (drop axis (aligned rank right)) ≡ all_go_together (aligned rank left) (aligned rank right) → lengths ++ common_lengths (drop axis (aligned rank left)) (drop axis (aligned rank right)) ≡ common_lengths (aligned rank left) (aligned rank right) → common_of_two left right ≡ Ok lengths
 found-all left right rank axis lengths is past together are =
     let few-left : length left ≤ rank = omega (arith, le-max_left (length left) (length right)) in

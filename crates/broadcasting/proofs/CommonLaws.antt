@@ -5,18 +5,18 @@ use Rattle.std.proofs.lemmas.List.{drop_more, length-map, get_or-map}
 use Rattle.broadcasting.specs.Words.{Refusal, OutOfMemory, Gives, ◌>>=◌, shape_of}
 use Rattle.broadcasting.specs.Broadcasts.{common_of_two, common_with, common_shape}
 
--- the shapes as they are seen
+-- the shapes as borrowed values
 abbrev pub seen : List (Bor (List ℕ)) → List (List ℕ)
 seen shapes = map (λ s. s.now) shapes
 
--- the shape after the first k ones is next
+-- The shape after the first k is the next one.
 next-with : (lengths shape : List ℕ) (shapes : List (Bor (List ℕ))) (k : ℕ) (item : Bor (List ℕ)) → k < length shapes → item ≡ get_or shapes k item → shape ≡ item.now → common_with lengths (drop k (seen shapes)) ≡ common_of_two lengths shape >>= (λ common. common_with common (drop (k + 1) (seen shapes)))
 next-with lengths shape shapes k item below is same =
     let inside : k < length (seen shapes) = omega (arith, length-map shapes (λ s. s.now)) in
     let here : get_or (seen shapes) k [] ≡ shape = get_or-map (λ s. s.now) shapes k item [] below ∙ ap (λ s. s.now) (sym is) ∙ sym same in
     ap (common_with lengths) (drop_more (seen shapes) k [] inside) ∙ ap (λ s. common_with lengths (s ∷ drop (k + 1) (seen shapes))) here
 
--- these lengths are those of the shapes so far, and the others stay
+-- These are the common lengths of the first k shapes, and the remaining shapes are still to be taken.
 abbrev pub IsCommonSoFar : List ℕ → List (Bor (List ℕ)) → ℕ → Type 0
 IsCommonSoFar lengths shapes k = common_with lengths (drop k (seen shapes)) ≡ common_with [] (seen shapes)
 
@@ -42,7 +42,7 @@ common-all lengths shapes k past far =
     let none : drop k (seen shapes) ≡ [] = drop_of_length-le (seen shapes) (omega (arith, length-map shapes (λ s. s.now))) in
     common-ok (seen shapes) lengths (sym far ∙ ap (common_with lengths) none)
 
--- what is made of the common lengths of all the shapes is their common shape
+-- The shape with the common lengths of all shapes is their common shape.
 pub finished : (lengths used : List ℕ) (shapes : List (Bor (List ℕ))) (k : ℕ) (result : Result (List ℕ) Refusal) → length shapes ≤ k → IsCommonSoFar lengths shapes k → used ≡ lengths → Gives (λ s. s) result (shape_of used) → Gives (λ s. s) result (common_shape (seen shapes))
 finished lengths used shapes k result past far is given =
     subst (Gives (λ s. s) result) (ap shape_of is ∙ sym (common-all lengths shapes k past far)) given

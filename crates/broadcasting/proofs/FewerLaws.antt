@@ -7,7 +7,7 @@ use Rattle.std.proofs.lemmas.List.Elements.{All-drop}
 use lib.IntN.{+ℤ_idl, *ℤ-zero}
 use Rattle.broadcasting.specs.Words.{Layout, max_items, max_bytes, count, IsIndex, dot, LieWithin, IsShape, slice-rest, ShowsThrough, LieWithin-view}
 
--- ---- the axes that are left
+-- ---- the remaining axes
 
 count-rest : (k : ℕ) (shape : List ℕ) → list_all (λ n. n == 1) (take k shape) ≡ true → count (drop k shape) ≡ count shape
 count-rest zero shape single = refl
@@ -23,7 +23,7 @@ IsShape-rest k shape single is = record {
   items = omega (arith, count-rest k shape single, is.items);
 }
 
--- ---- where an index leads
+-- ---- the index to which an index leads
 
 IsIndex-front : (k : ℕ) (shape index : List ℕ) → list_all (λ n. n == 1) (take k shape) ≡ true → k ≤ length shape → IsIndex (drop k shape) index → IsIndex shape (replicate k 0 ++ index)
 IsIndex-front zero shape index single few in' = in'
@@ -40,7 +40,7 @@ dot-front (suc k) (s ∷ strides) index =
 
 -- ---- the view
 
--- how the layout was made
+-- how the layout is made
 pub record IsRest (old : Layout) (k : ℕ) (shape : List ℕ) (strides : List ℤ) : Type 0 where
   pub few : k ≤ length old.shape
   pub single : list_all (λ n. n == 1) (take k old.shape) ≡ true

@@ -1,4 +1,4 @@
--- What is stretched into a target is a view of a view.
+-- An array stretched into a target is a view of a view.
 use Rattle.std.proofs.Common.{◌≡◌, inl, inr, Result, Ok, Err, ℕ, ◌-◌, ◌==◌, Bool, true, false, List, ◌++◌, length, take, drop, replicate, sym, ap, subst, ◌∙◌}
 use Rattle.std.specs.List.{list_all}
 use Rattle.std.specs.Result.{is_ok}
@@ -30,7 +30,7 @@ into-refused : (shape target : List ℕ) → list_all (λ n. n == 1) (take (axes
 unfolding stretched_into
 into-refused shape target longer = rw longer
 
--- ---- what the exits of `stretch_into` have to give
+-- ---- the results that the definition gives at the exits of `stretch_into`
 
 beyond-is : (shape lengths target : List ℕ) (rank beyond : ℕ) → lengths ≡ shape → rank ≡ length target → beyond ≡ length lengths - rank → beyond ≡ axes_beyond (length target) shape
 beyond-is shape lengths target rank beyond is rank-is counted = counted ∙ ap (λ r. length lengths - r) rank-is ∙ ap (λ l. length l - length target) is

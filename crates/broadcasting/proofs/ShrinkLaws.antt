@@ -1,4 +1,4 @@
--- A layout is stretched from the one that it shrinks to.
+-- A layout is a stretch of the layout that it shrinks to.
 use Rattle.std.proofs.Common.{◌≡◌, inl, inr, ℕ, suc, ◌-◌, ◌<◌, ◌≤◌, ◌==◌, ◌&&◌, true, false, if◌then◌else◌, ℤ, pos, ◌+ℤ◌, ◌*ℤ◌, List, [], ◌∷◌, ◌++◌, All, length, get_or, drop, replicate, refl, sym, ap, subst, ◌∙◌, arith, zero-mul, ◌+◌, below_more, get_or-append-add}
 use Rattle.std.proofs.Math.Nat.{mul-le-mul}
 use Rattle.std.proofs.lemmas.Bool.{eqb-true}
@@ -29,7 +29,7 @@ step n m k stride (inl same) below =
 step n m k stride (inr one) below =
     (λ i. one.1 i *ℤ pos k) ∙ ap pos (zero-mul k ∙ sym (zero-mul (if m == 1 then 0 else k))) ∙ λ i. sym one.1 i *ℤ pos (if m == 1 then 0 else k)
 
--- one axis more
+-- one more axis
 pub one-more : (shape : List ℕ) (strides : List ℤ) (small small' : List ℕ) (i m : ℕ) → length small ≡ i → small' ≡ small ++ m ∷ [] → ShrinksTo (get_or shape i 0) (get_or strides i (pos 0)) m →
     ((k : ℕ) → k < i → ShrinksTo (get_or shape k 0) (get_or strides k (pos 0)) (get_or small k 0)) → (k : ℕ) → k < i + 1 → ShrinksTo (get_or shape k 0) (get_or strides k (pos 0)) (get_or small' k 0)
 one-more shape strides small small' i m many is here so_far =
@@ -82,7 +82,7 @@ can-shrunk shape small strides same can =
     let none : length shape - length small ≡ 0 = omega (arith, can.axes) in
     ap (λ k. all_stretch (replicate k 1 ++ small) shape) none ∙ all_fit shape small strides same can
 
--- ---- its shape
+-- ---- the shape
 
 short-shrunk : (shape small : List ℕ) (strides : List ℤ) → CanShrink shape strides small → All (λ n. n ≤ max_items) shape → All (λ n. n ≤ max_items) small
 short-shrunk shape small strides can short k d below =
@@ -101,7 +101,7 @@ IsShape-shrunk shape small strides same can is = record {
 pub moved : (shape shape' : List ℕ) (strides strides' : List ℤ) (small : List ℕ) → shape ≡ shape' → strides ≡ strides' → CanShrink shape strides small → CanShrink shape' strides' small
 moved shape shape' strides strides' small is are can = subst (λ x. CanShrink x strides' small) is (subst (λ x. CanShrink shape x small) are can)
 
--- ---- its layout
+-- ---- the layout
 
 shrunk-shows : (layout : Layout) (small : List ℕ) → CanShrink layout.shape layout.strides small → ShowsThrough layout small layout.strides layout.offset (λ index. index)
 shrunk-shows layout small can = record {
@@ -133,7 +133,7 @@ shrunk-itself layout new can has = record {
   smaller = numbers-view layout new new.shape layout.strides layout.offset (λ index. index) (shrunk-shows layout new.shape can) has;
 }
 
--- what the exit of `shrink` has to give
+-- the condition of the exit of `shrink`
 pub shrunk-length : (layout : Layout) (shape : List ℕ) (strides : List ℤ) (small : List ℕ) → strides ≡ layout.strides → shape ≡ small → CanShrink layout.shape layout.strides small → length strides ≡ length shape
 shrunk-length layout shape strides small strides-are is can = omega (arith, ap length strides-are, ap length is, can.axes, layout.one_stride_an_axis)
 

@@ -58,7 +58,7 @@ pub stretched-lies : (old : Layout) (target : List ℕ) (strides : List ℤ) →
 stretched-lies old target strides made =
     LieWithin-view old target strides old.offset (broadcast_index old.shape) max_bytes 1 (stretched-shows old target strides made) old.within_limit
 
--- a layout with these numbers, where it has items
+-- A layout has this shape and, if it has items, these strides and this offset.
 pub record HasNumbers (new : Layout) (shape : List ℕ) (strides : List ℤ) (offset : ℕ) : Type 0 where
   pub shape_is : new.shape ≡ shape
   pub strides_are : 0 < count shape → new.strides ≡ strides
@@ -73,7 +73,7 @@ shows-numbers old new shape strides offset m shows has = record {
       ap (λ s. address_at s new.offset index) (has.strides_are some) ∙ ap (λ o. address_at strides o index) (has.offset_is some) ∙ shows.same index in-shape;
 }
 
--- is a view
+-- Such a layout is a view.
 pub numbers-view : (old new : Layout) (shape : List ℕ) (strides : List ℤ) (offset : ℕ) (m : List ℕ → List ℕ) → ShowsThrough old shape strides offset m → HasNumbers new shape strides offset → IsViewOf old new (record { shape = shape; leads = m })
 numbers-view old new shape strides offset m shows has =
     let view : IsView old new m = shows-numbers old new shape strides offset m shows has in
@@ -85,7 +85,7 @@ numbers-view old new shape strides offset m shows has =
       fits = λ len item fits. LieWithin-view old new.shape new.strides new.offset m len item view fits;
     }
 
--- what the exits of `stretch` and `stretched_to` have to give
+-- the condition of the exits of `stretch` and `stretched_to`
 pub made_numbers : (result : Option Layout) (new : Layout) (shape target : List ℕ) (strides : List ℤ) (offset : ℕ) → result ≡ Some new → shape ≡ target → IfSome result (λ l. l.shape ≡ shape) → IfSome result (λ l. 0 < count shape → l.strides ≡ strides) → IfSome result (λ l. 0 < count shape → l.offset ≡ offset) → HasNumbers new target strides offset
 made_numbers result new shape target strides offset is same shape-is strides-are offset-is = record {
   shape_is = subst (λ r. IfSome r (λ l. l.shape ≡ shape)) is shape-is ∙ same;

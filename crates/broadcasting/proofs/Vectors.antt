@@ -1,4 +1,4 @@
--- The shapes and indexes of NumPy's user guide on broadcasting, and of `broadcast_shapes` and `broadcast_to`.
+-- Examples from NumPy's user guide on broadcasting, and of `broadcast_shapes` and `broadcast_to`.
 use Rattle.std.proofs.Common.{◌≡◌, true, false, [], ◌∷◌, Ok, Err, refl}
 use Rattle.broadcasting.specs.Words.{TooLarge, ShapesDoNotBroadcast, shape_of, view_through}
 use Rattle.broadcasting.specs.Broadcasts.{common_of_two, common_shape, can_stretch, broadcast_index, stretched, stretched_into}
@@ -48,7 +48,7 @@ third_differs : common_shape ((2 ∷ []) ∷ (1 ∷ []) ∷ (3 ∷ []) ∷ []) �
 unfolding common_shape common_of_two
 third_differs = refl
 
--- more than 2^24 items, and as many lengths with one of 0 among them
+-- more than 2^24 items, and the same lengths with a shape that has an axis of length 0
 too_many_items : common_shape ((4097 ∷ 1 ∷ []) ∷ (4096 ∷ []) ∷ []) ≡ Err TooLarge
 unfolding common_shape common_of_two shape_of
 too_many_items = refl
@@ -101,7 +101,7 @@ no_view : stretched (3 ∷ []) (3 ∷ 1 ∷ []) ≡ Err ShapesDoNotBroadcast
 unfolding stretched
 no_view = refl
 
--- what `a[...] = b` shows of b: of the shape (1, 1, 2) in an `a` of the shape (2,), of `()` in one of (2, 3)
+-- what `a[...] = b` shows of `b`, for a `b` of shape (1, 1, 2) and an `a` of shape (2,), and for shapes () and (2, 3)
 into_fewer : stretched_into (1 ∷ 1 ∷ 2 ∷ []) (2 ∷ []) ≡ Ok (record { shape = 2 ∷ []; leads = λ index. 0 ∷ 0 ∷ broadcast_index (2 ∷ []) index })
 unfolding stretched_into stretched
 into_fewer = refl
@@ -113,7 +113,7 @@ into_more : stretched_into [] (2 ∷ 3 ∷ []) ≡ Ok (record { shape = 2 ∷ 3 
 unfolding stretched_into stretched
 into_more = refl
 
--- of (1, 3) in one of (2, 3), of (1, 1) in one of ()
+-- the same for shapes (1, 3) and (2, 3), and for (1, 1) and ()
 into_longer : stretched_into (1 ∷ 3 ∷ []) (2 ∷ 3 ∷ []) ≡ Ok (record { shape = 2 ∷ 3 ∷ []; leads = broadcast_index (1 ∷ 3 ∷ []) })
 unfolding stretched_into stretched
 into_longer = refl
@@ -122,7 +122,7 @@ into_single : stretched_into (1 ∷ 1 ∷ []) [] ≡ Ok (record { shape = []; le
 unfolding stretched_into stretched
 into_single = refl
 
--- of (2, 1) and of (2, 2) in one of (2,): the first axis is none of length 1
+-- shapes (2, 1) and (2, 2) into (2,): the first axis does not have length 1
 not_into : stretched_into (2 ∷ 1 ∷ []) (2 ∷ []) ≡ Err ShapesDoNotBroadcast
 unfolding stretched_into
 not_into = refl
@@ -131,7 +131,7 @@ not_into_square : stretched_into (2 ∷ 2 ∷ []) (2 ∷ []) ≡ Err ShapesDoNot
 unfolding stretched_into
 not_into_square = refl
 
--- of (1, 3) in one of (2,): what is left doesn't stretch
+-- shape (1, 3) into (2,): the remaining axis does not stretch
 not_left : stretched_into (1 ∷ 3 ∷ []) (2 ∷ []) ≡ Err ShapesDoNotBroadcast
 unfolding stretched_into stretched
 not_left = refl
