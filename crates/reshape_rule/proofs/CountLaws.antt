@@ -1,4 +1,4 @@
--- A target shape has as many items.
+-- A target shape has the same number of items.
 use Rattle.std.proofs.Common.{◌≡◌, ℕ, ◌*◌, ◌/◌, ◌%◌, ◌≤◌, ◌==◌, not, true, false, ℤ, pos, negsuc, int_le, List, [], ◌∷◌, map, length, Result, Ok, Err, inl, inr, refl, sym, ◌∙◌, ap, arith, mul_assoc, mul_comm, div-add-mod'}
 use Rattle.std.specs.List.{list_all}
 use Rattle.std.specs.Result.{is_ok, IfOk}
@@ -39,7 +39,7 @@ count-made items numbers few made =
           count-none_open (items / given numbers) numbers none ∙ made-none items (given numbers) (ap (λ o. make_up items o (given numbers)) (sym none) ∙ made)
     ]
 
--- ---- the target
+-- ---- the target shape
 
 err_is : {A X : Type 0} (e : Refusal) (x : X) → Err e ≡ Ok x → A
 err_is e x same = absurd (false≢true (ap is_ok same))

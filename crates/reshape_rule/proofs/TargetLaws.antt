@@ -1,4 +1,4 @@
--- Laws of the shape that numbers mean: the product that is capped, and each refusal.
+-- Laws of the target shape: the capped product, and each refusal.
 use Rattle.std.proofs.Common.{◌≡◌, ℕ, ◌+◌, ◌*◌, ◌/◌, ◌%◌, ◌<◌, ◌≤◌, ◌==◌, min, nat_le, true, false, ℤ, pos, negsuc, int_le, Bool, List, ◌∷◌, map, length, get_or, drop, Err, inl, inr, refl, sym, ◌∙◌, ap, arith, one-mul, mul_comm, mul_assoc}
 use Rattle.std.specs.List.{list_all}
 use Rattle.std.proofs.Math.Nat.{min-eq_left, min-eq_right, div-eq_of_lt, mod-eq_of_lt}
@@ -9,7 +9,7 @@ use Rattle.std.proofs.lemmas.Simd.{map-map}
 use Rattle.reshape_rule.specs.Words.{◌>>=◌, check, TooManyAxes, BadReshape, max_axes, max_items, shape_of, min-mul, shape_of-capped}
 use Rattle.reshape_rule.specs.Targets.{left_open, given, make_up, length_or, target_of}
 
--- ---- the numbers from one on
+-- ---- the numbers from k on
 
 given-cons : (number : ℤ) (numbers : List ℤ) → given (number ∷ numbers) ≡ length_or 1 number * given numbers
 given-cons (pos n) numbers = refl
@@ -18,19 +18,19 @@ given-cons (negsuc n) numbers = sym (one-mul (given numbers))
 pub given-more : (numbers : List ℤ) (k : ℕ) → k < length numbers → given (drop k numbers) ≡ length_or 1 (get_or numbers k (pos 0)) * given (drop (k + 1) numbers)
 given-more numbers k below = ap given (drop_more numbers k (pos 0) below) ∙ given-cons (get_or numbers k (pos 0)) (drop (k + 1) numbers)
 
--- ---- the product that is capped
+-- ---- the capped product
 
 swapped : (p n c : ℕ) → p * n * c ≡ n * (p * c)
 swapped p n c = ap (λ x. x * c) (mul_comm p n) ∙ mul_assoc n p c
 
--- one more factor, with a cap on it and on the product
+-- one more factor, with both the factor and the product capped
 pub capped-more : (numbers : List ℤ) (k product top : ℕ) → k < length numbers → min (min (product * min (length_or 1 (get_or numbers k (pos 0))) top) top * given (drop (k + 1) numbers)) top ≡ min (product * given (drop k numbers)) top
 capped-more numbers k product top below =
     let n = length_or 1 (get_or numbers k (pos 0)) in
     let c = given (drop (k + 1) numbers) in
     min-mul (product * min n top) c top ∙ ap (λ x. min x top) (swapped product (min n top) c) ∙ min-mul n (product * c) top ∙ ap (λ x. min x top) (sym (swapped product n c) ∙ mul_assoc product n c ∙ ap (λ x. product * x) (sym (given-more numbers k below)))
 
--- no more items than the cap: the product that is capped serves as well
+-- If there are fewer items than the cap, the capped product gives the same answer.
 pub make_up-capped : (items opened product top : ℕ) → items < top → make_up items opened (min product top) ≡ make_up items opened product
 make_up-capped items opened product top low =
     elim (cases_lt product top) [
@@ -49,7 +49,7 @@ left_over-capped items product top low =
       | inr above ↦ ap (λ p. items / p) (min-eq_right above) ∙ div-eq_of_lt low ∙ sym (div-eq_of_lt (omega arith))
     ]
 
--- ---- what numbers mean
+-- ---- what the numbers describe
 
 pub target_of-many : (items : ℕ) (numbers : List ℤ) → max_axes < length numbers → target_of items numbers ≡ Err TooManyAxes
 unfolding target_of
@@ -77,7 +77,7 @@ target_of-made items numbers made few high one is =
     let test' : nat_le (left_open numbers) 1 ≡ true = grind (arith, nat_tests) in
     rw (test, high, test', is) refl
 
--- the numbers pass the tests of the code, which caps their product
+-- The numbers pass the checks of the program, which caps their product.
 pub record Passes (items : ℕ) (numbers : List ℤ) (opened product : ℕ) (made : Bool) : Type 0 where
   pub few : length numbers ≤ max_axes
   pub high : list_all (int_le (negsuc 0)) numbers ≡ true

@@ -1,4 +1,4 @@
--- The shapes of NumPy's `reshape`, and where it gives views.
+-- Examples of NumPy's `reshape`: the shapes, and whether the result is a view.
 use Rattle.std.proofs.Common.{◌≡◌, List, ℕ, true, false, pos, negsuc, [], ◌∷◌, Ok, Err, replicate, refl}
 use Rattle.reshape_rule.specs.Words.{TooManyAxes, TooLarge, BadReshape, shape_of, printed_strides}
 use Rattle.reshape_rule.specs.Targets.{target_of}
@@ -87,7 +87,7 @@ far_above : target_of 5 (pos 999999999999999999999999999999 ∷ negsuc 0 ∷ [])
 unfolding target_of
 far_above = refl
 
--- one length above 2^24 in a shape without items, given and beside -1
+-- a length above 2^24 in a shape without items, given directly and next to a -1
 too_long : target_of 0 (pos 0 ∷ pos 16777217 ∷ []) ≡ Err TooLarge
 unfolding target_of shape_of
 too_long = refl
@@ -96,7 +96,7 @@ too_long_open : target_of 0 (pos 16777217 ∷ negsuc 0 ∷ []) ≡ Err TooLarge
 unfolding target_of shape_of
 too_long_open = refl
 
--- 65 axes, with two of them open
+-- 65 axes, two of which are -1
 too_many : target_of 8 (negsuc 0 ∷ negsuc 0 ∷ replicate 63 (pos 1)) ≡ Err TooManyAxes
 unfolding target_of
 too_many = refl
@@ -148,11 +148,11 @@ stretched_item = refl
 stretched_row : is_affine (0 ∷ 4 ∷ 8 ∷ 0 ∷ 4 ∷ 8 ∷ []) (6 ∷ []) ≡ false
 stretched_row = refl
 
--- backwards, `numpy.zeros(4, "<i4")[::-1].reshape(2, 2)`
+-- a reversed array: `numpy.zeros(4, "<i4")[::-1].reshape(2, 2)`
 backwards : is_affine (12 ∷ 8 ∷ 4 ∷ 0 ∷ []) (2 ∷ 2 ∷ []) ≡ true
 backwards = refl
 
--- no items, one item
+-- no items, and one item
 no_items : is_affine [] (0 ∷ 5 ∷ []) ≡ true
 no_items = refl
 

@@ -29,8 +29,8 @@ fn left_open(numbers: &[i128]) -> usize
     opened
 }
 
-/// The length that a number gives, or the rest for -1; `MAX_ITEMS` + 1 stands for any greater
-/// length.
+/// The length that a number gives, or the remaining length for -1. A length above `MAX_ITEMS`
+/// becomes `MAX_ITEMS` + 1.
 fn capped_length(number: i128, rest: usize) -> usize
     requires { rest ≤ max_items }
     ensures { result ≡ min (length_or rest number) (max_items + 1) }
@@ -41,7 +41,7 @@ fn capped_length(number: i128, rest: usize) -> usize
     number.min(MAX_ITEMS as i128 + 1) as usize
 }
 
-/// The product of the lengths that are given, or `MAX_ITEMS` + 1 if it is greater than that.
+/// The product of the given lengths, or `MAX_ITEMS` + 1 if it is greater than that.
 fn capped_given(numbers: &[i128]) -> usize
     ensures { result ≡ min (given numbers.now) (max_items + 1) }
 {
@@ -52,7 +52,7 @@ fn capped_given(numbers: &[i128]) -> usize
     product
 }
 
-/// Whether lengths with this product, and `opened` numbers of -1, can have `items` items.
+/// Whether lengths with this product, and `opened` numbers of -1, can make `items` items.
 fn make_up(items: usize, opened: usize, product: usize) -> bool
     ensures { result ≡ make_up items opened product }
 {
@@ -69,7 +69,7 @@ fn left_over(items: usize, product: usize) -> usize
     if product == 0 { 0 } else { items / product }
 }
 
-/// The lengths, with the rest for -1.
+/// The lengths, with the remaining length for -1.
 fn lengths(alloc: Global, numbers: &[i128], rest: usize) -> Result<SmallVec<usize, 4>, AllocError>
     requires { rest ≤ max_items }
     ensures { IfOk result
