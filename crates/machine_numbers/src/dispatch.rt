@@ -23,7 +23,7 @@ pub trait NumberTask {
         ensures { Gives self (N.scalar O.order) result };
 }
 
-/// Does the work for the type that a scalar of numbers stands for.
+/// Does the work for the type that a scalar of numbers selects.
 pub fn on_number<T: NumberTask>(scalar: &Scalar, task: T) -> T::Out
     requires number { IsNumber scalar.now }
     requires needs { T.Needs task scalar.now }
