@@ -74,7 +74,7 @@ IsNested-multiples item n = record {
       omega (arith, mul-step item j k before);
 }
 
--- The address at an index, counted from the start of the buffer, for strides that follow an order if there are items.
+-- the address at an index with offset 0, for strides that follow an order if there are items
 pub address-made : (made : List ℕ) (strides : List ℤ) (shape : List ℕ) (order : List ℕ → List ℤ) → made ≡ shape → (0 < count shape → strides ≡ order shape) → (index : List ℕ) → IsIndex made index → address_at strides 0 index ≡ dot (order made) index
 address-made made strides shape order same some index in' =
     let above : 0 < count shape = omega (arith, ap count same, rank-lt made index in') in
