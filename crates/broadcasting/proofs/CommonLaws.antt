@@ -16,7 +16,7 @@ next-with lengths shape shapes k item below is same =
     let here : get_or (seen shapes) k [] ≡ shape = get_or-map (λ s. s.now) shapes k item [] below ∙ ap (λ s. s.now) (sym is) ∙ sym same in
     ap (common_with lengths) (drop_more (seen shapes) k [] inside) ∙ ap (λ s. common_with lengths (s ∷ drop (k + 1) (seen shapes))) here
 
--- These are the common lengths of the first k shapes, and the remaining shapes are still to be taken.
+-- These lengths with the shapes after the first k have the same common lengths as all shapes.
 abbrev pub IsCommonSoFar : List ℕ → List (Bor (List ℕ)) → ℕ → Type 0
 IsCommonSoFar lengths shapes k = common_with lengths (drop k (seen shapes)) ≡ common_with [] (seen shapes)
 
