@@ -1,4 +1,4 @@
--- Records built of fields that nothing aligns.
+-- Laws of building a record without alignment.
 use Rattle.std.proofs.Common.{◌≡◌, ◌≤◌, ◌<◌, ◌+◌, ℕ, min, false, List, [], ◌∷◌, ◌++◌, length, map, Ok, inl, inr, refl, ap, arith}
 use Rattle.std.specs.Int.{next_multiple_of}
 use Rattle.std.specs.List.{IsDistinct, AllByRecursion}
@@ -21,7 +21,7 @@ multiple_of_one n = omega arith
 abbrev pub field_of : List ℕ → ℕ → Descr → Field
 field_of name at descr = record { name = name; at = at; descr = descr }
 
--- the record with a field after the bytes so far
+-- the record with a field added after its `from` bytes so far
 abbrev pub grown : ℕ → ℕ → ℕ → List Field → List ℕ → Descr → Partial
 grown levels leaves from done name descr = packed levels (leaves + length (leaves_of descr)) (from + item_size descr) (done ++ field_of name from descr ∷ [])
 
@@ -37,7 +37,7 @@ added_ok levels leaves from done name alignment descr one few small =
 abbrev pub names : List Field → List (List ℕ)
 names fields = map (λ field. field.name) fields
 
--- the name of a field that follows is not taken
+-- If the names of all fields are distinct, the name of the next field is not taken by those before it.
 pub not_taken : (done later : List Field) (field : Field) → IsDistinct bytes_eq (names (done ++ field ∷ later)) → is_taken done field.name ≡ false
 unfolding IsDistinct
 not_taken [] later field h = refl
@@ -47,11 +47,11 @@ not_taken (first ∷ done) later field h = rw (apart first.name done later field
     apart name [] later field h = h.0
     apart name (first ∷ done) later field h = apart name done later field h.1
 
--- the record with these fields, so many bytes long
+-- the record type of `size` bytes with these fields
 abbrev pub record_type : ℕ → Fields → Descr
 record_type size fields = RecordDescr (record { size = size; fields = fields })
 
--- a count of bytes that is capped is as much too large
+-- Capping the padding at `max_size + 1` bytes changes nothing: more than `max_size` bytes are too large in any case.
 pub widened-capped : (p : Partial) (n : ℕ) → widened p (min n (max_size + 1)) ≡ widened p n
 unfolding widened
 widened-capped p n =

@@ -1,4 +1,4 @@
--- Laws of bytes: those of values, and numbers in them.
+-- Laws of the bytes of values, and of the numbers in bytes.
 use Rattle.std.proofs.Common.{◌<◌, ℕ, List, get_or, ◌+◌, drop, sym, subst, inl, inr, take, arith, length-take, ◌*◌, ◌^◌, ◌≡◌, true, false, cond, refl, ◌-◌, length, replicate, length-append, [], ◌∷◌, ◌++◌, ap, ◌∙◌}
 use Rattle.std.proofs.lemmas.List.{get_or-drop, get_or-take, get_or_past, length-replicate, append-nil}
 use Rattle.std.proofs.lemmas.Bool.{cases_lt}
@@ -48,7 +48,7 @@ length-encode (Byte signed) value = refl
 length-encode (Int signed width order) value = length-bytes_of order (width_size width) (low_bits (width_size width) (number_of value))
 length-encode (Bytes n) value = length-padded n (text_of value)
 
--- the bytes of an item of a scalar are those of its value
+-- the bytes of an item that is a scalar are the bytes of its value
 pub one-encoded : (s : Scalar) (value : LeafValue) → encode_item (ScalarDescr s) (value ∷ []) ≡ encode s value
 one-encoded s value =
     let none : size s - (0 + size s) ≡ 0 = omega arith in

@@ -1,4 +1,4 @@
--- A descriptor as a script gives it: a type string or a format text.
+-- A descriptor in a script: a type string or a format text.
 use Rattle.std.specs.Prelude.{ℕ, Bool, false, List, [], ◌∷◌, codes, ◌&&◌, ◌||◌, if◌then◌else◌, Result, Ok}
 use Rattle.std.specs.Char.{is_ascii_digit}
 use Rattle.elem_descr.specs.declared.refusal.Refusal.{Refusal}
@@ -14,15 +14,15 @@ abbrev pub begins_with_digit : List ℕ → Bool
 begins_with_digit [] = false
 begins_with_digit (b ∷ rest) = is_ascii_digit b
 
--- a kind letter of NumPy before a digit, or `S` alone
+-- a kind letter of NumPy followed by a digit, or `S` alone
 abbrev pub is_kind : List ℕ → Bool
 is_kind [] = false
 is_kind (letter ∷ rest) = (is_one_of (codes "biuSfcmMOUV") letter && begins_with_digit rest) || (is_one_of (codes "S") letter && is_empty rest)
 
--- such a kind behind an optional mark
+-- an optional byte-order mark, followed by such a kind
 abbrev pub is_type_string : List ℕ → Bool
 is_type_string text = is_kind (type_strings.marked text).1
 
--- the descriptor that a text of a script means, or the first fault in it
+-- the descriptor that a text in a script means, or the refusal for the first error in it
 unfoldable pub descriptor : List ℕ → Result Descr Refusal
 descriptor text = if is_type_string text then (typestr text >>= λ scalar. Ok (ScalarDescr scalar)) else format text

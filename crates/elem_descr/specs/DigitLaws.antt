@@ -1,4 +1,4 @@
--- The decimal digits of a number spell it.
+-- A number written in decimal consists of digits, and these digits have its value.
 use Rattle.std.proofs.Common.{◌≡◌, ◌<◌, ◌-◌, ◌+◌, ◌*◌, ◌^◌, ◌&&◌, ℕ, List, [], ◌∷◌, true, fold, refl, sym, ap, ◌∙◌}
 use Rattle.std.specs.Char.{is_ascii_digit}
 use Rattle.std.specs.Fmt.{decimal}
@@ -8,7 +8,7 @@ use Rattle.std.proofs.lemmas.Fmt.{digits_decimal, digits_value-decimal}
 use Rattle.std.proofs.lemmas.Str.Parse.{IsNumeralModel, numerals_by_fold, tells_all_ascii_digits}
 use Rattle.elem_descr.specs.TypeStrings.{value_of}
 
--- texts of digits, with their values, as std knows them
+-- texts of digits and their values are a model of the numerals of std
 abbrev read_on : ℕ → List ℕ → ℕ
 read_on n digits = fold (λ n d. n * 10 + (d - 48)) n digits
 
@@ -19,10 +19,10 @@ all_digits : (text : List ℕ) → all_ascii_digits text ≡ list_all is_ascii_d
 all_digits [] = refl
 all_digits (b ∷ text) = ap (λ others. is_ascii_digit b && others) (all_digits text)
 
--- a number is written in digits
+-- a number written in decimal consists of digits
 pub digits-decimal : (n : ℕ) → n < 2 ^ 64 → list_all is_ascii_digit (decimal n) ≡ true
 digits-decimal n small = sym (all_digits (decimal n)) ∙ digits_decimal numerals n small
 
--- the digits of a number spell it
+-- a number written in decimal has its value
 pub value_of-decimal : (n : ℕ) → n < 2 ^ 64 → value_of (decimal n) ≡ n
 value_of-decimal n small = digits_value-decimal numerals n small

@@ -1,4 +1,4 @@
--- What is encoded is decoded again.
+-- Decoding the bytes of a value gives the value back.
 use Rattle.std.proofs.Common.{◌≡◌, ℕ, zero, suc, ◌*◌, ◌<◌, ◌≤◌, Bool, true, false, refl, sym, ap, ◌∙◌, arith, [], ◌^◌, ◌-◌, cond, nat_lt}
 use Rattle.std.specs.Prelude.{ℤ, pos, negsuc, ◌-ℤ◌, unsigned_abs, nat_eq}
 use Rattle.std.specs.Int.{int_rem_euclid}
@@ -18,7 +18,7 @@ use Rattle.elem_descr.specs.Encoding.{width_size, IsNumber, number_in, bytes_of,
 use Rattle.elem_descr.specs.Values.{number}
 use Rattle.elem_descr.specs.inside.Signs.{with_sign}
 
--- what is left of z at d is below d
+-- the remainder of `z` divided by `d` is below `d`
 remainder-lt : (d : ℕ) (z : ℤ) → 0 < d → unsigned_abs (int_rem_euclid z (pos d)) < d
 remainder-lt d (pos a) some = mod-lt a some
 remainder-lt d (negsuc a) some = omega arith
@@ -30,7 +30,7 @@ by_sign P h d x small large =
       | false ↦ λ e. large (ltb-false x h e)
     ] refl
 
--- its remainder is x again
+-- The remainder of `x` read with a sign is `x`.
 remainder-with_sign : (h d x : ℕ) → x < d → unsigned_abs (int_rem_euclid (with_sign h d x) (pos d)) ≡ x
 remainder-with_sign h d x below =
     by_sign (λ z. unsigned_abs (int_rem_euclid z (pos d)) ≡ x) h d x
@@ -40,7 +40,7 @@ remainder-with_sign h d x below =
 pub low_bits-lt : (n : ℕ) (z : ℤ) → low_bits n z < 2 ^ (8 * n)
 low_bits-lt n z = remainder-lt (2 ^ (8 * n)) z (pow_pos (8 * n))
 
--- what bits mean has those bits
+-- The lowest bits of the integer that some bits mean are these bits.
 pub low_bits-integer : (signed : Bool) (n x : ℕ) → x < 2 ^ (8 * n) → low_bits n (integer signed n x) ≡ x
 low_bits-integer false n x below = mod-eq_of_lt below
 low_bits-integer true n x below = remainder-with_sign (2 ^ (8 * n - 1)) (2 ^ (8 * n)) x below
@@ -48,7 +48,7 @@ low_bits-integer true n x below = remainder-with_sign (2 ^ (8 * n - 1)) (2 ^ (8 
 pub truth_suc : (n : ℕ) → truth (suc n) ≡ 1
 truth_suc n = let other : nat_eq (suc n) 0 ≡ false = ne_eqb (suc n) 0 (λ same. omega (arith, same)) in rw other refl
 
--- the bytes of a number without sign read back
+-- the bytes of an unsigned number read back as that number
 number_in-bytes_of : (order : Order) (n x : ℕ) → x < 2 ^ (8 * n) → number_in order n (bytes_of order n x) ≡ x
 number_in-bytes_of Little n x below =
     ap (little_number n) (sym (append-nil (little_bytes n x))) ∙ little_number-reads_back n x [] (rw (pow256 n) below)

@@ -14,15 +14,14 @@ use Rattle.elem_descr.specs.declared.format_text.mark.Mark.TheVariants.{Aligned,
 use Rattle.elem_descr.specs.Encoding.{size}
 use Rattle.elem_descr.specs.TypeStrings.{is_one_of, value_of}
 
--- nothing is left
 abbrev pub is_empty : List ℕ → Bool
 is_empty text = nat_eq (length text) 0
 
--- the marks
+-- the marks, each with the bytes that it is written as
 abbrev pub marks : List (List ℕ × Mark)
 marks = (codes "@", Aligned) ∷ ((codes "^", Native) ∷ ((codes "<=", LittleMark) ∷ ((codes ">!", BigMark) ∷ [])))
 
--- the mark that a byte is
+-- the mark that a byte means, if any
 abbrev pub mark_meant : ℕ → Option Mark
 mark_meant b = option_map (λ entry. entry.1) (find (λ entry. is_one_of entry.0 b) marks)
 
@@ -30,7 +29,7 @@ abbrev pub order_under : Mark → Order
 order_under BigMark = Big
 order_under _ = Little
 
--- `l` has eight bytes where sizes are native
+-- `l` and `L` have eight bytes under `@` and `^`, which use native sizes, and four under the other marks
 abbrev pub long_under : Mark → Width
 long_under Aligned = Eight
 long_under Native = Eight
@@ -41,7 +40,7 @@ abbrev pub is_aligning : Mark → Bool
 is_aligning Aligned = true
 is_aligning _ = false
 
--- the letters of numbers
+-- the letters of bools and integers
 abbrev pub letters : Mark → List (List ℕ × Scalar)
 letters mark =
     (codes "?", BoolScalar)
@@ -56,35 +55,35 @@ letters mark =
     ∷ ((codes "q", Int true Eight (order_under mark))
     ∷ ((codes "Q", Int false Eight (order_under mark)) ∷ []))))))))))
 
--- the number that a letter means
+-- the bool or the integer that a letter means, if any
 abbrev pub number_letter : Mark → ℕ → Option Scalar
 number_letter mark letter = option_map (λ entry. entry.1) (find (λ entry. is_one_of entry.0 letter) (letters mark))
 
--- a number's own alignment is its size, and a byte string has none
+-- the alignment of a bool or an integer is its size, and that of a byte string is 1
 abbrev pub own_alignment : Scalar → ℕ
 own_alignment (Bytes n) = 1
 own_alignment scalar = size scalar
 
--- what the offset of a member with its own alignment is a multiple of
+-- the offset of a member is a multiple of this: its own alignment if the mark aligns, and otherwise 1
 abbrev pub aligned_to : Mark → ℕ → ℕ
 aligned_to mark own = if is_aligning mark then own else 1
 
--- a member without its name: a value, padding of a number of bytes, or the beginning of a record
+-- a member without its name: a scalar, a number of bytes of padding, or the beginning of a record
 pub data Member : Type 0 where
   Value : Scalar → Member
   Pad : ℕ → Member
   Opened : Member
 
--- the count that digits spell: 1 where there are none
+-- the count that digits spell, or 1 if there are none
 abbrev pub count_of : List ℕ → ℕ
 count_of [] = 1
 count_of (d ∷ digits) = value_of (d ∷ digits)
 
--- a number has no count
+-- a bool or an integer with a count is unsupported
 abbrev pub number_member : List ℕ → Scalar → Result Member Refusal
 number_member digits scalar = if is_empty digits then Ok (Value scalar) else Err DescriptorLeftOut
 
--- a byte string of n bytes
+-- a byte string of `n` bytes, unsupported if `n` is 0
 abbrev pub text_member : ℕ → Result Member Refusal
 text_member zero = Err DescriptorLeftOut
 text_member (suc n) = Ok (Value (Bytes (suc n)))
@@ -93,7 +92,7 @@ text_member (suc n) = Ok (Value (Bytes (suc n)))
 abbrev pub is_left_out : ℕ → Bool
 is_left_out letter = is_one_of (codes "cnNPpefdgOZuwt&X(") letter
 
--- a member that is no number
+-- a member that is not a bool or an integer
 abbrev pub other_member : List ℕ → ℕ → Result Member Refusal
 other_member digits b =
     if is_one_of (codes "s") b then text_member (count_of digits)
@@ -101,6 +100,6 @@ other_member digits b =
     else if is_left_out b then Err DescriptorLeftOut
     else Err BadDescriptor
 
--- a member by its count and its letter
+-- the member that a count and a letter mean
 abbrev pub lettered : Mark → List ℕ → ℕ → Result Member Refusal
 lettered mark digits b = unwrap_or (option_map (number_member digits) (number_letter mark b)) (other_member digits b)

@@ -1,57 +1,59 @@
--- Format texts of PEP 3118: the pieces of a text, whatever they mean. `T{<5s:a:4x}` has the pieces
+-- Format texts of PEP 3118: splitting a text into pieces, before they are given a meaning. `T{<5s:a:4x}` has the pieces
 -- `T{`, `<`, `5s:a:`, `4x` and `}`.
 use Rattle.std.specs.Prelude.{ℕ, Bool, List, [], ◌∷◌, codes, if◌then◌else◌}
 use Rattle.std.specs.Char.{is_ascii_digit}
 use Rattle.elem_descr.specs.TypeStrings.{is_one_of}
 
--- what stands directly behind a letter: nothing, a name between two colons, or a colon that no other follows
+-- what directly follows a letter: nothing, a name between two colons, or a colon without a second one
 pub data Behind : Type 0 where
   nothing : Behind
   between_colons : List ℕ → Behind
   lone_colon : Behind
 
--- digits, a letter, which may be any byte, and what stands behind it; or digits and `T{`; a brace that
--- no `T` stands before, and a name that no letter does, fit nowhere
+-- A piece is a letter (any byte) with the digits before it and what follows it, or a `T{` with the digits before it. A
+-- brace
+-- without a `T` before it, and a name without a letter before it, are pieces of their own, which are invalid.
 pub data Piece : Type 0 where
   letter : List ℕ → ℕ → Behind → Piece
   opening : List ℕ → Piece
   brace : Piece
   stray : Behind → Piece
 
--- a digit counts what follows it, and has no meaning where there is nothing to count
+-- A digit belongs to the count of the letter or the `T{` that follows it. If none follows, it is a letter of its own,
+-- which
+-- has no meaning.
 abbrev pub digit_onto : ℕ → List Piece → List Piece
 digit_onto d (letter digits b behind ∷ more) = letter (d ∷ digits) b behind ∷ more
 digit_onto d (opening digits ∷ more) = opening (d ∷ digits) ∷ more
 digit_onto d more = letter [] d nothing ∷ more
 
--- a letter takes the name that follows it, and `T` the brace
+-- A letter takes the name that follows it, and `T` takes the brace that follows it.
 abbrev pub letter_onto : ℕ → List Piece → List Piece
 letter_onto b (stray behind ∷ more) = letter [] b behind ∷ more
 letter_onto b (brace ∷ more) = if is_one_of (codes "T") b then opening [] ∷ more else letter [] b nothing ∷ (brace ∷ more)
 letter_onto b more = letter [] b nothing ∷ more
 
--- a byte before pieces
+-- the pieces `more` with one byte in front
 abbrev pub byte_onto : ℕ → List Piece → List Piece
 byte_onto b more =
     if is_one_of (codes "{") b then brace ∷ more
     else if is_ascii_digit b then digit_onto b more
     else letter_onto b more
 
--- the pieces of bytes without a colon, before others
+-- the pieces of `bytes`, which contain no colon, followed by the pieces `more`
 abbrev pub pieces_before : List Piece → List ℕ → List Piece
 pieces_before more [] = more
 pieces_before more (b ∷ bytes) = byte_onto b (pieces_before more bytes)
 
--- the byte is a colon
 abbrev pub is_colon : ℕ → Bool
 is_colon b = is_one_of (codes ":") b
 
--- the bytes before the first colon, and those behind each colon up to the next
+-- the bytes before the first colon, and for each colon the bytes after it, up to the next colon or the end
 abbrev pub cut_at_colons : List ℕ → List ℕ × List (List ℕ)
 cut_at_colons [] = ([], [])
 cut_at_colons (b ∷ rest) = let cut = cut_at_colons rest in if is_colon b then ([], cut.0 ∷ cut.1) else (b ∷ cut.0, cut.1)
 
--- names stand between the first colon and the second, the third and the fourth, and so on
+-- Names are between the first colon and the second, between the third and the fourth, and so on.
 abbrev pub pieces_between : List ℕ → List (List ℕ) → List Piece
 pieces_between bytes [] = pieces_before [] bytes
 pieces_between bytes (unended ∷ []) = pieces_before (stray lone_colon ∷ []) bytes

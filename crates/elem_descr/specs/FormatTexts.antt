@@ -1,4 +1,4 @@
--- Format texts of PEP 3118: what a text means, or the first fault from the left.
+-- Format texts of PEP 3118: the descriptor that a text means, or the refusal for the first error from the left.
 use Rattle.std.specs.Prelude.{ℕ, zero, suc, ◌&&◌, List, [], ◌∷◌, ◌++◌, length, codes, decimal, nat_le, if◌then◌else◌, Option, Some, None, unwrap_or, Result, Ok, Err}
 use Rattle.std.specs.Option.{option_map}
 use Rattle.elem_descr.specs.declared.refusal.Refusal.{Refusal}
@@ -17,18 +17,19 @@ use Rattle.elem_descr.specs.FormatLetters.{Member, Value, Pad, Opened, is_empty,
 use Rattle.elem_descr.specs.RecordBuilding.{max_size, max_depth, Partial, empty, checked_name, added, widened, closed_record}
 use Rattle.elem_descr.specs.FormatPieces.{Behind, nothing, between_colons, lone_colon, Piece, letter, opening, brace, stray, pieces}
 
--- what a piece is under the mark in force: a blank, a mark, a member, or the closing brace of a record
+-- what a piece means under the current mark: a blank, a mark, a member, or the closing brace of a record
 pub data PieceKind : Type 0 where
   blank : PieceKind
   marking : Mark → PieceKind
   member : Member → Behind → PieceKind
   closing_brace : Behind → PieceKind
 
--- blanks and marks have no count and no name
+-- a blank or a mark, which have no count and no name
 abbrev pub sign : List ℕ → ℕ → Behind → Option PieceKind
 sign [] b nothing = if is_one_of (codes " ") b then Some blank else option_map marking (mark_meant b)
 sign digits b behind = None
 
+-- the meaning of a piece under the current mark, or why it is refused
 abbrev pub part_of : Mark → Piece → Result PieceKind Refusal
 part_of mark (letter digits b behind) =
     if is_empty digits && is_one_of (codes "}") b then Ok (closing_brace behind)
@@ -37,12 +38,12 @@ part_of mark (opening digits) = if is_empty digits then Ok (member Opened nothin
 part_of mark brace = Err BadDescriptor
 part_of mark (stray behind) = Err BadDescriptor
 
--- padding, a member alone and a record alone have no name
+-- Padding has no name, and neither has a scalar or a record that is the whole text.
 abbrev pub unnamed : Behind → Result (Unit {0}) Refusal
 unnamed nothing = Ok tt
 unnamed behind = Err DescriptorLeftOut
 
--- the name of a field: between colons, or f and its number among the fields
+-- the name of a field: the one between colons, or by default `f` and the field's number, counted from 0
 abbrev pub called : ℕ → Behind → Result (List ℕ) Refusal
 called number nothing = Ok (codes "f" ++ decimal number)
 called number (between_colons bytes) = if is_legal_name bytes then Ok bytes else Err DescriptorLeftOut
@@ -55,41 +56,44 @@ next_name p behind = do
   _ ← checked_name p bytes
   Ok bytes
 
--- a record with a scalar, with padding, and with a record more
+-- a record with a scalar added
 abbrev pub with_scalar : Mark → Partial → Scalar → Behind → Result Partial Refusal
 with_scalar mark p scalar behind = do
   bytes ← next_name p behind
   added p bytes (aligned_to mark (own_alignment scalar)) (ScalarDescr scalar)
 
+-- a record with padding added
 abbrev pub with_pad : Partial → ℕ → Behind → Result Partial Refusal
 with_pad p n behind = do
   wider ← widened p n
   _ ← unnamed behind
   Ok wider
 
+-- a record with a complete record added
 abbrev pub with_record : Mark → Partial → Body → Behind → Result Partial Refusal
 with_record mark p body behind = do
   bytes ← next_name p behind
   added p bytes (aligned_to mark body.alignment) (RecordDescr body.whole)
 
--- a record at its opening brace, in which records may be nested this deep
+-- a record at its opening brace, if `levels` levels of records, this one included, are still allowed
 abbrev pub opened : ℕ → ℕ → Result Partial Refusal
 opened zero leaves = Err DescriptorLeftOut
 opened (suc levels) leaves = Ok (empty levels leaves)
 
--- a record at its closing brace, aligned where `@` is in force there
+-- a record at its closing brace, aligned if `@` is the current mark there
 abbrev pub closed_body : Mark → Partial → Result Body Refusal
 closed_body mark p = closed_record (is_aligning mark) p >>= λ whole. Ok (record { whole = whole; alignment = p.alignment; mark = mark })
 
--- how far a text is read: no member yet; within a record, in those around it, the innermost first, each
--- with the mark in force; one whole descriptor; or a mark behind that
+-- How far a text is read: no member yet; within a record, with the records around it, innermost first, each with the
+-- mark
+-- at the `T` of the record in it; one complete descriptor; or a mark after that.
 pub data Reading : Type 0 where
   begun : Mark → Reading
   within : Mark → Partial → List (Mark × Partial) → Reading
   complete : Descr → Reading
   beyond : Reading
 
--- a member alone is a scalar or a record
+-- The first member is the whole descriptor: a scalar or a record.
 abbrev pub at_begin : Mark → PieceKind → Result Reading Refusal
 at_begin mark blank = Ok (begun mark)
 at_begin mark (marking next) = Ok (begun next)
@@ -101,12 +105,14 @@ at_begin mark (member (Pad n) behind) = Err DescriptorLeftOut
 at_begin mark (member Opened behind) = opened max_depth 0 >>= λ p. Ok (within mark p [])
 at_begin mark (closing_brace behind) = Err BadDescriptor
 
--- a record that ends is a field of the one around it, aligned by the mark at its `T`
+-- A record that ends becomes a field of the record around it, aligned if `@` was the mark at its `T`. If none is around
+-- it,
+-- it is the whole descriptor.
 abbrev pub closed_in : List (Mark × Partial) → Body → Behind → Result Reading Refusal
 closed_in [] body behind = unnamed behind >>= λ _. Ok (complete (RecordDescr body.whole))
 closed_in (outer ∷ around) body behind = with_record outer.0 outer.1 body behind >>= λ p. Ok (within body.mark p around)
 
--- a member, or the end, of a record
+-- a piece within a record: a member, or the end of the record
 abbrev pub in_record : Mark → Partial → List (Mark × Partial) → PieceKind → Result Reading Refusal
 in_record mark p around blank = Ok (within mark p around)
 in_record mark p around (marking next) = Ok (within next p around)
@@ -115,30 +121,30 @@ in_record mark p around (member (Pad n) behind) = with_pad p n behind >>= λ nex
 in_record mark p around (member Opened behind) = opened p.levels p.leaves >>= λ inner. Ok (within mark inner ((mark, p) ∷ around))
 in_record mark p around (closing_brace behind) = closed_body mark p >>= λ body. closed_in around body behind
 
--- only blanks may follow: a second member is unsupported
+-- Only blanks may follow the descriptor. A second member is unsupported.
 abbrev pub behind_member : Reading → PieceKind → Result Reading Refusal
 behind_member now blank = Ok now
 behind_member now (marking next) = Ok beyond
 behind_member now (member it behind) = Err DescriptorLeftOut
 behind_member now (closing_brace behind) = Err BadDescriptor
 
--- one piece more
+-- reads one more piece
 abbrev pub step : Reading → Piece → Result Reading Refusal
 step (begun mark) piece = part_of mark piece >>= at_begin mark
 step (within mark p around) piece = part_of mark piece >>= in_record mark p around
 step (complete descr) piece = part_of Aligned piece >>= behind_member (complete descr)
 step beyond piece = part_of Aligned piece >>= behind_member beyond
 
--- what a text means that ends here
+-- the result if the text ends here
 abbrev pub result : Reading → Result Descr Refusal
 result (complete descr) = Ok descr
 result now = Err BadDescriptor
 
--- the pieces one after the other, from the left
+-- reads the pieces one after another, from the left
 abbrev pub read_on : Reading → List Piece → Result Descr Refusal
 read_on now [] = result now
 read_on now (piece ∷ more) = step now piece >>= λ next. read_on next more
 
--- the descriptor that a format text means, or the fault in it
+-- the descriptor that a format text means, or the refusal for the first error in it
 abbrev pub format : List ℕ → Result Descr Refusal
 format text = read_on (begun Aligned) (pieces text)

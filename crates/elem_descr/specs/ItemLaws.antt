@@ -1,4 +1,4 @@
--- Laws of the leaves of an item: they are in order, and as many as are counted.
+-- Laws of the leaves of an item: their order and their number.
 use Rattle.std.proofs.Common.{◌≡◌, ℕ, zero, suc, ◌+◌, ◌<◌, ◌≤◌, ◌∷◌, map, length, get_or, refl, sym, ap, arith, List, [], ◌++◌, length-append, take, drop}
 use Rattle.std.proofs.lemmas.List.{map-append}
 use Rattle.elem_descr.specs.declared.descr.Leaf.{Leaf}
@@ -10,17 +10,17 @@ use Rattle.elem_descr.specs.Fields.{Fields, no_more, scalar_field, record_field,
 use Rattle.elem_descr.specs.Descriptors.{IsLegal, InOrder, before, leaf_count}
 use Rattle.elem_descr.specs.Values.{LeafValue}
 
--- leaves that may begin earlier
+-- Leaves in order from `later` on are also in order from an earlier byte on.
 pub AreInOrder-earlier : (from later : ℕ) (leaves : List Leaf) (bytes : ℕ) → from ≤ later → AreInOrder later leaves bytes → AreInOrder from leaves bytes
 AreInOrder-earlier from later [] bytes l h = omega arith
 AreInOrder-earlier from later (leaf ∷ leaves) bytes l h = (omega (arith, h.0), h.1, h.2)
 
--- the bytes end no earlier than they begin
+-- If leaves are in order between `from` and `bytes`, then `from` is at most `bytes`.
 pub AreInOrder-within : (from : ℕ) (leaves : List Leaf) (bytes : ℕ) → AreInOrder from leaves bytes → from ≤ bytes
 AreInOrder-within from [] bytes h = h
 AreInOrder-within from (leaf ∷ leaves) bytes h = omega (arith, h.0, AreInOrder-within (leaf.at + size leaf.scalar) leaves bytes h.2)
 
--- leaves that lie behind others
+-- If leaves are in order up to `middle` and others are in order from there on, all of them together are in order.
 pub AreInOrder-append : (from middle bytes : ℕ) (front back : List Leaf) → AreInOrder from front middle → AreInOrder middle back bytes → AreInOrder from (front ++ back) bytes
 AreInOrder-append from middle bytes [] back h l = AreInOrder-earlier from middle back bytes h l
 AreInOrder-append from middle bytes (leaf ∷ front) back h l = (h.0, h.1, AreInOrder-append (leaf.at + size leaf.scalar) middle bytes front back h.2 l)
@@ -30,11 +30,11 @@ entry_within from [] bytes k d order l = absurd (omega arith)
 entry_within from (leaf ∷ leaves) bytes zero d order l = AreInOrder-within (leaf.at + size leaf.scalar) leaves bytes order.2
 entry_within from (leaf ∷ leaves) bytes (suc k) d order l = entry_within (leaf.at + size leaf.scalar) leaves bytes k d order.2 (omega arith)
 
--- each leaf ends within the bytes
+-- If leaves are in order, each of them ends at or before `bytes`.
 pub leaf_within : (from : ℕ) (leaves : List Leaf) (bytes k : ℕ) (leaf : Leaf) → AreInOrder from leaves bytes → k < length leaves → leaf ≡ get_or leaves k leaf → leaf.at + size leaf.scalar ≤ bytes
 leaf_within from leaves bytes k leaf order l e = rw (← e) at (entry_within from leaves bytes k leaf order l)
 
--- the leaves of fields whose record begins at a byte
+-- If the fields are in order in their record, which begins at `start`, their leaves are in order.
 pub leaves_from-in_order : (start from : ℕ) (fields : Fields) (bytes : ℕ) → InOrder from fields bytes → AreInOrder (start + from) (leaves_from start fields) (start + bytes)
 leaves_from-in_order start from no_more bytes h = omega (arith, h)
 leaves_from-in_order start from (scalar_field name at scalar rest) bytes h =
@@ -52,7 +52,7 @@ leaves_in_order s legal =
     let none : 0 + s.size ≡ s.size = omega arith in
     rw none at (leaves_from-in_order 0 0 s.fields s.size legal.in_order)
 
--- a record that begins later has its leaves later
+-- If a record begins `by` bytes later, so do its leaves.
 pub leaves_from-moved : (by start : ℕ) (fields : Fields) → leaves_from (by + start) fields ≡ map (moved_leaf by) (leaves_from start fields)
 leaves_from-moved by start no_more = refl
 leaves_from-moved by start (scalar_field name at scalar rest) =
@@ -62,14 +62,14 @@ leaves_from-moved by start (record_field name at width inner rest) =
     let join : by + start + at ≡ by + (start + at) = omega arith in
     rw (join, leaves_from-moved by (start + at) inner, leaves_from-moved by start rest) (sym (map-append (moved_leaf by) (leaves_from (start + at) inner) (leaves_from start rest)))
 
--- as many as are counted
+-- the number of leaves is `leaf_count`
 pub length-leaves_from : (start : ℕ) (fields : Fields) → length (leaves_from start fields) ≡ leaf_count fields
 length-leaves_from start no_more = refl
 length-leaves_from start (scalar_field name at scalar rest) = omega (arith, length-leaves_from start rest)
 length-leaves_from start (record_field name at size inner rest) =
     omega (arith, length-append (leaves_from (start + at) inner) (leaves_from start rest), length-leaves_from (start + at) inner, length-leaves_from start rest)
 
--- the leaves of a field, and those after it
+-- The leaves are those of the first field, and then those of the fields after it.
 pub leaf_count-before : (name : List ℕ) (at : ℕ) (descr : Descr) (rest : Fields) → leaf_count (before name at descr rest) ≡ length (leaves_of descr) + leaf_count rest
 leaf_count-before name at (ScalarDescr scalar) rest = refl
 leaf_count-before name at (RecordDescr structure) rest = omega (arith, length-leaves_from 0 structure.fields)

@@ -1,11 +1,11 @@
--- Laws of lists and truth values, whatever these are of.
+-- Laws of lists and truth values that do not depend on what these mean.
 use Rattle.std.proofs.Common.{◌≡◌, ℕ, ◌-◌, List, length, take, drop, arith, [], ◌∷◌, ◌++◌, refl, ◌∙◌, ap, map, sym, Bool, true, false, ℤ, pos, get_or}
 use Rattle.std.proofs.lemmas.List.{length-drop, take_all, map-append}
 use Rattle.std.specs.List.{flat_map}
 use Rattle.std.proofs.lemmas.Grind.{flat_map-append}
 use Rattle.std.proofs.Math.Seq.{take-append_seam}
 
--- a slice from a place on
+-- The slice from `k` to the end is all of the list but its first `k` elements.
 pub slice-rest : {X : Type 0} (k : ℕ) (whole : List X) → take (length whole - k) (drop k whole) ≡ drop k whole
 slice-rest k whole = take_all (length whole - k) (drop k whole) (omega (arith, length-drop k whole))
 
@@ -21,7 +21,7 @@ pub map-flat_map : {X Y Z : Type 0} (f : Y → Z) (g : X → List Y) (xs : List 
 map-flat_map f g [] = refl
 map-flat_map f g (x ∷ xs) = map-append f (g x) (flat_map g xs) ∙ ap (λ zs. map f (g x) ++ zs) (map-flat_map f g xs)
 
--- the first numbers that were written over
+-- The first `n` numbers of `xs ++ rest` are `xs`, if `xs` has length `n`.
 pub take_front : (n : ℕ) (xs rest : List ℕ) → length xs ≡ n → take n (xs ++ rest) ≡ xs
 take_front n xs rest is = ap (λ m. take m (xs ++ rest)) (sym is) ∙ take-append_seam xs rest
 

@@ -3,7 +3,7 @@ use Rattle.std.specs.Prelude.{ℕ, Bool, List, length, codes, nat_le, not, ◌&&
 use Rattle.std.specs.List.{list_all}
 use Rattle.elem_descr.specs.TypeStrings.{is_one_of}
 
--- a printable byte that is no quote, no backslash and no colon
+-- a printable ASCII byte other than the two quotes, the backslash and the colon
 abbrev pub is_field_name_byte : ℕ → Bool
 is_field_name_byte b = nat_le 32 b && nat_le b 126 && not (is_one_of (codes "'\"\\:") b)
 

@@ -1,4 +1,4 @@
--- Byte strings with NULs behind them: the NULs do not count.
+-- Laws of the NULs at the end of a byte string: they do not count.
 use Rattle.std.proofs.Common.{◌≡◌, ◌+◌, ◌-◌, ◌≤◌, ◌<◌, ℕ, zero, suc, List, ◌++◌, length, get_or, take, drop, replicate, reverse, sym, ap, ◌∙◌, arith, length-take, length-drop, length-append}
 use Rattle.std.specs.Prelude.{nat_eq}
 use Rattle.std.specs.List.{prefix_len}
@@ -17,7 +17,7 @@ nul_at bytes k d late within =
     let same : length bytes - 1 - j ≡ k = omega arith in
     ap (λ i. get_or bytes i d) (sym same) ∙ sym (get_or-reverse bytes j d (omega arith)) ∙ eqb-true (get_or (reverse bytes) j d) 0 test
 
--- the NULs at the end
+-- the last `nuls bytes` bytes are NULs
 pub back_nuls : (bytes : List ℕ) → drop (length bytes - nuls bytes) bytes ≡ replicate (nuls bytes) 0
 back_nuls bytes =
     let few = suffix_len-le-length (λ b. nat_eq b 0) bytes in
@@ -27,7 +27,7 @@ back_nuls bytes =
     let near : k < nuls bytes = omega arith in
     get_or-drop (length bytes - nuls bytes) bytes k d ∙ nul_at bytes ((length bytes - nuls bytes) + k) d (omega arith) (omega arith) ∙ sym (get_or-replicate (nuls bytes) k 0 d near))
 
--- a byte string is what is kept of it, and NULs
+-- a byte string is the same bytes without the NULs at the end, followed by these NULs
 pub without_nuls-back : (bytes : List ℕ) → without_nuls bytes ++ replicate (nuls bytes) 0 ≡ bytes
 without_nuls-back bytes = ap (λ back. without_nuls bytes ++ back) (sym (back_nuls bytes)) ∙ take-append-drop (length bytes - nuls bytes) bytes
 
@@ -50,7 +50,7 @@ nuls-more bytes n =
     ap (prefix_len (λ b. nat_eq b 0)) (reverse-append bytes (replicate n 0) ∙ ap (λ front. front ++ reverse bytes) (reverse-replicate n))
     ∙ prefix_of_zeros n (reverse bytes)
 
--- NULs behind the bytes do not count
+-- appended NULs do not count
 pub without_nuls-more : (bytes : List ℕ) (n : ℕ) → without_nuls (bytes ++ replicate n 0) ≡ without_nuls bytes
 without_nuls-more bytes n =
     let long = length-append bytes (replicate n 0) in

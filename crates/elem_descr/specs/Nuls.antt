@@ -2,6 +2,6 @@
 use Rattle.std.specs.Prelude.{ℕ, nat_eq, List}
 use Rattle.std.specs.List.{suffix_len}
 
--- how many there are
+-- the number of NULs at the end of a byte string
 abbrev pub nuls : List ℕ → ℕ
 nuls bytes = suffix_len (λ b. nat_eq b 0) bytes

@@ -1,4 +1,4 @@
--- The laws of wrapping, scalar by scalar.
+-- The laws of wrapping for every scalar.
 use Rattle.std.proofs.Common.{◌≡◌, ◌≤◌, ℕ, zero, suc, Bool, true, false, refl, ap, subst, inl, inr, arith}
 use Rattle.std.proofs.lemmas.Int.{ints}
 use Rattle.std.proofs.lemmas.Bool.Decides.{Decides-int_eq}
@@ -13,7 +13,7 @@ use Rattle.elem_descr.specs.Encoding.{size, width_size, FitsBytes, IsNumber, IsV
 use Rattle.elem_descr.specs.EncodingLaws.{truth_suc, low_bits-lt, low_bits-integer}
 use Rattle.elem_descr.specs.WrapLaws.{integer-fits, integer-differs, integer-low_bits}
 
--- a number has 8 bytes at most
+-- a bool or an integer has at most 8 bytes
 pub number_size : (scalar : Scalar) → IsNumber scalar → size scalar ≤ 8
 number_size BoolScalar _ = omega arith
 number_size (Byte signed) _ = omega arith
@@ -52,17 +52,17 @@ wrap_stays (Byte signed) value fits = integer-low_bits signed 1 value (omega ari
 wrap_stays (Int signed width order) value fits = integer-low_bits signed (width_size width) value (some_bytes width) fits
 wrap_stays (Bytes n) value never = absurd never
 
--- the numbers that wrapping leaves as they are are the values
+-- `is_value` decides whether a number is a value of the scalar
 pub value_decides : (scalar : Scalar) (value : ℤ) → IsNumber scalar → Decides (is_value scalar value) (IsValueOf scalar value)
 value_decides scalar value kind =
     let same = Decides-int_eq (wrap scalar value) value in
     (λ held. subst (IsValueOf scalar) (same.0 held) (wrap_fits scalar value kind), λ fits. same.1 (wrap_stays scalar value fits))
 
--- what is written of the lowest bits is what is written of the wrapped value
+-- a value and the wrapped value are written as the same bytes
 pub encode_wrap : (signed : Bool) (order : Order) (n : ℕ) (value : ℤ) → bytes_of order n (low_bits n (integer signed n (low_bits n value))) ≡ bytes_of order n (low_bits n value)
 encode_wrap signed order n value = ap (bytes_of order n) (low_bits-integer signed n (low_bits n value) (low_bits-lt n value))
 
--- the integers of fewer bytes are integers of eight
+-- an integer that fits into fewer bytes fits into eight bytes
 pub fits_eight_bytes : (signed : Bool) (width : Width) (z : ℤ) → FitsBytes signed (width_size width) z → FitsBytes signed 8 z
 fits_eight_bytes false Two z fits = (fits.0, omega (arith, ints, fits.1))
 fits_eight_bytes false Four z fits = (fits.0, omega (arith, ints, fits.1))

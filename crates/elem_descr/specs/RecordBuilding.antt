@@ -1,4 +1,4 @@
--- A record as far as it is built, field by field.
+-- Building a record field by field.
 use Rattle.std.specs.Prelude.{ℕ, ◌+◌, ◌≤◌, max, Bool, not, List, [], ◌∷◌, ◌++◌, length, nat_lt, nat_le, if◌then◌else◌, Result, Ok, Err}
 use Rattle.std.specs.Int.{next_multiple_of}
 use Rattle.std.specs.List.{list_any}
@@ -13,23 +13,25 @@ use Rattle.elem_descr.specs.Fields.{Structure}
 use Rattle.elem_descr.specs.Descriptors.{IsLegal, listed, depth}
 use Rattle.elem_descr.specs.Items.{item_size, leaves_of}
 
--- the most bytes of an item
+-- the maximum number of bytes of an item
 abbrev pub max_size : ℕ
 max_size = 65536
 
--- how many records may lie one within another
+-- the maximum depth of nested records, the outermost included
 abbrev pub max_depth : ℕ
 max_depth = 4
 
--- the most fields of a record, and leaves of an item
+-- the maximum number of fields of a record
 abbrev pub max_fields : ℕ
 max_fields = 64
 
+-- the maximum number of leaves of an item
 abbrev pub max_leaves : ℕ
 max_leaves = 2048
 
--- its bytes so far, the greatest alignment of its fields, the leaves of the whole type so far, how many
--- levels of records may lie in it, and its fields
+-- A record being built: its number of bytes so far, the greatest alignment of its fields, the number of leaves of the
+-- whole
+-- type so far, how many levels of records may be nested in it, and its fields so far.
 pub record Partial : Type 0 where
   pub size : ℕ
   pub alignment : ℕ
@@ -44,7 +46,7 @@ empty levels leaves = record { size = 0; alignment = 1; leaves = leaves; levels 
 abbrev pub is_taken : List Field → List ℕ → Bool
 is_taken fields name = list_any (λ field. bytes_eq field.name name) fields
 
--- a field after the bytes so far, at a multiple of its alignment
+-- the record with a field added after its bytes so far, at a multiple of the field's alignment
 abbrev pub with_field : Partial → List ℕ → ℕ → Descr → Partial
 with_field p name alignment descr =
     let at = next_multiple_of p.size alignment in
@@ -59,32 +61,32 @@ with_field p name alignment descr =
 abbrev pub if_small : Partial → Result Partial Refusal
 if_small p = if nat_le p.size max_size then Ok p else Err TooLarge
 
--- a further field may have this name
+-- checks that the record may get one more field, and that the name is not taken
 unfoldable pub checked_name : Partial → List ℕ → Result (Unit {0}) Refusal
 checked_name p name = do
   _ ← check (not (is_taken p.fields name)) BadDescriptor
   check (nat_lt (length p.fields) max_fields) TooLarge
 
--- the leaves of the type and the bytes of the record are checked with the field
+-- the record with a field added, refused if the type has too many leaves or the record too many bytes
 unfoldable pub added : Partial → List ℕ → ℕ → Descr → Result Partial Refusal
 added p name alignment descr = do
   _ ← check (nat_le (p.leaves + length (leaves_of descr)) max_leaves) TooLarge
   if_small (with_field p name alignment descr)
 
--- n bytes of padding are added
+-- the record with `n` bytes of padding added
 unfoldable pub widened : Partial → ℕ → Result Partial Refusal
 widened p n = if_small (record p { size = p.size + n })
 
--- a field that fits into a record in which records may be nested `levels` deep
+-- a field of a record in which records may be nested `levels` deep: a scalar, or a legal record that is not deeper
 abbrev pub IsShallow : ℕ → Descr → Type 0
 IsShallow levels (ScalarDescr scalar) = Unit {0}
 IsShallow levels (RecordDescr structure) = IsLegal structure × (depth structure.fields ≤ levels)
 
--- the bytes of the whole, a multiple of its alignment where it is aligned
+-- the number of bytes of the complete record, rounded up to a multiple of its alignment if it is aligned
 abbrev pub closed_size : Bool → Partial → ℕ
 closed_size is_aligned p = if is_aligned then next_multiple_of p.size p.alignment else p.size
 
--- the whole record
+-- the complete record, refused if it has no fields or too many bytes
 unfoldable pub closed_record : Bool → Partial → Result Structure Refusal
 closed_record is_aligned p = do
   _ ← check (nat_le 1 (length p.fields)) DescriptorLeftOut

@@ -1,9 +1,8 @@
--- What a refused line is answered: `no`, the code and the text of each refusal.
+-- The reply to a refused line: `no`, and the code and the text of the refusal.
 use Rattle.std.specs.Prelude.{ℕ, List, codes}
 use Rattle.elem_descr.specs.declared.refusal.Refusal.{Refusal}
 use Rattle.elem_descr.specs.declared.refusal.Refusal.TheVariants.{LineTooLong, ByteNotAllowed, Syntax, BadDescriptor, DescriptorLeftOut, UnknownName, TooManyNames, TooManyAxes, TooLarge, TooManyIndices, IndexOutOfRange, ZeroStep, MaskLengths, NotAnIndexType, IndexShapes, ShapesDoNotBroadcast, BadAxis, BadReshape, NoSuchField, ReadOnly, NeedsFloats, NotForThisKind, LiteralOutOfRange, NotSameKind, EmptyReduction, NothingToUndo, StoreFault, BadMagic, BadVersion, BadHeader, Truncated, NumberOfValues, NoSuchCast, NoSuchFile, FileTooLong, OutOfMemory}
 
--- `no`, the code and the text
 abbrev pub refusal_text : Refusal → List ℕ
 refusal_text LineTooLong = codes "no E01 line too long"
 refusal_text ByteNotAllowed = codes "no E02 byte not allowed"

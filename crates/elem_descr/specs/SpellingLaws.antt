@@ -1,4 +1,4 @@
--- What is written as a type string reads as the same scalar.
+-- A scalar that is written as a type string is read back as the same scalar.
 use Rattle.std.proofs.Common.{◌≡◌, ◌≤◌, ℕ, true, false, [], ◌∷◌, Ok, refl, arith, lit<}
 use Rattle.std.specs.Fmt.{decimal}
 use Rattle.std.proofs.lemmas.Bool.{le-leb, ne_eqb}

@@ -1,4 +1,4 @@
--- Type strings, as NumPy's array interface has them: a byte order, a letter for the kind, and the bytes of an item.
+-- Type strings of NumPy's array interface: a byte order, a letter for the kind, and the number of bytes of an item.
 use Rattle.std.specs.Prelude.{ℕ, ◌+◌, ◌-◌, ◌*◌, Bool, true, false, List, [], ◌∷◌, ◌++◌, codes, decimal, fold, find, nat_eq, nat_le, if◌then◌else◌, Option, Some, None, Result, Ok, Err}
 use Rattle.std.specs.Char.{is_ascii_digit}
 use Rattle.std.specs.List.{list_all, list_any}
@@ -13,11 +13,10 @@ use Rattle.elem_descr.specs.declared.scalar.Scalar.{Scalar}
 use Rattle.elem_descr.specs.declared.scalar.Scalar.TheVariants.{Bool as BoolScalar, Byte, Int, Bytes}
 use Rattle.elem_descr.specs.Encoding.{size}
 
--- the byte is one of these
 abbrev pub is_one_of : List ℕ → ℕ → Bool
 is_one_of bytes b = list_any (λ c. nat_eq c b) bytes
 
--- the byte order that a mark at the front means, and what follows the mark
+-- the byte order that the mark at the front means, or little-endian if there is no mark, and the text after the mark
 abbrev pub marked : List ℕ → Order × List ℕ
 marked [] = (Little, [])
 marked (b ∷ rest) = if is_one_of (codes ">") b then (Big, rest) else if is_one_of (codes "<|=") b then (Little, rest) else (Little, b ∷ rest)
@@ -39,11 +38,11 @@ numbers order =
 abbrev pub value_of : List ℕ → ℕ
 value_of digits = fold (λ n d. n * 10 + (d - 48)) 0 digits
 
--- the bool or the integer that is spelled so
+-- the bool or the integer with this spelling, if there is one
 abbrev pub number_spelled : Order → List ℕ → Option Scalar
 number_spelled order kind = option_map (λ entry. entry.1) (find (λ entry. bytes_eq entry.0 kind) (numbers order))
 
--- a byte string of this length
+-- a byte string of `n` bytes, refused if `n` is 0 or too large
 abbrev pub of_length : ℕ → Result Scalar Refusal
 of_length n = if nat_eq n 0 then Err DescriptorLeftOut else if nat_le n 65536 then Ok (Bytes n) else Err TooLarge
 
@@ -51,7 +50,7 @@ of_length n = if nat_eq n 0 then Err DescriptorLeftOut else if nat_le n 65536 th
 abbrev pub byte_string : List ℕ → Result Scalar Refusal
 byte_string digits = if list_all is_ascii_digit digits then of_length (value_of digits) else Err BadDescriptor
 
--- the kinds that are not numbers, and the unsupported ones
+-- the kinds that are not bools or integers: byte strings, and the unsupported kinds
 abbrev pub by_letter : List ℕ → Result Scalar Refusal
 by_letter [] = Err BadDescriptor
 by_letter (letter ∷ rest) =
@@ -63,11 +62,11 @@ abbrev pub or_else : Option Scalar → Result Scalar Refusal → Result Scalar R
 or_else None other = other
 or_else (Some scalar) other = Ok scalar
 
--- the scalar that a type string means, or the fault in it
+-- the scalar that a type string means, or the refusal for the error in it
 abbrev pub typestr : List ℕ → Result Scalar Refusal
 typestr text = let m = marked text in or_else (number_spelled m.0 m.1) (by_letter m.1)
 
--- `>` is big-endian and `<` little-endian, and `|` is written where there is no order
+-- the mark of a scalar: `>` for big-endian, `<` for little-endian, and `|` if it has no byte order
 abbrev pub mark : Scalar → List ℕ
 mark BoolScalar = codes "|"
 mark (Byte signed) = codes "|"

@@ -1,14 +1,14 @@
--- The values of an element.
+-- The values of leaves.
 use Rattle.std.specs.Prelude.{◌≡◌, ◌⊎◌, ℕ, ℤ, List, refl}
 use Rattle.std.specs.Coded.{Coded, code_by, coded⊎, coded_ℕ, coded_ℤ, coded_list}
 use Rattle.std.proofs.Common.{inl, inr}
 
--- a bool or an integer is a number, a bool 0 or 1; a byte string is its bytes without trailing NULs
+-- A bool or an integer is a number, which is 0 or 1 for a bool. A byte string is its bytes without the NULs at the end.
 pub data LeafValue : Type 0 where
   number : ℤ → LeafValue
   text : List ℕ → LeafValue
 
--- the code of a value, by which a proof tells values apart
+-- the code of a value, which proofs use to tell values apart
 abbrev pub split_leaf : LeafValue → ℤ ⊎ List ℕ
 split_leaf (number n) = inl n
 split_leaf (text bytes) = inr bytes

@@ -1,4 +1,4 @@
--- The format text that is written of a descriptor.
+-- Writing a descriptor as a format text.
 use Rattle.std.specs.Prelude.{ℕ, zero, suc, ◌+◌, ◌-◌, true, false, List, [], ◌++◌, codes, decimal}
 use Rattle.elem_descr.specs.declared.scalar.Order.TheVariants.{Big}
 use Rattle.elem_descr.specs.declared.scalar.Width.TheVariants.{Two, Four, Eight}
@@ -9,12 +9,12 @@ use Rattle.elem_descr.specs.declared.descr.Descr.TheVariants.{Scalar as ScalarDe
 use Rattle.elem_descr.specs.Encoding.{size}
 use Rattle.elem_descr.specs.Fields.{Fields, no_more, scalar_field, record_field}
 
--- `>` before a big-endian integer of two or more bytes, and else `<`
+-- `>` before a big-endian integer of two or more bytes, and otherwise `<`
 abbrev pub written_mark : Scalar → List ℕ
 written_mark (Int signed width Big) = codes ">"
 written_mark scalar = codes "<"
 
--- the letter of a number; signed integers are in lower case
+-- the letter of a scalar; letters of signed integers are lower case
 abbrev pub written_letter : Scalar → List ℕ
 written_letter BoolScalar = codes "?"
 written_letter (Byte true) = codes "b"
@@ -32,16 +32,16 @@ abbrev pub written_count : Scalar → List ℕ
 written_count (Bytes n) = decimal n
 written_count scalar = []
 
--- a member without its name
+-- a scalar without its name
 abbrev pub written_scalar : Scalar → List ℕ
 written_scalar scalar = written_mark scalar ++ written_count scalar ++ written_letter scalar
 
--- n bytes of padding
+-- `n` bytes of padding
 abbrev pub written_pad : ℕ → List ℕ
 written_pad zero = []
 written_pad (suc n) = decimal (suc n) ++ codes "x"
 
--- the name behind a member
+-- the name after a member
 abbrev pub written_name : List ℕ → List ℕ
 written_name name = codes ":" ++ name ++ codes ":"
 
@@ -49,7 +49,7 @@ written_name name = codes ":" ++ name ++ codes ":"
 abbrev pub braced : List ℕ → List ℕ
 braced text = codes "T{" ++ (text ++ codes "}")
 
--- the fields from this byte on, and the padding before each and after the last
+-- the fields from byte `from` on, with the padding before each and after the last
 abbrev pub written_fields : ℕ → Fields → ℕ → List ℕ
 written_fields from no_more bytes = written_pad (bytes - from)
 written_fields from (scalar_field name at scalar rest) bytes =

@@ -1,4 +1,4 @@
--- Codes of fields, by which a proof tells them apart.
+-- Codes of fields, which proofs use to tell fields apart.
 use Rattle.std.specs.Prelude.{◌≡◌, ◌⊎◌, ℕ, List, [], ◌∷◌, refl}
 use Rattle.std.specs.Coded.{Coded, code_by, coded⊎, coded×, coded_ℕ, coded_list}
 use Rattle.std.proofs.Common.{inl, inr, ap}
@@ -6,7 +6,7 @@ use base.Stored.{coded_unit}
 use Rattle.elem_descr.specs.declared.scalar.Scalar.{Scalar}
 use Rattle.elem_descr.specs.Fields.{Fields, no_more, scalar_field, record_field, Structure}
 
--- what comes next in a list of fields: a scalar, the begin of a record, or its end
+-- one part of the code of fields: a scalar, the beginning of a record, or the end of a record
 abbrev pub FieldStep : Type 0
 FieldStep = (List ℕ × (ℕ × Scalar)) ⊎ ((List ℕ × (ℕ × ℕ)) ⊎ Unit {0})
 
@@ -28,7 +28,7 @@ add_part (inl scalar) stack = scalar_field scalar.0 scalar.1.0 scalar.1.1 (first
 add_part (inr (inl opened)) stack = record_field opened.0 opened.1.0 opened.1.1 (first stack) (first (others stack)) ∷ others (others stack)
 add_part (inr (inr tt)) stack = no_more ∷ stack
 
--- the fields that parts spell, read from their end
+-- the fields that the parts mean, read from the last part
 abbrev pub stack_of : List FieldStep → List Fields
 stack_of [] = no_more ∷ []
 stack_of (part ∷ parts) = add_part part (stack_of parts)

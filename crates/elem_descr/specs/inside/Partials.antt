@@ -1,4 +1,4 @@
--- What is so of a record as far as it is built, and of one that is read.
+-- What holds for a record being built, and for one that has been read.
 use Rattle.std.specs.Prelude.{◌≤◌, ◌+◌, ℕ, IsTrue, length, map}
 use Rattle.std.specs.List.{IsDistinct, list_all}
 use Rattle.std.specs.Str.{bytes_eq}
@@ -21,7 +21,7 @@ pub record IsPartial (p : Partial) : Type 0 where
   pub counted : leaf_count (listed p.fields) ≤ p.leaves
   pub few_leaves : p.leaves ≤ max_leaves
 
--- a record that is read
+-- a record that has been read, nested at most `levels` deep
 pub record IsBody (levels : ℕ) (body : Body) : Type 0 where
   pub shallow : IsShallow levels (RecordDescr body.whole)
   pub aligned : (1 ≤ body.alignment) × (body.alignment ≤ 8)

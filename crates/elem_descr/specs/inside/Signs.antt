@@ -1,7 +1,7 @@
--- Numbers that are read with a sign.
+-- Numbers read with a sign.
 use Rattle.std.proofs.Common.{ℕ, cond, nat_lt}
 use Rattle.std.specs.Prelude.{ℤ, pos, ◌-ℤ◌}
 
--- x below d, read with a sign: h is half of d
+-- `x`, which is below `d`, read with a sign, if `h` is half of `d`
 abbrev pub with_sign : ℕ → ℕ → ℕ → ℤ
 with_sign h d x = cond (nat_lt x h) (pos x) (pos x -ℤ pos d)

@@ -1,4 +1,4 @@
--- A record within a record has fewer fields in all.
+-- A record within a record has fewer fields in total.
 use Rattle.std.proofs.Common.{◌≤◌, ◌+◌, ℕ, List, [], ◌∷◌, max, arith}
 use denote.Param.Weighed.{most}
 use Rattle.elem_descr.specs.declared.descr.Field.{Field}

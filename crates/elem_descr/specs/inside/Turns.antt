@@ -1,4 +1,4 @@
--- Format texts as they are read: one member after the other, each from the text that is left.
+-- How the code reads a format text: one member after another, each from the remaining text.
 use Rattle.std.specs.Prelude.{ℕ, zero, suc, ◌+◌, min, Bool, false, ◌&&◌, not, List, [], ◌∷◌, ◌++◌, length, take, drop, codes, decimal, nat_le, if◌then◌else◌, Option, Some, None, unwrap_or, Result, Ok, Err}
 use Rattle.std.specs.Char.{is_ascii_digit}
 use Rattle.std.specs.List.{list_all, prefix_len}
@@ -22,11 +22,11 @@ use Rattle.elem_descr.specs.RecordBuilding.{max_size, max_depth, Partial, empty,
 use Rattle.elem_descr.specs.FormatPieces.{is_colon}
 use Rattle.elem_descr.specs.FormatTexts.{closed_body}
 
--- the mark in force after a blank or a mark
+-- the current mark after a byte that is a blank or a mark
 abbrev pub after : Mark → ℕ → Option Mark
 after mark b = if is_one_of (codes " ") b then Some mark else mark_meant b
 
--- the mark in force after the blanks and marks at the front, and what follows them
+-- the current mark after the blanks and marks at the front, and the remaining text
 abbrev pub marked : Mark → List ℕ → Mark × List ℕ
 marked mark [] = (mark, [])
 marked mark (b ∷ rest) = unwrap_or (option_map (λ next. marked next rest) (after mark b)) (mark, b ∷ rest)
@@ -40,7 +40,7 @@ abbrev pub is_opened : List ℕ → Bool
 is_opened [] = false
 is_opened (b ∷ rest) = is_one_of (codes "{") b
 
--- a member by its count and its letter, before the rest
+-- the member that a count and a letter mean, if `rest` follows them
 abbrev pub lettered_before : Mark → List ℕ → ℕ → List ℕ → Result Member Refusal
 lettered_before mark digits letter rest =
     if is_one_of (codes "T") letter && is_opened rest then (if is_empty digits then Ok Opened else Err DescriptorLeftOut)
@@ -52,19 +52,19 @@ after_count mark digits (letter ∷ rest) = do
   member ← lettered_before mark digits letter rest
   Ok (member, rest)
 
--- a member without its name, a count and a letter, and what follows it
+-- a member without its name (a count and a letter), and the remaining text
 abbrev pub member_at : Mark → List ℕ → Result (Member × List ℕ) Refusal
 member_at mark text = let n = prefix_len is_ascii_digit text in after_count mark (take n text) (drop n text)
 
--- a scalar that is no larger than items may be
+-- the scalar, if it is not larger than an item may be
 abbrev pub fitting : Scalar → Option Scalar
 fitting scalar = if nat_le (size scalar) max_size then Some scalar else None
 
--- a count of bytes, where all above the greatest that an item may have are one more than that
+-- a number of bytes, capped at one more than an item may have
 abbrev pub capped : ℕ → ℕ
 capped n = min n (max_size + 1)
 
--- a member as it is held
+-- a member as the code holds it
 abbrev pub as_held : Member → Held
 as_held (Value scalar) = held.Value (fitting scalar)
 as_held (Pad n) = held.Pad (capped n)
@@ -76,7 +76,7 @@ held_member read = read >>= λ member. Ok (as_held member)
 abbrev pub held_at : Result (Member × List ℕ) Refusal → Result (Held × List ℕ) Refusal
 held_at read = read >>= λ member. Ok (as_held member.0, member.1)
 
--- a name up to its colon, and what follows that
+-- the name up to its colon, and the text after the colon
 abbrev pub name_at : List ℕ → Result (List ℕ × List ℕ) Refusal
 name_at text =
     let n = prefix_len (λ b. not (is_colon b)) text in
@@ -84,20 +84,21 @@ name_at text =
     else if is_legal_name (take n text) then Ok (take n text, drop 1 (drop n text))
     else Err DescriptorLeftOut
 
--- the name of a field: between colons, or f and its number among the fields
+-- the name of a field (the one between colons, or by default `f` and the field's number), and the remaining text
 abbrev pub named : ℕ → List ℕ → Result (List ℕ × List ℕ) Refusal
 named number text = if is_named text then name_at (drop 1 text) else Ok (codes "f" ++ decimal number, text)
 
--- reads the members of a record up to its closing brace, given the mark in force and the number of leaves before it,
--- and returns what follows the brace
+-- reads the members of a record up to its closing brace, given the current mark and the number of leaves before the
+-- record,
+-- and returns the record and the text after the brace
 abbrev pub Reader : Type 0
 Reader = Mark → ℕ → List ℕ → Result (Body × List ℕ) Refusal
 
--- a record with a member more, the mark then in force, and what follows
+-- a record with one more member, the current mark after it, and the remaining text
 abbrev pub Later : Type 0
 Later = Partial × Mark × List ℕ
 
--- a member and what may stand after it: a name after a scalar and a record, none after padding
+-- a member and what may follow it: a name after a scalar or a record, but not after padding
 unfoldable pub scalar_in : Mark → Partial → Option Scalar → List ℕ → Result Later Refusal
 scalar_in mark p value rest = do
   name ← named (length p.fields) rest
@@ -130,12 +131,12 @@ next_field within mark p text = do
   member ← held_at (member_at mark text)
   taken_in within mark p member.0 member.1
 
--- what follows a closing brace
+-- the text after a closing brace, if the text begins with one
 abbrev pub closing : List ℕ → Option (List ℕ)
 closing [] = None
 closing (b ∷ rest) = if is_one_of (codes "}") b then Some rest else None
 
--- the end of the record at its closing brace, or a member and then those after it
+-- ends the record at its closing brace, or reads a member and then those after it
 abbrev pub turn : Reader → Mark → Partial → Option (List ℕ) → List ℕ → (Later → Result (Body × List ℕ) Refusal) → Result (Body × List ℕ) Refusal
 turn within mark p None text later = next_field within mark p text >>= later
 turn within mark p (Some rest) text later = closed_body mark p >>= λ body. Ok (body, rest)
@@ -146,20 +147,20 @@ members within zero mark p text = Err BadDescriptor
 members within (suc turns) mark p text =
     let m = marked mark text in turn within m.0 p (closing m.1) m.1 (λ next. members within turns next.1 next.0 next.2)
 
--- a record in which records lie to this depth, itself counted
+-- a record that may be this deep, itself included
 unfoldable pub record_within : ℕ → Reader
 record_within zero mark leaves text = Err DescriptorLeftOut
 record_within (suc levels) mark leaves text =
     members (record_within levels) (length text) mark (empty levels leaves) text
 
--- nothing may follow: a name or a second member is unsupported, and anything else is invalid
+-- Only blanks may follow. A name or a second member is unsupported, and what is no member is refused like any other.
 unfoldable pub nothing_follows : List ℕ → Result (Unit {0}) Refusal
 nothing_follows text = if list_all (is_one_of (codes " ")) text then Ok tt else do
   _ ← check (not (is_named text)) DescriptorLeftOut
   _ ← (let m = marked Aligned text in held_at (member_at m.0 m.1))
   Err DescriptorLeftOut
 
--- a member alone is a scalar or a record
+-- A member that is the whole text is a scalar or a record.
 unfoldable pub scalar_alone : Option Scalar → List ℕ → Result Descr Refusal
 scalar_alone value rest = do
   _ ← check (not (is_named rest)) DescriptorLeftOut
@@ -178,7 +179,7 @@ alone mark (held.Value value) rest = scalar_alone value rest
 alone mark (held.Pad count) rest = Err DescriptorLeftOut
 alone mark held.Opened rest = record_alone mark (drop 1 rest)
 
--- the descriptor that a format text means, or the fault in it
+-- the descriptor that a format text means, or the refusal for the first error in it
 abbrev pub format_in_turns : List ℕ → Result Descr Refusal
 format_in_turns text =
     let m = marked Aligned text in
