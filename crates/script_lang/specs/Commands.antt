@@ -1,5 +1,6 @@
--- The commands and the values, one production each. A production is given what stands behind its
--- word, and answers what it reads with the bytes behind it.
+-- The commands and the values, with one production each. A production takes the bytes after its word, and returns what
+-- it
+-- reads and the bytes after that.
 use Rattle.std.specs.Prelude.{ℕ, ℤ, List, codes, Option, Some, None, is_some, if◌then◌else◌}
 use Rattle.std.specs.Option.{option_map}
 use Rattle.elem_descr.specs.declared.index_item.IndexItem.{IndexItem}
@@ -36,20 +37,20 @@ use Rattle.script_lang.specs.Indexes.{shape_at, signed_shape_at, bracket_at, opt
 
 -- New arrays
 
--- S, behind `zeros D`
+-- S, after `zeros D`
 unfoldable pub zeros_at : List ℕ → Option (NewItems × List ℕ)
 zeros_at bytes = do
   shape ← shape_at bytes
   Some (Zeros shape.0, shape.1)
 
--- S L, behind `full D`
+-- S L, after `full D`
 unfoldable pub full_at : List ℕ → Option (NewItems × List ℕ)
 full_at bytes = do
   shape ← shape_at bytes
   value ← literal_at shape.1
   Some (Full shape.0 value.0, value.1)
 
--- a b s, behind `arange D`
+-- a b s, after `arange D`
 unfoldable pub arange_at : List ℕ → Option (NewItems × List ℕ)
 arange_at bytes = do
   start ← integer_at bytes
@@ -57,7 +58,7 @@ arange_at bytes = do
   step ← integer_at stop.1
   Some (Arange start.0 stop.0 step.0, step.1)
 
--- S L.., behind `array D`
+-- S L.., after `array D`
 unfoldable pub new_array_at : List ℕ → Option (NewItems × List ℕ)
 new_array_at bytes = do
   shape ← shape_at bytes
@@ -70,7 +71,7 @@ new_items_at make.Full bytes = full_at bytes
 new_items_at make.Arange bytes = arange_at bytes
 new_items_at make.Array bytes = new_array_at bytes
 
--- a descriptor, and what the items are
+-- a descriptor, and what the items of the new array are
 unfoldable pub make_at : MakeVerb → List ℕ → Option (Value × List ℕ)
 make_at making bytes = do
   descr ← descriptor_at bytes
@@ -83,14 +84,14 @@ abbrev pub viewing_of : Option (List (IndexItem (List ℕ))) → Viewing
 viewing_of None = Whole
 viewing_of (Some index) = Indexed index
 
--- Y or Y[ix], given the word Y, which is no verb, and the bytes behind it
+-- Y or Y[ix], given the word Y, which is not a verb, and the bytes after it
 unfoldable pub plain_view_at : List ℕ × List ℕ → Option (Value × List ℕ)
 plain_view_at word = do
   _ ← where_true (names_unless_verb word.0)
   index ← optional_index_at word.1
   Some (View word.0 (viewing_of index.0), index.1)
 
--- "f", behind `field Y`
+-- "f", after `field Y`
 unfoldable pub field_name_at : List ℕ → Option (Viewing × List ℕ)
 field_name_at bytes = do
   field ← quoted_at bytes
@@ -99,17 +100,17 @@ field_name_at bytes = do
 abbrev pub transposed_by : List ℤ × List ℕ → Viewing × List ℕ
 transposed_by axes = (Transposed (Some axes.0), axes.1)
 
--- the axes or nothing, behind `transpose Y`
+-- the axes, or nothing, after `transpose Y`
 unfoldable pub transpose_at : List ℕ → Option (Viewing × List ℕ)
 transpose_at bytes = if is_some (at_end bytes) then Some (Transposed None, bytes) else option_map transposed_by (signed_shape_at bytes)
 
--- S with signs, behind `reshape Y`
+-- S whose lengths may have signs, after `reshape Y`
 unfoldable pub reshape_at : List ℕ → Option (Viewing × List ℕ)
 reshape_at bytes = do
   shape ← signed_shape_at bytes
   Some (Reshaped shape.0, shape.1)
 
--- S, behind `broadcast Y`
+-- S, after `broadcast Y`
 unfoldable pub broadcast_at : List ℕ → Option (Viewing × List ℕ)
 broadcast_at bytes = do
   shape ← shape_at bytes
@@ -121,7 +122,7 @@ viewing_at view.Transpose bytes = transpose_at bytes
 viewing_at view.Reshape bytes = reshape_at bytes
 viewing_at view.Broadcast bytes = broadcast_at bytes
 
--- Y, and how it is seen
+-- Y, and how it is viewed
 unfoldable pub view_at : ViewVerb → List ℕ → Option (Value × List ℕ)
 view_at viewing bytes = do
   source ← name_at bytes
@@ -130,7 +131,7 @@ view_at viewing bytes = do
 
 -- Computations
 
--- Y C or Y F, behind `copy`
+-- Y C or Y F, after `copy`
 unfoldable pub copy_at : List ℕ → Option (Computation × List ℕ)
 copy_at bytes = do
   source ← name_at bytes
@@ -138,27 +139,27 @@ copy_at bytes = do
   order ← order_of word.0
   Some (Duplicate source.0 order, word.1)
 
--- Y D, behind `cast`
+-- Y D, after `cast`
 unfoldable pub cast_at : List ℕ → Option (Computation × List ℕ)
 cast_at bytes = do
   source ← name_at bytes
   descr ← descriptor_at source.1
   Some (Cast source.0 descr.0, descr.1)
 
--- operand Z, behind OP
+-- operand Z, after OP
 unfoldable pub combine_at : Operation → List ℕ → Option (Computation × List ℕ)
 combine_at operation bytes = do
   left ← operand_at bytes
   right ← argument_at left.1
   Some (Combine operation left.0 right.0, right.1)
 
--- operand, behind `neg` or `not`
+-- operand, after `neg` or `not`
 unfoldable pub transform_at : UnOp → List ℕ → Option (Computation × List ℕ)
 transform_at operation bytes = do
   operand ← operand_at bytes
   Some (Transform operation operand.0, operand.1)
 
--- Y [axis] [keep], behind RED
+-- Y [axis] [keep], after RED
 unfoldable pub reduce_at : Red → List ℕ → Option (Computation × List ℕ)
 reduce_at reduction bytes = do
   source ← name_at bytes
@@ -180,13 +181,13 @@ compute_at computing bytes = do
 
 -- Values
 
--- "f", behind `load`
+-- "f", after `load`
 unfoldable pub load_at : List ℕ → Option (Value × List ℕ)
 load_at bytes = do
   file ← file_name_at bytes
   Some (Load file.0, file.1)
 
--- what the word makes of the bytes behind it
+-- the value of a verb and the bytes after it
 abbrev pub verb_value_at : Verb → List ℕ → Option (Value × List ℕ)
 verb_value_at (verb.Make making) bytes = make_at making bytes
 verb_value_at (verb.View viewing) bytes = view_at viewing bytes
@@ -194,7 +195,7 @@ verb_value_at (verb.Compute computing) bytes = compute_at computing bytes
 verb_value_at verb.Load bytes = load_at bytes
 verb_value_at _ bytes = None
 
--- what stands behind `X =`: a word that is no verb is the name Y
+-- the value after `X =`; a word that is not a verb is the name Y
 unfoldable pub value_at : List ℕ → Option (Value × List ℕ)
 value_at bytes = do
   word ← word_at bytes
@@ -202,7 +203,7 @@ value_at bytes = do
 
 -- Commands
 
--- X = .., given the word X, which is no verb, and the bytes behind it
+-- X = .., given the word X, which is not a verb, and the bytes after it
 unfoldable pub bind_at : List ℕ × List ℕ → Option (Command × List ℕ)
 bind_at word = do
   _ ← where_true (names_unless_verb word.0)
@@ -210,7 +211,7 @@ bind_at word = do
   value ← value_at rest
   Some (Bind word.0 value.0, value.1)
 
--- X[ix] = Z, behind `set`
+-- X[ix] = Z, after `set`
 unfoldable pub set_at : List ℕ → Option (Command × List ℕ)
 set_at bytes = do
   name ← name_at bytes
@@ -219,7 +220,7 @@ set_at bytes = do
   value ← argument_at rest
   Some (Set name.0 index.0 value.0, value.1)
 
--- X[ix] OP Z, behind `upd`
+-- X[ix] OP Z, after `upd`
 unfoldable pub update_at : List ℕ → Option (Command × List ℕ)
 update_at bytes = do
   name ← name_at bytes
@@ -229,27 +230,27 @@ update_at bytes = do
   value ← argument_at word.1
   Some (Update name.0 index.0 operation value.0, value.1)
 
--- X, behind `del`
+-- X, after `del`
 unfoldable pub delete_at : List ℕ → Option (Command × List ℕ)
 delete_at bytes = do
   name ← name_at bytes
   Some (Delete name.0, name.1)
 
--- X "f", behind `save`
+-- X "f", after `save`
 unfoldable pub save_at : List ℕ → Option (Command × List ℕ)
 save_at bytes = do
   name ← name_at bytes
   file ← file_name_at name.1
   Some (Save name.0 file.0, file.1)
 
--- X Y, behind `shares`
+-- X Y, after `shares`
 unfoldable pub shares_at : List ℕ → Option (Question × List ℕ)
 shares_at bytes = do
   left ← name_at bytes
   right ← name_at left.1
   Some (Shares left.0 right.0, right.1)
 
--- X, behind a word that asks of one array
+-- X, after a word that asks about one array
 unfoldable pub asked_at : (List ℕ → Question) → List ℕ → Option (Question × List ℕ)
 asked_at question bytes = do
   name ← name_at bytes
@@ -267,7 +268,7 @@ ask_at asking bytes = do
   question ← question_at asking bytes
   Some (Ask question.0, question.1)
 
--- what the word asks for with the bytes behind it
+-- the command of a verb and the bytes after it
 abbrev pub verb_command_at : Verb → List ℕ → Option (Command × List ℕ)
 verb_command_at verb.Set bytes = set_at bytes
 verb_command_at verb.Update bytes = update_at bytes
@@ -277,13 +278,13 @@ verb_command_at verb.Save bytes = save_at bytes
 verb_command_at (verb.Ask asking) bytes = ask_at asking bytes
 verb_command_at _ bytes = None
 
--- the command that comes first: a word that is no verb is the name X
+-- the command at the front of a line; a word that is not a verb is the name X
 unfoldable pub form_at : List ℕ → Option (Command × List ℕ)
 form_at line = do
   word ← word_at line
   if_found (verb_of word.0) (λ known. verb_command_at known word.1) (bind_at word)
 
--- the command that a line spells: nothing but blanks stands behind it
+-- the command that is the whole line; only blanks may follow it
 unfoldable pub command_at : List ℕ → Option Command
 command_at line = do
   command ← form_at line

@@ -18,13 +18,13 @@ shape_at bytes = do
   inside ← symbol_at 40 bytes
   by_rule (none_or_more length_at 41) inside
 
--- S with signs
+-- S whose lengths may have signs
 unfoldable pub signed_shape_at : List ℕ → Option (List ℤ × List ℕ)
 signed_shape_at bytes = do
   inside ← symbol_at 40 bytes
   by_rule (none_or_more integer_at 41) inside
 
--- behind the first colon of a slice and its stop: the step, if there is a second colon
+-- after the first colon of a slice and its stop: the step, if there is a second colon
 abbrev pub step_at : List ℕ → Option (List ℕ) → Option ℤ × List ℕ
 step_at bytes None = (None, bytes)
 step_at bytes (Some rest) = optional_integer_at rest
@@ -40,7 +40,7 @@ slice_at bytes = do
 abbrev pub integer_item : ℤ × List ℕ → IndexItem (List ℕ) × List ℕ
 integer_item found = (Integer found.0, found.1)
 
--- ...
+-- `...`
 unfoldable pub ellipsis_at : List ℕ → Option (List ℕ)
 ellipsis_at bytes = symbol_at 46 bytes >>= byte_at 46 >>= byte_at 46
 
@@ -50,7 +50,7 @@ item_with_rest item rest = (item, rest)
 abbrev pub array_item : List ℕ × List ℕ → IndexItem (List ℕ) × List ℕ
 array_item found = (Array found.0, found.1)
 
--- one item of an index list, at once
+-- one item of an index list, given the bytes after the blanks
 abbrev pub bare_item_at : List ℕ → Option (IndexItem (List ℕ) × List ℕ)
 bare_item_at bytes =
     slice_at bytes
@@ -63,25 +63,25 @@ bare_item_at bytes =
 unfoldable pub index_item_at : List ℕ → Option (IndexItem (List ℕ) × List ℕ)
 index_item_at bytes = bare_item_at (unspaced bytes)
 
--- ix], behind `[`: the items up to the bracket, `...` at most once
+-- ix], after `[`: the items up to the closing bracket, with `...` at most once
 unfoldable pub index_at : List ℕ → Option (List (IndexItem (List ℕ)) × List ℕ)
 index_at bytes = do
   items ← by_rule (one_or_more index_item_at 93) bytes
   _ ← where_true (nat_le (count_by is_ellipsis items.0) 1)
   Some items
 
--- [ix], the bracket at once
+-- [ix], with the opening bracket at once
 unfoldable pub bracket_at : List ℕ → Option (List (IndexItem (List ℕ)) × List ℕ)
 bracket_at bytes = byte_at 91 bytes >>= index_at
 
--- behind `[`: an index that is there
+-- after `[`: an optional index that is present
 abbrev pub some_index_at : List ℕ → Option (Option (List (IndexItem (List ℕ))) × List ℕ)
 some_index_at bytes = option_map (λ index. (Some index.0, index.1)) (index_at bytes)
 
 unfoldable pub optional_index_at : List ℕ → Option (Option (List (IndexItem (List ℕ))) × List ℕ)
 optional_index_at bytes = if_found (byte_at 91 bytes) some_index_at (Some (None, bytes))
 
--- Y or Y[ix], given Y and the bytes behind it
+-- Y or Y[ix], given Y and the bytes after it
 unfoldable pub operand_named : List ℕ × List ℕ → Option (Operand × List ℕ)
 operand_named name = do
   index ← optional_index_at name.1
@@ -91,7 +91,7 @@ operand_named name = do
 unfoldable pub operand_at : List ℕ → Option (Operand × List ℕ)
 operand_at bytes = name_at bytes >>= operand_named
 
--- a name that begins no bytes literal, at once
+-- a name, unless the bytes are a bytes literal, given the bytes after the blanks
 unfoldable pub bare_name_at : List ℕ → Option (List ℕ × List ℕ)
 bare_name_at bytes = if is_some (bytes_mark_at bytes) then None else name_at bytes
 

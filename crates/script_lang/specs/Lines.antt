@@ -8,7 +8,7 @@ use Rattle.script_lang.specs.Literals.{text_byte_at, literal_within, literal_at,
 use Rattle.script_lang.specs.Indexes.{index_item_at}
 use Rattle.script_lang.specs.Commands.{command_at}
 
--- a tab, or 32 to 126
+-- a tab, or a byte from 32 to 126
 abbrev pub is_allowed : ℕ → Bool
 is_allowed b = nat_eq b 9 || (nat_le 32 b && nat_le b 126)
 
@@ -16,7 +16,7 @@ abbrev pub is_silent_front : List ℕ → Bool
 is_silent_front [] = true
 is_silent_front (b ∷ bytes) = nat_eq b 35
 
--- blanks alone, or a comment: the first byte that is no blank is `#`
+-- only blanks, or a comment: the first byte that is not a blank is `#`
 abbrev pub is_silent : List ℕ → Bool
 is_silent line = is_silent_front (unspaced line)
 
@@ -31,11 +31,11 @@ abbrev pub spelled : Option Command → Line
 spelled None = misspelt
 spelled (Some command) = asks command
 
--- in this order: silent, a byte that is not allowed, the grammar
+-- What a line says. The checks have this order: whether it is silent, whether all bytes are allowed, and the grammar.
 unfoldable pub line_of : List ℕ → Line
 line_of line = if is_silent line then silent else if list_all is_allowed line then spelled (command_at (unspaced line)) else bad_byte
 
--- Each list of a line is what its rule reads in any number of turns above that of its bytes: lengths,
+-- For every kind of list in a line, its rule reads the same in any number of turns above the number of bytes: lengths,
 -- integers, the items of an index, the bytes of a text, the values of a record, and the literals of a line.
 abbrev pub EachListAnyTurns : Type 0
 EachListAnyTurns =

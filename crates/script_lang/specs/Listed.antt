@@ -4,17 +4,17 @@ use Rattle.script_lang.specs.declared.literal.Literal.{Literal}
 use Rattle.script_lang.specs.declared.literal.Literal.TheVariants.{Scalar, Record}
 use Rattle.script_lang.specs.RecordValues.{Values, no_values, scalar_value, record_value}
 
--- one literal before others
+-- the values `rest` with one literal in front
 abbrev pub value_before : Literal → Values → Values
 value_before (Scalar scalar) rest = scalar_value scalar rest
 value_before (Record values) rest = record_value values rest
 
--- these literals in this order
+-- the values that are these literals, in order
 abbrev pub all_values : List Literal → Values
 all_values [] = no_values
 all_values (literal ∷ literals) = value_before literal (all_values literals)
 
--- the literals in their order
+-- the literals that the values are, in order
 abbrev pub literals_of : Values → List Literal
 literals_of no_values = []
 literals_of (scalar_value scalar rest) = Scalar scalar ∷ literals_of rest

@@ -1,4 +1,4 @@
--- Literals.
+-- Literals: integers, booleans, bytes and records.
 use Rattle.std.specs.Prelude.{ℕ, zero, suc, ◌+◌, ◌-◌, ◌*◌, ◌==◌, ℤ, Bool, true, false, List, [], ◌∷◌, length, codes, Option, Some, None, nat_eq, nat_le, if◌then◌else◌, not, ◌&&◌}
 use Rattle.std.specs.Option.{option_map}
 use Rattle.std.specs.Str.{bytes_eq}
@@ -10,7 +10,7 @@ use Rattle.script_lang.specs.Tokens.{◌>>=◌, ◌or_else◌, if_found, where_t
 use Rattle.script_lang.specs.Lists.{by_rule, none_or_more, row}
 use Rattle.script_lang.specs.Listed.{all_values}
 
--- the digit that a byte is in base 16
+-- the value of a hexadecimal digit
 unfoldable pub hex_value : ℕ → Option ℕ
 hex_value b =
     if is_digit b then Some (b - 48)
@@ -22,7 +22,7 @@ unfoldable pub hex_digit_at : List ℕ → Option (ℕ × List ℕ)
 hex_digit_at [] = None
 hex_digit_at (b ∷ bytes) = option_map (λ digit. (digit, bytes)) (hex_value b)
 
--- behind a backslash: x and two digits in base 16
+-- after a backslash: `x` and two hexadecimal digits
 unfoldable pub escape_at : List ℕ → Option (ℕ × List ℕ)
 escape_at bytes = do
   digits ← byte_at 120 bytes
@@ -30,7 +30,7 @@ escape_at bytes = do
   low ← hex_digit_at high.1
   Some (high.0 * 16 + low.0, low.1)
 
--- 32 to 126, neither an apostrophe nor a backslash
+-- 32 to 126, except an apostrophe and a backslash
 abbrev pub is_plain : ℕ → Bool
 is_plain b = nat_le 32 b && nat_le b 126 && not (nat_eq b 39) && not (nat_eq b 92)
 
@@ -42,7 +42,7 @@ plain_byte_at (b ∷ bytes) = if is_plain b then Some (b, bytes) else None
 unfoldable pub text_byte_at : List ℕ → Option (ℕ × List ℕ)
 text_byte_at bytes = if_found (byte_at 92 bytes) escape_at (plain_byte_at bytes)
 
--- behind b': the bytes up to the apostrophe
+-- after `b'`: the bytes up to the closing apostrophe
 unfoldable pub byte_text_at : List ℕ → Option (List ℕ × List ℕ)
 byte_text_at bytes = by_rule (row text_byte_at (byte_at 39)) bytes
 
@@ -57,7 +57,7 @@ boolean_at bytes = do
       else if bytes_eq word.0 (codes "False") then Some (Boolean false, word.1)
       else None
 
--- behind b': a bytes literal
+-- after `b'`: a bytes literal
 unfoldable pub bytes_at : List ℕ → Option (ScalarLiteral × List ℕ)
 bytes_at bytes = do
   text ← byte_text_at bytes
@@ -67,7 +67,7 @@ bytes_at bytes = do
 unfoldable pub scalar_at : List ℕ → Option (ScalarLiteral × List ℕ)
 scalar_at bytes = if_found (bytes_mark_at bytes) bytes_at (option_map integer_of (integer_at bytes) or_else boolean_at bytes)
 
--- behind `(`: one or more values, a last comma allowed
+-- after `(`: one or more values; a trailing comma is allowed
 unfoldable pub record_at : (List ℕ → Option (Literal × List ℕ)) → List ℕ → Option (Literal × List ℕ)
 record_at value_at bytes = do
   values ← by_rule (none_or_more value_at 41) bytes
@@ -89,10 +89,10 @@ max_literal_depth = 4
 unfoldable pub literal_at : List ℕ → Option (Literal × List ℕ)
 literal_at bytes = literal_within max_literal_depth bytes
 
--- the end of a line: blanks at most
+-- the end of a line, perhaps after blanks
 abbrev pub line_end_at : List ℕ → Option (List ℕ)
 line_end_at bytes = option_map (λ _. bytes) (at_end bytes)
 
--- L..: literals up to the line's end, none or more
+-- L..: zero or more literals, up to the end of the line
 unfoldable pub literals_at : List ℕ → Option (List Literal × List ℕ)
 literals_at bytes = by_rule (row literal_at line_end_at) bytes

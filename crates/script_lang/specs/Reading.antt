@@ -1,4 +1,4 @@
--- What a parser answers, beside what the line says.
+-- How the result of the parser relates to what a line says.
 use Rattle.std.specs.Prelude.{◌≡◌, ◌⊎◌, Bool, true, false, IsTrue, IfSome, ℕ, List, Option, Some, None, is_some, Result, Ok, Err, length, nat_lt, ◌||◌}
 use Rattle.elem_descr.specs.declared.refusal.Refusal.{Refusal}
 use Rattle.elem_descr.specs.declared.refusal.Refusal.TheVariants.{ByteNotAllowed, Syntax, OutOfMemory}
@@ -20,7 +20,7 @@ use Rattle.script_lang.specs.declared.command.Value.TheVariants.{Make, View, Com
 use Rattle.script_lang.specs.declared.command.Command.TheVariants.{Bind, Set, Update}
 use Rattle.script_lang.specs.Lines.{Line, silent, bad_byte, misspelt, asks}
 
--- What is held in memory of its own: bytes and record literals, an index of more than one item.
+-- Whether something takes memory of its own: bytes and record literals, and an index of more than one item, do.
 abbrev pub scalar_room : ScalarLiteral → Bool
 scalar_room (Bytes text) = true
 scalar_room _ = false
@@ -43,7 +43,7 @@ abbrev pub argument_room : Argument → Bool
 argument_room (argument.Operand operand) = operand_room operand
 argument_room (argument.Literal literal) = literal_room literal
 
--- with axes, a shape, the name of a field, or an index of more than one item
+-- a view with axes, a shape, the name of a field, or an index of more than one item
 abbrev pub viewing_room : Viewing → Bool
 viewing_room Whole = false
 viewing_room (Indexed index) = index_room index
@@ -65,35 +65,40 @@ value_room (View source how) = viewing_room how
 value_room (Compute computation) = computation_room computation
 value_room (Load file) = false
 
--- A command that is held in memory of its own: one with a part that is, or with a descriptor, a
--- shape, axes, or the name of a field.
+-- whether a command takes memory of its own: it has a part that does, or a descriptor, a shape, axes, or the name of a
+-- field
 abbrev pub parts_take_memory : Command → Bool
 parts_take_memory (Bind name value) = value_room value
 parts_take_memory (Set name index value) = index_room index || argument_room value
 parts_take_memory (Update name index operation value) = index_room index || argument_room value
 parts_take_memory _ = false
 
--- Memory is asked for only on the way to such a command.
+-- Memory can run out only if the command of the line takes memory, or if the line is misspelt.
 abbrev pub MayLackRoom : Line → Type 0
 MayLackRoom silent = ⊥
 MayLackRoom bad_byte = ⊥
 MayLackRoom misspelt = Unit {0}
 MayLackRoom (asks command) = IsTrue (parts_take_memory command)
 
--- The command is what the line asks for; a refusal says why there is none, or that memory ran out.
+-- The result of the parser is right: a command is what the line asks for, no command means that the line is silent, and
+-- a
+-- refusal says what is wrong with the line, or that memory ran out.
 abbrev pub Says : Result (Option Command) Refusal → Line → Type 0
 Says (Ok None) line = line ≡ silent
 Says (Ok (Some command)) line = line ≡ asks command
 Says (Err refusal) line =
     ((refusal ≡ Syntax) × (line ≡ misspelt)) ⊎ (((refusal ≡ ByteNotAllowed) × (line ≡ bad_byte)) ⊎ ((refusal ≡ OutOfMemory) × MayLackRoom line))
 
--- What a scanner answers, seen by view, is what is there.
+-- A scanner returns the expected result `there`: nothing, or a value that `view` turns into the expected one.
 abbrev pub Scans : {X Y : Type 0} → (X → Y) → Option X → Option Y → Type 0
 Scans view None there = there ≡ None
 Scans view (Some x) there = there ≡ Some (view x)
 
--- What a reader that takes memory answers: what is there, that nothing is, or that memory ran out,
--- which it may where nothing is or where what is there is held in memory of its own.
+-- A reader that takes memory returns the expected result `there`: a value that `view` turns into the expected one, or
+-- the
+-- refusal `Syntax` if nothing is there. Instead, it may run out of memory if nothing is there, or if what is there
+-- takes
+-- memory of its own.
 abbrev pub Reads : {X Y : Type 0} → (X → Y) → (Y → Bool) → Result X Refusal → Option Y → Type 0
 Reads view takes_memory (Ok x) there = there ≡ Some (view x)
 Reads view takes_memory (Err refusal) there =

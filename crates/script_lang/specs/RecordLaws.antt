@@ -33,6 +33,6 @@ at-literal_nodes (scalar_value scalar rest) (suc k) d low = omega (arith, at-lit
 at-literal_nodes (record_value inner rest) zero d low = omega arith
 at-literal_nodes (record_value inner rest) (suc k) d low = omega (arith, at-literal_nodes rest k d (omega (arith, low)))
 
--- what a recursion over a literal goes down by
+-- Each value of a record has fewer nodes than the record, so that a recursion over a literal ends.
 pub inner-literal_nodes : (values : Values) → All (λ literal. literal_nodes literal < literal_nodes (Record values)) (literals_of values)
 inner-literal_nodes values = at-literal_nodes values

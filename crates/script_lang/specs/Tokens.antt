@@ -1,5 +1,6 @@
--- The tokens of a line. A reading word takes the bytes that are left, and answers what it reads
--- with the bytes behind it. Blanks may stand before each token but where it says 'at once'.
+-- The tokens of a line. Each reader takes the remaining bytes, and returns what it reads and the bytes after it. Blanks
+-- may
+-- precede each token, except where a comment says 'at once'.
 use Rattle.std.specs.Prelude.{ℕ, ℤ, pos, neg_ℤ, Bool, true, false, List, [], ◌∷◌, length, Option, Some, None, is_some, nat_eq, nat_le, if◌then◌else◌, take, drop, not, ◌||◌, ◌&&◌}
 use Rattle.std.specs.List.{prefix_len, list_all}
 use Rattle.std.specs.Option.{option_and_then, option_map}
@@ -11,18 +12,18 @@ infixl 10 ◌>>=◌
 abbrev pub ◌>>=◌ : {A B : Type 0} → Option A → (A → Option B) → Option B
 o >>= f = option_and_then f o
 
--- the second reading, where the first finds nothing
+-- the first reading, or the second if the first finds nothing
 infixl 8 ◌or_else◌
 abbrev pub ◌or_else◌ : {A : Type 0} → Option A → Option A → Option A
 None or_else second = second
 (Some x) or_else second = Some x
 
--- how the reading goes on from what is found, if it is; else the other reading
+-- goes on with `next` if something is found, and is the other reading if not
 abbrev pub if_found : {A B : Type 0} → Option B → (B → Option A) → Option A → Option A
 if_found None next other = other
 if_found (Some found) next other = next found
 
--- nothing, unless the test holds
+-- finds nothing unless the test holds
 abbrev pub where_true : Bool → Option (Unit {0})
 where_true true = Some tt
 where_true false = None
@@ -44,20 +45,20 @@ is_name_start b = (nat_le 65 b && nat_le b 90) || (nat_le 97 b && nat_le b 122) 
 abbrev pub is_name_byte : ℕ → Bool
 is_name_byte b = is_name_start b || is_digit b
 
--- the bytes behind the blanks at the front
+-- the bytes after the blanks at the front
 abbrev pub unspaced : List ℕ → List ℕ
 unspaced bytes = drop (prefix_len is_blank bytes) bytes
 
--- this byte, at once
+-- the byte `b`, at once
 abbrev pub byte_at : ℕ → List ℕ → Option (List ℕ)
 byte_at b [] = None
 byte_at b (c ∷ bytes) = if nat_eq c b then Some bytes else None
 
--- this byte
+-- the byte `b`
 abbrev pub symbol_at : ℕ → List ℕ → Option (List ℕ)
 symbol_at b bytes = byte_at b (unspaced bytes)
 
--- nothing but blanks is left
+-- the end: only blanks remain
 abbrev pub at_end : List ℕ → Option (Unit {0})
 at_end bytes = where_true (nat_eq (length (unspaced bytes)) 0)
 
@@ -65,16 +66,17 @@ at_end bytes = where_true (nat_eq (length (unspaced bytes)) 0)
 abbrev pub front_of : ℕ → List ℕ → Option (List ℕ × List ℕ)
 front_of n bytes = if nat_eq n 0 then None else Some (take n bytes, drop n bytes)
 
--- the longest front whose bytes pass the test, of one byte or more, at once
+-- the longest prefix whose bytes pass the test, if it is not empty, at once
 abbrev pub front_at : (ℕ → Bool) → List ℕ → Option (List ℕ × List ℕ)
 front_at test bytes = front_of (prefix_len test bytes) bytes
 
--- b', which begins a bytes literal, at once
+-- `b'`, which begins a bytes literal, at once
 unfoldable pub bytes_mark_at : List ℕ → Option (List ℕ)
 bytes_mark_at bytes = byte_at 98 bytes >>= byte_at 39
 
--- Blanks must stand between two words, numbers or descriptors: neither a word nor a number follows
--- at once.
+-- Blanks must separate words, numbers and descriptors from a word or a number that follows. A bytes literal may follow
+-- at
+-- once.
 unfoldable pub is_parted : List ℕ → Bool
 is_parted [] = true
 is_parted (b ∷ bytes) = if is_name_byte b || is_sign b then is_some (bytes_mark_at (b ∷ bytes)) else true
@@ -86,7 +88,7 @@ word_at bytes = do
   _ ← where_true (is_parted word.1)
   Some word
 
--- this word
+-- the word `keyword`
 unfoldable pub keyword_at : List ℕ → List ℕ → Option (List ℕ)
 keyword_at keyword bytes = do
   word ← word_at bytes
@@ -97,8 +99,9 @@ abbrev pub starts_name : List ℕ → Bool
 starts_name [] = false
 starts_name (b ∷ word) = is_name_start b
 
--- a word that names an array unless it is a verb: it begins with no digit, has at most 32 bytes and
--- is none of literals and index lists
+-- a word that is the name of an array unless it is a verb: it does not begin with a digit, has at most 32 bytes and is
+-- not
+-- `True`, `False` or `None`
 abbrev pub names_unless_verb : List ℕ → Bool
 names_unless_verb word = starts_name word && nat_le (length word) 32 && not (is_constant word)
 
@@ -120,7 +123,7 @@ number_at bytes = do
   _ ← where_true (is_parted digits.1)
   Some (value_of digits.0, digits.1)
 
--- an integer without sign
+-- an integer without a sign
 unfoldable pub length_at : List ℕ → Option (ℕ × List ℕ)
 length_at bytes = number_at (unspaced bytes)
 
@@ -130,7 +133,7 @@ positive n = (pos n.0, n.1)
 abbrev pub negative : ℕ × List ℕ → ℤ × List ℕ
 negative n = (neg_ℤ (pos n.0), n.1)
 
--- digits behind an optional sign, at once
+-- digits after an optional sign, at once
 abbrev pub signed_at : List ℕ → Option (ℤ × List ℕ)
 signed_at [] = None
 signed_at (b ∷ bytes) =
@@ -138,20 +141,20 @@ signed_at (b ∷ bytes) =
     else if nat_eq b 43 then option_map positive (number_at bytes)
     else option_map positive (number_at (b ∷ bytes))
 
--- an integer: digits behind an optional sign
+-- an integer: digits after an optional sign
 unfoldable pub integer_at : List ℕ → Option (ℤ × List ℕ)
 integer_at bytes = signed_at (unspaced bytes)
 
--- what is read if it is there, and the bytes behind it
+-- what is read, if it is there, and the remaining bytes
 abbrev pub optional : {A : Type 0} → List ℕ → Option (A × List ℕ) → Option A × List ℕ
 optional bytes None = (None, bytes)
 optional bytes (Some found) = (Some found.0, found.1)
 
--- an integer, or none
+-- an integer, if there is one
 unfoldable pub optional_integer_at : List ℕ → Option ℤ × List ℕ
 optional_integer_at bytes = optional bytes (integer_at bytes)
 
--- whether this word comes next, and the bytes behind it if so
+-- whether a word comes next, and the remaining bytes
 abbrev pub flag : List ℕ → Option (List ℕ) → Bool × List ℕ
 flag bytes None = (false, bytes)
 flag bytes (Some rest) = (true, rest)
@@ -177,7 +180,7 @@ abbrev pub starts_file_name : List ℕ → Bool
 starts_file_name [] = false
 starts_file_name (b ∷ name) = is_name_byte b
 
--- at most 64 of those bytes, the first no full stop and no hyphen
+-- 1 to 64 of those bytes, beginning with neither a full stop nor a hyphen
 abbrev pub is_file_name : List ℕ → Bool
 is_file_name name = starts_file_name name && nat_le (length name) 64 && list_all is_file_byte name
 

@@ -1,4 +1,4 @@
--- The words that the language knows, and what each is.
+-- The words of the language, and what each of them means.
 use Rattle.std.specs.Prelude.{ℕ, Bool, List, [], ◌∷◌, codes, Option, Some, None, ◌||◌, if◌then◌else◌}
 use Rattle.std.specs.Option.{option_and_then}
 use Rattle.std.specs.Str.{bytes_eq}
@@ -28,7 +28,7 @@ transforming_verb operation = verb.Compute (compute.Transform operation)
 abbrev pub reducing_verb : Red → Verb
 reducing_verb reduction = verb.Compute (compute.Reduce reduction)
 
--- each word that begins a command, or a value behind `X =`
+-- each word that begins a command, or a value after `X =`
 abbrev pub verbs : List (List ℕ × Verb)
 verbs =
     (codes "zeros", verb.Make make.Zeros)
@@ -81,7 +81,7 @@ verbs =
     ∷ (codes "argmax", reducing_verb ArgMax)
     ∷ []
 
--- what stands beside the word in a table
+-- the verb of a word in a table, if it is there
 unfoldable pub beside : List (List ℕ × Verb) → List ℕ → Option Verb
 beside [] word = None
 beside (row ∷ rows) word = if bytes_eq row.0 word then Some row.1 else beside rows word
@@ -89,7 +89,7 @@ beside (row ∷ rows) word = if bytes_eq row.0 word then Some row.1 else beside 
 unfoldable pub verb_of : List ℕ → Option Verb
 verb_of word = beside verbs word
 
--- the words of literals and index lists
+-- the words that literals and index lists use
 unfoldable pub is_constant : List ℕ → Bool
 is_constant word = bytes_eq word (codes "True") || bytes_eq word (codes "False") || bytes_eq word (codes "None")
 
@@ -101,7 +101,7 @@ as_operation _ = None
 unfoldable pub operation_of : List ℕ → Option Operation
 operation_of word = option_and_then as_operation (verb_of word)
 
--- the order of a copy's items
+-- the memory order of a copy
 unfoldable pub order_of : List ℕ → Option MemoryOrder
 order_of word =
     if bytes_eq word (codes "C") then Some C

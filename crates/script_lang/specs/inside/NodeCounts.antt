@@ -1,4 +1,4 @@
--- A record in a record literal has fewer nodes than it.
+-- The depth of a literal is at most the number of its nodes.
 use Rattle.std.specs.Prelude.{◌≤◌, max, List, [], ◌∷◌}
 use Rattle.std.proofs.Common.{arith}
 use denote.Param.Weighed.{most}
@@ -8,7 +8,7 @@ use Rattle.script_lang.specs.declared.literal.RecordLiteral.TheDeep.{deep-Litera
 use Rattle.script_lang.specs.RecordValues.{node_count}
 use Rattle.script_lang.specs.Listed.{all_values}
 
--- no literal among those listed is deeper than they have nodes
+-- The depth of the deepest of the literals is at most the number of nodes in all of them.
 pub depth_le-node_count : (literals : List Literal) → max (most deep-Literal literals) 0 ≤ node_count (all_values literals)
 depth_le-node_count [] = omega arith
 depth_le-node_count (Scalar scalar ∷ literals) = omega (arith, depth_le-node_count literals)

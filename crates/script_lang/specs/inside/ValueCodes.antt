@@ -1,4 +1,4 @@
--- The code of the values of a record literal, by which a proof tells them apart.
+-- The code of the values of a record literal, which proofs use to tell them apart.
 use Rattle.std.specs.Prelude.{◌≡◌, ◌⊎◌, Bool, true, false, List, [], ◌∷◌, refl}
 use Rattle.std.proofs.Common.{inl, inr, ap}
 use Rattle.std.specs.Coded.{Coded, code_by, coded_list, coded⊎, coded_bool}
@@ -6,11 +6,11 @@ use Rattle.script_lang.specs.declared.literal.ScalarLiteral.{ScalarLiteral}
 use Rattle.script_lang.specs.contracts.literal.ScalarLiteral as scalar
 use Rattle.script_lang.specs.RecordValues.{Values, no_values, scalar_value, record_value}
 
--- what comes next in a record literal: a scalar, or the begin (true) or the end (false) of a record
+-- one part of the code: a scalar, or the beginning (true) or the end (false) of a record
 abbrev pub Mark : Type 0
 Mark = ScalarLiteral ⊎ Bool
 
--- the marks of the values, in front of others
+-- the marks of the values, followed by the marks `later`
 abbrev pub marks_before : Values → List Mark → List Mark
 marks_before no_values later = later
 marks_before (scalar_value scalar rest) later = inl scalar ∷ marks_before rest later
@@ -29,7 +29,7 @@ add_mark (inl scalar) stack = scalar_value scalar (first stack) ∷ others stack
 add_mark (inr true) stack = record_value (first stack) (first (others stack)) ∷ others (others stack)
 add_mark (inr false) stack = no_values ∷ stack
 
--- the values that the marks spell, read from their end
+-- the values that the marks mean, read from the last mark
 abbrev pub stack_of : List Mark → List Values
 stack_of [] = no_values ∷ []
 stack_of (mark ∷ marks) = add_mark mark (stack_of marks)
