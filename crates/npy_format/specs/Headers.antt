@@ -1,4 +1,4 @@
--- Headers of files: one dictionary, and what it says of an array.
+-- The header of a file: one dictionary, and what it says about an array.
 use Rattle.std.specs.Prelude.{◌≡◌, ◌≤◌, ℕ, Bool, false, List, [], ◌∷◌, codes, length, nat_eq, if◌then◌else◌, Result, Ok, Err}
 use Rattle.std.specs.Option.{ok_or}
 use Rattle.std.specs.Str.{bytes_eq}
@@ -10,11 +10,11 @@ use Rattle.npy_format.specs.declared.header.Header.{Header}
 use Rattle.npy_format.specs.Literals.{Read, symbol_token_at, entries_in, pair_in, pairs_in, literal_in}
 use Rattle.npy_format.specs.RecordLists.{descr_in}
 
--- how deep brackets lie in a value of the dictionary
+-- how deep brackets may be nested in a value of the dictionary
 abbrev pub max_value_depth : ℕ
 max_value_depth = 15
 
--- the pairs of the one dictionary that the tokens are, with nothing behind it
+-- the pairs of the dictionary that the tokens are; nothing may follow it
 abbrev pub dictionary_of : List Token → Result (List Pair) Refusal
 dictionary_of tokens = do
   inside ← ok_or (symbol_token_at 123 tokens) BadHeader
@@ -22,7 +22,7 @@ dictionary_of tokens = do
   _ ← check (nat_eq (length pairs.1) 0) BadHeader
   Ok pairs.0
 
--- the key of the pair is this string
+-- whether a literal is this string
 abbrev pub is_string : List ℕ → Literal → Bool
 is_string bytes (Plain (Text text)) = bytes_eq bytes text
 is_string bytes other = false
@@ -30,6 +30,7 @@ is_string bytes other = false
 abbrev pub is_key : List ℕ → Pair → Bool
 is_key key pair = is_string key pair.key
 
+-- the value of the first pair with this key
 abbrev pub value_under : List ℕ → List Pair → Result Literal Refusal
 value_under key [] = Err BadHeader
 value_under key (pair ∷ pairs) = if is_key key pair then Ok pair.value else value_under key pairs
@@ -38,18 +39,20 @@ abbrev pub truth_of : Literal → Result Bool Refusal
 truth_of (Plain (Truth truth)) = Ok truth
 truth_of other = Err BadHeader
 
--- the integers that values are
+-- the integers that the values are; any other value is refused
 abbrev pub integers_of : List Literal → Result (List ℕ) Refusal
 integers_of [] = Ok []
 integers_of (Plain (Integer n) ∷ values) = integers_of values >>= λ integers. Ok (n ∷ integers)
 integers_of (value ∷ values) = Err BadHeader
 
--- a tuple of integers
+-- the integers of a tuple
 abbrev pub lengths_of : Literal → Result (List ℕ) Refusal
 lengths_of (Row Round values) = integers_of (value_literals values)
 lengths_of other = Err BadHeader
 
--- The three keys, each once: they are the keys of three pairs. What they say is looked at only once all of it has the right form.
+-- There are three pairs, one for each of the three keys. The element type and the shape are checked only after all
+-- three
+-- values are known to have the right form.
 unfoldable pub header_of : List Pair → Result Header Refusal
 header_of pairs = do
   _ ← check (nat_eq (length pairs) 3) BadHeader
@@ -62,16 +65,17 @@ header_of pairs = do
   shape ← shape_of lengths
   Ok (record { descr = descr; fortran = fortran; shape = shape })
 
--- what the text of a header says, or the first refusal
+-- what the text of a header says, or the refusal for the first error in it
 abbrev pub header : List ℕ → Result Header Refusal
 header text = dictionary_of (tokens text) >>= header_of
 
--- entries are read the same in any number of turns from that of the tokens on
+-- Entries are read the same in any number of turns that is at least the number of tokens.
 abbrev pub EntriesAnyTurns : {A : Type 0} → (List Token → Read A) → ℕ → Type 0
 EntriesAnyTurns entry closing = (turns : ℕ) (tokens : List Token) → length tokens ≤ turns → entries_in entry closing turns tokens ≡ entries_in entry closing (length tokens) tokens
 
--- The tokens of a header are what is read in any number of turns from that of its bytes on, and so are the values of each tuple
--- and list and the pairs of each dictionary.
+-- The tokens of a header are the same in any number of turns that is at least the number of its bytes. So are the
+-- values of
+-- each tuple and list and the pairs of each dictionary, if the number of turns is at least the number of tokens.
 abbrev pub HeaderAnyTurns : Type 0
 HeaderAnyTurns =
     ((turns : ℕ) (text : List ℕ) → length text ≤ turns → tokens_in turns text ≡ tokens text)

@@ -1,4 +1,4 @@
--- Literals, and the values of a tuple or a list one by one.
+-- Literals, and the values of a tuple or a list as a list of literals.
 use Rattle.std.specs.Prelude.{List, [], ◌∷◌}
 use Rattle.npy_format.specs.Values as value
 use Rattle.npy_format.specs.Values.{Brackets, ListedValues, no_values, plain_value, row_value}
@@ -17,11 +17,12 @@ value_literals no_values = []
 value_literals (plain_value plain rest) = Plain plain ∷ value_literals rest
 value_literals (row_value brackets inner rest) = Row brackets inner ∷ value_literals rest
 
--- and back
+-- the values `rest` with one literal in front
 abbrev pub listed_value_before : Literal → ListedValues → ListedValues
 listed_value_before (Plain plain) rest = plain_value plain rest
 listed_value_before (Row brackets values) rest = row_value brackets values rest
 
+-- the values that are these literals: the inverse of `value_literals`
 abbrev pub all_listed_values : List Literal → ListedValues
 all_listed_values [] = no_values
 all_listed_values (literal ∷ literals) = listed_value_before literal (all_listed_values literals)

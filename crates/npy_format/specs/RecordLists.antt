@@ -7,14 +7,15 @@ use Rattle.elem_descr.specs.declared.descr.Descr.TheVariants.{Scalar as ScalarDe
 use Rattle.npy_format.specs.Values.{Round, Square, Text}
 use Rattle.npy_format.specs.Listed.{Literal, Plain, Row, value_literals}
 
--- the bytes of padding: V and digits
+-- the number of bytes of padding: `V` and digits
 abbrev pub pad_kind : List ℕ → Result ℕ Refusal
 pad_kind [] = Err DescriptorLeftOut
 pad_kind (b ∷ digits) =
     if nat_eq b 86 && not (is_empty digits) && list_all is_ascii_digit digits then Ok (value_of digits)
     else Err DescriptorLeftOut
 
--- an entry with the name '': an optional mark, V and the number of bytes of padding
+-- the record with padding added, for an entry with the name '': its type is an optional mark, `V` and the number of
+-- bytes
 abbrev pub pad_in : Partial → Literal → Result Partial Refusal
 pad_in p (Plain (Text text)) = pad_kind (marked text).1 >>= widened p
 pad_in p other = Err DescriptorLeftOut
@@ -33,7 +34,7 @@ type_in record_in other = Err DescriptorLeftOut
 abbrev pub Reader : Type 0
 Reader = ℕ → List Literal → Result Structure Refusal
 
--- a record with a field more, right behind those before it
+-- the record with one more field, directly after those before it
 unfoldable pub field_in : Reader → Partial → List ℕ → Literal → Result Partial Refusal
 field_in within p name type = do
   _ ← check (is_legal_name name) DescriptorLeftOut
@@ -41,22 +42,22 @@ field_in within p name type = do
   _ ← checked_name p name
   added p name 1 descr
 
--- a name and a type
+-- the record with an entry added that consists of a name and a type
 abbrev pub named_in : Reader → Partial → List Literal → Result Partial Refusal
 named_in within p (Plain (Text name) ∷ type ∷ []) = if is_empty name then pad_in p type else field_in within p name type
 named_in within p _ = Err DescriptorLeftOut
 
--- an entry: a tuple of a name and a type
+-- the record with an entry added: a tuple of a name and a type
 abbrev pub entry_in : Reader → Partial → Literal → Result Partial Refusal
 entry_in within p (Row Round values) = named_in within p (value_literals values)
 entry_in within p other = Err DescriptorLeftOut
 
--- the entries one after the other
+-- the record with all entries added, in order
 abbrev pub fields_in : Reader → Partial → List Literal → Result Partial Refusal
 fields_in within p [] = Ok p
 fields_in within p (entry ∷ more) = entry_in within p entry >>= λ next. fields_in within next more
 
--- a record in which records lie to this depth, itself counted; nothing in it is aligned
+-- a record that may be this deep, itself included; nothing in it is aligned
 unfoldable pub record_in : ℕ → Reader
 record_in zero leaves entries = Err DescriptorLeftOut
 record_in (suc levels) leaves entries = fields_in (record_in levels) (empty levels leaves) entries >>= closed_record false

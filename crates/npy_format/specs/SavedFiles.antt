@@ -1,9 +1,11 @@
--- What is written of an array, loaded again.
+-- Loading the file of an array.
 use Rattle.std.specs.Prelude.{◌≡◌, ℕ, List, map, Ok}
 use Rattle.npy_format.specs.Words.{Descr, LeafValue, item_size, item_from, offsets_in}
 use Rattle.npy_format.specs.Files.{Loaded, load, file_order}
 
--- a file loads as an array of this element type, this shape and these items, in C order of their indexes, with nothing behind it
+-- the file loads as an array of this element type and this shape, with these items in C order of their indexes, and no
+-- bytes
+-- are left over
 pub record LoadsAs (file : List ℕ) (descr : Descr) (shape : List ℕ) (items : List (List LeafValue)) : Type 0 where
   pub loaded : Loaded
   pub loads : load file ≡ Ok loaded

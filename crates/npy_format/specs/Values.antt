@@ -1,7 +1,9 @@
--- The values of Python's literals, as far as a header needs them.
+-- The values of Python's literals that a header needs.
 use Rattle.std.specs.Prelude.{ℕ, Bool, List}
 
--- a literal that is no tuple and no list: the bytes of a string, an integer, a truth, None, or a dictionary, of which nothing more is wanted
+-- a literal that is neither a tuple nor a list: a string (its bytes), an integer, a truth value, `None`, or a
+-- dictionary,
+-- whose pairs are not kept
 pub data Plain : Type 0 where
   Text : List ℕ → Plain
   Integer : ℕ → Plain
@@ -9,12 +11,12 @@ pub data Plain : Type 0 where
   Nothing : Plain
   Dictionary : Plain
 
--- what stands around values: the brackets of a tuple, or those of a list
+-- the brackets around values: round ones for a tuple, square ones for a list
 pub data Brackets : Type 0 where
   Round : Brackets
   Square : Brackets
 
--- the values of a tuple or a list in their order: each a plain one, or a tuple or a list in its turn, before those after it
+-- The values of a tuple or a list, in order. Each is plain, or again a tuple or a list.
 pub data ListedValues : Type 0 where
   no_values : ListedValues
   plain_value : Plain → ListedValues → ListedValues

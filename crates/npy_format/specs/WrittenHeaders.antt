@@ -1,31 +1,32 @@
--- The header that is written of an array.
+-- Writing the header of an array.
 use Rattle.std.specs.Prelude.{ℕ, zero, suc, ◌+◌, ◌-◌, ◌%◌, Bool, true, false, List, [], ◌∷◌, ◌++◌, length, codes, decimal, replicate, nat_lt, if◌then◌else◌}
 use Rattle.npy_format.specs.Words.{little_bytes, Descr, size, Fields, no_more, scalar_field, record_field, spelling, shape_text}
 use Rattle.elem_descr.specs.declared.descr.Descr.TheVariants.{Scalar as ScalarDescr, Record as RecordDescr}
 use Rattle.npy_format.specs.Files.{magic}
 
--- a string of Python
+-- a Python string
 abbrev pub quoted : List ℕ → List ℕ
 quoted text = codes "'" ++ (text ++ codes "'")
 
--- an entry of a list as far as its type, and the whole
+-- an entry of a list, up to its type
 abbrev pub opened_entry : List ℕ → List ℕ
 opened_entry name = codes "(" ++ (quoted name ++ codes ", ")
 
+-- a whole entry of a list: a name and a type
 abbrev pub entry : List ℕ → List ℕ → List ℕ
 entry name type = opened_entry name ++ (type ++ codes ")")
 
--- the entry of a gap, where there is one
+-- the entry of a gap of this size, if it is not 0
 abbrev pub gap : ℕ → List (List ℕ)
 gap zero = []
 gap (suc n) = entry [] (quoted (codes "|V" ++ decimal (suc n))) ∷ []
 
--- what stands before an entry
+-- the text before an entry: empty for the first entry
 abbrev pub entry_separator : Bool → List ℕ
 entry_separator true = []
 entry_separator false = codes ", "
 
--- entries, of which the first is the first of all or not
+-- entries separated by commas; `first` says whether they begin with the first entry of the list
 abbrev pub separated : Bool → List (List ℕ) → List ℕ
 separated first [] = []
 separated first (text ∷ texts) = entry_separator first ++ (text ++ separated false texts)
@@ -33,7 +34,7 @@ separated first (text ∷ texts) = entry_separator first ++ (text ++ separated f
 abbrev pub in_brackets : List (List ℕ) → List ℕ
 in_brackets texts = codes "[" ++ (separated true texts ++ codes "]")
 
--- the entries of the fields from this byte on, and of the gaps before each and after the last
+-- the entries of the fields from byte `from` on, and of the gaps before each and after the last
 abbrev pub entries : ℕ → Fields → ℕ → List (List ℕ)
 entries from no_more bytes = gap (bytes - from)
 entries from (scalar_field name at scalar rest) bytes = gap (at - from) ++ (entry name (quoted (spelling scalar)) ∷ entries (at + size scalar) rest bytes)
@@ -48,30 +49,30 @@ abbrev pub written_truth : Bool → List ℕ
 written_truth true = codes "True"
 written_truth false = codes "False"
 
--- the dictionary
+-- the dictionary of a header
 abbrev pub written_text : Descr → Bool → List ℕ → List ℕ
 written_text descr fortran shape =
     codes "{'descr': " ++ (written_descr descr
     ++ (codes ", 'fortran_order': " ++ (written_truth fortran
     ++ (codes ", 'shape': " ++ (shape_text shape ++ codes ", }")))))
 
--- the longest text of version 1.0, whose header's length has two bytes
+-- the maximum length of a text in version 1.0, which stores the length of the header in two bytes
 abbrev pub max_short_text : ℕ
 max_short_text = 65525
 
--- the fewest spaces with which `bytes` bytes and a newline fill whole blocks of 64
+-- the smallest number of spaces that pad `bytes` bytes and a newline to a multiple of 64 bytes
 abbrev pub spaces_after : ℕ → ℕ
 spaces_after bytes = (64 - (bytes + 1) % 64) % 64
 
--- the text, spaces and a newline
+-- the text, spaces and a newline, padded to a multiple of 64 bytes together with the `before` bytes in front of it
 abbrev pub padded_text : ℕ → List ℕ → List ℕ
 padded_text before text = text ++ (replicate (spaces_after (before + length text)) 32 ++ codes "\n")
 
--- a header with its length before it, in `width` bytes
+-- a header with its length in front, in `width` bytes
 abbrev pub with_length : ℕ → List ℕ → List ℕ
 with_length width text = little_bytes width (length text) ++ text
 
--- version 1.0, and 2.0 only where the text is too long for it
+-- the header in version 1.0, or in version 2.0 if the text is too long for 1.0
 abbrev pub written_header : List ℕ → List ℕ
 written_header text =
     if nat_lt max_short_text (length text)

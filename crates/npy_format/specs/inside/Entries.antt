@@ -1,4 +1,4 @@
--- What is left behind what is read.
+-- The tokens that remain after reading.
 use Rattle.std.specs.Prelude.{ℕ, List, length, Result, Ok}
 use Rattle.std.specs.Borrow.{Bor}
 use Rattle.std.specs.Option.{ok_or}
@@ -7,26 +7,26 @@ use Rattle.npy_format.specs.Listed.{Literal}
 use Rattle.npy_format.specs.Tokens.{Token, tokens}
 use Rattle.npy_format.specs.Literals.{Read, symbol_token_at, entries_in, if_read}
 
--- the text that a call returns has these tokens, or the call is refused as here
+-- A call returns a text with the expected tokens `there`, or the same refusal.
 abbrev pub Follows : Result (Bor (List ℕ)) Refusal → Result (List Token) Refusal → Type 0
 Follows result there = Answers (λ rest. tokens rest.now) result there
 
--- the tokens behind what is read
+-- the tokens after what is read
 abbrev pub behind : {A : Type 0} → Read A → Result (List Token) Refusal
 behind read = read >>= λ r. Ok r.1
 
--- those behind entries and the symbol that closes them
+-- the tokens after entries and the symbol that closes them
 abbrev pub behind_entries : {A : Type 0} → (List Token → Read A) → ℕ → List Token → Result (List Token) Refusal
 behind_entries entry closing tokens = behind (entries_in entry closing (length tokens) tokens)
 
--- those behind a key and its colon
+-- the tokens after a key and its colon
 abbrev pub behind_key : (List Token → Read Literal) → List Token → Result (List Token) Refusal
 behind_key value tokens = behind (value tokens) >>= λ rest. ok_or (symbol_token_at 58 rest) BadHeader
 
--- those behind a comma, if there is one
+-- the tokens after a comma, if there is one
 abbrev pub behind_comma : List Token → List Token
 behind_comma tokens = if_read (symbol_token_at 44 tokens) (λ rest. rest) tokens
 
--- those behind one entry among others: a comma may follow it
+-- the tokens after one of the entries, and after the comma if one follows it
 abbrev pub behind_entry : {A : Type 0} → (List Token → Read A) → List Token → Result (List Token) Refusal
 behind_entry entry tokens = behind (entry tokens) >>= λ rest. Ok (behind_comma rest)

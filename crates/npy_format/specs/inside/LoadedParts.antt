@@ -1,4 +1,4 @@
--- What is loaded of a file behind the text of its header.
+-- What is loaded from a file, given the text of its header and the bytes after it.
 use Rattle.std.specs.Prelude.{ℕ, List, length, nat_le, Result, Ok}
 use Rattle.npy_format.specs.Words.{Refusal, TooLarge, ◌>>=◌, check, max_bytes}
 use Rattle.npy_format.specs.Headers.{header}

@@ -1,4 +1,4 @@
--- Where in a header its values stand.
+-- Tokens of a header that begin with some of its values.
 use Rattle.std.specs.Prelude.{◌≡◌, ℕ, List, [], ◌∷◌, Option, Some, None, Result, Ok, Err, MatchResult}
 use Rattle.std.specs.Borrow.{Bor}
 use Rattle.npy_format.specs.Words.{Refusal}
@@ -16,27 +16,27 @@ pub record Stands (tokens : List Token) (value : Literal) : Type 0 where
   pub rest : List Token
   pub is : value_in tokens ≡ Ok (value, rest)
 
--- they begin with these entries and the symbol that closes them
+-- the tokens begin with these entries and the symbol that closes them
 pub record StandIn (A : Type 0) (entry : List Token → Read A) (closing : ℕ) (tokens : List Token) (entries : List A) : Type 0 where
   pub turns : ℕ
   pub rest : List Token
   pub is : entries_in entry closing turns tokens ≡ Ok (entries, rest)
 
--- with values
+-- the tokens begin with these values and the symbol that closes them
 abbrev pub HasValues : ℕ → List Token → List Literal → Type 0
 HasValues closing tokens values = StandIn Literal value_in closing tokens values
 
--- with the pairs of a dictionary
+-- the tokens begin with the pairs of a dictionary and its closing brace
 abbrev pub HasPairs : List Token → List Pair → Type 0
 HasPairs tokens pairs = StandIn Pair (pair_in value_in) 125 tokens pairs
 
--- with the integers of a tuple
+-- the tokens begin with the integers of a tuple and its closing parenthesis
 pub record HasLengths (tokens : List Token) (lengths : List ℕ) : Type 0 where
   pub values : List Literal
   pub stand : HasValues 41 tokens values
   pub are : integers_of values ≡ Ok lengths
 
--- the text that a call returns begins with what is there, or the call is refused as here
+-- A call returns a text that begins with what is found in `there`, or the same refusal.
 abbrev pub BeginsWith : {A : Type 0} → (List Token → A → Type 0) → Result (Bor (List ℕ)) Refusal → Result A Refusal → Type 0
 BeginsWith {A} Has result there = MatchResult result (λ text. (found : A) × (there ≡ Ok found) × Has (tokens text.now) found) (λ refusal. there ≡ Err refusal)
 

@@ -1,4 +1,4 @@
--- Tokens as they are read straight off a text.
+-- Tokens as the code reads them from a text.
 use Rattle.std.specs.Prelude.{ℕ, List, ◌∷◌, Option, Some, None, Bool, false, Result, Ok, Err}
 use Rattle.std.specs.Str.{bytes_eq}
 use Rattle.npy_format.specs.Words.{Refusal, BadHeader, DescriptorLeftOut, ◌>>=◌, marked, value_of, Partial, widened}
@@ -15,12 +15,12 @@ token_of scanned.Nothing = Nothing
 token_of (scanned.Symbol b) = Symbol b
 token_of scanned.Stray = Stray
 
--- a string that comes next, and what follows it
+-- the string that comes next, if there is one, and the tokens after it
 abbrev pub string_at : List Token → Option (List ℕ × List Token)
 string_at (Text bytes ∷ rest) = Some (bytes, rest)
 string_at _ = None
 
--- an integer, and what follows it
+-- the integer that comes next, if there is one, and the tokens after it
 abbrev pub integer_at : List Token → Option (ℕ × List Token)
 integer_at (Integer n ∷ rest) = Some (n, rest)
 integer_at _ = None
@@ -29,12 +29,12 @@ abbrev pub truth_at : List Token → Result Bool Refusal
 truth_at (Truth is ∷ rest) = Ok is
 truth_at _ = Err BadHeader
 
--- what comes next is this string
+-- whether this string comes next
 abbrev pub is_string_token : List ℕ → Option (List ℕ × List Token) → Bool
 is_string_token bytes (Some found) = bytes_eq bytes found.0
 is_string_token bytes None = false
 
--- padding, whose type string comes next
+-- the record with padding added, whose type string comes next
 abbrev pub pad_at : Partial → Option (List ℕ × List Token) → Result Partial Refusal
 pad_at p (Some found) = pad_kind (marked found.0).1 >>= widened p
 pad_at p None = Err DescriptorLeftOut

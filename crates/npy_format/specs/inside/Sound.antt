@@ -1,4 +1,4 @@
--- What holds of every element type.
+-- What holds for every element type.
 use Rattle.std.specs.Prelude.{◌≤◌}
 use Rattle.npy_format.specs.Words.{Descr, size, IsLegal}
 use Rattle.elem_descr.specs.declared.descr.Descr.TheVariants.{Scalar as ScalarDescr, Record as RecordDescr}

@@ -1,4 +1,4 @@
--- Items as a file has them, from their bytes.
+-- Items as a file stores them, computed from their bytes in memory.
 use Rattle.std.specs.Prelude.{◌≡◌, ℕ, ◌+◌, ◌-◌, min, List, [], ◌∷◌, ◌++◌, map, replicate, if◌then◌else◌}
 use Rattle.std.specs.List.{flat_map}
 use Rattle.npy_format.specs.Words.{item_at, Descr, Leaf, Scalar, Byte, Int, Bytes, LeafValue, size, decode, item_size, decode_item, encode_item, encode_from, blocks, item_from, fortran_order}
@@ -9,18 +9,18 @@ use Rattle.npy_format.specs.WrittenFiles.{is_fortran, file_of}
 abbrev pub read_leaf : List ℕ → Leaf → LeafValue
 read_leaf item leaf = decode leaf.scalar (item_at leaf.at (size leaf.scalar) item)
 
--- each leaf's value written again, and zeros elsewhere
+-- an item of `bytes` bytes in which the value of each leaf is written again, with zeros elsewhere
 abbrev pub written_item : List Leaf → ℕ → List ℕ → List ℕ
 written_item leaves bytes item = encode_from 0 leaves (map (read_leaf item) leaves) bytes
 
--- the largest byte that a file has for a scalar: a bool is 0 or 1
+-- the largest byte that a file stores for a scalar: a bool is 0 or 1
 abbrev pub limit : Scalar → ℕ
 limit BoolScalar = 1
 limit (Byte signed) = 255
 limit (Int signed width order) = 255
 limit (Bytes n) = 255
 
--- the largest bytes of an item from this one on: padding is 0
+-- the largest values of the bytes of an item, from byte `from` on: padding is 0
 abbrev pub limits_from : ℕ → List Leaf → ℕ → List ℕ
 limits_from from [] bytes = replicate (bytes - from) 0
 limits_from from (leaf ∷ leaves) bytes =
@@ -32,16 +32,16 @@ capped [] limits = []
 capped (byte ∷ bytes) [] = byte ∷ bytes
 capped (byte ∷ bytes) (limit ∷ limits) = min byte limit ∷ capped bytes limits
 
--- from this byte on leaves fill all bytes, and none is a bool: such an item is written as it is
+-- From byte `from` on, leaves fill all bytes, and none is a bool. Such an item is written as it is.
 abbrev pub IsPlain : ℕ → List Leaf → ℕ → Type 0
 IsPlain from [] bytes = from ≡ bytes
 IsPlain from (leaf ∷ leaves) bytes = (leaf.at ≡ from) × (limit leaf.scalar ≡ 255) × IsPlain (from + size leaf.scalar) leaves bytes
 
--- the addresses of items in the order in which a file has them
+-- the addresses of items in the order in which a file stores them
 abbrev pub addresses_in_file : ℕ → List ℕ → List ℕ → List ℕ
 addresses_in_file item shape addresses = if is_fortran item shape addresses then fortran_order shape addresses else addresses
 
--- the items of `width` bytes at these addresses
+-- the bytes of the items of `width` bytes at these addresses
 abbrev pub gathered : ℕ → List ℕ → List ℕ → List ℕ
 gathered width bytes addresses = flat_map (λ address. item_at address width bytes) addresses
 
