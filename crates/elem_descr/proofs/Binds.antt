@@ -1,4 +1,4 @@
--- Steps that may be refused, one after the other.
+-- Consecutive steps that may be refused.
 use Rattle.std.proofs.Common.{◌≡◌, Result, Ok, Err, ap}
 use Rattle.elem_descr.specs.declared.refusal.Refusal.{Refusal}
 use Rattle.elem_descr.specs.Refusals.{◌>>=◌}

@@ -1,4 +1,4 @@
--- The names of fields that are given none are legal.
+-- The default names of fields are legal.
 use Rattle.std.proofs.Common.{◌≡◌, ◌≤◌, ◌<◌, ◌+◌, ◌/◌, ◌%◌, ℕ, ◌++◌, codes, IsTrue, true, arith, ⊎_elim, refl}
 use Rattle.std.specs.Fmt.{decimal}
 use Rattle.std.proofs.lemmas.Fmt.{decimal_digit, decimal_step}

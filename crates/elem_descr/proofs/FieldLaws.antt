@@ -1,4 +1,4 @@
--- The fields of a record, one after the other.
+-- The fields of a record and their leaves, one after another.
 use Rattle.std.proofs.Common.{◌≡◌, ◌≤◌, ◌<◌, ◌+◌, ℕ, zero, suc, List, [], ◌∷◌, ◌++◌, length, map, take, drop, get_or, refl, sym, ap, ◌∙◌, arith}
 use Rattle.std.proofs.lemmas.List.{length-map, get_or_default}
 use Rattle.std.proofs.Math.Seq.{take-append_seam, drop-append-add}
@@ -15,7 +15,7 @@ use Rattle.elem_descr.specs.Items.{item_size, leaves_of, leaves_from, leaves_in,
 use Rattle.elem_descr.specs.ItemLaws.{entry_within, leaf_within, leaves_in_order, length-leaves_from, leaf_count-before, leaves_from-before}
 use Rattle.elem_descr.specs.DescriptorLaws.{field_within, listed-fields_of, some_leaves}
 
--- a field begins no earlier than where those before it end
+-- If leaves are in order from `from` on, each of them begins at `from` or later.
 begins_after : (from : ℕ) (leaves : List Leaf) (bytes k : ℕ) (d : Leaf) → AreInOrder from leaves bytes → k < length leaves → from ≤ (get_or leaves k d).at
 begins_after from [] bytes k d order l = absurd (omega arith)
 begins_after from (leaf ∷ leaves) bytes zero d order l = order.0
@@ -26,14 +26,14 @@ entry_some from [] bytes k d order l = absurd (omega arith)
 entry_some from (leaf ∷ leaves) bytes zero d order l = order.1
 entry_some from (leaf ∷ leaves) bytes (suc k) d order l = entry_some (leaf.at + size leaf.scalar) leaves bytes k d order.2 (omega arith)
 
--- of two fields, the one ends before the other begins
+-- Of two leaves in order, the first ends at or before the offset at which the second begins.
 one_before : (from : ℕ) (leaves : List Leaf) (bytes j k : ℕ) (d : Leaf) → AreInOrder from leaves bytes → j < k → k < length leaves → (get_or leaves j d).at + size (get_or leaves j d).scalar ≤ (get_or leaves k d).at
 one_before from [] bytes j k d order less l = absurd (omega arith)
 one_before from (leaf ∷ leaves) bytes j zero d order less l = absurd (omega arith)
 one_before from (leaf ∷ leaves) bytes zero (suc k) d order less l = begins_after (leaf.at + size leaf.scalar) leaves bytes k d order.2 (omega arith)
 one_before from (leaf ∷ leaves) bytes (suc j) (suc k) d order less l = one_before (leaf.at + size leaf.scalar) leaves bytes j k d order.2 (omega arith) (omega arith)
 
--- and begins below their end
+-- If leaves are in order, each of them begins before `bytes`.
 pub leaf_begins : (from : ℕ) (leaves : List Leaf) (bytes k : ℕ) (leaf : Leaf) → AreInOrder from leaves bytes → k < length leaves → leaf ≡ get_or leaves k leaf → leaf.at < bytes
 leaf_begins from leaves bytes k leaf order l e =
     let some : 1 ≤ size leaf.scalar = rw (← e) at (entry_some from leaves bytes k leaf order l) in
@@ -54,7 +54,7 @@ scalar_apart descr scalar is some = rw is (in_order_apart (ScalarDescr scalar) (
 pub record_apart : (descr : Descr) (structure : Structure) → descr ≡ RecordDescr structure → IsLegal structure → LeavesInOrder descr
 record_apart descr structure is legal = rw is (in_order_apart (RecordDescr structure) (leaves_in_order structure legal))
 
--- ---- fields one by one
+-- ---- the list of the fields
 
 pub fields_of-listed : (fields : List Field) → fields_of (listed fields) ≡ fields
 fields_of-listed [] = refl
@@ -68,7 +68,7 @@ pub leaves_in-listed : (fields : List Field) → leaves_in fields ≡ leaf_count
 leaves_in-listed [] = refl
 leaves_in-listed (field ∷ fields) = omega (arith, leaf_count-before field.name field.at field.descr (listed fields), leaves_in-listed fields)
 
--- ---- what is kept of a record
+-- ---- the invariant of a record
 
 pub kept_in_order : (size : ℕ) (fields : List Field) (leaves : List Leaf) → IsRecord size fields leaves → AreInOrder 0 leaves size
 kept_in_order size fields leaves h = rw h.held (leaves_in_order (record { size = size; fields = listed fields }) h.legal)
@@ -82,7 +82,7 @@ kept_some size fields leaves h = omega (arith, kept_count size fields leaves h, 
 pub kept_few : (size : ℕ) (fields : List Field) (leaves : List Leaf) → IsRecord size fields leaves → length leaves ≤ 2048
 kept_few size fields leaves h = omega (arith, kept_count size fields leaves h, h.legal.few)
 
--- ---- the fields that are left
+-- ---- the remaining fields
 
 pub leaves_before : (field : Field) (fields : List Field) → leaves_from 0 (listed (field ∷ fields)) ≡ map (moved_leaf field.at) (leaves_of field.descr) ++ leaves_from 0 (listed fields)
 leaves_before field fields =
@@ -94,7 +94,7 @@ leaves_in-take fields zero = omega arith
 leaves_in-take [] (suc k) = omega arith
 leaves_in-take (field ∷ fields) (suc k) = omega (arith, leaves_in-take fields k)
 
--- the leaves of one of the fields, among all
+-- The leaves of a field and of those before it are at most the leaves of all fields.
 pub leaves_of_one : (fields : List Field) (k : ℕ) (field : Field) → k < length fields → field ≡ get_or fields k field → leaves_in (take k fields) + length (leaves_of field.descr) ≤ leaves_in fields
 leaves_of_one [] k field l is = absurd (omega arith)
 leaves_of_one (first ∷ fields) zero field l is = rw is (omega arith)
@@ -113,7 +113,7 @@ leaves_at_one (first ∷ fields) (suc k) field l is =
     let many = length-map (leaves_of first.descr) (moved_leaf first.at) in
     rw (all, ← many, drop-append-add front (leaves_from 0 (listed fields)) (leaves_in (take k fields))) (leaves_at_one fields k field (omega arith) is)
 
--- the leaves of a descriptor that has fields
+-- If a descriptor has fields, its leaves are those of the fields.
 pub leaves_of_fields : (descr : Descr) (k : ℕ) → k < length (fields descr) → leaves_of descr ≡ leaves_from 0 (listed (fields descr))
 leaves_of_fields (ScalarDescr scalar) k l = absurd (omega arith)
 leaves_of_fields (RecordDescr structure) k l = ap (leaves_from 0) (sym (listed-fields_of structure.fields))

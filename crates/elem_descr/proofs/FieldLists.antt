@@ -1,4 +1,4 @@
--- A list of fields: one more at its end, and one after the other from its begin.
+-- Lists of fields: appending a field keeps their properties.
 use Rattle.std.proofs.Common.{◌≡◌, ◌≤◌, ◌+◌, ℕ, List, [], ◌∷◌, ◌++◌, length, max, refl, arith}
 use Rattle.elem_descr.specs.declared.descr.Field.{Field}
 use Rattle.elem_descr.specs.declared.descr.Descr.{Descr}
@@ -11,13 +11,13 @@ use Rattle.elem_descr.specs.RecordBuilding.{IsShallow}
 use Rattle.elem_descr.specs.ItemLaws.{leaf_count-before}
 use Rattle.elem_descr.specs.DescriptorLaws.{some_depth}
 
--- fields in order, with a later end
+-- Fields that are in order up to `bytes` are also in order up to a later end.
 InOrder-later : (from : ℕ) (fields : Fields) (bytes more : ℕ) → InOrder from fields bytes → bytes ≤ more → InOrder from fields more
 InOrder-later from no_more bytes more h l = omega arith
 InOrder-later from (scalar_field name at scalar rest) bytes more h l = (h.0, h.1, InOrder-later (at + size scalar) rest bytes more h.2 l)
 InOrder-later from (record_field name at size inner rest) bytes more h l = (h.0, h.1, h.2, InOrder-later (at + size) rest bytes more h.3 l)
 
--- what is so of a field that comes first, and of those behind it
+-- what must hold for a field at `at`, if fields are in order from `from` on and it is the first of them
 abbrev Begins : ℕ → ℕ → Descr → Type 0
 Begins from at (ScalarDescr scalar) = (from ≤ at) × (1 ≤ size scalar)
 Begins from at (RecordDescr structure) = (from ≤ at) × (1 ≤ structure.size) × InOrder 0 structure.fields structure.size
@@ -30,7 +30,7 @@ InOrder-begins : (from : ℕ) (name : List ℕ) (at : ℕ) (descr : Descr) (rest
 InOrder-begins from name at (ScalarDescr scalar) rest bytes h = ((h.0, h.1), h.2)
 InOrder-begins from name at (RecordDescr structure) rest bytes h = ((h.0, h.1, h.2), h.3)
 
--- a further field
+-- If fields are in order, they still are after a field that begins at their end or later is appended.
 InOrder-push : (from : ℕ) (fields : List Field) (bytes : ℕ) (field : Field) → InOrder from (listed fields) bytes → Begins bytes field.at field.descr → InOrder from (listed (fields ++ field ∷ [])) (field.at + item_size field.descr)
 InOrder-push from [] bytes field h b = in_order_before from field.name field.at field.descr no_more (field.at + item_size field.descr) (earlier from bytes field.at field.descr h b) (omega arith)
   where
@@ -44,7 +44,7 @@ InOrder-push from (first ∷ fields) bytes field h b =
 pub InOrder-ends : (from : ℕ) (fields : List Field) (bytes more : ℕ) → InOrder from (listed fields) bytes → bytes ≤ more → InOrder from (listed fields) more
 InOrder-ends from fields bytes more h l = InOrder-later from (listed fields) bytes more h l
 
--- a field of a record that has room for so many levels
+-- A field of a record that allows `levels` levels meets these conditions.
 begins_legal : (levels bytes at : ℕ) (descr : Descr) → IsShallow levels descr → bytes ≤ at → 1 ≤ item_size descr → Begins bytes at descr
 begins_legal levels bytes at (ScalarDescr scalar) h l some = (l, some)
 begins_legal levels bytes at (RecordDescr structure) h l some = (l, some, h.0.in_order)
@@ -69,7 +69,7 @@ within_push levels [] field h legal = within_before levels field.name field.at f
 within_push levels (first ∷ fields) field h legal =
     within_split first.name first.at first.descr (listed fields) (listed (fields ++ field ∷ [])) h (within_push levels fields field (within_behind first.name first.at first.descr (listed fields) h) legal)
 
--- the depth of a field in a record
+-- the depth of a record that has only this field
 abbrev depth_at : Descr → ℕ
 depth_at (ScalarDescr scalar) = 1
 depth_at (RecordDescr structure) = 1 + depth structure.fields

@@ -1,4 +1,4 @@
--- The longest front of a list whose elements pass a test.
+-- The longest prefix of a list whose elements pass a test.
 use Rattle.std.proofs.Common.{◌≡◌, ◌+◌, ℕ, zero, suc, Bool, true, false, List, [], ◌∷◌, take, cond, refl, IsTrue, arith}
 use Rattle.std.specs.List.{list_all, prefix_len}
 use Rattle.std.proofs.lemmas.Bool.Decides.{nat_tests}

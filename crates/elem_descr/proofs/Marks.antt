@@ -1,4 +1,4 @@
--- The blanks and marks at the front of a text, one after the other.
+-- The blanks and marks at the front of a text, one by one.
 use Rattle.std.proofs.Common.{◌≡◌, ◌<◌, ◌+◌, ℕ, List, length, drop, get_or, Some, None, refl, add-one, drop-cons}
 use Rattle.elem_descr.specs.declared.format_text.mark.Mark.{Mark}
 use Rattle.elem_descr.specs.inside.Turns.{after, marked}

@@ -1,4 +1,4 @@
--- What stays so of a record as fields and padding are added to it.
+-- What stays true for a record being built when fields and padding are added to it.
 use Rattle.std.proofs.Common.{◌≡◌, ◌≤◌, ◌<◌, ◌+◌, ℕ, Bool, true, false, List, [], ◌∷◌, ◌++◌, length, refl, ap, IsTrue, arith, length-append, ◌||◌}
 use Rattle.std.specs.List.{IsDistinct, list_all, AllByRecursion}
 use Rattle.std.specs.Str.{bytes_eq}
@@ -52,7 +52,7 @@ distinct_push (first ∷ fields) field h free =
     or_false true b e = let no : ⊥ = cc in absurd no
     or_false false b e = (refl, e)
 
--- so many bytes of padding more
+-- `n` more bytes of padding
 pub widened_partial : (p : Partial) (n : ℕ) → IsPartial p → p.size + n ≤ 65536 → IsPartial (record { size = p.size + n; alignment = p.alignment; leaves = p.leaves; levels = p.levels; fields = p.fields })
 widened_partial p n h small =
     record {
@@ -99,7 +99,7 @@ partial_push p field aligned h may a =
 named_all : (fields back : List Field) → back ≡ fields → 1 ≤ length fields → length fields ≤ 64 → IsTrue (list_all is_legal_name (names fields)) → IsDistinct bytes_eq (names fields) → (1 ≤ length back) × (length back ≤ 64) × IsTrue (list_all is_legal_name (names back)) × IsDistinct bytes_eq (names back)
 named_all fields back e some few named distinct = rw e (some, few, named, distinct)
 
--- a record that is read
+-- The complete record is legal.
 pub closed_legal : (p : Partial) (bytes : ℕ) → IsPartial p → 1 ≤ length p.fields → p.size ≤ bytes → bytes ≤ 65536 → IsLegal (record { size = bytes; fields = listed p.fields })
 closed_legal p bytes h some within small =
     let all = named_all p.fields (fields_of (listed p.fields)) (fields_of-listed p.fields) some h.few h.named h.distinct in

@@ -1,4 +1,4 @@
--- The member at the front of a text, by its pieces and by its bytes.
+-- The member at the front of a text is the same by its pieces and by its bytes.
 use Rattle.std.proofs.Common.{◌≡◌, ◌≤◌, ◌+◌, inl, inr, ℕ, zero, suc, Bool, true, false, ◌&&◌, List, [], ◌∷◌, ◌++◌, take, drop, codes, Option, Some, None, Result, Ok, Err, cond, if◌then◌else◌, refl, sym, ap, subst, ◌∙◌, arith}
 use Rattle.std.specs.Prelude.{unwrap_or}
 use Rattle.std.specs.Option.{option_map}
@@ -34,7 +34,7 @@ bind_bind (Err e) f g = refl
 pub one_of_one : (k b : ℕ) → is_one_of (k ∷ []) b ≡ true → b ≡ k
 one_of_one k b e = grind (arith, nat_tests)
 
--- what is so of each byte that is a mark or a blank
+-- What holds for the blank and for each mark, holds for every byte that is one of them.
 pub sign_cases : (P : ℕ → Mark → Type 0) (mark next : Mark) (b : ℕ) → after mark b ≡ Some next → P 32 mark → P 64 Aligned → P 94 Native → P 60 LittleMark → P 61 LittleMark → P 62 BigMark → P 33 BigMark → P b next
 sign_cases P mark next b e p32 p64 p94 p60 p61 p62 p33 =
     by_byte 32 mark p32 (λ e. e) (λ n32.
@@ -58,7 +58,7 @@ sign_cases P mark next b e p32 p64 p94 p60 p61 p62 p33 =
     none : (b ≡ 32 → ⊥) → (b ≡ 64 → ⊥) → (b ≡ 94 → ⊥) → (b ≡ 60 → ⊥) → (b ≡ 61 → ⊥) → (b ≡ 62 → ⊥) → (b ≡ 33 → ⊥) → ⊥
     none n32 n64 n94 n60 n61 n62 n33 = grind (arith, nat_tests)
 
--- and of each digit
+-- What holds for each digit, holds for every byte that is a digit.
 digit_cases : (P : ℕ → Type 0) (d : ℕ) → is_ascii_digit d ≡ true → P 48 → P 49 → P 50 → P 51 → P 52 → P 53 → P 54 → P 55 → P 56 → P 57 → P d
 digit_cases P d e p0 p1 p2 p3 p4 p5 p6 p7 p8 p9 =
     by_digit 48 p0 (λ n0. by_digit 49 p1 (λ n1. by_digit 50 p2 (λ n2. by_digit 51 p3 (λ n3. by_digit 52 p4 (λ n4. by_digit 53 p5 (λ n5. by_digit 54 p6 (λ n6. by_digit 55 p7 (λ n7. by_digit 56 p8 (λ n8. by_digit 57 p9 (λ n9. absurd (omega (arith, range d e))))))))))))
@@ -82,7 +82,7 @@ digit_part : (mark : Mark) (digits : List ℕ) (d : ℕ) → is_ascii_digit d �
 digit_part mark [] d e = digit_cases (λ d. part_of mark (letter [] d nothing) ≡ Err BadDescriptor) d e refl refl refl refl refl refl refl refl refl refl
 digit_part mark (c ∷ digits) d e = part_counted mark c digits d nothing ∙ ap (λ r. r >>= λ it. Ok (member it nothing)) (lettered_digit mark (c ∷ digits) d e)
 
--- a piece without them, that is no mark, no blank and no closing brace
+-- a piece without digits that is not a mark, a blank or a closing brace
 part_single : (mark : Mark) (b : ℕ) (behind : Behind) → after mark b ≡ None → is_one_of (125 ∷ []) b ≡ false → part_of mark (letter [] b behind) ≡ (lettered mark [] b >>= λ it. Ok (member it behind))
 part_single mark b nothing unmarked unclosed =
     let plain = by_blank (is_one_of (32 ∷ []) b) (mark_meant b) unmarked in
@@ -94,7 +94,7 @@ part_single mark b nothing unmarked unclosed =
 part_single mark b (between_colons bytes) unmarked unclosed = rw unclosed refl
 part_single mark b lone_colon unmarked unclosed = rw unclosed refl
 
--- what a list of pieces begins with, read under a mark
+-- how reading goes on, given the meaning of the first piece and the pieces after it
 abbrev pub Then : Type 0
 Then = PieceKind → List Piece → Result Descr Refusal
 
@@ -102,7 +102,7 @@ abbrev pub front : Mark → Then → List Piece → Result Descr Refusal
 front mark later [] = Err BadDescriptor
 front mark later (piece ∷ more) = part_of mark piece >>= λ part. later part more
 
--- what a member that is read from a text gives, and what stands behind it
+-- how reading goes on after a member that is read from a text, if `rest` follows it
 abbrev pub met : Then → Member → List ℕ → Result Descr Refusal
 met later (Value scalar) rest = later (member (Value scalar) (behind rest).0) (pieces (behind rest).1)
 met later (Pad n) rest = later (member (Pad n) (behind rest).0) (pieces (behind rest).1)
@@ -111,7 +111,7 @@ met later Opened rest = later (member Opened nothing) (pieces (drop 1 rest))
 abbrev pub meant : Then → Member × List ℕ → Result Descr Refusal
 meant later m = met later m.0 m.1
 
--- a letter is never the begin of a record
+-- A letter never begins a record.
 lettered_met : (mark : Mark) (later : Then) (digits : List ℕ) (b : ℕ) (rest : List ℕ) → ((lettered mark digits b >>= λ it. Ok (member it (behind rest).0)) >>= λ part. later part (pieces (behind rest).1)) ≡ ((lettered mark digits b >>= λ it. Ok (it, rest)) >>= meant later)
 lettered_met mark later digits b rest = by_number (number_letter mark b)
   where
@@ -143,7 +143,7 @@ lettered_met mark later digits b rest = by_number (number_letter mark b)
 
 -- ---- a member at the front
 
--- neither a mark nor a closing brace stands at the front
+-- the text does not begin with a blank, a mark or a closing brace
 abbrev pub Plain : Mark → List ℕ → Type 0
 Plain mark [] = Unit {0}
 Plain mark (b ∷ rest) = (after mark b ≡ None) × (is_one_of (125 ∷ []) b ≡ false)

@@ -1,4 +1,4 @@
--- The pieces of a text that goes on after its first byte.
+-- The pieces of a text, from its first byte and the pieces of the rest.
 use Rattle.std.proofs.Common.{◌&&◌, ◌≡◌, ℕ, Bool, true, false, not, List, [], ◌∷◌, ◌++◌, take, drop, Option, Some, None, Result, Ok, Err, if◌then◌else◌, refl, sym, ap, ◌∙◌, arith}
 use Rattle.std.specs.Char.{is_ascii_digit}
 use Rattle.std.specs.List.{list_all, prefix_len}
@@ -14,17 +14,17 @@ use Rattle.elem_descr.specs.FormatPieces.{Behind, nothing, between_colons, lone_
 use Rattle.elem_descr.specs.inside.Turns.{is_opened, name_at}
 use Rattle.elem_descr.proofs.Fronts.{one_more, some_left}
 
--- a name up to its colon, and what follows that
+-- the name up to the next colon, and the text after the colon, if there is one
 abbrev pub name_end : List ℕ → Option (List ℕ × List ℕ)
 name_end [] = None
 name_end (b ∷ text) = if is_colon b then Some ([], text) else option_map (λ r. (b ∷ r.0, r.1)) (name_end text)
 
--- what stands behind a letter that a colon follows, and what follows that
+-- what follows a letter if a colon comes next, and the remaining text
 abbrev pub behind_colon : Option (List ℕ × List ℕ) → Behind × List ℕ
 behind_colon None = (lone_colon, [])
 behind_colon (Some r) = (between_colons r.0, r.1)
 
--- what stands behind a letter that a text follows, and what follows that
+-- what follows a letter if a text comes next, and the remaining text
 abbrev pub behind : List ℕ → Behind × List ℕ
 behind [] = (nothing, [])
 behind (b ∷ text) = if is_colon b then behind_colon (name_end text) else (nothing, b ∷ text)
@@ -63,7 +63,7 @@ name_at-ended text =
 
 -- ---- colons
 
--- a text that is cut at the end of a name
+-- a text cut at the end of a name
 abbrev cut_of : List ℕ → Option (List ℕ × List ℕ) → List ℕ × List (List ℕ)
 cut_of text None = (text, [])
 cut_of text (Some r) = (r.0, (cut_at_colons r.1).0 ∷ (cut_at_colons r.1).1)
@@ -80,7 +80,7 @@ cut_ends (b ∷ text) = by_first (is_colon b) refl (cut_ends text)
     by_first true e later = rw e refl
     by_first false e later = rw e (ap (λ (cut : List ℕ × List (List ℕ)). (b ∷ cut.0, cut.1)) later ∙ cut_grows b text (name_end text))
 
--- a colon, and the name behind it
+-- a colon, and the name after it
 pub pieces-colon : (b : ℕ) (text : List ℕ) → is_colon b ≡ true → pieces (b ∷ text) ≡ stray (behind_colon (name_end text)).0 ∷ pieces (behind_colon (name_end text)).1
 pieces-colon b text e = rw e (ap (λ (cut : List ℕ × List (List ℕ)). pieces_between [] (cut.0 ∷ cut.1)) (cut_ends text) ∙ by_end (name_end text))
   where
@@ -97,7 +97,7 @@ pieces-byte b text e = rw e (onto (cut_at_colons text).0 (cut_at_colons text).1)
     onto bytes (part ∷ []) = refl
     onto bytes (part ∷ (next ∷ more)) = refl
 
--- ---- a letter and what stands behind it
+-- ---- a letter and what follows it
 
 digit_behind : (b d : ℕ) (more : List Piece) → letter_onto b (digit_onto d more) ≡ letter [] b nothing ∷ digit_onto d more
 digit_behind b d [] = refl
@@ -186,7 +186,7 @@ pieces-digits_opening (d ∷ digits) text more all is =
     let h = and_parts (is_ascii_digit d) (list_all is_ascii_digit digits) all in
     pieces-digit d (digits ++ text) h.0 ∙ ap (digit_onto d) (pieces-digits_opening digits text more h.1 is)
 
--- digits that count nothing
+-- pieces before which a digit counts nothing
 abbrev pub CountsNothing : List Piece → Type 0
 CountsNothing more = (d : ℕ) → digit_onto d more ≡ letter [] d nothing ∷ more
 
@@ -206,7 +206,7 @@ last_digit d (e ∷ digits) text all nothing_counted =
     let later = last_digit e digits text h.1 nothing_counted in
     record { digits = d ∷ later.digits; last = later.last; more = later.more; digit = later.digit; is = pieces-digit d (e ∷ (digits ++ text)) h.0 ∙ ap (digit_onto d) later.is }
 
--- ---- a byte that is no colon begins a piece
+-- ---- a byte other than a colon begins a piece
 
 abbrev First : List Piece → Type 0
 First some = (piece : Piece) × (more : List Piece) × (some ≡ piece ∷ more)

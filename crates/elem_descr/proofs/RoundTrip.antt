@@ -1,4 +1,4 @@
--- What is written as a format text reads as the same descriptor.
+-- A descriptor that is written as a format text is read back as the same descriptor.
 use Rattle.std.proofs.Common.{◌≡◌, ◌≤◌, ◌<◌, ◌+◌, ◌-◌, ℕ, zero, suc, true, false, List, [], ◌∷◌, ◌++◌, length, None, Result, Ok, refl, ap, subst, sym, ◌∙◌, arith, append_assoc, length-append, add-zero}
 use Rattle.std.specs.Char.{is_ascii_digit}
 use Rattle.std.specs.Fmt.{decimal}
@@ -52,7 +52,7 @@ packed_body Native = refl
 packed_body LittleMark = refl
 packed_body BigMark = refl
 
--- what may follow the fields so far
+-- what must hold for a field that follows the fields so far
 record MayGrow (leaves from : ℕ) (done : List Field) (name : List ℕ) (descr : Descr) : Type 0 where
   some : 1 ≤ item_size descr
   small : from + item_size descr ≤ 65536
@@ -61,7 +61,7 @@ record MayGrow (leaves from : ℕ) (done : List Field) (name : List ℕ) (descr 
   few : length done < 64
   counted : leaves + length (leaves_of descr) ≤ 2048
 
--- one scalar is one turn
+-- a scalar is read in one turn
 reads_field : (within : Reader) (levels leaves from : ℕ) (done : List Field) (name : List ℕ) (scalar : Scalar) (rest : List ℕ) → MayGrow leaves from done name (ScalarDescr scalar) → next_field within (mark_of scalar) (packed levels leaves from done) (written_count scalar ++ (written_letter scalar ++ (58 ∷ (name ++ 58 ∷ rest)))) ≡ Ok (grown levels leaves from done name (ScalarDescr scalar), mark_of scalar, rest)
 unfolding next_field scalar_in
 reads_field within levels leaves from done name scalar rest may =
@@ -71,7 +71,7 @@ reads_field within levels leaves from done name scalar rest may =
     let added = added_ok levels leaves from done name (aligned_to (mark_of scalar) (own_alignment scalar)) (ScalarDescr scalar) (unaligned scalar) may.counted may.small in
     after_ok _ _ _ member ∙ after_ok _ _ _ called ∙ after_ok _ _ _ allowed ∙ after_ok _ _ _ added
 
--- so is a record
+-- a record within is read in one turn
 reads_body : (within : Reader) (mark later : Mark) (levels leaves from : ℕ) (done : List Field) (name : List ℕ) (structure : Structure) (text rest : List ℕ) → MayGrow leaves from done name (RecordDescr structure) → within mark leaves text ≡ Ok (record { whole = structure; alignment = 1; mark = later }, 58 ∷ (name ++ 58 ∷ rest)) → next_field within mark (packed levels leaves from done) (84 ∷ (123 ∷ text)) ≡ Ok (grown levels leaves from done name (RecordDescr structure), later, rest)
 unfolding next_field body_in
 reads_body within mark later levels leaves from done name structure text rest may body =
@@ -80,13 +80,13 @@ reads_body within mark later levels leaves from done name structure text rest ma
     let added = added_ok levels leaves from done name (aligned_to mark 1) (RecordDescr structure) (packed_body mark) may.counted may.small in
     after_ok _ _ _ body ∙ after_ok _ _ _ called ∙ after_ok _ _ _ allowed ∙ after_ok _ _ _ added
 
--- and a gap
+-- padding is read in one turn
 reads_gap : (within : Reader) (mark : Mark) (n levels leaves from : ℕ) (done : List Field) (rest : List ℕ) → from + n ≤ 65536 → is_named rest ≡ false → next_field within mark (packed levels leaves from done) (decimal n ++ 120 ∷ rest) ≡ Ok (packed levels leaves (from + n) done, mark, rest)
 unfolding next_field pad_in widened
 reads_gap within mark n levels leaves from done rest small unnamed =
     after_ok _ _ _ (reads_pad mark n rest (omega arith)) ∙ rw (le-leb (from + n) 65536 small, unnamed) refl
 
--- what the members of a text read as, in turns enough for its bytes
+-- the members of a text are read as `r`, in any number of turns that is at least the number of its bytes
 abbrev Reads : Reader → Mark → Partial → List ℕ → Body × List ℕ → Type 0
 Reads within mark p text r = (turns : ℕ) → length text ≤ turns → members within turns mark p text ≡ Ok r
 
@@ -131,7 +131,7 @@ no_brace_scalar (Int false Four order) rest some small = refl
 no_brace_scalar (Int false Eight order) rest some small = refl
 no_brace_scalar (Bytes n) rest some small = no_brace_digits (decimal n) (115 ∷ rest) (digits-decimal n (omega arith)) (decimal_nonempty n (omega arith))
 
--- padding, where there is some
+-- padding, if there is any
 reads_padding : (within : Reader) (gap levels leaves from : ℕ) (mark : Mark) (done : List Field) (rest : List ℕ) (r : Body × List ℕ) → from + gap ≤ 65536 → is_named rest ≡ false → Reads within mark (packed levels leaves (from + gap) done) rest r → Reads within mark (packed levels leaves from done) (written_pad gap ++ rest) r
 reads_padding within zero levels leaves from mark done rest r small unnamed more = rw (add-zero from) at more
 reads_padding within (suc n) levels leaves from mark done rest r small unnamed more =
@@ -176,13 +176,13 @@ unnamed_scalar (Int signed width Little) rest = refl
 unnamed_scalar (Int signed width Big) rest = refl
 unnamed_scalar (Bytes n) rest = refl
 
--- the mark in force behind fields
+-- the current mark after fields
 abbrev mark_behind : Mark → Fields → Mark
 mark_behind mark no_more = mark
 mark_behind mark (scalar_field name at scalar rest) = mark_behind (mark_of scalar) rest
 mark_behind mark (record_field name at size inner rest) = mark_behind (mark_behind mark inner) rest
 
--- the fields that are left, after those that are done
+-- what must hold for the remaining fields, after those that are done
 record MayRead (levels leaves from bytes : ℕ) (done : List Field) (fields : Fields) : Type 0 where
   order : InOrder from fields bytes
   small : bytes ≤ 65536
@@ -197,7 +197,7 @@ record MayRead (levels leaves from bytes : ℕ) (done : List Field) (fields : Fi
 four : (a b c d e : List ℕ) → (a ++ (b ++ (c ++ d))) ++ e ≡ a ++ (b ++ (c ++ (d ++ e)))
 four a b c d e = simp append_assoc
 
--- a field that comes next may follow
+-- the next field meets the conditions to follow
 next_grows : (levels leaves from bytes at : ℕ) (done : List Field) (name : List ℕ) (descr : Descr) (rest : List Field) → 1 ≤ item_size descr → at + item_size descr ≤ 65536 → is_legal_name name ≡ true → length done + (1 + length rest) ≤ 64 → IsDistinct bytes_eq (names (done ++ field_of name at descr ∷ rest)) → leaves + length (leaves_of descr) ≤ 2048 → MayGrow leaves at done name descr
 next_grows levels leaves from bytes at done name descr rest some small legal few distinct counted =
     record { some = some; small = small; legal = legal; new = not_taken done rest (field_of name at descr) distinct; few = omega arith; counted = counted }
@@ -252,7 +252,7 @@ inside_record levels leaves from bytes at done name size inner rest may =
       counted = omega (arith, may.counted);
     }
 
--- a record that is read from its first member on
+-- a record, read from its first member on
 reads_inner : (levels : ℕ) (mark later : Mark) (leaves : ℕ) (text rest : List ℕ) (structure : Structure) → Reads (record_within levels) mark (packed levels leaves 0 []) text (record { whole = structure; alignment = 1; mark = later }, rest) → record_within (suc levels) mark leaves text ≡ Ok (record { whole = structure; alignment = 1; mark = later }, rest)
 unfolding record_within
 reads_inner levels mark later leaves text rest structure reads = reads (length text) (omega arith)
@@ -260,7 +260,7 @@ reads_inner levels mark later leaves text rest structure reads = reads (length t
 abbrev body_of : ℕ → List Field → Mark → Body
 body_of bytes fields mark = record { whole = record { size = bytes; fields = listed fields }; alignment = 1; mark = mark }
 
--- the fields that are left, one after the other
+-- the remaining fields, one after another
 reads_fields : (fields : Fields) (levels : ℕ) (mark : Mark) (leaves from bytes : ℕ) (done : List Field) (rest : List ℕ) → MayRead levels leaves from bytes done fields → Reads (record_within levels) mark (packed levels leaves from done) (written_fields from fields bytes ++ 125 ∷ rest) (body_of bytes (done ++ fields_of fields) (mark_behind mark fields), rest)
 reads_fields no_more levels mark leaves from bytes done rest may =
     let whole : from + (bytes - from) ≡ bytes = omega (arith, may.order) in
@@ -302,7 +302,7 @@ reads_fields (record_field name at size inner more) (suc levels) mark leaves fro
     let Goal : List ℕ → Type 0 = λ t. Reads (record_within (suc levels)) mark (packed (suc levels) leaves from done) t result in
     subst Goal (sym text) (reads_padding (record_within (suc levels)) (at - from) (suc levels) leaves from mark done (braced (written_fields 0 inner size) ++ (written_name name ++ tail)) result (omega (arith, may.small)) refl (rw gap one))
 
--- a record alone
+-- a record that is the whole text
 reads_record : (s : Structure) → IsLegal s → format_in_turns (written_format (RecordDescr s)) ≡ Ok (RecordDescr s)
 unfolding record_alone nothing_follows
 reads_record s h =
@@ -333,7 +333,7 @@ reads_scalar_alone scalar some small =
     let text : written_scalar scalar ≡ written_mark scalar ++ (written_count scalar ++ (written_letter scalar ++ [])) = simp (append_assoc, append-nil) in
     ap format_in_turns text ∙ ap unmarked_format (after_letter Aligned scalar [] some small) ∙ after_ok _ _ _ (reads_scalar scalar [] some small)
 
--- a descriptor
+-- a descriptor that is a scalar
 pub reads_scalar_back : (descr : Descr) (scalar : Scalar) → descr ≡ ScalarDescr scalar → 1 ≤ size scalar → size scalar ≤ 65536 → format (written_format descr) ≡ Ok descr
 reads_scalar_back descr scalar is some small = same_format (written_format descr) ∙ rw is (reads_scalar_alone scalar some small)
 

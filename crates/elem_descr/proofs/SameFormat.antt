@@ -1,4 +1,4 @@
--- A text means the same by its pieces as it does where its members are read in turns.
+-- A text means the same by its pieces as by its members, read in turns.
 use Rattle.std.proofs.Common.{◌≡◌, ℕ, Bool, true, false, not, ◌&&◌, List, [], ◌∷◌, length, take, drop, inl, inr, Option, Some, None, Result, Ok, Err, cond, is_some, unwrap_or, nat_le, if◌then◌else◌, refl, sym, ap, subst, ◌∙◌, arith}
 use Rattle.std.specs.Prelude.{find}
 use Rattle.std.specs.Char.{is_ascii_digit}
@@ -26,9 +26,9 @@ use Rattle.elem_descr.proofs.PieceMembers.{bind_bind, one_of_one, sign_cases, Th
 use Rattle.elem_descr.proofs.SameMembers.{marked_none, Unmarked, unmarked, sign_letter, marks_begun, marks_beyond, marks_read, behind_bare, unnamed_same, members_same}
 use Rattle.elem_descr.specs.RefusalLaws.{bind_same}
 
--- ---- what follows a whole descriptor
+-- ---- what follows a complete descriptor
 
--- which letters are numbers is the same under each mark
+-- two tables of letters have the same letters; under every mark, the same letters mean bools and integers
 abbrev SameKeys : List (List ℕ × Scalar) → List (List ℕ × Scalar) → Type 0
 SameKeys [] [] = Unit {0}
 SameKeys [] (y ∷ ys) = ⊥
@@ -50,7 +50,7 @@ found_same b (x ∷ xs) (y ∷ ys) same = by_key (is_one_of x.0 b) (is_one_of y.
 numbers_same : (mark other : Mark) (b : ℕ) → is_some (number_letter mark b) ≡ is_some (number_letter other b)
 numbers_same mark other b = found_same b (letters mark) (letters other) (refl, (refl, (refl, (refl, (refl, (refl, (refl, (refl, (refl, (refl, (refl, tt)))))))))))
 
--- so a fault in a member is the same
+-- A second member is unsupported. If it is refused for an error of its own, the refusal is the same under every mark.
 abbrev left_out : {X : Type 0} → X → Result Descr Refusal
 left_out x = Err DescriptorLeftOut
 
@@ -75,7 +75,7 @@ count_same mark other digits (b ∷ rest) = bind_bind (lettered_before mark digi
     by_opening true = refl
     by_opening false = fault_same mark other digits b
 
--- what follows under a piece that comes after a whole descriptor
+-- how reading goes on with a piece that comes after a complete descriptor
 abbrev then_after : Reading → Then
 then_after now part more = behind_member now part >>= λ next. read_on next more
 
@@ -84,7 +84,7 @@ left_met now (Value scalar) rest = refl
 left_met now (Pad n) rest = refl
 left_met now Opened rest = refl
 
--- a text that begins with no mark
+-- a text that does not begin with a blank or a mark
 after_plain : (now : Reading) (text : List ℕ) → Unmarked Aligned text → front Aligned (then_after now) (pieces text) ≡ (member_at Aligned text >>= left_out)
 after_plain now [] plain = refl
 after_plain now (b ∷ rest) plain =
@@ -115,7 +115,7 @@ beyond_same mark text =
     ∙ after_plain beyond rest (aligned_unmarked now rest (unmarked mark text))
     ∙ count_same Aligned now (take n rest) (drop n rest)
 
--- a mark that is no blank
+-- a mark, which is not a blank
 mark_beyond : (descr : Descr) (next : Mark) (b : ℕ) (rest : List ℕ) → after Aligned b ≡ Some next → is_one_of (32 ∷ []) b ≡ false → read_on (complete descr) (pieces (b ∷ rest)) ≡ read_on beyond (pieces (b ∷ rest))
 mark_beyond descr next b rest e mark_only =
     let is = sign_letter Aligned next b rest e in
@@ -129,7 +129,7 @@ mark_beyond descr next b rest e mark_only =
     by_name (between_colons bytes) = sign_cases (λ c _. step (complete descr) (letter [] c (between_colons bytes)) ≡ step beyond (letter [] c (between_colons bytes))) Aligned next b e refl refl refl refl refl refl refl
     by_name lone_colon = sign_cases (λ c _. step (complete descr) (letter [] c lone_colon) ≡ step beyond (letter [] c lone_colon)) Aligned next b e refl refl refl refl refl refl refl
 
--- the descriptor, where nothing may follow
+-- the descriptor, once it is known that nothing follows
 abbrev only : Descr → Unit {0} → Result Descr Refusal
 only descr x = Ok descr
 
@@ -153,7 +153,7 @@ ended_other b rest descr colon other = by_tests (is_one_of (32 ∷ []) b) (is_co
     by_tests false true e f all r = let never : ⊥ = cc in absurd never
     by_tests false false e f all r = by_member r
 
--- a blank with a name behind it
+-- a blank with a name after it
 blank_named : (descr : Descr) (c : ℕ) (text : List ℕ) → is_colon c ≡ true → read_on (complete descr) (pieces (32 ∷ (c ∷ text))) ≡ (nothing_follows (32 ∷ (c ∷ text)) >>= only descr)
 unfolding nothing_follows
 blank_named descr c text colon =
@@ -200,7 +200,7 @@ ended_same descr (b ∷ rest) e = by_blank (ended_same descr rest)
           | inr other ↦ by_mark (after Aligned b) refl other ∙ sym (ended_other b rest descr e other)
         ]
 
--- where nothing may follow, no name may
+-- If nothing may follow, a name may not.
 ended_named : (rest : List ℕ) → is_named rest ≡ true → nothing_follows rest ≡ Err DescriptorLeftOut
 unfolding nothing_follows
 ended_named [] e = let never : ⊥ = cc in absurd never

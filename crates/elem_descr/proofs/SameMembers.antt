@@ -1,4 +1,4 @@
--- The members of a record are the same by their pieces as where they are read in turns.
+-- The members of a record are the same by their pieces as when they are read in turns.
 use Rattle.std.proofs.Common.{◌≡◌, ◌≤◌, ◌<◌, ◌+◌, ℕ, zero, suc, Bool, true, false, not, ◌&&◌, List, [], ◌∷◌, length, take, drop, ◌++◌, codes, inl, inr, Option, Some, None, Result, Ok, Err, if◌then◌else◌, refl, sym, ap, subst, ◌∙◌, arith, length-drop}
 use Rattle.std.specs.Prelude.{nat_le, decimal}
 use Rattle.std.specs.Char.{is_ascii_digit}
@@ -40,7 +40,7 @@ marked_none mark b rest e = rw e refl
 marked_some : (mark next : Mark) (b : ℕ) (rest : List ℕ) → after mark b ≡ Some next → marked mark (b ∷ rest) ≡ marked next rest
 marked_some mark next b rest e = rw e refl
 
--- no mark stands at the front
+-- the text does not begin with a blank or a mark
 abbrev pub Unmarked : Mark → List ℕ → Type 0
 Unmarked mark [] = Unit {0}
 Unmarked mark (b ∷ rest) = after mark b ≡ None
@@ -69,7 +69,7 @@ sign_letter mark next b rest e =
     (sign_cases (λ c _. is_ascii_digit c ≡ false) mark next b e refl refl refl refl refl refl refl)
     (sign_cases (λ c _. (is_one_of (84 ∷ []) c && is_opened rest) ≡ false) mark next b e refl refl refl refl refl refl refl)
 
--- how far a text is read changes with marks as this says
+-- a state of reading in which a blank or a mark only changes the current mark, and must have no name
 pub record TakesMarks (at : Mark → Reading) : Type 0 where
   pub signs : (mark next : Mark) (b : ℕ) → after mark b ≡ Some next → step (at mark) (letter [] b nothing) ≡ Ok (at next)
   pub names : (mark next : Mark) (b : ℕ) (bytes : List ℕ) → after mark b ≡ Some next → step (at mark) (letter [] b (between_colons bytes)) ≡ Err BadDescriptor
@@ -123,7 +123,7 @@ sign_read at takes mark next b rest e = by_rest rest
     by_rest [] = bare [] refl
     by_rest (c ∷ text) = elim (cases_Bool (is_colon c)) [ inl colon ↦ with_name c text colon | inr other ↦ bare (c ∷ text) (behind-other c text other) ]
 
--- a text is read as what follows its marks
+-- A text is read like the rest after its blanks and marks.
 pub marks_read : (at : Mark → Reading) → TakesMarks at → (mark : Mark) (text : List ℕ) → read_on (at mark) (pieces text) ≡ read_on (at (marked mark text).0) (pieces (marked mark text).1)
 marks_read at takes mark [] = refl
 marks_read at takes mark (b ∷ rest) = by_after (after mark b) refl (λ next. marks_read at takes next rest)
@@ -132,7 +132,7 @@ marks_read at takes mark (b ∷ rest) = by_after (after mark b) refl (λ next. m
     by_after None e later = ap (λ m. read_on (at m.0) (pieces m.1)) (sym (marked_none mark b rest e))
     by_after (Some next) e later = sign_read at takes mark next b rest e ∙ later next ∙ ap (λ m. read_on (at m.0) (pieces m.1)) (sym (marked_some mark next b rest e))
 
--- ---- what stands behind a letter
+-- ---- what follows a letter
 
 pub behind_bare : (rest : List ℕ) → is_named rest ≡ false → behind rest ≡ (nothing, rest)
 behind_bare [] e = refl
@@ -158,11 +158,11 @@ behind_shorter (c ∷ text) =
     end_shorter [] = omega arith
     end_shorter (b ∷ text) = by_first (is_colon b) b text (end_shorter text)
 
--- a name and what follows it
+-- a name and the text after it
 abbrev tupled : List ℕ → List ℕ → Result (List ℕ × List ℕ) Refusal
 tupled rest bytes = Ok (bytes, rest)
 
--- the name that is read is the one that stands there
+-- The name that is read in turns is the name by the pieces.
 named_called : (number : ℕ) (rest : List ℕ) → named number rest ≡ (called number (behind rest).0 >>= tupled (behind rest).1)
 named_called number [] = refl
 named_called number (c ∷ text) =
@@ -185,9 +185,9 @@ named_called number (c ∷ text) =
     ended_called None = refl
     ended_called (Some r) = by_legal (is_legal_name r.0) r.0 r.1
 
--- ---- a record with one member more
+-- ---- a record with one more member
 
--- padding and what is alone have no name
+-- Padding and a member that is the whole text have no name.
 pub unnamed_same : {X : Type 0} (rest : List ℕ) (f : List ℕ → Result X Refusal) → (check (not (is_named rest)) DescriptorLeftOut >>= λ _. f rest) ≡ (unnamed (behind rest).0 >>= λ _. f (behind rest).1)
 unnamed_same [] f = refl
 unnamed_same (c ∷ text) f =
@@ -206,11 +206,11 @@ unnamed_same (c ∷ text) f =
     refused None = refl
     refused (Some r) = refl
 
--- the record with the member, the mark in force and what follows
+-- the record with the member, the current mark and the remaining text
 abbrev further : Mark → List ℕ → Partial → Result Later Refusal
 further mark rest q = Ok (q, mark, rest)
 
--- a name, and a field that is made with it
+-- a name, and a field made with it
 with_name : (called : Result (List ℕ) Refusal) (good : List ℕ → Result (Unit {0}) Refusal) (made : List ℕ → Result Partial Refusal) (mark : Mark) (rest : List ℕ) → ((called >>= tupled rest) >>= λ n. good n.0 >>= λ _. made n.0 >>= further mark n.1) ≡ (((called >>= λ bytes. good bytes >>= λ _. Ok bytes) >>= made) >>= further mark rest)
 with_name (Err e) good made mark rest = refl
 with_name (Ok bytes) good made mark rest = by_good (good bytes)
@@ -267,7 +267,7 @@ pad_same mark p n rest = rw (widened-capped p n) (by_wider (widened p n))
     by_wider (Err e) = refl
     by_wider (Ok q) = unnamed_same rest (λ rest. further mark rest q) ∙ by_name q (behind rest).0 (behind rest).1
 
--- ---- the levels of a record stay
+-- ---- the levels of a record stay the same
 
 abbrev Keeps : Partial → Result Partial Refusal → Type 0
 Keeps p made = (q : Partial) → made ≡ Ok q → q.levels ≡ p.levels
@@ -310,18 +310,18 @@ keeps_pad p n behind = by_wider (widened p n) (keeps_small p (record p { size = 
 
 -- ---- the members of a record
 
--- what becomes of a record that is read, and of the text that is left
+-- how reading goes on after a record, given the record and the remaining text
 abbrev Ends : Type 0
 Ends = Body × List ℕ → Result Descr Refusal
 
--- it is read on in the records around it
+-- Reading goes on in the records around it.
 abbrev Goes : List (Mark × Partial) → List ℕ → Ends → Type 0
 Goes around text ends = (body : Body) (rest : List ℕ) → length rest < length text → (closed_in around body (behind rest).0 >>= λ next. read_on next (pieces (behind rest).1)) ≡ ends (body, rest)
 
 abbrev Same : ℕ → Type 0
 Same n = (levels turns : ℕ) (mark : Mark) (p : Partial) (around : List (Mark × Partial)) (text : List ℕ) (ends : Ends) → length text ≤ n → length text ≤ turns → p.levels ≡ levels → Goes around text ends → read_on (within mark p around) (pieces text) ≡ (members (record_within levels) turns mark p text >>= ends)
 
--- the members after one
+-- the members after the next one
 abbrev others : ℕ → ℕ → Later → Result (Body × List ℕ) Refusal
 others levels turns next = members (record_within levels) turns next.1 next.0 next.2
 
@@ -331,7 +331,7 @@ others_same n same levels turns around text ends few enough goes mark p rest lev
     let left = behind_shorter rest in
     same levels turns mark q around (behind rest).1 ends (omega arith) (omega arith) (keeps q refl ∙ level) (λ body later l. goes body later (omega arith))
 
--- what a record goes on with after a piece
+-- how reading goes on after a piece within a record
 abbrev then_in : Mark → Partial → List (Mark × Partial) → Then
 then_in mark p around part more = in_record mark p around part >>= λ next. read_on next more
 

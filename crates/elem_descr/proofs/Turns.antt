@@ -1,4 +1,4 @@
--- The members of a record, one turn after the other.
+-- The members of a record, turn by turn.
 use Rattle.std.proofs.Common.{◌≡◌, ◌≤◌, ◌<◌, ◌+◌, ◌-◌, ℕ, suc, List, [], ◌∷◌, length, get_or, take, drop, Option, Some, None, Result, Ok, Err, refl, sym, ap, ◌∙◌, arith}
 use Rattle.std.proofs.lemmas.List.{take_all}
 use Rattle.std.specs.Char.{is_ascii_digit}
@@ -13,7 +13,7 @@ use Rattle.elem_descr.specs.FormatLetters.{Member}
 use Rattle.elem_descr.specs.FormatTexts.{closed_body}
 use Rattle.elem_descr.specs.inside.Turns.{lettered_before, after_count, member_at, held_member, held_at, Reader, marked, closing, next_field, turn, members, record_within}
 
--- no record may lie here
+-- If no levels are allowed, a record is refused.
 pub no_levels : (levels : ℕ) (mark : Mark) (leaves : ℕ) (text : List ℕ) → levels ≡ 0 → record_within levels mark leaves text ≡ Err DescriptorLeftOut
 unfolding record_within
 no_levels levels mark leaves text none = rw none refl
@@ -26,7 +26,7 @@ members_begin levels mark leaves text some =
     let all : length text ≡ length text - 0 = omega arith in
     ap (λ (n : ℕ). record_within n mark leaves text) one ∙ ap (λ (turns : ℕ). members (record_within (levels - 1)) turns mark (empty (levels - 1) leaves) text) all
 
--- one turn of those that are left, once its marks are read
+-- one of the remaining turns, after its blanks and marks are read
 members_turn : (within : Reader) (n i : ℕ) (mark later : Mark) (p : Partial) (text unread : List ℕ) → i < n → (later, unread) ≡ marked mark text → members within (n - i) mark p text ≡ turn within later p (closing unread) unread (λ next. members within (n - (i + 1)) next.1 next.0 next.2)
 members_turn within n i mark later p text unread l e =
     let one : n - i ≡ suc (n - (i + 1)) = omega arith in
@@ -44,7 +44,7 @@ members_field levels n i mark later p text unread same l e no_brace =
     ∙ ap (λ (found : Option (List ℕ)). turn (record_within levels) later p found unread (λ next. members (record_within levels) (n - (i + 1)) next.1 next.0 next.2)) (sym no_brace)
     ∙ ap (λ (k : ℕ). next_field (record_within k) later p unread >>= λ next. members (record_within levels) (n - (i + 1)) next.1 next.0 next.2) (sym same)
 
--- a member as it is held, from what is read of its count and its letter
+-- a member as the code holds it, from its count and its letter
 pub member_held : (mark : Mark) (text digits tail : List ℕ) (n d : ℕ) (read : Result Held Refusal) → n ≡ prefix_len is_ascii_digit text → digits ≡ take n text → tail ≡ drop n text → 1 ≤ length tail → read ≡ held_member (lettered_before mark digits (get_or tail 0 d) (take (length tail - 1) (drop 1 tail))) → held_at (member_at mark text) ≡ (read >>= λ member. Ok (member, take (length tail - 1) (drop 1 tail)))
 member_held mark text digits tail n d read count front back some is =
     ap (λ (k : ℕ). held_at (after_count mark (take k text) (drop k text))) (sym count)

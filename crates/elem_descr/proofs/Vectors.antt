@@ -1,4 +1,4 @@
--- An item of NumPy's, decoded and encoded, and format texts, read.
+-- An item of NumPy, decoded and encoded, and format texts that are read.
 use Rattle.std.proofs.Common.{◌≡◌, true, List, [], ◌∷◌, Ok, Err, codes, refl, lit<}
 use Rattle.std.specs.Fmt.{decimal}
 use Rattle.std.proofs.lemmas.Fmt.{decimal_digit}
@@ -19,7 +19,8 @@ use Rattle.elem_descr.specs.WrittenFormats.{written_format}
 use Rattle.elem_descr.specs.SpellingLaws.{one}
 use Rattle.elem_descr.specs.BuildingLaws.{record_type}
 
--- numpy.dtype({'names': ['x', 'y', 't', 'b'], 'formats': ['<i4', '>i2', 'S5', '?'], 'offsets': [0, 6, 8, 13], 'itemsize': 15})
+-- numpy.dtype({'names': ['x', 'y', 't', 'b'], 'formats': ['<i4', '>i2', 'S5', '?'], 'offsets': [0, 6, 8, 13],
+-- 'itemsize': 15})
 abbrev descr : Descr
 descr = record_type 15 (scalar_field (codes "x") 0 (Int true Four Little) (scalar_field (codes "y") 6 (Int true Two Big) (scalar_field (codes "t") 8 (Bytes 5) (scalar_field (codes "b") 13 BoolScalar no_more))))
 
@@ -30,7 +31,7 @@ values = number (negsuc 1) ∷ (number (pos 300) ∷ (text (97 ∷ (98 ∷ (0 �
 pub encoded : encode_item descr values ≡ 254 ∷ (255 ∷ (255 ∷ (255 ∷ (0 ∷ (0 ∷ (1 ∷ (44 ∷ (97 ∷ (98 ∷ (0 ∷ (99 ∷ (0 ∷ (1 ∷ (0 ∷ []))))))))))))))
 encoded = refl
 
--- padding is ignored, and a bool is true where its byte is not 0
+-- padding is ignored, and a bool is true if its byte is not 0
 pub decoded : decode_item descr (254 ∷ (255 ∷ (255 ∷ (255 ∷ (9 ∷ (9 ∷ (1 ∷ (44 ∷ (97 ∷ (98 ∷ (0 ∷ (99 ∷ (0 ∷ (7 ∷ (9 ∷ []))))))))))))))) ≡ values
 decoded = refl
 
@@ -46,7 +47,7 @@ int = Int true Four Little
 pub cut_text : pieces (codes "T{<5s:a:4x}") ≡ opening [] ∷ (letter [] 60 nothing ∷ (letter (codes "5") 115 (between_colons (codes "a")) ∷ (letter (codes "4") 120 nothing ∷ (letter [] 125 nothing ∷ []))))
 cut_text = refl
 
--- a record within is aligned as the greatest of its members
+-- a record within is aligned like its member with the greatest alignment
 pub aligned_within : format (codes "T{b:x:T{i:y:}:s:}") ≡ Ok (record_type 8 (scalar_field (codes "x") 0 byte (record_field (codes "s") 4 4 (scalar_field (codes "y") 0 int no_more) no_more)))
 unfolding checked_name added widened closed_record
 aligned_within = refl
@@ -54,17 +55,17 @@ aligned_within = refl
 pub written_within : written_format (record_type 8 (scalar_field (codes "x") 0 byte (record_field (codes "s") 4 4 (scalar_field (codes "y") 0 int no_more) no_more))) ≡ codes "T{<b:x:3xT{<i:y:}:s:}"
 written_within = rw three refl
 
--- not where `@` comes into force behind its `T`: 5 bytes
+-- a record within is not aligned if `@` comes only after its `T`: 5 bytes
 pub marked_within : format (codes "T{<T{@i:y:}:s:b:x:}") ≡ Ok (record_type 5 (record_field (codes "s") 0 4 (scalar_field (codes "y") 0 int no_more) (scalar_field (codes "x") 4 byte no_more)))
 unfolding checked_name added widened closed_record
 marked_within = refl
 
--- a record without a name of its own
+-- a record within that has no name
 pub unnamed_within : format (codes "T{b:x:T{b:y:}}") ≡ Ok (record_type 2 (scalar_field (codes "x") 0 byte (record_field (codes "f1") 1 1 (scalar_field (codes "y") 0 byte no_more) no_more)))
 unfolding checked_name added widened closed_record
 unnamed_within = rw one refl
 
--- four levels, and a fifth
+-- four levels of records are read, and a fifth is refused
 pub four_levels : format (codes "T{T{T{T{b:x:}:t:}:s:}:r:}") ≡ Ok (record_type 1 (record_field (codes "r") 0 1 (record_field (codes "s") 0 1 (record_field (codes "t") 0 1 (scalar_field (codes "x") 0 byte no_more) no_more) no_more) no_more))
 unfolding checked_name added widened closed_record
 four_levels = refl

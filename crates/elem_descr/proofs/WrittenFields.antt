@@ -1,4 +1,4 @@
--- The text of fields, written one after the other.
+-- The text of fields, written one after another.
 use Rattle.std.proofs.Common.{◌≡◌, ◌≤◌, ◌<◌, ◌+◌, ◌-◌, ℕ, List, ◌++◌, length, get_or, drop, refl, sym, ap, ◌∙◌, append_assoc}
 use Rattle.std.proofs.lemmas.List.{at_drop_all}
 use Rattle.elem_descr.specs.declared.descr.Field.{Field}

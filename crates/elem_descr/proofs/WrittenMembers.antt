@@ -1,4 +1,4 @@
--- What is written of a member reads as the same member.
+-- A member that is written is read back as the same member.
 use Rattle.std.proofs.Common.{◌≡◌, ◌≤◌, ◌<◌, ℕ, zero, suc, min, Bool, true, false, List, [], ◌∷◌, ◌++◌, length, Some, None, Ok, refl, ap, ◌∙◌, not, arith, nat_le, ◌&&◌}
 use Rattle.std.specs.Char.{is_ascii_digit}
 use Rattle.std.specs.Fmt.{decimal}
@@ -25,24 +25,24 @@ use Rattle.elem_descr.specs.WrittenFormats.{written_mark, written_count, written
 use Rattle.elem_descr.specs.DigitLaws.{digits-decimal, value_of-decimal}
 use Rattle.elem_descr.proofs.Fronts.{some_left}
 
--- the front of a list that passes a test, before one that does not
+-- the elements that pass a test, before one that does not
 prefix_len-passing : (p : ℕ → Bool) (xs : List ℕ) (y : ℕ) (ys : List ℕ) → list_all p xs ≡ true → p y ≡ false → prefix_len p (xs ++ y ∷ ys) ≡ length xs
 prefix_len-passing p [] y ys all fails = rw fails refl
 prefix_len-passing p (x ∷ xs) y ys all fails =
     let b = and_parts (p x) (list_all p xs) all in
     rw b.0 (omega (arith, prefix_len-passing p xs y ys b.1 fails))
 
--- a digit is no mark and no blank
+-- a digit is not a mark and not a blank
 after_digit : (mark : Mark) (d : ℕ) → is_ascii_digit d ≡ true → after mark d ≡ None
 after_digit mark d e = grind (arith, nat_tests)
 
--- digits are no marks
+-- digits are not marks
 pub marked_digits : (mark : Mark) (digits rest : List ℕ) → list_all is_ascii_digit digits ≡ true → 0 < length digits → marked mark (digits ++ rest) ≡ (mark, digits ++ rest)
 marked_digits mark [] rest all some = absurd (omega arith)
 marked_digits mark (d ∷ digits) rest all some =
     rw (after_digit mark d (and_parts (is_ascii_digit d) (list_all is_ascii_digit digits) all).0) refl
 
--- the mark that is written
+-- the mark that is written for a scalar
 unfoldable pub mark_of : Scalar → Mark
 mark_of (Int signed width Big) = BigMark
 mark_of scalar = LittleMark
@@ -67,7 +67,7 @@ after_letter mark (Int false Eight Big) rest some small = refl
 after_letter mark (Bytes n) rest some small =
     marked_digits LittleMark (decimal n) (115 ∷ rest) (digits-decimal n (omega arith)) (decimal_nonempty n (omega arith))
 
--- digits count what they spell
+-- digits count as their value
 count_of-digits : (digits : List ℕ) → 1 ≤ length digits → count_of digits ≡ value_of digits
 count_of-digits [] some = absurd (omega arith)
 count_of-digits (d ∷ digits) some = refl
@@ -75,7 +75,7 @@ count_of-digits (d ∷ digits) some = refl
 count_of-decimal : (n : ℕ) → n ≤ 65536 → count_of (decimal n) ≡ n
 count_of-decimal n small = count_of-digits (decimal n) (decimal_nonempty n (omega arith)) ∙ value_of-decimal n (omega arith)
 
--- a count and its letter
+-- a count and the letter after it
 count_and_letter : (mark : Mark) (n letter : ℕ) (rest : List ℕ) → n ≤ 65536 → is_ascii_digit letter ≡ false → member_at mark (decimal n ++ letter ∷ rest) ≡ after_count mark (decimal n) (letter ∷ rest)
 count_and_letter mark n letter rest small other =
     rw (prefix_len-passing is_ascii_digit (decimal n) letter rest (digits-decimal n (omega arith)) other, take-append_seam (decimal n) (letter ∷ rest), drop-append_seam (decimal n) (letter ∷ rest)) refl
@@ -110,7 +110,7 @@ reads_pad mark n rest small =
     let fits : min n 65537 ≡ n = min-eq_left (omega (arith, small)) in
     ap held_at (count_and_letter mark n 120 rest small refl) ∙ rw (count_of-decimal n small, fits) refl
 
--- a byte of a name is no colon
+-- a byte of a name is not a colon
 colonless : (b : ℕ) → is_field_name_byte b ≡ true → not (is_colon b) ≡ true
 colonless b e = grind (arith, nat_tests)
 

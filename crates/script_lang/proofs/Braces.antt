@@ -1,4 +1,4 @@
--- A byte more up to the brace that closes.
+-- One more byte on the way to the closing brace.
 use Rattle.std.proofs.Common.{◌≡◌, ◌+◌, ℕ, Bool, true, false, List, [], ◌∷◌, Option, Some, None, refl, ap, ◌∙◌, arith, nat_eq}
 use Rattle.std.specs.Option.{option_map}
 use Rattle.script_lang.specs.Descriptors.{record_len, depth_behind, named_behind}
@@ -7,7 +7,7 @@ shifted : (i : ℕ) (o : Option ℕ) → option_map (λ n. n + i) (option_map (�
 shifted i None = refl
 shifted i (Some n) = let same : n + 1 + i ≡ n + (i + 1) = omega arith in ap Some same
 
--- where i bytes are behind and b comes next
+-- after `i` bytes, if `b` comes next
 module _ (whole : Option ℕ) (i : ℕ) (named : Bool) (depth : ℕ) (here : List ℕ) (is : whole ≡ option_map (λ n. n + i) (record_len named depth here)) where
   pub brace_closes : (b : ℕ) (rest : List ℕ) → here ≡ b ∷ rest → nat_eq (depth_behind named b depth) 0 ≡ true → whole ≡ Some (i + 1)
   unfolding record_len

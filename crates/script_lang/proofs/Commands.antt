@@ -1,4 +1,4 @@
--- Which commands are held in memory of their own.
+-- Which commands take memory of their own.
 use Rattle.std.proofs.Common.{◌≡◌, ℕ, ℤ, false, List, Option, Some, None, refl, is_some}
 use Rattle.std.specs.Prelude.{IsTrue, IfSome}
 use Rattle.std.specs.Option.{option_map}

@@ -12,7 +12,7 @@ use Rattle.script_lang.specs.Lists.{by_rule, entry_first, comma_next, one_or_mor
 use Rattle.script_lang.proofs.Shorter.{Shortens}
 use Rattle.script_lang.proofs.Turns.{one_turn, listed_goes_on, entries_goes_on, row_goes_on}
 
--- what is read so far, in front of what is read of the rest
+-- what has been read so far, in front of what is read from the rest
 abbrev pub in_front : {A : Type 0} → List A → Option (List A × List ℕ) → Option (List A × List ℕ)
 in_front read rest = option_map (λ r. (read ++ r.0, r.1)) rest
 
@@ -21,7 +21,7 @@ more_in_front : {A : Type 0} (read : List A) (x : A) (rest : Option (List A × L
 more_in_front read x None = refl
 more_in_front read x (Some r) = ap (λ xs. Some (xs, r.1)) (sym (append_assoc read (x ∷ []) r.0))
 
--- more than one entry, where one is read and one more comes
+-- If a list is found, it has more than one entry.
 abbrev pub Long : {A : Type 0} → Option (List A × List ℕ) → Type 0
 Long list = IfSome list (λ r. IsTrue (nat_lt 1 (length r.0)))
 
@@ -29,22 +29,22 @@ long_in_front : {A : Type 0} (read : List A) (x : A) (rest : Option (List A × L
 long_in_front read x None full = tt
 long_in_front read x (Some r) full = lt-ltb 1 (length (read ++ x ∷ r.0)) (omega (arith, length-append read (x ∷ r.0)))
 
--- an entry is held where one more takes memory that there is not
+-- If one more entry needs memory, which has run out, there is at least one entry already.
 pub full_from_failed : {A : Type 0} (read : List A) → (length read < 1 → false ≡ true) → 1 ≤ length read
 full_from_failed read room =
     elim (cases_lt (length read) 1) [ inl few ↦ absurd (false≢true (room few)) | inr many ↦ many ]
 
--- what may take memory whatever it is
+-- the condition on a value that may take memory, whatever it is
 pub any_list : {A : Type 0} (o : Option A) → IfSome o (λ x. IsTrue true)
 any_list None = tt
 any_list (Some x) = refl
 
--- the refusal of an entry is that of the whole list
+-- If an entry is refused, so is the whole list, with the same refusal.
 pub failed_entry : {A B P : Type 0} (refusal : Refusal) (there : Option B) (whole : Option A) → ((refusal ≡ Syntax) × (there ≡ None)) ⊎ ((refusal ≡ OutOfMemory) × P) → (there ≡ None → whole ≡ None) → ((refusal ≡ Syntax) × (whole ≡ None)) ⊎ ((refusal ≡ OutOfMemory) × IfSome whole (λ x. IsTrue true))
 failed_entry refusal there whole failed stops =
     elim failed [ inl misspelt ↦ inl (misspelt.0, stops misspelt.1) | inr full ↦ inr (full.0, any_list whole) ]
 
--- a turn at entries that commas part, a last comma allowed
+-- one turn of a list of entries separated by commas, with an optional trailing comma
 module _ {A : Type 0} (entry_at : List ℕ → Option (A × List ℕ)) (shorter : Shortens entry_at) (closing : ℕ) (whole : Option (List A × List ℕ)) (read : List A) (rest : List ℕ) (is : whole ≡ in_front read (by_rule (none_or_more entry_at closing) rest)) where
   entries_turn : whole ≡ in_front read (none_or_more entry_at closing (by_rule (none_or_more entry_at closing)) rest)
   entries_turn = is ∙ ap (in_front read) (one_turn (none_or_more entry_at closing) (entries_goes_on entry_at shorter closing) rest)
@@ -69,7 +69,7 @@ module _ {A : Type 0} (entry_at : List ℕ → Option (A × List ℕ)) (shorter 
   unfolding none_or_more one_or_more entry_first comma_next
   entries_next x after next no_end first not_last comma = entries_turn ∙ rw (no_end, first, not_last, comma) (more_in_front read x (by_rule (none_or_more entry_at closing) next))
 
--- a turn at items that commas part, no last comma
+-- one turn of a list of items separated by commas, without a trailing comma
 module _ {A : Type 0} (item_at : List ℕ → Option (A × List ℕ)) (shorter : Shortens item_at) (closing : ℕ) (whole : Option (List A × List ℕ)) (read : List A) (rest : List ℕ) (is : whole ≡ in_front read (by_rule (one_or_more item_at closing) rest)) where
   items_turn : whole ≡ in_front read (one_or_more item_at closing (by_rule (one_or_more item_at closing)) rest)
   items_turn = is ∙ ap (in_front read) (one_turn (one_or_more item_at closing) (listed_goes_on item_at shorter closing) rest)
@@ -94,7 +94,7 @@ module _ {A : Type 0} (item_at : List ℕ → Option (A × List ℕ)) (shorter :
   unfolding one_or_more entry_first comma_next
   items_next x after next first no_end comma = items_turn ∙ rw (first, no_end, comma) (more_in_front read x (by_rule (one_or_more item_at closing) next))
 
--- a turn at entries one behind the other
+-- one turn of a row of consecutive entries
 module _ {A : Type 0} (entry_at : List ℕ → Option (A × List ℕ)) (shorter : Shortens entry_at) (ending : List ℕ → Option (List ℕ)) (whole : Option (List A × List ℕ)) (read : List A) (rest : List ℕ) (is : whole ≡ in_front read (by_rule (row entry_at ending) rest)) where
   row_turn : whole ≡ in_front read (row entry_at ending (by_rule (row entry_at ending)) rest)
   row_turn = is ∙ ap (in_front read) (one_turn (row entry_at ending) (row_goes_on entry_at shorter ending) rest)
@@ -119,7 +119,7 @@ none_if : (bytes : List ℕ) (o : Option (Unit {0})) → is_some o ≡ false →
 none_if bytes None goes = refl
 none_if bytes (Some x) goes = cc
 
--- whether nothing but blanks is left
+-- If only blanks remain, the line ends here.
 pub ends_here : (bytes : List ℕ) (test : Bool) → test ≡ is_some (at_end bytes) → test ≡ true → line_end_at bytes ≡ Some bytes
 ends_here bytes test is ends = ends_if bytes (at_end bytes) (sym is ∙ ends)
 

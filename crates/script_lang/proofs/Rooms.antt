@@ -1,4 +1,4 @@
--- What is held in memory of its own.
+-- What takes memory of its own.
 use Rattle.std.proofs.Common.{◌≡◌, ◌==◌, ℕ, Bool, true, false, List, length, not, Option, Some, None, refl}
 use Rattle.std.specs.Prelude.{IsTrue, IfSome, nat_le, count_by, ◌||◌}
 use Rattle.std.specs.Option.{option_and_then, option_map}
@@ -15,12 +15,12 @@ use Rattle.script_lang.specs.Literals.{byte_text_at, bytes_at, scalar_at, litera
 use Rattle.script_lang.specs.Indexes.{index_item_at, index_at, optional_index_at, operand_named, operand_of, literal_of, bare_name_at, argument_at}
 use Rattle.script_lang.specs.Reading.{scalar_room, literal_room, index_room, optional_index_room, operand_room, argument_room}
 
--- what each step gives, once each goes on
+-- If what follows a step has P for every result of the step, the whole has P.
 pub after_step : {A B : Type 0} (P : B → Type 0) (step : Option A) (next : A → Option B) → ((x : A) → IfSome (next x) P) → IfSome (option_and_then next step) P
 after_step P None next each = tt
 after_step P (Some x) next each = each x
 
--- what each step gives, once each goes on from what is known to have Q
+-- If the result of a step has Q, and what follows has P for every result with Q, the whole has P.
 pub after_known : {A B : Type 0} (Q : A → Type 0) (P : B → Type 0) (step : Option A) (next : A → Option B) → IfSome step Q → ((x : A) → Q x → IfSome (next x) P) → IfSome (option_and_then next step) P
 after_known Q P None next known each = tt
 after_known Q P (Some x) next known each = each x known

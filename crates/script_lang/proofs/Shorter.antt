@@ -1,4 +1,4 @@
--- What a reading leaves is shorter than what it was given.
+-- A reader leaves fewer bytes than it was given.
 use Rattle.std.proofs.Common.{◌≡◌, ◌<◌, ◌≤◌, ℕ, zero, suc, Bool, true, false, List, [], ◌∷◌, length, Option, Some, None, arith, length-drop, nat_eq, codes, not, ◌==◌, subst}
 use Rattle.std.specs.Prelude.{ℤ, nat_le, IfSome, if◌then◌else◌}
 use Rattle.std.specs.List.{prefix_len}
@@ -15,14 +15,14 @@ use Rattle.script_lang.specs.Literals.{hex_value, hex_digit_at, escape_at, is_pl
 use Rattle.script_lang.specs.Indexes.{step_at, slice_at, ellipsis_at, integer_item, item_with_rest, array_item, bare_item_at, index_item_at}
 use Rattle.script_lang.proofs.Rooms.{after_step, after_known}
 
--- fewer than n bytes are left, and behind what is read
+-- fewer than `n` bytes remain: on their own, and after what is read
 abbrev pub Few : ℕ → List ℕ → Type 0
 Few n rest = length rest < n
 
 abbrev pub Less : {A : Type 0} → ℕ → A × List ℕ → Type 0
 Less n r = length r.1 < n
 
--- what is read is a byte at least
+-- a reader takes at least one byte
 abbrev pub Shortens : {A : Type 0} → (List ℕ → Option (A × List ℕ)) → Type 0
 Shortens entry_at = (bytes : List ℕ) → IfSome (entry_at bytes) (Less (length bytes))
 
@@ -46,7 +46,7 @@ found : {A B : Type 0} (Q : B → Type 0) (P : A → Type 0) (o : Option B) (nex
 found Q P None next other known each otherwise = otherwise
 found Q P (Some x) next other known each otherwise = each x known
 
--- what is read of fewer bytes
+-- reading from fewer bytes
 within : {A : Type 0} (n : ℕ) (read : List ℕ → Option (A × List ℕ)) → Shortens read → (rest : List ℕ) → length rest ≤ n → IfSome (read rest) (Less n)
 within n read shorter rest few = weaker (Less (length rest)) (Less n) (read rest) (shorter rest) (λ r less. omega arith)
 
@@ -121,7 +121,7 @@ name_shorter bytes =
 
 -- Index items
 
--- an integer that may be there leaves no more
+-- An optional integer leaves at most as many bytes.
 optional_length : {A : Type 0} (bytes : List ℕ) (o : Option (A × List ℕ)) → IfSome o (Less (length bytes)) → length (optional bytes o).1 ≤ length bytes
 optional_length bytes None known = omega arith
 optional_length bytes (Some r) known = omega (arith, known)
@@ -272,7 +272,7 @@ pub literal_shorter : Shortens literal_at
 unfolding literal_at
 literal_shorter bytes = literal_within_shorter max_literal_depth bytes
 
--- what is left behind an entry, and behind its comma
+-- An entry, and the comma after it, leave fewer bytes.
 pub entry_behind : {A : Type 0} (entry_at : List ℕ → Option (A × List ℕ)) → Shortens entry_at → (rest : List ℕ) (x : A) (after : List ℕ) → entry_at rest ≡ Some (x, after) → length after < length rest
 entry_behind entry_at shorter rest x after first = subst (λ o. IfSome o (Less (length rest))) first (shorter rest)
 

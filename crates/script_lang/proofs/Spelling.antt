@@ -1,4 +1,4 @@
--- Bytes that spell numbers.
+-- Bytes that are numbers.
 use Rattle.std.proofs.Common.{◌≡◌, ◌≤◌, ◌<◌, ◌^◌, ◌+◌, ℕ, suc, Bool, true, false, List, [], ◌∷◌, take, Some, None, refl, arith, nat_eq, cond}
 use Rattle.std.specs.Prelude.{if◌then◌else◌, IfSome, length, drop}
 use Rattle.std.proofs.Common.{subst, length-drop}
@@ -9,7 +9,7 @@ use Rattle.std.specs.Option.{option_map}
 use Rattle.script_lang.specs.Tokens.{byte_at, number_at, signed_at, positive, negative}
 use Rattle.script_lang.proofs.Shorter.{Few, two_within}
 
--- fewer digits spell a smaller number
+-- A number with fewer digits is below the power of ten for more digits.
 pub below_power : (k n i : ℕ) → n < 10 ^ i → i ≤ k → n < 10 ^ k
 below_power k n i small few = let powers : 10 ^ i ≤ 10 ^ k = pow-le-pow_right (omega arith) few in omega arith
 
@@ -19,7 +19,7 @@ passing_cons test b bytes true is rest =
     let next : 1 + prefix_len test bytes ≡ suc (prefix_len test bytes) = omega arith in
     rw (next, is) rest
 
--- each element of the longest front that passes
+-- Each element of the longest prefix that passes a test passes it.
 pub passing_front : (test : ℕ → Bool) (bytes : List ℕ) → list_all test (take (prefix_len test bytes) bytes) ≡ true
 passing_front test [] = refl
 passing_front test (b ∷ bytes) = passing_cons test b bytes (test b) refl (passing_front test bytes)
@@ -29,14 +29,14 @@ neither false false x minus plus plain no_minus no_plus = refl
 neither false true x minus plus plain no_minus no_plus = cc
 neither true t x minus plus plain no_minus no_plus = cc
 
--- no sign comes first
+-- If no sign comes first, a number without a sign is read.
 pub signed_plain : (bytes : List ℕ) → byte_at 45 bytes ≡ None → byte_at 43 bytes ≡ None → signed_at bytes ≡ option_map positive (number_at bytes)
 unfolding number_at
 signed_plain [] no_minus no_plus = refl
 signed_plain (b ∷ bytes) no_minus no_plus =
     neither (nat_eq b 45) (nat_eq b 43) bytes (option_map negative (number_at bytes)) (option_map positive (number_at bytes)) (option_map positive (number_at (b ∷ bytes))) no_minus no_plus
 
--- what follows the marks and `T{` is shorter
+-- The bytes after the marks and `T{` are at most as many as all bytes.
 pub record_mark_shorter : (bytes inside : List ℕ) → record_mark_at bytes ≡ Some inside → length inside ≤ length bytes
 unfolding record_mark_at
 record_mark_shorter bytes inside found =

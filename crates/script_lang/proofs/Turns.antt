@@ -1,4 +1,4 @@
--- How often a rule is used changes nothing once there are as many turns as bytes.
+-- More turns than there are bytes do not change what a rule reads.
 use Rattle.std.proofs.Common.{◌≡◌, ◌<◌, ℕ, zero, suc, List, ◌∷◌, length, Option, Some, None, refl, ap, arith}
 use Rattle.std.specs.Prelude.{IfSome}
 use Rattle.std.specs.Option.{option_and_then}
@@ -9,7 +9,7 @@ use Rattle.script_lang.specs.Indexes.{index_item_at}
 use Rattle.script_lang.specs.Lines.{EachListAnyTurns}
 use Rattle.script_lang.proofs.Shorter.{Less, Few, Shortens, weaker, symbol_shorter, length_shorter, integer_shorter, index_item_shorter, text_byte_shorter, literal_within_shorter, literal_shorter}
 
--- a rule that asks for others behind a byte at least
+-- a rule that takes at least one byte before it goes on
 abbrev pub GoesOn : {B : Type 0} → ((List ℕ → Option B) → List ℕ → Option B) → Type 0
 GoesOn {B = B} rule = (f g : List ℕ → Option B) (bytes : List ℕ) → ((rest : List ℕ) → length rest < length bytes → f rest ≡ g rest) → rule f bytes ≡ rule g bytes
 
@@ -24,7 +24,7 @@ module _ {B : Type 0} (rule : (List ℕ → Option B) → List ℕ → Option B)
   unfolding by_rule
   any_turns turns bytes few = same_reading turns (suc (length bytes)) bytes few (omega arith)
 
-  -- what is read by the rule is what the rule says
+  -- What the rule reads is what one turn of the rule reads, which goes on by the rule.
   pub one_turn : (bytes : List ℕ) → by_rule rule bytes ≡ rule (by_rule rule) bytes
   unfolding by_rule in_turns
   one_turn bytes = goes_on (in_turns rule (length bytes)) (by_rule rule) bytes (λ rest less. same_reading (length bytes) (suc (length rest)) rest less (omega arith))

@@ -1,4 +1,4 @@
--- Among the rows of a table, those that fail a test stand beside no word that passes it.
+-- To look up a word that passes a test, the rows whose words fail the test may be left out of the table.
 use Rattle.std.proofs.Common.{◌≡◌, ℕ, Bool, true, false, List, [], ◌∷◌, filter, Some, inl, inr, refl, sym, ◌∙◌, ap}
 use Rattle.std.specs.Bool.{if◌then◌else◌}
 use Rattle.std.specs.Str.{bytes_eq}

@@ -3,6 +3,6 @@ use Rattle.elem_descr.specs.Descriptors.{listed}
 use Rattle.elem_descr.specs.Items.{leaves_from}
 use Rattle.elem_descr.proofs.descr.leaves_in.Given as goal
 
--- the leaves of the fields so far are there
+-- the leaves of the fields so far are appended
 abbrev pub invariant-loop-field : goal.invariant-loop-field
 invariant-loop-field l = l.leaves.items ++ leaves_from 0 (listed (drop l.field-index l.fields)) ≡ leaves_from 0 (listed l.fields)

@@ -1,4 +1,4 @@
--- A turn counts a byte and the brace that it opens or closes.
+-- A turn counts one byte, and the brace that it opens or closes.
 use Rattle.std.proofs.Common.{arith, rules}
 use borrow.Author.Tests.{tests}
 use Rattle.std.proofs.lemmas.List.{drop_more, drop_all}

@@ -4,7 +4,7 @@ use Rattle.script_lang.specs.Indexes.{index_item_at}
 use Rattle.script_lang.proofs.Lists.{in_front}
 use Rattle.script_lang.proofs.grammar.indexes.items.Given as goal
 
--- the items so far, in front of those of the rest, are all
+-- the items so far, followed by those of the rest, are all items
 abbrev pub invariant-loop-entry : goal.invariant-loop-entry
 invariant-loop-entry l = by_rule (one_or_more index_item_at 93) l.bytes ≡ in_front l.index (by_rule (one_or_more index_item_at 93) l.rest)
 

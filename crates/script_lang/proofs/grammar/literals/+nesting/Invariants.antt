@@ -5,7 +5,7 @@ use Rattle.script_lang.specs.Listed.{literals_of}
 use Rattle.script_lang.proofs.Lists.{in_front}
 use Rattle.script_lang.proofs.grammar.literals.+nesting.Given as goal
 
--- a record's values are one level less deep than it
+-- the values of a record are allowed one level less than the record
 abbrev pub decreases-literal_within : goal.decreases-literal_within
 decreases-literal_within l = 3 * l.depth
 
@@ -15,7 +15,7 @@ decreases-record l = 3 * l.depth + 2
 abbrev pub decreases-values : goal.decreases-values
 decreases-values l = 3 * l.depth + 1
 
--- the values so far, in front of those of the rest, are all
+-- the values so far, followed by those of the rest, are all values
 abbrev pub invariant-values-loop-end : goal.invariant-values-loop-end
 invariant-values-loop-end l = by_rule (none_or_more (literal_within l.depth) 41) l.bytes ≡ in_front (literals_of l.values) (by_rule (none_or_more (literal_within l.depth) 41) l.rest)
 

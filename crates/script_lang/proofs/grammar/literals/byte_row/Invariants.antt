@@ -5,7 +5,7 @@ use Rattle.script_lang.specs.Literals.{text_byte_at}
 use Rattle.script_lang.proofs.Lists.{in_front}
 use Rattle.script_lang.proofs.grammar.literals.byte_row.Given as goal
 
--- the bytes so far, in front of those of the rest, are all
+-- the bytes so far, followed by those of the rest, are all bytes
 abbrev pub invariant-loop-end : goal.invariant-loop-end
 invariant-loop-end l = by_rule (row text_byte_at (byte_at 39)) l.bytes ≡ in_front l.text (by_rule (row text_byte_at (byte_at 39)) l.rest)
 

@@ -4,7 +4,7 @@ use Rattle.script_lang.specs.Literals.{literal_at, line_end_at}
 use Rattle.script_lang.proofs.Lists.{in_front}
 use Rattle.script_lang.proofs.grammar.literals.literals.Given as goal
 
--- the literals so far, in front of those of the rest, are all
+-- the literals so far, followed by those of the rest, are all literals
 abbrev pub invariant-loop-alloc : goal.invariant-loop-alloc
 invariant-loop-alloc l = by_rule (row literal_at line_end_at) l.bytes ≡ in_front l.literals (by_rule (row literal_at line_end_at) l.rest)
 

@@ -2,7 +2,7 @@ use Rattle.std.proofs.Common.{◌≡◌, length, map}
 use Rattle.script_lang.specs.Verbs.{beside}
 use Rattle.script_lang.proofs.grammar.names.lookup.Given as goal
 
--- what stands beside the word in the rest of the table stands there in the whole
+-- the lookup of the word in the rest of the table gives the same as in the whole table
 abbrev pub invariant-loop-table : goal.invariant-loop-table
 invariant-loop-table l = beside (map (λ row. (row.0.now, row.1)) l.table) l.word ≡ beside (map (λ row. (row.0.now, row.1)) l.initial.table) l.word
 

@@ -1,4 +1,4 @@
--- Each table of the code has the rows of the definition whose words have such a length.
+-- Each table in the code has those rows of the definition whose words have the table's length.
 use Rattle.std.proofs.Common.{◌==◌, nat_lt, length, sym, ◌∙◌, ap, arith}
 use Rattle.std.proofs.lemmas.Bool.{lt-ltb}
 use Rattle.script_lang.specs.Verbs.{beside, verbs, verb_of}

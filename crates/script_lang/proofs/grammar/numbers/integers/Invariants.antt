@@ -4,7 +4,7 @@ use Rattle.script_lang.specs.Lists.{by_rule, none_or_more}
 use Rattle.script_lang.proofs.Lists.{in_front}
 use Rattle.script_lang.proofs.grammar.numbers.integers.Given as goal
 
--- the integers so far, in front of those of the rest, are all
+-- the integers so far, followed by those of the rest, are all integers
 abbrev pub invariant-loop-end : goal.invariant-loop-end
 invariant-loop-end l = by_rule (none_or_more integer_at 41) l.bytes ≡ in_front l.integers (by_rule (none_or_more integer_at 41) l.rest)
 

@@ -4,7 +4,7 @@ use Rattle.script_lang.specs.Lists.{by_rule, none_or_more}
 use Rattle.script_lang.proofs.Lists.{in_front}
 use Rattle.script_lang.proofs.grammar.numbers.lengths.Given as goal
 
--- the lengths so far, in front of those of the rest, are all
+-- the lengths so far, followed by those of the rest, are all lengths
 abbrev pub invariant-loop-end : goal.invariant-loop-end
 invariant-loop-end l = by_rule (none_or_more length_at 41) l.bytes ≡ in_front l.lengths (by_rule (none_or_more length_at 41) l.rest)
 

@@ -1,4 +1,4 @@
--- Thirty digits spell a number that fits.
+-- A number of thirty digits fits into the integer type.
 use Rattle.std.proofs.Common.{◌<◌, ◌^◌, arith}
 use Rattle.script_lang.proofs.Spelling.{below_power}
 use Rattle.script_lang.proofs.grammar.numbers.value_of.Goals as goal

@@ -3,7 +3,7 @@ use Rattle.std.specs.List.{list_all}
 use Rattle.script_lang.specs.Lines.{is_allowed}
 use Rattle.script_lang.proofs.grammar.tokens.are_allowed.Given as goal
 
--- the rest is allowed where the whole is
+-- the rest is allowed if and only if the whole line is
 abbrev pub invariant-loop-bytes : goal.invariant-loop-bytes
 invariant-loop-bytes l = list_all is_allowed l.bytes ≡ list_all is_allowed l.initial.bytes
 
