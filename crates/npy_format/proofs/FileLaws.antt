@@ -1,4 +1,4 @@
--- The parts of a file, one behind the other.
+-- The parts of a file, one after another.
 use Rattle.std.proofs.Common.{◌≡◌, ◌⊎◌, ◌+◌, ℕ, true, List, [], ◌∷◌, ◌++◌, length, take, drop, Ok, refl, sym, ap, ◌∙◌, inl, inr, arith, length-append, append_assoc}
 use Rattle.std.specs.Prelude.{◌≤◌, replicate, codes}
 use Rattle.std.proofs.lemmas.List.{take-replicate, length-replicate}
@@ -10,7 +10,7 @@ pub header_split : (file version rest field behind : List ℕ) (width : ℕ) →
 unfolding split_header
 header_split file version rest field behind width well one two three = rw (well, one, two, three) refl
 
--- the lowest of eight bytes
+-- the lowest `width` of eight bytes
 pub low_bytes : (width n : ℕ) (rest : List ℕ) → (width ≡ 2) ⊎ (width ≡ 4) → take width (little_bytes 8 n ++ rest) ≡ little_bytes width n
 low_bytes width n rest (inl two) = rw two refl
 low_bytes width n rest (inr four) = rw four refl

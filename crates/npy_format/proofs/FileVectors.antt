@@ -1,4 +1,4 @@
--- Files that are written: whole files byte for byte, as the format has them.
+-- Files that are written: whole files, byte for byte, as the format says.
 use Rattle.std.proofs.Common.{◌≡◌, ℕ, true, false, List, [], ◌∷◌, ◌++◌, Ok, Err, codes, replicate, refl}
 use Rattle.std.specs.Prelude.{pos}
 use Rattle.std.specs.Fmt.{digits}
@@ -22,7 +22,7 @@ pub three_integers : saved (ScalarDescr int) (3 ∷ []) (0 ∷ 4 ∷ 8 ∷ []) (
 unfolding digits saved
 three_integers = refl
 
--- items that lie in Fortran order
+-- items that are adjacent in Fortran order
 pub in_fortran_order : saved (ScalarDescr int) (2 ∷ 3 ∷ []) (0 ∷ 8 ∷ 16 ∷ 4 ∷ 12 ∷ 20 ∷ []) (one_number 1 ∷ one_number 2 ∷ one_number 3 ∷ one_number 4 ∷ one_number 5 ∷ one_number 6 ∷ [])
     ≡ Ok (first_version 118 (codes "{'descr': '<i4', 'fortran_order': True, 'shape': (2, 3), }") 59
     (1 ∷ 0 ∷ 0 ∷ 0 ∷ 4 ∷ 0 ∷ 0 ∷ 0 ∷ 2 ∷ 0 ∷ 0 ∷ 0 ∷ 5 ∷ 0 ∷ 0 ∷ 0 ∷ 3 ∷ 0 ∷ 0 ∷ 0 ∷ 6 ∷ 0 ∷ 0 ∷ 0 ∷ []))
@@ -41,7 +41,7 @@ pub nested_record : saved (RecordDescr (record { size = 8; fields = scalar_field
 unfolding digits saved
 nested_record = refl
 
--- padding behind the last field
+-- padding after the last field
 pub padding_last : saved (RecordDescr (record { size = 2; fields = scalar_field (codes "x") 0 (Byte true) no_more })) (1 ∷ []) (0 ∷ []) (one_number 1 ∷ [])
     ≡ Ok (first_version 118 (codes "{'descr': [('x', '|i1'), ('', '|V1')], 'fortran_order': False, 'shape': (1,), }") 38 (1 ∷ 0 ∷ []))
 unfolding digits saved

@@ -1,4 +1,4 @@
--- Items that are appended one after another.
+-- Appending items one after another.
 use Rattle.std.proofs.Common.{◌≡◌, inl, inr, ℕ, suc, ◌+◌, ◌-◌, ◌*◌, ◌^◌, ◌<◌, ◌≤◌, ◌&&◌, ◌||◌, not, true, false, Bool, pos, List, [], ◌∷◌, ◌++◌, length, get_or, take, drop, replicate, reverse, All, refl, sym, ap, subst, ◌∙◌, arith, append_assoc, zero-mul, suc-mul, length-append}
 use Rattle.std.specs.Prelude.{◌==◌, if◌then◌else◌}
 use Rattle.std.specs.List.{flat_map, AllByRecursion as Each}
@@ -10,7 +10,7 @@ use Rattle.std.proofs.lemmas.List.Elements.{All-head, All-tail, All-from_recursi
 use Rattle.npy_format.specs.Words.{place, item_at, EachWithin, begins_within, Run, count, indexes, rank, length-indexes, rank-lt, get_or-indexes, index_at, rank-zeros, IsIndex-first, zero_filled, count-reverse, IsIndex-from_reverse, first_address, fortran_order, is_c_contiguous, is_f_contiguous, Layout, max_items, offsets, length-offsets, run_offsets, runs, first_address-entry, length-run_offsets, run_offsets-more, place-at, run-ends, length-fortran, reverse-replicate}
 use Rattle.npy_format.specs.inside.WrittenItems.{gathered, addresses_in_file}
 
--- ---- items that lie one right after the other
+-- ---- adjacent items
 
 abbrev pub AreAdjacent : ℕ → ℕ → List ℕ → Type 0
 AreAdjacent width at [] = Unit {0}
@@ -25,7 +25,7 @@ gathered-adjacent width at (offset ∷ offsets) bytes adjacent =
     ∙ sym (take-add width (length offsets * width) (drop at bytes))
     ∙ ap (λ n. take n (drop at bytes)) (sym more)
 
--- the last ends within the bytes
+-- If adjacent items end within `len` bytes, so do all of them together.
 pub adjacent-ends : (width at len : ℕ) (offsets : List ℕ) → AreAdjacent width at offsets → All (λ offset. offset + width ≤ len) offsets → at ≤ len → at + length offsets * width ≤ len
 adjacent-ends width at len [] adjacent inside low = omega (arith, low, zero-mul width)
 adjacent-ends width at len (offset ∷ offsets) adjacent inside low =
@@ -51,12 +51,12 @@ adjacent-entries width at (offset ∷ offsets) entries = (
   adjacent-entries width (at + width) offsets (λ k low. entries (suc k) (omega (arith, low)) ∙ omega (arith, suc-mul k width)),
 )
 
--- the items of a run whose step is their size
+-- The items of a run whose step is their size are adjacent.
 pub adjacent-run : (len width : ℕ) (run : Run) → EachWithin len run.offset run.step width run.count → run.step ≡ pos width → AreAdjacent width run.offset (run_offsets run)
 adjacent-run len width run within step =
     adjacent-entries width run.offset (run_offsets run) (λ k low. place-at len width run k within (omega (arith, low, length-run_offsets run)) ∙ ap (λ s. place run.offset s k) step)
 
--- its items as one stretch
+-- The items of such a run are one stretch of bytes.
 pub stretch : (len width : ℕ) (run : Run) (bytes : List ℕ) → EachWithin len run.offset run.step width run.count → 1 ≤ run.count → run.step ≡ pos width → (run.offset + run.count * width ≤ len) × (gathered width bytes (run_offsets run) ≡ item_at run.offset (run.count * width) bytes)
 stretch len width run bytes within some step =
     let adjacent = adjacent-run len width run within step in
@@ -65,7 +65,7 @@ stretch len width run bytes within some step =
       gathered-adjacent width run.offset (run_offsets run) bytes adjacent ∙ ap (λ n. item_at run.offset (n * width) bytes) long,
     )
 
--- a run has no more items than its layout
+-- A run has at most as many items as all runs together.
 counts-below : (rs : List Run) (most : ℕ) → length (flat_map run_offsets rs) ≤ most → All (λ run. run.count ≤ most) rs
 counts-below rs most few = All-from_recursion (λ run. run.count ≤ most) rs (each rs few)
   where
@@ -80,7 +80,7 @@ few-counts l few are =
     let all = counts-below (runs l) max_items (omega (arith, few, ap length are, length-offsets l)) in
     λ k d below. omega (arith, all k d below)
 
--- ---- one more
+-- ---- one more item
 
 pub item_pushed : (len width : ℕ) (run : Run) (k : ℕ) (bytes file file' old : List ℕ) (at : ℕ) → EachWithin len run.offset run.step width run.count → k < run.count → at ≡ place run.offset run.step k
     → file' ≡ file ++ take (at + width - at) (drop at bytes) → file ≡ old ++ gathered width bytes (run_offsets (record { offset = run.offset; count = k; step = run.step }))
@@ -131,7 +131,7 @@ fortran-within shape offsets len width long inside = λ k d low.
     let found = fortran-entry shape offsets k d low long in
     subst (λ o. o + width ≤ len) (sym found.2) (inside (rank shape (reverse found.0)) 0 found.1)
 
--- the first index in reverse
+-- the first index is all zeros
 zeros-padded : (shape : List ℕ) → zero_filled shape [] ≡ replicate (length shape) 0
 zeros-padded [] = refl
 zeros-padded (n ∷ shape) = ap (λ index. 0 ∷ index) (zeros-padded shape)
@@ -166,7 +166,7 @@ in_file-none width shape offsets is = turn (is_c_contiguous width offsets) (is_f
     turn false true is = absurd (true≢false is)
     turn false false is = refl
 
--- items together, from a first one on
+-- the items of a file are one stretch of bytes, from the first address on
 pub record AreTogether (width : ℕ) (bytes offsets in_file : List ℕ) (n : ℕ) : Type 0 where
   pub joined : gathered width bytes in_file ≡ item_at (first_address offsets) (n * width) bytes
   pub ends : first_address offsets + n * width ≤ length bytes

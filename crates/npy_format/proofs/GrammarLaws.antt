@@ -1,4 +1,4 @@
--- What stays true of literals where the text is read a second time.
+-- Laws of literals for a text that is read a second time.
 use Rattle.std.proofs.Common.{◌≡◌, ◌<◌, ◌≤◌, ℕ, zero, suc, Bool, true, false, List, [], ◌∷◌, length, Option, Some, None, Result, Ok, Err, refl, ap, sym, ◌∙◌, arith}
 use Rattle.std.specs.Prelude.{nat_eq, if◌then◌else◌}
 use Rattle.std.specs.Option.{ok_or}
@@ -8,7 +8,7 @@ use Rattle.npy_format.specs.Tokens as token
 use Rattle.npy_format.specs.Listed.{Literal}
 use Rattle.npy_format.specs.Literals.{Read, symbol_token_at, if_read, list_end, entries_in, tuple_in, list_in, pair_in, dictionary_in, bracketed, literal_in}
 
--- ---- what is read at a depth is read at a greater one
+-- ---- what is read at a depth is read at a greater depth
 
 abbrev Less : {A : Type 0} → Result A Refusal → Result A Refusal → Type 0
 Less {A} r r' = (y : A) → r ≡ Ok y → r' ≡ Ok y
@@ -68,7 +68,7 @@ literal_less depth (token.Stray ∷ rest) = λ y is. is
 literal_less zero (token.Symbol b ∷ rest) = λ y is. cc
 literal_less (suc depth) (token.Symbol b ∷ rest) = bracketed_less (literal_in depth) (literal_in (suc depth)) (literal_less depth) b rest
 
--- ---- what is read takes a token or more
+-- ---- what is read takes at least one token
 
 pub symbol_shorter : (b : ℕ) (toks rest : List Token) → Some rest ≡ symbol_token_at b toks → length toks ≡ suc (length rest)
 symbol_shorter b [] rest is = cc
@@ -83,7 +83,7 @@ symbol_shorter b (token.Symbol c ∷ toks) rest is = chosen (nat_eq c b) is
     chosen true is = let e : toks ≡ rest = cc in ap (λ (l : List Token). suc (length l)) e
     chosen false is = cc
 
--- fewer tokens than these are left behind
+-- if something is read, fewer than `n` tokens remain
 abbrev Leaves : {A : Type 0} → ℕ → Read A → Type 0
 Leaves {A} n r = (y : A × List Token) → r ≡ Ok y → length y.1 < n
 
@@ -109,7 +109,7 @@ choose_leaves : {A : Type 0} (n : ℕ) (b : Bool) (r s : Read A) → Leaves n r 
 choose_leaves n true r s h k = h
 choose_leaves n false r s h k = k
 
--- the answer ends with these tokens
+-- the remaining tokens are these
 ends_leaves : {A : Type 0} (n : ℕ) (x : A) (rest : List Token) → length rest < n → Leaves n (Ok (x, rest))
 ends_leaves n x rest less y is = let e : rest ≡ y.1 = cc in omega (arith, less, ap (λ (l : List Token). length l) e)
 

@@ -1,4 +1,4 @@
--- What the pairs of a header say, pair by pair.
+-- What a header says, pair by pair.
 use Rattle.std.proofs.Common.{◌≡◌, ◌≢◌, ◌≤◌, ◌<◌, ◌+◌, ℕ, Bool, true, false, List, [], ◌∷◌, ◌++◌, length, Option, Some, None, Result, Ok, Err, refl, ap, sym, subst, ◌∙◌, arith, codes, map, min, append_assoc, length-append}
 use Rattle.std.specs.Prelude.{MatchOption, MatchResult, if◌then◌else◌}
 use Rattle.std.specs.Option.{ok_or, is_some}
@@ -26,7 +26,7 @@ comma_shorter toks = go (symbol_token_at 44 toks) refl
     go None is = rw is (omega arith)
     go (Some rest) is = rw is (omega (arith, symbol_shorter 44 toks rest (sym is)))
 
--- an entry takes a token or more
+-- an entry takes at least one token
 pub entry_shorter : {A : Type 0} (entry : List Token → Read A) (toks rest : List Token) → Shortens entry → behind_entry entry toks ≡ Ok rest → length rest < length toks
 entry_shorter entry toks rest shortens reads =
     let after = bind_ok (behind (entry toks)) _ _ reads in
@@ -66,7 +66,7 @@ pair_stands toks after p is =
       subst (λ (p : Pair). Stands mark.0 p.value) same (record { rest = under.0.1; is = under.1 }),
     )
 
--- a call that answers so, where only an answer is there
+-- What holds for every expected value and for every expected refusal, holds for the result of a call.
 pub answered : {X : Type 0} (view : X → List Token) (r : Result X Refusal) (there : Result (List Token) Refusal) (P : X → Type 0) (Q : Refusal → Type 0) → Answers view r there → ((x : X) → there ≡ Ok (view x) → P x) → ((e : Refusal) → there ≡ Err e → Q e) → MatchResult r P Q
 answered view (Ok x) there P Q is good bad = good x is
 answered view (Err e) there P Q is good bad = bad e is
@@ -185,7 +185,7 @@ lengths_inside v values is = ap lengths_of is ∙ ap integers_of (literals_of_li
 
 -- ---- the shape
 
--- the lengths so far, as they are held, before those of the rest
+-- the lengths so far, as the code holds them, followed by those of the rest
 pub record ShapeLeft (whole axes : List ℕ) (toks : List Token) : Type 0 where
   pub left : List ℕ
   pub stand : HasLengths toks left

@@ -1,4 +1,4 @@
--- A file that is cut into its parts again.
+-- Splitting a written file into its parts again.
 use Rattle.std.proofs.Common.{◌≡◌, ℕ, ◌+◌, ◌-◌, ◌%◌, ◌^◌, ◌<◌, ◌≤◌, List, [], ◌∷◌, ◌++◌, length, drop, replicate, codes, Ok, refl, sym, ap, ◌∙◌, arith, append_assoc, length-append, inl, inr}
 use Rattle.std.specs.Prelude.{if◌then◌else◌}
 use Rattle.std.proofs.Math.Seq.{take-append_seam, drop-append_seam}
@@ -13,7 +13,7 @@ use Rattle.npy_format.proofs.FileLaws.{header_split, length-padded}
 pub front_split : (front back : List ℕ) → split_front (length front) (front ++ back) ≡ Ok (front, back)
 front_split front back = rw (le-leb (length front) (length (front ++ back)) (omega (arith, length-append front back)), take-append_seam front back, drop-append_seam front back) refl
 
--- the header behind its length
+-- the header after its length
 text_split : (width : ℕ) (text items : List ℕ) → length text < 256 ^ width → length text ≤ max_header → text_behind (little_bytes width (length text)) (text ++ items) ≡ Ok (text, items)
 text_split width text items fits few =
     let field = little_bytes width (length text) in
@@ -34,7 +34,7 @@ version_split version width text items is fits few =
     header_split file (version ∷ (0 ∷ [])) rest field (text ++ items) width refl two is three
     ∙ text_split width text items fits few
 
--- a header that is written is found again
+-- A header that is written is found again.
 pub written_split : (text items : List ℕ) → length text + 65 ≤ max_header → (spaces : ℕ) × (split_header (written_header text ++ items) ≡ Ok (text ++ (replicate spaces 32 ++ codes "\n"), items))
 written_split text items few = elim (cases_lt max_short_text (length text)) [
   | inl long ↦

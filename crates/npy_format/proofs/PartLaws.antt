@@ -1,4 +1,4 @@
--- Files in two parts: a header that stands in the first.
+-- Files in two parts, the first of which contains the header.
 use Rattle.std.proofs.Common.{◌≡◌, ◌⊎◌, ◌<◌, ◌≤◌, ℕ, Bool, true, false, List, [], ◌∷◌, ◌++◌, length, take, drop, Ok, Err, refl, sym, ap, ◌∙◌, arith, length-append, length-take, nat_le, inl, inr}
 use Rattle.std.specs.Prelude.{if◌then◌else◌}
 use Rattle.std.proofs.lemmas.Bool.{le-leb, leb-true, cases_lt}
@@ -14,7 +14,7 @@ checked : (test : Bool) (refusal : Refusal) (u : Unit {0}) → check test refusa
 checked true refusal u e = refl
 checked false refusal u e = absurd cc
 
--- bytes that are cut, and more behind them
+-- bytes that are split, and more bytes after them
 cut : (n : ℕ) (bytes : List ℕ) (parts : List ℕ × List ℕ) → split_front n bytes ≡ Ok parts → (n ≤ length bytes) × ((take n bytes, drop n bytes) ≡ parts)
 cut n bytes parts e = by_test (nat_le n (length bytes)) refl e
   where
@@ -44,7 +44,7 @@ behind_more field bytes more text behind e =
     let low = bind_ok (check (nat_le n max_header) TooLarge) (λ _. split_front n bytes) (text, behind) e in
     rw (checked (nat_le n max_header) TooLarge low.0 low.1) (cut_more n bytes more text behind low.2)
 
--- a header that was found is found with more behind it
+-- A header that is found in a file is also found if more bytes follow.
 pub header_more : (file more text behind : List ℕ) → split_header file ≡ Ok (text, behind) → split_header (file ++ more) ≡ Ok (text, behind ++ more)
 unfolding split_header
 header_more file more text behind e =
@@ -60,12 +60,12 @@ header_more file more text behind e =
     three.1 (cut_more three.0 two.0.1 more four.0.0 four.0.1 four.1)
     ∙ behind_more four.0.0 four.0.1 more text behind four.2
 
--- the rest of a file is loaded behind its header
+-- To load a file is to load the bytes after its header.
 pub load_split : (file text behind : List ℕ) → split_header file ≡ Ok (text, behind) → load file ≡ load_behind text behind
 unfolding load load_behind
 load_split file text behind is = rw is refl
 
--- items with nothing behind them
+-- items with nothing after them
 pub nothing_behind : (items rest block : List ℕ) → items ++ rest ≡ block → length rest ≡ 0 → block ≡ items
 nothing_behind items [] block is none = sym is ∙ append-nil items
 nothing_behind items (b ∷ rest) block is none = absurd (omega (arith, none))

@@ -1,4 +1,4 @@
--- What stands in a text that was read before.
+-- The values in tokens that were read before.
 use Rattle.std.proofs.Common.{◌≡◌, ◌≢◌, ℕ, zero, suc, Bool, true, false, List, [], ◌∷◌, length, Option, Some, None, Result, Ok, Err, refl, ap, sym, ◌∙◌, arith}
 use Rattle.std.specs.Prelude.{nat_eq, if◌then◌else◌}
 use Rattle.std.specs.Option.{ok_or}
@@ -13,13 +13,13 @@ use Rattle.npy_format.specs.inside.Entries.{behind_comma}
 use Rattle.npy_format.specs.inside.Places.{StandIn, Stands, value_in}
 use Rattle.npy_format.proofs.GrammarLaws.{entries_less, literal_less}
 
--- a call has one answer
+-- a result has one value
 pub same_read : {A B : Type 0} (a a' : A) (b b' : B) (r : Result (A × B) Refusal) → r ≡ Ok (a, b) → r ≡ Ok (a', b') → (a ≡ a') × (b ≡ b')
 same_read {A} {B} a a' b b' r is is' = let same : (a, b) ≡ (a', b') = cc in (ap (λ (p : A × B). p.0) same, ap (λ (p : A × B). p.1) same)
 
 -- ---- entries, one by one
 
--- no symbol is two
+-- A token is not two different symbols.
 one_symbol : (b c : ℕ) → b ≢ c → (toks rest : List Token) → Some rest ≡ symbol_token_at b toks → None ≡ symbol_token_at c toks
 one_symbol b c other [] rest is = refl
 one_symbol b c other (token.Text bytes ∷ toks) rest is = refl
@@ -34,7 +34,7 @@ one_symbol b c other (token.Symbol d ∷ toks) rest is = chosen (nat_eq d b) (na
     chosen false true e e' is = cc
     chosen true true e e' is = absurd (other (sym (eqb-true d b e) ∙ eqb-true d c e'))
 
--- the first entry, and those behind it
+-- the first entry, and those after it
 pub record Next (A : Type 0) (entry : List Token → Read A) (closing : ℕ) (toks : List Token) (xs : List A) : Type 0 where
   pub first : A
   pub after : List Token
@@ -57,7 +57,7 @@ module _ {A : Type 0} (entry : List Token → Read A) (closing : ℕ) (toks : Li
   unfolding entries_in
   stand_open other s open' = turn s.turns s.is
     where
-      -- behind the first one
+      -- after the first one
       late : (n : ℕ) (first : A × List Token) → entry toks ≡ Ok first → (others : List A × List Token) → xs ≡ first.0 ∷ others.0 → (end comma : Option (List Token)) → symbol_token_at closing first.1 ≡ end → symbol_token_at 44 first.1 ≡ comma
           → if_read end list_end (if_read comma (entries_in entry closing n) (Err BadHeader)) ≡ Ok others → Next A entry closing toks xs
       late n first reads others is (Some end) comma e e' got =
@@ -99,7 +99,7 @@ pub data Boxed (value : List Token → Read Literal) (b : ℕ) (toks : List Toke
   list_boxed : (vs : List Literal) → b ≡ 91 → v ≡ Row Square (all_listed_values vs) → StandIn Literal value 93 toks vs → Boxed value b toks v
   pairs_boxed : b ≡ 123 → v ≡ Plain Dictionary → Boxed value b toks v
 
--- what is read of a tuple behind its first value
+-- what is read from a tuple after its first value
 abbrev tuple_others : (List Token → Read Literal) → Literal → List Token → Read Literal
 tuple_others value first behind = entries_in value 41 (length behind) behind >>= λ others. Ok (Row Round (all_listed_values (first ∷ others.0)), others.1)
 

@@ -1,4 +1,4 @@
--- A header that is read of the text that is written.
+-- Reading a header from the text that is written.
 use Rattle.std.proofs.Common.{◌≡◌, ℕ, zero, suc, ◌-◌, ◌<◌, ◌≤◌, Bool, true, false, All, List, [], ◌∷◌, ◌++◌, length, replicate, codes, decimal, None, Ok, refl, sym, ap, subst, ◌∙◌, arith, append_assoc, nat_eq}
 use Rattle.std.specs.Char.{is_ascii_digit}
 use Rattle.std.specs.List.{list_all, flat_map}
@@ -31,7 +31,7 @@ integers_read (n ∷ shape) = ap (λ r. r >>= λ ns. Ok (n ∷ ns)) (integers_re
 abbrev more_text : List ℕ → List ℕ
 more_text shape = flat_map (λ m. codes ", " ++ decimal m) shape
 
--- lengths behind the first one, up to the bracket
+-- the lengths after the first one, up to the closing bracket
 record AreBehind (shape rest : List ℕ) (toks : List Token) : Type 0 where
   tokens : List Token
   head : ℕ
@@ -43,7 +43,7 @@ record AreBehind (shape rest : List ℕ) (toks : List Token) : Type 0 where
   longer : length toks < length tokens
   reads : (depth turns : ℕ) (first : Literal) (before : List Token) → length tokens ≤ turns → None ≡ symbol_token_at 41 before → literal_in depth before ≡ Ok (first, tokens) → entries_in (literal_in depth) 41 (suc turns) before ≡ Ok (first ∷ integers shape, toks)
 
--- a length and those behind it
+-- a length and those after it
 abbrev from_number : ℕ → List ℕ → List ℕ → List ℕ
 from_number n shape rest = decimal n ++ (more_text shape ++ (41 ∷ rest))
 
@@ -143,7 +143,7 @@ truth_scans : (truth : Bool) (rest : List ℕ) (toks : List Token) → Scans (44
 truth_scans true rest toks more = scan_token 84 (codes "rue" ++ (44 ∷ rest)) (token.Truth true) (44 ∷ rest) toks refl refl (omega arith) more
 truth_scans false rest toks more = scan_token 70 (codes "alse" ++ (44 ∷ rest)) (token.Truth false) (44 ∷ rest) toks refl refl (omega arith) more
 
--- a key with its colon
+-- a key and its colon
 key_scans : (key rest : List ℕ) (toks : List Token) → list_all (is_plain_byte 39) key ≡ true → Scans rest toks → Scans (39 ∷ (key ++ (39 ∷ (58 ∷ (32 ∷ rest))))) (token.Text key ∷ (token.Symbol 58 ∷ toks))
 key_scans key rest toks plain more =
     scan_quoted key (58 ∷ (32 ∷ rest)) (token.Symbol 58 ∷ toks) plain (scan_token 58 (32 ∷ rest) (token.Symbol 58) (32 ∷ rest) toks refl refl (omega arith) (scan_space rest toks more))
@@ -154,7 +154,7 @@ comma_scans rest toks more = scan_token 44 (32 ∷ rest) (token.Symbol 44) (32 �
 abbrev pair_of : List ℕ → Literal → Pair
 pair_of key value = record { key = Plain (Text key); value = value }
 
--- the tokens of the dictionary, and what they are read as
+-- The tokens of the dictionary are read as its three pairs.
 pairs_read : (fortran : Bool) (element shape : Literal) (elements shapes : List Token) (k : ℕ)
     → literal_in 15 elements ≡ Ok (element, token.Symbol 44 ∷ (token.Text (codes "fortran_order") ∷ (token.Symbol 58 ∷ (token.Truth fortran ∷ (token.Symbol 44 ∷ (token.Text (codes "shape") ∷ (token.Symbol 58 ∷ shapes)))))))
     → literal_in 15 shapes ≡ Ok (shape, token.Symbol 44 ∷ (token.Symbol 125 ∷ []))

@@ -1,4 +1,4 @@
--- A record that is read of the entries that are written of it.
+-- Reading a record from the entries that are written for it.
 use Rattle.std.proofs.Common.{◌≡◌, ℕ, zero, suc, ◌+◌, ◌-◌, ◌^◌, ◌<◌, ◌≤◌, true, false, List, [], ◌∷◌, ◌++◌, map, length, codes, decimal, Result, Ok, refl, sym, ap, subst, ◌∙◌, arith, append_assoc, length-append, add-zero, nat_eq}
 use Rattle.std.specs.List.{IsDistinct, list_all}
 use Rattle.std.specs.Str.{bytes_eq}
@@ -18,7 +18,7 @@ use Rattle.npy_format.specs.WrittenHeaders.{written_descr, entries}
 after_ok : {X Y : Type 0} (r : Result X Refusal) (x : X) (f : X → Result Y Refusal) → r ≡ Ok x → (r >>= f) ≡ f x
 after_ok r x f is = ap (λ q. q >>= f) is
 
--- what may follow the fields so far
+-- what must hold for a field that follows the fields so far
 record MayGrow (leaves from : ℕ) (done : List Field) (name : List ℕ) (descr : Descr) : Type 0 where
   small : from + item_size descr ≤ 65536
   legal : is_legal_name name ≡ true
@@ -30,7 +30,7 @@ legal_some : (name : List ℕ) → is_legal_name name ≡ true → nat_eq (lengt
 legal_some [] legal = absurd (true≢false (sym legal))
 legal_some (b ∷ name) legal = ne_eqb (suc (length name)) 0 (λ same. omega (arith, same))
 
--- an entry is a field
+-- an entry is read as a field
 reads_entry : (within : Reader) (levels leaves from : ℕ) (done : List Field) (name : List ℕ) (type : Literal) (descr : Descr) → MayGrow leaves from done name descr → type_in (within leaves) type ≡ Ok descr → entry_in within (packed levels leaves from done) (entry_literal name type) ≡ Ok (grown levels leaves from done name descr)
 unfolding field_in
 reads_entry within levels leaves from done name type descr may reads =
@@ -38,7 +38,7 @@ reads_entry within levels leaves from done name type descr may reads =
     rw (literals_of_listed (Plain (Text name) ∷ (type ∷ [])), legal_some name may.legal, may.legal)
     (after_ok _ _ _ reads ∙ after_ok _ _ _ (name_ok p name may.new may.few) ∙ added_ok levels leaves from done name 1 descr refl may.counted may.small)
 
--- or a gap
+-- or as a gap
 pad_text : (n : ℕ) → 1 ≤ n → n ≤ 65536 → pad_kind (86 ∷ decimal n) ≡ Ok n
 pad_text n some small =
     let big : n < 2 ^ 64 = omega (arith, small) in
@@ -50,12 +50,12 @@ unfolding widened
 reads_gap within levels leaves from n done some small =
     rw (pad_text n some (omega (arith, small)), le-leb (from + n) 65536 small) refl
 
--- padding, where there is some
+-- padding, if there is any
 reads_padding : (within : Reader) (levels leaves from gap : ℕ) (done : List Field) (rest : List Literal) (r : Result Partial Refusal) → from + gap ≤ 65536 → fields_in within (packed levels leaves (from + gap) done) rest ≡ r → fields_in within (packed levels leaves from done) (gap_values gap ++ rest) ≡ r
 reads_padding within levels leaves from zero done rest r small more = rw (add-zero from) at more
 reads_padding within levels leaves from (suc n) done rest r small more = after_ok _ _ _ (reads_gap within levels leaves from (suc n) done (omega arith) small) ∙ more
 
--- ---- fields that are left
+-- ---- the remaining fields
 
 record MayRead (levels leaves from bytes : ℕ) (done : List Field) (fields : Fields) : Type 0 where
   order : InOrder from fields bytes

@@ -1,4 +1,4 @@
--- The tokens of a text that is written.
+-- The tokens of a written text.
 use Rattle.std.proofs.Common.{◌≡◌, ℕ, zero, suc, ◌+◌, ◌^◌, ◌<◌, ◌≤◌, Bool, true, false, List, [], ◌∷◌, ◌++◌, length, get_or, take, drop, replicate, refl, sym, ap, subst, ◌∙◌, arith, codes, decimal, length-append}
 use Rattle.std.specs.Prelude.{nat_eq, if◌then◌else◌}
 use Rattle.std.specs.Char.{is_ascii_digit, is_ascii_alphabetic}
@@ -10,7 +10,7 @@ use Rattle.std.proofs.lemmas.Fmt.{first_decimal, decimal_nonempty, decimal_digit
 use Rattle.npy_format.specs.Words.{value_of, digits-decimal, value_of-decimal, max_items}
 use Rattle.npy_format.specs.Tokens.{Token, Text, Integer, Symbol, Stray, is_space, is_quote, is_plain_byte, text_token, ended_text, is_integer, behind_long, integer_token, word_token, token_from, unspaced_text, first_token, tokens_in}
 
--- the tokens of a text, in turns enough for its bytes
+-- the tokens of a text, in any number of turns that is at least the number of its bytes
 abbrev pub Scans : List ℕ → List Token → Type 0
 Scans text toks = (turns : ℕ) → length text ≤ turns → tokens_in turns text ≡ toks
 
@@ -31,7 +31,7 @@ pub scan_spaces : (n : ℕ) (rest : List ℕ) (toks : List Token) → Scans rest
 scan_spaces zero rest toks more = more
 scan_spaces (suc n) rest toks more = scan_space (replicate n 32 ++ rest) toks (scan_spaces n rest toks more)
 
--- a token and what is behind it
+-- a token and those after it
 pub scan_token : (b : ℕ) (rest : List ℕ) (token : Token) (behind : List ℕ) (toks : List Token) → is_space b ≡ false → token_from b rest ≡ (token, behind) → length behind ≤ length rest → Scans behind toks → Scans (b ∷ rest) (token ∷ toks)
 scan_token b rest token behind toks begins is shorter more zero few = absurd (omega (arith, few))
 scan_token b rest token behind toks begins is shorter more (suc turns) few =
@@ -42,7 +42,7 @@ scan_token b rest token behind toks begins is shorter more (suc turns) few =
     none : unspaced_text (b ∷ rest) ≡ b ∷ rest
     none = rw begins refl
 
--- a prefix that passes a test, before a byte that does not
+-- bytes that pass a test, before a byte that does not
 prefix_all : (p : ℕ → Bool) (xs : List ℕ) (b : ℕ) (rest : List ℕ) → list_all p xs ≡ true → p b ≡ false → prefix_len p (xs ++ (b ∷ rest)) ≡ length xs
 prefix_all p [] b rest all stops = rw stops refl
 prefix_all p (x ∷ xs) b rest all stops =
@@ -96,7 +96,7 @@ chosen q t a b c first second = rw (first, second) refl
 token_digit : (d : ℕ) (rest : List ℕ) → is_ascii_digit d ≡ true → token_from d rest ≡ integer_token (d ∷ rest)
 token_digit d rest is = chosen (is_quote d) (is_ascii_digit d) (text_token d rest) (integer_token (d ∷ rest)) (if is_ascii_alphabetic d then word_token (d ∷ rest) else (Symbol d, rest)) (no_quote d is) is
 
--- a number before a byte that is no digit and no L
+-- a number before a byte that is neither a digit nor an `L`
 pub scan_number : (n b : ℕ) (rest : List ℕ) (toks : List Token) → n ≤ max_items → is_ascii_digit b ≡ false → nat_eq b 76 ≡ false → Scans (b ∷ rest) toks → Scans (decimal n ++ (b ∷ rest)) (Integer n ∷ toks)
 scan_number n b rest toks few stops short more =
     let small : n < 2 ^ 64 = omega (arith, few) in

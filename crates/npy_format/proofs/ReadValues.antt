@@ -1,4 +1,4 @@
--- Values that are written and read again from their tokens.
+-- Values that are written, and read back from their tokens.
 use Rattle.std.proofs.Common.{◌≡◌, ℕ, zero, suc, ◌+◌, ◌-◌, ◌*◌, ◌^◌, ◌<◌, ◌≤◌, ◌&&◌, nat_le, Bool, true, false, List, [], ◌∷◌, ◌++◌, length, None, Ok, refl, sym, ap, subst, arith, codes, decimal, append_assoc}
 use Rattle.std.specs.List.{list_all}
 use Rattle.std.specs.Char.{is_ascii_digit}
@@ -14,7 +14,7 @@ use Rattle.npy_format.specs.Literals.{symbol_token_at, entries_in, tuple_in, lis
 use Rattle.npy_format.specs.WrittenHeaders.{quoted, entry, gap, separated, in_brackets, entries}
 use Rattle.npy_format.proofs.ReadTokens.{Scans, scan_token, scan_space, scan_quoted}
 
--- tokens that are read as a value, with those behind it
+-- the tokens of a text that are read as a value, followed by the tokens `toks`
 pub record IsRead (depth : ℕ) (text : List ℕ) (value : Literal) (toks : List Token) : Type 0 where
   pub tokens : List Token
   pub scans : Scans text tokens
@@ -27,7 +27,7 @@ pub record IsRead (depth : ℕ) (text : List ℕ) (value : Literal) (toks : List
 abbrev pub IsValue : ℕ → List ℕ → Literal → Type 0
 IsValue depth text value = (rest : List ℕ) (toks : List Token) → Scans rest toks → IsRead depth (text ++ rest) value toks
 
--- texts are values, one by one
+-- each text is the value at the same position
 abbrev pub AreValues : ℕ → List (List ℕ) → List Literal → Type 0
 AreValues depth [] [] = Unit {0}
 AreValues depth (text ∷ texts) (value ∷ values) = IsValue depth text value × AreValues depth texts values
@@ -47,14 +47,14 @@ quoted_value depth text plain rest toks more =
       no_round = refl;
     }
 
--- what is read behind a value: values that commas part, up to the bracket that closes them
+-- the tokens of a text that are read as values, separated by commas, up to the closing bracket
 pub record AreRead (depth closing : ℕ) (text : List ℕ) (values : List Literal) (toks : List Token) : Type 0 where
   pub tokens : List Token
   pub scans : Scans text tokens
   pub reads : (turns : ℕ) → length tokens ≤ turns → entries_in (literal_in depth) closing turns tokens ≡ Ok (values, toks)
   pub longer : length toks < length tokens
 
--- behind the first
+-- the same for the values after the first one
 record AreBehind (depth closing : ℕ) (text : List ℕ) (values : List Literal) (toks : List Token) : Type 0 where
   tokens : List Token
   scans : Scans text tokens

@@ -1,4 +1,4 @@
--- The entries of a list, one after the other.
+-- The entries of a list, one after another.
 use Rattle.std.proofs.Common.{◌≡◌, ◌⊎◌, ◌<◌, ◌+◌, ◌-◌, ℕ, suc, Bool, true, false, List, [], ◌∷◌, Option, Some, None, Result, Ok, Err, refl, ap, ⊎_elim, inl, inr, ◌∙◌, arith}
 use Rattle.std.specs.Prelude.{if◌then◌else◌}
 use Rattle.npy_format.specs.Words.{Refusal, DescriptorLeftOut, OutOfMemory, ◌>>=◌, Gives, Answers, Descr, Structure, is_legal_name, is_empty, Partial, max_depth, empty, checked_name, added, closed_record}
@@ -14,12 +14,12 @@ use Rattle.npy_format.proofs.ValueLaws.{literals_of_listed}
 use Rattle.npy_format.proofs.PlaceLaws.{stand_closed, stand_open}
 use Rattle.npy_format.proofs.StandLaws.{next_stands, is_read}
 
--- no record may lie here
+-- If no levels are allowed, a record is refused.
 pub no_levels : (levels leaves : ℕ) (entries : List Literal) → levels ≡ 0 → record_in levels leaves entries ≡ Err DescriptorLeftOut
 unfolding record_in
 no_levels levels leaves entries none = rw none refl
 
--- a record before the entries that are left
+-- a record so far, and the remaining entries
 pub record FieldsLeft (levels leaves : ℕ) (whole : List Literal) (p : Partial) (toks : List Token) : Type 0 where
   pub left : List Literal
   pub stand : HasValues 93 toks left
@@ -83,7 +83,7 @@ list_type within v values is = ap (type_in within) is ∙ ap (λ (l : List Liter
 pub list_descr : (v : Literal) (values : List Literal) → v ≡ Row Square (all_listed_values values) → descr_in v ≡ (record_in max_depth 0 values >>= λ whole. Ok (RecordDescr whole))
 list_descr v values is = ap descr_in is ∙ ap (λ (l : List Literal). record_in max_depth 0 l >>= λ whole. Ok (RecordDescr whole)) (literals_of_listed values)
 
--- what the parts of an entry mean
+-- what the name and the type of an entry mean
 abbrev pub parts_in : Reader → Partial → Option (List ℕ × Literal) → Result Partial Refusal
 parts_in within p None = Err DescriptorLeftOut
 parts_in within p (Some parts) = if is_empty parts.0 then pad_in p parts.1 else field_in within p parts.0 parts.1

@@ -1,4 +1,4 @@
--- What is written of an array is loaded again.
+-- The file of an array loads as that array.
 use Rattle.std.proofs.Common.{◌≡◌, ℕ, zero, suc, ◌+◌, ◌-◌, ◌*◌, ◌<◌, ◌≤◌, true, false, Bool, pos, List, [], ◌∷◌, ◌++◌, map, length, get_or, take, drop, replicate, reverse, codes, All, Ok, refl, sym, ap, subst, Result, ◌∙◌, arith, append_assoc, length-append, zero-mul, suc-mul}
 use Rattle.std.specs.Prelude.{if◌then◌else◌}
 use Rattle.std.specs.List.{flat_map, range_with_len}
@@ -80,7 +80,7 @@ item_length descr item sound = length-written 0 (leaves_of descr) item (item_siz
 
 -- ---- all items
 
--- lists of so many bytes, one after another
+-- the bytes of each item are `width` bytes
 abbrev AllLong : ℕ → List (List LeafValue) → (List LeafValue → List ℕ) → Type 0
 AllLong width [] f = Unit {0}
 AllLong width (item ∷ items) f = (length (f item) ≡ width) × AllLong width items f
@@ -100,7 +100,7 @@ all_length : (f : List LeafValue → List ℕ) (width : ℕ) (items : List (List
 all_length f width [] long = sym (zero-mul width)
 all_length f width (item ∷ items) long = omega (arith, length-append (f item) (flat_map f items), long.0, all_length f width items long.1, suc-mul (length items) width)
 
--- a file whose items are all that is behind the header
+-- a file in which only the items follow the header
 load_is : (file text items : List ℕ) (head : Header) → split_header file ≡ Ok (text, items) → header text ≡ Ok head → data_size head ≤ max_bytes → length items ≡ data_size head → load file ≡ Ok (record { head = head; items = items; rest = 0 })
 unfolding load
 load_is file text items head split is small whole =
@@ -110,7 +110,7 @@ load_is file text items head split is small whole =
     body = (λ i. split_front (sym whole i) (sym (append-nil items) i)) ∙ front_split items []
 
 module _ (descr : Descr) (sound : IsSound descr) (block : List ℕ) (are : AreBytes block) where
-  -- the value of the item at an offset, and its bytes as they are written
+  -- the value of the item at an offset
   abbrev value : ℕ → List LeafValue
   value offset = item_from descr block offset
 

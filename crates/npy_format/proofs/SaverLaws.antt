@@ -1,4 +1,4 @@
--- A file whose items lie in their block as the file has them.
+-- A file whose items are stored in their block as in the file.
 use Rattle.std.proofs.Common.{◌≡◌, ℕ, ◌+◌, ◌*◌, ◌<◌, ◌≤◌, Bool, true, List, ◌++◌, map, length, drop, All, IfOk, refl, sym, ap, subst, ◌∙◌, arith, ◌||◌}
 use Rattle.std.specs.List.{flat_map}
 use Rattle.std.proofs.Math.Seq.{take-append_seam, drop-append_seam}
@@ -32,11 +32,11 @@ module _ (descr : Descr) (shape offsets bytes : List ℕ) (start len : ℕ) (lon
       ∙ file_written shape offsets bytes head file width long inside refl descr file (length head) n refl refl refl
       (ap (λ back. head ++ back) again ∙ sym (λ i. take-append_seam head items i ++ flat_map f (blocks width n (drop-append_seam head items i))))
 
--- items of too many bytes have no file
+-- Items with too many bytes have no file.
 pub large-loads : (descr : Descr) (shape addresses : List ℕ) (items : List (List LeafValue)) → max_bytes < count shape * item_size descr → IfOk (saved descr shape addresses items) (λ file. LoadsAs file descr shape items)
 large-loads descr shape addresses items large = rw (saved-large descr shape addresses items large) tt
 
--- the file of all others loads again
+-- The file of all others loads again.
 pub small-loads : (descr : Descr) (shape addresses bytes block : List ℕ) → bytes ≡ block → count shape * item_size descr ≤ max_bytes
     → ((fortran : Bool) → LoadsAs (file_of descr fortran shape (map (item_from descr bytes) addresses)) descr shape (map (item_from descr bytes) addresses))
     → IfOk (saved descr shape addresses (map (item_from descr block) addresses)) (λ file. LoadsAs file descr shape (map (item_from descr block) addresses))

@@ -1,4 +1,4 @@
--- The bytes of a scalar, read and written again.
+-- The bytes of a scalar, read and written back.
 use Rattle.std.proofs.Common.{◌≡◌, ℕ, zero, suc, ◌+◌, ◌-◌, ◌*◌, ◌/◌, ◌^◌, ◌<◌, List, [], ◌∷◌, ◌++◌, length, replicate, refl, sym, ap, ◌∙◌, arith, length-take}
 use Rattle.std.specs.Prelude.{nat_eq}
 use Rattle.std.specs.Int.{byte_at, bytes_low_first, bytes_high_first}
@@ -26,7 +26,7 @@ high_are zero x k = omega arith
 high_are (suc n) x zero = byte_at-lt n x
 high_are (suc n) x (suc k) = high_are n x k
 
--- bytes that are the same number are the same
+-- Bytes that mean the same number are the same.
 same_low : (n : ℕ) (xs ys : List ℕ) → length xs ≡ n → length ys ≡ n → AreBytes xs → AreBytes ys → little_from 0 n xs ≡ little_from 0 n ys → xs ≡ ys
 same_low n [] [] long long' are are' e = refl
 same_low n [] (y ∷ ys) long long' are are' e = absurd (omega (arith, long, long'))
@@ -65,7 +65,7 @@ again Big n bytes long are =
 
 -- ---- byte strings
 
--- a byte string without its NULs, filled up with as many
+-- Padding a byte string without its NULs gives the byte string back.
 text_again : (n : ℕ) (bytes : List ℕ) → length bytes ≡ n → padded n (without_nuls bytes) ≡ bytes
 text_again n bytes long =
     let few = suffix_len-le-length (λ b. nat_eq b 0) bytes in

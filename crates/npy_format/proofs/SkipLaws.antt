@@ -1,4 +1,4 @@
--- What is left behind entries, read turn by turn, and behind what stands in brackets.
+-- The tokens after entries, read turn by turn, and after a value in brackets.
 use Rattle.std.proofs.Common.{◌≡◌, ◌<◌, ◌≤◌, ◌-◌, ℕ, zero, suc, Bool, List, [], ◌∷◌, length, Option, Some, None, Ok, Err, refl, ap, ◌∙◌, arith}
 use Rattle.std.specs.Option.{ok_or}
 use Rattle.npy_format.specs.Words.{Refusal, BadHeader, ◌>>=◌, bind_same}
@@ -28,7 +28,7 @@ found_same None next next' other h = refl
 found_same (Some b) next next' other h = h b refl
 
 module _ {A : Type 0} (entry : List Token → Read A) (shortens : Shortens entry) (none : entry [] ≡ Err BadHeader) where
-  -- turns enough for the tokens
+  -- Any number of turns that is at least the number of tokens reads the same.
   pub entries_turns : (closing n m : ℕ) (toks : List Token) → length toks ≤ n → length toks ≤ m → entries_in entry closing n toks ≡ entries_in entry closing m toks
   unfolding entries_in
   entries_turns closing zero zero toks few few' = refl
@@ -154,7 +154,7 @@ module _ (depth : ℕ) (toks rest : List Token) where
   unfolding literal_in
   no_level b none is = let zero_is : depth ≡ zero = omega (arith, none) in rw (zero_is, is) refl
 
-  -- brackets, where there is a level for them
+  -- brackets, if a level is left for them
   pub skip_symbol : (b : ℕ) → 0 < depth → toks ≡ token.Symbol b ∷ rest → literal_in depth toks ≡ bracketed (literal_in (depth - 1)) b rest
   unfolding literal_in
   skip_symbol b some is = let more : depth ≡ suc (depth - 1) = omega (arith, some) in rw is (ap (λ (n : ℕ). literal_in n (token.Symbol b ∷ rest)) more)
@@ -163,7 +163,7 @@ pub skip_end : (depth : ℕ) (toks : List Token) → toks ≡ [] → behind (lit
 unfolding literal_in
 skip_end depth toks is = rw is refl
 
--- more turns read the same
+-- More turns read the same.
 pub header_any_turns : HeaderAnyTurns
 header_any_turns = (
   tokens_any_turns,

@@ -1,4 +1,4 @@
--- What stands where a text is read a second time.
+-- What is found when a text is read a second time.
 use Rattle.std.proofs.Common.{◌≡◌, ◌≢◌, ℕ, true, false, List, [], ◌∷◌, Option, Some, None, Result, Ok, Err, Bor, refl, ap, sym, subst, ◌∙◌, arith}
 use Rattle.std.specs.Option.{is_some, option_map}
 use Rattle.std.specs.Prelude.{option_copied}
@@ -16,7 +16,7 @@ use Rattle.npy_format.specs.inside.Places.{StandIn, HasValues, HasLengths, Stand
 use Rattle.npy_format.proofs.ValueLaws.{literals_of_listed}
 use Rattle.npy_format.proofs.PlaceLaws.{stand_open, stand_closed, Front, text_front, integer_front, truth_front, nothing_front, boxed_front, tuple_boxed, list_boxed, pairs_boxed, front_of, same_read}
 
--- a symbol that is there, or not
+-- a symbol that comes next, or not
 pub symbol_open : (r : Option (Bor (List ℕ))) (there : Option (List Token)) → is_some r ≡ false → option_map tokens (option_copied r) ≡ there → None ≡ there
 symbol_open None there none is = is
 symbol_open (Some x) there none is = cc
@@ -130,7 +130,7 @@ module _ (toks : List Token) (v : Literal) (s : Stands toks v) where
       go (boxed_front b inside e (list_boxed vs at e' st)) = (rw e' refl, rw e' refl)
       go (boxed_front b inside e (pairs_boxed at e')) = (rw e' refl, rw e' refl)
 
-  -- no value begins with a round bracket that closes
+  -- No value begins with a closing round bracket.
   pub no_end : None ≡ symbol_token_at 41 toks
   no_end = go (front_of toks v s)
     where
@@ -185,7 +185,7 @@ module _ (toks : List Token) (v : Literal) (s : Stands toks v) where
 pub comma_is : (toks next : List Token) → Some next ≡ symbol_token_at 44 toks → behind_comma toks ≡ next
 comma_is toks next is = rw (← is) refl
 
--- where entries stand, one is read where they do not end
+-- If the tokens begin with entries, and not with their end, one entry is read.
 module _ {A : Type 0} (entry : List Token → Read A) (closing : ℕ) (other : closing ≢ 44) (toks : List Token) (xs : List A) (s : StandIn A entry closing toks xs) (open' : None ≡ symbol_token_at closing toks) where
   pub is_read : (e : Refusal) → behind_entry entry toks ≡ Err e → ⊥
   is_read e fails =
@@ -223,7 +223,7 @@ module _ (inside : List Token) (vs : List Literal) (s : HasValues 41 inside vs) 
           let next = stand_open value_in 41 inside vs no_44 s (sym e) in
           ap name_and_type next.is ∙ no_name inside next.first (record { rest = next.after; is = next.reads }) none next.others
 
-  -- a name that stands first, and what is behind it
+  -- a name that comes first, and the values after it
   pub named : (found : List ℕ × List Token) → Some found ≡ string_at inside → (others : List Literal) × (vs ≡ Plain (Text found.0) ∷ others) × HasValues 41 (behind_comma found.1) others × (None ≡ symbol_token_at 44 found.1 → others ≡ [])
   unfolding literal_in
   named found is =
@@ -253,7 +253,7 @@ module _ (kind : List Token) (others : List Literal) (s : HasValues 41 kind othe
           let next = next_stands value_in 41 no_44 kind others s (no_end kind x.0 stands) rest reads in
           (next.0, next.1, next.4, record { rest = next.2; is = next.3 }, next.5)
 
--- a third value
+-- If values remain and their end does not come next, there is one more.
 pub many : (rest : List Token) (later : List Literal) → HasValues 41 rest later → None ≡ symbol_token_at 41 rest → (x : Literal) × (more : List Literal) × (later ≡ x ∷ more)
 many rest later s open' = let next = stand_open value_in 41 rest later no_44 s open' in (next.first, next.others, next.is)
 

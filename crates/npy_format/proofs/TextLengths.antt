@@ -1,4 +1,4 @@
--- How long the text of a header may be.
+-- The maximum length of the text of a header.
 use Rattle.std.proofs.Common.{◌≡◌, ℕ, zero, suc, ◌+◌, ◌-◌, ◌*◌, ◌≤◌, ◌&&◌, Bool, true, false, All, List, [], ◌∷◌, ◌++◌, length, codes, decimal, arith, length-append, suc-mul, mul-le-mul_left, nat_le}
 use Rattle.std.specs.List.{list_all, flat_map}
 use Rattle.std.proofs.lemmas.Bool.{leb-true, and_parts}
@@ -73,7 +73,7 @@ short_entries (record_field name at width inner rest) from bytes order small nam
     let later = entries (at + width) rest bytes in
     omega (arith, separated-append (gap (at - from)) (entry name type ∷ later), length-separated (entry name type) later, short_gap (at - from) (omega (arith, small, ends)), length-entry name type, short_name name legal.0, length-brackets (entries 0 inner width), short_entries inner 0 width order.2 (omega (arith, small, ends)) within.0.named within.1, short_entries rest (at + width) bytes order.3 small legal.1 within.2)
 
--- fields are as many as leaves at each level
+-- At each level there are at most as many fields as leaves.
 few_fields : (fields : Fields) (levels : ℕ) → depth fields ≤ levels → AreNamedWithin fields → total fields ≤ levels * leaf_count fields
 few_fields fields zero deep within = absurd (omega (arith, deep, some_depth fields))
 few_fields no_more (suc levels) deep within = omega arith
@@ -112,7 +112,7 @@ short_truth : (truth : Bool) → length (written_truth truth) ≤ 5
 short_truth true = omega arith
 short_truth false = omega arith
 
--- the text is shorter than the longest header that is read
+-- the text is shorter than the maximum length of a header that is read
 pub short_text : (descr : Descr) (fortran : Bool) (shape : List ℕ) → IsSound descr → IsShape shape → length (written_text descr fortran shape) ≤ 900000
 short_text descr fortran shape sound is =
     let d = written_descr descr in

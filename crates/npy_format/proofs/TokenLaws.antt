@@ -1,4 +1,4 @@
--- The tokens of a text, one after the other.
+-- The tokens of a text, one after another.
 use Rattle.std.proofs.Common.{◌≡◌, ◌<◌, ◌≤◌, ◌+◌, ◌-◌, ℕ, zero, suc, Bool, true, false, List, [], ◌∷◌, length, take, drop, get_or, refl, ap, sym, ◌∙◌, arith, length-drop}
 use Rattle.std.proofs.lemmas.List.{take_all}
 use Rattle.std.specs.Prelude.{nat_eq, if◌then◌else◌}
@@ -6,7 +6,7 @@ use Rattle.std.specs.Char.{is_ascii_digit, is_ascii_alphabetic}
 use Rattle.std.specs.List.{prefix_len}
 use Rattle.npy_format.specs.Tokens.{Token, Symbol, Text, Stray, is_space, is_quote, is_plain_byte, ended_text, text_token, behind_long, integer_token, word_token, token_from, unspaced_text, first_token, tokens_in, tokens}
 
--- ---- a token takes a byte or more
+-- ---- a token takes at least one byte
 
 chosen : (is : Bool) (n : ℕ) (a b : List ℕ) → length a ≤ n → length b ≤ n → length (if is then a else b) ≤ n
 chosen true n a b few few' = few
@@ -30,7 +30,7 @@ shorter_long : (bytes : List ℕ) → length (behind_long bytes) ≤ length byte
 shorter_long [] = omega arith
 shorter_long (b ∷ rest) = chosen (nat_eq b 76) (suc (length rest)) rest (b ∷ rest) (omega arith) (omega arith)
 
--- behind a byte that passes a test, and those after it that do
+-- after a byte that passes a test, and those after it that pass
 shorter_front : (test : ℕ → Bool) (b : ℕ) (rest : List ℕ) → test b ≡ true → length (drop (prefix_len test (b ∷ rest)) (b ∷ rest)) ≤ length rest
 shorter_front test b rest passes =
     let n = prefix_len test (b ∷ rest) in
@@ -95,7 +95,7 @@ tokens_next text rest d token behind is some next = tokens_is text ∙ ap (first
     one [] e n = absurd (omega (arith, e))
     one (b ∷ l) e n = ap (λ (r : Token × List ℕ). r.0 ∷ tokens r.1) (ap (token_from b) (sym (take_all (length (b ∷ l) - 1) l (omega arith))) ∙ sym n)
 
--- no more tokens than bytes
+-- at most as many tokens as turns
 few_in : (turns : ℕ) (text : List ℕ) → length (tokens_in turns text) ≤ turns
 few_in zero text = omega arith
 few_in (suc turns) text = first (few_in turns) (unspaced_text text)

@@ -89,12 +89,12 @@ pub taken : with_descr (codes "[('x', '<i4'), ('x', '<i4')]") ≡ Err BadDescrip
 unfolding tokens entries_in tuple_in list_in pair_in dictionary_in literal_in field_in record_in checked_name added widened closed_record header_of shape_of
 taken = refl
 
--- a type that is left out is met before the name that is taken
+-- an unsupported type is refused before a name that is taken
 pub taken_and_left_out : with_descr (codes "[('x', '<i4'), ('x', '<f4')]") ≡ Err DescriptorLeftOut
 unfolding tokens entries_in tuple_in list_in pair_in dictionary_in literal_in field_in record_in checked_name added widened closed_record header_of shape_of
 taken_and_left_out = refl
 
--- a header that is bad is bad before its element type is looked at
+-- a bad header is refused before its element type is checked
 pub bad_before : with_descr (codes "'<f8', 'x': 1") ≡ Err BadHeader
 unfolding tokens entries_in tuple_in list_in pair_in dictionary_in literal_in header_of shape_of
 bad_before = refl

@@ -1,4 +1,4 @@
--- A file, put together of its header and its items.
+-- A file, put together from its header and its items.
 use Rattle.std.proofs.Common.{◌≡◌, ℕ, ◌+◌, ◌*◌, ◌<◌, ◌≤◌, true, false, Bool, List, [], ◌∷◌, ◌++◌, map, length, get_or, take, drop, reverse, All, Ok, Err, refl, sym, ap, ◌∙◌, arith, zero-mul, suc-mul, length-append}
 use Rattle.std.specs.Prelude.{if◌then◌else◌}
 use Rattle.std.specs.List.{flat_map}
@@ -13,7 +13,7 @@ use Rattle.npy_format.specs.WrittenFiles.{is_fortran, ordered, file_of, saved}
 use Rattle.npy_format.specs.inside.WrittenItems.{gathered, addresses_in_file}
 use Rattle.npy_format.proofs.GatherLaws.{fortran-entry, fortran-within}
 
--- items that are gathered, item by item
+-- gathered items, item by item
 blocks_gathered : (f : List ℕ → List ℕ) (width : ℕ) (offsets bytes : List ℕ) → All (λ offset. offset + width ≤ length bytes) offsets → flat_map f (blocks width (length offsets) (gathered width bytes offsets)) ≡ flat_map (λ offset. f (item_at offset width bytes)) offsets
 blocks_gathered f width [] bytes inside = refl
 blocks_gathered f width (offset ∷ offsets) bytes inside =
@@ -30,7 +30,7 @@ length-gathered width [] bytes inside = sym (zero-mul width)
 length-gathered width (offset ∷ offsets) bytes inside =
     omega (arith, length-append (item_at offset width bytes) (gathered width bytes offsets), length-item_at offset width bytes (All-head (λ o. o + width ≤ length bytes) offset offsets inside), length-gathered width offsets bytes (All-tail (λ o. o + width ≤ length bytes) offset offsets inside), suc-mul (length offsets) width)
 
--- items in the order of the file, whether of their addresses or of their values
+-- The order of the file applies to the values of items as it does to their addresses.
 pub ordered-items : (g : ℕ → List LeafValue) (fortran : Bool) (shape offsets : List ℕ) → length offsets ≡ count shape → ordered (file_order fortran) shape (map g offsets) ≡ map g (if fortran then fortran_order shape offsets else offsets)
 ordered-items g false shape offsets long = refl
 ordered-items g true shape offsets long =
@@ -51,14 +51,14 @@ in_file-length width shape offsets long = elim (is_fortran width shape offsets) 
 in_file-within : (width len : ℕ) (shape offsets : List ℕ) → length offsets ≡ count shape → All (λ offset. offset + width ≤ len) offsets → All (λ offset. offset + width ≤ len) (addresses_in_file width shape offsets)
 in_file-within width len shape offsets long inside = elim (is_fortran width shape offsets) as (λ f. All (λ offset. offset + width ≤ len) (if f then fortran_order shape offsets else offsets)) [ true ↦ fortran-within shape offsets len width long inside | false ↦ inside ]
 
--- the header, and items as they lie
+-- the header, and the items as they are in memory
 module _ (shape offsets bytes head file : List ℕ) (width : ℕ) (long : length offsets ≡ count shape) (inside : All (λ offset. offset + width ≤ length bytes) offsets) (is : file ≡ head ++ gathered width bytes (addresses_in_file width shape offsets)) where
   pub file_length : length file ≡ length head + count shape * width
   file_length =
       let all = addresses_in_file width shape offsets in
       ap length is ∙ length-append head (gathered width bytes all) ∙ ap (λ n. length head + n) (length-gathered width all bytes (in_file-within width (length bytes) shape offsets long inside) ∙ ap (λ n. n * width) (in_file-length width shape offsets long))
 
-  -- and then as they are written
+  -- the same file, with the items as they are written
   pub file_written : (descr : Descr) (file' : List ℕ) (start n : ℕ) → width ≡ item_size descr → start ≡ length head → n ≡ count shape
       → file' ≡ take start file ++ flat_map (λ item. encode_item descr (decode_item descr item)) (blocks (item_size descr) n (drop start file))
       → file' ≡ head ++ flat_map (encode_item descr) (ordered (file_order (is_fortran width shape offsets)) shape (map (item_from descr bytes) offsets))
@@ -77,7 +77,7 @@ module _ (shape offsets bytes head file : List ℕ) (width : ℕ) (long : length
       ∙ sym (flat_map-map (encode_item descr) (item_from descr bytes) all)
       ∙ ap (flat_map (encode_item descr)) (sym (ordered-items (item_from descr bytes) (is_fortran width shape offsets) shape offsets long)))
 
--- what is saved of more bytes than there may be, and of fewer
+-- what is saved if the items have too many bytes, and if they do not
 pub saved-large : (descr : Descr) (shape addresses : List ℕ) (items : List (List LeafValue)) → max_bytes < count shape * item_size descr → saved descr shape addresses items ≡ Err TooLarge
 unfolding saved
 saved-large descr shape addresses items large = rw (lt-leb (count shape * item_size descr) max_bytes large) refl

@@ -1,4 +1,4 @@
--- The entries of a list, written one after the other.
+-- The entries of a list, written one after another.
 use Rattle.std.proofs.Common.{◌≡◌, ◌≤◌, ◌<◌, ◌+◌, ◌-◌, ℕ, zero, suc, Bool, true, false, ◌&&◌, List, [], ◌∷◌, ◌++◌, codes, decimal, length, get_or, drop, refl, sym, ap, ◌∙◌, append_assoc, nat_eq, arith}
 use Rattle.std.proofs.lemmas.List.{at_drop_all}
 use Rattle.std.proofs.lemmas.Bool.{ne_eqb}
@@ -17,7 +17,7 @@ not_first false = refl
 after_gap : (first : Bool) (text rest : List ℕ) → entry_separator first ++ (text ++ (codes ", " ++ rest)) ≡ (entry_separator first ++ (text ++ [])) ++ (codes ", " ++ rest)
 after_gap first text rest = sym (append_assoc (entry_separator first) (text ++ []) (codes ", " ++ rest) ∙ ap (λ t. entry_separator first ++ t) (append_assoc text [] (codes ", " ++ rest)))
 
--- a gap, and an entry behind it
+-- a gap, and an entry after it
 separated_gap : (first : Bool) (n : ℕ) (text : List ℕ) (texts : List (List ℕ)) → separated first (gap n ++ (text ∷ texts)) ≡ separated first (gap n) ++ (entry_separator (first && nat_eq n 0) ++ (text ++ separated false texts))
 separated_gap true zero text texts = refl
 separated_gap false zero text texts = refl
@@ -65,6 +65,6 @@ list_written from bytes fields i first before text all l last so_far =
 joined : (a b c d e f g : List ℕ) → (((((([] ++ a) ++ b) ++ c) ++ d) ++ e) ++ f) ++ g ≡ a ++ (b ++ (c ++ (d ++ (e ++ (f ++ g)))))
 joined a b c d e f g = simp append_assoc
 
--- seven texts, one after the other
+-- seven texts, one after another
 pub seven_written : (a b c d e f g t u v w x y z n : List ℕ) → n ≡ [] → t ≡ n ++ a → u ≡ t ++ b → v ≡ u ++ c → w ≡ v ++ d → x ≡ w ++ e → y ≡ x ++ f → z ≡ y ++ g → z ≡ a ++ (b ++ (c ++ (d ++ (e ++ (f ++ g)))))
 seven_written a b c d e f g t u v w x y z n is-n is-t is-u is-v is-w is-x is-y is-z = rw (is-z, is-y, is-x, is-w, is-v, is-u, is-t, is-n) (joined a b c d e f g)

@@ -1,4 +1,4 @@
--- Items that are written over their bytes.
+-- Writing items over their own bytes.
 use Rattle.std.proofs.Common.{◌≡◌, ℕ, zero, suc, ◌+◌, ◌-◌, ◌*◌, ◌<◌, ◌≤◌, min, inl, inr, List, [], ◌∷◌, ◌++◌, map, length, get_or, take, drop, replicate, slice_set, refl, sym, ap, subst, ◌∙◌, arith, append_assoc, append-nil, length-append, length-take, length-drop, zero-mul, suc-mul, mul-one}
 use Rattle.std.specs.List.{flat_map, repeat}
 use Rattle.std.proofs.Math.Seq.{take-append_seam, drop-append_seam}
@@ -10,7 +10,7 @@ use Rattle.elem_descr.specs.declared.scalar.Scalar.TheVariants.{Bool as BoolScal
 use Rattle.npy_format.specs.inside.WrittenItems.{read_leaf, written_item, limit, limits_from, capped, IsPlain}
 use Rattle.npy_format.proofs.ScalarBytes.{scalar_again, bool_again}
 
--- ---- bytes that are put
+-- ---- bytes that are put in place
 
 pub take-put : (at : ℕ) (item bytes : List ℕ) → at + length item ≤ length bytes → take (at + length item) (put at item bytes) ≡ take at bytes ++ item
 take-put at item bytes within =
@@ -45,7 +45,7 @@ capped-append [] (l ∷ limits) more later same = absurd (omega (arith, same))
 capped-append (b ∷ bytes) [] more later same = absurd (omega (arith, same))
 capped-append (b ∷ bytes) (l ∷ limits) more later same = ap (λ xs. min b l ∷ xs) (capped-append bytes limits more later (omega (arith, same)))
 
--- limits behind the bytes change nothing
+-- limits beyond the bytes change nothing
 pub capped-enough : (bytes limits later : List ℕ) → length bytes ≤ length limits → capped bytes (limits ++ later) ≡ capped bytes limits
 capped-enough [] limits later low = refl
 capped-enough (b ∷ bytes) [] later low = absurd (omega (arith, low))
@@ -65,7 +65,7 @@ capped-bytes (suc n) (b ∷ bytes) long are =
     let same : min b 255 ≡ b = omega (arith, low) in
     λ i. same i ∷ capped-bytes n bytes (omega (arith, long)) (λ k. are (suc k)) i
 
--- the bytes of a scalar are written by their limit
+-- capping the bytes of a scalar writes its value
 scalar_capped : (scalar : Scalar) (bytes : List ℕ) → length bytes ≡ size scalar → AreBytes bytes → capped bytes (replicate (size scalar) (limit scalar)) ≡ encode scalar (decode scalar bytes)
 scalar_capped BoolScalar [] long are = absurd (omega (arith, long))
 scalar_capped BoolScalar (zero ∷ []) long are = sym (bool_again 0)
@@ -75,7 +75,7 @@ scalar_capped (Byte signed) bytes long are = capped-bytes 1 bytes long are ∙ s
 scalar_capped (Int signed width order) bytes long are = capped-bytes (size (Int signed width order)) bytes long are ∙ sym (scalar_again (Int signed width order) bytes refl long are)
 scalar_capped (Bytes n) bytes long are = capped-bytes n bytes long are ∙ sym (scalar_again (Bytes n) bytes refl long are)
 
--- and so are those of an item
+-- capping the bytes of an item writes its values
 item_capped : (from : ℕ) (leaves : List Leaf) (bytes : ℕ) (item : List ℕ) → AreInOrder from leaves bytes → length item ≡ bytes → AreBytes item → capped (drop from item) (limits_from from leaves bytes) ≡ encode_from from leaves (map (read_leaf item) leaves) bytes
 item_capped from [] bytes item order long are = capped-zeros (bytes - from) (drop from item) (omega (arith, order, long, length-drop from item))
 item_capped from (leaf ∷ leaves) bytes item order long are =
@@ -105,7 +105,7 @@ length-limits from (leaf ∷ leaves) bytes order =
     let next = leaf.at + size leaf.scalar in
     omega (arith, length-append (gap ++ most) (limits_from next leaves bytes), length-append gap most, length-replicate {A = ℕ} (leaf.at - from) 0, length-replicate (size leaf.scalar) (limit leaf.scalar), length-limits next leaves bytes order.2, order.0, AreInOrder-within next leaves bytes order.2)
 
--- one byte
+-- capping one more byte
 pub byte_capped : (k value : ℕ) (bytes limits : List ℕ) → k < length bytes → k < length limits → value ≡ min (get_or bytes k 0) (get_or limits k 0)
     → take (suc k) (slice_set bytes k value) ++ capped (drop (suc k) (slice_set bytes k value)) (drop (suc k) limits) ≡ take k bytes ++ capped (drop k bytes) (drop k limits)
 byte_capped k value [] limits low low' is = absurd (omega (arith, low))
@@ -124,7 +124,7 @@ items_capped leaves width (suc count) bytes order long are =
     ∙ capped-append (take width bytes) limits (drop width bytes) (repeat count limits) (omega (arith, wide, length-limits 0 leaves width order))
     ∙ (λ i. item_capped 0 leaves width (take width bytes) order wide (bytes-take width bytes are) i ++ items_capped leaves width count (drop width bytes) order (omega (arith, total, length-drop width bytes)) (bytes-drop width bytes are) i)
 
--- ---- limits again and again
+-- ---- repeated limits
 
 repeat-add : (m n : ℕ) (xs : List ℕ) → repeat (m + n) xs ≡ repeat m xs ++ repeat n xs
 repeat-add zero n xs = let none : 0 + n ≡ n = omega arith in ap (λ k. repeat k xs) none
@@ -142,14 +142,14 @@ pub length-repeat : (n : ℕ) (xs : List ℕ) → length (repeat n xs) ≡ n * l
 length-repeat zero xs = sym (zero-mul (length xs))
 length-repeat (suc n) xs = omega (arith, length-append xs (repeat n xs), length-repeat n xs, suc-mul n (length xs))
 
--- as many as the bytes need are enough
+-- if the limits are repeated often enough for the bytes, more repetitions change nothing
 capped-more : (m n : ℕ) (bytes limits : List ℕ) → m ≤ n → length bytes ≤ m * length limits → capped bytes (repeat n limits) ≡ capped bytes (repeat m limits)
 capped-more m n bytes limits low enough =
     let split : n ≡ m + (n - m) = omega (arith, low) in
     ap (λ k. capped bytes (repeat k limits)) split ∙ ap (capped bytes) (repeat-add m (n - m) limits)
     ∙ capped-enough bytes (repeat m limits) (repeat (n - m) limits) (omega (arith, length-repeat m limits, enough))
 
--- one band of them
+-- capping one more band of bytes with the same limits
 pub band_capped : (at len many : ℕ) (bytes bytes' limits : List ℕ) → at < length bytes → len ≡ min (length limits) (length bytes - at) → 1 ≤ length limits → length bytes ≤ many → bytes' ≡ put at (capped (item_at at len bytes) limits) bytes
     → take (at + len) bytes' ++ capped (drop (at + len) bytes') (repeat many limits) ≡ take at bytes ++ capped (drop at bytes) (repeat many limits)
 band_capped at len many bytes bytes' limits low is some enough put_is =

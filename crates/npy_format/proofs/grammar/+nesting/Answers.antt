@@ -1,4 +1,4 @@
--- What a turn leaves behind is what `entries_in` leaves there.
+-- What a turn leaves is what `entries_in` leaves there.
 use Rattle.npy_format.specs.declared.token.Token.{Token as Scanned}
 use Rattle.npy_format.specs.declared.token.Token.TheVariants as scanned
 use Rattle.std.proofs.Common.{⊎_elim, ◌≡◌, ◌∷◌, ◌∙◌, ap, arith}

@@ -4,7 +4,7 @@ use Rattle.npy_format.specs.Literals.{pair_in, literal_in}
 use Rattle.npy_format.specs.inside.Entries.{behind_entries}
 use Rattle.npy_format.proofs.grammar.+nesting.Given as goal
 
--- what stands in brackets is one level less deep
+-- what is in brackets is allowed one level less
 abbrev pub decreases-skip_literal : goal.decreases-skip_literal
 decreases-skip_literal l = 8 * l.depth
 
@@ -26,7 +26,7 @@ decreases-skip_tuple l = 8 * l.depth + 3
 abbrev pub decreases-skip_bracketed : goal.decreases-skip_bracketed
 decreases-skip_bracketed l = 8 * l.depth + 4
 
--- what follows all is what follows the rest
+-- what follows all values is what follows the rest of them
 abbrev pub invariant-skip_values-loop-end : goal.invariant-skip_values-loop-end
 invariant-skip_values-loop-end l = behind_entries (literal_in l.depth) l.closing (tokens l.text) ≡ behind_entries (literal_in l.depth) l.closing (tokens l.rest)
 

@@ -1,4 +1,4 @@
--- The refusals of a header in their order.
+-- The refusals of a header, in order.
 use Rattle.std.proofs.Common.{◌≡◌, ◌∙◌, ⊎_elim, inl, inr, sym, length, arith}
 use Rattle.std.proofs.lemmas.Result.{err_from_is_err_and}
 use Rattle.npy_format.specs.Tokens.{tokens}

@@ -3,7 +3,7 @@ use Rattle.npy_format.specs.Words.{AreInOrder}
 use Rattle.npy_format.specs.inside.WrittenItems.{limits_from}
 use Rattle.npy_format.proofs.items.limits.Given as goal
 
--- with the limits of the leaves that are left, these are all limits
+-- the limits so far, followed by those of the remaining leaves, are all limits
 abbrev pub invariant-loop-leaf : goal.invariant-loop-leaf
 invariant-loop-leaf l = record {
   rest : l.limits.items ++ limits_from (length l.limits.items) (drop l.leaf-index l.leaves) l.bytes ≡ limits_from 0 l.leaves l.bytes;

@@ -4,7 +4,7 @@ use Rattle.npy_format.specs.Words.{EachWithin, run_offsets}
 use Rattle.npy_format.specs.inside.WrittenItems.{gathered}
 use Rattle.npy_format.proofs.items.push_runs.Given as goal
 
--- what is appended, and what is left to append
+-- what is appended so far, followed by what remains, is all that is to be appended
 abbrev pub invariant-loop-run : goal.invariant-loop-run
 invariant-loop-run l = record {
   rest : l.file.items ++ gathered l.width l.bytes (flat_map run_offsets l.run-iterator) ≡ l.fn.file.items ++ gathered l.width l.bytes (flat_map run_offsets l.fn.runs);

@@ -5,7 +5,7 @@ use Rattle.npy_format.specs.inside.Places.{HasValues}
 use Rattle.npy_format.proofs.RecordListLaws.{FieldsLeft}
 use Rattle.npy_format.proofs.record_list.+record.Given as goal
 
--- a record is one level less deep than the one around it
+-- a record is allowed one level less than the record around it
 abbrev pub decreases-record : goal.decreases-record
 decreases-record l = 4 * l.levels
 
