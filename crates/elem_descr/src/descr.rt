@@ -11,13 +11,13 @@ use crate::scalar::Scalar;
 use std::alloc::{AllocError, Global};
 use std::marker::Model;
 
-/// The most fields that a record may have.
+/// The maximum number of fields of a record.
 pub const MAX_FIELDS: usize = 64;
 
-/// The most leaves that an item may have.
+/// The maximum number of leaves of an item.
 pub const MAX_LEAVES: usize = 2048;
 
-/// How deep records may be nested.
+/// The maximum depth of nested records.
 pub const MAX_DEPTH: usize = 4;
 
 /// A record: 1 to 64 fields with different names, in order of offset and without overlap, in items
@@ -30,7 +30,7 @@ pub struct Record {
     leaves: Vec<Leaf>,
 }
 
-/// A field of a record: its name, the offset of its bytes in the record, and what it is.
+/// A field of a record: its name, the offset of its bytes in the record, and its type.
 #[derive(Debug, Drop)]
 #[cycle(descr)]
 pub struct Field {
@@ -71,7 +71,7 @@ impl Model for Record {
     ghost size_decreases = { λ r h. total_falls r.fields.items };
 }
 
-/// Appends leaves, `by` bytes further on.
+/// Appends leaves, moved by `by` bytes.
 fn push_moved(
     leaves: &mut Vec<Leaf>,
     by: usize,
@@ -182,7 +182,7 @@ impl Record {
         })
     }
 
-    /// The bytes of one item.
+    /// The number of bytes of an item.
     pub fn size(&self) -> usize
         ensures value { result ≡ self.now.size }
         ensures not_empty { 1 ≤ result }
@@ -239,7 +239,7 @@ impl Record {
 }
 
 impl Descr {
-    /// The bytes of one item.
+    /// The number of bytes of an item.
     #[tactic(auto, using(crate::proofs::FieldLaws::scalar_apart, crate::proofs::FieldLaws::record_apart))]
     pub fn size(&self) -> usize
         ensures value { result ≡ item_size self.now }
@@ -293,7 +293,7 @@ impl Descr {
         }
     }
 
-    /// The number of the field with this name among the fields. A scalar has none.
+    /// The position of the field with this name among the fields. A scalar has none.
     pub fn leaf_of(&self, name: &[u8]) -> Option<usize>
         ensures value { result ≡ field_of self.now name.now }
         ensures below { IfSome result (λ k. k < length (fields self.now)) }
@@ -301,7 +301,7 @@ impl Descr {
         field_named(self.fields(), name)
     }
 
-    /// The field with this number.
+    /// The field at this position.
     pub fn field(&self, k: usize) -> &Field
         requires { k < length (fields self.now) }
         ensures value { result.now ≡ field_at self.now k }
@@ -310,7 +310,7 @@ impl Descr {
         &self.fields()[k]
     }
 
-    /// The leaves of the field with this number: the first one, and how many there are.
+    /// The leaves of the field at this position: how many come before them, and how many there are.
     pub fn leaves_of(&self, field: usize) -> (usize, usize)
         requires { field < length (fields self.now) }
         ensures value { result ≡ field_leaves self.now field }

@@ -2,7 +2,7 @@
 ghost use Rattle.std.specs.Prelude.{◌≡◌};
 ghost use Rattle.elem_descr.specs.IndexItems.{is_basic, is_ellipsis};
 
-/// One item of an index list; an `A` stands for an array.
+/// One item of an index list, in which an array is given as an `A`.
 #[derive(Clone, Copy, Debug, Default, PartialEq, Eq, Drop)]
 pub enum IndexItem<A> {
     Integer(i128),

@@ -15,7 +15,7 @@ use std::alloc::{AllocError, Global};
 use std::hash::{Hash, Hasher};
 use std::marker::Model;
 
-/// The most bytes that the name of a field may have.
+/// The maximum number of bytes of a field's name.
 pub const MAX_NAME_LEN: usize = 64;
 
 /// The name of a field, as its bytes.
@@ -40,7 +40,7 @@ impl FieldName {
         Ok(FieldName { bytes })
     }
 
-    /// The name of a field without a name: `f` and its number among the fields.
+    /// The default name of a field: `f` and its number among the fields.
     #[tactic(auto, using(crate::proofs::DefaultNames::legal_number))]
     pub fn numbered(alloc: Global, number: usize) -> Result<FieldName, AllocError>
         requires { number ≤ 64 }
@@ -79,7 +79,7 @@ pub fn is_legal_name(name: &[u8]) -> bool
     !name.is_empty() && name.len() <= MAX_NAME_LEN && are_name_bytes(name)
 }
 
-/// The most bytes of the name of an array.
+/// The maximum number of bytes of an array's name.
 pub const LONGEST_NAME: usize = 32;
 
 /// A name in the script: at most 32 bytes, which take no memory of their own.

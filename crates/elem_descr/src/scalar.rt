@@ -4,7 +4,7 @@ ghost use Rattle.elem_descr.specs.Encoding.{size, width_size};
 
 use std::marker::Model;
 
-/// The most bytes that an item may have.
+/// The maximum number of bytes of an item.
 pub const MAX_ITEM_SIZE: usize = 65_536;
 
 /// The byte order of an integer of two or more bytes.
@@ -89,7 +89,7 @@ pub enum Scalar {
 }
 
 impl Scalar {
-    /// The bytes of one item.
+    /// The number of bytes of an item.
     pub fn size(&self) -> usize
         ensures value { result ≡ size self.now }
         ensures not_empty { 1 ≤ result }

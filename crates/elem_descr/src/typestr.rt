@@ -23,7 +23,7 @@ pub fn marked(text: &[u8]) -> (Order, &[u8])
     }
 }
 
-/// The bool or the integer that is spelled so.
+/// The bool or the integer with this spelling.
 fn number_spelled(order: Order, kind: &[u8]) -> Option<Scalar>
     ensures { result ≡ number_spelled order kind.now }
 {
@@ -129,7 +129,7 @@ fn letter(scalar: &Scalar) -> u8
     }
 }
 
-/// Writes the type string of a scalar: its mark, the letter of its kind, and the bytes of an item.
+/// Writes the type string of a scalar: its mark, the letter of its kind, and its number of bytes.
 #[tactic(auto, using(crate::specs::SpellingLaws::reads_spelling))]
 pub fn typestr_write(alloc: Global, scalar: Scalar) -> Result<Vec<u8>, AllocError>
     ensures spelled { IfOk result (λ text. text.items ≡ spelling scalar) }

@@ -7,11 +7,12 @@ ghost use Rattle.npy_format.specs.WrittenHeaders.{spaces_after, padded_text, wit
 use byteorder::{ByteOrder, LittleEndian};
 use std::alloc::{AllocError, Global};
 
-/// The longest text of version 1.0.
+/// The maximum length of a text in version 1.0.
 const MAX_SHORT_TEXT: usize = 65_525;
 
-/// How many spaces go before the newline so that everything, `bytes` before them included, fills
-/// whole blocks of 64.
+/// The number of spaces before the newline that pad everything, including `bytes` bytes before
+/// them,
+/// to a multiple of 64 bytes.
 fn spaces_after(bytes: usize) -> usize
     requires { bytes + 1 < 2 ^ 64 }
     ensures value { result ≡ spaces_after bytes }
@@ -28,7 +29,7 @@ fn push_spaces(out: &mut Vec<u8>, n: usize) -> Result<(), AllocError>
     out.extend_from_slice([b' '; 64].as_slice().split_at(n).0)
 }
 
-/// The two or four lowest bytes of a length, the lowest first.
+/// The two or four lowest bytes of a length, lowest byte first.
 #[tactic(auto, using(crate::proofs::FileLaws::low_bytes))]
 fn push_length(out: &mut Vec<u8>, width: usize, len: usize) -> Result<(), AllocError>
     requires { (width ≡ 2) ⊎ (width ≡ 4) }

@@ -25,7 +25,7 @@ pub struct FileParts {
 }
 
 impl FileParts {
-    /// A copy of a file, cut behind its header if it is an NPY file. Each byte is copied once.
+    /// A copy of a file, cut after its header if it is an NPY file. Each byte is copied once.
     pub fn copied(alloc: Global, bytes: &[u8]) -> Result<FileParts, AllocError>
         ensures { IfOk result (λ parts. parts.front.items ++ parts.block ≡ bytes.now) }
     {
@@ -36,7 +36,7 @@ impl FileParts {
         })
     }
 
-    /// The bytes of both parts, in memory of the first where that has room.
+    /// The bytes of both parts, in the memory of the first part if that has room.
     pub fn joined(self) -> Result<Vec<u8>, AllocError>
         ensures { IfOk result (λ bytes. bytes.items ≡ self.front.items ++ self.block) }
     {

@@ -16,7 +16,7 @@ use elem_descr::{Descr, Refusal, capped_value};
 use shape_strides::{MAX_AXES, MAX_ITEMS, Shape};
 use std::alloc::Global;
 
-/// What a header says of the array in a file.
+/// What a header says about the array in a file.
 #[derive(Drop)]
 pub struct Header {
     pub descr: Descr,

@@ -27,7 +27,7 @@ fn push_quoted(text: &mut Vec<u8>, bytes: &[u8]) -> Result<(), AllocError>
     Ok(())
 }
 
-/// An entry as far as its type.
+/// An entry, up to its type.
 fn push_name(text: &mut Vec<u8>, is_first: bool, name: &[u8]) -> Result<(), AllocError>
     ensures { OnOk result
         (text.new.items ≡ text.old.items ++ (entry_separator is_first ++ opened_entry name.now)) }

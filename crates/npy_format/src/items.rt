@@ -8,7 +8,7 @@ use elem_descr::{Descr, Leaf, Scalar};
 use shape_strides::{Layout, Run, Runs};
 use std::alloc::{AllocError, Global};
 
-/// Where the `k`-th item of a run lies.
+/// The offset of the `k`-th item of a run.
 fn place(run: Run, k: usize) -> usize
     requires few { k < 2 ^ 63 }
     requires start { run.offset < 2 ^ 63 }
@@ -94,7 +94,7 @@ pub(crate) fn are_together(layout: &Layout, width: usize) -> bool
     layout.is_c(width) || layout.is_f(width)
 }
 
-/// Appends the items of `width` bytes of a layout in the order in which a file has them.
+/// Appends the items of `width` bytes of a layout in the order in which a file stores them.
 pub(crate) fn push_items(
     file: &mut Vec<u8>,
     bytes: &[u8],
@@ -115,7 +115,7 @@ pub(crate) fn push_items(
     push_runs(file, bytes, Runs::new(layout), width)
 }
 
-/// The largest byte that a file has for a scalar.
+/// The largest byte that a file stores for a scalar.
 fn limit(scalar: &Scalar) -> u8
     ensures { result ≡ limit scalar.now }
 {
@@ -165,7 +165,7 @@ fn pad(limits: &mut Vec<u8>, len: usize, limit: u8) -> Result<(), AllocError>
     Ok(())
 }
 
-/// The largest bytes that a file has for an item of `bytes` bytes.
+/// The limits of the bytes of an item of `bytes` bytes: the largest that a file stores.
 fn limits(alloc: Global, leaves: &[Leaf], bytes: usize) -> Result<Vec<u8>, AllocError>
     requires in_order { AreInOrder 0 leaves.now bytes }
     requires small { bytes ≤ 65536 }
@@ -184,7 +184,7 @@ fn limits(alloc: Global, leaves: &[Leaf], bytes: usize) -> Result<Vec<u8>, Alloc
     Ok(limits)
 }
 
-/// The largest bytes that a file has for an item of an element type.
+/// The limits of the bytes of an item of an element type.
 fn item_limits(alloc: Global, descr: &Descr) -> Result<Vec<u8>, AllocError>
     ensures { IfOk result
         (λ limits. limits.items ≡ limits_from 0 (leaves_of descr.now) (item_size descr.now)) }
@@ -201,7 +201,7 @@ fn item_limits(alloc: Global, descr: &Descr) -> Result<Vec<u8>, AllocError>
     }
 }
 
-/// Makes no byte larger than its limit.
+/// Caps each byte at its limit.
 fn cap(bytes: &mut [u8], limits: &[u8])
     requires { length bytes.old ≤ length limits.now }
     ensures { bytes.new ≡ capped bytes.old limits.now }
@@ -211,7 +211,7 @@ fn cap(bytes: &mut [u8], limits: &[u8])
     }
 }
 
-/// Makes none of `len` bytes larger than its limit.
+/// Caps each of `len` bytes from `at` on at its limit.
 fn cap_at(bytes: &mut [u8], at: usize, len: usize, limits: &[u8])
     requires within { at + len ≤ length bytes.old }
     requires enough { len ≤ length limits.now }
@@ -220,7 +220,7 @@ fn cap_at(bytes: &mut [u8], at: usize, len: usize, limits: &[u8])
     cap(&mut bytes[at..at + len], limits);
 }
 
-/// Makes no byte larger than its limit, with the same limits again and again.
+/// Caps each byte at its limit. The limits are repeated as often as needed.
 fn cap_each(bytes: &mut [u8], limits: &[u8])
     requires { 1 ≤ length limits.now }
     ensures { bytes.new ≡ capped bytes.old (repeat (length bytes.old) limits.now) }
@@ -233,7 +233,7 @@ fn cap_each(bytes: &mut [u8], limits: &[u8])
     }
 }
 
-/// Writes `count` adjacent items as a file has them.
+/// Writes `count` adjacent items as a file stores them.
 pub(crate) fn write_items(
     alloc: Global,
     bytes: &mut [u8],

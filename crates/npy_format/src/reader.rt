@@ -15,7 +15,7 @@ use std::alloc::{AllocError, Global};
 /// The bytes that every file begins with.
 pub(crate) const MAGIC: [u8; 6] = *b"\x93NUMPY";
 
-/// The longest header that is read.
+/// The maximum length of a header.
 pub const MAX_HEADER: usize = 1 << 20;
 
 /// The first `n` bytes and those after them.
@@ -42,7 +42,7 @@ fn begins_well(file: &[u8]) -> bool
     }
 }
 
-/// How many bytes the length of the header has.
+/// The number of bytes that store the length of the header.
 fn length_bytes(version: &[u8]) -> Result<usize, Refusal>
     ensures value { result ≡ length_bytes version.now }
     ensures few { IfOk result (λ n. (1 ≤ n) × (n ≤ 4)) }

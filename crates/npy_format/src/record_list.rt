@@ -14,7 +14,7 @@ use elem_descr::{
 };
 use std::alloc::Global;
 
-/// The digits of the bytes of padding that a type string without its mark counts: `V` and digits.
+/// The digits of the number of bytes of padding, after `V`, in a type string without its mark.
 fn pad_digits(kind: &[u8]) -> Result<&[u8], Refusal>
     ensures { Answers (λ digits. value_of digits.now) result (pad_kind kind.now) }
 {

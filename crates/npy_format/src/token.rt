@@ -12,7 +12,7 @@ use elem_descr::digits_len;
 pub enum Token<'a> {
     /// The bytes of a string.
     Text(&'a [u8]),
-    /// The digits of an integer without sign.
+    /// The digits of an unsigned integer.
     Integer(&'a [u8]),
     Truth(bool),
     Nothing,

@@ -40,7 +40,7 @@ pub(crate) fn header(
     file_header(alloc, text.as_slice())
 }
 
-/// Writes the `count` items after the first `start` bytes as a file has them.
+/// Writes the `count` items after the first `start` bytes as a file stores them.
 fn write_behind(
     alloc: Global,
     file: &mut Vec<u8>,
@@ -79,7 +79,7 @@ pub(crate) fn written(
     Ok(file)
 }
 
-/// What holds of an element type.
+/// What holds for an element type.
 fn look_at(descr: &Descr)
     ensures { IsSound descr.now }
 {

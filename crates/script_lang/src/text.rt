@@ -7,7 +7,7 @@ use smallvec::SmallVec;
 use std::alloc::{AllocError, Global};
 use std::marker::Model;
 
-/// The most bytes of a file's name.
+/// The maximum number of bytes of a file's name.
 pub const MAX_FILE_NAME_LEN: usize = 64;
 
 /// A text as it is written in the script: of a descriptor, or between the quotation marks of

@@ -19,7 +19,7 @@ pub enum Mark {
 }
 
 impl Mark {
-    /// The mark in force after a mark or a blank.
+    /// The current mark after a byte that is a mark or a blank.
     fn after(self, byte: u8) -> Option<Mark>
         ensures { result ≡ after self byte }
     {
@@ -62,7 +62,7 @@ impl Mark {
         }
     }
 
-    /// The number that a letter means.
+    /// The bool or the integer that a letter means.
     pub fn number(self, letter: u8) -> Option<Scalar>
         ensures { result ≡ number_letter self letter }
     {
@@ -91,7 +91,7 @@ impl Mark {
         }
     }
 
-    /// What the offset of a member with its own alignment is a multiple of, in bytes.
+    /// The alignment of a member's offset: its own if the mark aligns, and otherwise 1.
     pub fn aligned(self, own: usize) -> usize
         requires { (1 ≤ own) × (own ≤ 8) }
         ensures value { result ≡ aligned_to self own }
@@ -105,7 +105,7 @@ impl Mark {
     }
 }
 
-/// A number's own alignment is its size, and a byte string has none.
+/// The alignment of a bool or an integer is its size, and that of a byte string is 1.
 pub fn own_alignment(scalar: &Scalar) -> usize
     ensures value { result ≡ own_alignment scalar.now }
     ensures not_zero { 1 ≤ result }
@@ -118,7 +118,7 @@ pub fn own_alignment(scalar: &Scalar) -> usize
     }
 }
 
-/// The mark in force after the blanks and marks at the front, and what follows them.
+/// The current mark after the blanks and marks at the front, and what follows them.
 #[tactic(auto, using(crate::proofs::Marks::marked_more, crate::proofs::Marks::marked_stops))]
 pub fn marked(mark: Mark, text: &[u8]) -> (Mark, &[u8])
     ensures { (result.0, result.1.now) ≡ marked mark text.now }

@@ -75,7 +75,7 @@ fn text_member(digits: &[u8]) -> Result<Member, Refusal>
     }
 }
 
-/// A record has no count.
+/// A record with a count is unsupported.
 fn opened(digits: &[u8]) -> Result<Member, Refusal>
     ensures { result
         ≡ (if is_empty digits.now then Ok Member.Opened else Err Refusal.DescriptorLeftOut) }
@@ -86,7 +86,7 @@ fn opened(digits: &[u8]) -> Result<Member, Refusal>
     Err(Refusal::DescriptorLeftOut)
 }
 
-/// A number has no count.
+/// A bool or an integer with a count is unsupported.
 fn number_member(scalar: Scalar, digits: &[u8]) -> Result<Member, Refusal>
     ensures { result ≡ held_member (number_member digits.now scalar) }
 {

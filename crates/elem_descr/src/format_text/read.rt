@@ -20,7 +20,7 @@ fn is_blank(text: &[u8]) -> bool
     text.iter().all(|b| *b == b' ')
 }
 
-/// Refuses anything but blanks after a whole descriptor.
+/// Refuses anything but blanks after a complete descriptor.
 #[tactic(auto, unfolding(crate::specs::inside::Turns::nothing_follows))]
 fn ended(text: &[u8]) -> Result<(), Refusal>
     ensures { Answers (λ _. tt) result (nothing_follows text.now) }
@@ -38,7 +38,7 @@ fn ended(text: &[u8]) -> Result<(), Refusal>
     }
 }
 
-/// The scalar that a member alone means.
+/// The scalar that is the whole text.
 #[tactic(auto, unfolding(crate::specs::inside::Turns::scalar_alone))]
 fn scalar_alone(value: Option<Scalar>, rest: &[u8]) -> Result<Descr, Refusal>
     ensures { Answers (λ descr. descr) result (scalar_alone value rest.now) }

@@ -61,7 +61,7 @@ pub fn record_within(
     Err(Refusal::BadDescriptor)
 }
 
-/// Adds the next member, and returns the mark then in force and what follows the member.
+/// Adds the next member, and returns the current mark after it and what follows the member.
 #[cycle(record)]
 #[tactic(auto, unfolding(crate::specs::inside::Turns::next_field))]
 fn field_at<'a>(
@@ -91,7 +91,7 @@ fn field_at<'a>(
     }
 }
 
-/// A record that was read, its alignment if `@` is in force, and the mark in force after it.
+/// A record that was read, its alignment under `@`, and the current mark after it.
 #[derive(Debug, Drop)]
 pub struct Body {
     pub whole: Record,
@@ -131,7 +131,7 @@ fn named(alloc: Global, number: usize, text: &[u8]) -> Result<(FieldName, &[u8])
     }
 }
 
-/// Adds a scalar, and returns the mark in force and what follows its name.
+/// Adds a scalar, and returns the current mark and what follows its name.
 #[tactic(auto, unfolding(crate::specs::inside::Turns::scalar_in))]
 pub fn add_scalar<'a>(
     alloc: Global,
@@ -154,7 +154,7 @@ pub fn add_scalar<'a>(
     Ok((mark, rest))
 }
 
-/// Adds padding, which has no name, and returns the mark in force and what follows.
+/// Adds padding, which has no name, and returns the current mark and what follows.
 #[tactic(auto, unfolding(crate::specs::inside::Turns::pad_in))]
 pub fn add_pad<'a>(
     mark: Mark,
@@ -173,7 +173,7 @@ pub fn add_pad<'a>(
     Ok((mark, rest))
 }
 
-/// Adds a record that was read, and returns the mark then in force and what follows its name.
+/// Adds a record that was read, and returns the current mark after it and what follows its name.
 #[tactic(auto, unfolding(crate::specs::inside::Turns::body_in))]
 pub fn add_body<'a>(
     alloc: Global,

@@ -36,7 +36,7 @@ fn named_behind(is_named: bool, byte: u8) -> bool
     if byte == b':' { !is_named } else { is_named }
 }
 
-/// How many bytes there are up to the brace that closes the one before them.
+/// The number of bytes up to and including the brace that closes the one before them.
 fn record_len(bytes: &[u8]) -> Option<usize>
     ensures found { Scans (λ n. n) result (record_len false 1 bytes.now) }
     ensures within { IfSome result (λ n. n ≤ length bytes.now) }

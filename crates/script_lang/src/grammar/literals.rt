@@ -193,7 +193,7 @@ pub fn literal(alloc: Global, bytes: &[u8]) -> Result<(Literal, &[u8]), Refusal>
     literal_within(alloc, MAX_LITERAL_DEPTH, bytes)
 }
 
-/// The literals up to the end of the line, and the blanks that are left there.
+/// The literals up to the end of the line, and the blanks that remain there.
 pub fn literals(alloc: Global, bytes: &[u8]) -> Result<(Literals, &[u8]), Refusal>
     ensures { Reads (λ r. (r.0, r.1.now)) (λ _. true) result
         (by_rule (row literal_at line_end_at) bytes.now) }

@@ -12,7 +12,7 @@ use crate::grammar::tokens::{byte, digits, is_parted, symbol, unspaced};
 use elem_descr::Refusal;
 use std::alloc::Global;
 
-/// The most digits of a number.
+/// The maximum number of digits of a number.
 const MAX_DIGITS: usize = 30;
 
 fn value_of(digits: &[u8]) -> u128
@@ -44,7 +44,7 @@ fn number(bytes: &[u8]) -> Option<(u128, &[u8])>
     Some((value_of(digits), rest))
 }
 
-/// The next integer without sign, with any blanks before it, and what follows it.
+/// The next integer without a sign, with any blanks before it, and what follows it.
 #[tactic(auto, unfolding(crate::specs::Tokens::length_at))]
 pub fn length(bytes: &[u8]) -> Option<(u128, &[u8])>
     ensures { Scans (λ n. (n.0, n.1.now)) result (length_at bytes.now) }

@@ -114,7 +114,7 @@ pub fn are_allowed(mut bytes: &[u8]) -> bool
     bytes.is_empty()
 }
 
-/// The longest front of bytes of the class and the rest, unless it is empty.
+/// The longest prefix of bytes of the class, if it is not empty, and the rest.
 pub fn front(class: Class, bytes: &[u8]) -> Option<(&[u8], &[u8])>
     ensures { Scans (λ w. (w.0.now, w.1.now)) result (front_at (is_in class) bytes.now) }
 {
@@ -158,7 +158,7 @@ pub fn bytes_mark(bytes: &[u8]) -> Option<&[u8]>
     byte(b'\'', rest)
 }
 
-/// Whether the bytes begin with neither a word nor a number.
+/// Whether the bytes begin with neither a word nor a number. A bytes literal is not a word.
 #[tactic(auto, unfolding(crate::specs::Tokens::is_parted))]
 pub fn is_parted(bytes: &[u8]) -> bool
     ensures { result ≡ is_parted bytes.now }
@@ -217,7 +217,7 @@ pub fn digits(bytes: &[u8]) -> Option<(&[u8], &[u8])>
     front(Class::Digit, bytes)
 }
 
-/// Whether nothing but blanks is left.
+/// Whether only blanks remain.
 pub fn is_at_end(bytes: &[u8]) -> bool
     ensures { result ≡ is_some (at_end bytes.now) }
 {
