@@ -15,8 +15,7 @@ InOrder-within from (scalar_field name at scalar rest) bytes h = omega (arith, h
 InOrder-within from (record_field name at width inner rest) bytes h = omega (arith, h.0, InOrder-within (at + width) rest bytes h.3)
 
 -- If a field and those after it are in order, the field begins at `from` or later and has at least one byte, and the
--- others
--- are in order from its end on.
+-- others are in order from its end on.
 pub InOrder-before : (from : ℕ) (name : List ℕ) (at : ℕ) (descr : Descr) (rest : Fields) (bytes : ℕ) → InOrder from (before name at descr rest) bytes → (from ≤ at) × (1 ≤ item_size descr) × InOrder (at + item_size descr) rest bytes
 InOrder-before from name at (ScalarDescr scalar) rest bytes h = h
 InOrder-before from name at (RecordDescr structure) rest bytes h = (h.0, h.1, h.3)
@@ -73,8 +72,7 @@ weight-one (first ∷ fields) zero field l is = rw is (omega (arith, weight-befo
 weight-one (first ∷ fields) (suc k) field l is = omega (arith, weight-one fields k field (omega arith) is, weight-before first.name first.at first.descr (listed fields))
 
 -- If the fields after the first `i` are in order, the `i`-th begins at `from` or later and has at least one byte, and
--- those
--- after it are in order from its end on.
+-- those after it are in order from its end on.
 pub first_field : (from bytes : ℕ) (fields : List Field) (field : Field) (i : ℕ) → i < length fields → field ≡ get_or fields i field → InOrder from (listed (drop i fields)) bytes → (from ≤ field.at) × (1 ≤ item_size field.descr) × InOrder (field.at + item_size field.descr) (listed (drop (i + 1) fields)) bytes
 first_field from bytes fields field i l is order = InOrder-before from field.name field.at field.descr (listed (drop (i + 1) fields)) bytes (subst (λ fs. InOrder from (listed fs) bytes) (rest_at fields field i l is) order)
 

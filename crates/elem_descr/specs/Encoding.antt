@@ -56,8 +56,7 @@ abbrev pub truth : ℕ → ℕ
 truth n = if nat_eq n 0 then 0 else 1
 
 -- the value of an integer scalar that differs from `value` by a multiple of 2 ^ its number of bits. A bool is 0 if
--- `value` is
--- 0 and otherwise 1. A byte string has no numbers, and leaves `value` as it is.
+-- `value` is 0 and otherwise 1. A byte string has no numbers, and leaves `value` as it is.
 abbrev pub wrap : Scalar → ℤ → ℤ
 wrap BoolScalar value = pos (truth (unsigned_abs value))
 wrap (Byte signed) value = integer signed 1 (low_bits 1 value)
@@ -77,8 +76,7 @@ IsValueOf (Int signed width order) value = FitsBytes signed (width_size width) v
 IsValueOf (Bytes n) value = ⊥
 
 -- whether wrapping leaves a number as it is. Unless the scalar is a byte string, this is whether the number is one of
--- its
--- values.
+-- its values.
 abbrev pub is_value : Scalar → ℤ → Bool
 is_value scalar value = int_eq (wrap scalar value) value
 
@@ -87,8 +85,7 @@ abbrev pub DifferByMultiple : ℕ → ℤ → ℤ → Type 0
 DifferByMultiple d x y = (k : ℕ) × ((x ≡ y +ℤ pos (k * d)) ⊎ (y ≡ x +ℤ pos (k * d)))
 
 -- an integer wraps to a number that differs by a multiple of 2 ^ its number of bits, and a bool wraps to 0 if and only
--- if the
--- value is 0
+-- if the value is 0
 abbrev pub WrapsTo : Scalar → ℤ → ℤ → Type 0
 WrapsTo BoolScalar value wrapped = (wrapped ≡ pos 0) ↔ (value ≡ pos 0)
 WrapsTo (Byte signed) value wrapped = DifferByMultiple (2 ^ 8) wrapped value

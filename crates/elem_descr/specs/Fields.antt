@@ -3,8 +3,7 @@ use Rattle.std.specs.Prelude.{◌+◌, ℕ, List}
 use Rattle.elem_descr.specs.declared.scalar.Scalar.{Scalar}
 
 -- The fields in order, each with its name and its offset in the record. A field is a scalar, or a record with its own
--- size
--- in bytes and its own fields.
+-- size in bytes and its own fields.
 pub data Fields : Type 0 where
   no_more : Fields
   scalar_field : List ℕ → ℕ → Scalar → Fields → Fields

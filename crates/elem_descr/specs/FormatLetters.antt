@@ -17,7 +17,7 @@ use Rattle.elem_descr.specs.TypeStrings.{is_one_of, value_of}
 abbrev pub is_empty : List ℕ → Bool
 is_empty text = nat_eq (length text) 0
 
--- the marks, each with the bytes that it is written as
+-- the marks, each with the bytes that it may be written as
 abbrev pub marks : List (List ℕ × Mark)
 marks = (codes "@", Aligned) ∷ ((codes "^", Native) ∷ ((codes "<=", LittleMark) ∷ ((codes ">!", BigMark) ∷ [])))
 

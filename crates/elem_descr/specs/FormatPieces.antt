@@ -11,8 +11,7 @@ pub data Behind : Type 0 where
   lone_colon : Behind
 
 -- A piece is a letter (any byte) with the digits before it and what follows it, or a `T{` with the digits before it. A
--- brace
--- without a `T` before it, and a name without a letter before it, are pieces of their own, which are invalid.
+-- brace without a `T` before it, and a name without a letter before it, are pieces of their own, which are invalid.
 pub data Piece : Type 0 where
   letter : List ℕ → ℕ → Behind → Piece
   opening : List ℕ → Piece
@@ -20,8 +19,7 @@ pub data Piece : Type 0 where
   stray : Behind → Piece
 
 -- A digit belongs to the count of the letter or the `T{` that follows it. If none follows, it is a letter of its own,
--- which
--- has no meaning.
+-- which has no meaning.
 abbrev pub digit_onto : ℕ → List Piece → List Piece
 digit_onto d (letter digits b behind ∷ more) = letter (d ∷ digits) b behind ∷ more
 digit_onto d (opening digits ∷ more) = opening (d ∷ digits) ∷ more

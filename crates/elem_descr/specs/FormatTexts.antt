@@ -75,7 +75,7 @@ with_record mark p body behind = do
   bytes ← next_name p behind
   added p bytes (aligned_to mark body.alignment) (RecordDescr body.whole)
 
--- a record at its opening brace, if `levels` levels of records, this one included, are still allowed
+-- a record at its opening brace, refused if no more levels of records are allowed
 abbrev pub opened : ℕ → ℕ → Result Partial Refusal
 opened zero leaves = Err DescriptorLeftOut
 opened (suc levels) leaves = Ok (empty levels leaves)
@@ -85,8 +85,7 @@ abbrev pub closed_body : Mark → Partial → Result Body Refusal
 closed_body mark p = closed_record (is_aligning mark) p >>= λ whole. Ok (record { whole = whole; alignment = p.alignment; mark = mark })
 
 -- How far a text is read: no member yet; within a record, with the records around it, innermost first, each with the
--- mark
--- at the `T` of the record in it; one complete descriptor; or a mark after that.
+-- mark that was current when the record in it began; one complete descriptor; or a mark after that.
 pub data Reading : Type 0 where
   begun : Mark → Reading
   within : Mark → Partial → List (Mark × Partial) → Reading
@@ -106,8 +105,7 @@ at_begin mark (member Opened behind) = opened max_depth 0 >>= λ p. Ok (within m
 at_begin mark (closing_brace behind) = Err BadDescriptor
 
 -- A record that ends becomes a field of the record around it, aligned if `@` was the mark at its `T`. If none is around
--- it,
--- it is the whole descriptor.
+-- it, it is the whole descriptor.
 abbrev pub closed_in : List (Mark × Partial) → Body → Behind → Result Reading Refusal
 closed_in [] body behind = unnamed behind >>= λ _. Ok (complete (RecordDescr body.whole))
 closed_in (outer ∷ around) body behind = with_record outer.0 outer.1 body behind >>= λ p. Ok (within body.mark p around)
@@ -121,7 +119,7 @@ in_record mark p around (member (Pad n) behind) = with_pad p n behind >>= λ nex
 in_record mark p around (member Opened behind) = opened p.levels p.leaves >>= λ inner. Ok (within mark inner ((mark, p) ∷ around))
 in_record mark p around (closing_brace behind) = closed_body mark p >>= λ body. closed_in around body behind
 
--- Only blanks may follow the descriptor. A second member is unsupported.
+-- Only blanks may follow the descriptor. A second member is unsupported, and a mark without one is invalid.
 abbrev pub behind_member : Reading → PieceKind → Result Reading Refusal
 behind_member now blank = Ok now
 behind_member now (marking next) = Ok beyond

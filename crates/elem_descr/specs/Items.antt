@@ -39,8 +39,7 @@ abbrev pub leaf_at : Descr → ℕ → Leaf
 leaf_at descr k = get_or (leaves_of descr) k no_leaf
 
 -- The first leaf begins at `from` or later, and each other leaf at or after the end of the one before it. Each has at
--- least
--- one byte, and the last ends at or before `bytes`.
+-- least one byte, and the last ends at or before `bytes`.
 abbrev pub AreInOrder : ℕ → List Leaf → ℕ → Type 0
 AreInOrder from [] bytes = from ≤ bytes
 AreInOrder from (leaf ∷ leaves) bytes = (from ≤ leaf.at) × (1 ≤ size leaf.scalar) × AreInOrder (leaf.at + size leaf.scalar) leaves bytes

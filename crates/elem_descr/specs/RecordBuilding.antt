@@ -30,8 +30,7 @@ abbrev pub max_leaves : ℕ
 max_leaves = 2048
 
 -- A record being built: its number of bytes so far, the greatest alignment of its fields, the number of leaves of the
--- whole
--- type so far, how many levels of records may be nested in it, and its fields so far.
+-- whole type so far, how many levels of records may be nested in it, and its fields so far.
 pub record Partial : Type 0 where
   pub size : ℕ
   pub alignment : ℕ

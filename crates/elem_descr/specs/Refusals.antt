@@ -4,8 +4,7 @@ use Rattle.elem_descr.specs.declared.refusal.Refusal.{Refusal}
 use Rattle.elem_descr.specs.declared.refusal.Refusal.TheVariants.{OutOfMemory}
 
 -- A call returns the expected result `there`: the same refusal, or a value that `view` turns into the expected one.
--- Instead,
--- it may refuse because memory runs out.
+-- Instead, it may refuse because memory runs out.
 abbrev pub Gives : {X Y : Type 0} → (X → Y) → Result X Refusal → Result Y Refusal → Type 0
 Gives view (Ok x) there = there ≡ Ok (view x)
 Gives view (Err e) there = (e ≡ OutOfMemory) ⊎ (there ≡ Err e)

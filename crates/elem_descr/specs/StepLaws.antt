@@ -13,7 +13,7 @@ use lib.IntN.{negsuc-*ℤ-pos}
 use Rattle.elem_descr.specs.Steps.{is_before, numbers_from, stepped, IsGap}
 use Rattle.elem_descr.specs.StepCounts.{CountsSteps}
 
--- k steps end below a gap where k is below their number
+-- `k` steps are together shorter than a gap if and only if `k` is below the number of steps
 pub steps_end_below : (gap s k : ℕ) → 0 < s → (k < div_ceil gap s) ↔ (k * s < gap)
 steps_end_below gap s k some =
     let q = gap / s + min 1 (gap % s) in
@@ -55,11 +55,11 @@ product_more step k =
     size_forth (pos n) above = refl
     size_forth (negsuc n) above = absurd (omega (arith, ints))
 
--- one step more
+-- one more step
 pub next_number : (start step at : ℤ) (k : ℕ) → at ≡ start +ℤ step *ℤ pos k → at +ℤ step ≡ start +ℤ step *ℤ pos (k + 1)
 next_number start step at k is = let more : step *ℤ pos (k + 1) ≡ step *ℤ pos k +ℤ step = product_more step k in omega (arith, ints, is, more)
 
--- ---- where k steps from the start end
+-- ---- the number after k steps from the start
 
 lt_true : (a b : ℤ) → a <ℤ b → int_lt a b ≡ true
 lt_true a b below = true_from_ne_false (int_lt a b) (λ above. omega (arith, ints))
@@ -85,11 +85,11 @@ forth_in start stop d m gap is far low = (omega (arith, ints, clamps), omega (ar
 forth_out : (start stop d : ℤ) (m gap : ℕ) → d ≡ pos m → pos gap ≡ int_max (stop -ℤ start) (pos 0) → gap ≤ m → stop ≤ℤ (start +ℤ d)
 forth_out start stop d m gap is far low = omega (arith, ints, clamps)
 
--- after the stop and no later than the start, where the step is negative
+-- If the step is negative, a number within the gap is above the stop and at most the start.
 pub between_back : (gap : ℕ) (start stop step : ℤ) (k : ℕ) → IsGap gap start stop step → k * unsigned_abs step < gap → step <ℤ pos 0 → (stop <ℤ (start +ℤ step *ℤ pos k)) × ((start +ℤ step *ℤ pos k) ≤ℤ start)
 between_back gap start stop step k is near below = back_in start stop (step *ℤ pos k) (k * unsigned_abs step) gap (product_back step k below) (is.back below) near
 
--- no earlier than the start and before the stop, where it is not
+-- If the step is not negative, a number within the gap is at least the start and below the stop.
 pub between_forth : (gap : ℕ) (start stop step : ℤ) (k : ℕ) → IsGap gap start stop step → k * unsigned_abs step < gap → pos 0 ≤ℤ step → (start ≤ℤ (start +ℤ step *ℤ pos k)) × ((start +ℤ step *ℤ pos k) <ℤ stop)
 between_forth gap start stop step k is near above = forth_in start stop (step *ℤ pos k) (k * unsigned_abs step) gap (product_forth step k above) (is.forth above) near
 
@@ -114,7 +114,7 @@ counted_within (suc c) gap step some counts =
     let grown : c * 1 ≤ c * unsigned_abs step = mul-le-mul_left c (abs_pos step some) in
     omega arith
 
--- a test that holds of the first numbers alone keeps those
+-- Filtering by a test that holds only for the first numbers keeps these numbers.
 filter-front : {X : Type 0} (p : X → Bool) (f : ℕ → X) (a n c : ℕ) → c ≤ n → ((k : ℕ) → a ≤ k → k < a + c → p (f k) ≡ true) → ((k : ℕ) → a + c ≤ k → p (f k) ≡ false) → filter p (map f (range_with_len a n)) ≡ map f (range_with_len a c)
 filter-front p f a zero zero few front back = refl
 filter-front p f a zero (suc c) few front back = absurd (omega arith)
@@ -124,7 +124,7 @@ filter-front p f a (suc n) (suc c) few front back =
     let rest = filter-front p f (a + 1) n c (omega arith) (λ k low high. front k (omega arith) (omega arith)) (λ k low. back k (omega arith)) in
     rw (front a (omega arith) (omega arith)) (ap (λ xs. f a ∷ xs) rest)
 
--- the numbers before the stop are the first of all
+-- the numbers before the stop are the first `count` numbers
 pub stepped_first : (n count gap : ℕ) (start stop step : ℤ) → IsGap gap start stop step → CountsSteps count gap step → count ≤ n → stepped n start stop step ≡ numbers_from start step count
 unfolding stepped
 stepped_first n count gap start stop step is counts few =
@@ -132,7 +132,7 @@ stepped_first n count gap start stop step is counts few =
     (λ k low high. near_before gap start stop step k is ((counts k).0 (omega arith)))
     (λ k low. far_after gap start stop step k is (elim (cases_lt (k * unsigned_abs step) gap) [ inl near ↦ absurd (omega (arith, (counts k).1 near)) | inr far ↦ far ]))
 
--- ---- the numbers place by place
+-- ---- the numbers by position
 
 pub length-numbers_from : (start step : ℤ) (n : ℕ) → length (numbers_from start step n) ≡ n
 length-numbers_from start step n = length-map (range_with_len 0 n) (λ k. start +ℤ step *ℤ pos k) ∙ length-range_with_len 0 n
@@ -145,7 +145,7 @@ number_at start step z n k low is = get_or-map-range_with_len (λ k. start +ℤ 
 moved : (at s p q : ℤ) → q ≡ p +ℤ s → at +ℤ q ≡ (at +ℤ s) +ℤ p
 moved at s p q is = omega (arith, ints)
 
--- so many steps, from one step on
+-- `k + 1` steps are one step, and then `k` steps
 pub steps_later : (at s : ℤ) (k : ℕ) → at +ℤ s *ℤ pos (suc k) ≡ (at +ℤ s) +ℤ s *ℤ pos k
 steps_later at s k = moved at s (s *ℤ pos k) (s *ℤ pos (suc k)) (ap (λ n. s *ℤ pos n) (sym (add-one k)) ∙ product_more s k)
 

@@ -75,8 +75,7 @@ pub record HoldsFileItems (array : Owned) (head : Header) (items : List ℕ) : T
   pub block : array.block ≡ items
 
 -- A call returns the array and the number of bytes left over that `there` says, or the same refusal. Instead, it may
--- refuse
--- because memory runs out.
+-- refuse because memory runs out.
 abbrev pub Loads : Result (Owned × ℕ) Refusal → Result Loaded Refusal → Type 0
 Loads (Ok answer) there = (l : Loaded) × (there ≡ Ok l) × HoldsFileItems answer.0 l.head l.items × (answer.1 ≡ l.rest)
 Loads (Err refusal) there = (refusal ≡ OutOfMemory) ⊎ (there ≡ Err refusal)

@@ -51,8 +51,7 @@ lengths_of (Row Round values) = integers_of (value_literals values)
 lengths_of other = Err BadHeader
 
 -- There are three pairs, one for each of the three keys. The element type and the shape are checked only after all
--- three
--- values are known to have the right form.
+-- three values are known to have the right form.
 unfoldable pub header_of : List Pair → Result Header Refusal
 header_of pairs = do
   _ ← check (nat_eq (length pairs) 3) BadHeader
@@ -74,8 +73,8 @@ abbrev pub EntriesAnyTurns : {A : Type 0} → (List Token → Read A) → ℕ �
 EntriesAnyTurns entry closing = (turns : ℕ) (tokens : List Token) → length tokens ≤ turns → entries_in entry closing turns tokens ≡ entries_in entry closing (length tokens) tokens
 
 -- The tokens of a header are the same in any number of turns that is at least the number of its bytes. So are the
--- values of
--- each tuple and list and the pairs of each dictionary, if the number of turns is at least the number of tokens.
+-- values of each tuple and list and the pairs of each dictionary, if the number of turns is at least the number of
+-- tokens.
 abbrev pub HeaderAnyTurns : Type 0
 HeaderAnyTurns =
     ((turns : ℕ) (text : List ℕ) → length text ≤ turns → tokens_in turns text ≡ tokens text)

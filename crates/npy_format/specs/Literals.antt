@@ -1,6 +1,5 @@
 -- Literals of Python, as productions over tokens. Each reader takes the remaining tokens, and returns what it reads and
--- the
--- tokens after it. If it finds something else, the header is bad.
+-- the tokens after it. If it finds something else, the header is bad.
 use Rattle.std.specs.Prelude.{ℕ, zero, suc, List, [], ◌∷◌, length, nat_eq, if◌then◌else◌, Option, Some, None, Result, Ok, Err}
 use Rattle.std.specs.Option.{ok_or}
 use Rattle.npy_format.specs.Words.{Refusal, BadHeader, ◌>>=◌}
@@ -18,7 +17,7 @@ abbrev pub symbol_token_at : ℕ → List Token → Option (List Token)
 symbol_token_at b (token.Symbol c ∷ rest) = if nat_eq c b then Some rest else None
 symbol_token_at b _ = None
 
--- goes on with `next` if something is found, and is the other reading if not
+-- `next` of what is found, or `other` if nothing is found
 abbrev pub if_read : {A B : Type 0} → Option B → (B → A) → A → A
 if_read None next other = other
 if_read (Some found) next other = next found
@@ -28,8 +27,7 @@ abbrev pub list_end : {A : Type 0} → List Token → Read (List A)
 list_end rest = Ok ([], rest)
 
 -- Zero or more entries, separated by commas, up to the symbol that closes them. A trailing comma is allowed. Each entry
--- takes
--- at least one token, so as many turns as there are tokens are enough.
+-- takes at least one token, so as many turns as there are tokens are enough.
 unfoldable pub entries_in : {A : Type 0} → (List Token → Read A) → ℕ → ℕ → List Token → Read (List A)
 entries_in entry closing zero tokens = Err BadHeader
 entries_in entry closing (suc turns) tokens = if_read (symbol_token_at closing tokens) list_end (do

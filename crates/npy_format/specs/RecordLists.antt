@@ -14,8 +14,8 @@ pad_kind (b ∷ digits) =
     if nat_eq b 86 && not (is_empty digits) && list_all is_ascii_digit digits then Ok (value_of digits)
     else Err DescriptorLeftOut
 
--- the record with padding added, for an entry with the name '': its type is an optional mark, `V` and the number of
--- bytes
+-- the record with padding added, for an entry with an empty name. Its type is an optional mark, `V` and the number of
+-- bytes.
 abbrev pub pad_in : Partial → Literal → Result Partial Refusal
 pad_in p (Plain (Text text)) = pad_kind (marked text).1 >>= widened p
 pad_in p other = Err DescriptorLeftOut
@@ -57,7 +57,7 @@ abbrev pub fields_in : Reader → Partial → List Literal → Result Partial Re
 fields_in within p [] = Ok p
 fields_in within p (entry ∷ more) = entry_in within p entry >>= λ next. fields_in within next more
 
--- a record that may be this deep, itself included; nothing in it is aligned
+-- a record that is at most this deep, itself included; nothing in it is aligned
 unfoldable pub record_in : ℕ → Reader
 record_in zero leaves entries = Err DescriptorLeftOut
 record_in (suc levels) leaves entries = fields_in (record_in levels) (empty levels leaves) entries >>= closed_record false

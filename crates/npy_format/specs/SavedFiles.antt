@@ -4,8 +4,7 @@ use Rattle.npy_format.specs.Words.{Descr, LeafValue, item_size, item_from, offse
 use Rattle.npy_format.specs.Files.{Loaded, load, file_order}
 
 -- the file loads as an array of this element type and this shape, with these items in C order of their indexes, and no
--- bytes
--- are left over
+-- bytes are left over
 pub record LoadsAs (file : List ℕ) (descr : Descr) (shape : List ℕ) (items : List (List LeafValue)) : Type 0 where
   pub loaded : Loaded
   pub loads : load file ≡ Ok loaded

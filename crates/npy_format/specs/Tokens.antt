@@ -6,8 +6,7 @@ use Rattle.std.specs.Str.{bytes_eq}
 use Rattle.npy_format.specs.Words.{value_of}
 
 -- A token: a string (its bytes), an unsigned integer, a word (`True`, `False` or `None`), a symbol (any byte that
--- begins no
--- other token), or something that no literal contains.
+-- begins no other token), or something that no literal contains.
 pub data Token : Type 0 where
   Text : List ℕ → Token
   Integer : ℕ → Token
@@ -28,7 +27,7 @@ is_quote b = nat_eq b 39 || nat_eq b 34
 abbrev pub is_plain_byte : ℕ → ℕ → Bool
 is_plain_byte quote b = nat_le 32 b && nat_le b 126 && not (nat_eq b quote) && not (nat_eq b 92)
 
--- the end of a string, after its bytes `plain`: the quote, or else this is not a string
+-- the end of a string, after its bytes `plain`: the quote; anything else makes it `Stray`
 abbrev pub ended_text : List ℕ → ℕ → List ℕ → Token × List ℕ
 ended_text plain quote [] = (Stray, [])
 ended_text plain quote (b ∷ rest) = if nat_eq b quote then (Text plain, rest) else (Stray, rest)

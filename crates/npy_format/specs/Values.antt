@@ -2,8 +2,7 @@
 use Rattle.std.specs.Prelude.{ℕ, Bool, List}
 
 -- a literal that is neither a tuple nor a list: a string (its bytes), an integer, a truth value, `None`, or a
--- dictionary,
--- whose pairs are not kept
+-- dictionary, whose pairs are not kept
 pub data Plain : Type 0 where
   Text : List ℕ → Plain
   Integer : ℕ → Plain

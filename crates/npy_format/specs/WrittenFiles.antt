@@ -6,8 +6,7 @@ use Rattle.npy_format.specs.Files.{file_order}
 use Rattle.npy_format.specs.WrittenHeaders.{written_text, written_header}
 
 -- An array is written in Fortran order if and only if its items, at these addresses, are adjacent in Fortran order and
--- are
--- not adjacent in C order.
+-- are not adjacent in C order.
 abbrev pub is_fortran : ℕ → List ℕ → List ℕ → Bool
 is_fortran item shape addresses = is_f_contiguous item shape addresses && not (is_c_contiguous item addresses)
 

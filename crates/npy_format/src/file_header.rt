@@ -11,8 +11,7 @@ use std::alloc::{AllocError, Global};
 const MAX_SHORT_TEXT: usize = 65_525;
 
 /// The number of spaces before the newline that pad everything, including `bytes` bytes before
-/// them,
-/// to a multiple of 64 bytes.
+/// them, to a multiple of 64 bytes.
 fn spaces_after(bytes: usize) -> usize
     requires { bytes + 1 < 2 ^ 64 }
     ensures value { result ≡ spaces_after bytes }

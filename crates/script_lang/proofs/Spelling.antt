@@ -36,7 +36,7 @@ signed_plain [] no_minus no_plus = refl
 signed_plain (b ∷ bytes) no_minus no_plus =
     neither (nat_eq b 45) (nat_eq b 43) bytes (option_map negative (number_at bytes)) (option_map positive (number_at bytes)) (option_map positive (number_at (b ∷ bytes))) no_minus no_plus
 
--- The bytes after the marks and `T{` are at most as many as all bytes.
+-- The text after the marks and `T{` is at most as long as the whole text.
 pub record_mark_shorter : (bytes inside : List ℕ) → record_mark_at bytes ≡ Some inside → length inside ≤ length bytes
 unfolding record_mark_at
 record_mark_shorter bytes inside found =

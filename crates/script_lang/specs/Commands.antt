@@ -1,6 +1,5 @@
 -- The commands and the values, with one production each. A production takes the bytes after its word, and returns what
--- it
--- reads and the bytes after that.
+-- it reads and the bytes after that.
 use Rattle.std.specs.Prelude.{ℕ, ℤ, List, codes, Option, Some, None, is_some, if◌then◌else◌}
 use Rattle.std.specs.Option.{option_map}
 use Rattle.elem_descr.specs.declared.index_item.IndexItem.{IndexItem}

@@ -22,8 +22,7 @@ abbrev pub named_behind : Bool → ℕ → Bool
 named_behind named b = if nat_eq b 58 then not named else named
 
 -- The number of bytes up to and including the brace that closes the last open one, if there is such a brace. Braces
--- between
--- the two colons of a name do not count.
+-- between the two colons of a name do not count.
 unfoldable pub record_len : Bool → ℕ → List ℕ → Option ℕ
 record_len named depth [] = None
 record_len named depth (b ∷ bytes) = if nat_eq (depth_behind named b depth) 0 then Some 1 else option_map (λ n. n + 1) (record_len (named_behind named b) (depth_behind named b depth) bytes)

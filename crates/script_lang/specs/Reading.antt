@@ -81,8 +81,7 @@ MayLackRoom misspelt = Unit {0}
 MayLackRoom (asks command) = IsTrue (parts_take_memory command)
 
 -- The result of the parser is right: a command is what the line asks for, no command means that the line is silent, and
--- a
--- refusal says what is wrong with the line, or that memory ran out.
+-- a refusal says what is wrong with the line, or that memory ran out.
 abbrev pub Says : Result (Option Command) Refusal → Line → Type 0
 Says (Ok None) line = line ≡ silent
 Says (Ok (Some command)) line = line ≡ asks command
@@ -95,10 +94,8 @@ Scans view None there = there ≡ None
 Scans view (Some x) there = there ≡ Some (view x)
 
 -- A reader that takes memory returns the expected result `there`: a value that `view` turns into the expected one, or
--- the
--- refusal `Syntax` if nothing is there. Instead, it may run out of memory if nothing is there, or if what is there
--- takes
--- memory of its own.
+-- the refusal `Syntax` if nothing is there. Instead, it may run out of memory if nothing is there, or if what is there
+-- takes memory of its own.
 abbrev pub Reads : {X Y : Type 0} → (X → Y) → (Y → Bool) → Result X Refusal → Option Y → Type 0
 Reads view takes_memory (Ok x) there = there ≡ Some (view x)
 Reads view takes_memory (Err refusal) there =

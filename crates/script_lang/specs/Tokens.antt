@@ -1,6 +1,5 @@
 -- The tokens of a line. Each reader takes the remaining bytes, and returns what it reads and the bytes after it. Blanks
--- may
--- precede each token, except where a comment says 'at once'.
+-- may precede each token, except where a comment says 'at once'.
 use Rattle.std.specs.Prelude.{ℕ, ℤ, pos, neg_ℤ, Bool, true, false, List, [], ◌∷◌, length, Option, Some, None, is_some, nat_eq, nat_le, if◌then◌else◌, take, drop, not, ◌||◌, ◌&&◌}
 use Rattle.std.specs.List.{prefix_len, list_all}
 use Rattle.std.specs.Option.{option_and_then, option_map}
@@ -18,7 +17,7 @@ abbrev pub ◌or_else◌ : {A : Type 0} → Option A → Option A → Option A
 None or_else second = second
 (Some x) or_else second = Some x
 
--- goes on with `next` if something is found, and is the other reading if not
+-- `next` of what is found, or `other` if nothing is found
 abbrev pub if_found : {A B : Type 0} → Option B → (B → Option A) → Option A → Option A
 if_found None next other = other
 if_found (Some found) next other = next found
@@ -75,8 +74,7 @@ unfoldable pub bytes_mark_at : List ℕ → Option (List ℕ)
 bytes_mark_at bytes = byte_at 98 bytes >>= byte_at 39
 
 -- Blanks must separate words, numbers and descriptors from a word or a number that follows. A bytes literal may follow
--- at
--- once.
+-- at once.
 unfoldable pub is_parted : List ℕ → Bool
 is_parted [] = true
 is_parted (b ∷ bytes) = if is_name_byte b || is_sign b then is_some (bytes_mark_at (b ∷ bytes)) else true
@@ -100,8 +98,7 @@ starts_name [] = false
 starts_name (b ∷ word) = is_name_start b
 
 -- a word that is the name of an array unless it is a verb: it does not begin with a digit, has at most 32 bytes and is
--- not
--- `True`, `False` or `None`
+-- not `True`, `False` or `None`
 abbrev pub names_unless_verb : List ℕ → Bool
 names_unless_verb word = starts_name word && nat_le (length word) 32 && not (is_constant word)
 

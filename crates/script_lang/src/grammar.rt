@@ -92,9 +92,8 @@ fn verb_command(alloc: Global, verb: Verb, bytes: &[u8]) -> Result<(Command, &[u
 
 /// What a line asks for: a command, or nothing for a blank line or a comment. Any other line with a
 /// byte that is neither a tab nor 32 to 126 is refused (E02), without taking memory. Then a line
-/// that
-/// does not follow the grammar is refused as `Syntax` (E03). Memory may run out (E40) only for a
-/// command of which `parts_take_memory` is true, or on a line that does not follow the grammar.
+/// that does not follow the grammar is refused as `Syntax` (E03). Memory may run out (E40) only for
+/// a command of which `parts_take_memory` is true, or on a line that does not follow the grammar.
 #[tactic(auto, unfolding(crate::specs::Commands::form_at, crate::specs::Commands::command_at, crate::specs::Lines::line_of), using(crate::proofs::Commands::whole_line_room, crate::proofs::Turns::each_list_any_turns))]
 pub fn parse(alloc: Global, line: &[u8]) -> Result<Option<Command>, Refusal>
     requires { length line.now ≤ 65536 }

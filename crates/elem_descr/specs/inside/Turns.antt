@@ -89,8 +89,7 @@ abbrev pub named : ℕ → List ℕ → Result (List ℕ × List ℕ) Refusal
 named number text = if is_named text then name_at (drop 1 text) else Ok (codes "f" ++ decimal number, text)
 
 -- reads the members of a record up to its closing brace, given the current mark and the number of leaves before the
--- record,
--- and returns the record and the text after the brace
+-- record, and returns the record and the text after the brace
 abbrev pub Reader : Type 0
 Reader = Mark → ℕ → List ℕ → Result (Body × List ℕ) Refusal
 
@@ -147,13 +146,13 @@ members within zero mark p text = Err BadDescriptor
 members within (suc turns) mark p text =
     let m = marked mark text in turn within m.0 p (closing m.1) m.1 (λ next. members within turns next.1 next.0 next.2)
 
--- a record that may be this deep, itself included
+-- a record that is at most this deep, itself included
 unfoldable pub record_within : ℕ → Reader
 record_within zero mark leaves text = Err DescriptorLeftOut
 record_within (suc levels) mark leaves text =
     members (record_within levels) (length text) mark (empty levels leaves) text
 
--- Only blanks may follow. A name or a second member is unsupported, and what is no member is refused like any other.
+-- Only blanks may follow. A name or a second member is unsupported. Anything else is refused for its own error.
 unfoldable pub nothing_follows : List ℕ → Result (Unit {0}) Refusal
 nothing_follows text = if list_all (is_one_of (codes " ")) text then Ok tt else do
   _ ← check (not (is_named text)) DescriptorLeftOut
