@@ -124,7 +124,7 @@ leaves_in_fields (RecordDescr structure) =
     let seen = ap leaf_count (listed-fields_of structure.fields) in
     omega (arith, leaves_in-listed (fields_of structure.fields), seen, length-leaves_from 0 structure.fields)
 
--- each field lies within the item
+-- each field ends within the item
 pub fields_within : (structure : Structure) → IsLegal structure → (k : ℕ) → k < length (fields_of structure.fields) → (field_at (RecordDescr structure) k).at + item_size (field_at (RecordDescr structure) k).descr ≤ structure.size
 fields_within structure legal k l =
     let order : InOrder 0 (listed (fields_of structure.fields)) structure.size = rw (listed-fields_of structure.fields) legal.in_order in

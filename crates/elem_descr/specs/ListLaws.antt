@@ -1,4 +1,4 @@
--- Laws of lists and truth values that do not depend on what these mean.
+-- General laws of lists and truth values.
 use Rattle.std.proofs.Common.{◌≡◌, ℕ, ◌-◌, List, length, take, drop, arith, [], ◌∷◌, ◌++◌, refl, ◌∙◌, ap, map, sym, Bool, true, false, ℤ, pos, get_or}
 use Rattle.std.proofs.lemmas.List.{length-drop, take_all, map-append}
 use Rattle.std.specs.List.{flat_map}

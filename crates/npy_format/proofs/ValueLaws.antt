@@ -1,4 +1,4 @@
--- The values of a tuple or a list are those that it was made of.
+-- Turning literals into the values of a tuple or a list and back gives the same literals.
 use Rattle.std.proofs.Common.{◌≡◌, List, [], ◌∷◌, refl, ap}
 use Rattle.npy_format.specs.Listed.{Literal, Plain, Row, all_listed_values, value_literals}
 

@@ -12,7 +12,7 @@ in_turns rule (suc turns) bytes = rule (in_turns rule turns) bytes
 unfoldable pub by_rule : {B : Type 0} → ((List ℕ → Option B) → List ℕ → Option B) → List ℕ → Option B
 by_rule rule bytes = in_turns rule (suc (length bytes)) bytes
 
--- The rule reads the same if it may be applied more often.
+-- The rule reads the same in any number of turns above the number of bytes.
 abbrev pub AnyTurns : {B : Type 0} → ((List ℕ → Option B) → List ℕ → Option B) → Type 0
 AnyTurns rule = (turns : ℕ) (bytes : List ℕ) → length bytes < turns → in_turns rule turns bytes ≡ by_rule rule bytes
 

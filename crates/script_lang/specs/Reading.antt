@@ -20,7 +20,7 @@ use Rattle.script_lang.specs.declared.command.Value.TheVariants.{Make, View, Com
 use Rattle.script_lang.specs.declared.command.Command.TheVariants.{Bind, Set, Update}
 use Rattle.script_lang.specs.Lines.{Line, silent, bad_byte, misspelt, asks}
 
--- Whether something takes memory of its own: bytes and record literals, and an index of more than one item, do.
+-- whether a part of a command takes memory of its own: bytes and record literals do, and an index of more than one item
 abbrev pub scalar_room : ScalarLiteral → Bool
 scalar_room (Bytes text) = true
 scalar_room _ = false
