@@ -63,7 +63,7 @@ bytes_at bytes = do
   text ← byte_text_at bytes
   Some (Bytes text.0, text.1)
 
--- an integer, a boolean or bytes, at once
+-- an integer, a boolean or bytes, given the bytes after the blanks
 unfoldable pub scalar_at : List ℕ → Option (ScalarLiteral × List ℕ)
 scalar_at bytes = if_found (bytes_mark_at bytes) bytes_at (option_map integer_of (integer_at bytes) or_else boolean_at bytes)
 
