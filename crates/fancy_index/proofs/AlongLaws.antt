@@ -1,4 +1,4 @@
--- The items along axes from one on, where the other numbers of their index stay.
+-- Addresses along some axes, with the rest of the index fixed.
 use Rattle.std.proofs.Common.{◌≡◌, ℕ, ◌+◌, ◌<◌, ◌≤◌, ◌≤ℤ◌, List, [], ◌∷◌, ◌++◌, map, length, get_or, take, drop, All, refl, sym, ap, subst, ◌∙◌, arith, length-append, length-drop, length-take-le}
 use Rattle.std.proofs.lemmas.Int.{ints}
 use Rattle.std.proofs.lemmas.List.{get_or-map, length-map}
@@ -16,7 +16,7 @@ dot-origin [] axes = refl
 dot-origin (s ∷ strides) [] = refl
 dot-origin (s ∷ strides) (n ∷ axes) = rw (*ℤ-zero s, dot-origin strides axes)
 
--- a sum in three parts
+-- the sum over all axes, as a sum of three parts
 cut : (strides : List ℤ) (front at back : List ℕ) (n m : ℕ) → length front ≡ n → length at ≡ m →
     dot strides (front ++ (at ++ back)) ≡ dot (take n strides) front +ℤ (dot (take m (drop n strides)) at +ℤ dot (drop m (drop n strides)) back)
 cut strides front at back n m size same =
@@ -28,7 +28,7 @@ cut strides front at back n m size same =
 regroup : (o d0 dx f sx s0 b : ℤ) → dx ≡ f +ℤ (sx +ℤ b) → d0 ≡ f +ℤ (s0 +ℤ b) → s0 ≡ pos 0 → o +ℤ dx ≡ (o +ℤ d0) +ℤ sx
 regroup o d0 dx f sx s0 b is is-zero none = omega (arith, ints, is, is-zero, none)
 
--- other numbers on some axes add what they add along these
+-- The numbers on some axes add to the address what they add along the strides of these axes.
 pub along-adds : (layout : Layout) (axes front at back : List ℕ) (axis : ℕ) → length front ≡ axis → length at ≡ length axes →
     address layout (front ++ (at ++ back)) ≡ address layout (front ++ (map (λ _. 0) axes ++ back)) +ℤ dot (strides_along layout axis axes) at
 along-adds layout axes front at back axis size same =
@@ -51,7 +51,7 @@ module _ (layout : Layout) (axis start : ℕ) (axes : List ℕ) (b : BeginAt lay
   pub length-along : length (strides_along layout axis axes) ≡ length axes
   length-along = length-take-le (length axes) (drop axis layout.strides) (omega (arith, axes-within, length-drop axis layout.strides))
 
-  -- along them the layout shows its items at each of their indexes
+  -- along these axes, the layout has its items at all their indexes
   pub along-shows : ShowsThrough layout axes (strides_along layout axis axes) start (λ at. b.front ++ (at ++ b.back))
   along-shows = record {
     leads = b.leads;
@@ -66,13 +66,13 @@ module _ (layout : Layout) (axis start : ℕ) (axes : List ℕ) (b : BeginAt lay
       subst IsShape b.stand
       (shape-before behind (length axes) (some-behind layout.shape axis whole) (omega (arith, axes-within, length-drop axis layout.shape, layout.one_stride_an_axis)) (omega (arith, few, length-drop axis layout.shape)) (All-drop (λ n. n ≤ max_items) axis layout.shape short) (omega (arith, small, few-behind layout.shape axis whole)))
 
-  -- the offset of a rank along them is no address below 0
+  -- the offset of a rank along them is not negative
   pub pos-along : (x : ℕ) → x < count axes → pos (offset_along layout axis start axes x) ≡ pos start +ℤ dot (strides_along layout axis axes) (tuple axes x)
   pos-along x low =
       let in' = tuple-in axes x low in
       pos-natural _ (subst (λ (z : ℤ). pos 0 ≤ℤ z) (sym (along-shows.same (tuple axes x) in')) (layout.within_limit.from_zero _ (b.leads (tuple axes x) in')))
 
-  -- ranks lead along them to these offsets
+  -- a layout of these axes turns ranks into these offsets
   pub led-along : (l : Layout) (ranks : List ℕ) (k : ℕ) → l.shape ≡ axes → l.strides ≡ strides_along layout axis axes → l.offset ≡ start → k < length ranks → get_or ranks k 0 < count axes →
       get_or (map (λ rank. get_or (offsets l) rank 0) ranks) k 0 ≡ offset_along layout axis start axes (get_or ranks k 0)
   led-along l ranks k shape strides offset inside low =

@@ -1,4 +1,4 @@
--- Which answer each exit of a plan has to give.
+-- What each exit of the planning must return.
 use Rattle.std.proofs.Common.{◌≡◌, ◌⊎◌, inl, inr, Result, Ok, Err, ℕ, ◌≤◌, Bool, true, false, IsTrue, List, [], map, length, get_or, All, refl, sym, ap, subst, ◌∙◌, arith}
 use Rattle.std.specs.Result.{is_ok, IfOk}
 use Rattle.std.proofs.lemmas.Bool.{false≢true}
@@ -13,7 +13,7 @@ use Rattle.fancy_index.specs.inside.PartLists.{shown_part, all_named, view_if_na
 use Rattle.fancy_index.proofs.LeadLaws.{all_ready}
 use Rattle.fancy_index.proofs.PartLaws.{passed}
 
--- ---- the definition, by cases
+-- ---- the cases of the definition
 
 no-points : (parts : List Part) (e : Refusal) → points_shape parts ≡ Err e → parts_view parts ≡ Err e
 unfolding parts_view
@@ -39,11 +39,11 @@ view_no_shape parts points used e found is (inr there) = inr (no-shape parts poi
 
 -- ---- plans
 
--- the shape of the result, as it was made
+-- the shape of the result, if it is one
 pub shape-made : (parts : List Part) (used shape : List ℕ) → shape_of (all_axes used parts) ≡ Ok shape → shape ≡ all_axes used parts
 shape-made parts used shape there = sym (shape_of-same (all_axes used parts) shape there)
 
--- nothing is taken
+-- a result without items
 pub gives_none : (layout : Layout) (parts : List Part) (points used shape : List ℕ) (plan : Planned) → points_shape parts ≡ Ok points → used ≡ points → shape_of (all_axes used parts) ≡ Ok shape → count shape ≡ 0 → plan.shape ≡ shape → plan.offsets ≡ [] → GivesPlan layout (Ok plan) (parts_view parts)
 gives_none layout parts points used shape plan found is there none shape-is offsets-are =
     let view = seen parts points shape found (ap (λ p. shape_of (all_axes p parts)) (sym is) ∙ there) in
@@ -62,12 +62,12 @@ pub gives_outside : (layout : Layout) (parts : List IndexPart) (e : Refusal) →
 gives_outside layout parts e (inl memory) = inl memory
 gives_outside layout parts e (inr out) = inr (ap (λ r. r >>= λ _. parts_view (map shown_part parts)) out)
 
--- what parts show of an index list
+-- the view of the parts of an index list
 pub named-view : (parts : List IndexPart) (list : List Part) (test : Bool) → all_named parts ≡ test → (test ≡ true → map shown_part parts ≡ list) → view_if_named parts ≡ (check test IndexOutOfRange >>= λ _. parts_view list)
 named-view parts list true named shown = (λ i. check (named i) IndexOutOfRange >>= λ _. parts_view (map shown_part parts)) ∙ ap parts_view (shown refl)
 named-view parts list false named shown = λ i. check (named i) IndexOutOfRange >>= λ _. parts_view (map shown_part parts)
 
--- the plan of the items
+-- a result with items
 pub gives_some : (layout : Layout) (list : List IndexPart) (points used shape : List ℕ) (result : Result Planned Refusal) → points_shape (map shown_part list) ≡ Ok points → used ≡ points → shape_of (all_axes used (map shown_part list)) ≡ Ok shape →
     IfOk result (λ plan. IsPlanOf layout plan (record { shape = all_axes used (map shown_part list); leads = leads_through (length used) (map shown_part list) })) → IsWithin (all_named list) result → GivesPlan layout result (view_if_named list)
 gives_some layout list points used shape (Ok plan) found is there ok within =
@@ -76,7 +76,7 @@ gives_some layout list points used shape (Ok plan) found is there ok within =
     gives_named layout list (Ok plan) (passed (all_named list) IndexOutOfRange within) (subst (GivesPlan layout (Ok plan)) (sym view) (subst (λ p. IsPlanOf layout plan (record { shape = all_axes used parts; leads = leads_through (length p) parts })) is ok))
 gives_some layout list points used shape (Err e) found is there ok within = gives_outside layout list e within
 
--- ---- points that stretch to what they have in common
+-- ---- points that are stretched to their common shape
 
 common_of_points : (shapes : List (List ℕ)) (points : List ℕ) (r : Result (List ℕ) Refusal) → common_with [] shapes ≡ r → as_index_shapes r ≡ Ok points → All (λ s. IsTrue (can_stretch s points)) shapes
 common_of_points shapes points (Ok lengths) found told = (with-fits [] shapes points (found ∙ told)).1

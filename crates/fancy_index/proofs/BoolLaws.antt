@@ -1,4 +1,4 @@
--- The ranks at which bools are true.
+-- The ranks of true bools.
 use Rattle.std.proofs.Common.{◌≡◌, ◌⊎◌, inl, inr, ℕ, zero, suc, ◌+◌, ◌*◌, ◌<◌, ◌≤◌, true, false, List, [], ◌∷◌, ◌++◌, map, length, get_or, set, take, drop, refl, sym, ap, subst, ◌∙◌, arith, append_assoc}
 use Rattle.std.specs.List.{flat_map}
 use Rattle.std.specs.Ordering.{int_eq}
@@ -40,7 +40,7 @@ number-bool descr block offset is =
 pub numbers-are : (descr : Descr) (block offsets : List ℕ) → descr ≡ ScalarDescr BoolScalar → map (number_from descr block) offsets ≡ map (bool_at block) offsets
 numbers-are descr block offsets is = λ i. map (λ offset. number-bool descr block offset is i) offsets
 
--- the numbers of items that are the same
+-- if items are the same, so are their numbers
 pub numbers-same : (descr descr' : Descr) (block block' os os' : List ℕ) → map (item_from descr block) os ≡ map (item_from descr' block') os' → map (number_from descr block) os ≡ map (number_from descr' block') os'
 numbers-same descr descr' block block' os os' same =
     sym (map-map first_number (item_from descr block) os) ∙ ap (map first_number) same ∙ map-map first_number (item_from descr' block') os'
@@ -64,13 +64,13 @@ true_ranks-append (number ∷ front) back rank =
     ∙ sym (append_assoc here (true_ranks (rank + 1) front) (true_ranks (rank + 1 + length front) back))
     ∙ (λ i. sym (rank-step number front rank) i ++ true_ranks (next i) back)
 
--- ---- a loop over bools
+-- ---- loops over bools
 
 either : (t : ℕ) → t ≤ 1 → (t ≡ 0) ⊎ (t ≡ 1)
 either zero few = inl refl
 either (suc n) few = inr (omega (arith, few))
 
--- the rank of one more is written, and stays if it is true
+-- The rank of one more bool is written, and is kept if the bool is true.
 pub noted : (numbers : List ℤ) (found whole : List ℕ) (rank many k t : ℕ) → t ≤ 1 → k < length numbers → many < length found → get_or numbers k (pos 0) ≡ pos t →
     take many found ++ true_ranks (rank + k) (drop k numbers) ≡ whole → take (many + t) (set found many (rank + k)) ++ true_ranks (rank + (k + 1)) (drop (k + 1) numbers) ≡ whole
 noted numbers found whole rank many k t few low room is so_far =
@@ -99,7 +99,7 @@ noted numbers found whole rank many k t few low room is so_far =
           ∙ so_far
     ]
 
--- none of these is true
+-- a range in which no bool is true adds no rank
 pub none_true : (numbers : List ℤ) (rank k n : ℕ) → k + n ≤ length numbers → ((j : ℕ) → k ≤ j → j < k + n → get_or numbers j (pos 0) ≡ pos 0) →
     true_ranks (rank + k) (drop k numbers) ≡ true_ranks (rank + (k + n)) (drop (k + n) numbers)
 none_true numbers rank k zero fits none = ap (λ j. true_ranks (rank + j) (drop j numbers)) (omega arith)
@@ -112,12 +112,12 @@ none_true numbers rank k (suc n) fits none =
 pub length-bools : (bools : Bools) → length (bools_in bools) ≡ bools.run.count
 length-bools bools = length-map (run_offsets bools.run) (bool_at bools.bytes.now) ∙ length-run_offsets bools.run
 
--- the bool there
+-- the bool at a position
 pub bool-there : (bools : Bools) (k offset : ℕ) → k < bools.run.count → offset ≡ get_or (run_offsets bools.run) k 0 → get_or (bools_in bools) k (pos 0) ≡ bool_at bools.bytes.now offset
 bool-there bools k offset low is =
     get_or-map (bool_at bools.bytes.now) (run_offsets bools.run) k 0 (pos 0) (omega (arith, low, length-run_offsets bools.run)) ∙ ap (bool_at bools.bytes.now) (sym is)
 
--- bools that lie one right after another
+-- a run of adjacent bools
 module _ (bools : Bools) (lie : LieInBytes bools) (one : bools.run.step ≡ pos 1) (k : ℕ) (low : k < bools.run.count) where
   offset-after : bools.run.offset + k ≡ get_or (run_offsets bools.run) k 0
   offset-after = lies-there bools.run lie.limit k low (bools.run.offset + k) (omega (arith, ints, ap (λ step. step *ℤ pos k) one))
@@ -128,12 +128,12 @@ module _ (bools : Bools) (lie : LieInBytes bools) (one : bools.run.step ≡ pos 
   pub bool-after : get_or (bools_in bools) k (pos 0) ≡ bool_at bools.bytes.now (bools.run.offset + k)
   bool-after = bool-there bools k (bools.run.offset + k) low offset-after
 
--- ranks that were found are added
+-- the ranks that were found are appended
 pub found_added : (ranks ranks' found whole later later' : List ℕ) → ranks' ≡ ranks ++ found → found ++ later' ≡ later → ranks ++ later ≡ whole → ranks' ++ later' ≡ whole
 found_added ranks ranks' found whole later later' added is so_far =
     ap (λ l. l ++ later') added ∙ append_assoc ranks found later' ∙ ap (λ l. ranks ++ l) is ∙ so_far
 
--- the bools of the first run of those that are left
+-- the bools of the first of the remaining runs
 pub run_noted : (f : ℕ → ℤ) (run : Run) (left left' : List Run) (rank : ℕ) → left ≡ run ∷ left' →
     true_ranks rank (map f (run_offsets run)) ++ true_ranks (rank + run.count) (map f (flat_map run_offsets left')) ≡ true_ranks rank (map f (flat_map run_offsets left))
 run_noted f run left left' rank walked =

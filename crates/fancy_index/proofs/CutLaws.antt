@@ -1,4 +1,5 @@
--- A layout that is cut between two axes: the first axes where the others are 0, and the others where the first are 0.
+-- A layout that is cut between two axes: its first axes with 0 on the later ones, and its later axes with 0 on the
+-- first.
 use Rattle.std.proofs.Common.{◌≡◌, ◌⊎◌, inl, inr, Result, Ok, Err, ℕ, ◌*◌, ◌<◌, ◌≤◌, List, [], ◌∷◌, ◌++◌, length, take, drop, All, refl, sym, ap, subst, ◌∙◌, arith, length-drop, length-take-le, mul-le-mul_left, mul-le-mul_right, mul-one, one-mul}
 use Rattle.std.specs.Result.{is_ok}
 use Rattle.std.proofs.lemmas.Bool.{false≢true}
@@ -70,7 +71,7 @@ module _ (rest : Layout) (k : ℕ) (within : k ≤ length rest.shape) (some : 0 
   size : (i : List ℕ) → IsIndex (take k rest.shape) i → length i ≡ k
   size i in-i = length-index (take k rest.shape) i in-i ∙ length-take-le k rest.shape within
 
-  -- the sum over all axes
+  -- the sum over all axes is the sum over both parts
   both : (i j : List ℕ) → IsIndex (take k rest.shape) i → dot rest.strides (i ++ j) ≡ dot (take k rest.strides) i +ℤ dot (drop k rest.strides) j
   both i j in-i = dot-cut rest.strides i j ∙ ap (λ n. dot (take n rest.strides) i +ℤ dot (drop n rest.strides) j) (size i in-i)
 

@@ -1,4 +1,4 @@
--- Items that lie one after another.
+-- Adjacent items.
 use Rattle.std.proofs.Common.{◌≡◌, ℕ, zero, suc, ◌+◌, ◌*◌, ◌≤◌, List, ◌∷◌, length, get_or, All, sym, ap, ◌∙◌, arith, zero-mul, suc-mul, mul_comm}
 use lib.IntN.{pos}
 use Rattle.std.proofs.lemmas.List.FromFn.{length-map-range_with_len, get_or-map-range_with_len}
@@ -13,13 +13,13 @@ packed-suc at width n =
     let next : at + 1 * width ≡ at + width = omega arith in
     ap (packed at width) more ∙ packed-append at width 1 n ∙ (λ i. first i ∷ packed (next i) width n)
 
--- a run from the start on whose step is the items' size
+-- a run that begins at 0, and whose step is the width of an item
 pub packed-run : (run : Run) (width : ℕ) (offsets : List ℕ) → run_offsets run ≡ offsets → run.offset ≡ 0 → run.step ≡ pos width → offsets ≡ multiples width (length offsets)
 packed-run run width offsets is begin step =
     let same : offsets ≡ multiples width run.count = sym is ∙ (λ i. run_offsets (record { offset = begin i; count = run.count; step = step i })) ∙ row-multiples width run.count in
     same ∙ ap (multiples width) (sym (length-run_offsets run) ∙ ap length is)
 
--- they end within the bytes in which each of them does
+-- if each item ends within the bytes, so do all of them together
 pub packed-end : (width len n : ℕ) → All (λ offset. offset + width ≤ len) (multiples width n) → n * width ≤ len
 packed-end width len zero within = omega (arith, zero-mul width)
 packed-end width len (suc n) within =

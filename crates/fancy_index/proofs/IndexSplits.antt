@@ -1,4 +1,4 @@
--- Indexes of axes that are joined, and lists over them.
+-- Indexes of concatenated axes, and lists over them.
 use Rattle.std.proofs.Common.{◌≡◌, ℕ, List, [], ◌∷◌, ◌++◌, map, length, get_or, take, drop, All, refl, sym, ap, ◌∙◌, arith, append-nil}
 use Rattle.std.specs.List.{flat_map, range_with_len}
 use Rattle.std.proofs.lemmas.List.Elements.{All-map, All-head, All-tail}
@@ -7,7 +7,7 @@ use Rattle.std.proofs.lemmas.Simd.{map-map}
 use Rattle.fancy_index.specs.Words.{Layout, natural, indexes, IsIndex, address, offsets, length-indexes, get_or-indexes, index_at, same_on_indexes, flat_map_same, flat_map-flat_map, map-flat_map}
 use Rattle.fancy_index.specs.inside.Moved.{moved_offset, shifted, shifted_all, moved_all}
 
--- ---- what holds of each index
+-- ---- properties of each index
 
 pub all_indexes : (P : List ℕ → Type 0) (shape : List ℕ) → ((index : List ℕ) → IsIndex shape index → P index) → All P (indexes shape)
 all_indexes P shape each k d below =
@@ -23,11 +23,11 @@ flat_map_all : {X Y : Type 0} (f g : X → List Y) (xs : List X) → All (λ x. 
 flat_map_all f g [] all = refl
 flat_map_all f g (x ∷ xs) all = λ i. All-head (λ x. f x ≡ g x) x xs all i ++ flat_map_all f g xs (All-tail (λ x. f x ≡ g x) x xs all) i
 
--- lists that agree on the indexes
+-- functions that agree on all indexes give the same list
 flat_same : {Y : Type 0} (shape : List ℕ) (f g : List ℕ → List Y) → ((index : List ℕ) → IsIndex shape index → f index ≡ g index) → flat_map f (indexes shape) ≡ flat_map g (indexes shape)
 flat_same shape f g each = flat_map_all f g (indexes shape) (all_indexes (λ index. f index ≡ g index) shape each)
 
--- ---- indexes of joined axes
+-- ---- indexes of concatenated axes
 
 pub map-joined : {Y : Type 0} (f : List ℕ → Y) (front back : List ℕ) → map f (indexes (front ++ back)) ≡ flat_map (λ i. map (λ j. f (i ++ j)) (indexes back)) (indexes front)
 map-joined f [] back = sym (append-nil (map f (indexes back)))
@@ -57,7 +57,7 @@ moved-joined base outer inner points shift f same =
     ∙ sym (map-joined (λ r. f (o ++ r)) points inner.shape))
     ∙ sym (map-joined f outer.shape (points ++ inner.shape))
 
--- ---- an index of joined axes, cut
+-- ---- cutting an index of concatenated axes
 
 pub IsIndex-cut : (front back index : List ℕ) → IsIndex (front ++ back) index → IsIndex front (take (length front) index) × IsIndex back (drop (length front) index)
 IsIndex-cut [] back index in' = (tt, in')

@@ -1,4 +1,4 @@
--- Which answer each check of an index list gives.
+-- What each check of an index list must return.
 use Rattle.std.proofs.Common.{◌≡◌, ◌⊎◌, inl, inr, Err, ℕ, ◌<◌, ◌≤◌, nat_le, true, false, ◌&&◌, List, [], ◌∷◌, length, refl, ap, ◌∙◌, arith}
 use Rattle.std.specs.List.{list_all}
 use Rattle.std.proofs.lemmas.Bool.{le-leb}
@@ -31,17 +31,17 @@ pub refused-step : (shape : List ℕ) (items : List (IndexItem IndexArray)) → 
 unfolding indexed
 refused-step shape items index enough covers none = rw (index, few shape items enough, covers, none)
 
--- where nothing is refused before its numbers
+-- if all checks before those of the numbers pass
 pub indexed-parts : (shape : List ℕ) (items : List (IndexItem IndexArray)) → IsChecked shape items → indexed shape items ≡ (check (are_within shape items) IndexOutOfRange >>= λ _. parts_view (parts shape items))
 unfolding indexed
 indexed-parts shape items c = rw (c.index, few shape items c.enough, c.covers, c.steps)
 
--- where a number is refused
+-- if a number is refused
 pub refused-range : (shape : List ℕ) (items : List (IndexItem IndexArray)) (e : Refusal) → IsChecked shape items → (e ≡ OutOfMemory) ⊎ (check (are_within shape items) IndexOutOfRange ≡ Err e) → (e ≡ OutOfMemory) ⊎ (indexed shape items ≡ Err e)
 refused-range shape items e c (inl none) = inl none
 refused-range shape items e c (inr out) = inr (indexed-parts shape items c ∙ ap (λ r. r >>= λ _. parts_view (parts shape items)) out)
 
--- an array takes no step
+-- replacing the items of an array by their numbers does not change whether an item has a valid step
 same_step : (item : IndexItem Items) → has_step (index_item_of item) ≡ has_step item
 same_step (Integer at) = refl
 same_step (Slice start stop step) = refl

@@ -1,4 +1,4 @@
--- A plan that is made of the other axes and of the first item with each point.
+-- A plan is made of the other axes and of the offset of the first item with each point.
 use Rattle.std.proofs.Common.{◌≡◌, ℕ, zero, suc, ◌+◌, ◌*◌, ◌/◌, ◌<◌, ◌≤◌, ◌≤ℤ◌, Bool, true, false, cond, List, [], ◌++◌, map, length, get_or, take, drop, All, sym, ap, subst, ◌∙◌, arith, append_assoc, mul_assoc, mul_comm, length-take-le}
 use Rattle.std.proofs.lemmas.Int.{ints}
 use Rattle.std.proofs.lemmas.Nat.{div-mul-add}
@@ -19,7 +19,7 @@ use Rattle.fancy_index.proofs.LeadLaws.{leads-in, first-leads, split}
 use Rattle.fancy_index.proofs.PlaceLaws.{axes-within}
 use Rattle.fancy_index.proofs.ShiftLaws.{all_ready_at}
 
--- ---- where the points stand
+-- ---- where the axes of the points are
 
 place-of : (beside : Bool) (before all : ℕ) → before ≤ all → cond beside before 0 ≤ all
 place-of true before all low = low
@@ -54,7 +54,7 @@ module _ (parts : List IndexPart) (points : List ℕ) where
       product (suc m) zero some some' = absurd (omega arith)
       product (suc m) (suc n) some some' = omega arith
 
--- a plan's layouts
+-- the outer and the inner layout of a plan are the rest of the layout, cut at the place of the points
 pub record IsLaid (layout rest outer inner : Layout) (parts : List IndexPart) (points : List ℕ) : Type 0 where
   pub are : AreParts layout.shape parts
   pub ready : All (IsReady points) parts
@@ -114,7 +114,7 @@ module _ (layout rest outer inner : Layout) (parts : List IndexPart) (points : L
   pub first-in : (at : List ℕ) → IsIndex points at → IsIndex layout.shape (first_at parts at)
   first-in at in-at = subst (IsIndex layout.shape) (sym (first-leads at layout.shape parts laid.are (ready at in-at) zeros-in)) (leads-to at zeros in-at zeros-in)
 
-  -- the address splits
+  -- the address of an item is the sum of the point's address and those of the outer and the inner index
   integers : (at o i : List ℕ) → IsIndex points at → IsIndex outer.shape o → IsIndex inner.shape i →
       (address layout (leads at shown (o ++ i)) +ℤ pos rest.offset) +ℤ pos rest.offset ≡ (address layout (first_at parts at) +ℤ address outer o) +ℤ address inner i
   integers at o i in-at in-o in-i =
@@ -156,7 +156,7 @@ module _ (layout rest outer inner : Layout) (parts : List IndexPart) (points : L
       below : (z : ℤ) → pos 0 ≤ℤ z → (z +ℤ pos 1) ≤ℤ pos max_bytes → natural z < max_bytes
       below z low high = omega (arith, ints, pos-natural z low)
 
-  -- the first of the inner items
+  -- the index of the first inner item
   abbrev inner-zeros : List ℕ
   inner-zeros = zero_filled inner.shape []
 
@@ -173,7 +173,7 @@ module _ (layout rest outer inner : Layout) (parts : List IndexPart) (points : L
       below : (z : ℤ) (n : ℕ) → z ≡ pos n → (z +ℤ pos 1) ≤ℤ pos max_bytes → n ≤ max_bytes
       below z n is high = omega (arith, ints, is, high)
 
-  -- where the items of an outer place and a point begin
+  -- the start of the items at an outer place with a point
   start-is : (at o : List ℕ) → IsIndex points at → IsIndex outer.shape o → item at o inner-zeros + inner.offset ≡ natural (address outer o) + shift at
   start-is at o in-at in-o = omega (arith, sum at o inner-zeros in-at in-o (IsIndex-first inner.shape inner-some), inner-first)
 
@@ -240,7 +240,7 @@ module _ (layout rest outer inner : Layout) (parts : List IndexPart) (points : L
   pub count-is : length (moved_all inner.offset (offsets outer) (map (first_offset layout parts) (indexes points)) (offsets inner)) ≡ count (all_axes points shown)
   count-is = ap length places ∙ length-map (indexes (all_axes points shown)) (λ index. get_or (offsets layout) (rank layout.shape (view-leads index)) 0) ∙ length-indexes (all_axes points shown)
 
--- as many points as items beside those of the others
+-- the number of points is the number of all items, divided by the number of items on the other axes
 pub points_many : (parts : List IndexPart) (points : List ℕ) → 0 < count (other_axes (map shown_part parts)) → count (all_axes points (map shown_part parts)) / count (other_axes (map shown_part parts)) ≡ count points
 points_many parts points some =
     let k = points_place (map shown_part parts) in

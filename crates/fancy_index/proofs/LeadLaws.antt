@@ -1,4 +1,4 @@
--- Where the indexes of the result lead, part by part.
+-- Which indexes of the array the indexes of the result lead to, part by part.
 use Rattle.std.proofs.Common.{◌≡◌, ℕ, ◌+◌, ◌<◌, ◌≤◌, IsTrue, List, [], ◌∷◌, ◌++◌, map, length, get_or, take, drop, All, refl, sym, ap, subst, ◌∙◌, arith, length-append}
 use Rattle.std.proofs.lemmas.Int.{ints}
 use Rattle.std.proofs.lemmas.List.{get_or-map}
@@ -15,7 +15,7 @@ use Rattle.fancy_index.specs.inside.PartLists.{shown_part, AreParts, IsReady, Ha
 use Rattle.fancy_index.proofs.CutLaws.{dot-cut}
 use Rattle.fancy_index.proofs.ShiftLaws.{rank-low, point-low, tuple-in}
 
--- ---- points that stretch to the common lengths
+-- ---- points that are stretched to the common shape
 
 pub all_ready : (shape points : List ℕ) (parts : List IndexPart) → AreParts shape parts → length shape ≤ max_axes → All (λ s. IsTrue (can_stretch s points)) (point_shapes (map shown_part parts)) → All (IsReady points) parts
 all_ready shape points (BetweenPart ∷ parts) are few fit = All-cons (IsReady points) BetweenPart parts tt (all_ready shape points parts are few fit)
@@ -32,10 +32,10 @@ all_ready (n ∷ shape) points [] are few fit = absurd are
 all_ready (n ∷ shape) points (AxisPart (AtAxis number) ∷ parts) are few fit = All-cons (IsReady points) (AxisPart (AtAxis number)) parts tt (all_ready shape points parts are.1 (omega (arith, few)) fit)
 all_ready (n ∷ shape) points (AxisPart (AlongAxis run) ∷ parts) are few fit = All-cons (IsReady points) (AxisPart (AlongAxis run)) parts tt (all_ready shape points parts are.1 (omega (arith, few)) fit)
 
--- ---- with the point of one index
+-- ---- for the point of one index
 
 module _ (at : List ℕ) where
-  -- the point is that of the definition
+  -- the point is the one of the definition
   lead-point : (p : PointList) → HasPointAt at p → get_or (map (tuple p.axes.items) (ranks_of p.ranks)) (rank p.lengths.items (broadcast_index p.lengths.items at)) [] ≡ point_of p at
   lead-point p has = get_or-map (tuple p.axes.items) (ranks_of p.ranks) (rank p.lengths.items (broadcast_index p.lengths.items at)) 0 [] (rank-low at p has)
 
@@ -87,7 +87,7 @@ module _ (at : List ℕ) where
       let later = first-leads shape parts are.1 (tail (AxisPart (AlongAxis run)) parts ready) in'.1 in
       λ i. number i ∷ later i
 
-  -- ---- what is picked where all points are 0
+  -- ---- the picks if all points are 0
 
   zeros-are : (axes rest : List ℕ) (picks : List AxisPick) → 0 < count axes → ArePicks rest picks → ArePicks (axes ++ rest) (map (λ _. AtAxis 0) axes ++ picks)
   zeros-are [] rest picks some are = are
@@ -124,7 +124,7 @@ module _ (at : List ℕ) where
   swapped-both : (t u a b c d : ℤ) → a +ℤ b ≡ c +ℤ d → (t +ℤ a) +ℤ (u +ℤ b) ≡ (u +ℤ c) +ℤ (t +ℤ d)
   swapped-both t u a b c d same = omega (arith, ints, same)
 
-  -- the other numbers add the same whatever the point is
+  -- the other numbers add the same for every point
   pub split : (strides : List ℤ) (shape : List ℕ) (parts : List IndexPart) (i j : List ℕ) → AreParts shape parts → All (IsReadyAt at) parts → IsIndex (other_axes (map shown_part parts)) i → IsIndex (other_axes (map shown_part parts)) j →
       dot strides (leads at (map shown_part parts) i) +ℤ dot strides (picked_index (map pick_shown (rest_picks parts)) j) ≡ dot strides (leads at (map shown_part parts) j) +ℤ dot strides (picked_index (map pick_shown (rest_picks parts)) i)
   split strides shape (BetweenPart ∷ parts) i j are ready in-i in-j = split strides shape parts i j are (tail BetweenPart parts ready) in-i in-j

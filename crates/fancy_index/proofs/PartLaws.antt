@@ -1,4 +1,4 @@
--- The parts that items come to, item by item.
+-- The parts of an index list, item by item.
 use Rattle.std.proofs.Common.{◌≡◌, inl, inr, Ok, is_ok, ℕ, ◌+◌, ℤ, ◌<◌, ◌≤◌, Bool, true, false, ◌&&◌, List, [], ◌∷◌, ◌++◌, map, length, get_or, take, refl, sym, ap, subst, ◌∙◌, arith, append_assoc, append-nil}
 use Rattle.std.specs.List.{list_all, flat_map}
 use Rattle.std.proofs.Math.Bool.{and-true, and_assoc}
@@ -44,7 +44,7 @@ AreParts-axis (n ∷ m ∷ axes) (AlongAxis run) are = absurd are.1
 
 -- ---- tests
 
--- a test that fails where another does
+-- if `other` fails whenever `test` does, a refusal for `test` is also one for `other`
 outside-by : (test other : Bool) (e : Refusal) → (test ≡ false → other ≡ false) → IsOutside test e → IsOutside other e
 outside-by test other e fails (inl memory) = inl memory
 outside-by true other e fails (inr out) = absurd (false≢true (sym (ap is_ok out)))
@@ -56,7 +56,7 @@ named_more parts k part low is before here = list_all_more is_named parts k part
 pub outside-at : (parts : List IndexPart) (k : ℕ) (part : IndexPart) (e : Refusal) → k < length parts → get_or parts k part ≡ part → IsOutside (is_named part) e → IsOutside (all_named parts) e
 outside-at parts k part e low is outside = outside-by (is_named part) (all_named parts) e (λ fails. list_all_at is_named parts k part low (ap is_named is ∙ fails)) outside
 
--- ---- what is added
+-- ---- parts that are appended
 
 pub adds_points : (old new : List IndexPart) (axes : List ℕ) (p : PointList) (parts : List Part) → (test : Bool) → IsPart axes test p parts → new ≡ old ++ PointsPart p ∷ [] → AddsParts old new axes test parts
 adds_points old new axes p parts test is after = record {
@@ -77,9 +77,9 @@ whole_more old new axes n pick within is adds = record {
   show = λ all. map-append shown_part adds.added (AxisPart pick ∷ []) ∙ ap (λ l. l ++ Axis (pick_shown pick) ∷ []) (adds.show all) ∙ ap (λ p. wholes axes ++ Axis p ∷ []) is ∙ sym (map-append (λ n. Axis (whole n)) axes (n ∷ []));
 }
 
--- ---- items over axes
+-- ---- items with their axes
 
--- the parts so far, with what is left
+-- the parts so far, and what is left
 pub record HaveParts (shape : List ℕ) (items : List (IndexItem IndexArray)) (done : List IndexPart) (axes : List ℕ) (left : List (IndexItem IndexArray)) : Type 0 where
   pub checked : IsChecked axes left
   pub in_range : (all_named done && are_within axes left) ≡ are_within shape items
@@ -87,7 +87,7 @@ pub record HaveParts (shape : List ℕ) (items : List (IndexItem IndexArray)) (d
   pub show : are_within shape items ≡ true → map shown_part done ++ parts axes left ≡ parts shape items
 
 module _ (shape axes axes' taken : List ℕ) (items left left' : List (IndexItem IndexArray)) (item : IndexItem IndexArray) (done : List IndexPart) (next : IsNext axes left item taken axes' left') (have : HaveParts shape items done axes left) where
-  -- what holds of all that is left holds of the next, and of all after it
+  -- what holds for all that is left holds for the next item and for all later ones
   parted : (p : IndexItem IndexArray → Bool) → list_all p left ≡ true → (p item ≡ true) × (list_all p left' ≡ true)
   parted p all = and_parts (p item) (list_all p left') (sym (ap (list_all p) next.list) ∙ all)
 
@@ -97,7 +97,7 @@ module _ (shape axes axes' taken : List ℕ) (items left left' : List (IndexItem
   within_more : are_within axes left ≡ (is_within taken item && are_within axes' left')
   within_more = ap (list_all (λ p. is_within p.axes p.item)) next.placed
 
-  -- the tests of the parts so far, of the next item, and of those behind it
+  -- the tests of the parts so far, of the next item and of the later ones
   pub tested : (all_named done && (is_within taken item && are_within axes' left')) ≡ are_within shape items
   tested = sym (ap (λ b. all_named done && b) within_more) ∙ have.in_range
 
@@ -129,7 +129,7 @@ module _ (shape axes axes' taken : List ℕ) (items left left' : List (IndexItem
             ∙ have.show all;
       }
 
--- ---- what a test says
+-- ---- the outcome of a test
 
 pub passed : (test : Bool) (refusal : Refusal) → check test refusal ≡ Ok tt → test ≡ true
 passed true refusal is = refl

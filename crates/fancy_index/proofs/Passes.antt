@@ -1,4 +1,4 @@
--- Passes over the offsets of a plan: what is left to be done leads to what all of it does.
+-- Passes over the offsets of a plan: each step keeps what the whole pass must do.
 use Rattle.std.proofs.Common.{◌≡◌, ℕ, ◌+◌, ◌*◌, ◌<◌, ◌≤◌, List, [], ◌∷◌, ◌++◌, map, length, get_or, drop, All, sym, ap, subst, ◌∙◌, arith, add-mul, zero-mul, length-append, append_assoc, append-nil}
 use Rattle.std.specs.List.{flat_map}
 use Rattle.std.proofs.lemmas.List.{get_or-map, length-map, map-append, drop_more}
@@ -15,14 +15,14 @@ use Rattle.fancy_index.specs.PlanLaws.{put_each-append}
 pub All-unmap : (P : ℕ → Type 0) (f : ℕ → ℕ) (xs : List ℕ) → All P (map f xs) → All (λ x. P (f x)) xs
 All-unmap P f xs all = λ k d below. subst P (get_or-map f xs k d (f d) below) (all k (f d) (omega (arith, length-map xs f)))
 
--- ---- the runs that are left
+-- ---- the remaining runs
 
 pub record RunsLeft (base start : ℕ) (left : List Run) : Type 0 where
   pub some : All (λ run. 1 ≤ run.count) left
   pub lie : All (λ run. LieWithin (run.count ∷ []) (run.step ∷ []) run.offset max_bytes 1) left
   pub moved : All (IsMoved base start) (flat_map run_offsets left)
 
--- the next run
+-- what a step needs of the next run
 pub record CanMoveRun (base start : ℕ) (run : Run) : Type 0 where
   pub some : 1 ≤ run.count
   pub lies : LieWithin (run.count ∷ []) (run.step ∷ []) run.offset max_bytes 1
@@ -42,7 +42,7 @@ later_runs base start run left have = record {
   moved = All-back (IsMoved base start) (run_offsets run) (flat_map run_offsets left) have.moved;
 }
 
--- their offsets, where they are moved to
+-- the offsets of the runs, moved to the new start
 abbrev pub moved_runs : ℕ → ℕ → List Run → List ℕ
 moved_runs base start left = map (moved_offset base start) (flat_map run_offsets left)
 
@@ -57,7 +57,7 @@ pub record Scattering (left : List ℕ) (at width end : ℕ) (items block whole 
   pub ends : at + length left * width ≡ end
   pub room : end ≤ length items
 
--- what comes next may be scattered
+-- what a step needs to scatter the next items
 pub record CanScatter (left : List ℕ) (at width : ℕ) (items block : List ℕ) : Type 0 where
   pub inside : All (λ offset. offset + width ≤ length block) left
   pub room : at + length left * width ≤ length items
@@ -88,14 +88,14 @@ scattered_next xs ys at at' width end items block block' whole written same next
 
 -- ---- items that are pushed
 
--- those at the first offsets are pushed, and those at the others are left
+-- the items at all offsets but those that are left are pushed
 pub record Pushing (all left : List ℕ) (width : ℕ) (block : List ℕ) (old now : List ℕ × ℕ) : Type 0 where
   pub rest : now.0 ++ joined_at left width block ≡ old.0 ++ joined_at all width block
   pub inside : All (λ offset. offset + width ≤ length block) left
   pub ends : length all * width + now.1 ≡ old.1 + length left * width
   pub fits : length all * width ≤ old.1
 
--- the next ones may be pushed
+-- what a step needs to push the next items
 pub record CanPush (xs : List ℕ) (width : ℕ) (block : List ℕ) (now : List ℕ × ℕ) : Type 0 where
   pub inside : All (λ offset. offset + width ≤ length block) xs
   pub room : length xs * width ≤ now.1
@@ -123,7 +123,7 @@ pushed_front all left xs ys width block old now new split pushed room have = rec
   fits = have.fits;
 }
 
--- none is left
+-- all items are pushed
 pub pushed_all : (all left : List ℕ) (width : ℕ) (block : List ℕ) (old now : List ℕ × ℕ) → left ≡ [] → Pushing all left width block old now → (now.0 ≡ old.0 ++ joined_at all width block) × (length all * width + now.1 ≡ old.1)
 pushed_all all left width block old now none have = (
   sym (append-nil now.0) ∙ ap (λ l. now.0 ++ joined_at l width block) (sym none) ∙ have.rest,
@@ -142,7 +142,7 @@ filled_next xs ys item block block' whole written same have = record {
   inside = subst (λ n. All (λ offset. offset + length item ≤ n) ys) (sym same) (All-back (λ offset. offset + length item ≤ length block) xs ys have.inside);
 }
 
--- ---- the same of a list that is split
+-- ---- the same for a list that is split
 
 pub scatter_front : (left xs ys : List ℕ) (at width end : ℕ) (items block whole : List ℕ) → left ≡ xs ++ ys → Scattering left at width end items block whole → CanScatter xs at width items block
 scatter_front left xs ys at width end items block whole split have =
@@ -237,7 +237,7 @@ pub split-places : (base : ℕ) (inner shifts left left' row : List ℕ) (place 
     moved_all base left shifts inner ≡ row ++ moved_all base left' shifts inner
 split-places base inner shifts left left' row place walked is = ap (λ l. moved_all base l shifts inner) walked ∙ ap (λ r. r ++ moved_all base left' shifts inner) (sym is)
 
--- ---- items that are copied from a layout, one by one
+-- ---- items that are copied one by one, from the offsets of a layout
 
 pub record Copying (to left : List ℕ) (rank width : ℕ) (other block whole : List ℕ) : Type 0 where
   pub rest : assigned (drop rank to) left width other block ≡ whole

@@ -23,7 +23,7 @@ stand-next After (Axis pick) parts = refl
 stand-next After (Points shape points) parts = refl
 stand-next After Between parts = refl
 
--- the part at k is gone through
+-- one step of the loop: the part at `k`
 gone_through : (parts : List IndexPart) (k : ℕ) (part : IndexPart) (stretch : Stretch) (points : Bool) (next : Option Stretch) → k < length parts → part ≡ get_or parts k part → points ≡ are_points (shown_part part) → next ≡ gone_on stretch points →
     stand stretch (map shown_part (drop k parts)) ≡ stand_if next (map shown_part (drop (k + 1) parts))
 gone_through parts k part stretch points next low is points-are next-is =

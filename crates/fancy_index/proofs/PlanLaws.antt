@@ -9,13 +9,13 @@ use Rattle.std.proofs.Math.Nat.{mul_assoc, mul-le-mul_right}
 use Rattle.fancy_index.specs.Words.{factors_pos}
 use Rattle.fancy_index.specs.inside.Moved.{moved_offset, shifted, shifted_all, moved_all, IsMoved, IsStart, AreStarts}
 
--- ---- lists of one length, one after another
+-- ---- concatenated lists of the same length
 
 pub length-even : {X : Type 0} (f : X → List ℕ) (m : ℕ) → ((x : X) → length (f x) ≡ m) → (xs : List X) → length (flat_map f xs) ≡ length xs * m
 length-even f m even [] = sym (zero-mul m)
 length-even f m even (x ∷ xs) = omega (arith, length-append (f x) (flat_map f xs), even x, length-even f m even xs, suc-mul (length xs) m)
 
--- the entry at j of the list at k
+-- the entry at `j` of the list at `k`
 pub get_or-even : {X : Type 0} (f : X → List ℕ) (m : ℕ) → ((x : X) → length (f x) ≡ m) → (xs : List X) (k j : ℕ) (e : X) → k < length xs → j < m → get_or (flat_map f xs) (k * m + j) 0 ≡ get_or (f (get_or xs k e)) j 0
 get_or-even f m even [] k j e low within = absurd (omega arith)
 get_or-even f m even (x ∷ xs) zero j e low within =
@@ -37,13 +37,13 @@ length-shifted base shifts inner place = length-even (shifted base inner place) 
 pub length-moved_all : (base : ℕ) (outer shifts inner : List ℕ) → length (moved_all base outer shifts inner) ≡ length outer * (length shifts * length inner)
 length-moved_all base outer shifts inner = length-even (shifted_all base shifts inner) (length shifts * length inner) (length-shifted base shifts inner) outer
 
--- there are shifts and inner items where there is an item
+-- if there is an item, there is a shift and an inner item
 pub some_of : (base : ℕ) (outer shifts inner : List ℕ) (rank : ℕ) → rank < length (moved_all base outer shifts inner) → (0 < length shifts) × (0 < length inner)
 some_of base outer shifts inner rank low =
     let both = factors_pos (length outer) (length shifts * length inner) (omega (arith, low, length-moved_all base outer shifts inner)) in
     factors_pos (length shifts) (length inner) both.1
 
--- the place of an item is one of the places
+-- the place of an item is one of the outer places
 pub place_low : (base : ℕ) (outer shifts inner : List ℕ) (rank a s i : ℕ) → rank < length (moved_all base outer shifts inner) → rank ≡ a * (length shifts * length inner) + (s * length inner + i) → a < length outer
 place_low base outer shifts inner rank a s i low is =
     elim (cases_lt a (length outer)) [
@@ -51,7 +51,7 @@ place_low base outer shifts inner rank a s i low is =
       | inr above ↦ absurd (omega (arith, low, is, length-moved_all base outer shifts inner, mul-le-mul_right (length shifts * length inner) above))
     ]
 
--- a rank by the place, the shift and the item there
+-- a rank, computed from its place, shift and inner item
 pub rank_is : (rank shifts inner : ℕ) → rank ≡ rank / inner / shifts * (shifts * inner) + (rank / inner % shifts * inner + rank % inner)
 rank_is rank shifts inner =
     let row = rank / inner in
@@ -76,7 +76,7 @@ get_or-moved_all base outer shifts inner rank a s i low low' low'' is =
     within : (s n i m : ℕ) → s < n → i < m → s * m + i < n * m
     within s n i m below inside = omega (arith, mul-le-mul_right m below, suc-mul s m)
 
--- the start there, and the item
+-- the start at that place and shift, and its inner items
 pub start_at : (base : ℕ) (outer shifts inner : List ℕ) (a s : ℕ) → a < length outer → s < length shifts → All (AreStarts base inner shifts) outer → IsStart base inner (get_or outer a 0) (get_or shifts s 0)
 start_at base outer shifts inner a s low low' starts =
     All-get_or (IsStart base inner (get_or outer a 0)) shifts s 0 low' (All-get_or (AreStarts base inner shifts) outer a 0 low starts)

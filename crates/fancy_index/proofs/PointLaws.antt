@@ -1,4 +1,4 @@
--- Points on axes are those of the definitions.
+-- The points that the code stores are those of the definitions.
 use Rattle.std.proofs.Common.{◌≡◌, inl, inr, Result, Ok, Err, IfOk, ℕ, ◌+◌, ◌<◌, Bool, true, false, cond, ◌&&◌, List, [], ◌∷◌, map, length, get_or, drop, All, refl, sym, ap, subst, ◌∙◌, arith}
 use Rattle.std.specs.List.{list_all}
 use Rattle.std.specs.Ordering.{int_eq}
@@ -21,7 +21,7 @@ use Rattle.fancy_index.proofs.WordLaws.{places-named}
 pub place-low : (n : ℕ) (at : ℤ) → is_place n at ≡ true → place_of n at < n
 place-low n at test = axis_below n (from_front n at) test
 
--- the point at a place of one axis
+-- the point with a rank on one axis
 tuple-one : (n k : ℕ) → k < n → tuple (n ∷ []) k ≡ k ∷ []
 tuple-one n k low =
     let is : rank (n ∷ []) (k ∷ []) ≡ k = omega arith in
@@ -35,7 +35,7 @@ points-along n (number ∷ numbers) all =
     let later = points-along n numbers both.1 in
     λ i. first i ∷ later i
 
--- the ranks of numbers that name places are these
+-- the ranks of numbers that are in range are their places
 pub ranks-named : (n : ℕ) (numbers : List ℤ) → list_all (is_place n) numbers ≡ true → map (rank_on n) numbers ≡ map (place_of n) numbers
 ranks-named n [] all = refl
 ranks-named n (number ∷ numbers) all =
@@ -53,7 +53,7 @@ ranks-on n [] have = λ k d below. absurd (omega arith)
 ranks-on n (number ∷ numbers) (inl some) = All-cons (λ rank. rank < count (n ∷ [])) (rank_on n number) (map (rank_on n) numbers) (omega (arith, mod-lt (place_of n number) some)) (ranks-on n numbers (inl some))
 ranks-on n (number ∷ numbers) (inr none) = absurd (omega (arith, ap length none))
 
--- numbers name no places where there are none
+-- on an empty axis no number is in range
 pub none-named : (n : ℕ) (numbers : List ℤ) → n ≡ 0 → 0 < length numbers → list_all (is_place n) numbers ≡ false
 none-named n [] none some = absurd (omega (arith, some))
 none-named n (number ∷ numbers) none some = ap (λ b. b && list_all (is_place n) numbers) (elim (is_place n number) as (λ b. is_place n number ≡ b → b ≡ false) [ true ↦ λ is. absurd (omega (arith, place-low n number is, none)) | false ↦ λ is. refl ] refl)
@@ -103,7 +103,7 @@ module _ (shape : List ℕ) where
   rank-step number numbers rank true is = rw is refl
   rank-step number numbers rank false is = rw is refl
 
-  -- from a rank on
+  -- the true indexes from a rank on
   true-from : (numbers : List ℤ) (rank : ℕ) → rank + length numbers ≡ count shape → true_indexes (drop rank (indexes shape)) numbers ≡ map (tuple shape) (true_ranks rank numbers)
   true-from [] rank long = none (drop rank (indexes shape))
     where

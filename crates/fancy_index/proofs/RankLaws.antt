@@ -1,4 +1,4 @@
--- Runs of a layout that are gone through, and ranks that become offsets one after the other.
+-- Going through the runs of a layout, and turning ranks into offsets one after the other.
 use Rattle.std.proofs.Common.{◌≡◌, ℕ, ◌+◌, ◌-◌, ◌<◌, ◌≤◌, ◌≤ℤ◌, List, [], ◌∷◌, ◌++◌, map, length, get_or, take, drop, All, refl, sym, ap, subst, ◌∙◌, arith, append-nil, length-drop, length-take-le}
 use Rattle.std.specs.List.{flat_map}
 use Rattle.std.proofs.lemmas.List.{take_all, drop_all, length-map, get_or-append_right, get_or-drop}
@@ -16,7 +16,7 @@ module _ (at : RunAt) (is : IsAtRun at) where
   here : NextRun (offsets at.layout.now) at.first at.run (flat_map run_offsets at.later)
   here = next_run (offsets at.layout.now) at.first at.run (at.run ∷ at.later) at.later is.low is.left refl
 
-  -- the run behind it
+  -- the next run
   pub next-at : (at' : RunAt) → at'.layout.now ≡ at.layout.now → at'.first ≡ at.first + at.run.count → at.later ≡ at'.run ∷ at'.later → IsAtRun at'
   next-at at' layout first walked = record {
     low = omega (arith, here.within, first, ap (λ l. length (offsets l)) layout);
@@ -24,7 +24,7 @@ module _ (at : RunAt) (is : IsAtRun at) where
     lie = subst (All BeginsWithin) walked (All-tail BeginsWithin at.run at.later is.lie);
   }
 
-  -- there is one for a rank that lies behind
+  -- if the rank is after the current run, there is a next run
   pub not-last : (rank : ℕ) → rank < count at.layout.now.shape → at.first ≤ rank → at.run.count ≤ rank - at.first → at.later ≡ [] → ⊥
   not-last rank low from behind none =
       let left : [] ≡ drop (at.first + at.run.count) (offsets at.layout.now) = sym (ap (flat_map run_offsets) none) ∙ here.later in
@@ -47,9 +47,9 @@ module _ (at : RunAt) (is : IsAtRun at) where
     offset-is offset there =
         lies-there at.run lies-here (rank - at.first) (omega (arith, from, below)) offset there ∙ here.entry rank from below
 
--- ---- ranks that become offsets
+-- ---- ranks that are turned into offsets
 
--- one that is not changed yet
+-- the rank at position `i` is not changed yet
 pub not_yet : (f : ℕ → ℕ) (old now : List ℕ) (i : ℕ) → i < length old → now ≡ map f (take i old) ++ drop i old → get_or now i 0 ≡ get_or old i 0
 not_yet f old now i low is =
     let done : length (map f (take i old)) ≡ i = length-map (take i old) f ∙ length-take-le i old (omega (arith, low)) in

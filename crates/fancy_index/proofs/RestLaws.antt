@@ -1,4 +1,4 @@
--- What is picked where all points are 0.
+-- What is picked if all points are 0.
 use Rattle.std.proofs.Common.{◌≡◌, Result, Ok, Err, ℕ, ◌<◌, ◌≤◌, nat_le, true, pos, List, [], ◌∷◌, ◌++◌, map, length, get_or, refl, sym, ap, subst, ◌∙◌, arith}
 use Rattle.std.specs.Result.{IfOk, IfErr}
 use Rattle.std.proofs.lemmas.Bool.{le-leb}
@@ -32,7 +32,7 @@ view-ok parts few =
     let test : nat_le (length (picked_shape (map pick_shown (rest_picks parts)))) max_axes ≡ true = le-leb (length (picked_shape (map pick_shown (rest_picks parts)))) max_axes (omega (arith, few, ap length (rest-shape parts))) in
     rw test refl
 
--- an address of a view is one of the layout that it shows
+-- an address of a view is an address of the layout that it is a view of
 pub address-view : (old new : Layout) (view : View) → IsViewOf old new view → (index : List ℕ) → IsIndex new.shape index → address new index ≡ address old (view.leads index)
 address-view old new view is index in' =
     let in-view : IsIndex view.shape index = subst (λ (s : List ℕ). IsIndex s index) is.shape in' in

@@ -1,4 +1,4 @@
--- Runs that are moved, and runs of items that are copied and filled.
+-- Runs that are moved, and adjacent items.
 use Rattle.std.proofs.Common.{◌≡◌, ℕ, ◌+◌, ◌-◌, ◌*◌, ◌<◌, ◌≤◌, ◌≤ℤ◌, List, [], ◌∷◌, map, length, get_or, All, sym, ap, subst, ◌∙◌, arith, mul_comm}
 use Rattle.std.proofs.lemmas.Int.{ints}
 use Rattle.std.proofs.lemmas.List.{length-map, get_or-map, get_or_default, same_lists}
@@ -13,7 +13,7 @@ use Rattle.arrays.specs.PackedLaws.{length-row as length-packed}
 
 -- ---- a run that is moved
 
--- the k-th item of a run, and of the run that is moved
+-- the `k`-th item of a run, and of the run after it is moved
 module _ (run : Run) (base start : ℕ) (lies : LieWithin (run.count ∷ []) (run.step ∷ []) run.offset max_bytes 1) (moves : All (IsMoved base start) (run_offsets run)) where
   within : EachWithin max_bytes run.offset run.step 1 run.count
   within = lie-within max_bytes 1 run lies
@@ -32,7 +32,7 @@ module _ (run : Run) (base start : ℕ) (lies : LieWithin (run.count ∷ []) (ru
       place-zero : (at : ℕ) (step : ℤ) → place at step 0 ≡ at
       place-zero at step = ap (λ z. nat_abs (pos at +ℤ z)) (zero-*ℤ step) ∙ ap nat_abs (+ℤ_idr (pos at))
 
-  -- the position of an item moves as the run does
+  -- the position of an item moves by the same distance as the run
   position-moved : 1 ≤ run.count → (k : ℕ) → k < run.count → position (moved_offset base start run.offset) run.step k ≡ pos (moved_offset base start (place run.offset run.step k))
   position-moved some k low =
       let is : pos (place run.offset run.step k) ≡ position run.offset run.step k = not_negative (position run.offset run.step k) ((within.each k low).0) in
@@ -84,7 +84,7 @@ module _ (run : Run) (lies : LieWithin (run.count ∷ []) (run.step ∷ []) run.
   pub lies-there : (offset : ℕ) → pos offset ≡ pos run.offset +ℤ run.step *ℤ pos k → offset ≡ get_or (run_offsets run) k 0
   lies-there offset there = ap natural there ∙ sym (nth-offset run k low)
 
--- ---- items one after another
+-- ---- adjacent items
 
 pub packed-entry : (at width n k : ℕ) → k < n → get_or (packed at width n) k 0 ≡ at + width * k
 packed-entry at width n k low = nth-offset (record { offset = at; count = n; step = pos width }) k low ∙ there
@@ -106,7 +106,7 @@ run-of at width n offsets same =
       };
     }
 
--- the items at shifts that rise evenly
+-- items at shifts that increase by the width of an item
 pub neighbours : (base place width : ℕ) (shifts : List ℕ) → base ≤ place + get_or shifts 0 0 → ((k : ℕ) → k < length shifts → get_or shifts k 0 ≡ get_or shifts 0 0 + k * width) →
     packed (moved_offset base place (get_or shifts 0 0)) width (length shifts) ≡ map (moved_offset base place) shifts
 neighbours base place width shifts from even =

@@ -1,4 +1,4 @@
--- Points of an index of the common lengths.
+-- The point at an index of the common shape.
 use Rattle.std.proofs.Common.{◌≡◌, ℕ, ◌<◌, List, [], length, get_or, All, sym, ap, subst, ◌∙◌, arith}
 use Rattle.fancy_index.specs.Words.{count, rank, IsIndex, length-index, rank-lt, get_or-indexes, index_at, broadcast_index, IsIndex-broadcast, few-axes}
 use Rattle.fancy_index.specs.declared.points.PointList.{PointList}

@@ -24,7 +24,7 @@ alone base place (shift ∷ shifts) =
     let same : moved_offset base place shift + base - base ≡ moved_offset base place shift = omega arith in
     λ i. same i ∷ alone base place shifts i
 
--- where the one item of a layout lies from a place on that is shifted by each shift
+-- the offsets of the one item of a layout, at a place and moved by each shift
 pub shifted-single : (l : Layout) (shifts : List ℕ) (place : ℕ) → count l.shape ≡ 1 → shifted_all l.offset shifts (offsets l) place ≡ map (moved_offset l.offset place) shifts
 shifted-single l shifts place one = ap (λ o. shifted_all l.offset shifts o place) (only-offset l one) ∙ alone l.offset place shifts
 

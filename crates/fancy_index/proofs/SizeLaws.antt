@@ -1,4 +1,4 @@
--- Lengths that are a shape: those in the middle of a shape with items, and those that stretch to one.
+-- Lists of lengths that are shapes: the middle of a shape with items, and the lengths that can be stretched to a shape.
 use Rattle.std.proofs.Common.{◌≡◌, ℕ, zero, suc, ◌-◌, ◌*◌, ◌<◌, ◌≤◌, true, List, [], ◌∷◌, ◌++◌, length, get_or, take, drop, replicate, All, ap, subst, ◌∙◌, arith, length-append, mul-le-mul_right, one-mul}
 use Rattle.std.proofs.Math.Nat.{mul-le-mul}
 use Rattle.std.proofs.Math.Seq.{take-append_seam, drop-append_seam}
@@ -25,7 +25,7 @@ middle-shape front points back is some =
       items = omega (arith, is.items, few-before whole (length both) some, ap count seam, few-behind both (length front) some', ap count cut);
     }
 
--- ---- lengths that stretch
+-- ---- lengths that can be stretched
 
 length-low : (m n : ℕ) → stretches m n ≡ true → 0 < n → m ≤ n
 length-low m n can some = grind (arith, nat_tests)
@@ -41,7 +41,7 @@ all-low (m ∷ shape) (n ∷ target) all short some =
     let later = all-low shape target can.1 (All-tail (λ n. n ≤ max_items) n target short) both.1 in
     (All-cons (λ n. n ≤ max_items) m shape (omega (arith, low, All-head (λ n. n ≤ max_items) n target short)) later.0, mul-le-mul low later.1)
 
--- behind so many new axes
+-- lengths with `more` new axes in front of them
 behind-low : (more : ℕ) (shape target : List ℕ) → all_stretch (replicate more 1 ++ shape) target ≡ true → All (λ n. n ≤ max_items) target → 0 < count target → All (λ n. n ≤ max_items) shape × (count shape ≤ count target)
 behind-low zero shape target all short some = all-low shape target all short some
 behind-low (suc more) shape [] all short some = absurd (false≢true all)

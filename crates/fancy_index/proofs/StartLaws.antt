@@ -1,4 +1,4 @@
--- Sums over parts are the offsets of the first items.
+-- The sums over parts are the offsets of the first items.
 use Rattle.std.proofs.Common.{◌≡◌, ℕ, ◌+◌, ◌<◌, ◌≤◌, ◌≤ℤ◌, true, List, [], ◌∷◌, ◌++◌, map, length, get_or, take, drop, All, refl, sym, ap, subst, ◌∙◌, arith, length-append, append_assoc, append-nil}
 use Rattle.std.proofs.Math.Seq.{take-append_seam}
 use Rattle.std.proofs.lemmas.Int.{ints}
@@ -27,7 +27,7 @@ rank-itself lengths r low =
     ap (rank lengths) (broadcast_index-itself lengths (tuple lengths r) (tuple-in lengths r low) ∙ sym (tuple-is lengths found.0 r found.1 found.2)) ∙ found.2
 
 module _ (own numbers lengths : List ℕ) where
-  -- points for each index of the common lengths
+  -- if the points have the common shape themselves, the number at a rank is that of the point with this rank
   pub whole-number : (ranks : List ℕ) (k : ℕ) → own ≡ lengths → ranks ≡ numbers → k < count lengths → get_or ranks k 0 ≡ point_number lengths own numbers k
   whole-number ranks k is same low =
       ap (λ l. get_or l k 0) same ∙ ap (λ j. get_or numbers j 0) (sym (ap (λ (s : List ℕ). rank s (broadcast_index s (tuple lengths k))) is ∙ rank-itself lengths k low))
@@ -49,7 +49,7 @@ module _ (own numbers lengths : List ℕ) where
         let in' = IsIndex-broadcast own lengths (tuple lengths k) fit (tuple-in lengths k low) in
         omega (arith, rank-lt own _ in', many, ap length same, place-at k d low)
 
--- points whose ranks were led to offsets
+-- the points after their ranks are turned into offsets
 pub led-number : (layout : Layout) (axis start : ℕ) (lengths : List ℕ) (p : PointList) (l : Layout) (axes old new : List ℕ) → BeginAt layout axis start p.axes.items → IsReady lengths (PointsPart p) → axes ≡ p.axes.items → old ≡ ranks_of p.ranks →
     l.shape ≡ axes → l.strides ≡ strides_along layout axis axes → l.offset ≡ start → new ≡ led (offsets l) old → (k : ℕ) → k < count lengths → get_or new (rank p.lengths.items (broadcast_index p.lengths.items (tuple lengths k))) 0 ≡ part_offset layout axis start lengths (PointsPart p) k
 led-number layout axis start lengths p l axes old new begin ready same same' shape strides offset is k low =
@@ -59,7 +59,7 @@ led-number layout axis start lengths p l axes old new begin ready same same' sha
     ap (λ x. get_or x j 0) (is ∙ ap (led (offsets l)) same')
     ∙ led-along layout axis start p.axes.items begin l (ranks_of p.ranks) j (shape ∙ same) (strides ∙ ap (strides_along layout axis) same) offset (rank-low at p has) (point-low at p 0 has)
 
--- ---- points that become 0
+-- ---- points that are set to 0
 
 lower : (shape point axes xs ys : List ℕ) → length point ≡ length axes → ((s : List ℕ) → IsIndex s xs → IsIndex s ys) → IsIndex shape (point ++ xs) → IsIndex shape (map (λ _. 0) axes ++ ys)
 lower shape [] [] xs ys same f in' = f shape in'
@@ -78,7 +78,7 @@ module _ (at : List ℕ) where
   pub point-length : (p : PointList) → HasPointAt at p → length (point_of p at) ≡ length p.axes.items
   point-length p has = length-index p.axes.items (point_of p at) (point-in p has)
 
-  -- as many numbers whatever the points
+  -- the count of numbers does not depend on the points
   pub first-length : (parts : List IndexPart) → All Ready parts → length (first_at parts at) ≡ length (starts parts)
   first-length [] ready = refl
   first-length (AxisPart pick ∷ parts) ready =
@@ -88,7 +88,7 @@ module _ (at : List ℕ) where
       length-append (point_of p at) (first_at parts at) ∙ (λ i. size i + first-length parts (All-tail Ready (PointsPart p) parts ready) i) ∙ sym (length-append (map (λ _. 0) p.axes.items) (starts parts))
   first-length (BetweenPart ∷ parts) ready = first-length parts (All-tail Ready BetweenPart parts ready)
 
-  -- points that become 0 stay within the shape
+  -- an index stays within the shape if its points are set to 0
   starts-in : (shape : List ℕ) (parts : List IndexPart) → All Ready parts → IsIndex shape (first_at parts at) → IsIndex shape (starts parts)
   starts-in shape [] ready in' = in'
   starts-in shape (AxisPart NewAxis ∷ parts) ready in' = starts-in shape parts (All-tail Ready (AxisPart NewAxis) parts ready) in'
@@ -111,7 +111,7 @@ behind-zeros : (axes rest ys : List ℕ) → drop (length (map {B = ℕ} (λ _. 
 behind-zeros [] rest ys = refl
 behind-zeros (n ∷ axes) rest ys = behind-zeros axes rest ys
 
--- they stand behind those of the parts in front
+-- they come after the axes of the earlier parts
 axes-stand : (shape : List ℕ) (front : List IndexPart) (p : PointList) (back : List IndexPart) → AreParts shape (front ++ (PointsPart p ∷ back)) → (rest : List ℕ) × (drop (length (starts front)) shape ≡ p.axes.items ++ rest)
 axes-stand shape [] p back are = (are.1, are.2)
 axes-stand shape (BetweenPart ∷ front) p back are = axes-stand shape front p back are
@@ -124,7 +124,7 @@ axes-stand [] (AxisPart (AlongAxis run) ∷ front) p back are = absurd are
 axes-stand (n ∷ shape) (AxisPart (AtAxis number) ∷ front) p back are = axes-stand shape front p back are.1
 axes-stand (n ∷ shape) (AxisPart (AlongAxis run) ∷ front) p back are = axes-stand shape front p back are.1
 
--- other numbers on them
+-- replacing the numbers on these axes leaves the later numbers within theirs
 behind-in : (axes rest at back : List ℕ) → length at ≡ length axes → IsIndex (axes ++ rest) (at ++ back) → IsIndex rest back
 behind-in [] rest [] back same in' = in'
 behind-in [] rest (k ∷ at) back same in' = absurd (omega (arith, same))
@@ -137,7 +137,7 @@ put-between shape [] axes rest old at back is same in-axes in' =
 put-between [] (k ∷ front) axes rest old at back is same in-axes in' = absurd in'
 put-between (n ∷ shape) (k ∷ front) axes rest old at back is same in-axes in' = (in'.0, put-between shape front axes rest old at back is same in-axes in'.1)
 
--- ---- sums so far
+-- ---- partial sums
 
 further : (a d0 dx : ℤ) (s x : ℕ) → dx ≡ d0 +ℤ a → pos x ≡ pos s +ℤ a → dx +ℤ pos s ≡ d0 +ℤ pos x
 further a d0 dx s x is there = omega (arith, ints, is, there)
@@ -179,7 +179,7 @@ module _ (layout : Layout) (parts : List IndexPart) (lengths : List ℕ) (ready 
       ∙ ap (λ l. l ++ back) (flat_map-append (numbers_at at) (take k parts) (part ∷ []) ∙ ap (λ l. first_at (take k parts) at ++ l) (append-nil (numbers_at at part)))
       ∙ append_assoc (first_at (take k parts) at) (numbers_at at part) back
 
-  -- the index of the start
+  -- the index of the start, split at one part
   split-start : (k : ℕ) (part : IndexPart) → k < length parts → get_or parts k part ≡ part → starts parts ≡ starts (take k parts) ++ (start_of part ++ starts (drop (k + 1) parts))
   split-start k part low is =
       ap starts (sym (take-append-drop k parts))
@@ -212,7 +212,7 @@ module _ (layout : Layout) (parts : List IndexPart) (lengths : List ℕ) (ready 
           first = start-is ∙ ap (address layout) split;
         }
 
-    -- a part leads as far from the start as from the sum so far
+    -- a part adds the same distance to the start and to the partial sum
     leads-on : (k axis r : ℕ) (part : IndexPart) → k < length parts → get_or parts k part ≡ part → axis ≡ length (starts (take k parts)) → BeginsAt layout axis start part → r < count lengths →
         address layout (partly parts (k + 1) (tuple lengths r)) +ℤ pos start ≡ address layout (partly parts k (tuple lengths r)) +ℤ pos (part_offset layout axis start lengths part r)
     leads-on k axis r (AxisPart pick) low is axes begin below = ap (λ l. address layout l +ℤ pos start) (next k r (AxisPart pick) low is ∙ sym (here k r (AxisPart pick) low is))

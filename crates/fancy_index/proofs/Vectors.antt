@@ -1,4 +1,5 @@
--- Index lists with arrays over items that are numbered in C order: what is taken is what NumPy takes, and refusals come in the order told.
+-- Test vectors: index lists with arrays, on items that are numbered in C order. Each selects what NumPy selects, and
+-- the refusals come in the stated order.
 use Rattle.std.specs.Prelude.{◌≡◌, ℕ, pos, negsuc, true, Some, None, List, [], ◌∷◌, Result, Ok, Err, replicate, refl}
 use Rattle.std.specs.List.{range_with_len}
 use Rattle.fancy_index.specs.Words.{Refusal, TooManyAxes, TooLarge, NotAnIndexType, TooManyIndices, MaskLengths, ZeroStep, IndexOutOfRange, IndexShapes, Descr, Byte, Bytes, ◌>>=◌, stepped, IndexItem, Integer, Slice, Ellipsis, NewAxis, Array, count, shape_of, slice_indices, New, view_through, common_of_two}
@@ -17,7 +18,7 @@ whole_number = ScalarDescr (Byte true)
 abbrev bytes2 : Descr
 bytes2 = ScalarDescr (Bytes 2)
 
--- the shape of what is indexed, and the numbers of its items
+-- the shape of the result, and the numbers of its items
 abbrev answer : List ℕ → List (IndexItem IndexArray) → Result (List ℕ × List ℕ) Refusal
 answer shape items = indexed shape items >>= (λ v. Ok (v.shape, view_through (range_with_len 0 (count shape)) shape v.shape v.leads))
 

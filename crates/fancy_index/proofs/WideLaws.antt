@@ -1,4 +1,4 @@
--- Adjacent items, taken together as one.
+-- Adjacent items, copied as one.
 use Rattle.std.proofs.Common.{◌≡◌, ◌+◌, ◌-◌, ◌*◌, ◌≤◌, ◌++◌, get_or, ℕ, zero, suc, List, [], ◌∷◌, map, length, take, drop, refl, sym, ap, subst, ◌∙◌, All, arith, length-append, suc-mul, zero-mul, add-mul}
 use Rattle.std.proofs.Math.Seq.{take-add}
 use Rattle.std.proofs.lemmas.Grind.{flat_map-append}
@@ -31,7 +31,7 @@ module _ (base : ℕ) where
       let from : start + 0 ≡ start = omega arith in
       (λ i. map (moved_offset base start) (row_offsets (none i) width n)) ∙ moved-row start 0 width n ∙ λ i. row_offsets (from i) width n
 
--- the bytes of adjacent items are those of one item
+-- the bytes of adjacent items are the bytes of one wider item
 row-joined : (block : List ℕ) (width n at : ℕ) → joined_at (row_offsets at width n) width block ≡ item_at at (n * width) block
 row-joined block width zero at = ap (λ n. item_at at n block) (sym (zero-mul width))
 row-joined block width (suc n) at =
@@ -43,7 +43,7 @@ row-joined block width (suc n) at =
     ∙ sym parts
     ∙ ap (λ bytes. item_at at bytes block) more
 
--- and where they end
+-- adjacent items end where the wider item ends
 row-ends : (len width n at : ℕ) → 1 ≤ n → All (λ o. o + width ≤ len) (row_offsets at width n) → at + n * width ≤ len
 row-ends len width zero at some inside = absurd (omega (arith, some))
 row-ends len width (suc zero) at some inside =
@@ -53,7 +53,7 @@ row-ends len width (suc (suc n)) at some inside =
     let rest = row-ends len width (suc n) (at + width) (omega arith) (All-rest (λ o. o + width ≤ len) at (row_offsets (at + width) width (suc n)) (at ∷ row_offsets (at + width) width (suc n)) refl all) in
     omega (arith, rest, suc-mul (suc n) width)
 
--- ---- the inner items of a plan, from a place on and by each shift
+-- ---- the inner items of a plan, at a place and for each shift
 
 module _ (base width n place : ℕ) where
   abbrev inner : List ℕ
@@ -88,7 +88,7 @@ row-first : (at width n : ℕ) → 1 ≤ n → get_or (row_offsets at width n) 0
 row-first at width zero some = absurd (omega (arith, some))
 row-first at width (suc n) some = ap (λ os. get_or os 0 0) (packed-suc at width n)
 
--- inner axes that make one run of adjacent items
+-- the inner axes are one run of adjacent items
 pub are-wide : (rows : Shifted) (width at n : ℕ) → row_offsets at width n ≡ offsets rows.inner.now → 1 ≤ n → AreWide rows width (n * width)
 are-wide rows width at n same some =
     let l = rows.inner.now in

@@ -1,4 +1,4 @@
--- Integers of an array, and the places that they name.
+-- The integers of an array, and the places that they name.
 use Rattle.std.proofs.Common.{◌≡◌, ℕ, suc, ◌+◌, ◌-◌, ◌*◌, ◌<◌, ◌≤◌, Bool, true, false, cond, ◌&&◌, Ok, Err, is_ok, IfOk, List, [], ◌∷◌, ◌++◌, map, length, get_or, take, All, refl, sym, ap, subst, ◌∙◌, arith}
 use Rattle.std.specs.List.{list_all, flat_map}
 use Rattle.std.proofs.Math.Nat.{mul-suc}
@@ -43,12 +43,12 @@ runs-lie array runs few all some lie = λ k d below.
           (array.inside (length (flat_map run_offsets (take k runs)) + j) e (omega (arith, room, inside, ap length all)));
     }
 
--- integers of the machine, one right after another
+-- adjacent integers in the machine's own format
 module _ (form : Form) (width : ℕ) (block : List ℕ) (run : Run) (is : form.width ≡ width) (lies : LiesIn block form.width run) (native : IsNative form run) where
   entry : (k : ℕ) → k < run.count → get_or (run_offsets run) k 0 ≡ run.offset + width * k
   entry k low = (λ i. get_or (run_offsets (record { offset = run.offset; count = run.count; step = (native.step ∙ ap pos is) i })) k 0) ∙ packed-entry run.offset width run.count k low
 
-  -- the last of them ends in the block
+  -- the last of them ends within the block
   pub native-end : run.offset + width * run.count ≤ length block
   native-end =
       let last = run.count - 1 in
@@ -76,7 +76,7 @@ by_all false all places is = absurd (false≢true (ap is_ok is))
 pub places-named : (n : ℕ) (numbers : List ℤ) (places : List ℕ) → named_places n numbers ≡ Ok places → (list_all (is_place n) numbers ≡ true) × (places ≡ map (place_of n) numbers)
 places-named n numbers places is = by_all (list_all (is_place n) numbers) (map (place_of n) numbers) places is
 
--- and those of more numbers
+-- the places of some numbers and of the numbers after them
 pub more_places : (n : ℕ) (done here : List ℤ) (are test : Bool) (places new : List ℕ) → ArePlaces n done are places → ArePlaces n here test new → ArePlaces n (done ++ here) (are && test) (places ++ new)
 more_places n done here are test places new so_far is = (
   (λ i. so_far.0 i && is.0 i) ∙ sym (list_all-append (is_place n) done here),

@@ -1,4 +1,4 @@
--- Arrays in an index list: which are masks, which axes an item takes, and what is refused.
+-- Arrays in an index list: which are masks, how many axes an item takes, and what is refused.
 use Rattle.std.specs.Prelude.{ℕ, ◌-◌, Bool, true, false, ℤ, List, [], ◌∷◌, take, drop, length, sum_by}
 use Rattle.std.specs.Str.{bytes_eq}
 use Rattle.std.specs.List.{list_all}
@@ -8,13 +8,14 @@ use Rattle.elem_descr.specs.declared.scalar.Scalar.TheVariants.{Bool as BoolScal
 use Rattle.fancy_index.specs.declared.index_parts.Kind.{Kind}
 use Rattle.fancy_index.specs.declared.index_parts.Kind.TheVariants.{Integers, Mask, NoIndex}
 
--- an array in an index list, by its items in C order: a bool is 0 or 1
+-- an array in an index list: its type, its shape, and its items in C order as numbers. A bool is 0 or 1.
 pub record IndexArray : Type 0 where
   pub descr : Descr
   pub shape : List ℕ
   pub numbers : List ℤ
 
--- Integers index one axis. Bools of an axis or more are a mask of as many axes. Nothing else is an index.
+-- Integers index one axis. Bools with at least one axis are a mask, which indexes as many axes as it has. Nothing else
+-- is an index.
 abbrev pub kind_of : Descr → List ℕ → Kind
 kind_of (ScalarDescr (Byte signed)) shape = Integers
 kind_of (ScalarDescr (Int signed width order)) shape = Integers
@@ -24,7 +25,7 @@ kind_of _ _ = NoIndex
 abbrev pub kind : IndexArray → Kind
 kind array = kind_of array.descr array.shape
 
--- what stands for no array: no index
+-- a placeholder for a missing array, which is not a valid index
 abbrev pub no_array : IndexArray
 no_array = record { descr = ScalarDescr BoolScalar; shape = []; numbers = [] }
 
@@ -34,7 +35,7 @@ abbrev pub axes_of_kind : Kind → List ℕ → ℕ
 axes_of_kind Mask shape = length shape
 axes_of_kind _ shape = 1
 
--- as many as it stands for, beside those of `...`
+-- the number of axes that an item takes. Those that `...` takes are not counted.
 abbrev pub item_axes : IndexItem IndexArray → ℕ
 item_axes Ellipsis = 0
 item_axes NewAxis = 0
@@ -44,19 +45,19 @@ item_axes _ = 1
 abbrev pub array_axes_taken : List (IndexItem IndexArray) → ℕ
 array_axes_taken items = sum_by item_axes items
 
--- how many of the axes that are left an item takes: `...` takes all but those of the items after it
+-- the number of axes that an item takes if `left` axes remain: `...` takes all but those that the later items take
 abbrev pub array_axes_width : ℕ → IndexItem IndexArray → List (IndexItem IndexArray) → ℕ
 array_axes_width left Ellipsis later = left - array_axes_taken later
 array_axes_width left item later = item_axes item
 
--- the items of an index with the axes that they take, and the axes after the last item
+-- the items of an index, each with the axes that it takes
 abbrev pub placed_arrays : List ℕ → List (IndexItem IndexArray) → List (Placed IndexArray)
 placed_arrays shape [] = []
 placed_arrays shape (item ∷ items) =
     let n = array_axes_width (length shape) item items in
     record { item = item; axes = take n shape } ∷ placed_arrays (drop n shape) items
 
--- the axes that no item takes
+-- the axes after those of the last item
 abbrev pub left_over : List ℕ → List (IndexItem IndexArray) → List ℕ
 left_over shape [] = shape
 left_over shape (item ∷ items) = left_over (drop (array_axes_width (length shape) item items) shape) items
@@ -71,7 +72,7 @@ abbrev pub is_index : IndexItem IndexArray → Bool
 is_index (Array array) = is_kind_of_index (kind array)
 is_index _ = true
 
--- a mask is as long as the axes that it stands for
+-- a mask must have the same shape as the axes that it takes
 abbrev pub covers_kind : Kind → List ℕ → List ℕ → Bool
 covers_kind Mask shape axes = bytes_eq shape axes
 covers_kind _ shape axes = true
@@ -83,7 +84,7 @@ covers axes _ = true
 abbrev pub cover : List ℕ → List (IndexItem IndexArray) → Bool
 cover shape items = list_all (λ p. covers p.axes p.item) (placed_arrays shape items)
 
--- each number of an array of integers is within the axis, whatever it broadcasts to
+-- each number of an array of integers must be within its axis, whatever shape the array broadcasts to
 abbrev pub are_places : Kind → List ℕ → List ℤ → Bool
 are_places Integers (n ∷ axes) numbers = list_all (is_place n) numbers
 are_places _ axes numbers = true

@@ -1,4 +1,4 @@
--- The parts that an index list with arrays comes to.
+-- The parts of an index list with arrays: what each item says about the axes that it takes.
 use Rattle.std.specs.Prelude.{ℕ, ◌+◌, Bool, true, false, not, if◌then◌else◌, ℤ, pos, List, [], ◌∷◌, ◌++◌, map, length, slice_index, get_or}
 use Rattle.std.specs.Ordering.{int_eq}
 use Rattle.std.specs.List.{list_any, flat_map}
@@ -7,8 +7,9 @@ use Rattle.fancy_index.specs.IndexArrays.{IndexArray, kind, placed_arrays, left_
 use Rattle.fancy_index.specs.declared.index_parts.Kind.{Kind}
 use Rattle.fancy_index.specs.declared.index_parts.Kind.TheVariants.{Integers, Mask}
 
--- An axis that is picked as in a basic index, or a new one; points of one or more axes, in a shape of their own: the numbers
--- of each on its axes; or a `...` that is written, which stands between what is before and after it.
+-- A part is one of three: an axis that is picked as in a basic index, or a new one; points on one or more axes, with a
+-- shape of their own and the numbers of each point on these axes; or the trace of a written `...`, which separates the
+-- parts before it from those after it.
 pub data Part : Type 0 where
   Axis : Pick → Part
   Points : List ℕ → List (List ℕ) → Part
@@ -19,7 +20,7 @@ abbrev pub true_indexes : List (List ℕ) → List ℤ → List (List ℕ)
 true_indexes (index ∷ indexes) (number ∷ numbers) = if int_eq number (pos 0) then true_indexes indexes numbers else index ∷ true_indexes indexes numbers
 true_indexes _ _ = []
 
--- a point on one axis
+-- the point on one axis that a number names
 abbrev pub point_at : ℕ → ℤ → List ℕ
 point_at n at = natural (from_front n at) ∷ []
 
@@ -34,14 +35,14 @@ points_of _ axes shape numbers = []
 abbrev pub wholes : List ℕ → List Part
 wholes axes = map (λ n. Axis (whole n)) axes
 
--- what an item comes to on the axes that it takes: an integer is one point
+-- the parts of an item on the axes that it takes. An integer is a single point.
 abbrev pub parts_of : List ℕ → IndexItem IndexArray → List Part
 parts_of axes Ellipsis = Between ∷ wholes axes
 parts_of (n ∷ axes) (Integer at) = Points [] (point_at n at ∷ []) ∷ []
 parts_of axes (Array array) = points_of (kind array) axes array.shape array.numbers
 parts_of axes item = map Axis (picks_of axes item)
 
--- the axes after the last item are whole, with nothing between
+-- the parts of an index list. The axes after its last item are whole, without the separator of a written `...`.
 abbrev pub parts : List ℕ → List (IndexItem IndexArray) → List Part
 parts shape items = flat_map (λ p. parts_of p.axes p.item) (placed_arrays shape items) ++ wholes (left_over shape items)
 
@@ -51,7 +52,7 @@ abbrev pub shapes_of_part : Part → List (List ℕ)
 shapes_of_part (Points shape points) = shape ∷ []
 shapes_of_part _ = []
 
--- the shapes of the points, which broadcast together
+-- the shapes of the points of all parts, which are broadcast together
 abbrev pub point_shapes : List Part → List (List ℕ)
 point_shapes parts = flat_map shapes_of_part parts
 
@@ -59,7 +60,7 @@ abbrev pub axes_of_part : Part → List ℕ
 axes_of_part (Axis pick) = axis_of pick
 axes_of_part _ = []
 
--- the lengths of all other axes
+-- the lengths of all axes of the result that are not axes of points
 abbrev pub other_axes : List Part → List ℕ
 other_axes parts = flat_map axes_of_part parts
 
@@ -67,30 +68,30 @@ abbrev pub are_points : Part → Bool
 are_points (Points shape points) = true
 are_points _ = false
 
--- no points stand behind what comes after the first of these
+-- whether all points, if any, come before the first part without points
 abbrev pub go_on : List Part → Bool
 go_on (Points shape points ∷ parts) = go_on parts
 go_on parts = not (list_any are_points parts)
 
--- all points stand side by side
+-- whether all points are adjacent
 abbrev pub side_by_side : List Part → Bool
 side_by_side [] = true
 side_by_side (Points shape points ∷ parts) = go_on parts
 side_by_side (part ∷ parts) = side_by_side parts
 
--- how many other axes stand before the first points
+-- the number of other axes before the first points
 abbrev pub axes_before : List Part → ℕ
 axes_before [] = 0
 axes_before (Points shape points ∷ parts) = 0
 axes_before (part ∷ parts) = length (axes_of_part part) + axes_before parts
 
--- how many other axes stand before those of the points: where the points are not side by side, theirs come first
+-- the number of other axes before those of the points: 0 if the points are not adjacent
 abbrev pub points_place : List Part → ℕ
 points_place parts = if side_by_side parts then axes_before parts else 0
 
--- ---- where an index leads
+-- ---- which index of the array an index of the result leads to
 
--- by its numbers on the axes of the points, and those on the other axes
+-- the index of the array, given the numbers of an index of the result on the axes of the points and on the other axes
 abbrev pub leads : List ℕ → List Part → List ℕ → List ℕ
 leads point (Points shape points ∷ parts) rest = get_or points (rank shape (broadcast_index shape point)) [] ++ leads point parts rest
 leads point (Between ∷ parts) rest = leads point parts rest

@@ -1,14 +1,14 @@
--- Laws of what a plan writes.
+-- Laws about what a plan writes.
 use Rattle.std.proofs.Common.{◌≡◌, ℕ, zero, suc, ℤ, List, [], ◌∷◌, ◌++◌, length, refl, sym, ap, ◌∙◌}
 use Rattle.fancy_index.specs.Words.{put, place, EachWithin, filled, fewer, Run, run_offsets, run_offsets-more}
 use Rattle.fancy_index.specs.Plans.{put_each}
 
--- an item written to some offsets, and then to others
+-- Writing an item at `to ++ to'` is the same as writing it at `to`, and then at `to'`.
 pub put_each-append : (to to' item block : List ℕ) → put_each (to ++ to') item block ≡ put_each to' item (put_each to item block)
 put_each-append [] to' item block = refl
 put_each-append (at ∷ to) to' item block = put_each-append to to' item (put at item block)
 
--- a run that is filled
+-- Filling a run is the same as writing the item at each offset of the run.
 pub filled-run : (len at : ℕ) (step : ℤ) (item : List ℕ) (n : ℕ) (block : List ℕ) → EachWithin len at step (length item) n →
     filled at step item n block ≡ put_each (run_offsets (record { offset = at; count = n; step = step })) item block
 filled-run len at step item zero block to = refl

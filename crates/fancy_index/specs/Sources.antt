@@ -1,9 +1,9 @@
--- The arrays of an index list, as their items lie in blocks.
+-- The arrays of an index list, read from blocks.
 use Rattle.std.specs.Prelude.{ℕ, ℤ, pos, List, [], ◌∷◌, map}
 use Rattle.fancy_index.specs.Words.{Descr, LeafValue, number_of, item_from, IndexItem, Integer, Slice, Ellipsis, NewAxis, Array, offsets, Items}
 use Rattle.fancy_index.specs.IndexArrays.{IndexArray}
 
--- the number that is the first value of an item
+-- the first value of an item, as a number
 abbrev pub first_number : List LeafValue → ℤ
 first_number (value ∷ values) = number_of value
 first_number [] = pos 0
@@ -12,11 +12,11 @@ first_number [] = pos 0
 abbrev pub number_from : Descr → List ℕ → ℕ → ℤ
 number_from descr bytes offset = first_number (item_from descr bytes offset)
 
--- an array by its items
+-- an array of an index list, read from its items
 abbrev pub index_array_of : Items → IndexArray
 index_array_of a = record { descr = a.descr.now; shape = a.layout.now.shape; numbers = map (number_from a.descr.now a.block.now) (offsets a.layout.now) }
 
--- an item of an index list, with its array by the items
+-- an item of an index list; an array is read from its items
 abbrev pub index_item_of : IndexItem Items → IndexItem IndexArray
 index_item_of (Integer at) = Integer at
 index_item_of (Slice start stop step) = Slice start stop step

@@ -1,26 +1,26 @@
--- Bools by the bytes that they stand in.
+-- Bools, read from bytes.
 use Rattle.std.specs.Prelude.{ℕ, ◌≡◌, ◌+◌, ◌<◌, ◌≤◌, ℤ, pos, List, [], ◌∷◌, map, length, get_or, drop, All}
 use Rattle.fancy_index.specs.Words.{truth, LieWithin, max_items, max_bytes, run_offsets}
 use Rattle.fancy_index.specs.declared.masks.Bools.{Bools}
 use Rattle.fancy_index.specs.inside.PointLists.{true_ranks}
 
--- the number of the bool in the byte at an offset
+-- the bool in the byte at an offset: 0 or 1
 abbrev pub bool_at : List ℕ → ℕ → ℤ
 bool_at bytes offset = pos (truth (get_or bytes offset 0))
 
--- the bools of a run
+-- the bools of a run, as numbers
 abbrev pub bools_in : Bools → List ℤ
 bools_in bools = map (bool_at bools.bytes.now) (run_offsets bools.run)
 
--- the ranks of those from one on that are true
+-- the ranks of the true bools, without the first `from` bools
 abbrev pub ranks_from : Bools → ℕ → List ℕ
 ranks_from bools from = true_ranks (bools.rank + from) (drop from (bools_in bools))
 
--- each of those from one on up to another has this number
+-- the bools from `from` up to, but not including, `end` all have this number
 abbrev pub AreAll : Bools → ℕ → ℕ → ℕ → Type 0
 AreAll bools from end number = (k : ℕ) → from ≤ k → k < end → get_or (bools_in bools) k (pos 0) ≡ pos number
 
--- they lie in their bytes, and have ranks within the limit
+-- the bools lie within their bytes, and their ranks are within the limit
 pub record LieInBytes (bools : Bools) : Type 0 where
   pub few : bools.rank + bools.run.count ≤ max_items
   pub limit : LieWithin (bools.run.count ∷ []) (bools.run.step ∷ []) bools.run.offset max_bytes 1

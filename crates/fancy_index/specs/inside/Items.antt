@@ -1,11 +1,11 @@
--- Items of an index list with their arrays.
+-- Items of an index list, with their arrays.
 use Rattle.std.specs.Prelude.{◌≡◌, ◌⊎◌, ℕ, ℤ, List, Bool, Result, Err}
 use Rattle.fancy_index.specs.Words.{Refusal, OutOfMemory, IndexOutOfRange, Gives, check, IndexItem, Array, Items}
 use Rattle.fancy_index.specs.declared.index_parts.Kind.{Kind}
 use Rattle.fancy_index.specs.IndexArrays.{IndexArray, kind, array_axes_taken}
 use Rattle.fancy_index.specs.Sources.{index_array_of, index_items}
 
--- what an array stands for, its numbers, and the array as an item
+-- the kind of an array, its numbers, and the array as an item of an index list
 abbrev pub kind_in : Items → Kind
 kind_in a = kind (index_array_of a)
 
@@ -15,14 +15,14 @@ numbers_in a = (index_array_of a).numbers
 abbrev pub array_item : Items → IndexItem IndexArray
 array_item a = Array (index_array_of a)
 
--- how many axes the items of a list take
+-- the number of axes that the items of a list take
 abbrev pub axes_taken : List (IndexItem Items) → ℕ
 axes_taken items = array_axes_taken (index_items items)
 
--- a number is refused as outside its axis unless the test holds, and nothing else but memory is
+-- the refusal is `IndexOutOfRange` if the test fails, and there is none if it holds, unless memory ran out
 abbrev pub IsWithin : {X : Type 0} → Bool → Result X Refusal → Type 0
 IsWithin test result = Gives (λ _. tt) result (check test IndexOutOfRange)
 
--- such a refusal
+-- the test fails and the refusal is `IndexOutOfRange`, or memory ran out
 abbrev pub IsOutside : Bool → Refusal → Type 0
 IsOutside test refusal = (refusal ≡ OutOfMemory) ⊎ (check test IndexOutOfRange ≡ Err refusal)

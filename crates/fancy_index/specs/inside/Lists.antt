@@ -8,7 +8,7 @@ use Rattle.fancy_index.specs.declared.lists.Left.{Left}
 abbrev pub items_left : Left → List (IndexItem IndexArray)
 items_left left = index_items left.items.now
 
--- an item of a list takes these axes of a shape, and others are left to the items behind it
+-- `item` is the first of `items` and takes `axes`, the first axes of `shape`. It leaves `shape'` to the later `items'`.
 pub record IsNext (shape : List ℕ) (items : List (IndexItem IndexArray)) (item : IndexItem IndexArray) (axes shape' : List ℕ) (items' : List (IndexItem IndexArray)) : Type 0 where
   pub list : items ≡ item ∷ items'
   pub cut : shape ≡ axes ++ shape'
@@ -16,6 +16,6 @@ pub record IsNext (shape : List ℕ) (items : List (IndexItem IndexArray)) (item
   pub placed : placed_arrays shape items ≡ record { item = item; axes = axes } ∷ placed_arrays shape' items'
   pub over : left_over shape items ≡ left_over shape' items'
 
--- so it does of the items that are left, which leaves others
+-- the same for what is left before and after the item is taken
 abbrev pub IsNextOf : Left → IndexItem IndexArray → List ℕ → Left → Type 0
 IsNextOf old item axes new = IsNext old.axes.now (items_left old) item axes new.axes.now (items_left new)

@@ -1,29 +1,29 @@
--- Offsets that are moved to another start, from each place of the outer axes of a plan by each shift.
+-- The offsets of a plan: those of the inner axes, moved to each place of the outer axes and by each shift.
 use Rattle.std.specs.Prelude.{◌≤◌, ◌<◌, ℕ, ◌+◌, ◌-◌, List, map, All}
 use Rattle.std.specs.List.{flat_map}
 use Rattle.fancy_index.specs.Words.{Layout, offsets, max_bytes}
 
--- an offset, where what began at `base` begins at `start`
+-- the offset that is as far from `start` as `offset` is from `base`
 abbrev pub moved_offset : ℕ → ℕ → ℕ → ℕ
 moved_offset base start offset = start + offset - base
 
--- where the items of the inner axes lie from a place on that is shifted, by one shift and by each
+-- the offsets of the inner items at a place of the outer axes: moved by one shift, and by each shift
 abbrev pub shifted : ℕ → List ℕ → ℕ → ℕ → List ℕ
 shifted base inner place shift = map (moved_offset base (moved_offset base place shift)) inner
 
 abbrev pub shifted_all : ℕ → List ℕ → List ℕ → ℕ → List ℕ
 shifted_all base shifts inner place = flat_map (shifted base inner place) shifts
 
--- and from each place of the outer axes on
+-- and at each place of the outer axes
 abbrev pub moved_all : ℕ → List ℕ → List ℕ → List ℕ → List ℕ
 moved_all base outer shifts inner = flat_map (shifted_all base shifts inner) outer
 
--- an offset that began at `base` lies within the limit of a buffer where it begins at `start`
+-- an offset can be moved from `base` to `start`: the result is not below 0, and is within the limit of a buffer
 pub record IsMoved (base start offset : ℕ) : Type 0 where
   pub from : base ≤ start + offset
   pub below : start + offset < base + max_bytes
 
--- the items of the inner axes, from a place and a shift on
+-- a shift gives a start at a place, and each inner item can be moved to that start
 pub record IsStart (base : ℕ) (inner : List ℕ) (place shift : ℕ) : Type 0 where
   pub start : IsMoved base place shift
   pub items : All (IsMoved base (moved_offset base place shift)) inner
@@ -31,7 +31,7 @@ pub record IsStart (base : ℕ) (inner : List ℕ) (place shift : ℕ) : Type 0 
 abbrev pub AreStarts : ℕ → List ℕ → List ℕ → ℕ → Type 0
 AreStarts base inner shifts place = All (IsStart base inner place) shifts
 
--- where the items of a plan lie, by its layouts, and that each lies within the limit
+-- the offsets of the items of a plan, and that each of them is within the limit
 abbrev pub laid_offsets : Layout → List ℕ → Layout → List ℕ
 laid_offsets outer shifts inner = moved_all inner.offset (offsets outer) shifts (offsets inner)
 

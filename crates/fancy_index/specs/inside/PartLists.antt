@@ -1,4 +1,4 @@
--- Parts as the code holds them: slices as runs, points by their ranks.
+-- Parts as the code stores them: slices as runs, and points as ranks.
 use Rattle.std.specs.Prelude.{◌≡◌, ◌<◌, ◌≤◌, Bool, true, Result, ℕ, List, [], ◌∷◌, ◌++◌, map, length, get_or}
 use Rattle.std.specs.List.{list_all, flat_map}
 use Rattle.fancy_index.specs.Words.{Refusal, IndexOutOfRange, check, ◌>>=◌, View, IndexItem, Layout, rank, IsIndex, natural, address, max_axes, AxisPick, IsRunWithin, has_step, picked_index, pick_shown, first_of, can_stretch, broadcast_index}
@@ -11,7 +11,7 @@ use Rattle.fancy_index.specs.Parts.{Part, Axis, Between, other_axes}
 use Rattle.fancy_index.specs.Indexed.{parts_view}
 use Rattle.fancy_index.specs.inside.PointLists.{tuple, ranks_of, are_named, shown_points, IsPointList}
 
--- an index list of which nothing is refused before its numbers
+-- an index list that has passed all checks but those of its numbers
 pub record IsChecked (shape : List ℕ) (items : List (IndexItem IndexArray)) : Type 0 where
   pub index : list_all is_index items ≡ true
   pub enough : array_axes_taken items ≤ length shape
@@ -23,7 +23,7 @@ shown_part (AxisPart pick) = Axis (pick_shown pick)
 shown_part (PointsPart p) = shown_points p
 shown_part BetweenPart = Between
 
--- parts that take the axes of a shape, each within its axes
+-- The parts take all axes of a shape, in order. Each number, run and point is within the axes that its part takes.
 abbrev pub AreParts : List ℕ → List IndexPart → Type 0
 AreParts shape (BetweenPart ∷ parts) = AreParts shape parts
 AreParts shape (PointsPart p ∷ parts) = IsPointList p × (rest : List ℕ) × (shape ≡ p.axes.items ++ rest) × AreParts rest parts
@@ -33,7 +33,7 @@ AreParts (n ∷ shape) (AxisPart (AtAxis number) ∷ parts) = (number < n) × Ar
 AreParts (n ∷ shape) (AxisPart (AlongAxis run) ∷ parts) = IsRunWithin run n × AreParts shape parts
 AreParts _ _ = ⊥
 
--- whether each number that is not read yet names a place
+-- whether each number that is not read yet is within its axis
 abbrev pub is_named : IndexPart → Bool
 is_named (PointsPart p) = are_named p.ranks
 is_named _ = true
@@ -41,7 +41,7 @@ is_named _ = true
 abbrev pub all_named : List IndexPart → Bool
 all_named parts = list_all is_named parts
 
--- these parts of these axes come after the old ones, if the test of their numbers holds
+-- Parts that take `axes` are appended to `old`. If `test`, the check of their numbers, holds, they show `parts`.
 pub record AddsParts (old new : List IndexPart) (axes : List ℕ) (test : Bool) (parts : List Part) : Type 0 where
   pub added : List IndexPart
   pub after : new ≡ old ++ added
@@ -49,16 +49,16 @@ pub record AddsParts (old new : List IndexPart) (axes : List ℕ) (test : Bool) 
   pub named : all_named added ≡ test
   pub show : test ≡ true → map shown_part added ≡ parts
 
--- what parts show, unless a number that is not read yet names no place
+-- what `parts_view` gives, or the refusal of a number that is not read yet and is out of range
 abbrev pub view_if_named : List IndexPart → Result View Refusal
 view_if_named parts = check (all_named parts) IndexOutOfRange >>= λ _. parts_view (map shown_part parts)
 
--- points of a part that stretch to a shape
+-- the points of a part, if it has any, can be stretched to the shape `points`
 abbrev pub IsReady : List ℕ → IndexPart → Type 0
 IsReady points (PointsPart p) = IsPointList p × (can_stretch p.lengths.items points ≡ true) × (length p.axes.items ≤ max_axes)
 IsReady points _ = Unit {0}
 
--- points that have one for an index of the common lengths
+-- the points have one for the index `at` of the common shape
 pub record HasPointAt (at : List ℕ) (p : PointList) : Type 0 where
   pub list : IsPointList p
   pub few : length p.lengths.items ≤ length at
@@ -69,17 +69,17 @@ abbrev pub IsReadyAt : List ℕ → IndexPart → Type 0
 IsReadyAt at (PointsPart p) = HasPointAt at p
 IsReadyAt at _ = Unit {0}
 
--- the point of an index of the common lengths
+-- the point at an index of the common shape
 abbrev pub point_of : PointList → List ℕ → List ℕ
 point_of p at = tuple p.axes.items (get_or (ranks_of p.ranks) (rank p.lengths.items (broadcast_index p.lengths.items at)) 0)
 
--- the numbers of that point on the axes of a part, or the first number that is picked there
+-- the numbers of that point on the axes of a part. A part without points gives the first number that it picks.
 abbrev pub numbers_at : List ℕ → IndexPart → List ℕ
 numbers_at at (AxisPart pick) = first_of pick
 numbers_at at (PointsPart p) = point_of p at
 numbers_at at BetweenPart = []
 
--- the index of the first item with that point, and its offset
+-- the index of the first item with the point at `at`, and the offset of that item
 abbrev pub first_at : List IndexPart → List ℕ → List ℕ
 first_at parts at = flat_map (numbers_at at) parts
 
@@ -89,7 +89,7 @@ first_offset layout parts at = natural (address layout (first_at parts at))
 abbrev pub LeadInto : Layout → List ℕ → List IndexPart → Type 0
 LeadInto layout points parts = (at : List ℕ) → IsIndex points at → IsIndex layout.shape (first_at parts at)
 
--- what is picked where all points are 0
+-- the picks of a part if all points are 0
 abbrev pub rest_of : IndexPart → List AxisPick
 rest_of (AxisPart pick) = pick ∷ []
 rest_of (PointsPart p) = map (λ _. AtAxis 0) p.axes.items
@@ -98,7 +98,7 @@ rest_of BetweenPart = []
 abbrev pub rest_picks : List IndexPart → List AxisPick
 rest_picks parts = flat_map rest_of parts
 
--- a layout shows what is picked so
+-- `rest` is the layout that these picks show
 pub record IsRest (layout : Layout) (parts : List IndexPart) (rest : Layout) : Type 0 where
   pub shape : rest.shape ≡ other_axes (map shown_part parts)
   pub leads : (index : List ℕ) → IsIndex rest.shape index → IsIndex layout.shape (picked_index (map pick_shown (rest_picks parts)) index)

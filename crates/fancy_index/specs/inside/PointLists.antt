@@ -1,4 +1,4 @@
--- Points on axes as the code holds them: by their ranks along these.
+-- Points as the code stores them: by their ranks along their axes.
 use Rattle.std.specs.Prelude.{◌≡◌, ◌⊎◌, ◌<◌, ℕ, ◌+◌, ◌%◌, Bool, true, if◌then◌else◌, ℤ, pos, Option, Some, None, List, [], ◌∷◌, map, length, get_or, All, Result, Ok, Err}
 use Rattle.std.specs.List.{list_all}
 use Rattle.std.specs.Ordering.{int_eq}
@@ -9,26 +9,26 @@ use Rattle.fancy_index.specs.declared.points.Ranks.TheVariants.{Held, Unread}
 use Rattle.fancy_index.specs.inside.Items.{numbers_in}
 use Rattle.fancy_index.specs.Parts.{Part, Points}
 
--- the place of n that a number names
+-- the place along an axis of n that a number names
 abbrev pub place_of : ℕ → ℤ → ℕ
 place_of n at = natural (from_front n at)
 
--- that place, where the number names one
+-- that place, or none if the number is out of range
 abbrev pub named_place : ℕ → ℤ → Option ℕ
 named_place n at = if is_place n at then Some (place_of n at) else None
 
--- the places of n that numbers name, unless one of them names none
+-- the places that numbers name, or the refusal if one of them is out of range
 abbrev pub named_places : ℕ → List ℤ → Result (List ℕ) Refusal
 named_places n numbers = if list_all (is_place n) numbers then Ok (map (place_of n) numbers) else Err IndexOutOfRange
 
--- the rank of a number along an axis of n that has a place: its place, if it names one
+-- the rank of a number along an axis of n, which is not empty: its place, if the number is in range
 abbrev pub rank_on : ℕ → ℤ → ℕ
 rank_on n at = place_of n at % n
 
 abbrev pub HavePlaces : ℕ → List ℤ → Type 0
 HavePlaces n numbers = (0 < n) ⊎ (numbers ≡ [])
 
--- the ranks of the numbers that are not 0, the first of which has this one
+-- the ranks of the numbers that are not 0, if the rank of the first number is `rank`
 abbrev pub true_ranks : ℕ → List ℤ → List ℕ
 true_ranks rank [] = []
 true_ranks rank (number ∷ numbers) = if int_eq number (pos 0) then true_ranks (rank + 1) numbers else rank ∷ true_ranks (rank + 1) numbers
@@ -37,7 +37,7 @@ true_ranks rank (number ∷ numbers) = if int_eq number (pos 0) then true_ranks 
 abbrev pub tuple : List ℕ → ℕ → List ℕ
 tuple axes rank = get_or (indexes axes) rank []
 
--- the ranks of points, and whether each number that is not read yet names a place
+-- the ranks of points, and whether each number that is not read yet is in range
 abbrev pub ranks_of : Ranks → List ℕ
 ranks_of (Held ranks) = ranks.items
 ranks_of (Unread named) = map (rank_on named.n) (numbers_in named.array)
@@ -49,12 +49,12 @@ are_named (Unread named) = list_all (is_place named.n) (numbers_in named.array)
 abbrev pub shown_points : PointList → Part
 shown_points p = Points p.lengths.items (map (tuple p.axes.items) (ranks_of p.ranks))
 
--- a point for each item of their shape, each within the axes
+-- There is a point for each item of the points' own shape, and each point is within the axes.
 pub record IsPointList (p : PointList) : Type 0 where
   pub within : All (λ rank. rank < count p.axes.items) (ranks_of p.ranks)
   pub many : length (ranks_of p.ranks) ≡ count p.lengths.items
 
--- points on these axes are the part that is there, if the test of their numbers holds
+-- `p` has the axes `taken`. If `test`, the check of its numbers, holds, it is the one part of `parts`.
 pub record IsPart (taken : List ℕ) (test : Bool) (p : PointList) (parts : List Part) : Type 0 where
   pub axes : p.axes.items ≡ taken
   pub list : IsPointList p

@@ -1,14 +1,14 @@
--- Ranks that become offsets, and how far the runs of a layout were gone through.
+-- How ranks are turned into offsets, run by run.
 use Rattle.std.specs.Prelude.{◌≡◌, ◌≤◌, ℕ, List, [], ◌∷◌, map, length, get_or, drop, All}
 use Rattle.std.specs.List.{flat_map}
 use Rattle.fancy_index.specs.Words.{LieWithin, offsets, max_bytes, run_offsets}
 use Rattle.fancy_index.specs.declared.masks.RunAt.{RunAt}
 
--- the offsets to which ranks lead
+-- the offsets of the items with these ranks
 abbrev pub led : List ℕ → List ℕ → List ℕ
 led offsets ranks = map (λ rank. get_or offsets rank 0) ranks
 
--- the run and those behind it have the items from a rank on
+-- the current run and the later ones have the items from the rank `first` on
 pub record IsAtRun (at : RunAt) : Type 0 where
   pub low : at.first ≤ length (offsets at.layout.now)
   pub left : flat_map run_offsets (at.run ∷ at.later) ≡ drop at.first (offsets at.layout.now)

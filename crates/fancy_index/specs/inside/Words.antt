@@ -1,4 +1,4 @@
--- Integers by the bytes that they stand in.
+-- Integers, read from bytes.
 use Rattle.std.specs.Prelude.{◌≡◌, ◌+◌, ◌≤◌, ◌==◌, ◌||◌, ℕ, Bool, true, IsTrue, ℤ, pos, List, [], ◌∷◌, map, length, All}
 use Rattle.std.specs.List.{list_all}
 use Rattle.fancy_index.specs.Words.{Descr, Little, integer, number_in, item_size, item_at, LieWithin, max_items, max_bytes, Run, run_offsets, is_place}
@@ -16,7 +16,7 @@ pub record AreWords (form : Form) (descr : Descr) : Type 0 where
   pub size : item_size descr ≡ form.width
   pub read : (block : List ℕ) (offset : ℕ) → number_from descr block offset ≡ word form (item_at offset form.width block)
 
--- little-endian integers with a sign, one right after another
+-- adjacent little-endian integers with a sign
 pub record IsNative (form : Form) (run : Run) : Type 0 where
   pub signed : form.signed ≡ true
   pub order : form.order ≡ Little
@@ -26,17 +26,17 @@ pub record IsNative (form : Form) (run : Run) : Type 0 where
 abbrev pub words_along : Form → List ℕ → Run → List ℤ
 words_along form block run = map (λ offset. word form (item_at offset form.width block)) (run_offsets run)
 
--- a run of items of `width` bytes that lie in a block
+-- a run of at least one item of `width` bytes, each of which lies in a block
 pub record LiesIn (block : List ℕ) (width : ℕ) (run : Run) : Type 0 where
   pub some : 1 ≤ run.count
   pub few : run.count ≤ max_items
   pub limit : LieWithin (run.count ∷ []) (run.step ∷ []) run.offset max_bytes 1
   pub ends : All (λ offset. offset + width ≤ length block) (run_offsets run)
 
--- whether a number names one of n places, and if so, that place
+-- `found` says whether a number names one of n places, and, if so, which
 abbrev pub IsPlaceOf : ℕ → ℤ → Bool × ℕ → Type 0
 IsPlaceOf n number found = (found.0 ≡ is_place n number) × (found.0 ≡ true → found.1 ≡ place_of n number)
 
--- whether all numbers name places of n, and if so, these places
+-- `are` says whether all numbers name one of n places, and, if so, `places` are these
 abbrev pub ArePlaces : ℕ → List ℤ → Bool → List ℕ → Type 0
 ArePlaces n numbers are places = (are ≡ list_all (is_place n) numbers) × (are ≡ true → places ≡ map (place_of n) numbers)

@@ -32,7 +32,7 @@ bounds-bools-first c = omega (arith, last (goal.at.bounds-bools-first c).Else-st
 truth-one : (byte : ℕ) → (byte ≡ 0 → ⊥) → truth byte ≡ 1
 truth-one byte some = grind arith
 
--- the bools are all what the first one is
+-- all bools are the same as the first one
 alike : (c : Else-not-are_same) (number : ℕ) → truth (get_or c.args.bools.bytes.now (c.args.bools.run.offset + c.args.from) 0) ≡ number → AreAll c.args.bools c.args.from c.args.end number
 alike c number first k low high =
     bool-after c.args.bools c.requires.lie (one (goal.at.bounds-bools-first c).Else-step-ne1) k (omega (arith, high, c.requires.end))

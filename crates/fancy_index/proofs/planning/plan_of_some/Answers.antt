@@ -10,7 +10,7 @@ use Rattle.fancy_index.proofs.SizeLaws.{middle-shape}
 use Rattle.fancy_index.proofs.planning.plan_of_some.Goals as goal
 use Rattle.fancy_index.proofs.planning.plan_of_some.Goals.{Start, In_ok-rest, In_ok-inner}
 
--- there are other axes with items
+-- the other axes have items
 others : (c : Start) → 0 < count (other_axes (map shown_part c.args.parts.now))
 others c = (some_others c.args.parts.now c.args.points.now (omega (arith, ap count c.requires.shape, c.requires.some))).0
 

@@ -8,7 +8,7 @@ use Rattle.fancy_index.proofs.StartLaws.{start-in, begins, can-add, axis-low, ax
 use Rattle.fancy_index.proofs.PartLaws.{passed, named_more, outside-at}
 use Rattle.fancy_index.proofs.shift_columns.shifts.Goals as goal
 
--- the part that is next, in the parts that are left as they were
+-- the next part is the same if the remaining parts are the same
 here : (k : ℕ) (now old : List IndexPart) (d : IndexPart) → drop k now ≡ drop k old → get_or now k d ≡ get_or old k d
 here k now old d left =
     let same : k + 0 ≡ k = omega arith in

@@ -4,7 +4,7 @@ use Rattle.fancy_index.specs.Plans.{Planned}
 use Rattle.fancy_index.proofs.plans.Plan.gather.Goals as goal
 use Rattle.fancy_index.proofs.plans.Plan.gather.Goals.{After-axes, After-finish}
 
--- the memory is that of all items
+-- the memory has the size of all items
 size : (c : After-axes) → length c.args.self.now.offsets * c.args.width ≡ c.in_ok-items.items.1
 size c =
     let many : length c.args.self.now.offsets ≡ c.items.result = sym (ap (λ (v : Planned). length v.offsets) c.self.view_is) ∙ c.self.invariant ∙ sym c.items.ensures.value in
@@ -18,7 +18,7 @@ pub finish-requires : goal.finish-requires
 finish-requires c =
     omega (arith, size (goal.at.finish-requires c).After-axes, ap (λ (l : List ℕ). length l * c.args.width) c.axes.ensures, c.push_all-items.ensures.left)
 
--- they are joined
+-- the bytes are those of the items, concatenated
 bytes_are : (c : After-finish) → c.finish.result ≡ joined_at c.args.self.now.offsets c.args.width c.args.block.now
 bytes_are c = c.finish.ensures ∙ c.push_all-items.ensures.bytes ∙ (λ i. (c.in_ok-items.ensures i).0 ++ joined_at (c.axes.ensures i) c.args.width c.args.block.now)
 
