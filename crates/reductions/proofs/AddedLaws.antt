@@ -1,4 +1,4 @@
--- Results that are pushed one after another.
+-- Results that are appended one after another.
 use Rattle.std.proofs.Common.{◌≡◌, ◌+◌, ◌*◌, ◌<◌, ◌≤◌, ℕ, suc, ℤ, List, [], ◌∷◌, ◌++◌, length, take, drop, get_or, inl, inr, sym, ap, subst, ◌∙◌, arith, append_assoc, append-nil, length-append, length-drop, add-mul, add-one, one-mul, zero-mul, suc-mul, mul-le-mul_right, get_or-append-add}
 use Rattle.std.proofs.Math.Seq.{drop-append_seam}
 use Rattle.std.proofs.lemmas.Bool.{cases_lt}
@@ -9,7 +9,7 @@ use Rattle.reductions.specs.inside.Numbers.{numbers_at, lines, IsReduced, AreRed
 use Rattle.reductions.specs.inside.Lines.{line_run}
 use Rattle.reductions.proofs.LineLaws.{front, fewer_within}
 
--- a result lies before those after it
+-- a result ends before a later one begins
 before_next : (j k width : ℕ) → j < k → j * width + width ≤ k * width
 before_next j k width low = let most : suc j * width ≤ k * width = mul-le-mul_right width low in omega (arith, most, suc-mul j width)
 
@@ -31,7 +31,7 @@ module _ (reduction : Red) (scalar : Scalar) (bytes : List ℕ) (width : ℕ) wh
     left = let none : 0 * width ≡ 0 = zero-mul width in omega (arith, none);
   }
 
-  -- one item more
+  -- one more result
   one_more : (done : List (List ℕ)) (list out item : List ℕ) → length item ≡ width → IsReduced reduction scalar (numbers_at scalar bytes list) item → AreReduced reduction scalar bytes width done out → AreReduced reduction scalar bytes width (done ++ list ∷ []) (out ++ item)
   one_more done list out item wide is are =
       let many : length (done ++ list ∷ []) ≡ length done + 1 = length-append done (list ∷ []) in
@@ -85,14 +85,14 @@ line_added reduction scalar to width l j z a b c low so_far wide p is =
     subst (λ ls. AddsReduced reduction scalar bytes width ls a c) (sym (lines_more l j low))
     (adds_all reduction scalar bytes width (lines l.axis (run_offsets (front j l.starts.run))) (list ∷ []) a b c so_far (adds_one reduction scalar bytes width list to z b c wide p is))
 
--- there is room for the next one
+-- there is room for the next result
 pub has_room : (reduction : Red) (scalar : Scalar) (width : ℕ) (l : Lines) (j : ℕ) (a b : List ℕ × ℕ) → j < l.starts.run.count → l.starts.run.count * width ≤ a.1 →
     AddsReduced reduction scalar l.starts.bytes.now width (lines l.axis (run_offsets (front j l.starts.run))) a b → width ≤ b.1
 has_room reduction scalar width l j a b low room so_far =
     let done : length (lines l.axis (run_offsets (front j l.starts.run))) * width ≡ j * width = ap (λ n. n * width) (length-lines l.axis (front j l.starts.run)) in
     omega (arith, before_next j l.starts.run.count width low, room, so_far.left, done)
 
--- ---- all of them
+-- ---- all results
 
 module _ (reduction : Red) (scalar : Scalar) (bytes : List ℕ) (width n : ℕ) (lists : List (List ℕ)) (a b : List ℕ × ℕ) (start : a ≡ ([], n)) (adds : AddsReduced reduction scalar bytes width lists a b) where
   pub whole : AreReduced reduction scalar bytes width lists b.0

@@ -1,4 +1,4 @@
--- Lists along an axis, and the items where they begin.
+-- Lists along an axis, and the items at which they begin.
 use Rattle.std.proofs.Common.{◌≡◌, ◌+◌, ◌*◌, ◌<◌, ◌≤◌, ℕ, zero, suc, ℤ, pos, ◌+ℤ◌, ◌*ℤ◌, Some, List, [], ◌∷◌, map, replicate, length, get_or, All, refl, sym, ap, subst, ◌∙◌, arith, mul_comm, mul_assoc, mul-zero, mul-le-mul_right}
 use Rattle.std.specs.Prelude.{◌≤ℤ◌}
 use Rattle.std.specs.List.{insert, remove, range_with_len}
@@ -13,7 +13,7 @@ use Rattle.reductions.specs.ListLaws.{IsIndex-insert}
 use Rattle.reductions.specs.Lists.{lists}
 use Rattle.reductions.specs.inside.Numbers.{lines}
 
--- ---- one number taken out, and put in
+-- ---- removing a number, and inserting one
 
 pub length-remove : {X : Type 0} (xs : List X) (a : ℕ) → a < length xs → suc (length (remove xs a)) ≡ length xs
 length-remove [] a low = absurd (omega (arith, low))
@@ -44,7 +44,7 @@ All-remove p [] (suc a) all = all
 All-remove p (x ∷ xs) zero all = All-tail p x xs all
 All-remove p (x ∷ xs) (suc a) all = All-cons p x (remove xs a) (All-head p x xs all) (All-remove p xs a (All-tail p x xs all))
 
--- ---- indexes, and addresses
+-- ---- indexes and addresses
 
 swapped : (x y z : ℤ) → x +ℤ (y +ℤ z) ≡ y +ℤ (x +ℤ z)
 swapped x y z = omega (arith, ints)
@@ -69,7 +69,7 @@ module _ (l : Layout) (a : ℕ) (low : a < length l.shape) where
   even : (index : List ℕ) → IsIndex (remove l.shape a) index → suc (length index) ≡ length l.strides
   even index in' = omega (arith, length-index (remove l.shape a) index in', length-remove l.shape a low, l.one_stride_an_axis)
 
-  -- the item at k on the axis lies k strides behind the one at 0
+  -- The item with index `k` on the axis is `k` strides after the one with index 0.
   pub address-insert : (index : List ℕ) (k : ℕ) → IsIndex (remove l.shape a) index → address l (insert index a k) ≡ address_at (remove l.strides a) l.offset index +ℤ stride *ℤ pos k
   address-insert index k in' = ap (λ z. pos l.offset +ℤ z) (dot-insert l.strides index a k low' (even index in')) ∙ behind (pos l.offset) (stride *ℤ pos k) (dot (remove l.strides a) index)
     where
@@ -125,14 +125,14 @@ module _ (l : Layout) (a : ℕ) (starts : Layout) (low : a < length l.shape) (ar
   abbrev pub axis_at : StridedAxis
   axis_at = record { len = get_or l.shape a 0; stride = get_or l.strides a (pos 0) }
 
-  -- where the list of an index begins
+  -- the offset at which the list of an index begins
   begin : (index : List ℕ) → IsIndex (remove l.shape a) index → pos (get_or (offsets starts) (rank (remove l.shape a) index) 0) ≡ address_at (remove l.strides a) l.offset index
   begin index in' =
       ap (λ shape. pos (get_or (offsets starts) (rank shape index) 0)) (sym are.shape)
       ∙ pos-offset starts index 0 (subst (λ shape. IsIndex shape index) (sym are.shape) in')
       ∙ (λ i. address_at (are.strides i) (are.offset i) index)
 
-  -- and where its items lie
+  -- the offsets of its items
   lies : (index : List ℕ) (k : ℕ) → IsIndex (remove l.shape a) index → k < n → pos (get_or (offsets l) (rank l.shape (insert index a k)) 0) ≡ pos (get_or (offsets starts) (rank (remove l.shape a) index) 0) +ℤ axis_at.stride *ℤ pos k
   lies index k in' below =
       pos-offset l (insert index a k) 0 (IsIndex-insert l.shape index a k low in' below)
@@ -190,7 +190,7 @@ module _ (l : Layout) (a : ℕ) (starts : Layout) (low : a < length l.shape) (ar
             );
       }))
 
-  -- and each begins within them
+  -- the first item of each list lies within the bytes
   pub starts_within : (len width : ℕ) → 0 < n → All (λ offset. offset + width ≤ len) (offsets l) → All (λ offset. offset + width ≤ len) (offsets starts)
   starts_within len width some inside = λ r d below.
       let within = (within_lines len width inside r d below).each 0 some in

@@ -1,4 +1,4 @@
--- What no number more changes.
+-- States that no further number can change.
 use Rattle.std.proofs.Common.{◌≡◌, inl, inr, ℕ, ℤ, pos, Bool, true, false, cond, List, [], ◌∷◌, refl, sym, ap, subst, ◌∙◌, arith}
 use Rattle.std.specs.Prelude.{int_lt, nat_eq}
 use Rattle.std.specs.List.{fold}
@@ -35,7 +35,7 @@ last_bit false z x is (inr high) x_bit = absurd (false≢true (ap (λ w. beq (is
 pub none_better : (greatest : Bool) (scalar : Scalar) (bytes : List ℕ) (offset : ℕ) (z : ℤ) → is_bool scalar ≡ true → beq (is_true z) greatest ≡ true → IsValueOf BoolScalar z → is_better greatest (number_at scalar bytes offset) z ≡ false
 none_better greatest scalar bytes offset z bools is z_bit = last_bit greatest z (number_at scalar bytes offset) is z_bit (bit_at scalar bytes offset bools)
 
--- ---- the best number, where none is better
+-- ---- the best number, if none can be better
 
 not_better : (greatest : Bool) (z : ℤ) → is_better greatest z z ≡ false
 not_better false z = false_from_ne_true (int_lt z z) (λ is. omega (arith, ints, is))

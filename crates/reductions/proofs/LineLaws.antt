@@ -1,4 +1,4 @@
--- Runs that a reduction goes over, item by item.
+-- Runs of numbers, visited one by one.
 use Rattle.std.proofs.Common.{◌≡◌, ◌+◌, ◌-◌, ◌≤◌, ◌<◌, ℕ, suc, List, [], ◌∷◌, ◌++◌, map, length, refl, sym, ap, subst, ◌∙◌, arith, add-one, append_assoc, drop, get_or}
 use Rattle.std.specs.Prelude.{ℤ, pos, ◌+ℤ◌, ◌*ℤ◌, ◌≤ℤ◌, nat_abs}
 use Rattle.std.proofs.lemmas.List.{map-append, length-map}
@@ -8,14 +8,14 @@ use Rattle.reductions.specs.Reductions.{first_place}
 use Rattle.reductions.specs.inside.FoundLaws.{found-next}
 use Rattle.reductions.specs.inside.Numbers.{number_at, numbers_at, numbers_of, IsPart, TakesIn}
 
--- the first n items of a run
+-- the first `n` items of a run
 abbrev pub front : ℕ → Run → Run
 front n run = record { offset = run.offset; count = n; step = run.step }
 
 pub fewer_within : (len width : ℕ) (run : Run) (n : ℕ) → n ≤ run.count → EachWithin len run.offset run.step width run.count → EachWithin len run.offset run.step width n
 fewer_within len width run n few within = record { each = λ k low. within.each k (omega (arith, low, few)) }
 
--- the numbers of a run with one item more
+-- the numbers of one more item of a run
 pub numbers-more : (scalar : Scalar) (bytes : List ℕ) (len width : ℕ) (run : Run) (k : ℕ) → k < run.count → EachWithin len run.offset run.step width run.count →
     numbers_at scalar bytes (run_offsets (front (k + 1) run)) ≡ numbers_at scalar bytes (run_offsets (front k run)) ++ number_at scalar bytes (place run.offset run.step k) ∷ []
 numbers-more scalar bytes len width run k low within =
@@ -26,18 +26,18 @@ numbers-more scalar bytes len width run k low within =
 pub length-numbers : (scalar : Scalar) (bytes : List ℕ) (run : Run) → length (numbers_at scalar bytes (run_offsets run)) ≡ run.count
 length-numbers scalar bytes run = length-map (run_offsets run) (number_at scalar bytes) ∙ length-run_offsets run
 
--- a run with items begins with its first one
+-- the numbers of a run begin with that of its first item
 pub numbers-first : (scalar : Scalar) (bytes : List ℕ) (run : Run) (n : ℕ) → run.count ≡ suc n →
     numbers_at scalar bytes (run_offsets run) ≡ number_at scalar bytes run.offset ∷ numbers_at scalar bytes (map natural (numbers_from (pos run.offset +ℤ run.step) run.step n))
 numbers-first scalar bytes run n is =
     ap (λ m. numbers_at scalar bytes (run_offsets (front m run))) is
     ∙ ap (λ offsets. numbers_at scalar bytes (map natural offsets)) (numbers-suc (pos run.offset) run.step n)
 
--- the k-th number of a side
+-- the `k`-th number of a side
 pub side_number : (scalar : Scalar) (s : Side) (k : ℕ) → s.width ≡ size scalar → number_of_side scalar s k ≡ number_at scalar s.bytes.now (place s.run.offset s.run.step k)
 side_number scalar s k wide = ap (λ w. number_of (decode scalar (item_at (place s.run.offset s.run.step k) w s.bytes.now))) wide
 
--- those after the first one
+-- the numbers after the first one
 abbrev pub side_rest : Scalar → Side → List ℤ
 side_rest scalar s = numbers_at scalar s.bytes.now (map natural (numbers_from (pos s.run.offset +ℤ s.run.step) s.run.step (s.run.count - 1)))
 
@@ -49,7 +49,7 @@ side_first scalar s some wide =
     numbers-first scalar s.bytes.now s.run (s.run.count - 1) (omega (arith, some))
     ∙ ap (λ z. z ∷ side_rest scalar s) (ap (number_at scalar s.bytes.now) (sym (at_first s.run.offset s.run.step)) ∙ sym (side_number scalar s 0 wide))
 
--- one number more is gone over
+-- one more number is visited
 pub one_more : (Holds : List ℤ → Type 0) (scalar : Scalar) (s : Side) (k : ℕ) (before : List ℤ) (v : ℤ) → k < s.run.count → v ≡ number_at scalar s.bytes.now (place s.run.offset s.run.step k) →
     Holds ((before ++ numbers_at scalar s.bytes.now (run_offsets (front k s.run))) ++ v ∷ []) → Holds (before ++ numbers_at scalar s.bytes.now (run_offsets (front (k + 1) s.run)))
 one_more Holds scalar s k before v low is held =
@@ -59,9 +59,9 @@ one_more Holds scalar s k before v low is held =
     ∙ ap (λ all. before ++ all) (sym (numbers-more scalar s.bytes.now (length s.bytes.now) s.width s.run k low s.within)))
     held
 
--- ---- some numbers of a run after others
+-- ---- a part of a run
 
--- n items of a run, after m of them
+-- `n` items of a run, from the `m`-th one on
 abbrev pub part : ℕ → ℕ → Run → Run
 part m n run = record { offset = place run.offset run.step m; count = n; step = run.step }
 
@@ -97,7 +97,7 @@ part_numbers scalar s t m n low are =
     (λ i. numbers_at scalar s.bytes.now (run_offsets (front m s.run)) ++ numbers_at scalar (are.0 i) (run_offsets (are.2 i)))
     ∙ sym (numbers-part scalar s.bytes.now (length s.bytes.now) s.width s.run m n low s.within)
 
--- a number that is none of the first ones, but the next
+-- If a number is not among the first `k`, but is the `k`-th one, its first place is `k`.
 pub found_in : (scalar : Scalar) (bytes : List ℕ) (len width : ℕ) (run : Run) (k : ℕ) (v : ℤ) → k < run.count → EachWithin len run.offset run.step width run.count → first_place v (numbers_at scalar bytes (run_offsets (front k run))) ≡ k →
     number_at scalar bytes (place run.offset run.step k) ≡ v → k ≡ first_place v (numbers_at scalar bytes (run_offsets run))
 found_in scalar bytes len width run k v low within none same =
@@ -111,13 +111,13 @@ found_in scalar bytes len width run k v low within none same =
     ∙ found-next v next numbers others (none ∙ sym long) same
     ∙ long)
 
--- ---- one after another
+-- ---- visiting the rest
 
--- what takes in the numbers that are left holds all of them
+-- a state that visits the remaining numbers is the state of all numbers
 abbrev pub TakesOn : {Held : Type 0} → (Held → ℤ → List ℤ → Type 0) → Held → ℕ → List ℤ → ℤ → List ℤ → Type 0
 TakesOn {Held} holds held seen left first all = (end : Held) → TakesIn holds held seen left end → holds end first all
 
--- a list with items begins with the first one
+-- a list with items begins with its first item
 pub headed : (xs : List ℕ) → 0 < length xs → xs ≡ get_or xs 0 0 ∷ drop 1 xs
 headed [] some = absurd (omega (arith, some))
 headed (x ∷ xs) some = refl

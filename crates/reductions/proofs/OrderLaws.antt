@@ -1,4 +1,4 @@
--- Reductions that make the same of numbers in any order.
+-- Reductions that do not depend on the order of the numbers.
 use Rattle.std.proofs.Common.{◌≡◌, cond, ◌*◌, ◌<◌, ℕ, zero, suc, ℤ, pos, negsuc, ◌+ℤ◌, ◌*ℤ◌, Bool, true, false, not, ◌&&◌, ◌||◌, List, [], ◌∷◌, length, get_or, set, refl, sym, ap, subst, ◌∙◌, arith}
 use Rattle.std.specs.Int.{int_min, int_max}
 use Rattle.std.specs.List.{fold, list_any, list_all}
@@ -16,10 +16,10 @@ use Rattle.reductions.specs.inside.Numbers.{AreReduced, IsReduced, IsStored, num
 use Rattle.reductions.specs.Reductions.{reduced, result_scalar, least, greatest, is_true}
 use Rattle.reductions.specs.inside.Orders.{depends_on_order}
 
--- ---- a fold that takes any two numbers in either order
+-- ---- an operation that takes any two numbers in either order
 
 module _ (op : ℤ → ℤ → ℤ) (turns : (z x y : ℤ) → op (op z x) y ≡ op (op z y) x) where
-  -- the first number in the place of a later one
+  -- a fold may start with a later number, if the first one takes its place
   put_later : (l : List ℤ) (j : ℕ) (z a d : ℤ) → j < length l → fold op (op z (get_or l j d)) (set l j a) ≡ fold op (op z a) l
   put_later [] j z a d below = absurd (omega arith)
   put_later (x ∷ l) zero z a d below = ap (λ y. fold op y l) (turns z x a)
@@ -38,19 +38,19 @@ module _ (op : ℤ → ℤ → ℤ) (turns : (z x y : ℤ) → op (op z x) y ≡
       IsPermutation-keeps xs (λ l. fold op z l ≡ fold op z xs) refl (λ l i j in_i in_j is.
       ap (fold op z) (sym (swap_is l i j (pos 0) in_i in_j)) ∙ swapped-fold l i j z (pos 0) in_i in_j ∙ is) ys same
 
-  -- a number is taken in as well at the end
+  -- a number may come last instead of first
   last : (l : List ℤ) (z a : ℤ) → op (fold op z l) a ≡ fold op (op z a) l
   last [] z a = refl
   last (b ∷ l) z a = last l (op z b) a ∙ ap (λ y. fold op y l) (turns z b a)
 
   module _ (once : (z x : ℤ) → op (op z x) x ≡ op z x) (either : (x y : ℤ) → op x y ≡ op y x) where
-    -- one of the numbers more
+    -- a number of the list may be counted twice
     taken : (l : List ℤ) (k : ℕ) (z d : ℤ) → k < length l → fold op (op z (get_or l k d)) l ≡ fold op z l
     taken [] k z d below = absurd (omega arith)
     taken (x ∷ l) zero z d below = ap (λ y. fold op y l) (once z x)
     taken (b ∷ l) (suc k) z d below = ap (λ y. fold op y l) (turns z (get_or l k d) b) ∙ taken l k (op z b) d (omega arith)
 
-    -- from any of the numbers on
+    -- a fold may start with any number of the list
     from_any : (l : List ℤ) (j k : ℕ) (d : ℤ) → j < length l → k < length l → fold op (get_or l j d) l ≡ fold op (get_or l k d) l
     from_any l j k d in_j in_k =
         sym (taken l k (get_or l j d) d in_k) ∙ ap (λ y. fold op y l) (either (get_or l j d) (get_or l k d)) ∙ taken l j (get_or l k d) d in_j
@@ -158,7 +158,7 @@ reduced-reordered AllOf scalar xs ys free same =
 reduced-reordered ArgMin scalar xs ys free same = absurd (false≢true (sym free))
 reduced-reordered ArgMax scalar xs ys free same = absurd (false≢true (sym free))
 
--- what comes of all numbers at offsets comes of those at them in another order
+-- the result of the numbers at some offsets is the result of the same offsets in another order
 pub results-reordered : (reduction : Red) (scalar : Scalar) (bytes os os' out : List ℕ) (width : ℕ) → depends_on_order reduction ≡ false → IsPermutation os os' → AreReduced reduction scalar bytes width (os' ∷ []) out → AreReduced reduction scalar bytes width (os ∷ []) out
 results-reordered reduction scalar bytes os os' out width free same are = record { len = are.len; each = each }
   where

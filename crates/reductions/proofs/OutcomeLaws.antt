@@ -1,4 +1,4 @@
--- What is refused, and what a result is.
+-- Refusals, and the result otherwise.
 use Rattle.std.proofs.Common.{◌≡◌, ◌*◌, ◌<◌, ◌≤◌, ℕ, zero, suc, ℤ, true, false, Bool, Option, Some, None, List, [], ◌∷◌, map, drop, length, get_or, Ok, Err, refl, sym, ap, subst, ◌∙◌, arith, mul_comm, one-mul}
 use Rattle.std.proofs.lemmas.Bool.{ne_eqb}
 use Rattle.std.specs.Prelude.{nat_eq, Result, ◌&&◌, not, ◌==◌, slice_set, is_ok}
@@ -24,7 +24,7 @@ pub after_some : (reduction : Red) (shape : List ℕ) (axis : Option ℕ) (keep 
 unfolding shape_after
 after_some reduction shape axis keep some = rw some refl
 
--- ---- as many lists as items of the result
+-- ---- the number of lists is the number of items of the result
 
 count-ones : (shape : List ℕ) → count (map (λ _. 1) shape) ≡ 1
 count-ones [] = refl
@@ -45,7 +45,7 @@ length-lists shape (Some a) keep items is =
     same true = sym (count-kept shape a is)
     same false = refl
 
--- ---- lists without items
+-- ---- empty lists
 
 pub no_items : (l : Layout) (axis : Option ℕ) (k : ℕ) → list_length l.shape axis ≡ 0 → k < length (lists l.shape axis (offsets l)) → get_or (lists l.shape axis (offsets l)) k [] ≡ []
 no_items l None zero none low = offsets-none l none
@@ -67,13 +67,13 @@ some_after reduction shape axis keep result found needs none = go (count (reduce
     go zero found = refl
     go (suc n) found = let other : nat_eq (suc n) 0 ≡ false = ne_eqb (suc n) 0 (λ same. omega (arith, same)) in absurd (no_answer EmptyReduction result (rw other at found))
 
--- the shape is the one of the result
+-- the shape is that of the result
 pub shape_is : (reduction : Red) (shape : List ℕ) (axis : Option ℕ) (keep : Bool) (result : List ℕ) → shape_after reduction shape axis keep ≡ Ok result → reduced_shape shape axis keep ≡ result
 unfolding shape_after
 shape_is reduction shape axis keep result found =
     shape_of-same (reduced_shape shape axis keep) result (check_passed (not (needs_items reduction && has_empty_list shape axis (reduced_shape shape axis keep))) EmptyReduction (shape_of (reduced_shape shape axis keep)) result found)
 
--- as many lists as items of the result
+-- there is a list for each item of the result
 pub many_lists : (reduction : Red) (shape : List ℕ) (axis : Option ℕ) (keep : Bool) (result items : List ℕ) (rank : ℕ) → rank ≡ length shape → IsAxisOf rank axis → shape_after reduction shape axis keep ≡ Ok result → count result ≡ length (lists shape axis items)
 many_lists reduction shape axis keep result items rank all is found =
     ap count (sym (shape_is reduction shape axis keep result found)) ∙ sym (length-lists shape axis keep items (subst (λ n. IsAxisOf n axis) all is))
@@ -91,7 +91,7 @@ outcome_axis reduction descr shape named keep scalar is none = rw (is, none) ref
 abbrev typed : Red → Scalar → List ℕ → Result ReducedType Refusal
 typed reduction scalar shape = Ok (record { descr = ScalarDescr (result_scalar reduction scalar); shape = shape })
 
--- once the axis is found
+-- the outcome, if the items are numbers and the axis is valid
 outcome_after : (reduction : Red) (descr : Descr) (shape : List ℕ) (named : Option ℤ) (keep : Bool) (scalar : Scalar) → number_scalar descr ≡ Ok scalar → is_axis (length shape) named ≡ true →
     reduced_type reduction descr shape named keep ≡ (shape_after reduction shape (named_axis (length shape) named) keep >>= (λ _. typed reduction scalar (reduced_shape shape (named_axis (length shape) named) keep)))
 unfolding reduced_type shape_after
@@ -164,7 +164,7 @@ bytes_are reduction scalar to block out ls n is many are =
     ∙ ap (joined (λ k. f (get_or items k []))) (many ∙ sym (length-map ls g))
     ∙ joined_list f [] items
 
--- ---- how many bytes
+-- ---- the number of bytes
 
 pub result_size-le : (reduction : Red) (scalar : Scalar) → IsNumber scalar → size (result_scalar reduction scalar) ≤ 8
 result_size-le reduction scalar is = grind (arith, wide_size scalar, little_size scalar, number_size scalar is)

@@ -11,14 +11,14 @@ use Rattle.reductions.proofs.LineLaws.{at_first, side_number}
 pub swapped : (x y z : ℤ) → (x +ℤ y) +ℤ z ≡ (x +ℤ z) +ℤ y
 swapped x y z = omega (arith, ints)
 
--- in either order
+-- the two steps can be taken in either order
 cross : (o : ℕ) (s t : ℤ) (j k : ℕ) → pos 0 ≤ℤ position o t k → pos 0 ≤ℤ position o s j → position (place o t k) s j ≡ position (place o s j) t k
 cross o s t j k low low' =
     ap (λ z. z +ℤ pos j *ℤ s) (not_negative (position o t k) low)
     ∙ swapped (pos o) (pos k *ℤ t) (pos j *ℤ s)
     ∙ ap (λ z. z +ℤ pos k *ℤ t) (sym (not_negative (position o s j) low'))
 
--- where the k-th row begins
+-- the offset at which the `k`-th row begins
 pub row_offset : (l : Lines) (k : ℕ) (run : Run) → run ≡ line_run l 0 → place run.offset run.step k ≡ place l.starts.run.offset l.axis.stride k
 row_offset l k run is = ap (λ r. place r.offset r.step k) is ∙ ap (λ o. place o l.axis.stride k) (at_first l.starts.run.offset l.starts.run.step)
 
@@ -38,7 +38,7 @@ module _ (l : Lines) (some : 1 ≤ l.starts.run.count) where
         (subst (λ z. pos 0 ≤ℤ z) (sym is) here.0, subst (λ z. (z +ℤ pos l.starts.width) ≤ℤ pos (length l.starts.bytes.now)) (sym is) here.1);
   }
 
-  -- the k-th number of the j-th line
+  -- the `k`-th number of the `j`-th line
   pub row_number : (scalar : Scalar) (k j : ℕ) (s : Side) → l.starts.width ≡ size scalar → j < l.starts.run.count → k < l.axis.len → IsRow l k s →
       number_of_side scalar s j ≡ number_at scalar l.starts.bytes.now (place (place l.starts.run.offset l.starts.run.step j) l.axis.stride k)
   row_number scalar k j s wide low low' is =

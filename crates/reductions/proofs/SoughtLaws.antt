@@ -1,4 +1,4 @@
--- The place of the best number is searched for in the last block with a better one.
+-- The place of the best number is looked up in the last block that has a better number.
 use Rattle.std.proofs.Common.{◌≡◌, ◌+◌, ◌-◌, ◌<◌, ◌⊎◌, inl, inr, ℕ, ℤ, Bool, List, ◌++◌, length, min, refl, sym, ap, subst, ◌∙◌, arith, append_assoc, length-append}
 use Rattle.std.specs.List.{fold}
 use Rattle.std.proofs.lemmas.List.Sums.{fold-append}
@@ -10,14 +10,15 @@ use Rattle.reductions.specs.inside.Extremes.{better, is_better}
 use Rattle.reductions.specs.inside.FoundLaws.{HasFound, HasSought, better_same, better_taken, better_passed}
 use Rattle.reductions.proofs.LineLaws.{front, part_numbers, length-numbers}
 
--- the first numbers of a side, and those of the block that begins after so many
+-- the first `n` numbers of a side, and the numbers of the block that begins after them
 abbrev firsts : Scalar → Side → ℕ → List ℤ
 firsts scalar s n = numbers_at scalar s.bytes.now (run_offsets (front n s.run))
 
 abbrev pub block_at : Scalar → Side → ℕ → List ℤ
 block_at scalar s n = numbers_at scalar s.bytes.now (run_offsets (record { offset = place s.run.offset s.run.step n; count = min 4096 (s.run.count - n); step = s.run.step }))
 
--- so many numbers are gone over, and their best one came in a block: the first one was found at a place before them
+-- `best` is the best number after the first `done` numbers of a side. If it came in a block, `before` numbers of the
+-- side come before that block. If the old state still holds, `before` is the number of all numbers of the side.
 pub record AreSought (greatest : Bool) (scalar : Scalar) (s : Side) (seen : ℕ) (held : ℤ) (at done : ℕ) (best : ℤ) (before : ℕ) : Type 0 where
   pub within : (before ≡ s.run.count) ⊎ (before < done)
   pub best_is : (first : ℤ) (earlier : List ℤ) → seen ≡ length earlier → HasFound (better greatest) held at first earlier → best ≡ fold (better greatest) first (earlier ++ firsts scalar s done)
@@ -39,7 +40,7 @@ module _ (greatest : Bool) (scalar : Scalar) (s t : Side) (seen : ℕ) (held : �
   abbrev pub block : List ℤ
   block = numbers_of scalar t
 
-  -- one block more
+  -- one more block
   more : (earlier : List ℤ) → (earlier ++ firsts scalar s done) ++ block ≡ earlier ++ firsts scalar s (done + n)
   more earlier =
       append_assoc earlier (firsts scalar s done) block

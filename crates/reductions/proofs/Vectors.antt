@@ -1,4 +1,4 @@
--- Reductions as NumPy has them.
+-- Test vectors: reductions as in NumPy.
 use Rattle.std.proofs.Common.{◌≡◌, true, false, pos, negsuc, [], ◌∷◌, Some, None, Ok, Err, refl}
 use Rattle.reductions.specs.Words.{Descr, TooLarge, BadAxis, NotForThisKind, EmptyReduction, Little, Big, Two, Four, Eight, Scalar, Byte, Int, Bytes, number, shape_of, Sum, Product, Minimum, Maximum, Any, All, ArgMin, ArgMax}
 use Rattle.elem_descr.specs.declared.descr.Descr.TheVariants.{Scalar as ScalarDescr}
@@ -29,7 +29,7 @@ rows = refl
 middle : lists (2 ∷ 2 ∷ 2 ∷ []) (Some 1) (0 ∷ 1 ∷ 2 ∷ 3 ∷ 4 ∷ 5 ∷ 6 ∷ 7 ∷ []) ≡ (0 ∷ 2 ∷ []) ∷ (1 ∷ 3 ∷ []) ∷ (4 ∷ 6 ∷ []) ∷ (5 ∷ 7 ∷ []) ∷ []
 middle = refl
 
--- `numpy.zeros((0, 3))` along both axes
+-- `numpy.zeros((0, 3))` along each axis
 three_empty : lists (0 ∷ 3 ∷ []) (Some 0) [] ≡ [] ∷ [] ∷ [] ∷ []
 three_empty = refl
 
@@ -38,7 +38,7 @@ no_lists = refl
 
 -- ---- values
 
--- `numpy.array([[1, 2, 3], [4, 5, 6]], '<i4').sum(0)`: 5 of 1 and 4
+-- `numpy.array([[1, 2, 3], [4, 5, 6]], '<i4').sum(0)`: 5 is the sum of 1 and 4
 column_sum : reduced Sum long (pos 1 ∷ pos 4 ∷ []) ≡ pos 5
 column_sum = refl
 
@@ -86,7 +86,7 @@ place_of_least = refl
 place_of_greatest : reduced ArgMax long (pos 3 ∷ negsuc 6 ∷ pos 5 ∷ []) ≡ pos 2
 place_of_greatest = refl
 
--- the first of several: `numpy.array([1, 4, 0, 4, 0]).argmax()`, `.argmin()`
+-- the first of equal items: `numpy.array([1, 4, 0, 4, 0]).argmax()`, `.argmin()`
 first_greatest : reduced ArgMax long (pos 1 ∷ pos 4 ∷ pos 0 ∷ pos 4 ∷ pos 0 ∷ []) ≡ pos 1
 first_greatest = refl
 
@@ -147,14 +147,14 @@ unsigned_all : reduced_type All (ScalarDescr (Int false Eight Little)) (2 ∷ []
 unfolding reduced_type shape_of
 unsigned_all = refl
 
--- ---- refusals, of which the first met is told
+-- ---- refusals, of which the first one is reported
 
--- byte strings, also along an axis that is none
+-- byte strings, even along an axis that does not exist
 byte_strings : reduced_type Any (ScalarDescr (Bytes 3)) (2 ∷ []) (Some (pos 5)) false ≡ Err NotForThisKind
 unfolding reduced_type
 byte_strings = refl
 
--- `numpy.zeros((2, 3)).sum(2)`, `.sum(-3)`, and an axis of an array of no axes, also of no items
+-- `numpy.zeros((2, 3)).sum(2)`, `.sum(-3)`, an axis of an array without axes, and a bad axis of an array without items
 high_axis : reduced_type Sum int (2 ∷ 3 ∷ []) (Some (pos 2)) false ≡ Err BadAxis
 unfolding reduced_type
 high_axis = refl
@@ -171,7 +171,7 @@ axis_first : reduced_type Maximum int (0 ∷ []) (Some (pos 1)) false ≡ Err Ba
 unfolding reduced_type
 axis_first = refl
 
--- `numpy.zeros(0).max()`, `numpy.zeros((0, 3)).max(0)`, and `numpy.zeros((0, 3)).max(1)`, which has no items
+-- `numpy.zeros(0).max()`, `numpy.zeros((0, 3)).max(0)`, and `numpy.zeros((0, 3)).max(1)`, whose result has no items
 empty_maximum : reduced_type Maximum int (0 ∷ []) None false ≡ Err EmptyReduction
 unfolding reduced_type
 empty_maximum = refl
@@ -189,7 +189,7 @@ empty_sums : reduced_type Sum int (0 ∷ 3 ∷ []) (Some (pos 0)) false ≡ Ok (
 unfolding reduced_type shape_of
 empty_sums = refl
 
--- more than 2^24 items, of lists that are empty
+-- more than 2^24 items, each the reduction of an empty list
 large_sum : reduced_type Sum int (0 ∷ 16777216 ∷ 16777216 ∷ []) (Some (pos 0)) false ≡ Err TooLarge
 unfolding reduced_type shape_of
 large_sum = refl

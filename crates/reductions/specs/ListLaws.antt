@@ -1,9 +1,9 @@
--- Laws of the lists that a reduction goes over.
+-- Laws about the lists of items that are reduced.
 use Rattle.std.proofs.Common.{◌<◌, ℕ, zero, suc, List, [], ◌∷◌, length, get_or, arith}
 use Rattle.std.specs.List.{insert, remove}
 use Rattle.reductions.specs.Words.{IsIndex}
 
--- an index of the other axes, with a number on the axis, is an index
+-- An index of the other axes, with a number of the axis inserted, is an index of the array.
 pub IsIndex-insert : (shape index : List ℕ) (a k : ℕ) → a < length shape → IsIndex (remove shape a) index → k < get_or shape a 0 → IsIndex shape (insert index a k)
 IsIndex-insert [] index a k low in' below = absurd (omega (arith, low))
 IsIndex-insert (n ∷ shape) index zero k low in' below = (below, in')

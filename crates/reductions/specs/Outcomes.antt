@@ -1,4 +1,4 @@
--- The array that a reduction gives, or what is refused.
+-- The type and shape of the array that a reduction gives, or what is refused.
 use Rattle.std.specs.Prelude.{ℕ, ℤ, Bool, not, ◌&&◌, ◌==◌, Option, List, length, Result, Ok, Err}
 use Rattle.reductions.specs.Words.{Descr, Refusal, NotForThisKind, BadAxis, EmptyReduction, Scalar, Byte, Int, Bytes, ◌>>=◌, check, count, shape_of, Owned, Red}
 use Rattle.elem_descr.specs.declared.descr.Descr.TheVariants.{Scalar as ScalarDescr, Record as RecordDescr}
@@ -6,7 +6,7 @@ use Rattle.elem_descr.specs.declared.scalar.Scalar.TheVariants.{Bool as BoolScal
 use Rattle.reductions.specs.Lists.{named_axis, is_axis, reduced_shape, list_length}
 use Rattle.reductions.specs.Reductions.{result_scalar, needs_items}
 
--- the scalar of items that are numbers
+-- the scalar of items that are numbers; byte strings and records are refused
 abbrev pub number_scalar : Descr → Result Scalar Refusal
 number_scalar (ScalarDescr BoolScalar) = Ok BoolScalar
 number_scalar (ScalarDescr (Byte signed)) = Ok (Byte signed)
@@ -14,7 +14,7 @@ number_scalar (ScalarDescr (Int signed width order)) = Ok (Int signed width orde
 number_scalar (ScalarDescr (Bytes n)) = Err NotForThisKind
 number_scalar (RecordDescr structure) = Err NotForThisKind
 
--- whether some item of the result would be made of no items
+-- whether an item of the result would be the reduction of an empty list
 abbrev pub has_empty_list : List ℕ → Option ℕ → List ℕ → Bool
 has_empty_list shape axis result = (list_length shape axis == 0) && not (count result == 0)
 
@@ -26,7 +26,7 @@ pub record ReducedType : Type 0 where
 abbrev pub outcome_of : Owned → ReducedType
 outcome_of owned = record { descr = owned.descr; shape = owned.layout.shape }
 
--- the array that a reduction of items of a type in a shape gives, or the first refusal
+-- the type and shape of a reduction of items of type `descr` in the shape `shape`, or the first refusal
 unfoldable pub reduced_type : Red → Descr → List ℕ → Option ℤ → Bool → Result ReducedType Refusal
 reduced_type reduction descr shape named keep = do
   let axis = named_axis (length shape) named

@@ -1,4 +1,4 @@
--- What reductions give, as NumPy has them: sums and products, least and greatest items, and the places of these.
+-- What reductions give, as in NumPy: sums and products, least and greatest items and their places, and truth tests.
 use Rattle.std.specs.Prelude.{ℕ, suc, ℤ, pos, ◌+ℤ◌, ◌*ℤ◌, Bool, true, false, not, if◌then◌else◌, List, [], ◌∷◌, map, get_or}
 use Rattle.std.specs.Int.{int_min, int_max}
 use Rattle.std.specs.List.{fold, list_any, list_all}
@@ -9,13 +9,13 @@ use Rattle.elem_descr.specs.declared.scalar.Scalar.TheVariants.{Bool as BoolScal
 
 -- ---- types
 
--- an integer of 64 bits, which has a sign unless the items are integers without one
+-- a 64-bit integer: unsigned if the items are unsigned integers, and signed otherwise
 abbrev pub wide : Scalar → Scalar
 wide (Byte signed) = Int signed Eight Little
 wide (Int signed width order) = Int signed Eight Little
 wide _ = Int true Eight Little
 
--- the type of the result, where the items are of a type of numbers
+-- the type of the result, if the items are numbers of the type `scalar`
 abbrev pub result_scalar : Red → Scalar → Scalar
 result_scalar Sum scalar = wide scalar
 result_scalar Product scalar = wide scalar
@@ -26,7 +26,7 @@ result_scalar All scalar = BoolScalar
 result_scalar ArgMin scalar = Int true Eight Little
 result_scalar ArgMax scalar = Int true Eight Little
 
--- whether a reduction is one of some items at least
+-- whether a reduction needs at least one item
 abbrev pub needs_items : Red → Bool
 needs_items Minimum = true
 needs_items Maximum = true
@@ -45,7 +45,7 @@ sum_of numbers = fold (λ sum value. sum +ℤ value) (pos 0) numbers
 abbrev pub product_of : List ℤ → ℤ
 product_of numbers = fold (λ product value. product *ℤ value) (pos 1) numbers
 
--- the least and the greatest of some numbers; 0 of none
+-- the least and the greatest number; 0 for an empty list
 abbrev pub least : List ℤ → ℤ
 least [] = pos 0
 least (first ∷ numbers) = fold int_min first numbers
@@ -54,12 +54,12 @@ abbrev pub greatest : List ℤ → ℤ
 greatest [] = pos 0
 greatest (first ∷ numbers) = fold int_max first numbers
 
--- where a number stands first
+-- the first place of a number in a list, or the length of the list if it is not there
 abbrev pub first_place : ℤ → List ℤ → ℕ
 first_place value [] = 0
 first_place value (first ∷ numbers) = if int_eq first value then 0 else suc (first_place value numbers)
 
--- what a reduction makes of numbers, as a value of the result's type
+-- the result of reducing numbers, where `scalar` is the type of the result
 abbrev pub reduced : Red → Scalar → List ℤ → ℤ
 reduced Sum scalar numbers = wrap scalar (sum_of numbers)
 reduced Product scalar numbers = wrap scalar (product_of numbers)
@@ -72,15 +72,15 @@ reduced ArgMax scalar numbers = pos (first_place (greatest numbers) numbers)
 
 -- ---- items
 
--- the number that an item is
+-- an item as a number
 abbrev pub item_number : List LeafValue → ℤ
 item_number item = number_of (get_or item 0 (number (pos 0)))
 
--- what a reduction makes of items, as an item of the result's type
+-- the result of reducing items, as an item of the result's type
 abbrev pub reduced_item : Red → Descr → List (List LeafValue) → List LeafValue
 reduced_item reduction (ScalarDescr scalar) items = number (reduced reduction scalar (map item_number items)) ∷ []
 reduced_item reduction (RecordDescr structure) items = []
 
--- and of the items of a block at the offsets of each list
+-- the result for each list, given the offsets of its items in a block. `to` is the result's type, `from` the items'.
 abbrev pub reduced_items : Red → Descr → Descr → List ℕ → List (List ℕ) → List (List LeafValue)
 reduced_items reduction to from block lists = map (λ list. reduced_item reduction to (map (item_from from block) list)) lists

@@ -1,4 +1,4 @@
--- The words of the crates below, for this crate's clauses, definitions and proofs.
+-- Names from the crates below, which this crate's contracts, definitions and proofs use.
 pub use Rattle.elem_descr.specs.Blocks.{item_from}
 pub use Rattle.elem_descr.specs.ByteLaws.{length-encode, one-encoded}
 pub use Rattle.elem_descr.specs.Encoding.{IsNumber, IsValueOf, bytes_of, decode, encode, integer}

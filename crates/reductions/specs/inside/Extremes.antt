@@ -1,4 +1,4 @@
--- The least and the greatest of numbers, which are reductions that go alike.
+-- The least and the greatest of numbers: two reductions with the same proofs.
 use Rattle.std.proofs.Common.{◌≡◌, ◌<◌, ◌≤◌, ◌^◌, ℕ, suc, ℤ, pos, true, false, cond, Bool, List, [], ◌∷◌, ◌++◌, length, refl, sym, ap, subst, ◌∙◌, arith}
 use Rattle.std.specs.Prelude.{int_lt}
 use Rattle.std.specs.Int.{int_min, int_max}
@@ -12,7 +12,7 @@ use Rattle.reductions.specs.Reductions.{least, greatest, first_place, result_sca
 use Rattle.reductions.specs.inside.Numbers.{IsStored, IsReduced}
 use Rattle.reductions.specs.inside.FoldLaws.{wide_total, little_size}
 
--- ---- the one or the other
+-- ---- least or greatest
 
 abbrev pub reduction_of : Bool → Red
 reduction_of false = Minimum
@@ -26,7 +26,7 @@ abbrev pub best_of : Bool → List ℤ → ℤ
 best_of false = least
 best_of true = greatest
 
--- the better of two numbers, and whether one is better than the best so far
+-- the better of two numbers, and whether a number is better than the best one so far
 abbrev pub better : Bool → ℤ → ℤ → ℤ
 better false = int_min
 better true = int_max
@@ -35,7 +35,7 @@ abbrev pub is_better : Bool → ℤ → ℤ → Bool
 is_better false z best = int_lt z best
 is_better true z best = int_lt best z
 
--- ---- one number more
+-- ---- one more number
 
 pub better-one : (greatest : Bool) (best z : ℤ) → is_better greatest z best ≡ true → z ≡ better greatest best z
 better-one false best z is = omega (arith, ints, clamps)
@@ -51,7 +51,7 @@ better_kept greatest best z first seen held is = better-one greatest best z is �
 pub better_left : (greatest : Bool) (best z first : ℤ) (seen : List ℤ) → best ≡ fold (better greatest) first seen → is_better greatest z best ≡ false → best ≡ fold (better greatest) first (seen ++ z ∷ [])
 better_left greatest best z first seen held worse = better-none greatest best z worse ∙ ap (λ b. better greatest b z) held ∙ sym (fold-append (better greatest) first seen (z ∷ []))
 
--- ---- all numbers, of which the first is counted twice
+-- ---- all numbers, the first of which is visited twice
 
 same_least : (first : ℤ) → int_min first first ≡ first
 same_least first = omega (arith, ints, clamps)
@@ -63,7 +63,7 @@ pub best_from : (greatest : Bool) (first : ℤ) (rest : List ℤ) → fold (bett
 best_from false first rest = ap (λ z. fold int_min z rest) (same_least first)
 best_from true first rest = ap (λ z. fold int_max z rest) (same_greatest first)
 
--- ---- places, which are read with a sign
+-- ---- places, which are read as signed integers
 
 signed_place : (bytes : List ℕ) (n : ℕ) → n < 2 ^ 63 → IsStored (Int false Eight Little) (pos n) bytes → IsStored (Int true Eight Little) (pos n) bytes
 signed_place bytes n few is =
@@ -89,7 +89,7 @@ pub place_size : (greatest : Bool) (scalar : Scalar) → size (result_scalar (pl
 place_size false scalar = refl
 place_size true scalar = refl
 
--- ---- in the lowest byte first
+-- ---- results, which are little-endian
 
 kept_is : (scalar kept : Scalar) (bytes : List ℕ) (z : ℤ) → little scalar ≡ kept → IsStored kept z bytes → IsStored (little scalar) z bytes
 kept_is scalar kept bytes z same is = subst (λ s. IsStored s z bytes) (sym same) is

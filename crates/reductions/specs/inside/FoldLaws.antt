@@ -33,7 +33,7 @@ product_bits a b =
     by_signed (low_bits 8 (a *ℤ b)) ((low_bits 8 a * low_bits 8 b) % 2 ^ 64) (low_bits-lt 8 (a *ℤ b)) (mod-lt (low_bits 8 a * low_bits 8 b) (pow_pos 64))
     (sym (int_wrap-mul_left w64 a b) ∙ sym (int_wrap-mul_right w64 (int_wrap w64 a) b) ∙ sym (wrapping_mul-bits w64 (low_bits 8 a) (low_bits 8 b) (low_bits-lt 8 a) (low_bits-lt 8 b)))
 
--- ---- what totals are in the type of a result
+-- ---- totals in the type of the result
 
 bits_of : (m n : ℕ) → number (pos m) ≡ number (pos n) → m ≡ n
 bits_of m n same = ap (λ value. unsigned_abs (number_of value)) same
@@ -56,7 +56,7 @@ wide_size (Byte signed) = refl
 wide_size (Int signed width order) = refl
 wide_size (Bytes n) = refl
 
--- the one or the other
+-- a sum or a product
 abbrev pub total_of : Bool → Red
 total_of false = Sum
 total_of true = Product

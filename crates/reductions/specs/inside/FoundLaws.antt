@@ -1,4 +1,4 @@
--- The place of the least or of the greatest of some numbers, as it is found block by block.
+-- The place of the least or of the greatest number, found block by block.
 use Rattle.std.proofs.Common.{◌≡◌, ◌+◌, ◌<◌, ℕ, zero, suc, ℤ, true, false, Bool, List, [], ◌∷◌, ◌++◌, All, length, get_or, ◌⊎◌, inl, inr, refl, sym, ap, subst, ◌∙◌, arith, length-append}
 use Rattle.std.specs.Cmp.{signed_Decides}
 use Rattle.std.specs.Int.{int_min, int_max}
@@ -12,14 +12,17 @@ use Rattle.reductions.specs.Reductions.{first_place}
 use Rattle.reductions.specs.inside.Extremes.{better, is_better, better-one, better-none}
 use Rattle.reductions.specs.Words.{first_is}
 
--- so far a number is the best one, and this is its first place, where the first number is the one that was given
+-- `best` is the best of `first` and the numbers seen so far. If these begin with `first`, `place` is the first place of
+-- `best` among them. `place` is 0 if there are none.
 pub record HasFound (pick : ℤ → ℤ → ℤ) (best : ℤ) (place : ℕ) (first : ℤ) (seen : List ℤ) : Type 0 where
   pub best_is : best ≡ fold pick first seen
   pub none : seen ≡ [] → place ≡ 0
   pub place_is : (rest : List ℤ) → seen ≡ first ∷ rest → place ≡ first_place best seen
   pub low : 0 < length seen → place < length seen
 
--- the best number after some more, and how many stand before the block in which it came: as before where none of them is better, else those numbers
+-- The best number after a block of numbers, and how many numbers come before the block that it is in. If no number of
+-- the block is better than `best`, both stay. Otherwise the new best number is in this block, and `at` numbers come
+-- before the block.
 abbrev pub HasSought : Bool → List ℤ → ℤ → ℕ → ℕ → ℤ → ℕ → Type 0
 HasSought greatest numbers best before at best' before' =
     let z = fold (better greatest) best numbers in
@@ -37,7 +40,7 @@ absent : (z : ℤ) (xs : List ℤ) → All (λ x. x ≡ z → ⊥) xs → first_
 absent z [] other = refl
 absent z (x ∷ xs) other = past z x xs (All-head (λ x. x ≡ z → ⊥) x xs other) ∙ ap suc (absent z xs (All-tail (λ x. x ≡ z → ⊥) x xs other))
 
--- a number that none so far is stands first among those that come
+-- If a number is not among those seen, its first place is among those that follow.
 comes : (z : ℤ) (seen more : List ℤ) → first_place z seen ≡ length seen → first_place z (seen ++ more) ≡ length seen + first_place z more
 comes z [] more none = omega arith
 comes z (x ∷ seen) more none =
@@ -48,7 +51,7 @@ comes z (x ∷ seen) more none =
           rw e (omega (arith, comes z seen more rest))
     ] refl
 
--- one that stands among them stays there
+-- If a number is among those seen, its place does not change.
 stays : (z : ℤ) (seen more : List ℤ) → first_place z seen < length seen → first_place z (seen ++ more) ≡ first_place z seen
 stays z [] more low = absurd (omega (arith, low))
 stays z (x ∷ seen) more low =
@@ -59,7 +62,7 @@ stays z (x ∷ seen) more low =
           rw e (ap suc (stays z seen more less))
     ] refl
 
--- one that is among numbers has its place there
+-- If a number is in a list, its first place is less than the length.
 present : (z : ℤ) (xs : List ℤ) (k : ℕ) → k < length xs → get_or xs k z ≡ z → first_place z xs < length xs
 present z [] k low is = absurd (omega (arith, low))
 present z (x ∷ xs) zero low is = omega (arith, ap (λ y. first_place z (y ∷ xs)) is, here z xs)
@@ -70,7 +73,7 @@ present z (x ∷ xs) (suc k) low is =
       | false ↦ λ e. rw e (omega (arith, rest))
     ] refl
 
--- none of the first numbers, and then the next one, or not this either
+-- The number is not among the first ones: either the next one is that number, or it is not that one either.
 pub found-next : (v z : ℤ) (xs ys : List ℤ) → first_place v xs ≡ length xs → z ≡ v → first_place v (xs ++ z ∷ [] ++ ys) ≡ length xs
 found-next v z xs ys none same =
     let one : first_place v (z ∷ []) ≡ 0 = ap (λ y. first_place v (y ∷ [])) same ∙ here v [] in
@@ -80,9 +83,9 @@ found-next v z xs ys none same =
 pub absent-next : (v z : ℤ) (xs : List ℤ) → first_place v xs ≡ length xs → (z ≡ v → ⊥) → first_place v (xs ++ z ∷ []) ≡ length xs + 1
 absent-next v z xs none other = omega (arith, comes v xs (z ∷ []) none, past v z [] other)
 
--- ---- some numbers more
+-- ---- some more numbers
 
--- one of which is better
+-- if one of them is better, it is taken
 taken : (pick : ℤ → ℤ → ℤ) (best z first : ℤ) (seen more : List ℤ) → best ≡ fold pick first seen → z ≡ fold pick best more →
     All (λ x. x ≡ z → ⊥) seen → first_place z more < length more → HasFound pick z (length seen + first_place z more) first (seen ++ more)
 taken pick best z first seen more so_far is other among = record {
@@ -92,7 +95,7 @@ taken pick best z first seen more so_far is other among = record {
   low = λ some. omega (arith, length-append seen more, among);
 }
 
--- none of which is
+-- if none of them is better, nothing changes
 passed : (pick : ℤ → ℤ → ℤ) (best : ℤ) (place : ℕ) (first : ℤ) (seen more : List ℤ) → HasFound pick best place first seen → best ≡ fold pick best more → HasFound pick best place first (seen ++ more)
 passed pick best place first [] more so_far is = record {
   best_is = is ∙ ap (λ b. fold pick b more) so_far.best_is;
@@ -110,7 +113,7 @@ passed pick best place first (x ∷ seen) more so_far is = record {
   low = λ some. omega (arith, so_far.low (omega arith), length-append seen more);
 }
 
--- ---- the least, and the greatest
+-- ---- the least and the greatest
 
 pub better_taken : (greatest : Bool) (best z first : ℤ) (seen more : List ℤ) → best ≡ fold (better greatest) first seen → z ≡ fold (better greatest) best more → is_better greatest z best ≡ true →
     HasFound (better greatest) z (length seen + first_place z more) first (seen ++ more)
@@ -129,7 +132,7 @@ better_taken true best z first seen more so_far is greater =
       | inr there ↦ present z more there.0 there.1 there.2
     ])
 
--- where none is better the best one stays
+-- if none is better, the best one stays
 pub better_same : (greatest : Bool) (best z : ℤ) (more : List ℤ) → z ≡ fold (better greatest) best more → is_better greatest z best ≡ false → best ≡ z
 better_same false best z more is worse = let low = (fold-int_min_bounds best more z is).0 in omega (arith, ints)
 better_same true best z more is worse = let high = (fold-int_max_bounds best more z is).0 in omega (arith, ints)
@@ -138,7 +141,7 @@ pub better_passed : (greatest : Bool) (best z : ℤ) (place : ℕ) (first : ℤ)
     HasFound (better greatest) best place first (seen ++ more)
 better_passed greatest best z place first seen more so_far is worse = passed (better greatest) best place first seen more so_far (better_same greatest best z more is worse ∙ is)
 
--- ---- one number more
+-- ---- one more number
 
 pub better_next : (greatest : Bool) (best z : ℤ) (place at : ℕ) (first : ℤ) (seen : List ℤ) → HasFound (better greatest) best place first seen → at ≡ length seen → is_better greatest z best ≡ true → HasFound (better greatest) z at first (seen ++ z ∷ [])
 better_next greatest best z place at first seen so_far there is =

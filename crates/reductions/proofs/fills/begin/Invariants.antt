@@ -4,7 +4,7 @@ use Rattle.reductions.specs.Words.{number_of_side}
 use Rattle.reductions.specs.inside.Lines.{EachOf}
 use Rattle.reductions.proofs.fills.begin.Given as goal
 
--- so many lines are begun
+-- the first lines have a state
 abbrev pub invariant-loop-j : goal.invariant-loop-j
 invariant-loop-j g l = record {
   len : length l.held.items ≡ l.j;

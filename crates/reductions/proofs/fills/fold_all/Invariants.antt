@@ -4,7 +4,7 @@ use Rattle.reductions.specs.inside.Numbers.{number_at, numbers_at}
 use Rattle.reductions.proofs.LineLaws.{TakesOn}
 use Rattle.reductions.proofs.fills.fold_all.Given as goal
 
--- what takes in the runs that are left takes in the whole
+-- a state that visits the remaining runs has visited all of them
 abbrev pub invariant-loop-run : goal.invariant-loop-run
 invariant-loop-run g l =
     let s = l.fn.lists in

@@ -2,7 +2,7 @@ use Rattle.std.proofs.Common.{◌≡◌, length}
 use Rattle.reductions.specs.inside.Lines.{AreHeld}
 use Rattle.reductions.proofs.fills.held_by_rows.Given as goal
 
--- so many rows are taken in
+-- the first rows are visited
 abbrev pub invariant-loop-k : goal.invariant-loop-k
 invariant-loop-k g l = record {
   len : length l.held.items ≡ l.lines.starts.run.count;

@@ -3,7 +3,7 @@ use Rattle.reductions.specs.Words.{EachWithin, all_offsets, offsets}
 use Rattle.reductions.specs.inside.Numbers.{lines, AddsReduced}
 use Rattle.reductions.proofs.fills.push_along.Given as goal
 
--- what the runs that are left add makes the whole
+-- what the remaining runs append completes the whole
 abbrev pub invariant-loop-run : goal.invariant-loop-run
 invariant-loop-run g l =
     let scalar = g.S.Number.scalar g.O.Ordered.order in

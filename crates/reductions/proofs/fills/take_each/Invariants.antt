@@ -4,7 +4,7 @@ use Rattle.reductions.specs.inside.Lines.{EachPair}
 use Rattle.reductions.specs.inside.Numbers.{TakesIn}
 use Rattle.reductions.proofs.fills.take_each.Given as goal
 
--- the numbers so far are taken in
+-- the first lines have visited their number, and the later ones are unchanged
 abbrev pub invariant-loop-j : goal.invariant-loop-j
 invariant-loop-j g l = record {
   len : length l.held ≡ length l.initial.held;

@@ -4,7 +4,7 @@ use Rattle.reductions.specs.Words.{run_offsets}
 use Rattle.reductions.proofs.LineLaws.{front}
 use Rattle.reductions.proofs.lines.fold_blocks.Given as goal
 
--- the numbers so far are taken in
+-- the first numbers are visited
 abbrev pub invariant-loop-done : goal.invariant-loop-done
 invariant-loop-done g l = record {
   fits : l.done ≤ l.side.run.count;

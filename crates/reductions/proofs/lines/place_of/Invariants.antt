@@ -5,6 +5,6 @@ use Rattle.reductions.specs.inside.Numbers.{numbers_at}
 use Rattle.reductions.proofs.LineLaws.{front}
 use Rattle.reductions.proofs.lines.place_of.Given as goal
 
--- it is none of the numbers so far
+-- the number is not among the first ones
 abbrev pub invariant-loop-k : goal.invariant-loop-k
 invariant-loop-k g l = first_place (g.S.Number.value l.fn.number) (numbers_at (g.S.Number.scalar g.O.Ordered.order) l.side.bytes.now (run_offsets (front l.k l.side.run))) ≡ l.k

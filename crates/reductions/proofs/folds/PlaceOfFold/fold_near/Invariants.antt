@@ -3,7 +3,7 @@ use Rattle.std.specs.Prelude.{nat_eq, not}
 use Rattle.reductions.proofs.SoughtLaws.{AreSought}
 use Rattle.reductions.proofs.folds.PlaceOfFold.fold_near.Given as goal
 
--- the numbers so far are gone over
+-- the first numbers are visited
 abbrev pub invariant-loop-done : goal.invariant-loop-done
 invariant-loop-done g l = record {
   fits : l.done ≤ l.near.run.count;
