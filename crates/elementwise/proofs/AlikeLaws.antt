@@ -1,4 +1,4 @@
--- Casts that leave items as they are.
+-- Casts that leave items unchanged.
 use Rattle.std.proofs.Common.{◌≡◌, ◌<◌, ◌≤◌, ℕ, pos, List, [], ◌∷◌, map, length, take, drop, refl, sym, ap, ◌∙◌, arith, length-take}
 use Rattle.std.proofs.lemmas.List.{ext_get_or}
 use Rattle.elementwise.specs.Words.{Leaf, Little, Scalar, Byte, Int, Bytes, Descr, LeafValue, number, text, size, decode, integer, number_in, width_size, low_bits-integer, item_size, leaves_of, leaf_at, no_leaf, AreAlike, item_from, AreBytes, bytes-drop, bytes-take, number-lt, truth-twice}
@@ -7,13 +7,13 @@ use Rattle.elem_descr.specs.declared.descr.Descr.TheVariants.{Scalar as ScalarDe
 use Rattle.elementwise.specs.Casts.{cast_value, cast_values, cast_item}
 use Rattle.elementwise.proofs.NulLaws.{text_stays}
 
--- descriptors are alike where each leaf is the same
+-- descriptors are alike if all their leaves are the same
 pub alike : (a b : Descr) (k : ℕ) → item_size a ≡ item_size b → length (leaves_of a) ≡ length (leaves_of b) → length (leaves_of a) ≤ k → ((i : ℕ) → i < k → leaf_at a i ≡ leaf_at b i) → AreAlike a b
 alike a b k sized even whole same = record { leaves = ext_get_or no_leaf (leaves_of a) (leaves_of b) even (λ i low. same i (omega (arith, low, whole))); size = sized }
 
 -- ---- bytes
 
--- a value that was read is one of its scalar
+-- a value that was read is a value of its scalar
 value_stays : (scalar : Scalar) (bytes : List ℕ) → AreBytes bytes → length bytes ≤ size scalar → cast_value scalar (decode scalar bytes) ≡ decode scalar bytes
 value_stays BoolScalar bytes are few = ap (λ n. number (pos n)) (truth-twice (number_in Little 1 bytes))
 value_stays (Byte signed) bytes are few = ap (λ bits. number (integer signed 1 bits)) (low_bits-integer signed 1 (number_in Little 1 bytes) (number-lt Little 1 bytes are))

@@ -12,7 +12,7 @@ use Rattle.elementwise.proofs.PairLaws.{pairwise-append, joined_pairs, firsts, s
 use Rattle.elementwise.proofs.RowLaws.{landed, rows-in, rows-lie}
 use Rattle.elementwise.proofs.TurnedLaws.{AreWide}
 
--- ---- items put over bytes that are behind others
+-- ---- items that are written after other bytes
 
 pub put-rows : (w : ℕ) (items : List (List ℕ)) (n : ℕ) (xs zs : List ℕ) → length items ≡ n → Each (λ item. length item ≡ w) items → length zs ≡ n * w → with_items (row_offsets (length xs) w n) items (xs ++ zs) ≡ xs ++ concat items
 put-rows w [] zero xs zs many wide room = ap (λ l. xs ++ l) (nil_from_length zs (omega (arith, room)))
@@ -32,7 +32,7 @@ put-rows w (item ∷ items) (suc n) xs zs many wide room =
     ∙ put-rows w items n (xs ++ item) rest (omega (arith, many)) wide.1 (omega (arith, length-drop w zs, room, suc-mul n w))
     ∙ append_assoc xs item (concat items)
 
--- items of one width that are joined are read back
+-- concatenated items of one width are read back
 pub rows-read : (w : ℕ) (items : List (List ℕ)) → AreWide w items → items_at (row_offsets 0 w (length items)) w (concat items) ≡ items
 rows-read w items wide =
     let n = length items in
@@ -41,10 +41,10 @@ rows-read w items wide =
     ap (items_at (row_offsets 0 w n) w) (sym (put-rows w items n [] zeros refl wide room))
     ∙ landed w (row_offsets 0 w n) items zeros (length-row 0 w n) (rows-in w n (length zeros) (omega (arith, room)) 0 w (omega arith)) (All-from_recursion (λ item. length item ≡ w) items wide) (rows-lie w n (length zeros) (omega (arith, room)) 0 w (omega arith))
 
--- ---- what is made of two runs, or of pairs of them
+-- ---- what is made of two runs, or of pairs of runs
 
 module _ (make : ℕ → ℕ → List ℕ) where
-  -- two lists, and two behind them
+  -- two lists, and two lists after them
   pub appended : (xs ys xs' ys' : List ℕ) (bytes bytes' start : List ℕ) → length xs ≡ length ys → bytes ≡ start ++ concat (pairwise make xs ys) → bytes' ≡ bytes ++ concat (pairwise make xs' ys') → bytes' ≡ start ++ concat (pairwise make (xs ++ xs') (ys ++ ys'))
   appended xs ys xs' ys' bytes bytes' start even so_far wrote =
       wrote
@@ -61,14 +61,14 @@ module _ (make : ℕ → ℕ → List ℕ) where
       ∙ (λ i. bytes ++ concat (pairwise make (firsts (sym walked i)) (seconds (sym walked i))))
       ∙ so_far
 
--- the bytes that the next pair takes, and those after it
+-- the bytes of the next pair, and those of the later ones
 pub bytes-next : (item : ℕ) (left left' : List RunPair) (pair : RunPair) → left ≡ pair ∷ left' → length (firsts left) * item ≡ pair.first.count * item + length (firsts left') * item
 bytes-next item left left' pair walked =
     ap (λ l. length (firsts l) * item) walked
     ∙ ap (λ n. n * item) (length-append (run_offsets pair.first) (firsts left') ∙ ap (λ n. n + length (firsts left')) (length-run_offsets pair.first))
     ∙ add-mul pair.first.count (length (firsts left')) item
 
--- a row of pairs, as the code has it
+-- a row of pairs, in the form that the code uses
 pub row-made : (f : List ℕ → List ℕ → List ℕ) (width width' w w' : ℕ) (left right b b' : List ℕ) (row : RunPair) (block block' : List ℕ) → w ≡ width → w' ≡ width' → b ≡ left → b' ≡ right → row.first.count ≡ row.second.count →
     EachWithin (length left) row.first.offset row.first.step width row.first.count → EachWithin (length right) row.second.offset row.second.step width' row.second.count →
     block' ≡ block ++ joined (λ k. f (item_at (place row.first.offset row.first.step k) w b) (item_at (place row.second.offset row.second.step k) w' b')) row.first.count →

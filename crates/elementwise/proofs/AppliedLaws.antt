@@ -1,4 +1,4 @@
--- Numbers of operands that were cast.
+-- Results for operands that were cast.
 use Rattle.std.specs.Prelude.{ℤ}
 use Rattle.std.proofs.Common.{◌≡◌, true, ℕ, List, [], ◌∷◌, map, refl, ap, ◌∙◌}
 use Rattle.std.proofs.lemmas.Bool.{false≢true}
@@ -11,7 +11,7 @@ use Rattle.elementwise.specs.Operations.{binary, unary}
 use Rattle.elementwise.specs.Results.{value_in, number_as, binary_item, unary_item, pairwise, stretched_items}
 use Rattle.elementwise.proofs.LeafLaws.{cast_number}
 
--- a byte order makes no difference to what is wrapped
+-- the byte order of a scalar makes no difference to wrapping
 wrap-little : (s : Scalar) (z : ℤ) → wrap s z ≡ wrap (little s) z
 wrap-little BoolScalar z = refl
 wrap-little (Byte signed) z = refl

@@ -1,4 +1,4 @@
--- Numbers by their lowest 64 bits.
+-- Numbers, given by their lowest 64 bits.
 use Rattle.std.proofs.Common.{◌≡◌, ℕ, zero, suc, ◌+◌, ◌-◌, ◌*◌, ◌/◌, ◌%◌, ◌^◌, ◌<◌, ◌≤◌, max, inl, inr, cond, nat_lt, Bool, true, false, refl, sym, ap, ◌∙◌, arith}
 use Rattle.std.specs.Prelude.{ℤ, pos, negsuc, neg_ℤ, ◌+ℤ◌, ◌-ℤ◌, ◌*ℤ◌}
 use Rattle.std.specs.Int.{w64, cast_signed, cast_unsigned, int_wrap}
@@ -10,7 +10,7 @@ use Rattle.std.proofs.Math.Nat.{div-add-mod, mod-lt, mod-eq_of_lt, mul-le-mul_le
 use Rattle.elementwise.specs.Words.{integer, low_bits, low_bits-lt, low_bits-integer, int_wrap-low_bits}
 use Rattle.elementwise.specs.Operations.{floor_quotient, modulo, sign_bits, shifted_left, shifted_right}
 
--- the lowest bits of a sum, a difference or a product are what the lowest bits give
+-- The lowest bits of a sum, a difference or a product depend only on the lowest bits of the operands.
 module _ (f : ℕ → ℕ → ℕ) (op : ℤ → ℤ → ℤ) (first : (a b : ℤ) → int_wrap w64 (op (int_wrap w64 a) b) ≡ int_wrap w64 (op a b)) (second : (a b : ℤ) → int_wrap w64 (op a (int_wrap w64 b)) ≡ int_wrap w64 (op a b)) (word : (m n : ℕ) → m < 2 ^ 64 → n < 2 ^ 64 → cast_signed w64 (f m n) ≡ int_wrap w64 (op (cast_signed w64 m) (cast_signed w64 n))) (below : (m n : ℕ) → f m n < 2 ^ 64) where
   low_bits-op : (u v : ℤ) → low_bits 8 (op u v) ≡ f (low_bits 8 u) (low_bits 8 v)
   low_bits-op u v =
@@ -51,7 +51,7 @@ low_bits-small x below = mod-eq_of_lt below
 is_small : (x : ℕ) → x < 2 ^ 63 → integer true 8 x ≡ pos x
 is_small x small = let test : nat_lt x (2 ^ 63) ≡ true = grind (arith, nat_tests) in ap (λ t. cond t (pos x) (pos x -ℤ pos (2 ^ 64))) test
 
--- ---- what is left of a number by another
+-- ---- remainders
 
 low_bits-sub : (u v : ℤ) → low_bits 8 (u -ℤ v) ≡ (low_bits 8 u + (2 ^ 64 - low_bits 8 v)) % 2 ^ 64
 low_bits-sub = low_bits-op (λ x y. (x + (2 ^ 64 - y)) % 2 ^ 64) (λ a b. a -ℤ b) (λ a b. int_wrap-add_left w64 a (neg_ℤ b)) (int_wrap-sub_right w64) (wrapping_sub-bits w64) (λ m n. mod-lt (m + (2 ^ 64 - n)) (omega arith))
@@ -70,7 +70,7 @@ rest_low signed x y q fits fits' some is =
     ∙ sym (low_bits-sub a (b *ℤ floor_quotient a b))
     ∙ ap (low_bits 8) (sym (modulo-some a b (λ none. some (sym (low_bits-integer signed 8 y fits') ∙ ap (low_bits 8) none))))
 
--- ---- quotients by a product
+-- ---- quotients by a multiplication
 
 quotient-is : (n d q : ℕ) → q * d ≤ n → n < q * d + d → q ≡ n / d
 quotient-is n d q low high =
@@ -85,7 +85,7 @@ quotient-is n d q low high =
       ]
     ]
 
--- the product with a reciprocal that is rounded down, less its lowest bits, is the quotient or one less
+-- A number times a reciprocal that is rounded down, without the lowest bits, is the quotient or one less.
 module _ (v n d m low near : ℕ) (few : n ≤ v) (some : 1 ≤ d) (is : m ≡ v / d) (fits : low ≤ v) (split : low + near * (v + 1) ≡ n * m) where
   whole : d * m + v % d ≡ v
   whole = (λ i. d * is i + v % d) ∙ div-add-mod v d
@@ -115,20 +115,20 @@ module _ (v n d m low near : ℕ) (few : n ≤ v) (some : 1 ≤ d) (is : m ≡ v
         absurd (omega (arith, times, parts, all, rest, most, lows, some))
   ]
 
-  -- which one the rest tells
+  -- the remainder tells which of the two it is
   pub near-is : n < near * d + d → near ≡ n / d
   near-is under = quotient-is n d near near-low under
 
   pub next-is : near * d + d ≤ n → near + 1 ≡ n / d
   next-is over = quotient-is n d (near + 1) (omega (arith, over)) (omega (arith, near-high))
 
--- the highest bits of a reciprocal are the reciprocal of fewer bits
+-- the highest bits of a reciprocal are the reciprocal in fewer bits
 pub reciprocal-high : (v k w d : ℕ) → v / k ≡ w → v / d / k ≡ w / d
 reciprocal-high v k w d is = div-div-eq-div-mul v d k ∙ ap (λ n. v / n) (omega arith) ∙ sym (div-div-eq-div-mul v k d) ∙ ap (λ n. n / d) is
 
--- ---- bits that move
+-- ---- shifts
 
--- by fewer than there are
+-- a shift by less than the number of bits
 pub kept : (by width m : ℕ) → by < width → m ≡ max width 1 → by % m ≡ by
 kept by width m near is = mod-eq_of_lt (omega (arith, near, is))
 

@@ -1,4 +1,4 @@
--- Byte strings that are compared with one.
+-- Byte strings that are compared with one byte string.
 use Rattle.std.proofs.Common.{◌≡◌, ℕ, true, false, Ok, Err, List, refl}
 use Rattle.elementwise.specs.Words.{Refusal, NotForThisKind, Descr, Scalar, Byte, Int, Bytes, is_text}
 use Rattle.elem_descr.specs.declared.descr.Descr.TheVariants.{Scalar as ScalarDescr}
@@ -11,7 +11,7 @@ not_text (Byte signed) other = refl
 not_text (Int signed width order) other = refl
 not_text (Bytes n) other = absurd (other n refl)
 
--- byte strings alone are compared
+-- operands that are not byte strings are refused
 module _ (d : Descr) (shape : List ℕ) where
   pub operand_refused : (e : Refusal) → scalar_of d ≡ Err e → bytes_compared_result d shape ≡ Err e
   unfolding bytes_compared_result

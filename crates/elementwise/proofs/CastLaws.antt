@@ -13,7 +13,7 @@ use Rattle.elementwise.proofs.LeafLaws.{length-leaf_cast, cast_read_back}
 
 -- ---- which leaves are cast to which
 
--- as many leaves, each of which can be cast to the one at its place
+-- equally many leaves, each of which can be cast to the one at its position
 record AllCan (xs ys : List Leaf) : Type 0 where
   even : length xs ≡ length ys
   each : (k : ℕ) → k < length xs → can_cast_scalar (get_or xs k no_leaf).scalar (get_or ys k no_leaf).scalar ≡ true
@@ -47,7 +47,7 @@ can_leaves (record_field name at width from rest) (record_field name' at' width'
     let both = and_parts (can_cast_fields from to) (can_cast_fields rest others) can in
     AllCan-append (leaves_from (s + at) from) (leaves_from (t + at') to) (leaves_from s rest) (leaves_from t others) (can_leaves from to (s + at) (t + at') both.0) (can_leaves rest others s t both.1)
 
--- each leaf has one that can be cast to it
+-- each leaf has a source that can be cast to it
 pub has_source : (from to : Descr) → can_cast from to ≡ true → (k : ℕ) → k < length (leaves_of to) → HasSource from k × (can_cast_scalar (source from k).scalar (leaf_at to k).scalar ≡ true)
 has_source (ScalarDescr from) to can k low = (tt, AllPass-from_list_all (λ leaf. can_cast_scalar from leaf.scalar) (leaves_of to) can k no_leaf low)
 has_source (RecordDescr from) (ScalarDescr to) can k low = absurd (cc)
@@ -58,7 +58,7 @@ has_source (RecordDescr from) (RecordDescr to) can k low =
 
 -- ---- the values of an item
 
--- a part of an item's bytes
+-- a part of the bytes of an item
 part : (o at width item : ℕ) (bytes : List ℕ) → at + width ≤ item → take width (drop at (take item (drop o bytes))) ≡ item_at (o + at) width bytes
 part o at width item bytes fits =
     let whole : at + (item - at) ≡ item = omega (arith, fits) in
@@ -114,7 +114,7 @@ leaf_value-at from to other offsets bytes j k low is =
     ∙ ap (λ items. get_or items j []) is.written
     ∙ get_or-map make offsets j 0 [] low
 
--- as its value is encoded
+-- its bytes are the encoded value
 pub leaf-encoded : (from to : Descr) (other offsets bytes : List ℕ) (j k : ℕ) → j < length offsets → can_cast from to ≡ true → k < length (leaves_of to) → IsLeafCast from to other offsets bytes k → (source from k).at + size (source from k).scalar ≤ item_size from →
     item_at ((leaf_at to k).at + j * item_size to) (size (leaf_at to k).scalar) bytes ≡ encode (leaf_at to k).scalar (get_or (cast_item from to (item_from from other (get_or offsets j 0))) k (number (pos 0)))
 leaf-encoded from to other offsets bytes j k low can here cast within =
@@ -145,7 +145,7 @@ one_item from to other offsets bytes j can low cast within within' =
 
 -- ---- leaf after leaf
 
--- the bytes of each are as many
+-- the bytes of each leaf have the same length
 pub each-wide : (from to : Descr) (other offsets : List ℕ) (k : ℕ) → All (λ item. length item ≡ size (leaf_at to k).scalar) (map (leaf_from (source from k) (leaf_at to k).scalar other) offsets)
 each-wide from to other offsets k =
     let make = leaf_from (source from k) (leaf_at to k).scalar other in
@@ -164,7 +164,7 @@ leaf-done from to other offsets bytes bytes' k room fits wrote =
     let even : length rows ≡ length (map make offsets) = length-row leaf.at (item_size to) n ∙ sym (length-map offsets make) in
     record { written = ap (λ all. map (λ o. item_at o (size leaf.scalar) all) rows) wrote ∙ landed (size leaf.scalar) rows (map make offsets) bytes even (rows-in (item_size to) n (length bytes) room leaf.at (size leaf.scalar) fits) (each-wide from to other offsets k) (rows-lie (item_size to) n (length bytes) room leaf.at (size leaf.scalar) fits) }
 
--- what lies beside it in an item stays
+-- the other bytes of an item do not change
 pub row-kept : (to : Descr) (n at width k : ℕ) (items : List (List ℕ)) (bytes : List ℕ) → n * item_size to ≤ length bytes → at + width ≤ item_size to → (leaf_at to k).at + size (leaf_at to k).scalar ≤ item_size to →
     AreBeside at width (leaf_at to k).at (size (leaf_at to k).scalar) → All (λ item. length item ≡ size (leaf_at to k).scalar) items → (j : ℕ) → j < n →
     item_at (at + j * item_size to) width (with_items (row_offsets (leaf_at to k).at (item_size to) n) items bytes) ≡ item_at (at + j * item_size to) width bytes
@@ -176,7 +176,7 @@ row-kept to n at width k items bytes room fits fits' beside wide j low =
     subst (λ o. AreBeside (at + j * item) width o (size next.scalar)) (sym (row-entry next.at item n m (omega (arith, there, length-row next.at item n)))) (rows-beside item n (length bytes) room at width next.at (size next.scalar) fits fits' beside j m)) in
     kept (size next.scalar) (at + j * item) width ats items bytes (row-in item n (length bytes) room at width fits j low) (rows-in item n (length bytes) room next.at (size next.scalar) fits') wide apart
 
--- so do those that were cast
+-- nor do the leaves that are already cast
 leaf-kept : (from to : Descr) (other offsets bytes bytes' : List ℕ) (i k : ℕ) → length offsets * item_size to ≤ length bytes → (leaf_at to i).at + size (leaf_at to i).scalar ≤ (leaf_at to k).at → (leaf_at to k).at + size (leaf_at to k).scalar ≤ item_size to →
     bytes' ≡ with_leaf from to other offsets k bytes → IsLeafCast from to other offsets bytes i → IsLeafCast from to other offsets bytes' i
 leaf-kept from to other offsets bytes bytes' i k room before fits wrote is =
@@ -203,7 +203,7 @@ turn-done from to other offsets bytes bytes' k low room apart wrote done i below
   | inr from_k ↦ subst (IsLeafCast from to other offsets bytes') (let is : k ≡ i = omega (arith, from_k, below) in is) (leaf-done from to other offsets bytes bytes' k room (apart.within k low) wrote)
 ]
 
--- what the code requires of a leaf
+-- what the code requires for a leaf
 pub source-within : (from : Descr) (k : ℕ) → LeavesInOrder from → HasSource from k → (source from k).at + size (source from k).scalar ≤ item_size from
 source-within (ScalarDescr scalar) k apart has = omega arith
 source-within (RecordDescr structure) k apart has = apart.within k has

@@ -1,4 +1,4 @@
--- Values that are cast to those of a scalar, numbers by way of those without sign.
+-- Values that are cast to a scalar. Numbers are cast as unsigned ones.
 use Rattle.std.proofs.Common.{◌≡◌, ℕ, Bool, false, List, [], ◌∷◌, map, sym, ◌∙◌}
 use Rattle.std.proofs.lemmas.Simd.{map-map}
 use Rattle.elementwise.specs.Words.{Descr, Order, Width, Scalar, Byte, Int, LeafValue, wrap, item_from}
@@ -9,7 +9,7 @@ use Rattle.elementwise.specs.inside.PairPasses.{number_pair}
 use Rattle.elementwise.proofs.AppliedLaws.{pairwise-same}
 use Rattle.elementwise.proofs.LeafLaws.{byte_alike, int_alike}
 
--- a sign makes no difference to the bytes
+-- the sign makes no difference to the bytes
 pub as_byte : (from to : Scalar) (signed : Bool) → to ≡ Byte signed → number_pair from from (Byte false) (λ a _. wrap (Byte false) a) ≡ number_pair from from to (λ a _. wrap to a)
 as_byte from to signed is = (λ i x y. byte_alike from signed x i) ∙ λ i. number_pair from from (sym is i) (λ a _. wrap (sym is i) a)
 

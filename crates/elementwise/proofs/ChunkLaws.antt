@@ -1,4 +1,4 @@
--- Parts of runs as layouts of one axis, and what is given on them.
+-- Parts of runs as layouts of one axis, and the results on them.
 use Rattle.std.proofs.Common.{◌≡◌, ◌+◌, ◌*◌, ◌<◌, ◌≤◌, All, ℕ, pos, ◌+ℤ◌, ◌*ℤ◌, List, [], ◌∷◌, ◌++◌, map, length, take_all, append-nil, get_or, sym, ap, subst, ◌∙◌, arith}
 use Rattle.std.proofs.lemmas.Int.{ints}
 use Rattle.std.proofs.lemmas.List.{length-map, map-append, same_lists, get_or_default}
@@ -41,7 +41,7 @@ one-axis l run shape strides offset =
     ∙ sym (nth-offset run k low)
     ∙ get_or_default (run_offsets run) k 0 d (omega (arith, below, many)))
 
--- the address of the item after k others
+-- the address of the `k`-th item
 pub address-of : (run : Run) (k : ℕ) → address_at (run.step ∷ []) run.offset (k ∷ []) ≡ position run.offset run.step k
 address-of run k = ap (λ z. pos run.offset +ℤ z) (+ℤ_idr (run.step *ℤ pos k) ∙ *ℤ_comm run.step (pos k))
 
@@ -52,7 +52,7 @@ begins-at run some lies =
     let low = subst (λ z. (z +ℤ pos 1) ≤ℤ pos max_bytes) here (lies.within (0 ∷ []) (some, tt)) in
     omega (arith, ints, low)
 
--- a part of a run that begins within the limit does so too
+-- if a run begins within the limit, so does a part of it
 module _ (run : Run) (first n : ℕ) (lies : BeginsWithin run) (low : first < run.count) (ends : first + n ≤ run.count) where
   at : (k : ℕ) → address_at (run.step ∷ []) (place run.offset run.step first) (k ∷ []) ≡ position run.offset run.step (first + k)
   at k = address-of (run_part run first n) k ∙ position-add run.offset run.step first k ((lie-within max_bytes 1 run lies).each first low).0
@@ -70,14 +70,14 @@ module _ (run : Run) (first n : ℕ) (lies : BeginsWithin run) (low : first < ru
   pub part-begins : BeginsWithin (run_part run first n)
   part-begins = record { from_zero = from; within = end }
 
--- the items of a part lie where those of the run do
+-- the items of a part lie within the same bytes as those of the run
 pub part-inside : (len width : ℕ) (run : Run) (first n : ℕ) → BeginsWithin run → All (λ offset. offset + width ≤ len) (run_offsets run) → first < run.count → first + n ≤ run.count → All (λ offset. offset + width ≤ len) (run_offsets (run_part run first n))
 part-inside len width run first n lies ends low within =
     run-ends len width (run_part run first n) (part-within len width run first n (run-within len width run lies ends) low within)
 
--- ---- what is given on two lists of items
+-- ---- the results on two lists of items
 
--- its bytes are the items as they are encoded, and each is read back
+-- their bytes are the encoded results, and each result is read back
 module _ (p : Pairing) (can : CanPair p) (from other : Descr) where
   abbrev to : Scalar
   to = target_of p
@@ -106,7 +106,7 @@ module _ (p : Pairing) (can : CanPair p) (from other : Descr) where
   given-are (x ∷ xs) [] = no-items (ScalarDescr to)
   given-are (x ∷ xs) (y ∷ ys) = items-append (ScalarDescr to) (give x y ∷ []) (pairwise give xs ys) (encode_item (ScalarDescr to) (give x y)) (flat_map (encode_item (ScalarDescr to)) (pairwise give xs ys)) (one-given x y) (given-are xs ys)
 
--- ---- what is given on the first items of two runs, and on those of a part behind them
+-- ---- the results on the first items of two runs, and on those of the next parts
 
 pub count-given : (p : Pairing) (b : Broadcast) (run other : Run) → run.count ≡ other.count → length (all_given p b run other) ≡ run.count
 count-given p b run other even =
@@ -115,7 +115,7 @@ count-given p b run other even =
     let many' : length (run_items y other) ≡ other.count = length-map (run_offsets other) (item_from y.descr.now y.block.now) ∙ length-run_offsets other in
     length-pairwise (given p x.descr.now y.descr.now) (run_items x run) (run_items y other) (many ∙ even ∙ sym many') ∙ many
 
--- how many bytes that is
+-- the number of their bytes
 pub long-given : (p : Pairing) (b : Broadcast) (run other : Run) → CanPair p → run.count ≡ other.count → length (flat_map (encode_item (ScalarDescr (target_of p))) (all_given p b run other)) ≡ run.count * size (target_of p)
 long-given p b run other can even =
     (given-are p can b.left.descr.now b.right.descr.now (run_items b.left run) (run_items b.right other)).long
@@ -135,11 +135,11 @@ given-more p b run other k n lies lies' even low =
     (λ i. pairwise give (first i) (second i))
     ∙ pairwise-append give (run_items x (run_front k run)) (run_items y (run_front k other)) (run_items x (run_part run k n)) (run_items y (run_part other k n)) (many ∙ sym many')
 
--- a run that is all items of a layout
+-- a run of all items of a layout
 pub count-run : (l : Layout) (run : Run) → run_offsets run ≡ offsets l → run.count ≡ count l.shape
 count-run l run same = sym (length-run_offsets run) ∙ ap length same ∙ length-offsets l
 
--- the items along it, in the layout's own shape
+-- the items along that run, in the layout's own shape
 run-stretched : (x : Items) (run : Run) (shape : List ℕ) → run_offsets run ≡ offsets x.layout.now → x.layout.now.shape ≡ shape → run_items x run ≡ stretched x shape
 run-stretched x run shape same there = ap (map (item_from x.descr.now x.block.now)) (same ∙ (stretches-itself x.layout.now shape there).places)
 

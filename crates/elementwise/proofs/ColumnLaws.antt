@@ -1,4 +1,4 @@
--- One leaf of the items of a run, read from where it begins, cast, and put where it lies.
+-- One leaf of the items of a run, which is read, cast and written to its place.
 use Rattle.std.proofs.Common.{◌≡◌, ◌+◌, ◌*◌, ◌-◌, ◌<◌, ◌≤◌, min, ℕ, ℤ, zero, suc, pos, inl, inr, List, [], ◌∷◌, ◌++◌, map, length, drop, take, refl, sym, ap, subst, ◌∙◌, arith, ◌+ℤ◌, ◌*ℤ◌}
 use Rattle.std.proofs.lemmas.Bool.{cases_lt}
 use Rattle.std.proofs.lemmas.Int.{ints}
@@ -12,7 +12,7 @@ use Rattle.elementwise.specs.inside.LeafCasts.{leaf_cast, leaf_from, run_part, c
 use Rattle.elementwise.specs.Casts.{cast_item}
 use Rattle.elementwise.proofs.RowLaws.{row-within}
 
--- bytes from a place on, or none where there are fewer
+-- the bytes from a position on, or none if there are fewer
 pub dropped : (n : ℕ) (bytes : List ℕ) (m : ℕ) → m ≡ min n (length bytes) → take (length bytes - m) (drop m bytes) ≡ drop n bytes
 dropped n bytes m is =
     take_all (length bytes - m) (drop m bytes) (omega (arith, length-drop m bytes))
@@ -21,11 +21,11 @@ dropped n bytes m is =
       | inr high ↦ drop_all m bytes (omega (arith, is, high)) ∙ sym (drop_all n bytes high)
     ]
 
--- leaves lie within them, where the items lie within all bytes
+-- leaves lie within those bytes, if the items lie within all bytes
 pub leaves-within : (at width item offset n : ℕ) (step : ℤ) (bytes : List ℕ) → at + width ≤ item → EachWithin (length bytes) offset step item n → EachWithin (length (drop at bytes)) offset step width n
 leaves-within at width item offset n step bytes fits within = record { each = λ k low. let lies = within.each k low in (lies.0, omega (arith, ints, lies.0, lies.1, fits, length-drop at bytes)) }
 
--- one item more
+-- one more item
 with_items-more : (ats : List ℕ) (items : List (List ℕ)) (at : ℕ) (item rows : List ℕ) → length ats ≡ length items → with_items (ats ++ at ∷ []) (items ++ item ∷ []) rows ≡ put at item (with_items ats items rows)
 with_items-more [] [] at item rows even = refl
 with_items-more [] (other ∷ items) at item rows even = absurd (omega (arith, even))
@@ -36,7 +36,7 @@ module _ (make : ℕ → List ℕ) (run : Run) (len width at row : ℕ) (within 
   abbrev first : ℕ → Run
   first n = record { offset = run.offset; count = n; step = run.step }
 
-  -- leaves that are put, as items that are
+  -- leaves that are written, as items that are written
   leaves-put : (n : ℕ) → n ≤ run.count → with_leaves (λ k. make (place run.offset run.step k)) at row n rows ≡ with_items (row_offsets at row n) (map make (run_offsets (first n))) rows
   leaves-put zero few = refl
   leaves-put (suc n) few =
@@ -49,7 +49,7 @@ module _ (make : ℕ → List ℕ) (run : Run) (len width at row : ℕ) (within 
       ∙ sym (with_items-more ats (map make os) (at + n * row) (make o) rows (length-row at row n ∙ sym (length-map os make ∙ length-run_offsets (first n))))
       ∙ (λ i. with_items (sym here i) ((sym (map-append make os (o ∷ [])) ∙ ap (map make) (sym there)) i) rows)
 
--- they are put where the leaf lies, as the code has it
+-- the leaves are written to their places, in the form that the code uses
 pub leaf-put : (run : Run) (source source' leaf leaf' : Leaf) (len wide width row item : ℕ) (bytes other rows rows' : List ℕ) → EachWithin len run.offset run.step wide run.count → source' ≡ source → leaf' ≡ leaf → bytes ≡ drop source'.at other → width ≡ size source'.scalar → row ≡ item →
     rows' ≡ with_leaves (λ k. leaf_cast source'.scalar leaf'.scalar (item_at (place run.offset run.step k) width bytes)) leaf'.at row run.count rows →
     rows' ≡ with_items (row_offsets leaf.at item (length (run_offsets run))) (map (leaf_from source leaf.scalar other) (run_offsets run)) rows
@@ -61,13 +61,13 @@ leaf-put run source source' leaf leaf' len wide width row item bytes other rows 
     ∙ (λ i. with_items (row_offsets leaf'.at (long i) (sym (length-run_offsets run) i)) (map (λ o. leaf_cast source'.scalar leaf'.scalar (each o i)) (run_offsets run)) rows)
     ∙ λ i. with_items (row_offsets (same i).at item (length (run_offsets run))) (map (leaf_from (first i) (same i).scalar other) (run_offsets run)) rows
 
--- ---- the parts of a run
+-- ---- parts of a run
 
--- where a part begins
+-- the offset at which a part begins
 part-at : (len width : ℕ) (run : Run) (k : ℕ) → EachWithin len run.offset run.step width run.count → k < run.count → pos (place run.offset run.step k) ≡ pos run.offset +ℤ run.step *ℤ pos k
 part-at len width run k within low = not_negative (position run.offset run.step k) (within.each k low).0 ∙ ap (λ z. pos run.offset +ℤ z) (*ℤ_comm (pos k) run.step)
 
--- some of the first items, and then those of a part
+-- the first items, and then those of a part
 pub run-parts : (len width : ℕ) (run : Run) (k n : ℕ) → EachWithin len run.offset run.step width run.count → k < run.count → run_offsets (record { offset = run.offset; count = k + n; step = run.step }) ≡ run_offsets (record { offset = run.offset; count = k; step = run.step }) ++ run_offsets (run_part run k n)
 run-parts len width run k n within low =
     let front = numbers_from (pos run.offset) run.step k in
@@ -89,7 +89,7 @@ part-within len width run k n within low ends = record {
 pub length-cast_items : (from to : Descr) (other os : List ℕ) → length (cast_items from to other os) ≡ length os
 length-cast_items from to other os = length-map os (λ o. cast_item from to (item_from from other o))
 
--- of items with the same bytes
+-- items with the same bytes
 pub same-cast : (from to : Descr) (width : ℕ) (other bytes os os' : List ℕ) → width ≡ item_size from → items_at os width other ≡ items_at os' width bytes → cast_items from to other os ≡ cast_items from to bytes os'
 same-cast from to width other bytes os os' wide same =
     let make = λ (item : List ℕ). cast_item from to (decode_item from item) in

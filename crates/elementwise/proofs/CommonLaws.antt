@@ -127,7 +127,7 @@ common-held (Bytes n) r s never is' found = absurd never
 common-held (Byte a) (Bytes n) s is never found = absurd never
 common-held (Int a w o) (Bytes n) s is never found = absurd never
 
--- there is none only where one of them has a sign
+-- two integer types have no common type only if exactly one of them is signed
 signs_differ : (a b : Bool) (n m : ℕ) (e : Refusal) → cond a (cond b (Ok (integer_type true (max n m))) (mixed_type m n)) (cond b (mixed_type n m) (Ok (integer_type false (max n m)))) ≡ Err e → not a ≡ b
 signs_differ true false n m e found = refl
 signs_differ false true n m e found = refl

@@ -1,4 +1,4 @@
--- What is compared, and what results there are.
+-- Comparisons and their results.
 use Rattle.std.proofs.Common.{◌≡◌, ℕ, true, Ok, Err, List, [], ◌∷◌, refl, sym, subst, arith}
 use Rattle.std.specs.declared.cmp.Ordering.{Ordering}
 use Rattle.std.specs.Ordering.{nat_cmp, is_lt, is_gt}
@@ -29,11 +29,11 @@ unfolding compared_type
 compared_bools l r s found =
     (check_test (are_comparable l r) NotForThisKind (Ok BoolScalar) s found, sym (same_answer BoolScalar s (check_passed (are_comparable l r) NotForThisKind (Ok BoolScalar) s found)))
 
--- element types that have these scalars
+-- element types with these scalars
 pub comparable_scalars : (d d' : Descr) (a b : Scalar) → d ≡ ScalarDescr a → d' ≡ ScalarDescr b → are_comparable a b ≡ true → AreComparable d d'
 comparable_scalars d d' a b is is' can = subst (λ e. AreComparable e d') (sym is) (subst (AreComparable (ScalarDescr a)) (sym is') can)
 
--- numbers are compared with those of the same scalar in another byte order
+-- numbers can be compared with those of the same scalar in little-endian order
 pub comparable_numbers : (a : Scalar) → IsNumber a → are_comparable a (little a) ≡ true
 comparable_numbers BoolScalar is = refl
 comparable_numbers (Byte signed) is = refl

@@ -59,7 +59,7 @@ first-bytes-cast from to other offsets bytes cut inside long same apart =
     (subst (λ (d : Descr). items_at (multiples (item_size d) (length offsets)) (item_size d) bytes ≡ items_at offsets (item_size d) other) cut.to_is same)
     (subst LeavesInOrder cut.to_is apart)))
 
--- ---- what is no byte string
+-- ---- scalars that are not byte strings
 
 pub no_text : (s : Scalar) → is_text s ≡ false → IsNumber s
 no_text BoolScalar is = tt
@@ -67,7 +67,7 @@ no_text (Byte signed) is = tt
 no_text (Int signed width order) is = tt
 no_text (Bytes n) is = absurd (false≢true (sym is))
 
--- only numbers are cast to numbers
+-- only numbers can be cast to numbers
 pub numbers_cast : (s t : Scalar) → can_cast_scalar s t ≡ true → IsNumber t → IsNumber s
 numbers_cast BoolScalar t can is = tt
 numbers_cast (Byte signed) t can is = tt

@@ -1,4 +1,4 @@
--- Items that are written leaf by leaf over zeros: their bytes are those that their values are encoded as.
+-- Items that are written leaf by leaf over zeros: their bytes are the encoded values.
 use Rattle.std.proofs.Common.{◌≡◌, ◌+◌, ◌-◌, ◌*◌, ◌<◌, ◌≤◌, inl, inr, ℕ, zero, suc, true, pos, List, [], ◌∷◌, ◌++◌, map, length, get_or, take, drop, replicate, sym, ap, ◌∙◌, arith, append_assoc, length-append, refl, mul_comm, zero-mul, suc-mul, add-mul, mul-le-mul_right}
 use Rattle.std.proofs.Math.Seq.{take-add}
 use Rattle.std.proofs.lemmas.Grind.{flat_map-append}
@@ -12,18 +12,18 @@ use Rattle.elementwise.specs.inside.Made.{AreItems}
 use Rattle.elementwise.proofs.RowLaws.{AreBeside}
 use Rattle.elementwise.proofs.CastLaws.{row-kept, each-wide, length-cast_item, leaf-encoded, one_item}
 
--- ---- leaves and what lies between them
+-- ---- leaves and the gaps between them
 
--- a range of bytes that no leaf meets
+-- a range of bytes that no leaf overlaps
 abbrev IsGap : List Leaf → ℕ → ℕ → Type 0
 IsGap leaves at width = (k : ℕ) → k < length leaves → AreBeside at width (get_or leaves k no_leaf).at (size (get_or leaves k no_leaf).scalar)
 
--- what lies before the first leaf
+-- a range before the first leaf
 before-first : (leaf : Leaf) (leaves : List Leaf) (at width : ℕ) → at + width ≤ leaf.at → ((k : ℕ) → k < length leaves → leaf.at ≤ (get_or leaves k no_leaf).at) → IsGap (leaf ∷ leaves) at width
 before-first leaf leaves at width low later zero inside = inl low
 before-first leaf leaves at width low later (suc k) inside = inl (omega (arith, low, later k (omega (arith, inside))))
 
--- what lies behind it, where no other one does
+-- a range after the first leaf that no other leaf overlaps
 behind-first : (leaf : Leaf) (leaves : List Leaf) (at width : ℕ) → leaf.at + size leaf.scalar ≤ at → IsGap leaves at width → IsGap (leaf ∷ leaves) at width
 behind-first leaf leaves at width after gap zero inside = inr after
 behind-first leaf leaves at width after gap (suc k) inside = gap k (omega (arith, inside))
@@ -31,7 +31,7 @@ behind-first leaf leaves at width after gap (suc k) inside = gap k (omega (arith
 cut : (bytes : List ℕ) (o a b : ℕ) → item_at o (a + b) bytes ≡ item_at o a bytes ++ item_at (o + a) b bytes
 cut bytes o a b = take-add a b (drop o bytes) ∙ ap (λ rest. take a (drop o bytes) ++ take b rest) (drop-drop a o bytes)
 
--- from the byte p of an item on, which lies o bytes further on, these leaves are written in order, over zeros
+-- from the byte `p` of an item on, these leaves are written in order, over zeros; the item begins at the offset `o`
 record AreWritten (bytes : List ℕ) (o item p : ℕ) (leaves : List Leaf) (values : List LeafValue) : Type 0 where
   ends : p ≤ item
   even : length values ≡ length leaves
@@ -74,11 +74,11 @@ encoded-from bytes o item p (leaf ∷ leaves) (value ∷ values) are =
 
 -- ---- all items
 
--- n items have zeros wherever no leaf lies
+-- `n` items have zeros wherever there is no leaf
 pub record HaveZeros (to : Descr) (n : ℕ) (bytes : List ℕ) : Type 0 where
   pub zeros : (at width : ℕ) → at + width ≤ item_size to → IsGap (leaves_of to) at width → (j : ℕ) → j < n → item_at (at + j * item_size to) width bytes ≡ replicate width 0
 
--- zeros have
+-- zeros have them
 pub all-zeros : (to : Descr) (n : ℕ) (bytes : List ℕ) → n * item_size to ≤ length bytes → bytes ≡ replicate (length bytes) 0 → HaveZeros to n bytes
 all-zeros to n bytes room are = record {
   zeros = λ at width fits gap j low.
@@ -87,7 +87,7 @@ all-zeros to n bytes room are = record {
       ap (item_at o width) are ∙ ap (take width) (drop-replicate o (length bytes) 0) ∙ take-replicate width (length bytes - o) 0 (omega (arith, room, most, fits, suc-mul j (item_size to)));
 }
 
--- so they do once a leaf is cast
+-- they still do after a leaf is cast
 pub zeros-stay : (from to : Descr) (other offsets bytes bytes' : List ℕ) (k : ℕ) → k < length (leaves_of to) → length offsets * item_size to ≤ length bytes → LeavesInOrder to →
     bytes' ≡ with_leaf from to other offsets k bytes → HaveZeros to (length offsets) bytes → HaveZeros to (length offsets) bytes'
 zeros-stay from to other offsets bytes bytes' k low room apart wrote have = record {
@@ -144,7 +144,7 @@ module _ (from to : Descr) (other offsets bytes : List ℕ) (long : length bytes
             ap (decode_item to) (sym (each j (inside j low))) ∙ row-back j (inside j low) ∙ sym (get_or-map make offsets j 0 d (inside j low)));
       }
 
--- ---- items one after another
+-- ---- adjacent items
 
 pub no-items : (d : Descr) → AreItems d [] []
 no-items d = record { long = sym (zero-mul (item_size d)); encoded = refl; wide = λ k e low. absurd (omega (arith, low)); back = λ k e low. absurd (omega (arith, low)) }

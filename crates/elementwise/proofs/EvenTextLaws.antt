@@ -1,4 +1,4 @@
--- Byte strings of one length: the NULs at their ends decide nothing.
+-- Byte strings of the same length: the NULs at their ends decide nothing.
 use Rattle.std.proofs.Common.{◌≡◌, ◌+◌, ◌-◌, ◌<◌, ◌≤◌, ◌==◌, ◌&&◌, ◌||◌, true, false, nat_lt, ℕ, zero, suc, List, [], ◌∷◌, ◌++◌, length, get_or, replicate, reverse, refl, sym, ap, ◌∙◌, arith, length-take, length-append}
 use Rattle.std.specs.Prelude.{nat_eq}
 use Rattle.std.proofs.lemmas.Bool.{lt-ltb}
@@ -9,7 +9,7 @@ use Rattle.std.proofs.Math.Bool.{and-false}
 use Rattle.elementwise.specs.Words.{without_nuls, without_nuls-back, nuls}
 use Rattle.elementwise.specs.Comparisons.{text_below}
 
--- ---- byte strings that no NUL ends
+-- ---- byte strings that do not end in NUL
 
 abbrev EndsWell : List ℕ → Type 0
 EndsWell [] = Unit {0}
@@ -38,12 +38,12 @@ without-ends bytes =
     (get_or-reverse bytes (nuls bytes) 0 (omega (arith, is, long)) ∙ ap (λ i. get_or bytes i 0) at ∙ sym (get_or-take (length bytes - nuls bytes) bytes k 0 (omega (arith, is, long))) ∙ none)
     (prefix_len_stops (λ b. nat_eq b 0) (reverse bytes) 0 few))
 
--- ---- with NULs behind them
+-- ---- with NULs after them
 
 not-below-zero : (a : ℕ) → nat_lt a 0 ≡ false
 not-below-zero a = grind (arith, nat_tests)
 
--- nothing is below NULs that are not more
+-- nothing is below NULs that are not longer
 none-below : (xs : List ℕ) (n : ℕ) → n ≤ length xs → text_below xs (replicate n 0) ≡ false
 none-below [] zero few = refl
 none-below [] (suc n) few = absurd (omega (arith, few))
@@ -59,7 +59,7 @@ filled [] (suc b ∷ ys) (suc m) n ends ends' even = λ i. lt-ltb 0 (suc b) (ome
 filled (a ∷ xs) [] m n ends ends' even = let long : length {A = ℕ} (replicate m 0) ≡ m = length-replicate m 0 in none-below (a ∷ xs ++ replicate m 0) n (omega (arith, even, length-append xs (replicate m 0), long))
 filled (a ∷ xs) (b ∷ ys) m n ends ends' even = λ i. nat_lt a b || (a == b && filled xs ys m n (ends-after a xs ends) (ends-after b ys ends') (omega (arith, even)) i)
 
--- so byte strings of one length are compared as they are
+-- so byte strings of the same length can be compared as they are
 pub below-even : (xs ys : List ℕ) → length xs ≡ length ys → text_below xs ys ≡ text_below (without_nuls xs) (without_nuls ys)
 below-even xs ys even =
     let few = suffix_len-le-length (λ b. nat_eq b 0) xs in

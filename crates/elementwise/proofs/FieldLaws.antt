@@ -14,18 +14,18 @@ fields-before name name' at at' (ScalarDescr from) (RecordDescr to) rest others 
 fields-before name name' at at' (RecordDescr from) (ScalarDescr to) rest others = refl
 fields-before name name' at at' (RecordDescr from) (RecordDescr to) rest others = refl
 
--- a loop has come to a field and the field at its place
+-- a loop is at a field, and at the field at the same position
 pub record IsTurn (from to : List Field) (k : ℕ) (field other : Field) : Type 0 where
   pub low : k < length from
   pub near : k < length to
   pub is : field ≡ get_or from k field
   pub there : other ≡ get_or to k other
 
--- whether what is left can be cast
+-- whether the remaining fields can be cast
 abbrev pub left : List Field → List Field → ℕ → Bool
 left from to k = can_cast_fields (listed (drop k from)) (listed (drop k to))
 
--- those two, and those after them
+-- those two fields, and the later ones
 at-turn : (from to : List Field) (k : ℕ) (field other : Field) → IsTurn from to k field other → left from to k ≡ (can_cast_field field.descr other.descr && left from to (k + 1))
 at-turn from to k field other turn =
     (λ i. can_cast_fields (listed (rest_at from field k turn.low turn.is i)) (listed (rest_at to other k turn.near turn.there i)))
@@ -53,7 +53,7 @@ before-none : (name : List ℕ) (at : ℕ) (from : Descr) (rest : Fields) → ca
 before-none name at (ScalarDescr from) rest = refl
 before-none name at (RecordDescr from) rest = refl
 
--- there are as many
+-- there are equally many fields
 pub even : (from to : List Field) → can_cast_fields (listed from) (listed to) ≡ true → length from ≡ length to
 even [] [] can = refl
 even [] (other ∷ to) can = let none = none-before other.name other.at other.descr (listed to) in cc

@@ -1,4 +1,4 @@
--- Numbers that are compared as those of a larger scalar, which holds them.
+-- Numbers that are compared as numbers of a larger scalar, which holds their values.
 use Rattle.std.proofs.Common.{◌≡◌, ◌-◌, ◌*◌, ◌^◌, ◌<◌, ◌≤◌, inl, inr, ℕ, zero, suc, true, false, Bool, cond, List, [], ◌∷◌, map, take, drop, refl, sym, ap, subst, ◌∙◌, arith}
 use Rattle.std.specs.Prelude.{ℤ, pos, negsuc, unsigned_abs}
 use Rattle.std.proofs.Math.Pow.{pow-lt}
@@ -19,14 +19,14 @@ truth-is : (n : ℕ) → IsValueOf BoolScalar (pos (truth n))
 truth-is zero = inl refl
 truth-is (suc n) = inr (ap pos (truth_suc n))
 
--- what is read is a value of its scalar
+-- a number that is read is a value of its scalar
 pub value-of : (s : Scalar) (bytes : List ℕ) → AreBytes bytes → IsNumber s → IsValueOf s (number_of (decode s bytes))
 value-of BoolScalar bytes are is = truth-is (number_in Little 1 bytes)
 value-of (Byte signed) bytes are is = integer-fits signed 1 (number_in Little 1 bytes) (omega arith) (number-lt Little 1 bytes are)
 value-of (Int signed width order) bytes are is = integer-fits signed (width_size width) (number_in order (width_size width) bytes) (some_bytes width) (number-lt order (width_size width) bytes are)
 value-of (Bytes n) bytes are never = absurd never
 
--- how far it is from 0
+-- the distance from 0
 fits-small : (signed : Bool) (n : ℕ) (z : ℤ) → 1 ≤ n → FitsBytes signed n z → unsigned_abs z < 2 ^ (8 * n)
 fits-small false n (pos a) some fits = omega (arith, ints, fits.1)
 fits-small false n (negsuc a) some fits = absurd (omega (arith, ints, fits.0))
@@ -46,7 +46,7 @@ side-small s side k width are is wide =
     let bytes = bytes-take side.width (drop at side.bytes.now) (bytes-drop at side.bytes.now are) in
     subst (λ n. unsigned_abs (number_of_side s side k) < 2 ^ (8 * n)) wide (value-small s (number_of_side s side k) (value-of s (item_in side k) bytes is))
 
--- a byte order makes no difference
+-- the byte order makes no difference
 pub little-little : (s : Scalar) → little (little s) ≡ little s
 little-little BoolScalar = refl
 little-little (Byte signed) = refl
@@ -72,7 +72,7 @@ is-number (Byte signed) bytes is = refl
 is-number (Int signed width order) bytes is = refl
 is-number (Bytes n) bytes never = absurd never
 
--- an item that is cast has the value that it had
+-- an item that is cast keeps its value
 kept-value : (s t : Scalar) (block : List ℕ) (o : ℕ) → AreBytes block → IsNumber s → IsNumber t → Holds s t → value_in (cast_item (ScalarDescr s) (ScalarDescr t) (item_from (ScalarDescr s) block o)) ≡ value_in (item_from (ScalarDescr s) block o)
 kept-value s t block o are is is' holds =
     let bytes = take (size s) (drop 0 (take (size s) (drop o block))) in
@@ -99,7 +99,7 @@ one_pair comparison s s' t t' block block' o o' is is' isn isn' holds holds' are
     (λ i. compared_value comparison (kept-value s t block o are is isn holds i) (kept-value s' t' block' o' are' is' isn' holds' i) ∷ [])
     ∙ ap (λ value. value ∷ []) (compared-numbers comparison s s' _ _ is is')
 
--- the items of two arrays, as they were before they were cast
+-- the results are those for the items before they were cast
 pub compared_all : (comparison : Comparison) (t t' : Scalar) (d d' : Descr) (block block' : List ℕ) (l l' : Layout) (shape : List ℕ) → AreHeld d t → AreHeld d' t' → IsNumber t → IsNumber t' → AreBytes block → AreBytes block' →
     pairwise (λ x y. compared_value comparison (value_in (cast_item d (ScalarDescr t) x)) (value_in (cast_item d' (ScalarDescr t') y)) ∷ []) (stretched_items d block l shape) (stretched_items d' block' l' shape)
     ≡ pairwise (compared_item comparison) (stretched_items d block l shape) (stretched_items d' block' l' shape)

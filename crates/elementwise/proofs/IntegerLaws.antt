@@ -17,7 +17,7 @@ use Rattle.elementwise.proofs.PairLaws.{pairwise-map}
 use Rattle.elementwise.proofs.AppliedLaws.{pairwise-same}
 use Rattle.elementwise.proofs.HeldLaws.{value-of, is-number}
 
--- ---- integers that are no values
+-- ---- integers that are not values of the scalar
 
 order-of : (a b : ℤ) (test : Bool) → int_lt a b ≡ test → (a <ℤ b) ⊎ (b ≤ℤ a)
 order-of a b true is = inl (omega (arith, ints, is))
@@ -26,7 +26,7 @@ order-of a b false is = inr (omega (arith, ints, is))
 order : (a b : ℤ) → (a <ℤ b) ⊎ (b ≤ℤ a)
 order a b = order-of a b (int_lt a b) refl
 
--- z is above v, or it is below v, as it is above 0 or not
+-- `z` is above `v` if it is above 0, and below `v` otherwise
 abbrev LiesBeyond : ℤ → ℤ → Type 0
 LiesBeyond v z = (int_lt v z ≡ int_lt (pos 0) z) × (int_lt z v ≡ not (int_lt (pos 0) z))
 
@@ -44,7 +44,7 @@ below v z none is =
     let more : int_lt z v ≡ true = grind (arith, ints) in
     rw (here, less, more) (refl, refl)
 
--- numbers from one that is not above 0 to one that is
+-- integers outside an interval that contains 0
 interval : (low high v z : ℤ) → low ≤ℤ pos 0 → pos 0 <ℤ high → low ≤ℤ v → v <ℤ high → (low ≤ℤ z → z <ℤ high → ⊥) → LiesBeyond v z
 interval low high v z under over least most none = elim (order (pos 0) z) [
   | inl some ↦ elim (order z high) [
@@ -83,7 +83,7 @@ beyond_values (Byte signed) v z is fits none = beyond_fits signed 1 v z fits (λ
 beyond_values (Int signed width order) v z is fits none = beyond_fits signed (width_size width) v z fits (λ held. none (wrap_stays (Int signed width Little) z held))
 beyond_values (Bytes n) v z never fits none = absurd never
 
--- what a comparison says of each item is the same
+-- the result of a comparison is the same for all items
 one_beyond : (comparison : Comparison) (s : Scalar) (block : List ℕ) (o : ℕ) (z : ℤ) → AreBytes block → IsNumber s → (wrap (little s) z ≡ z → ⊥) →
     truth_item (says comparison (int_lt (pos 0) z) (not (int_lt (pos 0) z))) ≡ compared_item comparison (item_from (ScalarDescr s) block o) (number z ∷ [])
 one_beyond comparison s block o z are is none =
@@ -101,7 +101,7 @@ all_beyond comparison s d block l z holds one are is none said =
     ∙ (λ i. map (λ offset. one_beyond comparison s block offset z are is none i) (offsets l))
     ∙ (λ i. map (λ offset. compared_item comparison (item_from (sym one i) block offset) (number z ∷ [])) (offsets l))
 
--- one bool many times
+-- one bool, repeated
 bool_read : (holds : Bool) (n k : ℕ) → k < n → item_from (ScalarDescr BoolScalar) (replicate n (bool_byte holds)) (1 * k) ≡ truth_item holds
 bool_read holds n k low =
     let byte : ℕ = bool_byte holds in
@@ -133,9 +133,9 @@ alike_made holds shape b n filled many =
     let is : b ≡ replicate (count shape) (bool_byte holds) = filled ∙ λ i. replicate (many i) (bool_byte holds) in
     ((λ i. map (item_from (ScalarDescr BoolScalar) (is i)) (multiples 1 (count shape))) ∙ alike_read holds (count shape), is ∙ alike_encoded holds (count shape))
 
--- ---- integers that are values
+-- ---- integers that are values of the scalar
 
--- an array of one item is stretched to any shape
+-- an array of one item can be stretched to any shape
 ones-stretch : (k : ℕ) (shape : List ℕ) → k ≡ length shape → all_stretch (replicate k 1 ++ []) shape ≡ true
 ones-stretch zero [] is = refl
 ones-stretch zero (n ∷ shape) is = absurd (omega (arith, is))
@@ -178,7 +178,7 @@ one_read s o shape b point descr order block whole =
 
 -- ---- results
 
--- numbers alone are compared
+-- operands that are not numbers are refused
 module _ (d : Descr) (shape : List ℕ) where
   pub operand_refused : (e : Refusal) → scalar_of d ≡ Err e → integer_compared_result d shape ≡ Err e
   unfolding integer_compared_result

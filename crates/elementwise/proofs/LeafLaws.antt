@@ -14,7 +14,7 @@ cast_number (Byte signed) value is = refl
 cast_number (Int signed width order) value is = refl
 cast_number (Bytes n) value never = absurd never
 
--- ---- a sign makes no difference to the bytes
+-- ---- the sign makes no difference to the bytes
 
 abbrev read_as : Scalar → List ℕ → ℤ
 read_as from item = number_of (decode from item)
@@ -25,7 +25,7 @@ byte_alike from signed item = encode_wrap false Little 1 (read_as from item) ∙
 pub int_alike : (from : Scalar) (signed : Bool) (width : Width) (order : Order) (item : List ℕ) → leaf_cast from (Int false width order) item ≡ leaf_cast from (Int signed width order) item
 int_alike from signed width order item = encode_wrap false order (width_size width) (read_as from item) ∙ sym (encode_wrap signed order (width_size width) (read_as from item))
 
--- ---- read again
+-- ---- values that are read back
 
 pub length-leaf_cast : (from to : Scalar) (item : List ℕ) → length (leaf_cast from to item) ≡ size to
 length-leaf_cast from to item = length-encode to (cast_value to (decode from item))

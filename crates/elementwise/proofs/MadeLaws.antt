@@ -1,11 +1,11 @@
--- Arrays that are made, as the results of calls tell them.
+-- New arrays, as the contracts of calls describe them.
 use Rattle.std.proofs.Common.{◌≡◌, ℕ, Result, Ok, Err, List, map, IfOk, sym, ap, subst, ◌∙◌}
 use Rattle.std.specs.List.{flat_map}
 use Rattle.std.specs.declared.alloc.AllocError.{AllocError}
 use Rattle.elementwise.specs.Words.{Refusal, Descr, LeafValue, item_size, encode_item, item_from, C, count, offsets, multiples, offsets_in, owned_items, Owned}
 use Rattle.elementwise.specs.inside.Made.{IsMade}
 
--- an array over a block of items
+-- an array with a block of items
 pub over-made : (t d : Descr) (shape : List ℕ) (values : List (List LeafValue)) (result : Result Owned AllocError) (block : List ℕ) → t ≡ d →
     IfOk result (λ o. o.descr ≡ t) → IfOk result (λ o. o.layout.shape ≡ shape) → IfOk result (λ o. offsets o.layout ≡ multiples (item_size t) (count shape)) → IfOk result (λ o. o.block ≡ block) →
     map (item_from d block) (multiples (item_size d) (count shape)) ≡ values → block ≡ flat_map (encode_item d) values → IfOk result (IsMade d shape values)
@@ -20,14 +20,14 @@ over-made t d shape values (Ok o) block same descr shape-is order is read wrote 
     }
 over-made t d shape values (Err e) block same descr shape-is order is read wrote = tt
 
--- made items are those of any list equal to theirs
+-- the items may be given by any equal list
 pub made-as : (d : Descr) (shape : List ℕ) (xs ys : List (List LeafValue)) (result : Result Owned AllocError) → xs ≡ ys → IfOk result (IsMade d shape xs) → IfOk result (IsMade d shape ys)
 made-as d shape xs ys result same made = subst (λ values. IfOk result (IsMade d shape values)) same made
 
 pub made-in : (d : Descr) (shape shape' : List ℕ) (xs ys : List (List LeafValue)) (result : Result Owned AllocError) → shape ≡ shape' → xs ≡ ys → IfOk result (IsMade d shape xs) → IfOk result (IsMade d shape' ys)
 made-in d shape shape' xs ys result there same made = subst (λ s. IfOk result (IsMade d s ys)) there (made-as d shape xs ys result same made)
 
--- what is told of an array
+-- what is known of a new array
 module _ (d : Descr) (shape : List ℕ) (values : List (List LeafValue)) (o : Owned) (made : IsMade d shape values o) where
   pub made-gives : (there : Result (Descr × List ℕ) Refusal) → there ≡ Ok (d, shape) → there ≡ Ok (o.descr, o.layout.shape)
   made-gives there is = is ∙ λ i. Ok (sym made.descr_is i, sym made.shape_is i)

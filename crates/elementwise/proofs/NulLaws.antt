@@ -1,4 +1,4 @@
--- Byte strings with NULs behind them, cut and filled up again.
+-- Byte strings that are cut, and padded with NULs.
 use Rattle.std.proofs.Common.{◌≡◌, ◌+◌, ◌-◌, ◌*◌, ◌<◌, ◌≤◌, inl, inr, ℕ, zero, suc, pos, List, ◌++◌, length, take, drop, min, replicate, subst, sym, ap, ◌∙◌, arith, append_assoc, length-take, length-append}
 use Rattle.std.proofs.lemmas.Bool.{cases_lt}
 use Rattle.std.proofs.Math.Seq.{take-append_seam}
@@ -7,7 +7,7 @@ use Rattle.std.proofs.lemmas.Int.{ints}
 use Rattle.std.proofs.lemmas.List.{append-nil, length-replicate, take_all, take-take, take-append-le, replicate-append-replicate}
 use Rattle.elementwise.specs.Words.{without_nuls, padded, without_nuls-back, without_nuls-more, without_nuls-twice, length-without_nuls, nuls, place, joined, EachWithin, length-item_at, length-joined, joined-same, joined_run, item_in, Side}
 
--- ---- filled up
+-- ---- padding
 
 padded-cut : (n k : ℕ) (bytes : List ℕ) → n ≤ length bytes → padded n (bytes ++ replicate k 0) ≡ padded n bytes
 padded-cut n k bytes le =
@@ -48,7 +48,7 @@ padded-more n k bytes = elim (cases_lt n (length bytes)) [
   | inr above ↦ elim (cases_lt n (length bytes + k)) [ inl within ↦ padded-within n k bytes above (omega arith) | inr over ↦ padded-short n k bytes over ]
 ]
 
--- as the bytes without their NULs
+-- padding does not depend on the NULs at the end
 padded-without : (n : ℕ) (bytes : List ℕ) → padded n (without_nuls bytes) ≡ padded n bytes
 padded-without n bytes = sym (padded-more n (nuls bytes) (without_nuls bytes)) ∙ ap (padded n) (without_nuls-back bytes)
 
@@ -61,25 +61,25 @@ padded-take n bytes =
 pub text_encoded : (n : ℕ) (bytes : List ℕ) → padded n bytes ≡ padded n (without_nuls (take n (without_nuls bytes)))
 text_encoded n bytes = sym (padded-without n (take n (without_nuls bytes)) ∙ padded-take n (without_nuls bytes) ∙ padded-without n bytes)
 
--- as they are pushed: what is kept of them, and NULs
+-- as they are appended: the bytes that are kept, then NULs
 pub text_pushed : (n kept : ℕ) (bytes : List ℕ) → kept ≡ min (length bytes) n → take kept bytes ++ replicate (n - kept) 0 ≡ padded n (without_nuls (take n (without_nuls bytes)))
 text_pushed n kept bytes is = elim (cases_lt n (length bytes)) [
   | inl below ↦ (λ i. take (let same : kept ≡ n = omega (arith, is, below) in same i) bytes ++ replicate (let rest : n - kept ≡ n - length bytes = omega (arith, is, below) in rest i) 0) ∙ text_encoded n bytes
   | inr above ↦ let same : kept ≡ length bytes = omega (arith, is, above) in (λ i. (take_all kept bytes (omega (arith, same)) ∙ sym (take_all n bytes above)) i ++ replicate (n - same i) 0) ∙ text_encoded n bytes
 ]
 
--- and what they are read as
+-- the byte string that they are read back as
 pub text_read_back : (n : ℕ) (bytes : List ℕ) → length bytes ≤ n → without_nuls (padded n (without_nuls bytes)) ≡ without_nuls bytes
 text_read_back n bytes le =
     ap without_nuls (ap (λ all. all ++ replicate (n - length (without_nuls bytes)) 0) (take_all n (without_nuls bytes) (omega (arith, length-without_nuls bytes))))
     ∙ without_nuls-more (without_nuls bytes) (n - length (without_nuls bytes))
     ∙ without_nuls-twice bytes
 
--- a byte string that is not longer stays
+-- a byte string that is not longer is unchanged
 pub text_stays : (n : ℕ) (bytes : List ℕ) → length bytes ≤ n → without_nuls (take n (without_nuls bytes)) ≡ without_nuls bytes
 text_stays n bytes le = ap without_nuls (take_all n (without_nuls bytes) (omega (arith, length-without_nuls bytes))) ∙ without_nuls-twice bytes
 
--- ---- byte strings that are as long as they are cut
+-- ---- byte strings that already have the length they are cut to
 
 cut-whole : (n : ℕ) (bytes : List ℕ) → length bytes ≡ n → bytes ≡ padded n (without_nuls (take n (without_nuls bytes)))
 cut-whole n bytes long =
@@ -101,7 +101,7 @@ pub all-whole : (side : Side) (n : ℕ) → side.width ≡ n → joined (item_in
 all-whole side n wide =
     joined-same (item_in side) (λ k. padded n (without_nuls (take n (without_nuls (item_in side k))))) side.run.count (λ k low. cut-whole n (item_in side k) (item-long side k low ∙ wide))
 
--- items one right after another end within the bytes
+-- adjacent items end within the bytes
 pub adjacent-within : (side : Side) → 0 < side.run.count → side.run.step ≡ pos side.width → side.run.offset + side.run.count * side.width ≤ length side.bytes.now
 adjacent-within side some is = ends side.run.count some (subst (λ step. EachWithin (length side.bytes.now) side.run.offset step side.width side.run.count) is side.within)
   where

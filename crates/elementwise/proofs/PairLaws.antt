@@ -1,4 +1,4 @@
--- Pairs of items of two lists, and what is made of them one after another.
+-- Pairs of items of two lists, and the results on them, one after another.
 use Rattle.std.proofs.Common.{◌≡◌, ◌<◌, ℕ, zero, suc, ℤ, List, [], ◌∷◌, ◌++◌, map, length, get_or, refl, sym, ap, ◌∙◌, arith, append_assoc}
 use Rattle.std.specs.List.{concat, flat_map}
 use Rattle.std.proofs.lemmas.List.{append-nil}
@@ -34,17 +34,17 @@ get_or-pairwise f (x ∷ xs) [] k d e below even = absurd (omega (arith, even))
 get_or-pairwise f (x ∷ xs) (y ∷ ys) zero d e below even = refl
 get_or-pairwise f (x ∷ xs) (y ∷ ys) (suc k) d e below even = get_or-pairwise f xs ys k d e (omega arith) (omega (arith, even))
 
--- ---- items that are joined by their index
+-- ---- concatenation of items that are given by their index
 
 concat-more : (xss : List (List ℕ)) (xs : List ℕ) → concat (xss ++ xs ∷ []) ≡ concat xss ++ xs
 concat-more [] xs = append-nil xs
 concat-more (ys ∷ xss) xs = ap (λ rest. ys ++ rest) (concat-more xss xs) ∙ sym (append_assoc ys (concat xss) xs)
 
--- so many items at equal steps
+-- `n` items at equal steps
 abbrev run_of : ℕ → ℤ → ℕ → Run
 run_of at step n = record { offset = at; count = n; step = step }
 
--- those that are made of two runs are those of the pairs of their offsets
+-- the results on two runs are those on the pairs of their offsets
 pub joined_pairs : (make : ℕ → ℕ → List ℕ) (len len' at at' width width' n : ℕ) (step step' : ℤ) → EachWithin len at step width n → EachWithin len' at' step' width' n →
     joined (λ k. make (place at step k) (place at' step' k)) n ≡ concat (pairwise make (run_offsets (run_of at step n)) (run_offsets (run_of at' step' n)))
 joined_pairs make len len' at at' width width' zero step step' first second = refl
@@ -61,7 +61,7 @@ joined_pairs make len len' at at' width width' (suc n) step step' first second =
 
 -- ---- pairs of runs
 
--- the offsets of all first items, and of all second ones
+-- the offsets of all first items, and of all second items
 abbrev pub firsts : List RunPair → List ℕ
 firsts pairs = flat_map (λ pair. run_offsets pair.first) pairs
 

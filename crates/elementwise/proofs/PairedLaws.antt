@@ -1,4 +1,4 @@
--- What is made of the items of two layouts, item by item.
+-- The results on the items of two layouts, item by item.
 use Rattle.std.proofs.Common.{◌≡◌, ◌*◌, ℕ, Result, IfOk, List, [], ◌∷◌, ◌++◌, map, length, drop, refl, sym, ap, ◌∙◌, arith}
 use Rattle.std.specs.List.{concat, flat_map, AllByRecursion as Each}
 use Rattle.std.specs.declared.alloc.AllocError.{AllocError}
@@ -19,7 +19,7 @@ use Rattle.elementwise.proofs.AppendedLaws.{rows-read}
 use Rattle.elementwise.proofs.TurnedLaws.{length-concat}
 use Rattle.elementwise.proofs.PairLaws.{length-pairwise, map-pairwise, pairwise-map}
 
--- the item of a scalar is its value
+-- an item of a scalar is its value
 pub scalar-item : (scalar : Scalar) (bytes : List ℕ) (o : ℕ) → item_from (ScalarDescr scalar) bytes o ≡ decode scalar (item_at o (size scalar) bytes) ∷ []
 scalar-item scalar bytes o = ap (λ b. decode scalar b ∷ []) (take-take (size scalar) (size scalar) (drop o bytes) (omega arith))
 
@@ -28,7 +28,7 @@ each-wide left right to gives w w' a b [] ys = tt
 each-wide left right to gives w w' a b (x ∷ xs) [] = tt
 each-wide left right to gives w w' a b (x ∷ xs) (y ∷ ys) = (length-encode to (gives (decode left (item_at x w a)) (decode right (item_at y w' b))), each-wide left right to gives w w' a b xs ys)
 
--- their bytes are the items as they are encoded
+-- the bytes of the results are the encoded items
 pairs-encoded : (left right to : Scalar) (gives : LeafValue → LeafValue → LeafValue) (a b xs ys : List ℕ) →
     concat (pairwise (pair_from (value_pair left right to gives) (size left) (size right) a b) xs ys) ≡ flat_map (encode_item (ScalarDescr to)) (pairwise (λ x y. gives (value_in x) (value_in y) ∷ []) (map (item_from (ScalarDescr left) a) xs) (map (item_from (ScalarDescr right) b) ys))
 pairs-encoded left right to gives a b [] ys = refl
@@ -39,7 +39,7 @@ pairs-encoded left right to gives a b (x ∷ xs) (y ∷ ys) =
     ∙ λ i. encode_item (ScalarDescr to) (gives (value_in (sym (scalar-item left a x) i)) (value_in (sym (scalar-item right b y) i)) ∷ []) in
     λ i. here i ++ pairs-encoded left right to gives a b xs ys i
 
--- how long that is, and the items that are read there
+-- the length of the bytes, and the items that are read from them
 all_appended : (left right to : Scalar) (gives : LeafValue → LeafValue → LeafValue) (a b xs ys bytes : List ℕ) (n : ℕ) → length xs ≡ n → length ys ≡ n →
     ((x y : LeafValue) → decode to (encode to (gives x y)) ≡ gives x y) →
     bytes ≡ concat (pairwise (pair_from (value_pair left right to gives) (size left) (size right) a b) xs ys) →
@@ -67,7 +67,7 @@ all_appended left right to gives a b xs ys bytes n many many' back wrote =
       wrote ∙ pairs-encoded left right to gives a b xs ys,
     )
 
--- ---- arrays of what is made of pairs
+-- ---- arrays of the results on pairs
 
 module _ (p : Pairing) (o : Operands) (can : CanPair p) (is : o.left.descr.now ≡ ScalarDescr (left_of p)) (is' : o.right.descr.now ≡ ScalarDescr (right_of p)) where
   pub all_paired : (block : List ℕ) → block ≡ made_of_all (pair_made p) o →

@@ -1,4 +1,4 @@
--- What is promoted, and what results there are.
+-- Promoted types and results.
 use Rattle.std.proofs.Common.{◌≡◌, ◌*◌, ℕ, max, nat_le, Bool, true, false, cond, Result, Ok, Err, List, [], ◌∷◌, refl, sym, subst, ◌∙◌, arith}
 use Rattle.std.specs.Prelude.{not, ◌&&◌, ◌||◌, ◌==◌}
 use Rattle.std.proofs.lemmas.Bool.{false≢true, not-true}
@@ -28,7 +28,7 @@ little-native (Byte signed) is = tt
 little-native (Int signed width order) is = refl
 little-native (Bytes n) is = absurd (false≢true (sym is))
 
--- an answer is native
+-- the type, if there is one, is native
 abbrev pub AnswersNative : Result Scalar Refusal → Type 0
 AnswersNative (Ok s) = IsNative s
 AnswersNative (Err e) = Unit {0}
@@ -55,13 +55,13 @@ native-little (Byte signed) native = refl
 native-little (Int signed width order) native = λ i. Int signed width (sym native i)
 native-little (Bytes n) never = absurd never
 
--- ---- what was checked
+-- ---- the checks that passed
 
 neither : (a b : Bool) → (a || b) ≡ false → (a ≡ false) × (b ≡ false)
 neither false b is = (refl, is)
 neither true b is = absurd (false≢true (sym is))
 
--- a promoted type
+-- what is known of a promoted type
 pub record IsPromoted (op : BinOp) (l r s : Scalar) : Type 0 where
   pub native : IsNative s
   pub no_division : is_division op ≡ false
@@ -85,7 +85,7 @@ promoted op l r s found =
       right = both.1;
     }
 
--- a number is cast to a scalar of numbers
+-- a number can be cast to any scalar of numbers
 can_number : (from to : Scalar) → is_text from ≡ false → IsNumber to → can_cast (ScalarDescr from) (ScalarDescr to) ≡ true
 can_number (Bytes n) to is number = absurd (false≢true (sym is))
 can_number from (Bytes n) is never = absurd never
@@ -99,7 +99,7 @@ can_number (Int sign w o) BoolScalar is number = refl
 can_number (Int sign w o) (Byte signed) is number = refl
 can_number (Int sign w o) (Int signed width order) is number = refl
 
--- a scalar that is the same but for its byte order
+-- a scalar that differs only in its byte order
 pub number-read : (read s : Scalar) → little read ≡ s → IsNative s → IsNumber read
 number-read BoolScalar s same native = tt
 number-read (Byte signed) s same native = tt
@@ -132,7 +132,7 @@ module _ (op : BinOp) (l : Descr) (shape : List ℕ) (r : Descr) (other : List �
   unfolding binary_result
   all_given a b s c is is' there common = rw (is, is', there, common) refl
 
--- ---- of one operand
+-- ---- for one operand
 
 serves-number : (op : UnOp) (s : Scalar) → serves_one op s ≡ true → is_text s ≡ false
 serves-number op s is = grind (arith, is)

@@ -1,4 +1,4 @@
--- The types of results, as NumPy 2 promotes them.
+-- Test vectors: the types of results, as NumPy 2 promotes them.
 use Rattle.std.specs.Prelude.{◌≡◌, true, false, List, [], ◌∷◌, map, Result, Ok, Err, refl}
 use Rattle.elementwise.specs.Words.{Refusal, NotForThisKind, NeedsFloats, NotSameKind, Little, Big, Two, Four, Eight, Scalar, Byte, Int, Bytes, BinOp, Add, Subtract, Multiply, FloorDivide, Modulo, And, Or, Xor, ShiftLeft, ShiftRight, Divide, Negate, Invert}
 use Rattle.elem_descr.specs.declared.scalar.Scalar.TheVariants.{Bool as BoolScalar}
@@ -40,7 +40,7 @@ types = b1 ∷ i1 ∷ u1 ∷ i2 ∷ u2 ∷ i4 ∷ u4 ∷ i8 ∷ u8 ∷ []
 abbrev row : BinOp → Scalar → List (Result Scalar Refusal)
 row op left = map (λ right. promote op left right) types
 
--- np.promote_types of every pair, where it is not a float
+-- np.promote_types of every pair, unless it is a float
 
 b1_row : row Multiply b1 ≡ Ok b1 ∷ Ok i1 ∷ Ok u1 ∷ Ok i2 ∷ Ok u2 ∷ Ok i4 ∷ Ok u4 ∷ Ok i8 ∷ Ok u8 ∷ []
 unfolding promote
@@ -78,7 +78,7 @@ u8_row : row Multiply u8 ≡ Ok u8 ∷ Err NeedsFloats ∷ Ok u8 ∷ Err NeedsFl
 unfolding promote
 u8_row = refl
 
--- of two bools
+-- for two bools
 
 abbrev words : List BinOp
 words = Add ∷ Subtract ∷ Multiply ∷ FloorDivide ∷ Modulo ∷ And ∷ Or ∷ Xor ∷ ShiftLeft ∷ ShiftRight ∷ Divide ∷ []
@@ -87,17 +87,17 @@ of_bools : map (λ op. promote op b1 b1) words ≡ Ok b1 ∷ Err NotForThisKind 
 unfolding promote
 of_bools = refl
 
--- of integers
+-- for integers
 of_integers : map (λ op. promote op i4 u1) words ≡ Ok i4 ∷ Ok i4 ∷ Ok i4 ∷ Ok i4 ∷ Ok i4 ∷ Ok i4 ∷ Ok i4 ∷ Ok i4 ∷ Ok i4 ∷ Ok i4 ∷ Err NeedsFloats ∷ []
 unfolding promote
 of_integers = refl
 
--- a bool and an integer
+-- for a bool and an integer
 mixed_with_bool : map (λ op. promote op b1 i2) words ≡ Ok i2 ∷ Ok i2 ∷ Ok i2 ∷ Ok i2 ∷ Ok i2 ∷ Ok i2 ∷ Ok i2 ∷ Ok i2 ∷ Ok i2 ∷ Ok i2 ∷ Err NeedsFloats ∷ []
 unfolding promote
 mixed_with_bool = refl
 
--- byte strings are no operands, whatever the word
+-- byte strings cannot be operands of any operation
 of_texts : map (λ op. promote op s3 s3) words ≡ Err NotForThisKind ∷ Err NotForThisKind ∷ Err NotForThisKind ∷ Err NotForThisKind ∷ Err NotForThisKind ∷ Err NotForThisKind ∷ Err NotForThisKind ∷ Err NotForThisKind ∷ Err NotForThisKind ∷ Err NotForThisKind ∷ Err NotForThisKind ∷ []
 unfolding promote
 of_texts = refl
@@ -119,7 +119,7 @@ big_and_bool : promote Add (Int false Two Big) b1 ≡ Ok u2
 unfolding promote
 big_and_bool = refl
 
--- beside an integer literal: np.array([1], 'u1') + 1 is u1, np.array([True]) + 1 is i8
+-- with an integer literal: np.array([1], 'u1') + 1 is u1, np.array([True]) + 1 is i8
 literals : map literal_type types ≡ i8 ∷ i1 ∷ u1 ∷ i2 ∷ u2 ∷ i4 ∷ u4 ∷ i8 ∷ u8 ∷ []
 literals = refl
 
@@ -136,7 +136,7 @@ no_text : promote_one Invert s3 ≡ Err NotForThisKind
 unfolding promote_one
 no_text = refl
 
--- comparisons: of all numbers, and of byte strings
+-- comparisons: numbers with all numbers, and byte strings with byte strings
 compared_with_u8 : map (compared_type u8) types ≡ map (λ _. Ok b1) types
 unfolding compared_type
 compared_with_u8 = refl
@@ -153,7 +153,7 @@ number_with_text : compared_type b1 s3 ≡ Err NotForThisKind
 unfolding compared_type
 number_with_text = refl
 
--- np.can_cast(a, b, 'same_kind'), but that an integer never goes to one without sign from one with it, and a bool holds none
+-- np.can_cast(a, b, 'same_kind') for numbers: signed integers cannot be written to unsigned ones, nor integers to bools
 
 abbrev kinds : Scalar → List (Result (Unit {0}) Refusal)
 kinds from = map (same_kind from) types

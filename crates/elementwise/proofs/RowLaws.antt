@@ -1,4 +1,4 @@
--- Items that are put at equal steps: they are read where they were put, and what lies apart from them is as before.
+-- Items that are written at equal steps: they are read back, and the other bytes do not change.
 use Rattle.std.proofs.Common.{◌≡◌, ◌+◌, ◌-◌, ◌*◌, ◌<◌, ◌≤◌, ◌⊎◌, inl, inr, ℕ, suc, pos, List, [], ◌∷◌, map, length, get_or, All, refl, sym, ap, subst, ◌∙◌, arith, suc-mul, mul-le-mul_right}
 use Rattle.std.proofs.lemmas.Bool.{cases_lt}
 use Rattle.std.proofs.lemmas.List.Elements.{All-rest, All-head, All-from_get_or}
@@ -13,13 +13,13 @@ row-within len at item width n fits ends = record {
       (omega (arith, ints), omega (arith, ints, most, suc-mul k item));
 }
 
--- where the k-th item begins
+-- the offset of the `k`-th item
 pub row-entry : (at item n k : ℕ) → k < n → get_or (row_offsets at item n) k 0 ≡ at + k * item
 row-entry at item n k low =
     let row : Run = record { offset = at; count = n; step = pos item } in
     place-at (at + n * item) 0 row k (row-within (at + n * item) at item 0 n (omega arith) (omega arith)) low
 
--- two ranges of bytes that lie apart
+-- two ranges of bytes do not overlap
 abbrev pub AreBeside : ℕ → ℕ → ℕ → ℕ → Type 0
 AreBeside place wide at width = (place + wide ≤ at) ⊎ (at + width ≤ place)
 
@@ -36,7 +36,7 @@ module _ (width : ℕ) where
   read-back : (at : ℕ) (item bytes : List ℕ) → IsIn bytes at → IsWide item → item_at at width (put at item bytes) ≡ item
   read-back at item bytes in_bytes long = ap (λ n. item_at at n (put at item bytes)) (sym long) ∙ item_at-put_same at item bytes (omega (arith, long, in_bytes))
 
-  -- bytes as long hold the items that are left
+  -- the remaining items still fit, since the length does not change
   still-in : (at : ℕ) (ats item bytes : List ℕ) → All (IsIn bytes) (at ∷ ats) → IsWide item → All (IsIn (put at item bytes)) ats
   still-in at ats item bytes in_bytes long = subst (λ n. All (λ o. o + width ≤ n) ats) (sym (put-length at item bytes (All-head (IsIn bytes) at ats in_bytes) long)) (All-rest (IsIn bytes) at ats (at ∷ ats) refl in_bytes)
 
@@ -50,7 +50,7 @@ module _ (width : ℕ) where
       kept place wide ats items (put at item bytes) (omega (arith, there, put-length at item bytes here first)) (still-in at ats item bytes in_bytes first) (All-rest IsWide item items (item ∷ items) refl long) (All-rest (λ o. AreBeside place wide o width) at ats (at ∷ ats) refl beside)
       ∙ item_at-put_apart at item bytes place wide (omega (arith, first, here)) there sides
 
-  -- no two of them meet
+  -- no two items overlap
   abbrev pub LieBeside : List ℕ → Type 0
   LieBeside ats = (j k : ℕ) → j < k → k < length ats → AreBeside (get_or ats j 0) width (get_or ats k 0) width
 
@@ -80,7 +80,7 @@ module _ (item n len : ℕ) (room : n * item ≤ len) where
       let low : k < n = omega (arith, inside, length-row at item n) in
       subst (λ o. o + width ≤ len) (sym (row-entry at item n k low)) (row-in at width fits k low))
 
-  -- parts of items that lie apart in an item
+  -- two parts of an item that do not overlap, in all rows
   pub rows-beside : (at width at' width' : ℕ) → at + width ≤ item → at' + width' ≤ item → AreBeside at width at' width' → (j k : ℕ) → AreBeside (at + j * item) width (at' + k * item) width'
   rows-beside at width at' width' fits fits' beside j k = elim (cases_lt j k) [
     | inl before ↦ let most : suc j * item ≤ k * item = mul-le-mul_right item before in inl (omega (arith, most, fits, suc-mul j item))
@@ -93,7 +93,7 @@ module _ (item n len : ℕ) (room : n * item ≤ len) where
     ]
   ]
 
-  -- one after another
+  -- the same part of two rows
   pub rows-lie : (at width : ℕ) → at + width ≤ item → LieBeside width (row_offsets at item n)
   rows-lie at width fits j k before inside =
       let low : k < n = omega (arith, inside, length-row at item n) in

@@ -1,4 +1,4 @@
--- What is made of arrays whose items repeat: the result of the items that differ, stretched.
+-- Arrays whose items repeat: the result on the different items is stretched.
 use Rattle.std.proofs.Common.{◌≡◌, ◌<◌, ℕ, pos, true, List, [], ◌∷◌, map, take, drop, length, get_or, All, sym, ap, subst, ◌∙◌, arith}
 use Rattle.std.proofs.lemmas.List.{length-map, get_or-map}
 use Rattle.std.proofs.lemmas.List.Elements.{All-map}
@@ -14,7 +14,7 @@ use Rattle.elementwise.proofs.PairLaws.{pairwise-map, get_or-pairwise}
 use Rattle.elementwise.proofs.StretchedLaws.{inside}
 use Rattle.elementwise.proofs.AppliedLaws.{pairwise-same}
 
--- ---- items of one shape as another one shows them
+-- ---- items of one shape, stretched to another
 
 abbrev through : List ℕ → List ℕ → List (List LeafValue) → List (List LeafValue)
 through once shape items = map (λ index. get_or items (rank once (broadcast_index once index)) []) (indexes shape)
@@ -40,14 +40,14 @@ module _ (once shape : List ℕ) (can : can_stretch once shape ≡ true) where
 
 -- ---- operands
 
--- what an operand shows, stretched to the whole shape
+-- the items of an operand, stretched to the whole shape
 whole : (d : Descr) (block : List ℕ) (l small : Layout) (once shape : List ℕ) → IsShrunk small l once shape → stretched_items d block l shape ≡ through once shape (map (item_from d block) (offsets small))
 whole d block l small once shape is =
     ap (map (item_from d block)) (sym is.places)
     ∙ (λ i. map (item_from d block) (view_through (offsets small) (is.shape_is i) shape (broadcast_index (is.shape_is i))))
     ∙ seen once shape is.can (item_from d block) (offsets small) (length-offsets small ∙ ap count is.shape_is)
 
--- and to its own
+-- and in its own shape
 own : (d : Descr) (block : List ℕ) (small : Layout) (once : List ℕ) → small.shape ≡ once → stretched_items d block small once ≡ map (item_from d block) (offsets small)
 own d block small once is = (λ i. map (item_from d block) (view_through (offsets small) small.shape (sym is i) (broadcast_index small.shape))) ∙ ap (map (item_from d block)) (stretched-self small)
 
@@ -56,13 +56,13 @@ length-items d block small once is = length-map (offsets small) (item_from d blo
 
 -- ---- results
 
--- what a result shows, stretched to the whole shape
+-- the items of a result, stretched to the whole shape
 result-whole : (made : Owned) (once shape : List ℕ) → can_stretch once shape ≡ true → made.layout.shape ≡ once → stretched_items made.descr made.block made.layout shape ≡ through once shape (map (item_from made.descr made.block) (offsets made.layout))
 result-whole made once shape can is =
     (λ i. map (item_from made.descr made.block) (view_through (offsets made.layout) (is i) shape (broadcast_index (is i))))
     ∙ seen once shape can (item_from made.descr made.block) (offsets made.layout) (length-offsets made.layout ∙ ap count is)
 
--- of pairs of items
+-- the results on pairs of items
 pub pairs_spread : (f : List LeafValue → List LeafValue → List LeafValue) (b d d' : Descr) (block block' : List ℕ) (l l' small small' : Layout) (once shape : List ℕ) (made : Owned) → IsShrunk small l once shape → IsShrunk small' l' once shape →
     IsMade b once (pairwise f (stretched_items d block small once) (stretched_items d' block' small' once)) made → stretched_items made.descr made.block made.layout shape ≡ pairwise f (stretched_items d block l shape) (stretched_items d' block' l' shape)
 pairs_spread f b d d' block block' l l' small small' once shape made is is' there =
@@ -75,7 +75,7 @@ pairs_spread f b d d' block block' l l' small small' once shape made is is' ther
     ∙ seen-pairs once shape is.can f xs ys (length-items d block small once is.shape_is) (length-items d' block' small' once is'.shape_is)
     ∙ λ i. pairwise f (sym (whole d block l small once shape is) i) (sym (whole d' block' l' small' once shape is') i)
 
--- of single items
+-- the results on single items
 pub each_spread : (f : List LeafValue → List LeafValue) (b d : Descr) (block : List ℕ) (l small : Layout) (once : List ℕ) (made : Owned) → IsShrunk small l once l.shape →
     IsMade b small.shape (map (λ offset. f (item_from d block offset)) (offsets small)) made → stretched_items made.descr made.block made.layout l.shape ≡ map (λ offset. f (item_from d block offset)) (offsets l)
 each_spread f b d block l small once made is there =
@@ -92,9 +92,9 @@ bools_again d block os is =
     ∙ (λ i. map (λ o. number (pos (truth-twice (number_in Little 1 (take 1 (take 1 (drop o block)))) i)) ∷ []) os)
     ∙ λ i. map (item_from (sym is i) block) os
 
--- ---- what holds of each item
+-- ---- properties of each item
 
--- of those that are shown, too
+-- what holds for all items also holds for those that a stretched array shows
 pub all_through : (P : ℕ → Type 0) (os once shape : List ℕ) → can_stretch once shape ≡ true → length os ≡ count once → All P os → All P (view_through os once shape (broadcast_index once))
 all_through P os once shape can many all =
     All-map P (λ index. get_or os (rank once (broadcast_index once index)) 0) (indexes shape) (λ k d below.
@@ -107,7 +107,7 @@ pub all_seen : (P : ℕ → Type 0) (l small : Layout) (once : List ℕ) → IsS
 all_seen P l small once is all =
     subst (All P) (is.places ∙ stretched-self l) (all_through P (offsets small) small.shape l.shape ((λ i. can_stretch (is.shape_is i) l.shape) ∙ is.can) (length-offsets small) all)
 
--- ---- what `without_repeats` has to give
+-- ---- what `without_repeats` must return
 
 pub is_shrunk : (l wide small : Layout) (once shape : List ℕ) → IsViewOf l wide (stretched_view l shape) → small.shape ≡ once → IsStretchOf small wide → IsShrunk small l once shape
 is_shrunk l wide small once shape seen once-is is = record {

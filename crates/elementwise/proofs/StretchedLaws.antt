@@ -1,4 +1,4 @@
--- Layouts that are stretched to a shape to which they can be.
+-- Layouts that are stretched to a shape.
 use Rattle.std.proofs.Common.{◌≡◌, ◌+◌, ◌≤◌, ℕ, List, All, sym, ◌∙◌}
 use Rattle.elementwise.specs.Words.{Layout, offsets, offsets_within, fits-offsets, View, view_through, IsViewOf, broadcast_index, stretched-self}
 use Rattle.elementwise.specs.inside.Shrunk.{IsStretched, stretched_view}
@@ -9,7 +9,7 @@ inside {old} {new} len width is ends = offsets_within new len width (is.fits len
 pub is_stretched : (old new : Layout) (shape : List ℕ) → IsViewOf old new (stretched_view old shape) → IsStretched new old shape
 is_stretched old new shape is = record { shape_is = is.shape; places = is.places; inside = λ len width ends. inside len width is ends }
 
--- a layout of that shape stretches to itself
+-- a layout that already has the shape
 pub stretches-itself : (l : Layout) (shape : List ℕ) → l.shape ≡ shape → IsStretched l l shape
 stretches-itself l shape same = record {
   shape_is = same;

@@ -40,7 +40,7 @@ first-decides x y p q k low low' = elim (cases_lt x y) as (λ _. nat_lt (x * k +
   ]
 ]
 
--- byte strings of one length are in the order of the numbers whose highest byte is the first
+-- byte strings of the same length are ordered like the big-endian numbers of their bytes
 pub words-below : (n : ℕ) (xs ys : List ℕ) → length xs ≡ n → length ys ≡ n → AreBytes xs → AreBytes ys → nat_lt (big_number n xs) (big_number n ys) ≡ text_below xs ys
 words-below zero [] [] long long' are are' = refl
 words-below zero [] (y ∷ ys) long long' are are' = absurd (omega (arith, long'))
@@ -57,7 +57,7 @@ words-below (suc n) (x ∷ xs) (y ∷ ys) long long' are are' =
     ∙ first-decides x y p q k (big_from-lt 0 n xs (λ j. are (suc j))) (big_from-lt 0 n ys (λ j. are' (suc j)))
     ∙ λ i. nat_lt x y || (x == y && words-below n xs ys (omega (arith, long)) (omega (arith, long')) (λ j. are (suc j)) (λ j. are' (suc j)) i)
 
--- ---- what is said
+-- ---- the result of a comparison
 
 one-byte : (xs : List ℕ) → little_number 1 xs ≡ big_number 1 xs
 one-byte xs = omega arith

@@ -22,7 +22,7 @@ numbers (suc n) i xs ys low low' same k from below =
       | inr here ↦ let at : k ≡ i = omega arith in (λ j. get_or xs (at j) 0) ∙ both.0 ∙ λ j. get_or ys (sym at j) 0
     ]
 
--- words of one number are the same bytes
+-- words that are the same number have the same bytes
 word-same : (xs ys : List ℕ) → length xs ≡ 8 → length ys ≡ 8 → ((k : ℕ) → get_or xs k 0 < 256) → ((k : ℕ) → get_or ys k 0 < 256) → little_number 8 xs ≡ little_number 8 ys → xs ≡ ys
 word-same xs ys eight eight' low low' same =
     same_lists xs ys (eight ∙ sym eight') (λ k d below. get_or_default xs k d 0 below ∙ numbers 8 0 xs ys low low' same k (omega arith) (omega arith) ∙ get_or_default ys k 0 d (omega arith))
@@ -38,7 +38,7 @@ low-part xs at width low k =
       | inr far ↦ subst (λ n. n < 256) (sym (get_or-eq_default (take width (drop at xs)) 0 (omega (arith, length-take width (drop at xs))))) (omega arith)
     ]
 
--- one word more that two byte strings share
+-- one more word that two byte strings share
 pub next-word : (left right : List ℕ) (at width first second : ℕ) → width ≡ 8 → at + 8 ≤ length left → at + 8 ≤ length right → ((k : ℕ) → get_or left k 0 < 256) → ((k : ℕ) → get_or right k 0 < 256) →
     first ≡ little_number 8 (take width (drop at left)) → second ≡ little_number 8 (take width (drop at right)) → first ≡ second → take at left ≡ take at right → take (at + 8) left ≡ take (at + 8) right
 next-word left right at width first second eight within within' low low' is is' same so_far =
@@ -50,7 +50,7 @@ next-word left right at width first second eight within within' low low' is is' 
     ∙ (λ i. take at right ++ take (eight i) (drop at right))
     ∙ sym (take-add at 8 right)
 
--- ---- what they share decides nothing
+-- ---- a shared prefix decides nothing
 
 pub lt-self : (a : ℕ) → nat_lt a a ≡ false
 lt-self a = grind (arith, nat_tests)
@@ -68,7 +68,7 @@ below-rest xs ys k same =
     ∙ (λ i. text_below (sym same i ++ drop k xs) (take k ys ++ drop k ys))
     ∙ λ i. text_below (take-append-drop k xs i) (take-append-drop k ys i)
 
--- as the code cuts them
+-- in the form that the code uses
 pub below-cut : (xs ys : List ℕ) (k : ℕ) → take k xs ≡ take k ys → text_below (take (length xs - k) (drop k xs)) (take (length ys - k) (drop k ys)) ≡ text_below xs ys
 below-cut xs ys k same =
     (λ i. text_below (take_all (length xs - k) (drop k xs) (omega (arith, length-drop k xs)) i) (take_all (length ys - k) (drop k ys) (omega (arith, length-drop k ys)) i)) ∙ below-rest xs ys k same

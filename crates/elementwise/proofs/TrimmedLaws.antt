@@ -1,4 +1,4 @@
--- Byte strings that are cut where NULs end all of them.
+-- Byte strings of an array that are cut: only NULs at the end of all of them are lost.
 use Rattle.std.proofs.Common.{◌≡◌, ◌+◌, ◌-◌, ◌≤◌, ℕ, true, List, [], ◌∷◌, ◌++◌, map, length, take, drop, replicate, All, refl, sym, ap, ◌∙◌, arith, length-append, length-take, length-drop}
 use Rattle.std.proofs.lemmas.List.{take-take, take-replicate, length-replicate}
 use Rattle.std.proofs.lemmas.List.Elements.{All-head, All-tail}
@@ -8,7 +8,7 @@ use Rattle.elem_descr.specs.declared.descr.Descr.TheVariants.{Scalar as ScalarDe
 use Rattle.elementwise.specs.Results.{stretched_items, pairwise}
 use Rattle.elementwise.proofs.ShrunkLaws.{all_through}
 
--- a byte string that is cut behind what counts of it
+-- a byte string that is cut after its last byte that is not NUL
 cut : (bytes : List ℕ) (n : ℕ) → length (without_nuls bytes) ≤ n → n ≤ length bytes → without_nuls (take n bytes) ≡ without_nuls bytes
 cut bytes n most within =
     let kept = without_nuls bytes in
@@ -22,13 +22,13 @@ cut bytes n most within =
     ∙ sym (without_nuls-more kept (nuls bytes))
     ∙ ap without_nuls whole
 
--- one of an array
+-- a byte string of an array
 pub cut_item : (block : List ℕ) (width n offset : ℕ) → n ≤ width → offset + width ≤ length block → length (without_nuls (item_at offset width block)) ≤ n → without_nuls (item_at offset n block) ≡ without_nuls (item_at offset width block)
 cut_item block width n offset less inside most =
     let long : length (item_at offset width block) ≡ width = omega (arith, length-take width (drop offset block), length-drop offset block) in
     ap without_nuls (sym (take-take n width (drop offset block) less)) ∙ cut (item_at offset width block) n most (omega (arith, long))
 
--- all of an array
+-- all byte strings of an array
 pub cut_all : (block : List ℕ) (width n : ℕ) (os : List ℕ) → n ≤ width → All (λ offset. offset + width ≤ length block) os → All (λ offset. length (without_nuls (item_at offset width block)) ≤ n) os →
     All (λ offset. without_nuls (item_at offset n block) ≡ without_nuls (item_at offset width block)) os
 cut_all block width n os less inside most = λ k d below. cut_item block width n _ less (inside k d below) (most k d below)
@@ -48,7 +48,7 @@ same_items block width n (o ∷ os) same =
     let Same = λ (offset : ℕ). without_nuls (item_at offset n block) ≡ without_nuls (item_at offset width block) in
     λ i. same_item block width n o (All-head Same o os same) i ∷ same_items block width n os (All-tail Same o os same) i
 
--- of an array that is stretched
+-- the items of an array that is stretched
 shown_same : (block : List ℕ) (width n : ℕ) (d : Descr) (l : Layout) (shape : List ℕ) → d ≡ ScalarDescr (Bytes width) → can_stretch l.shape shape ≡ true → All (λ offset. without_nuls (item_at offset n block) ≡ without_nuls (item_at offset width block)) (offsets l) →
     stretched_items (ScalarDescr (Bytes n)) block l shape ≡ stretched_items d block l shape
 shown_same block width n d l shape is can same =
@@ -62,11 +62,11 @@ pub trimmed_items : (f : List LeafValue → List LeafValue → List LeafValue) (
 trimmed_items f block block' width n width' n' d d' l l' shape is is' can can' same same' =
     λ i. pairwise f (shown_same block width n d l shape is can same i) (shown_same block' width' n' d' l' shape is' can' same' i)
 
--- what is cut lies where all did
+-- the cut items lie within the block
 pub fewer_inside : (block : List ℕ) (width n : ℕ) (d : Descr) (l : Layout) → d ≡ ScalarDescr (Bytes width) → n ≤ width → All (λ offset. offset + item_size d ≤ length block) (offsets l) → All (λ offset. offset + n ≤ length block) (offsets l)
 fewer_inside block width n d l is less inside = λ k low below. omega (arith, inside k low below, ap item_size is)
 
--- a byte string of an array, as the code has it
+-- a byte string of an array, in the form that the code uses
 item_as : (block : List ℕ) (at width : ℕ) → take (at + width - at) (drop at block) ≡ item_at at width block
 item_as block at width = ap (λ n. take n (drop at block)) (omega arith)
 

@@ -1,4 +1,4 @@
--- What is made of pairs column by column, and read in C order.
+-- Results that are made column by column, and read in C order.
 use Rattle.std.proofs.Common.{◌≡◌, ◌+◌, ◌*◌, ◌<◌, ℕ, zero, suc, List, [], ◌∷◌, ◌++◌, Option, Some, IfSome, length, reverse, get_or, take, drop, sym, ap, subst, ◌∙◌, arith, zero-mul, suc-mul, mul_comm, length-append}
 use Rattle.std.specs.List.{concat, AllByRecursion as Each}
 use Rattle.std.proofs.Math.Seq.{take-append_seam, drop-append-add}
@@ -10,12 +10,12 @@ use Rattle.elementwise.specs.inside.Made.{IsTurned}
 use Rattle.elementwise.specs.Results.{pairwise}
 use Rattle.elementwise.proofs.PairLaws.{length-pairwise, get_or-pairwise}
 
--- layouts in reverse, where there are such
+-- both layouts with their axes reversed, if there are any
 pub both_turned : (found : Option Layouts) (turned : Layouts) (l r : Layout) → found ≡ Some turned → IfSome found (λ t. IsTurned t.first l) → IfSome found (λ t. IsTurned t.second r) → IsTurned turned.first l × IsTurned turned.second r
 both_turned found turned l r is first second =
     (subst (λ (o : Option Layouts). IfSome o (λ t. IsTurned t.first l)) is first, subst (λ (o : Option Layouts). IfSome o (λ t. IsTurned t.second r)) is second)
 
--- ---- items of one width, joined
+-- ---- concatenated items of one width
 
 module _ (width : ℕ) where
   abbrev pub AreWide : List (List ℕ) → Type 0
@@ -38,7 +38,7 @@ module _ (width : ℕ) where
       ∙ ap (take width) (drop-append-add item (concat items) (k * width))
       ∙ item-concat items k wide.1 (omega (arith, below))
 
-  -- bytes with the same items are the same
+  -- bytes that have the same items are the same
   pub same-concat : (items : List (List ℕ)) (bytes : List ℕ) → AreWide items → length bytes ≡ length items * width → ((k : ℕ) → k < length items → item_at (k * width) width bytes ≡ get_or items k []) → bytes ≡ concat items
   same-concat items bytes wide long each =
       all_joined (λ k. get_or items k []) width (length items) bytes long each

@@ -1,4 +1,4 @@
--- Operands that are cast, and what is made of them.
+-- Operands that are cast, and the results on them.
 use Rattle.std.proofs.Common.{◌≡◌, ◌+◌, ◌<◌, ◌≤◌, ℕ, true, List, [], ◌∷◌, map, length, get_or, All, refl, sym, ap, ◌∙◌, arith}
 use Rattle.std.specs.Prelude.{slice_index}
 use Rattle.std.proofs.lemmas.List.{length-map, get_or-map}
@@ -8,7 +8,7 @@ use Rattle.elementwise.specs.Words.{Descr, LeafValue, item_size, item_from, offs
 use Rattle.elementwise.specs.Casts.{cast_item}
 use Rattle.elementwise.specs.Results.{stretched_items}
 
--- items that a cast leaves as they are
+-- items that a cast leaves unchanged
 pub kept : (from to : Descr) (block os : List ℕ) → All (λ offset. offset + item_size from ≤ length block) os →
     ((offset : ℕ) → offset + item_size from ≤ length block → cast_item from to (item_from from block offset) ≡ item_from to block offset) → map (λ offset. cast_item from to (item_from from block offset)) os ≡ map (item_from to block) os
 kept from to block [] inside same = refl
@@ -16,7 +16,7 @@ kept from to block (o ∷ os) inside same =
     let Ends = λ (offset : ℕ). offset + item_size from ≤ length block in
     λ i. same o (All-head Ends o os inside) i ∷ kept from to block os (All-rest Ends o os (o ∷ os) refl inside) same i
 
--- items that are cast and then stretched are those that are stretched and then cast
+-- casting items and then stretching them is the same as stretching and then casting them
 pub stretched-cast : (cast : List LeafValue → List LeafValue) (d d' : Descr) (b b' : List ℕ) (l l' : Layout) (shape : List ℕ) → l'.shape ≡ l.shape → can_stretch l.shape shape ≡ true →
     map (item_from d' b') (offsets l') ≡ map cast (map (item_from d b) (offsets l)) → stretched_items d' b' l' shape ≡ map cast (stretched_items d b l shape)
 stretched-cast cast d d' b b' l l' shape same can cast-is =

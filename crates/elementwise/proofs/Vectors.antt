@@ -1,4 +1,4 @@
--- Casts of single items, as NumPy has them.
+-- Test vectors: casts of single items, as in NumPy.
 use Rattle.std.specs.Prelude.{◌≡◌, pos, negsuc, true, false, [], ◌∷◌, codes, refl}
 use Rattle.elementwise.specs.Words.{Little, Big, Two, Four, Eight, Byte, Int, Bytes, Descr, no_more, scalar_field, record_field, number, text}
 use Rattle.elem_descr.specs.declared.scalar.Scalar.TheVariants.{Bool as BoolScalar}
@@ -42,7 +42,7 @@ wraps_below = refl
 to_unsigned : cast_item byte (ScalarDescr (Byte false)) (number (negsuc 0) ∷ []) ≡ number (pos 255) ∷ []
 to_unsigned = refl
 
--- and widens: np.int8(-1).astype('>i2') is -1, np.int8(-1).astype('u8') is 2 ** 64 - 1
+-- wider types: np.int8(-1).astype('>i2') is -1, np.int8(-1).astype('u8') is 2 ** 64 - 1
 widens : cast_item byte short (number (negsuc 0) ∷ []) ≡ number (negsuc 0) ∷ []
 widens = refl
 
@@ -72,14 +72,14 @@ cuts_nul = refl
 stretches : cast_item bytes2 bytes3 (text (97 ∷ 98 ∷ []) ∷ []) ≡ text (97 ∷ 98 ∷ []) ∷ []
 stretches = refl
 
--- by position at each level, and a scalar to every leaf
+-- fields by position at each level, and a scalar to every leaf
 by_position : cast_item other nested (number (negsuc 2) ∷ number (pos 513) ∷ text (97 ∷ 0 ∷ 99 ∷ []) ∷ []) ≡ number (pos 1) ∷ number (pos 1) ∷ text (97 ∷ []) ∷ []
 by_position = refl
 
 to_every_leaf : cast_item word pair (number (pos 200) ∷ []) ≡ number (negsuc 55) ∷ number (pos 200) ∷ []
 to_every_leaf = refl
 
--- which there are
+-- which casts are possible
 by_position_can : can_cast other nested ≡ true
 by_position_can = refl
 
@@ -101,7 +101,7 @@ number_to_text_leaf = refl
 record_to_scalar : can_cast pair word ≡ false
 record_to_scalar = refl
 
--- a record within goes to no scalar, and a scalar to no record within
+-- a record within a record cannot be cast to a scalar, nor a scalar to a record within a record
 record_to_scalar_field : can_cast nested pair ≡ false
 record_to_scalar_field = refl
 

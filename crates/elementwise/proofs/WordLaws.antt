@@ -1,4 +1,4 @@
--- Operations that are done on the lowest 64 bits, and what is kept of them.
+-- Operations on the lowest 64 bits, and their results in a scalar.
 use Rattle.std.proofs.Common.{◌≡◌, ℕ, suc, ◌+◌, ◌-◌, ◌*◌, ◌%◌, ◌^◌, ◌<◌, ◌≤◌, inl, inr, Bool, true, false, refl, sym, ap, subst, ◌∙◌, arith, mul_assoc}
 use Rattle.std.specs.Prelude.{ℤ, pos, negsuc, ◌+ℤ◌, ◌-ℤ◌, unsigned_abs, nat_lt}
 use Rattle.std.proofs.Math.Nat.{mod-mod, mod-eq_of_lt}
@@ -12,7 +12,7 @@ use Rattle.elementwise.specs.Bits.{IsTruth}
 use Rattle.elementwise.specs.Operations.{exact, binary, of_bits}
 use Rattle.elementwise.proofs.WorkLaws.{small_width}
 
--- bits are those of the number that they are
+-- bits are the bits of the number that they are
 pub are_bits : (r : ℕ) → r < 2 ^ 64 → AreBits r (pos r)
 are_bits r below = record { low = mod-eq_of_lt below; zero = λ none. ap pos none }
 
@@ -27,7 +27,7 @@ fewer-neg n a k few e =
     let sum : negsuc a +ℤ pos (k * 2 ^ (64 - 8 * n) * 2 ^ (8 * n)) ≡ pos (low_bits 8 (negsuc a)) = ap (λ m. negsuc a +ℤ pos m) whole ∙ sym e in
     sym (ap unsigned_abs (int_rem_euclid_is (negsuc a) (pos (2 ^ (8 * n))) (2 ^ (8 * n)) (k * 2 ^ (64 - 8 * n)) (low_bits 8 (negsuc a)) (pow_pos (8 * n)) refl sum))
 
--- the lowest n bytes of the lowest eight
+-- the lowest `n` bytes of the lowest eight bytes
 pub low_bits-fewer : (n : ℕ) (z : ℤ) → n ≤ 8 → low_bits n (pos (low_bits 8 z)) ≡ low_bits n z
 low_bits-fewer n (pos a) few =
     let e : 64 ≡ (64 - 8 * n) + 8 * n = omega arith in
@@ -54,7 +54,7 @@ truth-low (negsuc n) below =
     let low : low_bits 8 (negsuc n) ≡ suc m = omega (arith, mod-eq_of_lt (let less : n < 2 ^ 64 = omega (arith, below) in less)) in
     ap truth low ∙ truth_suc m ∙ sym (truth_suc n)
 
--- operations of two bools give small numbers
+-- the results of operations on two bools are small
 abbrev few : BinOp → ℤ → ℤ → Bool
 few op a b = nat_lt (unsigned_abs (exact op BoolScalar a b)) 3
 
@@ -83,11 +83,11 @@ applied_low op (Byte signed) a b is truth-a truth-b = wrap-low (Byte signed) (ex
 applied_low op (Int signed width order) a b is truth-a truth-b = wrap-low (Int signed width order) (exact op (Int signed width order) a b) is refl
 applied_low op (Bytes n) a b never truth-a truth-b = absurd never
 
--- a number that has the lowest bits of a result
+-- a number with the lowest bits of a result is the result
 pub applied : (op : BinOp) (s : Scalar) (a b v : ℤ) (r : ℕ) → IsNumber s → (is_bool s ≡ true → IsTruth a) → (is_bool s ≡ true → IsTruth b) → v ≡ wrap s (pos r) → r ≡ low_bits 8 (exact op s a b) → v ≡ binary op s a b
 applied op s a b v r is truth-a truth-b made low = made ∙ ap (λ n. wrap s (pos n)) low ∙ applied_low op s a b is truth-a truth-b
 
--- one number that has the lowest bits of a result, and is not far from 0 where it is a bool
+-- the same for one number, if it is not far from 0 when the scalar is a bool
 pub applied_one : (s : Scalar) (z v : ℤ) (r : ℕ) → IsNumber s → (is_bool s ≡ true → unsigned_abs z < 2 ^ 64) → v ≡ wrap s (pos r) → r ≡ low_bits 8 z → v ≡ wrap s z
 applied_one BoolScalar z v r is small made low = made ∙ ap (λ n. wrap BoolScalar (pos n)) low ∙ ap pos (truth-low z (small refl))
 applied_one (Byte signed) z v r is small made low = made ∙ ap (λ n. wrap (Byte signed) (pos n)) low ∙ wrap-low (Byte signed) z is refl
@@ -101,7 +101,7 @@ pub near_zero : (n : ℕ) (b : ℤ) → n < 2 ^ 64 → IsTruth b → unsigned_ab
 near_zero n b below (inl is) = subst (λ z. unsigned_abs (integer true 8 n -ℤ z) < 2 ^ 64) (sym is) (few_bits n below).0
 near_zero n b below (inr is) = subst (λ z. unsigned_abs (integer true 8 n -ℤ z) < 2 ^ 64) (sym is) (few_bits n below).1
 
--- ---- bits of both
+-- ---- bits of two numbers
 
 module _ (f : ℕ → ℕ → ℕ) (f-mod : (a b k : ℕ) → f a b % 2 ^ k ≡ f (a % 2 ^ k) (b % 2 ^ k)) where
   bits-at : (n : ℕ) (signed : Bool) (x : ℕ) → n ≤ 8 → x < 2 ^ 64 → low_bits n (integer signed 8 x) ≡ x % 2 ^ (8 * n)

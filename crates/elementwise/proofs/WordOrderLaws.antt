@@ -1,4 +1,4 @@
--- Byte strings that are in the order of words of theirs, the highest byte first.
+-- Byte strings that are ordered like big-endian words of their bytes.
 use Rattle.std.proofs.Common.{◌≡◌, ◌+◌, ◌*◌, ◌^◌, ◌<◌, ◌≤◌, ◌==◌, ◌&&◌, ◌||◌, inl, inr, ◌⊎◌, nat_lt, false, ℕ, List, [], ◌∷◌, ◌++◌, length, take, drop, refl, sym, ap, ◌∙◌, arith, length-take, length-drop}
 use Rattle.std.proofs.lemmas.Bool.{cases_eq}
 use Rattle.std.proofs.lemmas.Bool.Decides.{nat_tests}
@@ -10,12 +10,12 @@ use Rattle.elementwise.proofs.TextWordLaws.{lt-self, eq-self, below-rest}
 use Rattle.elementwise.proofs.TextNumberLaws.{words-below}
 use Rattle.elementwise.proofs.EvenTextLaws.{below-even}
 
--- ---- what is in front
+-- ---- prefixes
 
 unequal : (a b : ℕ) → (a ≡ b → ⊥) → (a == b) ≡ false
 unequal a b other = grind (arith, nat_tests)
 
--- where byte strings differ in front, the rest decides nothing
+-- if two prefixes of the same length differ, the rest decides nothing
 front-decides : (xs ys rest rest' : List ℕ) → length xs ≡ length ys → (xs ≡ ys → ⊥) → text_below (xs ++ rest) (ys ++ rest') ≡ text_below xs ys
 front-decides [] [] rest rest' even other = absurd (other refl)
 front-decides [] (y ∷ ys) rest rest' even other = absurd (omega (arith, even))
@@ -26,7 +26,7 @@ front-decides (x ∷ xs) (y ∷ ys) rest rest' even other =
       | inr differ ↦ (λ i. nat_lt x y || (unequal x y differ i && text_below (xs ++ rest) (ys ++ rest'))) ∙ λ i. nat_lt x y || (sym (unequal x y differ) i && text_below xs ys)
     ]
 
--- byte strings of one length, of which none is below the other, are the same
+-- byte strings of the same length are the same if neither is below the other
 neither-below : (xs ys : List ℕ) → length xs ≡ length ys → text_below xs ys ≡ false → text_below ys xs ≡ false → xs ≡ ys
 neither-below [] [] even above below = refl
 neither-below [] (y ∷ ys) even above below = absurd (omega (arith, even))
@@ -39,7 +39,7 @@ neither-below (x ∷ xs) (y ∷ ys) even above below =
 
 -- ---- words
 
--- words that differ decide
+-- first words that differ decide the order
 word-decides : (n : ℕ) (xs ys : List ℕ) → n ≤ length xs → n ≤ length ys → AreBytes xs → AreBytes ys → (take n xs ≡ take n ys → ⊥) → nat_lt (big_number n (take n xs)) (big_number n (take n ys)) ≡ text_below xs ys
 word-decides n xs ys some some' are are' other =
     let long : length (take n xs) ≡ n = omega (arith, some, length-take n xs) in
@@ -48,12 +48,12 @@ word-decides n xs ys some some' are are' other =
     ∙ sym (front-decides (take n xs) (take n ys) (drop n xs) (drop n ys) (long ∙ sym long') other)
     ∙ λ i. text_below (take-append-drop n xs i) (take-append-drop n ys i)
 
--- so do those behind what is the same
+-- words after a shared prefix that differ decide the order
 next-decides : (n at : ℕ) (xs ys : List ℕ) → at + n ≤ length xs → at + n ≤ length ys → AreBytes xs → AreBytes ys → take at xs ≡ take at ys → (item_at at n xs ≡ item_at at n ys → ⊥) → nat_lt (big_number n (item_at at n xs)) (big_number n (item_at at n ys)) ≡ text_below xs ys
 next-decides n at xs ys within within' are are' same other =
     word-decides n (drop at xs) (drop at ys) (omega (arith, within, length-drop at xs)) (omega (arith, within', length-drop at ys)) (bytes-drop at xs are) (bytes-drop at ys are') other ∙ below-rest xs ys at same
 
--- as the code asks
+-- in the form that the code uses
 pub words-tell : (at : ℕ) (xs ys : List ℕ) (first second : ℕ) → at + 8 ≤ length xs → at + 8 ≤ length ys → AreBytes xs → AreBytes ys → first ≡ big_number 8 (item_at at 8 xs) → second ≡ big_number 8 (item_at at 8 ys) → take at xs ≡ take at ys →
     (item_at at 8 xs ≡ item_at at 8 ys → ⊥) → (nat_lt first second ≡ text_below xs ys) × (nat_lt second first ≡ text_below ys xs)
 words-tell at xs ys first second within within' are are' is is' same other = (
@@ -61,7 +61,7 @@ words-tell at xs ys first second within within' are are' is is' same other = (
   (λ i. nat_lt (is' i) (is i)) ∙ next-decides 8 at ys xs within' within are' are (sym same) (λ alike. other (sym alike)),
 )
 
--- and those of one length, if they differ or are the last ones
+-- for byte strings of the same length: words that differ, or that are the last ones
 rest-decides : (n at : ℕ) (xs ys : List ℕ) → length xs ≡ length ys → at + n ≤ length xs → AreBytes xs → AreBytes ys → take at xs ≡ take at ys → (at + n ≡ length xs) ⊎ (item_at at n xs ≡ item_at at n ys → ⊥) →
     nat_lt (big_number n (item_at at n xs)) (big_number n (item_at at n ys)) ≡ text_below xs ys
 rest-decides n at xs ys even within are are' same (inl ends) =
@@ -74,7 +74,7 @@ rest-decides n at xs ys even within are are' same (inl ends) =
     ∙ below-rest xs ys at same
 rest-decides n at xs ys even within are are' same (inr other) = next-decides n at xs ys within (omega (arith, within, even)) are are' same other
 
--- as the code asks
+-- in the form that the code uses
 pub in-order : (n at : ℕ) (xs ys : List ℕ) (first second : ℕ) → length xs ≡ length ys → at + n ≤ length xs → AreBytes xs → AreBytes ys → first ≡ big_number n (item_at at n xs) → second ≡ big_number n (item_at at n ys) →
     take at xs ≡ take at ys → (at + n ≡ length xs) ⊎ (item_at at n xs ≡ item_at at n ys → ⊥) → AreInOrder (first, second) xs ys
 in-order n at xs ys first second even within are are' is is' same ends = (
@@ -82,7 +82,7 @@ in-order n at xs ys first second even within are are' is is' same ends = (
   (λ i. nat_lt (is' i) (is i)) ∙ rest-decides n at ys xs (sym even) (omega (arith, even, within)) are' are (sym same) (elim ends [ inl last ↦ inl (last ∙ even) | inr other ↦ inr (λ alike. other (sym alike)) ]) ∙ below-even ys xs (sym even),
 )
 
--- words of one number are the same, and what is in front of the last ones is a part of them
+-- words that are the same number are the same, and so is a prefix of them
 pub same-front : (n at : ℕ) (xs ys : List ℕ) → at ≤ n → n ≤ length xs → n ≤ length ys → AreBytes xs → AreBytes ys → big_number n (take n xs) ≡ big_number n (take n ys) → take at xs ≡ take at ys
 same-front n at xs ys few some some' are are' same =
     let long : length (take n xs) ≡ n = omega (arith, some, length-take n xs) in
@@ -96,7 +96,7 @@ same-front n at xs ys few some some' are are' same =
     let front = neither-below (take n xs) (take n ys) (long ∙ sym long') (sym (words-below n (take n xs) (take n ys) long long' b b') ∙ none) (sym (words-below n (take n ys) (take n xs) long' long b' b) ∙ none') in
     sym (take-take at n xs few) ∙ ap (take at) front ∙ take-take at n ys few
 
--- numbers of two words are in the order of the first ones, or where these are the same of the last ones
+-- The first words decide the order of two-word numbers; if they are the same, the last words do.
 pub two-in-order : (a b p q : ℕ) (xs ys : List ℕ) → p < 2 ^ 64 → q < 2 ^ 64 → (a ≡ b → AreInOrder (p, q) xs ys) → ((a ≡ b → ⊥) → AreInOrder (a, b) xs ys) → AreInOrder (a * 2 ^ 64 + p, b * 2 ^ 64 + q) xs ys
 two-in-order a b p q xs ys low low' last first = elim (cases_eq a b) as (λ _. AreInOrder (a * 2 ^ 64 + p, b * 2 ^ 64 + q) xs ys) [
   | inl same ↦

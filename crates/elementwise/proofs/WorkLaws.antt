@@ -1,4 +1,4 @@
--- Numbers that work gives: how many bytes they have, and that they are read back.
+-- The results on numbers: the number of their bytes, and that they are read back.
 use Rattle.std.proofs.Common.{◌≡◌, ◌≤◌, true, false, cond, refl, arith}
 use Rattle.std.specs.Prelude.{ℤ, pos, int_lt}
 use Rattle.elementwise.specs.Words.{Width, Two, Four, Eight, Scalar, Byte, Int, Bytes, LeafValue, number, text, IsNumber, size, width_size, number_of, decode, encode, decode_encode, number_size, Comparison, little}

@@ -1,13 +1,14 @@
--- Casts: the items of one element type as items of another, as NumPy's `astype` has them, and an integer never out of range.
+-- Casts: items of one element type as items of another, as in NumPy's `astype`. An integer that is out of range is
+-- wrapped, not refused.
 use Rattle.std.specs.Prelude.{pos, Bool, true, false, ◌&&◌, List, [], ◌∷◌, get_or, map, take}
 use Rattle.std.specs.List.{list_all}
 use Rattle.elementwise.specs.Words.{Descr, Leaf, Scalar, Byte, Int, Bytes, LeafValue, number, text, wrap, without_nuls, number_of, text_of, Fields, no_more, scalar_field, record_field, leaves_of}
 use Rattle.elem_descr.specs.declared.descr.Descr.TheVariants.{Scalar as ScalarDescr, Record as RecordDescr}
 use Rattle.elem_descr.specs.declared.scalar.Scalar.TheVariants.{Bool as BoolScalar}
 
--- Which casts there are
+-- ---- which casts exist
 
--- a number goes to every number, and a byte string to every byte string
+-- a number can be cast to any number, and a byte string to any byte string
 abbrev pub can_cast_scalar : Scalar → Scalar → Bool
 can_cast_scalar (Bytes m) (Bytes n) = true
 can_cast_scalar (Bytes m) BoolScalar = false
@@ -18,34 +19,36 @@ can_cast_scalar (Byte signed) (Bytes n) = false
 can_cast_scalar (Int signed width order) (Bytes n) = false
 can_cast_scalar _ _ = true
 
--- fields go by position: as many at every level, scalars to scalars and records to records
+-- Fields are matched by position. At every level there must be equally many, and scalars are cast to scalars, and
+-- records to records.
 abbrev pub can_cast_fields : Fields → Fields → Bool
 can_cast_fields no_more no_more = true
 can_cast_fields (scalar_field _ _ from rest) (scalar_field _ _ to others) = can_cast_scalar from to && can_cast_fields rest others
 can_cast_fields (record_field _ _ _ from rest) (record_field _ _ _ to others) = can_cast_fields from to && can_cast_fields rest others
 can_cast_fields _ _ = false
 
--- a scalar goes to every leaf
+-- a scalar can be cast to an element type if it can be cast to each of its leaves
 abbrev pub can_cast : Descr → Descr → Bool
 can_cast (ScalarDescr from) to = list_all (λ leaf. can_cast_scalar from leaf.scalar) (leaves_of to)
 can_cast (RecordDescr from) (RecordDescr to) = can_cast_fields from.fields to.fields
 can_cast (RecordDescr from) (ScalarDescr to) = false
 
--- What they give
+-- ---- the results of casts
 
--- a value as one of a scalar: a number modulo 2 ^ its bits, for a bool whether it is not 0, and a byte string cut to its length
+-- A value cast to a scalar. A number is wrapped to the scalar's number of bits; for a bool, any number but 0 becomes 1.
+-- A byte string is cut to the scalar's length, and the NULs at its end are dropped.
 abbrev pub cast_value : Scalar → LeafValue → LeafValue
 cast_value BoolScalar value = number (wrap BoolScalar (number_of value))
 cast_value (Byte signed) value = number (wrap (Byte signed) (number_of value))
 cast_value (Int signed width order) value = number (wrap (Int signed width order) (number_of value))
 cast_value (Bytes n) value = text (without_nuls (take n (text_of value)))
 
--- each value as one of the leaf at its position
+-- each value, cast to the leaf at its position
 abbrev pub cast_values : List Leaf → List LeafValue → List LeafValue
 cast_values (leaf ∷ leaves) (value ∷ values) = cast_value leaf.scalar value ∷ cast_values leaves values
 cast_values _ _ = []
 
--- an item of the first element type as one of the second
+-- an item of the first element type, cast to the second
 abbrev pub cast_item : Descr → Descr → List LeafValue → List LeafValue
 cast_item (ScalarDescr from) to item = map (λ leaf. cast_value leaf.scalar (get_or item 0 (number (pos 0)))) (leaves_of to)
 cast_item (RecordDescr from) to item = cast_values (leaves_of to) item

@@ -6,17 +6,18 @@ use Rattle.elementwise.specs.Operations.{serves_bools, serves_one}
 
 -- ---- kinds
 
--- the kinds of numbers in their order: bools, integers without sign, integers with one
+-- the rank of a kind of numbers: bools, then unsigned integers, then signed integers
 abbrev pub rank_of_kind : Scalar → ℕ
 rank_of_kind scalar = if is_bool scalar then 0 else (if is_signed scalar then 2 else 1)
 
--- a result may be written where numbers of another scalar stand unless its kind is above theirs, whatever the widths; byte strings have no kind
+-- A result of type `from` may be written to items of type `to` unless its kind has a higher rank. The widths do not
+-- matter. Byte strings are refused.
 unfoldable pub same_kind : Scalar → Scalar → Result (Unit {0}) Refusal
 same_kind from to = check (not (is_text from || is_text to) && nat_le (rank_of_kind from) (rank_of_kind to)) NotSameKind
 
 -- ---- the common type
 
--- the little-endian integers of 1, 2, 4 or 8 bytes
+-- the little-endian integer type of 1, 2, 4 or 8 bytes
 abbrev pub integer_type : Bool → ℕ → Scalar
 integer_type signed bytes =
     if bytes == 1 then Byte signed
@@ -24,20 +25,21 @@ integer_type signed bytes =
     else (if bytes == 4 then Int signed Four Little
     else Int signed Eight Little))
 
--- the smallest signed integers that hold unsigned integers of one width and signed integers of another
+-- the smallest signed integer type that holds unsigned integers of one width and signed integers of another, or the
+-- refusal if there is none
 abbrev pub mixed_type : ℕ → ℕ → Result Scalar Refusal
 mixed_type unsigned signed = do
   _ ← check (nat_le (2 * unsigned) 8) NeedsFloats
   Ok (integer_type true (max (2 * unsigned) signed))
 
--- of two integer types: of one signedness the wider one
+-- the common type of two integer types: the wider one if both are signed or both are unsigned, else their mixed type
 abbrev pub common_integers : Scalar → Scalar → Result Scalar Refusal
 common_integers left right =
     if is_signed left
     then (if is_signed right then Ok (integer_type true (max (size left) (size right))) else mixed_type (size right) (size left))
     else (if is_signed right then mixed_type (size left) (size right) else Ok (integer_type false (max (size left) (size right))))
 
--- of two types of numbers: with a bool the other one
+-- the common type of two types of numbers: if one is bool, the other one, and otherwise that of two integer types
 abbrev pub common_type : Scalar → Scalar → Result Scalar Refusal
 common_type left right =
     if is_bool left then Ok (little right)
@@ -50,7 +52,7 @@ abbrev pub is_division : BinOp → Bool
 is_division Divide = true
 is_division _ = false
 
--- the type of what an operation gives on two scalars
+-- the type of the result of an operation on two scalars
 unfoldable pub promote : BinOp → Scalar → Scalar → Result Scalar Refusal
 promote op left right = do
   _ ← check (not (is_text left || is_text right)) NotForThisKind
@@ -58,22 +60,23 @@ promote op left right = do
   _ ← check (not (is_division op)) NeedsFloats
   common_type left right
 
--- numbers are compared with numbers, and byte strings with byte strings
+-- numbers can be compared with numbers, and byte strings with byte strings
 abbrev pub are_comparable : Scalar → Scalar → Bool
 are_comparable left right = if is_text left then is_text right else not (is_text right)
 
--- the type of what a comparison gives on two scalars
+-- the type of the result of a comparison of two scalars
 unfoldable pub compared_type : Scalar → Scalar → Result Scalar Refusal
 compared_type left right = do
   _ ← check (are_comparable left right) NotForThisKind
   Ok BoolScalar
 
--- the type that an integer literal has beside a scalar: that of an integer, and beside a bool one of eight bytes
+-- the type of an integer literal that is used with a scalar: the type of the scalar, or a signed 64-bit integer if the
+-- scalar is a bool
 abbrev pub literal_type : Scalar → Scalar
 literal_type BoolScalar = Int true Eight Little
 literal_type scalar = little scalar
 
--- the type of what an operation gives on one scalar
+-- the type of the result of an operation on one scalar
 unfoldable pub promote_one : UnOp → Scalar → Result Scalar Refusal
 promote_one op scalar = do
   _ ← check (serves_one op scalar) NotForThisKind

@@ -1,4 +1,4 @@
--- Results of operations and comparisons, of all items of arrays.
+-- Results of operations and comparisons on arrays: their type, their shape and their items.
 use Rattle.std.specs.Prelude.{ℕ, ℤ, pos, Bool, if◌then◌else◌, not, List, [], ◌∷◌, get_or, map, Result, Ok, Err}
 use Rattle.elementwise.specs.Words.{Refusal, NotForThisKind, Descr, Scalar, LeafValue, number, wrap, number_of, ◌>>=◌, check, item_from, Layout, offsets, view_through, common_shape, broadcast_index, BinOp, UnOp, Comparison, is_text}
 use Rattle.elem_descr.specs.declared.descr.Descr.TheVariants.{Scalar as ScalarDescr, Record as RecordDescr}
@@ -9,7 +9,7 @@ use Rattle.elementwise.specs.Comparisons.{compared}
 
 -- ---- the type and the shape of a result
 
--- records are no operands
+-- the scalar of an operand; records are refused
 abbrev pub scalar_of : Descr → Result Scalar Refusal
 scalar_of (ScalarDescr scalar) = Ok scalar
 scalar_of (RecordDescr structure) = Err NotForThisKind
@@ -36,27 +36,27 @@ compared_result left shape right other = do
   common ← common_shape (shape ∷ other ∷ [])
   Ok (ScalarDescr scalar, common)
 
--- numbers alone are compared with an integer
+-- only numbers can be compared with an integer
 unfoldable pub integer_compared_result : Descr → List ℕ → Result (Descr × List ℕ) Refusal
 integer_compared_result left shape = do
   from ← scalar_of left
   _ ← check (not (is_text from)) NotForThisKind
   Ok (ScalarDescr BoolScalar, shape)
 
--- and byte strings alone with bytes
+-- only byte strings can be compared with bytes
 unfoldable pub bytes_compared_result : Descr → List ℕ → Result (Descr × List ℕ) Refusal
 bytes_compared_result left shape = do
   from ← scalar_of left
   _ ← check (is_text from) NotForThisKind
   Ok (ScalarDescr BoolScalar, shape)
 
--- ---- its items
+-- ---- the items of a result
 
--- the value in an item of a scalar
+-- the value of an item of a scalar
 abbrev pub value_in : List LeafValue → LeafValue
 value_in item = get_or item 0 (number (pos 0))
 
--- that value as a number of another scalar: operands are cast to the type of the result first
+-- That value as a number of another scalar. Operands are cast to the type of the result first.
 abbrev pub number_as : Scalar → List LeafValue → ℤ
 number_as scalar item = wrap scalar (number_of (value_in item))
 
@@ -74,11 +74,11 @@ truth_item holds = number (if holds then pos 1 else pos 0) ∷ []
 abbrev pub compared_item : Comparison → List LeafValue → List LeafValue → List LeafValue
 compared_item comparison left right = truth_item (compared comparison (value_in left) (value_in right))
 
--- the items of an array that is stretched to a shape
+-- the items of an array, stretched to a shape
 abbrev pub stretched_items : Descr → List ℕ → Layout → List ℕ → List (List LeafValue)
 stretched_items descr block layout shape = map (item_from descr block) (view_through (offsets layout) layout.shape shape (broadcast_index layout.shape))
 
--- what f gives on the items at each place of two lists
+-- `f` of the items at each position of two lists
 abbrev pub pairwise : {A B : Type 0} → (A → A → B) → List A → List A → List B
 pairwise f (x ∷ xs) (y ∷ ys) = f x y ∷ pairwise f xs ys
 pairwise f _ _ = []

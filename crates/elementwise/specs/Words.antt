@@ -1,4 +1,4 @@
--- The words of the crates below, for this crate's clauses, definitions and proofs.
+-- Names from the crates below, which this crate's contracts, definitions and proofs use.
 pub use Rattle.elem_descr.specs.Blocks.{item_from}
 pub use Rattle.elem_descr.specs.ByteLaws.{AreBytes, bytes-drop, bytes-take, length-encode}
 pub use Rattle.elem_descr.specs.ByteLaws.{number-lt, one-encoded, truth-twice}

@@ -73,7 +73,7 @@ pub fn can_cast(from: &Descr, to: &Descr) -> bool
     }
 }
 
-/// Whether two leaves with a number are the same.
+/// Whether the `k`-th leaves of two element types are the same.
 fn is_same_leaf(a: &Descr, b: &Descr, k: usize) -> bool
     requires a { k < length (leaves_of a.now) }
     requires b { k < length (leaves_of b.now) }

@@ -70,8 +70,8 @@ fn step(layout: &Layout) -> usize {
     along.stride.unsigned_abs().max(NEAR)
 }
 
-/// Both layouts with their axes reversed, if that brings successive items closer together and leaves no
-/// short rows.
+/// Both layouts with their axes reversed, if that brings successive items closer together and
+/// leaves no short rows.
 fn columns(alloc: Global, left: &Layout, right: &Layout) -> Result<Option<Layouts>, AllocError>
     ensures first { IfOk result (λ columns. IfSome columns (λ c. IsTurned c.first left.now)) }
     ensures second { IfOk result (λ columns. IfSome columns (λ c. IsTurned c.second right.now)) }
@@ -171,8 +171,8 @@ pub(crate) struct Shrunk {
     pub(crate) second: Layout,
 }
 
-/// Two layouts that stretch to a shape, with length 1 on each axis of it along which the items of both
-/// repeat.
+/// Two layouts that stretch to a shape, with length 1 on each axis of it along which the items of
+/// both repeat.
 pub(crate) fn without_repeats(
     alloc: Global,
     left: &Layout,

@@ -193,7 +193,7 @@ impl<'a, 'b> NumberTask for Working<'a, 'b> {
     }
 }
 
-/// Whether there is an operation of two bools.
+/// Whether an operation accepts two bools. True division is refused elsewhere, for all types.
 pub(crate) fn serves_bools(op: BinOp) -> bool
     ensures { result ≡ serves_bools op }
 {
@@ -207,7 +207,7 @@ pub(crate) fn serves_bools(op: BinOp) -> bool
     }
 }
 
-/// Whether there is an operation of items of a type.
+/// Whether an operation accepts items of a type.
 pub(crate) fn serves_one(op: UnOp, scalar: &Scalar) -> bool
     ensures { result ≡ serves_one op scalar.now }
 {

@@ -34,8 +34,8 @@ pub(crate) enum Pairing<'a> {
         work: Work,
         scalar: Scalar,
     },
-    /// A comparison of little-endian integers of eight bytes, of which the first are signed and the
-    /// second are not.
+    /// A comparison of little-endian integers of eight bytes: signed ones on one side, and unsigned
+    /// ones on the other.
     Signs {
         comparison: Comparison,
         left_signed: bool,
@@ -64,7 +64,7 @@ impl<'a> Pairing<'a> {
         }
     }
 
-    /// The scalar of the second ones.
+    /// The scalar of the second items.
     pub(crate) fn right(&self) -> Scalar
         ensures { result ≡ right_of self.now }
     {

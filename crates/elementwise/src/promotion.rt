@@ -100,7 +100,8 @@ pub(crate) fn common_type(left: &Scalar, right: &Scalar) -> Result<Scalar, Refus
     common_integers(left, right)
 }
 
-/// Whether an operation is defined for two types. Only two bools can rule it out.
+/// Whether an operation accepts two types, as far as bools are concerned: some do not accept two
+/// bools.
 fn serves(op: BinOp, left: &Scalar, right: &Scalar) -> bool
     ensures { result ≡ (serves_bools op || not (is_bool left.now && is_bool right.now)) }
 {

@@ -1,4 +1,4 @@
--- Operands as items of an element type: where they lie, or in a block of their own.
+-- Operands as items of an element type: used in place, or copied to a block of their own.
 use Rattle.std.specs.Prelude.{ℕ, List}
 use Rattle.elementwise.specs.Words.{Descr, LeafValue, items, owned_items, Items, Layout}
 use Rattle.elementwise.specs.Results.{stretched_items}
@@ -23,6 +23,6 @@ abbrev pub fitted_layout : Fitted → Layout
 fitted_layout (fitted.Same l) = l.now
 fitted_layout (fitted.Made l) = l
 
--- items that are lent, as they are stretched to a shape
+-- borrowed items, stretched to a shape
 abbrev pub stretched : Items → List ℕ → List (List LeafValue)
 stretched i shape = stretched_items i.descr.now i.block.now i.layout.now shape

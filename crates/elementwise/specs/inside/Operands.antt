@@ -1,4 +1,4 @@
--- What is made of the items of two operands, one after another.
+-- The results on all pairs of items of two operands.
 use Rattle.std.specs.Prelude.{◌≡◌, ◌≤◌, ◌*◌, ℕ, List, [], ◌∷◌}
 use Rattle.std.specs.List.{concat}
 use Rattle.elementwise.specs.Words.{LeafValue, item_size, items, count, offsets, size, max_bytes, Owned}
@@ -10,11 +10,11 @@ use Rattle.elementwise.specs.inside.Works.{left_of, right_of, target_of, gives, 
 use Rattle.elementwise.specs.declared.pairing.Pairing.{Pairing}
 use Rattle.elementwise.specs.declared.row_pairs.Operands.{Operands}
 
--- how many pairs of items there are
+-- the number of pairs of items
 abbrev pub pairs_of : Operands → ℕ
 pairs_of o = count o.left.layout.now.shape
 
--- the bytes of what f makes of each pair
+-- the bytes that `f` makes of each pair, concatenated
 abbrev pub made_of_all : (List ℕ → List ℕ → List ℕ) → Operands → List ℕ
 made_of_all f o =
     let make = pair_from f (item_size o.left.descr.now) (item_size o.right.descr.now) o.left.block.now o.right.block.now in
@@ -24,13 +24,13 @@ made_of_all f o =
 abbrev pub all_made : Pairing → Operands → List (List LeafValue)
 all_made p o = pairwise (λ x y. gives p (value_in x) (value_in y) ∷ []) (items o.left) (items o.right)
 
--- the operands are of the scalars of a pairing, and what it makes of them fits a block
+-- the operands have the scalars of a pairing, and its results fit in a block
 pub record AreMatched (p : Pairing) (o : Operands) : Type 0 where
   pub can : CanPair p
   pub left : o.left.descr.now ≡ ScalarDescr (left_of p)
   pub right : o.right.descr.now ≡ ScalarDescr (right_of p)
   pub few : pairs_of o * size (target_of p) ≤ max_bytes
 
--- an array of what it makes
+-- an array of these results
 abbrev pub IsPaired : Pairing → Operands → Owned → Type 0
 IsPaired p o = IsMade (ScalarDescr (target_of p)) o.left.layout.now.shape (all_made p o)

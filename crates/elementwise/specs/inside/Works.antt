@@ -1,4 +1,4 @@
--- What is made of the values of two items.
+-- What is computed from the values of two items.
 use Rattle.std.specs.Prelude.{◌≡◌, ℕ, ℤ, List, not, true, false}
 use Rattle.elementwise.specs.Words.{Little, Eight, Scalar, Int, Bytes, LeafValue, number, text, Descr, Comparison, IsNumber, number_of, wrap, little}
 use Rattle.elem_descr.specs.declared.scalar.Scalar.TheVariants.{Bool as BoolScalar}
@@ -11,7 +11,7 @@ use Rattle.elementwise.specs.declared.pairing.Pairing.{Pairing}
 use Rattle.elementwise.specs.declared.pairing.Pairing.TheVariants.{Alike, Signs, Texts, With}
 use Rattle.elementwise.specs.declared.pairing.Work.TheVariants.{Combine, Change, Compare, Cast}
 
--- ---- of numbers of one scalar
+-- ---- for numbers of one scalar
 
 -- the scalar of the results
 abbrev pub target : Work → Scalar → Scalar
@@ -27,16 +27,16 @@ meaning (Change op) scalar a b = unary op (little scalar) b
 meaning (Compare comparison) scalar a b = says_number comparison a b
 meaning (Cast to) scalar a b = wrap to a
 
--- there are such results
+-- the results are numbers: true division is unsupported, and a cast must be to numbers
 abbrev pub IsWork : Work → Type 0
 IsWork (Combine op) = is_division op ≡ false
 IsWork (Change op) = Unit {0}
 IsWork (Compare comparison) = Unit {0}
 IsWork (Cast to) = IsNumber to
 
--- ---- of values of two scalars
+-- ---- for values of two scalars
 
--- the scalars of the first items and of the second ones
+-- the scalar of the first items, and that of the second items
 abbrev pub left_of : Pairing → Scalar
 left_of (Alike work scalar) = scalar
 left_of (Signs comparison left_signed) = Int left_signed Eight Little
@@ -49,25 +49,25 @@ right_of (Signs comparison left_signed) = Int (not left_signed) Eight Little
 right_of (Texts texts) = Bytes texts.other_width
 right_of (With comparison width other) = Bytes width
 
--- and of what is made
+-- the scalar of the results
 abbrev pub target_of : Pairing → Scalar
 target_of (Alike work scalar) = target work scalar
 target_of (Signs comparison left_signed) = BoolScalar
 target_of (Texts texts) = BoolScalar
 target_of (With comparison width other) = BoolScalar
 
--- what is made of two values
+-- the result for two values
 abbrev pub gives : Pairing → LeafValue → LeafValue → LeafValue
 gives (Alike work scalar) x y = number (meaning work scalar (number_of x) (number_of y))
 gives (Signs comparison left_signed) x y = compared_value comparison x y
 gives (Texts texts) x y = truth_value texts.comparison x y
 gives (With comparison width other) x y = truth_value comparison x (text other.now)
 
--- its bytes, of those of two items
+-- the result for the bytes of two items, as bytes
 abbrev pub pair_made : Pairing → List ℕ → List ℕ → List ℕ
 pair_made p = value_pair (left_of p) (right_of p) (target_of p) (gives p)
 
--- there are such results
+-- the pairing has results
 abbrev pub CanPair : Pairing → Type 0
 CanPair (Alike work scalar) = IsNumber scalar × IsWork work
 CanPair (Signs comparison left_signed) = Unit {0}
@@ -76,12 +76,12 @@ CanPair (With comparison width other) = Unit {0}
 
 -- ---- comparisons
 
--- the items of two element types are compared
+-- the items of two element types can be compared
 abbrev pub AreComparable : Descr → Descr → Type 0
 AreComparable (ScalarDescr left) (ScalarDescr right) = are_comparable left right ≡ true
 AreComparable _ _ = ⊥
 
--- numbers of two scalars are compared by value, as those of scalars that hold them
+-- A pairing that compares numbers of two scalars by value, after a cast to scalars that hold all their values.
 pub record IsComparing (comparison : Comparison) (from from' : Scalar) (p : Pairing) : Type 0 where
   pub can : CanPair p
   pub left : IsNumber (left_of p) × Holds from (left_of p)

@@ -12,9 +12,9 @@ use Rattle.elementwise.proofs.StretchedLaws.{stretches-itself}
 use Rattle.elementwise.proofs.TypedLaws.{stretched-cast}
 use Rattle.elementwise.proofs.apply.make_cast.Goals as goal
 
--- ---- as they lie
+-- ---- items that are used in place
 
--- items that a cast leaves as they are, stretched to the shape that they have
+-- items that a cast leaves unchanged, stretched to their own shape
 as_cast : (x : Items) (to : Descr) (shape : List ℕ) → x.layout.now.shape ≡ shape → can_stretch x.layout.now.shape shape ≡ true →
     map (item_from to x.block.now) (offsets x.layout.now) ≡ map (cast_item x.descr.now to) (items x) →
     map (item_from to x.block.now) (offsets x.layout.now) ≡ map (cast_item x.descr.now to) (stretched x shape)

@@ -2,7 +2,7 @@ use Rattle.std.proofs.Common.{ℕ, ◌+◌, ◌≤◌, length, All}
 use Rattle.elementwise.specs.Words.{without_nuls, item_at, offsets}
 use Rattle.elementwise.proofs.byte_strings.longest.Given as goal
 
--- what is long enough for the items that are left is so for all of them
+-- a length that is enough for the remaining items is enough for all items
 abbrev pub invariant-loop-offset : goal.invariant-loop-offset
 invariant-loop-offset l = record {
   inside : All (λ offset. offset + l.width ≤ length l.block) l.offset-iterator;

@@ -4,7 +4,7 @@ use Rattle.elementwise.specs.Casts.{can_cast_fields}
 use Rattle.elementwise.proofs.FieldLaws.{left}
 use Rattle.elementwise.proofs.castable.+can_cast_fields.Given as goal
 
--- it is for the fields that are left to say
+-- the remaining fields decide
 abbrev pub invariant-can_cast_fields-loop-k : goal.invariant-can_cast_fields-loop-k
 invariant-can_cast_fields-loop-k l = left l.from l.to l.k ≡ can_cast_fields (listed l.from) (listed l.to)
 

@@ -4,7 +4,7 @@ use Rattle.elementwise.specs.inside.LeafCasts.{IsLeafCast}
 use Rattle.elementwise.proofs.EncodedLaws.{HaveZeros}
 use Rattle.elementwise.proofs.casts.cast_band.Given as goal
 
--- the leaves so far are cast, and what lies between leaves is zeros
+-- the first leaves are cast, and there are zeros between leaves
 abbrev pub invariant-loop-k : goal.invariant-loop-k
 invariant-loop-k l =
     let os = run_offsets l.from.items.run in

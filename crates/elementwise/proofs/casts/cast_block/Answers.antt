@@ -11,7 +11,7 @@ use Rattle.elementwise.proofs.CutLaws.{first-bytes-cast}
 use Rattle.elementwise.proofs.RowLaws.{row-within}
 use Rattle.elementwise.proofs.casts.cast_block.Goals as goal
 
--- ---- items that make one run
+-- ---- items that are one run
 
 pub invariant_of-items : goal.invariant_of-items
 invariant_of-items c =
@@ -32,7 +32,7 @@ cast_run-requires-clause-few c =
     let l = c.args.from.layout.now in
     omega (arith, ap (λ n. n * item_size c.args.to.now) (sym (length-run_offsets run) ∙ ap length c.in-Some.ensures.items ∙ length-offsets l), c.requires.few)
 
--- ---- items that are put one after another first
+-- ---- items that are gathered first
 
 pub invariant_of-items-2 : goal.invariant_of-items-2
 invariant_of-items-2 c =

@@ -6,7 +6,7 @@ use Rattle.elementwise.specs.inside.Combined.{all_given}
 use Rattle.elementwise.specs.inside.Works.{target_of}
 use Rattle.elementwise.proofs.chunks.make_by_chunks.Given as goal
 
--- what is given on the first items has been pushed, and there is room for the rest
+-- the results on the first items are appended, and there is room for the rest
 abbrev pub invariant-loop-done : goal.invariant-loop-done
 invariant-loop-done l = record {
   made : l.block.0 ≡ flat_map (encode_item (ScalarDescr (target_of l.pairing))) (all_given l.pairing l.runs.both (run_front l.done l.runs.left) (run_front l.done l.runs.right));

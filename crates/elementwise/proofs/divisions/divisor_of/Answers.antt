@@ -7,7 +7,7 @@ use Rattle.elementwise.specs.declared.divisions.Divisor.{Divisor}
 use Rattle.elementwise.proofs.HeldLaws.{side-small}
 use Rattle.elementwise.proofs.divisions.divisor_of.Goals as goal
 
--- items without a step between them are one
+-- if the step is 0, all items are the same
 same_place : (at : ℕ) (step : ℤ) (k : ℕ) → step ≡ pos 0 → place at step k ≡ place at step 0
 same_place at step k still =
     (λ i. nat_abs (pos at +ℤ pos k *ℤ still i)) ∙ (let none : nat_abs (pos at +ℤ pos k *ℤ pos 0) ≡ nat_abs (pos at +ℤ pos 0 *ℤ pos 0) = omega (arith, ints) in none) ∙ λ i. nat_abs (pos at +ℤ pos 0 *ℤ sym still i)
@@ -15,7 +15,7 @@ same_place at step k still =
 same_number : (scalar : Scalar) (s : Side) (k : ℕ) → s.run.step ≡ pos 0 → number_of_side scalar s k ≡ number_of_side scalar s 0
 same_number scalar s k still = ap (λ at. number_of (decode scalar (item_at at s.width s.bytes.now))) (same_place s.run.offset s.run.step k still)
 
--- what is known of the bits is known of those of the divisor
+-- what is known of the bits is known of the divisor's bits
 of_given : (P : ℕ → Type 0) (r : Option Divisor) (signed : Bool) (bits : ℕ) → IfSome r (λ d. (d.signed ≡ signed) × (d.bits ≡ bits)) → P bits → IfSome r (λ d. P d.bits)
 of_given P None signed bits given known = tt
 of_given P (Some d) signed bits given known = subst P (sym given.1) known

@@ -7,7 +7,7 @@ use Rattle.elementwise.specs.inside.Operands.{pairs_of, made_of_all}
 use Rattle.elementwise.proofs.PairLaws.{firsts, seconds}
 use Rattle.elementwise.proofs.row_pairs.Operands.push_rows.Given as goal
 
--- the rows that are left lead to what all of them do
+-- appending the results on the remaining rows completes the whole
 abbrev pub invariant-loop-row : goal.invariant-loop-row
 invariant-loop-row g l =
     let o = l.fn.self in
