@@ -1,4 +1,4 @@
--- The words of the crates below, for this crate's clauses, definitions and proofs.
+-- Names from the crates below, which this crate's contracts, definitions and proofs use.
 pub use Rattle.elem_descr.specs.Blocks.{blocks, item_from}
 pub use Rattle.elem_descr.specs.DescriptorLaws.{listed-fields_of, rest_at, weight-one}
 pub use Rattle.elem_descr.specs.Descriptors.{before, fields_of, leaf_count, listed}

@@ -1,4 +1,4 @@
--- Names from the crates below, used by the contracts, definitions and proofs of this crate.
+-- Names from the crates below, which this crate's contracts, definitions and proofs use.
 pub use Rattle.elem_descr.specs.Blocks.{item_from}
 pub use Rattle.elem_descr.specs.Items.{decode_item, item_size}
 pub use Rattle.elem_descr.specs.StepLaws.{numbers-split}

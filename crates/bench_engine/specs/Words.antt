@@ -1,4 +1,4 @@
--- The words of the crates below that this crate's clauses, definitions and proofs use.
+-- Names from the crates below, which this crate's contracts, definitions and proofs use.
 pub use Rattle.elem_descr.specs.Blocks.{blocks, item_from, items_in}
 unfoldable pub use Rattle.elem_descr.specs.DescrTexts.{descriptor}
 pub use Rattle.elem_descr.specs.Encoding.{IsNumber, decode, integer, number_in, size, truth}

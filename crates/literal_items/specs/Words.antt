@@ -1,4 +1,4 @@
--- The words of the crates below, for this crate's clauses, definitions and proofs.
+-- Names from the crates below, which this crate's contracts, definitions and proofs use.
 pub use Rattle.elem_descr.specs.Blocks.{blocks, items_in}
 pub use Rattle.elem_descr.specs.ByteLaws.{length-bytes_of, length-encode, length-padded}
 pub use Rattle.elem_descr.specs.DescriptorLaws.{field_within, rest_at, seen_fields, weight-one}

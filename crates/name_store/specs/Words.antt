@@ -1,4 +1,4 @@
--- Names from the crates below, used by the contracts, definitions and proofs of this crate.
+-- Names from the crates below, which this crate's contracts, definitions and proofs use.
 pub use Rattle.elem_descr.specs.Blocks.{blocks, item_from, items_in}
 pub use Rattle.elem_descr.specs.DescriptorLaws.{InOrder-within, legal_size, some_depth, some_leaves}
 pub use Rattle.elem_descr.specs.Descriptors.{AreNamed, AreNamedWithin, InOrder, IsLegal, depth}

@@ -1,4 +1,4 @@
--- The words of the crates below, for this crate's clauses, definitions and proofs.
+-- Names from the crates below, which this crate's contracts, definitions and proofs use.
 pub use Rattle.disk.specs.Calls.{AlwaysHas, Appends, HasCause, Replaces, last_count}
 pub use Rattle.disk.specs.CrashLaws.{always_ok, both_but, both_same, but_replaces, but_same}
 pub use Rattle.disk.specs.CrashLaws.{only_but, then_but, then_same, unmoved, weaker}

@@ -1,4 +1,4 @@
--- The words of the crates below, for this crate's clauses, definitions and proofs.
+-- Names from the crates below, which this crate's contracts, definitions and proofs use.
 pub use Rattle.elem_descr.specs.Blocks.{blocks, item_from}
 pub use Rattle.elem_descr.specs.BuildingLaws.{added_ok, field_of, grown, name_ok, names, not_taken}
 pub use Rattle.elem_descr.specs.BuildingLaws.{packed, record_type, widened-capped}
