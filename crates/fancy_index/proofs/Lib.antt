@@ -1,4 +1,5 @@
 mod Vectors
+pub mod ShortLaws
 mod WideLaws
 pub mod PlanLaws
 pub mod RunLaws

@@ -6,6 +6,7 @@ ghost use Rattle.fancy_index.specs.inside.Kept.{FitAt, end_of, moved_offsets, of
 ghost use Rattle.std.specs.Prelude.{All, length, ◌*◌, ◌++◌, ◌+◌, ◌≡◌, ◌≤◌};
 
 use crate::plan_rows::{MovedLayout, PlanAxes, Shifted, fill_run, moved, moved_run};
+use crate::short_rows::ShortRows;
 use crate::singles::{PackedItems, fill_singles, push_singles, scatter_singles};
 use arrays::{copy_run, packed_run};
 use raw_block::{BlockBuilder, RawBlock};
@@ -75,6 +76,9 @@ pub(crate) fn push_all(
     ensures bytes { result.0 ≡ items.0 ++ joined_at (offsets_from axes.now) width block.now }
     ensures left { length (offsets_from axes.now) * width + result.1 ≡ items.1 }
 {
+    if let Some(rows) = ShortRows::of(axes) {
+        return rows.push(items, block, width);
+    }
     let mut items = items;
     for place in Walk::new(&axes.outer) {
         items = push_shifted(items, block, axes.rows(place), width);
@@ -141,6 +145,10 @@ pub(crate) fn scatter(block: &mut RawBlock, axes: &PlanAxes, items: &RawBlock, w
         block.new ≡ assigned (offsets_from axes.now) packed width items.now block.old }
     ensures len { length block.new ≡ length block.old }
 {
+    if let Some(rows) = ShortRows::of(axes) {
+        rows.scatter(block, items, width);
+        return;
+    }
     let mut at = 0;
     for place in Walk::new(&axes.outer) {
         at = scatter_shifts(block, axes.rows(place), PackedItems { items, at, width });
@@ -190,6 +198,10 @@ pub(crate) fn fill(block: &mut RawBlock, axes: &PlanAxes, item: &[u8])
     ensures written { block.new ≡ put_each (offsets_from axes.now) item.now block.old }
     ensures len { length block.new ≡ length block.old }
 {
+    if let Some(rows) = ShortRows::of(axes) {
+        rows.fill(block, item);
+        return;
+    }
     for place in Walk::new(&axes.outer) {
         fill_shifts(block, axes.rows(place), item);
     }

@@ -7,7 +7,7 @@ ghost use Rattle.fancy_index.specs.inside.Kept.{offsets_from};
 
 use crate::gather_scatter::{fill, push_all, scatter};
 use crate::plan_rows::{PlanAxes, moved};
-use arrays::Owned;
+use arrays::{Owned, gather};
 use elem_descr::{Descr, MemoryOrder, Refusal};
 use raw_block::{BlockBuilder, RawBlock};
 use shape_strides::{Layout, MAX_BYTES, Shape, Walk};
@@ -208,8 +208,16 @@ impl Plan {
     }
 
     /// Copies the items, of `width` bytes, of a layout in another block to the offsets, strictly in
-    /// order of rank. The layout has as many items.
-    pub fn assign(&self, block: &mut RawBlock, other: &RawBlock, from: &Layout, width: usize)
+    /// order of rank. The layout has as many items. If memory allows, they are made adjacent first:
+    /// finding the place of each item by its rank is slow.
+    pub fn assign(
+        &self,
+        alloc: Global,
+        block: &mut RawBlock,
+        other: &RawBlock,
+        from: &Layout,
+        width: usize,
+    )
         requires inside { All (λ offset. offset + width ≤ length block.old) self.now.offsets }
         requires from { All (λ offset. offset + width ≤ length other.now) (offsets from.now) }
         requires count { length (offsets from.now) ≡ length self.now.offsets }
@@ -219,6 +227,10 @@ impl Plan {
     {
         if is_packed(from, width) {
             self.scatter(block, other, width);
+            return;
+        }
+        if let Ok(items) = gather(alloc, other, from, width) {
+            self.scatter(block, &items, width);
             return;
         }
         let _items = self.len();

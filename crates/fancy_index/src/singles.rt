@@ -60,7 +60,12 @@ fn put_item(block: &mut RawBlock, to: usize, bytes: &[u8], at: usize, width: usi
 /// Appends the `width` bytes at each shifted place. If the compiler knows the width, each is a
 /// single load and store.
 #[inline(always)]
-fn push_each(items: BlockBuilder, block: &RawBlock, rows: Shifted<'_>, width: usize) -> BlockBuilder
+pub(crate) fn push_each(
+    items: BlockBuilder,
+    block: &RawBlock,
+    rows: Shifted<'_>,
+    width: usize,
+) -> BlockBuilder
     requires inside { All (λ offset. offset + width ≤ length block.now) (first_offsets rows) }
     requires room { length (first_offsets rows) * width ≤ items.1 }
     ensures bytes { result.0 ≡ items.0 ++ joined_at (first_offsets rows.entry) width block.now }
@@ -139,7 +144,11 @@ pub(crate) struct PackedItems<'a> {
 /// Copies the items of a source, each to one of the shifted places. Returns where the copied items
 /// end. If the compiler knows the width, each is a single load and store.
 #[inline(always)]
-fn scatter_each(block: &mut RawBlock, rows: Shifted<'_>, source: PackedItems<'_>) -> usize
+pub(crate) fn scatter_each(
+    block: &mut RawBlock,
+    rows: Shifted<'_>,
+    source: PackedItems<'_>,
+) -> usize
     requires inside { FitAt (first_offsets rows) source.width block.old }
     requires room { end_of source (length (first_offsets rows)) ≤ length source.items.now }
     ensures written { block.new ≡ put_packed (first_offsets rows.entry) source.entry block.old }
@@ -211,7 +220,7 @@ pub(crate) fn scatter_singles(
 /// Writes the item at each shifted place. If the compiler knows the length of the item, each is a
 /// single store.
 #[inline(always)]
-fn fill_each(block: &mut RawBlock, rows: Shifted<'_>, item: &[u8])
+pub(crate) fn fill_each(block: &mut RawBlock, rows: Shifted<'_>, item: &[u8])
     requires { All (λ offset. offset + length item.now ≤ length block.old) (first_offsets rows) }
     ensures written { block.new ≡ put_each (first_offsets rows.entry) item.now block.old }
     ensures len { length block.new ≡ length block.old }

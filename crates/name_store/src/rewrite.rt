@@ -77,7 +77,7 @@ pub(crate) fn copy_to(
 {
     match target {
         Target::View(to) => assign_from(alloc, block, to, other, from, width),
-        Target::Plan(plan) => plan.assign(block, other, from, width),
+        Target::Plan(plan) => plan.assign(alloc, block, other, from, width),
     }
 }
 

@@ -1,16 +1,17 @@
--- Where the items lie to which the axes of a plan lead.
-use Rattle.std.specs.Prelude.{◌≡◌, ◌+◌, ◌*◌, ◌≤◌, ℕ, List, map, length, All}
+-- The offsets of the items of a plan.
+use Rattle.std.specs.Prelude.{◌≡◌, ◌+◌, ◌*◌, ◌≤◌, ℕ, List, map, length, get_or, All}
 use Rattle.fancy_index.specs.Words.{assigned, joined_at, row_offsets, offsets, EachWithin, Run, run_offsets}
 use Rattle.fancy_index.specs.declared.plan_rows.MovedLayout.{MovedLayout}
 use Rattle.fancy_index.specs.declared.plan_rows.PlanAxes.{PlanAxes}
 use Rattle.fancy_index.specs.declared.plan_rows.Shifted.{Shifted}
+use Rattle.fancy_index.specs.declared.short_rows.ShortRows.{ShortRows}
 use Rattle.fancy_index.specs.declared.singles.PackedItems.{PackedItems}
-use Rattle.fancy_index.specs.inside.Moved.{moved_offset, shifted_all, laid_offsets}
+use Rattle.fancy_index.specs.inside.Moved.{moved_offset, shifted_all, moved_all, laid_offsets}
 
 abbrev pub moved_offsets : MovedLayout → List ℕ
 moved_offsets moved = map (moved_offset moved.layout.now.offset moved.start) (offsets moved.layout.now)
 
--- where the first of the inner items lies with each shift, and where all lie
+-- the offsets of the first inner item with each shift, and of all inner items
 abbrev pub first_offsets : Shifted → List ℕ
 first_offsets rows = map (moved_offset rows.inner.now.offset rows.place) rows.shifts.now
 
@@ -20,25 +21,32 @@ shifted_offsets rows = shifted_all rows.inner.now.offset rows.shifts.now (offset
 abbrev pub offsets_from : PlanAxes → List ℕ
 offsets_from axes = laid_offsets axes.outer axes.shifts.items axes.inner
 
--- where so many items of a source end
+-- the offsets of all items of short rows, and of those at the `k`-th place
+abbrev pub short_offsets : ShortRows → List ℕ
+short_offsets rows = let axes = rows.axes.now in moved_all axes.inner.offset (run_offsets rows.places) axes.shifts.items (offsets axes.inner)
+
+abbrev pub row_at : ShortRows → ℕ → List ℕ
+row_at rows k = let axes = rows.axes.now in shifted_all axes.inner.offset axes.shifts.items (offsets axes.inner) (get_or (run_offsets rows.places) k 0)
+
+-- the offset at which the first `n` items of a source end
 abbrev pub end_of : PackedItems → ℕ → ℕ
 end_of source n = source.at + n * source.width
 
--- a block, with the items of a source put to these offsets
+-- a block, with the items of a source copied to these offsets
 abbrev pub put_packed : List ℕ → PackedItems → List ℕ → List ℕ
 put_packed to source block = assigned to (row_offsets source.at source.width (length to)) source.width source.items.now block
 
--- items of `width` bytes at these offsets lie in the block
+-- Items of `width` bytes at these offsets lie within the block.
 abbrev pub FitAt : List ℕ → ℕ → List ℕ → Type 0
 FitAt offsets width block = All (λ offset. offset + width ≤ length block) offsets
 
--- a run of items that lie at these offsets
+-- a run whose items have these offsets
 pub record IsRunOf (offsets : List ℕ) (run : Run) : Type 0 where
   pub same : run_offsets run ≡ offsets
   pub count : run.count ≡ length offsets
   pub within : (len width : ℕ) → All (λ offset. offset + width ≤ len) offsets → EachWithin len run.offset run.step width run.count
 
--- the inner items are adjacent: with each shift they are one item of so many bytes
+-- The inner items are adjacent, so with each shift they are one item of `bytes` bytes.
 pub record AreWide (rows : Shifted) (width bytes : ℕ) : Type 0 where
   pub size : length (shifted_offsets rows) * width ≡ length (first_offsets rows) * bytes
   pub joined : (block : List ℕ) → joined_at (shifted_offsets rows) width block ≡ joined_at (first_offsets rows) bytes block

@@ -8,21 +8,21 @@ use Rattle.fancy_index.proofs.gather_scatter.push_all.Goals as goal
 pub push_shifted-items-requires-clause-inside : goal.push_shifted-items-requires-clause-inside
 push_shifted-items-requires-clause-inside c =
     let axes = c.args.axes.now in
-    let split = split-places axes.inner.offset (offsets axes.inner) axes.shifts.items _ _ _ _ c.in-Some.ensures.steps c.rows.ensures in
+    let split = split-places axes.inner.offset (offsets axes.inner) axes.shifts.items _ _ _ _ c.in-Some-place.ensures.steps c.rows.ensures in
     (push_front _ _ _ _ _ _ _ _ split c.loop-place.invariant.pass).inside
 
 pub push_shifted-items-requires-clause-room : goal.push_shifted-items-requires-clause-room
 push_shifted-items-requires-clause-room c =
     let axes = c.args.axes.now in
-    let split = split-places axes.inner.offset (offsets axes.inner) axes.shifts.items _ _ _ _ c.in-Some.ensures.steps c.rows.ensures in
+    let split = split-places axes.inner.offset (offsets axes.inner) axes.shifts.items _ _ _ _ c.in-Some-place.ensures.steps c.rows.ensures in
     (push_front _ _ _ _ _ _ _ _ split c.loop-place.invariant.pass).room
 
 pub loop-place-preserved : goal.loop-place-preserved
 loop-place-preserved c =
     let axes = c.args.axes.now in
-    let split = split-places axes.inner.offset (offsets axes.inner) axes.shifts.items _ _ _ _ c.in-Some.ensures.steps c.rows.ensures in
+    let split = split-places axes.inner.offset (offsets axes.inner) axes.shifts.items _ _ _ _ c.in-Some-place.ensures.steps c.rows.ensures in
     record {
-      starts = All-rest (AreStarts axes.inner.offset (offsets axes.inner) axes.shifts.items) _ _ _ c.in-Some.ensures.steps c.loop-place.invariant.starts;
+      starts = All-rest (AreStarts axes.inner.offset (offsets axes.inner) axes.shifts.items) _ _ _ c.in-Some-place.ensures.steps c.loop-place.invariant.starts;
       pass = pushed_front _ _ _ _ _ _ _ _ _ split c.push_shifted-items.ensures.bytes c.push_shifted-items.ensures.left c.loop-place.invariant.pass;
     }
 

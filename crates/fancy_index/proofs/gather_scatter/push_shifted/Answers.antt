@@ -5,7 +5,7 @@ use Rattle.fancy_index.specs.inside.Moved.{shifted_all}
 use Rattle.fancy_index.proofs.Passes.{push_front, pushed_front, pushed_all, split-shifts}
 use Rattle.fancy_index.proofs.gather_scatter.push_shifted.Goals as goal
 
--- adjacent items have as many bytes, each by itself and together
+-- Adjacent items have the same number of bytes one by one and together.
 pub push_singles-requires-clause-room : goal.push_singles-requires-clause-room
 push_singles-requires-clause-room c = omega (arith, c.in-Some.ensures.size, c.requires.room)
 

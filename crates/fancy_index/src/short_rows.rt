@@ -1,0 +1,149 @@
+//! Short rows: a few items at each place of a run, as `a[:,j]` selects them if `j` is short. They
+//! are gathered, copied and filled in a single loop, with a loop of its own for each common width.
+ghost use Rattle.std.specs.Prelude.{◌≡◌, ◌≤◌};
+ghost use Rattle.fancy_index.specs.Words.{BeginsWithin, count, max_items, offsets, run_offsets};
+
+use crate::plan_rows::{PlanAxes, Shifted};
+use crate::singles::{PackedItems, fill_each, push_each, scatter_each};
+use raw_block::{BlockBuilder, RawBlock};
+use shape_strides::Run;
+
+/// Rows of more items are long: a call for each row costs little, and adjacent items are copied as
+/// one range.
+const SHORT: usize = 32;
+
+/// The items of a plan whose inner axes have a single item: at each place of a run, one item for
+/// each of a few shifts.
+#[derive(Clone, Copy, Drop)]
+pub(crate) struct ShortRows<'a> {
+    pub axes: &'a PlanAxes,
+    pub places: Run,
+    pub ghost same: { run_offsets places ≡ offsets axes.now.outer },
+    pub ghost begins: { BeginsWithin places },
+    pub ghost few: { places.count ≤ max_items },
+    pub ghost single: { count axes.now.inner.shape ≡ 1 },
+}
+
+impl<'a> ShortRows<'a> {
+    ghost use Rattle.std.specs.Prelude.{◌+◌, ◌*◌, ◌<◌, ◌++◌, length, IfSome};
+    ghost use Rattle.fancy_index.specs.Plans.{put_each};
+    ghost use Rattle.fancy_index.specs.Words.{assigned, joined_at, row_offsets};
+    ghost use Rattle.fancy_index.specs.inside.Kept.{FitAt, first_offsets, offsets_from, row_at, short_offsets};
+
+    /// The items of a plan as short rows, if they are.
+    pub(crate) fn of(axes: &'a PlanAxes) -> Option<ShortRows<'a>>
+        ensures { IfSome result (λ rows. short_offsets rows ≡ offsets_from axes.now) }
+    {
+        if axes.shifts.len() > SHORT || axes.inner.shape.items() != 1 {
+            return None;
+        }
+        let _count = axes.outer.shape.items();
+        let places = axes.outer.as_one_run()?;
+        Some(ShortRows { axes, places })
+    }
+
+    /// The items at one of the places.
+    #[inline(always)]
+    fn row(self, k: usize) -> Shifted<'a>
+        requires { k < self.places.count }
+        ensures { first_offsets result ≡ row_at self.entry k }
+    {
+        Shifted {
+            shifts: self.axes.shifts.as_slice(),
+            inner: &self.axes.inner,
+            place: self.places.offset_after(k),
+        }
+    }
+
+    /// Appends all items, of `width` bytes. If the compiler knows the width, each is a single load
+    /// and store.
+    #[inline(always)]
+    fn push_rows(self, items: BlockBuilder, block: &RawBlock, width: usize) -> BlockBuilder
+        requires inside { FitAt (short_offsets self) width block.now }
+        requires room { length (short_offsets self) * width ≤ items.1 }
+        ensures bytes { result.0 ≡ items.0 ++ joined_at (short_offsets self.entry) width block.now }
+        ensures left { length (short_offsets self.entry) * width + result.1 ≡ items.1 }
+    {
+        let mut items = items;
+        for k in 0..self.places.count {
+            items = push_each(items, block, self.row(k), width);
+        }
+        items
+    }
+
+    /// Appends all items, of `width` bytes.
+    pub(crate) fn push(self, items: BlockBuilder, block: &RawBlock, width: usize) -> BlockBuilder
+        requires inside { FitAt (short_offsets self) width block.now }
+        requires room { length (short_offsets self) * width ≤ items.1 }
+        ensures bytes { result.0 ≡ items.0 ++ joined_at (short_offsets self.entry) width block.now }
+        ensures left { length (short_offsets self.entry) * width + result.1 ≡ items.1 }
+    {
+        match width {
+            1 => self.push_rows(items, block, 1),
+            2 => self.push_rows(items, block, 2),
+            4 => self.push_rows(items, block, 4),
+            8 => self.push_rows(items, block, 8),
+            _ => self.push_rows(items, block, width),
+        }
+    }
+
+    /// Copies the adjacent items, of `width` bytes, in `items` to all places. If the compiler knows
+    /// the width, each is a single load and store.
+    #[inline(always)]
+    fn scatter_rows(self, block: &mut RawBlock, items: &RawBlock, width: usize)
+        requires inside { FitAt (short_offsets self) width block.old }
+        requires room { length (short_offsets self) * width ≤ length items.now }
+        ensures written { let to = short_offsets self.entry in
+            block.new ≡ assigned to (row_offsets 0 width (length to)) width items.now block.old }
+        ensures len { length block.new ≡ length block.old }
+    {
+        let mut at = 0;
+        for k in 0..self.places.count {
+            at = scatter_each(block, self.row(k), PackedItems { items, at, width });
+        }
+    }
+
+    /// Copies the adjacent items, of `width` bytes, in `items` to all places.
+    pub(crate) fn scatter(self, block: &mut RawBlock, items: &RawBlock, width: usize)
+        requires inside { FitAt (short_offsets self) width block.old }
+        requires room { length (short_offsets self) * width ≤ length items.now }
+        ensures written { let to = short_offsets self.entry in
+            block.new ≡ assigned to (row_offsets 0 width (length to)) width items.now block.old }
+        ensures len { length block.new ≡ length block.old }
+    {
+        match width {
+            1 => self.scatter_rows(block, items, 1),
+            2 => self.scatter_rows(block, items, 2),
+            4 => self.scatter_rows(block, items, 4),
+            8 => self.scatter_rows(block, items, 8),
+            _ => self.scatter_rows(block, items, width),
+        }
+    }
+
+    /// Writes the item to all places. If the compiler knows its length, each is a single store.
+    #[inline(always)]
+    fn fill_rows(self, block: &mut RawBlock, item: &[u8])
+        requires { FitAt (short_offsets self) (length item.now) block.old }
+        ensures written { block.new ≡ put_each (short_offsets self.entry) item.now block.old }
+        ensures len { length block.new ≡ length block.old }
+    {
+        for k in 0..self.places.count {
+            fill_each(block, self.row(k), item);
+        }
+    }
+
+    /// Writes the item to all places.
+    pub(crate) fn fill(self, block: &mut RawBlock, item: &[u8])
+        requires { FitAt (short_offsets self) (length item.now) block.old }
+        ensures written { block.new ≡ put_each (short_offsets self.entry) item.now block.old }
+        ensures len { length block.new ≡ length block.old }
+    {
+        match *item {
+            [a] => self.fill_rows(block, &[a]),
+            [a, b] => self.fill_rows(block, &[a, b]),
+            [a, b, c, d] => self.fill_rows(block, &[a, b, c, d]),
+            [a, b, c, d, e, f, g, h] => self.fill_rows(block, &[a, b, c, d, e, f, g, h]),
+            _ => self.fill_rows(block, item),
+        }
+    }
+}
