@@ -1,19 +1,19 @@
 -- The ranks of true bools.
-use Rattle.std.proofs.Common.{◌≡◌, ◌⊎◌, inl, inr, ℕ, zero, suc, ◌+◌, ◌*◌, ◌<◌, ◌≤◌, true, false, List, [], ◌∷◌, ◌++◌, map, length, get_or, set, take, drop, refl, sym, ap, subst, ◌∙◌, arith, append_assoc}
+use Rattle.std.proofs.Common.{◌≡◌, ◌⊎◌, inl, inr, ℕ, zero, suc, ◌+◌, ◌-◌, ◌*◌, ◌<◌, ◌≤◌, true, false, List, [], ◌∷◌, ◌++◌, map, length, get_or, set, take, drop, refl, sym, ap, subst, ◌∙◌, arith, append_assoc}
 use Rattle.std.specs.List.{flat_map}
 use Rattle.std.specs.Ordering.{int_eq}
 use Rattle.std.proofs.lemmas.Int.{ints}
 use Rattle.std.proofs.lemmas.Simd.{map-map}
-use Rattle.std.proofs.lemmas.List.{get_or-map, length-map, get_or-drop, drop_more, map-append, take-set, take_more_set}
+use Rattle.std.proofs.lemmas.List.{get_or-map, length-map, get_or-drop, get_or-take, drop_more, map-append, take-set, take_more_set}
 use lib.IntN.{ℤ, pos, ◌*ℤ◌}
-use Rattle.fancy_index.specs.Words.{Descr, Byte, Int, Bytes, item_from, truth, Run, run_offsets, length-run_offsets}
+use Rattle.fancy_index.specs.Words.{item_at, Descr, Byte, Int, Bytes, item_from, truth, Run, run_offsets, length-run_offsets}
 use Rattle.elem_descr.specs.declared.descr.Descr.TheVariants.{Scalar as ScalarDescr, Record as RecordDescr}
 use Rattle.elem_descr.specs.declared.scalar.Scalar.TheVariants.{Bool as BoolScalar}
 use Rattle.fancy_index.specs.declared.index_parts.Kind.TheVariants.{Mask}
 use Rattle.fancy_index.specs.IndexArrays.{kind_of, axes_of_kind}
 use Rattle.fancy_index.specs.Sources.{first_number, number_from}
 use Rattle.fancy_index.specs.declared.masks.Bools.{Bools}
-use Rattle.fancy_index.specs.inside.Bools.{bool_at, bools_in, LieInBytes}
+use Rattle.fancy_index.specs.inside.Bools.{bool_at, bools_in, ranks_from, LieInBytes}
 use Rattle.fancy_index.specs.inside.PointLists.{true_ranks}
 use Rattle.fancy_index.proofs.RunLaws.{lies-there}
 
@@ -127,6 +127,26 @@ module _ (bools : Bools) (lie : LieInBytes bools) (one : bools.run.step ≡ pos 
 
   pub bool-after : get_or (bools_in bools) k (pos 0) ≡ bool_at bools.bytes.now (bools.run.offset + k)
   bool-after = bool-there bools k (bools.run.offset + k) low offset-after
+
+-- a bool among adjacent ones that were loaded together
+pub loaded-bool : (bools : Bools) → LieInBytes bools → bools.run.step ≡ pos 1 → (at n j : ℕ) (loaded : List ℕ) → loaded ≡ item_at (bools.run.offset + at) n bools.bytes.now → j < n → at + j < bools.run.count →
+    get_or (bools_in bools) (at + j) (pos 0) ≡ pos (truth (get_or loaded j 0))
+loaded-bool bools lie one at n j loaded is low within =
+    let bytes = bools.bytes.now in
+    let next : bools.run.offset + (at + j) ≡ bools.run.offset + at + j = omega arith in
+    bool-after bools lie one (at + j) within
+    ∙ ap (λ k. pos (truth (get_or bytes k 0))) next
+    ∙ ap (λ byte. pos (truth byte)) (sym (ap (λ l. get_or l j 0) is ∙ get_or-take n (drop (bools.run.offset + at) bytes) j 0 low ∙ get_or-drop (bools.run.offset + at) bytes j 0))
+
+-- if adjacent bools that were loaded together are all false, they add no rank
+pub loaded-none : (bools : Bools) → LieInBytes bools → bools.run.step ≡ pos 1 → (at n : ℕ) (loaded : List ℕ) → loaded ≡ item_at (bools.run.offset + at) n bools.bytes.now → at + n ≤ bools.run.count → ((j : ℕ) → j < n → get_or loaded j 0 ≡ 0) →
+    ranks_from bools at ≡ ranks_from bools (at + n)
+loaded-none bools lie one at n loaded is fits none =
+    none_true (bools_in bools) bools.rank at n (omega (arith, fits, length-bools bools)) (λ k low high.
+    let j : at + (k - at) ≡ k = omega (arith, low) in
+    ap (λ k. get_or (bools_in bools) k (pos 0)) (sym j)
+    ∙ loaded-bool bools lie one at n (k - at) loaded is (omega (arith, low, high)) (omega (arith, low, high, fits))
+    ∙ ap (λ byte. pos (truth byte)) (none (k - at) (omega (arith, low, high))))
 
 -- the ranks that were found are appended
 pub found_added : (ranks ranks' found whole later later' : List ℕ) → ranks' ≡ ranks ++ found → found ++ later' ≡ later → ranks ++ later ≡ whole → ranks' ++ later' ≡ whole

@@ -5,8 +5,9 @@ ghost use Rattle.fancy_index.specs.inside.Bools.{AreAll, LieInBytes, bools_in, r
 ghost use Rattle.fancy_index.specs.inside.Items.{kind_in, numbers_in};
 ghost use Rattle.fancy_index.specs.inside.PointLists.{true_ranks};
 ghost use Rattle.fancy_index.specs.inside.Ranks.{IsAtRun, led};
-ghost use Rattle.std.specs.Prelude.{All, IfOk, IsTrue, OnOk, [], drop, get_or, length, slice_index, take, ℕ, ◌++◌, ◌+◌, ◌<◌, ◌∷◌, ◌≡◌, ◌≤◌};
+ghost use Rattle.std.specs.Prelude.{All, IfOk, IsTrue, List, OnOk, [], drop, get_or, length, pos, slice_index, take, ℕ, ◌++◌, ◌+◌, ◌<◌, ◌∷◌, ◌≡◌, ◌≤◌};
 
+use crate::singles::array_at;
 use arrays::{Items, copy, goes_by_columns};
 use elem_descr::MemoryOrder;
 use shape_strides::{Layout, Run, Runs};
@@ -29,10 +30,49 @@ fn truth(byte: u8) -> usize
     (byte != 0) as usize
 }
 
-/// Writes the ranks of the true bools in a range, one after another, and returns how many there
-/// are. Each rank is written, and stays if its bool is true, so there is no branch.
-fn note_true(found: &mut [u32; 512], bools: Bools<'_>, from: usize, end: usize) -> usize
+/// Writes the ranks of the true bools in a range after the first `many` ranks, and returns how many
+/// there are then. Each rank is written, and stays if its bool is true, so there is no branch.
+#[inline(always)]
+fn note_true(
+    found: &mut [u32; 512],
+    many: usize,
+    bools: Bools<'_>,
+    from: usize,
+    end: usize,
+) -> usize
     requires lie { LieInBytes bools }
+    requires end { end ≤ bools.run.count }
+    requires few { many + end ≤ from + 512 }
+    requires order { from ≤ end }
+    ensures many { result + from ≤ many + end }
+    ensures found { (whole : List ℕ) → take many found.old ++ ranks_from bools.entry from ≡ whole
+        → take result found.new ++ ranks_from bools.entry end ≡ whole }
+{
+    let mut many = many;
+    for k in from..end {
+        found[many] = (bools.rank + k) as u32;
+        many += truth(bools.bytes[bools.run.offset_after(k)]);
+    }
+    many
+}
+
+/// Whether sixteen bools are all false.
+#[inline(always)]
+fn are_false(bools: &[u8; 16]) -> bool
+    ensures { IsTrue result → (j : ℕ) → j < 16 → get_or bools.now j 0 ≡ 0 }
+{
+    let mut are = true;
+    for j in 0..16 {
+        are &= bools[j] == 0;
+    }
+    are
+}
+
+/// Writes the ranks of the true ones among adjacent bools. Sixteen that are all false are passed over
+/// at once.
+fn note_adjacent(found: &mut [u32; 512], bools: Bools<'_>, from: usize, end: usize) -> usize
+    requires lie { LieInBytes bools }
+    requires adjacent { bools.run.step ≡ pos 1 }
     requires end { end ≤ bools.run.count }
     requires few { end ≤ from + 512 }
     requires order { from ≤ end }
@@ -41,11 +81,15 @@ fn note_true(found: &mut [u32; 512], bools: Bools<'_>, from: usize, end: usize) 
         take result found.new ++ left ≡ ranks_from bools.entry from }
 {
     let mut many = 0;
-    for k in from..end {
-        found[many] = (bools.rank + k) as u32;
-        many += truth(bools.bytes[bools.run.offset_after(k)]);
+    let mut at = from;
+    while end - at >= 16 {
+        let next = at + 16;
+        if !are_false(&array_at::<16>(bools.bytes, bools.run.offset + at)) {
+            many = note_true(found, many, bools, at, next);
+        }
+        at = next;
     }
-    many
+    note_true(found, many, bools, at, end)
 }
 
 /// Writes the ranks of the bools in a range, which are all true.
@@ -91,11 +135,11 @@ fn note_block(found: &mut [u32; 512], bools: Bools<'_>, from: usize, end: usize)
 {
     let Run { offset, step, .. } = bools.run;
     if step != 1 {
-        return note_true(found, bools, from, end);
+        return note_true(found, 0, bools, from, end);
     }
     let first = offset + from;
     if !are_same(bools.bytes, first, offset + end) {
-        note_true(found, bools, from, end)
+        note_adjacent(found, bools, from, end)
     } else if bools.bytes[first] == 0 {
         0
     } else {

@@ -1,8 +1,8 @@
-use Rattle.std.proofs.Common.{ℕ, ◌+◌, ◌<◌, length, sym, ap, subst, ◌∙◌, arith}
+use Rattle.std.proofs.Common.{◌≡◌, ℕ, ◌+◌, ◌<◌, ◌++◌, length, take, sym, ap, subst, ◌∙◌, arith}
 use Rattle.std.proofs.Math.ListN.{length-set}
 use lib.IntN.{pos}
 use Rattle.fancy_index.specs.Words.{length-run_offsets}
-use Rattle.fancy_index.specs.inside.Bools.{bools_in}
+use Rattle.fancy_index.specs.inside.Bools.{bools_in, ranks_from}
 use Rattle.fancy_index.proofs.BoolLaws.{noted, length-bools, bool-there}
 use Rattle.fancy_index.proofs.RunLaws.{first-low, steps-low, steps-high, lies-there}
 use Rattle.fancy_index.proofs.masks.note_true.Goals as goal
@@ -33,6 +33,11 @@ loop-k-preserved c =
       size = length-set c.loop-k.found c.loop-k.many (bools.rank + c.loop-k.k) ∙ c.loop-k.invariant.size;
       many = omega (arith, c.loop-k.invariant.many, c.truth-many.ensures.few);
       low = omega (arith, c.loop-k-test.true);
-      noted = noted (bools_in bools) c.loop-k.found _ bools.rank c.loop-k.many c.loop-k.k c.truth-many.result c.truth-many.ensures.few (omega (arith, low, length-bools bools)) room
-          (bool-there bools c.loop-k.k c.offset_after.result low there ∙ ap pos (sym c.truth-many.ensures.value)) c.loop-k.invariant.noted;
+      noted = λ whole before. noted (bools_in bools) c.loop-k.found whole bools.rank c.loop-k.many c.loop-k.k c.truth-many.result c.truth-many.ensures.few (omega (arith, low, length-bools bools)) room
+          (bool-there bools c.loop-k.k c.offset_after.result low there ∙ ap pos (sym c.truth-many.ensures.value)) (c.loop-k.invariant.noted whole before);
     }
+
+pub returns-clause-found : goal.returns-clause-found
+returns-clause-found c whole before =
+    let at : c.args.end ≡ c.loop-k.k = omega (arith, c.loop-k.invariant.low, c.loop-k-test.false) in
+    ap (λ k. take c.loop-k.many c.loop-k.found ++ ranks_from c.args.bools k) at ∙ c.loop-k.invariant.noted whole before

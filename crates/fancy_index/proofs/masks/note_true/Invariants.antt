@@ -1,12 +1,11 @@
-use Rattle.std.proofs.Common.{◌≡◌, ◌+◌, ◌≤◌, ◌++◌, length, take, drop}
-use Rattle.fancy_index.specs.inside.PointLists.{true_ranks}
-use Rattle.fancy_index.specs.inside.Bools.{bools_in}
+use Rattle.std.proofs.Common.{◌≡◌, ◌+◌, ◌≤◌, ◌++◌, ℕ, List, length, take}
+use Rattle.fancy_index.specs.inside.Bools.{ranks_from}
 use Rattle.fancy_index.proofs.masks.note_true.Given as goal
 
 abbrev pub invariant-loop-k : goal.invariant-loop-k
 invariant-loop-k l = record {
   size : length l.found ≡ 512;
-  many : l.from + l.many ≤ l.k;
+  many : l.from + l.many ≤ l.k + l.fn.many;
   low : l.k ≤ l.end;
-  noted : take l.many l.found ++ true_ranks (l.bools.rank + l.k) (drop l.k (bools_in l.bools)) ≡ true_ranks (l.bools.rank + l.from) (drop l.from (bools_in l.bools));
+  noted : (whole : List ℕ) → take l.fn.many l.fn.found ++ ranks_from l.bools l.from ≡ whole → take l.many l.found ++ ranks_from l.bools l.k ≡ whole;
 }
