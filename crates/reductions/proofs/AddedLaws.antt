@@ -1,13 +1,13 @@
 -- Results that are appended one after another.
-use Rattle.std.proofs.Common.{◌≡◌, ◌+◌, ◌*◌, ◌<◌, ◌≤◌, ℕ, suc, ℤ, List, [], ◌∷◌, ◌++◌, length, take, drop, get_or, inl, inr, sym, ap, subst, ◌∙◌, arith, append_assoc, append-nil, length-append, length-drop, add-mul, add-one, one-mul, zero-mul, suc-mul, mul-le-mul_right, get_or-append-add}
+use Rattle.std.proofs.Common.{◌≡◌, ◌+◌, ◌*◌, ◌<◌, ◌≤◌, ◌^◌, ℕ, suc, ℤ, List, [], ◌∷◌, ◌++◌, length, take, drop, get_or, inl, inr, sym, ap, subst, ◌∙◌, arith, append_assoc, append-nil, length-append, length-drop, add-mul, add-one, one-mul, zero-mul, suc-mul, mul-le-mul_right, get_or-append-add}
 use Rattle.std.proofs.Math.Seq.{drop-append_seam}
 use Rattle.std.proofs.lemmas.Bool.{cases_lt}
 use Rattle.std.proofs.lemmas.List.{map-append, length-map, get_or_append_left, drop-append-le, take-append-le, take_all}
 use Rattle.reductions.specs.Words.{Scalar, length-encode, size, encode, number, place, item_at, StridedAxis, Run, run_along, run_offsets, length-run_offsets, run_offsets-more, Red}
 use Rattle.reductions.specs.declared.lines.Lines.{Lines}
-use Rattle.reductions.specs.inside.Numbers.{numbers_at, lines, IsReduced, AreReduced, AddsReduced, IsPushed}
+use Rattle.reductions.specs.inside.Numbers.{numbers_at, lines, IsStored, IsReduced, AreReduced, AddsReduced, IsPushed}
 use Rattle.reductions.specs.inside.Lines.{line_run}
-use Rattle.reductions.proofs.LineLaws.{front, fewer_within}
+use Rattle.reductions.proofs.LineLaws.{front, fewer_within, length-numbers}
 
 -- a result ends before a later one begins
 before_next : (j k width : ℕ) → j < k → j * width + width ≤ k * width
@@ -75,13 +75,16 @@ lines_more l j low =
     ∙ ap (lines l.axis) (run_offsets-more (length l.starts.bytes.now) run.offset run.step l.starts.width j (fewer_within (length l.starts.bytes.now) l.starts.width run (suc j) (omega (arith, low)) l.starts.within))
     ∙ map-append (λ offset. run_offsets (run_along l.axis offset)) (run_offsets (front j run)) (place run.offset run.step j ∷ [])
 
-pub line_added : (reduction : Red) (scalar to : Scalar) (width : ℕ) (l : Lines) (j : ℕ) (z : ℤ) (a b c : List ℕ × ℕ) → j < l.starts.run.count →
+pub line_added : (reduction : Red) (scalar to : Scalar) (width : ℕ) (meaning : List ℤ → ℤ) (l : Lines) (j : ℕ) (z : ℤ) (a b c : List ℕ × ℕ) → j < l.starts.run.count →
     AddsReduced reduction scalar l.starts.bytes.now width (lines l.axis (run_offsets (front j l.starts.run))) a b →
-    size to ≡ width → IsPushed to width z b c → IsReduced reduction scalar (numbers_at scalar l.starts.bytes.now (run_offsets (line_run l j))) (encode to (number z)) →
+    size to ≡ width → IsPushed to width z b c → ((out : List ℕ) (numbers : List ℤ) → length numbers < 2 ^ 63 → IsStored to (meaning numbers) out → IsReduced reduction scalar numbers out) →
+    z ≡ meaning (numbers_at scalar l.starts.bytes.now (run_offsets (line_run l j))) →
     AddsReduced reduction scalar l.starts.bytes.now width (lines l.axis (run_offsets (front (j + 1) l.starts.run))) a c
-line_added reduction scalar to width l j z a b c low so_far wide p is =
+line_added reduction scalar to width meaning l j z a b c low so_far wide p gives same =
     let bytes = l.starts.bytes.now in
     let list = run_offsets (line_run l j) in
+    let few : length (numbers_at scalar bytes list) < 2 ^ 63 = omega (arith, l.few, length-numbers scalar bytes (line_run l j)) in
+    let is = gives (encode to (number z)) (numbers_at scalar bytes list) few (subst (λ v. IsStored to v (encode to (number z))) same p.1) in
     subst (λ ls. AddsReduced reduction scalar bytes width ls a c) (sym (lines_more l j low))
     (adds_all reduction scalar bytes width (lines l.axis (run_offsets (front j l.starts.run))) (list ∷ []) a b c so_far (adds_one reduction scalar bytes width list to z b c wide p is))
 

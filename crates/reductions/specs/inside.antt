@@ -3,6 +3,6 @@ pub mod FoldLaws
 pub mod Extremes
 pub mod FoundLaws
 pub mod Axes
-pub mod Sources
+pub mod Inputs
 pub mod Lines
 pub mod Orders

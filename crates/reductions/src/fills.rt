@@ -1,6 +1,6 @@
 //! Reduces all items of a layout, or the lines along an axis that start at each of its items: one
 //! line after another, or all lines at once, row by row.
-ghost use Rattle.std.specs.Prelude.{◌≡◌, ◌+◌, ◌*◌, ◌<◌, ◌≤◌, [], ◌∷◌, length, IfOk, OnOk, Some};
+ghost use Rattle.std.specs.Prelude.{◌≡◌, ◌+◌, ◌*◌, ◌<◌, ◌≤◌, [], ◌∷◌, length, IfOk, Some};
 ghost use Rattle.reductions.specs.Words.{Little, number_of_side, count, offsets, run_offsets};
 ghost use Rattle.reductions.specs.inside.Numbers.{number_at, numbers_at, lines, lists_from, TakesIn, IsPushed, AreReduced, AddsReduced, HaveItems};
 ghost use Rattle.reductions.specs.inside.Lines.{all_lines, line_run, AreHeld, EachOf, EachPair};
@@ -91,45 +91,22 @@ fn take_row<S: Number, O: Ordered, F: Fold<S>>(held: &mut [F::Held], row: Side<'
     take_each::<S, O, F>(held, row, seen);
 }
 
-/// The final state of each line, if the lines are reduced row by row; otherwise nothing.
+/// The final state of each line. All lines are reduced at once, row by row.
 fn held_by_rows<S: Number, O: Ordered, F: Fold<S>>(
     alloc: Global,
     lines: Lines<'_>,
 ) -> Result<Vec<F::Held>, AllocError>
     requires width { lines.starts.width ≡ S.WIDTH }
     requires some { 1 ≤ lines.axis.len }
+    requires starts { 1 ≤ lines.starts.run.count }
     ensures { IfOk result
         (λ v. AreHeld F.holds (S.scalar O.order) lines.entry lines.entry.axis.len v.items) }
 {
-    if !lines.goes_by_rows() {
-        return Ok(Vec::new(alloc));
-    }
     let mut held = begin::<S, O, F>(alloc, lines.row(0))?;
     for k in 0..lines.axis.len {
         take_row::<S, O, F>(&mut held, lines.row(k), k);
     }
     Ok(held)
-}
-
-/// The result of the `j`-th line, from its final state if there is one.
-fn line_total<S: Number, O: Ordered, F: Fold<S>>(
-    held: &[F::Held],
-    lines: Lines<'_>,
-    j: usize,
-) -> F::Total
-    requires width { lines.starts.width ≡ S.WIDTH }
-    requires some { 1 ≤ lines.axis.len }
-    requires line { j < lines.starts.run.count }
-    requires held { AreHeld F.holds (S.scalar O.order) lines lines.axis.len held.now }
-    ensures { F.Total.value result
-        ≡ F.meaning
-        (numbers_at (S.scalar O.order) lines.entry.starts.bytes.now
-        (run_offsets (line_run lines.entry j))) }
-{
-    if j < held.len() {
-        return F::finish(held[j]);
-    }
-    fold_line::<S, O, F>(lines.line(j))
 }
 
 /// Appends a number, lowest byte first.
@@ -144,40 +121,65 @@ fn push_total<T: Number>(block: &mut BlockBuilder, total: T)
     total.push::<LowFirst>(block);
 }
 
+/// Appends the result of each line, given its final state. The block is passed in and returned, so
+/// that its length stays in a register.
+fn push_held<S: Number, O: Ordered, F: Fold<S>>(
+    block: BlockBuilder,
+    held: &[F::Held],
+    lines: Lines<'_>,
+) -> BlockBuilder
+    requires some { 1 ≤ lines.axis.len }
+    requires held { AreHeld F.holds (S.scalar O.order) lines lines.axis.len held.now }
+    requires room { lines.starts.run.count * F.Total.WIDTH ≤ block.1 }
+    ensures { AddsReduced F.reduction (S.scalar O.order) lines.entry.starts.bytes.now F.Total.WIDTH
+        (all_lines lines.entry) block result }
+{
+    let mut block = block;
+    for j in 0..lines.starts.run.count {
+        push_total(&mut block, F::finish(held[j]));
+    }
+    block
+}
+
 /// Appends the result of each line.
 fn push_lines<S: Number, O: Ordered, F: Fold<S>>(
     alloc: Global,
-    block: &mut BlockBuilder,
+    block: BlockBuilder,
     lines: Lines<'_>,
-) -> Result<(), AllocError>
+) -> Result<BlockBuilder, AllocError>
     requires width { lines.starts.width ≡ S.WIDTH }
     requires some { 1 ≤ lines.axis.len }
-    requires room { lines.starts.run.count * F.Total.WIDTH ≤ block.old.1 }
-    ensures { OnOk result
+    requires room { lines.starts.run.count * F.Total.WIDTH ≤ block.1 }
+    ensures { IfOk result
         (AddsReduced F.reduction (S.scalar O.order) lines.entry.starts.bytes.now F.Total.WIDTH
-        (all_lines lines.entry) block.old block.new) }
+        (all_lines lines.entry) block) }
 {
-    let held = held_by_rows::<S, O, F>(alloc, lines)?;
-    for j in 0..lines.starts.run.count {
-        push_total(block, line_total::<S, O, F>(held.as_slice(), lines, j));
+    if lines.goes_by_rows() {
+        let held = held_by_rows::<S, O, F>(alloc, lines)?;
+        return Ok(push_held::<S, O, F>(block, held.as_slice(), lines));
     }
-    Ok(())
+    let mut block = block;
+    for j in 0..lines.starts.run.count {
+        push_total(&mut block, fold_line::<S, O, F>(lines.line(j)));
+    }
+    Ok(block)
 }
 
 /// Appends the results of the lines along an axis that start at the items of a layout.
 fn push_along<S: Number, O: Ordered, F: Fold<S>>(
     alloc: Global,
-    block: &mut BlockBuilder,
+    block: BlockBuilder,
     lists: Lists<'_>,
     axis: StridedAxis,
-) -> Result<(), AllocError>
+) -> Result<BlockBuilder, AllocError>
     requires width { lists.width ≡ S.WIDTH }
     requires items { HaveItems (length lists.bytes.now) S.WIDTH lists.starts.now (Some axis) }
-    requires room { count lists.starts.now.shape * F.Total.WIDTH ≤ block.old.1 }
-    ensures { OnOk result
+    requires room { count lists.starts.now.shape * F.Total.WIDTH ≤ block.1 }
+    ensures { IfOk result
         (AddsReduced F.reduction (S.scalar O.order) lists.entry.bytes.now F.Total.WIDTH
-        (lines axis (offsets lists.entry.starts.now)) block.old block.new) }
+        (lines axis (offsets lists.entry.starts.now)) block) }
 {
+    let mut block = block;
     let _items = lists.starts.shape.items();
     for run in Runs::new(lists.starts) {
         let starts = Side {
@@ -185,9 +187,9 @@ fn push_along<S: Number, O: Ordered, F: Fold<S>>(
             run,
             width: lists.width,
         };
-        push_lines::<S, O, F>(alloc, block, Lines { starts, axis })?;
+        block = push_lines::<S, O, F>(alloc, block, Lines { starts, axis })?;
     }
-    Ok(())
+    Ok(block)
 }
 
 /// A block with the result of each list.
@@ -209,7 +211,7 @@ pub(crate) fn reduced<S: Number, O: Ordered, F: Fold<S>>(
         push_total(&mut block, fold_all::<S, O, F>(lists));
         return Ok(block.finish());
     };
-    let mut block = BlockBuilder::try_new(alloc, items * width)?;
-    push_along::<S, O, F>(alloc, &mut block, lists, axis)?;
-    Ok(block.finish())
+    let block = BlockBuilder::try_new(alloc, items * width)?;
+    let full = push_along::<S, O, F>(alloc, block, lists, axis)?;
+    Ok(full.finish())
 }

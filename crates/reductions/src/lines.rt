@@ -11,7 +11,7 @@ use shape_strides::{Layout, Run, StridedAxis};
 
 /// The numbers of a layout that are reduced along an axis, or all of them.
 #[derive(Clone, Copy, Drop)]
-pub(crate) struct Source<'a> {
+pub(crate) struct Input<'a> {
     pub(crate) bytes: &'a [u8],
     pub(crate) layout: &'a Layout,
     pub(crate) scalar: &'a Scalar,

@@ -8,10 +8,10 @@ ghost use Rattle.reductions.specs.Outcomes.{reduced_type, outcome_of};
 ghost use Rattle.reductions.specs.Reductions.{needs_items, reduced_items};
 ghost use Rattle.reductions.specs.inside.Numbers.{lists_from, HaveItems};
 ghost use Rattle.reductions.specs.inside.Orders.{depends_on_order};
-ghost use Rattle.reductions.specs.inside.Sources.{lists_of, AreResults};
+ghost use Rattle.reductions.specs.inside.Inputs.{lists_of, AreResults};
 
 use crate::by_reduction::{Reducing, depends_on_order, empty_block, result_scalar};
-use crate::lines::{Lists, Source};
+use crate::lines::{Input, Lists};
 use crate::reduced_axis::{list_length, named_axis, number_scalar, shape_after, starts_of};
 use arrays::{Items, Owned, copy, goes_by_columns};
 use elem_descr::{Descr, MemoryOrder, Red, Refusal};
@@ -41,20 +41,20 @@ fn axis_at(layout: &Layout, axis: usize) -> StridedAxis
 fn reduced_from(
     alloc: Global,
     reduction: Red,
-    source: Source<'_>,
+    input: Input<'_>,
     starts: &Layout,
     axis: Option<StridedAxis>,
 ) -> Result<RawBlock, AllocError>
-    requires number { IsNumber source.scalar.now }
-    requires inside { All (λ offset. offset + size source.scalar.now ≤ length source.bytes.now)
+    requires number { IsNumber input.scalar.now }
+    requires inside { All (λ offset. offset + size input.scalar.now ≤ length input.bytes.now)
         (offsets starts.now) }
-    requires items { HaveItems (length source.bytes.now) (size source.scalar.now) starts.now axis }
-    requires lists { lists_of source ≡ lists_from starts.now axis }
-    ensures { IfOk result (AreResults reduction source.entry) }
+    requires items { HaveItems (length input.bytes.now) (size input.scalar.now) starts.now axis }
+    requires lists { lists_of input ≡ lists_from starts.now axis }
+    ensures { IfOk result (AreResults reduction input.entry) }
 {
     let lists = Lists {
-        bytes: source.bytes,
-        width: source.scalar.size(),
+        bytes: input.bytes,
+        width: input.scalar.size(),
         starts,
         axis,
     };
@@ -63,46 +63,46 @@ fn reduced_from(
         reduction,
         lists,
     };
-    on_number(source.scalar, task)
+    on_number(input.scalar, task)
 }
 
 /// A block with the reduction of all items, visited in the order of another layout of them.
 fn reduced_near(
     alloc: Global,
     reduction: Red,
-    source: Source<'_>,
+    input: Input<'_>,
     near: &Layout,
 ) -> Result<RawBlock, AllocError>
-    requires number { IsNumber source.scalar.now }
-    requires all { source.axis ≡ None }
-    requires some { 0 < count source.layout.now.shape }
+    requires number { IsNumber input.scalar.now }
+    requires all { input.axis ≡ None }
+    requires some { 0 < count input.layout.now.shape }
     requires free { depends_on_order reduction ≡ false }
-    requires same { IsPermutation (offsets source.layout.now) (offsets near.now) }
-    ensures { IfOk result (AreResults reduction source.entry) }
+    requires same { IsPermutation (offsets input.layout.now) (offsets near.now) }
+    ensures { IfOk result (AreResults reduction input.entry) }
 {
-    let source = Source {
-        bytes: source.bytes,
+    let input = Input {
+        bytes: input.bytes,
         layout: near,
-        scalar: source.scalar,
+        scalar: input.scalar,
         axis: None,
     };
-    reduced_from(alloc, reduction, source, near, None)
+    reduced_from(alloc, reduction, input, near, None)
 }
 
 /// A block with the reduction of all items, visited in the order of memory if their order does not
 /// matter.
-fn reduced_all(alloc: Global, reduction: Red, source: Source<'_>) -> Result<RawBlock, AllocError>
-    requires number { IsNumber source.scalar.now }
-    requires all { source.axis ≡ None }
-    requires some { 0 < count source.layout.now.shape }
-    ensures { IfOk result (AreResults reduction source.entry) }
+fn reduced_all(alloc: Global, reduction: Red, input: Input<'_>) -> Result<RawBlock, AllocError>
+    requires number { IsNumber input.scalar.now }
+    requires all { input.axis ≡ None }
+    requires some { 0 < count input.layout.now.shape }
+    ensures { IfOk result (AreResults reduction input.entry) }
 {
     if depends_on_order(reduction) {
-        return reduced_from(alloc, reduction, source, source.layout, None);
+        return reduced_from(alloc, reduction, input, input.layout, None);
     }
-    match in_memory_order(alloc, source.layout, source.layout) {
-        Some(pair) => reduced_near(alloc, reduction, source, &pair.target),
-        None => reduced_from(alloc, reduction, source, source.layout, None),
+    match in_memory_order(alloc, input.layout, input.layout) {
+        Some(pair) => reduced_near(alloc, reduction, input, &pair.target),
+        None => reduced_from(alloc, reduction, input, input.layout, None),
     }
 }
 
@@ -111,26 +111,26 @@ fn reduced_block(
     alloc: Global,
     items: usize,
     reduction: Red,
-    source: Source<'_>,
+    input: Input<'_>,
 ) -> Result<RawBlock, AllocError>
-    requires number { IsNumber source.scalar.now }
-    requires axis { IsAxisOf (length source.layout.now.shape) source.axis }
-    requires items { items ≡ length (lists_of source) }
+    requires number { IsNumber input.scalar.now }
+    requires axis { IsAxisOf (length input.layout.now.shape) input.axis }
+    requires items { items ≡ length (lists_of input) }
     requires few { items ≤ max_items }
     requires some { needs_items reduction ≡ true
-        → list_length source.layout.now.shape source.axis ≡ 0 → items ≡ 0 }
-    ensures { IfOk result (AreResults reduction source.entry) }
+        → list_length input.layout.now.shape input.axis ≡ 0 → items ≡ 0 }
+    ensures { IfOk result (AreResults reduction input.entry) }
 {
-    if list_length(&source.layout.shape, source.axis) == 0 {
-        let block = empty_block(alloc, reduction, source.scalar, items)?;
+    if list_length(&input.layout.shape, input.axis) == 0 {
+        let block = empty_block(alloc, reduction, input.scalar, items)?;
         return Ok(block);
     }
-    let Some(axis) = source.axis else {
-        return reduced_all(alloc, reduction, source);
+    let Some(axis) = input.axis else {
+        return reduced_all(alloc, reduction, input);
     };
-    let starts = starts_of(alloc, source.layout, axis)?;
-    let along = axis_at(source.layout, axis);
-    reduced_from(alloc, reduction, source, &starts, Some(along))
+    let starts = starts_of(alloc, input.layout, axis)?;
+    let along = axis_at(input.layout, axis);
+    reduced_from(alloc, reduction, input, &starts, Some(along))
 }
 
 /// The result of `reduce`, whatever the order of the items in memory.
@@ -154,13 +154,13 @@ fn reduce_items(
     let scalar = number_scalar(items.descr)?;
     let axis = named_axis(items.layout.shape.rank(), axis)?;
     let shape = shape_after(alloc, reduction, &items.layout.shape, axis, keep)?;
-    let source = Source {
+    let input = Input {
         bytes: items.block.bytes(),
         layout: items.layout,
         scalar: &scalar,
         axis,
     };
-    let out = reduced_block(alloc, shape.items(), reduction, source)?;
+    let out = reduced_block(alloc, shape.items(), reduction, input)?;
     let descr = Descr::Scalar(result_scalar(reduction, &scalar));
     let owned = Owned::over(alloc, descr, &shape, MemoryOrder::C, out)?;
     Ok(owned)

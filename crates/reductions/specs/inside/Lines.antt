@@ -1,5 +1,5 @@
 -- Lines along an axis, and rows across them.
-use Rattle.std.specs.Prelude.{◌<◌, ℕ, ℤ, List, length, slice_index_or}
+use Rattle.std.specs.Prelude.{◌≡◌, ◌<◌, ℕ, ℤ, List, length, slice_index_or}
 use Rattle.reductions.specs.Words.{Scalar, place, Side, Run, run_along, run_offsets}
 use Rattle.reductions.specs.declared.lines.Lines.{Lines}
 use Rattle.reductions.specs.inside.Numbers.{number_at, numbers_at, lines, AreAlong}
@@ -33,6 +33,6 @@ EachOf {X} n xs P = (j : ℕ) (d : X) → j < n → P j (slice_index_or xs j d)
 abbrev pub EachPair : {X : Type 0} → ℕ → List X → List X → (ℕ → X → X → Type 0) → Type 0
 EachPair {X} n xs ys P = (j : ℕ) (d : X) → j < n → P j (slice_index_or xs j d) (slice_index_or ys j d)
 
--- each line that has a state is in the state after its first `k` numbers
+-- each line has a state, which is that after its first `k` numbers
 abbrev pub AreHeld : {Held : Type 0} → (Held → ℤ → List ℤ → Type 0) → Scalar → Lines → ℕ → List Held → Type 0
-AreHeld holds scalar l k held = EachOf (length held) held (λ j one. holds one (line_first scalar l j) (line_front scalar l k j))
+AreHeld holds scalar l k held = (length held ≡ l.starts.run.count) × EachOf l.starts.run.count held (λ j one. holds one (line_first scalar l j) (line_front scalar l k j))

@@ -19,7 +19,7 @@ loop-run-init g c =
     let many = ap length all ∙ length-offsets l in
     let ends = subst (All (λ offset. offset + width ≤ len)) (sym ens.offsets) (subst (λ w. All (λ offset. offset + w ≤ len) (offsets l)) c.requires.width s.inside) in
     record {
-      adds = λ end added. subst (λ os. AddsReduced g.F.Fold.reduction (g.S.Number.scalar g.O.Ordered.order) s.bytes.now g.F.Total.Number.WIDTH (lines c.args.axis os) c.args.block.now end) all added;
+      adds = λ end added. subst (λ os. AddsReduced g.F.Fold.reduction (g.S.Number.scalar g.O.Ordered.order) s.bytes.now g.F.Total.Number.WIDTH (lines c.args.axis os) c.args.block end) all added;
       room = let same = ap (λ n. n * g.F.Total.Number.WIDTH) many in omega (arith, same, c.requires.room);
       few = omega (arith, many, c.items-items.ensures.value, c.items-items.ensures.limit);
       starts = subst (All (λ run. EachWithin len run.offset run.step width run.count)) (sym are) (runs-within len width (λ run. run) (runs l) (ens.lie max_bytes 1 l.within_limit) ends);
@@ -78,13 +78,13 @@ loop-run-preserved g c =
     let inv = c.loop-run.invariant in
     let w = g.F.Total.Number.WIDTH in
     let parts = ap (λ rs. length (all_offsets rs) * w) steps ∙ ap (λ n. n * w) (length-first run next) ∙ add-mul run.count (length (all_offsets next)) w in
-    let added = c.in_ok-push_lines.ensures in
+    let added = c.in_ok-block.ensures in
     let took : length (lines axis (run_offsets run)) * w ≡ run.count * w = ap (λ n. n * w) (length-lines axis run) in
     record {
       adds = λ end more. inv.adds end
           (subst (λ ls. AddsReduced g.F.Fold.reduction scalar bytes w ls c.loop-run.block end)
           (sym (ap (λ rs. lines axis (all_offsets rs)) steps ∙ map-append (λ offset. run_offsets (run_along axis offset)) (run_offsets run) (all_offsets next)))
-          (adds_all g.F.Fold.reduction scalar bytes w (lines axis (run_offsets run)) (lines axis (all_offsets next)) c.loop-run.block c.push_lines.new.block end added more));
+          (adds_all g.F.Fold.reduction scalar bytes w (lines axis (run_offsets run)) (lines axis (all_offsets next)) c.loop-run.block c.in_ok-block.block end added more));
       room = omega (arith, parts, inv.room, added.left, took);
       few = omega (arith, inv.few, ap (λ rs. length (all_offsets rs)) steps, length-first run next);
       starts = All-rest (λ r. EachWithin len r.offset r.step g.S.Number.WIDTH r.count) _ _ _ steps inv.starts;

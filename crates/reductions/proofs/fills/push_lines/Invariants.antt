@@ -5,4 +5,4 @@ use Rattle.reductions.proofs.fills.push_lines.Given as goal
 
 -- the results of the first lines are appended
 abbrev pub invariant-loop-j : goal.invariant-loop-j
-invariant-loop-j g l = AddsReduced g.F.Fold.reduction (g.S.Number.scalar g.O.Ordered.order) l.lines.starts.bytes.now g.F.Total.Number.WIDTH (lines l.lines.axis (run_offsets (front l.j l.lines.starts.run))) l.initial.block l.block
+invariant-loop-j g l = AddsReduced g.F.Fold.reduction (g.S.Number.scalar g.O.Ordered.order) l.lines.starts.bytes.now g.F.Total.Number.WIDTH (lines l.lines.axis (run_offsets (front l.j l.lines.starts.run))) l.fn.block l.block

@@ -28,7 +28,7 @@ finish-requires-2 g c =
     let l = c.args.lists.starts.now in
     let axis = c.in-Some.axis in
     let many : c.items-items.result ≡ length (lines axis (offsets l)) = c.items-items.ensures.value ∙ sym (length-map (offsets l) (λ offset. run_offsets (run_along axis offset)) ∙ length-offsets l) in
-    full g.F.Fold.reduction (g.S.Number.scalar g.O.Ordered.order) c.args.lists.bytes.now width (c.items-items.result * c.WIDTH-width.result) (lines axis (offsets l)) c.in_ok-block-2.block c.push_along.new.block c.in_ok-block-2.ensures c.in_ok-push_along.ensures
+    full g.F.Fold.reduction (g.S.Number.scalar g.O.Ordered.order) c.args.lists.bytes.now width (c.items-items.result * c.WIDTH-width.result) (lines axis (offsets l)) c.in_ok-block-2.block c.in_ok-full.full c.in_ok-block-2.ensures c.in_ok-full.ensures
     (λ i. many i * c.WIDTH-width.ensures i)
 
 pub returns : goal.returns
@@ -40,4 +40,4 @@ returns g c =
     let all = lines c.in-Some.axis (offsets l) in
     subst (λ axis. AreReduced g.F.Fold.reduction scalar bytes width (lists_from l axis) c.finish-2.result) (sym c.in-Some.is)
     (subst (AreReduced g.F.Fold.reduction scalar bytes width all) (sym c.finish-2.ensures)
-    (whole g.F.Fold.reduction scalar bytes width (c.items-items.result * c.WIDTH-width.result) all c.in_ok-block-2.block c.push_along.new.block c.in_ok-block-2.ensures c.in_ok-push_along.ensures))
+    (whole g.F.Fold.reduction scalar bytes width (c.items-items.result * c.WIDTH-width.result) all c.in_ok-block-2.block c.in_ok-full.full c.in_ok-block-2.ensures c.in_ok-full.ensures))

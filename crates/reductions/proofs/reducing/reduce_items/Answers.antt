@@ -38,8 +38,8 @@ returns-in_err-shape-clause-array c =
           (ap (λ axis. shape_after c.args.reduction shape axis c.args.keep) named ∙ refused))
     ])
 
-pub invariant_of-source : goal.invariant_of-source
-invariant_of-source c = record {
+pub invariant_of-input : goal.invariant_of-input
+invariant_of-input c = record {
   inside =
       subst (λ d. All (λ offset. offset + item_size d ≤ length c.bytes.result.now) (offsets c.args.items.layout.now)) c.in_ok-scalar.ensures.ok.2
       (subst (λ b. All (λ offset. offset + item_size c.args.items.descr.now ≤ length b) (offsets c.args.items.layout.now)) (sym c.bytes.ensures) c.args.items.inside);

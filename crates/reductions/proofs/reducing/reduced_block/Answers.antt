@@ -10,26 +10,26 @@ use Rattle.reductions.proofs.reducing.reduced_block.Goals as goal
 
 pub returns-then-list_length-eq0 : goal.returns-then-list_length-eq0
 returns-then-list_length-eq0 c =
-    let scalar = c.args.source.scalar.now in
+    let scalar = c.args.input.scalar.now in
     let width = size (result_scalar c.args.reduction scalar) in
     record {
       len = c.in_ok-block.ensures.len ∙ ap (λ n. n * width) c.requires.items;
       each = λ k low.
-          subst (λ list. IsReduced c.args.reduction scalar (numbers_at scalar c.args.source.bytes.now list) (item_at (k * width) width c.in_ok-block.block))
-          (sym (no_items c.args.source.layout.now c.args.source.axis k (sym c.list_length.ensures ∙ c.if-list_length-eq0.true) low))
+          subst (λ list. IsReduced c.args.reduction scalar (numbers_at scalar c.args.input.bytes.now list) (item_at (k * width) width c.in_ok-block.block))
+          (sym (no_items c.args.input.layout.now c.args.input.axis k (sym c.list_length.ensures ∙ c.if-list_length-eq0.true) low))
           (c.in_ok-block.ensures.items k (omega (arith, low, c.requires.items)));
     }
 
 pub reduced_from-requires-clause-inside : goal.reduced_from-requires-clause-inside
 reduced_from-requires-clause-inside c =
-    let s = c.args.source in
+    let s = c.args.input in
     let low = subst (IsAxisOf (length s.layout.now.shape)) c.in-Some.is c.requires.axis in
     let some : 1 ≤ slice_index s.layout.now.shape c.in-Some.axis = omega (arith, c.if-list_length-eq0.false, c.list_length.ensures ∙ ap (list_length s.layout.now.shape) c.in-Some.is) in
     starts_within s.layout.now c.in-Some.axis c.in_ok-starts.starts low c.in_ok-starts.ensures (length s.bytes.now) (size s.scalar.now) some s.inside
 
 pub reduced_from-requires-clause-items : goal.reduced_from-requires-clause-items
 reduced_from-requires-clause-items c =
-    let s = c.args.source in
+    let s = c.args.input in
     let low = subst (IsAxisOf (length s.layout.now.shape)) c.in-Some.is c.requires.axis in
     let some : 1 ≤ slice_index s.layout.now.shape c.in-Some.axis = omega (arith, c.if-list_length-eq0.false, c.list_length.ensures ∙ ap (list_length s.layout.now.shape) c.in-Some.is) in
     let starts = c.in_ok-starts.starts in
@@ -43,7 +43,7 @@ reduced_from-requires-clause-items c =
 
 pub reduced_from-requires-clause-lists : goal.reduced_from-requires-clause-lists
 reduced_from-requires-clause-lists c =
-    let s = c.args.source in
+    let s = c.args.input in
     let l = s.layout.now in
     let low = subst (IsAxisOf (length s.layout.now.shape)) c.in-Some.is c.requires.axis in
     let starts = c.in_ok-starts.starts in

@@ -8,14 +8,14 @@ use Rattle.reductions.specs.inside.Numbers.{AreReduced}
 use Rattle.reductions.proofs.OrderLaws.{results-reordered}
 use Rattle.reductions.proofs.reducing.reduced_near.Goals as goal
 
-pub invariant_of-source : goal.invariant_of-source
-invariant_of-source c =
-    let s = c.args.source in
+pub invariant_of-input : goal.invariant_of-input
+invariant_of-input c =
+    let s = c.args.input in
     record { inside = All-permutation (λ offset. offset + size s.scalar.now ≤ length s.bytes.now) (offsets s.layout.now) (offsets c.args.near.now) c.requires.same s.inside }
 
 pub reduced_from-requires-clause-items : goal.reduced_from-requires-clause-items
 reduced_from-requires-clause-items c =
-    omega (arith, c.requires.some, length_permutation (offsets c.args.source.layout.now) (offsets c.args.near.now) c.requires.same, length-offsets c.args.source.layout.now, length-offsets c.args.near.now)
+    omega (arith, c.requires.some, length_permutation (offsets c.args.input.layout.now) (offsets c.args.near.now) c.requires.same, length-offsets c.args.input.layout.now, length-offsets c.args.near.now)
 
 if_ok : {A E : Type 0} (P Q : A → Type 0) → ((a : A) → P a → Q a) → (r : Result A E) → IfOk r P → IfOk r Q
 if_ok P Q then (Ok a) holds = then a holds
@@ -23,7 +23,7 @@ if_ok P Q then (Err e) holds = tt
 
 pub returns : goal.returns
 returns c =
-    let s = c.args.source in
+    let s = c.args.input in
     let width = size (result_scalar c.args.reduction s.scalar.now) in
     let os = offsets s.layout.now in
     let os' = offsets c.args.near.now in
