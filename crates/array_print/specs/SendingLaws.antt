@@ -25,10 +25,6 @@ split_later all gone rest n e = e ∙ ap (λ r. gone ++ r) (sym (take-append-dro
 pub sends-none : (w : Option (List ℕ)) (text : List ℕ) → Sends w w text text
 sends-none w text = ([], refl, appends_nothing w)
 
--- more text is appended to what is to be sent
-pub sends-more : (w w' : Option (List ℕ)) (rest text more : List ℕ) → Sends w w' rest text → Sends w w' (rest ++ more) (text ++ more)
-sends-more w w' rest text more sent = (sent.0, ap (λ t. t ++ more) sent.1 ∙ append_assoc sent.0 rest more, sent.2)
-
 -- more of the text is written
 pub sends-then : (a b c : Option (List ℕ)) (rest rest' text : List ℕ) → Sends a b rest text → Sends b c rest' rest → Sends a c rest' text
 sends-then a b c rest rest' text first second =

@@ -209,12 +209,6 @@ abbrev pub as_writing : Target → Result Owned Refusal → Result Writing Refus
 as_writing t (Ok o) = Ok (record { target = t; source = Block o })
 as_writing t (Err e) = Err e
 
--- the items of a source, for a target of the part itself
-pub supplied-gives : (s : State) (name : List ℕ) (a part : Array) (r : ArrayRef) (t : Target) (source : Source) (there : Result (List (List LeafValue)) Refusal) → Shows s a r → IsTarget s name a t part → Meets (Supplies s r.descr.now (count part.shape)) (Ok source) there →
-    Meets (Leaves s name a part) (Ok (record { target = t; source = source })) there
-supplied-gives s name a part r t source (Ok new) shows is gives = leaves-itself s name a part t source new is (subst (λ (d : Descr). Supplies s d (count part.shape) source new) (sym shows.descr) gives)
-supplied-gives s name a part r t source (Err e) shows is gives = absurd gives
-
 pub unmoved-gives : (s : State) (name : List ℕ) (a part : Array) (r : ArrayRef) (t : Target) (result : Result Owned Refusal) (there : Result (List (List LeafValue)) Refusal) → Shows s a r → IsTarget s name a t part → Meets (HoldsItems r.descr.now (count part.shape)) result there →
     Meets (Leaves s name a part) (as_writing t result) there
 unmoved-gives s name a part r t (Ok o) (Ok new) shows is gives = leaves-itself s name a part t (Block o) new is (subst (λ (d : Descr). Supplies s d (count part.shape) (Block o) new) (sym shows.descr) gives)

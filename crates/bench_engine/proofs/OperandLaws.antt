@@ -22,22 +22,8 @@ view-stands s a r layout view x shows is block laid typed = record {
   items = read-part s a (viewed a view) r layout shows (lies-viewed s a a r.layout.now layout view (lies-whole s a r shows) is) ∙ λ i. map (item_from (sym typed i) (sym block i)) (offsets (sym laid i));
 }
 
-pub whole-stands : (s : State) (a : Array) (r : ArrayRef) (x : Items) → Shows s a r → x.block.now ≡ r.block.now → x.layout.now ≡ r.layout.now → x.descr.now ≡ r.descr.now → StandsFor s a x
-whole-stands s a r x shows block laid typed = record {
-  descr = shows.descr ∙ sym typed;
-  shape = sym shows.view.laid.shape ∙ ap (λ (l : Layout). l.shape) (sym laid);
-  items = shows.reads ∙ λ i. map (item_from (sym typed i) (sym block i)) (offsets (sym laid i));
-}
-
 pub own-inside : (o : Owned) → All (λ offset. offset + item_size o.descr ≤ length o.block) (offsets o.layout)
 own-inside o = offsets_within o.layout _ _ o.fills_block.fits
-
-pub copy-stands : (s : State) (part : Array) (o : Owned) (x : Items) → Holds s part o → x.block.now ≡ o.block → x.layout.now ≡ o.layout → x.descr.now ≡ o.descr → StandsFor s part x
-copy-stands s part o x holds block laid typed = record {
-  descr = sym holds.descr ∙ sym typed;
-  shape = sym holds.shape ∙ ap (λ (l : Layout). l.shape) (sym laid);
-  items = sym holds.items ∙ λ i. map (item_from (sym typed i) (sym block i)) (offsets (sym laid i));
-}
 
 -- ---- stretched
 

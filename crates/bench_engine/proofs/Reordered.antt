@@ -37,11 +37,6 @@ zip-firsts f [] os = refl
 zip-firsts f (p ∷ ps) [] = refl
 zip-firsts f (p ∷ ps) (o ∷ os) = λ i. (f p, o) ∷ zip-firsts f ps os i
 
-zip-seconds : {X : Type 0} (g : ℕ → X) (ps os : List ℕ) → zip ps (map g os) ≡ map (λ (p : Pair). (p.0, g p.1)) (zip ps os)
-zip-seconds g [] os = refl
-zip-seconds g (p ∷ ps) [] = refl
-zip-seconds g (p ∷ ps) (o ∷ os) = λ i. (p, g o) ∷ zip-seconds g ps os i
-
 taken-apart : (pairs : List Pair) → zip (map (λ (p : Pair). p.0) pairs) (map (λ (p : Pair). p.1) pairs) ≡ pairs
 taken-apart [] = refl
 taken-apart (p ∷ pairs) = λ i. p ∷ taken-apart pairs i

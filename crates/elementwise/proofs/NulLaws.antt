@@ -93,25 +93,3 @@ item-long side k low =
     let lies = side.within.each k low in
     let ends : place side.run.offset side.run.step k + side.width ≤ length side.bytes.now = omega (arith, ints, lies.0, lies.1) in
     length-item_at (place side.run.offset side.run.step k) side.width side.bytes.now ends
-
-pub all-long : (side : Side) → length (joined (item_in side) side.run.count) ≡ side.run.count * side.width
-all-long side = length-joined (item_in side) side.width side.run.count (item-long side)
-
-pub all-whole : (side : Side) (n : ℕ) → side.width ≡ n → joined (item_in side) side.run.count ≡ joined (λ k. padded n (without_nuls (take n (without_nuls (item_in side k))))) side.run.count
-all-whole side n wide =
-    joined-same (item_in side) (λ k. padded n (without_nuls (take n (without_nuls (item_in side k))))) side.run.count (λ k low. cut-whole n (item_in side k) (item-long side k low ∙ wide))
-
--- adjacent items end within the bytes
-pub adjacent-within : (side : Side) → 0 < side.run.count → side.run.step ≡ pos side.width → side.run.offset + side.run.count * side.width ≤ length side.bytes.now
-adjacent-within side some is = ends side.run.count some (subst (λ step. EachWithin (length side.bytes.now) side.run.offset step side.width side.run.count) is side.within)
-  where
-    ends : (n : ℕ) → 0 < n → EachWithin (length side.bytes.now) side.run.offset (pos side.width) side.width n → side.run.offset + n * side.width ≤ length side.bytes.now
-    ends zero some within = absurd (omega (arith, some))
-    ends (suc n) some within =
-        let last = within.each n (omega arith) in
-        omega (arith, ints, last.1, suc-mul n side.width)
-
-pub adjacent-joined : (side : Side) → side.run.step ≡ pos side.width → take (side.run.offset + side.run.count * side.width - side.run.offset) (drop side.run.offset side.bytes.now) ≡ joined (item_in side) side.run.count
-adjacent-joined side is =
-    let len : side.run.offset + side.run.count * side.width - side.run.offset ≡ side.run.count * side.width = omega arith in
-    ap (λ n. take n (drop side.run.offset side.bytes.now)) len ∙ joined_run side.run.offset side.run.step side.width side.run.count side.bytes.now is

@@ -135,10 +135,6 @@ greatest-reordered [] (y ∷ ys) same = absurd (omega (arith, length_permutation
 greatest-reordered (x ∷ xs) [] same = absurd (omega (arith, length_permutation (x ∷ xs) [] same))
 greatest-reordered (x ∷ xs) (y ∷ ys) same = first-reordered int_max max_turns max_once max_either x y xs ys (max_same x) (max_same y) same
 
-not-not : (b : Bool) → not (not b) ≡ b
-not-not true = refl
-not-not false = refl
-
 all_is : (p : ℤ → Bool) (l : List ℤ) → list_all p l ≡ not (list_any (λ z. not (p z)) l)
 all_is p [] = refl
 all_is p (x ∷ l) = ap (λ b. p x && b) (all_is p l) ∙ turned (p x) (list_any (λ z. not (p z)) l)

@@ -49,10 +49,3 @@ abbrev pub calls_after : Option ℕ → Option ℕ
 calls_after None = None
 calls_after (Some zero) = None
 calls_after (Some (suc calls)) = Some calls
-
--- The count of failures after a fault. A fault of the device raises it, unless it is at its greatest value, and other
--- faults leave it as it is.
-abbrev pub HasCount : ℕ → ℕ → StoreFault → Type 0
-HasCount old new Device = (old ≤ new) × ((old < new) ⊎ (old ≡ last_count))
-HasCount old new TooLong = new ≡ old
-HasCount old new Memory = new ≡ old
