@@ -32,7 +32,6 @@ fn truth(byte: u8) -> usize
 
 /// Writes the ranks of the true bools in a range after the first `many` ranks, and returns how many
 /// there are then. Each rank is written, and stays if its bool is true, so there is no branch.
-#[inline(always)]
 fn note_true(
     found: &mut [u32; 512],
     many: usize,
@@ -61,11 +60,31 @@ fn note_true(
 fn are_false(bools: &[u8; 16]) -> bool
     ensures { IsTrue result → (j : ℕ) → j < 16 → get_or bools.now j 0 ≡ 0 }
 {
-    let mut are = true;
-    for j in 0..16 {
-        are &= bools[j] == 0;
+    u128::from_le_bytes(*bools) == 0
+}
+
+/// Writes the ranks of the true ones among sixteen adjacent bools, unless all are false, after the
+/// first `many` ranks, and returns how many there are then.
+#[inline(always)]
+fn note_sixteen(found: &mut [u32; 512], many: usize, bools: Bools<'_>, at: usize) -> usize
+    requires lie { LieInBytes bools }
+    requires adjacent { bools.run.step ≡ pos 1 }
+    requires end { at + 16 ≤ bools.run.count }
+    requires few { many + 16 ≤ 512 }
+    ensures many { result ≤ many + 16 }
+    ensures found { (whole : List ℕ) → take many found.old ++ ranks_from bools.entry at ≡ whole
+        → take result found.new ++ ranks_from bools.entry (at + 16) ≡ whole }
+{
+    let first = bools.run.offset + at;
+    if are_false(&array_at::<16>(bools.bytes, first)) {
+        return many;
     }
-    are
+    let mut many = many;
+    for j in 0..16 {
+        found[many] = (bools.rank + at + j) as u32;
+        many += truth(bools.bytes[first + j]);
+    }
+    many
 }
 
 /// Writes the ranks of the true ones among adjacent bools. Sixteen that are all false are passed over
@@ -83,11 +102,8 @@ fn note_adjacent(found: &mut [u32; 512], bools: Bools<'_>, from: usize, end: usi
     let mut many = 0;
     let mut at = from;
     while end - at >= 16 {
-        let next = at + 16;
-        if !are_false(&array_at::<16>(bools.bytes, bools.run.offset + at)) {
-            many = note_true(found, many, bools, at, next);
-        }
-        at = next;
+        many = note_sixteen(found, many, bools, at);
+        at += 16;
     }
     note_true(found, many, bools, at, end)
 }
