@@ -2,7 +2,7 @@
 ghost use Rattle.std.specs.Prelude.{◌≡◌, ◌+◌, ◌≤◌, length};
 
 use crate::check::{check, check_bytes};
-use raw_block::RawBlock;
+use raw_block::{RawBlock, Steps, StridedItems};
 use std::alloc::Global;
 use std::process::Abort;
 
@@ -102,11 +102,32 @@ fn copy_two(bytes: &mut [u8], to: usize, source: &[u8], from: usize)
     bytes[to..to + 2].copy_from_slice(&source[from..from + 2]);
 }
 
+fn steps(at: usize, step: isize) -> Steps
+    ensures { result ≡ record { at = at; step = step } }
+{
+    Steps { at, step }
+}
+
+/// Items of two bytes at equal steps.
+fn pairs(at: usize, step: isize, count: usize) -> StridedItems
+    ensures { result ≡ record {
+      steps = record { at = at; step = step };
+      width = 2;
+      count = count;
+    } }
+{
+    StridedItems {
+        steps: Steps { at, step },
+        width: 2,
+        count,
+    }
+}
+
 #[test]
 fn copies_backwards(rt: HostRuntime) {
     let source = counted(&rt, rt.alloc());
     let mut block = zeros(&rt, rt.alloc(), 12);
-    block.copy_strided(0, 4, &source, 10, -3, 2, 3);
+    block.copy_strided(steps(0, 4), &source, pairs(10, -3, 3));
     let mut plain = [0; 12];
     copy_two(&mut plain, 0, source.bytes(), 10);
     copy_two(&mut plain, 4, source.bytes(), 7);
@@ -118,7 +139,7 @@ fn copies_backwards(rt: HostRuntime) {
 #[test]
 fn copies_of_one_item(rt: HostRuntime) {
     let mut block = zeros(&rt, rt.alloc(), 12);
-    block.copy_strided(1, 3, &counted(&rt, rt.alloc()), 7, 0, 2, 3);
+    block.copy_strided(steps(1, 3), &counted(&rt, rt.alloc()), pairs(7, 0, 3));
     has(&rt, &block, &[0, 7, 8, 0, 7, 8, 0, 7, 8, 0, 0, 0]);
 }
 
@@ -132,20 +153,20 @@ fn smear(bytes: &mut [u8; 12]) {
 #[test]
 fn copies_over_itself(rt: HostRuntime) {
     let mut smeared = counted(&rt, rt.alloc());
-    smeared.copy_strided_within(2, 2, 0, 2, 2, 5);
+    smeared.copy_strided_within(steps(2, 2), pairs(0, 2, 5));
     let mut plain = [0, 1, 2, 3, 4, 5, 6, 7, 8, 9, 10, 11];
     smear(&mut plain);
     has(&rt, &smeared, &plain);
     has(&rt, &smeared, &[0, 1, 0, 1, 0, 1, 0, 1, 0, 1, 0, 1]);
     let mut shifted = counted(&rt, rt.alloc());
-    shifted.copy_strided_within(10, -2, 8, -2, 2, 5);
+    shifted.copy_strided_within(steps(10, -2), pairs(8, -2, 5));
     has(&rt, &shifted, &[0, 1, 0, 1, 2, 3, 4, 5, 6, 7, 8, 9]);
 }
 
 #[test]
 fn fills(rt: HostRuntime) {
     let mut block = counted(&rt, rt.alloc());
-    block.fill_strided(9, -4, &[170, 187, 204], 3);
+    block.fill_strided(steps(9, -4), &[170, 187, 204], 3);
     has(
         &rt,
         &block,
@@ -156,7 +177,7 @@ fn fills(rt: HostRuntime) {
 #[test]
 fn swaps(rt: HostRuntime) {
     let mut block = counted(&rt, rt.alloc());
-    block.swap_strided(0, 2, 10, -2, 2, 3);
+    block.swap_strided(steps(0, 2), pairs(10, -2, 3));
     has(&rt, &block, &[10, 11, 8, 9, 6, 7, 4, 5, 2, 3, 0, 1]);
 }
 

@@ -7,7 +7,7 @@ ghost use Rattle.std.specs.Prelude.{All, IfErr, IfOk, if◌then◌else◌, lengt
 use crate::owned::Owned;
 use crate::packed::gather;
 use elem_descr::{Descr, MemoryOrder, Refusal};
-use raw_block::RawBlock;
+use raw_block::{RawBlock, Steps, StridedItems};
 use shape_strides::{Layout, MAX_BYTES, Run};
 use std::alloc::{AllocError, Global};
 
@@ -70,6 +70,24 @@ pub fn copy(
     Ok(copy)
 }
 
+/// The items of a run, each of `width` bytes, as the calls of a block take them.
+pub fn strided(run: Run, width: usize) -> StridedItems
+    ensures { result ≡ record {
+      steps = record { at = run.offset; step = run.step };
+      width = width;
+      count = run.count;
+    } }
+{
+    StridedItems {
+        steps: Steps {
+            at: run.offset,
+            step: run.step,
+        },
+        width,
+        count: run.count,
+    }
+}
+
 /// Copies the items, of `width` bytes, of a run of `other` to a run of the block with as many
 /// items.
 pub fn copy_run(block: &mut RawBlock, to: Run, other: &RawBlock, from: Run, width: usize)
@@ -80,13 +98,5 @@ pub fn copy_run(block: &mut RawBlock, to: Run, other: &RawBlock, from: Run, widt
         ≡ assigned (run_offsets to) (run_offsets from) width other.now block.old }
     ensures len { length block.new ≡ length block.old }
 {
-    block.copy_strided(
-        to.offset,
-        to.step,
-        other,
-        from.offset,
-        from.step,
-        width,
-        to.count,
-    );
+    block.copy_strided(strided(to, width).steps, other, strided(from, width));
 }

@@ -7,7 +7,7 @@ ghost use Rattle.arrays.specs.inside.Rows.{grid_of};
 ghost use Rattle.std.specs.List.{flat_map};
 ghost use Rattle.std.specs.Prelude.{All, IfOk, IsTrue, length, pos, ◌*◌, ◌++◌, ◌+◌, ◌<◌, ◌^◌, ◌≡◌, ◌≤◌};
 
-use crate::copies::copy_run;
+use crate::copies::{copy_run, strided};
 use raw_block::{BlockBuilder, Grid, RawBlock};
 use shape_strides::{Layout, Rows, Run, Runs, StridedAxis};
 use std::alloc::{AllocError, Global};
@@ -28,6 +28,16 @@ pub fn packed_run(at: usize, width: usize, count: usize, len: usize) -> Run
     }
 }
 
+/// Appends the items, of `width` bytes, of a run to a block.
+pub fn push_run(items: &mut BlockBuilder, block: &RawBlock, run: Run, width: usize)
+    requires from { EachWithin (length block.now) run.offset run.step width run.count }
+    requires room { run.count * width ≤ items.old.1 }
+    ensures bytes { items.new.0 ≡ items.old.0 ++ joined_at (run_offsets run) width block.now }
+    ensures left { run.count * width + items.new.1 ≡ items.old.1 }
+{
+    items.push_strided(block, strided(run, width));
+}
+
 /// Appends the items, of `width` bytes, of runs to a block, one after another.
 pub(crate) fn push_runs(items: &mut BlockBuilder, runs: Runs<'_>, block: &RawBlock, width: usize)
     requires from { All (λ run.
@@ -38,7 +48,7 @@ pub(crate) fn push_runs(items: &mut BlockBuilder, runs: Runs<'_>, block: &RawBlo
     ensures left { length (flat_map run_offsets runs.entry) * width + items.new.1 ≡ items.old.1 }
 {
     for run in runs {
-        items.push_strided(block, run.offset, run.step, width, run.count);
+        push_run(items, block, run, width);
     }
 }
 

@@ -8,7 +8,7 @@ ghost use Rattle.std.specs.Prelude.{All, length, ◌*◌, ◌++◌, ◌+◌, ◌
 use crate::plan_rows::{MovedLayout, PlanAxes, Shifted, fill_run, moved, moved_run};
 use crate::short_rows::ShortRows;
 use crate::singles::{PackedItems, fill_singles, push_singles, scatter_singles};
-use arrays::{copy_run, packed_run};
+use arrays::{copy_run, packed_run, push_run};
 use raw_block::{BlockBuilder, RawBlock};
 use shape_strides::{Runs, Walk};
 
@@ -26,12 +26,12 @@ fn push_moved(
 {
     let mut items = items;
     if let Some(run) = source.as_run() {
-        items.push_strided(block, run.offset, run.step, width, run.count);
+        push_run(&mut items, block, run, width);
         return items;
     }
     for run in Runs::new(source.layout) {
         let from = moved_run(run, source.layout.offset, source.start);
-        items.push_strided(block, from.offset, from.step, width, from.count);
+        push_run(&mut items, block, from, width);
     }
     items
 }

@@ -4,6 +4,7 @@ ghost use Rattle.fancy_index.specs.Words.{EachWithin, LieWithin, max_bytes, offs
 ghost use Rattle.fancy_index.specs.inside.Moved.{AllStart, AreStarts, IsMoved, moved_offset};
 ghost use Rattle.std.specs.Prelude.{All, IsTrue, [], get_or, length, map, ℕ, ◌*◌, ◌+◌, ◌<◌, ◌∷◌, ◌≡◌, ◌≤◌};
 
+use arrays::strided;
 use raw_block::RawBlock;
 use shape_strides::{Layout, Run};
 
@@ -199,5 +200,5 @@ pub(crate) fn fill_run(block: &mut RawBlock, to: Run, item: &[u8])
     ensures written { block.new ≡ put_each (run_offsets to) item.now block.old }
     ensures len { length block.new ≡ length block.old }
 {
-    block.fill_strided(to.offset, to.step, item, to.count);
+    block.fill_strided(strided(to, item.len()).steps, item, to.count);
 }

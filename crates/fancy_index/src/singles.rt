@@ -5,7 +5,7 @@ ghost use Rattle.fancy_index.specs.Plans.{put_each};
 ghost use Rattle.fancy_index.specs.inside.Kept.{first_offsets, put_packed, end_of, FitAt};
 
 use crate::plan_rows::{Shifted, moved};
-use arrays::{copy_run, packed_run};
+use arrays::{copy_run, packed_run, push_run};
 use raw_block::{BlockBuilder, RawBlock};
 
 /// The `N` bytes that start at `at`, in a single load.
@@ -99,7 +99,7 @@ fn push_stretch(
     match (rows.as_run(width), width) {
         (Some(run), _) => {
             let mut items = items;
-            items.push_strided(block, run.offset, run.step, width, run.count);
+            push_run(&mut items, block, run, width);
             items
         }
         (_, 1) => push_each(items, block, rows, 1),

@@ -10,7 +10,7 @@ ghost use Rattle.name_store.specs.inside.Puts.{MayPut, InPlace};
 
 use crate::change::OldItems;
 use crate::write::Target;
-use arrays::{gather, scatter};
+use arrays::{gather, scatter, strided};
 use overlap_copy::{assign, assign_from, assign_shifted, in_any_order};
 use raw_block::RawBlock;
 use shape_strides::{Layout, Runs, lies_in_c_order};
@@ -24,7 +24,7 @@ fn fill_runs(block: &mut RawBlock, runs: Runs<'_>, item: &[u8])
     ensures len { length block.new ≡ length block.old }
 {
     for run in runs {
-        block.fill_strided(run.offset, run.step, item, run.count);
+        block.fill_strided(strided(run, item.len()).steps, item, run.count);
     }
 }
 
@@ -35,7 +35,7 @@ fn fill_each(block: &mut RawBlock, layout: &Layout, item: &[u8])
     ensures len { length block.new ≡ length block.old }
 {
     match layout.as_one_run() {
-        Some(run) => block.fill_strided(run.offset, run.step, item, run.count),
+        Some(run) => block.fill_strided(strided(run, item.len()).steps, item, run.count),
         None => fill_runs(block, Runs::new(layout), item),
     }
 }

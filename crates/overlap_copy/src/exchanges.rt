@@ -5,6 +5,7 @@ ghost use Rattle.overlap_copy.specs.inside.Moves.{RunLies, firsts, seconds};
 ghost use Rattle.overlap_copy.specs.inside.Trades.{traded_at};
 
 use crate::pair_copies::as_runs;
+use arrays::strided;
 use raw_block::RawBlock;
 use shape_strides::{Layout, Run, RunPairs, in_memory_order};
 use std::alloc::Global;
@@ -19,15 +20,7 @@ fn trade_run(block: &mut RawBlock, to: Run, other: &mut RawBlock, from: Run, wid
     ensures len { length block.new ≡ length block.old }
     ensures other_len { length other.new ≡ length other.old }
 {
-    block.trade_strided(
-        to.offset,
-        to.step,
-        other,
-        from.offset,
-        from.step,
-        width,
-        to.count,
-    );
+    block.trade_strided(strided(to, width).steps, other, strided(from, width));
 }
 
 /// Exchanges the items of the first run of each pair with those of its second run, in `other`.

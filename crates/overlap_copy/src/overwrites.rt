@@ -3,7 +3,7 @@ ghost use Rattle.std.specs.Prelude.{◌≡◌, ◌+◌, ◌*◌, ◌++◌, ◌<�
 ghost use Rattle.overlap_copy.specs.Words.{BeginsWithin, IsNested, assigned, count, items_at, joined_at, max_items, multiples, offsets, run_offsets, with_items};
 ghost use Rattle.overlap_copy.specs.inside.Moves.{RunLies, firsts, seconds};
 
-use arrays::copy_run;
+use arrays::{copy_run, push_run};
 use raw_block::{BlockBuilder, RawBlock};
 use shape_strides::{Layout, Run, RunPair, RunPairs, Shape, Strides};
 use std::alloc::{AllocError, Global};
@@ -57,9 +57,8 @@ fn overwrite_part(
     ensures old { kept.new.0 ≡ kept.old.0 ++ joined_at (run_offsets pair.first) width block.old }
     ensures left { pair.first.count * width + kept.new.1 ≡ kept.old.1 }
 {
-    let to = pair.first;
-    kept.push_strided(block, to.offset, to.step, width, to.count);
-    copy_run(block, to, other, pair.second, width);
+    push_run(kept, block, pair.first, width);
+    copy_run(block, pair.first, other, pair.second, width);
 }
 
 /// Keeps the items of the first run and writes those of the second run over them, part by part.

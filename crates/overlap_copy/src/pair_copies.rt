@@ -1,9 +1,9 @@
 //! Pairs of runs: copies or moves the items of the second run to the first.
-ghost use Rattle.overlap_copy.specs.Words.{BeginsWithin, IsNested, assigned, max_bytes, max_items, offsets, run_offsets};
+ghost use Rattle.overlap_copy.specs.Words.{BeginsWithin, IsNested, assigned, copied_within, max_bytes, max_items, offsets, run_offsets};
 ghost use Rattle.overlap_copy.specs.inside.Moves.{AreAlike, IsAssigned, IsLine, IsTurned, LieApart, RunLies, firsts, place_in, seconds};
 ghost use Rattle.std.specs.Prelude.{All, IfSome, IsTrue, length, neg_ℤ, pos, ◌*ℤ◌, ◌*◌, ◌+ℤ◌, ◌↔◌, ◌≡◌, ◌≤ℤ◌, ◌≤◌};
 
-use arrays::copy_run;
+use arrays::{copy_run, strided};
 use raw_block::RawBlock;
 use shape_strides::{Layout, Run, RunPair, RunPairs};
 
@@ -34,6 +34,19 @@ pub(crate) fn copy_pairs(block: &mut RawBlock, pairs: RunPairs<'_>, other: &RawB
     }
 }
 
+/// Copies the items, of `width` bytes, of a run to another run of the same block that has as many,
+/// one after the other. Where the two overlap, an item is read as earlier copies left it.
+fn copy_one_by_one(block: &mut RawBlock, to: Run, from: Run, width: usize)
+    requires count { to.count ≡ from.count }
+    requires to { RunLies (length block.old) width to }
+    requires from { RunLies (length block.old) width from }
+    ensures copied { block.new
+        ≡ copied_within to.offset to.step from.offset from.step width to.count block.old }
+    ensures len { length block.new ≡ length block.old }
+{
+    block.copy_strided_within(strided(to, width).steps, strided(from, width));
+}
+
 /// Copies the items, of `width` bytes, of a run to another run of the same block that has as many.
 /// The two share no byte.
 fn move_apart(block: &mut RawBlock, to: Run, from: Run, width: usize)
@@ -52,7 +65,7 @@ fn move_apart(block: &mut RawBlock, to: Run, from: Run, width: usize)
         block.move_within(to.offset, from.offset, to.count * width);
         return;
     }
-    block.copy_strided_within(to.offset, to.step, from.offset, from.step, width, to.count);
+    copy_one_by_one(block, to, from, width);
 }
 
 /// Copies the items, of `width` bytes, of the second run of each pair to the first run. No item
@@ -124,12 +137,12 @@ fn move_forth(block: &mut RawBlock, to: Run, from: Run, width: usize)
         return;
     }
     if to.offset <= from.offset {
-        block.copy_strided_within(to.offset, to.step, from.offset, from.step, width, to.count);
+        copy_one_by_one(block, to, from, width);
         return;
     }
     let to = turned(to);
     let from = turned(from);
-    block.copy_strided_within(to.offset, to.step, from.offset, from.step, width, to.count);
+    copy_one_by_one(block, to, from, width);
 }
 
 /// Moves the items of a run to another run with the same step, whatever bytes they share.
@@ -169,12 +182,9 @@ pub(crate) fn turn_run(block: &mut RawBlock, run: Run, back: Run, width: usize)
         ≡ assigned (run_offsets run) (run_offsets back) width block.old block.old }
     ensures len { length block.new ≡ length block.old }
 {
-    block.swap_strided(
-        run.offset,
-        run.step,
-        back.offset,
-        back.step,
-        width,
-        run.count / 2,
-    );
+    let half = Run {
+        count: run.count / 2,
+        ..back
+    };
+    block.swap_strided(strided(run, width).steps, strided(half, width));
 }

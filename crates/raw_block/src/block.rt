@@ -11,7 +11,7 @@ mod builder;
 use crate::base::{Base, Bytes, Deed, WORD, deallocate};
 use crate::item::{move_item, number_of, put_item, put_number};
 use crate::number_runs::{RunI32, RunI64, items_at};
-use crate::strided::{self, Items, Steps};
+use crate::strided::{self, Steps, StridedItems};
 pub use builder::BlockBuilder;
 use std::alloc::{AllocError, Global};
 use std::marker::Model;
@@ -194,100 +194,63 @@ impl RawBlock {
         put_item(self.bytes_mut(), dst, &other.bytes()[src..src + n]);
     }
 
-    /// Copies `n` items of `width` bytes from `other`. The first is read at `src` and written at
-    /// `dst`; each next one is read and written one step further, in bytes.
-    pub fn copy_strided(
-        &mut self,
-        dst: usize,
-        dst_step: isize,
-        other: &RawBlock,
-        src: usize,
-        src_step: isize,
-        width: usize,
-        n: usize,
-    )
-        requires dst { EachWithin (length self.old) dst dst_step width n }
-        requires src { EachWithin (length other.now) src src_step width n }
-        ensures copied { self.new ≡ copied dst dst_step other.now src src_step width n self.old }
+    /// Copies items of `other` to these places, one after the other.
+    pub fn copy_strided(&mut self, to: Steps, other: &RawBlock, from: StridedItems)
+        requires to { EachWithin (length self.old) to.at to.step from.width from.count }
+        requires from { EachWithin
+            (length other.now) from.steps.at from.steps.step from.width from.count }
+        ensures copied { self.new
+            ≡ copied to.at to.step other.now from.steps.at from.steps.step from.width from.count
+            self.old }
         ensures len { length self.new ≡ length self.old }
     {
-        let from = Items::new(src, src_step, width, n);
-        strided::copy(
-            self.bytes_mut(),
-            Steps::new(dst, dst_step),
-            other.bytes(),
-            from,
-        );
+        strided::copy(self.bytes_mut(), to, other.bytes(), from);
     }
 
-    /// Copies `n` items of `width` bytes within the block, one after the other. Where source and
-    /// destination overlap, an item is read as earlier copies left it.
-    pub fn copy_strided_within(
-        &mut self,
-        dst: usize,
-        dst_step: isize,
-        src: usize,
-        src_step: isize,
-        width: usize,
-        n: usize,
-    )
-        requires dst { EachWithin (length self.old) dst dst_step width n }
-        requires src { EachWithin (length self.old) src src_step width n }
-        ensures copied { self.new ≡ copied_within dst dst_step src src_step width n self.old }
+    /// Copies items of the block to other places in it, one after the other. Where the two overlap,
+    /// an item is read as earlier copies left it.
+    pub fn copy_strided_within(&mut self, to: Steps, from: StridedItems)
+        requires to { EachWithin (length self.old) to.at to.step from.width from.count }
+        requires from { EachWithin
+            (length self.old) from.steps.at from.steps.step from.width from.count }
+        ensures copied { self.new
+            ≡ copied_within to.at to.step from.steps.at from.steps.step from.width from.count
+            self.old }
         ensures len { length self.new ≡ length self.old }
     {
-        let from = Items::new(src, src_step, width, n);
-        strided::copy_within(self.bytes_mut(), Steps::new(dst, dst_step), from);
+        strided::copy_within(self.bytes_mut(), to, from);
     }
 
-    /// Writes the item `n` times: first at `dst`, then each time one step further, in bytes.
-    pub fn fill_strided(&mut self, dst: usize, step: isize, item: &[u8], n: usize)
-        requires { EachWithin (length self.old) dst step (length item.now) n }
-        ensures filled { self.new ≡ filled dst step item.now n self.old }
+    /// Writes the item to the first `n` of these places.
+    pub fn fill_strided(&mut self, to: Steps, item: &[u8], n: usize)
+        requires { EachWithin (length self.old) to.at to.step (length item.now) n }
+        ensures filled { self.new ≡ filled to.at to.step item.now n self.old }
         ensures len { length self.new ≡ length self.old }
     {
-        strided::fill(self.bytes_mut(), Steps::new(dst, step), item, n);
+        strided::fill(self.bytes_mut(), to, item, n);
     }
 
-    /// Exchanges `n` pairs of items of `width` bytes, one pair after the other. The two items of a
+    /// Exchanges items with as many at other places, one pair after the other. The two items of a
     /// pair may overlap: their bytes are exchanged one by one, from the first to the last.
-    pub fn swap_strided(
-        &mut self,
-        a: usize,
-        a_step: isize,
-        b: usize,
-        b_step: isize,
-        width: usize,
-        n: usize,
-    )
-        requires a { EachWithin (length self.old) a a_step width n }
-        requires b { EachWithin (length self.old) b b_step width n }
-        ensures swapped { self.new ≡ swapped a a_step b b_step width n self.old }
+    pub fn swap_strided(&mut self, a: Steps, b: StridedItems)
+        requires a { EachWithin (length self.old) a.at a.step b.width b.count }
+        requires b { EachWithin (length self.old) b.steps.at b.steps.step b.width b.count }
+        ensures swapped { self.new
+            ≡ swapped a.at a.step b.steps.at b.steps.step b.width b.count self.old }
         ensures len { length self.new ≡ length self.old }
     {
-        let (a, b) = (Steps::new(a, a_step), Steps::new(b, b_step));
-        strided::swap(self.bytes_mut(), a, b, width, n);
+        strided::swap(self.bytes_mut(), a, b.steps, b.width, b.count);
     }
 
-    /// Exchanges `n` items of `width` bytes with `n` items of `other`, one pair after the other.
-    pub fn trade_strided(
-        &mut self,
-        a: usize,
-        a_step: isize,
-        other: &mut RawBlock,
-        b: usize,
-        b_step: isize,
-        width: usize,
-        n: usize,
-    )
-        requires a { EachWithin (length self.old) a a_step width n }
-        requires b { EachWithin (length other.old) b b_step width n }
+    /// Exchanges the items at these places with items of `other`, one pair after the other.
+    pub fn trade_strided(&mut self, a: Steps, other: &mut RawBlock, b: StridedItems)
+        requires a { EachWithin (length self.old) a.at a.step b.width b.count }
+        requires b { EachWithin (length other.old) b.steps.at b.steps.step b.width b.count }
         ensures traded { (self.new, other.new)
-            ≡ traded a a_step b b_step width n self.old other.old }
+            ≡ traded a.at a.step b.steps.at b.steps.step b.width b.count self.old other.old }
         ensures len { (length self.new ≡ length self.old) × (length other.new ≡ length other.old) }
     {
-        let (a, b) = (Steps::new(a, a_step), Steps::new(b, b_step));
-        strided::trade(self.bytes_mut(), a, other.bytes_mut(), b, width, n);
+        strided::trade(self.bytes_mut(), a, other.bytes_mut(), b);
     }
 }
 

@@ -1,30 +1,23 @@
-use Rattle.std.proofs.Common.{◌≡◌, ◌++◌, length, All, sym, ap, subst, ◌∙◌, append-nil, w64, arith, rules}
-use Rattle.std.proofs.lemmas.Int.{to_z-of_z}
+use Rattle.std.proofs.Common.{◌++◌, length, All, sym, ap, subst, ◌∙◌, append-nil, arith}
 use Rattle.std.proofs.lemmas.List.Elements.{All-rest, All-head}
-use mir.Val.{SFits}
-use Rattle.arrays.specs.Words.{place, item_at, joined, EachWithin, Run, run_offsets, all_offsets}
+use Rattle.arrays.specs.Words.{EachWithin, Run, all_offsets}
 use Rattle.arrays.specs.Joined.{joined_at}
 use Rattle.arrays.proofs.PackedLaws.{parts, joined-next}
-use Rattle.arrays.specs.JoinedLaws.{joined-offsets}
 use Rattle.arrays.proofs.packed.push_runs.Goals as goal
 
-pub push_strided-requires-clause-room : goal.push_strided-requires-clause-room
-push_strided-requires-clause-room c =
+pub push_run-requires-clause-room : goal.push_run-requires-clause-room
+push_run-requires-clause-room c =
     let all = parts _ _ c.in-Some.run' c.args.width c.in-Some.ensures.steps in omega (arith, all, c.loop-run.invariant.left, c.requires.room)
 
 pub loop-run-preserved : goal.loop-run-preserved
 loop-run-preserved c =
     let inv = c.loop-run.invariant in let steps = c.in-Some.ensures.steps in let run = c.in-Some.run' in let width = c.args.width in let block = c.args.block.now in
     let lies = λ (run : Run). EachWithin (length block) run.offset run.step width run.count in
-    let fits : SFits w64 run.step = search rules in
     let within : lies run = All-head lies run _ (subst (All lies) steps inv.from) in
-    let before = c.loop-run.items.0 in
-    let pushed : c.push_strided.new.self.0 ≡ before ++ joined_at (run_offsets run) width block =
-    c.push_strided.ensures.bytes ∙ (λ i. before ++ joined (λ k. item_at (place run.offset (to_z-of_z w64 run.step fits i) k) width block) run.count) ∙ ap (λ l. before ++ l) (joined-offsets (length block) width run block within) in
     let all = parts _ _ run width steps in
     record {
-      bytes = joined-next _ _ run width block _ before steps pushed ∙ inv.bytes;
-      left = omega (arith, all, inv.left, c.push_strided.ensures.left);
+      bytes = joined-next _ _ run width block _ c.loop-run.items.0 steps c.push_run.ensures.bytes ∙ inv.bytes;
+      left = omega (arith, all, inv.left, c.push_run.ensures.left);
       from = All-rest lies _ _ _ steps inv.from;
     }
 

@@ -1,6 +1,5 @@
-use Rattle.std.proofs.Common.{rules, ◌+◌, ◌≤◌, sym, ap, subst, ◌∙◌, All, length, w64}
-use Rattle.std.proofs.lemmas.Int.{to_z-of_z}
-use mir.Val.{SFits}
+use Rattle.std.proofs.Common.{◌+◌, ◌≤◌, sym, ap, subst, ◌∙◌, All, length}
+use Rattle.raw_block.specs.declared.strided.StridedItems.{StridedItems}
 use Rattle.name_store.specs.Words.{EachWithin, filled, max_bytes, runs, run-within, runs-within, put_each, filled-run}
 use Rattle.name_store.proofs.rewrite.fill_each.Goals as goal
 use Rattle.name_store.proofs.rewrite.fill_each.Goals.{In-Some}
@@ -13,17 +12,15 @@ run_lies c =
 pub fill_strided-requires : goal.fill_strided-requires
 fill_strided-requires c =
     let run = c.in-Some.run' in
-    let fits : SFits w64 run.step = search rules in
-    subst (λ step. EachWithin (length c.args.block.now) run.offset step (length c.args.item.now) run.count) (sym (to_z-of_z w64 run.step fits)) (run_lies (goal.at.fill_strided-requires c).In-Some)
+    subst (λ (x : StridedItems). EachWithin (length c.args.block.now) x.steps.at x.steps.step (length c.args.item.now) run.count) (sym c.strided.ensures) (run_lies (goal.at.fill_strided-requires c).In-Some)
 
 pub returns-in-Some-clause-bytes : goal.returns-in-Some-clause-bytes
 returns-in-Some-clause-bytes c =
     let run = c.in-Some.run' in
     let item = c.args.item.now in
     let block = c.args.block.now in
-    let fits : SFits w64 run.step = search rules in
     c.fill_strided.ensures.filled
-    ∙ ap (λ step. filled run.offset step item run.count block) (to_z-of_z w64 run.step fits)
+    ∙ (λ i. filled (c.strided.ensures i).steps.at (c.strided.ensures i).steps.step item run.count block)
     ∙ filled-run (length block) run.offset run.step item run.count block (run_lies (goal.at.returns-in-Some-clause-bytes c).In-Some)
     ∙ ap (λ os. put_each os item block) c.in-Some.ensures.items
 

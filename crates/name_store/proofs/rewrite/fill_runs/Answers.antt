@@ -1,7 +1,5 @@
-use Rattle.std.proofs.Common.{rules, length, All, w64, ap, subst, ◌∙◌}
-use Rattle.std.proofs.lemmas.Int.{to_z-of_z}
+use Rattle.std.proofs.Common.{length, All, subst, ◌∙◌}
 use Rattle.std.proofs.lemmas.List.Elements.{All-rest, All-head}
-use mir.Val.{SFits}
 use Rattle.name_store.specs.Words.{EachWithin, filled, Run}
 use Rattle.name_store.proofs.RunWrites.{filled-next}
 use Rattle.name_store.proofs.rewrite.fill_runs.Goals as goal
@@ -12,9 +10,8 @@ loop-run-preserved c =
     let item = c.args.item.now in
     let run = c.in-Some.run' in
     let within = λ (run : Run). EachWithin len run.offset run.step (length item) run.count in
-    let fits : SFits w64 run.step = search rules in
     let here : within run = All-head within run c.next.new.self (subst (All within) c.in-Some.ensures.steps c.loop-run.invariant.inside) in
-    let written = c.fill_strided.ensures.filled ∙ ap (λ step. filled run.offset step item run.count c.loop-run.block) (to_z-of_z w64 run.step fits) in
+    let written = c.fill_strided.ensures.filled ∙ (λ i. filled (c.strided.ensures i).steps.at (c.strided.ensures i).steps.step item run.count c.loop-run.block) in
     record {
       rest = filled-next len _ _ run _ _ _ _ c.in-Some.ensures.steps here written c.loop-run.invariant.rest;
       len = c.fill_strided.ensures.len ∙ c.loop-run.invariant.len;

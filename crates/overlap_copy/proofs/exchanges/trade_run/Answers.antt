@@ -1,14 +1,15 @@
-use Rattle.std.proofs.Common.{rules, w64, ◌∙◌}
-use Rattle.std.proofs.lemmas.Int.{to_z-of_z}
-use mir.Val.{SFits}
+use Rattle.std.proofs.Common.{sym, ◌∙◌}
 use Rattle.overlap_copy.specs.Words.{traded}
 use Rattle.overlap_copy.proofs.TradeLaws.{traded-even}
 use Rattle.overlap_copy.proofs.exchanges.trade_run.Goals as goal
 
 pub returns-clause-traded : goal.returns-clause-traded
 returns-clause-traded c =
-    let to : SFits w64 c.args.to.step = search rules in
-    let from : SFits w64 c.args.from.step = search rules in
+    let to = c.args.to in
+    let from = c.args.from in
+    let a = c.strided.ensures in
+    let b = c.strided-2.ensures in
     c.trade_strided.ensures.traded
-    ∙ (λ i. traded c.args.to.offset (to_z-of_z w64 c.args.to.step to i) c.args.from.offset (to_z-of_z w64 c.args.from.step from i) c.args.width c.args.to.count c.args.block.now c.args.other.now)
+    ∙ (λ i. traded (a i).steps.at (a i).steps.step (b i).steps.at (b i).steps.step (b i).width (b i).count c.args.block.now c.args.other.now)
+    ∙ (λ i. traded to.offset to.step from.offset from.step c.args.width (sym c.requires.count i) c.args.block.now c.args.other.now)
     ∙ traded-even _ _ _ _ _ c.requires.count c.requires.to c.requires.from

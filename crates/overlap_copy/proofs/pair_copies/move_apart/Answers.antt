@@ -1,7 +1,5 @@
-use Rattle.std.proofs.Common.{rules, ◌≡◌, length, w64, sym, subst, ◌∙◌, arith}
-use Rattle.std.proofs.lemmas.Int.{to_z-of_z}
-use mir.Val.{SFits}
-use Rattle.overlap_copy.specs.Words.{EachWithin, copied_within}
+use Rattle.std.proofs.Common.{length, sym, subst, ◌∙◌, arith}
+use Rattle.overlap_copy.specs.Words.{EachWithin}
 use Rattle.overlap_copy.specs.inside.Moves.{IsAssigned, place_in}
 use Rattle.overlap_copy.proofs.RunCopyLaws.{whole_within, packed_moved}
 use Rattle.overlap_copy.proofs.MovingLaws.{assigned_from_moves, apart_passed}
@@ -38,9 +36,6 @@ returns-clause-written c =
     let to = c.args.to in
     let from = c.args.from in
     let old = c.args.block.now in
-    let fits : SFits w64 to.step = search rules in
-    let fits' : SFits w64 from.step = search rules in
-    let is : c.copy_strided_within.new.self ≡ copied_within to.offset to.step from.offset from.step c.args.width to.count old = c.copy_strided_within.ensures.copied ∙ (λ i. copied_within to.offset (to_z-of_z w64 to.step fits i) from.offset (to_z-of_z w64 from.step fits' i) c.args.width to.count old) in
-    assigned_from_moves to from c.args.width old c.copy_strided_within.new.self c.requires.count c.requires.to c.requires.from c.requires.nested
-    (subst (IsAssigned to.count (place_in to) (place_in from) c.args.width old old) (sym is)
+    assigned_from_moves to from c.args.width old c.copy_one_by_one.new.block c.requires.count c.requires.to c.requires.from c.requires.nested
+    (subst (IsAssigned to.count (place_in to) (place_in from) c.args.width old old) (sym c.copy_one_by_one.ensures.copied)
     (apart_passed to from c.args.width old c.requires.count c.requires.to c.requires.from c.requires.nested c.requires.apart))

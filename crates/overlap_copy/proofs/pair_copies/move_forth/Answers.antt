@@ -1,7 +1,5 @@
-use Rattle.std.proofs.Common.{rules, ◌≡◌, ◌+◌, ◌*◌, ◌≤◌, length, arith, w64, sym, subst, ◌∙◌}
-use Rattle.std.proofs.lemmas.Int.{to_z-of_z}
-use mir.Val.{SFits}
-use Rattle.overlap_copy.specs.Words.{EachWithin, copied_within}
+use Rattle.std.proofs.Common.{◌+◌, ◌*◌, ◌≤◌, length, arith, sym, subst, ◌∙◌}
+use Rattle.overlap_copy.specs.Words.{EachWithin}
 use Rattle.overlap_copy.specs.inside.Moves.{IsAssigned, place_in}
 use Rattle.overlap_copy.proofs.TurnLaws.{back-alike, moved_forwards, moved_backwards}
 use Rattle.overlap_copy.proofs.RunCopyLaws.{whole_within, packed_moved}
@@ -32,49 +30,31 @@ returns-then-is_packed-clause-moved c =
 
 -- ---- from the first to the last
 
-pub copy_strided_within-requires-clause-dst : goal.copy_strided_within-requires-clause-dst
-copy_strided_within-requires-clause-dst c =
-    let fits : SFits w64 c.args.to.step = search rules in
-    subst (λ s. EachWithin (length c.args.block.now) c.args.to.offset s c.args.width c.args.to.count) (sym (to_z-of_z w64 c.args.to.step fits)) c.requires.alike.to_in
-
-pub copy_strided_within-requires-clause-src : goal.copy_strided_within-requires-clause-src
-copy_strided_within-requires-clause-src c =
-    let fits : SFits w64 c.args.from.step = search rules in
-    subst (λ s. EachWithin (length c.args.block.now) c.args.from.offset s c.args.width c.args.to.count) (sym (to_z-of_z w64 c.args.from.step fits)) c.requires.alike.from_in
+pub copy_one_by_one-requires : goal.copy_one_by_one-requires
+copy_one_by_one-requires c =
+    let from = c.args.from in
+    let even = sym c.requires.alike.count in
+    record { count = even; to = c.requires.alike.to_in; from = subst (EachWithin (length c.args.block.now) from.offset from.step c.args.width) even c.requires.alike.from_in }
 
 pub returns-then-to-from-clause-moved : goal.returns-then-to-from-clause-moved
 returns-then-to-from-clause-moved c =
     let to = c.args.to in
     let from = c.args.from in
     let old = c.args.block.now in
-    let fits : SFits w64 to.step = search rules in
-    let fits' : SFits w64 from.step = search rules in
-    let is : c.copy_strided_within.new.self ≡ copied_within to.offset to.step from.offset from.step c.args.width to.count old = c.copy_strided_within.ensures.copied ∙ (λ i. copied_within to.offset (to_z-of_z w64 to.step fits i) from.offset (to_z-of_z w64 from.step fits' i) c.args.width to.count old) in
-    subst (IsAssigned to.count (place_in to) (place_in from) c.args.width old old) (sym is) (moved_forwards c.args.width old to from c.requires.alike c.requires.rising c.if-to-from.true)
+    subst (IsAssigned to.count (place_in to) (place_in from) c.args.width old old) (sym c.copy_one_by_one.ensures.copied) (moved_forwards c.args.width old to from c.requires.alike c.requires.rising c.if-to-from.true)
 
 -- ---- from the last to the first
 
-pub copy_strided_within-requires-2-clause-dst : goal.copy_strided_within-requires-2-clause-dst
-copy_strided_within-requires-2-clause-dst c =
-    let back = c.turned-to.result in
-    let len = length c.args.block.now in
-    let fits : SFits w64 back.step = search rules in
-    subst (λ s. EachWithin len back.offset s c.args.width back.count) (sym (to_z-of_z w64 back.step fits)) (back-alike len c.args.width c.args.to c.args.from back c.turned-from.result c.requires.alike c.turned-to.ensures c.turned-from.ensures).to_in
-
-pub copy_strided_within-requires-2-clause-src : goal.copy_strided_within-requires-2-clause-src
-copy_strided_within-requires-2-clause-src c =
-    let back = c.turned-from.result in
-    let len = length c.args.block.now in
-    let fits : SFits w64 back.step = search rules in
-    subst (λ s. EachWithin len back.offset s c.args.width c.turned-to.result.count) (sym (to_z-of_z w64 back.step fits)) (back-alike len c.args.width c.args.to c.args.from c.turned-to.result back c.requires.alike c.turned-to.ensures c.turned-from.ensures).from_in
+pub copy_one_by_one-requires-2 : goal.copy_one_by_one-requires-2
+copy_one_by_one-requires-2 c =
+    let back = back-alike (length c.args.block.now) c.args.width c.args.to c.args.from c.turned-to.result c.turned-from.result c.requires.alike c.turned-to.ensures c.turned-from.ensures in
+    let from = c.turned-from.result in
+    record { count = sym back.count; to = back.to_in; from = subst (EachWithin (length c.args.block.now) from.offset from.step c.args.width) (sym back.count) back.from_in }
 
 pub returns-clause-moved : goal.returns-clause-moved
 returns-clause-moved c =
     let to = c.turned-to.result in
     let from = c.turned-from.result in
     let old = c.args.block.now in
-    let fits : SFits w64 to.step = search rules in
-    let fits' : SFits w64 from.step = search rules in
-    let is : c.copy_strided_within-2.new.self ≡ copied_within to.offset to.step from.offset from.step c.args.width to.count old = c.copy_strided_within-2.ensures.copied ∙ (λ i. copied_within to.offset (to_z-of_z w64 to.step fits i) from.offset (to_z-of_z w64 from.step fits' i) c.args.width to.count old) in
-    subst (IsAssigned c.args.to.count (place_in c.args.to) (place_in c.args.from) c.args.width old old) (sym is)
+    subst (IsAssigned c.args.to.count (place_in c.args.to) (place_in c.args.from) c.args.width old old) (sym c.copy_one_by_one-2.ensures.copied)
     (moved_backwards c.args.width old c.args.to c.args.from c.requires.alike c.requires.rising to from c.turned-to.ensures c.turned-from.ensures (omega (arith, c.if-to-from.false)))
