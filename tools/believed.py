@@ -129,8 +129,8 @@ def public_clauses(code: list[Source], with_invariants: bool) -> Iterator[tuple[
     names = {it.strip().split(" as ")[-1] for it in ",".join(groups).split(",") if it.strip()}
     wanted = r" *ghost (Value|view|invariant)\b" if with_invariants else r" *ghost (Value|view)\b"
     for source in code:
-        for header in re.findall(r"(?m)^pub fn (?:.|\n)*?\n?\{$", source.text):
-            if re.findall(r"pub fn (\w+)", header)[0] in names:
+        for header in re.findall(r'(?m)^pub (?:extern "C" )?fn (?:.|\n)*?\n?\{$', source.text):
+            if source.path.name == "lib.rt" or re.findall(r"fn (\w+)", header)[0] in names:
                 yield source, header
         for of_trait, owner, body in re.findall(r"(?ms)^impl(?:<[^>]*>)? (?:([\w<>', ]+) for )?(\w+)[^{\n]*\{(.*?)^\}", source.text):
             headers = re.findall(r"(?m)^    (?:pub |final )*fn (?:.|\n)*?\n?    \{$|^    ghost [^\n]*;$", body) if owner in names else []
