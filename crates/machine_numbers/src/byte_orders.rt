@@ -35,6 +35,19 @@ pub trait Ordered {
         ensures { bytes.new ≡ bytes_of order 8 bits };
 }
 
+/// The bytes of a slice, in a single load: read one by one, they keep loops from using vector
+/// instructions.
+#[inline(always)]
+fn array<const N: usize>(bytes: &[u8]) -> [u8; N]
+    requires { length bytes.now ≡ N }
+    ensures { result ≡ bytes.now }
+{
+    match bytes.as_array::<N>() {
+        Some(array) => *array,
+        None => unreachable!(),
+    }
+}
+
 /// Lowest byte first.
 pub struct LowFirst;
 
@@ -46,15 +59,15 @@ impl Ordered for LowFirst {
     ghost order = { Little };
 
     fn read_two(bytes: &[u8]) -> u16 {
-        LittleEndian::read_u16(bytes)
+        u16::from_le_bytes(array::<2>(bytes))
     }
 
     fn read_four(bytes: &[u8]) -> u32 {
-        LittleEndian::read_u32(bytes)
+        u32::from_le_bytes(array::<4>(bytes))
     }
 
     fn read_eight(bytes: &[u8]) -> u64 {
-        LittleEndian::read_u64(bytes)
+        u64::from_le_bytes(array::<8>(bytes))
     }
 
     fn write_two(bits: u16, bytes: &mut [u8]) {
@@ -75,15 +88,15 @@ impl Ordered for HighFirst {
     ghost order = { Big };
 
     fn read_two(bytes: &[u8]) -> u16 {
-        BigEndian::read_u16(bytes)
+        u16::from_be_bytes(array::<2>(bytes))
     }
 
     fn read_four(bytes: &[u8]) -> u32 {
-        BigEndian::read_u32(bytes)
+        u32::from_be_bytes(array::<4>(bytes))
     }
 
     fn read_eight(bytes: &[u8]) -> u64 {
-        BigEndian::read_u64(bytes)
+        u64::from_be_bytes(array::<8>(bytes))
     }
 
     fn write_two(bits: u16, bytes: &mut [u8]) {
