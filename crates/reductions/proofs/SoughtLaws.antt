@@ -15,7 +15,7 @@ abbrev firsts : Scalar → Side → ℕ → List ℤ
 firsts scalar s n = numbers_at scalar s.bytes.now (run_offsets (front n s.run))
 
 abbrev pub block_at : Scalar → Side → ℕ → List ℤ
-block_at scalar s n = numbers_at scalar s.bytes.now (run_offsets (record { offset = place s.run.offset s.run.step n; count = min 4096 (s.run.count - n); step = s.run.step }))
+block_at scalar s n = numbers_at scalar s.bytes.now (run_offsets (record { offset = place s.run.offset s.run.step n; count = min 512 (s.run.count - n); step = s.run.step }))
 
 -- `best` is the best number after the first `done` numbers of a side. If it came in a block, `before` numbers of the
 -- side come before that block. If the old state still holds, `before` is the number of all numbers of the side.
@@ -36,7 +36,7 @@ sought-none greatest scalar s seen held at = record {
   found = λ less. absurd (omega (arith, less));
 }
 
-module _ (greatest : Bool) (scalar : Scalar) (s t : Side) (seen : ℕ) (held : ℤ) (at done n : ℕ) (low : done < s.run.count) (part : IsPart done (min 4096 (s.run.count - done)) s t) (is_n : n ≡ min 4096 (s.run.count - done)) where
+module _ (greatest : Bool) (scalar : Scalar) (s t : Side) (seen : ℕ) (held : ℤ) (at done n : ℕ) (low : done < s.run.count) (part : IsPart done (min 512 (s.run.count - done)) s t) (is_n : n ≡ min 512 (s.run.count - done)) where
   abbrev pub block : List ℤ
   block = numbers_of scalar t
 
@@ -44,7 +44,7 @@ module _ (greatest : Bool) (scalar : Scalar) (s t : Side) (seen : ℕ) (held : �
   more : (earlier : List ℤ) → (earlier ++ firsts scalar s done) ++ block ≡ earlier ++ firsts scalar s (done + n)
   more earlier =
       append_assoc earlier (firsts scalar s done) block
-      ∙ ap (λ all. earlier ++ all) (part_numbers scalar s t done (min 4096 (s.run.count - done)) low part ∙ ap (λ m. firsts scalar s (done + m)) (sym is_n))
+      ∙ ap (λ all. earlier ++ all) (part_numbers scalar s t done (min 512 (s.run.count - done)) low part ∙ ap (λ m. firsts scalar s (done + m)) (sym is_n))
 
   is_block : block ≡ block_at scalar s done
   is_block = λ i. numbers_at scalar (part.0 i) (run_offsets (part.2 i))

@@ -8,7 +8,7 @@ ghost use Rattle.reductions.specs.inside.FoldLaws.{total_of, total, total_is, to
 ghost use Rattle.reductions.specs.inside.FoundLaws.{HasFound, HasSought, better_next, better_stays};
 ghost use Rattle.reductions.specs.inside.Extremes.{reduction_of, places_of, is_better, better, best_of, best_from, best_is, best_size, place_is, place_size, better_kept, better_left};
 
-use crate::lines::{BLOCK, fold_each, part, place_of};
+use crate::lines::{fold_each, part, place_of};
 use machine_numbers::{Number, Ordered, Side};
 
 /// A reduction of numbers of one type, number by number. It starts with the first number, and then
@@ -229,6 +229,9 @@ struct Sought<S> {
     best: S,
     before: usize,
 }
+
+/// How many numbers are visited together. Only one block is then searched for the place of the best.
+const BLOCK: usize = 512;
 
 /// Visits the numbers of a block, which has `before` numbers before it.
 #[inline(always)]

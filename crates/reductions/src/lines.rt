@@ -134,7 +134,7 @@ pub(crate) fn fold_each<S: Number, O: Ordered, F: Fold<S>>(
 }
 
 /// How many numbers are reduced before asking whether the result is already decided.
-pub(crate) const BLOCK: usize = 4096;
+const BLOCK: usize = 4096;
 
 /// Reduces numbers until the result is decided. `seen` numbers come before them.
 pub(crate) fn fold_blocks<S: Number, O: Ordered, F: Fold<S>>(

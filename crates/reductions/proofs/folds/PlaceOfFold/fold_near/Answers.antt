@@ -11,7 +11,7 @@ loop-done-preserved g c =
     let s = c.args.near in
     let counted = ap (λ r. r.count) c.part-block.ensures.2 in
     let done = c.loop-done.done in
-    let least : c.min.result ≡ min 4096 (s.run.count - done) = omega (arith, c.min.ensures) in
+    let least : c.min.result ≡ min 512 (s.run.count - done) = omega (arith, c.min.ensures) in
     record {
       fits = omega (arith, counted, c.min.ensures, c.loop-done-test.true);
       sought = sought-next greatest scalar s c.part-block.result c.args.seen (g.S.Number.value c.args.held.best) c.args.held.place done c.part-block.result.run.count c.loop-done-test.true
