@@ -5,7 +5,7 @@ ghost use Rattle.fancy_index.specs.inside.Bools.{AreAll, LieInBytes, bools_in, r
 ghost use Rattle.fancy_index.specs.inside.Items.{kind_in, numbers_in};
 ghost use Rattle.fancy_index.specs.inside.PointLists.{true_ranks};
 ghost use Rattle.fancy_index.specs.inside.Ranks.{IsAtRun, led};
-ghost use Rattle.std.specs.Prelude.{All, IfOk, IsTrue, List, OnOk, [], drop, get_or, length, pos, slice_index, take, ℕ, ◌++◌, ◌+◌, ◌<◌, ◌∷◌, ◌≡◌, ◌≤◌};
+ghost use Rattle.std.specs.Prelude.{All, IfOk, IsTrue, List, OnOk, [], drop, get_or, length, pos, slice_index, take, ℕ, ◌++◌, ◌+◌, ◌<◌, ◌∷◌, ◌≡◌, ◌≤◌, ◌*ℤ◌};
 
 use crate::singles::array_at;
 use arrays::{Items, copy, goes_by_columns};
@@ -279,15 +279,28 @@ fn offset_at(at: &mut RunAt<'_>, rank: usize) -> usize
     at.run.offset_after(rank - at.first)
 }
 
-/// Replaces each rank by its offset, if the items are a single run.
+/// The step between the items of a run; for a single item, any step does.
+fn small_step(run: Run) -> i32
+    requires { LieWithin (run.count ∷ []) (run.step ∷ []) run.offset max_bytes 1 }
+    ensures { (k : ℕ) → k < run.count → result *ℤ pos k ≡ run.step *ℤ pos k }
+{
+    if run.count < 2 {
+        return 0;
+    }
+    run.step as i32
+}
+
+/// Replaces each rank by its offset, if the items are a single run. The offsets are computed with 32
+/// bits, so that a vector holds four of them.
 fn lead_along(run: Run, ranks: &mut [u32])
     requires few { run.count ≤ max_items }
     requires lies { LieWithin (run.count ∷ []) (run.step ∷ []) run.offset max_bytes 1 }
     requires ranks { All (λ rank. rank < run.count) ranks.old }
     ensures { ranks.new ≡ led (run_offsets run) ranks.old }
 {
+    let step = small_step(run);
     for rank in ranks.iter_mut() {
-        *rank = run.offset_after(*rank as usize) as u32;
+        *rank = (step * *rank as i32 + run.offset as i32) as u32;
     }
 }
 

@@ -208,7 +208,8 @@ fn grow(shifts: &mut [u32], start: u32, offsets: &[u32])
 }
 
 /// Adds it to as many shifts as a run of places has, starting with one of them.
-fn grow_run(shifts: &mut [u32], at: usize, start: u32, offsets: &[u32], places: Run)
+#[inline(always)]
+fn grow_each(shifts: &mut [u32], at: usize, start: u32, offsets: &[u32], places: Run)
     requires start { start ≤ max_bytes }
     requires few { places.count ≤ max_items }
     requires lies { LieWithin (places.count ∷ []) (places.step ∷ []) places.offset max_bytes 1 }
@@ -222,6 +223,35 @@ fn grow_run(shifts: &mut [u32], at: usize, start: u32, offsets: &[u32], places: 
     for k in 0..places.count {
         let offset = offsets[places.offset_after(k)];
         shifts[at + k] = shifts[at + k] + offset - start;
+    }
+}
+
+/// The same run, with a step that the compiler knows.
+#[inline(always)]
+fn with_step(run: Run, step: isize) -> Run
+    requires { run.step ≡ step }
+    ensures { result ≡ run }
+{
+    Run { step, ..run }
+}
+
+/// Adds it to as many shifts as a run of places has, with a loop of its own for adjacent places and
+/// for a single place.
+fn grow_run(shifts: &mut [u32], at: usize, start: u32, offsets: &[u32], places: Run)
+    requires start { start ≤ max_bytes }
+    requires few { places.count ≤ max_items }
+    requires lies { LieWithin (places.count ∷ []) (places.step ∷ []) places.offset max_bytes 1 }
+    requires many { at + places.count ≤ length shifts.old }
+    requires places { All (λ place. place < length offsets.now) (run_offsets places) }
+    requires can { (k : ℕ) → at ≤ k → k < at + places.count
+        → IsMoved start (get_or shifts.old k 0) (number_along offsets.now places at k) }
+    ensures { let to = at + places.count in
+        HaveGrownFrom at start (number_along offsets.now places at) shifts.old shifts.new to }
+{
+    match places.step {
+        0 => grow_each(shifts, at, start, offsets, with_step(places, 0)),
+        1 => grow_each(shifts, at, start, offsets, with_step(places, 1)),
+        _ => grow_each(shifts, at, start, offsets, places),
     }
 }
 

@@ -5,8 +5,8 @@ use Rattle.fancy_index.specs.inside.Moved.{moved_offset, IsMoved}
 use Rattle.fancy_index.specs.inside.Sums.{HaveGrownFrom, number_along}
 use Rattle.fancy_index.proofs.RunLaws.{first-low, steps-low, steps-high, lies-there}
 use Rattle.fancy_index.proofs.SumLaws.{grown_more}
-use Rattle.fancy_index.proofs.shift_columns.grow_run.Goals as goal
-use Rattle.fancy_index.proofs.shift_columns.grow_run.Goals.{After-offset_after}
+use Rattle.fancy_index.proofs.shift_columns.grow_each.Goals as goal
+use Rattle.fancy_index.proofs.shift_columns.grow_each.Goals.{After-offset_after}
 
 pub offset_after-requires-clause-start : goal.offset_after-requires-clause-start
 offset_after-requires-clause-start c = first-low c.args.places c.requires.lies c.loop-k.k c.loop-k-test.true
