@@ -76,7 +76,7 @@ pub(crate) fn push_all(
     ensures bytes { result.0 ≡ items.0 ++ joined_at (offsets_from axes.now) width block.now }
     ensures left { length (offsets_from axes.now) * width + result.1 ≡ items.1 }
 {
-    if let Some(rows) = ShortRows::of(axes) {
+    if let Some(rows) = ShortRows::of(axes, width) {
         return rows.push(items, block, width);
     }
     let mut items = items;
@@ -145,7 +145,7 @@ pub(crate) fn scatter(block: &mut RawBlock, axes: &PlanAxes, items: &RawBlock, w
         block.new ≡ assigned (offsets_from axes.now) packed width items.now block.old }
     ensures len { length block.new ≡ length block.old }
 {
-    if let Some(rows) = ShortRows::of(axes) {
+    if let Some(rows) = ShortRows::of(axes, width) {
         rows.scatter(block, items, width);
         return;
     }
@@ -198,7 +198,7 @@ pub(crate) fn fill(block: &mut RawBlock, axes: &PlanAxes, item: &[u8])
     ensures written { block.new ≡ put_each (offsets_from axes.now) item.now block.old }
     ensures len { length block.new ≡ length block.old }
 {
-    if let Some(rows) = ShortRows::of(axes) {
+    if let Some(rows) = ShortRows::of(axes, item.len()) {
         rows.fill(block, item);
         return;
     }

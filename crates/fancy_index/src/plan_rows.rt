@@ -72,6 +72,18 @@ fn rise_evenly(shifts: &[u32], step: u32) -> bool
     even
 }
 
+/// Whether items of `width` bytes at these shifts are adjacent. Wide items gain nothing from it, so
+/// for these it is `false`.
+pub(crate) fn are_adjacent(shifts: &[u32], width: usize) -> bool
+    requires some { 1 ≤ length shifts.now }
+    requires few { length shifts.now ≤ 128 }
+    ensures narrow { IsTrue result → width ≤ 64 }
+    ensures even { IsTrue result → (k : ℕ) → k < length shifts.now
+        → get_or shifts.now k 0 ≡ get_or shifts.now 0 0 + k * width }
+{
+    width <= 64 && rise_evenly(shifts, width as u32)
+}
+
 impl PlanAxes {
     ghost use Rattle.fancy_index.specs.inside.Moved.{shifted_all};
     ghost use Rattle.fancy_index.specs.inside.Kept.{shifted_offsets};
@@ -137,17 +149,13 @@ impl<'a> Shifted<'a> {
         }
     }
 
-    /// The first items as a run, if items of `width` bytes are adjacent. For wide items this gains
-    /// nothing.
+    /// The first items as a run, if items of `width` bytes are adjacent and not wide.
     pub(crate) fn as_run(self, width: usize) -> Option<Run>
         requires some { 1 ≤ length self.shifts.now }
         requires few { length self.shifts.now ≤ 128 }
         ensures { IfSome result (λ run. IsRunOf (first_offsets self.entry) run) }
     {
-        if width > 64 {
-            return None;
-        }
-        if !rise_evenly(self.shifts, width as u32) {
+        if !are_adjacent(self.shifts, width) {
             return None;
         }
         Some(Run {

@@ -3,14 +3,16 @@
 ghost use Rattle.std.specs.Prelude.{◌≡◌, ◌≤◌};
 ghost use Rattle.fancy_index.specs.Words.{BeginsWithin, count, max_items, offsets, run_offsets};
 
-use crate::plan_rows::{PlanAxes, Shifted};
+use crate::plan_rows::{PlanAxes, Shifted, are_adjacent};
 use crate::singles::{PackedItems, fill_each, push_each, scatter_each};
 use raw_block::{BlockBuilder, RawBlock};
 use shape_strides::Run;
 
-/// Rows of more items are long: a call for each row costs little, and adjacent items are copied as
-/// one range.
-const SHORT: usize = 32;
+/// Rows of more items are long: a call for each row costs little.
+const SHORT: usize = 128;
+
+/// In rows of more items, adjacent ones are copied as one range.
+const FEW: usize = 32;
 
 /// The items of a plan whose inner axes have a single item: at each place of a run, one item for
 /// each of a few shifts.
@@ -30,11 +32,15 @@ impl<'a> ShortRows<'a> {
     ghost use Rattle.fancy_index.specs.Words.{assigned, joined_at, row_offsets};
     ghost use Rattle.fancy_index.specs.inside.Kept.{FitAt, first_offsets, offsets_from, row_at, short_offsets};
 
-    /// The items of a plan as short rows, if they are.
-    pub(crate) fn of(axes: &'a PlanAxes) -> Option<ShortRows<'a>>
+    /// The items of a plan, of `width` bytes, as short rows, if they are.
+    pub(crate) fn of(axes: &'a PlanAxes, width: usize) -> Option<ShortRows<'a>>
         ensures { IfSome result (λ rows. short_offsets rows ≡ offsets_from axes.now) }
     {
-        if axes.shifts.len() > SHORT || axes.inner.shape.items() != 1 {
+        let shifts = axes.shifts.as_slice();
+        if shifts.len() > SHORT || axes.inner.shape.items() != 1 {
+            return None;
+        }
+        if shifts.len() > FEW && are_adjacent(shifts, width) {
             return None;
         }
         let _count = axes.outer.shape.items();
