@@ -65,9 +65,14 @@ fn bind<'a>(alloc: Global, word: &[u8], bytes: &'a [u8]) -> Result<(Command, &'a
         return Err(Refusal::Syntax);
     }
     let rest = symbol(b'=', bytes).ok_or(Refusal::Syntax)?;
-    let (value, rest) = value(alloc, rest)?;
-    let name = Name::from_slice(alloc, word);
-    Ok((Command::Bind { name, value }, rest))
+    // With `?` or `map` a large value would be moved once more.
+    match value(alloc, rest) {
+        Ok((value, rest)) => {
+            let name = Name::from_slice(alloc, word);
+            Ok((Command::Bind { name, value }, rest))
+        }
+        Err(refusal) => Err(refusal),
+    }
 }
 
 /// The command that the verb begins.

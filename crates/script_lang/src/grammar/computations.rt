@@ -1,7 +1,7 @@
 //! What follows `X =` and computes: `copy`, `cast`, operations and reductions.
 ghost use Rattle.std.specs.Prelude.{◌≡◌};
 ghost use Rattle.script_lang.specs.Commands.{copy_at, cast_at, combine_at, transform_at, reduce_at, computation_at, compute_at};
-ghost use Rattle.script_lang.specs.Reading.{Scans, Reads, computation_room, value_room};
+ghost use Rattle.script_lang.specs.Reading.{Reads, computation_room, value_room};
 
 use crate::command::{Computation, Operation, Value};
 use crate::grammar::descriptors::descr;
@@ -16,14 +16,14 @@ use std::alloc::Global;
 
 /// `Y C` or `Y F`, after `copy`.
 #[tactic(auto, unfolding(crate::specs::Commands::copy_at))]
-fn copy(alloc: Global, bytes: &[u8]) -> Option<(Computation, &[u8])>
-    ensures { Scans (λ r. (r.0, r.1.now)) result (copy_at bytes.now) }
+fn copy(alloc: Global, bytes: &[u8]) -> Result<(Computation, &[u8]), Refusal>
+    ensures { Reads (λ r. (r.0, r.1.now)) (λ r. computation_room r.0) result (copy_at bytes.now) }
 {
-    let (source, rest) = name(bytes)?;
-    let (word, rest) = word(rest)?;
-    let order = order(word)?;
+    let (source, rest) = name(bytes).ok_or(Refusal::Syntax)?;
+    let (word, rest) = word(rest).ok_or(Refusal::Syntax)?;
+    let order = order(word).ok_or(Refusal::Syntax)?;
     let source = Name::from_slice(alloc, source);
-    Some((Computation::Duplicate { source, order }, rest))
+    Ok((Computation::Duplicate { source, order }, rest))
 }
 
 /// `Y D`, after `cast`.
@@ -70,10 +70,11 @@ fn transform(alloc: Global, operation: UnOp, bytes: &[u8]) -> Result<(Computatio
 
 /// `Y [axis] [keep]`, after `RED`.
 #[tactic(auto, unfolding(crate::specs::Commands::reduce_at))]
-fn reduce(alloc: Global, reduction: Red, bytes: &[u8]) -> Option<(Computation, &[u8])>
-    ensures { Scans (λ r. (r.0, r.1.now)) result (reduce_at reduction bytes.now) }
+fn reduce(alloc: Global, reduction: Red, bytes: &[u8]) -> Result<(Computation, &[u8]), Refusal>
+    ensures { Reads (λ r. (r.0, r.1.now)) (λ r. computation_room r.0) result
+        (reduce_at reduction bytes.now) }
 {
-    let (source, rest) = owned_name(alloc, bytes)?;
+    let (source, rest) = owned_name(alloc, bytes).ok_or(Refusal::Syntax)?;
     let (axis, rest) = optional_integer(rest);
     let (keep, rest) = flag(b"keep", rest);
     let reduced = Computation::Reduce {
@@ -82,7 +83,7 @@ fn reduce(alloc: Global, reduction: Red, bytes: &[u8]) -> Option<(Computation, &
         axis,
         keep,
     };
-    Some((reduced, rest))
+    Ok((reduced, rest))
 }
 
 fn computation(
@@ -94,11 +95,11 @@ fn computation(
         (computation_at verb bytes.now) }
 {
     match verb {
-        ComputeVerb::Duplicate => copy(alloc, bytes).ok_or(Refusal::Syntax),
+        ComputeVerb::Duplicate => copy(alloc, bytes),
         ComputeVerb::Cast => cast(alloc, bytes),
         ComputeVerb::Combine(operation) => combine(alloc, operation, bytes),
         ComputeVerb::Transform(operation) => transform(alloc, operation, bytes),
-        ComputeVerb::Reduce(reduction) => reduce(alloc, reduction, bytes).ok_or(Refusal::Syntax),
+        ComputeVerb::Reduce(reduction) => reduce(alloc, reduction, bytes),
     }
 }
 
@@ -107,6 +108,9 @@ fn computation(
 pub fn compute(alloc: Global, verb: ComputeVerb, bytes: &[u8]) -> Result<(Value, &[u8]), Refusal>
     ensures { Reads (λ r. (r.0, r.1.now)) (λ r. value_room r.0) result (compute_at verb bytes.now) }
 {
-    let (computation, rest) = computation(alloc, verb, bytes)?;
-    Ok((Value::Compute(computation), rest))
+    // With `?` or `map` a large value would be moved once more.
+    match computation(alloc, verb, bytes) {
+        Ok((computation, rest)) => Ok((Value::Compute(computation), rest)),
+        Err(refusal) => Err(refusal),
+    }
 }
