@@ -1,16 +1,11 @@
 -- The ranks of true bools.
-use Rattle.std.proofs.Common.{◌≡◌, ◌⊎◌, inl, inr, ℕ, zero, suc, ◌+◌, ◌-◌, ◌*◌, ◌^◌, ◌<◌, ◌≤◌, true, false, List, [], ◌∷◌, ◌++◌, map, length, get_or, set, take, drop, refl, sym, ap, subst, ◌∙◌, arith, append_assoc}
+use Rattle.std.proofs.Common.{◌≡◌, ◌⊎◌, inl, inr, ℕ, zero, suc, ◌+◌, ◌-◌, ◌*◌, ◌<◌, ◌≤◌, true, false, List, [], ◌∷◌, ◌++◌, map, length, get_or, set, take, drop, refl, sym, ap, subst, ◌∙◌, arith, append_assoc}
 use Rattle.std.specs.List.{flat_map}
 use Rattle.std.specs.Ordering.{int_eq}
-use Rattle.std.specs.Int.{byte_worth, from_le_bytes, sum_through}
-use Rattle.std.proofs.Math.Nat.{eq-or-lt_of_le, le-mul_of_pos_right}
 use Rattle.std.proofs.lemmas.Int.{ints}
-use Rattle.std.proofs.lemmas.Nat.{pow_pos}
-use Rattle.byteorder.proofs.Bytes.{pow256}
 use Rattle.std.proofs.lemmas.Simd.{map-map}
 use Rattle.std.proofs.lemmas.List.{get_or-map, length-map, get_or-drop, get_or-take, drop_more, map-append, take-set, take_more_set}
 use lib.IntN.{ℤ, pos, ◌*ℤ◌}
-use mir.Syntax.{w128}
 use Rattle.fancy_index.specs.Words.{item_at, Descr, Byte, Int, Bytes, item_from, truth, Run, run_offsets, length-run_offsets}
 use Rattle.elem_descr.specs.declared.descr.Descr.TheVariants.{Scalar as ScalarDescr, Record as RecordDescr}
 use Rattle.elem_descr.specs.declared.scalar.Scalar.TheVariants.{Bool as BoolScalar}
@@ -134,23 +129,6 @@ module _ (bools : Bools) (lie : LieInBytes bools) (one : bools.run.step ≡ pos 
   bool-after = bool-there bools k (bools.run.offset + k) low offset-after
 
 -- ---- sixteen bools at once
-
-none-worth : (f : ℕ → ℕ) (n i : ℕ) → sum_through f n ≡ 0 → i ≤ n → f i ≡ 0
-none-worth f zero zero none within = none
-none-worth f zero (suc i) none within = absurd (omega (arith, within))
-none-worth f (suc n) i none within =
-    elim (eq-or-lt_of_le within) as (λ _. f i ≡ 0) [
-      | inl last ↦ ap f last ∙ omega (arith, none)
-      | inr before ↦ none-worth f n i (omega (arith, none)) (omega (arith, before))
-    ]
-
-no-byte : (i byte : ℕ) → byte_worth i byte ≡ 0 → byte ≡ 0
-no-byte zero byte none = none
-no-byte (suc i) byte none = omega (arith, none, le-mul_of_pos_right {m = 256 ^ suc i} byte (subst (λ n. 0 < n) (sym (pow256 (suc i))) (pow_pos (8 * suc i))))
-
--- if the number in sixteen bytes is 0, all of them are
-pub no-bytes : (bytes : List ℕ) → from_le_bytes w128 bytes ≡ 0 → (j : ℕ) → j < 16 → get_or bytes j 0 ≡ 0
-no-bytes bytes none j low = no-byte j (get_or bytes j 0) (none-worth (λ i. byte_worth i (get_or bytes i 0)) 15 j none (omega (arith, low)))
 
 -- if adjacent bools that were loaded together are all false, they add no rank
 pub loaded-none : (bools : Bools) → LieInBytes bools → bools.run.step ≡ pos 1 → (at n : ℕ) (loaded : List ℕ) → loaded ≡ item_at (bools.run.offset + at) n bools.bytes.now → at + n ≤ bools.run.count → ((j : ℕ) → j < n → get_or loaded j 0 ≡ 0) →
