@@ -1,5 +1,5 @@
 -- States that no further number can change.
-use Rattle.std.proofs.Common.{◌≡◌, inl, inr, ℕ, ℤ, pos, Bool, true, false, cond, List, [], ◌∷◌, refl, sym, ap, subst, ◌∙◌, arith}
+use Rattle.std.proofs.Common.{◌≡◌, inl, inr, ℕ, ℤ, pos, Bool, true, false, cond, List, [], ◌∷◌, ◌++◌, refl, sym, ap, subst, ◌∙◌, arith}
 use Rattle.std.specs.Prelude.{int_lt, nat_eq}
 use Rattle.std.specs.List.{fold}
 use Rattle.std.proofs.Math.Bool.{beq}
@@ -10,7 +10,7 @@ use Rattle.elem_descr.specs.declared.scalar.Scalar.TheVariants.{Bool as BoolScal
 use Rattle.elem_descr.specs.Encoding.{truth as bit}
 use Rattle.reductions.specs.Reductions.{is_true}
 use Rattle.reductions.specs.inside.Extremes.{better, is_better, better-none}
-use Rattle.reductions.specs.inside.FoundLaws.{HasSought}
+use Rattle.reductions.specs.inside.FoundLaws.{HasFound, better_passed}
 use Rattle.reductions.specs.inside.Numbers.{number_at, numbers_at}
 
 -- ---- bools
@@ -47,5 +47,8 @@ module _ (greatest : Bool) (best : ℤ) (scalar : Scalar) (bytes : List ℕ) (la
   best-stays (offset ∷ offsets) =
       best-stays offsets ∙ ap (λ z. fold (better greatest) z (numbers_at scalar bytes offsets)) (better-none greatest best (number_at scalar bytes offset) (last offset))
 
-  pub sought-none : (offsets : List ℕ) (before at : ℕ) → HasSought greatest (numbers_at scalar bytes offsets) best before at best before
-  sought-none offsets before at = inl (subst (λ z. is_better greatest z best ≡ false) (best-stays offsets) (not_better greatest best), refl, refl)
+  pub found-stays : (place : ℕ) (first : ℤ) (seen : List ℤ) (offsets : List ℕ) → HasFound (better greatest) best place first seen → HasFound (better greatest) best place first (seen ++ numbers_at scalar bytes offsets)
+  found-stays place first seen offsets held =
+      let numbers = numbers_at scalar bytes offsets in
+      better_passed greatest best (fold (better greatest) best numbers) place first seen numbers held refl
+      (subst (λ z. is_better greatest z best ≡ false) (best-stays offsets) (not_better greatest best))

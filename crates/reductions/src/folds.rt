@@ -56,13 +56,17 @@ pub(crate) trait Fold<S: Number> {
         false
     }
 
-    /// Visits adjacent numbers, which have `seen` numbers before them, if there is a faster way
-    /// than one by one.
-    fn fold_near<O: Ordered>(held: Self::Held, seen: usize, near: Side<'_>) -> Option<Self::Held>
-        requires width { near.width ≡ S.WIDTH }
-        requires few { seen + near.run.count < 2 ^ 63 }
+    /// Visits numbers, which have `seen` numbers before them, if there is a faster way than one by
+    /// one.
+    fn fold_together<O: Ordered>(
+        held: Self::Held,
+        seen: usize,
+        side: Side<'_>,
+    ) -> Option<Self::Held>
+        requires width { side.width ≡ S.WIDTH }
+        requires few { seen + side.run.count < 2 ^ 63 }
         ensures { IfSome result
-            (TakesIn holds held seen (numbers_of (S.scalar O.order) near.entry)) }
+            (TakesIn holds held seen (numbers_of (S.scalar O.order) side.entry)) }
     {
         None
     }
@@ -245,9 +249,6 @@ fn seek_in<S: Number, O: Ordered, const GREATEST: bool>(
     ensures { HasSought GREATEST (numbers_of (S.scalar O.order) block.entry)
         (S.value held.best) held.before before (S.value result.best) result.before }
 {
-    if is_last::<S, GREATEST>(held.best) {
-        return held;
-    }
     let best = fold_each::<S, O, Best<GREATEST>>(held.best, 0, block);
     if !is_better::<S, GREATEST>(best, held.best) {
         return held;
@@ -289,15 +290,23 @@ impl<S: Number, const GREATEST: bool> Fold<S> for PlaceOf<GREATEST> {
         held
     }
 
-    fn fold_near<O: Ordered>(held: Found<S>, seen: usize, near: Side<'_>) -> Option<Found<S>> {
-        let all = near.run.count;
+    fn is_decided(held: Found<S>) -> bool {
+        is_last::<S, GREATEST>(held.best)
+    }
+
+    fn may_end_early() -> bool {
+        S::are_bools()
+    }
+
+    fn fold_together<O: Ordered>(held: Found<S>, seen: usize, side: Side<'_>) -> Option<Found<S>> {
+        let all = side.run.count;
         let mut sought = Sought {
             best: held.best,
             before: all,
         };
         let mut done = 0;
         while done < all {
-            let block = part(near, done, BLOCK.min(all - done));
+            let block = part(side, done, BLOCK.min(all - done));
             sought = seek_in::<S, O, GREATEST>(sought, done, block);
             done += block.run.count;
         }
@@ -305,7 +314,7 @@ impl<S: Number, const GREATEST: bool> Fold<S> for PlaceOf<GREATEST> {
         if before == all {
             return Some(held);
         }
-        let block = part(near, before, BLOCK.min(all - before));
+        let block = part(side, before, BLOCK.min(all - before));
         let place = seen + before + place_of::<S, O>(best, block);
         Some(Found { best, place })
     }

@@ -133,6 +133,23 @@ pub(crate) fn fold_each<S: Number, O: Ordered, F: Fold<S>>(
     held
 }
 
+/// Reduces numbers, by a faster way than one by one if there is one. `seen` numbers come before them.
+#[inline(always)]
+fn fold_side<S: Number, O: Ordered, F: Fold<S>>(
+    held: F::Held,
+    seen: usize,
+    side: Side<'_>,
+) -> F::Held
+    requires width { side.width ≡ S.WIDTH }
+    requires few { seen + side.run.count < 2 ^ 63 }
+    ensures { TakesIn F.holds held seen (numbers_of (S.scalar O.order) side.entry) result }
+{
+    match F::fold_together::<O>(held, seen, side) {
+        Some(after) => after,
+        None => fold_each::<S, O, F>(held, seen, side),
+    }
+}
+
 /// How many numbers are reduced before asking whether the result is already decided.
 const BLOCK: usize = 4096;
 
@@ -153,7 +170,7 @@ pub(crate) fn fold_blocks<S: Number, O: Ordered, F: Fold<S>>(
             return held;
         }
         let block = part(side, done, BLOCK.min(side.run.count - done));
-        held = fold_each::<S, O, F>(held, seen + done, block);
+        held = fold_side::<S, O, F>(held, seen + done, block);
         done += block.run.count;
     }
     held
@@ -188,16 +205,13 @@ pub(crate) fn fold_run<S: Number, O: Ordered, F: Fold<S>>(
     ensures { TakesIn F.holds held seen (numbers_of (S.scalar O.order) side.entry) result }
 {
     if side.run.step != S::WIDTH as isize {
-        return fold_each::<S, O, F>(held, seen, side);
+        return fold_side::<S, O, F>(held, seen, side);
     }
     let near = side.with_step(S::WIDTH as isize);
     if F::may_end_early() {
         return fold_blocks::<S, O, F>(held, seen, near);
     }
-    match F::fold_near::<O>(held, seen, near) {
-        Some(after) => after,
-        None => fold_each::<S, O, F>(held, seen, near),
-    }
+    fold_side::<S, O, F>(held, seen, near)
 }
 
 /// The result for some numbers.

@@ -1,16 +1,7 @@
 use Rattle.std.proofs.Common.{◌≡◌, false, [], inl, inr, refl, sym, ap, ◌∙◌, rules}
 use Rattle.std.specs.Prelude.{nat_eq, not}
-use Rattle.reductions.specs.Words.{run_offsets}
 use Rattle.reductions.specs.inside.Extremes.{is_better}
-use Rattle.reductions.proofs.DecidedLaws.{sought-none}
 use Rattle.reductions.proofs.folds.seek_in.Goals as goal
-
-pub returns-then-is_last : goal.returns-then-is_last
-returns-then-is_last g c =
-    let order = g.O.Ordered.order in
-    let block = c.args.block in
-    sought-none (not (nat_eq g.row.GREATEST 0)) (g.S.Number.value c.args.held.best) (g.S.Number.scalar order) block.bytes.now
-    (λ offset. c.is_last.ensures c.if-is_last.true order block.bytes.now offset) (run_offsets block.run) c.args.held.before c.args.before
 
 pub returns-then-not-is_better : goal.returns-then-not-is_better
 returns-then-not-is_better g c =

@@ -2,13 +2,13 @@ use Rattle.std.proofs.Common.{◌≡◌, ◌-◌, min, ap, subst, ◌∙◌, ari
 use Rattle.std.specs.Prelude.{nat_eq, not}
 use Rattle.reductions.specs.inside.Numbers.{IsPart}
 use Rattle.reductions.proofs.SoughtLaws.{sought-next}
-use Rattle.reductions.proofs.folds.PlaceOfFold.fold_near.Goals as goal
+use Rattle.reductions.proofs.folds.PlaceOfFold.fold_together.Goals as goal
 
 pub loop-done-preserved : goal.loop-done-preserved
 loop-done-preserved g c =
     let scalar = g.S.Number.scalar g.O.Ordered.order in
     let greatest = not (nat_eq g.row.GREATEST 0) in
-    let s = c.args.near in
+    let s = c.args.side in
     let counted = ap (λ r. r.count) c.part-block.ensures.2 in
     let done = c.loop-done.done in
     let least : c.min.result ≡ min 512 (s.run.count - done) = omega (arith, c.min.ensures) in
