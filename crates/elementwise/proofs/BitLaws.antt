@@ -6,7 +6,7 @@ use Rattle.std.proofs.lemmas.Bool.{cases_lt}
 use Rattle.std.proofs.lemmas.Bool.Decides.{nat_tests}
 use Rattle.std.proofs.lemmas.Int.{wrapping_add-bits, wrapping_sub-bits, wrapping_mul-bits, int_wrap-add_left, int_wrap-add_right, int_wrap-sub_right, int_wrap-mul_left, int_wrap-mul_right, of_z-to_z}
 use Rattle.std.proofs.lemmas.Nat.{pow_below}
-use Rattle.std.proofs.Math.Nat.{div-add-mod, mod-lt, mod-eq_of_lt, mul-le-mul_left, mul-le-mul_right, div-div-eq-div-mul}
+use Rattle.std.proofs.Math.Nat.{div-add-mod, div-le_self, mod-lt, mod-eq_of_lt, mul-le-mul_left, mul-le-mul_right, div-div-eq-div-mul}
 use Rattle.elementwise.specs.Words.{integer, low_bits, low_bits-lt, low_bits-integer, int_wrap-low_bits}
 use Rattle.elementwise.specs.Operations.{floor_quotient, modulo, sign_bits, shifted_left, shifted_right}
 
@@ -121,6 +121,32 @@ module _ (v n d m low near : ℕ) (few : n ≤ v) (some : 1 ≤ d) (is : m ≡ v
 
   pub next-is : near * d + d ≤ n → near + 1 ≡ n / d
   next-is over = quotient-is n d (near + 1) (omega (arith, over)) (omega (arith, near-high))
+
+-- A byte times a reciprocal of 16 bits that is rounded up, without the lowest 16 bits, is the quotient.
+module _ (n d r : ℕ) (few : n < 256) (some : 1 ≤ d) (small : d < 256) (is : r ≡ 65535 / d + 1) where
+  pub byte-quotient : n * r / 65536 ≡ n / d
+  byte-quotient =
+      let left : 65535 % d < d = mod-lt 65535 some in
+      let rest : n % d < d = mod-lt n some in
+      let parts : d * (n / d) + n % d ≡ n = div-add-mod n d in
+      let scaled : n * (d * r) + n * (65535 % d) ≡ n * 65535 + n * d = omega (arith, ap (λ z. n * (d * z)) is, ap (λ z. n * z) (div-add-mod 65535 d)) in
+      let under : n * (65535 % d + 1) ≤ n * d = mul-le-mul_left n (omega (arith, left)) in
+      let most : n * d ≤ n * 255 = mul-le-mul_left n (omega (arith, small)) in
+      sym (quotient-is (n * r) 65536 (n / d)
+      (elim (cases_lt (n * r) (n / d * 65536)) as (λ _. n / d * 65536 ≤ n * r) [
+        | inl low ↦ let times : (n * r + 1) * d ≤ n / d * 65536 * d = mul-le-mul_right d (omega (arith, low)) in absurd (omega (arith, times, scaled, under, parts, some))
+        | inr high ↦ high
+      ])
+      (elim (cases_lt (n * r) (n / d * 65536 + 65536)) as (λ _. n * r < n / d * 65536 + 65536) [
+        | inl low ↦ low
+        | inr high ↦ let times : (n / d * 65536 + 65536) * d ≤ n * r * d = mul-le-mul_right d high in absurd (omega (arith, times, scaled, most, parts, rest, few))
+      ]))
+
+pub byte_low : (a b q : ℕ) → a < 256 → (b ≡ 0 → q ≡ 0) → (1 ≤ b → q ≡ a / b) → q ≡ low_bits 8 (floor_quotient (integer false 8 a) (integer false 8 b))
+byte_low a zero q few none some = none refl
+byte_low a (suc b) q few none some =
+    let most : a / suc b ≤ a = div-le_self a (suc b) in
+    some (omega arith) ∙ sym (low_bits-small (a / suc b) (omega (arith, most, few)))
 
 -- the highest bits of a reciprocal are the reciprocal in fewer bits
 pub reciprocal-high : (v k w d : ℕ) → v / k ≡ w → v / d / k ≡ w / d

@@ -5,9 +5,10 @@ ghost use Rattle.elementwise.specs.Operations.{binary, exact, floor_quotient};
 ghost use Rattle.elementwise.specs.Words.{Little, Scalar, integer, is_bool, joined, low_bits, number_of_side};
 ghost use Rattle.elementwise.specs.inside.PairPasses.{division_op, number_pair};
 ghost use Rattle.elementwise.specs.inside.Sides.{made_of, pair_count};
-ghost use Rattle.std.specs.Prelude.{IfSome, true, unsigned_abs, ℕ, ◌*◌, ◌++◌, ◌+◌, ◌-◌, ◌/◌, ◌<◌, ◌^◌, ◌≡◌, ◌≤◌};
+ghost use Rattle.std.specs.Prelude.{IfSome, IsTrue, false, pos, true, unsigned_abs, ℕ, ◌*◌, ◌++◌, ◌+◌, ◌-◌, ◌/◌, ◌<◌, ◌^◌, ◌≡◌, ◌≤◌};
 
 use crate::bits::{is_negative, magnitude};
+use crate::byte_divisions::push_bytes;
 use crate::kernels::Numbers;
 use crate::operands::note_slice;
 use crate::operations::Dividing;
@@ -19,6 +20,9 @@ use std::marker::PhantomData;
 
 /// Fewer pairs than this are divided one by one.
 const FEW: usize = 4;
+
+/// Fewer pairs of bytes than this are not worth a table of reciprocals.
+const MANY: usize = 2048;
 
 /// The divisor of all pairs, if there are many pairs with a single divisor other than 0.
 fn divisor_of<N: Number, O: Ordered>(pairs: Pairs<'_, '_>) -> Option<Divisor>
@@ -84,6 +88,21 @@ fn push_divided<const LEAVES: bool, N: Number, O: Ordered>(
     block
 }
 
+/// Whether these are many pairs of unsigned numbers of one byte, adjacent on both sides.
+fn are_many_bytes<N: Number>(pairs: Pairs<'_, '_>) -> bool
+    ensures byte { IsTrue result → N.WIDTH ≡ 1 }
+    ensures unsigned { IsTrue result → N.SIGNED ≡ false }
+    ensures left { IsTrue result → pairs.entry.left.run.step ≡ pos 1 }
+    ensures right { IsTrue result → pairs.entry.right.run.step ≡ pos 1 }
+{
+    let Pairs { left, right } = pairs;
+    N::WIDTH == 1
+        && !N::SIGNED
+        && left.run.count >= MANY
+        && left.run.step == 1
+        && right.run.step == 1
+}
+
 /// Quotients or remainders of numbers in a byte order.
 #[derive_where(Clone, Copy)]
 pub(crate) struct Divisions<const LEAVES: bool, N, O>(pub(crate) PhantomData<(N, O)>);
@@ -106,6 +125,9 @@ impl<const LEAVES: bool, N: Number, O: Ordered> Pass for Divisions<LEAVES, N, O>
                 push_divided::<LEAVES, N, O>(block, pairs, divisor)
             }
             Some(divisor) => push_divided::<LEAVES, N, O>(block, pairs, divisor),
+            None if are_many_bytes::<N>(pairs) => {
+                push_bytes::<LEAVES, N, O>(block, pairs.with_steps(1, 1))
+            }
             None => {
                 Numbers::<Dividing<LEAVES>, N, N, N, O, LowFirst>(PhantomData).push_row(
                     block, pairs,

@@ -1,0 +1,102 @@
+//! Divisions of pairs of unsigned numbers of one byte, by a table of reciprocals.
+ghost use Rattle.elementwise.specs.Operations.{binary, exact, floor_quotient};
+ghost use Rattle.elementwise.specs.Words.{Little, Scalar, integer, joined, low_bits};
+ghost use Rattle.elementwise.specs.inside.PairPasses.{division_op, number_pair};
+ghost use Rattle.elementwise.specs.inside.Sides.{made_of, pair_count};
+ghost use Rattle.std.specs.Prelude.{false, get_or, unsigned_abs, ℕ, ◌*◌, ◌++◌, ◌+◌, ◌-◌, ◌/◌, ◌<◌, ◌^◌, ◌≡◌, ◌≤◌};
+
+use crate::operands::note_slice;
+use crate::pairing::Pairs;
+use machine_numbers::{LowFirst, Number, Ordered};
+use raw_block::BlockBuilder;
+
+/// The reciprocals of the divisors of one byte: 2^16 divided by each, rounded up. That of 0 is 0.
+#[derive(Drop)]
+struct Reciprocals {
+    each: [u64; 256],
+    ghost none: { get_or each 0 0 ≡ 0 },
+    ghost are: { (by : ℕ) → 1 ≤ by → by < 256 → get_or each by 0 ≡ (2 ^ 16 - 1) / by + 1 },
+}
+
+impl Reciprocals {
+    fn new() -> Reciprocals {
+        let mut each = [0; 256];
+        for by in 1..256 {
+            each[by] = u64::from(u16::MAX / by as u16) + 1;
+        }
+        Reciprocals { each }
+    }
+
+    /// The quotient of two bytes, by a multiplication. Division by 0 gives 0.
+    #[inline(always)]
+    fn quotient(&self, left: u64, right: u64) -> u64
+        requires left { left < 256 }
+        requires right { right < 256 }
+        ensures { result
+            ≡ low_bits 8 (floor_quotient (integer false 8 left) (integer false 8 right)) }
+    {
+        (left * self.each[right as usize]) >> 16
+    }
+
+    /// The bits of the quotient or the remainder of two bytes.
+    #[inline(always)]
+    fn division(&self, leaves: bool, left: u64, right: u64) -> u64
+        requires left { left < 256 }
+        requires right { right < 256 }
+        ensures { (scalar : Scalar)
+            → result
+            ≡ low_bits 8
+            (exact (division_op leaves) scalar (integer false 8 left) (integer false 8 right)) }
+    {
+        let quotient = self.quotient(left, right);
+        if !leaves {
+            return quotient;
+        }
+        if right == 0 {
+            return 0;
+        }
+        left.wrapping_sub(right.wrapping_mul(quotient))
+    }
+
+    /// The quotient or the remainder of two numbers.
+    #[inline(always)]
+    fn divided<const LEAVES: bool, N: Number>(&self, left: N, right: N) -> N
+        requires unsigned { N.SIGNED ≡ false }
+        requires left { unsigned_abs (N.value left) < 256 }
+        requires right { unsigned_abs (N.value right) < 256 }
+        ensures { N.value result
+            ≡ binary (division_op LEAVES) (N.scalar Little) (N.value left) (N.value right) }
+    {
+        N::of_bits(self.division(LEAVES, left.bits(), right.bits()))
+    }
+}
+
+/// Appends the quotients or remainders of pairs of unsigned numbers of one byte.
+pub(crate) fn push_bytes<const LEAVES: bool, N: Number, O: Ordered>(
+    block: BlockBuilder,
+    pairs: Pairs<'_, '_>,
+) -> BlockBuilder
+    requires byte { N.WIDTH ≡ 1 }
+    requires unsigned { N.SIGNED ≡ false }
+    requires left { pairs.left.width ≡ N.WIDTH }
+    requires right { pairs.right.width ≡ N.WIDTH }
+    requires room { pair_count pairs * N.WIDTH ≤ block.1 }
+    ensures bytes { result.0 ≡ block.0
+        ++ joined (made_of
+        (number_pair (N.scalar O.order) (N.scalar O.order) (N.scalar Little)
+        (binary (division_op LEAVES) (N.scalar Little))) pairs.entry) (pair_count pairs.entry) }
+    ensures left { pair_count pairs.entry * N.WIDTH + result.1 ≡ block.1 }
+{
+    note_slice(pairs.left.bytes);
+    note_slice(pairs.right.bytes);
+    let reciprocals = Reciprocals::new();
+    let mut block = block;
+    for k in 0..pairs.left.run.count {
+        let left = pairs.left.number::<N, O>(k);
+        let right = pairs.right.number::<N, O>(k);
+        reciprocals
+            .divided::<LEAVES, N>(left, right)
+            .push::<LowFirst>(&mut block);
+    }
+    block
+}
