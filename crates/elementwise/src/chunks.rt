@@ -1,20 +1,21 @@
 //! Operands of two types, cast and combined chunk by chunk, so that the cast items stay in the
 //! cache.
-ghost use Rattle.std.specs.Prelude.{◌≡◌, ◌+◌, ◌≤◌, [], ◌∷◌, IfOk};
+ghost use Rattle.std.specs.Prelude.{◌≡◌, ◌+◌, ◌*◌, ◌++◌, ◌≤◌, [], ◌∷◌, IfOk};
 ghost use Rattle.std.specs.List.{flat_map};
 ghost use Rattle.elem_descr.specs.declared.descr.Descr.TheVariants.{Scalar as ScalarDescr};
-ghost use Rattle.elementwise.specs.Words.{encode_item, offsets, run_offsets, max_items, BeginsWithin};
+ghost use Rattle.elementwise.specs.Words.{encode_item, size, offsets, run_offsets, max_items, BeginsWithin};
 ghost use Rattle.elementwise.specs.inside.Combined.{AreCastable, IsCombined, all_given};
 ghost use Rattle.elementwise.specs.inside.LeafCasts.{run_part};
 ghost use Rattle.elementwise.specs.inside.Works.{target_of};
 
-use crate::apply::make_whole;
+use crate::apply::Held;
 use crate::operands::Broadcast;
 use crate::pairing::Pairing;
+use crate::row_pairs::Operands;
 use arrays::{Items, Owned};
 use elem_descr::{Descr, MemoryOrder};
 use machine_numbers::place;
-use raw_block::{BlockBuilder, RawBlock};
+use raw_block::BlockBuilder;
 use shape_strides::{Layout, Run, Shape, Strides};
 use std::alloc::{AllocError, Global};
 
@@ -55,40 +56,53 @@ fn part(alloc: Global, run: Run, first: usize, count: usize) -> Result<Layout, A
     }
 }
 
-/// The results for some pairs of items, starting with one of them.
-fn make_part(
+/// Some pairs of items, starting with one of them.
+#[derive(Clone, Copy)]
+struct Chunk {
+    first: usize,
+    count: usize,
+}
+
+/// Appends the results for a chunk of the pairs of items, which are cast together.
+fn push_chunk(
     alloc: Global,
     pairing: &Pairing<'_>,
     runs: InRuns<'_>,
-    first: usize,
-    count: usize,
-) -> Result<RawBlock, AllocError>
+    chunk: Chunk,
+    block: BlockBuilder,
+) -> Result<BlockBuilder, AllocError>
     requires can { AreCastable pairing.now runs.both }
-    requires some { 1 ≤ count }
-    requires within { first + count ≤ runs.left.count }
-    ensures { IfOk result (λ block. block
-        ≡ flat_map (encode_item (ScalarDescr (target_of pairing.now)))
-        (all_given pairing.now runs.entry.both (run_part runs.entry.left first count)
-        (run_part runs.entry.right first count))) }
+    requires some { 1 ≤ chunk.count }
+    requires within { chunk.first + chunk.count ≤ runs.left.count }
+    requires room { chunk.count * size (target_of pairing.now) ≤ block.1 }
+    ensures bytes { IfOk result (λ b. b.0 ≡ block.0
+        ++ flat_map (encode_item (ScalarDescr (target_of pairing.now)))
+        (all_given pairing.now runs.entry.both (run_part runs.entry.left chunk.first chunk.count)
+        (run_part runs.entry.right chunk.first chunk.count))) }
+    ensures left { IfOk result (λ b. chunk.count * size (target_of pairing.now) + b.1 ≡ block.1) }
 {
     let Broadcast { left, right, .. } = runs.both;
-    let near = part(alloc, runs.left, first, count)?;
-    let far = part(alloc, runs.right, first, count)?;
-    let both = Broadcast {
-        left: Items {
-            block: left.block,
-            layout: &near,
-            descr: left.descr,
-        },
-        right: Items {
-            block: right.block,
-            layout: &far,
-            descr: right.descr,
-        },
-        shape: &near.shape,
+    let near = part(alloc, runs.left, chunk.first, chunk.count)?;
+    let far = part(alloc, runs.right, chunk.first, chunk.count)?;
+    let first = Items {
+        block: left.block,
+        layout: &near,
+        descr: left.descr,
     };
-    let Owned { block, .. } = make_whole(alloc, pairing, both)?;
-    Ok(block)
+    let second = Items {
+        block: right.block,
+        layout: &far,
+        descr: right.descr,
+    };
+    let left_to = Descr::Scalar(pairing.left());
+    let right_to = Descr::Scalar(pairing.right());
+    let cast = Held::of(alloc, first, &left_to)?;
+    let other = Held::of(alloc, second, &right_to)?;
+    let operands = Operands {
+        left: cast.items(),
+        right: other.items(),
+    };
+    Ok(pairing.push(block, operands))
 }
 
 /// The results for the items of two operands, in their shape.
@@ -107,8 +121,8 @@ pub(crate) fn make_by_chunks(
     let mut done = 0;
     while done < many {
         let count = CHUNK.min(many - done);
-        let made = make_part(alloc, pairing, runs, done, count)?;
-        block.push_bytes(made.bytes());
+        let chunk = Chunk { first: done, count };
+        block = push_chunk(alloc, pairing, runs, chunk, block)?;
         done += count;
     }
     Owned::over(

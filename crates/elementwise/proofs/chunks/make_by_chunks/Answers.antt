@@ -12,19 +12,16 @@ use Rattle.elementwise.proofs.EncodedLaws.{items-read}
 use Rattle.elementwise.proofs.MadeLaws.{made-as, over-made}
 use Rattle.elementwise.proofs.chunks.make_by_chunks.Goals as goal
 
-pub make_part-requires-clause-within : goal.make_part-requires-clause-within
-make_part-requires-clause-within c = omega (arith, c.min-count.ensures, c.loop-done-test.true, c.items-many.ensures.value, many_left c.args.runs)
+pub push_chunk-requires-clause-within : goal.push_chunk-requires-clause-within
+push_chunk-requires-clause-within c = omega (arith, c.min-count.ensures, c.loop-done-test.true, c.items-many.ensures.value, many_left c.args.runs)
 
-pub push_bytes-requires : goal.push_bytes-requires
-push_bytes-requires c =
-    let p = c.args.pairing.now in
-    let r = c.args.runs in
+pub push_chunk-requires-clause-room : goal.push_chunk-requires-clause-room
+push_chunk-requires-clause-room c =
     let n = c.min-count.result in
     let done = c.loop-done.done in
-    let width = size (target_of p) in
-    let long = ap length (c.bytes.ensures ∙ c.in_ok-made.ensures) ∙ long-given p r.both (run_part r.left done n) (run_part r.right done n) c.requires.can refl in
+    let width = size (target_of c.args.pairing.now) in
     let most : (done + n) * width ≤ c.items-many.result * width = mul-le-mul_right width (omega (arith, c.min-count.ensures, c.loop-done-test.true)) in
-    omega (arith, long, most, add-mul done n width, c.loop-done.invariant.room)
+    omega (arith, most, add-mul done n width, c.loop-done.invariant.room)
 
 pub loop-done-preserved : goal.loop-done-preserved
 loop-done-preserved c =
@@ -36,13 +33,12 @@ loop-done-preserved c =
     let encoded = flat_map (encode_item (ScalarDescr (target_of p))) in
     let front = all_given p r.both (run_front done r.left) (run_front done r.right) in
     let more = all_given p r.both (run_part r.left done n) (run_part r.right done n) in
-    let wrote = c.bytes.ensures ∙ c.in_ok-made.ensures in
-    let long = ap length wrote ∙ long-given p r.both (run_part r.left done n) (run_part r.right done n) c.requires.can refl in
+    let pushed = c.in_ok-block-2.ensures in
     let low : done < r.left.count = omega (arith, c.loop-done-test.true, c.items-many.ensures.value, many_left r) in
     record {
-      made = c.push_bytes.ensures.bytes ∙ (λ i. so_far.made i ++ wrote i) ∙ sym (flat_map-append (encode_item (ScalarDescr (target_of p))) front more)
+      made = pushed.bytes ∙ (λ i. so_far.made i ++ encoded more) ∙ sym (flat_map-append (encode_item (ScalarDescr (target_of p))) front more)
           ∙ ap encoded (sym (given-more p r.both r.left r.right done n r.begins.0 r.begins.1 (many_left r ∙ sym (many_right r)) low));
-      room = omega (arith, c.push_bytes.ensures.left, long, so_far.room, add-mul done n (size (target_of p)));
+      room = omega (arith, pushed.left, so_far.room, add-mul done n (size (target_of p)));
       most = omega (arith, c.min-count.ensures, c.loop-done-test.true);
     }
 
