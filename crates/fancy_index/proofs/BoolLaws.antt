@@ -1,5 +1,5 @@
 -- The ranks of true bools.
-use Rattle.std.proofs.Common.{◌≡◌, ◌⊎◌, inl, inr, ℕ, zero, suc, ◌+◌, ◌-◌, ◌*◌, ◌<◌, ◌≤◌, true, false, List, [], ◌∷◌, ◌++◌, map, length, get_or, set, take, drop, refl, sym, ap, subst, ◌∙◌, arith, append_assoc}
+use Rattle.std.proofs.Common.{◌≡◌, ◌⊎◌, inl, inr, ℕ, zero, suc, ◌+◌, ◌*◌, ◌/◌, ◌%◌, ◌^◌, ◌<◌, ◌≤◌, true, false, List, [], ◌∷◌, ◌++◌, map, length, get_or, set, take, drop, refl, sym, ap, subst, ◌∙◌, arith, append_assoc}
 use Rattle.std.specs.List.{flat_map}
 use Rattle.std.specs.Ordering.{int_eq}
 use Rattle.std.proofs.lemmas.Int.{ints}
@@ -13,7 +13,7 @@ use Rattle.fancy_index.specs.declared.index_parts.Kind.TheVariants.{Mask}
 use Rattle.fancy_index.specs.IndexArrays.{kind_of, axes_of_kind}
 use Rattle.fancy_index.specs.Sources.{first_number, number_from}
 use Rattle.fancy_index.specs.declared.masks.Bools.{Bools}
-use Rattle.fancy_index.specs.inside.Bools.{bool_at, bools_in, ranks_from, LieInBytes}
+use Rattle.fancy_index.specs.inside.Bools.{bool_at, bools_in, AreBits, LieInBytes}
 use Rattle.fancy_index.specs.inside.PointLists.{true_ranks}
 use Rattle.fancy_index.proofs.RunLaws.{lies-there}
 
@@ -130,18 +130,18 @@ module _ (bools : Bools) (lie : LieInBytes bools) (one : bools.run.step ≡ pos 
 
 -- ---- sixteen bools at once
 
--- if adjacent bools that were loaded together are all false, they add no rank
-pub loaded-none : (bools : Bools) → LieInBytes bools → bools.run.step ≡ pos 1 → (at n : ℕ) (loaded : List ℕ) → loaded ≡ item_at (bools.run.offset + at) n bools.bytes.now → at + n ≤ bools.run.count → ((j : ℕ) → j < n → get_or loaded j 0 ≡ 0) →
-    ranks_from bools at ≡ ranks_from bools (at + n)
-loaded-none bools lie one at n loaded is fits none =
+-- adjacent bools that were loaded together, and are the bits of a number
+pub loaded-bits : (bools : Bools) → LieInBytes bools → bools.run.step ≡ pos 1 → (at n number : ℕ) (loaded : List ℕ) → loaded ≡ item_at (bools.run.offset + at) n bools.bytes.now → at + n ≤ bools.run.count → ((k : ℕ) → k < n → number / 2 ^ k % 2 ≡ truth (get_or loaded k 0)) →
+    AreBits bools at n number
+loaded-bits bools lie one at n number loaded is fits are k low =
     let bytes = bools.bytes.now in
     let start = bools.run.offset + at in
-    none_true (bools_in bools) bools.rank at n (omega (arith, fits, length-bools bools)) (λ k low high.
-    let there : bools.run.offset + k ≡ start + (k - at) = omega (arith, low) in
-    let within : k - at < n = omega (arith, low, high) in
-    bool-after bools lie one k (omega (arith, high, fits))
+    let there : bools.run.offset + (at + k) ≡ start + k = omega arith in
+    let byte : get_or loaded k 0 ≡ get_or bytes (start + k) 0 = ap (λ l. get_or l k 0) is ∙ get_or-take n (drop start bytes) k 0 low ∙ get_or-drop start bytes k 0 in
+    bool-after bools lie one (at + k) (omega (arith, low, fits))
     ∙ ap (λ place. pos (truth (get_or bytes place 0))) there
-    ∙ ap (λ byte. pos (truth byte)) (sym (ap (λ l. get_or l (k - at) 0) is ∙ get_or-take n (drop start bytes) (k - at) 0 within ∙ get_or-drop start bytes (k - at) 0) ∙ none (k - at) within))
+    ∙ ap (λ b. pos (truth b)) (sym byte)
+    ∙ ap pos (sym (are k low))
 
 -- the ranks that were found are appended
 pub found_added : (ranks ranks' found whole later later' : List ℕ) → ranks' ≡ ranks ++ found → found ++ later' ≡ later → ranks ++ later ≡ whole → ranks' ++ later' ≡ whole

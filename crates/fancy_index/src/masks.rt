@@ -1,17 +1,18 @@
 //! Masks: the ranks at which they are true, and the offsets of these ranks.
 ghost use Rattle.fancy_index.specs.Words.{LieWithin, count, max_bytes, max_items, offsets, run_offsets, truth};
 ghost use Rattle.fancy_index.specs.declared.index_parts.Kind.TheVariants.{Mask};
-ghost use Rattle.fancy_index.specs.inside.Bools.{AreAll, LieInBytes, bools_in, ranks_from};
+ghost use Rattle.fancy_index.specs.inside.Bools.{AreAll, LieInBytes, bits, bools_in, ranks_from};
 ghost use Rattle.fancy_index.specs.inside.Items.{kind_in, numbers_in};
 ghost use Rattle.fancy_index.specs.inside.PointLists.{true_ranks};
 ghost use Rattle.fancy_index.specs.inside.Ranks.{IsAtRun, led};
-ghost use Rattle.std.specs.Prelude.{All, IfOk, IsTrue, List, OnOk, [], drop, get_or, length, pos, slice_index, take, ℕ, ◌++◌, ◌+◌, ◌<◌, ◌∷◌, ◌≡◌, ◌≤◌, ◌*ℤ◌};
+ghost use Rattle.std.specs.Prelude.{All, IfOk, IsTrue, List, OnOk, [], drop, get_or, length, pos, replicate, slice_index, take, ℕ, ◌++◌, ◌+◌, ◌<◌, ◌∷◌, ◌≡◌, ◌≤◌, ◌*ℤ◌, ◌/◌, ◌%◌, ◌^◌};
 
 use crate::singles::array_at;
 use arrays::{Items, copy, goes_by_columns};
 use elem_descr::MemoryOrder;
 use shape_strides::{Layout, Run, Runs};
 use std::alloc::{AllocError, Global};
+use std::simd::prelude::*;
 
 /// The bools of a run, and the rank of the first one.
 #[derive(Clone, Copy)]
@@ -55,12 +56,53 @@ fn note_true(
     many
 }
 
-/// Whether sixteen bools are all false.
+/// The places of the true ones among four bools, and then zeros. The row of four bools is the
+/// number that has them as its bits, the first one as the lowest. A constant would be copied at
+/// each use.
+static PLACES: [[u8; 4]; 16] = [
+    [0, 0, 0, 0],
+    [0, 0, 0, 0],
+    [1, 0, 0, 0],
+    [0, 1, 0, 0],
+    [2, 0, 0, 0],
+    [0, 2, 0, 0],
+    [1, 2, 0, 0],
+    [0, 1, 2, 0],
+    [3, 0, 0, 0],
+    [0, 3, 0, 0],
+    [1, 3, 0, 0],
+    [0, 1, 3, 0],
+    [2, 3, 0, 0],
+    [0, 2, 3, 0],
+    [1, 2, 3, 0],
+    [0, 1, 2, 3],
+];
+
+/// How many of the four bools of a row are true.
+static COUNTS: [usize; 16] = [0, 1, 1, 2, 1, 2, 2, 3, 1, 2, 2, 3, 2, 3, 3, 4];
+
+/// The number that has sixteen bools as its bits, the first one as the lowest.
 #[inline(always)]
-fn are_false(bools: &[u8; 16]) -> bool
-    ensures { IsTrue result → (j : ℕ) → j < 16 → get_or bools.now j 0 ≡ 0 }
+fn bits_of(bools: u8x16) -> usize
+    ensures { (k : ℕ) → k < 16 → result / 2 ^ k % 2 ≡ truth (get_or bools k 0) }
 {
-    u128::from_le_bytes(*bools) == 0
+    bools.simd_ne(u8x16::splat(0)).to_bitmask() as usize
+}
+
+/// Writes the ranks of the true bools of a row after the first `many` ranks, and returns how many
+/// there are then. Each lane of `first` is the rank of the first bool. Four ranks are written, and
+/// those of true bools stay, so there is no branch.
+#[inline(always)]
+fn note_four(found: &mut [u32], many: usize, row: usize, first: u32x4) -> usize
+    requires few { many + 4 ≤ length found.old }
+    requires row { row < 16 }
+    ensures many { result ≤ many + 4 }
+    ensures found { (rank : ℕ) → first ≡ replicate 4 rank → rank + 4 ≤ max_items
+        → take result found.new ≡ take many found.old ++ true_ranks rank (bits 4 row) }
+{
+    let ranks = u8x4::from_array(PLACES[row]).cast::<u32>() + first;
+    ranks.copy_to_slice(&mut found[many..]);
+    many + COUNTS[row]
 }
 
 /// Writes the ranks of the true ones among sixteen adjacent bools, unless all are false, after the
@@ -75,14 +117,17 @@ fn note_sixteen(found: &mut [u32; 512], many: usize, bools: Bools<'_>, at: usize
     ensures found { (whole : List ℕ) → take many found.old ++ ranks_from bools.entry at ≡ whole
         → take result found.new ++ ranks_from bools.entry (at + 16) ≡ whole }
 {
-    let first = bools.run.offset + at;
-    if are_false(&array_at::<16>(bools.bytes, first)) {
+    let loaded = array_at::<16>(bools.bytes, bools.run.offset + at);
+    let mut bits = bits_of(u8x16::from_array(loaded));
+    if bits == 0 {
         return many;
     }
     let mut many = many;
-    for j in 0..16 {
-        found[many] = (bools.rank + at + j) as u32;
-        many += truth(bools.bytes[first + j]);
+    let mut first = u32x4::splat((bools.rank + at) as u32);
+    for _ in 0..4usize {
+        many = note_four(found, many, bits % 16, first);
+        first += u32x4::splat(4);
+        bits /= 16;
     }
     many
 }

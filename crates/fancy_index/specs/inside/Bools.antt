@@ -1,5 +1,6 @@
 -- Bools, read from bytes.
-use Rattle.std.specs.Prelude.{ℕ, ◌≡◌, ◌+◌, ◌<◌, ◌≤◌, ℤ, pos, List, [], ◌∷◌, map, length, get_or, drop, All}
+use Rattle.std.specs.Prelude.{ℕ, ◌≡◌, ◌+◌, ◌/◌, ◌%◌, ◌^◌, ◌<◌, ◌≤◌, ℤ, pos, List, [], ◌∷◌, map, length, get_or, drop, All}
+use Rattle.std.specs.Simd.Lanes.{digits_l}
 use Rattle.fancy_index.specs.Words.{truth, LieWithin, max_items, max_bytes, run_offsets}
 use Rattle.fancy_index.specs.declared.masks.Bools.{Bools}
 use Rattle.fancy_index.specs.inside.PointLists.{true_ranks}
@@ -19,6 +20,14 @@ ranks_from bools from = true_ranks (bools.rank + from) (drop from (bools_in bool
 -- the bools from `from` up to, but not including, `end` all have this number
 abbrev pub AreAll : Bools → ℕ → ℕ → ℕ → Type 0
 AreAll bools from end number = (k : ℕ) → from ≤ k → k < end → get_or (bools_in bools) k (pos 0) ≡ pos number
+
+-- the `n` lowest bits of a number, the lowest first
+abbrev pub bits : ℕ → ℕ → List ℤ
+bits n number = map (λ bit. pos bit) (digits_l 2 n number)
+
+-- the `n` bools from `from` on are the lowest bits of a number
+abbrev pub AreBits : Bools → ℕ → ℕ → ℕ → Type 0
+AreBits bools from n number = (k : ℕ) → k < n → get_or (bools_in bools) (from + k) (pos 0) ≡ pos (number / 2 ^ k % 2)
 
 -- the bools lie within their bytes, and their ranks are within the limit
 pub record LieInBytes (bools : Bools) : Type 0 where
