@@ -32,6 +32,8 @@ Item = tuple[str, str]
 # A verdict carries its proof, so that its type says all, whatever the test is that finds it.
 VERDICT = re.compile(r"→ \w+OrNot\b")
 WORD = re.compile(r"[^\s(){}\[\],;]+")
+# The files of a crate that only re-export what it and the crates below define.
+HAND_ON = (".specs.Words", ".specs.Clauses")
 
 
 def types(text: str) -> dict[str, str]:
@@ -107,7 +109,7 @@ class Repository:
         done: set[Item] = set()
         while todo:
             module, name = todo.pop()
-            if module.endswith(".specs.Words") and module in self.modules:  # which only hands on what crates below define
+            while module.endswith(HAND_ON) and module in self.modules and name in self.modules[module].names:
                 module, name = self.modules[module].names[name]
             if (module, name) in done:
                 continue
@@ -269,7 +271,7 @@ def unnamed(page: str) -> Iterator[str]:
     """The files of specs/ that are for readers, but for laws, that a page does not name."""
     for file in sorted((TOP / "crates").glob("*/specs/**/*.antt")):
         crate, _, name = file.relative_to(TOP / "crates").as_posix().split("/", 2)
-        is_for_readers = not name.startswith("inside") and name not in ("Lib.antt", "Words.antt") and not name.endswith("Laws.antt")
+        is_for_readers = not name.startswith("inside") and name not in ("Lib.antt", "Words.antt", "Clauses.antt") and not name.endswith("Laws.antt")
         row, part = rf"`{crate}`[^\n]*", rf"## [^\n]*`{crate}`(?:(?!\n## ).|\n(?!## ))*"
         if is_for_readers and not re.search(rf"(?:{row}|{part})`{re.escape(name)}`", page):
             yield f"{crate}/specs/{name}"

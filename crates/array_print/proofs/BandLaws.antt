@@ -1,11 +1,5 @@
 -- An axis of an array that is sent, block by block.
-use Rattle.std.proofs.Common.{Option, ◌≡◌, ℕ, ◌+◌, ◌-◌, ◌<◌, ◌≤◌, pos, ◌+ℤ◌, ◌*ℤ◌, List, ◌++◌, codes, map, length, drop, get_or, refl, sym, ◌∙◌, ap, arith, append_assoc}
-use Rattle.array_print.specs.Words.{Layout}
-use Rattle.array_print.specs.Printed.{block_text, separator}
-use Rattle.array_print.specs.Sending.{Sends, SendsPart}
-use Rattle.array_print.specs.inside.Opened.{opened}
-use Rattle.array_print.specs.inside.Parts.{IsPart, part_offsets}
-use Rattle.array_print.specs.inside.Shown.{lead}
+use Rattle.array_print.proofs.Words.{Option, ◌≡◌, ℕ, ◌+◌, ◌-◌, ◌<◌, ◌≤◌, pos, ◌+ℤ◌, ◌*ℤ◌, List, ◌++◌, codes, map, length, drop, get_or, refl, sym, ◌∙◌, ap, arith, append_assoc, Layout, block_text, separator, Sends, SendsPart, opened, IsPart, part_offsets, lead}
 use Rattle.array_print.proofs.PrintLaws.{opened-next, opened-end, opened-rest, sends-grown}
 use Rattle.array_print.proofs.PartLaws.{part-block, length-part}
 

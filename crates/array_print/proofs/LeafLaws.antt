@@ -1,13 +1,5 @@
 -- Laws of the texts of an item's values, and of their widths.
-use Rattle.std.proofs.Common.{◌≡◌, ℕ, zero, suc, ◌+◌, ◌<◌, ◌≤◌, List, [], ◌∷◌, ◌++◌, length, map, take, drop, replicate, get_or, refl, sym, ap, subst, ◌∙◌, ◌-◌, arith, append_assoc}
-use Rattle.std.specs.Prelude.{IfSome, slice_get}
-use Rattle.std.proofs.lemmas.List.{take-take, drop-take, drop-drop, take_more, length-take}
-use Rattle.std.proofs.lemmas.Slice.Zip.{AllZip-long}
-use Rattle.array_print.specs.Words.{Scalar, Byte, Int, Bytes, Leaf, Descr, Field, Fields, before, listed, length-leaves_from, leaf_value, LeafValue, size, decode, leaves_of}
-use Rattle.elem_descr.specs.declared.scalar.Scalar.TheVariants.{Bool as BoolScalar}
-use Rattle.elem_descr.specs.declared.descr.Descr.TheVariants.{Scalar as ScalarDescr, Record as RecordDescr}
-use Rattle.array_print.specs.Printed.{leaf_text, leaf_texts, first_text, later_texts, leaf_width, leaf_widths, widths, right_justified, all_justified, join_texts, in_parentheses, field_texts, structure_text}
-use Rattle.array_print.specs.inside.Shown.{IsWidth, AreWidths, lead}
+use Rattle.array_print.proofs.Words.{◌≡◌, ℕ, zero, suc, ◌+◌, ◌<◌, ◌≤◌, List, [], ◌∷◌, ◌++◌, length, map, take, drop, replicate, get_or, refl, sym, ap, subst, ◌∙◌, ◌-◌, arith, append_assoc, IfSome, slice_get, take-take, drop-take, drop-drop, take_more, length-take, AllZip-long, Scalar, Byte, Int, Bytes, Leaf, Descr, Field, Fields, before, listed, length-leaves_from, leaf_value, LeafValue, size, decode, leaves_of, BoolScalar, ScalarDescr, RecordDescr, leaf_text, leaf_texts, first_text, later_texts, leaf_width, leaf_widths, widths, right_justified, all_justified, join_texts, in_parentheses, field_texts, structure_text, IsWidth, AreWidths, lead}
 
 -- ---- values in a block
 

@@ -1,3 +1,4 @@
+pub mod Words
 pub mod LeafLaws
 pub mod WidthLaws
 pub mod PartLaws

@@ -1,12 +1,5 @@
 -- Repeated items do not change the widths of leaves.
-use Rattle.std.proofs.Common.{◌≡◌, ℕ, zero, suc, ◌+◌, ◌*◌, ◌<◌, List, [], ◌∷◌, ◌++◌, length, map, take, drop, get_or, pos, max, refl, sym, ap, ap₂, ◌∙◌, ◌-◌, arith, take-add, take_all}
-use Rattle.std.specs.List.{fold}
-use Rattle.std.proofs.lemmas.List.{map-append, drop_more}
-use Rattle.elem_descr.specs.declared.scalar.Scalar.TheVariants.{Bool as BoolScalar}
-use Rattle.array_print.specs.Words.{Scalar, Byte, Int, Bytes, Leaf, Descr, Layout, count, item_from, leaves_of}
-use Rattle.array_print.specs.Printed.{items_from, widest, leaf_texts, first_text, later_texts, leaf_width, leaf_widths}
-use Rattle.array_print.specs.inside.Shown.{widths_at}
-use Rattle.array_print.specs.inside.Parts.{IsPart, part_offsets}
+use Rattle.array_print.proofs.Words.{◌≡◌, ℕ, zero, suc, ◌+◌, ◌*◌, ◌<◌, List, [], ◌∷◌, ◌++◌, length, map, take, drop, get_or, pos, max, refl, sym, ap, ap₂, ◌∙◌, ◌-◌, arith, take-add, take_all, fold, map-append, drop_more, BoolScalar, Scalar, Byte, Int, Bytes, Leaf, Descr, Layout, count, item_from, leaves_of, items_from, widest, leaf_texts, first_text, later_texts, leaf_width, leaf_widths, widths_at, IsPart, part_offsets}
 use Rattle.array_print.proofs.PartLaws.{stays, part-some, part-block, length-part}
 
 -- ---- the longest text of a list

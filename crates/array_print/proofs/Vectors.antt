@@ -1,10 +1,5 @@
 -- The definitions at arrays that NumPy prints.
-use Rattle.std.proofs.Common.{◌≡◌, [], ◌∷◌, List, ℕ, true, false, codes, refl}
-use Rattle.std.specs.Fmt.{digits}
-use Rattle.array_print.specs.Words.{Little, Big, Two, Four, Eight, Byte, Int, Bytes, Descr, no_more, scalar_field, record_field}
-use Rattle.elem_descr.specs.declared.scalar.Scalar.TheVariants.{Bool as BoolScalar}
-use Rattle.elem_descr.specs.declared.descr.Descr.TheVariants.{Scalar as ScalarDescr, Record as RecordDescr}
-use Rattle.array_print.specs.Printed.{array_text, items_from}
+use Rattle.array_print.proofs.Words.{◌≡◌, [], ◌∷◌, List, ℕ, true, false, codes, refl, digits, Little, Big, Two, Four, Eight, Byte, Int, Bytes, Descr, no_more, scalar_field, record_field, BoolScalar, ScalarDescr, RecordDescr, array_text, items_from}
 
 -- the text of items of a block, under a shape
 abbrev text_of_array : Descr → List ℕ → List ℕ → List ℕ → List ℕ

@@ -1,12 +1,5 @@
 -- Widths of leaves, as they grow item by item.
-use Rattle.std.proofs.Common.{◌≡◌, ℕ, ◌+◌, ◌<◌, ◌≤◌, List, [], ◌∷◌, ◌++◌, length, map, take, drop, get_or, refl, sym, ap, arith, ◌∙◌}
-use Rattle.std.specs.Prelude.{IfSome, slice_get}
-use Rattle.std.specs.List.{refill}
-use Rattle.std.proofs.Math.Seq.{take-append_seam}
-use Rattle.std.proofs.lemmas.List.{map-append}
-use Rattle.array_print.specs.Words.{Scalar, Descr, size, decode, item_size, leaves_of}
-use Rattle.array_print.specs.Printed.{leaf_text, leaf_texts, leaf_width, leaf_widths, widths, items_from}
-use Rattle.array_print.specs.inside.Shown.{widths_at}
+use Rattle.array_print.proofs.Words.{◌≡◌, ℕ, ◌+◌, ◌<◌, ◌≤◌, List, [], ◌∷◌, ◌++◌, length, map, take, drop, get_or, refl, sym, ap, arith, ◌∙◌, IfSome, slice_get, refill, take-append_seam, map-append, Scalar, Descr, size, decode, item_size, leaves_of, leaf_text, leaf_texts, leaf_width, leaf_widths, widths, items_from, widths_at}
 use Rattle.array_print.proofs.LeafLaws.{are-leaf-widths, bytes-at, count-widths, leaf-width-at}
 
 pub length-widths-at : (descr : Descr) (block seen : List ℕ) → length (widths_at descr block seen) ≡ length (leaves_of descr)

@@ -4,3 +4,4 @@ pub mod Sending
 pub mod SendingLaws
 pub mod StartLaws
 pub mod Words
+pub mod Clauses

@@ -1,7 +1,5 @@
 -- Laws of texts that are sent part by part.
-use Rattle.std.proofs.Common.{◌≡◌, ℕ, List, [], ◌++◌, Option, Some, None, append_assoc, take, drop, length, take_all, length-drop, arith, ◌-◌, ◌≤◌, refl, ap, sym, ◌∙◌}
-use Rattle.std.proofs.lemmas.List.{append-nil, take-append-drop}
-use Rattle.std.specs.Io.KnownBytes.{Appends}
+use Rattle.array_print.specs.Words.{◌≡◌, ℕ, List, [], ◌++◌, Option, Some, None, append_assoc, take, drop, length, take_all, length-drop, arith, ◌-◌, ◌≤◌, refl, ap, sym, ◌∙◌, append-nil, take-append-drop, Appends}
 use Rattle.array_print.specs.Sending.{Sends}
 
 pub appends_then : (a b c : Option (List ℕ)) (x y : List ℕ) → Appends a b x → Appends b c y → Appends a c (x ++ y)

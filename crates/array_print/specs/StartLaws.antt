@@ -1,7 +1,5 @@
 -- Laws of bytes that start with other bytes.
-use Rattle.std.proofs.Common.{ℕ, ◌≤◌, List, length, take, sym, ◌∙◌, ap, arith}
-use Rattle.std.specs.Io.{StartsWith}
-use Rattle.std.proofs.lemmas.List.{take-take, length-take}
+use Rattle.array_print.specs.Words.{ℕ, ◌≤◌, List, length, take, sym, ◌∙◌, ap, arith, StartsWith, take-take, length-take}
 
 pub StartsWith-trans : (xs ys zs : List ℕ) → StartsWith xs ys → StartsWith ys zs → StartsWith xs zs
 StartsWith-trans xs ys zs first second =

@@ -1,8 +1,5 @@
 //! Spaces, separators, and texts padded to a width.
-ghost use Rattle.std.specs.Prelude.{◌≡◌, ◌+◌, ◌≤◌, ◌++◌, codes, length, drop, slice_range, replicate, vec_capacity, IfOk, OnOk};
-ghost use Rattle.std.specs.Io.{StartsWith};
-ghost use Rattle.array_print.specs.Printed.{separator, right_justified, record_end};
-ghost use Rattle.array_print.specs.inside.Shown.{lead, repeated};
+ghost use Rattle.array_print.specs.Clauses.{◌≡◌, ◌+◌, ◌≤◌, ◌++◌, codes, length, drop, slice_range, replicate, vec_capacity, IfOk, OnOk, StartsWith, separator, right_justified, record_end, lead, repeated};
 
 use std::alloc::AllocError;
 

@@ -1,10 +1,5 @@
 //! The text of a single value.
-ghost use Rattle.std.specs.Prelude.{◌≡◌, ◌++◌, ◌≤◌, ◌<◌, length, flat_map, vec_capacity, OnOk};
-ghost use Rattle.std.specs.Io.{StartsWith};
-ghost use Rattle.std.specs.Fmt.{signed_decimal};
-ghost use Rattle.array_print.specs.Words.{IsNumber, size, decode, number_of, without_nuls};
-ghost use Rattle.array_print.specs.Printed.{hex_digit, stands_for_itself, escaped, byte_string_text, bool_text, leaf_text, right_justified};
-ghost use Rattle.array_print.specs.inside.Shown.{IsWidth};
+ghost use Rattle.array_print.specs.Clauses.{◌≡◌, ◌++◌, ◌≤◌, ◌<◌, length, flat_map, vec_capacity, OnOk, StartsWith, signed_decimal, IsNumber, size, decode, number_of, without_nuls, hex_digit, stands_for_itself, escaped, byte_string_text, bool_text, leaf_text, right_justified, IsWidth};
 
 use crate::padding::push_padded;
 use elem_descr::{Scalar, num_read};

@@ -1,9 +1,5 @@
 //! The widths to which the values of an array are padded.
-ghost use Rattle.std.specs.Prelude.{◌≡◌, ◌⊎◌, ◌+◌, ◌≤◌, ◌<◌, ◌∷◌, ◌++◌, [], ℕ, List, pos, get_or, slice_index_or, length, max, take, drop, All, IfOk};
-ghost use Rattle.array_print.specs.Words.{IsNumber, size, decode, item_size, leaves_of, offsets, Fits};
-ghost use Rattle.array_print.specs.Printed.{widths, leaf_width, leaf_widths, leaf_text, items_from};
-ghost use Rattle.array_print.specs.inside.Shown.{integer_at, widths_at};
-ghost use Rattle.array_print.specs.inside.Parts.{IsPart, part_offsets};
+ghost use Rattle.array_print.specs.Clauses.{◌≡◌, ◌⊎◌, ◌+◌, ◌≤◌, ◌<◌, ◌∷◌, ◌++◌, [], ℕ, List, pos, get_or, slice_index_or, length, max, take, drop, All, IfOk, IsNumber, size, decode, item_size, leaves_of, offsets, Fits, widths, leaf_width, leaf_widths, leaf_text, items_from, integer_at, widths_at, IsPart, part_offsets};
 
 use crate::printer::{repeats, step_along};
 use elem_descr::{Descr, Scalar, num_read};

@@ -1,3 +1,4 @@
+pub mod Words
 mod Vectors
 pub mod GridLaws
 pub mod ItemLaws

@@ -1,11 +1,5 @@
 -- Adjacent items in C order and in Fortran order.
-use Rattle.std.specs.Prelude.{reverse}
-use Rattle.std.proofs.Common.{◌≡◌, ◌+◌, ◌*◌, ◌<◌, ◌≤◌, ◌&&◌, ◌||◌, ℕ, zero, suc, Bool, true, false, List, [], ◌∷◌, map, IsTrue, refl, sym, ap, subst, ◌∙◌, arith}
-use Rattle.std.specs.List.{range_with_len}
-use Rattle.std.proofs.Math.Nat.{mul-div_cancel_left, mul-suc}
-use Rattle.std.proofs.lemmas.Bool.{eq-eqb}
-use Rattle.arrays.specs.Words.{indexes, rank, is_c_contiguous, is_f_contiguous, fortran_order, multiples, f_multiples}
-use Rattle.arrays.specs.Blocks.{places_of}
+use Rattle.arrays.proofs.Words.{reverse, ◌≡◌, ◌+◌, ◌*◌, ◌<◌, ◌≤◌, ◌&&◌, ◌||◌, ℕ, zero, suc, Bool, true, false, List, [], ◌∷◌, map, IsTrue, refl, sym, ap, subst, ◌∙◌, arith, range_with_len, mul-div_cancel_left, mul-suc, eq-eqb, indexes, rank, is_c_contiguous, is_f_contiguous, fortran_order, multiples, f_multiples, places_of}
 
 some-bytes : {item : ℕ} → 1 ≤ item → 0 < item
 some-bytes some = omega (arith, some)

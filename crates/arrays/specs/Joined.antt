@@ -1,7 +1,5 @@
 -- Concatenated items.
-use Rattle.std.specs.Prelude.{ℕ, List}
-use Rattle.std.specs.List.{flat_map}
-use Rattle.arrays.specs.Words.{item_at}
+use Rattle.arrays.specs.Words.{ℕ, List, flat_map, item_at}
 
 -- the bytes of the items of `width` bytes at these offsets, concatenated
 abbrev pub joined_at : List ℕ → ℕ → List ℕ → List ℕ

@@ -1,11 +1,5 @@
 -- Laws of concatenated items.
-use Rattle.std.proofs.Common.{◌≡◌, ◌+◌, ◌*◌, ◌≤◌, ℕ, zero, suc, List, [], ◌∷◌, ◌++◌, All, map, length, take, refl, sym, ap, ◌∙◌, arith, zero-mul, mul-zero, suc-mul, append_assoc, append-nil, length-append}
-use Rattle.std.specs.List.{flat_map, range_with_len}
-use Rattle.std.proofs.Math.Nat.{mul-suc}
-use Rattle.std.proofs.Math.Seq.{take-append_seam, drop-append_seam}
-use Rattle.std.proofs.lemmas.Grind.{flat_map-append}
-use Rattle.std.proofs.lemmas.List.Elements.{All-head, All-tail}
-use Rattle.arrays.specs.Words.{place, item_at, joined, EachWithin, length-item_at, fewer, Run, multiples, run_offsets}
+use Rattle.arrays.specs.Words.{◌≡◌, ◌+◌, ◌*◌, ◌≤◌, ℕ, zero, suc, List, [], ◌∷◌, ◌++◌, All, map, length, take, refl, sym, ap, ◌∙◌, arith, zero-mul, mul-zero, suc-mul, append_assoc, append-nil, length-append, flat_map, range_with_len, mul-suc, take-append_seam, drop-append_seam, flat_map-append, All-head, All-tail, place, item_at, joined, EachWithin, length-item_at, fewer, Run, multiples, run_offsets}
 use Rattle.arrays.specs.Joined.{joined_at}
 use Rattle.arrays.specs.RunLaws.{run_offsets-more}
 

@@ -10,3 +10,4 @@ pub mod PairLaws
 pub mod RunLaws
 pub mod inside
 pub mod Words
+pub mod Clauses

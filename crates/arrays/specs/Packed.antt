@@ -1,6 +1,5 @@
 -- Adjacent items.
-use Rattle.std.specs.Prelude.{ℕ, pos, List}
-use Rattle.arrays.specs.Words.{Run, run_offsets}
+use Rattle.arrays.specs.Words.{ℕ, pos, List, Run, run_offsets}
 
 -- n adjacent items of `width` bytes, starting at `at`
 abbrev pub packed_run : ℕ → ℕ → ℕ → Run

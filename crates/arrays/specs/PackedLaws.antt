@@ -1,9 +1,5 @@
 -- Laws of adjacent items.
-use Rattle.std.proofs.Common.{◌≡◌, ◌+◌, List, ◌∷◌, length, arith, ℕ, ◌*◌, ◌≤◌, ap, ◌∙◌, add-mul, pos, ◌+ℤ◌, ◌*ℤ◌, ◌++◌, map, mul_comm}
-use Rattle.std.proofs.lemmas.List.{map-append}
-use Rattle.std.specs.List.{range_with_len}
-use Rattle.std.proofs.lemmas.Simd.{map-map}
-use Rattle.arrays.specs.Words.{Run, length-run_offsets, length-first, all_offsets, natural, multiples, numbers_from, numbers-split}
+use Rattle.arrays.specs.Words.{◌≡◌, ◌+◌, List, ◌∷◌, length, arith, ℕ, ◌*◌, ◌≤◌, ap, ◌∙◌, add-mul, pos, ◌+ℤ◌, ◌*ℤ◌, ◌++◌, map, mul_comm, map-append, range_with_len, map-map, Run, length-run_offsets, length-first, all_offsets, natural, multiples, numbers_from, numbers-split}
 use Rattle.arrays.specs.Packed.{packed_run, row_offsets}
 
 pub length-row : (at width n : ℕ) → length (row_offsets at width n) ≡ n

@@ -7,16 +7,7 @@
 --     run-within                   a run whose items begin within the limit and end within the bytes
 --     All-front, All-back          a property of all also holds for the first ones, and for those after them
 --     runs-within, walked-within   runs whose items end within the bytes lie within them
-use Rattle.std.proofs.Common.{◌≡◌, ℕ, zero, suc, ◌+◌, ◌-◌, ◌<◌, ◌≤◌, List, [], ◌∷◌, ◌++◌, All, map, length, get_or, refl, sym, ap, subst, ◌∙◌, arith, length-append}
-use Rattle.std.specs.List.{flat_map, range_with_len, AllByRecursion as Each}
-use Rattle.std.proofs.Math.IntN.{*ℤ_comm, +ℤ_idr}
-use Rattle.std.proofs.lemmas.Int.{ints}
-use Rattle.std.proofs.lemmas.List.{map-append, get_or-map, get_or_append_left, get_or-append_right}
-use Rattle.std.proofs.lemmas.List.Elements.{All-head, All-tail, All-from_get_or, All-from_recursion}
-use Rattle.std.proofs.lemmas.List.FromFn.{length-map-range_with_len, get_or-map-range_with_len}
-use lib.IntN.{ℤ, pos, negsuc, nat_abs, ◌+ℤ◌, ◌*ℤ◌}
-use lib.Signed.{◌≤ℤ◌}
-use Rattle.arrays.specs.Words.{position, place, EachWithin, put, item_at, place_within, numbers_from, Run, natural, LieWithin, max_bytes, run_offsets, length-run_offsets, RunPair}
+use Rattle.arrays.specs.Words.{◌≡◌, ℕ, zero, suc, ◌+◌, ◌-◌, ◌<◌, ◌≤◌, List, [], ◌∷◌, ◌++◌, All, map, length, get_or, refl, sym, ap, subst, ◌∙◌, arith, length-append, flat_map, range_with_len, Each, *ℤ_comm, +ℤ_idr, ints, map-append, get_or-map, get_or_append_left, get_or-append_right, All-head, All-tail, All-from_get_or, All-from_recursion, length-map-range_with_len, get_or-map-range_with_len, ℤ, pos, negsuc, nat_abs, ◌+ℤ◌, ◌*ℤ◌, ◌≤ℤ◌, position, place, EachWithin, put, item_at, place_within, numbers_from, Run, natural, LieWithin, max_bytes, run_offsets, length-run_offsets, RunPair}
 use Rattle.arrays.specs.Assignments.{assigned}
 
 -- ---- the offset of an item

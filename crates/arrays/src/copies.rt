@@ -1,8 +1,5 @@
 //! Copies of a layout's items in a block of their own.
-ghost use Rattle.arrays.specs.Assignments.{assigned, items_at};
-ghost use Rattle.arrays.specs.Blocks.{offsets_in};
-ghost use Rattle.arrays.specs.Words.{EachWithin, OutOfMemory, TooLarge, count, item_at, item_from, item_size, max_bytes, offsets, run_offsets};
-ghost use Rattle.std.specs.Prelude.{All, IfErr, IfOk, if◌then◌else◌, length, map, nat_le, ◌*◌, ◌+◌, ◌≡◌, ◌≤◌};
+ghost use Rattle.arrays.specs.Clauses.{assigned, items_at, offsets_in, EachWithin, OutOfMemory, TooLarge, count, item_at, item_from, item_size, max_bytes, offsets, run_offsets, All, IfErr, IfOk, if◌then◌else◌, length, map, nat_le, ◌*◌, ◌+◌, ◌≡◌, ◌≤◌};
 
 use crate::owned::Owned;
 use crate::packed::gather;

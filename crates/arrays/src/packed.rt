@@ -1,11 +1,5 @@
 //! The items of a layout, adjacent in a block of their own.
-ghost use Rattle.arrays.specs.Assignments.{assigned, items_at};
-ghost use Rattle.arrays.specs.Joined.{joined_at};
-ghost use Rattle.arrays.specs.Packed.{row_offsets};
-ghost use Rattle.arrays.specs.Words.{EachWithin, is_c_contiguous, item_at, multiples, offsets, run_offsets};
-ghost use Rattle.arrays.specs.inside.Rows.{grid_of};
-ghost use Rattle.std.specs.List.{flat_map};
-ghost use Rattle.std.specs.Prelude.{All, IfOk, IsTrue, length, pos, ◌*◌, ◌++◌, ◌+◌, ◌<◌, ◌^◌, ◌≡◌, ◌≤◌};
+ghost use Rattle.arrays.specs.Clauses.{assigned, items_at, joined_at, row_offsets, EachWithin, is_c_contiguous, item_at, multiples, offsets, run_offsets, grid_of, flat_map, All, IfOk, IsTrue, length, pos, ◌*◌, ◌++◌, ◌+◌, ◌<◌, ◌^◌, ◌≡◌, ◌≤◌};
 
 use crate::copies::{copy_run, strided};
 use raw_block::{BlockBuilder, Grid, RawBlock};

@@ -1,13 +1,5 @@
 -- Items that are written to a name's array, and where they come from.
-use Rattle.std.proofs.Common.{◌≡◌, ◌<◌, ◌≤◌, ◌+◌, ◌*◌, ℕ, zero, suc, ◌==◌, Bool, true, false, List, [], ◌∷◌, ◌++◌, length, take, drop, replicate, IfOk, map, refl, sym, ap, ◌∙◌, subst, get_or, slice_index, All, Result, Ok, Err, arith}
-use Rattle.std.specs.List.{Contains, list_all}
-use Rattle.std.proofs.lemmas.List.{length-map}
-use Rattle.std.proofs.lemmas.List.Elements.{All-map, Contains-get_or}
-use Rattle.bench_engine.specs.Words.{Refusal, ShapesDoNotBroadcast, ◌>>=◌, check, Descr, item_size, AreAlike, size, decode, item_from, cast_item, axes_beyond, stretched, stretched_into, Layout, indexes, rank, offsets, view_through, IsViewOf, GivesView, State, buffer_of, start_at, Shows, ArrayRef, offsets-at}
-use Rattle.view_ops.specs.Views.{View}
-use Rattle.name_store.specs.States.{Array}
-use Rattle.bench_engine.specs.Machine.{viewed}
-use Rattle.bench_engine.specs.inside.Assigns.{LiesIn}
+use Rattle.bench_engine.proofs.Words.{◌≡◌, ◌<◌, ◌≤◌, ◌+◌, ◌*◌, ℕ, zero, suc, ◌==◌, Bool, true, false, List, [], ◌∷◌, ◌++◌, length, take, drop, replicate, IfOk, map, refl, sym, ap, ◌∙◌, subst, get_or, slice_index, All, Result, Ok, Err, arith, Contains, list_all, length-map, All-map, Contains-get_or, Refusal, ShapesDoNotBroadcast, ◌>>=◌, check, Descr, item_size, AreAlike, size, decode, item_from, cast_item, axes_beyond, stretched, stretched_into, Layout, indexes, rank, offsets, view_through, IsViewOf, GivesView, State, buffer_of, start_at, Shows, ArrayRef, offsets-at, View, Array, viewed, LiesIn}
 
 -- a shown array is a part of itself
 pub lies-whole : (s : State) (a : Array) (r : ArrayRef) → Shows s a r → LiesIn s a a r.layout.now

@@ -1,9 +1,5 @@
 -- Lengths of a script, capped to 64 bits.
-use Rattle.std.proofs.Common.{◌≡◌, ◌≤◌, ◌-◌, ◌^◌, ℕ, true, false, List, [], ◌∷◌, length, map, min, refl, sym, ap, ◌∙◌, Err, nat_le, arith}
-use Rattle.std.specs.List.{list_all}
-use Rattle.std.proofs.lemmas.Bool.{le-leb, leb-true, leb-false, lt-leb, and_parts}
-use Rattle.std.proofs.lemmas.List.{length-map}
-use Rattle.bench_engine.specs.Words.{◌>>=◌, check, TooManyAxes, TooLarge, max_items, shape_of}
+use Rattle.bench_engine.proofs.Words.{◌≡◌, ◌≤◌, ◌-◌, ◌^◌, ℕ, true, false, List, [], ◌∷◌, length, map, min, refl, sym, ap, ◌∙◌, Err, nat_le, arith, list_all, le-leb, leb-true, leb-false, lt-leb, and_parts, length-map, ◌>>=◌, check, TooManyAxes, TooLarge, max_items, shape_of}
 
 -- a capped length is too large exactly if the length is
 pub capped-fits : (n : ℕ) → nat_le (min n (2 ^ 64 - 1)) max_items ≡ nat_le n max_items

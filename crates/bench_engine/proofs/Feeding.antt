@@ -1,21 +1,5 @@
 -- A session that is fed more bytes.
-use Rattle.std.proofs.Common.{◌≡◌, ◌≢◌, ◌<◌, ◌+◌, ℕ, Bool, true, false, List, [], ◌∷◌, ◌++◌, length, map, Option, Some, None, is_some, refl, sym, ap, ◌∙◌, subst, arith, append_assoc, add_assoc, not, cond, ◌&&◌, nat_eq}
-use Rattle.std.specs.Io.KnownBytes.{Appends}
-use Rattle.std.specs.List.{count_by}
-use Rattle.std.proofs.Math.Dec.{eqb-suc-zero}
-use Rattle.std.proofs.lemmas.Bool.{false≢true}
-use Rattle.std.proofs.lemmas.List.Elements.{All-nil}
-use Rattle.std.proofs.lemmas.List.Sums.{sum_by-append}
-use Rattle.std.proofs.lemmas.List.{append-nil, map-append}
-use Rattle.std.proofs.lemmas.Grind.{flat_map-append}
-use Rattle.bench_engine.specs.Words.{State, StoreState, appends_nothing, appends_then, Sends}
-use Rattle.bench_engine.specs.declared.session.Session.{Session}
-use Rattle.bench_engine.specs.Replies.{Reply}
-use Rattle.bench_engine.specs.Steps.{World, world}
-use Rattle.bench_engine.specs.Headline.{AnswersLine, meaning_of, Run, IsUnbroken, trimmed, output, reply_line, accepted_count, refused_count, AnswersInPart}
-use Rattle.bench_engine.specs.Sessions.{HoldsPiece, HoldsBytes, HasTold, Fed, FedInPart, Ends, EndsInPart}
-use Rattle.bench_engine.specs.inside.Printing.{AsksToPrint, MayPrint}
-use Rattle.bench_engine.specs.inside.Sessions.{Told, ToldInPart, AnswersHeld}
+use Rattle.bench_engine.proofs.Words.{◌≡◌, ◌≢◌, ◌<◌, ◌+◌, ℕ, Bool, true, false, List, [], ◌∷◌, ◌++◌, length, map, Option, Some, None, is_some, refl, sym, ap, ◌∙◌, subst, arith, append_assoc, add_assoc, not, cond, ◌&&◌, nat_eq, Appends, count_by, eqb-suc-zero, false≢true, All-nil, sum_by-append, append-nil, map-append, flat_map-append, State, StoreState, appends_nothing, appends_then, Sends, Session, Reply, World, world, AnswersLine, meaning_of, Run, IsUnbroken, trimmed, output, reply_line, accepted_count, refused_count, AnswersInPart, HoldsPiece, HoldsBytes, HasTold, Fed, FedInPart, Ends, EndsInPart, AsksToPrint, MayPrint, Told, ToldInPart, AnswersHeld}
 use Rattle.bench_engine.proofs.Steps.{answered_weaker}
 use Rattle.bench_engine.proofs.Lines.{splits, splits-one, splits-more, splits-then, splits-on, lines-one, lines-none}
 

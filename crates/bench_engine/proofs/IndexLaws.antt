@@ -1,17 +1,5 @@
 -- Index lists with names of arrays.
-use Rattle.std.proofs.Common.{◌≡◌, ◌<◌, ◌≤◌, ◌+◌, ◌*◌, ◌&&◌, ℕ, zero, suc, true, false, nat_le, List, [], ◌∷◌, ◌++◌, length, map, take, get_or, slice_index, Some, refl, sym, ap, ◌∙◌, subst, All, Result, Ok, Err, arith}
-use Rattle.std.specs.List.{Contains, list_all}
-use Rattle.std.proofs.lemmas.Bool.{le-leb, lt-leb, and_parts}
-use Rattle.std.proofs.lemmas.List.{take_more, length-map, map_push}
-use Rattle.std.proofs.lemmas.List.Elements.{All-map, Contains-get_or}
-use Rattle.std.proofs.lemmas.List.Folds.{list_all-append}
-use Rattle.std.proofs.lemmas.Simd.{map-map}
-use Rattle.std.proofs.Math.Bool.{and-false}
-use Rattle.bench_engine.specs.Words.{Refusal, TooLarge, item_from, item_size, IndexItem, Layout, count, indexes, rank, length-indexes, rank-lt, get_or-indexes, index_at, length-offsets, offsets, max_bytes, view_through, IndexArray, indexed, Planned, IsPlanOf, GivesPlan, index_array_of, index_item_of, index_items, first_number, Items, State, is_bound, buffer_of, descr_of, addresses, read, start_at, Shows, ArrayRef, offsets-at}
-use Rattle.view_ops.specs.Views.{View}
-use Rattle.name_store.specs.States.{Array}
-use Rattle.bench_engine.specs.IndexLists.{names_in_item, names_in_index, by_items, array_by_items, gathered}
-use Rattle.bench_engine.specs.Machine.{viewed}
+use Rattle.bench_engine.proofs.Words.{◌≡◌, ◌<◌, ◌≤◌, ◌+◌, ◌*◌, ◌&&◌, ℕ, zero, suc, true, false, nat_le, List, [], ◌∷◌, ◌++◌, length, map, take, get_or, slice_index, Some, refl, sym, ap, ◌∙◌, subst, All, Result, Ok, Err, arith, Contains, list_all, le-leb, lt-leb, and_parts, take_more, length-map, map_push, All-map, Contains-get_or, list_all-append, map-map, and-false, Refusal, TooLarge, item_from, item_size, IndexItem, Layout, count, indexes, rank, length-indexes, rank-lt, get_or-indexes, index_at, length-offsets, offsets, max_bytes, view_through, IndexArray, indexed, Planned, IsPlanOf, GivesPlan, index_array_of, index_item_of, index_items, first_number, Items, State, is_bound, buffer_of, descr_of, addresses, read, start_at, Shows, ArrayRef, offsets-at, View, Array, names_in_item, names_in_index, by_items, array_by_items, gathered, viewed}
 use Rattle.bench_engine.proofs.Makes.{passed}
 
 -- ---- names that are bound

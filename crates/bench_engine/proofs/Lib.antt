@@ -1,3 +1,4 @@
+pub mod Words
 pub mod Capped
 pub mod Creates
 pub mod Feeding

@@ -1,12 +1,5 @@
 -- Bytes that are split at newlines, and more bytes after them.
-use Rattle.std.proofs.Common.{◌≡◌, ◌≢◌, ◌<◌, ◌≤◌, ◌+◌, ℕ, true, false, List, [], ◌∷◌, ◌++◌, length, map, refl, sym, ap, ◌∙◌, cond, arith, nat_eq, take, get_or, Some, None, nat_lt, one-add, subst, take_all, not, drop, append_assoc, add-one, drop-cons, suc}
-use Rattle.std.specs.List.{position, position_or_len, flat_map}
-use Rattle.std.proofs.lemmas.Bool.{eqb-true, eqb-false, ltb-false}
-use Rattle.std.proofs.lemmas.List.{map-append, append-nil, take-append-drop}
-use Rattle.std.proofs.lemmas.List.Elements.{All-nil, All-cons, All-head, All-tail, All-append}
-use Rattle.std.proofs.lemmas.List.Quantifiers.{position-Some}
-use Rattle.std.proofs.lemmas.Grind.{flat_map-append}
-use Rattle.bench_engine.specs.Headline.{IsUnbroken, Splits, trimmed, if_any, AreWholeLines, AreLines}
+use Rattle.bench_engine.proofs.Words.{◌≡◌, ◌≢◌, ◌<◌, ◌≤◌, ◌+◌, ℕ, true, false, List, [], ◌∷◌, ◌++◌, length, map, refl, sym, ap, ◌∙◌, cond, arith, nat_eq, take, get_or, Some, None, nat_lt, one-add, subst, take_all, not, drop, append_assoc, add-one, drop-cons, suc, position, position_or_len, flat_map, eqb-true, eqb-false, ltb-false, map-append, append-nil, take-append-drop, All-nil, All-cons, All-head, All-tail, All-append, position-Some, flat_map-append, IsUnbroken, Splits, trimmed, if_any, AreWholeLines, AreLines}
 
 -- the pieces, each with its newline
 abbrev with_newlines : List (List ℕ) → List ℕ

@@ -1,8 +1,5 @@
 -- The names of a bench, one after the other.
-use Rattle.std.proofs.Common.{◌≡◌, ℕ, zero, suc, List, [], ◌∷◌, ◌++◌, drop, codes, ap, Some, slice_get}
-use Rattle.std.specs.List.{flat_map}
-use Rattle.std.specs.Option.{option_map}
-use Rattle.name_store.specs.States.{Array}
+use Rattle.bench_engine.proofs.Words.{◌≡◌, ℕ, zero, suc, List, [], ◌∷◌, ◌++◌, drop, codes, ap, Some, slice_get, flat_map, option_map, Array}
 
 -- the names, each after a space
 abbrev pub listed : List (List ℕ × Array) → List ℕ

@@ -1,15 +1,5 @@
 -- Arrays that are loaded.
-use Rattle.std.proofs.Common.{◌≡◌, ◌∙◌, ℕ, true, false, List, refl, sym, ap, subst, inl, inr, arith, Option, Some, None, Result, Ok, Err}
-use Rattle.std.specs.FinMap.{get}
-use Rattle.bench_engine.specs.Words.{Refusal, TooManyNames, OutOfMemory, item_size, items_in, count, Owned, places_of, StoreState, IsSameStore, FaultHasCause, IsRead, StoreFault, Device, TooLong, Memory, Loaded, Loads, HoldsFileItems, file_order, Bind, State, has_room_for}
-use Rattle.script_lang.specs.declared.command.Value.TheVariants.{Load as LoadValue}
-use Rattle.bench_engine.specs.inside.OwnContents.{held}
-use Rattle.bench_engine.specs.inside.Contract.{CarriesOut, Carried}
-use Rattle.bench_engine.specs.inside.LoadedFiles.{Finds}
-use Rattle.bench_engine.specs.Replies.{refusal}
-use Rattle.bench_engine.specs.Memory.{MayAnswer}
-use Rattle.bench_engine.specs.Machine.{Choice, IsAllowed, after_outcome}
-use Rattle.bench_engine.specs.Steps.{world, Found, MayFind, loaded, loaded_contents, bound_loaded, load_outcome, LoadStep}
+use Rattle.bench_engine.proofs.Words.{◌≡◌, ◌∙◌, ℕ, true, false, List, refl, sym, ap, subst, inl, inr, arith, Option, Some, None, Result, Ok, Err, get, Refusal, TooManyNames, OutOfMemory, item_size, items_in, count, Owned, places_of, StoreState, IsSameStore, FaultHasCause, IsRead, StoreFault, Device, TooLong, Memory, Loaded, Loads, HoldsFileItems, file_order, Bind, State, has_room_for, LoadValue, held, CarriesOut, Carried, Finds, refusal, MayAnswer, Choice, IsAllowed, after_outcome, world, Found, MayFind, loaded, loaded_contents, bound_loaded, load_outcome, LoadStep}
 use Rattle.bench_engine.proofs.Stored.{places-stored}
 use Rattle.bench_engine.proofs.Steps.{spare}
 

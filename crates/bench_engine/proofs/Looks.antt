@@ -1,16 +1,8 @@
 -- Names that are looked up, and questions about their arrays.
-use Rattle.std.proofs.Common.{◌≡◌, ℕ, true, List, [], Ok, refl, sym, ap, Option, Some, None, Err, is_some}
-use Rattle.bench_engine.specs.Words.{UnknownName, Refusal, Ask, Print, offsets, array_text, items_from, State, find_array, is_bound, Finds, Shows, ArrayRef}
-use Rattle.name_store.specs.States.{Array}
+use Rattle.bench_engine.proofs.Words.{◌≡◌, ℕ, true, List, [], Ok, refl, sym, ap, Option, Some, None, Err, is_some, UnknownName, Refusal, Ask, Print, offsets, array_text, items_from, State, find_array, is_bound, Shows, ArrayRef, Array, and-true, refusal, world, may_lack_memory, MayAnswer, IsRefused, MayPrint, question_outcome, print_outcome, accepted_with}
+use Rattle.bench_engine.specs.Words.{Finds}
 use Rattle.script_lang.specs.declared.command.Question.TheVariants as question
-use Rattle.std.proofs.Math.Bool.{and-true}
-use Rattle.bench_engine.specs.Replies.{refusal}
-use Rattle.bench_engine.specs.Steps.{world}
-use Rattle.bench_engine.specs.Memory.{may_lack_memory, MayAnswer}
-use Rattle.bench_engine.specs.inside.Contract.{IsRefused}
-use Rattle.bench_engine.specs.inside.Printing.{MayPrint}
 use Rattle.bench_engine.proofs.Steps.{spare, carried}
-use Rattle.bench_engine.specs.Machine.{question_outcome, print_outcome, accepted_with}
 
 -- a lookup finds the array of a bound name, and nothing for an unbound one
 pub not_found : (s : State) (found : Option Array) → Finds s found None → found ≡ None

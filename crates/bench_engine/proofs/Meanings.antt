@@ -1,10 +1,5 @@
 -- The meaning of a line, by its length.
-use Rattle.std.proofs.Common.{◌≡◌, ◌<◌, ◌≤◌, ◌+◌, ℕ, Bool, true, false, List, [], ◌∷◌, length, refl, sym, cond, arith, nat_eq, take, ◌-◌, length-take}
-use Rattle.std.specs.List.{ends_with}
-use Rattle.std.proofs.lemmas.Bool.{lt-ltb, le-ltb}
-use Rattle.bench_engine.specs.Headline.{trimmed, too_long, says, meaning_of, limit}
-use Rattle.bench_engine.specs.Words.{line_of}
-use Rattle.bench_engine.specs.Sessions.{HoldsBytes}
+use Rattle.bench_engine.proofs.Words.{◌≡◌, ◌<◌, ◌≤◌, ◌+◌, ℕ, Bool, true, false, List, [], ◌∷◌, length, refl, sym, cond, arith, nat_eq, take, ◌-◌, length-take, ends_with, lt-ltb, le-ltb, trimmed, too_long, says, meaning_of, limit, line_of, HoldsBytes}
 
 length-trimmed : (piece : List ℕ) → length piece ≤ length (trimmed piece) + 1
 length-trimmed piece = elim (ends_with nat_eq piece (13 ∷ [])) as (λ t. length piece ≤ length (cond t (take (length piece - 1) piece) piece) + 1) [ true ↦ omega (arith, length-take (length piece - 1) piece) | false ↦ omega arith ]

@@ -1,22 +1,6 @@
 -- A view with its places in another order: writing to it has the same effect.
-use Rattle.std.proofs.Common.{◌≡◌, ◌+◌, ◌*◌, ◌≤◌, ◌⊎◌, ℕ, true, List, length, map, get_or, All, IfOk, IfSome, Option, None, Some, Result, Ok, Err, refl, sym, ap, subst, ◌∙◌, arith, inl, inr}
-use Rattle.std.specs.List.{zip, Contains}
-use Rattle.std.specs.List.Sorted.{IsPermutation}
-use Rattle.std.specs.FinMap.{insert}
-use Rattle.std.specs.Result.{is_ok}
-use Rattle.std.proofs.lemmas.Bool.{cases_eq, false≢true}
-use Rattle.std.proofs.lemmas.Simd.{splat_is_map}
-use Rattle.std.proofs.lemmas.List.{length-map, get_or-map}
-use Rattle.std.proofs.lemmas.List.Sorted.{IsPermutation-map, All-permutation, length_permutation}
-use Rattle.bench_engine.specs.Words.{Refusal, OutOfMemory, Descr, item_size, LeafValue, Layout, LayoutPair, count, item_pairs, length-offsets, offsets_within, offsets, IsNested, max_bytes, fits-offsets, IsShape, broadcast_index, can_stretch, stretched, can-itself, stretched-ok, stretched-self, GivesView, IsViewOf, view_through, item_from, same_answer, All-seconds, firsts-reordered, pair_even, nested-reordered, Items, Owned, Literal, Operation, State, buffer_of, descr_of, keeping, placed_item, read, span_of, written, part_at, start_at, LeadsTo, MayWrite, Supplies, target_offsets, Shows, ArrayRef, Source, Block, Target}
-use Rattle.view_ops.specs.Views.{View as ViewOf}
-use Rattle.name_store.specs.States.{Array}
+use Rattle.bench_engine.proofs.Words.{◌≡◌, ◌+◌, ◌*◌, ◌≤◌, ◌⊎◌, ℕ, true, List, length, map, get_or, All, IfOk, IfSome, Option, None, Some, Result, Ok, Err, refl, sym, ap, subst, ◌∙◌, arith, inl, inr, zip, Contains, IsPermutation, insert, is_ok, cases_eq, false≢true, splat_is_map, length-map, get_or-map, IsPermutation-map, All-permutation, length_permutation, Refusal, OutOfMemory, Descr, item_size, LeafValue, Layout, LayoutPair, count, item_pairs, length-offsets, offsets_within, offsets, IsNested, max_bytes, fits-offsets, IsShape, broadcast_index, can_stretch, stretched, can-itself, stretched-ok, stretched-self, GivesView, IsViewOf, view_through, item_from, same_answer, All-seconds, firsts-reordered, pair_even, nested-reordered, Items, Owned, Literal, Operation, State, buffer_of, descr_of, keeping, placed_item, read, span_of, written, part_at, start_at, LeadsTo, MayWrite, Supplies, target_offsets, Shows, ArrayRef, Source, Block, Target, ViewOf, Array, OperandValues, changed_with, literal_values, operand_values, updated_items, Writing, IsTarget, Stands, HoldsItems, Leaves, GoTogether, Meets}
 use Rattle.name_store.specs.declared.write.Target.TheVariants.{View}
-use Rattle.bench_engine.specs.Machine.{OperandValues, changed_with, literal_values, operand_values, updated_items}
-use Rattle.bench_engine.specs.declared.update.Writing.{Writing}
-use Rattle.bench_engine.specs.inside.Assigns.{IsTarget}
-use Rattle.bench_engine.specs.inside.Operands.{Stands, HoldsItems}
-use Rattle.bench_engine.specs.inside.Writings.{Leaves, GoTogether}
 use Rattle.bench_engine.proofs.Assigns.{all-viewed}
 use Rattle.bench_engine.proofs.LiteralLaws.{IsOneItem, literal-one}
 use Rattle.bench_engine.proofs.OperandLaws.{all-stand}
@@ -27,7 +11,6 @@ use Rattle.bench_engine.proofs.Views.{given-view}
 use Rattle.bench_engine.proofs.Updates.{own_values, stands-own, view-can}
 use Rattle.bench_engine.proofs.WriteOrder.{write-reordered}
 use Rattle.bench_engine.proofs.Written.{old-view}
-use Rattle.bench_engine.specs.inside.Meeting.{Meets}
 
 -- ---- nothing moved
 

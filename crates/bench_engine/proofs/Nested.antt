@@ -1,13 +1,5 @@
 -- Items that do not overlap have no more bytes than there are.
-use Rattle.std.proofs.Common.{◌≡◌, ◌+◌, ◌*◌, ◌/◌, ◌<◌, ◌≤◌, ℕ, zero, suc, true, false, List, [], ◌∷◌, length, map, slice_index, All, inl, inr, sym, ap, subst, arith}
-use Rattle.std.specs.List.{list_any, IsDistinct, AllByRecursion}
-use Rattle.std.proofs.lemmas.List.{length-map}
-use Rattle.std.proofs.lemmas.Bool.{ne_eqb}
-use Rattle.std.proofs.lemmas.Bool.Decides.{eqb_tells}
-use Rattle.std.proofs.lemmas.Map.Steps.{length-le_from_distinct_below}
-use Rattle.std.proofs.Math.Dec.{eqb}
-use Rattle.std.proofs.Math.Nat.{lt-div-mul-add, div-mul-le_self, div-lt_iff_lt-mul, mul-le-mul_left}
-use Rattle.bench_engine.specs.Words.{IsNested, distance}
+use Rattle.bench_engine.proofs.Words.{◌≡◌, ◌+◌, ◌*◌, ◌/◌, ◌<◌, ◌≤◌, ℕ, zero, suc, true, false, List, [], ◌∷◌, length, map, slice_index, All, inl, inr, sym, ap, subst, arith, list_any, IsDistinct, AllByRecursion, length-map, ne_eqb, eqb_tells, length-le_from_distinct_below, eqb, lt-div-mul-add, div-mul-le_self, div-lt_iff_lt-mul, mul-le-mul_left, IsNested, distance}
 
 -- offsets with the same quotient by the width are less than a width apart
 close : (w o p : ℕ) → 1 ≤ w → o / w ≡ p / w → w ≤ distance o p → ⊥

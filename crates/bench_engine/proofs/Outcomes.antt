@@ -1,10 +1,5 @@
 -- The outcome of the question whether two arrays share cells.
-use Rattle.std.proofs.Common.{◌≡◌, ℕ, false, ◌&&◌, is_some, inl, inr, List, refl, sym, ap, ◌∙◌, Option, Some, None, Err}
-use Rattle.bench_engine.specs.Words.{Refusal, UnknownName, State, find_array, is_bound, share_cells, AnswersShares}
-use Rattle.name_store.specs.States.{Array}
-use Rattle.bench_engine.specs.inside.Contract.{IsRefused}
-use Rattle.bench_engine.specs.Machine.{shares_outcome, accepted_with}
-use Rattle.bench_engine.specs.Replies.{shares_text}
+use Rattle.bench_engine.proofs.Words.{◌≡◌, ℕ, false, ◌&&◌, is_some, inl, inr, List, refl, sym, ap, ◌∙◌, Option, Some, None, Err, Refusal, UnknownName, State, find_array, is_bound, share_cells, AnswersShares, Array, IsRefused, shares_outcome, accepted_with, shares_text}
 
 pub shares-done : (s : State) (left right : List ℕ) (a b : Array) → find_array s.names left ≡ Some a → find_array s.names right ≡ Some b → shares_outcome s left right ≡ accepted_with s (shares_text (share_cells s a b))
 unfolding shares_outcome

@@ -1,21 +1,9 @@
 -- What an index list selects from an array.
-use Rattle.std.proofs.Common.{◌≡◌, true, false, ℕ, List, refl, sym, ap, ◌∙◌, subst, Bor, Ok}
-use Rattle.std.specs.List.{list_all}
-use Rattle.bench_engine.specs.Words.{IndexItem, C, is_basic, item_size, Layout, Owned, offsets_in, State, descr_of, read, Shows, ArrayRef}
-use Rattle.view_ops.specs.Views.{View}
-use Rattle.name_store.specs.States.{Array}
-use Rattle.bench_engine.specs.Contents.{new_contents}
-use Rattle.bench_engine.specs.IndexLists.{taken}
-use Rattle.bench_engine.specs.Machine.{a_view, a_copy, viewed, part_seen}
+use Rattle.bench_engine.proofs.Words.{◌≡◌, true, false, ℕ, List, refl, sym, ap, ◌∙◌, subst, Bor, Ok, list_all, IndexItem, C, is_basic, item_size, Layout, Owned, offsets_in, State, descr_of, read, Shows, ArrayRef, View, Array, new_contents, taken, a_view, a_copy, viewed, part_seen, Viewed, Holds, IsAimed, held, IsOf, IsSeen, Meets}
 use Rattle.name_store.specs.declared.bound.Bound.TheVariants as bound
 use Rattle.name_store.specs.declared.write.Target.TheVariants as target
-use Rattle.bench_engine.specs.declared.view.Viewed.{Viewed}
-use Rattle.bench_engine.specs.inside.Assigns.{Holds, IsAimed}
-use Rattle.bench_engine.specs.inside.OwnContents.{held}
-use Rattle.bench_engine.specs.inside.Parts.{IsOf, IsSeen}
 use Rattle.bench_engine.proofs.Copies.{made-held}
 use Rattle.bench_engine.proofs.Views.{viewed-part}
-use Rattle.bench_engine.specs.inside.Meeting.{Meets}
 
 module _ (s : State) (a : Array) (r : ArrayRef) (index : List (IndexItem (List ℕ))) where
   part-viewed : (view : View) → taken s a index ≡ Ok view → list_all is_basic index ≡ true → part_seen s a index ≡ Ok (a_view (viewed a view))

@@ -1,14 +1,5 @@
 -- Items that are changed in another order, each with its place.
-use Rattle.std.proofs.Common.{◌≡◌, ◌<◌, ℕ, suc, true, List, [], ◌∷◌, length, map, Result, Ok, Err, refl, sym, ap, subst, ◌∙◌, arith}
-use Rattle.std.specs.List.{zip, swap}
-use Rattle.std.specs.List.Sorted.{IsPermutation}
-use Rattle.std.proofs.lemmas.List.{length-map}
-use Rattle.std.proofs.lemmas.List.Sorted.{IsPermutation-refl, IsPermutation-trans, IsPermutation-swap, IsPermutation-map, IsPermutation-keeps}
-use Rattle.std.proofs.lemmas.Simd.{map-map}
-use Rattle.std.proofs.lemmas.Slice.Zip.{firsts-zip, seconds-zip}
-use Rattle.bench_engine.specs.Words.{Refusal, Descr, Scalar, ◌>>=◌, LeafValue, IsShape, map-swap, can_stretch, stretched-ok, cast_item, same_kind, scalar_of, pairwise, Operation}
-use Rattle.elem_descr.specs.declared.descr.Descr.TheVariants.{Scalar as ScalarDescr}
-use Rattle.bench_engine.specs.Machine.{OperandValues, operation_scalar, operation_item, updated_items}
+use Rattle.bench_engine.proofs.Words.{◌≡◌, ◌<◌, ℕ, suc, true, List, [], ◌∷◌, length, map, Result, Ok, Err, refl, sym, ap, subst, ◌∙◌, arith, zip, swap, IsPermutation, length-map, IsPermutation-refl, IsPermutation-trans, IsPermutation-swap, IsPermutation-map, IsPermutation-keeps, map-map, firsts-zip, seconds-zip, Refusal, Descr, Scalar, ◌>>=◌, LeafValue, IsShape, map-swap, can_stretch, stretched-ok, cast_item, same_kind, scalar_of, pairwise, Operation, ScalarDescr, OperandValues, operation_scalar, operation_item, updated_items}
 use Rattle.bench_engine.proofs.LegalLaws.{legal-common}
 use Rattle.bench_engine.proofs.Updates.{changed-type, changed-record, changed-kind, changed-done}
 use Rattle.bench_engine.proofs.WorkLaws.{worked-done}

@@ -1,19 +1,5 @@
 -- The answers to a command and to a line, from what the calls that carry them out ensure.
-use Rattle.std.proofs.Common.{◌⊎◌, Bool, IsTrue, Result, ◌≡◌, ◌≢◌, ◌≤◌, ◌+◌, ℕ, suc, false, List, [], ◌∷◌, Some, None, refl, sym, ap, subst, ◌∙◌, inl, inr, arith, Err, Ok}
-use Rattle.std.specs.Ordering.{nat_cmp, eq_by_cmp, is_eq}
-use Rattle.std.specs.declared.cmp.Ordering.TheVariants.{Less, Equal, Greater}
-use Rattle.std.specs.List.{AllByRecursion}
-use Rattle.std.specs.FinMap.{FinMap, get, get-entries, find, entries, nat_cmp-IsAntisymmetric}
-use Rattle.std.proofs.lemmas.List.Elements.{All-from_recursion}
-use Rattle.bench_engine.specs.Words.{Refusal, LineTooLong, OutOfMemory, Command, Line, silent, bad_byte, misspelt, asks, MayLackRoom, Says, parts_take_memory, State, Buffer, StoreState}
-use Rattle.name_store.specs.States.{Array}
-use Rattle.bench_engine.specs.Replies.{Reply, refusal}
-use Rattle.bench_engine.specs.Machine.{Choice, IsAllowed, Outcome, after_outcome}
-use Rattle.bench_engine.specs.Steps.{World, world, Refuses, DoesAlone, Step}
-use Rattle.bench_engine.specs.Headline.{Meaning, too_long, says, AnswersMeaning}
-use Rattle.bench_engine.specs.Memory.{MayAnswer, MayAnswerLine}
-use Rattle.bench_engine.specs.inside.Contract.{IsRefused, CarriesOut, Carried}
-use Rattle.bench_engine.specs.inside.ReadLines.{ReadsAs}
+use Rattle.bench_engine.proofs.Words.{◌⊎◌, Bool, IsTrue, Result, ◌≡◌, ◌≢◌, ◌≤◌, ◌+◌, ℕ, suc, false, List, [], ◌∷◌, Some, None, refl, sym, ap, subst, ◌∙◌, inl, inr, arith, Err, Ok, nat_cmp, eq_by_cmp, is_eq, Less, Equal, Greater, AllByRecursion, FinMap, get, get-entries, find, entries, nat_cmp-IsAntisymmetric, All-from_recursion, Refusal, LineTooLong, OutOfMemory, Command, Line, silent, bad_byte, misspelt, asks, MayLackRoom, Says, parts_take_memory, State, Buffer, StoreState, Array, Reply, refusal, Choice, IsAllowed, Outcome, after_outcome, World, world, Refuses, DoesAlone, Step, Meaning, too_long, says, AnswersMeaning, MayAnswer, MayAnswerLine, IsRefused, CarriesOut, Carried, ReadsAs}
 
 apart : (q k : ℕ) → k ≢ q → eq_by_cmp nat_cmp q k ≡ false
 apart q k ne =

@@ -1,22 +1,12 @@
 -- The items that an index list selects from an array, to be read or to be written.
-use Rattle.std.proofs.Common.{Some, get_or, slice_index, ◌≡◌, ◌⊎◌, ◌≤◌, if◌then◌else◌, nat_le, ◌+◌, ◌*◌, ℕ, true, false, List, length, map, refl, sym, ap, ◌∙◌, subst, All, Ok, Err}
-use Rattle.std.specs.List.{list_all}
-use Rattle.std.proofs.lemmas.List.Elements.{All-map}
-use Rattle.bench_engine.specs.Words.{Refusal, OutOfMemory, ReadOnly, TooLarge, Descr, item_from, item_size, IndexItem, Layout, is_basic, indexes, rank, length-offsets, offsets, IsNested, count, max_bytes, IsViewOf, GivesView, KeepsNested, basic, Owned, Planned, IsPlanOf, GivesPlan, State, find_array, descr_of, read, Shows, ArrayRef, Target}
-use Rattle.view_ops.specs.Views.{View}
-use Rattle.name_store.specs.States.{Array}
+use Rattle.bench_engine.proofs.Words.{Some, get_or, slice_index, ◌≡◌, ◌⊎◌, ◌≤◌, if◌then◌else◌, nat_le, ◌+◌, ◌*◌, ℕ, true, false, List, length, map, refl, sym, ap, ◌∙◌, subst, All, Ok, Err, list_all, All-map, Refusal, OutOfMemory, ReadOnly, TooLarge, Descr, item_from, item_size, IndexItem, Layout, is_basic, indexes, rank, length-offsets, offsets, IsNested, count, max_bytes, IsViewOf, GivesView, KeepsNested, basic, Owned, Planned, IsPlanOf, GivesPlan, State, find_array, descr_of, read, Shows, ArrayRef, Target, View, Array, taken, gathered, viewed, target_part, Holds, IsAimed, IsTarget, IsInCOrder, Meets}
 use Rattle.name_store.specs.declared.write.Target.TheVariants as target
-use Rattle.bench_engine.specs.IndexLists.{taken, gathered}
-use Rattle.bench_engine.specs.Machine.{viewed, target_part}
-use Rattle.bench_engine.specs.inside.Assigns.{Holds, IsAimed, IsTarget}
-use Rattle.bench_engine.specs.inside.OwnContents.{IsInCOrder}
 use Rattle.bench_engine.proofs.Assigns.{lies-whole, lies-viewed}
 use Rattle.bench_engine.proofs.GivenLaws.{cast-lacks}
 use Rattle.bench_engine.proofs.IndexLaws.{given-plan, plan-counted, plan-inside, plan-addresses, plan-among}
 use Rattle.bench_engine.proofs.Makes.{passed}
 use Rattle.bench_engine.proofs.Sets.{items-at, target-few}
 use Rattle.bench_engine.proofs.Views.{given-view}
-use Rattle.bench_engine.specs.inside.Meeting.{Meets}
 use Rattle.bench_engine.proofs.Answered.{met}
 
 pub taken-plain : (s : State) (a : Array) (index : List (IndexItem (List ℕ))) → list_all is_basic index ≡ true → taken s a index ≡ basic a.shape index

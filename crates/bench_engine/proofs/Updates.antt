@@ -1,23 +1,12 @@
 -- Items that are changed by an operation.
-use Rattle.std.proofs.Common.{◌≡◌, ◌≤◌, ◌*◌, ℕ, true, nat_le, if◌then◌else◌, IfErr, List, [], ◌∷◌, map, IfOk, Result, Ok, Err, refl, sym, ap, ◌∙◌, subst, inl}
-use Rattle.std.specs.Result.{is_ok}
-use Rattle.std.proofs.lemmas.Bool.{false≢true}
-use Rattle.bench_engine.specs.Words.{Refusal, OutOfMemory, TooLarge, NoSuchCast, Descr, Scalar, Byte, Int, same_answer, bind_ok, item_from, item_size, leaves_of, LeafValue, count, max_bytes, offsets, broadcast_index, can_stretch, common_shape, stretched, stretched-ok, can_cast, cast_item, same_kind, scalar_of, stretched_items, Items, length-offsets, IsShape, Owned, Literal, Operation}
-use Rattle.elem_descr.specs.declared.descr.Descr.TheVariants.{Scalar as ScalarDescr}
-use Rattle.elem_descr.specs.declared.scalar.Scalar.TheVariants.{Bool as BoolScalar, Bytes}
-use Rattle.view_ops.specs.Views.{View}
-use Rattle.std.proofs.lemmas.Simd.{map-map}
+use Rattle.bench_engine.proofs.Words.{◌≡◌, ◌≤◌, ◌*◌, ℕ, true, nat_le, if◌then◌else◌, IfErr, List, [], ◌∷◌, map, IfOk, Result, Ok, Err, refl, sym, ap, ◌∙◌, subst, inl, is_ok, false≢true, Refusal, OutOfMemory, TooLarge, NoSuchCast, Descr, Scalar, Byte, Int, same_answer, bind_ok, item_from, item_size, leaves_of, LeafValue, count, max_bytes, offsets, broadcast_index, can_stretch, common_shape, stretched, stretched-ok, can_cast, cast_item, same_kind, scalar_of, stretched_items, Items, length-offsets, IsShape, Owned, Literal, Operation, ScalarDescr, BoolScalar, View, map-map, Contents, OperandValues, literal_values, operation_scalar, operation_on, operation_with, updated_items, changed_with, Stands, HoldsItems, held, IsInCOrder, Meets}
+use Rattle.elem_descr.specs.declared.scalar.Scalar.TheVariants.{Bytes}
 use Rattle.bench_engine.proofs.GivenLaws.{cast-lacks}
-use Rattle.bench_engine.specs.Contents.{Contents}
-use Rattle.bench_engine.specs.Machine.{OperandValues, literal_values, operation_scalar, operation_on, operation_with, updated_items, changed_with}
-use Rattle.bench_engine.specs.inside.Operands.{Stands, HoldsItems}
-use Rattle.bench_engine.specs.inside.OwnContents.{held, IsInCOrder}
 use Rattle.bench_engine.proofs.LegalLaws.{legal-common}
 use Rattle.bench_engine.proofs.LiteralLaws.{IsOneItem, literal-one}
 use Rattle.bench_engine.proofs.Stored.{items-from}
 use Rattle.bench_engine.proofs.StretchLaws.{common-onto, none-fits, stretched-can}
 use Rattle.bench_engine.proofs.WorkLaws.{same_refusal, worked-bad, worked-done}
-use Rattle.bench_engine.specs.inside.Meeting.{Meets}
 
 -- ---- the refusals
 

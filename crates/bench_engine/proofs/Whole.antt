@@ -1,18 +1,7 @@
 -- The outcome of a run, from the state of its session.
-use Rattle.std.proofs.Common.{◌≡◌, ◌≢◌, [], ◌⊎◌, inl, inr, ◌++◌, ap, ◌∙◌, sym, append_assoc, zero-add, ℕ, List, Option, Some, None, Err, subst, IfSome, refl, map}
-use Rattle.std.specs.Io.KnownBytes.{Consumes, IsAtEnd}
-use Rattle.bench_engine.specs.Words.{StoreState}
-use Rattle.bench_engine.specs.declared.runner.RunFault.{RunFault}
-use Rattle.bench_engine.specs.declared.runner.RunFault.TheVariants.{Read, Write, Memory}
-use Rattle.bench_engine.specs.declared.session.Session.{Session}
-use Rattle.bench_engine.specs.declared.session.Summary.{Summary}
-use Rattle.bench_engine.specs.Steps.{World, world}
-use Rattle.bench_engine.specs.Sessions.{IsNew}
-use Rattle.bench_engine.specs.Headline.{AreLines, AreWholeLines, Outside, first_world, AnswersScript, AnswersWholeLines, AnswersInPart, AnswersFirstLines, ComesTo, trimmed}
-use Rattle.bench_engine.specs.inside.Sessions.{Ended, Reading, Turned}
-use Rattle.std.proofs.lemmas.List.Elements.{All-nil}
+use Rattle.bench_engine.proofs.Words.{◌≡◌, ◌≢◌, [], ◌⊎◌, inl, inr, ◌++◌, ap, ◌∙◌, sym, append_assoc, zero-add, ℕ, List, Option, Some, None, Err, subst, IfSome, refl, map, Consumes, IsAtEnd, StoreState, RunFault, Read, Write, Session, Summary, World, world, IsNew, AreLines, AreWholeLines, Outside, first_world, AnswersScript, AnswersWholeLines, AnswersInPart, AnswersFirstLines, ComesTo, trimmed, Ended, Reading, Turned, All-nil, appends_nothing}
+use Rattle.bench_engine.specs.declared.runner.RunFault.TheVariants.{Memory}
 use Rattle.bench_engine.proofs.Lines.{splits-one, lines-front}
-use Rattle.bench_engine.specs.Words.{appends_nothing}
 use Rattle.bench_engine.proofs.Known.{all_read}
 
 known : (a b : Option (List ℕ)) (script : List ℕ) → Consumes a b script → IsAtEnd b → IfSome a (λ bytes. script ≡ bytes)

@@ -1,14 +1,5 @@
 -- Items that are written at different places: the order does not matter.
-use Rattle.std.proofs.Common.{◌≡◌, ◌≢◌, ◌<◌, ◌≤◌, ◌⊎◌, inl, inr, ℕ, zero, suc, List, [], ◌∷◌, length, get_or, set, refl, sym, ap, ◌∙◌, arith, length-set, get_or-set_same, get_or-set_other}
-use Rattle.std.specs.List.{zip}
-use Rattle.std.specs.List.Sorted.{IsPermutation}
-use Rattle.std.proofs.lemmas.Bool.{cases_lt, cases_eq}
-use Rattle.std.proofs.lemmas.List.{ext_get_or, get_or_default}
-use Rattle.std.proofs.lemmas.List.Elements.{Contains-get_or}
-use Rattle.std.proofs.lemmas.List.Sorted.{IsPermutation-sym, Contains-permutation}
-use Rattle.std.proofs.lemmas.Option.{unwrap_or-slice_get}
-use Rattle.std.proofs.lemmas.Slice.Zip.{get_or-zip, length-zip}
-use Rattle.bench_engine.specs.Words.{IsNested, distance, nested-reordered, write, placed_item, with_part}
+use Rattle.bench_engine.proofs.Words.{◌≡◌, ◌≢◌, ◌<◌, ◌≤◌, ◌⊎◌, inl, inr, ℕ, zero, suc, List, [], ◌∷◌, length, get_or, set, refl, sym, ap, ◌∙◌, arith, length-set, get_or-set_same, get_or-set_other, zip, IsPermutation, cases_lt, cases_eq, ext_get_or, get_or_default, Contains-get_or, IsPermutation-sym, Contains-permutation, unwrap_or-slice_get, get_or-zip, length-zip, IsNested, distance, nested-reordered, write, placed_item, with_part}
 use Rattle.bench_engine.proofs.Reordered.{Item}
 
 abbrev Placed : Type 0

@@ -8,3 +8,4 @@ pub mod Sessions
 pub mod Steps
 pub mod inside
 pub mod Words
+pub mod Clauses

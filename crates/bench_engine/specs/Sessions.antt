@@ -1,7 +1,5 @@
 -- The state of a session, and what it has done after some bytes of the script.
-use Rattle.std.specs.Prelude.{◌≡◌, ◌<◌, ◌+◌, ℕ, Bool, true, false, List, [], ◌++◌, length, map, Option}
-use Rattle.std.specs.Io.KnownBytes.{Appends}
-use Rattle.bench_engine.specs.Words.{start, StoreState}
+use Rattle.bench_engine.specs.Words.{◌≡◌, ◌<◌, ◌+◌, ℕ, Bool, true, false, List, [], ◌++◌, length, map, Option, Appends, start, StoreState}
 use Rattle.bench_engine.specs.declared.session.HeldLine.{HeldLine}
 use Rattle.bench_engine.specs.declared.session.Session.{Session}
 use Rattle.bench_engine.specs.Replies.{Reply}

@@ -1,9 +1,5 @@
 //! `print X`, `info X`, `format X`, `names`, `shares X Y`: questions, which change nothing.
-ghost use Rattle.std.specs.Prelude.{◌≡◌, ◌++◌, codes, OnOk, true, ◌&&◌};
-ghost use Rattle.bench_engine.specs.Words.{is_bound, offsets};
-ghost use Rattle.bench_engine.specs.inside.Contract.{CarriesOut};
-ghost use Rattle.bench_engine.specs.Machine.{print_outcome, info_outcome, format_outcome, accepted_with, shares_outcome};
-ghost use Rattle.bench_engine.specs.Replies.{info_text, layout_words, order_text, yes_or_no, format_text, names_text};
+ghost use Rattle.bench_engine.specs.Clauses.{◌≡◌, ◌++◌, codes, OnOk, true, ◌&&◌, is_bound, offsets, CarriesOut, print_outcome, info_outcome, format_outcome, accepted_with, shares_outcome, info_text, layout_words, order_text, yes_or_no, format_text, names_text};
 
 use crate::replies::set_array_words;
 use crate::reply_text::ReplyText;

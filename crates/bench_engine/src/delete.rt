@@ -1,8 +1,5 @@
 //! `del X`: unbinds a name.
-ghost use Rattle.std.specs.Prelude.{◌≡◌, ◌&&◌, nat_lt};
-ghost use Rattle.bench_engine.specs.Words.{is_bound};
-ghost use Rattle.bench_engine.specs.inside.Contract.{CarriesOut};
-ghost use Rattle.bench_engine.specs.Machine.{delete_outcome};
+ghost use Rattle.bench_engine.specs.Clauses.{◌≡◌, ◌&&◌, nat_lt, is_bound, CarriesOut, delete_outcome};
 
 use crate::reply_text::ReplyText;
 use elem_descr::{Name, Refusal};

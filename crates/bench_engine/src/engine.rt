@@ -1,14 +1,5 @@
 //! Carries out one line, and makes its reply.
-ghost use Rattle.std.specs.Prelude.{◌≡◌, List};
-ghost use Rattle.std.specs.List.{list_all};
-ghost use Rattle.bench_engine.specs.Words.{Bind, is_bound};
-ghost use Rattle.bench_engine.specs.inside.Contract.{CarriesOut, Carried};
-ghost use Rattle.bench_engine.specs.Machine.{question_outcome};
-ghost use Rattle.bench_engine.specs.Replies.{Reply, Tells};
-ghost use Rattle.bench_engine.specs.Steps.{world};
-ghost use Rattle.bench_engine.specs.Headline.{meaning_of, AnswersMeaning, AnswersLine};
-ghost use Rattle.bench_engine.specs.Memory.{bound_in_question, MayAnswer, MayAnswerLine};
-ghost use Rattle.bench_engine.specs.inside.ReadLines.{ReadsAs, meaning_of_read};
+ghost use Rattle.bench_engine.specs.Clauses.{◌≡◌, List, list_all, Bind, is_bound, CarriesOut, Carried, question_outcome, Reply, Tells, world, meaning_of, AnswersMeaning, AnswersLine, bound_in_question, MayAnswer, MayAnswerLine, ReadsAs, meaning_of_read};
 
 use crate::ask::{format, info, names, print, shares};
 use crate::create::make;

@@ -1,15 +1,8 @@
 //! `save X "f"` and `X = load "f"`: write an array to a file, and bind a name to the array in a
 //! file.
-ghost use Rattle.std.specs.Prelude.{◌≡◌, ◌++◌, codes, decimal, OnOk};
-ghost use Rattle.bench_engine.specs.Steps.{store_refusal, world, bound_loaded};
-ghost use Rattle.bench_engine.specs.Words.{Save, Bind, has_room_for, Load};
-ghost use Rattle.bench_engine.specs.Memory.{MayAnswer};
-ghost use Rattle.bench_engine.specs.inside.Contract.{Carried, CarriesOut};
-ghost use Rattle.bench_engine.specs.inside.SavedFiles.{Puts};
+ghost use Rattle.bench_engine.specs.Clauses.{◌≡◌, ◌++◌, codes, decimal, OnOk, store_refusal, world, bound_loaded, Save, Bind, has_room_for, Load, MayAnswer, Carried, CarriesOut, Puts};
 ghost use Rattle.bench_engine.specs.declared.replies.Origin.TheVariants as origin;
-ghost use Rattle.bench_engine.specs.Replies.{bound_text};
-ghost use Rattle.bench_engine.specs.inside.OwnContents.{held};
-ghost use Rattle.bench_engine.specs.inside.LoadedFiles.{Finds};
+ghost use Rattle.bench_engine.specs.Clauses.{bound_text, held, Finds};
 
 use crate::replies::{Origin, set_bound_text};
 use crate::reply_text::ReplyText;

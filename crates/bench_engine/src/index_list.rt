@@ -1,12 +1,6 @@
 //! Index lists, which may name arrays, and what they select from an array: a view if they name no
 //! array, and a copy otherwise.
-ghost use Rattle.std.specs.Prelude.{◌≡◌, true, map, IfOk};
-ghost use Rattle.std.specs.List.{list_all};
-ghost use Rattle.bench_engine.specs.Words.{index_item_of, index_items, is_bound, Shows, is_basic};
-ghost use Rattle.name_store.specs.States.{Array};
-ghost use Rattle.bench_engine.specs.IndexLists.{names_in_item, names_in_index, array_by_items, taken};
-ghost use Rattle.bench_engine.specs.inside.Meeting.{Meets};
-ghost use Rattle.bench_engine.specs.inside.Assigns.{IsAimed};
+ghost use Rattle.bench_engine.specs.Clauses.{◌≡◌, true, map, IfOk, list_all, index_item_of, index_items, is_bound, Shows, is_basic, Array, names_in_item, names_in_index, array_by_items, taken, Meets, IsAimed};
 
 use arrays::Items;
 use elem_descr::{IndexItem, Name, Refusal};

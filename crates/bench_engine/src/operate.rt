@@ -1,19 +1,9 @@
 //! `X = copy Y C`, `cast Y D`, `OP operand Z`, `neg operand`, `RED Y [axis] [keep]`: compute an
 //! array, and bind a name to it.
-ghost use Rattle.std.specs.Prelude.{◌≡◌, ◌≤◌, ◌+◌, true, length, All, ◌∷◌, [], map, IfOk, Some};
-ghost use Rattle.std.specs.List.{list_all};
-ghost use Rattle.bench_engine.specs.Words.{item_size, offsets, is_bound, State, Gives, Answers, item_from, promote, integer_compared_result, compared_item, item_value, literal_number, Boolean};
-ghost use Rattle.name_store.specs.States.{Array};
-ghost use Rattle.bench_engine.specs.Machine.{operand_part, names_in_operand, names_in_argument, OperandValues, literal_value, literal_scalar, operand_of_literal, compared_literal, literal_values, operation_scalar, operation_on, operation_with, argument_values, compute_outcome};
-ghost use Rattle.bench_engine.specs.inside.Operands.{AreSources, IsGiven, IsNamed, IsNamedBy, IsPart, Knows, LiesInBuffer, OwnStands, Stands, StandsFor, buffer_number};
-ghost use Rattle.elem_descr.specs.declared.descr.Descr.TheVariants.{Scalar as ScalarDescr};
+ghost use Rattle.bench_engine.specs.Clauses.{◌≡◌, ◌≤◌, ◌+◌, true, length, All, ◌∷◌, [], map, IfOk, Some, list_all, item_size, offsets, is_bound, State, Gives, Answers, item_from, promote, integer_compared_result, compared_item, item_value, literal_number, Boolean, Array, operand_part, names_in_operand, names_in_argument, OperandValues, literal_value, literal_scalar, operand_of_literal, compared_literal, literal_values, operation_scalar, operation_on, operation_with, argument_values, compute_outcome, AreSources, IsGiven, IsNamed, IsNamedBy, IsPart, Knows, LiesInBuffer, OwnStands, Stands, StandsFor, buffer_number, ScalarDescr};
 ghost use Rattle.elem_descr.specs.Values as leaf;
 ghost use Rattle.script_lang.specs.declared.command.Operation.TheVariants as operation;
-ghost use Rattle.bench_engine.specs.inside.OwnContents.{held, IsInCOrder};
-ghost use Rattle.bench_engine.specs.Memory.{bound_in_computation};
-ghost use Rattle.bench_engine.specs.inside.Computed.{computed_contents, origin_of};
-ghost use Rattle.bench_engine.specs.inside.Contract.{CarriesOut};
-ghost use Rattle.bench_engine.specs.inside.Meeting.{Meets};
+ghost use Rattle.bench_engine.specs.Clauses.{held, IsInCOrder, bound_in_computation, computed_contents, origin_of, CarriesOut, Meets};
 
 use crate::create::{bind_new, filled, item_of};
 use crate::index_list::{are_bound, named_target};

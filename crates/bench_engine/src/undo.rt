@@ -1,7 +1,5 @@
 //! `undo`: goes back to the state before the last change.
-ghost use Rattle.std.specs.Prelude.{false};
-ghost use Rattle.bench_engine.specs.inside.Contract.{CarriesOut};
-ghost use Rattle.bench_engine.specs.Machine.{undo_outcome};
+ghost use Rattle.bench_engine.specs.Clauses.{false, CarriesOut, undo_outcome};
 
 use crate::reply_text::ReplyText;
 use elem_descr::Refusal;

@@ -1,13 +1,5 @@
 //! `upd X[ix] OP Z`: the new items, and the places where they are written.
-ghost use Rattle.std.specs.Prelude.{◌≡◌, ◌≤◌, ◌*◌, true, map, Ok, IfSome};
-ghost use Rattle.std.specs.List.Sorted.{IsPermutation};
-ghost use Rattle.bench_engine.specs.Words.{item_from, item_size, can_cast, cast_item, offsets, count, max_bytes, IsShape, Argument, State};
-ghost use Rattle.script_lang.specs.declared.command.Argument.TheVariants.{Literal as LiteralArgument};
-ghost use Rattle.name_store.specs.declared.write.Target.TheVariants.{View};
-ghost use Rattle.bench_engine.specs.Machine.{OperandValues, argument_values, literal_values, operand_values, updated_items, changed_with, updated};
-ghost use Rattle.bench_engine.specs.inside.Operands.{IsGiven, Stands, HoldsItems};
-ghost use Rattle.bench_engine.specs.inside.Writings.{GoTogether, IsTargetIn, IsTargetOf, Writes, WritesIn};
-ghost use Rattle.bench_engine.specs.inside.Meeting.{Meets};
+ghost use Rattle.bench_engine.specs.Clauses.{◌≡◌, ◌≤◌, ◌*◌, true, map, Ok, IfSome, IsPermutation, item_from, item_size, can_cast, cast_item, offsets, count, max_bytes, IsShape, Argument, State, LiteralArgument, View, OperandValues, argument_values, literal_values, operand_values, updated_items, changed_with, updated, IsGiven, Stands, HoldsItems, GoTogether, IsTargetIn, IsTargetOf, Writes, WritesIn, Meets};
 
 use crate::operate::{items_of_view, result_scalar, work, work_literal};
 use crate::write::Given;

@@ -1,15 +1,7 @@
 //! `X = Y`, `X = Y[ix]`, `X = transpose Y`, `X = reshape Y S`, `X = broadcast Y S`, `X = field Y
 //! "f"`: bind a name to a view of another name's array, or to a copy of some of its items.
-ghost use Rattle.std.specs.Prelude.{◌≡◌, true, option_copied, ◌∷◌};
-ghost use Rattle.std.specs.List.{list_all};
-ghost use Rattle.bench_engine.specs.Words.{count, Whole, Indexed, Transposed, Reshaped, Broadcast, is_bound, Shows};
-ghost use Rattle.script_lang.specs.declared.command.Viewing.TheVariants.{Field};
-ghost use Rattle.name_store.specs.States.{Array};
+ghost use Rattle.bench_engine.specs.Clauses.{◌≡◌, true, option_copied, ◌∷◌, list_all, count, Whole, Indexed, Transposed, Reshaped, Broadcast, is_bound, Shows, Field, Array, names_in_index, names_in_viewing, view_outcome, IsShown, Sees, SeesIn, Duplicates, shape_of_bound, origin_of_bound, CarriesOut};
 ghost use Rattle.name_store.specs.declared.bound.Bound.TheVariants.{View};
-ghost use Rattle.bench_engine.specs.IndexLists.{names_in_index};
-ghost use Rattle.bench_engine.specs.Machine.{names_in_viewing, view_outcome};
-ghost use Rattle.bench_engine.specs.inside.Parts.{IsShown, Sees, SeesIn, Duplicates, shape_of_bound, origin_of_bound};
-ghost use Rattle.bench_engine.specs.inside.Contract.{CarriesOut};
 
 use crate::create::shape_of;
 use crate::index_list::{are_bound, named_target};

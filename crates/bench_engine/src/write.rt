@@ -1,15 +1,5 @@
 //! `set X[ix] = Z` and `upd X[ix] OP Z`: write to items of an array.
-ghost use Rattle.std.specs.Prelude.{◌≡◌, ◌≤◌, ◌*◌, true, ℕ, List, Some, ◌++◌, ◌∷◌};
-ghost use Rattle.std.specs.List.{list_all};
-ghost use Rattle.bench_engine.specs.Words.{item_size, count, max_bytes, max_items, is_bound, find_array, State, Argument, Shows, Supplies};
-ghost use Rattle.name_store.specs.States.{Array};
-ghost use Rattle.bench_engine.specs.Machine.{argument_items, names_in_argument, target_part, new_items, write_outcome, write_reply};
-ghost use Rattle.bench_engine.specs.inside.Assigns.{Fitted, IsTarget};
-ghost use Rattle.bench_engine.specs.inside.Operands.{IsGiven, GivesGiven, IsNamedBy};
-ghost use Rattle.bench_engine.specs.IndexLists.{names_in_index};
-ghost use Rattle.bench_engine.specs.inside.Contract.{CarriesOut};
-ghost use Rattle.bench_engine.specs.inside.Meeting.{Meets};
-ghost use Rattle.bench_engine.specs.inside.Writings.{IsTargetIn, Prepares, WritesIn};
+ghost use Rattle.bench_engine.specs.Clauses.{◌≡◌, ◌≤◌, ◌*◌, true, ℕ, List, Some, ◌++◌, ◌∷◌, list_all, item_size, count, max_bytes, max_items, is_bound, find_array, State, Argument, Shows, Supplies, Array, argument_items, names_in_argument, target_part, new_items, write_outcome, write_reply, Fitted, IsTarget, IsGiven, GivesGiven, IsNamedBy, names_in_index, CarriesOut, Meets, IsTargetIn, Prepares, WritesIn};
 
 use crate::create::item_of;
 use crate::index_list::{are_bound, named_target};

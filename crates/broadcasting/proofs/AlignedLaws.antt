@@ -1,13 +1,5 @@
 -- Laws of aligned shapes, axis by axis.
-use Rattle.std.proofs.Common.{◌≡◌, ℕ, ◌+◌, ◌<◌, ◌≤◌, ◌&&◌, max, Bool, true, false, Ok, Err, ℤ, pos, List, [], ◌∷◌, ◌++◌, length, drop, get_or, refl, sym, ap, ◌∙◌, arith, append-nil}
-use Rattle.std.proofs.Math.Nat.{le-max_left, le-max_right}
-use Rattle.std.proofs.Math.ListN.{drop_of_length-le}
-use Rattle.std.proofs.lemmas.Bool.{false_from_ne_true, and_left}
-use Rattle.std.proofs.lemmas.List.{drop_more}
-use Rattle.broadcasting.specs.Words.{ShapesDoNotBroadcast}
-use Rattle.broadcasting.specs.Broadcasts.{aligned, go_together, all_go_together, common_lengths, common_of_two, can_stretch}
-use Rattle.broadcasting.specs.FitLaws.{length-aligned, common-none, common-some, few-axes}
-use Rattle.broadcasting.specs.inside.Stretches.{kept_stride, kept_strides}
+use Rattle.broadcasting.proofs.Words.{◌≡◌, ℕ, ◌+◌, ◌<◌, ◌≤◌, ◌&&◌, max, Bool, true, false, Ok, Err, ℤ, pos, List, [], ◌∷◌, ◌++◌, length, drop, get_or, refl, sym, ap, ◌∙◌, arith, append-nil, le-max_left, le-max_right, drop_of_length-le, false_from_ne_true, and_left, drop_more, ShapesDoNotBroadcast, aligned, go_together, all_go_together, common_lengths, common_of_two, can_stretch, length-aligned, common-none, common-some, few-axes, kept_stride, kept_strides}
 
 -- ---- the common lengths of two shapes
 

@@ -1,9 +1,5 @@
 -- Laws of the common shape.
-use Rattle.std.proofs.Common.{◌≡◌, ◌⊎◌, inl, inr, Result, Ok, Err, ℕ, ◌+◌, ◌<◌, ◌≤◌, List, [], ◌∷◌, map, length, drop, get_or, Bor, sym, ap, subst, ◌∙◌, arith}
-use Rattle.std.proofs.Math.ListN.{drop_of_length-le}
-use Rattle.std.proofs.lemmas.List.{drop_more, length-map, get_or-map}
-use Rattle.broadcasting.specs.Words.{Refusal, OutOfMemory, Gives, ◌>>=◌, shape_of}
-use Rattle.broadcasting.specs.Broadcasts.{common_of_two, common_with, common_shape}
+use Rattle.broadcasting.proofs.Words.{◌≡◌, ◌⊎◌, inl, inr, Result, Ok, Err, ℕ, ◌+◌, ◌<◌, ◌≤◌, List, [], ◌∷◌, map, length, drop, get_or, Bor, sym, ap, subst, ◌∙◌, arith, drop_of_length-le, drop_more, length-map, get_or-map, Refusal, OutOfMemory, Gives, ◌>>=◌, shape_of, common_of_two, common_with, common_shape}
 
 -- the shapes as borrowed values
 abbrev pub seen : List (Bor (List ℕ)) → List (List ℕ)

@@ -1,3 +1,4 @@
+pub mod Words
 pub mod AlignedLaws
 pub mod StretchLaws
 pub mod FewerLaws

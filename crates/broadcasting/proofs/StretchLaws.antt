@@ -1,13 +1,5 @@
 -- A stretched layout is a view.
-use Rattle.std.proofs.Common.{◌≡◌, Option, Some, Err, ℕ, zero, suc, ◌-◌, ◌<◌, ◌==◌, Bool, true, false, if◌then◌else◌, ℤ, pos, ◌+ℤ◌, ◌*ℤ◌, List, [], ◌∷◌, ◌++◌, length, drop, replicate, refl, sym, ap, subst, ◌∙◌, arith, zero-mul, length-append}
-use Rattle.std.specs.Option.{IfSome}
-use Rattle.std.proofs.lemmas.List.{length-replicate}
-use lib.IntN.{+ℤ_idl, *ℤ-zero}
-use Rattle.broadcasting.specs.Words.{ShapesDoNotBroadcast, Layout, max_bytes, count, IsIndex, dot, address_at, LieWithin, offsets, rank-lt, dot-nil, view_through, IsViewOf, ShowsThrough, IsView, LieWithin-view, inside-view, offsets-view}
-use Rattle.broadcasting.specs.Broadcasts.{can_stretch, within_axes, broadcast_index, stretched}
-use Rattle.broadcasting.specs.inside.Stretches.{kept_strides, AreStretched}
-use Rattle.broadcasting.specs.BroadcastLaws.{broadcast_index-is, IsIndex-broadcast}
-use Rattle.broadcasting.specs.FitLaws.{few-axes}
+use Rattle.broadcasting.proofs.Words.{◌≡◌, Option, Some, Err, ℕ, zero, suc, ◌-◌, ◌<◌, ◌==◌, Bool, true, false, if◌then◌else◌, ℤ, pos, ◌+ℤ◌, ◌*ℤ◌, List, [], ◌∷◌, ◌++◌, length, drop, replicate, refl, sym, ap, subst, ◌∙◌, arith, zero-mul, length-append, IfSome, length-replicate, +ℤ_idl, *ℤ-zero, ShapesDoNotBroadcast, Layout, max_bytes, count, IsIndex, dot, address_at, LieWithin, offsets, rank-lt, dot-nil, view_through, IsViewOf, ShowsThrough, IsView, LieWithin-view, inside-view, offsets-view, can_stretch, within_axes, broadcast_index, stretched, kept_strides, AreStretched, broadcast_index-is, IsIndex-broadcast, few-axes}
 
 -- ---- addresses
 

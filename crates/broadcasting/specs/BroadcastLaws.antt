@@ -1,11 +1,6 @@
 -- Laws of broadcasting: an array stretched to its own shape is unchanged, and one stretched into a target has its
 -- shape.
-use Rattle.std.proofs.Common.{◌≡◌, Result, Ok, Err, ℕ, zero, suc, ◌-◌, ◌<◌, ◌==◌, ◌&&◌, ◌||◌, true, false, if◌then◌else◌, List, [], ◌∷◌, ◌++◌, length, take, drop, replicate, refl, sym, ap, ◌∙◌, arith, get_or}
-use Rattle.std.specs.List.{list_all}
-use Rattle.std.specs.Result.{is_ok}
-use Rattle.std.proofs.lemmas.Bool.{false≢true, eqb-true, and_parts}
-use Rattle.std.proofs.lemmas.Bool.Decides.{nat_tests}
-use Rattle.broadcasting.specs.Words.{Refusal, ShapesDoNotBroadcast, ◌>>=◌, same_answer, check_passed, IsIndex, rank, length-index, same_on_indexes, Layout, natural, address, offsets, get_or-offsets, View, view_through}
+use Rattle.broadcasting.specs.Words.{◌≡◌, Result, Ok, Err, ℕ, zero, suc, ◌-◌, ◌<◌, ◌==◌, ◌&&◌, ◌||◌, true, false, if◌then◌else◌, List, [], ◌∷◌, ◌++◌, length, take, drop, replicate, refl, sym, ap, ◌∙◌, arith, get_or, list_all, is_ok, false≢true, eqb-true, and_parts, nat_tests, Refusal, ShapesDoNotBroadcast, ◌>>=◌, same_answer, check_passed, IsIndex, rank, length-index, same_on_indexes, Layout, natural, address, offsets, get_or-offsets, View, view_through}
 use Rattle.broadcasting.specs.Broadcasts.{stretches, all_stretch, can_stretch, within_axes, broadcast_index, stretched, axes_beyond, stretched_into}
 
 -- ---- a shape stretched to itself

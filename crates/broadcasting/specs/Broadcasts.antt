@@ -1,7 +1,5 @@
 -- Broadcasting, as in NumPy: shapes are aligned at their last axes, and axes of length 1 are stretched.
-use Rattle.std.specs.Prelude.{ℕ, ◌-◌, max, ◌==◌, Bool, true, false, ◌&&◌, ◌||◌, if◌then◌else◌, List, [], ◌∷◌, ◌++◌, length, take, drop, replicate, Result, Ok}
-use Rattle.std.specs.List.{list_all}
-use Rattle.broadcasting.specs.Words.{Refusal, ShapesDoNotBroadcast, ◌>>=◌, check, shape_of, View}
+use Rattle.broadcasting.specs.Words.{ℕ, ◌-◌, max, ◌==◌, Bool, true, false, ◌&&◌, ◌||◌, if◌then◌else◌, List, [], ◌∷◌, ◌++◌, length, take, drop, replicate, Result, Ok, list_all, Refusal, ShapesDoNotBroadcast, ◌>>=◌, check, shape_of, View}
 
 -- a shape padded to `rank` axes: the missing axes come first and have length 1
 abbrev pub aligned : ℕ → List ℕ → List ℕ

@@ -1,12 +1,5 @@
 -- Shapes can be stretched to their common shape.
-use Rattle.std.proofs.Common.{◌≡◌, inl, inr, Result, Ok, Err, ℕ, zero, suc, ◌-◌, ◌+◌, ◌≤◌, ◌&&◌, max, true, false, IsTrue, List, [], ◌∷◌, ◌++◌, All, length, replicate, refl, sym, ap, ◌∙◌, arith, length-append}
-use Rattle.std.specs.Result.{is_ok, IfOk}
-use Rattle.std.proofs.Math.Nat.{le-max_left, le-max_right}
-use Rattle.std.proofs.lemmas.Bool.{false≢true, cases_Bool, and_parts}
-use Rattle.std.proofs.lemmas.Bool.Decides.{nat_tests}
-use Rattle.std.proofs.lemmas.List.{append_assoc, replicate-append-replicate, length-replicate}
-use Rattle.std.proofs.lemmas.List.Elements.{All-cons, All-nil}
-use Rattle.broadcasting.specs.Words.{same_answer, Refusal, ShapesDoNotBroadcast, Gives, ◌>>=◌, shape_of, shape_of-same}
+use Rattle.broadcasting.specs.Words.{◌≡◌, inl, inr, Result, Ok, Err, ℕ, zero, suc, ◌-◌, ◌+◌, ◌≤◌, ◌&&◌, max, true, false, IsTrue, List, [], ◌∷◌, ◌++◌, All, length, replicate, refl, sym, ap, ◌∙◌, arith, length-append, is_ok, IfOk, le-max_left, le-max_right, false≢true, cases_Bool, and_parts, nat_tests, append_assoc, replicate-append-replicate, length-replicate, All-cons, All-nil, same_answer, Refusal, ShapesDoNotBroadcast, Gives, ◌>>=◌, shape_of, shape_of-same}
 use Rattle.broadcasting.specs.Broadcasts.{aligned, go_together, common_length, all_go_together, common_lengths, common_of_two, common_with, common_shape, stretches, all_stretch, can_stretch}
 use Rattle.broadcasting.specs.BroadcastLaws.{can-itself}
 

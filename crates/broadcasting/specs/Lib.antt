@@ -4,3 +4,4 @@ pub mod FitLaws
 pub mod Shrinking
 pub mod inside
 pub mod Words
+pub mod Clauses

@@ -1,6 +1,5 @@
 //! Layouts whose items repeat, shrunk to the layouts that they were stretched from.
-ghost use Rattle.std.specs.Prelude.{◌≡◌, ◌<◌, ℕ, pos, false, length, slice_index, slice_index_or, IfOk, IsTrue};
-ghost use Rattle.broadcasting.specs.Shrinking.{RepeatsAlong, ShrinksTo, CanShrink, IsStretchOf};
+ghost use Rattle.broadcasting.specs.Clauses.{◌≡◌, ◌<◌, ℕ, pos, false, length, slice_index, slice_index_or, IfOk, IsTrue, RepeatsAlong, ShrinksTo, CanShrink, IsStretchOf};
 
 use shape_strides::{Layout, Shape, Strides};
 use smallvec::SmallVec;

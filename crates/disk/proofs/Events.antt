@@ -1,24 +1,5 @@
 -- What a disk with a cache finds, and what crashes leave after each event.
-use Rattle.std.proofs.Common.{◌≡◌, ◌≢◌, inl, inr, ⊎_elim, ◌-◌, ◌<◌, ◌≤◌, Bool, true, false, ℕ, suc, List, [], ◌∷◌, length, take, drop, get_or, Option, None, Vec, IsTrue, cond, MatchBool, refl, sym, ap, ◌∙◌, subst, arith}
-use Rattle.std.specs.declared.alloc.Global.{Global}
-use Rattle.std.proofs.lemmas.Grind.{common_steps}
-use Rattle.std.specs.FinMap.{get, get-empty}
-use Rattle.std.specs.Cmp.Lexicographic.{slice_cmp}
-use Rattle.std.specs.Ordering.{nat_cmp}
-use Rattle.std.specs.Str.{bytes_eq}
-use Rattle.std.proofs.lemmas.Bool.{cases_lt, false_from_ne_true}
-use Rattle.std.proofs.lemmas.Bool.Decides.{when_true, when_false}
-use Rattle.std.proofs.lemmas.Slice.Eq.{bytes_eq-Decides}
-use Rattle.disk.specs.declared.cached.Event.{Event}
-use Rattle.disk.specs.declared.cached.Event.TheVariants.{Changed, FileSynced, NamesSynced}
-use Rattle.disk.specs.Files.{Files, Same, SameBut}
-use Rattle.disk.specs.Crashes.{Leaves}
-use Rattle.disk.specs.Calls.{SameButBoth, Replaces, HasNames}
-use Rattle.disk.specs.CrashLaws.{follows, weaker, then_but, unmoved}
-use Rattle.disk.specs.Changes.{bytes_of_change, bound}
-use Rattle.disk.specs.ChangeLaws.{get-bound, bound_here, bound_else}
-use Rattle.disk.specs.Cached.{found, is_synced, MayStand, MayStay, cached_history}
-use Rattle.disk.specs.CachedLaws.{found_may_stand, newest}
+use Rattle.disk.proofs.Words.{◌≡◌, ◌≢◌, inl, inr, ⊎_elim, ◌-◌, ◌<◌, ◌≤◌, Bool, true, false, ℕ, suc, List, [], ◌∷◌, length, take, drop, get_or, Option, None, Vec, IsTrue, cond, MatchBool, refl, sym, ap, ◌∙◌, subst, arith, Global, common_steps, get, get-empty, slice_cmp, nat_cmp, bytes_eq, cases_lt, false_from_ne_true, when_true, when_false, bytes_eq-Decides, Event, Changed, FileSynced, NamesSynced, Files, Same, SameBut, Leaves, SameButBoth, Replaces, HasNames, follows, weaker, then_but, unmoved, bytes_of_change, bound, get-bound, bound_here, bound_else, found, is_synced, MayStand, MayStay, cached_history, found_may_stand, newest}
 
 -- a list by its first event
 headed : (rest : List Event) (event : Event) → 1 ≤ length rest → event ≡ get_or rest 0 event → rest ≡ event ∷ take (length rest - 1) (drop 1 rest)

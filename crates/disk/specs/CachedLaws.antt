@@ -1,9 +1,5 @@
 -- What a crash may leave of a disk with a cache.
-use Rattle.std.proofs.Common.{◌≡◌, ◌⊎◌, inr, ◌-◌, Bool, true, false, ℕ, List, [], ◌∷◌, length, drop, Option, cond, MatchBool, refl, sym, ap, subst, arith}
-use Rattle.std.specs.FinMap.{get, get-empty}
-use Rattle.std.specs.Cmp.Lexicographic.{slice_cmp}
-use Rattle.std.specs.Ordering.{nat_cmp}
-use Rattle.std.specs.Str.{bytes_eq}
+use Rattle.disk.specs.Words.{◌≡◌, ◌⊎◌, inr, ◌-◌, Bool, true, false, ℕ, List, [], ◌∷◌, length, drop, Option, cond, MatchBool, refl, sym, ap, subst, arith, get, get-empty, slice_cmp, nat_cmp, bytes_eq}
 use Rattle.disk.specs.declared.cached.Event.{Event}
 use Rattle.disk.specs.declared.cached.Event.TheVariants.{Changed, FileSynced, NamesSynced, Restarted}
 use Rattle.disk.specs.Changes.{bytes_of_change}

@@ -1,10 +1,5 @@
 -- The files after changes in memory.
-use Rattle.std.proofs.Common.{◌≡◌, ◌-◌, ℕ, List, length, drop, Option, Some, None, cond, refl, sym, ap, ◌∙◌, arith}
-use Rattle.std.specs.Str.{bytes_eq}
-use Rattle.std.specs.Cmp.Lexicographic.{texts_ties, nat_list_cmp_total}
-use Rattle.std.specs.FinMap.{get, get-insert, get-remove}
-use Rattle.std.proofs.lemmas.Bool.{false_from_ne_true}
-use Rattle.std.proofs.lemmas.Slice.Eq.{bytes_eq-Decides}
+use Rattle.disk.specs.Words.{◌≡◌, ◌-◌, ℕ, List, length, drop, Option, Some, None, cond, refl, sym, ap, ◌∙◌, arith, bytes_eq, texts_ties, nat_list_cmp_total, get, get-insert, get-remove, false_from_ne_true, bytes_eq-Decides}
 use Rattle.disk.specs.declared.memory.Change.{Change}
 use Rattle.disk.specs.Files.{Files, SameBut}
 use Rattle.disk.specs.Changes.{after, bound}

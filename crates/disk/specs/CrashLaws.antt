@@ -1,6 +1,5 @@
 -- What crashes leave after more than one call.
-use Rattle.std.proofs.Common.{◌≡◌, ◌≢◌, inl, inr, ⊎_elim, ℕ, List, Option, Result, Ok, Err, OnOk, refl, ◌∙◌, subst, arith}
-use Rattle.std.proofs.lemmas.Bool.{cases_lt}
+use Rattle.disk.specs.Words.{◌≡◌, ◌≢◌, inl, inr, ⊎_elim, ℕ, List, Option, Result, Ok, Err, OnOk, refl, ◌∙◌, subst, arith, cases_lt}
 use Rattle.disk.specs.Files.{Files, Same, SameBut}
 use Rattle.disk.specs.Crashes.{History, Leaves}
 use Rattle.disk.specs.Calls.{Replaces}

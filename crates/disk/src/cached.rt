@@ -1,13 +1,5 @@
 //! A disk in memory with a cache: a crash may lose what was not synced.
-ghost use Rattle.std.specs.Prelude.{◌≡◌, ◌≢◌, ◌↔◌, ◌∷◌, true, drop, IsTrue, IfOk, OnOk, OnErr, MatchOption};
-ghost use Rattle.std.specs.FinMap.{empty, get};
-ghost use Rattle.disk.specs.declared.disk.DiskFault.TheVariants.{Failed};
-ghost use Rattle.disk.specs.Files.{Files, Same, SameBut};
-ghost use Rattle.disk.specs.Crashes.{MayLeave, Leaves};
-ghost use Rattle.disk.specs.Calls.{HasCause, SameButBoth, Replaces};
-ghost use Rattle.disk.specs.Changes.{bytes_of_change, IsFound};
-ghost use Rattle.disk.specs.Cached.{found, is_synced, MayStand, cached_history};
-ghost use Rattle.disk.specs.CachedLaws.{found_may_stay};
+ghost use Rattle.disk.specs.Clauses.{◌≡◌, ◌≢◌, ◌↔◌, ◌∷◌, true, drop, IsTrue, IfOk, OnOk, OnErr, MatchOption, empty, get, Failed, Files, Same, SameBut, MayLeave, Leaves, HasCause, SameButBoth, Replaces, bytes_of_change, IsFound, found, is_synced, MayStand, cached_history, found_may_stay};
 
 use crate::disk::{Disk, DiskFault};
 use crate::failing::Failing;

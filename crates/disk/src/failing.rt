@@ -1,7 +1,5 @@
 //! Calls that are made to fail.
-ghost use Rattle.std.specs.Prelude.{◌≡◌, ◌≤◌, OnErr};
-ghost use Rattle.disk.specs.declared.disk.DiskFault.TheVariants.{Failed};
-ghost use Rattle.disk.specs.Calls.{HasCause, HasRisen};
+ghost use Rattle.disk.specs.Clauses.{◌≡◌, ◌≤◌, OnErr, Failed, HasCause, HasRisen};
 
 use crate::disk::DiskFault;
 

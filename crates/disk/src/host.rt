@@ -1,8 +1,5 @@
 //! A folder of the operating system.
-ghost use Rattle.std.specs.Prelude.{◌≡◌, ◌≤◌, [], false, IfOk, OnErr};
-ghost use Rattle.std.specs.FinMap.{empty};
-ghost use Rattle.disk.specs.declared.disk.DiskFault.TheVariants.{Failed};
-ghost use Rattle.disk.specs.Calls.{HasCause, HasRisen};
+ghost use Rattle.disk.specs.Clauses.{◌≡◌, ◌≤◌, [], false, IfOk, OnErr, empty, Failed, HasCause, HasRisen};
 
 use crate::disk::{Disk, DiskFault};
 use crate::host_calls::{

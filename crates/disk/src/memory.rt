@@ -1,12 +1,5 @@
 //! A disk in memory.
-ghost use Rattle.disk.specs.Calls.{HasCause, Replaces};
-ghost use Rattle.disk.specs.ChangeLaws.{latest};
-ghost use Rattle.disk.specs.Changes.{IsFound, after, bytes_of_change, history_of};
-ghost use Rattle.disk.specs.Crashes.{Leaves};
-ghost use Rattle.disk.specs.Files.{SameBut};
-ghost use Rattle.disk.specs.declared.disk.DiskFault.TheVariants.{Failed};
-ghost use Rattle.std.specs.FinMap.{empty, get};
-ghost use Rattle.std.specs.Prelude.{IfOk, OnErr, OnOk, [], drop, length, take, true, ◌++◌, ◌<◌, ◌≡◌, ◌≢◌, ◌≤◌};
+ghost use Rattle.disk.specs.Clauses.{HasCause, Replaces, latest, IsFound, after, bytes_of_change, history_of, Leaves, SameBut, Failed, empty, get, IfOk, OnErr, OnOk, [], drop, length, take, true, ◌++◌, ◌<◌, ◌≡◌, ◌≢◌, ◌≤◌};
 
 use crate::disk::{Disk, DiskFault};
 use crate::failing::Failing;

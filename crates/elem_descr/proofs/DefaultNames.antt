@@ -1,10 +1,5 @@
 -- The default names of fields are legal.
-use Rattle.std.proofs.Common.{◌≡◌, ◌≤◌, ◌<◌, ◌+◌, ◌/◌, ◌%◌, ℕ, ◌++◌, codes, IsTrue, true, arith, ⊎_elim, refl}
-use Rattle.std.specs.Fmt.{decimal}
-use Rattle.std.proofs.lemmas.Fmt.{decimal_digit, decimal_step}
-use Rattle.std.proofs.lemmas.Bool.{cases_lt}
-use Rattle.std.proofs.lemmas.Bool.Decides.{nat_tests}
-use Rattle.elem_descr.specs.Names.{is_legal_name, is_field_name_byte}
+use Rattle.elem_descr.proofs.Words.{◌≡◌, ◌≤◌, ◌<◌, ◌+◌, ◌/◌, ◌%◌, ℕ, ◌++◌, codes, IsTrue, true, arith, ⊎_elim, refl, decimal, decimal_digit, decimal_step, cases_lt, nat_tests, is_legal_name, is_field_name_byte}
 
 digit_is_name_byte : (d : ℕ) → d ≤ 9 → is_field_name_byte (48 + d) ≡ true
 digit_is_name_byte d small = grind (arith, nat_tests)

@@ -1,19 +1,5 @@
 -- The fields of a record and their leaves, one after another.
-use Rattle.std.proofs.Common.{◌≡◌, ◌≤◌, ◌<◌, ◌+◌, ℕ, zero, suc, List, [], ◌∷◌, ◌++◌, length, map, take, drop, get_or, refl, sym, ap, ◌∙◌, arith}
-use Rattle.std.proofs.lemmas.List.{length-map, get_or_default}
-use Rattle.std.proofs.Math.Seq.{take-append_seam, drop-append-add}
-use Rattle.elem_descr.specs.declared.descr.Descr.{Descr}
-use Rattle.elem_descr.specs.declared.descr.Descr.TheVariants.{Scalar as ScalarDescr, Record as RecordDescr}
-use Rattle.elem_descr.specs.declared.scalar.Scalar.{Scalar}
-use Rattle.elem_descr.specs.declared.descr.Field.{Field}
-use Rattle.elem_descr.specs.declared.descr.Leaf.{Leaf}
-use Rattle.elem_descr.specs.Encoding.{size}
-use Rattle.elem_descr.specs.Fields.{Structure}
-use Rattle.elem_descr.specs.Descriptors.{IsLegal, InOrder, fields_of, listed, before, leaf_count}
-use Rattle.elem_descr.specs.inside.Records.{IsRecord}
-use Rattle.elem_descr.specs.Items.{item_size, leaves_of, leaves_from, leaves_in, fields, no_field, field_at, no_leaf, moved_leaf, LeavesInOrder, AreInOrder}
-use Rattle.elem_descr.specs.ItemLaws.{entry_within, leaf_within, leaves_in_order, length-leaves_from, leaf_count-before, leaves_from-before}
-use Rattle.elem_descr.specs.DescriptorLaws.{field_within, listed-fields_of, some_leaves}
+use Rattle.elem_descr.proofs.Words.{◌≡◌, ◌≤◌, ◌<◌, ◌+◌, ℕ, zero, suc, List, [], ◌∷◌, ◌++◌, length, map, take, drop, get_or, refl, sym, ap, ◌∙◌, arith, length-map, get_or_default, take-append_seam, drop-append-add, Descr, ScalarDescr, RecordDescr, Scalar, Field, Leaf, size, Structure, IsLegal, InOrder, fields_of, listed, before, leaf_count, IsRecord, item_size, leaves_of, leaves_from, leaves_in, fields, no_field, field_at, no_leaf, moved_leaf, LeavesInOrder, AreInOrder, entry_within, leaf_within, leaves_in_order, length-leaves_from, leaf_count-before, leaves_from-before, field_within, listed-fields_of, some_leaves}
 
 -- If leaves are in order from `from` on, each of them begins at `from` or later.
 begins_after : (from : ℕ) (leaves : List Leaf) (bytes k : ℕ) (d : Leaf) → AreInOrder from leaves bytes → k < length leaves → from ≤ (get_or leaves k d).at

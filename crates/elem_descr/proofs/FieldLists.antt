@@ -1,15 +1,5 @@
 -- Lists of fields: appending a field keeps their properties.
-use Rattle.std.proofs.Common.{◌≡◌, ◌≤◌, ◌+◌, ℕ, List, [], ◌∷◌, ◌++◌, length, max, refl, arith}
-use Rattle.elem_descr.specs.declared.descr.Field.{Field}
-use Rattle.elem_descr.specs.declared.descr.Descr.{Descr}
-use Rattle.elem_descr.specs.declared.descr.Descr.TheVariants.{Scalar as ScalarDescr, Record as RecordDescr}
-use Rattle.elem_descr.specs.Encoding.{size}
-use Rattle.elem_descr.specs.Fields.{Fields, no_more, scalar_field, record_field}
-use Rattle.elem_descr.specs.Descriptors.{InOrder, AreNamedWithin, listed, before, depth, leaf_count}
-use Rattle.elem_descr.specs.Items.{item_size, leaves_of}
-use Rattle.elem_descr.specs.RecordBuilding.{IsShallow}
-use Rattle.elem_descr.specs.ItemLaws.{leaf_count-before}
-use Rattle.elem_descr.specs.DescriptorLaws.{some_depth}
+use Rattle.elem_descr.proofs.Words.{◌≡◌, ◌≤◌, ◌+◌, ℕ, List, [], ◌∷◌, ◌++◌, length, max, refl, arith, Field, Descr, ScalarDescr, RecordDescr, size, Fields, no_more, scalar_field, record_field, InOrder, AreNamedWithin, listed, before, depth, leaf_count, item_size, leaves_of, IsShallow, leaf_count-before, some_depth}
 
 -- Fields that are in order up to `bytes` are also in order up to a later end.
 InOrder-later : (from : ℕ) (fields : Fields) (bytes more : ℕ) → InOrder from fields bytes → bytes ≤ more → InOrder from fields more

@@ -1,8 +1,5 @@
 -- The longest prefix of a list whose elements pass a test.
-use Rattle.std.proofs.Common.{◌≡◌, ◌+◌, ℕ, zero, suc, Bool, true, false, List, [], ◌∷◌, take, cond, refl, IsTrue, arith}
-use Rattle.std.specs.List.{list_all, prefix_len}
-use Rattle.std.proofs.lemmas.Bool.Decides.{nat_tests}
-use Rattle.elem_descr.specs.FormatLetters.{is_empty}
+use Rattle.elem_descr.proofs.Words.{◌≡◌, ◌+◌, ℕ, zero, suc, Bool, true, false, List, [], ◌∷◌, take, cond, refl, IsTrue, arith, list_all, prefix_len, nat_tests, is_empty}
 
 pub one_more : (n : ℕ) → 1 + n ≡ suc n
 one_more n = omega arith

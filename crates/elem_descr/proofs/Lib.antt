@@ -1,3 +1,4 @@
+pub mod Words
 pub mod DefaultNames
 pub mod FieldLaws
 pub mod FieldLists

@@ -1,17 +1,7 @@
 -- What stays true for a record being built when fields and padding are added to it.
-use Rattle.std.proofs.Common.{◌≡◌, ◌≤◌, ◌<◌, ◌+◌, ℕ, Bool, true, false, List, [], ◌∷◌, ◌++◌, length, refl, ap, IsTrue, arith, length-append, ◌||◌}
-use Rattle.std.specs.List.{IsDistinct, list_all, AllByRecursion}
-use Rattle.std.specs.Str.{bytes_eq}
-use Rattle.std.proofs.lemmas.List.Folds.{list_all-append}
-use Rattle.elem_descr.specs.declared.descr.Field.{Field}
-use Rattle.elem_descr.specs.Names.{is_legal_name}
-use Rattle.elem_descr.specs.Descriptors.{IsLegal, listed, fields_of}
-use Rattle.elem_descr.specs.Items.{item_size, leaves_of}
-use Rattle.elem_descr.specs.RecordBuilding.{Partial, IsShallow, empty, is_taken}
-use Rattle.elem_descr.specs.inside.Partials.{IsPartial}
+use Rattle.elem_descr.proofs.Words.{◌≡◌, ◌≤◌, ◌<◌, ◌+◌, ℕ, Bool, true, false, List, [], ◌∷◌, ◌++◌, length, refl, ap, IsTrue, arith, length-append, ◌||◌, IsDistinct, list_all, AllByRecursion, bytes_eq, list_all-append, Field, is_legal_name, IsLegal, listed, fields_of, item_size, leaves_of, Partial, IsShallow, empty, is_taken, IsPartial, names}
 use Rattle.elem_descr.proofs.FieldLaws.{fields_of-listed}
 use Rattle.elem_descr.proofs.FieldLists.{in_order_push, InOrder-ends, within_push, depth_push, leaf_count-push}
-use Rattle.elem_descr.specs.BuildingLaws.{names}
 
 pub empty_partial : (levels leaves : ℕ) → levels < 4 → leaves ≤ 2048 → IsPartial (empty levels leaves)
 unfolding IsDistinct

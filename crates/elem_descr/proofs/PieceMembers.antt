@@ -1,25 +1,5 @@
 -- The member at the front of a text is the same by its pieces and by its bytes.
-use Rattle.std.proofs.Common.{◌≡◌, ◌≤◌, ◌+◌, inl, inr, ℕ, zero, suc, Bool, true, false, ◌&&◌, List, [], ◌∷◌, ◌++◌, take, drop, codes, Option, Some, None, Result, Ok, Err, cond, if◌then◌else◌, refl, sym, ap, subst, ◌∙◌, arith}
-use Rattle.std.specs.Prelude.{unwrap_or}
-use Rattle.std.specs.Option.{option_map}
-use Rattle.std.specs.Char.{is_ascii_digit}
-use Rattle.std.specs.List.{list_all, prefix_len}
-use Rattle.std.proofs.lemmas.Bool.{cases_eq, cases_Bool, and_parts}
-use Rattle.std.proofs.lemmas.Bool.Decides.{nat_tests}
-use Rattle.std.proofs.lemmas.List.{take-append-drop}
-use Rattle.elem_descr.specs.declared.refusal.Refusal.{Refusal}
-use Rattle.elem_descr.specs.declared.refusal.Refusal.TheVariants.{BadDescriptor, DescriptorLeftOut}
-use Rattle.elem_descr.specs.declared.scalar.Scalar.{Scalar}
-use Rattle.elem_descr.specs.declared.descr.Descr.{Descr}
-use Rattle.elem_descr.specs.declared.format_text.mark.Mark.{Mark}
-use Rattle.elem_descr.specs.declared.format_text.mark.Mark.TheVariants.{Aligned, Native, Little as LittleMark, Big as BigMark}
-use Rattle.elem_descr.specs.Refusals.{◌>>=◌}
-use Rattle.elem_descr.specs.TypeStrings.{is_one_of}
-use Rattle.elem_descr.specs.FormatLetters.{Member, Value, Pad, Opened, is_empty, mark_meant, number_letter, number_member, count_of, text_member, is_left_out, other_member, lettered}
-use Rattle.elem_descr.specs.FormatPieces.{Behind, nothing, between_colons, lone_colon, Piece, letter, opening, is_colon, pieces}
-use Rattle.elem_descr.specs.FormatTexts.{PieceKind, member, part_of}
-use Rattle.elem_descr.specs.DescrTexts.{begins_with_digit}
-use Rattle.elem_descr.specs.inside.Turns.{after, is_opened, lettered_before, after_count, member_at}
+use Rattle.elem_descr.proofs.Words.{◌≡◌, ◌≤◌, ◌+◌, inl, inr, ℕ, zero, suc, Bool, true, false, ◌&&◌, List, [], ◌∷◌, ◌++◌, take, drop, codes, Option, Some, None, Result, Ok, Err, cond, if◌then◌else◌, refl, sym, ap, subst, ◌∙◌, arith, unwrap_or, option_map, is_ascii_digit, list_all, prefix_len, cases_eq, cases_Bool, and_parts, nat_tests, take-append-drop, Refusal, BadDescriptor, DescriptorLeftOut, Scalar, Descr, Mark, Aligned, Native, LittleMark, BigMark, ◌>>=◌, is_one_of, Member, Value, Pad, Opened, is_empty, mark_meant, number_letter, number_member, count_of, text_member, is_left_out, other_member, lettered, Behind, nothing, between_colons, lone_colon, Piece, letter, opening, is_colon, pieces, PieceKind, member, part_of, begins_with_digit, after, is_opened, lettered_before, after_count, member_at}
 use Rattle.elem_descr.proofs.Fronts.{front_passes, one_more, some_left}
 use Rattle.elem_descr.proofs.Pieces.{behind, pieces-colon, pieces-byte, pieces-letter, pieces-opening, pieces-digits_letter, pieces-digits_opening, CountsNothing, LastDigit, last_digit}
 

@@ -1,40 +1,6 @@
 -- A descriptor that is written as a format text is read back as the same descriptor.
-use Rattle.std.proofs.Common.{◌≡◌, ◌≤◌, ◌<◌, ◌+◌, ◌-◌, ℕ, zero, suc, true, false, List, [], ◌∷◌, ◌++◌, length, None, Result, Ok, refl, ap, subst, sym, ◌∙◌, arith, append_assoc, length-append, add-zero}
-use Rattle.std.specs.Char.{is_ascii_digit}
-use Rattle.std.specs.Fmt.{decimal}
-use Rattle.std.specs.List.{IsDistinct, list_all}
-use Rattle.std.specs.Str.{bytes_eq}
-use Rattle.std.proofs.lemmas.Bool.{le-leb, and_parts}
-use Rattle.std.proofs.lemmas.Bool.Decides.{nat_tests}
-use Rattle.std.proofs.lemmas.Fmt.{decimal_nonempty}
-use Rattle.std.proofs.lemmas.List.{append-nil}
-use Rattle.elem_descr.specs.declared.refusal.Refusal.{Refusal}
-use Rattle.elem_descr.specs.declared.scalar.Order.TheVariants.{Little, Big}
-use Rattle.elem_descr.specs.declared.scalar.Width.TheVariants.{Two, Four, Eight}
-use Rattle.elem_descr.specs.declared.scalar.Scalar.{Scalar}
-use Rattle.elem_descr.specs.declared.scalar.Scalar.TheVariants.{Bool as BoolScalar, Byte, Int, Bytes}
-use Rattle.elem_descr.specs.declared.descr.Field.{Field}
-use Rattle.elem_descr.specs.declared.descr.Descr.{Descr}
-use Rattle.elem_descr.specs.declared.descr.Descr.TheVariants.{Scalar as ScalarDescr, Record as RecordDescr}
-use Rattle.elem_descr.specs.declared.format_text.record.Body.{Body}
-use Rattle.elem_descr.specs.declared.format_text.mark.Mark.{Mark}
-use Rattle.elem_descr.specs.declared.format_text.mark.Mark.TheVariants.{Aligned, Native, Little as LittleMark, Big as BigMark}
-use Rattle.elem_descr.specs.Refusals.{◌>>=◌}
-use Rattle.elem_descr.specs.Encoding.{size}
-use Rattle.elem_descr.specs.Fields.{Fields, no_more, scalar_field, record_field, Structure}
-use Rattle.elem_descr.specs.Names.{is_legal_name}
-use Rattle.elem_descr.specs.Descriptors.{IsLegal, AreNamedWithin, InOrder, fields_of, listed, names_of, depth, leaf_count}
-use Rattle.elem_descr.specs.Items.{item_size, leaves_of, leaves_from}
-use Rattle.elem_descr.specs.FormatLetters.{is_aligning, own_alignment, aligned_to}
-use Rattle.elem_descr.specs.RecordBuilding.{Partial, is_taken, widened, closed_size, closed_record}
-use Rattle.elem_descr.specs.FormatTexts.{format}
-use Rattle.elem_descr.specs.inside.Turns.{format_in_turns, member_at, held_at, Reader, is_named, marked, closing, scalar_in, pad_in, body_in, next_field, turn, members, record_within, nothing_follows, scalar_alone, record_alone, alone}
-use Rattle.elem_descr.specs.WrittenFormats.{written_mark, written_count, written_letter, written_scalar, written_pad, written_name, braced, written_fields, written_format}
+use Rattle.elem_descr.proofs.Words.{◌≡◌, ◌≤◌, ◌<◌, ◌+◌, ◌-◌, ℕ, zero, suc, true, false, List, [], ◌∷◌, ◌++◌, length, None, Result, Ok, refl, ap, subst, sym, ◌∙◌, arith, append_assoc, length-append, add-zero, is_ascii_digit, decimal, IsDistinct, list_all, bytes_eq, le-leb, and_parts, nat_tests, decimal_nonempty, append-nil, Refusal, Little, Big, Two, Four, Eight, Scalar, BoolScalar, Byte, Int, Bytes, Field, Descr, ScalarDescr, RecordDescr, Body, Mark, Aligned, Native, LittleMark, BigMark, ◌>>=◌, size, Fields, no_more, scalar_field, record_field, Structure, is_legal_name, IsLegal, AreNamedWithin, InOrder, fields_of, listed, names_of, depth, leaf_count, item_size, leaves_of, leaves_from, is_aligning, own_alignment, aligned_to, Partial, is_taken, widened, closed_size, closed_record, format, format_in_turns, member_at, held_at, Reader, is_named, marked, closing, scalar_in, pad_in, body_in, next_field, turn, members, record_within, nothing_follows, scalar_alone, record_alone, alone, written_mark, written_count, written_letter, written_scalar, written_pad, written_name, braced, written_fields, written_format, digits-decimal, packed, multiple_of_one, field_of, grown, name_ok, added_ok, names, not_taken, listed-fields_of, InOrder-within, some_depth, length-leaves_from}
 use Rattle.elem_descr.proofs.Binds.{after_ok}
-use Rattle.elem_descr.specs.DigitLaws.{digits-decimal}
-use Rattle.elem_descr.specs.BuildingLaws.{packed, multiple_of_one, field_of, grown, name_ok, added_ok, names, not_taken}
-use Rattle.elem_descr.specs.DescriptorLaws.{listed-fields_of, InOrder-within, some_depth}
-use Rattle.elem_descr.specs.ItemLaws.{length-leaves_from}
 use Rattle.elem_descr.proofs.SameFormat.{same_format}
 use Rattle.elem_descr.proofs.WrittenMembers.{mark_of, marked_digits, after_letter, reads_scalar, reads_pad, reads_name}
 

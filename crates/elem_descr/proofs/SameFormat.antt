@@ -1,30 +1,8 @@
 -- A text means the same by its pieces as by its members, read in turns.
-use Rattle.std.proofs.Common.{◌≡◌, ℕ, Bool, true, false, not, ◌&&◌, List, [], ◌∷◌, length, take, drop, inl, inr, Option, Some, None, Result, Ok, Err, cond, is_some, unwrap_or, nat_le, if◌then◌else◌, refl, sym, ap, subst, ◌∙◌, arith}
-use Rattle.std.specs.Prelude.{find}
-use Rattle.std.specs.Char.{is_ascii_digit}
-use Rattle.std.specs.List.{list_all, prefix_len}
-use Rattle.std.specs.Option.{option_map, ok_or}
-use Rattle.std.proofs.lemmas.Bool.{cases_Bool}
-use Rattle.elem_descr.specs.declared.refusal.Refusal.{Refusal}
-use Rattle.elem_descr.specs.declared.refusal.Refusal.TheVariants.{BadDescriptor, DescriptorLeftOut, TooLarge}
-use Rattle.elem_descr.specs.declared.scalar.Scalar.{Scalar}
-use Rattle.elem_descr.specs.declared.descr.Descr.{Descr}
-use Rattle.elem_descr.specs.declared.descr.Descr.TheVariants.{Scalar as ScalarDescr, Record as RecordDescr}
-use Rattle.elem_descr.specs.declared.format_text.record.Body.{Body}
-use Rattle.elem_descr.specs.declared.format_text.mark.Mark.{Mark}
-use Rattle.elem_descr.specs.declared.format_text.mark.Mark.TheVariants.{Aligned}
-use Rattle.elem_descr.specs.Refusals.{◌>>=◌, check}
-use Rattle.elem_descr.specs.TypeStrings.{is_one_of}
-use Rattle.elem_descr.specs.Encoding.{size}
-use Rattle.elem_descr.specs.FormatLetters.{Member, Value, Pad, Opened, is_empty, mark_meant, letters, number_letter, number_member, other_member, lettered}
-use Rattle.elem_descr.specs.RecordBuilding.{empty}
-use Rattle.elem_descr.specs.FormatPieces.{Behind, nothing, between_colons, lone_colon, Piece, letter, is_colon, pieces}
-use Rattle.elem_descr.specs.FormatTexts.{part_of, unnamed, Reading, begun, complete, beyond, at_begin, closed_in, behind_member, step, read_on, format}
-use Rattle.elem_descr.specs.inside.Turns.{after, marked, is_named, is_opened, lettered_before, after_count, member_at, fitting, as_held, held_at, record_within, nothing_follows, scalar_alone, record_alone, alone, format_in_turns}
+use Rattle.elem_descr.proofs.Words.{◌≡◌, ℕ, Bool, true, false, not, ◌&&◌, List, [], ◌∷◌, length, take, drop, inl, inr, Option, Some, None, Result, Ok, Err, cond, is_some, unwrap_or, nat_le, if◌then◌else◌, refl, sym, ap, subst, ◌∙◌, arith, find, is_ascii_digit, list_all, prefix_len, option_map, ok_or, cases_Bool, Refusal, BadDescriptor, DescriptorLeftOut, TooLarge, Scalar, Descr, ScalarDescr, RecordDescr, Body, Mark, Aligned, ◌>>=◌, check, is_one_of, size, Member, Value, Pad, Opened, is_empty, mark_meant, letters, number_letter, number_member, other_member, lettered, empty, Behind, nothing, between_colons, lone_colon, Piece, letter, is_colon, pieces, part_of, unnamed, Reading, begun, complete, beyond, at_begin, closed_in, behind_member, step, read_on, format, after, marked, is_named, is_opened, lettered_before, after_count, member_at, fitting, as_held, held_at, record_within, nothing_follows, scalar_alone, record_alone, alone, format_in_turns, bind_same}
 use Rattle.elem_descr.proofs.Pieces.{name_end, behind_colon, behind, behind-colon, pieces-letter, some_piece}
 use Rattle.elem_descr.proofs.PieceMembers.{bind_bind, one_of_one, sign_cases, Then, front, met, meant, member_met}
 use Rattle.elem_descr.proofs.SameMembers.{marked_none, Unmarked, unmarked, sign_letter, marks_begun, marks_beyond, marks_read, behind_bare, unnamed_same, members_same}
-use Rattle.elem_descr.specs.RefusalLaws.{bind_same}
 
 -- ---- what follows a complete descriptor
 

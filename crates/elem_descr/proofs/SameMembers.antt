@@ -1,32 +1,7 @@
 -- The members of a record are the same by their pieces as when they are read in turns.
-use Rattle.std.proofs.Common.{◌≡◌, ◌≤◌, ◌<◌, ◌+◌, ℕ, zero, suc, Bool, true, false, not, ◌&&◌, List, [], ◌∷◌, length, take, drop, ◌++◌, codes, inl, inr, Option, Some, None, Result, Ok, Err, if◌then◌else◌, refl, sym, ap, subst, ◌∙◌, arith, length-drop}
-use Rattle.std.specs.Prelude.{nat_le, decimal}
-use Rattle.std.specs.Char.{is_ascii_digit}
-use Rattle.std.specs.List.{prefix_len}
-use Rattle.std.specs.Int.{next_multiple_of}
-use Rattle.std.specs.Option.{option_map}
-use Rattle.std.proofs.lemmas.Bool.{cases_Bool, leb-false, lt-leb}
-use Rattle.elem_descr.specs.declared.refusal.Refusal.{Refusal}
-use Rattle.elem_descr.specs.declared.refusal.Refusal.TheVariants.{BadDescriptor, DescriptorLeftOut, TooLarge}
-use Rattle.elem_descr.specs.declared.scalar.Scalar.{Scalar}
-use Rattle.elem_descr.specs.declared.descr.Descr.{Descr}
-use Rattle.elem_descr.specs.declared.descr.Descr.TheVariants.{Scalar as ScalarDescr, Record as RecordDescr}
-use Rattle.elem_descr.specs.declared.format_text.record.Body.{Body}
-use Rattle.elem_descr.specs.declared.format_text.mark.Mark.{Mark}
-use Rattle.elem_descr.specs.Refusals.{◌>>=◌, check}
-use Rattle.elem_descr.specs.Items.{leaves_of}
-use Rattle.elem_descr.specs.Names.{is_legal_name}
-use Rattle.elem_descr.specs.TypeStrings.{is_one_of}
-use Rattle.elem_descr.specs.Encoding.{size}
-use Rattle.elem_descr.specs.FormatLetters.{Member, Value, Pad, Opened, own_alignment, aligned_to}
-use Rattle.elem_descr.specs.RecordBuilding.{Partial, empty, if_small, with_field, checked_name, added, widened}
-use Rattle.elem_descr.specs.FormatPieces.{Behind, nothing, between_colons, lone_colon, Piece, letter, stray, is_colon, pieces}
-use Rattle.elem_descr.specs.FormatTexts.{closed_body, part_of, called, next_name, with_scalar, with_pad, with_record, opened, unnamed, Reading, begun, within, beyond, closed_in, in_record, step, read_on}
-use Rattle.elem_descr.specs.inside.Turns.{name_at, after, marked, is_named, is_opened, lettered_before, after_count, member_at, fitting, capped, as_held, named, Later, scalar_in, pad_in, body_in, taken_in, next_field, closing, turn, members, record_within}
+use Rattle.elem_descr.proofs.Words.{◌≡◌, ◌≤◌, ◌<◌, ◌+◌, ℕ, zero, suc, Bool, true, false, not, ◌&&◌, List, [], ◌∷◌, length, take, drop, ◌++◌, codes, inl, inr, Option, Some, None, Result, Ok, Err, if◌then◌else◌, refl, sym, ap, subst, ◌∙◌, arith, length-drop, nat_le, decimal, is_ascii_digit, prefix_len, next_multiple_of, option_map, cases_Bool, leb-false, lt-leb, Refusal, BadDescriptor, DescriptorLeftOut, TooLarge, Scalar, Descr, ScalarDescr, RecordDescr, Body, Mark, ◌>>=◌, check, leaves_of, is_legal_name, is_one_of, size, Member, Value, Pad, Opened, own_alignment, aligned_to, Partial, empty, if_small, with_field, checked_name, added, widened, Behind, nothing, between_colons, lone_colon, Piece, letter, stray, is_colon, pieces, closed_body, part_of, called, next_name, with_scalar, with_pad, with_record, opened, unnamed, Reading, begun, within, beyond, closed_in, in_record, step, read_on, name_at, after, marked, is_named, is_opened, lettered_before, after_count, member_at, fitting, capped, as_held, named, Later, scalar_in, pad_in, body_in, taken_in, next_field, closing, turn, members, record_within, widened-capped, bind_same}
 use Rattle.elem_descr.proofs.Pieces.{name_end, behind_colon, behind, name_at-ended, ended_name, pieces-colon, behind-colon, behind-other, pieces-letter}
 use Rattle.elem_descr.proofs.PieceMembers.{bind_bind, one_of_one, sign_cases, Then, front, met, meant, member_met}
-use Rattle.elem_descr.specs.BuildingLaws.{widened-capped}
-use Rattle.elem_descr.specs.RefusalLaws.{bind_same}
 
 bind_three : {X Y Z W : Type 0} (r : Result X Refusal) (f : X → Result Y Refusal) (g : Y → Result Z Refusal) (h : Z → Result W Refusal) → (r >>= λ x. (f x >>= g) >>= h) ≡ (((r >>= f) >>= g) >>= h)
 bind_three (Ok x) f g h = refl

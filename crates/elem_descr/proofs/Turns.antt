@@ -1,17 +1,5 @@
 -- The members of a record, turn by turn.
-use Rattle.std.proofs.Common.{◌≡◌, ◌≤◌, ◌<◌, ◌+◌, ◌-◌, ℕ, suc, List, [], ◌∷◌, length, get_or, take, drop, Option, Some, None, Result, Ok, Err, refl, sym, ap, ◌∙◌, arith}
-use Rattle.std.proofs.lemmas.List.{take_all}
-use Rattle.std.specs.Char.{is_ascii_digit}
-use Rattle.std.specs.List.{prefix_len}
-use Rattle.elem_descr.specs.declared.refusal.Refusal.{Refusal}
-use Rattle.elem_descr.specs.declared.format_text.member.Member.{Member as Held}
-use Rattle.elem_descr.specs.declared.format_text.mark.Mark.{Mark}
-use Rattle.elem_descr.specs.declared.refusal.Refusal.TheVariants.{DescriptorLeftOut}
-use Rattle.elem_descr.specs.Refusals.{◌>>=◌}
-use Rattle.elem_descr.specs.RecordBuilding.{Partial, empty}
-use Rattle.elem_descr.specs.FormatLetters.{Member}
-use Rattle.elem_descr.specs.FormatTexts.{closed_body}
-use Rattle.elem_descr.specs.inside.Turns.{lettered_before, after_count, member_at, held_member, held_at, Reader, marked, closing, next_field, turn, members, record_within}
+use Rattle.elem_descr.proofs.Words.{◌≡◌, ◌≤◌, ◌<◌, ◌+◌, ◌-◌, ℕ, suc, List, [], ◌∷◌, length, get_or, take, drop, Option, Some, None, Result, Ok, Err, refl, sym, ap, ◌∙◌, arith, take_all, is_ascii_digit, prefix_len, Refusal, Held, Mark, DescriptorLeftOut, ◌>>=◌, Partial, empty, Member, closed_body, lettered_before, after_count, member_at, held_member, held_at, Reader, marked, closing, next_field, turn, members, record_within}
 
 -- If no levels are allowed, a record is refused.
 pub no_levels : (levels : ℕ) (mark : Mark) (leaves : ℕ) (text : List ℕ) → levels ≡ 0 → record_within levels mark leaves text ≡ Err DescriptorLeftOut

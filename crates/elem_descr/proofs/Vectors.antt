@@ -1,23 +1,5 @@
 -- An item of NumPy, decoded and encoded, and format texts that are read.
-use Rattle.std.proofs.Common.{◌≡◌, true, List, [], ◌∷◌, Ok, Err, codes, refl, lit<}
-use Rattle.std.specs.Fmt.{decimal}
-use Rattle.std.proofs.lemmas.Fmt.{decimal_digit}
-use Rattle.std.specs.Prelude.{pos, negsuc}
-use Rattle.elem_descr.specs.declared.refusal.Refusal.TheVariants.{BadDescriptor, DescriptorLeftOut}
-use Rattle.elem_descr.specs.declared.scalar.Order.TheVariants.{Little, Big}
-use Rattle.elem_descr.specs.declared.scalar.Width.TheVariants.{Two, Four}
-use Rattle.elem_descr.specs.declared.scalar.Scalar.{Scalar}
-use Rattle.elem_descr.specs.declared.scalar.Scalar.TheVariants.{Bool as BoolScalar, Byte, Int, Bytes}
-use Rattle.elem_descr.specs.declared.descr.Descr.{Descr}
-use Rattle.elem_descr.specs.Values.{LeafValue, number, text}
-use Rattle.elem_descr.specs.Fields.{no_more, scalar_field, record_field}
-use Rattle.elem_descr.specs.Items.{decode_item, encode_item}
-use Rattle.elem_descr.specs.RecordBuilding.{checked_name, added, widened, closed_record}
-use Rattle.elem_descr.specs.FormatPieces.{nothing, between_colons, letter, opening, pieces}
-use Rattle.elem_descr.specs.FormatTexts.{format}
-use Rattle.elem_descr.specs.WrittenFormats.{written_format}
-use Rattle.elem_descr.specs.SpellingLaws.{one}
-use Rattle.elem_descr.specs.BuildingLaws.{record_type}
+use Rattle.elem_descr.proofs.Words.{◌≡◌, true, List, [], ◌∷◌, Ok, Err, codes, refl, lit<, decimal, decimal_digit, pos, negsuc, BadDescriptor, DescriptorLeftOut, Little, Big, Two, Four, Scalar, BoolScalar, Byte, Int, Bytes, Descr, LeafValue, number, text, no_more, scalar_field, record_field, decode_item, encode_item, checked_name, added, widened, closed_record, nothing, between_colons, letter, opening, pieces, format, written_format, one, record_type}
 
 -- numpy.dtype({'names': ['x', 'y', 't', 'b'], 'formats': ['<i4', '>i2', 'S5', '?'], 'offsets': [0, 6, 8, 13],
 -- 'itemsize': 15})

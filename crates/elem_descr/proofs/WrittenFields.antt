@@ -1,14 +1,5 @@
 -- The text of fields, written one after another.
-use Rattle.std.proofs.Common.{◌≡◌, ◌≤◌, ◌<◌, ◌+◌, ◌-◌, ℕ, List, ◌++◌, length, get_or, drop, refl, sym, ap, ◌∙◌, append_assoc}
-use Rattle.std.proofs.lemmas.List.{at_drop_all}
-use Rattle.elem_descr.specs.declared.descr.Field.{Field}
-use Rattle.elem_descr.specs.declared.descr.Descr.{Descr}
-use Rattle.elem_descr.specs.declared.descr.Descr.TheVariants.{Scalar as ScalarDescr, Record as RecordDescr}
-use Rattle.elem_descr.specs.Fields.{Fields}
-use Rattle.elem_descr.specs.Descriptors.{listed, before}
-use Rattle.elem_descr.specs.Items.{item_size}
-use Rattle.elem_descr.specs.WrittenFormats.{written_pad, written_name, written_fields, written_format}
-use Rattle.elem_descr.specs.DescriptorLaws.{rest_at}
+use Rattle.elem_descr.proofs.Words.{◌≡◌, ◌≤◌, ◌<◌, ◌+◌, ◌-◌, ℕ, List, ◌++◌, length, get_or, drop, refl, sym, ap, ◌∙◌, append_assoc, at_drop_all, Field, Descr, ScalarDescr, RecordDescr, Fields, listed, before, item_size, written_pad, written_name, written_fields, written_format, rest_at}
 
 written_before : (from : ℕ) (name : List ℕ) (at : ℕ) (descr : Descr) (rest : Fields) (bytes : ℕ) → written_fields from (before name at descr rest) bytes ≡ written_pad (at - from) ++ (written_format descr ++ (written_name name ++ written_fields (at + item_size descr) rest bytes))
 written_before from name at (ScalarDescr scalar) rest bytes = refl

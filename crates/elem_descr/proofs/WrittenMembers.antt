@@ -1,28 +1,6 @@
 -- A member that is written is read back as the same member.
-use Rattle.std.proofs.Common.{◌≡◌, ◌≤◌, ◌<◌, ℕ, zero, suc, min, Bool, true, false, List, [], ◌∷◌, ◌++◌, length, Some, None, Ok, refl, ap, ◌∙◌, not, arith, nat_le, ◌&&◌}
-use Rattle.std.specs.Char.{is_ascii_digit}
-use Rattle.std.specs.Fmt.{decimal}
-use Rattle.std.specs.List.{list_all, prefix_len}
-use Rattle.std.proofs.lemmas.Bool.Decides.{nat_tests}
-use Rattle.std.proofs.lemmas.Fmt.{decimal_nonempty}
-use Rattle.std.proofs.Math.Seq.{take-append_seam, drop-append_seam}
-use Rattle.std.proofs.lemmas.Bool.{le-leb, and_parts}
-use Rattle.std.proofs.Math.Nat.{min-eq_left}
-use Rattle.elem_descr.specs.declared.scalar.Order.TheVariants.{Little, Big}
-use Rattle.elem_descr.specs.declared.scalar.Width.TheVariants.{Two, Four, Eight}
-use Rattle.elem_descr.specs.declared.scalar.Scalar.{Scalar}
-use Rattle.elem_descr.specs.declared.scalar.Scalar.TheVariants.{Bool as BoolScalar, Byte, Int, Bytes}
-use Rattle.elem_descr.specs.declared.format_text.mark.Mark.{Mark}
-use Rattle.elem_descr.specs.declared.format_text.mark.Mark.TheVariants.{Little as LittleMark, Big as BigMark}
+use Rattle.elem_descr.proofs.Words.{◌≡◌, ◌≤◌, ◌<◌, ℕ, zero, suc, min, Bool, true, false, List, [], ◌∷◌, ◌++◌, length, Some, None, Ok, refl, ap, ◌∙◌, not, arith, nat_le, ◌&&◌, is_ascii_digit, decimal, list_all, prefix_len, nat_tests, decimal_nonempty, take-append_seam, drop-append_seam, le-leb, and_parts, min-eq_left, Little, Big, Two, Four, Eight, Scalar, BoolScalar, Byte, Int, Bytes, Mark, LittleMark, BigMark, size, value_of, is_legal_name, is_field_name_byte, Value, count_of, text_member, is_colon, after, marked, after_count, member_at, held_at, name_at, named, written_mark, written_count, written_letter, digits-decimal, value_of-decimal}
 use Rattle.elem_descr.specs.declared.format_text.member.Member.TheVariants as held
-use Rattle.elem_descr.specs.Encoding.{size}
-use Rattle.elem_descr.specs.TypeStrings.{value_of}
-use Rattle.elem_descr.specs.Names.{is_legal_name, is_field_name_byte}
-use Rattle.elem_descr.specs.FormatLetters.{Value, count_of, text_member}
-use Rattle.elem_descr.specs.FormatPieces.{is_colon}
-use Rattle.elem_descr.specs.inside.Turns.{after, marked, after_count, member_at, held_at, name_at, named}
-use Rattle.elem_descr.specs.WrittenFormats.{written_mark, written_count, written_letter}
-use Rattle.elem_descr.specs.DigitLaws.{digits-decimal, value_of-decimal}
 use Rattle.elem_descr.proofs.Fronts.{some_left}
 
 -- the elements that pass a test, before one that does not

@@ -1,10 +1,5 @@
 -- Laws of building a record without alignment.
-use Rattle.std.proofs.Common.{◌≡◌, ◌≤◌, ◌<◌, ◌+◌, ℕ, min, false, List, [], ◌∷◌, ◌++◌, length, map, Ok, inl, inr, refl, ap, arith}
-use Rattle.std.specs.Int.{next_multiple_of}
-use Rattle.std.specs.List.{IsDistinct, AllByRecursion}
-use Rattle.std.specs.Str.{bytes_eq}
-use Rattle.std.proofs.lemmas.Bool.{cases_lt, le-leb, lt-leb, lt-ltb}
-use Rattle.std.proofs.Math.Nat.{min-eq_left, min-eq_right}
+use Rattle.elem_descr.specs.Words.{◌≡◌, ◌≤◌, ◌<◌, ◌+◌, ℕ, min, false, List, [], ◌∷◌, ◌++◌, length, map, Ok, inl, inr, refl, ap, arith, next_multiple_of, IsDistinct, AllByRecursion, bytes_eq, cases_lt, le-leb, lt-leb, lt-ltb, min-eq_left, min-eq_right}
 use Rattle.elem_descr.specs.declared.descr.Field.{Field}
 use Rattle.elem_descr.specs.declared.descr.Descr.{Descr}
 use Rattle.elem_descr.specs.declared.descr.Descr.TheVariants.{Record as RecordDescr}

@@ -1,6 +1,5 @@
 -- A descriptor in a script: a type string or a format text.
-use Rattle.std.specs.Prelude.{ℕ, Bool, false, List, [], ◌∷◌, codes, ◌&&◌, ◌||◌, if◌then◌else◌, Result, Ok}
-use Rattle.std.specs.Char.{is_ascii_digit}
+use Rattle.elem_descr.specs.Words.{ℕ, Bool, false, List, [], ◌∷◌, codes, ◌&&◌, ◌||◌, if◌then◌else◌, Result, Ok, is_ascii_digit}
 use Rattle.elem_descr.specs.declared.refusal.Refusal.{Refusal}
 use Rattle.elem_descr.specs.declared.descr.Descr.{Descr}
 use Rattle.elem_descr.specs.declared.descr.Descr.TheVariants.{Scalar as ScalarDescr}

@@ -1,7 +1,5 @@
 -- Descriptors: a scalar, or a record whose fields, in the order of their offsets, are scalars and records.
-use Rattle.std.specs.Prelude.{◌≤◌, ◌+◌, ℕ, IsTrue, List, [], ◌∷◌, length, map, max}
-use Rattle.std.specs.List.{IsDistinct, list_all}
-use Rattle.std.specs.Str.{bytes_eq}
+use Rattle.elem_descr.specs.Words.{◌≤◌, ◌+◌, ℕ, IsTrue, List, [], ◌∷◌, length, map, max, IsDistinct, list_all, bytes_eq}
 use Rattle.elem_descr.specs.declared.descr.Field.{Field}
 use Rattle.elem_descr.specs.declared.descr.Descr.{Descr}
 use Rattle.elem_descr.specs.declared.descr.Descr.TheVariants.{Scalar as ScalarDescr, Record as RecordDescr}

@@ -1,11 +1,5 @@
 -- A number written in decimal consists of digits, and these digits have its value.
-use Rattle.std.proofs.Common.{◌≡◌, ◌<◌, ◌-◌, ◌+◌, ◌*◌, ◌^◌, ◌&&◌, ℕ, List, [], ◌∷◌, true, fold, refl, sym, ap, ◌∙◌}
-use Rattle.std.specs.Char.{is_ascii_digit}
-use Rattle.std.specs.Fmt.{decimal}
-use Rattle.std.specs.List.{list_all}
-use Rattle.std.specs.Str.{all_ascii_digits}
-use Rattle.std.proofs.lemmas.Fmt.{digits_decimal, digits_value-decimal}
-use Rattle.std.proofs.lemmas.Str.Parse.{IsNumeralModel, numerals_by_fold, tells_all_ascii_digits}
+use Rattle.elem_descr.specs.Words.{◌≡◌, ◌<◌, ◌-◌, ◌+◌, ◌*◌, ◌^◌, ◌&&◌, ℕ, List, [], ◌∷◌, true, fold, refl, sym, ap, ◌∙◌, is_ascii_digit, decimal, list_all, all_ascii_digits, digits_decimal, digits_value-decimal, IsNumeralModel, numerals_by_fold, tells_all_ascii_digits}
 use Rattle.elem_descr.specs.TypeStrings.{value_of}
 
 -- texts of digits and their values are a model of the numerals of std

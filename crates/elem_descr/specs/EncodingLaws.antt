@@ -1,15 +1,5 @@
 -- Decoding the bytes of a value gives the value back.
-use Rattle.std.proofs.Common.{◌≡◌, ℕ, zero, suc, ◌*◌, ◌<◌, ◌≤◌, Bool, true, false, refl, sym, ap, ◌∙◌, arith, [], ◌^◌, ◌-◌, cond, nat_lt}
-use Rattle.std.specs.Prelude.{ℤ, pos, negsuc, ◌-ℤ◌, unsigned_abs, nat_eq}
-use Rattle.std.specs.Int.{int_rem_euclid}
-use Rattle.std.proofs.Math.Nat.{mod-lt, mod-eq_of_lt}
-use Rattle.std.proofs.lemmas.Bool.{ltb-true, ltb-false, ne_eqb}
-use Rattle.std.proofs.lemmas.Int.{ints, int_rem_euclid_is}
-use Rattle.std.proofs.lemmas.Nat.{pow_pos}
-use Rattle.std.proofs.lemmas.List.{append-nil}
-use Rattle.byteorder.specs.Endian.{little_number, little_bytes, big_number, big_bytes}
-use Rattle.byteorder.specs.Numbers.{big_number-reads_back, little_number-reads_back}
-use Rattle.byteorder.proofs.Bytes.{pow256}
+use Rattle.elem_descr.specs.Words.{◌≡◌, ℕ, zero, suc, ◌*◌, ◌<◌, ◌≤◌, Bool, true, false, refl, sym, ap, ◌∙◌, arith, [], ◌^◌, ◌-◌, cond, nat_lt, ℤ, pos, negsuc, ◌-ℤ◌, unsigned_abs, nat_eq, int_rem_euclid, mod-lt, mod-eq_of_lt, ltb-true, ltb-false, ne_eqb, ints, int_rem_euclid_is, pow_pos, append-nil, little_number, little_bytes, big_number, big_bytes, big_number-reads_back, little_number-reads_back, pow256}
 use Rattle.elem_descr.specs.declared.scalar.Order.{Order}
 use Rattle.elem_descr.specs.declared.scalar.Order.TheVariants.{Little, Big}
 use Rattle.elem_descr.specs.declared.scalar.Scalar.{Scalar}

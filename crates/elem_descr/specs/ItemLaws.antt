@@ -1,6 +1,5 @@
 -- Laws of the leaves of an item: their order and their number.
-use Rattle.std.proofs.Common.{◌≡◌, ℕ, zero, suc, ◌+◌, ◌<◌, ◌≤◌, ◌∷◌, map, length, get_or, refl, sym, ap, arith, List, [], ◌++◌, length-append, take, drop}
-use Rattle.std.proofs.lemmas.List.{map-append}
+use Rattle.elem_descr.specs.Words.{◌≡◌, ℕ, zero, suc, ◌+◌, ◌<◌, ◌≤◌, ◌∷◌, map, length, get_or, refl, sym, ap, arith, List, [], ◌++◌, length-append, take, drop, map-append}
 use Rattle.elem_descr.specs.declared.descr.Leaf.{Leaf}
 use Rattle.elem_descr.specs.declared.descr.Descr.{Descr}
 use Rattle.elem_descr.specs.declared.descr.Descr.TheVariants.{Scalar as ScalarDescr, Record as RecordDescr}

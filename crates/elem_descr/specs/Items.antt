@@ -1,6 +1,5 @@
 -- The items of a descriptor: one value per leaf.
-use Rattle.std.specs.Prelude.{◌≡◌, ◌+◌, ◌-◌, ◌<◌, ◌≤◌, ℕ, List, [], ◌∷◌, ◌++◌, length, get_or, map, position, take, drop, replicate, Option}
-use Rattle.std.specs.Str.{bytes_eq}
+use Rattle.elem_descr.specs.Words.{◌≡◌, ◌+◌, ◌-◌, ◌<◌, ◌≤◌, ℕ, List, [], ◌∷◌, ◌++◌, length, get_or, map, position, take, drop, replicate, Option, bytes_eq}
 use Rattle.elem_descr.specs.declared.descr.Descr.{Descr}
 use Rattle.elem_descr.specs.declared.descr.Descr.TheVariants.{Scalar as ScalarDescr, Record as RecordDescr}
 use Rattle.elem_descr.specs.declared.descr.Field.{Field}

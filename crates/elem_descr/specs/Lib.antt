@@ -33,3 +33,5 @@ pub mod NumberLaws
 pub mod NulLaws
 pub mod ListLaws
 pub mod ByteLaws
+pub mod Words
+pub mod Clauses

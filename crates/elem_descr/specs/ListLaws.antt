@@ -1,9 +1,5 @@
 -- General laws of lists and truth values.
-use Rattle.std.proofs.Common.{◌≡◌, ℕ, ◌-◌, List, length, take, drop, arith, [], ◌∷◌, ◌++◌, refl, ◌∙◌, ap, map, sym, Bool, true, false, ℤ, pos, get_or}
-use Rattle.std.proofs.lemmas.List.{length-drop, take_all, map-append}
-use Rattle.std.specs.List.{flat_map}
-use Rattle.std.proofs.lemmas.Grind.{flat_map-append}
-use Rattle.std.proofs.Math.Seq.{take-append_seam}
+use Rattle.elem_descr.specs.Words.{◌≡◌, ℕ, ◌-◌, List, length, take, drop, arith, [], ◌∷◌, ◌++◌, refl, ◌∙◌, ap, map, sym, Bool, true, false, ℤ, pos, get_or, length-drop, take_all, map-append, flat_map, flat_map-append, take-append_seam}
 
 -- The slice from `k` to the end is all of the list but its first `k` elements.
 pub slice-rest : {X : Type 0} (k : ℕ) (whole : List X) → take (length whole - k) (drop k whole) ≡ drop k whole

@@ -1,9 +1,5 @@
 -- The laws of wrapping for every scalar.
-use Rattle.std.proofs.Common.{◌≡◌, ◌≤◌, ℕ, zero, suc, Bool, true, false, refl, ap, subst, inl, inr, arith}
-use Rattle.std.proofs.lemmas.Int.{ints}
-use Rattle.std.proofs.lemmas.Bool.Decides.{Decides-int_eq}
-use Rattle.std.specs.Bool.{Decides}
-use Rattle.std.specs.Prelude.{ℤ, pos, negsuc}
+use Rattle.elem_descr.specs.Words.{◌≡◌, ◌≤◌, ℕ, zero, suc, Bool, true, false, refl, ap, subst, inl, inr, arith, ints, Decides-int_eq, Decides, ℤ, pos, negsuc}
 use Rattle.elem_descr.specs.declared.scalar.Order.{Order}
 use Rattle.elem_descr.specs.declared.scalar.Width.{Width}
 use Rattle.elem_descr.specs.declared.scalar.Width.TheVariants.{Two, Four, Eight}

@@ -1,7 +1,5 @@
 -- Laws of results that may be refusals.
-use Rattle.std.proofs.Common.{◌≡◌, Bool, true, false, Result, Ok, ap, refl, Err}
-use Rattle.std.specs.Result.{is_ok}
-use Rattle.std.proofs.lemmas.Bool.{false≢true}
+use Rattle.elem_descr.specs.Words.{◌≡◌, Bool, true, false, Result, Ok, ap, refl, Err, is_ok, false≢true}
 use Rattle.elem_descr.specs.declared.refusal.Refusal.{Refusal}
 use Rattle.elem_descr.specs.Refusals.{◌>>=◌, check}
 

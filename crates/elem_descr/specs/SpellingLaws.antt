@@ -1,8 +1,5 @@
 -- A scalar that is written as a type string is read back as the same scalar.
-use Rattle.std.proofs.Common.{◌≡◌, ◌≤◌, ℕ, true, false, [], ◌∷◌, Ok, refl, arith, lit<}
-use Rattle.std.specs.Fmt.{decimal}
-use Rattle.std.proofs.lemmas.Bool.{le-leb, ne_eqb}
-use Rattle.std.proofs.lemmas.Fmt.{decimal_digit}
+use Rattle.elem_descr.specs.Words.{◌≡◌, ◌≤◌, ℕ, true, false, [], ◌∷◌, Ok, refl, arith, lit<, decimal, le-leb, ne_eqb, decimal_digit}
 use Rattle.elem_descr.specs.declared.scalar.Order.TheVariants.{Little, Big}
 use Rattle.elem_descr.specs.declared.scalar.Width.TheVariants.{Two, Four, Eight}
 use Rattle.elem_descr.specs.declared.scalar.Scalar.{Scalar}

@@ -1,15 +1,5 @@
 -- Laws of numbers in steps.
-use Rattle.std.proofs.Common.{◌≡◌, ◌≢◌, ◌↔◌, ℕ, zero, suc, ◌+◌, ◌*◌, ◌/◌, ◌%◌, ◌<◌, ◌≤◌, min, Bool, true, false, ℤ, pos, negsuc, neg_ℤ, unsigned_abs, ◌+ℤ◌, ◌-ℤ◌, ◌*ℤ◌, ◌<ℤ◌, ◌≤ℤ◌, int_lt, ◌∷◌, ◌++◌, add-one, map, filter, length, get_or, inl, inr, refl, sym, ap, ◌∙◌, arith, add-mul, mul_comm, mul-le-mul_left}
-use Rattle.std.specs.Int.{int_max, div_ceil}
-use Rattle.std.specs.List.{range_with_len}
-use Rattle.std.proofs.Math.Nat.{mul-le-mul_right}
-use Rattle.std.proofs.lemmas.Bool.{cases_lt, true_from_ne_false, false_from_ne_true}
-use Rattle.std.proofs.lemmas.Grind.{div_ceil_times}
-use Rattle.std.proofs.lemmas.Int.{ints, clamps, by_lt_z}
-use Rattle.std.proofs.lemmas.List.{length-map}
-use Rattle.std.proofs.lemmas.List.FromFn.{length-range_with_len, get_or-map-range_with_len}
-use Rattle.std.proofs.Math.IntN.{*ℤ-zero, +ℤ_idr}
-use lib.IntN.{negsuc-*ℤ-pos}
+use Rattle.elem_descr.specs.Words.{◌≡◌, ◌≢◌, ◌↔◌, ℕ, zero, suc, ◌+◌, ◌*◌, ◌/◌, ◌%◌, ◌<◌, ◌≤◌, min, Bool, true, false, ℤ, pos, negsuc, neg_ℤ, unsigned_abs, ◌+ℤ◌, ◌-ℤ◌, ◌*ℤ◌, ◌<ℤ◌, ◌≤ℤ◌, int_lt, ◌∷◌, ◌++◌, add-one, map, filter, length, get_or, inl, inr, refl, sym, ap, ◌∙◌, arith, add-mul, mul_comm, mul-le-mul_left, int_max, div_ceil, range_with_len, mul-le-mul_right, cases_lt, true_from_ne_false, false_from_ne_true, div_ceil_times, ints, clamps, by_lt_z, length-map, length-range_with_len, get_or-map-range_with_len, *ℤ-zero, +ℤ_idr, negsuc-*ℤ-pos}
 use Rattle.elem_descr.specs.Steps.{is_before, numbers_from, stepped, IsGap}
 use Rattle.elem_descr.specs.StepCounts.{CountsSteps}
 

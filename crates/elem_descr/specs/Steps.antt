@@ -1,7 +1,5 @@
 -- Numbers in steps: `start`, `start + step`, `start + 2 * step`, ...
-use Rattle.std.specs.Prelude.{◌≡◌, ℕ, ℤ, pos, ◌+ℤ◌, ◌-ℤ◌, ◌*ℤ◌, ◌≤ℤ◌, ◌<ℤ◌, int_lt, Bool, if◌then◌else◌, List, map, filter}
-use Rattle.std.specs.Int.{int_max}
-use Rattle.std.specs.List.{range_with_len}
+use Rattle.elem_descr.specs.Words.{◌≡◌, ℕ, ℤ, pos, ◌+ℤ◌, ◌-ℤ◌, ◌*ℤ◌, ◌≤ℤ◌, ◌<ℤ◌, int_lt, Bool, if◌then◌else◌, List, map, filter, int_max, range_with_len}
 
 -- whether a number is strictly before `stop` in the direction of `step`
 abbrev pub is_before : ℤ → ℤ → ℤ → Bool

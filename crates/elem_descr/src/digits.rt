@@ -1,10 +1,5 @@
 //! Decimal digits.
-ghost use Rattle.std.specs.Prelude.{◌≡◌, ◌≤◌, ◌+◌, ◌^◌, length, min};
-ghost use Rattle.std.specs.Char.{is_ascii_digit};
-ghost use Rattle.std.specs.List.{list_all, prefix_len};
-ghost use Rattle.elem_descr.specs.TypeStrings.{value_of};
-ghost use Rattle.elem_descr.specs.FormatLetters.{count_of};
-ghost use Rattle.elem_descr.specs.RecordBuilding.{max_size};
+ghost use Rattle.elem_descr.specs.Clauses.{◌≡◌, ◌≤◌, ◌+◌, ◌^◌, length, min, is_ascii_digit, list_all, prefix_len, value_of, count_of, max_size};
 
 use crate::scalar::MAX_ITEM_SIZE;
 

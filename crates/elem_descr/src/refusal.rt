@@ -1,6 +1,5 @@
 //! Refusals, with their codes and texts.
-ghost use Rattle.std.specs.Prelude.{◌≡◌, ◌≤◌, length};
-ghost use Rattle.elem_descr.specs.declared.refusal.Refusal.TheVariants.{OutOfMemory};
+ghost use Rattle.elem_descr.specs.Clauses.{◌≡◌, ◌≤◌, length, OutOfMemory};
 
 use std::alloc::{AllocError, AllocFailed};
 use std::error::Error;

@@ -1,8 +1,6 @@
 //! Type strings of NumPy's array interface, and descriptors as written in a script.
-ghost use Rattle.elem_descr.specs.DescrTexts.{descriptor, is_kind, is_type_string};
-ghost use Rattle.elem_descr.specs.Refusals.{Gives};
-ghost use Rattle.elem_descr.specs.TypeStrings.{byte_string, letter_of, mark, marked, number_spelled, spelling, typestr};
-ghost use Rattle.std.specs.Prelude.{IfOk, [], ◌∷◌, ◌≡◌};
+ghost use Rattle.elem_descr.specs.Clauses.{descriptor, is_kind, is_type_string, Gives, byte_string, letter_of, mark, number_spelled, spelling, typestr, IfOk, [], ◌∷◌, ◌≡◌};
+ghost use Rattle.elem_descr.specs.TypeStrings.{marked};
 
 use crate::descr::Descr;
 use crate::digits::{are_digits, capped_value};

@@ -1,13 +1,5 @@
 -- Items that are appended to bytes, part by part.
-use Rattle.std.proofs.Common.{subst, ◌≡◌, ◌+◌, ◌*◌, ℕ, zero, suc, List, [], ◌∷◌, ◌++◌, length, drop, replicate, refl, sym, ap, ◌∙◌, arith, append_assoc, length-append, length-drop, suc-mul, add-mul}
-use Rattle.std.specs.List.{concat, AllByRecursion as Each}
-use Rattle.std.proofs.Math.Seq.{take-append_seam, drop-append-add}
-use Rattle.std.proofs.lemmas.List.Folds.{concat-append}
-use Rattle.std.proofs.lemmas.List.{nil_from_length, length-replicate}
-use Rattle.std.proofs.lemmas.List.Elements.{All-from_recursion}
-use Rattle.elementwise.specs.Words.{place, put, item_at, joined, EachWithin, RunPair, run_offsets, length-run_offsets, items_at, with_items, length-row, row-split, row_offsets}
-use Rattle.elementwise.specs.Results.{pairwise}
-use Rattle.elementwise.specs.inside.PairPasses.{pair_from}
+use Rattle.elementwise.proofs.Words.{subst, ◌≡◌, ◌+◌, ◌*◌, ℕ, zero, suc, List, [], ◌∷◌, ◌++◌, length, drop, replicate, refl, sym, ap, ◌∙◌, arith, append_assoc, length-append, length-drop, suc-mul, add-mul, concat, Each, take-append_seam, drop-append-add, concat-append, nil_from_length, length-replicate, All-from_recursion, place, put, item_at, joined, EachWithin, RunPair, run_offsets, length-run_offsets, items_at, with_items, length-row, row-split, row_offsets, pairwise, pair_from}
 use Rattle.elementwise.proofs.PairLaws.{pairwise-append, joined_pairs, firsts, seconds}
 use Rattle.elementwise.proofs.RowLaws.{landed, rows-in, rows-lie}
 use Rattle.elementwise.proofs.TurnedLaws.{AreWide}

@@ -1,14 +1,5 @@
 -- Results for operands that were cast.
-use Rattle.std.specs.Prelude.{ℤ}
-use Rattle.std.proofs.Common.{◌≡◌, true, ℕ, List, [], ◌∷◌, map, refl, ap, ◌∙◌}
-use Rattle.std.proofs.lemmas.Bool.{false≢true}
-use Rattle.std.proofs.lemmas.Simd.{map-map}
-use Rattle.elementwise.specs.Words.{Scalar, Byte, Int, Bytes, Descr, LeafValue, number, IsNumber, wrap, number_of, item_from, Layout, offsets, BinOp, UnOp, little, stretched-self}
-use Rattle.elem_descr.specs.declared.scalar.Scalar.TheVariants.{Bool as BoolScalar}
-use Rattle.elem_descr.specs.declared.descr.Descr.TheVariants.{Scalar as ScalarDescr, Record as RecordDescr}
-use Rattle.elementwise.specs.Casts.{can_cast, cast_item}
-use Rattle.elementwise.specs.Operations.{binary, unary}
-use Rattle.elementwise.specs.Results.{value_in, number_as, binary_item, unary_item, pairwise, stretched_items}
+use Rattle.elementwise.proofs.Words.{ℤ, ◌≡◌, true, ℕ, List, [], ◌∷◌, map, refl, ap, ◌∙◌, false≢true, map-map, Scalar, Byte, Int, Bytes, Descr, LeafValue, number, IsNumber, wrap, number_of, item_from, Layout, offsets, BinOp, UnOp, little, stretched-self, BoolScalar, ScalarDescr, RecordDescr, can_cast, cast_item, binary, unary, value_in, number_as, binary_item, unary_item, pairwise, stretched_items}
 use Rattle.elementwise.proofs.LeafLaws.{cast_number}
 
 -- the byte order of a scalar makes no difference to wrapping

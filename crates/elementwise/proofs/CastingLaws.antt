@@ -1,11 +1,5 @@
 -- Values that are cast to a scalar. Numbers are cast as unsigned ones.
-use Rattle.std.proofs.Common.{◌≡◌, ℕ, Bool, false, List, [], ◌∷◌, map, sym, ◌∙◌}
-use Rattle.std.proofs.lemmas.Simd.{map-map}
-use Rattle.elementwise.specs.Words.{Descr, Order, Width, Scalar, Byte, Int, LeafValue, wrap, item_from}
-use Rattle.elem_descr.specs.declared.descr.Descr.TheVariants.{Scalar as ScalarDescr}
-use Rattle.elementwise.specs.Casts.{cast_value, cast_item}
-use Rattle.elementwise.specs.Results.{pairwise, value_in}
-use Rattle.elementwise.specs.inside.PairPasses.{number_pair}
+use Rattle.elementwise.proofs.Words.{◌≡◌, ℕ, Bool, false, List, [], ◌∷◌, map, sym, ◌∙◌, map-map, Descr, Order, Width, Scalar, Byte, Int, LeafValue, wrap, item_from, ScalarDescr, cast_value, cast_item, pairwise, value_in, number_pair}
 use Rattle.elementwise.proofs.AppliedLaws.{pairwise-same}
 use Rattle.elementwise.proofs.LeafLaws.{byte_alike, int_alike}
 

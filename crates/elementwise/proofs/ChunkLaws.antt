@@ -1,24 +1,5 @@
 -- Parts of runs as layouts of one axis, and the results on them.
-use Rattle.std.proofs.Common.{◌≡◌, ◌+◌, ◌*◌, ◌<◌, ◌≤◌, All, ℕ, pos, ◌+ℤ◌, ◌*ℤ◌, List, [], ◌∷◌, ◌++◌, map, length, take_all, append-nil, get_or, sym, ap, subst, ◌∙◌, arith}
-use Rattle.std.proofs.lemmas.Int.{ints}
-use Rattle.std.proofs.lemmas.List.{length-map, map-append, same_lists, get_or_default}
-use Rattle.std.proofs.lemmas.List.Elements.{All-cons}
-use Rattle.std.specs.List.{flat_map}
-use Rattle.elem_descr.specs.declared.descr.Descr.TheVariants.{Scalar as ScalarDescr}
-use Rattle.std.proofs.Math.IntN.{*ℤ_comm}
-use lib.IntN.{+ℤ_idr, *ℤ-zero}
-use lib.Signed.{◌≤ℤ◌}
-use Rattle.elementwise.specs.Words.{Descr, Scalar, LeafValue, Items, size, encode, decode, encode_item, decode_item, item_from, one-encoded, length-encode, run_front, Layout, Run, BeginsWithin, IsIndex, address_at, natural, position, place, position-add, rank, count, offsets, run_offsets, max_bytes, lie-within, run-ends, run-within, nth-offset, get_or-offsets, length-offsets, length-run_offsets}
-use Rattle.elementwise.specs.Results.{pairwise, value_in}
-use Rattle.elementwise.specs.Casts.{cast_item}
-use Rattle.elementwise.specs.declared.chunks.InRuns.{InRuns}
-use Rattle.elementwise.specs.declared.operands.Broadcast.{Broadcast}
-use Rattle.elementwise.specs.declared.pairing.Pairing.{Pairing}
-use Rattle.elementwise.specs.inside.Combined.{given, run_items, all_given}
-use Rattle.elementwise.specs.inside.Held.{stretched}
-use Rattle.elementwise.specs.inside.LeafCasts.{run_part}
-use Rattle.elementwise.specs.inside.Made.{AreItems}
-use Rattle.elementwise.specs.inside.Works.{left_of, right_of, target_of, gives, CanPair}
+use Rattle.elementwise.proofs.Words.{◌≡◌, ◌+◌, ◌*◌, ◌<◌, ◌≤◌, All, ℕ, pos, ◌+ℤ◌, ◌*ℤ◌, List, [], ◌∷◌, ◌++◌, map, length, take_all, append-nil, get_or, sym, ap, subst, ◌∙◌, arith, ints, length-map, map-append, same_lists, get_or_default, All-cons, flat_map, ScalarDescr, *ℤ_comm, +ℤ_idr, *ℤ-zero, ◌≤ℤ◌, Descr, Scalar, LeafValue, Items, size, encode, decode, encode_item, decode_item, item_from, one-encoded, length-encode, run_front, Layout, Run, BeginsWithin, IsIndex, address_at, natural, position, place, position-add, rank, count, offsets, run_offsets, max_bytes, lie-within, run-ends, run-within, nth-offset, get_or-offsets, length-offsets, length-run_offsets, pairwise, value_in, cast_item, InRuns, Broadcast, Pairing, given, run_items, all_given, stretched, run_part, AreItems, left_of, right_of, target_of, gives, CanPair}
 use Rattle.elementwise.proofs.ColumnLaws.{part-within, run-parts}
 use Rattle.elementwise.proofs.EncodedLaws.{items-append, no-items}
 use Rattle.elementwise.proofs.PairLaws.{length-pairwise, pairwise-append}

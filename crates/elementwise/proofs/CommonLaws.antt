@@ -1,14 +1,5 @@
 -- The smallest type that holds the numbers of two types.
-use Rattle.std.proofs.Common.{◌≡◌, ◌⊎◌, inl, inr, ◌*◌, ◌-◌, ◌≤◌, ◌^◌, ℕ, ℤ, max, nat_le, Bool, true, false, cond, Result, Ok, Err, refl, sym, ap, subst, arith}
-use Rattle.std.specs.Prelude.{not}
-use Rattle.std.specs.Result.{is_ok}
-use Rattle.std.proofs.Math.Nat.{pow-le-pow_right}
-use Rattle.std.proofs.lemmas.Bool.{false≢true, cases_lt, leb-true}
-use Rattle.std.proofs.lemmas.Int.{ints}
-use Rattle.elementwise.specs.Words.{Refusal, NeedsFloats, Two, Four, Eight, Scalar, Byte, Int, Bytes, IsNumber, IsValueOf, FitsBytes, size, width_size, same_answer, check_passed, check_test, is_signed, little}
-use Rattle.elem_descr.specs.declared.scalar.Scalar.TheVariants.{Bool as BoolScalar}
-use Rattle.elementwise.specs.Promotion.{integer_type, mixed_type, common_integers, common_type}
-use Rattle.elementwise.specs.inside.PairPasses.{Holds}
+use Rattle.elementwise.proofs.Words.{◌≡◌, ◌⊎◌, inl, inr, ◌*◌, ◌-◌, ◌≤◌, ◌^◌, ℕ, ℤ, max, nat_le, Bool, true, false, cond, Result, Ok, Err, refl, sym, ap, subst, arith, not, is_ok, pow-le-pow_right, false≢true, cases_lt, leb-true, ints, Refusal, NeedsFloats, Two, Four, Eight, Scalar, Byte, Int, Bytes, IsNumber, IsValueOf, FitsBytes, size, width_size, same_answer, check_passed, check_test, is_signed, little, BoolScalar, integer_type, mixed_type, common_integers, common_type, Holds}
 
 -- ---- integers of n bytes
 

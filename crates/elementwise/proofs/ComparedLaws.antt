@@ -1,17 +1,5 @@
 -- Comparisons and their results.
-use Rattle.std.proofs.Common.{◌≡◌, ℕ, true, Ok, Err, List, [], ◌∷◌, refl, sym, subst, arith}
-use Rattle.std.specs.declared.cmp.Ordering.{Ordering}
-use Rattle.std.specs.Ordering.{nat_cmp, is_lt, is_gt}
-use Rattle.std.specs.Cmp.Lexicographic.{slice_cmp}
-use Rattle.std.proofs.lemmas.Cmp.{same_from_slice_cmp}
-use Rattle.std.proofs.lemmas.Bool.Decides.{nat_tests}
-use Rattle.elementwise.specs.Words.{Refusal, NotForThisKind, Scalar, Byte, Int, Bytes, Descr, IsNumber, little, same_answer, check_passed, check_test, common_shape}
-use Rattle.elem_descr.specs.declared.scalar.Scalar.TheVariants.{Bool as BoolScalar}
-use Rattle.elem_descr.specs.declared.descr.Descr.TheVariants.{Scalar as ScalarDescr}
-use Rattle.elementwise.specs.inside.Works.{AreComparable}
-use Rattle.elementwise.specs.Comparisons.{text_below}
-use Rattle.elementwise.specs.Promotion.{are_comparable, compared_type}
-use Rattle.elementwise.specs.Results.{scalar_of, compared_result}
+use Rattle.elementwise.proofs.Words.{◌≡◌, ℕ, true, Ok, Err, List, [], ◌∷◌, refl, sym, subst, arith, Ordering, nat_cmp, is_lt, is_gt, slice_cmp, same_from_slice_cmp, nat_tests, Refusal, NotForThisKind, Scalar, Byte, Int, Bytes, Descr, IsNumber, little, same_answer, check_passed, check_test, common_shape, BoolScalar, ScalarDescr, AreComparable, text_below, are_comparable, compared_type, scalar_of, compared_result}
 
 -- ---- byte strings
 

@@ -1,14 +1,5 @@
 -- Casts of byte strings that do not get longer, and of numbers.
-use Rattle.std.proofs.Common.{◌≡◌, ◌+◌, ◌-◌, ◌*◌, ◌≤◌, ◌++◌, inl, inr, true, false, ℕ, zero, suc, List, [], ◌∷◌, map, length, take, drop, replicate, sym, subst, ◌∙◌, All, arith, refl, append-nil}
-use Rattle.std.proofs.lemmas.Bool.{false≢true}
-use Rattle.std.proofs.lemmas.List.{take-take}
-use Rattle.std.proofs.lemmas.List.Elements.{All-head, All-rest}
-use Rattle.elementwise.specs.Words.{Descr, Scalar, Byte, Int, Bytes, IsNumber, is_text, LeavesInOrder, padded, without_nuls, item_at, length-item_at, items_at, item_size, multiples, row-multiples}
-use Rattle.elem_descr.specs.declared.descr.Descr.TheVariants.{Scalar as ScalarDescr}
-use Rattle.elem_descr.specs.declared.scalar.Scalar.TheVariants.{Bool as BoolScalar}
-use Rattle.elementwise.specs.Casts.{can_cast_scalar}
-use Rattle.elementwise.specs.inside.LeafCasts.{IsCut, cast_items, leaf_from, source}
-use Rattle.elementwise.specs.inside.Made.{AreItems}
+use Rattle.elementwise.proofs.Words.{◌≡◌, ◌+◌, ◌-◌, ◌*◌, ◌≤◌, ◌++◌, inl, inr, true, false, ℕ, zero, suc, List, [], ◌∷◌, map, length, take, drop, replicate, sym, subst, ◌∙◌, All, arith, refl, append-nil, false≢true, take-take, All-head, All-rest, Descr, Scalar, Byte, Int, Bytes, IsNumber, is_text, LeavesInOrder, padded, without_nuls, item_at, length-item_at, items_at, item_size, multiples, row-multiples, ScalarDescr, BoolScalar, can_cast_scalar, IsCut, cast_items, leaf_from, source, AreItems}
 use Rattle.elementwise.proofs.EncodedLaws.{all-encoded}
 use Rattle.elementwise.proofs.NulLaws.{text_pushed}
 

@@ -1,13 +1,5 @@
 -- Byte strings of the same length: the NULs at their ends decide nothing.
-use Rattle.std.proofs.Common.{◌≡◌, ◌+◌, ◌-◌, ◌<◌, ◌≤◌, ◌==◌, ◌&&◌, ◌||◌, true, false, nat_lt, ℕ, zero, suc, List, [], ◌∷◌, ◌++◌, length, get_or, replicate, reverse, refl, sym, ap, ◌∙◌, arith, length-take, length-append}
-use Rattle.std.specs.Prelude.{nat_eq}
-use Rattle.std.proofs.lemmas.Bool.{lt-ltb}
-use Rattle.std.proofs.lemmas.Bool.Decides.{nat_tests}
-use Rattle.std.proofs.lemmas.List.{get_or-reverse, get_or-take, length-reverse, length-replicate}
-use Rattle.std.proofs.lemmas.List.Sums.{prefix_len_stops, suffix_len-le-length}
-use Rattle.std.proofs.Math.Bool.{and-false}
-use Rattle.elementwise.specs.Words.{without_nuls, without_nuls-back, nuls}
-use Rattle.elementwise.specs.Comparisons.{text_below}
+use Rattle.elementwise.proofs.Words.{◌≡◌, ◌+◌, ◌-◌, ◌<◌, ◌≤◌, ◌==◌, ◌&&◌, ◌||◌, true, false, nat_lt, ℕ, zero, suc, List, [], ◌∷◌, ◌++◌, length, get_or, replicate, reverse, refl, sym, ap, ◌∙◌, arith, length-take, length-append, nat_eq, lt-ltb, nat_tests, get_or-reverse, get_or-take, length-reverse, length-replicate, prefix_len_stops, suffix_len-le-length, and-false, without_nuls, without_nuls-back, nuls, text_below}
 
 -- ---- byte strings that do not end in NUL
 

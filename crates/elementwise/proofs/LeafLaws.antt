@@ -1,11 +1,6 @@
 -- Values of leaves that are cast, and their bytes.
-use Rattle.std.proofs.Common.{◌≡◌, ℕ, Bool, false, List, length, take, refl, sym, ap, ◌∙◌, arith, length-take}
-use Rattle.std.specs.Prelude.{ℤ}
-use Rattle.elementwise.specs.Words.{Order, Little, Width, Scalar, Byte, Int, Bytes, LeafValue, number, text, IsNumber, size, width_size, wrap, number_of, text_of, decode, encode, decode_encode, encode_wrap, length-encode}
-use Rattle.elem_descr.specs.declared.scalar.Scalar.TheVariants.{Bool as BoolScalar}
-use Rattle.elementwise.specs.Casts.{cast_value}
+use Rattle.elementwise.proofs.Words.{◌≡◌, ℕ, Bool, false, List, length, take, refl, sym, ap, ◌∙◌, arith, length-take, ℤ, Order, Little, Width, Scalar, Byte, Int, Bytes, LeafValue, number, text, IsNumber, size, width_size, wrap, number_of, text_of, decode, encode, decode_encode, encode_wrap, length-encode, BoolScalar, cast_value, leaf_cast}
 use Rattle.elementwise.proofs.NulLaws.{text_read_back}
-use Rattle.elementwise.specs.inside.LeafCasts.{leaf_cast}
 
 -- a value as a number
 pub cast_number : (to : Scalar) (value : LeafValue) → IsNumber to → cast_value to value ≡ number (wrap to (number_of value))

@@ -1,9 +1,5 @@
 -- New arrays, as the contracts of calls describe them.
-use Rattle.std.proofs.Common.{◌≡◌, ℕ, Result, Ok, Err, List, map, IfOk, sym, ap, subst, ◌∙◌}
-use Rattle.std.specs.List.{flat_map}
-use Rattle.std.specs.declared.alloc.AllocError.{AllocError}
-use Rattle.elementwise.specs.Words.{Refusal, Descr, LeafValue, item_size, encode_item, item_from, C, count, offsets, multiples, offsets_in, owned_items, Owned}
-use Rattle.elementwise.specs.inside.Made.{IsMade}
+use Rattle.elementwise.proofs.Words.{◌≡◌, ℕ, Result, Ok, Err, List, map, IfOk, sym, ap, subst, ◌∙◌, flat_map, AllocError, Refusal, Descr, LeafValue, item_size, encode_item, item_from, C, count, offsets, multiples, offsets_in, owned_items, Owned, IsMade}
 
 -- an array with a block of items
 pub over-made : (t d : Descr) (shape : List ℕ) (values : List (List LeafValue)) (result : Result Owned AllocError) (block : List ℕ) → t ≡ d →

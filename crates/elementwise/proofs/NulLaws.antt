@@ -1,10 +1,5 @@
 -- Byte strings that are cut, and padded with NULs.
-use Rattle.std.proofs.Common.{◌≡◌, ◌+◌, ◌-◌, ◌<◌, ◌≤◌, inl, inr, ℕ, List, ◌++◌, length, take, min, replicate, sym, ap, ◌∙◌, arith, append_assoc, length-take, length-append}
-use Rattle.std.proofs.lemmas.Bool.{cases_lt}
-use Rattle.std.proofs.Math.Seq.{take-append_seam}
-use Rattle.std.proofs.lemmas.Int.{ints}
-use Rattle.std.proofs.lemmas.List.{append-nil, length-replicate, take_all, take-take, take-append-le, replicate-append-replicate}
-use Rattle.elementwise.specs.Words.{without_nuls, padded, without_nuls-back, without_nuls-more, without_nuls-twice, length-without_nuls, nuls, place, length-item_at, item_in, Side}
+use Rattle.elementwise.proofs.Words.{◌≡◌, ◌+◌, ◌-◌, ◌<◌, ◌≤◌, inl, inr, ℕ, List, ◌++◌, length, take, min, replicate, sym, ap, ◌∙◌, arith, append_assoc, length-take, length-append, cases_lt, take-append_seam, ints, append-nil, length-replicate, take_all, take-take, take-append-le, replicate-append-replicate, without_nuls, padded, without_nuls-back, without_nuls-more, without_nuls-twice, length-without_nuls, nuls, place, length-item_at, item_in, Side}
 
 -- ---- padding
 

@@ -1,9 +1,5 @@
 -- Pairs of items of two lists, and the results on them, one after another.
-use Rattle.std.proofs.Common.{◌≡◌, ◌<◌, ℕ, zero, suc, ℤ, List, [], ◌∷◌, ◌++◌, map, length, get_or, refl, sym, ap, ◌∙◌, arith, append_assoc}
-use Rattle.std.specs.List.{concat, flat_map}
-use Rattle.std.proofs.lemmas.List.{append-nil}
-use Rattle.elementwise.specs.Words.{place, joined, EachWithin, fewer, Run, RunPair, run_offsets, length-run_offsets, run_offsets-more}
-use Rattle.elementwise.specs.Results.{pairwise}
+use Rattle.elementwise.proofs.Words.{◌≡◌, ◌<◌, ℕ, zero, suc, ℤ, List, [], ◌∷◌, ◌++◌, map, length, get_or, refl, sym, ap, ◌∙◌, arith, append_assoc, concat, flat_map, append-nil, place, joined, EachWithin, fewer, Run, RunPair, run_offsets, length-run_offsets, run_offsets-more, pairwise}
 
 -- ---- pairs of two lists
 

@@ -1,19 +1,6 @@
 -- The results on the items of two layouts, item by item.
-use Rattle.std.proofs.Common.{◌≡◌, ◌*◌, ℕ, Result, IfOk, List, [], ◌∷◌, ◌++◌, map, length, drop, refl, sym, ap, ◌∙◌, arith}
-use Rattle.std.specs.List.{concat, flat_map, AllByRecursion as Each}
-use Rattle.std.specs.declared.alloc.AllocError.{AllocError}
-use Rattle.std.proofs.lemmas.List.{take-take}
-use Rattle.std.proofs.lemmas.Simd.{map-map}
-use Rattle.elem_descr.specs.declared.descr.Descr.TheVariants.{Scalar as ScalarDescr}
-use Rattle.elementwise.specs.Words.{Scalar, LeafValue, size, decode, encode, item_from, item_at, count, offsets, multiples, item_size, encode_item, length-encode, one-encoded, length-offsets, Owned, row-multiples, row_offsets}
-use Rattle.elementwise.specs.Results.{pairwise, value_in}
-use Rattle.elementwise.specs.declared.pairing.Pairing.{Pairing}
-use Rattle.elementwise.specs.declared.row_pairs.Operands.{Operands}
-use Rattle.elementwise.specs.inside.Made.{IsMade}
-use Rattle.elementwise.specs.inside.Operands.{all_made, pairs_of, made_of_all}
-use Rattle.elementwise.specs.inside.Works.{left_of, right_of, target_of, gives, pair_made, CanPair}
+use Rattle.elementwise.proofs.Words.{◌≡◌, ◌*◌, ℕ, Result, IfOk, List, [], ◌∷◌, ◌++◌, map, length, drop, refl, sym, ap, ◌∙◌, arith, concat, flat_map, Each, AllocError, take-take, map-map, ScalarDescr, Scalar, LeafValue, size, decode, encode, item_from, item_at, count, offsets, multiples, item_size, encode_item, length-encode, one-encoded, length-offsets, Owned, row-multiples, row_offsets, pairwise, value_in, Pairing, Operands, IsMade, all_made, pairs_of, made_of_all, left_of, right_of, target_of, gives, pair_made, CanPair, value_pair, pair_from}
 use Rattle.elementwise.proofs.WorkLaws.{pair_reads_back}
-use Rattle.elementwise.specs.inside.PairPasses.{value_pair, pair_from}
 use Rattle.elementwise.proofs.MadeLaws.{over-made}
 use Rattle.elementwise.proofs.AppendedLaws.{rows-read}
 use Rattle.elementwise.proofs.TurnedLaws.{length-concat}

@@ -1,15 +1,5 @@
 -- Promoted types and results.
-use Rattle.std.proofs.Common.{◌≡◌, ◌*◌, ℕ, max, nat_le, Bool, true, false, cond, Result, Ok, Err, List, [], ◌∷◌, refl, sym, subst, ◌∙◌, arith}
-use Rattle.std.specs.Prelude.{not, ◌&&◌, ◌||◌, ◌==◌}
-use Rattle.std.proofs.lemmas.Bool.{false≢true, not-true}
-use Rattle.elementwise.specs.Words.{Refusal, NotForThisKind, NeedsFloats, Little, Two, Four, Eight, Scalar, Byte, Int, Bytes, Descr, ◌>>=◌, check, same_answer, check_passed, check_test, IsNumber, size, common_shape, BinOp, UnOp, is_bool, is_text, is_signed, little}
-use Rattle.elem_descr.specs.declared.scalar.Scalar.TheVariants.{Bool as BoolScalar}
-use Rattle.elem_descr.specs.declared.descr.Descr.TheVariants.{Scalar as ScalarDescr}
-use Rattle.elementwise.specs.Casts.{can_cast}
-use Rattle.elementwise.specs.Promotion.{integer_type, mixed_type, common_integers, common_type, is_division, promote, promote_one}
-use Rattle.elementwise.specs.Operations.{serves_bools, serves_one}
-use Rattle.elementwise.specs.Results.{scalar_of, binary_result, unary_result}
-use Rattle.elementwise.specs.inside.PairPasses.{IsNative}
+use Rattle.elementwise.proofs.Words.{◌≡◌, ◌*◌, ℕ, max, nat_le, Bool, true, false, cond, Result, Ok, Err, List, [], ◌∷◌, refl, sym, subst, ◌∙◌, arith, not, ◌&&◌, ◌||◌, ◌==◌, false≢true, not-true, Refusal, NotForThisKind, NeedsFloats, Little, Two, Four, Eight, Scalar, Byte, Int, Bytes, Descr, ◌>>=◌, check, same_answer, check_passed, check_test, IsNumber, size, common_shape, BinOp, UnOp, is_bool, is_text, is_signed, little, BoolScalar, ScalarDescr, can_cast, integer_type, mixed_type, common_integers, common_type, is_division, promote, promote_one, serves_bools, serves_one, scalar_of, binary_result, unary_result, IsNative}
 
 -- ---- native types
 

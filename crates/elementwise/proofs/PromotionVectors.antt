@@ -1,8 +1,5 @@
 -- Test vectors: the types of results, as NumPy 2 promotes them.
-use Rattle.std.specs.Prelude.{◌≡◌, true, false, List, [], ◌∷◌, map, Result, Ok, Err, refl}
-use Rattle.elementwise.specs.Words.{Refusal, NotForThisKind, NeedsFloats, NotSameKind, Little, Big, Two, Four, Eight, Scalar, Byte, Int, Bytes, BinOp, Add, Subtract, Multiply, FloorDivide, Modulo, And, Or, Xor, ShiftLeft, ShiftRight, Divide, Negate, Invert}
-use Rattle.elem_descr.specs.declared.scalar.Scalar.TheVariants.{Bool as BoolScalar}
-use Rattle.elementwise.specs.Promotion.{promote, compared_type, literal_type, promote_one, same_kind}
+use Rattle.elementwise.proofs.Words.{◌≡◌, true, false, List, [], ◌∷◌, map, Result, Ok, Err, refl, Refusal, NotForThisKind, NeedsFloats, NotSameKind, Little, Big, Two, Four, Eight, Scalar, Byte, Int, Bytes, BinOp, Add, Subtract, Multiply, FloorDivide, Modulo, And, Or, Xor, ShiftLeft, ShiftRight, Divide, Negate, Invert, BoolScalar, promote, compared_type, literal_type, promote_one, same_kind}
 
 abbrev b1 : Scalar
 b1 = BoolScalar

@@ -1,12 +1,5 @@
 -- Byte strings that are compared eight bytes at a time.
-use Rattle.std.proofs.Common.{◌≡◌, ◌+◌, ◌-◌, ◌*◌, ◌<◌, ◌≤◌, ◌==◌, ◌&&◌, ◌||◌, inl, inr, nat_lt, true, false, ℕ, zero, suc, List, [], ◌∷◌, ◌++◌, length, get_or, take, drop, replicate, refl, sym, ap, subst, ◌∙◌, arith, length-take, length-drop}
-use Rattle.std.proofs.Math.Seq.{take-add}
-use Rattle.std.proofs.Math.ListN.{get_or-eq_default}
-use Rattle.std.proofs.lemmas.Bool.{cases_lt}
-use Rattle.std.proofs.lemmas.Bool.Decides.{nat_tests}
-use Rattle.std.proofs.lemmas.List.{same_lists, get_or_default, get_or-drop, get_or-take, take-append-drop, take_all}
-use Rattle.elementwise.specs.Words.{little_from, little_number, without_nuls, without_nuls-more}
-use Rattle.elementwise.specs.Comparisons.{text_below}
+use Rattle.elementwise.proofs.Words.{◌≡◌, ◌+◌, ◌-◌, ◌*◌, ◌<◌, ◌≤◌, ◌==◌, ◌&&◌, ◌||◌, inl, inr, nat_lt, true, false, ℕ, zero, suc, List, [], ◌∷◌, ◌++◌, length, get_or, take, drop, replicate, refl, sym, ap, subst, ◌∙◌, arith, length-take, length-drop, take-add, get_or-eq_default, cases_lt, nat_tests, same_lists, get_or_default, get_or-drop, get_or-take, take-append-drop, take_all, little_from, little_number, without_nuls, without_nuls-more, text_below}
 
 -- ---- words
 

@@ -1,9 +1,5 @@
 -- Test vectors: casts of single items, as in NumPy.
-use Rattle.std.specs.Prelude.{◌≡◌, pos, negsuc, true, false, [], ◌∷◌, codes, refl}
-use Rattle.elementwise.specs.Words.{Little, Big, Two, Four, Eight, Byte, Int, Bytes, Descr, no_more, scalar_field, record_field, number, text}
-use Rattle.elem_descr.specs.declared.scalar.Scalar.TheVariants.{Bool as BoolScalar}
-use Rattle.elem_descr.specs.declared.descr.Descr.TheVariants.{Scalar as ScalarDescr, Record as RecordDescr}
-use Rattle.elementwise.specs.Casts.{can_cast, cast_item}
+use Rattle.elementwise.proofs.Words.{◌≡◌, pos, negsuc, true, false, [], ◌∷◌, codes, refl, Little, Big, Two, Four, Eight, Byte, Int, Bytes, Descr, no_more, scalar_field, record_field, number, text, BoolScalar, ScalarDescr, RecordDescr, can_cast, cast_item}
 
 abbrev byte : Descr
 byte = ScalarDescr (Byte true)

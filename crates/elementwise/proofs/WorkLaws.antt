@@ -1,16 +1,5 @@
 -- The results on numbers: the number of their bytes, and that they are read back.
-use Rattle.std.proofs.Common.{◌≡◌, ◌≤◌, true, false, cond, refl, arith}
-use Rattle.std.specs.Prelude.{ℤ, pos, int_lt}
-use Rattle.elementwise.specs.Words.{Width, Two, Four, Eight, Scalar, Byte, Int, Bytes, LeafValue, number, text, IsNumber, size, width_size, number_of, decode, encode, decode_encode, number_size, Comparison, little}
-use Rattle.elem_descr.specs.declared.scalar.Scalar.TheVariants.{Bool as BoolScalar}
-use Rattle.elementwise.specs.Comparisons.{says, compared}
-use Rattle.elementwise.specs.Operations.{exact, exact_one}
-use Rattle.elementwise.specs.inside.PairPasses.{compared_value, truth_value}
-use Rattle.elementwise.specs.inside.Works.{target, meaning, IsWork, target_of, gives, CanPair}
-use Rattle.elementwise.specs.declared.pairing.Work.{Work}
-use Rattle.elementwise.specs.declared.pairing.Pairing.{Pairing}
-use Rattle.elementwise.specs.declared.pairing.Pairing.TheVariants.{Alike, Signs, Texts, With}
-use Rattle.elementwise.specs.declared.pairing.Work.TheVariants.{Combine, Change, Compare, Cast}
+use Rattle.elementwise.proofs.Words.{◌≡◌, ◌≤◌, true, false, cond, refl, arith, ℤ, pos, int_lt, Width, Two, Four, Eight, Scalar, Byte, Int, Bytes, LeafValue, number, text, IsNumber, size, width_size, number_of, decode, encode, decode_encode, number_size, Comparison, little, BoolScalar, says, compared, exact, exact_one, compared_value, truth_value, target, meaning, IsWork, target_of, gives, CanPair, Work, Pairing, Alike, Signs, Texts, With, Combine, Change, Compare, Cast}
 
 pub number-little : (scalar : Scalar) → IsNumber scalar → IsNumber (little scalar)
 number-little BoolScalar is = tt

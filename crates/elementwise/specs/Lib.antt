@@ -7,3 +7,4 @@ pub mod Bits
 pub mod inside
 pub mod ResultLaws
 pub mod Words
+pub mod Clauses

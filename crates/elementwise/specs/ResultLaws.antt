@@ -1,9 +1,5 @@
 -- Laws about the results of operations and casts.
-use Rattle.std.proofs.Common.{◌≡◌, Ok, ap}
-use Rattle.std.specs.Result.{is_ok}
-use Rattle.std.proofs.lemmas.Bool.{false≢true}
-use Rattle.elementwise.specs.Words.{Scalar, Descr, same_answer}
-use Rattle.elem_descr.specs.declared.descr.Descr.TheVariants.{Scalar as ScalarDescr, Record as RecordDescr}
+use Rattle.elementwise.specs.Words.{◌≡◌, Ok, ap, is_ok, false≢true, Scalar, Descr, same_answer, ScalarDescr, RecordDescr}
 use Rattle.elementwise.specs.Results.{scalar_of}
 
 -- an element type with a scalar is that scalar

@@ -1,12 +1,5 @@
 //! Operations on all items of arrays: operands are cast, stretched and combined.
-ghost use Rattle.elementwise.specs.Casts.{can_cast, cast_item};
-ghost use Rattle.elementwise.specs.Results.{binary_item, binary_result, pairwise, stretched_items, unary_item, unary_result};
-ghost use Rattle.elementwise.specs.Words.{AreAlike, C, Gives, can_stretch, encode_item, item_from, item_size, items, offsets, offsets_in, owned_items};
-ghost use Rattle.elementwise.specs.inside.Combined.{AreCastable, IsCombined};
-ghost use Rattle.elementwise.specs.inside.Held.{fitted_layout};
-ghost use Rattle.elementwise.specs.inside.Shrunk.{IsStretched};
-ghost use Rattle.std.specs.List.{flat_map};
-ghost use Rattle.std.specs.Prelude.{IfOk, IfSome, IsTrue, map, true, ◌≡◌, ◌≤◌};
+ghost use Rattle.elementwise.specs.Clauses.{can_cast, cast_item, binary_item, binary_result, pairwise, stretched_items, unary_item, unary_result, AreAlike, C, Gives, can_stretch, encode_item, item_from, item_size, items, offsets, offsets_in, owned_items, AreCastable, IsCombined, fitted_layout, IsStretched, flat_map, IfOk, IfSome, IsTrue, map, true, ◌≡◌, ◌≤◌};
 
 use crate::castable::keeps_items;
 use crate::casts::cast_items;
@@ -90,8 +83,7 @@ pub(crate) enum Held<'a> {
 }
 
 impl<'a> Held<'a> {
-    ghost use Rattle.arrays.specs.ItemLists.{items};
-    ghost use Rattle.elementwise.specs.inside.Held.{held_items, held_descr, held_shape};
+    ghost use Rattle.elementwise.specs.Clauses.{items, held_items, held_descr, held_shape};
 
     /// Items cast to a small element type. If the cast keeps their bytes, they stay in place.
     pub(crate) fn of(alloc: Global, from: Items<'a>, to: &'a Descr) -> Result<Held<'a>, AllocError>

@@ -1,10 +1,5 @@
 //! Comparisons of all items of arrays of byte strings with bytes.
-ghost use Rattle.elem_descr.specs.declared.descr.Descr.TheVariants.{Scalar as ScalarDescr};
-ghost use Rattle.elementwise.specs.Results.{bytes_compared_result, compared_item};
-ghost use Rattle.elementwise.specs.Words.{Bytes, C, Gives, encode_item, item_from, item_size, offsets, offsets_in, owned_items, text, without_nuls};
-ghost use Rattle.elementwise.specs.inside.Combined.{AreComparedWith};
-ghost use Rattle.std.specs.List.{flat_map};
-ghost use Rattle.std.specs.Prelude.{IfOk, [], length, map, ◌∷◌, ◌≡◌, ◌≤◌};
+ghost use Rattle.elementwise.specs.Clauses.{ScalarDescr, bytes_compared_result, compared_item, Bytes, C, Gives, encode_item, item_from, item_size, offsets, offsets_in, owned_items, text, without_nuls, AreComparedWith, flat_map, IfOk, [], length, map, ◌∷◌, ◌≡◌, ◌≤◌};
 
 use crate::byte_string_pairs::without_nuls;
 use crate::comparisons::compare_with_one;

@@ -1,9 +1,5 @@
 //! Divisions of pairs of unsigned numbers of one byte, by a table of reciprocals.
-ghost use Rattle.elementwise.specs.Operations.{binary, exact, floor_quotient};
-ghost use Rattle.elementwise.specs.Words.{Little, Scalar, integer, joined, low_bits};
-ghost use Rattle.elementwise.specs.inside.PairPasses.{division_op, number_pair};
-ghost use Rattle.elementwise.specs.inside.Sides.{made_of, pair_count};
-ghost use Rattle.std.specs.Prelude.{false, get_or, unsigned_abs, ℕ, ◌*◌, ◌++◌, ◌+◌, ◌-◌, ◌/◌, ◌<◌, ◌^◌, ◌≡◌, ◌≤◌};
+ghost use Rattle.elementwise.specs.Clauses.{binary, exact, floor_quotient, Little, Scalar, integer, joined, low_bits, division_op, number_pair, made_of, pair_count, false, get_or, unsigned_abs, ℕ, ◌*◌, ◌++◌, ◌+◌, ◌-◌, ◌/◌, ◌<◌, ◌^◌, ◌≡◌, ◌≤◌};
 
 use crate::operands::note_slice;
 use crate::pairing::Pairs;

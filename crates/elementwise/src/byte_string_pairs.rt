@@ -1,10 +1,5 @@
 //! Comparisons of byte strings, row by row.
-ghost use Rattle.elem_descr.specs.declared.scalar.Scalar.TheVariants.{Bool as BoolScalar};
-ghost use Rattle.elementwise.specs.Comparisons.{compared};
-ghost use Rattle.elementwise.specs.Words.{encode, item_in, joined, padded, text, without_nuls};
-ghost use Rattle.elementwise.specs.inside.PairPasses.{text_pair, truth_value};
-ghost use Rattle.std.proofs.Common.{arith};
-ghost use Rattle.std.specs.Prelude.{IfSome, take, ◌≡◌, ◌≤◌};
+ghost use Rattle.elementwise.specs.Clauses.{BoolScalar, compared, encode, item_in, joined, padded, text, without_nuls, text_pair, truth_value, arith, IfSome, take, ◌≡◌, ◌≤◌};
 
 use crate::byte_strings::{shared_words, without_nul_words, word_at};
 use crate::comparison_kernels::says;

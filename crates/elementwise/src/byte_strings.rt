@@ -1,8 +1,5 @@
 //! Byte strings: without the trailing NULs that all of them have, and by words of eight bytes.
-ghost use Rattle.elem_descr.specs.declared.descr.Descr.TheVariants.{Scalar as ScalarDescr};
-ghost use Rattle.elementwise.specs.Words.{Bytes, big_number, item_at, offsets, without_nuls};
-ghost use Rattle.elementwise.specs.inside.Words.{CanCut, IsWordLen};
-ghost use Rattle.std.specs.Prelude.{All, IfOk, drop, length, take, ◌+◌, ◌≡◌, ◌≤◌};
+ghost use Rattle.elementwise.specs.Clauses.{ScalarDescr, Bytes, big_number, item_at, offsets, without_nuls, CanCut, IsWordLen, All, IfOk, drop, length, take, ◌+◌, ◌≡◌, ◌≤◌};
 
 use crate::byte_string_pairs::without_nuls;
 use crate::operands::without_repeats;

@@ -1,9 +1,5 @@
 //! Which casts exist, and which of them keep the bytes of items.
-ghost use Rattle.elementwise.specs.Casts.{can_cast, can_cast_fields, can_cast_scalar, cast_item};
-ghost use Rattle.elementwise.specs.Words.{AreAlike, item_from, item_size, leaf_at, leaves_of, listed};
-ghost use Rattle.elementwise.specs.inside.FieldCasts.{can_cast_field};
-ghost use Rattle.std.specs.List.{list_all};
-ghost use Rattle.std.specs.Prelude.{IsTrue, length, ℕ, ◌+◌, ◌<◌, ◌↔◌, ◌≡◌, ◌≤◌};
+ghost use Rattle.elementwise.specs.Clauses.{can_cast, can_cast_fields, can_cast_scalar, cast_item, AreAlike, item_from, item_size, leaf_at, leaves_of, listed, can_cast_field, list_all, IsTrue, length, ℕ, ◌+◌, ◌<◌, ◌↔◌, ◌≡◌, ◌≤◌};
 
 use crate::casts::leaf_of;
 use crate::operands::note_slice;

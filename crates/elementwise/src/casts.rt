@@ -1,11 +1,5 @@
 //! Casts: the items of an array as items of another element type.
-ghost use Rattle.elem_descr.specs.declared.descr.Descr.TheVariants.{Scalar as ScalarDescr};
-ghost use Rattle.elementwise.specs.Casts.{can_cast, cast_item};
-ghost use Rattle.elementwise.specs.Words.{C, IsNumber, NoSuchCast, OutOfMemory, TooLarge, count, encode_item, item_from, item_size, leaf_at, leaves_of, max_bytes, offsets, offsets_in, owned_items, place, run_offsets, size};
-ghost use Rattle.elementwise.specs.inside.LeafCasts.{HasSource, IsCut, cast_items, source, with_leaf};
-ghost use Rattle.elementwise.specs.inside.Made.{AreCast, AreItems, IsCast};
-ghost use Rattle.std.specs.List.{flat_map};
-ghost use Rattle.std.specs.Prelude.{IfErr, IfOk, IsTrue, drop, if◌then◌else◌, length, map, nat_le, true, ◌*◌, ◌+◌, ◌<◌, ◌≡◌, ◌≤◌};
+ghost use Rattle.elementwise.specs.Clauses.{ScalarDescr, can_cast, cast_item, C, IsNumber, NoSuchCast, OutOfMemory, TooLarge, count, encode_item, item_from, item_size, leaf_at, leaves_of, max_bytes, offsets, offsets_in, owned_items, place, run_offsets, size, HasSource, IsCut, cast_items, source, with_leaf, AreCast, AreItems, IsCast, flat_map, IfErr, IfOk, IsTrue, drop, if◌then◌else◌, length, map, nat_le, true, ◌*◌, ◌+◌, ◌<◌, ◌≡◌, ◌≤◌};
 
 use crate::apply::Held;
 use crate::castable::can_cast;

@@ -1,10 +1,5 @@
 //! Comparisons of the numbers of operands: which kernel does them.
-ghost use Rattle.elem_descr.specs.declared.scalar.Scalar.TheVariants.{Bool as BoolScalar};
-ghost use Rattle.elementwise.specs.Comparisons.{says};
-ghost use Rattle.elementwise.specs.Words.{item_size};
-ghost use Rattle.elementwise.specs.inside.Operands.{made_of_all, pairs_of};
-ghost use Rattle.elementwise.specs.inside.PairPasses.{number_pair, said, says_number};
-ghost use Rattle.std.specs.Prelude.{if◌then◌else◌, int_lt, pos, ◌++◌, ◌+◌, ◌≡◌, ◌≤◌};
+ghost use Rattle.elementwise.specs.Clauses.{BoolScalar, says, item_size, made_of_all, pairs_of, number_pair, said, says_number, if◌then◌else◌, int_lt, pos, ◌++◌, ◌+◌, ◌≡◌, ◌≤◌};
 
 use crate::bits;
 use crate::kernels::{Kernel, push_made};

@@ -1,11 +1,5 @@
 //! Comparisons of all items of arrays.
-ghost use Rattle.elem_descr.specs.declared.descr.Descr.TheVariants.{Scalar as ScalarDescr};
-ghost use Rattle.elementwise.specs.Results.{compared_item, compared_result, pairwise, stretched_items};
-ghost use Rattle.elementwise.specs.Words.{Bytes, C, Gives, IsNumber, decode, encode_item, item_from, item_size, max_bytes, offsets, offsets_in, owned_items, size};
-ghost use Rattle.elementwise.specs.inside.Combined.{AreCompared, AreComparedWith};
-ghost use Rattle.elementwise.specs.inside.Works.{AreComparable, IsComparing};
-ghost use Rattle.std.specs.List.{flat_map};
-ghost use Rattle.std.specs.Prelude.{IfOk, length, map, ◌≡◌, ◌≤◌};
+ghost use Rattle.elementwise.specs.Clauses.{ScalarDescr, compared_item, compared_result, pairwise, stretched_items, Bytes, C, Gives, IsNumber, decode, encode_item, item_from, item_size, max_bytes, offsets, offsets_in, owned_items, size, AreCompared, AreComparedWith, AreComparable, IsComparing, flat_map, IfOk, length, map, ◌≡◌, ◌≤◌};
 
 use crate::apply::make_cast;
 use crate::byte_string_pairs::ComparingTexts;

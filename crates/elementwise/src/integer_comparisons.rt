@@ -1,10 +1,5 @@
 //! Comparisons of all items of arrays of numbers with one integer.
-ghost use Rattle.elem_descr.specs.declared.descr.Descr.TheVariants.{Scalar as ScalarDescr};
-ghost use Rattle.elementwise.specs.Results.{compared_item, integer_compared_result};
-ghost use Rattle.elementwise.specs.Words.{C, Gives, IsNumber, encode_item, item_from, item_size, little, number, offsets, offsets_in, owned_items, wrap};
-ghost use Rattle.elementwise.specs.inside.Combined.{AreComparedWith};
-ghost use Rattle.std.specs.List.{flat_map};
-ghost use Rattle.std.specs.Prelude.{IfOk, [], map, ◌∷◌, ◌≡◌, ◌≢◌};
+ghost use Rattle.elementwise.specs.Clauses.{ScalarDescr, compared_item, integer_compared_result, C, Gives, IsNumber, encode_item, item_from, item_size, little, number, offsets, offsets_in, owned_items, wrap, AreComparedWith, flat_map, IfOk, [], map, ◌∷◌, ◌≡◌, ◌≢◌};
 
 use crate::comparison_kernels::says;
 use crate::comparisons::compare_with_one;

@@ -1,12 +1,9 @@
 //! The operands of operations, and arrays of the results for their pairs.
-ghost use Rattle.elem_descr.specs.declared.descr.Descr.TheVariants.{Scalar as ScalarDescr};
-ghost use Rattle.elem_descr.specs.declared.scalar.Scalar.TheVariants.{Bool as BoolScalar};
+ghost use Rattle.elementwise.specs.Words.{ScalarDescr, BoolScalar, can_stretch, little, IfOk, IfSome, IsTrue, slice_index_or, ℕ, ◌<◌, ◌≡◌};
 ghost use Rattle.elementwise.specs.Results.{stretched_items};
-ghost use Rattle.elementwise.specs.Words.{can_stretch, little};
 ghost use Rattle.elementwise.specs.inside.Made.{IsMade, IsTurned};
 ghost use Rattle.elementwise.specs.inside.Operands.{AreMatched, IsPaired};
 ghost use Rattle.elementwise.specs.inside.Shrunk.{IsShrunk};
-ghost use Rattle.std.specs.Prelude.{IfOk, IfSome, IsTrue, slice_index_or, ℕ, ◌<◌, ◌≡◌};
 
 use crate::apply::Held;
 use crate::casts::cast_numbers;

@@ -1,9 +1,7 @@
 //! Combines the items of two operands, row by row.
 ghost use Rattle.elementwise.specs.Results.{pairwise};
-ghost use Rattle.elementwise.specs.Words.{BeginsWithin, EachWithin, item_size, joined, offsets, run_offsets};
+ghost use Rattle.elementwise.specs.Words.{BeginsWithin, EachWithin, item_size, joined, offsets, run_offsets, concat, IfSome, List, length, ℕ, ◌*◌, ◌++◌, ◌+◌, ◌≡◌, ◌≤◌};
 ghost use Rattle.elementwise.specs.inside.PairPasses.{pair_from};
-ghost use Rattle.std.specs.List.{concat};
-ghost use Rattle.std.specs.Prelude.{IfSome, List, length, ℕ, ◌*◌, ◌++◌, ◌+◌, ◌≡◌, ◌≤◌};
 
 use crate::pairing::Pairs;
 use arrays::Items;

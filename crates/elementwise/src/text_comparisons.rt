@@ -1,12 +1,6 @@
 //! Comparisons of byte strings, pair by pair. Byte strings of the same length are compared by
 //! words.
-ghost use Rattle.elem_descr.specs.declared.scalar.Order.TheVariants.{Big as BigOrder};
-ghost use Rattle.elementwise.specs.Words.{item_size};
-ghost use Rattle.elementwise.specs.inside.Operands.{made_of_all, pairs_of};
-ghost use Rattle.elementwise.specs.inside.PairPasses.{text_pair, text_said};
-ghost use Rattle.elementwise.specs.inside.Words.{AreInOrder, IsWord, IsWordLen};
-ghost use Rattle.std.proofs.Common.{arith};
-ghost use Rattle.std.specs.Prelude.{length, ℕ, ◌*◌, ◌++◌, ◌+◌, ◌^◌, ◌≡◌, ◌≤◌};
+ghost use Rattle.elementwise.specs.Clauses.{BigOrder, item_size, made_of_all, pairs_of, text_pair, text_said, AreInOrder, IsWord, IsWordLen, arith, length, ℕ, ◌*◌, ◌++◌, ◌+◌, ◌^◌, ◌≡◌, ◌≤◌};
 
 use crate::byte_string_pairs::ComparingTexts;
 use crate::byte_strings::{shared_words, word_at};

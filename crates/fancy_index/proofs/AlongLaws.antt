@@ -1,12 +1,5 @@
 -- Addresses along some axes, with the rest of the index fixed.
-use Rattle.std.proofs.Common.{◌≡◌, ℕ, ◌+◌, ◌<◌, ◌≤◌, ◌≤ℤ◌, List, [], ◌∷◌, ◌++◌, map, length, get_or, take, drop, All, refl, sym, ap, subst, ◌∙◌, arith, length-append, length-drop, length-take-le}
-use Rattle.std.proofs.lemmas.Int.{ints}
-use Rattle.std.proofs.lemmas.List.{get_or-map, length-map}
-use Rattle.std.proofs.lemmas.List.Elements.{All-drop}
-use lib.IntN.{ℤ, pos, ◌+ℤ◌, *ℤ-zero}
-use Rattle.fancy_index.specs.Words.{Layout, max_axes, max_items, count, rank, IsIndex, dot, natural, address_at, address, offsets, pos-natural, get_or-offsets, IsShape, length-index, index_at, rank-lt, ShowsThrough}
-use Rattle.fancy_index.specs.inside.PointLists.{tuple}
-use Rattle.fancy_index.specs.inside.Sums.{strides_along, offset_along, BeginAt}
+use Rattle.fancy_index.proofs.Words.{◌≡◌, ℕ, ◌+◌, ◌<◌, ◌≤◌, ◌≤ℤ◌, List, [], ◌∷◌, ◌++◌, map, length, get_or, take, drop, All, refl, sym, ap, subst, ◌∙◌, arith, length-append, length-drop, length-take-le, ints, get_or-map, length-map, All-drop, ℤ, pos, ◌+ℤ◌, *ℤ-zero, Layout, max_axes, max_items, count, rank, IsIndex, dot, natural, address_at, address, offsets, pos-natural, get_or-offsets, IsShape, length-index, index_at, rank-lt, ShowsThrough, tuple, strides_along, offset_along, BeginAt}
 use Rattle.fancy_index.proofs.CutLaws.{dot-cut, some-behind, few-behind, shape-before}
 use Rattle.fancy_index.proofs.ShiftLaws.{tuple-is, tuple-in}
 

@@ -1,20 +1,5 @@
 -- The ranks of true bools.
-use Rattle.std.proofs.Common.{◌≡◌, ◌⊎◌, inl, inr, ℕ, zero, suc, ◌+◌, ◌*◌, ◌/◌, ◌%◌, ◌^◌, ◌<◌, ◌≤◌, true, false, List, [], ◌∷◌, ◌++◌, map, length, get_or, set, take, drop, refl, sym, ap, subst, ◌∙◌, arith, append_assoc}
-use Rattle.std.specs.List.{flat_map}
-use Rattle.std.specs.Ordering.{int_eq}
-use Rattle.std.proofs.lemmas.Int.{ints}
-use Rattle.std.proofs.lemmas.Simd.{map-map}
-use Rattle.std.proofs.lemmas.List.{get_or-map, length-map, get_or-drop, get_or-take, drop_more, map-append, take-set, take_more_set}
-use lib.IntN.{ℤ, pos, ◌*ℤ◌}
-use Rattle.fancy_index.specs.Words.{item_at, Descr, Byte, Int, Bytes, item_from, truth, Run, run_offsets, length-run_offsets}
-use Rattle.elem_descr.specs.declared.descr.Descr.TheVariants.{Scalar as ScalarDescr, Record as RecordDescr}
-use Rattle.elem_descr.specs.declared.scalar.Scalar.TheVariants.{Bool as BoolScalar}
-use Rattle.fancy_index.specs.declared.index_parts.Kind.TheVariants.{Mask}
-use Rattle.fancy_index.specs.IndexArrays.{kind_of, axes_of_kind}
-use Rattle.fancy_index.specs.Sources.{first_number, number_from}
-use Rattle.fancy_index.specs.declared.masks.Bools.{Bools}
-use Rattle.fancy_index.specs.inside.Bools.{bool_at, bools_in, AreBits, LieInBytes}
-use Rattle.fancy_index.specs.inside.PointLists.{true_ranks}
+use Rattle.fancy_index.proofs.Words.{◌≡◌, ◌⊎◌, inl, inr, ℕ, zero, suc, ◌+◌, ◌*◌, ◌/◌, ◌%◌, ◌^◌, ◌<◌, ◌≤◌, true, false, List, [], ◌∷◌, ◌++◌, map, length, get_or, set, take, drop, refl, sym, ap, subst, ◌∙◌, arith, append_assoc, flat_map, int_eq, ints, map-map, get_or-map, length-map, get_or-drop, get_or-take, drop_more, map-append, take-set, take_more_set, ℤ, pos, ◌*ℤ◌, item_at, Descr, Byte, Int, Bytes, item_from, truth, Run, run_offsets, length-run_offsets, ScalarDescr, RecordDescr, BoolScalar, Mask, kind_of, axes_of_kind, first_number, number_from, Bools, bool_at, bools_in, AreBits, LieInBytes, true_ranks}
 use Rattle.fancy_index.proofs.RunLaws.{lies-there}
 
 -- ---- the bools of a mask

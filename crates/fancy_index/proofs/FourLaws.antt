@@ -1,18 +1,5 @@
 -- The ranks of four true bools at once: the tables, and bools as the bits of a number.
-use Rattle.std.proofs.Common.{◌≡◌, ℕ, zero, suc, ◌+◌, ◌/◌, ◌%◌, ◌^◌, ◌<◌, ◌≤◌, true, false, cond, List, [], ◌∷◌, ◌++◌, map, length, get_or, take, drop, refl, sym, ap, subst, ◌∙◌, arith}
-use Rattle.std.specs.Ordering.{int_eq}
-use Rattle.std.specs.List.{range_with_len}
-use Rattle.std.proofs.lemmas.Simd.{put_chunk_is, Each1-get_or}
-use Rattle.std.proofs.lemmas.List.FromFn.{get_or-range_with_len}
-use Rattle.std.proofs.lemmas.List.{take-map, length-take, length-map, length-take-le, take-append-le, drop_more}
-use Rattle.std.proofs.lemmas.Nat.{pow-add}
-use Rattle.std.proofs.Math.Seq.{take-append-add}
-use Rattle.std.proofs.Math.Nat.{div-one, div-div-eq-div-mul}
-use lib.IntN.{ℤ, pos}
-use lib.Lanes.{put_chunk}
-use Rattle.fancy_index.specs.inside.Bools.{bits}
-use Rattle.fancy_index.specs.inside.PointLists.{true_ranks}
-use Rattle.fancy_index.specs.declared.masks.TheConstants.{PLACES, COUNTS}
+use Rattle.fancy_index.proofs.Words.{◌≡◌, ℕ, zero, suc, ◌+◌, ◌/◌, ◌%◌, ◌^◌, ◌<◌, ◌≤◌, true, false, cond, List, [], ◌∷◌, ◌++◌, map, length, get_or, take, drop, refl, sym, ap, subst, ◌∙◌, arith, int_eq, range_with_len, put_chunk_is, Each1-get_or, get_or-range_with_len, take-map, length-take, length-map, length-take-le, take-append-le, drop_more, pow-add, take-append-add, div-one, div-div-eq-div-mul, ℤ, pos, put_chunk, bits, true_ranks, PLACES, COUNTS}
 use Rattle.fancy_index.proofs.BoolLaws.{true_ranks-append}
 
 -- ---- the tables

@@ -1,10 +1,5 @@
 -- Adjacent items.
-use Rattle.std.proofs.Common.{◌≡◌, ℕ, zero, suc, ◌+◌, ◌*◌, ◌≤◌, List, ◌∷◌, length, get_or, All, sym, ap, ◌∙◌, arith, zero-mul, suc-mul, mul_comm}
-use lib.IntN.{pos}
-use Rattle.std.proofs.lemmas.List.FromFn.{length-map-range_with_len, get_or-map-range_with_len}
-use Rattle.fancy_index.specs.Words.{Run, run_offsets, multiples, length-run_offsets, row-multiples}
-use Rattle.arrays.specs.Packed.{row_offsets as packed}
-use Rattle.arrays.specs.PackedLaws.{row-split as packed-append}
+use Rattle.fancy_index.proofs.Words.{◌≡◌, ℕ, zero, suc, ◌+◌, ◌*◌, ◌≤◌, List, ◌∷◌, length, get_or, All, sym, ap, ◌∙◌, arith, zero-mul, suc-mul, mul_comm, pos, length-map-range_with_len, get_or-map-range_with_len, Run, run_offsets, multiples, length-run_offsets, row-multiples, packed, packed-append}
 
 pub packed-suc : (at width n : ℕ) → packed at width (suc n) ≡ at ∷ packed (at + width) width n
 packed-suc at width n =

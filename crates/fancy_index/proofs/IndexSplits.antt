@@ -1,11 +1,5 @@
 -- Indexes of concatenated axes, and lists over them.
-use Rattle.std.proofs.Common.{◌≡◌, ℕ, List, [], ◌∷◌, ◌++◌, map, length, get_or, take, drop, All, refl, sym, ap, ◌∙◌, arith, append-nil}
-use Rattle.std.specs.List.{flat_map, range_with_len}
-use Rattle.std.proofs.lemmas.List.Elements.{All-map, All-head, All-tail}
-use Rattle.std.proofs.lemmas.List.Folds.{flat_map-map}
-use Rattle.std.proofs.lemmas.Simd.{map-map}
-use Rattle.fancy_index.specs.Words.{Layout, natural, indexes, IsIndex, address, offsets, length-indexes, get_or-indexes, index_at, same_on_indexes, flat_map_same, flat_map-flat_map, map-flat_map}
-use Rattle.fancy_index.specs.inside.Moved.{moved_offset, shifted, shifted_all, moved_all}
+use Rattle.fancy_index.proofs.Words.{◌≡◌, ℕ, List, [], ◌∷◌, ◌++◌, map, length, get_or, take, drop, All, refl, sym, ap, ◌∙◌, arith, append-nil, flat_map, range_with_len, All-map, All-head, All-tail, flat_map-map, map-map, Layout, natural, indexes, IsIndex, address, offsets, length-indexes, get_or-indexes, index_at, same_on_indexes, flat_map_same, flat_map-flat_map, map-flat_map, moved_offset, shifted, shifted_all, moved_all}
 
 -- ---- properties of each index
 

@@ -1,14 +1,6 @@
 -- What each check of an index list must return.
-use Rattle.std.proofs.Common.{◌≡◌, ◌⊎◌, inl, inr, Err, ℕ, ◌<◌, ◌≤◌, nat_le, true, false, ◌&&◌, List, [], ◌∷◌, length, refl, ap, ◌∙◌, arith}
-use Rattle.std.specs.List.{list_all}
-use Rattle.std.proofs.lemmas.Bool.{le-leb}
-use Rattle.std.proofs.lemmas.Bool.Decides.{nat_tests}
-use Rattle.fancy_index.specs.Words.{Refusal, OutOfMemory, NotAnIndexType, TooManyIndices, MaskLengths, ZeroStep, IndexOutOfRange, ◌>>=◌, check, IndexItem, Integer, Slice, Ellipsis, NewAxis, Array, has_step, Items}
-use Rattle.fancy_index.specs.IndexArrays.{IndexArray, is_index, array_axes_taken, cover, are_within}
-use Rattle.fancy_index.specs.Parts.{parts}
-use Rattle.fancy_index.specs.Sources.{index_item_of, index_items}
-use Rattle.fancy_index.specs.Indexed.{parts_view, indexed}
-use Rattle.fancy_index.specs.inside.PartLists.{IsChecked}
+use Rattle.fancy_index.proofs.Words.{◌≡◌, ◌⊎◌, inl, inr, Err, ℕ, ◌<◌, ◌≤◌, nat_le, true, false, ◌&&◌, List, [], ◌∷◌, length, refl, ap, ◌∙◌, arith, list_all, le-leb, nat_tests, Refusal, OutOfMemory, NotAnIndexType, TooManyIndices, MaskLengths, ZeroStep, IndexOutOfRange, ◌>>=◌, check, IndexItem, Integer, Slice, Ellipsis, Array, has_step, Items, IndexArray, is_index, array_axes_taken, cover, are_within, parts, index_item_of, index_items, parts_view, indexed, IsChecked}
+use Rattle.fancy_index.specs.Words.{NewAxis}
 
 pub refused-kind : (shape : List ℕ) (items : List (IndexItem IndexArray)) → list_all is_index items ≡ false → indexed shape items ≡ Err NotAnIndexType
 unfolding indexed

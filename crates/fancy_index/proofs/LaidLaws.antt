@@ -1,18 +1,5 @@
 -- A plan is made of the other axes and of the offset of the first item with each point.
-use Rattle.std.proofs.Common.{◌≡◌, ℕ, zero, suc, ◌+◌, ◌*◌, ◌/◌, ◌<◌, ◌≤◌, ◌≤ℤ◌, Bool, true, false, cond, List, [], ◌++◌, map, length, get_or, take, drop, All, sym, ap, subst, ◌∙◌, arith, append_assoc, mul_assoc, mul_comm, length-take-le}
-use Rattle.std.proofs.lemmas.Int.{ints}
-use Rattle.std.proofs.lemmas.Nat.{div-mul-add}
-use Rattle.std.proofs.lemmas.List.{length-map, drop-drop, take-append-drop}
-use Rattle.std.proofs.lemmas.List.Elements.{All-map}
-use Rattle.std.proofs.Math.Seq.{take-append_seam, drop-append_seam}
-use lib.IntN.{ℤ, pos, ◌+ℤ◌, +ℤ_idr}
-use Rattle.fancy_index.specs.Words.{Layout, max_bytes, count, indexes, rank, IsIndex, dot, address_at, natural, address, offsets, zero_filled, factors_pos, length-index, length-indexes, dot-zeros, IsIndex-first, pos-natural, get_or-offsets, count-append, picked_index, view_through}
-use Rattle.fancy_index.specs.declared.index_parts.IndexPart.{IndexPart}
-use Rattle.fancy_index.specs.Parts.{Part, other_axes, side_by_side, axes_before, points_place, leads}
-use Rattle.fancy_index.specs.Indexed.{all_axes, leads_through}
-use Rattle.fancy_index.specs.Plans.{Planned, IsPlanOf}
-use Rattle.fancy_index.specs.inside.Moved.{moved_offset, moved_all, IsMoved, IsStart, AreStarts}
-use Rattle.fancy_index.specs.inside.PartLists.{shown_part, AreParts, IsReady, IsReadyAt, first_at, first_offset, rest_picks, IsRest}
+use Rattle.fancy_index.proofs.Words.{◌≡◌, ℕ, zero, suc, ◌+◌, ◌*◌, ◌/◌, ◌<◌, ◌≤◌, ◌≤ℤ◌, Bool, true, false, cond, List, [], ◌++◌, map, length, get_or, take, drop, All, sym, ap, subst, ◌∙◌, arith, append_assoc, mul_assoc, mul_comm, length-take-le, ints, div-mul-add, length-map, drop-drop, take-append-drop, All-map, take-append_seam, drop-append_seam, ℤ, pos, ◌+ℤ◌, +ℤ_idr, Layout, max_bytes, count, indexes, rank, IsIndex, dot, address_at, natural, address, offsets, zero_filled, factors_pos, length-index, length-indexes, dot-zeros, IsIndex-first, pos-natural, get_or-offsets, count-append, picked_index, view_through, IndexPart, Part, other_axes, side_by_side, axes_before, points_place, leads, all_axes, leads_through, Planned, IsPlanOf, moved_offset, moved_all, IsMoved, IsStart, AreStarts, shown_part, AreParts, IsReady, IsReadyAt, first_at, first_offset, rest_picks, IsRest}
 use Rattle.fancy_index.proofs.CutLaws.{IsIndex-whole, some-behind, address-both}
 use Rattle.fancy_index.proofs.IndexSplits.{all_indexes, all_offsets, moved-joined, IsIndex-cut}
 use Rattle.fancy_index.proofs.LeadLaws.{leads-in, first-leads, split}

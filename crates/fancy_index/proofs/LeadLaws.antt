@@ -1,17 +1,6 @@
 -- Which indexes of the array the indexes of the result lead to, part by part.
-use Rattle.std.proofs.Common.{◌≡◌, ℕ, ◌+◌, ◌<◌, ◌≤◌, IsTrue, List, [], ◌∷◌, ◌++◌, map, length, get_or, take, drop, All, refl, sym, ap, subst, ◌∙◌, arith, length-append}
-use Rattle.std.proofs.lemmas.Int.{ints}
-use Rattle.std.proofs.lemmas.List.{get_or-map}
-use Rattle.std.proofs.lemmas.List.Elements.{All-head, All-tail, All-cons, All-nil}
-use lib.IntN.{ℤ, pos, ◌+ℤ◌, ◌*ℤ◌, +ℤ_idl, *ℤ-zero}
-use Rattle.fancy_index.specs.Words.{max_axes, count, rank, IsIndex, dot, zero_filled, factors_pos, length-index, IsIndex-append, AxisPick, run_numbers, picked_index, pick_shown, ArePicks, length-run, number_at, first_number, can_stretch, broadcast_index}
-use Rattle.view_ops.specs.declared.picks.AxisPick.TheVariants.{At as AtAxis, Along as AlongAxis, New as NewAxis}
-use Rattle.fancy_index.specs.declared.points.PointList.{PointList}
-use Rattle.fancy_index.specs.declared.index_parts.IndexPart.{IndexPart}
-use Rattle.fancy_index.specs.declared.index_parts.IndexPart.TheVariants.{Axis as AxisPart, Points as PointsPart, Between as BetweenPart}
-use Rattle.fancy_index.specs.Parts.{point_shapes, other_axes, leads}
-use Rattle.fancy_index.specs.inside.PointLists.{tuple, ranks_of}
-use Rattle.fancy_index.specs.inside.PartLists.{shown_part, AreParts, IsReady, HasPointAt, IsReadyAt, point_of, first_at, rest_picks}
+use Rattle.fancy_index.proofs.Words.{◌≡◌, ℕ, ◌+◌, ◌<◌, ◌≤◌, IsTrue, List, [], ◌∷◌, ◌++◌, map, length, get_or, take, drop, All, refl, sym, ap, subst, ◌∙◌, arith, length-append, ints, get_or-map, All-head, All-tail, All-cons, All-nil, ℤ, pos, ◌+ℤ◌, ◌*ℤ◌, +ℤ_idl, *ℤ-zero, max_axes, count, rank, IsIndex, dot, zero_filled, factors_pos, length-index, IsIndex-append, AxisPick, run_numbers, picked_index, pick_shown, ArePicks, length-run, number_at, can_stretch, broadcast_index, AtAxis, AlongAxis, NewAxis, PointList, IndexPart, AxisPart, PointsPart, BetweenPart, point_shapes, other_axes, leads, tuple, ranks_of, shown_part, AreParts, IsReady, HasPointAt, IsReadyAt, point_of, first_at, rest_picks}
+use Rattle.fancy_index.specs.Words.{first_number}
 use Rattle.fancy_index.proofs.CutLaws.{dot-cut}
 use Rattle.fancy_index.proofs.ShiftLaws.{rank-low, point-low, tuple-in}
 

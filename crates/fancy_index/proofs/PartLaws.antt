@@ -1,22 +1,6 @@
 -- The parts of an index list, item by item.
-use Rattle.std.proofs.Common.{◌≡◌, inl, inr, Ok, is_ok, ℕ, ◌+◌, ℤ, ◌<◌, ◌≤◌, Bool, true, false, ◌&&◌, List, [], ◌∷◌, ◌++◌, map, length, get_or, take, refl, sym, ap, subst, ◌∙◌, arith, append_assoc, append-nil}
-use Rattle.std.specs.List.{list_all, flat_map}
-use Rattle.std.proofs.Math.Bool.{and-true, and_assoc}
-use Rattle.std.proofs.lemmas.Bool.{and_parts, false≢true}
-use Rattle.std.proofs.lemmas.List.{map-append}
-use Rattle.std.proofs.lemmas.List.Folds.{list_all-append, list_all_at, list_all_more}
-use Rattle.fancy_index.specs.Words.{Refusal, IndexOutOfRange, check, IndexItem, Integer, AxisPick, is_place, whole, has_step, pick_shown, ArePicks}
-use Rattle.view_ops.specs.declared.picks.AxisPick.TheVariants.{At as AtAxis, Along as AlongAxis, New as NewAxis}
-use Rattle.fancy_index.specs.declared.points.PointList.{PointList}
-use Rattle.fancy_index.specs.declared.index_parts.IndexPart.{IndexPart}
-use Rattle.fancy_index.specs.declared.index_parts.IndexPart.TheVariants.{Axis as AxisPart, Points as PointsPart, Between as BetweenPart}
-use Rattle.fancy_index.specs.IndexArrays.{IndexArray, is_index, array_axes_taken, placed_arrays, left_over, covers, cover, is_within, are_within}
-use Rattle.fancy_index.specs.Parts.{Part, Axis, wholes, parts_of, parts}
-use Rattle.fancy_index.specs.inside.Lists.{IsNext}
-use Rattle.fancy_index.specs.inside.Items.{IsOutside}
-use Rattle.fancy_index.specs.inside.PointLists.{place_of, ranks_of, are_named, IsPart}
+use Rattle.fancy_index.proofs.Words.{◌≡◌, inl, inr, Ok, is_ok, ℕ, ◌+◌, ℤ, ◌<◌, ◌≤◌, Bool, true, false, ◌&&◌, List, [], ◌∷◌, ◌++◌, map, length, get_or, take, refl, sym, ap, subst, ◌∙◌, arith, append_assoc, append-nil, list_all, flat_map, and-true, and_assoc, and_parts, false≢true, map-append, list_all-append, list_all_at, list_all_more, Refusal, IndexOutOfRange, check, IndexItem, Integer, AxisPick, is_place, whole, has_step, pick_shown, ArePicks, AtAxis, AlongAxis, NewAxis, PointList, IndexPart, AxisPart, PointsPart, BetweenPart, IndexArray, is_index, array_axes_taken, placed_arrays, left_over, covers, cover, is_within, are_within, Part, Axis, wholes, parts_of, parts, IsNext, IsOutside, place_of, ranks_of, are_named, IsPart, IsChecked, shown_part, is_named, all_named, AreParts, AddsParts}
 use Rattle.fancy_index.proofs.PointLaws.{integer-part}
-use Rattle.fancy_index.specs.inside.PartLists.{IsChecked, shown_part, is_named, all_named, AreParts, AddsParts}
 
 -- ---- parts of axes
 

@@ -1,12 +1,5 @@
 -- The place of the points, part by part.
-use Rattle.std.proofs.Common.{◌≡◌, ℕ, ◌+◌, ◌≤◌, ◌<◌, Bool, false, Option, Some, None, List, [], ◌∷◌, map, length, drop, get_or, refl, sym, ap, ◌∙◌, arith, length-append}
-use Rattle.std.proofs.lemmas.List.{drop_more}
-use Rattle.fancy_index.specs.declared.result_axes.Stretch.{Stretch}
-use Rattle.fancy_index.specs.declared.result_axes.Stretch.TheVariants.{Before, Among, After}
-use Rattle.fancy_index.specs.declared.index_parts.IndexPart.{IndexPart}
-use Rattle.fancy_index.specs.Parts.{Part, Axis, Points, Between, axes_of_part, other_axes, are_points, axes_before}
-use Rattle.fancy_index.specs.inside.PartLists.{shown_part}
-use Rattle.fancy_index.specs.inside.Places.{gone_on, stand}
+use Rattle.fancy_index.proofs.Words.{◌≡◌, ℕ, ◌+◌, ◌≤◌, ◌<◌, Bool, false, Option, Some, None, List, [], ◌∷◌, map, length, drop, get_or, refl, sym, ap, ◌∙◌, arith, length-append, drop_more, Stretch, Before, Among, After, IndexPart, Part, Axis, Points, Between, axes_of_part, other_axes, are_points, axes_before, shown_part, gone_on, stand}
 
 abbrev stand_if : Option Stretch → List Part → Bool
 stand_if None parts = false

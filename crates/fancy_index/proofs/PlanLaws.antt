@@ -1,13 +1,5 @@
 -- The offsets of a plan, one by one.
-use Rattle.std.proofs.Common.{◌≡◌, ℕ, zero, suc, ◌+◌, ◌-◌, ◌*◌, ◌/◌, ◌%◌, ◌<◌, inl, inr, List, [], ◌∷◌, ◌++◌, length, get_or, All, refl, sym, ap, ◌∙◌, arith, add-mul, suc-mul, zero-mul, length-append}
-use Rattle.std.specs.List.{flat_map}
-use Rattle.std.proofs.lemmas.List.{length-map, get_or-map, get_or_append_left, get_or-append_right}
-use Rattle.std.proofs.lemmas.List.Elements.{All-get_or}
-use Rattle.std.proofs.lemmas.Nat.{div-add-mod'}
-use Rattle.std.proofs.lemmas.Bool.{cases_lt}
-use Rattle.std.proofs.Math.Nat.{mul_assoc, mul-le-mul_right}
-use Rattle.fancy_index.specs.Words.{factors_pos}
-use Rattle.fancy_index.specs.inside.Moved.{moved_offset, shifted, shifted_all, moved_all, IsMoved, IsStart, AreStarts}
+use Rattle.fancy_index.proofs.Words.{◌≡◌, ℕ, zero, suc, ◌+◌, ◌-◌, ◌*◌, ◌/◌, ◌%◌, ◌<◌, inl, inr, List, [], ◌∷◌, ◌++◌, length, get_or, All, refl, sym, ap, ◌∙◌, arith, add-mul, suc-mul, zero-mul, length-append, flat_map, length-map, get_or-map, get_or_append_left, get_or-append_right, All-get_or, div-add-mod', cases_lt, mul_assoc, mul-le-mul_right, factors_pos, moved_offset, shifted, shifted_all, moved_all, IsMoved, IsStart, AreStarts}
 
 -- ---- concatenated lists of the same length
 

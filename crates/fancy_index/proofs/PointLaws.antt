@@ -1,21 +1,5 @@
 -- The points that the code stores are those of the definitions.
-use Rattle.std.proofs.Common.{◌≡◌, inl, inr, Result, Ok, Err, IfOk, ℕ, ◌+◌, ◌<◌, Bool, true, false, cond, ◌&&◌, List, [], ◌∷◌, map, length, get_or, drop, All, refl, sym, ap, subst, ◌∙◌, arith}
-use Rattle.std.specs.List.{list_all}
-use Rattle.std.specs.Ordering.{int_eq}
-use Rattle.std.specs.Str.{bytes_eq}
-use Rattle.std.proofs.lemmas.Bool.{and_parts}
-use Rattle.std.proofs.Math.Nat.{mod-eq_of_lt, mod-lt}
-use Rattle.std.proofs.lemmas.List.{length-map, drop_more}
-use Rattle.std.proofs.lemmas.List.Elements.{All-cons}
-use Rattle.std.proofs.lemmas.Slice.Eq.{bytes_eq-Decides}
-use lib.IntN.{ℤ, pos}
-use Rattle.fancy_index.specs.Words.{Refusal, Gives, count, indexes, rank, get_or-indexes, length-indexes, axis_below, from_front, is_place}
-use Rattle.fancy_index.specs.declared.points.PointList.{PointList}
-use Rattle.fancy_index.specs.declared.index_parts.Kind.{Kind}
-use Rattle.fancy_index.specs.declared.index_parts.Kind.TheVariants.{Integers, Mask}
-use Rattle.fancy_index.specs.IndexArrays.{covers_kind, are_places}
-use Rattle.fancy_index.specs.Parts.{Points, true_indexes, point_at, points_of}
-use Rattle.fancy_index.specs.inside.PointLists.{place_of, named_places, rank_on, HavePlaces, true_ranks, tuple, ranks_of, are_named, IsPart}
+use Rattle.fancy_index.proofs.Words.{◌≡◌, inl, inr, Result, Ok, Err, IfOk, ℕ, ◌+◌, ◌<◌, Bool, true, false, cond, ◌&&◌, List, [], ◌∷◌, map, length, get_or, drop, All, refl, sym, ap, subst, ◌∙◌, arith, list_all, int_eq, bytes_eq, and_parts, mod-eq_of_lt, mod-lt, length-map, drop_more, All-cons, bytes_eq-Decides, ℤ, pos, Refusal, Gives, count, indexes, rank, get_or-indexes, length-indexes, axis_below, from_front, is_place, PointList, Kind, Integers, Mask, covers_kind, are_places, Points, true_indexes, point_at, points_of, place_of, named_places, rank_on, HavePlaces, true_ranks, tuple, ranks_of, are_named, IsPart}
 use Rattle.fancy_index.proofs.WordLaws.{places-named}
 
 pub place-low : (n : ℕ) (at : ℤ) → is_place n at ≡ true → place_of n at < n

@@ -1,12 +1,5 @@
 -- Going through the runs of a layout, and turning ranks into offsets one after the other.
-use Rattle.std.proofs.Common.{◌≡◌, ℕ, ◌+◌, ◌-◌, ◌<◌, ◌≤◌, ◌≤ℤ◌, List, [], ◌∷◌, ◌++◌, map, length, get_or, take, drop, All, refl, sym, ap, subst, ◌∙◌, arith, append-nil, length-drop, length-take-le}
-use Rattle.std.specs.List.{flat_map}
-use Rattle.std.proofs.lemmas.List.{take_all, drop_all, length-map, get_or-append_right, get_or-drop}
-use Rattle.std.proofs.lemmas.List.Elements.{All-head, All-tail}
-use lib.IntN.{pos, ◌+ℤ◌, ◌*ℤ◌}
-use Rattle.fancy_index.specs.Words.{count, offsets, length-offsets, max_bytes, run_offsets, BeginsWithin}
-use Rattle.fancy_index.specs.declared.masks.RunAt.{RunAt}
-use Rattle.fancy_index.specs.inside.Ranks.{IsAtRun}
+use Rattle.fancy_index.proofs.Words.{◌≡◌, ℕ, ◌+◌, ◌-◌, ◌<◌, ◌≤◌, ◌≤ℤ◌, List, [], ◌∷◌, ◌++◌, map, length, get_or, take, drop, All, refl, sym, ap, subst, ◌∙◌, arith, append-nil, length-drop, length-take-le, flat_map, take_all, drop_all, length-map, get_or-append_right, get_or-drop, All-head, All-tail, pos, ◌+ℤ◌, ◌*ℤ◌, count, offsets, length-offsets, max_bytes, run_offsets, BeginsWithin, RunAt, IsAtRun}
 use Rattle.fancy_index.proofs.RunLaws.{first-low, steps-low, steps-high, lies-there}
 use Rattle.fancy_index.proofs.SumLaws.{NextRun, next_run}
 

@@ -1,14 +1,5 @@
 -- What is picked if all points are 0.
-use Rattle.std.proofs.Common.{◌≡◌, Result, Ok, Err, ℕ, ◌<◌, ◌≤◌, nat_le, true, pos, List, [], ◌∷◌, ◌++◌, map, length, get_or, refl, sym, ap, subst, ◌∙◌, arith}
-use Rattle.std.specs.Result.{IfOk, IfErr}
-use Rattle.std.proofs.lemmas.Bool.{le-leb}
-use Rattle.std.proofs.lemmas.List.{get_or-map}
-use Rattle.fancy_index.specs.Words.{Refusal, OutOfMemory, Layout, max_axes, indexes, rank, IsIndex, address, offsets, length-indexes, rank-lt, get_or-indexes, pos-offset, AxisPick, axis_of, picked_shape, picked_index, shape_picked, picked_view, pick_shown, View, IsViewOf, GivesView}
-use Rattle.view_ops.specs.declared.picks.AxisPick.TheVariants.{At as AtAxis}
-use Rattle.fancy_index.specs.declared.index_parts.IndexPart.{IndexPart}
-use Rattle.fancy_index.specs.declared.index_parts.IndexPart.TheVariants.{Axis as AxisPart, Points as PointsPart, Between as BetweenPart}
-use Rattle.fancy_index.specs.Parts.{other_axes}
-use Rattle.fancy_index.specs.inside.PartLists.{shown_part, rest_picks, IsRest}
+use Rattle.fancy_index.proofs.Words.{◌≡◌, Result, Ok, Err, ℕ, ◌<◌, ◌≤◌, nat_le, true, pos, List, [], ◌∷◌, ◌++◌, map, length, get_or, refl, sym, ap, subst, ◌∙◌, arith, IfOk, IfErr, le-leb, get_or-map, Refusal, OutOfMemory, Layout, max_axes, indexes, rank, IsIndex, address, offsets, length-indexes, rank-lt, get_or-indexes, pos-offset, AxisPick, axis_of, picked_shape, picked_index, shape_picked, picked_view, pick_shown, View, IsViewOf, GivesView, AtAxis, IndexPart, AxisPart, PointsPart, BetweenPart, other_axes, shown_part, rest_picks, IsRest}
 use Rattle.fancy_index.proofs.CutLaws.{only-memory}
 
 -- ---- the shape

@@ -1,15 +1,5 @@
 -- Runs that are moved, and adjacent items.
-use Rattle.std.proofs.Common.{◌≡◌, ℕ, ◌+◌, ◌-◌, ◌*◌, ◌<◌, ◌≤◌, ◌≤ℤ◌, List, [], ◌∷◌, map, length, get_or, All, sym, ap, subst, ◌∙◌, arith, mul_comm}
-use Rattle.std.proofs.lemmas.Int.{ints}
-use Rattle.std.proofs.lemmas.List.{length-map, get_or-map, get_or_default, same_lists}
-use Rattle.std.proofs.lemmas.List.Elements.{All-get_or}
-use Rattle.std.proofs.lemmas.Grind.{same_number_lists}
-use lib.IntN.{ℤ, pos, nat_abs, ◌+ℤ◌, ◌*ℤ◌, zero-*ℤ, *ℤ-zero, +ℤ_idr}
-use Rattle.fancy_index.specs.Words.{position, place, EachWithin, not_negative, Run, natural, LieWithin, max_bytes, run_offsets, length-run_offsets, nth-offset, place-at, lie-within}
-use Rattle.fancy_index.specs.inside.Moved.{moved_offset, IsMoved}
-use Rattle.fancy_index.specs.inside.Kept.{IsRunOf}
-use Rattle.arrays.specs.Packed.{row_offsets as packed}
-use Rattle.arrays.specs.PackedLaws.{length-row as length-packed}
+use Rattle.fancy_index.proofs.Words.{◌≡◌, ℕ, ◌+◌, ◌-◌, ◌*◌, ◌<◌, ◌≤◌, ◌≤ℤ◌, List, [], ◌∷◌, map, length, get_or, All, sym, ap, subst, ◌∙◌, arith, mul_comm, ints, length-map, get_or-map, get_or_default, same_lists, All-get_or, same_number_lists, ℤ, pos, nat_abs, ◌+ℤ◌, ◌*ℤ◌, zero-*ℤ, *ℤ-zero, +ℤ_idr, position, place, EachWithin, not_negative, Run, natural, LieWithin, max_bytes, run_offsets, length-run_offsets, nth-offset, place-at, lie-within, moved_offset, IsMoved, IsRunOf, packed, length-packed}
 
 -- ---- a run that is moved
 

@@ -1,11 +1,5 @@
 -- The point at an index of the common shape.
-use Rattle.std.proofs.Common.{◌≡◌, ℕ, ◌<◌, List, [], length, get_or, All, sym, ap, subst, ◌∙◌, arith}
-use Rattle.fancy_index.specs.Words.{count, rank, IsIndex, length-index, rank-lt, get_or-indexes, index_at, broadcast_index, IsIndex-broadcast, few-axes}
-use Rattle.fancy_index.specs.declared.points.PointList.{PointList}
-use Rattle.fancy_index.specs.declared.index_parts.IndexPart.{IndexPart}
-use Rattle.fancy_index.specs.declared.index_parts.IndexPart.TheVariants.{Axis as AxisPart, Points as PointsPart, Between as BetweenPart}
-use Rattle.fancy_index.specs.inside.PointLists.{tuple, ranks_of}
-use Rattle.fancy_index.specs.inside.PartLists.{IsReady, HasPointAt, IsReadyAt}
+use Rattle.fancy_index.proofs.Words.{◌≡◌, ℕ, ◌<◌, List, [], length, get_or, All, sym, ap, subst, ◌∙◌, arith, count, rank, IsIndex, length-index, rank-lt, get_or-indexes, index_at, broadcast_index, IsIndex-broadcast, few-axes, PointList, IndexPart, AxisPart, PointsPart, BetweenPart, tuple, ranks_of, IsReady, HasPointAt, IsReadyAt}
 
 -- ---- points
 

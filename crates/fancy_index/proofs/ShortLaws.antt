@@ -1,10 +1,5 @@
 -- Loops over short rows, place by place.
-use Rattle.std.proofs.Common.{◌≡◌, ℕ, ◌+◌, ◌<◌, ◌≤◌, List, [], ◌++◌, get_or, drop, ap, arith}
-use Rattle.std.proofs.lemmas.List.{drop_more, drop_all}
-use Rattle.fancy_index.specs.Words.{offsets, run_offsets, length-run_offsets}
-use Rattle.fancy_index.specs.inside.Moved.{moved_all}
-use Rattle.fancy_index.specs.inside.Kept.{row_at}
-use Rattle.fancy_index.specs.declared.short_rows.ShortRows.{ShortRows}
+use Rattle.fancy_index.proofs.Words.{◌≡◌, ℕ, ◌+◌, ◌<◌, ◌≤◌, List, [], ◌++◌, get_or, drop, ap, arith, drop_more, drop_all, offsets, run_offsets, length-run_offsets, moved_all, row_at, ShortRows}
 use Rattle.fancy_index.proofs.Passes.{split-places}
 
 -- the offsets of the rows from the `k`-th place on

@@ -1,21 +1,5 @@
 -- The sums over parts are the offsets of the first items.
-use Rattle.std.proofs.Common.{◌≡◌, ℕ, ◌+◌, ◌<◌, ◌≤◌, ◌≤ℤ◌, true, List, [], ◌∷◌, ◌++◌, map, length, get_or, take, drop, All, refl, sym, ap, subst, ◌∙◌, arith, length-append, append_assoc, append-nil}
-use Rattle.std.proofs.Math.Seq.{take-append_seam}
-use Rattle.std.proofs.lemmas.Int.{ints}
-use Rattle.std.proofs.lemmas.Grind.{flat_map-append}
-use Rattle.std.proofs.lemmas.List.{drop_more, take_more, take_all, drop_all, same_lists, get_or-map, length-map, take-append-drop, get_or_default}
-use Rattle.std.proofs.lemmas.List.Elements.{All-head, All-tail, All-take, All-drop}
-use lib.IntN.{ℤ, pos, ◌+ℤ◌}
-use Rattle.fancy_index.specs.Words.{Layout, max_bytes, count, indexes, rank, IsIndex, dot, natural, address, offsets, length-index, length-indexes, index_at, rank-lt, IsIndex-append, pos-natural, first_of, can_stretch, broadcast_index, broadcast_index-itself, IsIndex-broadcast}
-use Rattle.view_ops.specs.declared.picks.AxisPick.TheVariants.{At as AtAxis, Along as AlongAxis, New as NewAxis}
-use Rattle.fancy_index.specs.declared.points.PointList.{PointList}
-use Rattle.fancy_index.specs.declared.index_parts.IndexPart.{IndexPart}
-use Rattle.fancy_index.specs.declared.index_parts.IndexPart.TheVariants.{Axis as AxisPart, Points as PointsPart, Between as BetweenPart}
-use Rattle.fancy_index.specs.inside.Moved.{moved_offset, IsMoved}
-use Rattle.fancy_index.specs.inside.PointLists.{tuple, ranks_of}
-use Rattle.fancy_index.specs.inside.Ranks.{led}
-use Rattle.fancy_index.specs.inside.PartLists.{AreParts, IsReady, HasPointAt, IsReadyAt, point_of, numbers_at, first_at, first_offset, LeadInto}
-use Rattle.fancy_index.specs.inside.Sums.{stretched_ranks, point_number, start_of, starts, strides_along, part_offset, BeginAt, BeginsAt, CanGrow, HaveGrown, partly, AreSums}
+use Rattle.fancy_index.proofs.Words.{◌≡◌, ℕ, ◌+◌, ◌<◌, ◌≤◌, ◌≤ℤ◌, true, List, [], ◌∷◌, ◌++◌, map, length, get_or, take, drop, All, refl, sym, ap, subst, ◌∙◌, arith, length-append, append_assoc, append-nil, take-append_seam, ints, flat_map-append, drop_more, take_more, take_all, drop_all, same_lists, get_or-map, length-map, take-append-drop, get_or_default, All-head, All-tail, All-take, All-drop, ℤ, pos, ◌+ℤ◌, Layout, max_bytes, count, indexes, rank, IsIndex, dot, natural, address, offsets, length-index, length-indexes, index_at, rank-lt, IsIndex-append, pos-natural, first_of, can_stretch, broadcast_index, broadcast_index-itself, IsIndex-broadcast, AtAxis, AlongAxis, NewAxis, PointList, IndexPart, AxisPart, PointsPart, BetweenPart, moved_offset, IsMoved, tuple, ranks_of, led, AreParts, IsReady, HasPointAt, IsReadyAt, point_of, numbers_at, first_at, first_offset, LeadInto, stretched_ranks, point_number, start_of, starts, strides_along, part_offset, BeginAt, BeginsAt, CanGrow, HaveGrown, partly, AreSums}
 use Rattle.fancy_index.proofs.AlongLaws.{along-adds, pos-along, led-along}
 use Rattle.fancy_index.proofs.ShiftLaws.{rank-low, point-low, tuple-is, tuple-in, ready_at, all_ready_at}
 

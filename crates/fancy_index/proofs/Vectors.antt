@@ -1,13 +1,7 @@
 -- Test vectors: index lists with arrays, on items that are numbered in C order. Each selects what NumPy selects, and
 -- the refusals come in the stated order.
-use Rattle.std.specs.Prelude.{◌≡◌, ℕ, pos, negsuc, true, Some, None, List, [], ◌∷◌, Result, Ok, Err, replicate, refl}
-use Rattle.std.specs.List.{range_with_len}
-use Rattle.fancy_index.specs.Words.{Refusal, TooManyAxes, TooLarge, NotAnIndexType, TooManyIndices, MaskLengths, ZeroStep, IndexOutOfRange, IndexShapes, Descr, Byte, Bytes, ◌>>=◌, stepped, IndexItem, Integer, Slice, Ellipsis, NewAxis, Array, count, shape_of, slice_indices, New, view_through, common_of_two}
-use Rattle.elem_descr.specs.declared.descr.Descr.TheVariants.{Scalar as ScalarDescr}
-use Rattle.elem_descr.specs.declared.scalar.Scalar.TheVariants.{Bool as BoolScalar}
-use Rattle.fancy_index.specs.IndexArrays.{IndexArray}
-use Rattle.fancy_index.specs.Parts.{Axis, Points}
-use Rattle.fancy_index.specs.Indexed.{indexed, parts_view}
+use Rattle.fancy_index.proofs.Words.{◌≡◌, ℕ, pos, negsuc, true, Some, None, List, [], ◌∷◌, Result, Ok, Err, replicate, refl, range_with_len, Refusal, TooManyAxes, TooLarge, NotAnIndexType, TooManyIndices, MaskLengths, ZeroStep, IndexOutOfRange, IndexShapes, Descr, Byte, Bytes, ◌>>=◌, stepped, IndexItem, Integer, Slice, Ellipsis, Array, count, shape_of, slice_indices, New, view_through, common_of_two, ScalarDescr, BoolScalar, IndexArray, Axis, Points, indexed, parts_view}
+use Rattle.fancy_index.specs.Words.{NewAxis}
 
 abbrev boolean : Descr
 boolean = ScalarDescr BoolScalar

@@ -1,14 +1,5 @@
 -- Adjacent items, copied as one.
-use Rattle.std.proofs.Common.{◌≡◌, ◌+◌, ◌-◌, ◌*◌, ◌≤◌, ◌++◌, get_or, ℕ, zero, suc, List, [], ◌∷◌, map, length, take, drop, refl, sym, ap, subst, ◌∙◌, All, arith, length-append, suc-mul, zero-mul, add-mul}
-use Rattle.std.proofs.Math.Seq.{take-add}
-use Rattle.std.proofs.lemmas.Grind.{flat_map-append}
-use Rattle.std.proofs.lemmas.List.{length-map, drop-drop}
-use Rattle.std.proofs.lemmas.List.Elements.{All-head, All-rest, All-cons, All-nil}
-use Rattle.fancy_index.specs.Words.{All-back, All-front, item_at, joined_at, row_offsets, offsets, length-offsets, entry-first}
-use Rattle.arrays.specs.PackedLaws.{length-row}
-use Rattle.fancy_index.specs.declared.plan_rows.Shifted.{Shifted}
-use Rattle.fancy_index.specs.inside.Kept.{AreWide}
-use Rattle.fancy_index.specs.inside.Moved.{moved_offset, shifted, shifted_all}
+use Rattle.fancy_index.proofs.Words.{◌≡◌, ◌+◌, ◌-◌, ◌*◌, ◌≤◌, ◌++◌, get_or, ℕ, zero, suc, List, [], ◌∷◌, map, length, take, drop, refl, sym, ap, subst, ◌∙◌, All, arith, length-append, suc-mul, zero-mul, add-mul, take-add, flat_map-append, length-map, drop-drop, All-head, All-rest, All-cons, All-nil, All-back, All-front, item_at, joined_at, row_offsets, offsets, length-offsets, entry-first, length-row, Shifted, AreWide, moved_offset, shifted, shifted_all}
 use Rattle.fancy_index.proofs.GatherLaws.{packed-suc}
 
 module _ (base : ℕ) where

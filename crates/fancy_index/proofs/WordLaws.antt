@@ -1,16 +1,5 @@
 -- The integers of an array, and the places that they name.
-use Rattle.std.proofs.Common.{◌≡◌, ℕ, suc, ◌+◌, ◌-◌, ◌*◌, ◌<◌, ◌≤◌, Bool, true, false, cond, ◌&&◌, Ok, Err, is_ok, IfOk, List, [], ◌∷◌, ◌++◌, map, length, get_or, take, All, refl, sym, ap, subst, ◌∙◌, arith}
-use Rattle.std.specs.List.{list_all, flat_map}
-use Rattle.std.proofs.Math.Nat.{mul-suc}
-use Rattle.std.proofs.lemmas.Bool.{false≢true, and_parts}
-use Rattle.std.proofs.lemmas.List.{same_lists, get_or-map, length-map, map-append, get_or_default}
-use Rattle.std.proofs.lemmas.List.Concat.{get_or-flat_map}
-use Rattle.std.proofs.lemmas.List.Folds.{list_all-append, length-flat_map-take}
-use lib.IntN.{ℤ, pos}
-use Rattle.fancy_index.specs.Words.{IndexOutOfRange, integer, number_in, item_size, item_at, signed_number, LieWithin, max_bytes, max_items, count, offsets, length-offsets, Run, run_offsets, length-run_offsets, is_place, Items}
-use Rattle.fancy_index.specs.declared.positions.Form.{Form}
-use Rattle.fancy_index.specs.inside.Words.{word, words_along, IsNative, LiesIn, ArePlaces}
-use Rattle.fancy_index.specs.inside.PointLists.{place_of, named_places}
+use Rattle.fancy_index.proofs.Words.{◌≡◌, ℕ, suc, ◌+◌, ◌-◌, ◌*◌, ◌<◌, ◌≤◌, Bool, true, false, cond, ◌&&◌, Ok, Err, is_ok, IfOk, List, [], ◌∷◌, ◌++◌, map, length, get_or, take, All, refl, sym, ap, subst, ◌∙◌, arith, list_all, flat_map, mul-suc, false≢true, and_parts, same_lists, get_or-map, length-map, map-append, get_or_default, get_or-flat_map, list_all-append, length-flat_map-take, ℤ, pos, IndexOutOfRange, integer, number_in, item_size, item_at, signed_number, LieWithin, max_bytes, max_items, count, offsets, length-offsets, Run, run_offsets, length-run_offsets, is_place, Items, Form, word, words_along, IsNative, LiesIn, ArePlaces, place_of, named_places}
 use Rattle.fancy_index.proofs.RunLaws.{packed-entry}
 
 -- ---- a run of integers

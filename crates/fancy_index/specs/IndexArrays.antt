@@ -1,10 +1,5 @@
 -- Arrays in an index list: which are masks, how many axes an item takes, and what is refused.
-use Rattle.std.specs.Prelude.{ℕ, ◌-◌, Bool, true, false, ℤ, List, [], ◌∷◌, take, drop, length, sum_by}
-use Rattle.std.specs.Str.{bytes_eq}
-use Rattle.std.specs.List.{list_all}
-use Rattle.fancy_index.specs.Words.{Descr, Byte, Int, IndexItem, Ellipsis, NewAxis, Array, is_place, Placed, is_on_axis}
-use Rattle.elem_descr.specs.declared.descr.Descr.TheVariants.{Scalar as ScalarDescr}
-use Rattle.elem_descr.specs.declared.scalar.Scalar.TheVariants.{Bool as BoolScalar}
+use Rattle.fancy_index.specs.Words.{ℕ, ◌-◌, Bool, true, false, ℤ, List, [], ◌∷◌, take, drop, length, sum_by, bytes_eq, list_all, Descr, Byte, Int, IndexItem, Ellipsis, NewAxis, Array, is_place, Placed, is_on_axis, ScalarDescr, BoolScalar}
 use Rattle.fancy_index.specs.declared.index_parts.Kind.{Kind}
 use Rattle.fancy_index.specs.declared.index_parts.Kind.TheVariants.{Integers, Mask, NoIndex}
 

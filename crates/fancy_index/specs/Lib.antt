@@ -6,3 +6,4 @@ pub mod Plans
 pub mod inside
 pub mod PlanLaws
 pub mod Words
+pub mod Clauses

@@ -1,13 +1,6 @@
 //! The checks of an index list with arrays. Each check covers the whole list before the next one
 //! begins.
-ghost use Rattle.std.specs.Prelude.{◌≡◌, ◌≤◌, length, nat_le, IfOk, IfErr, Err};
-ghost use Rattle.std.specs.List.{list_all};
-ghost use Rattle.fancy_index.specs.Words.{max_axes};
-ghost use Rattle.fancy_index.specs.IndexArrays.{is_index, array_axes_taken, covers, cover};
-ghost use Rattle.fancy_index.specs.Indexed.{indexed};
-ghost use Rattle.fancy_index.specs.Sources.{index_item_of, index_items};
-ghost use Rattle.fancy_index.specs.inside.Lists.{items_left};
-ghost use Rattle.fancy_index.specs.inside.PartLists.{IsChecked};
+ghost use Rattle.fancy_index.specs.Clauses.{◌≡◌, ◌≤◌, length, nat_le, IfOk, IfErr, Err, list_all, max_axes, is_index, array_axes_taken, covers, cover, indexed, index_item_of, index_items, items_left, IsChecked};
 
 use crate::index_array::kind;
 use crate::index_parts::Kind;

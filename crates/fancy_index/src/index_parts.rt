@@ -1,12 +1,5 @@
 //! The parts of an index list.
-ghost use Rattle.fancy_index.specs.IndexArrays.{are_within, covers, is_index, is_within, item_axes, kind_of};
-ghost use Rattle.fancy_index.specs.Parts.{Between, parts, parts_of, wholes};
-ghost use Rattle.fancy_index.specs.Sources.{index_item_of};
-ghost use Rattle.fancy_index.specs.Words.{has_step, is_ellipsis, max_items};
-ghost use Rattle.fancy_index.specs.inside.Items.{IsOutside, IsWithin};
-ghost use Rattle.fancy_index.specs.inside.Lists.{items_left};
-ghost use Rattle.fancy_index.specs.inside.PartLists.{AddsParts, AreParts, IsChecked, all_named, is_named, shown_part};
-ghost use Rattle.std.specs.Prelude.{All, IfErr, IfOk, OnOk, false, length, map, true, ◌∷◌, ◌≡◌, ◌≤◌};
+ghost use Rattle.fancy_index.specs.Clauses.{are_within, covers, is_index, is_within, item_axes, kind_of, Between, parts, parts_of, wholes, index_item_of, has_step, is_ellipsis, max_items, IsOutside, IsWithin, items_left, AddsParts, AreParts, IsChecked, all_named, is_named, shown_part, All, IfErr, IfOk, OnOk, false, length, map, true, ◌∷◌, ◌≡◌, ◌≤◌};
 
 use crate::lists::Left;
 use crate::points::{PointList, Ranks, array_points, integer_point};

@@ -1,11 +1,5 @@
 //! Masks: the ranks at which they are true, and the offsets of these ranks.
-ghost use Rattle.fancy_index.specs.Words.{LieWithin, count, max_bytes, max_items, offsets, run_offsets, truth};
-ghost use Rattle.fancy_index.specs.declared.index_parts.Kind.TheVariants.{Mask};
-ghost use Rattle.fancy_index.specs.inside.Bools.{AreAll, LieInBytes, bits, bools_in, ranks_from};
-ghost use Rattle.fancy_index.specs.inside.Items.{kind_in, numbers_in};
-ghost use Rattle.fancy_index.specs.inside.PointLists.{true_ranks};
-ghost use Rattle.fancy_index.specs.inside.Ranks.{IsAtRun, led};
-ghost use Rattle.std.specs.Prelude.{All, IfOk, IsTrue, List, OnOk, [], drop, get_or, length, pos, replicate, slice_index, take, ℕ, ◌++◌, ◌+◌, ◌<◌, ◌∷◌, ◌≡◌, ◌≤◌, ◌*ℤ◌, ◌/◌, ◌%◌, ◌^◌};
+ghost use Rattle.fancy_index.specs.Clauses.{LieWithin, count, max_bytes, max_items, offsets, run_offsets, truth, Mask, AreAll, LieInBytes, bits, bools_in, ranks_from, kind_in, numbers_in, true_ranks, IsAtRun, led, All, IfOk, IsTrue, List, OnOk, [], drop, get_or, length, pos, replicate, slice_index, take, ℕ, ◌++◌, ◌+◌, ◌<◌, ◌∷◌, ◌≡◌, ◌≤◌, ◌*ℤ◌, ◌/◌, ◌%◌, ◌^◌};
 
 use crate::singles::array_at;
 use arrays::{Items, copy, goes_by_columns};

@@ -1,9 +1,5 @@
 //! The axes other than those of the points, with all points at 0.
-ghost use Rattle.fancy_index.specs.Parts.{other_axes};
-ghost use Rattle.fancy_index.specs.Words.{ArePicks, OutOfMemory, count, max_axes};
-ghost use Rattle.fancy_index.specs.inside.PartLists.{IsRest, rest_of, rest_picks, shown_part};
-ghost use Rattle.std.specs.Prelude.{IfErr, IfOk, OnOk, drop, length, map, take, ◌++◌, ◌<◌, ◌≡◌, ◌≤◌};
-ghost use Rattle.view_ops.specs.declared.picks.AxisPick.TheVariants.{At as AtAxis};
+ghost use Rattle.fancy_index.specs.Clauses.{other_axes, ArePicks, OutOfMemory, count, max_axes, IsRest, rest_of, rest_picks, shown_part, IfErr, IfOk, OnOk, drop, length, map, take, ◌++◌, ◌<◌, ◌≡◌, ◌≤◌, AtAxis};
 
 use crate::index_parts::IndexPart;
 use elem_descr::Refusal;

@@ -1,11 +1,6 @@
 //! The offset of the first item with each point: how far each array moves it from the item with all
 //! points at 0.
-ghost use Rattle.fancy_index.specs.Words.{IsShape, LieWithin, can_stretch, count, first_of, indexes, max_bytes, max_items, offsets, run_offsets};
-ghost use Rattle.fancy_index.specs.inside.Items.{IsWithin};
-ghost use Rattle.fancy_index.specs.inside.Moved.{IsMoved};
-ghost use Rattle.fancy_index.specs.inside.PartLists.{AreParts, IsReady, LeadInto, all_named, first_offset, is_named};
-ghost use Rattle.fancy_index.specs.inside.Sums.{AllCanGrow, AreSoMany, BeginAt, BeginsAt, CanAdd, CanGrow, HaveAdded, HaveAllGrown, HaveGrown, HaveGrownFrom, number_along, number_through, point_number, start_of, starts, stretched_ranks, strides_along};
-ghost use Rattle.std.specs.Prelude.{All, IfOk, OnOk, [], drop, get_or, length, map, take, true, ℕ, ◌++◌, ◌+◌, ◌<◌, ◌∷◌, ◌≡◌, ◌≤◌};
+ghost use Rattle.fancy_index.specs.Clauses.{IsShape, LieWithin, can_stretch, count, first_of, indexes, max_bytes, max_items, offsets, run_offsets, IsWithin, IsMoved, AreParts, IsReady, LeadInto, all_named, first_offset, is_named, AllCanGrow, AreSoMany, BeginAt, BeginsAt, CanAdd, CanGrow, HaveAdded, HaveAllGrown, HaveGrown, HaveGrownFrom, number_along, number_through, point_number, start_of, starts, stretched_ranks, strides_along, All, IfOk, OnOk, [], drop, get_or, length, map, take, true, ℕ, ◌++◌, ◌+◌, ◌<◌, ◌∷◌, ◌≡◌, ◌≤◌};
 
 use crate::index_parts::IndexPart;
 use crate::masks::lead_through;

@@ -1,8 +1,5 @@
 //! Single items at shifted places: gathered, copied and filled, one after the other.
-ghost use Rattle.std.specs.Prelude.{◌≡◌, ◌+◌, ◌*◌, ◌≤◌, ◌++◌, length, map, All};
-ghost use Rattle.fancy_index.specs.Words.{item_at, put, joined_at};
-ghost use Rattle.fancy_index.specs.Plans.{put_each};
-ghost use Rattle.fancy_index.specs.inside.Kept.{first_offsets, put_packed, end_of, FitAt};
+ghost use Rattle.fancy_index.specs.Clauses.{◌≡◌, ◌+◌, ◌*◌, ◌≤◌, ◌++◌, length, map, All, item_at, put, joined_at, put_each, first_offsets, put_packed, end_of, FitAt};
 
 use crate::plan_rows::{Shifted, moved};
 use arrays::{copy_run, packed_run, push_run};

@@ -1,17 +1,5 @@
 -- Numbers that are counted by their lowest 64 bits, and read back from their bytes.
-use Rattle.std.proofs.Common.{◌≡◌, ℕ, zero, suc, ◌+◌, ◌*◌, ◌%◌, ◌^◌, ◌<◌, inl, inr, Bool, true, false, List, [], ◌∷◌, ◌++◌, length, take, map, refl, sym, ap, ◌∙◌, arith, ℤ, pos, ◌+ℤ◌, ◌*ℤ◌, append-nil}
-use Rattle.std.specs.Int.{w64, cast_signed, cast_unsigned, int_wrap}
-use Rattle.std.specs.List.{list_all, range_with_len}
-use Rattle.std.proofs.lemmas.Int.{ints, wrapping_add-bits, int_wrap-add_left, int_wrap-add_right, of_z-to_z}
-use Rattle.std.proofs.lemmas.List.{take_all}
-use Rattle.std.proofs.lemmas.Simd.{map-map}
-use Rattle.std.proofs.lemmas.List.FromFn.{map-range_with_len_more, get_or-map-range_with_len}
-use Rattle.std.proofs.lemmas.List.Sums.{AllPass-from_list_all}
-use Rattle.std.proofs.Math.Nat.{mod-lt}
-use Rattle.literal_items.specs.Words.{Scalar, Byte, number, IsNumber, IsValueOf, FitsBytes, is_value, size, integer, low_bits, decode, encode, low_bits-lt, decode_encode, integer-low_bits, int_wrap-low_bits, decode_item, blocks, items_in, numbers_from, next_number, length-numbers_from, length-encode, fits_eight_bytes, value_decides, joined, length-joined, AreBits}
-use Rattle.elem_descr.specs.declared.scalar.Scalar.TheVariants.{Bool as BoolScalar, Int as IntScalar, Bytes as BytesScalar}
-use Rattle.elem_descr.specs.declared.descr.Descr.TheVariants.{Scalar as ScalarDescr}
-use Rattle.literal_items.specs.inside.Numbered.{numbered}
+use Rattle.literal_items.proofs.Words.{◌≡◌, ℕ, zero, suc, ◌+◌, ◌*◌, ◌%◌, ◌^◌, ◌<◌, inl, inr, Bool, true, false, List, [], ◌∷◌, ◌++◌, length, take, map, refl, sym, ap, ◌∙◌, arith, ℤ, pos, ◌+ℤ◌, ◌*ℤ◌, append-nil, w64, cast_signed, cast_unsigned, int_wrap, list_all, range_with_len, ints, wrapping_add-bits, int_wrap-add_left, int_wrap-add_right, of_z-to_z, take_all, map-map, map-range_with_len_more, get_or-map-range_with_len, AllPass-from_list_all, mod-lt, Scalar, Byte, number, IsNumber, IsValueOf, FitsBytes, is_value, size, integer, low_bits, decode, encode, low_bits-lt, decode_encode, integer-low_bits, int_wrap-low_bits, decode_item, blocks, items_in, numbers_from, next_number, length-numbers_from, length-encode, fits_eight_bytes, value_decides, joined, length-joined, AreBits, BoolScalar, IntScalar, BytesScalar, ScalarDescr, numbered}
 use Rattle.literal_items.proofs.Blocked.{map-blocks-put}
 use Rattle.literal_items.proofs.Scalars.{scalar_read, value_is}
 

@@ -1,16 +1,5 @@
 -- The first and the last number of a range decide whether all are values of a scalar.
-use Rattle.std.proofs.Common.{◌≡◌, ◌-◌, suc, Bool, get_or, ℕ, ◌*◌, ◌<◌, ◌≤◌, ◌⊎◌, true, false, ℤ, pos, negsuc, unsigned_abs, ◌+ℤ◌, ◌*ℤ◌, ◌≤ℤ◌, inl, inr, sym, ap, ◌∙◌, subst, arith}
-use Rattle.std.proofs.Math.IntN.{*ℤ-zero}
-use Rattle.std.proofs.Math.Nat.{mul-le-mul_left}
-use Rattle.std.proofs.lemmas.Bool.{cases_lt, cases_Bool}
-use Rattle.std.proofs.lemmas.Int.{ints}
-use Rattle.std.proofs.lemmas.List.FromFn.{get_or-map-range_with_len}
-use Rattle.std.proofs.lemmas.List.Sums.{list_all-from_AllPass}
-use Rattle.std.specs.List.{list_all}
-use Rattle.std.specs.Prelude.{FitsSigned}
-use Rattle.std.specs.Int.{w128}
-use Rattle.literal_items.specs.Words.{Scalar, Byte, IsNumber, IsValueOf, FitsBytes, is_value, width_size, numbers_from, value_decides, length-numbers_from, number_at}
-use Rattle.elem_descr.specs.declared.scalar.Scalar.TheVariants.{Bool as BoolScalar, Int as IntScalar, Bytes as BytesScalar}
+use Rattle.literal_items.proofs.Words.{◌≡◌, ◌-◌, suc, Bool, get_or, ℕ, ◌*◌, ◌<◌, ◌≤◌, ◌⊎◌, true, false, ℤ, pos, negsuc, unsigned_abs, ◌+ℤ◌, ◌*ℤ◌, ◌≤ℤ◌, inl, inr, sym, ap, ◌∙◌, subst, arith, *ℤ-zero, mul-le-mul_left, cases_lt, cases_Bool, ints, get_or-map-range_with_len, list_all-from_AllPass, list_all, FitsSigned, w128, Scalar, Byte, IsNumber, IsValueOf, FitsBytes, is_value, width_size, numbers_from, value_decides, length-numbers_from, number_at, BoolScalar, IntScalar, BytesScalar}
 use Rattle.literal_items.proofs.Lists.{all_fails}
 
 bytes_between : (signed : Bool) (n : ℕ) (a z b : ℤ) → a ≤ℤ z → z ≤ℤ b → FitsBytes signed n a → FitsBytes signed n b → FitsBytes signed n z

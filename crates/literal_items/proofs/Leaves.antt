@@ -1,9 +1,5 @@
 -- The leaves of an item, each with its value.
-use Rattle.std.proofs.Common.{◌≡◌, ◌+◌, ◌-◌, ◌≤◌, ℕ, suc, List, [], ◌∷◌, ◌++◌, length, take, drop, map, replicate, refl, sym, ap, ◌∙◌, arith, append_assoc, length-append}
-use Rattle.std.specs.List.{AllZip}
-use Rattle.std.proofs.lemmas.List.{length-replicate, take_at, drop_at, take-replicate, drop-replicate}
-use Rattle.literal_items.specs.Words.{Leaf, Scalar, LeafValue, size, encode, decode, AreInOrder, encode_from, AreInOrder-within}
-use Rattle.literal_items.specs.inside.FieldItems.{put, put_leaves}
+use Rattle.literal_items.proofs.Words.{◌≡◌, ◌+◌, ◌-◌, ◌≤◌, ℕ, suc, List, [], ◌∷◌, ◌++◌, length, take, drop, map, replicate, refl, sym, ap, ◌∙◌, arith, append_assoc, length-append, AllZip, length-replicate, take_at, drop_at, take-replicate, drop-replicate, Leaf, Scalar, LeafValue, size, encode, decode, AreInOrder, encode_from, AreInOrder-within, put, put_leaves}
 
 -- the bytes of a value have the size of the scalar, and read back as the value
 pub record ReadsBack (scalar : Scalar) (value : LeafValue) : Type 0 where

@@ -1,3 +1,4 @@
+pub mod Words
 pub mod Nuls
 pub mod Lists
 pub mod Decided

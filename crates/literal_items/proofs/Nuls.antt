@@ -1,9 +1,5 @@
 -- Byte strings padded with NULs.
-use Rattle.std.proofs.Common.{◌≡◌, ◌+◌, ◌-◌, ◌≤◌, ℕ, min, List, ◌++◌, length, take, drop, replicate, sym, ap, ◌∙◌, arith, append_assoc, length-take}
-use Rattle.std.specs.Prelude.{nat_eq}
-use Rattle.std.proofs.lemmas.List.{take_all, take_min, drop-replicate, replicate-append-replicate}
-use Rattle.std.proofs.lemmas.List.Sums.{suffix_len-le-length}
-use Rattle.literal_items.specs.Words.{without_nuls, padded, without_nuls-back, without_nuls-more, nuls}
+use Rattle.literal_items.proofs.Words.{◌≡◌, ◌+◌, ◌-◌, ◌≤◌, ℕ, min, List, ◌++◌, length, take, drop, replicate, sym, ap, ◌∙◌, arith, append_assoc, length-take, nat_eq, take_all, take_min, drop-replicate, replicate-append-replicate, suffix_len-le-length, without_nuls, padded, without_nuls-back, without_nuls-more, nuls}
 
 padded-without_nuls : (n : ℕ) (bytes : List ℕ) → length bytes ≤ n → padded n (without_nuls bytes) ≡ bytes ++ replicate (n - length bytes) 0
 padded-without_nuls n bytes fits =

@@ -1,17 +1,6 @@
 -- The numbers of a range.
-use Rattle.std.proofs.Common.{◌≡◌, ◌≢◌, ◌^◌, Bool, List, [], ◌∷◌, length, map, Result, Ok, Err, ◌↔◌, ℕ, ◌+◌, ◌*◌, ◌%◌, ◌<◌, ◌≤◌, true, false, ℤ, pos, unsigned_abs, ◌+ℤ◌, ◌-ℤ◌, ◌*ℤ◌, ◌≤ℤ◌, inl, inr, lit<, sym, ap, ◌∙◌, arith}
-use Rattle.std.proofs.lemmas.Bool.{cases_lt, cases_Bool}
-use Rattle.std.proofs.lemmas.Bool.Decides.{Decides-int_eq, nat_tests}
-use Rattle.std.specs.Prelude.{FitsSigned, not, nat_le}
-use Rattle.std.specs.List.{list_all}
-use Rattle.literal_items.specs.Words.{Refusal, LiteralOutOfRange, TooLarge, ZeroStep, Scalar, ◌>>=◌, check, is_before, numbers_from, IsGap, LeafValue, number, CountsSteps, steps_end_below, abs_pos, between_back, between_forth, near_before, far_after, counted_within, stepped_first, length-numbers_from, is_value, max_items}
-use Rattle.std.specs.Ordering.{int_eq}
-use Rattle.std.proofs.Math.IntN.{*ℤ_comm}
-use Rattle.std.proofs.Math.Nat.{mod-lt}
-use Rattle.std.proofs.lemmas.Int.{ints, clamps, by_lt_z, to_z-of_z, wrapping_add_onto, wrapping_mul_onto, int_wrap-add_left, int_wrap_fits}
-use Rattle.std.specs.Int.{w128, int_wrap, div_ceil, cast_signed, cast_unsigned}
+use Rattle.literal_items.proofs.Words.{◌≡◌, ◌≢◌, ◌^◌, Bool, List, [], ◌∷◌, length, map, Result, Ok, Err, ◌↔◌, ℕ, ◌+◌, ◌*◌, ◌%◌, ◌<◌, ◌≤◌, true, false, ℤ, pos, unsigned_abs, ◌+ℤ◌, ◌-ℤ◌, ◌*ℤ◌, ◌≤ℤ◌, inl, inr, lit<, sym, ap, ◌∙◌, arith, cases_lt, cases_Bool, Decides-int_eq, nat_tests, FitsSigned, not, nat_le, list_all, Refusal, LiteralOutOfRange, TooLarge, ZeroStep, Scalar, ◌>>=◌, check, is_before, numbers_from, IsGap, LeafValue, number, CountsSteps, steps_end_below, abs_pos, between_back, between_forth, near_before, far_after, counted_within, stepped_first, length-numbers_from, is_value, max_items, int_eq, *ℤ_comm, mod-lt, ints, clamps, by_lt_z, to_z-of_z, wrapping_add_onto, wrapping_mul_onto, int_wrap-add_left, int_wrap_fits, w128, int_wrap, div_ceil, cast_signed, cast_unsigned, range_count, range_numbers, range_length, range_items}
 use Rattle.literal_items.proofs.Decided.{decided_first, decided_second, decided_ok}
-use Rattle.literal_items.specs.RangeItems.{range_count, range_numbers, range_length, range_items}
 
 -- ---- the count is a quotient, rounded up
 

@@ -1,15 +1,6 @@
 -- Literals and ranges as items, worked out by hand and by NumPy.
-use Rattle.std.proofs.Common.{◌≡◌, ◌≢◌, ◌<◌, ℕ, true, false, pos, negsuc, ◌-ℤ◌, [], ◌∷◌, length, map, Ok, Err, codes, refl, sym, ap, arith}
-use Rattle.std.specs.Int.{int_max}
-use Rattle.std.specs.List.{list_all}
-use Rattle.std.proofs.lemmas.Int.{ints}
-use Rattle.literal_items.specs.Words.{stepped, IsGap, LiteralOutOfRange, NoSuchCast, TooLarge, ZeroStep, Little, Big, Four, Eight, Byte, Int, Descr, no_more, scalar_field, record_field, encode_item, number, text, is_value, Integer, Boolean, Bytes, no_values, scalar_value, record_value}
+use Rattle.literal_items.proofs.Words.{◌≡◌, ◌≢◌, ◌<◌, ℕ, true, false, pos, negsuc, ◌-ℤ◌, [], ◌∷◌, length, map, Ok, Err, codes, refl, sym, ap, arith, int_max, list_all, ints, stepped, IsGap, LiteralOutOfRange, NoSuchCast, TooLarge, ZeroStep, Little, Big, Four, Eight, Byte, Int, Descr, no_more, scalar_field, record_field, encode_item, number, text, is_value, Integer, Boolean, Bytes, no_values, scalar_value, record_value, BoolScalar, BytesScalar, ScalarDescr, RecordDescr, ScalarOf, RecordOf, values_of, item_value, item_values, range_length, range_items}
 use Rattle.literal_items.proofs.Stepping.{numbers-divided, count-divided, range_length-large, range_length-ok, range_items-refused, range_items-ok}
-use Rattle.elem_descr.specs.declared.scalar.Scalar.TheVariants.{Bool as BoolScalar, Bytes as BytesScalar}
-use Rattle.elem_descr.specs.declared.descr.Descr.TheVariants.{Scalar as ScalarDescr, Record as RecordDescr}
-use Rattle.script_lang.specs.declared.literal.Literal.TheVariants.{Scalar as ScalarOf, Record as RecordOf}
-use Rattle.literal_items.specs.LiteralItems.{values_of, item_value, item_values}
-use Rattle.literal_items.specs.RangeItems.{range_length, range_items}
 
 -- T{<b:x:3x<i:y:}
 abbrev pair : Descr

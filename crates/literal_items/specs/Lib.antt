@@ -2,3 +2,4 @@ pub mod LiteralItems
 pub mod RangeItems
 pub mod inside
 pub mod Words
+pub mod Clauses

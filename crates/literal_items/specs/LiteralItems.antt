@@ -1,10 +1,5 @@
 -- Literals as items of a descriptor.
-use Rattle.std.specs.Prelude.{ℕ, ℤ, pos, Bool, true, false, not, ◌&&◌, List, [], ◌∷◌, ◌++◌, map, take, Result, Ok}
-use Rattle.std.specs.List.{list_all}
-use Rattle.literal_items.specs.Words.{Refusal, LiteralOutOfRange, NoSuchCast, Scalar, Descr, ◌>>=◌, check, LeafValue, number, text, is_value, wrap, without_nuls, Fields, no_more, scalar_field, record_field, leaves_of, ScalarLiteral, Integer, Boolean, Bytes, Literal, Values, no_values, scalar_value, record_value}
-use Rattle.elem_descr.specs.declared.scalar.Scalar.TheVariants.{Bool as BoolScalar, Bytes as BytesScalar}
-use Rattle.elem_descr.specs.declared.descr.Descr.TheVariants.{Scalar as ScalarDescr, Record as RecordDescr}
-use Rattle.script_lang.specs.declared.literal.Literal.TheVariants.{Scalar as ScalarOf, Record as RecordOf}
+use Rattle.literal_items.specs.Words.{ℕ, ℤ, pos, Bool, true, false, not, ◌&&◌, List, [], ◌∷◌, ◌++◌, map, take, Result, Ok, list_all, Refusal, LiteralOutOfRange, NoSuchCast, Scalar, Descr, ◌>>=◌, check, LeafValue, number, text, is_value, wrap, without_nuls, Fields, no_more, scalar_field, record_field, leaves_of, ScalarLiteral, Integer, Boolean, Bytes, Literal, Values, no_values, scalar_value, record_value, BoolScalar, BytesScalar, ScalarDescr, RecordDescr, ScalarOf, RecordOf}
 
 -- One value
 

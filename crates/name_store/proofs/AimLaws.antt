@@ -1,25 +1,6 @@
 -- What a valid write to a name's array means for the buffer with its number.
-use Rattle.std.proofs.Common.{◌≡◌, ◌+◌, ◌*◌, ◌<◌, ◌≤◌, ℕ, List, [], ◌∷◌, length, map, refl, sym, ap, subst, ◌∙◌, Option, Some, None, Ok, All, false, arith}
-use Rattle.std.specs.List.{AllByRecursion}
-use Rattle.std.proofs.lemmas.List.{length-set}
-use Rattle.std.proofs.lemmas.List.Elements.{All-from_recursion}
-use Rattle.name_store.specs.Words.{Descr, item_size, decode_item, LeafValue, Layout, offsets, Fits, IsNested, offsets_of, items_at}
-use Rattle.name_store.specs.States.{State, Array}
-use Rattle.name_store.specs.Arrays.{find_array, descr_of, written}
-use Rattle.name_store.specs.Calls.{AnswersWrite}
-use Rattle.name_store.specs.Invariants.{Holds}
-use Rattle.name_store.specs.Parts.{start_at}
-use Rattle.name_store.specs.Targets.{IsAim, Supplies, MayWrite, LeadsTo, target_offsets}
-use Rattle.name_store.specs.View.{named_array, present}
-use Rattle.name_store.specs.declared.bound.Entry.{Entry}
-use Rattle.name_store.specs.declared.table.Home.{Home}
-use Rattle.name_store.specs.declared.slot.Slot.{Slot}
-use Rattle.name_store.specs.declared.write.Source.{Source}
-use Rattle.name_store.specs.declared.write.Source.TheVariants.{One, Block, Buffer}
-use Rattle.name_store.specs.declared.write.Target.{Target}
-use Rattle.name_store.specs.declared.write.Target.TheVariants.{View, Plan}
-use Rattle.name_store.specs.inside.Homes.{IsHome}
-use Rattle.name_store.specs.inside.Puts.{AreItems, CanPut, CanWrite, MayPut, Puts, parts_of, with_source, without_slot}
+use Rattle.name_store.proofs.Words.{◌≡◌, ◌+◌, ◌*◌, ◌<◌, ◌≤◌, ℕ, List, [], ◌∷◌, length, map, refl, sym, ap, subst, ◌∙◌, Option, Some, None, Ok, All, false, arith, AllByRecursion, length-set, All-from_recursion, Descr, item_size, decode_item, LeafValue, Layout, offsets, Fits, IsNested, offsets_of, items_at, State, Array, find_array, descr_of, written, AnswersWrite, Holds, start_at, IsAim, Supplies, MayWrite, LeadsTo, target_offsets, named_array, present, Entry, Home, Slot, Source, One, Block, Target, View, Plan, IsHome, AreItems, CanPut, CanWrite, MayPut, Puts, parts_of, with_source, without_slot}
+use Rattle.name_store.specs.declared.write.Source.TheVariants.{Buffer}
 use Rattle.name_store.proofs.BlockLaws.{item-inside}
 use Rattle.name_store.proofs.PartLaws.{part-within}
 use Rattle.name_store.proofs.RewriteLaws.{lender-is, parts-whole}

@@ -1,29 +1,7 @@
 -- Binding a name, and keeping the change.
-use Rattle.std.proofs.Common.{◌≡◌, ◌+◌, ◌≤◌, ℕ, Bool, true, false, List, [], ◌∷◌, ◌++◌, length, map, min, refl, sym, ap, subst, ◌∙◌, cond, Option, Some, None, is_some, IfSome, Result, Ok, Err, IsOk, IfOk, OnOk, OnErr, nat_eq, arith, inl, inr}
-use Rattle.std.specs.List.{AllByRecursion, list_any}
-use Rattle.std.specs.Map.{lookup}
-use Rattle.std.specs.Option.{option_map}
-use Rattle.std.specs.Cmp.{nat_cmp_total}
-use Rattle.std.specs.FinMap.{get, insert, retain_keys, get-insert, get-retain_keys, same_map, nat_cmp-IsAntisymmetric}
-use Rattle.std.proofs.lemmas.Bool.{eqb-true}
-use Rattle.std.proofs.lemmas.List.Elements.{All-from_recursion, recursion_from_All}
-use Rattle.name_store.specs.Words.{item_size, buffer, keep_last, insert_entry, Layout, count, Owned}
-use Rattle.circular_buffer.specs.Buffer.{Buffer as Ring}
-use Rattle.name_store.specs.Arrays.{find_array, put_array, without, is_in_use, has_room_for, keeping}
-use Rattle.name_store.specs.Calls.{Binds, IsUnused, own_array, own_buffer}
-use Rattle.name_store.specs.Invariants.{Holds, IsSound, LiesAt, IsUndoable, one_at, users_of, users_at, users_in, found_at, pins, all_pins}
-use Rattle.name_store.specs.Kept.{Names, names_before, past_buffers, past_buffer, kept_states}
-use Rattle.name_store.specs.States.{Array, Buffer, State}
-use Rattle.name_store.specs.View.{array_at, named_array, buffer_in, slot_at, present, state_of}
-use Rattle.name_store.specs.Views.{IsViewIn, MayBind}
-use Rattle.name_store.specs.declared.bound.Bound.{Bound}
-use Rattle.name_store.specs.declared.bound.Bound.TheVariants.{Fresh, View}
-use Rattle.name_store.specs.declared.change.Change.{Change}
-use Rattle.name_store.specs.declared.change.Change.TheVariants.{Bind}
-use Rattle.name_store.specs.declared.bound.Entry.{Entry}
-use Rattle.name_store.specs.declared.slot.Slot.{Slot}
-use Rattle.name_store.specs.inside.Held.{stand, Adds}
-use Rattle.name_store.specs.inside.Rebinds.{IsOf, Lodges, Rebinds}
+use Rattle.name_store.proofs.Words.{◌≡◌, ◌+◌, ◌≤◌, ℕ, Bool, true, false, List, [], ◌∷◌, ◌++◌, length, map, min, refl, sym, ap, subst, ◌∙◌, cond, Option, Some, None, is_some, IfSome, Result, Ok, Err, IsOk, IfOk, OnOk, OnErr, nat_eq, arith, inl, inr, AllByRecursion, list_any, lookup, option_map, nat_cmp_total, get, retain_keys, get-insert, get-retain_keys, same_map, nat_cmp-IsAntisymmetric, eqb-true, All-from_recursion, recursion_from_All, item_size, buffer, keep_last, insert_entry, Layout, count, Owned, Ring, find_array, put_array, without, is_in_use, has_room_for, keeping, Binds, IsUnused, own_array, own_buffer, Holds, IsSound, LiesAt, IsUndoable, one_at, users_of, users_at, users_in, found_at, pins, all_pins, Names, names_before, past_buffers, past_buffer, kept_states, Array, Buffer, State, array_at, named_array, buffer_in, slot_at, present, state_of, IsViewIn, MayBind, Bound, Fresh, Change, Bind, Entry, Slot, stand, Adds, IsOf, Lodges, Rebinds}
+use Rattle.std.specs.FinMap.{insert}
+use Rattle.name_store.specs.declared.bound.Bound.TheVariants.{View}
 use Rattle.name_store.proofs.FreshLaws.{fresh-lies, fresh-array_at, fresh-buffer}
 use Rattle.name_store.proofs.HeldLaws.{one-same, one-apart}
 use Rattle.name_store.proofs.KeepLaws.{keep-sound, keep-state}

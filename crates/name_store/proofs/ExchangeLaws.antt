@@ -1,14 +1,5 @@
 -- A block that replaces another has the bytes that a copy of all its items would have written.
-use Rattle.std.proofs.Common.{◌≡◌, ◌+◌, ◌*◌, ◌≤◌, ◌<◌, ◌==◌, ℕ, zero, suc, true, List, [], ◌∷◌, length, map, replicate, refl, sym, ap, subst, ◌∙◌, All, arith, inl, inr}
-use Rattle.std.specs.List.{AllByRecursion, range_with_len}
-use Rattle.std.proofs.lemmas.Bool.{cases_lt, eqb-true, and_parts}
-use Rattle.std.proofs.lemmas.List.{get_or_past}
-use Rattle.std.proofs.lemmas.List.Elements.{recursion_from_All}
-use Rattle.std.proofs.Math.Nat.{mul-suc, mul_comm}
-use Rattle.name_store.specs.Words.{item_at, joined, length-joined, item_of_joined, item_size, is_c_contiguous, length-offsets, offsets, multiples, Fits, Owned, items_at, with_items}
-use Rattle.name_store.specs.declared.change.OldItems.{OldItems}
-use Rattle.name_store.specs.inside.Exchanges.{AreAll, IsPacked}
-use Rattle.name_store.specs.inside.OldItems.{AreOld}
+use Rattle.name_store.proofs.Words.{◌≡◌, ◌+◌, ◌*◌, ◌≤◌, ◌<◌, ◌==◌, ℕ, zero, suc, true, List, [], ◌∷◌, length, map, replicate, refl, sym, ap, subst, ◌∙◌, All, arith, inl, inr, AllByRecursion, range_with_len, cases_lt, eqb-true, and_parts, get_or_past, recursion_from_All, mul-suc, mul_comm, item_at, joined, length-joined, item_of_joined, item_size, is_c_contiguous, length-offsets, offsets, multiples, Fits, Owned, items_at, with_items, OldItems, AreAll, IsPacked, AreOld}
 use Rattle.name_store.proofs.LaidLaws.{offsets-within}
 use Rattle.name_store.proofs.RestoreLaws.{Within, put-back}
 

@@ -1,12 +1,5 @@
 -- New arrays, which fill a block of their own.
-use Rattle.std.proofs.Common.{◌≡◌, ◌+◌, ◌*◌, map, ℕ, true, List, [], ◌∷◌, refl, sym, ap, subst, ◌∙◌, arith}
-use Rattle.name_store.specs.Words.{item_size, count, offsets, Fits, offsets_of, Owned, items_in, places_of}
-use Rattle.name_store.specs.Calls.{own_array, own_buffer}
-use Rattle.name_store.specs.Invariants.{LiesIn}
-use Rattle.name_store.specs.View.{array_at, buffer_in}
-use Rattle.name_store.specs.Views.{IsLaidOut}
-use Rattle.name_store.specs.declared.bound.Entry.{Entry}
-use Rattle.name_store.specs.declared.slot.Slot.{Slot}
+use Rattle.name_store.proofs.Words.{◌≡◌, ◌+◌, ◌*◌, map, ℕ, true, List, [], ◌∷◌, refl, sym, ap, subst, ◌∙◌, arith, item_size, count, offsets, Fits, offsets_of, Owned, items_in, places_of, own_array, own_buffer, LiesIn, array_at, buffer_in, IsLaidOut, Entry, Slot}
 use Rattle.name_store.proofs.LaidLaws.{laid-same}
 
 from_start : (item : ℕ) (places : List ℕ) → map (λ place. item * place) places ≡ offsets_of item 0 places

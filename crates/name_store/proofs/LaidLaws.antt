@@ -1,13 +1,5 @@
 -- The places of the items of a layout of an array.
-use Rattle.std.proofs.Common.{◌≡◌, ◌+◌, ◌*◌, ◌<◌, ◌≤◌, ◌⊎◌, inl, inr, map, ℕ, zero, suc, ℤ, pos, negsuc, ◌+ℤ◌, ◌≤ℤ◌, List, [], ◌∷◌, ◌++◌, Bool, subst, arith}
-use Rattle.std.specs.List.{AllByRecursion, flat_map, range_with_len}
-use Rattle.std.proofs.lemmas.Bool.{cases_lt}
-use Rattle.std.proofs.lemmas.Int.{ints}
-use Rattle.std.proofs.Math.Nat.{mul_comm, mul-le-mul_left}
-use Rattle.name_store.specs.Words.{Descr, item_size, Layout, indexes, IsIndex, address, natural, offsets, Fits, offsets_of}
-use Rattle.name_store.specs.States.{Array}
-use Rattle.name_store.specs.Parts.{descr_at, start_at}
-use Rattle.name_store.specs.Views.{IsLaidOut}
+use Rattle.name_store.proofs.Words.{◌≡◌, ◌+◌, ◌*◌, ◌<◌, ◌≤◌, ◌⊎◌, inl, inr, map, ℕ, zero, suc, ℤ, pos, negsuc, ◌+ℤ◌, ◌≤ℤ◌, List, [], ◌∷◌, ◌++◌, Bool, subst, arith, AllByRecursion, flat_map, range_with_len, cases_lt, ints, mul_comm, mul-le-mul_left, Descr, item_size, Layout, indexes, IsIndex, address, natural, offsets, Fits, offsets_of, Array, descr_at, start_at, IsLaidOut}
 
 -- a property of all indexes of a shape
 both-parts : {X : Type 0} (P : X → Type 0) (xs ys : List X) → AllByRecursion P xs → AllByRecursion P ys → AllByRecursion P (xs ++ ys)

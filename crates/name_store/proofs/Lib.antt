@@ -1,3 +1,4 @@
+pub mod Words
 pub mod BlockLaws
 pub mod FieldSplits
 pub mod PartLaws

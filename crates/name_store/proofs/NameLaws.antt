@@ -1,18 +1,5 @@
 -- Looking up, putting and removing names in a table.
-use Rattle.std.proofs.Common.{◌≡◌, ◌+◌, ℕ, suc, Bool, true, false, List, [], ◌∷◌, take, drop, insert, map, refl, sym, ap, subst, ◌∙◌, cond, ◌||◌, not, Some, None, nat_eq, arith, ◌⊎◌, inl, inr}
-use Rattle.std.specs.List.{AllByRecursion, list_any, position_or_len}
-use Rattle.std.proofs.lemmas.List.{take-append-drop}
-use Rattle.std.proofs.lemmas.List.Folds.{list_any-append}
-use Rattle.std.specs.Option.{option_map}
-use Rattle.std.specs.Str.{bytes_eq}
-use Rattle.std.specs.Cmp.{nat_eq_equiv}
-use Rattle.std.proofs.lemmas.Slice.Eq.{bytes_eq-Decides}
-use Rattle.name_store.specs.Words.{insert_entry, shift_remove_entry}
-use Rattle.std.specs.Map.{lookup, keys_of}
-use Rattle.name_store.specs.States.{Array}
-use Rattle.name_store.specs.Arrays.{find_array, put_array, without, is_in_use}
-use Rattle.name_store.specs.View.{array_at, named_array}
-use Rattle.name_store.specs.declared.bound.Entry.{Entry}
+use Rattle.name_store.proofs.Words.{◌≡◌, ◌+◌, ℕ, suc, Bool, true, false, List, [], ◌∷◌, take, drop, insert, map, refl, sym, ap, subst, ◌∙◌, cond, ◌||◌, not, Some, None, nat_eq, arith, ◌⊎◌, inl, inr, AllByRecursion, list_any, position_or_len, take-append-drop, list_any-append, option_map, bytes_eq, nat_eq_equiv, bytes_eq-Decides, insert_entry, shift_remove_entry, lookup, keys_of, Array, find_array, put_array, without, is_in_use, array_at, named_array, Entry}
 
 same : (xs ys : List ℕ) → bytes_eq xs ys ≡ true → xs ≡ ys
 same xs ys e = (bytes_eq-Decides xs ys).0 e

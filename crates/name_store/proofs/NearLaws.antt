@@ -1,10 +1,5 @@
 -- Targets with their places in another order.
-use Rattle.std.proofs.Common.{◌+◌, ◌≤◌, length, refl}
-use Rattle.std.specs.List.Sorted.{IsPermutation}
-use Rattle.std.proofs.lemmas.List.Sorted.{All-permutation}
-use Rattle.name_store.specs.Words.{Layout, LayoutPair, item_pairs, offsets_within, offsets, fits-offsets, pair_even, firsts-reordered, nested-reordered, filled-reordered}
-use Rattle.name_store.specs.declared.write.Target.TheVariants.{View}
-use Rattle.name_store.specs.inside.Puts.{IsNear}
+use Rattle.name_store.proofs.Words.{◌+◌, ◌≤◌, length, refl, IsPermutation, All-permutation, Layout, LayoutPair, item_pairs, offsets_within, offsets, fits-offsets, pair_even, firsts-reordered, nested-reordered, filled-reordered, View, IsNear}
 
 pub is-near : (l : Layout) (pair : LayoutPair) → IsPermutation (item_pairs l l) (item_pairs pair.target pair.source) → IsNear (View l) (View pair.target)
 is-near l pair same =

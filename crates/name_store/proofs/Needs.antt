@@ -1,20 +1,5 @@
 -- Whether a buffer is needed, and how many users it has.
-use Rattle.std.proofs.Common.{◌≡◌, ◌+◌, ◌-◌, ◌^◌, ◌≤◌, ◌<◌, ℕ, zero, suc, Bool, true, false, List, [], ◌∷◌, ◌++◌, length, insert, map, refl, sym, ap, ◌∙◌, cond, ◌||◌, Option, Some, None, is_some, nat_eq, nat_lt, arith}
-use Rattle.std.specs.List.{list_any}
-use Rattle.std.specs.Option.{option_map}
-use Rattle.std.specs.Str.{bytes_eq}
-use Rattle.std.proofs.lemmas.Bool.{lt-ltb}
-use Rattle.std.proofs.lemmas.List.{length-map}
-use Rattle.name_store.specs.Arrays.{find_array, put_array, without, is_in_use}
-use Rattle.name_store.specs.Invariants.{IsSound, one_at, users_in, pins, found_at, held_number, all_pins, users_of, users_at}
-use Rattle.name_store.specs.Kept.{Names}
-use Rattle.name_store.specs.States.{Array}
-use Rattle.name_store.specs.View.{named_array, slot_at}
-use Rattle.name_store.specs.declared.change.Change.{Change}
-use Rattle.name_store.specs.declared.change.Change.TheVariants.{Bind, Unbind, Write}
-use Rattle.name_store.specs.declared.bound.Entry.{Entry}
-use Rattle.name_store.specs.declared.slot.Slot.{Slot}
-use Rattle.circular_buffer.specs.Buffer.{Buffer as Ring}
+use Rattle.name_store.proofs.Words.{◌≡◌, ◌+◌, ◌-◌, ◌^◌, ◌≤◌, ◌<◌, ℕ, zero, suc, Bool, true, false, List, [], ◌∷◌, ◌++◌, length, insert, map, refl, sym, ap, ◌∙◌, cond, ◌||◌, Option, Some, None, is_some, nat_eq, nat_lt, arith, list_any, option_map, bytes_eq, lt-ltb, length-map, find_array, put_array, without, is_in_use, IsSound, one_at, users_in, pins, found_at, held_number, all_pins, users_of, users_at, Names, Array, named_array, slot_at, Change, Bind, Unbind, Write, Entry, Slot, Ring}
 
 -- whether buffer `number` is needed to undo a change
 abbrev pub needs : ℕ → Change → Bool

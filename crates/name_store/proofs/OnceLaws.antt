@@ -1,13 +1,5 @@
 -- No two places of a writable array are equal.
-use Rattle.std.proofs.Common.{◌≡◌, ◌≢◌, ◌+◌, ◌*◌, ◌/◌, ◌<◌, ℕ, List, length, IsTrue, sym, ap, ◌∙◌, slice_index, arith}
-use Rattle.std.proofs.lemmas.List.{length-map}
-use Rattle.name_store.specs.Words.{item_size, offsets, distance, places_of}
-use Rattle.name_store.specs.Invariants.{LiesIn}
-use Rattle.name_store.specs.Parts.{start_at}
-use Rattle.name_store.specs.View.{array_at}
-use Rattle.name_store.specs.declared.bound.Entry.{Entry}
-use Rattle.name_store.specs.declared.slot.Slot.{Slot}
-use Rattle.name_store.specs.ArrayLaws.{offset-at}
+use Rattle.name_store.proofs.Words.{◌≡◌, ◌≢◌, ◌+◌, ◌*◌, ◌/◌, ◌<◌, ℕ, List, length, IsTrue, sym, ap, ◌∙◌, slice_index, arith, length-map, item_size, offsets, distance, places_of, LiesIn, start_at, array_at, Entry, Slot, offset-at}
 use Rattle.name_store.proofs.PartLaws.{part-some}
 
 no-distance : (a b : ℕ) → a ≡ b → distance a b ≡ 0

@@ -1,24 +1,5 @@
 -- The kept states after a change is kept, undone or forgotten.
-use Rattle.std.proofs.Common.{◌≡◌, ◌+◌, ◌*◌, ◌≤◌, ℕ, zero, suc, Bool, true, false, List, [], ◌∷◌, ◌++◌, length, drop, refl, sym, ap, subst, ◌∙◌, cond, ◌||◌, Option, Some, None, All, ◌⊎◌, inl, inr}
-use Rattle.std.specs.List.{AllByRecursion, list_any}
-use Rattle.std.specs.Option.{option_map}
-use Rattle.std.specs.Cmp.{nat_cmp_total}
-use Rattle.std.specs.FinMap.{get, same_map, nat_cmp-IsAntisymmetric}
-use Rattle.std.proofs.lemmas.Bool.{eqb-true}
-use Rattle.name_store.specs.Words.{Descr, items_in, item_size}
-use Rattle.name_store.specs.States.{Buffer}
-use Rattle.name_store.specs.Arrays.{put_array, is_in_use}
-use Rattle.name_store.specs.Invariants.{LiesAt, GoBackAt, IsUndoable, AreUndoable}
-use Rattle.name_store.specs.Kept.{Names, names_before, bytes_before, past_names, past_bytes, past_buffer, past_buffers, kept_states}
-use Rattle.name_store.specs.Targets.{target_offsets}
-use Rattle.name_store.specs.View.{array_at, slot_at}
-use Rattle.name_store.specs.declared.change.Change.{Change}
-use Rattle.name_store.specs.declared.change.Change.TheVariants.{Bind, Unbind, Write}
-use Rattle.name_store.specs.declared.bound.Entry.{Entry}
-use Rattle.name_store.specs.declared.change.OldItems.{OldItems}
-use Rattle.name_store.specs.declared.slot.Slot.{Slot}
-use Rattle.name_store.specs.declared.write.Target.{Target}
-use Rattle.name_store.specs.inside.Held.{stand}
+use Rattle.name_store.proofs.Words.{◌≡◌, ◌+◌, ◌*◌, ◌≤◌, ℕ, zero, suc, Bool, true, false, List, [], ◌∷◌, ◌++◌, length, drop, refl, sym, ap, subst, ◌∙◌, cond, ◌||◌, Option, Some, None, All, ◌⊎◌, inl, inr, AllByRecursion, list_any, option_map, nat_cmp_total, get, same_map, nat_cmp-IsAntisymmetric, eqb-true, Descr, items_in, item_size, Buffer, put_array, is_in_use, LiesAt, GoBackAt, IsUndoable, AreUndoable, Names, names_before, bytes_before, past_names, past_bytes, past_buffer, past_buffers, kept_states, target_offsets, array_at, slot_at, Change, Bind, Unbind, Write, Entry, OldItems, Slot, Target, stand}
 use Rattle.name_store.proofs.LaidLaws.{laid-same}
 use Rattle.name_store.proofs.NameLaws.{in_front, in_tail, either, used-back-put, used-back-without, used-back-insert, used-put, used-insert, nat_itself}
 use Rattle.name_store.proofs.Needs.{needs, is_needed}

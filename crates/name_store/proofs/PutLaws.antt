@@ -1,11 +1,5 @@
 -- Reading and putting parts of items in a block.
-use Rattle.std.proofs.Common.{◌≡◌, ◌+◌, ◌*◌, ◌<◌, ◌≤◌, ℕ, List, [], ◌∷◌, ◌++◌, length, take, drop, map, refl, sym, ap, ◌∙◌, unwrap_or, slice_set, append_assoc, arith, length-take, length-drop}
-use Rattle.std.specs.List.{AllByRecursion}
-use Rattle.std.proofs.lemmas.List.{drop-drop}
-use Rattle.name_store.specs.Words.{Descr, items_in, item_from, item_size, decode_item, put, with_items, length-put, offsets_of}
-use Rattle.name_store.specs.Arrays.{placed_item, write}
-use Rattle.name_store.specs.Parts.{IsPathOf, descr_at, start_at, span_at, part_at, with_part}
-use Rattle.name_store.specs.Places.{IsElementType}
+use Rattle.name_store.proofs.Words.{◌≡◌, ◌+◌, ◌*◌, ◌<◌, ◌≤◌, ℕ, List, [], ◌∷◌, ◌++◌, length, take, drop, map, refl, sym, ap, ◌∙◌, unwrap_or, slice_set, append_assoc, arith, length-take, length-drop, AllByRecursion, drop-drop, Descr, items_in, item_from, item_size, decode_item, put, with_items, length-put, offsets_of, placed_item, write, IsPathOf, descr_at, start_at, span_at, part_at, with_part, IsElementType}
 use Rattle.name_store.proofs.BlockLaws.{put-add, put-item, item-at, item-inside}
 use Rattle.name_store.proofs.PartLaws.{put-front, part-within, part-read, part-put}
 

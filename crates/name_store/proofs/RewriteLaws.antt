@@ -1,24 +1,6 @@
 -- Items that are written to a slot that was borrowed.
-use Rattle.std.proofs.Common.{◌≡◌, ◌+◌, ◌*◌, ◌≤◌, ◌<◌, ℕ, zero, suc, true, false, List, [], ◌∷◌, length, refl, sym, ap, subst, ◌∙◌, cond, Option, Some, nat_eq, get_or, slice_set, All, Result, Ok, Err, IfOk, IfErr, None}
-use Rattle.std.specs.List.{AllByRecursion}
-use Rattle.std.specs.Option.{option_map}
-use Rattle.std.proofs.lemmas.Bool.{eqb-true}
-use Rattle.std.proofs.lemmas.List.Elements.{recursion_from_All}
-use Rattle.std.proofs.lemmas.Option.{same_Some}
-use Rattle.name_store.specs.Words.{item_size, items_at, Layout, multiples, offsets, Fits, offsets_within, Owned}
-use Rattle.name_store.specs.Invariants.{users_of, users_at}
-use Rattle.name_store.specs.Targets.{target_offsets}
-use Rattle.name_store.specs.View.{slot_at}
-use Rattle.name_store.specs.declared.slot.Slot.{Slot}
-use Rattle.name_store.specs.declared.table.Home.{Home}
-use Rattle.name_store.specs.declared.write.Source.{Source}
-use Rattle.name_store.specs.declared.write.Source.TheVariants.{One, Block, Buffer}
-use Rattle.name_store.specs.declared.write.Target.{Target}
-use Rattle.name_store.specs.inside.Exchanges.{IsPacked}
-use Rattle.name_store.specs.inside.Homes.{HasNew}
-use Rattle.name_store.specs.inside.Held.{stand}
-use Rattle.name_store.specs.inside.OldItems.{AreSame}
-use Rattle.name_store.specs.inside.Puts.{AreItems, CanPut, CanWrite, Puts, block_from, parts_of, with_source, without_slot}
+use Rattle.name_store.proofs.Words.{◌≡◌, ◌+◌, ◌*◌, ◌≤◌, ◌<◌, ℕ, zero, suc, true, false, List, [], ◌∷◌, length, refl, sym, ap, subst, ◌∙◌, cond, Option, Some, nat_eq, get_or, slice_set, All, Result, Ok, Err, IfOk, IfErr, None, AllByRecursion, option_map, eqb-true, recursion_from_All, same_Some, item_size, items_at, Layout, multiples, offsets, Fits, offsets_within, Owned, users_of, users_at, target_offsets, slot_at, Slot, Home, Source, One, Block, Target, IsPacked, HasNew, stand, AreSame, AreItems, CanPut, CanWrite, Puts, block_from, parts_of, with_source, without_slot}
+use Rattle.name_store.specs.declared.write.Source.TheVariants.{Buffer}
 use Rattle.name_store.proofs.LaidLaws.{offsets-within}
 use Rattle.name_store.proofs.RestoreLaws.{length-with}
 use Rattle.name_store.proofs.SlotLaws.{slot_at-get_or, slot_at-set, slot_at-within}

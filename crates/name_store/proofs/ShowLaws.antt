@@ -1,22 +1,5 @@
 -- What a lookup shows: an entry, and the slot that its array lies in.
-use Rattle.std.proofs.Common.{◌≡◌, ◌≤◌, ◌<◌, ◌+◌, ◌*◌, ℕ, suc, All, arith, List, [], ◌∷◌, length, map, true, refl, sym, ap, subst, ◌∙◌, Option, Some, is_some, unwrap_or}
-use Rattle.std.specs.FinMap.{get}
-use Rattle.std.specs.List.{AllByRecursion}
-use Rattle.std.specs.Option.{option_map}
-use Rattle.std.proofs.lemmas.List.Elements.{All-from_recursion}
-use Rattle.std.proofs.Math.Nat.{mul-suc, mul-le-mul_left}
-use Rattle.name_store.specs.Words.{Descr, item_size, fields, offsets, offsets_of, max_bytes, items_in, item_from}
-use Rattle.name_store.specs.States.{State, Array, Buffer}
-use Rattle.name_store.specs.Arrays.{buffer_of, descr_of, placed_item, no_buffer, read, is_in_use}
-use Rattle.name_store.specs.Parts.{descr_at, start_at, span_at, part_at}
-use Rattle.name_store.specs.Invariants.{LiesIn}
-use Rattle.name_store.specs.Shown.{Shows, Finds}
-use Rattle.circular_buffer.specs.Buffer.{Buffer as Ring}
-use Rattle.name_store.specs.View.{array_at, named_array, buffer_in, slot_at, present, state_of}
-use Rattle.name_store.specs.declared.change.Change.{Change}
-use Rattle.name_store.specs.declared.bound.ArrayRef.{ArrayRef}
-use Rattle.name_store.specs.declared.bound.Entry.{Entry}
-use Rattle.name_store.specs.declared.slot.Slot.{Slot}
+use Rattle.name_store.proofs.Words.{◌≡◌, ◌≤◌, ◌<◌, ◌+◌, ◌*◌, ℕ, suc, All, arith, List, [], ◌∷◌, length, map, true, refl, sym, ap, subst, ◌∙◌, Option, Some, is_some, unwrap_or, get, AllByRecursion, option_map, All-from_recursion, mul-suc, mul-le-mul_left, Descr, item_size, fields, offsets, offsets_of, max_bytes, items_in, item_from, State, Array, Buffer, buffer_of, descr_of, placed_item, no_buffer, read, is_in_use, descr_at, start_at, span_at, part_at, LiesIn, Shows, Finds, Ring, array_at, named_array, buffer_in, slot_at, present, state_of, Change, ArrayRef, Entry, Slot}
 use Rattle.name_store.proofs.BlockLaws.{length-items_in}
 use Rattle.name_store.proofs.LaidLaws.{laid-same, places-within}
 use Rattle.name_store.proofs.OnceLaws.{no_place_twice}

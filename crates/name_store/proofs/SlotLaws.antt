@@ -1,17 +1,5 @@
 -- Slots by number, and the buffers in them.
-use Rattle.std.proofs.Common.{◌≡◌, ◌≢◌, ◌+◌, ◌<◌, ◌≤◌, ℕ, zero, suc, Bool, true, false, List, [], ◌∷◌, ◌++◌, length, map, refl, sym, ap, ◌∙◌, cond, Option, Some, None, is_some, nat_eq, slice_set, get_or, arith, MutBor}
-use Rattle.std.specs.Option.{option_copied_mut, option_map}
-use Rattle.std.specs.Ordering.{nat_cmp, eq_by_cmp, is_eq}
-use Rattle.std.specs.Cmp.{nat_cmp_total, eq_by_cmp_equiv}
-use Rattle.std.specs.declared.cmp.Ordering.TheVariants.{Less, Equal, Greater}
-use Rattle.std.specs.FinMap.{get, find, from_entries, get-from_entries, get-retain_keys, nat_cmp-IsAntisymmetric}
-use Rattle.std.proofs.lemmas.Bool.{eqb-true, eqb-false, ne_eqb}
-use Rattle.name_store.specs.Arrays.{is_in_use}
-use Rattle.name_store.specs.Kept.{Names, numbered, past_buffer, past_buffers}
-use Rattle.name_store.specs.View.{named_array, slot_at, buffer_in, present}
-use Rattle.name_store.specs.declared.change.Change.{Change}
-use Rattle.name_store.specs.declared.bound.Entry.{Entry}
-use Rattle.name_store.specs.declared.slot.Slot.{Slot}
+use Rattle.name_store.proofs.Words.{◌≡◌, ◌≢◌, ◌+◌, ◌<◌, ◌≤◌, ℕ, zero, suc, Bool, true, false, List, [], ◌∷◌, ◌++◌, length, map, refl, sym, ap, ◌∙◌, cond, Option, Some, None, is_some, nat_eq, slice_set, get_or, arith, MutBor, option_copied_mut, option_map, nat_cmp, eq_by_cmp, is_eq, nat_cmp_total, eq_by_cmp_equiv, Less, Equal, Greater, get, find, from_entries, get-from_entries, get-retain_keys, nat_cmp-IsAntisymmetric, eqb-true, eqb-false, ne_eqb, is_in_use, Names, numbered, past_buffer, past_buffers, named_array, slot_at, buffer_in, present, Change, Entry, Slot}
 use Rattle.name_store.proofs.NameLaws.{nat_itself}
 
 eq-suc : (q n : ℕ) → nat_eq q n ≡ nat_eq (suc q) (suc n)

@@ -1,17 +1,5 @@
 -- Names and slots after buffers are freed.
-use Rattle.std.proofs.Common.{◌≡◌, ◌+◌, ◌<◌, ◌≤◌, ℕ, Bool, true, List, length, map, refl, sym, ap, subst, ◌∙◌, cond, ◌||◌, Option, Some, None, is_some, nat_lt, arith}
-use Rattle.std.specs.Map.{lookup}
-use Rattle.std.specs.Option.{option_map}
-use Rattle.std.proofs.lemmas.Bool.{ltb-true}
-use Rattle.std.proofs.lemmas.List.{length-map}
-use Rattle.name_store.specs.Arrays.{find_array, has_room_for}
-use Rattle.name_store.specs.Invariants.{Holds, LiesAt, LiesIn, users_at, users_in, all_pins}
-use Rattle.name_store.specs.Kept.{Names}
-use Rattle.name_store.specs.View.{array_at, named_array, slot_at, present}
-use Rattle.name_store.specs.declared.change.Change.{Change}
-use Rattle.name_store.specs.declared.bound.Entry.{Entry}
-use Rattle.name_store.specs.declared.slot.Slot.{Slot}
-use Rattle.name_store.specs.inside.Held.{stand}
+use Rattle.name_store.proofs.Words.{◌≡◌, ◌+◌, ◌<◌, ◌≤◌, ℕ, Bool, true, List, length, map, refl, sym, ap, subst, ◌∙◌, cond, ◌||◌, Option, Some, None, is_some, nat_lt, arith, lookup, option_map, ltb-true, length-map, find_array, has_room_for, Holds, LiesAt, LiesIn, users_at, users_in, all_pins, Names, array_at, named_array, slot_at, present, Change, Entry, Slot, stand}
 use Rattle.name_store.proofs.NameLaws.{TestsName, find-lookup, all-lookup}
 use Rattle.name_store.proofs.Needs.{is_needed, needed-count, there-used}
 use Rattle.name_store.proofs.SlotLaws.{slot_at-within}

@@ -1,19 +1,5 @@
 -- Undoing a binding: the name is bound to its earlier array again, or unbound if it had none.
-use Rattle.std.proofs.Common.{◌≡◌, ◌+◌, ◌≤◌, ℕ, List, [], ◌∷◌, ◌++◌, map, refl, sym, ap, subst, ◌∙◌, Option, Some, None, arith}
-use Rattle.std.specs.List.{AllByRecursion}
-use Rattle.std.specs.Map.{lookup}
-use Rattle.std.specs.Option.{option_map}
-use Rattle.std.specs.Str.{bytes_eq}
-use Rattle.name_store.specs.Words.{buffer, insert_entry, shift_remove_entry}
-use Rattle.circular_buffer.specs.Buffer.{Buffer as Ring}
-use Rattle.name_store.specs.Arrays.{find_array}
-use Rattle.name_store.specs.Invariants.{IsSound, IsUndoable, LiesAt, users_at, users_in, found_at, pins}
-use Rattle.name_store.specs.Kept.{Names, names_before}
-use Rattle.name_store.specs.View.{array_at, named_array, slot_at}
-use Rattle.name_store.specs.declared.change.Change.{Change}
-use Rattle.name_store.specs.declared.change.Change.TheVariants.{Bind}
-use Rattle.name_store.specs.declared.bound.Entry.{Entry}
-use Rattle.name_store.specs.inside.Undoes.{Undoes}
+use Rattle.name_store.proofs.Words.{◌≡◌, ◌+◌, ◌≤◌, ℕ, List, [], ◌∷◌, ◌++◌, map, refl, sym, ap, subst, ◌∙◌, Option, Some, None, arith, AllByRecursion, lookup, option_map, bytes_eq, buffer, insert_entry, shift_remove_entry, Ring, find_array, IsSound, IsUndoable, LiesAt, users_at, users_in, found_at, pins, Names, names_before, array_at, named_array, slot_at, Change, Bind, Entry, Undoes}
 use Rattle.name_store.proofs.NameLaws.{TestsName, find-lookup, without-remove, put-insert, all-remove, all-insert}
 use Rattle.name_store.proofs.Needs.{number_of, users-without, users-put}
 use Rattle.name_store.proofs.StateLaws.{Freed}

@@ -1,22 +1,5 @@
 -- Undoing a change.
-use Rattle.std.proofs.Common.{◌≡◌, ◌+◌, ◌-◌, ◌≤◌, ℕ, suc, true, false, List, [], ◌∷◌, ◌++◌, length, take, map, slice_get, refl, sym, ap, subst, ◌∙◌, cond, Some, None, is_some, Result, Ok, Err, IsOk, OnOk, arith, length-append}
-use Rattle.std.specs.List.{AllByRecursion, list_any}
-use Rattle.std.specs.Option.{option_map, option_map_or}
-use Rattle.std.proofs.lemmas.List.{length-map, map-append}
-use Rattle.std.proofs.Math.Seq.{take-append_seam}
-use Rattle.name_store.specs.Words.{buffer, last_item}
-use Rattle.circular_buffer.specs.Buffer.{Buffer as Ring}
-use Rattle.std.specs.FinMap.{FinMap}
-use Rattle.std.specs.Ordering.{nat_cmp}
-use Rattle.name_store.specs.States.{Buffer}
-use Rattle.name_store.specs.Arrays.{is_in_use, has_kept, undone}
-use Rattle.name_store.specs.Invariants.{IsSound, LiesAt, IsUndoable, AreUndoable, users_at, users_in, pins, all_pins}
-use Rattle.name_store.specs.Kept.{Names, names_before, past_buffers, kept_states, patch_size}
-use Rattle.name_store.specs.View.{named_array, slot_at, state_of}
-use Rattle.name_store.specs.declared.change.Change.{Change}
-use Rattle.name_store.specs.declared.bound.Entry.{Entry}
-use Rattle.name_store.specs.inside.Held.{stand}
-use Rattle.name_store.specs.inside.Undoes.{Undoes}
+use Rattle.name_store.proofs.Words.{◌≡◌, ◌+◌, ◌-◌, ◌≤◌, ℕ, suc, true, false, List, [], ◌∷◌, ◌++◌, length, take, map, slice_get, refl, sym, ap, subst, ◌∙◌, cond, Some, None, is_some, Result, Ok, Err, IsOk, OnOk, arith, length-append, AllByRecursion, list_any, option_map, option_map_or, length-map, map-append, take-append_seam, buffer, last_item, Ring, FinMap, nat_cmp, Buffer, is_in_use, has_kept, undone, IsSound, LiesAt, IsUndoable, AreUndoable, users_at, users_in, pins, all_pins, Names, names_before, past_buffers, kept_states, patch_size, named_array, slot_at, state_of, Change, Entry, stand, Undoes}
 use Rattle.name_store.proofs.NameLaws.{all-both, all-in_use, in_front}
 use Rattle.name_store.proofs.Needs.{needs, is_needed, pins-push}
 use Rattle.name_store.proofs.PastLaws.{Alike, alike-shape, past-alike, lies-shaped, Restored, restored-shape, same-buffers, kept-push, kept-free, undoable-pop, undoable-still, Slots}

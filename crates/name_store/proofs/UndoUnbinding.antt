@@ -1,19 +1,5 @@
 -- Undoing an unbinding.
-use Rattle.std.proofs.Common.{◌≡◌, ◌+◌, ◌≤◌, ℕ, zero, suc, Bool, true, false, List, [], ◌∷◌, ◌++◌, length, map, insert, refl, sym, ap, subst, ◌∙◌, cond, not, Option, Some, None, arith}
-use Rattle.std.specs.List.{AllByRecursion, position_or_len}
-use Rattle.std.specs.Map.{lookup, keys_of}
-use Rattle.std.specs.Option.{option_map}
-use Rattle.std.proofs.lemmas.List.{length-map}
-use Rattle.name_store.specs.Words.{buffer, insert_entry, move_index}
-use Rattle.circular_buffer.specs.Buffer.{Buffer as Ring}
-use Rattle.indexmap.proofs.MoveLemmas.{push_moved}
-use Rattle.name_store.specs.Invariants.{IsSound, LiesAt, users_in}
-use Rattle.name_store.specs.Kept.{Names}
-use Rattle.name_store.specs.View.{array_at, named_array, slot_at}
-use Rattle.name_store.specs.declared.change.Change.{Change}
-use Rattle.name_store.specs.declared.change.Change.TheVariants.{Unbind}
-use Rattle.name_store.specs.declared.bound.Entry.{Entry}
-use Rattle.name_store.specs.inside.Undoes.{Undoes}
+use Rattle.name_store.proofs.Words.{◌≡◌, ◌+◌, ◌≤◌, ℕ, zero, suc, Bool, true, false, List, [], ◌∷◌, ◌++◌, length, map, insert, refl, sym, ap, subst, ◌∙◌, cond, not, Option, Some, None, arith, AllByRecursion, position_or_len, lookup, keys_of, option_map, length-map, buffer, insert_entry, move_index, Ring, push_moved, IsSound, LiesAt, users_in, Names, array_at, named_array, slot_at, Change, Unbind, Entry, Undoes}
 use Rattle.name_store.proofs.NameLaws.{TestsName, find-lookup}
 use Rattle.name_store.proofs.Needs.{users-insert}
 use Rattle.name_store.proofs.StateLaws.{freed-none}

@@ -1,23 +1,5 @@
 -- Undoing a write.
-use Rattle.std.proofs.Common.{◌≡◌, ◌<◌, ℕ, true, false, List, [], ◌∷◌, ◌++◌, length, refl, sym, ap, ◌∙◌, cond, Option, Some, None, is_some, nat_eq, arith}
-use Rattle.std.specs.List.{AllByRecursion}
-use Rattle.std.specs.Option.{option_map}
-use Rattle.std.proofs.lemmas.Bool.{eqb-true}
-use Rattle.name_store.specs.Words.{buffer}
-use Rattle.circular_buffer.specs.Buffer.{Buffer as Ring}
-use Rattle.name_store.specs.Invariants.{IsSound, LiesAt, GoBackAt, users_at}
-use Rattle.name_store.specs.Kept.{with_old}
-use Rattle.name_store.specs.Targets.{target_offsets}
-use Rattle.name_store.specs.View.{slot_at}
-use Rattle.name_store.specs.declared.change.Change.{Change}
-use Rattle.name_store.specs.declared.change.Change.TheVariants.{Write}
-use Rattle.name_store.specs.declared.bound.Entry.{Entry}
-use Rattle.name_store.specs.declared.change.OldItems.{OldItems}
-use Rattle.name_store.specs.declared.slot.Slot.{Slot}
-use Rattle.name_store.specs.declared.write.Target.{Target}
-use Rattle.name_store.specs.inside.Held.{stand}
-use Rattle.name_store.specs.inside.Homes.{HasNew}
-use Rattle.name_store.specs.inside.Undoes.{Undoes}
+use Rattle.name_store.proofs.Words.{◌≡◌, ◌<◌, ℕ, true, false, List, [], ◌∷◌, ◌++◌, length, refl, sym, ap, ◌∙◌, cond, Option, Some, None, is_some, nat_eq, arith, AllByRecursion, option_map, eqb-true, buffer, Ring, IsSound, LiesAt, GoBackAt, users_at, with_old, target_offsets, slot_at, Change, Write, Entry, OldItems, Slot, Target, stand, HasNew, Undoes}
 use Rattle.name_store.proofs.NameLaws.{all-both}
 use Rattle.name_store.proofs.PastLaws.{Restored, content_before, restored-shape, lies-shaped, Slots}
 use Rattle.name_store.proofs.RewriteLaws.{new-users}

@@ -1,17 +1,6 @@
 -- Views: places of an array in an existing buffer.
-use Rattle.std.proofs.Common.{◌≡◌, ◌<◌, ◌*◌, ℕ, Bool, List, length, map, refl, sym, ap, subst, ◌∙◌, cond, Option, Some, None, is_some, true, false, unwrap_or, arith}
-use Rattle.std.specs.Option.{option_map}
-use Rattle.name_store.specs.Words.{Descr, item_from, item_size, Layout, offsets, Fits, offsets_of, places_of}
-use Rattle.name_store.specs.States.{Array, Buffer}
-use Rattle.name_store.specs.Arrays.{buffer_of, descr_of, is_in_use, no_buffer, placed_item, read}
-use Rattle.name_store.specs.Invariants.{LiesIn}
-use Rattle.name_store.specs.Parts.{descr_at, start_at, span_at, part_at, IsPathOf}
-use Rattle.name_store.specs.View.{array_at, named_array, buffer_in, slot_at, present}
-use Rattle.name_store.specs.Views.{IsLaidOut, IsViewIn}
-use Rattle.name_store.specs.declared.bound.Entry.{Entry}
-use Rattle.name_store.specs.declared.slot.Slot.{Slot}
+use Rattle.name_store.proofs.Words.{◌≡◌, ◌<◌, ◌*◌, ℕ, Bool, List, length, map, refl, sym, ap, subst, ◌∙◌, cond, Option, Some, None, is_some, true, false, unwrap_or, arith, option_map, Descr, item_from, item_size, Layout, offsets, Fits, offsets_of, places_of, Array, Buffer, buffer_of, descr_of, is_in_use, no_buffer, placed_item, read, LiesIn, descr_at, start_at, span_at, part_at, IsPathOf, array_at, named_array, buffer_in, slot_at, present, IsLaidOut, IsViewIn, Entry, Slot, places-offsets}
 use Rattle.name_store.proofs.BlockLaws.{length-items_in}
-use Rattle.name_store.specs.ArrayLaws.{places-offsets}
 use Rattle.name_store.proofs.LaidLaws.{laid-same, places-within}
 use Rattle.name_store.proofs.PartLaws.{part-some, part-within}
 use Rattle.name_store.proofs.PutLaws.{items-read}

@@ -1,36 +1,6 @@
 -- Writing items, and keeping the old ones.
-use Rattle.std.proofs.Common.{◌≡◌, ◌+◌, ◌*◌, ◌≤◌, ℕ, true, false, List, [], ◌∷◌, ◌++◌, length, map, min, refl, sym, ap, subst, ◌∙◌, cond, Option, Some, None, Result, Ok, Err, nat_eq, All, arith, ◌⊎◌, inl, inr}
-use Rattle.std.specs.List.Sorted.{IsPermutation}
-use Rattle.std.proofs.lemmas.List.Sorted.{All-permutation, length_permutation}
-use Rattle.std.specs.List.{AllByRecursion}
-use Rattle.std.specs.Option.{option_map}
-use Rattle.std.proofs.lemmas.Bool.{eqb-true}
-use Rattle.std.proofs.lemmas.List.Elements.{All-from_recursion, recursion_from_All}
-use Rattle.std.proofs.Math.ListN.{drop_of_length-le}
-use Rattle.name_store.specs.Words.{buffer, keep_last, Descr, item_size, LeafValue, items_at, with_items}
-use Rattle.circular_buffer.specs.Buffer.{Buffer as Ring}
-use Rattle.name_store.specs.States.{State, Array}
-use Rattle.name_store.specs.Arrays.{is_in_use, keeping, descr_of}
-use Rattle.name_store.specs.Calls.{AnswersWrite, CountsWrite}
-use Rattle.name_store.specs.Invariants.{Holds, IsSound, LiesAt, GoBackAt, GoBack, IsUndoable, users_at, users_in, pins, all_pins}
-use Rattle.name_store.specs.Kept.{with_old, Names, past_names, past_buffers, kept_states, patch_size}
-use Rattle.name_store.specs.Memory.{MoveInPlace, NeedsNoMemory}
-use Rattle.name_store.specs.Targets.{target_offsets, LeadsTo, MayWrite, Supplies, IsAim}
-use Rattle.name_store.specs.View.{array_at, named_array, slot_at, present, state_of, bench_value}
-use Rattle.name_store.specs.declared.change.Change.{Change}
-use Rattle.name_store.specs.declared.change.Change.TheVariants.{Write}
-use Rattle.name_store.specs.declared.bound.Entry.{Entry}
-use Rattle.name_store.specs.declared.change.OldItems.{OldItems}
-use Rattle.name_store.specs.declared.slot.Slot.{Slot}
-use Rattle.name_store.specs.declared.write.Overwritten.{Overwritten}
-use Rattle.name_store.specs.declared.write.Source.{Source}
-use Rattle.name_store.specs.declared.write.Source.TheVariants.{One, Block, Buffer}
-use Rattle.name_store.specs.declared.write.Target.{Target}
-use Rattle.name_store.specs.declared.write.Target.TheVariants.{View, Plan}
-use Rattle.name_store.specs.inside.Homes.{IsHome, HasNew}
-use Rattle.name_store.specs.inside.Puts.{CanWrite, NeedsNone, Puts, Writes, parts_of, without_slot}
-use Rattle.name_store.specs.inside.Held.{IsLowest, stand}
-use Rattle.name_store.specs.inside.OldItems.{AreKeptAt, AreOld, AreSame}
+use Rattle.name_store.proofs.Words.{◌≡◌, ◌+◌, ◌*◌, ◌≤◌, ℕ, true, false, List, [], ◌∷◌, ◌++◌, length, map, min, refl, sym, ap, subst, ◌∙◌, cond, Option, Some, None, Result, Ok, Err, nat_eq, All, arith, ◌⊎◌, inl, inr, IsPermutation, All-permutation, length_permutation, AllByRecursion, option_map, eqb-true, All-from_recursion, recursion_from_All, drop_of_length-le, buffer, keep_last, Descr, item_size, LeafValue, items_at, with_items, Ring, State, Array, is_in_use, keeping, descr_of, AnswersWrite, CountsWrite, Holds, IsSound, LiesAt, GoBackAt, GoBack, IsUndoable, users_at, users_in, pins, all_pins, with_old, Names, past_names, past_buffers, kept_states, patch_size, MoveInPlace, NeedsNoMemory, target_offsets, LeadsTo, MayWrite, Supplies, IsAim, array_at, named_array, slot_at, present, state_of, bench_value, Change, Write, Entry, OldItems, Slot, Overwritten, Source, One, Block, Target, View, Plan, IsHome, HasNew, CanWrite, NeedsNone, Puts, Writes, parts_of, without_slot, IsLowest, stand, AreKeptAt, AreOld, AreSame}
+use Rattle.name_store.specs.declared.write.Source.TheVariants.{Buffer}
 use Rattle.name_store.proofs.BindLaws.{view-present}
 use Rattle.name_store.proofs.AimLaws.{can-here, can-put, put-answers, whole-parts}
 use Rattle.name_store.proofs.HeldLaws.{lowest-same}

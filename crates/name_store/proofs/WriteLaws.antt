@@ -1,24 +1,6 @@
 -- Writing items to places of a name's array, and reading items.
-use Rattle.std.proofs.Common.{◌≡◌, ◌*◌, ◌<◌, ◌≤◌, ℕ, Bool, true, false, List, [], ◌∷◌, length, map, refl, sym, ap, subst, ◌∙◌, cond, Option, Some, None, is_some, nat_eq, All, Contains, arith}
-use Rattle.std.specs.FinMap.{get, insert, get-insert, same_map, nat_cmp-IsAntisymmetric}
-use Rattle.std.specs.Cmp.{nat_cmp_total}
-use Rattle.std.specs.List.{AllByRecursion}
-use Rattle.std.specs.Map.{lookup}
-use Rattle.std.specs.Option.{option_map}
-use Rattle.std.proofs.lemmas.Bool.{eqb-true}
-use Rattle.std.proofs.lemmas.List.Elements.{All-contains, All-head, All-tail, All-from_recursion}
-use Rattle.std.proofs.lemmas.Option.{same_Some}
-use Rattle.name_store.specs.Words.{items_in, item_size, decode_item, Layout, offsets, Fits, offsets_of, with_items, places_of}
-use Rattle.name_store.specs.States.{State, Array, Buffer}
-use Rattle.name_store.specs.Arrays.{find_array, buffer_of, descr_of, span_of, addresses, write, written, is_in_use, is_bound}
-use Rattle.name_store.specs.Invariants.{Holds, LiesAt, LiesIn}
-use Rattle.name_store.specs.Parts.{descr_at, start_at, span_at}
-use Rattle.name_store.specs.Targets.{target_offsets, FitsBuffer, LeadsTo}
-use Rattle.name_store.specs.inside.Homes.{IsHome, HasNew}
-use Rattle.name_store.specs.View.{array_at, named_array, buffer_in, slot_at, present}
-use Rattle.name_store.specs.declared.bound.Entry.{Entry}
-use Rattle.name_store.specs.declared.slot.Slot.{Slot}
-use Rattle.name_store.specs.declared.write.Target.{Target}
+use Rattle.name_store.proofs.Words.{◌≡◌, ◌*◌, ◌<◌, ◌≤◌, ℕ, Bool, true, false, List, [], ◌∷◌, length, map, refl, sym, ap, subst, ◌∙◌, cond, Option, Some, None, is_some, nat_eq, All, Contains, arith, get, get-insert, same_map, nat_cmp-IsAntisymmetric, nat_cmp_total, AllByRecursion, lookup, option_map, eqb-true, All-contains, All-head, All-tail, All-from_recursion, same_Some, items_in, item_size, decode_item, Layout, offsets, Fits, offsets_of, with_items, places_of, State, Array, Buffer, find_array, buffer_of, descr_of, span_of, addresses, write, written, is_in_use, is_bound, Holds, LiesAt, LiesIn, descr_at, start_at, span_at, target_offsets, FitsBuffer, LeadsTo, IsHome, HasNew, array_at, named_array, buffer_in, slot_at, present, Entry, Slot, Target}
+use Rattle.std.specs.FinMap.{insert}
 use Rattle.name_store.proofs.BlockLaws.{length-items_in}
 use Rattle.name_store.proofs.PartLaws.{part-some}
 use Rattle.name_store.proofs.LaidLaws.{laid-same, places-within}

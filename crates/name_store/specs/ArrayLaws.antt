@@ -1,8 +1,5 @@
 -- Laws of array lookups, and of the places of arrays.
-use Rattle.std.proofs.Common.{◌≡◌, ◌+◌, ◌*◌, ◌/◌, ◌<◌, ℕ, zero, suc, List, [], ◌∷◌, length, slice_index, Option, Some, None, refl, ap, ◌∙◌, arith, map, All}
-use Rattle.std.proofs.lemmas.Nat.{div-mul-add}
-use Rattle.std.proofs.Math.Nat.{mul_comm}
-use Rattle.name_store.specs.Words.{offsets_of, rank, places_of}
+use Rattle.name_store.specs.Words.{◌≡◌, ◌+◌, ◌*◌, ◌/◌, ◌<◌, ℕ, zero, suc, List, [], ◌∷◌, length, slice_index, Option, Some, None, refl, ap, ◌∙◌, arith, map, All, div-mul-add, mul_comm, offsets_of, rank, places_of}
 use Rattle.name_store.specs.States.{State, Array}
 use Rattle.name_store.specs.Shown.{Shows, Finds}
 use Rattle.name_store.specs.declared.bound.ArrayRef.{ArrayRef}

@@ -1,11 +1,5 @@
 -- Operations on a state: names are looked up, bound and removed, and arrays are read and written.
-use Rattle.std.specs.Prelude.{ℕ, ◌-◌, Bool, true, List, [], ◌∷◌, ◌++◌, length, take, map, Option, Some, None, slice_get, slice_set, is_some, nat_eq, nat_lt, if◌then◌else◌, unwrap_or, ◌||◌, ◌&&◌}
-use Rattle.std.specs.List.{list_any}
-use Rattle.std.specs.Option.{option_map_or}
-use Rattle.std.specs.Str.{bytes_eq}
-use Rattle.std.specs.FinMap.{get, insert, retain_keys}
-use Rattle.name_store.specs.Words.{keep_last, last_item, Descr, Int, Four, Little, item_size, LeafValue, offsets_of}
-use Rattle.elem_descr.specs.declared.descr.Descr.TheVariants.{Scalar as ScalarDescr}
+use Rattle.name_store.specs.Words.{ℕ, ◌-◌, Bool, true, List, [], ◌∷◌, ◌++◌, length, take, map, Option, Some, None, slice_get, slice_set, is_some, nat_eq, nat_lt, if◌then◌else◌, unwrap_or, ◌||◌, ◌&&◌, list_any, option_map_or, bytes_eq, get, insert, retain_keys, keep_last, last_item, Descr, Int, Four, Little, item_size, LeafValue, offsets_of, ScalarDescr}
 use Rattle.name_store.specs.Parts.{descr_at, start_at, span_at, part_at, with_part, have_common, share_leaves}
 use Rattle.name_store.specs.States.{Buffer, Array, State}
 

@@ -16,3 +16,4 @@ pub mod View
 pub mod Views
 pub mod inside
 pub mod Words
+pub mod Clauses

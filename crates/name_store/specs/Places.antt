@@ -1,7 +1,5 @@
 -- Element types, and blocks of their items.
-use Rattle.std.specs.Prelude.{◌≡◌, ◌≤◌, ℕ, ◌*◌, List, length}
-use Rattle.name_store.specs.Words.{Descr, IsLegal, size, item_size, max_bytes}
-use Rattle.elem_descr.specs.declared.descr.Descr.TheVariants.{Scalar as ScalarDescr, Record as RecordDescr}
+use Rattle.name_store.specs.Words.{◌≡◌, ◌≤◌, ℕ, ◌*◌, List, length, Descr, IsLegal, size, item_size, max_bytes, ScalarDescr, RecordDescr}
 
 -- a valid element type: a scalar of at least one byte, or a legal record
 abbrev pub IsElementType : Descr → Type 0

@@ -1,8 +1,5 @@
 -- Buffers, arrays and the state of a bench.
-use Rattle.std.specs.Prelude.{ℕ, Bool, List, []}
-use Rattle.std.specs.Ordering.{nat_cmp}
-use Rattle.std.specs.FinMap.{FinMap, empty}
-use Rattle.name_store.specs.Words.{Descr, LeafValue}
+use Rattle.name_store.specs.Words.{ℕ, Bool, List, [], nat_cmp, FinMap, empty, Descr, LeafValue}
 
 -- an element type and items of it, each of which has one value for each leaf
 pub record Buffer : Type 0 where

@@ -1,8 +1,6 @@
 -- The state that the fields of a bench represent.
 pub use Rattle.name_store.specs.Entries.{array_at, named_array, slot_at}
-use Rattle.std.specs.Prelude.{ℕ, List, [], map, Option}
-use Rattle.circular_buffer.specs.Buffer.{Buffer as Ring}
-use Rattle.name_store.specs.Words.{items_in}
+use Rattle.name_store.specs.Words.{ℕ, List, [], map, Option, Ring, items_in}
 use Rattle.name_store.specs.States.{BenchValue, Buffer, State}
 use Rattle.name_store.specs.Kept.{past_buffers, kept_states, patch_size}
 use Rattle.name_store.specs.declared.change.Change.{Change}

@@ -1,6 +1,5 @@
 //! The bench.
-ghost use Rattle.std.specs.Prelude.{◌≡◌, ◌≤◌, ◌<◌, length, [], Some, slice_get, IfOk, IsOk};
-ghost use Rattle.std.specs.Option.{option_map};
+ghost use Rattle.name_store.specs.Clauses.{◌≡◌, ◌≤◌, ◌<◌, length, [], Some, slice_get, IfOk, IsOk, option_map};
 
 use crate::bound::{ArrayRef, Bound};
 use crate::change::Change;
@@ -25,16 +24,13 @@ pub struct Bench {
 }
 
 impl Model for Bench {
-    ghost use Rattle.name_store.specs.States.{BenchValue};
-    ghost use Rattle.name_store.specs.inside.Codes.{value_code};
+    ghost use Rattle.name_store.specs.Clauses.{BenchValue, value_code};
 
     ghost Value = { BenchValue };
 
     ghost coded = { value_code };
 
-    ghost use Rattle.name_store.specs.View.{bench_value};
-    ghost use Rattle.name_store.specs.Invariants.{IsSound};
-    ghost use Rattle.indexmap.specs.IndexMap.{spare};
+    ghost use Rattle.name_store.specs.Clauses.{bench_value, IsSound, spare};
 
     ghost view = { λ f. bench_value f.table.names.entries f.table.slots.cells.items f.history };
 
@@ -43,13 +39,7 @@ impl Model for Bench {
 }
 
 impl Bench {
-    ghost use Rattle.name_store.specs.States.{start};
-    ghost use Rattle.name_store.specs.Arrays.{find_array, has_room_for};
-    ghost use Rattle.name_store.specs.Calls.{AnswersBind, AnswersUnbind, AnswersUndo, AnswersWrite, AnswersShares, Counts, CountsUndo, CountsWrite};
-    ghost use Rattle.name_store.specs.Memory.{NeedsNoMemory, LieInTwo};
-    ghost use Rattle.name_store.specs.Shown.{Finds};
-    ghost use Rattle.name_store.specs.Targets.{IsAim};
-    ghost use Rattle.name_store.specs.Views.{MayBind};
+    ghost use Rattle.name_store.specs.Clauses.{start, find_array, has_room_for, AnswersBind, AnswersUnbind, AnswersUndo, AnswersWrite, AnswersShares, Counts, CountsUndo, CountsWrite, NeedsNoMemory, LieInTwo, Finds, IsAim, MayBind};
 
     /// A bench without names that keeps `depth` earlier states. With depth 0, it takes no memory.
     pub fn try_new(alloc: Global, depth: usize) -> Result<Bench, AllocError>

@@ -1,6 +1,5 @@
 //! Changes of the bench, as `undo` needs them.
-ghost use Rattle.std.specs.Prelude.{◌≡◌};
-ghost use Rattle.name_store.specs.Kept.{patch_size};
+ghost use Rattle.name_store.specs.Clauses.{◌≡◌, patch_size};
 
 use crate::bound::Entry;
 use crate::write::Target;

@@ -1,10 +1,5 @@
 //! The changes that can be undone, and how they are kept.
-ghost use Rattle.name_store.specs.Invariants.{all_pins, users_at};
-ghost use Rattle.name_store.specs.View.{slot_at};
-ghost use Rattle.name_store.specs.Words.{buffer, keep_last, last_item, spare};
-ghost use Rattle.name_store.specs.inside.Held.{stand};
-ghost use Rattle.std.specs.Option.{option_map};
-ghost use Rattle.std.specs.Prelude.{IfOk, IsOk, None, OnOk, [], if◌then◌else◌, length, min, nat_lt, option_copied, slice_get, take, ℕ, ◌++◌, ◌+◌, ◌-◌, ◌<◌, ◌^◌, ◌∷◌, ◌≡◌, ◌≤◌};
+ghost use Rattle.name_store.specs.Clauses.{all_pins, users_at, slot_at, buffer, keep_last, last_item, spare, stand, option_map, IfOk, IsOk, None, OnOk, [], if◌then◌else◌, length, min, nat_lt, option_copied, slice_get, take, ℕ, ◌++◌, ◌+◌, ◌-◌, ◌<◌, ◌^◌, ◌∷◌, ◌≡◌, ◌≤◌};
 
 use crate::bound::Entry;
 use crate::change::Change;
@@ -22,9 +17,7 @@ pub struct History {
 }
 
 impl Model for History {
-    ghost use Rattle.std.specs.Prelude.{unwrap_or, []};
-    ghost use Rattle.circular_buffer.specs.Buffer.{Buffer as Ring, buffer};
-    ghost use Rattle.name_store.specs.declared.change.Change.{Change};
+    ghost use Rattle.name_store.specs.Clauses.{unwrap_or, [], Ring, buffer, Change};
 
     ghost Value = { Ring Change };
 

@@ -1,12 +1,5 @@
 //! Reads and writes the bytes of a block at the offsets of a target.
-ghost use Rattle.std.specs.Prelude.{◌≡◌, ◌+◌, ◌*◌, ◌≤◌, length, All, IfOk, IfErr, IsOk, IsTrue};
-ghost use Rattle.std.specs.List.{flat_map};
-ghost use Rattle.name_store.specs.Words.{EachWithin, max_bytes, offsets, Fits, run_offsets, assigned, put_each};
-ghost use Rattle.name_store.specs.Kept.{with_old};
-ghost use Rattle.name_store.specs.Memory.{AreShifted};
-ghost use Rattle.name_store.specs.Targets.{target_offsets};
-ghost use Rattle.name_store.specs.inside.OldItems.{AreOld};
-ghost use Rattle.name_store.specs.inside.Puts.{MayPut, InPlace};
+ghost use Rattle.name_store.specs.Clauses.{◌≡◌, ◌+◌, ◌*◌, ◌≤◌, length, All, IfOk, IfErr, IsOk, IsTrue, flat_map, EachWithin, max_bytes, offsets, Fits, run_offsets, assigned, put_each, with_old, AreShifted, target_offsets, AreOld, MayPut, InPlace};
 
 use crate::change::OldItems;
 use crate::write::Target;

@@ -1,3 +1,4 @@
+pub mod Words
 mod NextNames
 mod StoreLaws
 mod UserNames

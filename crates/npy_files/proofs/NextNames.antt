@@ -1,18 +1,6 @@
 -- The first name after another one, found by going through a list of files.
-use Rattle.std.proofs.Common.{◌≡◌, ◌<◌, ◌≤◌, ◌+◌, ℕ, zero, suc, Bool, true, false, List, [], ◌∷◌, map, length, refl, sym, ap, subst, ◌∙◌, cond, Option, Some, None, IsSome, MatchOption, arith, ◌⊎◌, inl, inr, is_some}
-use Rattle.std.proofs.Math.Nat.{eq-or-lt_of_le}
-use Rattle.std.specs.Ordering.{nat_cmp, is_lt, eq_by_cmp, ordering_reverse}
-use Rattle.std.specs.Cmp.Lexicographic.{slice_cmp, nat_list_cmp_total, texts_ties}
-use Rattle.std.specs.FinMap.{find, get-from_entries}
-use Rattle.std.specs.declared.cmp.Ordering.{Ordering}
-use Rattle.std.specs.declared.cmp.Ordering.TheVariants.{Less, Equal, Greater}
-use Rattle.std.proofs.lemmas.Bool.{true≢false, false_from_ne_true}
-use Rattle.std.proofs.lemmas.Option.{slice_get_within}
-use Rattle.std.proofs.lemmas.Slice.Eq.{bytes_eq-Decides}
-use Rattle.npy_files.specs.declared.mem_store.StoredFile.{StoredFile}
-use Rattle.npy_files.specs.Stores.{comes_before, IsFirstAfter, IsNextName}
+use Rattle.npy_files.proofs.Words.{◌≡◌, ◌<◌, ◌≤◌, ◌+◌, ℕ, zero, suc, Bool, true, false, List, [], ◌∷◌, map, length, refl, sym, ap, subst, ◌∙◌, cond, Option, Some, None, IsSome, MatchOption, arith, ◌⊎◌, inl, inr, is_some, eq-or-lt_of_le, nat_cmp, is_lt, eq_by_cmp, ordering_reverse, slice_cmp, nat_list_cmp_total, texts_ties, find, get-from_entries, Ordering, Less, Equal, Greater, true≢false, false_from_ne_true, slice_get_within, bytes_eq-Decides, StoredFile, comes_before, IsFirstAfter, IsNextName, named_bytes, files_of, IsNamed, IsFirstOf}
 use Rattle.npy_files.proofs.StoreLaws.{tied_same}
-use Rattle.npy_files.specs.inside.Shelves.{named_bytes, files_of, IsNamed, IsFirstOf}
 
 -- ---- the order of names
 

@@ -1,15 +1,5 @@
 -- The files that a user sees in a folder.
-use Rattle.std.proofs.Common.{◌≡◌, ◌≢◌, ℕ, Bool, true, false, List, Option, Some, None, Ok, Err, Result, IsTrue, cond, refl, sym, ap, ◌∙◌, subst}
-use Rattle.std.specs.Cmp.Lexicographic.{texts_ties, nat_list_cmp_total}
-use Rattle.std.specs.FinMap.{empty, get, insert, get-retain_keys, get-insert, same_map}
-use Rattle.std.proofs.lemmas.Bool.{true≢false}
-use Rattle.std.proofs.lemmas.Slice.Eq.{bytes_eq-Decides}
-use Rattle.npy_files.specs.Words.{Files, SameBut}
-use Rattle.npy_files.specs.declared.store.StoreFault.{StoreFault}
-use Rattle.npy_files.specs.declared.store.StoreFault.TheVariants.{Device, TooLong, Memory}
-use Rattle.npy_files.specs.Names.{is_user_name}
-use Rattle.npy_files.specs.Stores.{StoreState, IsRead, IsKept, IsWritten}
-use Rattle.npy_files.specs.Folders.{user_files, folder_shelf, IsPut}
+use Rattle.npy_files.proofs.Words.{◌≡◌, ◌≢◌, ℕ, Bool, true, false, List, Option, Some, None, Ok, Err, Result, IsTrue, cond, refl, sym, ap, ◌∙◌, subst, texts_ties, nat_list_cmp_total, empty, get, insert, get-retain_keys, get-insert, same_map, true≢false, bytes_eq-Decides, Files, SameBut, StoreFault, Device, TooLong, Memory, is_user_name, StoreState, IsRead, IsKept, IsWritten, user_files, folder_shelf, IsPut}
 use Rattle.npy_files.proofs.StoreLaws.{exact, by_name}
 
 tied : (a b : List ℕ) → by_name a b ≡ true → a ≡ b

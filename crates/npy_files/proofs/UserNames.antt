@@ -1,9 +1,5 @@
 -- What a user sees when a file is written under a hidden name, and then put in place.
-use Rattle.std.proofs.Common.{◌≡◌, ◌≢◌, ℕ, List, Some, IsTrue, inl, sym, ◌∙◌, subst}
-use Rattle.std.proofs.lemmas.Bool.{true≢false}
-use Rattle.npy_files.specs.Words.{Files, Same, History, Leaves, Replaces, unmoved, weaker}
-use Rattle.npy_files.specs.Names.{is_user_name, hidden_name}
-use Rattle.npy_files.specs.Folders.{OldOrNew}
+use Rattle.npy_files.proofs.Words.{◌≡◌, ◌≢◌, ℕ, List, Some, IsTrue, inl, sym, ◌∙◌, subst, true≢false, Files, Same, History, Leaves, Replaces, unmoved, weaker, is_user_name, hidden_name, OldOrNew}
 
 -- no user's file has a hidden name
 pub apart : (name other : List ℕ) → IsTrue (is_user_name other) → other ≢ hidden_name name

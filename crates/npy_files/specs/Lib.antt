@@ -3,3 +3,4 @@ pub mod Names
 pub mod Folders
 pub mod inside
 pub mod Words
+pub mod Clauses

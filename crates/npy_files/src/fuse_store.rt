@@ -1,9 +1,5 @@
 //! A store whose device fails once.
-ghost use Rattle.std.specs.Prelude.{◌≡◌, ◌++◌, true};
-ghost use Rattle.std.specs.FinMap.{get};
-ghost use Rattle.npy_files.specs.Stores.{IsSameStore, FaultHasCause, ReadsFile, IsKept, WritesFile};
-ghost use Rattle.npy_files.specs.declared.store.StoreFault.TheVariants.{Device};
-ghost use Rattle.npy_files.specs.inside.Shelves.{answer_by, calls_after};
+ghost use Rattle.npy_files.specs.Clauses.{◌≡◌, ◌++◌, true, get, IsSameStore, FaultHasCause, ReadsFile, IsKept, WritesFile, Device, answer_by, calls_after};
 
 use crate::mem_store::MemStore;
 use crate::store::{NpyStore, StoreFault};

@@ -1,9 +1,5 @@
 //! Reads files in two parts.
-ghost use Rattle.npy_files.specs.Stores.{IsRead};
-ghost use Rattle.npy_files.specs.Words.{HasCause, Leaves, Same};
-ghost use Rattle.npy_files.specs.declared.store.StoreFault.TheVariants.{Device, TooLong};
-ghost use Rattle.std.specs.FinMap.{get};
-ghost use Rattle.std.specs.Prelude.{IfOk, IsErrOf, IsTrue, List, OnOk, [], drop, length, take, ℕ, ◌++◌, ◌+◌, ◌<◌, ◌≡◌, ◌≤◌};
+ghost use Rattle.npy_files.specs.Clauses.{IsRead, HasCause, Leaves, Same, Device, TooLong, get, IfOk, IsErrOf, IsTrue, List, OnOk, [], drop, length, take, ℕ, ◌++◌, ◌+◌, ◌<◌, ◌≡◌, ◌≤◌};
 
 use crate::store::StoreFault;
 use disk::Disk;

@@ -1,10 +1,5 @@
 -- Files that are written: whole files, byte for byte, as the format says.
-use Rattle.std.proofs.Common.{◌≡◌, ℕ, true, false, List, [], ◌∷◌, ◌++◌, Ok, Err, codes, replicate, refl}
-use Rattle.std.specs.Prelude.{pos}
-use Rattle.std.specs.Fmt.{digits}
-use Rattle.npy_format.specs.Words.{TooLarge, Little, Big, Two, Four, Scalar, Byte, Int, Bytes, no_more, scalar_field, record_field, LeafValue, number}
-use Rattle.elem_descr.specs.declared.descr.Descr.TheVariants.{Scalar as ScalarDescr, Record as RecordDescr}
-use Rattle.npy_format.specs.WrittenFiles.{is_fortran, saved}
+use Rattle.npy_format.proofs.Words.{◌≡◌, ℕ, true, false, List, [], ◌∷◌, ◌++◌, Ok, Err, codes, replicate, refl, pos, digits, TooLarge, Little, Big, Two, Four, Scalar, Byte, Int, Bytes, no_more, scalar_field, record_field, LeafValue, number, ScalarDescr, RecordDescr, is_fortran, saved}
 
 abbrev int : Scalar
 int = Int true Four Little

@@ -1,12 +1,6 @@
 -- Laws of literals for a text that is read a second time.
-use Rattle.std.proofs.Common.{◌≡◌, ◌<◌, ◌≤◌, ℕ, zero, suc, Bool, true, false, List, [], ◌∷◌, length, Option, Some, None, Result, Ok, Err, refl, ap, sym, ◌∙◌, arith}
-use Rattle.std.specs.Prelude.{nat_eq, if◌then◌else◌}
-use Rattle.std.specs.Option.{ok_or}
-use Rattle.npy_format.specs.Words.{Refusal, BadHeader, ◌>>=◌}
-use Rattle.npy_format.specs.Tokens.{Token}
+use Rattle.npy_format.proofs.Words.{◌≡◌, ◌<◌, ◌≤◌, ℕ, zero, suc, Bool, true, false, List, [], ◌∷◌, length, Option, Some, None, Result, Ok, Err, refl, ap, sym, ◌∙◌, arith, nat_eq, if◌then◌else◌, ok_or, Refusal, BadHeader, ◌>>=◌, Token, Literal, Read, symbol_token_at, if_read, list_end, entries_in, tuple_in, list_in, pair_in, dictionary_in, bracketed, literal_in}
 use Rattle.npy_format.specs.Tokens as token
-use Rattle.npy_format.specs.Listed.{Literal}
-use Rattle.npy_format.specs.Literals.{Read, symbol_token_at, if_read, list_end, entries_in, tuple_in, list_in, pair_in, dictionary_in, bracketed, literal_in}
 
 -- ---- what is read at a depth is read at a greater depth
 

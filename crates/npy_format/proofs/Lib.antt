@@ -1,3 +1,4 @@
+pub mod Words
 pub mod TokenLaws
 pub mod ValueLaws
 pub mod GrammarLaws

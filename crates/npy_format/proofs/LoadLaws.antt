@@ -1,13 +1,5 @@
 -- Splitting a written file into its parts again.
-use Rattle.std.proofs.Common.{◌≡◌, ℕ, ◌+◌, ◌-◌, ◌%◌, ◌^◌, ◌<◌, ◌≤◌, List, [], ◌∷◌, ◌++◌, length, drop, replicate, codes, Ok, refl, sym, ap, ◌∙◌, arith, append_assoc, length-append, inl, inr}
-use Rattle.std.specs.Prelude.{if◌then◌else◌}
-use Rattle.std.proofs.Math.Seq.{take-append_seam, drop-append_seam}
-use Rattle.std.proofs.Math.Nat.{mod-lt}
-use Rattle.std.proofs.lemmas.Bool.{le-leb, lt-ltb, le-ltb, cases_lt}
-use Rattle.std.proofs.lemmas.List.{append-nil}
-use Rattle.npy_format.specs.Words.{little_bytes, little_number, little_number-reads_back, length-bytes_low_first}
-use Rattle.npy_format.specs.Files.{magic, max_header, split_front, length_bytes, text_behind, split_header}
-use Rattle.npy_format.specs.WrittenHeaders.{max_short_text, spaces_after, padded_text, with_length, written_header}
+use Rattle.npy_format.proofs.Words.{◌≡◌, ℕ, ◌+◌, ◌-◌, ◌%◌, ◌^◌, ◌<◌, ◌≤◌, List, [], ◌∷◌, ◌++◌, length, drop, replicate, codes, Ok, refl, sym, ap, ◌∙◌, arith, append_assoc, length-append, inl, inr, if◌then◌else◌, take-append_seam, drop-append_seam, mod-lt, le-leb, lt-ltb, le-ltb, cases_lt, append-nil, little_bytes, little_number, little_number-reads_back, length-bytes_low_first, magic, max_header, split_front, length_bytes, text_behind, split_header, max_short_text, spaces_after, padded_text, with_length, written_header}
 use Rattle.npy_format.proofs.FileLaws.{header_split, length-padded}
 
 pub front_split : (front back : List ℕ) → split_front (length front) (front ++ back) ≡ Ok (front, back)

@@ -1,13 +1,5 @@
 -- Files in two parts, the first of which contains the header.
-use Rattle.std.proofs.Common.{◌≡◌, ◌⊎◌, ◌<◌, ◌≤◌, ℕ, Bool, true, false, List, [], ◌∷◌, ◌++◌, length, take, drop, Ok, Err, refl, sym, ap, ◌∙◌, arith, length-append, length-take, nat_le, inl, inr}
-use Rattle.std.specs.Prelude.{if◌then◌else◌}
-use Rattle.std.proofs.lemmas.Bool.{le-leb, leb-true, cases_lt}
-use Rattle.std.proofs.lemmas.Slice.Eq.{bytes_eq-Decides}
-use Rattle.std.proofs.lemmas.List.{take-append-le, drop-append-le, append-nil}
-use Rattle.std.specs.Str.{bytes_eq}
-use Rattle.npy_format.specs.Words.{little_number, Refusal, BadMagic, Truncated, TooLarge, check, bind_ok}
-use Rattle.npy_format.specs.Files.{magic, max_header, split_front, begins_well, length_bytes, text_behind, split_header, load}
-use Rattle.npy_format.specs.inside.LoadedParts.{load_behind}
+use Rattle.npy_format.proofs.Words.{◌≡◌, ◌⊎◌, ◌<◌, ◌≤◌, ℕ, Bool, true, false, List, [], ◌∷◌, ◌++◌, length, take, drop, Ok, Err, refl, sym, ap, ◌∙◌, arith, length-append, length-take, nat_le, inl, inr, if◌then◌else◌, le-leb, leb-true, cases_lt, bytes_eq-Decides, take-append-le, drop-append-le, append-nil, bytes_eq, little_number, Refusal, BadMagic, Truncated, TooLarge, check, bind_ok, magic, max_header, split_front, begins_well, length_bytes, text_behind, split_header, load, load_behind}
 use Rattle.npy_format.proofs.FileLaws.{header_split}
 
 checked : (test : Bool) (refusal : Refusal) (u : Unit {0}) → check test refusal ≡ Ok u → test ≡ true

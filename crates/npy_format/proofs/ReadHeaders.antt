@@ -1,18 +1,6 @@
 -- Reading a header from the text that is written.
-use Rattle.std.proofs.Common.{◌≡◌, ℕ, zero, suc, ◌-◌, ◌<◌, ◌≤◌, Bool, true, false, All, List, [], ◌∷◌, ◌++◌, length, replicate, codes, decimal, None, Ok, refl, sym, ap, subst, ◌∙◌, arith, append_assoc, nat_eq}
-use Rattle.std.specs.Char.{is_ascii_digit}
-use Rattle.std.specs.List.{list_all, flat_map}
-use Rattle.std.proofs.lemmas.List.Elements.{All-head, All-tail}
-use Rattle.npy_format.specs.Words.{Descr, ◌>>=◌, max_items, IsShape, shape_text, shape_read}
-use Rattle.npy_format.specs.Tokens.{Token, is_plain_byte, tokens}
+use Rattle.npy_format.proofs.Words.{◌≡◌, ℕ, zero, suc, ◌-◌, ◌<◌, ◌≤◌, Bool, true, false, All, List, [], ◌∷◌, ◌++◌, length, replicate, codes, decimal, None, Ok, refl, sym, ap, subst, ◌∙◌, arith, append_assoc, nat_eq, is_ascii_digit, list_all, flat_map, All-head, All-tail, Descr, ◌>>=◌, max_items, IsShape, shape_text, shape_read, Token, is_plain_byte, tokens, Round, Text, Integer, Truth, Literal, Plain, Row, Pair, all_listed_values, symbol_token_at, entries_in, pair_in, tuple_in, literal_in, descr_in, integers_of, lengths_of, dictionary_of, header_of, header, written_descr, written_truth, written_text, IsSound}
 use Rattle.npy_format.specs.Tokens as token
-use Rattle.npy_format.specs.Values.{Round, Text, Integer, Truth}
-use Rattle.npy_format.specs.Listed.{Literal, Plain, Row, Pair, all_listed_values}
-use Rattle.npy_format.specs.Literals.{symbol_token_at, entries_in, pair_in, tuple_in, literal_in}
-use Rattle.npy_format.specs.RecordLists.{descr_in}
-use Rattle.npy_format.specs.Headers.{integers_of, lengths_of, dictionary_of, header_of, header}
-use Rattle.npy_format.specs.WrittenHeaders.{written_descr, written_truth, written_text}
-use Rattle.npy_format.specs.inside.Sound.{IsSound}
 use Rattle.npy_format.proofs.ReadTokens.{Scans, scan_token, scan_space, scan_spaces, scan_end, scan_quoted, scan_number}
 use Rattle.npy_format.proofs.ReadValues.{IsValue}
 use Rattle.npy_format.proofs.ReadRecords.{written_value, descr_read, written_value_is}

@@ -1,19 +1,7 @@
 -- Reading a record from the entries that are written for it.
-use Rattle.std.proofs.Common.{◌≡◌, ℕ, zero, suc, ◌+◌, ◌-◌, ◌^◌, ◌<◌, ◌≤◌, true, false, List, [], ◌∷◌, ◌++◌, map, length, codes, decimal, Result, Ok, refl, sym, ap, subst, ◌∙◌, arith, append_assoc, length-append, add-zero, nat_eq}
-use Rattle.std.specs.List.{IsDistinct, list_all}
-use Rattle.std.specs.Str.{bytes_eq}
-use Rattle.std.proofs.lemmas.Bool.{le-leb, ne_eqb, true≢false, and_parts}
-use Rattle.std.proofs.lemmas.Fmt.{decimal_nonempty}
-use Rattle.std.proofs.lemmas.List.{append-nil}
-use Rattle.npy_format.specs.Words.{Refusal, Scalar, Field, Descr, ◌>>=◌, size, Fields, no_more, scalar_field, record_field, Structure, is_legal_name, AreNamedWithin, InOrder, fields_of, names_of, depth, leaf_count, listed-fields_of, InOrder-within, some_depth, item_size, leaves_of, length-leaves_from, spelling, Partial, is_taken, widened, closed_record, packed, field_of, grown, name_ok, added_ok, names, not_taken, digits-decimal, value_of-decimal, reads_spelling}
-use Rattle.elem_descr.specs.declared.descr.Descr.TheVariants.{Scalar as ScalarDescr, Record as RecordDescr}
-use Rattle.npy_format.specs.Values.{Square, Text}
-use Rattle.npy_format.specs.Listed.{Literal, Plain, Row, all_listed_values}
-use Rattle.npy_format.specs.RecordLists.{pad_kind, type_in, field_in, entry_in, fields_in, record_in, descr_in, Reader}
-use Rattle.npy_format.specs.inside.Sound.{IsSound}
+use Rattle.npy_format.proofs.Words.{◌≡◌, ℕ, zero, suc, ◌+◌, ◌-◌, ◌^◌, ◌<◌, ◌≤◌, true, false, List, [], ◌∷◌, ◌++◌, map, length, codes, decimal, Result, Ok, refl, sym, ap, subst, ◌∙◌, arith, append_assoc, length-append, add-zero, nat_eq, IsDistinct, list_all, bytes_eq, le-leb, ne_eqb, true≢false, and_parts, decimal_nonempty, append-nil, Refusal, Scalar, Field, Descr, ◌>>=◌, size, Fields, no_more, scalar_field, record_field, Structure, is_legal_name, AreNamedWithin, InOrder, fields_of, names_of, depth, leaf_count, listed-fields_of, InOrder-within, some_depth, item_size, leaves_of, length-leaves_from, spelling, Partial, is_taken, widened, closed_record, packed, field_of, grown, name_ok, added_ok, names, not_taken, digits-decimal, value_of-decimal, reads_spelling, ScalarDescr, RecordDescr, Square, Text, Literal, Plain, Row, all_listed_values, pad_kind, type_in, field_in, entry_in, fields_in, record_in, descr_in, Reader, IsSound, written_descr, entries}
 use Rattle.npy_format.proofs.ReadValues.{IsValue, entry_literal, gap_values, entry_values, quoted_value, list_value, entries_are, plain_spelling}
 use Rattle.npy_format.proofs.ValueLaws.{literals_of_listed}
-use Rattle.npy_format.specs.WrittenHeaders.{written_descr, entries}
 
 after_ok : {X Y : Type 0} (r : Result X Refusal) (x : X) (f : X → Result Y Refusal) → r ≡ Ok x → (r >>= f) ≡ f x
 after_ok r x f is = ap (λ q. q >>= f) is

@@ -1,24 +1,7 @@
 -- The file of an array loads as that array.
-use Rattle.std.proofs.Common.{◌≡◌, ℕ, zero, suc, ◌+◌, ◌-◌, ◌*◌, ◌<◌, ◌≤◌, true, false, Bool, pos, List, [], ◌∷◌, ◌++◌, map, length, get_or, take, drop, replicate, reverse, codes, All, Ok, refl, sym, ap, subst, Result, ◌∙◌, arith, append_assoc, length-append, zero-mul, suc-mul}
-use Rattle.std.specs.Prelude.{if◌then◌else◌}
-use Rattle.std.specs.List.{flat_map, range_with_len}
-use Rattle.std.proofs.Math.Seq.{take-append_seam, drop-append_seam, drop-append-add}
-use Rattle.std.proofs.lemmas.Bool.{le-leb}
-use Rattle.std.proofs.lemmas.List.{append-nil, length-map, get_or-map, ext_get_or, length-replicate, reverse-reverse}
-use Rattle.std.proofs.lemmas.List.FromFn.{length-map-range_with_len, get_or-map-range_with_len}
-use Rattle.npy_format.specs.Words.{item_at, length-item_at, Leaf, Scalar, Byte, Int, Bytes, Descr, Refusal, ◌>>=◌, fortran_order, length-fortran, LeafValue, number, size, decode, encode, truth, item_size, leaves_of, AreInOrder, encode_from, encode_item, decode_item, AreInOrder-within, leaves_in_order, item_from, AreBytes, bytes-drop, bytes-take, truth-twice, length-encode, max_bytes, count, indexes, rank, length-indexes, rank-lt, get_or-indexes, index_at, count-reverse, IsIndex-reverse, IsShape, offsets_in}
-use Rattle.elem_descr.specs.declared.scalar.Scalar.TheVariants.{Bool as BoolScalar}
-use Rattle.elem_descr.specs.declared.descr.Descr.TheVariants.{Scalar as ScalarDescr, Record as RecordDescr}
-use Rattle.npy_format.specs.declared.header.Header.{Header}
+use Rattle.npy_format.proofs.Words.{◌≡◌, ℕ, zero, suc, ◌+◌, ◌-◌, ◌*◌, ◌<◌, ◌≤◌, true, false, Bool, pos, List, [], ◌∷◌, ◌++◌, map, length, get_or, take, drop, replicate, reverse, codes, All, Ok, refl, sym, ap, subst, Result, ◌∙◌, arith, append_assoc, length-append, zero-mul, suc-mul, if◌then◌else◌, flat_map, range_with_len, take-append_seam, drop-append_seam, drop-append-add, le-leb, append-nil, length-map, get_or-map, ext_get_or, length-replicate, reverse-reverse, length-map-range_with_len, get_or-map-range_with_len, item_at, length-item_at, Leaf, Scalar, Byte, Int, Bytes, Descr, Refusal, ◌>>=◌, fortran_order, length-fortran, LeafValue, number, size, decode, encode, truth, item_size, leaves_of, AreInOrder, encode_from, encode_item, decode_item, AreInOrder-within, leaves_in_order, item_from, AreBytes, bytes-drop, bytes-take, truth-twice, length-encode, max_bytes, count, indexes, rank, length-indexes, rank-lt, get_or-indexes, index_at, count-reverse, IsIndex-reverse, IsShape, offsets_in, BoolScalar, ScalarDescr, RecordDescr, Header, load, file_order, data_size, split_front, split_header, header, written_text, written_header, ordered, file_of, LoadsAs, IsSound, read_leaf}
 use Rattle.npy_format.proofs.GatherLaws.{fortran-within}
 use Rattle.npy_format.proofs.WriterLaws.{ordered-items}
-use Rattle.npy_format.specs.Files.{load, file_order, data_size, split_front, split_header}
-use Rattle.npy_format.specs.Headers.{header}
-use Rattle.npy_format.specs.WrittenHeaders.{written_text, written_header}
-use Rattle.npy_format.specs.WrittenFiles.{ordered, file_of}
-use Rattle.npy_format.specs.SavedFiles.{LoadsAs}
-use Rattle.npy_format.specs.inside.Sound.{IsSound}
-use Rattle.npy_format.specs.inside.WrittenItems.{read_leaf}
 use Rattle.npy_format.proofs.ScalarBytes.{scalar_again}
 use Rattle.npy_format.proofs.WrittenItemLaws.{length-written}
 use Rattle.npy_format.proofs.LoadLaws.{written_split, front_split}

@@ -1,14 +1,5 @@
 -- The bytes of a scalar, read and written back.
-use Rattle.std.proofs.Common.{◌≡◌, ℕ, zero, suc, ◌+◌, ◌-◌, ◌*◌, ◌/◌, ◌^◌, ◌<◌, List, [], ◌∷◌, ◌++◌, length, replicate, refl, sym, ap, ◌∙◌, arith, length-take}
-use Rattle.std.specs.Prelude.{nat_eq}
-use Rattle.std.specs.Int.{byte_at, bytes_low_first, bytes_high_first}
-use Rattle.std.proofs.Math.Nat.{mod-lt}
-use Rattle.std.proofs.lemmas.Nat.{div-mul-add}
-use Rattle.std.proofs.lemmas.List.{append-nil, take_all}
-use Rattle.std.proofs.lemmas.List.Sums.{suffix_len-le-length}
-use Rattle.npy_format.specs.Words.{little_from, big_from, little_number, big_number, little_bytes, big_bytes, little_from-cons, big_from-cons, little_from-lt, big_from-lt, length-bytes_low_first, length-bytes_high_first, little_number-reads_back, big_number-reads_back, Order, Little, Big, Scalar, Byte, Int, Bytes, size, decode, encode, number_in, bytes_of, truth, width_size, without_nuls, padded, low_bits-integer, without_nuls-back, nuls, AreBytes, number-lt, truth-twice}
-use Rattle.elem_descr.specs.declared.scalar.Scalar.TheVariants.{Bool as BoolScalar}
-use Rattle.npy_format.specs.inside.WrittenItems.{limit}
+use Rattle.npy_format.proofs.Words.{◌≡◌, ℕ, zero, suc, ◌+◌, ◌-◌, ◌*◌, ◌/◌, ◌^◌, ◌<◌, List, [], ◌∷◌, ◌++◌, length, replicate, refl, sym, ap, ◌∙◌, arith, length-take, nat_eq, byte_at, bytes_low_first, bytes_high_first, mod-lt, div-mul-add, append-nil, take_all, suffix_len-le-length, little_from, big_from, little_number, big_number, little_bytes, big_bytes, little_from-cons, big_from-cons, little_from-lt, big_from-lt, length-bytes_low_first, length-bytes_high_first, little_number-reads_back, big_number-reads_back, Order, Little, Big, Scalar, Byte, Int, Bytes, size, decode, encode, number_in, bytes_of, truth, width_size, without_nuls, padded, low_bits-integer, without_nuls-back, nuls, AreBytes, number-lt, truth-twice, BoolScalar, limit}
 
 -- ---- numbers
 

@@ -1,13 +1,6 @@
 -- The tokens after entries, read turn by turn, and after a value in brackets.
-use Rattle.std.proofs.Common.{◌≡◌, ◌<◌, ◌≤◌, ◌-◌, ℕ, zero, suc, Bool, List, [], ◌∷◌, length, Option, Some, None, Ok, Err, refl, ap, ◌∙◌, arith}
-use Rattle.std.specs.Option.{ok_or}
-use Rattle.npy_format.specs.Words.{Refusal, BadHeader, ◌>>=◌, bind_same}
-use Rattle.npy_format.specs.Tokens.{Token}
+use Rattle.npy_format.proofs.Words.{◌≡◌, ◌<◌, ◌≤◌, ◌-◌, ℕ, zero, suc, Bool, List, [], ◌∷◌, length, Option, Some, None, Ok, Err, refl, ap, ◌∙◌, arith, ok_or, Refusal, BadHeader, ◌>>=◌, bind_same, Token, Literal, Pair, HeaderAnyTurns, Read, symbol_token_at, if_read, list_end, entries_in, tuple_in, list_in, pair_in, dictionary_in, bracketed, literal_in, behind, behind_entries, behind_key}
 use Rattle.npy_format.specs.Tokens as token
-use Rattle.npy_format.specs.Listed.{Literal, Pair}
-use Rattle.npy_format.specs.Headers.{HeaderAnyTurns}
-use Rattle.npy_format.specs.Literals.{Read, symbol_token_at, if_read, list_end, entries_in, tuple_in, list_in, pair_in, dictionary_in, bracketed, literal_in}
-use Rattle.npy_format.specs.inside.Entries.{behind, behind_entries, behind_key}
 use Rattle.npy_format.proofs.GrammarLaws.{Shortens, symbol_shorter, pair_leaves, literal_leaves}
 use Rattle.npy_format.proofs.TokenLaws.{tokens_any_turns}
 

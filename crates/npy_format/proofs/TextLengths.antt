@@ -1,15 +1,5 @@
 -- The maximum length of the text of a header.
-use Rattle.std.proofs.Common.{◌≡◌, ℕ, zero, suc, ◌+◌, ◌-◌, ◌*◌, ◌≤◌, ◌&&◌, Bool, true, false, All, List, [], ◌∷◌, ◌++◌, length, codes, decimal, arith, length-append, suc-mul, mul-le-mul_left, nat_le}
-use Rattle.std.specs.List.{list_all, flat_map}
-use Rattle.std.proofs.lemmas.Bool.{leb-true, and_parts}
-use Rattle.std.proofs.lemmas.Fmt.{length-decimal-le}
-use Rattle.std.proofs.lemmas.List.Elements.{All-head, All-tail}
-use Rattle.std.proofs.Math.Nat.{mul-add}
-use Rattle.npy_format.specs.Words.{Little, Big, Scalar, Byte, Int, Bytes, Descr, size, Fields, no_more, scalar_field, record_field, total, is_field_name_byte, is_legal_name, InOrder, AreNamedWithin, names_of, depth, leaf_count, InOrder-within, some_depth, some_leaves, spelling, max_items, IsShape, shape_text}
-use Rattle.elem_descr.specs.declared.scalar.Scalar.TheVariants.{Bool as BoolScalar}
-use Rattle.elem_descr.specs.declared.descr.Descr.TheVariants.{Scalar as ScalarDescr, Record as RecordDescr}
-use Rattle.npy_format.specs.inside.Sound.{IsSound}
-use Rattle.npy_format.specs.WrittenHeaders.{quoted, opened_entry, entry, gap, separated, in_brackets, entries, written_descr, written_truth, written_text}
+use Rattle.npy_format.proofs.Words.{◌≡◌, ℕ, zero, suc, ◌+◌, ◌-◌, ◌*◌, ◌≤◌, ◌&&◌, Bool, true, false, All, List, [], ◌∷◌, ◌++◌, length, codes, decimal, arith, length-append, suc-mul, mul-le-mul_left, nat_le, list_all, flat_map, leb-true, and_parts, length-decimal-le, All-head, All-tail, mul-add, Little, Big, Scalar, Byte, Int, Bytes, Descr, size, Fields, no_more, scalar_field, record_field, total, is_field_name_byte, is_legal_name, InOrder, AreNamedWithin, names_of, depth, leaf_count, InOrder-within, some_depth, some_leaves, spelling, max_items, IsShape, shape_text, BoolScalar, ScalarDescr, RecordDescr, IsSound, quoted, opened_entry, entry, gap, separated, in_brackets, entries, written_descr, written_truth, written_text}
 
 short_decimal : (n : ℕ) → n ≤ 65536 → length (decimal n) ≤ 5
 short_decimal n small = length-decimal-le 5 n (omega arith) (omega (arith, small)) (omega (arith, small))

@@ -1,16 +1,5 @@
 -- A file, put together from its header and its items.
-use Rattle.std.proofs.Common.{◌≡◌, ℕ, ◌+◌, ◌*◌, ◌<◌, ◌≤◌, true, false, Bool, List, [], ◌∷◌, ◌++◌, map, length, get_or, take, drop, reverse, All, Ok, Err, refl, sym, ap, ◌∙◌, arith, zero-mul, suc-mul, length-append}
-use Rattle.std.specs.Prelude.{if◌then◌else◌}
-use Rattle.std.specs.List.{flat_map}
-use Rattle.std.proofs.Math.Seq.{take-append_seam, drop-append_seam}
-use Rattle.std.proofs.lemmas.Bool.{lt-leb, le-leb}
-use Rattle.std.proofs.lemmas.List.{length-map, get_or-map, ext_get_or}
-use Rattle.std.proofs.lemmas.List.Folds.{flat_map-map}
-use Rattle.std.proofs.lemmas.List.Elements.{All-head, All-tail}
-use Rattle.npy_format.specs.Words.{item_at, length-item_at, TooLarge, Descr, LeafValue, item_size, encode_item, decode_item, blocks, item_from, max_bytes, count, indexes, rank, fortran_order, length-fortran}
-use Rattle.npy_format.specs.Files.{file_order}
-use Rattle.npy_format.specs.WrittenFiles.{is_fortran, ordered, file_of, saved}
-use Rattle.npy_format.specs.inside.WrittenItems.{gathered, addresses_in_file}
+use Rattle.npy_format.proofs.Words.{◌≡◌, ℕ, ◌+◌, ◌*◌, ◌<◌, ◌≤◌, true, false, Bool, List, [], ◌∷◌, ◌++◌, map, length, get_or, take, drop, reverse, All, Ok, Err, refl, sym, ap, ◌∙◌, arith, zero-mul, suc-mul, length-append, if◌then◌else◌, flat_map, take-append_seam, drop-append_seam, lt-leb, le-leb, length-map, get_or-map, ext_get_or, flat_map-map, All-head, All-tail, item_at, length-item_at, TooLarge, Descr, LeafValue, item_size, encode_item, decode_item, blocks, item_from, max_bytes, count, indexes, rank, fortran_order, length-fortran, file_order, is_fortran, ordered, file_of, saved, gathered, addresses_in_file}
 use Rattle.npy_format.proofs.GatherLaws.{fortran-entry, fortran-within}
 
 -- gathered items, item by item

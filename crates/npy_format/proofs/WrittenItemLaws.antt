@@ -1,13 +1,5 @@
 -- Writing items over their own bytes.
-use Rattle.std.proofs.Common.{◌≡◌, ℕ, zero, suc, ◌+◌, ◌-◌, ◌*◌, ◌<◌, ◌≤◌, min, inl, inr, List, [], ◌∷◌, ◌++◌, map, length, get_or, take, drop, replicate, slice_set, refl, sym, ap, subst, ◌∙◌, arith, append_assoc, append-nil, length-append, length-take, length-drop, zero-mul, suc-mul, mul-one}
-use Rattle.std.specs.List.{flat_map, repeat}
-use Rattle.std.proofs.Math.Seq.{take-append_seam, drop-append_seam}
-use Rattle.std.proofs.Math.Nat.{mul-le-mul_left, min-zero}
-use Rattle.std.proofs.lemmas.Bool.{cases_lt}
-use Rattle.std.proofs.lemmas.List.{drop_all, take-append-drop, drop-drop, length-replicate}
-use Rattle.npy_format.specs.Words.{item_at, put, front_length, Leaf, Scalar, Byte, Int, Bytes, size, decode, encode, truth_suc, AreInOrder, encode_from, AreInOrder-within, blocks, AreBytes, bytes-drop, bytes-take, length-encode}
-use Rattle.elem_descr.specs.declared.scalar.Scalar.TheVariants.{Bool as BoolScalar}
-use Rattle.npy_format.specs.inside.WrittenItems.{read_leaf, written_item, limit, limits_from, capped, IsPlain}
+use Rattle.npy_format.proofs.Words.{◌≡◌, ℕ, zero, suc, ◌+◌, ◌-◌, ◌*◌, ◌<◌, ◌≤◌, min, inl, inr, List, [], ◌∷◌, ◌++◌, map, length, get_or, take, drop, replicate, slice_set, refl, sym, ap, subst, ◌∙◌, arith, append_assoc, append-nil, length-append, length-take, length-drop, zero-mul, suc-mul, mul-one, flat_map, repeat, take-append_seam, drop-append_seam, mul-le-mul_left, min-zero, cases_lt, drop_all, take-append-drop, drop-drop, length-replicate, item_at, put, front_length, Leaf, Scalar, Byte, Int, Bytes, size, decode, encode, truth_suc, AreInOrder, encode_from, AreInOrder-within, blocks, AreBytes, bytes-drop, bytes-take, length-encode, BoolScalar, read_leaf, written_item, limit, limits_from, capped, IsPlain}
 use Rattle.npy_format.proofs.ScalarBytes.{scalar_again, bool_again}
 
 -- ---- bytes that are put in place

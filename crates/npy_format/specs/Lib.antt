@@ -10,3 +10,4 @@ pub mod WrittenFiles
 pub mod SavedFiles
 pub mod inside
 pub mod Words
+pub mod Clauses

@@ -1,11 +1,5 @@
 //! Files in two parts: how they are saved and loaded.
-ghost use Rattle.npy_format.specs.Files.{Loads, load};
-ghost use Rattle.npy_format.specs.SavedFiles.{LoadsAs};
-ghost use Rattle.npy_format.specs.Words.{AreInOrder, Gives, TooLarge, count, is_c_contiguous, is_f_contiguous, item_at, item_from, item_size, leaves_of, max_bytes, offsets};
-ghost use Rattle.npy_format.specs.WrittenFiles.{file_of, is_fortran, saved};
-ghost use Rattle.npy_format.specs.inside.LoadedParts.{load_behind};
-ghost use Rattle.npy_format.specs.inside.WrittenItems.{IsPlain, file_at};
-ghost use Rattle.std.specs.Prelude.{All, Err, IfOk, length, map, true, ◌*◌, ◌++◌, ◌+◌, ◌<◌, ◌||◌, ◌≡◌, ◌≤◌};
+ghost use Rattle.npy_format.specs.Clauses.{Loads, load, LoadsAs, AreInOrder, Gives, TooLarge, count, is_c_contiguous, is_f_contiguous, item_at, item_from, item_size, leaves_of, max_bytes, offsets, file_of, is_fortran, saved, load_behind, IsPlain, file_at, All, Err, IfOk, length, map, true, ◌*◌, ◌++◌, ◌+◌, ◌<◌, ◌||◌, ◌≡◌, ◌≤◌};
 
 use crate::items::{are_plain, are_together};
 use crate::reader::{array, array_over, contents, front_len, npy_read, split_header};

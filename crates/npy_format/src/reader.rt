@@ -1,8 +1,5 @@
 //! Reads files.
-ghost use Rattle.std.specs.Prelude.{◌≡◌, ◌≤◌, ◌^◌, ◌++◌, length, IfOk};
-ghost use Rattle.npy_format.specs.Words.{Answers, Gives, max_bytes};
-ghost use Rattle.npy_format.specs.Files.{split_front, begins_well, length_bytes, text_behind, split_header, data_size, file_order, load, HoldsFileItems, Loads};
-ghost use Rattle.npy_format.specs.inside.LoadedParts.{load_behind};
+ghost use Rattle.npy_format.specs.Clauses.{◌≡◌, ◌≤◌, ◌^◌, ◌++◌, length, IfOk, Answers, Gives, max_bytes, split_front, begins_well, length_bytes, text_behind, split_header, data_size, file_order, load, HoldsFileItems, Loads, load_behind};
 
 use crate::header::{Header, header_read};
 use arrays::Owned;

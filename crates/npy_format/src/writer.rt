@@ -1,12 +1,5 @@
 //! Writes files.
-ghost use Rattle.std.specs.Prelude.{◌≡◌, Bool, ◌+◌, ◌*◌, ◌<◌, ◌≤◌, ◌++◌, length, map, take, drop, All, IfOk, OnOk, Err};
-ghost use Rattle.std.specs.List.{flat_map};
-ghost use Rattle.npy_format.specs.Words.{TooLarge, Gives, item_size, decode_item, encode_item, item_from, blocks, max_bytes, count, offsets};
-ghost use Rattle.npy_format.specs.WrittenHeaders.{written_text, written_header};
-ghost use Rattle.npy_format.specs.WrittenFiles.{is_fortran, file_of, saved};
-ghost use Rattle.npy_format.specs.SavedFiles.{LoadsAs};
-ghost use Rattle.npy_format.specs.inside.Sound.{IsSound};
-ghost use Rattle.npy_format.specs.inside.WrittenItems.{as_in_file, file_at};
+ghost use Rattle.npy_format.specs.Clauses.{◌≡◌, Bool, ◌+◌, ◌*◌, ◌<◌, ◌≤◌, ◌++◌, length, map, take, drop, All, IfOk, OnOk, Err, flat_map, TooLarge, Gives, item_size, decode_item, encode_item, item_from, blocks, max_bytes, count, offsets, written_text, written_header, is_fortran, file_of, saved, LoadsAs, IsSound, as_in_file, file_at};
 
 use crate::file_header::file_header;
 use crate::header_text::header_text;

@@ -1,19 +1,5 @@
 -- Laws of disjoint layouts: greatest common divisors, and items in the gaps between others.
-use Rattle.std.proofs.Common.{◌≡◌, ◌+◌, ◌-◌, ◌*◌, ◌/◌, ◌%◌, ◌<◌, ◌≤◌, inl, inr, ℕ, zero, suc, ℤ, pos, negsuc, ◌+ℤ◌, ◌*ℤ◌, List, [], ◌∷◌, ◌++◌, length, map, get_or, drop, All, Contains, nat_le, false, refl, sym, ap, subst, ◌∙◌, arith, add-one, mul-suc, mul-zero, mul_assoc, mul-le-mul_left}
-use Rattle.std.specs.Int.{IsGcd, ◌∣◌}
-use Rattle.std.specs.List.{AllByRecursion as Each}
-use Rattle.std.specs.Prelude.{unsigned_abs, neg_ℤ}
-use Rattle.std.proofs.lemmas.Bool.{cases_lt, cond-true, le-leb, false_from_ne_true}
-use Rattle.std.proofs.lemmas.Int.{ints}
-use Rattle.std.proofs.lemmas.List.Elements.{recursion_from_All, All-from_recursion}
-use Rattle.std.proofs.lemmas.Nat.Gcd.{dvd_refl, dvd-zero, dvd_trans, dvd_antisymm}
-use Rattle.std.proofs.lemmas.List.{drop_all}
-use Rattle.std.proofs.Math.Nat.{div-add-mod, add-mul-mod_self_left, mod-mod, mod-lt}
-use Rattle.std.proofs.Math.IntN.{*ℤ-zero}
-use Rattle.overlap_copy.specs.Words.{Layout, IsIndex, address, offsets, axes, index_at, length-offsets, pos-offset, times_of}
-use Rattle.shape_strides.specs.Addresses.{dot}
-use Rattle.overlap_copy.specs.Overlaps.{have_common_byte}
-use Rattle.overlap_copy.specs.Apart.{step_of, steps, IsGreatestDivisor, LieBetween}
+use Rattle.overlap_copy.proofs.Words.{◌≡◌, ◌+◌, ◌-◌, ◌*◌, ◌/◌, ◌%◌, ◌<◌, ◌≤◌, inl, inr, ℕ, zero, suc, ℤ, pos, negsuc, ◌+ℤ◌, ◌*ℤ◌, List, [], ◌∷◌, ◌++◌, length, map, get_or, drop, All, Contains, nat_le, false, refl, sym, ap, subst, ◌∙◌, arith, add-one, mul-suc, mul-zero, mul_assoc, mul-le-mul_left, IsGcd, ◌∣◌, Each, unsigned_abs, neg_ℤ, cases_lt, cond-true, le-leb, false_from_ne_true, ints, recursion_from_All, All-from_recursion, dvd_refl, dvd-zero, dvd_trans, dvd_antisymm, drop_all, div-add-mod, add-mul-mod_self_left, mod-mod, mod-lt, *ℤ-zero, Layout, IsIndex, address, offsets, axes, index_at, length-offsets, pos-offset, times_of, dot, have_common_byte, step_of, steps, IsGreatestDivisor, LieBetween}
 use Rattle.overlap_copy.proofs.MovingLaws.{Each-append, Each-front, Each-back}
 use Rattle.overlap_copy.proofs.OverlapLaws.{common_from_test}
 

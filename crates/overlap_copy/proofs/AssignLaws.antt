@@ -1,11 +1,5 @@
 -- Items that have no bytes in common.
-use Rattle.std.proofs.Common.{◌≡◌, ◌+◌, ◌<◌, ◌≤◌, inl, inr, false, ℕ, List, get_or, Contains, arith}
-use Rattle.std.proofs.lemmas.Bool.{both_ways, cases_lt}
-use Rattle.std.proofs.lemmas.List.{get_or_default}
-use Rattle.std.proofs.lemmas.List.Elements.{recursion_from_All}
-use Rattle.overlap_copy.specs.Words.{distance}
-use Rattle.overlap_copy.specs.Overlaps.{have_common_byte}
-use Rattle.overlap_copy.specs.inside.Moves.{LiesApart, LieApart}
+use Rattle.overlap_copy.proofs.Words.{◌≡◌, ◌+◌, ◌<◌, ◌≤◌, inl, inr, false, ℕ, List, get_or, Contains, arith, both_ways, cases_lt, get_or_default, recursion_from_All, distance, have_common_byte, LiesApart, LieApart}
 use Rattle.overlap_copy.proofs.OverlapLaws.{test_from_common}
 
 -- if no two items share a byte, they are at least `width` apart

@@ -1,8 +1,5 @@
 -- Copies of items, and what they leave unchanged.
-use Rattle.std.proofs.Common.{◌≡◌, ◌+◌, ◌≤◌, ◌⊎◌, inl, inr, ℕ, List, [], ◌∷◌, length, All, refl, sym, subst, ◌∙◌, arith}
-use Rattle.std.proofs.lemmas.Bool.{cases_lt}
-use Rattle.std.proofs.lemmas.List.Elements.{All-rest, All-head}
-use Rattle.overlap_copy.specs.Words.{put, item_at, length-item_at, length-put, item_at-put_apart, distance, assigned}
+use Rattle.overlap_copy.proofs.Words.{◌≡◌, ◌+◌, ◌≤◌, ◌⊎◌, inl, inr, ℕ, List, [], ◌∷◌, length, All, refl, sym, subst, ◌∙◌, arith, cases_lt, All-rest, All-head, put, item_at, length-item_at, length-put, item_at-put_apart, distance, assigned}
 
 module _ (width : ℕ) (other : List ℕ) where
   abbrev IsIn : List ℕ → ℕ → Type 0

@@ -1,13 +1,5 @@
 -- Laws of the divisors of the steps of the first axes.
-use Rattle.std.proofs.Common.{◌≡◌, ℕ, zero, suc, ◌+◌, ◌-◌, ◌*◌, ◌/◌, ◌<◌, ◌≤◌, inl, inr, List, [], ◌∷◌, length, get_or, take, drop, sym, subst, ap, ◌∙◌, arith, add-one, mul-suc, mul_assoc, mul_comm, mul-zero, zero-mul, mul-add, mul-le-mul_left, mod-lt}
-use Rattle.std.specs.Int.{IsGcd, ◌∣◌}
-use Rattle.std.specs.List.{AllByRecursion as Each}
-use Rattle.std.proofs.lemmas.Bool.{cases_lt}
-use Rattle.std.proofs.Math.Nat.{div-add-mod}
-use Rattle.std.proofs.lemmas.List.{drop_more}
-use Rattle.std.proofs.lemmas.Nat.Gcd.{dvd_trans}
-use Rattle.overlap_copy.specs.Words.{Axis, IsIndex, reach, lengths_in, reached, times_of}
-use Rattle.overlap_copy.specs.inside.Sums.{reach_of, HasSum}
+use Rattle.overlap_copy.proofs.Words.{◌≡◌, ℕ, zero, suc, ◌+◌, ◌-◌, ◌*◌, ◌/◌, ◌<◌, ◌≤◌, inl, inr, List, [], ◌∷◌, length, get_or, take, drop, sym, subst, ap, ◌∙◌, arith, add-one, mul-suc, mul_assoc, mul_comm, mul-zero, zero-mul, mul-add, mul-le-mul_left, mod-lt, IsGcd, ◌∣◌, Each, cases_lt, div-add-mod, drop_more, dvd_trans, Axis, IsIndex, reach, lengths_in, reached, times_of, reach_of, HasSum}
 use Rattle.overlap_copy.proofs.SearchLaws.{most_sum}
 
 -- a number divides the steps of the first k axes

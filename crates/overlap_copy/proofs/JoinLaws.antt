@@ -1,15 +1,5 @@
 -- Laws of joined axes.
-use Rattle.std.proofs.Common.{◌≡◌, ℕ, zero, suc, ◌+◌, ◌-◌, ◌*◌, ◌/◌, ◌%◌, ◌<◌, ◌≤◌, inl, inr, List, [], ◌∷◌, length, get_or, set, take, drop, sum_by, length-drop, sym, subst, ap, refl, ◌∙◌, arith, mul_assoc, mul-add, mul-le-mul_left, zero-mul, mod-lt}
-use Rattle.std.specs.List.Sorted.{IsPermutation}
-use Rattle.std.proofs.lemmas.Bool.{cases_lt}
-use Rattle.std.proofs.lemmas.List.{drop_more, drop-set, take_all}
-use Rattle.std.proofs.lemmas.List.Elements.{All-cons, All-tail, All-drop}
-use Rattle.std.proofs.lemmas.List.Sums.{sum_by-cons}
-use Rattle.std.proofs.lemmas.List.Sorted.{IsPermutation-sym, All-permutation, sum_by-IsPermutation}
-use Rattle.std.proofs.Math.Nat.{div-add-mod}
-use Rattle.overlap_copy.specs.Words.{Axis, IsIndex, reach, lengths_in, reached, reordered}
-use Rattle.overlap_copy.specs.inside.Sums.{reach_of, max_reach, AreForward, HasSum}
-use Rattle.overlap_copy.specs.inside.Joins.{GoesOn, SameSums, AreJoined}
+use Rattle.overlap_copy.proofs.Words.{◌≡◌, ℕ, zero, suc, ◌+◌, ◌-◌, ◌*◌, ◌/◌, ◌%◌, ◌<◌, ◌≤◌, inl, inr, List, [], ◌∷◌, length, get_or, set, take, drop, sum_by, length-drop, sym, subst, ap, refl, ◌∙◌, arith, mul_assoc, mul-add, mul-le-mul_left, zero-mul, mod-lt, IsPermutation, cases_lt, drop_more, drop-set, take_all, All-cons, All-tail, All-drop, sum_by-cons, IsPermutation-sym, All-permutation, sum_by-IsPermutation, div-add-mod, Axis, IsIndex, reach, lengths_in, reached, reordered, reach_of, max_reach, AreForward, HasSum, GoesOn, SameSums, AreJoined}
 
 -- ---- lists of axes with the same sums
 

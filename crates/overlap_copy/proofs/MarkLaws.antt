@@ -1,9 +1,5 @@
 -- Laws of maps of bytes.
-use Rattle.std.proofs.Common.{◌≡◌, ◌↔◌, inl, inr, ℕ, ◌+◌, ◌-◌, ◌<◌, ◌≤◌, Bool, true, false, ◌||◌, List, ◌∷◌, length, get_or, set, IsTrue, nat_eq, nat_lt, refl, sym, ap, ◌∙◌, arith}
-use Rattle.std.specs.List.{list_any}
-use Rattle.std.proofs.lemmas.Bool.{both_ways, cases_eq, eq-eqb, ne_eqb, lt-ltb, ltb-true, or_right}
-use Rattle.std.proofs.lemmas.List.{get_or-set_same, get_or-set_other}
-use Rattle.overlap_copy.specs.inside.Marks.{IsMarkedUpTo}
+use Rattle.overlap_copy.proofs.Words.{◌≡◌, ◌↔◌, inl, inr, ℕ, ◌+◌, ◌-◌, ◌<◌, ◌≤◌, Bool, true, false, ◌||◌, List, ◌∷◌, length, get_or, set, IsTrue, nat_eq, nat_lt, refl, sym, ap, ◌∙◌, arith, list_any, both_ways, cases_eq, eq-eqb, ne_eqb, lt-ltb, ltb-true, or_right, get_or-set_same, get_or-set_other, IsMarkedUpTo}
 
 -- ---- the byte at one more offset is marked
 

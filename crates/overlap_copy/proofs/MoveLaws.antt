@@ -1,10 +1,5 @@
 -- Moves of items: the result of an assignment, by index, and that every safe order of moves gives it.
-use Rattle.std.proofs.Common.{◌≡◌, ◌+◌, ◌-◌, ◌<◌, ◌≤◌, ◌⊎◌, inl, inr, ℕ, zero, suc, ℤ, List, [], ◌∷◌, length, get_or, All, refl, sym, ap, subst, ◌∙◌, arith}
-use Rattle.std.proofs.lemmas.Bool.{cases_lt}
-use Rattle.std.proofs.lemmas.List.{ext_get_or}
-use Rattle.std.proofs.lemmas.List.Elements.{All-rest, All-head}
-use Rattle.overlap_copy.specs.Words.{byte_of, put, item_at, place, EachWithin, copied_within, length-item_at, length-put, get_or-put_before, get_or-put_after, item_at-put_same, item_at-put_apart, place_within, fewer, IsNested, distance, assigned}
-use Rattle.overlap_copy.specs.inside.Moves.{IsOutside, IsAssigned}
+use Rattle.overlap_copy.proofs.Words.{◌≡◌, ◌+◌, ◌-◌, ◌<◌, ◌≤◌, ◌⊎◌, inl, inr, ℕ, zero, suc, ℤ, List, [], ◌∷◌, length, get_or, All, refl, sym, ap, subst, ◌∙◌, arith, cases_lt, ext_get_or, All-rest, All-head, byte_of, put, item_at, place, EachWithin, copied_within, length-item_at, length-put, get_or-put_before, get_or-put_after, item_at-put_same, item_at-put_apart, place_within, fewer, IsNested, distance, assigned, IsOutside, IsAssigned}
 
 -- ---- the bytes of items
 

@@ -1,14 +1,6 @@
 -- Items that are kept before others are written over them, part by part.
-use Rattle.std.proofs.Common.{◌≡◌, ◌+◌, ◌-◌, ◌*◌, ◌<◌, ◌≤◌, ℕ, zero, suc, ℤ, pos, ◌+ℤ◌, ◌*ℤ◌, ◌≤ℤ◌, List, [], ◌∷◌, ◌++◌, length, get_or, map, replicate, All, refl, sym, ap, subst, ◌∙◌, arith, append_assoc, get_or-append-add, length-append}
-use Rattle.std.specs.Prelude.{nat_abs}
-use Rattle.std.proofs.Math.IntN.{*ℤ_comm, zero-*ℤ}
-use lib.IntN.{+ℤ_idl}
-use Rattle.std.proofs.Math.Nat.{add-mul}
-use Rattle.std.proofs.lemmas.Grind.{flat_map-append}
-use Rattle.std.proofs.lemmas.Int.{ints}
-use Rattle.std.proofs.lemmas.List.{map-append, get_or-map, get_or-replicate, length-replicate, same_lists, take_all}
-use Rattle.std.proofs.lemmas.List.Elements.{All-head, All-tail}
-use Rattle.overlap_copy.specs.Words.{numbers_from, numbers-split, natural, put, item_at, length-item_at, length-put, place, position, position-add, max_bytes, LieWithin, address, address_at, dot, Layout, count, indexes, length-indexes, offsets, length-offsets, Run, run_offsets, length-run_offsets, BeginsWithin, lie-within, IsNested, All-back, All-front, assigned-append, items_at, assigned, joined_at}
+use Rattle.overlap_copy.proofs.Words.{◌≡◌, ◌+◌, ◌-◌, ◌*◌, ◌<◌, ◌≤◌, ℕ, zero, suc, ℤ, pos, ◌+ℤ◌, ◌*ℤ◌, ◌≤ℤ◌, List, [], ◌∷◌, ◌++◌, length, get_or, map, replicate, All, refl, sym, ap, subst, ◌∙◌, arith, append_assoc, get_or-append-add, length-append, nat_abs, *ℤ_comm, zero-*ℤ, +ℤ_idl, add-mul, flat_map-append, ints, map-append, get_or-map, get_or-replicate, length-replicate, same_lists, take_all, All-head, All-tail, numbers_from, numbers-split, natural, put, item_at, length-item_at, length-put, place, position, position-add, max_bytes, LieWithin, address, address_at, Layout, count, indexes, length-indexes, offsets, length-offsets, Run, run_offsets, length-run_offsets, BeginsWithin, lie-within, IsNested, All-back, All-front, assigned-append, items_at, assigned, joined_at}
+use Rattle.overlap_copy.specs.Words.{dot}
 use Rattle.overlap_copy.proofs.MovingLaws.{nested-back}
 use Rattle.overlap_copy.proofs.ShiftLaws.{lies-from}
 use Rattle.overlap_copy.proofs.TradeLaws.{kept_items}

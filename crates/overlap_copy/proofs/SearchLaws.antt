@@ -1,12 +1,5 @@
 -- Laws of sums along axes, and of the search for a sum within bounds.
-use Rattle.std.proofs.Common.{◌≡◌, ℕ, ◌+◌, ◌-◌, ◌*◌, ◌<◌, ◌≤◌, inl, inr, List, [], ◌∷◌, length, get_or, take, drop, All, sym, subst, ap, refl, arith, mul-suc, mul-le-mul_left, mul_comm}
-use Rattle.std.specs.Int.{div_ceil}
-use Rattle.std.proofs.lemmas.Bool.{cases_lt}
-use Rattle.std.proofs.lemmas.Grind.{div_ceil_times}
-use Rattle.std.proofs.lemmas.List.{take_all}
-use Rattle.std.proofs.lemmas.List.Elements.{recursion_from_All, All-from_recursion}
-use Rattle.overlap_copy.specs.Words.{IsIndex, Axis, reach, lengths_in, reached}
-use Rattle.overlap_copy.specs.inside.Sums.{reach_of, AreForward, HasSum}
+use Rattle.overlap_copy.proofs.Words.{◌≡◌, ℕ, ◌+◌, ◌-◌, ◌*◌, ◌<◌, ◌≤◌, inl, inr, List, [], ◌∷◌, length, get_or, take, drop, All, sym, subst, ap, refl, arith, mul-suc, mul-le-mul_left, mul_comm, div_ceil, cases_lt, div_ceil_times, take_all, recursion_from_All, All-from_recursion, IsIndex, Axis, reach, lengths_in, reached, reach_of, AreForward, HasSum}
 
 -- ---- the first axis and the rest
 

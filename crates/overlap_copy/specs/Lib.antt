@@ -4,3 +4,4 @@ pub mod Overlaps
 pub mod Runs
 pub mod inside
 pub mod Words
+pub mod Clauses

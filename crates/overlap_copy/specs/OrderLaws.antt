@@ -2,16 +2,7 @@
 --     with_items-reordered         items and their places
 --     assigned-reordered           places, and the places that the items are copied from
 --     filled-reordered             one item at all places
-use Rattle.std.proofs.Common.{◌≡◌, ◌≢◌, ◌+◌, ◌-◌, ◌<◌, ◌≤◌, ◌⊎◌, inl, inr, ℕ, zero, suc, List, [], ◌∷◌, map, length, get_or, replicate, All, refl, sym, ap, subst, ◌∙◌, arith}
-use Rattle.std.specs.List.{zip, swap, AllByRecursion as Each}
-use Rattle.std.specs.List.Sorted.{IsPermutation}
-use Rattle.std.proofs.lemmas.Bool.{cases_lt, cases_eq}
-use Rattle.std.proofs.lemmas.List.{ext_get_or, get_or_default, length-map, get_or-map, length-replicate}
-use Rattle.std.proofs.lemmas.List.Edits.{length-swap, swapped_from_swap}
-use Rattle.std.proofs.lemmas.List.Elements.{All-head, All-tail, All-from_recursion, Contains-get_or}
-use Rattle.std.proofs.lemmas.List.Sorted.{IsPermutation-map, IsPermutation-sym, IsPermutation-keeps, All-permutation, Contains-permutation}
-use Rattle.std.proofs.lemmas.Slice.Zip.{get_or-zip, length-zip}
-use Rattle.overlap_copy.specs.Words.{put, item_at, length-put, get_or-put_before, get_or-put_after, item_at-put_same, length-item_at, byte_of, IsNested, distance, items_at, with_items, assigned}
+use Rattle.overlap_copy.specs.Words.{◌≡◌, ◌≢◌, ◌+◌, ◌-◌, ◌<◌, ◌≤◌, ◌⊎◌, inl, inr, ℕ, zero, suc, List, [], ◌∷◌, map, length, get_or, replicate, All, refl, sym, ap, subst, ◌∙◌, arith, zip, swap, Each, IsPermutation, cases_lt, cases_eq, ext_get_or, get_or_default, length-map, get_or-map, length-replicate, length-swap, swapped_from_swap, All-head, All-tail, All-from_recursion, Contains-get_or, IsPermutation-map, IsPermutation-sym, IsPermutation-keeps, All-permutation, Contains-permutation, get_or-zip, length-zip, put, item_at, length-put, get_or-put_before, get_or-put_after, item_at-put_same, length-item_at, byte_of, IsNested, distance, items_at, with_items, assigned}
 
 -- ---- items, each with its place
 

@@ -1,8 +1,5 @@
 //! Decides by byte ranges and strides whether two layouts in one block are disjoint.
-ghost use Rattle.overlap_copy.specs.Apart.{AreApart, IsGreatestDivisor, LieBetween, steps};
-ghost use Rattle.overlap_copy.specs.Overlaps.{do_ranges_meet, have_common_byte};
-ghost use Rattle.overlap_copy.specs.Words.{Fits, max_bytes, offsets};
-ghost use Rattle.std.specs.Prelude.{IsTrue, false, if◌then◌else◌, length, nat_le, pos, slice_index_or, unsigned_abs, ◌%◌, ◌+◌, ◌<◌, ◌↔◌, ◌∷◌, ◌≡◌, ◌≤◌};
+ghost use Rattle.overlap_copy.specs.Clauses.{AreApart, IsGreatestDivisor, LieBetween, steps, do_ranges_meet, have_common_byte, Fits, max_bytes, offsets, IsTrue, false, if◌then◌else◌, length, nat_le, pos, slice_index_or, unsigned_abs, ◌%◌, ◌+◌, ◌<◌, ◌↔◌, ◌∷◌, ◌≡◌, ◌≤◌};
 
 use crate::axis_sums::common_divisor;
 use shape_strides::Layout;

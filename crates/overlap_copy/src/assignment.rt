@@ -1,10 +1,5 @@
 //! Assignment: copies the items of one layout to another.
-ghost use Rattle.std.specs.Prelude.{◌≡◌, ◌+◌, ◌≤◌, ℤ, length, reverse, false, All, IfOk, IfErr, IfSome, IsOk, IsTrue};
-ghost use Rattle.std.specs.List.Sorted.{IsPermutation};
-ghost use Rattle.overlap_copy.specs.Words.{max_bytes, count, offsets, Fits, IsNested, item_pairs, assigned};
-ghost use Rattle.overlap_copy.specs.Apart.{AreApart};
-ghost use Rattle.overlap_copy.specs.Runs.{IsRun};
-ghost use Rattle.overlap_copy.specs.Overlaps.{have_common_byte};
+ghost use Rattle.overlap_copy.specs.Clauses.{◌≡◌, ◌+◌, ◌≤◌, ℤ, length, reverse, false, All, IfOk, IfErr, IfSome, IsOk, IsTrue, IsPermutation, max_bytes, count, offsets, Fits, IsNested, item_pairs, assigned, AreApart, IsRun, have_common_byte};
 
 use crate::apart::may_overlap;
 use crate::pair_copies::{

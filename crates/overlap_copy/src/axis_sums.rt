@@ -1,9 +1,5 @@
 //! Decides whether some sum along axes lies within bounds.
-ghost use Rattle.overlap_copy.specs.declared.axis_sums.Answer.TheVariants.{No, Yes};
-ghost use Rattle.overlap_copy.specs.inside.Sums.{AreForward, HasSum, reach_of, stepping};
-ghost use Rattle.overlap_copy.specs.inside.Turns.{IsTurn};
-ghost use Rattle.std.specs.Int.{IsGcd};
-ghost use Rattle.std.specs.Prelude.{false, ◌<◌, ◌≡◌};
+ghost use Rattle.overlap_copy.specs.Clauses.{No, Yes, AreForward, HasSum, reach_of, stepping, IsTurn, IsGcd, false, ◌<◌, ◌≡◌};
 
 use crate::by_axes::join_all;
 use shape_strides::Axis;

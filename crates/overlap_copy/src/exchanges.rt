@@ -1,8 +1,5 @@
 //! Exchanges items of two blocks in one pass.
-ghost use Rattle.std.specs.Prelude.{◌≡◌, ◌+◌, ◌≤◌, length, All};
-ghost use Rattle.overlap_copy.specs.Words.{count, offsets, IsNested, run_offsets, assigned, items_at};
-ghost use Rattle.overlap_copy.specs.inside.Moves.{RunLies, firsts, seconds};
-ghost use Rattle.overlap_copy.specs.inside.Trades.{traded_at};
+ghost use Rattle.overlap_copy.specs.Clauses.{◌≡◌, ◌+◌, ◌≤◌, length, All, count, offsets, IsNested, run_offsets, assigned, items_at, RunLies, firsts, seconds, traded_at};
 
 use crate::pair_copies::as_runs;
 use arrays::strided;

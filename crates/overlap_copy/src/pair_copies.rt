@@ -1,7 +1,5 @@
 //! Pairs of runs: copies or moves the items of the second run to the first.
-ghost use Rattle.overlap_copy.specs.Words.{BeginsWithin, IsNested, assigned, copied_within, max_bytes, max_items, offsets, run_offsets};
-ghost use Rattle.overlap_copy.specs.inside.Moves.{AreAlike, IsAssigned, IsLine, IsTurned, LieApart, RunLies, firsts, place_in, seconds};
-ghost use Rattle.std.specs.Prelude.{All, IfSome, IsTrue, length, neg_ℤ, pos, ◌*ℤ◌, ◌*◌, ◌+ℤ◌, ◌↔◌, ◌≡◌, ◌≤ℤ◌, ◌≤◌};
+ghost use Rattle.overlap_copy.specs.Clauses.{BeginsWithin, IsNested, assigned, copied_within, max_bytes, max_items, offsets, run_offsets, AreAlike, IsAssigned, IsLine, IsTurned, LieApart, RunLies, firsts, place_in, seconds, All, IfSome, IsTrue, length, neg_ℤ, pos, ◌*ℤ◌, ◌*◌, ◌+ℤ◌, ◌↔◌, ◌≡◌, ◌≤ℤ◌, ◌≤◌};
 
 use arrays::{copy_run, strided};
 use raw_block::RawBlock;

@@ -1,8 +1,5 @@
 //! Assignment between layouts of the same shape and strides, without memory.
-ghost use Rattle.std.specs.Prelude.{◌≡◌, ◌+◌, ◌≤◌, [], ◌∷◌, length, All};
-ghost use Rattle.std.specs.List.{flat_map};
-ghost use Rattle.overlap_copy.specs.Words.{max_bytes, LieWithin, offsets, Fits, run_offsets, IsStacked, assigned};
-ghost use Rattle.overlap_copy.specs.inside.Shifts.{sources, source_run, MayCome};
+ghost use Rattle.overlap_copy.specs.Clauses.{◌≡◌, ◌+◌, ◌≤◌, [], ◌∷◌, length, All, flat_map, max_bytes, LieWithin, offsets, Fits, run_offsets, IsStacked, assigned, sources, source_run, MayCome};
 
 use crate::pair_copies::move_run;
 use raw_block::RawBlock;

@@ -1,16 +1,5 @@
 -- The memory of a block, as words and as bytes. Assumes `Logic`.
-use Rattle.std.proofs.Common.{◌≡◌, ℕ, ◌+◌, ◌-◌, ◌*◌, ◌/◌, List, [], ◌∷◌, length, refl, sym, w8, arith}
-use seplogic.Ra.Ura.{Ura}
-use base.Fraction.{full_share}
-use base.Logic.{ent, sep, wand, apply∗}
-use base.Fml.{Fml, fwand, froom}
-use mir.Syntax.{Ty, ty_int, ty_array}
-use types.Logic.{Logic, sem}
-use types.Kit.{‵, raw, ◌⊛◌, ◌$◌, ◌∵◌, !, qed, by, move, use1, use2, split, frame, assume, rewrite}
-use denote.RawPtr.Bytes.{bytes, bytes-room}
-use denote.RawPtr.Room.{past, past_bytes, room_cut, room_glue}
-use Rattle.raw_block.specs.Ownership.{unwritten, words}
-use Rattle.raw_block.specs.inside.Sizes.{IsSizeFor}
+use Rattle.raw_block.proofs.Words.{◌≡◌, ℕ, ◌+◌, ◌-◌, ◌*◌, ◌/◌, List, [], ◌∷◌, length, refl, sym, w8, arith, Ura, full_share, ent, sep, wand, apply∗, Fml, fwand, froom, Ty, ty_int, ty_array, Logic, sem, ‵, raw, ◌⊛◌, ◌$◌, ◌∵◌, !, qed, by, move, use1, use2, split, frame, assume, rewrite, bytes, bytes-room, past, past_bytes, room_cut, room_glue, unwritten, words, IsSizeFor}
 
 abbrev byte : Ty
 byte = ty_int w8

@@ -1,15 +1,5 @@
 -- Disjoint items can be swapped at once, and so can the items of runs that do not overlap.
-use Rattle.std.proofs.Common.{◌≡◌, ℕ, suc, ◌+◌, ◌-◌, ◌*◌, ◌<◌, ◌≤◌, ◌⊎◌, inl, inr, max, min, List, length, get_or, sym, ap, ◌∙◌, arith}
-use Rattle.std.proofs.Math.Nat.{mul-le-mul_right, zero-mul}
-use Rattle.std.proofs.lemmas.Bool.{cases_lt}
-use Rattle.std.proofs.lemmas.Int.{ints}
-use Rattle.std.proofs.lemmas.List.{ext_get_or}
-use lib.IntN.{ℤ, pos, negsuc}
-use lib.Signed.{◌≤ℤ◌}
-use Rattle.raw_block.specs.Bytes.{position, place, EachWithin, put, item_at, exchanged}
-use Rattle.raw_block.specs.BytesLaws.{length-item_at, length-put, get_or-put_before, get_or-put_after, item_at-put_same, not_negative, byte_of}
-use Rattle.raw_block.specs.ExchangeLaws.{length-exchanged, exchanged-outside, exchanged-first, exchanged-second}
-use Rattle.raw_block.specs.inside.Pairs.{LieApart}
+use Rattle.raw_block.proofs.Words.{◌≡◌, ℕ, suc, ◌+◌, ◌-◌, ◌*◌, ◌<◌, ◌≤◌, ◌⊎◌, inl, inr, max, min, List, length, get_or, sym, ap, ◌∙◌, arith, mul-le-mul_right, zero-mul, cases_lt, ints, ext_get_or, ℤ, pos, negsuc, ◌≤ℤ◌, position, place, EachWithin, put, item_at, exchanged, length-item_at, length-put, get_or-put_before, get_or-put_after, item_at-put_same, not_negative, byte_of, length-exchanged, exchanged-outside, exchanged-first, exchanged-second, LieApart}
 
 -- ---- two disjoint items
 

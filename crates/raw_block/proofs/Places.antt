@@ -1,12 +1,5 @@
 -- The place of the k-th item, as the code computes it.
-use Rattle.std.proofs.Common.{◌≡◌, ℕ, suc, ◌+◌, ◌-◌, ◌*◌, ◌%◌, ◌^◌, sym, ap, ◌∙◌, w64, arith}
-use Rattle.std.proofs.Math.Nat.{add-mod-mod, add-mul-mod_self_right, mod-eq_of_lt, mul-add}
-use Rattle.std.proofs.lemmas.Int.{ints}
-use lib.IntN.{ℤ, pos, negsuc}
-use lib.Signed.{◌≤ℤ◌, ◌<ℤ◌}
-use mir.Val.{SFits, of_z}
-use Rattle.raw_block.specs.Bytes.{position, place}
-use Rattle.raw_block.specs.BytesLaws.{not_negative}
+use Rattle.raw_block.proofs.Words.{◌≡◌, ℕ, suc, ◌+◌, ◌-◌, ◌*◌, ◌%◌, ◌^◌, sym, ap, ◌∙◌, w64, arith, add-mod-mod, add-mul-mod_self_right, mod-eq_of_lt, mul-add, ints, ℤ, pos, negsuc, ◌≤ℤ◌, ◌<ℤ◌, SFits, of_z, position, place, not_negative}
 
 pub place_wraps : (at k : ℕ) (step : ℤ) → SFits w64 step → pos 0 ≤ℤ position at step k → position at step k <ℤ pos (2 ^ 64) → (at + (k * of_z w64 step) % 2 ^ 64) % 2 ^ 64 ≡ place at step k
 place_wraps at k (pos s) fits low high = add-mod-mod at (k * s) (2 ^ 64) ∙ mod-eq_of_lt (omega (arith, ints))

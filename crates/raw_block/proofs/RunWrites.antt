@@ -1,14 +1,6 @@
 -- Adjacent items that are written: they are read back, and all other bytes are unchanged.
-use Rattle.std.proofs.Common.{◌≡◌, ℕ, zero, suc, ◌+◌, ◌*◌, ◌≤◌, List, [], ◌∷◌, ◌++◌, length, take, drop, refl, sym, ap, ◌∙◌, arith, append_assoc, length-append, length-take}
-use Rattle.std.proofs.Math.Nat.{suc-mul, mul-suc, mul-zero}
-use Rattle.std.proofs.Math.Seq.{take-append_seam, drop-append_seam}
-use Rattle.std.proofs.lemmas.List.{take_at, take-take, drop-take}
-use Rattle.std.proofs.lemmas.List.Concat.{flat_map-cons}
-use Rattle.std.specs.List.{All, flat_map}
-use Rattle.std.specs.Simd.{first_chunks}
-use Rattle.raw_block.specs.Bytes.{put}
-use Rattle.raw_block.specs.BytesLaws.{length-put}
-use Rattle.raw_block.specs.NumberRuns.{signed_numbers, adjacent_numbers, AreArrays, with_run, SameBeside}
+use Rattle.raw_block.proofs.Words.{◌≡◌, ℕ, zero, suc, ◌+◌, ◌*◌, ◌≤◌, List, [], ◌∷◌, ◌++◌, length, take, drop, refl, sym, ap, ◌∙◌, arith, append_assoc, length-append, length-take, suc-mul, mul-suc, mul-zero, take-append_seam, drop-append_seam, take-take, drop-take, flat_map-cons, All, flat_map, first_chunks, put, length-put, signed_numbers, adjacent_numbers, AreArrays, with_run, SameBeside}
+use Rattle.std.proofs.lemmas.List.{take_at}
 
 abbrev flat : List (List ℕ) → List ℕ
 flat items = flat_map (λ item. item) items

@@ -1,12 +1,6 @@
 -- Adjacent items, whose bytes are written as one range.
-use Rattle.std.proofs.Common.{◌≡◌, ℕ, zero, suc, ◌+◌, ◌-◌, ◌*◌, ◌<◌, ◌≤◌, List, [], ◌∷◌, ◌++◌, length, take, drop, get_or, inr, refl, sym, ap, ◌∙◌, subst, arith, append_assoc, length-append, length-take, drop-cons}
-use Rattle.std.proofs.Math.Nat.{suc-mul, mul-suc, mul-zero, mul-le-mul_left}
-use Rattle.std.proofs.Math.Seq.{take-add, drop-append-add}
-use Rattle.std.proofs.lemmas.List.{take-append-drop, take_at, drop-drop, drop-take, take-take, drop_all}
-use Rattle.std.specs.Simd.{first_chunks}
-use lib.IntN.{ℤ, pos}
-use Rattle.raw_block.specs.Bytes.{place, EachWithin, put, item_at, copied, filled, traded}
-use Rattle.raw_block.specs.BytesLaws.{place_within, length-item_at, item_at-put_apart, item_of_chunks}
+use Rattle.raw_block.proofs.Words.{◌≡◌, ℕ, zero, suc, ◌+◌, ◌-◌, ◌*◌, ◌<◌, ◌≤◌, List, [], ◌∷◌, ◌++◌, length, take, drop, get_or, inr, refl, sym, ap, ◌∙◌, subst, arith, append_assoc, length-append, length-take, drop-cons, suc-mul, mul-suc, mul-zero, mul-le-mul_left, take-add, drop-append-add, take-append-drop, drop-drop, drop-take, take-take, drop_all, first_chunks, ℤ, pos, place, EachWithin, put, item_at, copied, filled, traded, place_within, length-item_at, item_at-put_apart, item_of_chunks}
+use Rattle.std.proofs.lemmas.List.{take_at}
 
 -- all of the items lie within `len` bytes
 pub run_within : (len at : ℕ) (step : ℤ) (width n : ℕ) → 0 < n → step ≡ pos width → EachWithin len at step width n → at + n * width ≤ len

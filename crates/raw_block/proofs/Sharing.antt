@@ -1,21 +1,5 @@
 -- A `&` to the owner of the bytes is a `&` to each of them. Assumes `Logic`.
-use Rattle.std.proofs.Common.{ℕ, ◌+◌, ◌^◌, List, [], ◌∷◌, length}
-use seplogic.Ra.Ura.{Ura}
-use base.Fraction.{full_share}
-use base.Fml.{Fml, ftrue, ffalse, fsep, flt}
-use types.Logic.{Logic}
-use denote.Builtin.{u8}
-use denote.Memory.{part_at, shared_of}
-use denote.Sharing.{ShrLaws, said}
-use denote.SharingLaws.{beside_shr_laws, said_shr_laws}
-use denote.Slice.{elements_shared, elements_shr_laws}
-use denote.Struct.Field.{u8-field}
-use denote.Struct.Laws.{u8-copy}
-use denote.Struct.Lending.{Lends, Lends-both, Lends-first, Lends-nothing, Lends-said, Lends-false}
-use denote.Param.Shared.{Sharable, copy_shared}
-use denote.RawPtr.{Ptr, block_ptr, null_ptr}
-use denote.RawPtr.Bytes.{bytes}
-use Rattle.raw_block.specs.Ownership.{unwritten, bytes_own, bytes_lent}
+use Rattle.raw_block.proofs.Words.{ℕ, ◌+◌, ◌^◌, List, [], ◌∷◌, length, Ura, full_share, Fml, ftrue, ffalse, fsep, flt, Logic, u8, part_at, shared_of, ShrLaws, said, beside_shr_laws, said_shr_laws, elements_shared, elements_shr_laws, u8-field, u8-copy, Lends, Lends-both, Lends-first, Lends-nothing, Lends-said, Lends-false, Sharable, copy_shared, Ptr, block_ptr, null_ptr, bytes, unwritten, bytes_own, bytes_lent}
 
 u8_shared : Sharable u8-field
 u8_shared = copy_shared u8-field u8-copy

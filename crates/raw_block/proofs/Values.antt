@@ -1,20 +1,6 @@
 -- The machine values of the parts of a block, and of the three together. Assumes `Logic`.
-use Rattle.std.proofs.Common.{List, [], ◌∷◌, refl}
-use seplogic.Ra.Ura.{Ura}
-use base.Logic.{ent, sep, emp}
-use mir.Val.{Val, vstruct, vcons, vnil}
-use types.Logic.{Logic, sem}
-use types.Kit.{‵, ◌$◌, ◌∵◌, !, qed, done, move, fjoin, fpack, feq_i}
-use denote.RattleType.{RattleType, Valss}
-use denote.RawPtr.{Ptr, ptr_val}
-use denote.Shadow.{makes_shadow}
-use denote.Steps.{nothing}
+use Rattle.raw_block.proofs.Words.{List, [], ◌∷◌, refl, Ura, ent, sep, emp, Val, vstruct, vcons, vnil, Logic, sem, ‵, ◌$◌, ◌∵◌, !, qed, done, move, fjoin, fpack, feq_i, RattleType, Valss, Ptr, ptr_val, makes_shadow, nothing, shape, Struct, within, Tuple, tuple_type, Ghosts, word}
 use denote.Struct.Declared as Declared
-use denote.Struct.Owning.{shape}
-use denote.Struct.Struct.{Struct, within}
-use denote.Struct.Tuple.{Tuple, tuple_type}
-use Rattle.core.specs.declared.alloc.Allocator.{Ghosts}
-use Rattle.std_alloc.proofs.RcSteps.{word}
 use Rattle.raw_block.specs.contracts.base.Base as B
 use Rattle.raw_block.specs.contracts.base.Bytes as Y
 use Rattle.raw_block.specs.contracts.base.Deed as D

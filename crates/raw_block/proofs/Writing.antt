@@ -1,26 +1,5 @@
 -- The owner of the bytes after other bytes are written to them. Assumes `Logic`.
-use Rattle.std.proofs.Common.{◌≡◌, ℕ, ◌+◌, ◌^◌, ◌<◌, List, [], ◌∷◌, length, refl, sym, arith}
-use lib.ListN.{drop as drop_l}
-use lib.Seq.{take_at as take_front}
-use seplogic.Ra.Ura.{Ura}
-use base.Fraction.{full_share}
-use base.Logic.{ent, sep}
-use base.Fml.{Fml, fsep}
-use mir.Val.{Val}
-use types.Logic.{Logic, sem}
-use types.Kit.{‵, ◌$◌, ◌∵◌, !, qed, done, move, use1, fsplit3, fjoin, fpack, flt_i, rewrite}
-use types.SemTy.{cells}
-use denote.Builtin.{u8}
-use denote.Index.{whole_out}
-use denote.Memory.{mem, cell_at, part_of}
-use denote.RawPtr.{Ptr, block_ptr}
-use denote.RawPtr.Bytes.{bytes}
-use denote.Struct.Owning.{shape}
-use denote.Struct.Struct.{Struct}
-use Rattle.std.specs.List.{refill}
-use Rattle.raw_block.specs.inside.Lends.{with_items}
-use Rattle.raw_block.specs.Ownership.{unwritten, bytes_own}
-use Rattle.raw_block.specs.contracts.base.Bytes.{the_row as R, the_type}
+use Rattle.raw_block.proofs.Words.{◌≡◌, ℕ, ◌+◌, ◌^◌, ◌<◌, List, [], ◌∷◌, length, refl, sym, arith, drop_l, take_front, Ura, full_share, ent, sep, Fml, fsep, Val, Logic, sem, ‵, ◌$◌, ◌∵◌, !, qed, done, move, use1, fsplit3, fjoin, fpack, flt_i, rewrite, cells, u8, whole_out, mem, cell_at, part_of, Ptr, block_ptr, bytes, shape, Struct, refill, with_items, unwritten, bytes_own, R, the_type}
 
 -- the owner, if `ws` was written to the slice last
 abbrev pub written : R.Denot → List ℕ → R.Denot

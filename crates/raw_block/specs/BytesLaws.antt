@@ -1,14 +1,5 @@
 -- What a write to bytes changes and what it does not, and where items at equal steps lie.
-use Rattle.std.proofs.Common.{◌≡◌, ℕ, suc, ◌+◌, ◌-◌, refl, sym, ap, ◌∙◌, arith, ◌<◌, ◌≤◌, List, length, get_or, ◌++◌, take, drop, append_assoc, length-append, length-take, length-drop, ◌⊎◌, inl, inr, ◌*◌, zero, []}
-use Rattle.std.proofs.lemmas.List.{get_or-append_right, get_or_append_left, get_or-take, get_or-drop, ext_get_or, drop-drop}
-use Rattle.std.proofs.Math.Seq.{take-append_seam, drop-append_seam}
-use Rattle.std.proofs.lemmas.Int.{ints}
-use Rattle.std.specs.Prelude.{ℤ}
-use Rattle.std.proofs.Math.IntN.{zero-*ℤ}
-use Rattle.std.proofs.Math.Nat.{zero-mul, add-mul, mul-suc}
-use Rattle.std.specs.Simd.{first_chunks}
-use lib.IntN.{ℤ, pos, negsuc, nat_abs}
-use lib.Signed.{◌≤ℤ◌}
+use Rattle.raw_block.specs.Words.{◌≡◌, ℕ, suc, ◌+◌, ◌-◌, refl, sym, ap, ◌∙◌, arith, ◌<◌, ◌≤◌, List, length, get_or, ◌++◌, take, drop, append_assoc, length-append, length-take, length-drop, ◌⊎◌, inl, inr, ◌*◌, zero, [], get_or-append_right, get_or_append_left, get_or-take, get_or-drop, ext_get_or, drop-drop, take-append_seam, drop-append_seam, ints, ℤ, zero-*ℤ, zero-mul, add-mul, mul-suc, first_chunks, pos, negsuc, nat_abs, ◌≤ℤ◌}
 use Rattle.raw_block.specs.Bytes.{position, place, EachWithin, put, item_at}
 
 -- ---- one item

@@ -1,8 +1,5 @@
 -- What `exchanged` gives for two disjoint items: it swaps them, and leaves all other bytes unchanged.
-use Rattle.std.proofs.Common.{◌≡◌, ◌≢◌, ℕ, zero, suc, ◌+◌, ◌<◌, ◌≤◌, ◌⊎◌, inl, inr, List, length, drop, get_or, set, refl, sym, ap, ◌∙◌, arith, length-set, get_or-set_same, get_or-set_other}
-use Rattle.std.proofs.lemmas.List.{ext_get_or, get_or-take, get_or-drop}
-use Rattle.std.proofs.lemmas.List.Edits.{swap_is, length-swap}
-use Rattle.std.specs.Prelude.{swap}
+use Rattle.raw_block.specs.Words.{◌≡◌, ◌≢◌, ℕ, zero, suc, ◌+◌, ◌<◌, ◌≤◌, ◌⊎◌, inl, inr, List, length, drop, get_or, set, refl, sym, ap, ◌∙◌, arith, length-set, get_or-set_same, get_or-set_other, ext_get_or, get_or-take, get_or-drop, swap_is, length-swap, swap}
 use Rattle.raw_block.specs.Bytes.{item_at, exchanged}
 use Rattle.raw_block.specs.BytesLaws.{length-item_at}
 

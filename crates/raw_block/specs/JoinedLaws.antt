@@ -1,10 +1,5 @@
 -- Laws of concatenated items.
-use Rattle.std.proofs.Common.{◌≡◌, ℕ, zero, suc, ◌+◌, ◌*◌, ◌<◌, ◌≤◌, inl, inr, List, ◌++◌, length, take, drop, refl, sym, ap, ◌∙◌, arith, append_assoc, append-nil, length-append, length-drop, [], ◌∷◌, get_or}
-use Rattle.std.proofs.Math.Nat.{suc-mul, zero-mul, mul-le-mul_right}
-use Rattle.std.proofs.Math.Seq.{take-add, drop-append_seam}
-use Rattle.std.proofs.lemmas.List.{drop-append-le, take-append-le, take_all, drop-drop}
-use Rattle.std.specs.List.{flat_map}
-use lib.IntN.{ℤ, pos}
+use Rattle.raw_block.specs.Words.{◌≡◌, ℕ, zero, suc, ◌+◌, ◌*◌, ◌<◌, ◌≤◌, inl, inr, List, ◌++◌, length, take, drop, refl, sym, ap, ◌∙◌, arith, append_assoc, append-nil, length-append, length-drop, [], ◌∷◌, get_or, suc-mul, zero-mul, mul-le-mul_right, take-add, drop-append_seam, drop-append-le, take-append-le, take_all, drop-drop, flat_map, ℤ, pos}
 use Rattle.raw_block.specs.Bytes.{item_at, place, joined}
 use Rattle.raw_block.specs.ExchangeLaws.{last_or_before}
 

@@ -7,3 +7,5 @@ pub mod JoinedLaws
 pub mod NumberRuns
 pub mod Ownership
 pub mod inside
+pub mod Words
+pub mod Clauses

@@ -1,13 +1,7 @@
 -- What the parts of a block own and lend.
-use Rattle.std.specs.Prelude.{ℕ, ◌+◌, ◌/◌, ◌^◌, List, length}
-use mir.Syntax.{Ty, w8, w128, ty_int, ty_array}
-use base.Fraction.{full_share}
-use base.Fml.{Lft, Fml, ffalse, fsep, flt, fwand, froom}
+use Rattle.raw_block.specs.Words.{ℕ, ◌+◌, ◌/◌, ◌^◌, List, length, Ty, w8, w128, ty_int, ty_array, full_share, Lft, ffalse, fsep, flt, fwand, froom, elements_shared, said, beside, Ptr, block_ptr, null_ptr, bytes}
+use base.Fml.{Fml}
 use denote.Builtin.{u8}
-use denote.Slice.{elements_shared}
-use denote.Sharing.{said, beside}
-use denote.RawPtr.{Ptr, block_ptr, null_ptr}
-use denote.RawPtr.Bytes.{bytes}
 
 -- n bytes without a value, starting `o` bytes into the object `b`
 abbrev pub unwritten : ℕ → ℕ → ℕ → Fml

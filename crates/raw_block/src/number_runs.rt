@@ -1,7 +1,5 @@
 //! Adjacent numbers, stored in two's complement with the lowest byte first.
-ghost use Rattle.std.specs.Prelude.{◌≡◌, ℕ, pos, ◌+◌, ◌*◌, ◌<◌, ◌≤◌, [], length, slice_index_or};
-ghost use Rattle.raw_block.specs.Bytes.{item_at};
-ghost use Rattle.raw_block.specs.NumberRuns.{signed_numbers};
+ghost use Rattle.raw_block.specs.Clauses.{◌≡◌, ℕ, pos, ◌+◌, ◌*◌, ◌<◌, ◌≤◌, [], length, slice_index_or, item_at, signed_numbers};
 
 use byteorder::{ByteOrder, LittleEndian};
 use std::marker::Model;
@@ -24,8 +22,7 @@ pub struct RunI32<'a> {
 }
 
 impl<'a> Model for RunI32<'a> {
-    ghost use Rattle.std.specs.Prelude.{ℤ, List};
-    ghost use Rattle.raw_block.specs.NumberRuns.{signed_numbers};
+    ghost use Rattle.raw_block.specs.Clauses.{ℤ, List, signed_numbers};
 
     ghost Value = { List ℤ };
 
@@ -66,8 +63,7 @@ pub struct RunI64<'a> {
 }
 
 impl<'a> Model for RunI64<'a> {
-    ghost use Rattle.std.specs.Prelude.{ℤ, List};
-    ghost use Rattle.raw_block.specs.NumberRuns.{signed_numbers};
+    ghost use Rattle.raw_block.specs.Clauses.{ℤ, List, signed_numbers};
 
     ghost Value = { List ℤ };
 

@@ -1,17 +1,5 @@
 -- States that no further number can change.
-use Rattle.std.proofs.Common.{◌≡◌, inl, inr, ℕ, ℤ, pos, Bool, true, false, cond, List, [], ◌∷◌, ◌++◌, refl, sym, ap, subst, ◌∙◌, arith}
-use Rattle.std.specs.Prelude.{int_lt, nat_eq}
-use Rattle.std.specs.List.{fold}
-use Rattle.std.proofs.Math.Bool.{beq}
-use Rattle.std.proofs.lemmas.Bool.{false≢true, false_from_ne_true}
-use Rattle.std.proofs.lemmas.Int.{ints}
-use Rattle.reductions.specs.Words.{Scalar, Byte, Int, Bytes, IsValueOf, is_bool}
-use Rattle.elem_descr.specs.declared.scalar.Scalar.TheVariants.{Bool as BoolScalar}
-use Rattle.elem_descr.specs.Encoding.{truth as bit}
-use Rattle.reductions.specs.Reductions.{is_true}
-use Rattle.reductions.specs.inside.Extremes.{better, is_better, better-none}
-use Rattle.reductions.specs.inside.FoundLaws.{HasFound, better_passed}
-use Rattle.reductions.specs.inside.Numbers.{number_at, numbers_at}
+use Rattle.reductions.proofs.Words.{◌≡◌, inl, inr, ℕ, ℤ, pos, Bool, true, false, cond, List, [], ◌∷◌, ◌++◌, refl, sym, ap, subst, ◌∙◌, arith, int_lt, nat_eq, fold, beq, false≢true, false_from_ne_true, ints, Scalar, Byte, Int, Bytes, IsValueOf, is_bool, BoolScalar, bit, is_true, better, is_better, better-none, HasFound, better_passed, number_at, numbers_at}
 
 -- ---- bools
 

@@ -1,18 +1,5 @@
 -- Refusals, and the result otherwise.
-use Rattle.std.proofs.Common.{◌≡◌, ◌*◌, ◌<◌, ◌≤◌, ℕ, zero, suc, ℤ, true, false, Bool, Option, Some, None, List, [], ◌∷◌, map, drop, length, get_or, Ok, Err, refl, sym, ap, subst, ◌∙◌, arith, mul_comm, one-mul}
-use Rattle.std.proofs.lemmas.Bool.{ne_eqb}
-use Rattle.std.specs.Prelude.{nat_eq, Result, ◌&&◌, not, ◌==◌, slice_set, is_ok}
-use Rattle.std.specs.List.{range_with_len, insert, remove, flat_map}
-use Rattle.std.proofs.lemmas.List.{length-map, get_or-map, same_lists, take-take}
-use Rattle.std.proofs.lemmas.List.FromFn.{length-map-range_with_len, get_or-map-range_with_len}
-use Rattle.reductions.specs.Words.{Descr, Refusal, EmptyReduction, BadAxis, Scalar, IsNumber, size, decode, encode, number_of, number_size, ◌>>=◌, check, check_passed, shape_of-same, encode_item, number, item_from, one-encoded, item_at, joined, all_joined, joined_list, Layout, count, indexes, rank, length-indexes, offsets, multiples, offsets-none, shape_of, Red}
-use Rattle.elem_descr.specs.declared.descr.Descr.TheVariants.{Scalar as ScalarDescr}
-use Rattle.reductions.specs.inside.FoldLaws.{wide_size, little_size}
-use Rattle.reductions.specs.Lists.{lists, reduced_shape, list_length, named_axis, is_axis, IsAxisOf}
-use Rattle.reductions.specs.Outcomes.{has_empty_list, number_scalar, reduced_type, ReducedType}
-use Rattle.reductions.specs.Reductions.{result_scalar, needs_items, reduced, reduced_item, reduced_items, item_number}
-use Rattle.reductions.specs.inside.Axes.{shape_after}
-use Rattle.reductions.specs.inside.Numbers.{number_at, numbers_at, AreReduced}
+use Rattle.reductions.proofs.Words.{◌≡◌, ◌*◌, ◌<◌, ◌≤◌, ℕ, zero, suc, ℤ, true, false, Bool, Option, Some, None, List, [], ◌∷◌, map, drop, length, get_or, Ok, Err, refl, sym, ap, subst, ◌∙◌, arith, mul_comm, one-mul, ne_eqb, nat_eq, Result, ◌&&◌, not, ◌==◌, slice_set, is_ok, range_with_len, insert, remove, flat_map, length-map, get_or-map, same_lists, take-take, length-map-range_with_len, get_or-map-range_with_len, Descr, Refusal, EmptyReduction, BadAxis, Scalar, IsNumber, size, decode, encode, number_of, number_size, ◌>>=◌, check, check_passed, shape_of-same, encode_item, number, item_from, one-encoded, item_at, joined, all_joined, joined_list, Layout, count, indexes, rank, length-indexes, offsets, multiples, offsets-none, shape_of, Red, ScalarDescr, wide_size, little_size, lists, reduced_shape, list_length, named_axis, is_axis, IsAxisOf, has_empty_list, number_scalar, reduced_type, ReducedType, result_scalar, needs_items, reduced, reduced_item, reduced_items, item_number, shape_after, number_at, numbers_at, AreReduced}
 
 -- ---- lengths
 

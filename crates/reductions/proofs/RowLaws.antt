@@ -1,11 +1,5 @@
 -- Items at steps along two axes.
-use Rattle.std.proofs.Common.{◌≡◌, ◌<◌, ◌≤◌, ℕ, ℤ, pos, length, sym, ap, subst, ◌∙◌, arith}
-use Rattle.std.specs.Prelude.{◌+ℤ◌, ◌*ℤ◌, ◌≤ℤ◌, nat_abs}
-use Rattle.std.proofs.lemmas.Int.{ints}
-use Rattle.reductions.specs.Words.{position, place, EachWithin, not_negative, Run, Scalar, size, Side, number_of_side}
-use Rattle.reductions.specs.declared.lines.Lines.{Lines}
-use Rattle.reductions.specs.inside.Lines.{IsRow, line_run}
-use Rattle.reductions.specs.inside.Numbers.{number_at}
+use Rattle.reductions.proofs.Words.{◌≡◌, ◌<◌, ◌≤◌, ℕ, ℤ, pos, length, sym, ap, subst, ◌∙◌, arith, ◌+ℤ◌, ◌*ℤ◌, ◌≤ℤ◌, nat_abs, ints, position, place, EachWithin, not_negative, Run, Scalar, size, Side, number_of_side, Lines, IsRow, line_run, number_at}
 use Rattle.reductions.proofs.LineLaws.{at_first, side_number}
 
 pub swapped : (x y z : ℤ) → (x +ℤ y) +ℤ z ≡ (x +ℤ z) +ℤ y

@@ -1,13 +1,5 @@
 -- The place of the best number is looked up in the last block that has a better number.
-use Rattle.std.proofs.Common.{◌≡◌, ◌+◌, ◌-◌, ◌<◌, ◌⊎◌, inl, inr, ℕ, ℤ, Bool, List, ◌++◌, length, min, refl, sym, ap, subst, ◌∙◌, arith, append_assoc, length-append}
-use Rattle.std.specs.List.{fold}
-use Rattle.std.proofs.lemmas.List.Sums.{fold-append}
-use Rattle.std.proofs.lemmas.List.{append-nil}
-use Rattle.reductions.specs.Words.{Scalar, Side, place, run_offsets}
-use Rattle.reductions.specs.Reductions.{first_place}
-use Rattle.reductions.specs.inside.Numbers.{numbers_at, numbers_of, IsPart}
-use Rattle.reductions.specs.inside.Extremes.{better, is_better}
-use Rattle.reductions.specs.inside.FoundLaws.{HasFound, HasSought, better_same, better_taken, better_passed}
+use Rattle.reductions.proofs.Words.{◌≡◌, ◌+◌, ◌-◌, ◌<◌, ◌⊎◌, inl, inr, ℕ, ℤ, Bool, List, ◌++◌, length, min, refl, sym, ap, subst, ◌∙◌, arith, append_assoc, length-append, fold, fold-append, append-nil, Scalar, Side, place, run_offsets, first_place, numbers_at, numbers_of, IsPart, better, is_better, HasFound, HasSought, better_same, better_taken, better_passed}
 use Rattle.reductions.proofs.LineLaws.{front, part_numbers, length-numbers}
 
 -- the first `n` numbers of a side, and the numbers of the block that begins after them

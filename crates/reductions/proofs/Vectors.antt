@@ -1,11 +1,6 @@
 -- Test vectors: reductions as in NumPy.
-use Rattle.std.proofs.Common.{◌≡◌, true, false, pos, negsuc, [], ◌∷◌, Some, None, Ok, Err, refl}
-use Rattle.reductions.specs.Words.{Descr, TooLarge, BadAxis, NotForThisKind, EmptyReduction, Little, Big, Two, Four, Eight, Scalar, Byte, Int, Bytes, number, shape_of, Sum, Product, Minimum, Maximum, Any, All, ArgMin, ArgMax}
-use Rattle.elem_descr.specs.declared.descr.Descr.TheVariants.{Scalar as ScalarDescr}
-use Rattle.elem_descr.specs.declared.scalar.Scalar.TheVariants.{Bool as BoolScalar}
-use Rattle.reductions.specs.Lists.{lists}
-use Rattle.reductions.specs.Reductions.{reduced, reduced_item}
-use Rattle.reductions.specs.Outcomes.{reduced_type}
+use Rattle.reductions.proofs.Words.{◌≡◌, true, false, pos, negsuc, [], ◌∷◌, Some, None, Ok, Err, refl, Descr, TooLarge, BadAxis, NotForThisKind, EmptyReduction, Little, Big, Two, Four, Eight, Scalar, Byte, Int, Bytes, number, shape_of, Sum, Product, Minimum, Maximum, Any, ArgMin, ArgMax, ScalarDescr, BoolScalar, lists, reduced, reduced_item, reduced_type}
+use Rattle.reductions.specs.Words.{All}
 
 abbrev int : Descr
 int = ScalarDescr (Int true Four Little)

@@ -4,3 +4,4 @@ pub mod Outcomes
 pub mod ListLaws
 pub mod inside
 pub mod Words
+pub mod Clauses

@@ -1,7 +1,5 @@
 -- Laws about the lists of items that are reduced.
-use Rattle.std.proofs.Common.{◌<◌, ℕ, zero, suc, List, [], ◌∷◌, length, get_or, arith}
-use Rattle.std.specs.List.{insert, remove}
-use Rattle.reductions.specs.Words.{IsIndex}
+use Rattle.reductions.specs.Words.{◌<◌, ℕ, zero, suc, List, [], ◌∷◌, length, get_or, arith, insert, remove, IsIndex}
 
 -- An index of the other axes, with a number of the axis inserted, is an index of the array.
 pub IsIndex-insert : (shape index : List ℕ) (a k : ℕ) → a < length shape → IsIndex (remove shape a) index → k < get_or shape a 0 → IsIndex shape (insert index a k)

@@ -1,8 +1,5 @@
 -- The type and shape of the array that a reduction gives, or what is refused.
-use Rattle.std.specs.Prelude.{ℕ, ℤ, Bool, not, ◌&&◌, ◌==◌, Option, List, length, Result, Ok, Err}
-use Rattle.reductions.specs.Words.{Descr, Refusal, NotForThisKind, BadAxis, EmptyReduction, Scalar, Byte, Int, Bytes, ◌>>=◌, check, count, shape_of, Owned, Red}
-use Rattle.elem_descr.specs.declared.descr.Descr.TheVariants.{Scalar as ScalarDescr, Record as RecordDescr}
-use Rattle.elem_descr.specs.declared.scalar.Scalar.TheVariants.{Bool as BoolScalar}
+use Rattle.reductions.specs.Words.{ℕ, ℤ, Bool, not, ◌&&◌, ◌==◌, Option, List, length, Result, Ok, Err, Descr, Refusal, NotForThisKind, BadAxis, EmptyReduction, Scalar, Byte, Int, Bytes, ◌>>=◌, check, count, shape_of, Owned, Red, ScalarDescr, RecordDescr, BoolScalar}
 use Rattle.reductions.specs.Lists.{named_axis, is_axis, reduced_shape, list_length}
 use Rattle.reductions.specs.Reductions.{result_scalar, needs_items}
 

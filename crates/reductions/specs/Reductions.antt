@@ -1,11 +1,5 @@
 -- What reductions give, as in NumPy: sums and products, least and greatest items and their places, and truth tests.
-use Rattle.std.specs.Prelude.{ℕ, suc, ℤ, pos, ◌+ℤ◌, ◌*ℤ◌, Bool, true, false, not, if◌then◌else◌, List, [], ◌∷◌, map, get_or}
-use Rattle.std.specs.Int.{int_min, int_max}
-use Rattle.std.specs.List.{fold, list_any, list_all}
-use Rattle.std.specs.Ordering.{int_eq}
-use Rattle.reductions.specs.Words.{Descr, Little, Eight, Scalar, Byte, Int, item_from, LeafValue, number, number_of, wrap, little, Red, Sum, Product, Minimum, Maximum, Any, All, ArgMin, ArgMax}
-use Rattle.elem_descr.specs.declared.descr.Descr.TheVariants.{Scalar as ScalarDescr, Record as RecordDescr}
-use Rattle.elem_descr.specs.declared.scalar.Scalar.TheVariants.{Bool as BoolScalar}
+use Rattle.reductions.specs.Words.{ℕ, suc, ℤ, pos, ◌+ℤ◌, ◌*ℤ◌, Bool, true, false, not, if◌then◌else◌, List, [], ◌∷◌, map, get_or, int_min, int_max, fold, list_any, list_all, int_eq, Descr, Little, Eight, Scalar, Byte, Int, item_from, LeafValue, number, number_of, wrap, little, Red, Sum, Product, Minimum, Maximum, Any, All, ArgMin, ArgMax, ScalarDescr, RecordDescr, BoolScalar}
 
 -- ---- types
 

@@ -1,7 +1,5 @@
 //! Reductions that visit numbers one by one.
-ghost use Rattle.std.specs.Prelude.{◌≡◌, ◌+◌, ◌<◌, ◌^◌, ℕ, ℤ, pos, Bool, true, false, [], ◌∷◌, ◌++◌, List, length, if◌then◌else◌, is_some, IfSome, IsTrue, refl};
-ghost use Rattle.std.specs.List.{fold};
-ghost use Rattle.reductions.specs.Words.{Order, Little, low_bits, size, Red};
+ghost use Rattle.reductions.specs.Words.{◌≡◌, ◌+◌, ◌<◌, ◌^◌, ℕ, ℤ, pos, Bool, true, false, [], ◌∷◌, ◌++◌, List, length, if◌then◌else◌, is_some, IfSome, IsTrue, refl, fold, Order, Little, low_bits, size, Red};
 ghost use Rattle.reductions.specs.Reductions.{first_place, result_scalar};
 ghost use Rattle.reductions.specs.inside.Numbers.{number_at, numbers_at, numbers_of, TakesIn, IsStored, IsReduced};
 ghost use Rattle.reductions.specs.inside.FoldLaws.{total_of, total, total_is, total_size, truth_of, truth, truth_is, truth_size, is_true_bits};

@@ -1,12 +1,5 @@
 //! The axis of a reduction, the shape of its result, where its lists begin, and what is refused.
-ghost use Rattle.elem_descr.specs.declared.descr.Descr.TheVariants.{Scalar as ScalarDescr};
-ghost use Rattle.reductions.specs.Lists.{IsAxisOf, is_axis, list_length, named_axis, reduced_shape};
-ghost use Rattle.reductions.specs.Outcomes.{has_empty_list, number_scalar};
-ghost use Rattle.reductions.specs.Reductions.{needs_items};
-ghost use Rattle.reductions.specs.Words.{BadAxis, Gives, IsNumber, count};
-ghost use Rattle.reductions.specs.inside.Axes.{AreStarts, shape_after};
-ghost use Rattle.std.specs.List.{remove};
-ghost use Rattle.std.specs.Prelude.{Err, IfErr, IfOk, Ok, false, length, not, slice_index, true, ◌&&◌, ◌<◌, ◌==◌, ◌≡◌, ◌≤◌};
+ghost use Rattle.reductions.specs.Clauses.{ScalarDescr, IsAxisOf, is_axis, list_length, named_axis, reduced_shape, has_empty_list, number_scalar, needs_items, BadAxis, Gives, IsNumber, count, AreStarts, shape_after, remove, Err, IfErr, IfOk, Ok, false, length, not, slice_index, true, ◌&&◌, ◌<◌, ◌==◌, ◌≡◌, ◌≤◌};
 
 use crate::by_reduction::needs_items;
 use elem_descr::{Descr, Red, Refusal, Scalar};

@@ -1,14 +1,5 @@
 //! Reductions of the items of an array.
-ghost use Rattle.std.specs.Prelude.{All, ◌≡◌, ◌+◌, ◌*◌, ◌<◌, ◌≤◌, true, false, pos, Some, None, length, map, slice_index, slice_index_or, IfOk};
-ghost use Rattle.std.specs.List.{flat_map};
-ghost use Rattle.std.specs.List.Sorted.{IsPermutation};
-ghost use Rattle.reductions.specs.Words.{item_from, IsNumber, size, item_size, encode_item, Gives, C, count, offsets, max_items, offsets_in, owned_items};
-ghost use Rattle.reductions.specs.Lists.{named_axis, list_length, lists, IsAxisOf};
-ghost use Rattle.reductions.specs.Outcomes.{reduced_type, outcome_of};
-ghost use Rattle.reductions.specs.Reductions.{needs_items, reduced_items};
-ghost use Rattle.reductions.specs.inside.Numbers.{lists_from, HaveItems};
-ghost use Rattle.reductions.specs.inside.Orders.{depends_on_order};
-ghost use Rattle.reductions.specs.inside.Inputs.{lists_of, AreResults};
+ghost use Rattle.reductions.specs.Clauses.{All, ◌≡◌, ◌+◌, ◌*◌, ◌<◌, ◌≤◌, true, false, pos, Some, None, length, map, slice_index, slice_index_or, IfOk, flat_map, IsPermutation, item_from, IsNumber, size, item_size, encode_item, Gives, C, count, offsets, max_items, offsets_in, owned_items, named_axis, list_length, lists, IsAxisOf, reduced_type, outcome_of, needs_items, reduced_items, lists_from, HaveItems, depends_on_order, lists_of, AreResults};
 
 use crate::by_reduction::{Reducing, depends_on_order, empty_block, result_scalar};
 use crate::lines::{Input, Lists};

@@ -1,3 +1,4 @@
+pub mod Words
 pub mod TargetLaws
 pub mod CountLaws
 pub mod RankLaws

@@ -1,13 +1,5 @@
 -- Laws of the target shape: the capped product, and each refusal.
-use Rattle.std.proofs.Common.{◌≡◌, ℕ, ◌+◌, ◌*◌, ◌/◌, ◌%◌, ◌<◌, ◌≤◌, ◌==◌, min, nat_le, true, false, ℤ, pos, negsuc, int_le, Bool, List, ◌∷◌, map, length, get_or, drop, Err, inl, inr, refl, sym, ◌∙◌, ap, arith, one-mul, mul_comm, mul_assoc}
-use Rattle.std.specs.List.{list_all}
-use Rattle.std.proofs.Math.Nat.{min-eq_left, min-eq_right, div-eq_of_lt, mod-eq_of_lt}
-use Rattle.std.proofs.lemmas.Bool.{cases_lt}
-use Rattle.std.proofs.lemmas.Bool.Decides.{nat_tests}
-use Rattle.std.proofs.lemmas.List.{drop_more}
-use Rattle.std.proofs.lemmas.Simd.{map-map}
-use Rattle.reshape_rule.specs.Words.{◌>>=◌, check, TooManyAxes, BadReshape, max_axes, max_items, shape_of, min-mul, shape_of-capped}
-use Rattle.reshape_rule.specs.Targets.{left_open, given, make_up, length_or, target_of}
+use Rattle.reshape_rule.proofs.Words.{◌≡◌, ℕ, ◌+◌, ◌*◌, ◌/◌, ◌%◌, ◌<◌, ◌≤◌, ◌==◌, min, nat_le, true, false, ℤ, pos, negsuc, int_le, Bool, List, ◌∷◌, map, length, get_or, drop, Err, inl, inr, refl, sym, ◌∙◌, ap, arith, one-mul, mul_comm, mul_assoc, list_all, min-eq_left, min-eq_right, div-eq_of_lt, mod-eq_of_lt, cases_lt, nat_tests, drop_more, map-map, ◌>>=◌, check, TooManyAxes, BadReshape, max_axes, max_items, shape_of, min-mul, shape_of-capped, left_open, given, make_up, length_or, target_of}
 
 -- ---- the numbers from k on
 

@@ -1,6 +1,5 @@
 -- Whether a list is affine in a shape. The type of the answer says what is proved, whichever test finds the answer.
-use Rattle.std.proofs.Common.{◌≡◌, true, false, ℕ, List, refl, sym, ◌∙◌}
-use Rattle.std.proofs.lemmas.Bool.{false≢true}
+use Rattle.reshape_rule.specs.Words.{◌≡◌, true, false, ℕ, List, refl, sym, ◌∙◌, false≢true}
 use Rattle.reshape_rule.specs.Reshapes.{AffineOrNot, affine, not_affine}
 use Rattle.reshape_rule.specs.inside.Tests.{is_affine}
 use Rattle.reshape_rule.specs.AffineLaws.{affine-from_test, test_from_affine}

@@ -1,8 +1,5 @@
 //! The shape that the numbers of a reshape mean.
-ghost use Rattle.std.specs.Prelude.{◌≡◌, ◌+◌, ◌/◌, ◌≤◌, min, map, negsuc, int_le, IfOk};
-ghost use Rattle.std.specs.List.{list_all};
-ghost use Rattle.reshape_rule.specs.Words.{Gives, max_items, count};
-ghost use Rattle.reshape_rule.specs.Targets.{left_open, given, make_up, length_or, target_of};
+ghost use Rattle.reshape_rule.specs.Clauses.{◌≡◌, ◌+◌, ◌/◌, ◌≤◌, min, map, negsuc, int_le, IfOk, list_all, Gives, max_items, count, left_open, given, make_up, length_or, target_of};
 
 use elem_descr::Refusal;
 use shape_strides::{MAX_AXES, MAX_ITEMS, Shape};

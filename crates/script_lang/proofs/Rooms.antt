@@ -1,19 +1,5 @@
 -- What takes memory of its own.
-use Rattle.std.proofs.Common.{◌≡◌, ◌==◌, ℕ, Bool, true, false, List, length, not, Option, Some, None, refl}
-use Rattle.std.specs.Prelude.{IsTrue, IfSome, nat_le, count_by, ◌||◌}
-use Rattle.std.specs.Option.{option_and_then, option_map}
-use Rattle.std.proofs.lemmas.Bool.{false≢true}
-use Rattle.elem_descr.specs.declared.index_item.IndexItem.{IndexItem}
-use Rattle.elem_descr.specs.IndexItems.{is_ellipsis}
-use Rattle.script_lang.specs.declared.literal.ScalarLiteral.{ScalarLiteral}
-use Rattle.script_lang.specs.declared.literal.Literal.{Literal}
-use Rattle.script_lang.specs.declared.command.Operand.{Operand}
-use Rattle.script_lang.specs.declared.command.Argument.{Argument}
-use Rattle.script_lang.specs.Tokens.{where_true, byte_at, unspaced}
-use Rattle.script_lang.specs.Lists.{by_rule, none_or_more, one_or_more}
-use Rattle.script_lang.specs.Literals.{byte_text_at, bytes_at, scalar_at, literal_of_scalar, record_at, literal_at}
-use Rattle.script_lang.specs.Indexes.{index_item_at, index_at, optional_index_at, operand_named, operand_of, literal_of, bare_name_at, argument_at}
-use Rattle.script_lang.specs.Reading.{scalar_room, literal_room, index_room, optional_index_room, operand_room, argument_room}
+use Rattle.script_lang.proofs.Words.{◌≡◌, ◌==◌, ℕ, Bool, true, false, List, length, not, Option, Some, None, refl, IsTrue, IfSome, nat_le, count_by, ◌||◌, option_and_then, option_map, false≢true, IndexItem, is_ellipsis, ScalarLiteral, Literal, Operand, Argument, where_true, byte_at, unspaced, by_rule, none_or_more, one_or_more, byte_text_at, bytes_at, scalar_at, literal_of_scalar, record_at, literal_at, index_item_at, index_at, optional_index_at, operand_named, operand_of, literal_of, bare_name_at, argument_at, scalar_room, literal_room, index_room, optional_index_room, operand_room, argument_room}
 
 -- If what follows a step has P for every result of the step, the whole has P.
 pub after_step : {A B : Type 0} (P : B → Type 0) (step : Option A) (next : A → Option B) → ((x : A) → IfSome (next x) P) → IfSome (option_and_then next step) P

@@ -1,12 +1,5 @@
 -- Bytes that are numbers.
-use Rattle.std.proofs.Common.{◌≡◌, ◌≤◌, ◌<◌, ◌^◌, ◌+◌, ℕ, suc, Bool, true, false, List, [], ◌∷◌, take, Some, None, refl, arith, nat_eq, cond}
-use Rattle.std.specs.Prelude.{if◌then◌else◌, IfSome, length, drop}
-use Rattle.std.proofs.Common.{subst, length-drop}
-use Rattle.script_lang.specs.Descriptors.{record_mark_at, is_mark}
-use Rattle.std.proofs.Math.Nat.{pow-le-pow_right}
-use Rattle.std.specs.List.{list_all, prefix_len}
-use Rattle.std.specs.Option.{option_map}
-use Rattle.script_lang.specs.Tokens.{byte_at, number_at, signed_at, positive, negative}
+use Rattle.script_lang.proofs.Words.{◌≡◌, ◌≤◌, ◌<◌, ◌^◌, ◌+◌, ℕ, suc, Bool, true, false, List, [], ◌∷◌, take, Some, None, refl, arith, nat_eq, cond, if◌then◌else◌, IfSome, length, drop, subst, length-drop, record_mark_at, is_mark, pow-le-pow_right, list_all, prefix_len, option_map, byte_at, number_at, signed_at, positive, negative}
 use Rattle.script_lang.proofs.Shorter.{Few, two_within}
 
 -- A number with fewer digits is below the power of ten for more digits.

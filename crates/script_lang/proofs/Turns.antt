@@ -1,12 +1,5 @@
 -- More turns than there are bytes do not change what a rule reads.
-use Rattle.std.proofs.Common.{◌≡◌, ◌<◌, ℕ, zero, suc, List, ◌∷◌, length, Option, Some, None, refl, ap, arith}
-use Rattle.std.specs.Prelude.{IfSome}
-use Rattle.std.specs.Option.{option_and_then}
-use Rattle.script_lang.specs.Tokens.{◌or_else◌, byte_at, symbol_at, length_at, integer_at}
-use Rattle.script_lang.specs.Lists.{in_turns, by_rule, AnyTurns, closed, entry_first, comma_next, one_or_more, none_or_more, row}
-use Rattle.script_lang.specs.Literals.{text_byte_at, literal_within, literal_at, line_end_at}
-use Rattle.script_lang.specs.Indexes.{index_item_at}
-use Rattle.script_lang.specs.Lines.{EachListAnyTurns}
+use Rattle.script_lang.proofs.Words.{◌≡◌, ◌<◌, ℕ, zero, suc, List, ◌∷◌, length, Option, Some, None, refl, ap, arith, IfSome, option_and_then, ◌or_else◌, byte_at, symbol_at, length_at, integer_at, in_turns, by_rule, AnyTurns, closed, entry_first, comma_next, one_or_more, none_or_more, row, text_byte_at, literal_within, literal_at, line_end_at, index_item_at, EachListAnyTurns}
 use Rattle.script_lang.proofs.Shorter.{Less, Few, Shortens, weaker, symbol_shorter, length_shorter, integer_shorter, index_item_shorter, text_byte_shorter, literal_within_shorter, literal_shorter}
 
 -- a rule that takes at least one byte before it goes on

@@ -1,11 +1,7 @@
 -- The commands and the values, with one production each. A production takes the bytes after its word, and returns what
 -- it reads and the bytes after that.
-use Rattle.std.specs.Prelude.{ℕ, ℤ, List, codes, Option, Some, None, is_some, if◌then◌else◌}
-use Rattle.std.specs.Option.{option_map}
-use Rattle.elem_descr.specs.declared.index_item.IndexItem.{IndexItem}
+use Rattle.script_lang.specs.Words.{ℕ, ℤ, List, codes, Option, Some, None, is_some, if◌then◌else◌, option_map, IndexItem, UnOp, Red}
 use Rattle.script_lang.specs.declared.command.Operation.{Operation}
-use Rattle.elem_descr.specs.declared.operators.UnOp.{UnOp}
-use Rattle.elem_descr.specs.declared.operators.Red.{Red}
 use Rattle.script_lang.specs.declared.verb.Verb.{Verb}
 use Rattle.script_lang.specs.declared.verb.Verb.TheVariants as verb
 use Rattle.script_lang.specs.declared.verb.MakeVerb.{MakeVerb}

@@ -1,9 +1,5 @@
 -- Shapes, index lists and operands.
-use Rattle.std.specs.Prelude.{ℕ, ℤ, List, codes, Option, Some, None, is_some, nat_le, count_by, if◌then◌else◌}
-use Rattle.std.specs.Option.{option_map}
-use Rattle.elem_descr.specs.declared.index_item.IndexItem.{IndexItem}
-use Rattle.elem_descr.specs.declared.index_item.IndexItem.TheVariants.{Integer, Slice, Ellipsis, NewAxis, Array}
-use Rattle.elem_descr.specs.IndexItems.{is_ellipsis}
+use Rattle.script_lang.specs.Words.{ℕ, ℤ, List, codes, Option, Some, None, is_some, nat_le, count_by, if◌then◌else◌, option_map, IndexItem, Integer, Slice, Ellipsis, NewAxis, Array, is_ellipsis}
 use Rattle.script_lang.specs.declared.literal.Literal.{Literal}
 use Rattle.script_lang.specs.declared.command.Operand.{Operand}
 use Rattle.script_lang.specs.declared.command.Argument.{Argument}

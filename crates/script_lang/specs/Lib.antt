@@ -12,3 +12,5 @@ pub mod Tokens
 pub mod Verbs
 pub mod Nodes
 pub mod inside
+pub mod Words
+pub mod Clauses

@@ -1,6 +1,5 @@
 -- Lists of entries. A rule reads a list, given a reader for the list after the first entry.
-use Rattle.std.specs.Prelude.{◌≡◌, ◌<◌, ℕ, zero, suc, List, [], ◌∷◌, length, Option, Some, None}
-use Rattle.std.specs.Option.{option_and_then}
+use Rattle.script_lang.specs.Words.{◌≡◌, ◌<◌, ℕ, zero, suc, List, [], ◌∷◌, length, Option, Some, None, option_and_then}
 use Rattle.script_lang.specs.Tokens.{symbol_at, ◌>>=◌, ◌or_else◌}
 
 -- what a rule reads if it may be applied at most `turns` times

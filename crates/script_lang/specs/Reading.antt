@@ -1,8 +1,5 @@
 -- How the result of the parser relates to what a line says.
-use Rattle.std.specs.Prelude.{◌≡◌, ◌⊎◌, Bool, true, false, IsTrue, IfSome, ℕ, List, Option, Some, None, is_some, Result, Ok, Err, length, nat_lt, ◌||◌}
-use Rattle.elem_descr.specs.declared.refusal.Refusal.{Refusal}
-use Rattle.elem_descr.specs.declared.refusal.Refusal.TheVariants.{ByteNotAllowed, Syntax, OutOfMemory}
-use Rattle.elem_descr.specs.declared.index_item.IndexItem.{IndexItem}
+use Rattle.script_lang.specs.Words.{◌≡◌, ◌⊎◌, Bool, true, false, IsTrue, IfSome, ℕ, List, Option, Some, None, is_some, Result, Ok, Err, length, nat_lt, ◌||◌, Refusal, ByteNotAllowed, Syntax, OutOfMemory, IndexItem}
 use Rattle.script_lang.specs.declared.literal.ScalarLiteral.{ScalarLiteral}
 use Rattle.script_lang.specs.declared.literal.ScalarLiteral.TheVariants.{Bytes}
 use Rattle.script_lang.specs.declared.literal.Literal.{Literal}

@@ -1,17 +1,8 @@
 -- The words of the language, and what each of them means.
-use Rattle.std.specs.Prelude.{ℕ, Bool, List, [], ◌∷◌, codes, Option, Some, None, ◌||◌, if◌then◌else◌}
-use Rattle.std.specs.Option.{option_and_then}
-use Rattle.std.specs.Str.{bytes_eq}
-use Rattle.elem_descr.specs.declared.operators.MemoryOrder.{MemoryOrder}
-use Rattle.elem_descr.specs.declared.operators.MemoryOrder.TheVariants.{C, Fortran}
-use Rattle.elem_descr.specs.declared.operators.BinOp.TheVariants.{Add, Subtract, Multiply, FloorDivide, Modulo, And, Or, Xor, ShiftLeft, ShiftRight, Divide}
-use Rattle.elem_descr.specs.declared.operators.Comparison.TheVariants.{Equal, NotEqual, Less, LessOrEqual, Greater, GreaterOrEqual}
+use Rattle.script_lang.specs.Words.{ℕ, Bool, List, [], ◌∷◌, codes, Option, Some, None, ◌||◌, if◌then◌else◌, option_and_then, bytes_eq, MemoryOrder, C, Fortran, Add, Subtract, Multiply, FloorDivide, Modulo, And, Or, Xor, ShiftLeft, ShiftRight, Divide, Equal, NotEqual, Less, LessOrEqual, Greater, GreaterOrEqual, UnOp, Negate, Invert, Red, Sum, Product, Minimum, Maximum, Any, ArgMin, ArgMax}
 use Rattle.script_lang.specs.declared.command.Operation.{Operation}
 use Rattle.script_lang.specs.declared.command.Operation.TheVariants.{Binary, Compare}
-use Rattle.elem_descr.specs.declared.operators.UnOp.{UnOp}
-use Rattle.elem_descr.specs.declared.operators.UnOp.TheVariants.{Negate, Invert}
-use Rattle.elem_descr.specs.declared.operators.Red.{Red}
-use Rattle.elem_descr.specs.declared.operators.Red.TheVariants.{Sum, Product, Minimum, Maximum, Any, All, ArgMin, ArgMax}
+use Rattle.elem_descr.specs.declared.operators.Red.TheVariants.{All}
 use Rattle.script_lang.specs.declared.verb.Verb.{Verb}
 use Rattle.script_lang.specs.declared.verb.Verb.TheVariants as verb
 use Rattle.script_lang.specs.declared.verb.MakeVerb.TheVariants as make

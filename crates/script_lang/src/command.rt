@@ -1,6 +1,5 @@
 //! The commands of a script, with their index lists and lists of numbers.
-ghost use Rattle.elem_descr.specs.IndexItems.{is_ellipsis};
-ghost use Rattle.std.specs.Prelude.{count_by, ◌≡◌};
+ghost use Rattle.script_lang.specs.Clauses.{is_ellipsis, count_by, ◌≡◌};
 
 use crate::literal::{Literal, Literals};
 use crate::short_list::ShortList;

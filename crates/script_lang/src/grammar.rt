@@ -1,8 +1,5 @@
 //! The grammar of a line.
-ghost use Rattle.std.specs.Prelude.{◌≤◌, length};
-ghost use Rattle.script_lang.specs.Commands.{load_at, value_at, bind_at, ask_at, verb_command_at};
-ghost use Rattle.script_lang.specs.Lines.{line_of, EachListAnyTurns};
-ghost use Rattle.script_lang.specs.Reading.{Scans, Reads, Says, value_room, parts_take_memory};
+ghost use Rattle.script_lang.specs.Clauses.{◌≤◌, length, load_at, value_at, bind_at, ask_at, verb_command_at, line_of, EachListAnyTurns, Scans, Reads, Says, value_room, parts_take_memory};
 
 mod computations;
 mod creations;

@@ -1,6 +1,5 @@
 //! Texts that a command keeps as they are written.
-ghost use Rattle.elem_descr.specs.RefusalTexts.{refusal_text};
-ghost use Rattle.std.specs.Prelude.{IfOk, IsOk, length, ◌≡◌, ◌≤◌};
+ghost use Rattle.script_lang.specs.Words.{refusal_text, IfOk, IsOk, length, ◌≡◌, ◌≤◌};
 
 use elem_descr::Refusal;
 use smallvec::SmallVec;

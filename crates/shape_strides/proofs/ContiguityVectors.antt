@@ -1,11 +1,5 @@
 -- Examples of the definitions of strides and contiguity: arrays whose strides and flags NumPy gives.
-use Rattle.std.proofs.Common.{◌≡◌, true, false, pos, negsuc, [], ◌∷◌, codes, refl, arith}
-use Rattle.std.proofs.lemmas.List.Sorted.{IsPermutation-refl}
-use Rattle.std.specs.Fmt.{digits}
-use Rattle.shape_strides.specs.Layouts.{f_strides, f_multiples}
-use Rattle.shape_strides.specs.inside.Reach.{reach_within}
-use Rattle.shape_strides.specs.Stacks.{axes, StepsClear, CanStack}
-use Rattle.shape_strides.specs.Contiguity.{first_address, printed_strides, is_c_contiguous, is_f_contiguous, fortran_order, strides_text}
+use Rattle.shape_strides.proofs.Words.{◌≡◌, true, false, pos, negsuc, [], ◌∷◌, codes, refl, arith, IsPermutation-refl, digits, f_strides, f_multiples, reach_within, axes, StepsClear, CanStack, first_address, printed_strides, is_c_contiguous, is_f_contiguous, fortran_order, strides_text}
 
 -- `numpy.zeros((2, 3), "<i4")`
 c_strides : printed_strides (2 ∷ 3 ∷ []) (0 ∷ 4 ∷ 8 ∷ 12 ∷ 16 ∷ 20 ∷ []) ≡ pos 12 ∷ pos 4 ∷ []

@@ -1,19 +1,5 @@
 -- Laws of runs along the last axis, and of the axes outside of it.
-use Rattle.std.proofs.Common.{◌≡◌, ℕ, ◌*◌, ◌<◌, ◌≤◌, ℤ, pos, List, [], ◌∷◌, ◌++◌, map, refl, sym, ◌∙◌, ap, subst, arith, mul-le-mul_left, mul-le-mul_right}
-use Rattle.std.specs.List.{AllByRecursion as Each}
-use Rattle.elem_descr.specs.Steps.{numbers_from}
-use Rattle.elem_descr.specs.ListLaws.{flat_map_same, map-flat_map}
-use Rattle.shape_strides.specs.declared.layout.Layout.{Layout}
-use Rattle.shape_strides.specs.declared.single_run.StridedAxis.{StridedAxis}
-use Rattle.shape_strides.specs.declared.runs.Run.{Run}
-use Rattle.shape_strides.specs.Indexes.{count}
-use Rattle.shape_strides.specs.Addresses.{natural}
-use Rattle.shape_strides.specs.Layouts.{address}
-use Rattle.shape_strides.specs.Joined.{strided_axes, all_joined}
-use Rattle.shape_strides.specs.Runs.{run_along, runs_from}
-use Rattle.shape_strides.specs.PairWalks.{IsInBytes}
-use Rattle.shape_strides.specs.inside.Starts.{lengths_of}
-use Rattle.shape_strides.specs.CountLaws.{factors_pos}
+use Rattle.shape_strides.proofs.Words.{◌≡◌, ℕ, ◌*◌, ◌<◌, ◌≤◌, ℤ, pos, List, [], ◌∷◌, ◌++◌, map, refl, sym, ◌∙◌, ap, subst, arith, mul-le-mul_left, mul-le-mul_right, Each, numbers_from, flat_map_same, map-flat_map, Layout, StridedAxis, Run, count, natural, address, strided_axes, all_joined, run_along, runs_from, IsInBytes, lengths_of, factors_pos}
 use Rattle.shape_strides.proofs.JoinedLaws.{addresses, addresses-indexes, addresses-joined}
 use Rattle.shape_strides.proofs.RunLaws.{Each-indexes}
 use Rattle.shape_strides.proofs.StartLaws.{count-joined, lengths_of-axes}

@@ -1,21 +1,5 @@
 -- Joined axes lead to the same addresses.
-use Rattle.std.proofs.Common.{◌≡◌, ℕ, zero, suc, ◌+◌, ◌*◌, ◌==◌, ℤ, pos, ◌+ℤ◌, ◌*ℤ◌, List, [], ◌∷◌, ◌++◌, map, length, refl, sym, ◌∙◌, ap, arith, zero-mul, suc-mul}
-use Rattle.std.specs.List.{flat_map, range_with_len}
-use Rattle.std.proofs.lemmas.Bool.{cond_both, eqb-true}
-use Rattle.std.proofs.lemmas.Bool.Decides.{Decides-int_eq}
-use Rattle.std.proofs.lemmas.List.{append-nil}
-use Rattle.std.proofs.lemmas.List.Folds.{flat_map-map}
-use Rattle.std.proofs.lemmas.Simd.{map-map}
-use Rattle.std.proofs.Math.IntN.{+ℤ_idr, +ℤ_assoc}
-use Rattle.elem_descr.specs.Steps.{numbers_from}
-use Rattle.elem_descr.specs.StepLaws.{none_more, numbers-suc, numbers-split}
-use Rattle.elem_descr.specs.ListLaws.{flat_map_same, flat_map-flat_map, map-flat_map}
-use Rattle.shape_strides.specs.declared.layout.Layout.{Layout}
-use Rattle.shape_strides.specs.declared.single_run.StridedAxis.{StridedAxis}
-use Rattle.shape_strides.specs.Indexes.{indexes}
-use Rattle.shape_strides.specs.Addresses.{dot, natural}
-use Rattle.shape_strides.specs.Layouts.{address, offsets}
-use Rattle.shape_strides.specs.Joined.{strided_axes, leads_over, join_outside, all_joined}
+use Rattle.shape_strides.proofs.Words.{◌≡◌, ℕ, zero, suc, ◌+◌, ◌*◌, ◌==◌, ℤ, pos, ◌+ℤ◌, ◌*ℤ◌, List, [], ◌∷◌, ◌++◌, map, length, refl, sym, ◌∙◌, ap, arith, zero-mul, suc-mul, flat_map, range_with_len, cond_both, eqb-true, Decides-int_eq, append-nil, flat_map-map, map-map, +ℤ_idr, +ℤ_assoc, numbers_from, none_more, numbers-suc, numbers-split, flat_map_same, flat_map-flat_map, map-flat_map, Layout, StridedAxis, indexes, dot, natural, address, offsets, strided_axes, leads_over, join_outside, all_joined}
 
 -- ---- lists
 

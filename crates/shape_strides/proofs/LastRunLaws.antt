@@ -1,25 +1,5 @@
 -- Laws of the run that the last axes of a layout make: a run begins at each offset that the outer axes lead to.
-use Rattle.std.proofs.Common.{◌≡◌, ℕ, zero, suc, ◌-◌, ◌*◌, ◌/◌, ◌<◌, ◌≤◌, ◌==◌, cond, ℤ, pos, ◌+ℤ◌, ◌*ℤ◌, ◌≤ℤ◌, List, [], ◌∷◌, ◌++◌, map, length, get_or, take, drop, refl, sym, ◌∙◌, ap, subst, arith, mul_assoc, mul-le-mul_left, length-append, length-take, one-mul}
-use Rattle.std.proofs.Math.Nat.{mul-div_cancel}
-use Rattle.std.proofs.lemmas.Bool.{cond_both, cond-true, cond-false, ne_eqb, eqb-true}
-use Rattle.std.proofs.lemmas.List.Elements.{All-from_recursion}
-use Rattle.std.proofs.lemmas.Simd.{map-map}
-use Rattle.shape_strides.specs.declared.layout.Layout.{Layout}
-use Rattle.shape_strides.specs.declared.single_run.StridedAxis.{StridedAxis}
-use Rattle.shape_strides.specs.declared.runs.Run.{Run}
-use Rattle.shape_strides.specs.Limits.{max_items, max_bytes}
-use Rattle.shape_strides.specs.Indexes.{count, indexes, IsIndex}
-use Rattle.shape_strides.specs.Addresses.{dot, natural, address_at}
-use Rattle.shape_strides.specs.Joined.{strided_axes, leads_over, join_outside, all_joined}
-use Rattle.shape_strides.specs.Runs.{run_along, runs_from, runs}
-use Rattle.shape_strides.specs.Walks.{AreAxes, offsets_at}
-use Rattle.shape_strides.specs.AxisIndexes.{zero_filled}
-use Rattle.shape_strides.specs.inside.Single.{if_long}
-use Rattle.shape_strides.specs.inside.LastRuns.{IsLastRun}
-use Rattle.shape_strides.specs.AxisLaws.{dot-nil, IsIndex-first}
-use Rattle.shape_strides.specs.IndexLaws.{length-index}
-use Rattle.shape_strides.specs.CountLaws.{factors_pos}
-use Rattle.shape_strides.specs.LayoutLaws.{offsets-none}
+use Rattle.shape_strides.proofs.Words.{◌≡◌, ℕ, zero, suc, ◌-◌, ◌*◌, ◌/◌, ◌<◌, ◌≤◌, ◌==◌, cond, ℤ, pos, ◌+ℤ◌, ◌*ℤ◌, ◌≤ℤ◌, List, [], ◌∷◌, ◌++◌, map, length, get_or, take, drop, refl, sym, ◌∙◌, ap, subst, arith, mul_assoc, mul-le-mul_left, length-append, length-take, one-mul, mul-div_cancel, cond_both, cond-true, cond-false, ne_eqb, eqb-true, All-from_recursion, map-map, Layout, StridedAxis, Run, max_items, max_bytes, count, indexes, IsIndex, dot, natural, address_at, strided_axes, leads_over, join_outside, all_joined, run_along, runs_from, runs, AreAxes, offsets_at, zero_filled, if_long, IsLastRun, dot-nil, IsIndex-first, length-index, factors_pos, offsets-none}
 use Rattle.shape_strides.proofs.StepLaws.{dot-padded}
 use Rattle.shape_strides.proofs.JoinedLaws.{addresses, addresses-indexes, addresses-joined}
 use Rattle.shape_strides.proofs.RunLaws.{runs-some, runs-none}

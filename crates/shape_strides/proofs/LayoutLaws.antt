@@ -1,16 +1,5 @@
 -- Laws of addresses and offsets.
-use Rattle.std.proofs.Common.{◌≡◌, ℕ, ◌+◌, ◌*◌, ◌<◌, ◌≤◌, ℤ, pos, ◌+ℤ◌, ◌≤ℤ◌, List, [], ◌∷◌, length, get_or, sym, ◌∙◌, ap, arith, mul-zero, mul_comm}
-use Rattle.std.proofs.lemmas.Int.{ints}
-use Rattle.std.proofs.lemmas.List.{same_lists}
-use Rattle.std.proofs.lemmas.List.FromFn.{length-map-range_with_len, get_or-map-range_with_len}
-use lib.IntN.{+ℤ_idl}
-use Rattle.shape_strides.specs.declared.layout.Layout.{Layout}
-use Rattle.shape_strides.specs.Indexes.{count, rank, IsIndex}
-use Rattle.shape_strides.specs.Addresses.{dot, address_at, natural, LieWithin}
-use Rattle.shape_strides.specs.Layouts.{offsets, IsNested, multiples, c_strides}
-use Rattle.shape_strides.specs.CountLaws.{mul-step}
-use Rattle.shape_strides.specs.LayoutLaws.{length-offsets, get_or-offsets}
-use Rattle.shape_strides.specs.IndexLaws.{rank-lt, index_at}
+use Rattle.shape_strides.proofs.Words.{◌≡◌, ℕ, ◌+◌, ◌*◌, ◌<◌, ◌≤◌, ℤ, pos, ◌+ℤ◌, ◌≤ℤ◌, List, [], ◌∷◌, length, get_or, sym, ◌∙◌, ap, arith, mul-zero, mul_comm, ints, same_lists, length-map-range_with_len, get_or-map-range_with_len, +ℤ_idl, Layout, count, rank, IsIndex, dot, address_at, natural, LieWithin, offsets, IsNested, multiples, c_strides, mul-step, length-offsets, get_or-offsets, rank-lt, index_at}
 
 -- ---- layouts that fit
 

@@ -1,3 +1,4 @@
+pub mod Words
 pub mod LayoutLaws
 pub mod StepLaws
 pub mod ReachLaws

@@ -1,30 +1,8 @@
 -- Laws of two layouts that are walked together: the pairs cover the items of both.
-use Rattle.std.proofs.Common.{◌≡◌, ℕ, zero, suc, ◌+◌, ◌-◌, ◌<◌, ◌≤◌, ◌==◌, min, ℤ, pos, ◌+ℤ◌, ◌*ℤ◌, List, [], ◌∷◌, ◌++◌, Option, Some, None, All, map, length, inl, inr, refl, sym, ◌∙◌, ap, subst, arith, append_assoc, length-append}
-use Rattle.std.specs.List.{flat_map, AllByRecursion as Each}
-use Rattle.std.proofs.lemmas.Bool.{cases_lt, cond_both, cond-true, eq-eqb, eqb-true, eqb-false}
-use Rattle.std.proofs.lemmas.List.{map-append}
-use Rattle.std.proofs.lemmas.List.Elements.{All-from_recursion}
-use Rattle.elem_descr.specs.Steps.{numbers_from}
-use Rattle.shape_strides.specs.declared.layout.Layout.{Layout}
-use Rattle.shape_strides.specs.declared.single_run.StridedAxis.{StridedAxis}
-use Rattle.shape_strides.specs.declared.runs.Run.{Run}
-use Rattle.shape_strides.specs.declared.run_pairs.RunPair.{RunPair}
-use Rattle.shape_strides.specs.Limits.{max_items}
-use Rattle.shape_strides.specs.Indexes.{count}
-use Rattle.shape_strides.specs.Addresses.{natural}
-use Rattle.shape_strides.specs.Layouts.{offsets}
-use Rattle.shape_strides.specs.Joined.{strided_axes, all_joined}
-use Rattle.shape_strides.specs.Runs.{run_offsets, runs_from, runs, GoesBy}
-use Rattle.shape_strides.specs.RunPairs.{run_front, run_after, cut, paired, all_offsets, pairs, pairs_left, run_pairs}
-use Rattle.shape_strides.specs.inside.Starts.{lengths_of}
-use Rattle.shape_strides.specs.PairWalks.{IsInBytes, IsWhole, AreWhole, AreEven, IsAtPair}
-use Rattle.shape_strides.specs.inside.Heads.{IsHead, both}
-use Rattle.shape_strides.specs.LayoutLaws.{pos-natural, length-offsets}
-use Rattle.elem_descr.specs.StepLaws.{numbers-split, numbers-suc}
+use Rattle.shape_strides.proofs.Words.{◌≡◌, ℕ, zero, suc, ◌+◌, ◌-◌, ◌<◌, ◌≤◌, ◌==◌, min, ℤ, pos, ◌+ℤ◌, ◌*ℤ◌, List, [], ◌∷◌, ◌++◌, Option, Some, None, All, map, length, inl, inr, refl, sym, ◌∙◌, ap, subst, arith, append_assoc, length-append, flat_map, Each, cases_lt, cond_both, cond-true, eq-eqb, eqb-true, eqb-false, map-append, All-from_recursion, numbers_from, Layout, StridedAxis, Run, RunPair, max_items, count, natural, offsets, strided_axes, all_joined, run_offsets, runs_from, runs, GoesBy, run_front, run_after, cut, paired, all_offsets, pairs, pairs_left, run_pairs, lengths_of, IsInBytes, IsWhole, AreWhole, AreEven, IsAtPair, IsHead, both, pos-natural, length-offsets, numbers-split, numbers-suc, length-run_offsets, length-first}
 use Rattle.shape_strides.proofs.JoinedLaws.{flat_map-id, addresses}
 use Rattle.shape_strides.proofs.RunLaws.{NoneBelow, Each-front, Each-back, numbers-natural, empty, IsJoined, HasItems, IsJoined-joined, HasItems-axes, runs-some, runs-none, runs-offsets, runs-alone}
 use Rattle.shape_strides.proofs.FrontLaws.{in_bytes, lengths-low, count-whole}
-use Rattle.shape_strides.specs.WalkLaws.{length-run_offsets, length-first}
 
 none_low : (zs : List ℤ) → Each IsInBytes zs → NoneBelow zs
 none_low [] each = tt

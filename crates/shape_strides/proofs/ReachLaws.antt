@@ -1,13 +1,5 @@
 -- Laws of the reach of a layout's addresses.
-use Rattle.std.proofs.Common.{◌≡◌, ℕ, zero, suc, ◌+◌, ◌-◌, ◌*◌, ◌<◌, ◌≤◌, IsTrue, nat_le, ℤ, pos, negsuc, ◌+ℤ◌, ◌*ℤ◌, neg_ℤ, ◌≤ℤ◌, List, [], ◌∷◌, length, refl, ap, arith, zero-mul, mul-le-mul_left}
-use Rattle.std.proofs.lemmas.Int.{ints}
-use Rattle.std.proofs.lemmas.Bool.Decides.{nat_tests}
-use lib.IntN.{*ℤ-zero, negsuc-*ℤ-pos}
-use Rattle.shape_strides.specs.Indexes.{count, IsIndex}
-use Rattle.shape_strides.specs.Addresses.{dot, natural, LieWithin}
-use Rattle.shape_strides.specs.inside.Reach.{reach_above, reach_below}
-use Rattle.shape_strides.specs.IndexLaws.{rank-lt}
-use Rattle.shape_strides.specs.CountLaws.{factors_pos}
+use Rattle.shape_strides.proofs.Words.{◌≡◌, ℕ, zero, suc, ◌+◌, ◌-◌, ◌*◌, ◌<◌, ◌≤◌, IsTrue, nat_le, ℤ, pos, negsuc, ◌+ℤ◌, ◌*ℤ◌, neg_ℤ, ◌≤ℤ◌, List, [], ◌∷◌, length, refl, ap, arith, zero-mul, mul-le-mul_left, ints, nat_tests, *ℤ-zero, negsuc-*ℤ-pos, count, IsIndex, dot, natural, LieWithin, reach_above, reach_below, rank-lt, factors_pos}
 
 -- the part of one axis in an address, for a number below its length
 axis_high : (s : ℤ) (k n : ℕ) → k < n → (s *ℤ pos k) ≤ℤ pos (natural s * (n - 1))

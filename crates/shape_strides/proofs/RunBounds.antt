@@ -1,22 +1,5 @@
 -- If a layout fits, so does each of its runs.
-use Rattle.std.proofs.Common.{◌≡◌, ℕ, zero, suc, ◌+◌, ◌-◌, ◌<◌, ◌≤◌, ◌==◌, min, ℤ, pos, ◌+ℤ◌, ◌*ℤ◌, ◌≤ℤ◌, List, [], ◌∷◌, ◌++◌, All, length, inl, inr, sym, ◌∙◌, ap, subst, arith}
-use Rattle.std.specs.List.{flat_map, AllByRecursion as Each}
-use Rattle.std.proofs.lemmas.Bool.{cases_lt, cond_both}
-use Rattle.std.proofs.lemmas.List.Elements.{All-from_recursion}
-use Rattle.std.proofs.lemmas.List.FromFn.{length-map-range_with_len, get_or-map-range_with_len}
-use Rattle.std.proofs.Math.IntN.{+ℤ_idr}
-use Rattle.elem_descr.specs.Steps.{numbers_from}
-use Rattle.shape_strides.specs.declared.layout.Layout.{Layout}
-use Rattle.shape_strides.specs.declared.single_run.StridedAxis.{StridedAxis}
-use Rattle.shape_strides.specs.declared.runs.Run.{Run}
-use Rattle.shape_strides.specs.Indexes.{count, IsIndex}
-use Rattle.shape_strides.specs.Addresses.{natural, address_at, LieWithin}
-use Rattle.shape_strides.specs.Layouts.{address, Fits}
-use Rattle.shape_strides.specs.Joined.{strided_axes, all_joined}
-use Rattle.shape_strides.specs.Runs.{runs_from, runs}
-use Rattle.shape_strides.specs.RunPairs.{run_front, run_after, cut, paired, all_offsets, run_pairs}
-use Rattle.shape_strides.specs.LayoutLaws.{pos-natural}
-use Rattle.elem_descr.specs.StepLaws.{numbers-suc}
+use Rattle.shape_strides.proofs.Words.{◌≡◌, ℕ, zero, suc, ◌+◌, ◌-◌, ◌<◌, ◌≤◌, ◌==◌, min, ℤ, pos, ◌+ℤ◌, ◌*ℤ◌, ◌≤ℤ◌, List, [], ◌∷◌, ◌++◌, All, length, inl, inr, sym, ◌∙◌, ap, subst, arith, flat_map, Each, cases_lt, cond_both, All-from_recursion, length-map-range_with_len, get_or-map-range_with_len, +ℤ_idr, numbers_from, Layout, StridedAxis, Run, count, IsIndex, natural, address_at, LieWithin, address, Fits, strided_axes, all_joined, runs_from, runs, run_front, run_after, cut, paired, all_offsets, run_pairs, pos-natural, numbers-suc}
 use Rattle.shape_strides.proofs.JoinedLaws.{flat_map-id, addresses, addresses-joined, addresses-indexes}
 use Rattle.shape_strides.proofs.RunLaws.{NoneBelow, Each-front, Each-back, Each-indexes, numbers-natural, runs-some, runs-none}
 use Rattle.shape_strides.proofs.PairLaws.{split}

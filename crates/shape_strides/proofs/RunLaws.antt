@@ -1,26 +1,5 @@
 -- Laws of runs: their items are those of the layout, and there is one run if all offsets go by one step.
-use Rattle.std.proofs.Common.{◌≡◌, ℕ, zero, suc, ◌*◌, ◌<◌, ◌≤◌, ◌==◌, false, ℤ, pos, ◌+ℤ◌, ◌*ℤ◌, ◌≤ℤ◌, List, [], ◌∷◌, ◌++◌, map, length, get_or, inl, inr, refl, sym, ◌∙◌, ap, subst, arith, suc-mul}
-use Rattle.std.specs.List.{flat_map, AllByRecursion as Each}
-use Rattle.std.proofs.lemmas.Bool.{cases_lt, cond_both, cond-true, cond-false, eqb-false, eq-eqb, ne_eqb, both_ways}
-use Rattle.std.proofs.lemmas.Bool.Decides.{Decides-int_eq}
-use Rattle.std.proofs.lemmas.Grind.{flat_map-append}
-use Rattle.std.proofs.lemmas.Int.{ints}
-use Rattle.std.proofs.lemmas.List.{append-nil, map-append, length-map, get_or-map}
-use Rattle.std.proofs.lemmas.List.Elements.{recursion_from_All}
-use Rattle.elem_descr.specs.Steps.{numbers_from}
-use Rattle.shape_strides.specs.declared.layout.Layout.{Layout}
-use Rattle.shape_strides.specs.declared.single_run.StridedAxis.{StridedAxis}
-use Rattle.shape_strides.specs.declared.runs.Run.{Run}
-use Rattle.shape_strides.specs.Indexes.{count, indexes, IsIndex}
-use Rattle.shape_strides.specs.Addresses.{natural}
-use Rattle.shape_strides.specs.Layouts.{address, offsets}
-use Rattle.shape_strides.specs.Joined.{strided_axes, leads_over, join_outside, all_joined}
-use Rattle.shape_strides.specs.Runs.{run_offsets, runs_from, runs, GoesBy}
-use Rattle.shape_strides.specs.IndexLaws.{index_at, length-indexes, get_or-indexes}
-use Rattle.shape_strides.specs.LayoutLaws.{pos-natural, offsets-none}
-use Rattle.shape_strides.specs.CountLaws.{factors_pos}
-use Rattle.shape_strides.specs.AxisLaws.{one-step}
-use Rattle.elem_descr.specs.StepLaws.{numbers-suc, steps_later}
+use Rattle.shape_strides.proofs.Words.{◌≡◌, ℕ, zero, suc, ◌*◌, ◌<◌, ◌≤◌, ◌==◌, false, ℤ, pos, ◌+ℤ◌, ◌*ℤ◌, ◌≤ℤ◌, List, [], ◌∷◌, ◌++◌, map, length, get_or, inl, inr, refl, sym, ◌∙◌, ap, subst, arith, suc-mul, flat_map, Each, cases_lt, cond_both, cond-true, cond-false, eqb-false, eq-eqb, ne_eqb, both_ways, Decides-int_eq, flat_map-append, ints, append-nil, map-append, length-map, get_or-map, recursion_from_All, numbers_from, Layout, StridedAxis, Run, count, indexes, IsIndex, natural, address, offsets, strided_axes, leads_over, join_outside, all_joined, run_offsets, runs_from, runs, GoesBy, index_at, length-indexes, get_or-indexes, pos-natural, offsets-none, factors_pos, one-step, numbers-suc, steps_later}
 use Rattle.shape_strides.proofs.JoinedLaws.{flat_map-id, addresses, addresses-indexes, addresses-joined, offsets-joined}
 
 -- ---- properties of each address

@@ -1,17 +1,5 @@
 -- Layouts with the same offsets have the same first offset and the same joined axes.
-use Rattle.std.proofs.Common.{◌≡◌, ◌↔◌, ◌≢◌, ◌<◌, ◌==◌, Bool, true, false, ◌&&◌, IsTrue, ℤ, pos, List, [], ◌∷◌, map, length, get_or, reverse, inl, inr, refl, sym, ◌∙◌, ap, arith}
-use Rattle.std.proofs.lemmas.Bool.{cases_Bool, eqb-true, eq-eqb, false≢true, and_parts}
-use Rattle.std.proofs.lemmas.Bool.Decides.{Decides-int_eq}
-use Rattle.std.proofs.lemmas.List.{reverse-reverse}
-use Rattle.std.specs.Ordering.{int_eq}
-use Rattle.shape_strides.specs.declared.layout.Layout.{Layout}
-use Rattle.shape_strides.specs.declared.single_run.StridedAxis.{StridedAxis}
-use Rattle.shape_strides.specs.Indexes.{count}
-use Rattle.shape_strides.specs.Addresses.{natural}
-use Rattle.shape_strides.specs.Layouts.{offsets}
-use Rattle.shape_strides.specs.Joined.{strided_axes, all_joined}
-use Rattle.shape_strides.specs.inside.Alike.{all_alike}
-use Rattle.shape_strides.specs.LayoutLaws.{pos-natural, length-offsets}
+use Rattle.shape_strides.proofs.Words.{◌≡◌, ◌↔◌, ◌≢◌, ◌<◌, ◌==◌, Bool, true, false, ◌&&◌, IsTrue, ℤ, pos, List, [], ◌∷◌, map, length, get_or, reverse, inl, inr, refl, sym, ◌∙◌, ap, arith, cases_Bool, eqb-true, eq-eqb, false≢true, and_parts, Decides-int_eq, reverse-reverse, int_eq, Layout, StridedAxis, count, natural, offsets, strided_axes, all_joined, all_alike, pos-natural, length-offsets}
 use Rattle.shape_strides.proofs.JoinedLaws.{addresses, offsets-joined}
 use Rattle.shape_strides.proofs.RunLaws.{NoneBelow, none_below}
 use Rattle.shape_strides.proofs.StartLaws.{lengths_of-axes}

@@ -1,20 +1,6 @@
 -- Laws of layouts whose items make a single run.
-use Rattle.std.proofs.Common.{◌≡◌, ℕ, zero, suc, ◌+◌, ◌-◌, ◌*◌, ◌<◌, ◌≤◌, ◌==◌, inl, inr, ℤ, pos, List, [], ◌∷◌, All, length, get_or, drop, refl, sym, ◌∙◌, ap, subst, arith}
-use Rattle.std.proofs.lemmas.Bool.{cases_lt, cond_both, cond-true, cond-false, eq-eqb, ne_eqb}
-use Rattle.std.proofs.lemmas.List.{append-nil}
-use Rattle.std.specs.List.{flat_map}
-use Rattle.shape_strides.specs.declared.layout.Layout.{Layout}
-use Rattle.shape_strides.specs.declared.single_run.StridedAxis.{StridedAxis}
-use Rattle.shape_strides.specs.Limits.{max_items}
-use Rattle.shape_strides.specs.Indexes.{count}
-use Rattle.shape_strides.specs.Addresses.{LieWithin}
-use Rattle.shape_strides.specs.Layouts.{offsets, Fits}
-use Rattle.shape_strides.specs.Joined.{strided_axes, leads_over, join_outside, all_joined}
-use Rattle.shape_strides.specs.Runs.{run_offsets, run_along, runs_from, runs, GoesBy}
-use Rattle.shape_strides.specs.inside.Single.{if_long}
-use Rattle.shape_strides.specs.inside.LastRuns.{AreJoinedFrom, IsLastRun}
+use Rattle.shape_strides.proofs.Words.{◌≡◌, ℕ, zero, suc, ◌+◌, ◌-◌, ◌*◌, ◌<◌, ◌≤◌, ◌==◌, inl, inr, ℤ, pos, List, [], ◌∷◌, All, length, get_or, drop, refl, sym, ◌∙◌, ap, subst, arith, cases_lt, cond_both, cond-true, cond-false, eq-eqb, ne_eqb, append-nil, flat_map, Layout, StridedAxis, max_items, count, LieWithin, offsets, Fits, strided_axes, leads_over, join_outside, all_joined, run_offsets, run_along, runs_from, runs, GoesBy, if_long, AreJoinedFrom, IsLastRun, factors_pos, count-drop}
 use Rattle.shape_strides.proofs.RunLaws.{runs-some, runs-offsets, two_never, run_goes}
-use Rattle.shape_strides.specs.CountLaws.{factors_pos, count-drop}
 use Rattle.shape_strides.proofs.StartLaws.{count-later}
 use Rattle.shape_strides.proofs.RunBounds.{runs-lie}
 

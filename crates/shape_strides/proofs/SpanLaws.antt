@@ -1,14 +1,5 @@
 -- Laws of the range of bytes in which the items of a layout lie.
-use Rattle.std.proofs.Common.{◌≡◌, ℕ, ◌+◌, ◌<◌, ◌≤◌, ℤ, pos, ◌+ℤ◌, ◌≤ℤ◌, List, length, get_or, All, Contains, sym, ap, ◌∙◌, arith}
-use Rattle.std.proofs.lemmas.Int.{ints}
-use Rattle.shape_strides.specs.declared.layout.Layout.{Layout}
-use Rattle.shape_strides.specs.Indexes.{count, rank, IsIndex}
-use Rattle.shape_strides.specs.Limits.{max_bytes}
-use Rattle.shape_strides.specs.Addresses.{dot}
-use Rattle.shape_strides.specs.Layouts.{offsets, Fits}
-use Rattle.shape_strides.specs.inside.Reach.{reach_above, reach_below}
-use Rattle.shape_strides.specs.IndexLaws.{rank-lt, index_at}
-use Rattle.shape_strides.specs.LayoutLaws.{length-offsets, pos-offset}
+use Rattle.shape_strides.proofs.Words.{◌≡◌, ℕ, ◌+◌, ◌<◌, ◌≤◌, ℤ, pos, ◌+ℤ◌, ◌≤ℤ◌, List, length, get_or, All, Contains, sym, ap, ◌∙◌, arith, ints, Layout, count, rank, IsIndex, max_bytes, dot, offsets, Fits, reach_above, reach_below, rank-lt, index_at, length-offsets, pos-offset}
 use Rattle.shape_strides.proofs.ReachLaws.{dot_high, dot_low, top_of, bottom_of, reach_from_LieWithin}
 
 -- the arithmetic behind it

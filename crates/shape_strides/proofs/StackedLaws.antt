@@ -1,18 +1,5 @@
 -- In a stacked layout, no two items share a byte.
-use Rattle.std.proofs.Common.{◌≡◌, ◌≢◌, ◌⊎◌, ℕ, suc, ◌+◌, ◌-◌, ◌*◌, ◌<◌, ◌≤◌, ℤ, pos, negsuc, ◌+ℤ◌, ◌*ℤ◌, ◌≤ℤ◌, unsigned_abs, List, [], ◌∷◌, All, sum_by, length, get_or, inl, inr, refl, sym, ◌∙◌, ap, arith, mul-le-mul_left}
-use Rattle.std.proofs.lemmas.Bool.{cases_lt, cases_eq, cases_order}
-use Rattle.std.proofs.lemmas.Int.{ints}
-use Rattle.std.proofs.lemmas.List.Elements.{All-head, All-tail}
-use Rattle.std.proofs.lemmas.List.Sums.{sum_by-cons}
-use lib.IntN.{negsuc-*ℤ-pos}
-use Rattle.shape_strides.specs.declared.layout.Layout.{Layout}
-use Rattle.shape_strides.specs.Indexes.{rank, IsIndex}
-use Rattle.shape_strides.specs.Addresses.{dot}
-use Rattle.shape_strides.specs.Layouts.{offsets, IsNested, distance}
-use Rattle.shape_strides.specs.Stacks.{Axis, reach, axes, IsStacked}
-use Rattle.shape_strides.specs.IndexLaws.{index_at}
-use Rattle.shape_strides.specs.LayoutLaws.{length-offsets, pos-offset}
-use Rattle.shape_strides.specs.CountLaws.{mul-step}
+use Rattle.shape_strides.proofs.Words.{◌≡◌, ◌≢◌, ◌⊎◌, ℕ, suc, ◌+◌, ◌-◌, ◌*◌, ◌<◌, ◌≤◌, ℤ, pos, negsuc, ◌+ℤ◌, ◌*ℤ◌, ◌≤ℤ◌, unsigned_abs, List, [], ◌∷◌, All, sum_by, length, get_or, inl, inr, refl, sym, ◌∙◌, ap, arith, mul-le-mul_left, cases_lt, cases_eq, cases_order, ints, All-head, All-tail, sum_by-cons, negsuc-*ℤ-pos, Layout, rank, IsIndex, dot, offsets, IsNested, distance, Axis, reach, axes, IsStacked, index_at, length-offsets, pos-offset, mul-step}
 use Rattle.shape_strides.proofs.StackLaws.{within, within-all, within-none, within-le, IsClear, each_from_CanStack}
 
 -- ---- one axis

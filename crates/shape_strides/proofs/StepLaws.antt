@@ -1,16 +1,5 @@
 -- Sums of strides over the first axes, and the next index.
-use Rattle.std.proofs.Common.{◌≡◌, ℕ, zero, suc, ◌+◌, ◌<◌, ◌≤◌, ℤ, pos, ◌+ℤ◌, ◌*ℤ◌, ◌≤ℤ◌, List, [], ◌∷◌, ◌++◌, length, get_or, take, drop, refl, sym, ◌∙◌, ap, arith, add-one, add-mul, length-take, length-take-le}
-use Rattle.std.proofs.lemmas.Int.{ints}
-use Rattle.std.proofs.lemmas.List.{take_more}
-use lib.IntN.{+ℤ_assoc, +ℤ_idl, +ℤ_idr}
-use Rattle.shape_strides.specs.declared.layout.Layout.{Layout}
-use Rattle.shape_strides.specs.AxisIndexes.{zero_filled}
-use Rattle.shape_strides.specs.AxisLaws.{dot-nil, dot-zeros, rank-zeros}
-use Rattle.shape_strides.specs.IndexLaws.{length-index}
-use Rattle.shape_strides.specs.Indexes.{count, rank, IsIndex}
-use Rattle.shape_strides.specs.Limits.{max_bytes}
-use Rattle.shape_strides.specs.Addresses.{dot}
-use Rattle.shape_strides.specs.Layouts.{address}
+use Rattle.shape_strides.proofs.Words.{◌≡◌, ℕ, zero, suc, ◌+◌, ◌<◌, ◌≤◌, ℤ, pos, ◌+ℤ◌, ◌*ℤ◌, ◌≤ℤ◌, List, [], ◌∷◌, ◌++◌, length, get_or, take, drop, refl, sym, ◌∙◌, ap, arith, add-one, add-mul, length-take, length-take-le, ints, take_more, +ℤ_assoc, +ℤ_idl, +ℤ_idr, Layout, zero_filled, dot-nil, dot-zeros, rank-zeros, length-index, count, rank, IsIndex, max_bytes, dot, address}
 
 pub length-padded : (shape front : List ℕ) → length (zero_filled shape front) ≡ length shape
 length-padded [] front = refl

@@ -1,19 +1,5 @@
 -- Joined axes are determined by the addresses to which they lead.
-use Rattle.std.proofs.Common.{◌≡◌, ℕ, zero, suc, ◌+◌, ◌-◌, ◌*◌, ◌<◌, ◌≤◌, ◌==◌, false, ℤ, pos, ◌+ℤ◌, ◌*ℤ◌, List, [], ◌∷◌, ◌++◌, length, drop, reverse, inl, inr, refl, sym, ◌∙◌, ap, subst, arith, append_assoc, mul-le-mul_left}
-use Rattle.std.specs.List.{flat_map}
-use Rattle.std.proofs.lemmas.Bool.{cases_lt, cond_both, eqb-false, false≢true}
-use Rattle.std.proofs.lemmas.Bool.Decides.{Decides-int_eq}
-use Rattle.std.proofs.lemmas.Grind.{reverse_onto}
-use Rattle.std.proofs.lemmas.Int.{ints}
-use Rattle.std.proofs.lemmas.List.{append-nil, append_cancel_left, reverse-reverse}
-use Rattle.elem_descr.specs.Steps.{numbers_from}
-use Rattle.shape_strides.specs.declared.single_run.StridedAxis.{StridedAxis}
-use Rattle.shape_strides.specs.Indexes.{count}
-use Rattle.shape_strides.specs.Joined.{leads_over, join_outside, all_joined}
-use Rattle.shape_strides.specs.inside.Starts.{lengths_of}
-use Rattle.shape_strides.specs.CountLaws.{factors_pos}
-use Rattle.elem_descr.specs.StepLaws.{numbers-suc, numbers-split}
-use Rattle.elem_descr.specs.ListLaws.{flat_map_same, flat_map-flat_map, first_is}
+use Rattle.shape_strides.proofs.Words.{◌≡◌, ℕ, zero, suc, ◌+◌, ◌-◌, ◌*◌, ◌<◌, ◌≤◌, ◌==◌, false, ℤ, pos, ◌+ℤ◌, ◌*ℤ◌, List, [], ◌∷◌, ◌++◌, length, drop, reverse, inl, inr, refl, sym, ◌∙◌, ap, subst, arith, append_assoc, mul-le-mul_left, flat_map, cases_lt, cond_both, eqb-false, false≢true, Decides-int_eq, reverse_onto, ints, append-nil, append_cancel_left, reverse-reverse, numbers_from, StridedAxis, count, leads_over, join_outside, all_joined, lengths_of, factors_pos, numbers-suc, numbers-split, flat_map_same, flat_map-flat_map, first_is}
 use Rattle.shape_strides.proofs.JoinedLaws.{flat_map-id, addresses}
 
 -- ---- lists of joined axes

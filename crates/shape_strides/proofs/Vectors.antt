@@ -1,11 +1,5 @@
 -- Examples of the definitions: arrays whose shapes, strides and indexes NumPy and Python give.
-use Rattle.std.proofs.Common.{◌≡◌, pos, negsuc, [], ◌∷◌, Ok, Err, replicate, codes, refl, arith, lit≤}
-use Rattle.std.specs.Fmt.{digits}
-use Rattle.elem_descr.specs.declared.refusal.Refusal.TheVariants.{TooManyAxes, TooLarge}
-use Rattle.shape_strides.specs.declared.layout.Layout.{Layout}
-use Rattle.shape_strides.specs.Indexes.{count, indexes, rank}
-use Rattle.shape_strides.specs.Layouts.{c_strides, offsets}
-use Rattle.shape_strides.specs.Shapes.{shape_of, shape_text}
+use Rattle.shape_strides.proofs.Words.{◌≡◌, pos, negsuc, [], ◌∷◌, Ok, Err, replicate, codes, refl, arith, lit≤, digits, TooManyAxes, TooLarge, Layout, count, indexes, rank, c_strides, offsets, shape_of, shape_text}
 use Rattle.shape_strides.proofs.ReachLaws.{LieWithin-from_reach}
 
 -- `numpy.zeros(()).size`, `numpy.zeros((2, 3, 4)).size`, `numpy.zeros((2, 0, 4)).size`

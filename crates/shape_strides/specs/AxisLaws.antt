@@ -1,9 +1,5 @@
 -- What single axes add to an address and to a rank, and lists of strides that are all 0.
-use Rattle.std.proofs.Common.{◌≡◌, ℕ, zero, suc, ◌+◌, ◌*◌, ◌<◌, ◌≤◌, ℤ, pos, negsuc, ◌+ℤ◌, ◌*ℤ◌, List, [], ◌∷◌, length, get_or, drop, refl, sym, ◌∙◌, ap, arith, map, zero-mul, one-mul, ◌&&◌, true, not}
-use Rattle.std.proofs.lemmas.List.{length-map, get_or-map, same_lists, get_or_default}
-use Rattle.std.specs.Prelude.{int_lt, negsuc}
-use Rattle.std.proofs.lemmas.Bool.{false≢true, ltb-true, and_parts}
-use lib.IntN.{neg_ℤ, neg_ℤ-+ℤ, +ℤ_idr, *ℤ-zero, +ℤ_idl, one, *ℤ-one}
+use Rattle.shape_strides.specs.Words.{◌≡◌, ℕ, zero, suc, ◌+◌, ◌*◌, ◌<◌, ◌≤◌, ℤ, pos, negsuc, ◌+ℤ◌, ◌*ℤ◌, List, [], ◌∷◌, length, get_or, drop, refl, sym, ◌∙◌, ap, arith, map, zero-mul, one-mul, ◌&&◌, true, not, length-map, get_or-map, same_lists, get_or_default, int_lt, false≢true, ltb-true, and_parts, neg_ℤ, neg_ℤ-+ℤ, +ℤ_idr, *ℤ-zero, +ℤ_idl, one, *ℤ-one}
 use Rattle.shape_strides.specs.Addresses.{dot, natural}
 use Rattle.shape_strides.specs.Indexes.{count, rank, IsIndex}
 use Rattle.shape_strides.specs.AxisIndexes.{zero_filled, unit}

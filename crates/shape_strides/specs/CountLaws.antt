@@ -1,10 +1,5 @@
 -- Laws of products and of the number of items.
-use Rattle.std.proofs.Common.{◌≡◌, ℕ, ◌<◌, ◌≤◌, List, length, arith, zero, suc, ◌+◌, ◌*◌, get_or, sym, ◌∙◌, ap, zero-mul, mul-zero, min, drop, inl, inr, mul-suc, mul-le-mul_left, ◌/◌}
-use Rattle.std.proofs.Math.Nat.{min-eq_left, min-eq_right, div-add-mod}
-use Rattle.std.proofs.lemmas.Bool.{cases_lt}
-use Rattle.std.proofs.lemmas.List.{drop_more}
-use Rattle.std.specs.Int.{◌∣◌}
-use Rattle.std.proofs.lemmas.Nat.Gcd.{mod-eq-zero_of_dvd}
+use Rattle.shape_strides.specs.Words.{◌≡◌, ℕ, ◌<◌, ◌≤◌, List, length, arith, zero, suc, ◌+◌, ◌*◌, get_or, sym, ◌∙◌, ap, zero-mul, mul-zero, min, drop, inl, inr, mul-suc, mul-le-mul_left, ◌/◌, min-eq_left, min-eq_right, div-add-mod, cases_lt, drop_more, ◌∣◌, mod-eq-zero_of_dvd}
 use Rattle.shape_strides.specs.Indexes.{count}
 
 -- If a product is above a number, its second factor is not 0.

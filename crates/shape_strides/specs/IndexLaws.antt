@@ -1,8 +1,5 @@
 -- Laws of indexes and their ranks.
-use Rattle.std.proofs.Common.{◌≡◌, ℕ, ◌<◌, List, length, arith, zero, suc, ◌+◌, ◌*◌, ◌/◌, ◌%◌, [], ◌∷◌, ◌++◌, map, get_or, refl, sym, ◌∙◌, ap, length-append, get_or-append-add, zero-mul, suc-mul, mod-lt, div-add-mod', mul_comm}
-use Rattle.std.specs.List.{flat_map, range_with_len}
-use Rattle.std.proofs.lemmas.List.{get_or_append_left, length-map, get_or-map, same_lists}
-use Rattle.std.proofs.lemmas.Nat.{mul-add-lt, div_below}
+use Rattle.shape_strides.specs.Words.{◌≡◌, ℕ, ◌<◌, List, length, arith, zero, suc, ◌+◌, ◌*◌, ◌/◌, ◌%◌, [], ◌∷◌, ◌++◌, map, get_or, refl, sym, ◌∙◌, ap, length-append, get_or-append-add, zero-mul, suc-mul, mod-lt, div-add-mod', mul_comm, flat_map, range_with_len, get_or_append_left, length-map, get_or-map, same_lists, mul-add-lt, div_below}
 use Rattle.shape_strides.specs.Indexes.{count, indexes, rank, IsIndex}
 use Rattle.shape_strides.specs.CountLaws.{pos_of_factor}
 

@@ -1,6 +1,5 @@
 -- The items of two layouts, paired.
-use Rattle.std.specs.Prelude.{ℕ, List}
-use Rattle.std.specs.List.{zip}
+use Rattle.shape_strides.specs.Words.{ℕ, List, zip}
 use Rattle.shape_strides.specs.declared.layout.Layout.{Layout}
 use Rattle.shape_strides.specs.Layouts.{offsets}
 

@@ -1,8 +1,5 @@
 -- Laws of the offsets of a layout.
-use Rattle.std.proofs.Common.{◌≡◌, ℕ, ◌<◌, ◌≤◌, List, length, arith, ◌+◌, [], get_or, refl, sym, ◌∙◌, ap, ℤ, pos, ◌+ℤ◌, ◌≤ℤ◌, negsuc, All, subst}
-use Rattle.std.proofs.lemmas.Int.{ints}
-use Rattle.std.proofs.lemmas.List.{nil_from_length, length-map, get_or-map}
-use lib.IntN.{+ℤ_idr}
+use Rattle.shape_strides.specs.Words.{◌≡◌, ℕ, ◌<◌, ◌≤◌, List, length, arith, ◌+◌, [], get_or, refl, sym, ◌∙◌, ap, ℤ, pos, ◌+ℤ◌, ◌≤ℤ◌, negsuc, All, subst, ints, nil_from_length, length-map, get_or-map, +ℤ_idr}
 use Rattle.shape_strides.specs.declared.layout.Layout.{Layout}
 use Rattle.shape_strides.specs.Addresses.{natural}
 use Rattle.shape_strides.specs.Indexes.{count, indexes, rank, IsIndex}

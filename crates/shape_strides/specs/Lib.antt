@@ -25,3 +25,5 @@ pub mod ReverseLaws
 pub mod PermutationLaws
 pub mod Reaches
 pub mod ItemPairs
+pub mod Words
+pub mod Clauses

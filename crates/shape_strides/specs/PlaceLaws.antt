@@ -1,6 +1,5 @@
 -- What the offsets of a layout's items imply about the layout.
-use Rattle.std.proofs.Common.{◌+◌, ◌<◌, ◌≤◌, ℕ, get_or, pos, ◌+ℤ◌, ◌≤ℤ◌, All, subst, arith}
-use Rattle.std.proofs.lemmas.Int.{ints}
+use Rattle.shape_strides.specs.Words.{◌+◌, ◌<◌, ◌≤◌, ℕ, get_or, pos, ◌+ℤ◌, ◌≤ℤ◌, All, subst, arith, ints}
 use Rattle.shape_strides.specs.declared.layout.Layout.{Layout}
 use Rattle.shape_strides.specs.Indexes.{count, rank}
 use Rattle.shape_strides.specs.IndexLaws.{rank-lt}

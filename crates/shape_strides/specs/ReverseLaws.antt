@@ -1,7 +1,5 @@
 -- Laws of shapes and indexes with their axes reversed.
-use Rattle.std.proofs.Common.{◌≡◌, ℕ, ◌*◌, List, [], ◌∷◌, ◌++◌, reverse, refl, sym, ◌∙◌, ap, mul_comm, mul_assoc, mul-one, one-mul}
-use Rattle.std.proofs.lemmas.List.{reverse-reverse}
-use Rattle.std.proofs.lemmas.Grind.{reverse_onto}
+use Rattle.shape_strides.specs.Words.{◌≡◌, ℕ, ◌*◌, List, [], ◌∷◌, ◌++◌, reverse, refl, sym, ◌∙◌, ap, mul_comm, mul_assoc, mul-one, one-mul, reverse-reverse, reverse_onto}
 use Rattle.shape_strides.specs.Indexes.{count, IsIndex}
 use Rattle.shape_strides.specs.IndexLaws.{IsIndex-append}
 

@@ -1,12 +1,5 @@
 -- Which lengths make a shape, and which refusal is returned otherwise.
-use Rattle.std.proofs.Common.{◌≡◌, ℕ, ◌<◌, ◌≤◌, min, map, nat_le, true, false, List, length, Ok, Err, inl, inr, refl, ap, sym, ◌∙◌, arith, All, [], ◌∷◌}
-use Rattle.std.specs.List.{list_all}
-use Rattle.std.proofs.lemmas.Bool.{cases_lt, cases_Bool, lt-leb, le-leb, leb-true, leb-false, and_parts}
-use Rattle.std.proofs.lemmas.List.{length-map}
-use Rattle.std.proofs.Math.Nat.{min-eq_left}
-use Rattle.std.proofs.lemmas.List.Elements.{All-head, All-tail}
-use Rattle.elem_descr.specs.declared.refusal.Refusal.TheVariants.{TooManyAxes, TooLarge}
-use Rattle.elem_descr.specs.RefusalLaws.{same_answer, check_passed}
+use Rattle.shape_strides.specs.Words.{◌≡◌, ℕ, ◌<◌, ◌≤◌, min, map, nat_le, true, false, List, length, Ok, Err, inl, inr, refl, ap, sym, ◌∙◌, arith, All, [], ◌∷◌, list_all, cases_lt, cases_Bool, lt-leb, le-leb, leb-true, leb-false, and_parts, length-map, min-eq_left, All-head, All-tail, TooManyAxes, TooLarge, same_answer, check_passed}
 use Rattle.shape_strides.specs.Limits.{max_axes, max_items}
 use Rattle.shape_strides.specs.Indexes.{count}
 use Rattle.shape_strides.specs.Shapes.{shape_of, IsShape}

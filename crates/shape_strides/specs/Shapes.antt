@@ -1,10 +1,5 @@
 -- Which lists of lengths are shapes, and how they are written.
-use Rattle.std.specs.Prelude.{ℕ, ◌≤◌, nat_le, List, [], ◌∷◌, ◌++◌, codes, length, All, Result, Ok}
-use Rattle.std.specs.List.{list_all, flat_map}
-use Rattle.std.specs.Fmt.{decimal}
-use Rattle.elem_descr.specs.declared.refusal.Refusal.{Refusal}
-use Rattle.elem_descr.specs.declared.refusal.Refusal.TheVariants.{TooManyAxes, TooLarge}
-use Rattle.elem_descr.specs.Refusals.{◌>>=◌, check}
+use Rattle.shape_strides.specs.Words.{ℕ, ◌≤◌, nat_le, List, [], ◌∷◌, ◌++◌, codes, length, All, Result, Ok, list_all, flat_map, decimal, Refusal, TooManyAxes, TooLarge, ◌>>=◌, check}
 use Rattle.shape_strides.specs.Limits.{max_axes, max_items}
 use Rattle.shape_strides.specs.Indexes.{count}
 

@@ -1,9 +1,5 @@
 -- Laws for loops over a walk.
-use Rattle.std.proofs.Common.{◌≡◌, List, [], ◌∷◌, ◌++◌, map, sym, ◌∙◌, ap, append_assoc, ℕ, ◌+◌, length, arith, length-append}
-use Rattle.std.proofs.lemmas.List.{length-map}
-use Rattle.std.proofs.lemmas.List.FromFn.{length-map-range_with_len}
-use Rattle.std.specs.Prelude.{pos, ◌+ℤ◌, ◌*ℤ◌}
-use Rattle.elem_descr.specs.Steps.{numbers_from}
+use Rattle.shape_strides.specs.Words.{◌≡◌, List, [], ◌∷◌, ◌++◌, map, sym, ◌∙◌, ap, append_assoc, ℕ, ◌+◌, length, arith, length-append, length-map, length-map-range_with_len, pos, ◌+ℤ◌, ◌*ℤ◌, numbers_from}
 use Rattle.shape_strides.specs.declared.runs.Run.{Run}
 use Rattle.shape_strides.specs.Addresses.{natural}
 use Rattle.shape_strides.specs.Runs.{run_offsets, runs}

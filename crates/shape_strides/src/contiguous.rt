@@ -1,10 +1,5 @@
 //! C order and Fortran order, and strides as NumPy shows them.
-ghost use Rattle.std.specs.Prelude.{◌≡◌, ◌≢◌, ◌*◌, ◌<◌, ◌≤◌, pos, length, map, reverse, slice_index_or, IfOk, IsTrue, IsFalse};
-ghost use Rattle.shape_strides.specs.Limits.{max_bytes};
-ghost use Rattle.shape_strides.specs.Indexes.{count};
-ghost use Rattle.shape_strides.specs.Layouts.{offsets, Fits, IsNested, multiples, f_multiples, f_strides};
-ghost use Rattle.shape_strides.specs.Contiguity.{fortran_order, first_address, printed_strides, is_c_contiguous, is_f_contiguous};
-ghost use Rattle.shape_strides.specs.inside.Reach.{max_reach};
+ghost use Rattle.shape_strides.specs.Clauses.{◌≡◌, ◌≢◌, ◌*◌, ◌<◌, ◌≤◌, pos, length, map, reverse, slice_index_or, IfOk, IsTrue, IsFalse, max_bytes, count, offsets, Fits, IsNested, multiples, f_multiples, f_strides, fortran_order, first_address, printed_strides, is_c_contiguous, is_f_contiguous, max_reach};
 
 use crate::layout::Layout;
 use crate::shape::Shape;

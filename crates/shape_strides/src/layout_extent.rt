@@ -1,8 +1,5 @@
 //! The bytes that a layout's items take, its axes, and whether two layouts have the same offsets.
-ghost use Rattle.shape_strides.specs.Layouts.{offsets};
-ghost use Rattle.shape_strides.specs.Stacks.{axes};
-ghost use Rattle.shape_strides.specs.inside.Alike.{all_alike};
-ghost use Rattle.std.specs.Prelude.{All, Any, Contains, IfOk, IsTrue, [], length, take, ℕ, ◌+◌, ◌<◌, ◌↔◌, ◌≡◌, ◌≤◌};
+ghost use Rattle.shape_strides.specs.Clauses.{offsets, axes, all_alike, All, Any, Contains, IfOk, IsTrue, [], length, take, ℕ, ◌+◌, ◌<◌, ◌↔◌, ◌≡◌, ◌≤◌};
 
 use crate::address_order::axes_of;
 use crate::layout::Layout;
@@ -13,9 +10,7 @@ use std::alloc::{AllocError, Global};
 use std::ops::Range;
 
 impl Layout {
-    ghost use Rattle.shape_strides.specs.Layouts.{Fits, offsets};
-    ghost use Rattle.shape_strides.specs.Limits.{max_bytes};
-    ghost use Rattle.shape_strides.specs.Reaches.{LieAbove, LieBelow};
+    ghost use Rattle.shape_strides.specs.Clauses.{Fits, offsets, max_bytes, LieAbove, LieBelow};
 
     /// The bytes from the lowest to the highest of any item of `item` bytes, or `0..0` without
     /// items.

@@ -1,14 +1,5 @@
 //! The run that the last axes of a layout make, and axes that a single step leads through.
-ghost use Rattle.shape_strides.specs.Addresses.{LieWithin};
-ghost use Rattle.shape_strides.specs.Indexes.{count};
-ghost use Rattle.shape_strides.specs.Joined.{all_joined, join_outside, leads_over, strided_axes};
-ghost use Rattle.shape_strides.specs.Layouts.{Fits, offsets};
-ghost use Rattle.shape_strides.specs.Limits.{max_items};
-ghost use Rattle.shape_strides.specs.Runs.{GoesBy, run_offsets};
-ghost use Rattle.shape_strides.specs.inside.LastRuns.{IsLastRun};
-ghost use Rattle.shape_strides.specs.inside.Single.{if_long};
-ghost use Rattle.shape_strides.specs.inside.Starts.{lengths_of};
-ghost use Rattle.std.specs.Prelude.{IfOk, IfSome, MatchOption, OnOk, [], length, pos, reverse, ℕ, ℤ, ◌*◌, ◌<◌, ◌∷◌, ◌≡◌, ◌≤◌};
+ghost use Rattle.shape_strides.specs.Clauses.{LieWithin, count, all_joined, join_outside, leads_over, strided_axes, Fits, offsets, max_items, GoesBy, run_offsets, IsLastRun, if_long, lengths_of, IfOk, IfSome, MatchOption, OnOk, [], length, pos, reverse, ℕ, ℤ, ◌*◌, ◌<◌, ◌∷◌, ◌≡◌, ◌≤◌};
 
 use crate::layout::Layout;
 use crate::runs::Run;

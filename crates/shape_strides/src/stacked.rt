@@ -1,9 +1,5 @@
 //! Layouts in which each axis steps over all that the axes with smaller steps reach.
-ghost use Rattle.std.specs.Prelude.{◌≡◌, ◌↔◌, ◌+◌, ◌-◌, ◌*◌, ◌<◌, ◌≤◌, pos, nat_le, unsigned_abs, if◌then◌else◌, length, slice_index, slice_index_or, All, IsTrue};
-ghost use Rattle.shape_strides.specs.Limits.{max_axes, max_items};
-ghost use Rattle.shape_strides.specs.Layouts.{offsets, IsNested};
-ghost use Rattle.shape_strides.specs.inside.Reach.{reach_within, max_reach};
-ghost use Rattle.shape_strides.specs.Stacks.{IsStacked};
+ghost use Rattle.shape_strides.specs.Clauses.{◌≡◌, ◌↔◌, ◌+◌, ◌-◌, ◌*◌, ◌<◌, ◌≤◌, pos, nat_le, unsigned_abs, if◌then◌else◌, length, slice_index, slice_index_or, All, IsTrue, max_axes, max_items, offsets, IsNested, reach_within, max_reach, IsStacked};
 
 use crate::layout::Layout;
 

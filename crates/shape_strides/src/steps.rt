@@ -1,10 +1,5 @@
 //! Sums of strides. A stride is read from its slice, and an offset is never below 0.
-ghost use Rattle.std.specs.Prelude.{◌≡◌, ◌-◌, ◌*◌, ◌<◌, ◌≤◌, pos, neg_ℤ, ◌+ℤ◌, ◌-ℤ◌, ◌*ℤ◌, ◌≤ℤ◌, length, map, slice_index_or, All, IfOk};
-ghost use Rattle.shape_strides.specs.Limits.{max_axes, max_items, max_bytes};
-ghost use Rattle.shape_strides.specs.Indexes.{count};
-ghost use Rattle.shape_strides.specs.Addresses.{natural};
-ghost use Rattle.shape_strides.specs.Layouts.{c_strides, f_strides};
-ghost use Rattle.shape_strides.specs.inside.Reach.{reach_above, reach_below, max_reach};
+ghost use Rattle.shape_strides.specs.Clauses.{◌≡◌, ◌-◌, ◌*◌, ◌<◌, ◌≤◌, pos, neg_ℤ, ◌+ℤ◌, ◌-ℤ◌, ◌*ℤ◌, ◌≤ℤ◌, length, map, slice_index_or, All, IfOk, max_axes, max_items, max_bytes, count, natural, c_strides, f_strides, reach_above, reach_below, max_reach};
 
 use crate::shape::Shape;
 use crate::strides::Strides;

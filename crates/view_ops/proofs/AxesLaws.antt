@@ -1,16 +1,5 @@
 -- The axes that a list of numbers names.
-use Rattle.std.proofs.Common.{◌≡◌, ◌≢◌, ℕ, zero, suc, ◌+◌, ◌-◌, ◌<◌, ◌≤◌, ◌==◌, true, false, not, ℤ, Option, Some, None, List, [], ◌∷◌, map, length, get_or, Result, Ok, Err, inl, inr, refl, sym, ap, ◌∙◌, arith}
-use Rattle.std.specs.List.{list_any, list_all, range_with_len}
-use Rattle.std.proofs.lemmas.Bool.{cases_Bool, cases_eq, and_parts, false≢true, not-true}
-use Rattle.std.specs.Result.{is_ok}
-use Rattle.view_ops.specs.Words.{Refusal, BadAxis, axis_below, same_answer}
-use Rattle.std.proofs.lemmas.Bool.Decides.{nat_tests}
-use Rattle.std.proofs.lemmas.List.{length-map}
-use Rattle.std.proofs.lemmas.List.FromFn.{length-range_with_len}
-use Rattle.shape_strides.specs.Layouts.{natural}
-use Rattle.view_ops.specs.Slices.{from_front, is_place}
-use Rattle.view_ops.specs.Transposes.{are_distinct, axes_of}
-use Rattle.view_ops.specs.inside.Axes.{AreAxes, AreAllAxes}
+use Rattle.view_ops.proofs.Words.{◌≡◌, ◌≢◌, ℕ, zero, suc, ◌+◌, ◌-◌, ◌<◌, ◌≤◌, ◌==◌, true, false, not, ℤ, Option, Some, None, List, [], ◌∷◌, map, length, get_or, Result, Ok, Err, inl, inr, refl, sym, ap, ◌∙◌, arith, list_any, list_all, range_with_len, cases_Bool, cases_eq, and_parts, false≢true, not-true, is_ok, Refusal, BadAxis, axis_below, same_answer, nat_tests, length-map, length-range_with_len, natural, from_front, is_place, are_distinct, axes_of, AreAxes, AreAllAxes}
 
 pub axes_of-count : (rank : ℕ) (named : List ℤ) → length named ≢ rank → axes_of rank (Some named) ≡ Err BadAxis
 unfolding axes_of

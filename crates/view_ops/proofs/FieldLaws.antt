@@ -1,11 +1,6 @@
 -- Laws of fields.
-use Rattle.std.proofs.Common.{◌≡◌, ℕ, ◌+◌, ◌<◌, ◌≤◌, ℤ, pos, negsuc, ◌+ℤ◌, ◌≤ℤ◌, Option, Some, List, [], map, length, get_or, Ok, refl, sym, ap, ◌∙◌, arith}
-use Rattle.std.proofs.lemmas.Int.{ints}
-use Rattle.std.proofs.lemmas.List.{length-map, get_or-map, same_lists}
-use lib.IntN.{+ℤ_idr}
-use Rattle.view_ops.specs.Words.{Descr, Field, item_size, field_at, Layout, count, rank, IsIndex, address, offsets, Fits, distance, IsNested, index_at, length-offsets, get_or-offsets, IsIndex-first, dot-zeros, zero_filled}
+use Rattle.view_ops.proofs.Words.{◌≡◌, ℕ, ◌+◌, ◌<◌, ◌≤◌, ℤ, pos, negsuc, ◌+ℤ◌, ◌≤ℤ◌, Option, Some, List, [], map, length, get_or, Ok, refl, sym, ap, ◌∙◌, arith, ints, length-map, get_or-map, same_lists, +ℤ_idr, Descr, Field, item_size, field_at, Layout, count, rank, IsIndex, address, offsets, Fits, distance, IsNested, index_at, length-offsets, get_or-offsets, IsIndex-first, dot-zeros, zero_filled, GivesField}
 use Rattle.shape_strides.specs.Addresses.{natural}
-use Rattle.view_ops.specs.FieldViews.{GivesField}
 
 -- The first item is at the offset, so it lies in the first `len` bytes.
 pub offset-within : (l : Layout) (len item : ℕ) → Fits l len item → 0 < count l.shape → l.offset + item ≤ len

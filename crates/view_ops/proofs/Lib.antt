@@ -1,3 +1,4 @@
+pub mod Words
 pub mod SliceLaws
 pub mod ViewLaws
 pub mod TransposeLaws

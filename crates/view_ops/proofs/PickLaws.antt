@@ -1,20 +1,5 @@
 -- Laws of the axes that the items of an index take, and of what they pick.
-use Rattle.std.proofs.Common.{◌≡◌, ℕ, zero, suc, ◌+◌, ◌-◌, ◌<◌, ◌≤◌, Bool, true, ◌&&◌, ℤ, pos, ◌+ℤ◌, ◌*ℤ◌, List, [], ◌∷◌, ◌++◌, map, length, get_or, take, drop, slice_range, refl, sym, ap, ◌∙◌, arith, length-drop, length-take-le, append_assoc, Option}
-use Rattle.std.proofs.lemmas.Int.{ints}
-use Rattle.std.proofs.lemmas.List.{drop-drop, drop_more, append-nil, map-append}
-use Rattle.std.proofs.lemmas.Bool.{and_parts, false≢true}
-use Rattle.std.specs.Result.{is_ok}
-use Rattle.std.proofs.lemmas.List.Folds.{drop_split}
-use Rattle.std.specs.List.{list_all, flat_map, range_with_len}
-use Rattle.view_ops.specs.Words.{IndexItem, Integer, Slice, Ellipsis, Array, is_basic}
-use Rattle.elem_descr.specs.declared.index_item.IndexItem.TheVariants.{NewAxis as NewItem}
-use Rattle.shape_strides.specs.Layouts.{natural}
-use Rattle.view_ops.specs.declared.picks.AxisPick.{AxisPick}
-use Rattle.view_ops.specs.declared.picks.AxisPick.TheVariants.{At as AtAxis, Along as AlongAxis, New as NewAxis}
-use Rattle.view_ops.specs.declared.slice.Progression.{Progression}
-use Rattle.view_ops.specs.Slices.{slice_indices, IsRunWithin}
-use Rattle.view_ops.specs.Basics.{Placed, takes_axis, axes_taken, width, placed, has_step, is_on_axis, are_on_axes, Pick, whole, picks_of, picks}
-use Rattle.view_ops.specs.inside.Picks.{pick_shown, ArePicks, AddsPicks}
+use Rattle.view_ops.proofs.Words.{◌≡◌, ℕ, zero, suc, ◌+◌, ◌-◌, ◌<◌, ◌≤◌, Bool, true, ◌&&◌, ℤ, pos, ◌+ℤ◌, ◌*ℤ◌, List, [], ◌∷◌, ◌++◌, map, length, get_or, take, drop, slice_range, refl, sym, ap, ◌∙◌, arith, length-drop, length-take-le, append_assoc, Option, ints, drop-drop, drop_more, append-nil, map-append, and_parts, false≢true, is_ok, drop_split, list_all, flat_map, range_with_len, IndexItem, Integer, Slice, Ellipsis, Array, is_basic, NewItem, natural, AxisPick, AtAxis, AlongAxis, NewAxis, Progression, slice_indices, IsRunWithin, Placed, takes_axis, axes_taken, width, placed, has_step, is_on_axis, are_on_axes, Pick, whole, picks_of, picks, pick_shown, ArePicks, AddsPicks}
 
 -- ---- the axes of items
 

@@ -1,26 +1,5 @@
 -- The layout of the picks is a view.
-use Rattle.std.proofs.Common.{◌≡◌, inl, inr, Ok, ℕ, suc, ◌+◌, ◌*◌, ◌<◌, ◌≤◌, nat_lt, nat_le, true, ℤ, pos, neg_ℤ, ◌+ℤ◌, ◌*ℤ◌, ◌≤ℤ◌, List, [], ◌∷◌, ◌++◌, All, map, length, get_or, take, drop, refl, sym, ap, ◌∙◌, arith, mul-le-mul_left, append_assoc}
-use Rattle.std.specs.List.{list_all, flat_map}
-use Rattle.std.proofs.Math.Nat.{mul-le-mul_right}
-use Rattle.std.proofs.lemmas.Bool.{cases_Bool, cases_lt}
-use Rattle.std.proofs.lemmas.Bool.Decides.{nat_tests}
-use Rattle.std.proofs.lemmas.Int.{ints}
-use Rattle.std.proofs.lemmas.List.{drop_more, drop_all, take_more, append-nil, map-append}
-use Rattle.std.proofs.lemmas.List.Concat.{flat_map-append}
-use lib.IntN.{zero-*ℤ, +ℤ_assoc, +ℤ_idl, +ℤ_idr}
-use Rattle.view_ops.specs.Words.{Layout, count, IsIndex, shape_of, max_axes, max_items, max_bytes, address_at, LieWithin, address, offsets, rank-lt, factors_pos, shape_of-ok, dot-nil, one-step}
-use Rattle.shape_strides.specs.Addresses.{dot}
-use Rattle.view_ops.specs.declared.picks.AxisPick.{AxisPick}
-use Rattle.view_ops.specs.declared.picks.AxisPick.TheVariants.{At as AtAxis, Along as AlongAxis, New as NewAxis}
-use Rattle.view_ops.specs.declared.slice.Progression.{Progression}
-use Rattle.view_ops.specs.Slices.{run_number, run_numbers, IsRunWithin}
-use Rattle.view_ops.specs.Basics.{axis_of, picked_shape, picked_index}
-use Rattle.view_ops.specs.inside.Picks.{pick_shown, ArePicks, axes_of_pick, run_stride, stride_of, picked_strides, IsSmallStep, IsSmallPick, HaveSmallSteps}
-use Rattle.view_ops.specs.Picks.{first_of}
-use Rattle.view_ops.specs.Views.{view_through, IsViewOf, KeepsNested}
-use Rattle.view_ops.specs.Shows.{ShowsThrough}
-use Rattle.view_ops.specs.PickLaws.{length-run, number_at, first_number}
-use Rattle.view_ops.specs.ViewLaws.{LieWithin-view, inside-view, offsets-view}
+use Rattle.view_ops.proofs.Words.{◌≡◌, inl, inr, Ok, ℕ, suc, ◌+◌, ◌*◌, ◌<◌, ◌≤◌, nat_lt, nat_le, true, ℤ, pos, neg_ℤ, ◌+ℤ◌, ◌*ℤ◌, ◌≤ℤ◌, List, [], ◌∷◌, ◌++◌, All, map, length, get_or, take, drop, refl, sym, ap, ◌∙◌, arith, mul-le-mul_left, append_assoc, list_all, flat_map, mul-le-mul_right, cases_Bool, cases_lt, nat_tests, ints, drop_more, drop_all, take_more, append-nil, map-append, flat_map-append, zero-*ℤ, +ℤ_assoc, +ℤ_idl, +ℤ_idr, Layout, count, IsIndex, shape_of, max_axes, max_items, max_bytes, address_at, LieWithin, address, offsets, rank-lt, factors_pos, shape_of-ok, dot-nil, one-step, dot, AxisPick, AtAxis, AlongAxis, NewAxis, Progression, run_number, run_numbers, IsRunWithin, axis_of, picked_shape, picked_index, pick_shown, ArePicks, axes_of_pick, run_stride, stride_of, picked_strides, IsSmallStep, IsSmallPick, HaveSmallSteps, first_of, view_through, IsViewOf, KeepsNested, ShowsThrough, length-run, number_at, first_number, LieWithin-view, inside-view, offsets-view}
 use Rattle.view_ops.proofs.ViewLaws.{IsNested-view}
 use Rattle.view_ops.proofs.StrideLaws.{stride_along, run_number-is, run-one}
 

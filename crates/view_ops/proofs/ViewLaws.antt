@@ -1,10 +1,6 @@
 -- The items of views do not overlap, and a refusal is the one of the definition.
-use Rattle.std.proofs.Common.{◌≡◌, ℕ, ◌<◌, ◌≤◌, ◌⊎◌, Result, Ok, Err, List, length, get_or, inl, inr, sym, ap, ◌∙◌, arith}
-use Rattle.std.proofs.lemmas.Bool.{cases_lt}
-use Rattle.view_ops.specs.Words.{Refusal, OutOfMemory, Layout, count, rank, IsIndex, offsets, distance, IsNested, rank-lt, rank-same, index_at, length-offsets, get_or-offsets}
+use Rattle.view_ops.proofs.Words.{◌≡◌, ℕ, ◌<◌, ◌≤◌, ◌⊎◌, Result, Ok, Err, List, length, get_or, inl, inr, sym, ap, ◌∙◌, arith, cases_lt, Refusal, OutOfMemory, Layout, count, rank, IsIndex, offsets, distance, IsNested, rank-lt, rank-same, index_at, length-offsets, get_or-offsets, View, GivesView, IsView}
 use Rattle.shape_strides.specs.Addresses.{natural}
-use Rattle.view_ops.specs.Views.{View, GivesView}
-use Rattle.view_ops.specs.Shows.{IsView}
 
 -- The offset of the view at the rank of an index is the offset of the item to which the index leads.
 offset-view : (old new : Layout) (m : List ℕ → List ℕ) → IsView old new m → (index : List ℕ) → IsIndex new.shape index → get_or (offsets new) (rank new.shape index) 0 ≡ get_or (offsets old) (rank old.shape (m index)) 0

@@ -9,3 +9,4 @@ pub mod inside
 pub mod ViewLaws
 pub mod PickLaws
 pub mod Words
+pub mod Clauses

@@ -1,8 +1,5 @@
 -- Laws of runs of numbers.
-use Rattle.std.proofs.Common.{◌≡◌, ℕ, ◌<◌, pos, ◌+ℤ◌, length, get_or, ap, ◌∙◌, arith}
-use Rattle.std.proofs.lemmas.List.FromFn.{length-map-range_with_len, get_or-map-range_with_len}
-use lib.IntN.{*ℤ-zero, +ℤ_idr}
-use Rattle.shape_strides.specs.Addresses.{natural}
+use Rattle.view_ops.specs.Words.{◌≡◌, ℕ, ◌<◌, pos, ◌+ℤ◌, length, get_or, ap, ◌∙◌, arith, length-map-range_with_len, get_or-map-range_with_len, *ℤ-zero, +ℤ_idr, natural}
 use Rattle.view_ops.specs.declared.slice.Progression.{Progression}
 use Rattle.view_ops.specs.Slices.{run_number, run_numbers}
 

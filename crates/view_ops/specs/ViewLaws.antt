@@ -1,8 +1,5 @@
 -- Laws of layouts that show items of another layout.
-use Rattle.std.proofs.Common.{◌≡◌, ℕ, ℤ, ◌<◌, List, [], All, length, get_or, sym, ap, subst, ◌∙◌, arith}
-use Rattle.std.proofs.lemmas.List.{get_or-map}
-use Rattle.view_ops.specs.Words.{Layout, LieWithin, address, offsets, Fits, indexes, rank, IsIndex, length-indexes, rank-lt, get_or-indexes, index_at, same_on_indexes, length-offsets, get_or-offsets}
-use Rattle.shape_strides.specs.Addresses.{natural}
+use Rattle.view_ops.specs.Words.{◌≡◌, ℕ, ℤ, ◌<◌, List, [], All, length, get_or, sym, ap, subst, ◌∙◌, arith, get_or-map, Layout, LieWithin, address, offsets, Fits, indexes, rank, IsIndex, length-indexes, rank-lt, get_or-indexes, index_at, same_on_indexes, length-offsets, get_or-offsets, natural}
 use Rattle.view_ops.specs.Views.{View, view_through, IsViewOf}
 use Rattle.view_ops.specs.Shows.{ShowsThrough, IsView}
 

@@ -1,10 +1,5 @@
 //! Which axes a list of numbers names.
-ghost use Rattle.shape_strides.specs.Addresses.{natural};
-ghost use Rattle.std.specs.List.{list_all, range_with_len};
-ghost use Rattle.std.specs.Prelude.{IfOk, IsTrue, Some, length, map, option_copied, true, ℕ, ◌-◌, ◌<◌, ◌^◌, ◌≡◌, ◌≤◌};
-ghost use Rattle.view_ops.specs.Slices.{from_front, is_place};
-ghost use Rattle.view_ops.specs.Transposes.{are_distinct, axes_of};
-ghost use Rattle.view_ops.specs.Words.{Gives};
+ghost use Rattle.view_ops.specs.Clauses.{natural, list_all, range_with_len, IfOk, IsTrue, Some, length, map, option_copied, true, ℕ, ◌-◌, ◌<◌, ◌^◌, ◌≡◌, ◌≤◌, from_front, is_place, are_distinct, axes_of, Gives};
 
 use crate::slice::{from_front, is_place};
 use elem_descr::Refusal;

@@ -1,7 +1,5 @@
 //! Views of one field of each item.
-ghost use Rattle.std.specs.Prelude.{◌≡◌, ℕ, ◌+◌, pos, ◌+ℤ◌, List, IfOk};
-ghost use Rattle.view_ops.specs.Words.{item_size, field_of, max_bytes, IsIndex, address, Fits};
-ghost use Rattle.view_ops.specs.FieldViews.{GivesField};
+ghost use Rattle.view_ops.specs.Clauses.{◌≡◌, ℕ, ◌+◌, pos, ◌+ℤ◌, List, IfOk, item_size, field_of, max_bytes, IsIndex, address, Fits, GivesField};
 
 use elem_descr::{Descr, Refusal};
 use shape_strides::Layout;

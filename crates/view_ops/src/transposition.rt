@@ -1,9 +1,5 @@
 //! Transposes: the axes of a layout in another order.
-ghost use Rattle.std.specs.Prelude.{◌≡◌, ℕ, ◌<◌, ◌≤◌, pos, map, length, slice_index_or, IfOk, All, option_copied};
-ghost use Rattle.view_ops.specs.Words.{max_axes};
-ghost use Rattle.view_ops.specs.Transposes.{transposed_shape, transposed_index, transposed};
-ghost use Rattle.view_ops.specs.inside.Axes.{AreAxes, AreAllAxes};
-ghost use Rattle.view_ops.specs.Views.{View, IsViewOf, GivesView, KeepsNested};
+ghost use Rattle.view_ops.specs.Clauses.{◌≡◌, ℕ, ◌<◌, ◌≤◌, pos, map, length, slice_index_or, IfOk, All, option_copied, max_axes, transposed_shape, transposed_index, transposed, AreAxes, AreAllAxes, View, IsViewOf, GivesView, KeepsNested};
 
 use crate::axis_lists::axes_of;
 use elem_descr::Refusal;

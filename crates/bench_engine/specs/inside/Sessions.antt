@@ -1,11 +1,9 @@
 -- What a session has done: after one line, after one turn, and when the script has ended.
-use Rattle.std.specs.Prelude.{◌≡◌, ◌<◌, ◌+◌, ℕ, Bool, true, false, List, [], ◌∷◌, ◌++◌, length, Option, Result, Ok, Err}
-use Rattle.std.specs.Io.KnownBytes.{Appends, Consumes, IsAtEnd}
+use Rattle.bench_engine.specs.Words.{◌≡◌, ◌<◌, ◌+◌, ℕ, Bool, true, false, List, [], ◌∷◌, ◌++◌, length, Option, Result, Ok, Err, Appends, Consumes, IsAtEnd, StoreState}
 use Rattle.bench_engine.specs.declared.session.Session.{Session}
 use Rattle.bench_engine.specs.declared.runner.RunFault.{RunFault}
 use Rattle.bench_engine.specs.declared.runner.RunFault.TheVariants.{Read, Write, Memory}
 use Rattle.bench_engine.specs.Replies.{Reply, Tells}
-use Rattle.bench_engine.specs.Words.{StoreState}
 use Rattle.bench_engine.specs.Steps.{World, world}
 use Rattle.bench_engine.specs.Headline.{AnswersLine, trimmed, AreLines, output, reply_line, accepted_count, refused_count, Outside, first_world, AnswersWholeLines, AnswersFirstLines}
 use Rattle.bench_engine.specs.Sessions.{HoldsPiece, HasTold, Fed}

@@ -1,6 +1,5 @@
 -- The strides of a stretched layout.
-use Rattle.std.specs.Prelude.{◌≡◌, ℕ, ◌-◌, ◌==◌, true, if◌then◌else◌, ℤ, pos, List, [], ◌∷◌, ◌++◌, length, replicate}
-use Rattle.broadcasting.specs.Words.{Layout}
+use Rattle.broadcasting.specs.Words.{◌≡◌, ℕ, ◌-◌, ◌==◌, true, if◌then◌else◌, ℤ, pos, List, [], ◌∷◌, ◌++◌, length, replicate, Layout}
 use Rattle.broadcasting.specs.Broadcasts.{can_stretch}
 
 -- the stride of an axis of length n in the stretched layout: 0 for an axis of one item

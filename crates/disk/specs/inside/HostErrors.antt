@@ -1,7 +1,5 @@
 -- Errors of the operating system that do not count as failures.
-use Rattle.std.specs.Prelude.{◌≡◌, ◌⊎◌}
-use Rattle.std.specs.declared.io.ErrorKind.{ErrorKind}
-use Rattle.std.specs.declared.io.ErrorKind.TheVariants.{InvalidInput, Unsupported}
+use Rattle.disk.specs.Words.{◌≡◌, ◌⊎◌, ErrorKind, InvalidInput, Unsupported}
 
 -- the file system does not support the call: EINVAL, ENOSYS or EOPNOTSUPP
 abbrev pub IsUnsupported : ErrorKind → Type 0

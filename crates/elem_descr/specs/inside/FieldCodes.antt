@@ -1,8 +1,5 @@
 -- Codes of fields, which proofs use to tell fields apart.
-use Rattle.std.specs.Prelude.{◌≡◌, ◌⊎◌, ℕ, List, [], ◌∷◌, refl}
-use Rattle.std.specs.Coded.{Coded, code_by, coded⊎, coded×, coded_ℕ, coded_list}
-use Rattle.std.proofs.Common.{inl, inr, ap}
-use base.Stored.{coded_unit}
+use Rattle.elem_descr.specs.Words.{◌≡◌, ◌⊎◌, ℕ, List, [], ◌∷◌, refl, Coded, code_by, coded⊎, coded×, coded_ℕ, coded_list, inl, inr, ap, coded_unit}
 use Rattle.elem_descr.specs.declared.scalar.Scalar.{Scalar}
 use Rattle.elem_descr.specs.Fields.{Fields, no_more, scalar_field, record_field, Structure}
 

@@ -1,6 +1,5 @@
 -- Numbers read with a sign.
-use Rattle.std.proofs.Common.{ℕ, cond, nat_lt}
-use Rattle.std.specs.Prelude.{ℤ, pos, ◌-ℤ◌}
+use Rattle.elem_descr.specs.Words.{ℕ, cond, nat_lt, ℤ, pos, ◌-ℤ◌}
 
 -- `x`, which is below `d`, read with a sign, if `h` is half of `d`
 abbrev pub with_sign : ℕ → ℕ → ℕ → ℤ

@@ -1,6 +1,5 @@
 -- A record within a record has fewer fields in total.
-use Rattle.std.proofs.Common.{◌≤◌, ◌+◌, ℕ, List, [], ◌∷◌, max, arith}
-use denote.Param.Weighed.{most}
+use Rattle.elem_descr.specs.Words.{◌≤◌, ◌+◌, ℕ, List, [], ◌∷◌, max, arith, most}
 use Rattle.elem_descr.specs.declared.descr.Field.{Field}
 use Rattle.elem_descr.specs.declared.descr.Descr.{Descr}
 use Rattle.elem_descr.specs.declared.descr.Descr.TheVariants.{Scalar as ScalarDescr, Record as RecordDescr}

@@ -1,8 +1,5 @@
 -- How the code reads a format text: one member after another, each from the remaining text.
-use Rattle.std.specs.Prelude.{ℕ, zero, suc, ◌+◌, min, Bool, false, ◌&&◌, not, List, [], ◌∷◌, ◌++◌, length, take, drop, codes, decimal, nat_le, if◌then◌else◌, Option, Some, None, unwrap_or, Result, Ok, Err}
-use Rattle.std.specs.Char.{is_ascii_digit}
-use Rattle.std.specs.List.{list_all, prefix_len}
-use Rattle.std.specs.Option.{option_map, ok_or}
+use Rattle.elem_descr.specs.Words.{ℕ, zero, suc, ◌+◌, min, Bool, false, ◌&&◌, not, List, [], ◌∷◌, ◌++◌, length, take, drop, codes, decimal, nat_le, if◌then◌else◌, Option, Some, None, unwrap_or, Result, Ok, Err, is_ascii_digit, list_all, prefix_len, option_map, ok_or}
 use Rattle.elem_descr.specs.declared.refusal.Refusal.{Refusal}
 use Rattle.elem_descr.specs.declared.refusal.Refusal.TheVariants.{BadDescriptor, DescriptorLeftOut, TooLarge}
 use Rattle.elem_descr.specs.declared.scalar.Scalar.{Scalar}

@@ -1,7 +1,5 @@
 //! The marks of a format text, and the numbers that its letters mean.
-ghost use Rattle.std.specs.Prelude.{◌≡◌, ◌≤◌};
-ghost use Rattle.elem_descr.specs.FormatLetters.{number_letter, order_under, long_under, is_aligning, aligned_to, own_alignment};
-ghost use Rattle.elem_descr.specs.inside.Turns.{after, marked};
+ghost use Rattle.elem_descr.specs.Clauses.{◌≡◌, ◌≤◌, number_letter, order_under, long_under, is_aligning, aligned_to, own_alignment, after, marked};
 
 use crate::scalar::{Order, Scalar, Width};
 

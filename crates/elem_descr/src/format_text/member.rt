@@ -1,11 +1,5 @@
 //! The members of a format text, and their names.
-ghost use Rattle.std.specs.Prelude.{◌≡◌, ◌≤◌, not, length, IsTrue, IfOk, if◌then◌else◌};
-ghost use Rattle.std.specs.List.{prefix_len};
-ghost use Rattle.elem_descr.specs.Refusals.{Answers};
-ghost use Rattle.elem_descr.specs.Names.{is_legal_name};
-ghost use Rattle.elem_descr.specs.FormatLetters.{is_empty, count_of, is_left_out, number_member, text_member, other_member, lettered};
-ghost use Rattle.elem_descr.specs.FormatPieces.{is_colon};
-ghost use Rattle.elem_descr.specs.inside.Turns.{is_named, is_opened, lettered_before, member_at, held_member, held_at, name_at};
+ghost use Rattle.elem_descr.specs.Clauses.{◌≡◌, ◌≤◌, not, length, IsTrue, IfOk, if◌then◌else◌, prefix_len, Answers, is_legal_name, is_empty, count_of, is_left_out, number_member, text_member, other_member, lettered, is_colon, is_named, is_opened, lettered_before, member_at, held_member, held_at, name_at};
 
 use crate::digits::{count, digits_len};
 use crate::format_text::mark::Mark;

@@ -1,10 +1,5 @@
 //! Reads format texts.
-ghost use Rattle.std.specs.Prelude.{◌≡◌, codes};
-ghost use Rattle.std.specs.List.{list_all};
-ghost use Rattle.elem_descr.specs.Refusals.{Answers, Gives};
-ghost use Rattle.elem_descr.specs.TypeStrings.{is_one_of};
-ghost use Rattle.elem_descr.specs.FormatTexts.{format};
-ghost use Rattle.elem_descr.specs.inside.Turns.{nothing_follows, scalar_alone, record_alone};
+ghost use Rattle.elem_descr.specs.Clauses.{◌≡◌, codes, list_all, Answers, Gives, is_one_of, format, nothing_follows, scalar_alone, record_alone};
 
 use crate::descr::{Descr, MAX_DEPTH};
 use crate::format_text::mark::{Mark, marked};

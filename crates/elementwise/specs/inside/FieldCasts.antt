@@ -1,7 +1,5 @@
 -- Casts of single fields.
-use Rattle.std.specs.Prelude.{Bool, false}
-use Rattle.elementwise.specs.Words.{Descr}
-use Rattle.elem_descr.specs.declared.descr.Descr.TheVariants.{Scalar as ScalarDescr, Record as RecordDescr}
+use Rattle.elementwise.specs.Words.{Bool, false, Descr, ScalarDescr, RecordDescr}
 use Rattle.elementwise.specs.Casts.{can_cast_scalar, can_cast_fields}
 
 -- whether one field can be cast to another

@@ -1,8 +1,5 @@
 -- The results on all pairs of items of two operands.
-use Rattle.std.specs.Prelude.{◌≡◌, ◌≤◌, ◌*◌, ℕ, List, [], ◌∷◌}
-use Rattle.std.specs.List.{concat}
-use Rattle.elementwise.specs.Words.{LeafValue, item_size, items, count, offsets, size, max_bytes, Owned}
-use Rattle.elem_descr.specs.declared.descr.Descr.TheVariants.{Scalar as ScalarDescr}
+use Rattle.elementwise.specs.Words.{◌≡◌, ◌≤◌, ◌*◌, ℕ, List, [], ◌∷◌, concat, LeafValue, item_size, items, count, offsets, size, max_bytes, Owned, ScalarDescr}
 use Rattle.elementwise.specs.Results.{pairwise, value_in}
 use Rattle.elementwise.specs.inside.PairPasses.{pair_from}
 use Rattle.elementwise.specs.inside.Made.{IsMade}

@@ -1,7 +1,5 @@
 -- The offsets of a plan: those of the inner axes, moved to each place of the outer axes and by each shift.
-use Rattle.std.specs.Prelude.{◌≤◌, ◌<◌, ℕ, ◌+◌, ◌-◌, List, map, All}
-use Rattle.std.specs.List.{flat_map}
-use Rattle.fancy_index.specs.Words.{Layout, offsets, max_bytes}
+use Rattle.fancy_index.specs.Words.{◌≤◌, ◌<◌, ℕ, ◌+◌, ◌-◌, List, map, All, flat_map, Layout, offsets, max_bytes}
 
 -- the offset that is as far from `start` as `offset` is from `base`
 abbrev pub moved_offset : ℕ → ℕ → ℕ → ℕ

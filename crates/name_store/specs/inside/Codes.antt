@@ -1,9 +1,5 @@
 -- Codes of the model's values, which a proof uses to tell values apart.
-use Rattle.std.specs.Prelude.{ℕ, Bool, List, refl}
-use Rattle.std.specs.Ordering.{nat_cmp}
-use Rattle.std.specs.Coded.{Coded, code_by, coded×, coded_ℕ, coded_bool, coded_list}
-use Rattle.std.specs.FinMap.{FinMap, code}
-use Rattle.name_store.specs.Words.{Descr, LeafValue, leaf_code}
+use Rattle.name_store.specs.Words.{ℕ, Bool, List, refl, nat_cmp, Coded, code_by, coded×, coded_ℕ, coded_bool, coded_list, FinMap, code, Descr, LeafValue, leaf_code}
 use Rattle.elem_descr.specs.contracts.descr.Descr as descr
 use Rattle.name_store.specs.States.{Array, BenchValue, Buffer, State}
 

@@ -1,7 +1,5 @@
 -- Writes of items to a block, and to the slot that has it.
-use Rattle.std.specs.Prelude.{◌≡◌, ◌+◌, ◌≤◌, ◌<◌, ℕ, List, length, replicate, Option, Some, None, Result, IfOk, IfErr, All, slice_set}
-use Rattle.std.specs.List.Sorted.{IsPermutation}
-use Rattle.name_store.specs.Words.{item_size, Layout, offsets, Fits, IsNested, max_bytes, items_at, with_items}
+use Rattle.name_store.specs.Words.{◌≡◌, ◌+◌, ◌≤◌, ◌<◌, ℕ, List, length, replicate, Option, Some, None, Result, IfOk, IfErr, All, slice_set, IsPermutation, item_size, Layout, offsets, Fits, IsNested, max_bytes, items_at, with_items}
 use Rattle.name_store.specs.Memory.{MoveInPlace}
 use Rattle.name_store.specs.Targets.{target_offsets}
 use Rattle.name_store.specs.View.{slot_at}

@@ -1,7 +1,5 @@
 -- How undoing a change changes the names and the slots.
-use Rattle.std.specs.Prelude.{◌≡◌, ℕ, List, [], ◌∷◌, ◌++◌, map, Option}
-use Rattle.name_store.specs.Words.{buffer, spare}
-use Rattle.circular_buffer.specs.Buffer.{Buffer as Ring}
+use Rattle.name_store.specs.Words.{◌≡◌, ℕ, List, [], ◌∷◌, ◌++◌, map, Option, buffer, spare, Ring}
 use Rattle.name_store.specs.Invariants.{IsSound}
 use Rattle.name_store.specs.Kept.{kept_states, past_buffers}
 use Rattle.name_store.specs.View.{named_array}

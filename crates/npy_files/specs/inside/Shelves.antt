@@ -1,11 +1,8 @@
 -- The files of the stores in memory.
-use Rattle.std.specs.Prelude.{◌≡◌, ◌⊎◌, ◌<◌, ◌≤◌, ℕ, zero, suc, Bool, true, false, List, map, slice_get, Option, Some, None, Result, Ok, Err}
-use Rattle.std.specs.FinMap.{from_entries}
-use Rattle.std.specs.Str.{bytes_eq}
+use Rattle.npy_files.specs.Words.{◌≡◌, ◌⊎◌, ◌<◌, ◌≤◌, ℕ, zero, suc, Bool, true, false, List, map, slice_get, Option, Some, None, Result, Ok, Err, from_entries, bytes_eq, Files, last_count}
 use Rattle.npy_files.specs.declared.mem_store.StoredFile.{StoredFile}
 use Rattle.npy_files.specs.declared.store.StoreFault.{StoreFault}
 use Rattle.npy_files.specs.declared.store.StoreFault.TheVariants.{Device, TooLong, Memory}
-use Rattle.npy_files.specs.Words.{Files, last_count}
 use Rattle.npy_files.specs.Stores.{StoreState, comes_before}
 
 abbrev pub named_bytes : StoredFile → List ℕ × List ℕ

@@ -1,7 +1,5 @@
 -- What holds for every element type.
-use Rattle.std.specs.Prelude.{◌≤◌}
-use Rattle.npy_format.specs.Words.{Descr, size, IsLegal}
-use Rattle.elem_descr.specs.declared.descr.Descr.TheVariants.{Scalar as ScalarDescr, Record as RecordDescr}
+use Rattle.npy_format.specs.Words.{◌≤◌, Descr, size, IsLegal, ScalarDescr, RecordDescr}
 
 -- a scalar of 1 to 65,536 bytes, or a legal record
 abbrev pub IsSound : Descr → Type 0

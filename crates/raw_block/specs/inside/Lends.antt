@@ -1,7 +1,5 @@
 -- The final value of the owner of bytes after a `&mut` to them has ended.
-use Rattle.std.specs.Prelude.{ℕ, List, length}
-use Rattle.std.specs.Borrow.{Fml, MutBor, Array, Lends, u8}
-use Rattle.std.specs.List.{flat_map, refill}
+use Rattle.raw_block.specs.Words.{ℕ, List, length, Fml, MutBor, Array, Lends, u8, flat_map, refill}
 use Rattle.raw_block.specs.Bytes.{put}
 use Rattle.raw_block.specs.declared.base.Bytes.{Bytes}
 use Rattle.raw_block.specs.contracts.base.Bytes.{the_row}

@@ -1,7 +1,5 @@
 -- Layouts and shapes without an axis.
-use Rattle.std.specs.Prelude.{◌≡◌, ℕ, Bool, not, ◌&&◌, List, Option, Result}
-use Rattle.std.specs.List.{remove}
-use Rattle.reductions.specs.Words.{Refusal, EmptyReduction, ◌>>=◌, check, shape_of, Red, Layout}
+use Rattle.reductions.specs.Words.{◌≡◌, ℕ, Bool, not, ◌&&◌, List, Option, Result, remove, Refusal, EmptyReduction, ◌>>=◌, check, shape_of, Red, Layout}
 use Rattle.reductions.specs.Lists.{reduced_shape}
 use Rattle.reductions.specs.Outcomes.{has_empty_list}
 use Rattle.reductions.specs.Reductions.{needs_items}

@@ -1,13 +1,5 @@
 -- The least and the greatest of numbers: two reductions with the same proofs.
-use Rattle.std.proofs.Common.{◌≡◌, ◌<◌, ◌≤◌, ◌^◌, ℕ, suc, ℤ, pos, true, false, cond, Bool, List, [], ◌∷◌, ◌++◌, length, refl, sym, ap, subst, ◌∙◌, arith}
-use Rattle.std.specs.Prelude.{int_lt}
-use Rattle.std.specs.Int.{int_min, int_max}
-use Rattle.std.specs.List.{fold}
-use Rattle.std.specs.Ordering.{int_eq}
-use Rattle.std.proofs.lemmas.Bool.{lt-ltb}
-use Rattle.std.proofs.lemmas.Int.{ints, clamps}
-use Rattle.std.proofs.lemmas.List.Sums.{fold-append}
-use Rattle.reductions.specs.Words.{Little, Eight, Scalar, Int, size, integer, little, Red, Minimum, Maximum, ArgMin, ArgMax}
+use Rattle.reductions.specs.Words.{◌≡◌, ◌<◌, ◌≤◌, ◌^◌, ℕ, suc, ℤ, pos, true, false, cond, Bool, List, [], ◌∷◌, ◌++◌, length, refl, sym, ap, subst, ◌∙◌, arith, int_lt, int_min, int_max, fold, int_eq, lt-ltb, ints, clamps, fold-append, Little, Eight, Scalar, Int, size, integer, little, Red, Minimum, Maximum, ArgMin, ArgMax}
 use Rattle.reductions.specs.Reductions.{least, greatest, first_place, result_scalar}
 use Rattle.reductions.specs.inside.Numbers.{IsStored, IsReduced}
 use Rattle.reductions.specs.inside.FoldLaws.{wide_total, little_size}

@@ -1,18 +1,5 @@
 -- Reductions that are made number by number.
-use Rattle.std.proofs.Common.{◌≡◌, ◌+◌, ◌*◌, ◌%◌, ◌<◌, ◌^◌, ℕ, ℤ, pos, ◌+ℤ◌, ◌*ℤ◌, true, false, Bool, List, [], ◌∷◌, ◌++◌, refl, sym, ap, ◌∙◌}
-use Rattle.std.specs.Int.{int_wrap, cast_signed, cast_unsigned}
-use Rattle.std.specs.Ordering.{int_eq}
-use Rattle.std.proofs.lemmas.Int.{of_z-to_z, int_wrap-add_left, int_wrap-add_right, int_wrap-mul_left, int_wrap-mul_right, wrapping_add-bits, wrapping_mul-bits}
-use Rattle.std.proofs.Math.Nat.{mod-lt}
-use Rattle.std.proofs.lemmas.Nat.{pow_pos}
-use mir.Syntax.{w64}
-use Rattle.std.specs.Prelude.{unsigned_abs, nat_eq, not, ◌==◌, if◌then◌else◌}
-use Rattle.std.specs.List.{list_any, list_all}
-use Rattle.std.proofs.lemmas.List.Sums.{fold-append}
-use Rattle.std.specs.Cmp.{signed_Decides}
-use Rattle.std.proofs.lemmas.Bool.{false_from_ne_true, eqb-true}
-use Rattle.reductions.specs.Words.{AreBits, little, Little, Eight, Scalar, Byte, Int, Bytes, number, size, number_of, number_in, bytes_of, integer, low_bits, wrap, low_bits-lt, low_bits-integer, Red, Sum, Product, Any, All}
-use Rattle.elem_descr.specs.declared.scalar.Scalar.TheVariants.{Bool as BoolScalar}
+use Rattle.reductions.specs.Words.{◌≡◌, ◌+◌, ◌*◌, ◌%◌, ◌<◌, ◌^◌, ℕ, ℤ, pos, ◌+ℤ◌, ◌*ℤ◌, true, false, Bool, List, [], ◌∷◌, ◌++◌, refl, sym, ap, ◌∙◌, int_wrap, cast_signed, cast_unsigned, int_eq, of_z-to_z, int_wrap-add_left, int_wrap-add_right, int_wrap-mul_left, int_wrap-mul_right, wrapping_add-bits, wrapping_mul-bits, mod-lt, pow_pos, w64, unsigned_abs, nat_eq, not, ◌==◌, if◌then◌else◌, list_any, list_all, fold-append, signed_Decides, false_from_ne_true, eqb-true, AreBits, little, Little, Eight, Scalar, Byte, Int, Bytes, number, size, number_of, number_in, bytes_of, integer, low_bits, wrap, low_bits-lt, low_bits-integer, Red, Sum, Product, Any, All, BoolScalar}
 use Rattle.reductions.specs.Reductions.{wide, sum_of, product_of, is_true, result_scalar}
 use Rattle.reductions.specs.inside.Numbers.{IsStored, IsReduced}
 

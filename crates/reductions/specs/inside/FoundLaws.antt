@@ -1,16 +1,8 @@
 -- The place of the least or of the greatest number, found block by block.
-use Rattle.std.proofs.Common.{◌≡◌, ◌+◌, ◌<◌, ℕ, zero, suc, ℤ, true, false, Bool, List, [], ◌∷◌, ◌++◌, All, length, get_or, ◌⊎◌, inl, inr, refl, sym, ap, subst, ◌∙◌, arith, length-append}
-use Rattle.std.specs.Cmp.{signed_Decides}
-use Rattle.std.specs.Int.{int_min, int_max}
-use Rattle.std.specs.List.{fold}
-use Rattle.std.specs.Ordering.{int_eq}
-use Rattle.std.proofs.lemmas.Bool.{false_from_ne_true}
-use Rattle.std.proofs.lemmas.Int.{ints, fold-int_min_bounds, fold-int_min_reached, fold-int_max_bounds, fold-int_max_reached}
-use Rattle.std.proofs.lemmas.List.Elements.{All-head, All-tail}
-use Rattle.std.proofs.lemmas.List.Sums.{fold-append}
+use Rattle.reductions.specs.Words.{◌≡◌, ◌+◌, ◌<◌, ℕ, zero, suc, ℤ, true, false, Bool, List, [], ◌∷◌, ◌++◌, length, get_or, ◌⊎◌, inl, inr, refl, sym, ap, subst, ◌∙◌, arith, length-append, signed_Decides, int_min, int_max, fold, int_eq, false_from_ne_true, ints, fold-int_min_bounds, fold-int_min_reached, fold-int_max_bounds, fold-int_max_reached, All-head, All-tail, fold-append, first_is}
+use Rattle.std.proofs.Common.{All}
 use Rattle.reductions.specs.Reductions.{first_place}
 use Rattle.reductions.specs.inside.Extremes.{better, is_better, better-one, better-none}
-use Rattle.reductions.specs.Words.{first_is}
 
 -- `best` is the best of `first` and the numbers seen so far. If these begin with `first`, `place` is the first place of
 -- `best` among them. `place` is 0 if there are none.

@@ -1,7 +1,5 @@
 -- The depth of a literal is at most the number of its nodes.
-use Rattle.std.specs.Prelude.{◌≤◌, max, List, [], ◌∷◌}
-use Rattle.std.proofs.Common.{arith}
-use denote.Param.Weighed.{most}
+use Rattle.script_lang.specs.Words.{◌≤◌, max, List, [], ◌∷◌, arith, most}
 use Rattle.script_lang.specs.declared.literal.Literal.{Literal}
 use Rattle.script_lang.specs.declared.literal.Literal.TheVariants.{Scalar, Record}
 use Rattle.script_lang.specs.declared.literal.RecordLiteral.TheDeep.{deep-Literal}

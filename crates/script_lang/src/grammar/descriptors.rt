@@ -1,7 +1,5 @@
 //! The text of a descriptor.
-ghost use Rattle.std.specs.Prelude.{◌≡◌, ◌≤◌, ◌<◌, ◌+◌, ◌^◌, length, IfSome, false};
-ghost use Rattle.script_lang.specs.Descriptors.{depth_behind, named_behind, record_mark_at, record_len, record_text_at, descriptor_at};
-ghost use Rattle.script_lang.specs.Reading.{Scans};
+ghost use Rattle.script_lang.specs.Clauses.{◌≡◌, ◌≤◌, ◌<◌, ◌+◌, ◌^◌, length, IfSome, false, depth_behind, named_behind, record_mark_at, record_len, record_text_at, descriptor_at, Scans};
 
 use crate::grammar::tokens::{Class, byte, front, front_len, is_parted};
 

@@ -1,12 +1,5 @@
 //! Classes of bytes; blanks, symbols and words.
-ghost use Rattle.script_lang.specs.Descriptors.{is_mark};
-ghost use Rattle.script_lang.specs.Lines.{is_allowed};
-ghost use Rattle.script_lang.specs.Reading.{Scans};
-ghost use Rattle.script_lang.specs.Tokens.{at_end, byte_at, bytes_mark_at, flag_at, front_at, is_blank, is_digit, is_file_byte, is_name_byte, is_name_start, is_parted, is_sign, keyword_at, symbol_at, unspaced, word_at};
-ghost use Rattle.script_lang.specs.inside.Classes.{is_in};
-ghost use Rattle.std.specs.List.{list_all, prefix_len};
-ghost use Rattle.std.specs.Prelude.{IfSome, is_some, length, true, ◌≡◌, ◌≤◌};
-ghost use Rattle.std.specs.Str.{bytes_eq};
+ghost use Rattle.script_lang.specs.Clauses.{is_mark, is_allowed, Scans, at_end, byte_at, bytes_mark_at, flag_at, front_at, is_blank, is_digit, is_file_byte, is_name_byte, is_name_start, is_parted, is_sign, keyword_at, symbol_at, unspaced, word_at, is_in, list_all, prefix_len, IfSome, is_some, length, true, ◌≡◌, ◌≤◌, bytes_eq};
 
 #[derive(Clone, Copy)]
 pub enum Class {

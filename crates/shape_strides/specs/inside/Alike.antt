@@ -1,6 +1,5 @@
 -- Whether two lists of axes are equal, compared one by one.
-use Rattle.std.specs.Prelude.{◌==◌, Bool, true, false, ◌&&◌, List, [], ◌∷◌}
-use Rattle.std.specs.Ordering.{int_eq}
+use Rattle.shape_strides.specs.Words.{◌==◌, Bool, true, false, ◌&&◌, List, [], ◌∷◌, int_eq}
 use Rattle.shape_strides.specs.declared.single_run.StridedAxis.{StridedAxis}
 
 abbrev pub all_alike : List StridedAxis → List StridedAxis → Bool

@@ -1,7 +1,4 @@
-use Rattle.std.proofs.Common.{◌≡◌, ◌+◌, ◌<◌, pos, ◌+ℤ◌, ◌*ℤ◌, ◌≤ℤ◌, get_or, length, sym, ap, subst, ◌∙◌, arith}
-use Rattle.std.proofs.lemmas.Result.{err_from_is_err_and}
-use Rattle.array_print.specs.Words.{max_bytes}
-use Rattle.array_print.specs.SendingLaws.{sends-none, sends-then}
+use Rattle.array_print.proofs.Words.{◌≡◌, ◌+◌, ◌<◌, pos, ◌+ℤ◌, ◌*ℤ◌, ◌≤ℤ◌, get_or, length, sym, ap, subst, ◌∙◌, arith, err_from_is_err_and, max_bytes, sends-none, sends-then}
 use Rattle.array_print.proofs.PrintLaws.{sends-grown}
 use Rattle.array_print.proofs.BandLaws.{cut, one-more, ended}
 use Rattle.array_print.proofs.PartLaws.{part-step, part-start, part-inner}

@@ -1,8 +1,4 @@
-use Rattle.std.proofs.Common.{◌-◌, ◌≤◌, ◌++◌, get_or, length, vec_capacity}
-use Rattle.array_print.specs.Sending.{Sends}
-use Rattle.array_print.specs.inside.Shown.{shown}
-use Rattle.array_print.specs.inside.Parts.{part_offsets}
-use Rattle.array_print.specs.inside.Opened.{opened}
+use Rattle.array_print.proofs.Words.{◌-◌, ◌≤◌, ◌++◌, get_or, length, vec_capacity, Sends, shown, part_offsets, opened}
 use Rattle.array_print.proofs.bands.+send_block.Given as goal
 
 -- the blocks so far are made, and sent except for the rest

@@ -1,9 +1,4 @@
-use Rattle.std.proofs.Common.{◌≡◌, [], ◌++◌, sym, subst, ◌∙◌, ap}
-use Rattle.array_print.specs.Words.{leaves_of, count, offsets}
-use Rattle.array_print.specs.Printed.{items_from}
-use Rattle.array_print.specs.Sending.{Sends, SendsPart}
-use Rattle.array_print.specs.SendingLaws.{appends_nothing}
-use Rattle.array_print.specs.inside.Shown.{AreWidths}
+use Rattle.array_print.proofs.Words.{◌≡◌, [], ◌++◌, sym, subst, ◌∙◌, ap, leaves_of, count, offsets, items_from, Sends, SendsPart, appends_nothing, AreWidths}
 use Rattle.array_print.proofs.LeafLaws.{are-widths}
 use Rattle.array_print.proofs.PartLaws.{whole-part}
 use Rattle.array_print.proofs.WholeLaws.{above, whole-text}

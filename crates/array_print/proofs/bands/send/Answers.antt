@@ -1,5 +1,4 @@
-use Rattle.std.proofs.Common.{take, ◌++◌}
-use Rattle.array_print.specs.SendingLaws.{appends_then, split_later}
+use Rattle.array_print.proofs.Words.{take, ◌++◌, appends_then, split_later}
 use Rattle.array_print.proofs.bands.send.Goals as goal
 
 pub loop-rest-preserved : goal.loop-rest-preserved

@@ -1,5 +1,4 @@
-use Rattle.std.proofs.Common.{◌≡◌, ◌++◌, List, ℕ, length}
-use Rattle.std.specs.Io.KnownBytes.{Appends}
+use Rattle.array_print.proofs.Words.{◌≡◌, ◌++◌, List, ℕ, length, Appends}
 use Rattle.array_print.proofs.bands.send.Given as goal
 
 -- the bytes before the rest are written

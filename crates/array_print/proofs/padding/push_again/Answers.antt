@@ -1,6 +1,4 @@
-use Rattle.std.proofs.Common.{◌++◌, drop, ap, ◌∙◌, sym, add-one, append_assoc, arith}
-use Rattle.array_print.specs.Printed.{separator}
-use Rattle.array_print.specs.inside.Shown.{repeated}
+use Rattle.array_print.proofs.Words.{◌++◌, drop, ap, ◌∙◌, sym, add-one, append_assoc, arith, separator, repeated}
 use Rattle.array_print.proofs.PrintLaws.{StartsWith-along, first-copy}
 use Rattle.array_print.proofs.padding.push_again.Goals as goal
 

@@ -1,7 +1,4 @@
-use Rattle.std.proofs.Common.{◌≡◌, ◌≤◌, ◌+◌, ◌*◌, ◌++◌, codes, take, drop, vec_capacity}
-use Rattle.array_print.specs.Words.{listed, leaf_count, total, weight}
-use Rattle.array_print.specs.Printed.{join_texts, field_texts}
-use Rattle.array_print.specs.inside.Shown.{texts_at}
+use Rattle.array_print.proofs.Words.{◌≡◌, ◌≤◌, ◌+◌, ◌*◌, ◌++◌, codes, take, drop, vec_capacity, listed, leaf_count, total, weight, join_texts, field_texts, texts_at}
 use Rattle.array_print.proofs.printer.+fields.Given as goal
 
 -- the texts so far follow the opening parenthesis

@@ -1,10 +1,4 @@
-use Rattle.std.proofs.Common.{◌≡◌, ◌+◌, ◌*◌, ◌-◌, ◌<◌, ◌++◌, pos, ◌+ℤ◌, ◌*ℤ◌, ◌≤ℤ◌, get_or, length, map, drop, refl, sym, ap, subst, ◌∙◌, arith}
-use Rattle.std.proofs.lemmas.List.{take_all}
-use Rattle.array_print.specs.Words.{count, max_bytes}
-use Rattle.array_print.specs.Printed.{block_text, separator}
-use Rattle.array_print.specs.StartLaws.{StartsWith-trans}
-use Rattle.array_print.specs.inside.Parts.{part_offsets}
-use Rattle.array_print.specs.inside.Shown.{shown, lead}
+use Rattle.array_print.proofs.Words.{◌≡◌, ◌+◌, ◌*◌, ◌-◌, ◌<◌, ◌++◌, pos, ◌+ℤ◌, ◌*ℤ◌, ◌≤ℤ◌, get_or, length, map, drop, refl, sym, ap, subst, ◌∙◌, arith, take_all, count, max_bytes, block_text, separator, StartsWith-trans, part_offsets, shown, lead}
 use Rattle.array_print.proofs.PrintLaws.{StartsWith-along, opened-more, opened-all, opened-again}
 use Rattle.array_print.proofs.PartLaws.{at-first, stays, part-some, part-step, part-start, part-inner, part-block, length-part, part-item-inside}
 use Rattle.array_print.proofs.printer.+push_block.Goals as goal

@@ -1,7 +1,4 @@
-use Rattle.std.proofs.Common.{◌≡◌, ◌-◌, ◌≤◌, ◌++◌, length, vec_capacity}
-use Rattle.array_print.specs.inside.Shown.{shown}
-use Rattle.array_print.specs.inside.Parts.{part_offsets}
-use Rattle.array_print.specs.inside.Opened.{opened}
+use Rattle.array_print.proofs.Words.{◌≡◌, ◌-◌, ◌≤◌, ◌++◌, length, vec_capacity, shown, part_offsets, opened}
 use Rattle.array_print.proofs.printer.+push_block.Given as goal
 
 -- the blocks so far follow the opening bracket

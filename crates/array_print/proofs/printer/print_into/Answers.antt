@@ -1,9 +1,4 @@
-use Rattle.std.proofs.Common.{true, Result, Ok, Err, is_err, ◌≡◌, ◌++◌, sym, subst, ◌∙◌, ap}
-use Rattle.std.specs.Result.{OnOk}
-use Rattle.std.proofs.lemmas.Result.{on_ok_weaker}
-use Rattle.array_print.specs.Words.{leaves_of, count, offsets}
-use Rattle.array_print.specs.Printed.{items_from}
-use Rattle.array_print.specs.inside.Shown.{AreWidths}
+use Rattle.array_print.proofs.Words.{true, Result, Ok, Err, is_err, ◌≡◌, ◌++◌, sym, subst, ◌∙◌, ap, OnOk, on_ok_weaker, leaves_of, count, offsets, items_from, AreWidths}
 use Rattle.array_print.proofs.LeafLaws.{are-widths}
 use Rattle.array_print.proofs.PartLaws.{whole-part}
 use Rattle.array_print.proofs.WholeLaws.{above, whole-text}

@@ -1,7 +1,4 @@
-use Rattle.std.proofs.Common.{◌<◌, ◌++◌, ◌∷◌, [], length, sym, ◌∙◌, arith}
-use Rattle.std.proofs.lemmas.List.{take_more, take_all}
-use Rattle.array_print.specs.Words.{leaves_of}
-use Rattle.array_print.specs.Printed.{leaf_widths}
+use Rattle.array_print.proofs.Words.{◌<◌, ◌++◌, ◌∷◌, [], length, sym, ◌∙◌, arith, take_more, take_all, leaves_of, leaf_widths}
 use Rattle.array_print.proofs.LeafLaws.{are-leaf-widths, count-widths}
 use Rattle.array_print.proofs.widths.least_widths.Goals as goal
 

@@ -1,6 +1,4 @@
-use Rattle.std.proofs.Common.{◌≡◌, [], take}
-use Rattle.array_print.specs.Words.{leaves_of}
-use Rattle.array_print.specs.Printed.{leaf_widths}
+use Rattle.array_print.proofs.Words.{◌≡◌, [], take, leaves_of, leaf_widths}
 use Rattle.array_print.proofs.widths.least_widths.Given as goal
 
 -- the widths of the leaves so far

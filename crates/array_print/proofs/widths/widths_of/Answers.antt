@@ -1,7 +1,4 @@
-use Rattle.std.proofs.Common.{◌<◌, [], length, sym, ap, ◌∙◌, arith}
-use Rattle.array_print.specs.Words.{item_size, leaves_of, offsets, offsets-none}
-use Rattle.array_print.specs.Printed.{leaf_widths}
-use Rattle.array_print.specs.inside.Shown.{widths_at}
+use Rattle.array_print.proofs.Words.{◌<◌, [], length, sym, ap, ◌∙◌, arith, item_size, leaves_of, offsets, offsets-none, leaf_widths, widths_at}
 use Rattle.array_print.proofs.LeafLaws.{are-leaf-widths, count-widths}
 use Rattle.array_print.proofs.PartLaws.{whole-part, whole-offsets}
 use Rattle.array_print.proofs.WidthLaws.{refilled, with-axes}

@@ -1,5 +1,4 @@
-use Rattle.std.proofs.Common.{sym, ◌∙◌}
-use Rattle.arrays.specs.Words.{copied}
+use Rattle.arrays.proofs.Words.{sym, ◌∙◌, copied}
 use Rattle.arrays.proofs.RunCopies.{copied-even}
 use Rattle.arrays.proofs.copies.copy_run.Goals as goal
 

@@ -1,9 +1,4 @@
-use Rattle.std.proofs.Common.{◌≡◌, ◌+◌, ◌*◌, ◌≤◌, ℕ, length, All, sym, ap, subst, ◌∙◌}
-use Rattle.std.proofs.lemmas.Result.{IfOk-weaker}
-use Rattle.arrays.specs.Words.{count, offsets, multiples, length-offsets, count-reverse}
-use Rattle.arrays.specs.Assignments.{items_at}
-use Rattle.arrays.specs.Blocks.{offsets_in}
-use Rattle.arrays.specs.FortranLaws.{fortran-all, items-in_fortran}
+use Rattle.arrays.proofs.Words.{◌≡◌, ◌+◌, ◌*◌, ◌≤◌, ℕ, length, All, sym, ap, subst, ◌∙◌, IfOk-weaker, count, offsets, multiples, length-offsets, count-reverse, items_at, offsets_in, fortran-all, items-in_fortran}
 use Rattle.arrays.proofs.copies.gather_in.Goals as goal
 use Rattle.arrays.proofs.copies.gather_in.Goals.{After-reversed-in-Fortran}
 

@@ -1,8 +1,4 @@
-use Rattle.std.proofs.Common.{◌≡◌, ◌*◌, ◌++◌, length, sym, ap, ◌∙◌, arith}
-use Rattle.arrays.specs.Words.{offsets, multiples, length-offsets}
-use Rattle.arrays.specs.Assignments.{items_at}
-use Rattle.arrays.specs.Joined.{joined_at}
-use Rattle.arrays.specs.JoinedLaws.{length-joined_at, joined-items}
+use Rattle.arrays.proofs.Words.{◌≡◌, ◌*◌, ◌++◌, length, sym, ap, ◌∙◌, arith, offsets, multiples, length-offsets, items_at, joined_at, length-joined_at, joined-items}
 use Rattle.arrays.proofs.packed.gather_each.Goals as goal
 use Rattle.arrays.proofs.packed.gather_each.Goals.{After-filled-filled, After-finish}
 

@@ -1,7 +1,4 @@
-use Rattle.std.proofs.Common.{◌≡◌, ◌+◌, ◌*◌, ◌≤◌, length, sym, ap, ◌∙◌, arith}
-use Rattle.std.proofs.lemmas.Result.{IfOk-weaker}
-use Rattle.arrays.specs.Words.{item_at, first_address, offsets, multiples, length-offsets}
-use Rattle.arrays.specs.Assignments.{items_at}
+use Rattle.arrays.proofs.Words.{◌≡◌, ◌+◌, ◌*◌, ◌≤◌, length, sym, ap, ◌∙◌, arith, IfOk-weaker, item_at, first_address, offsets, multiples, length-offsets, items_at}
 use Rattle.arrays.proofs.WholeLaws.{whole-ends, whole-items}
 use Rattle.arrays.proofs.packed.gather_whole.Goals as goal
 use Rattle.arrays.proofs.packed.gather_whole.Goals.{After-saturating_mul-len}

@@ -1,9 +1,4 @@
-use Rattle.std.proofs.Common.{◌≡◌, ◌+◌, ◌*◌, ◌≤◌, [], ◌∷◌, ◌++◌, map, length, All, sym, ap, subst, ◌∙◌, append-nil, arith}
-use Rattle.std.proofs.lemmas.List.Elements.{All-rest, All-head}
-use Rattle.arrays.specs.Words.{Grid, grid_items, EachWithin, GridWithin, Run, LieWithin, offsets, max_bytes, run_along, run_offsets, all_offsets}
-use Rattle.arrays.specs.RunLaws.{lie-within, runs-within}
-use Rattle.arrays.specs.Joined.{joined_at}
-use Rattle.arrays.specs.inside.Rows.{rows_of}
+use Rattle.arrays.proofs.Words.{◌≡◌, ◌+◌, ◌*◌, ◌≤◌, [], ◌∷◌, ◌++◌, map, length, All, sym, ap, subst, ◌∙◌, append-nil, arith, All-rest, All-head, Grid, grid_items, EachWithin, GridWithin, Run, LieWithin, offsets, max_bytes, run_along, run_offsets, all_offsets, lie-within, runs-within, joined_at, rows_of}
 use Rattle.arrays.proofs.GridLaws.{grid-within, grid-bytes, rows-first, rows-rest, rows-count, rows-pushed}
 use Rattle.arrays.proofs.packed.push_grids.Goals as goal
 use Rattle.arrays.proofs.packed.push_grids.Goals.{After-grid_of}

@@ -1,7 +1,4 @@
-use Rattle.std.proofs.Common.{◌≡◌, ◌+◌, ◌*◌, ◌≤◌, [], ◌∷◌, ◌++◌, length, All}
-use Rattle.arrays.specs.Words.{EachWithin, LieWithin, offsets, max_bytes, all_offsets}
-use Rattle.arrays.specs.Joined.{joined_at}
-use Rattle.arrays.specs.inside.Rows.{rows_of}
+use Rattle.arrays.proofs.Words.{◌≡◌, ◌+◌, ◌*◌, ◌≤◌, [], ◌∷◌, ◌++◌, length, All, EachWithin, LieWithin, offsets, max_bytes, all_offsets, joined_at, rows_of}
 use Rattle.arrays.proofs.packed.push_grids.Given as goal
 
 abbrev pub invariant-loop-run : goal.invariant-loop-run

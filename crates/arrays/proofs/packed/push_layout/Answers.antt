@@ -1,6 +1,4 @@
-use Rattle.std.proofs.Common.{length}
-use Rattle.arrays.specs.Words.{max_bytes}
-use Rattle.arrays.specs.RunLaws.{walked-within}
+use Rattle.arrays.proofs.Words.{length, max_bytes, walked-within}
 use Rattle.arrays.proofs.packed.push_layout.Goals as goal
 
 pub push_runs-requires-clause-from : goal.push_runs-requires-clause-from

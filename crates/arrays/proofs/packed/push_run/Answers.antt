@@ -1,6 +1,4 @@
-use Rattle.std.proofs.Common.{◌++◌, length, ap, ◌∙◌}
-use Rattle.arrays.specs.Words.{place, item_at, joined}
-use Rattle.arrays.specs.JoinedLaws.{joined-offsets}
+use Rattle.arrays.proofs.Words.{◌++◌, length, ap, ◌∙◌, place, item_at, joined, joined-offsets}
 use Rattle.arrays.proofs.packed.push_run.Goals as goal
 
 pub returns-clause-bytes : goal.returns-clause-bytes

@@ -1,7 +1,4 @@
-use Rattle.std.proofs.Common.{◌++◌, length, All, sym, ap, subst, ◌∙◌, append-nil, arith}
-use Rattle.std.proofs.lemmas.List.Elements.{All-rest, All-head}
-use Rattle.arrays.specs.Words.{EachWithin, Run, all_offsets}
-use Rattle.arrays.specs.Joined.{joined_at}
+use Rattle.arrays.proofs.Words.{◌++◌, length, All, sym, ap, subst, ◌∙◌, append-nil, arith, All-rest, All-head, EachWithin, Run, all_offsets, joined_at}
 use Rattle.arrays.proofs.PackedLaws.{parts, joined-next}
 use Rattle.arrays.proofs.packed.push_runs.Goals as goal
 

@@ -1,10 +1,4 @@
-use Rattle.std.proofs.Common.{◌≡◌, length, ap, ◌∙◌}
-use Rattle.std.specs.List.{flat_map}
-use Rattle.arrays.specs.Words.{max_bytes, offsets, run_offsets}
-use Rattle.arrays.specs.Assignments.{assigned}
-use Rattle.arrays.specs.Packed.{row_offsets}
-use Rattle.arrays.specs.PackedLaws.{row-multiples}
-use Rattle.arrays.specs.RunLaws.{walked-within}
+use Rattle.arrays.proofs.Words.{◌≡◌, length, ap, ◌∙◌, flat_map, max_bytes, offsets, run_offsets, assigned, row_offsets, row-multiples, walked-within}
 use Rattle.arrays.proofs.packed.scatter.Goals as goal
 
 pub scatter_runs-requires-clause-to : goal.scatter_runs-requires-clause-to

@@ -1,9 +1,6 @@
-use Rattle.std.proofs.Common.{◌≤◌, length, ◌∙◌, arith}
-use Rattle.std.proofs.lemmas.List.Elements.{All-rest}
-use Rattle.arrays.specs.Words.{EachWithin}
+use Rattle.arrays.proofs.Words.{◌≤◌, length, ◌∙◌, arith, All-rest, EachWithin, room-next}
 use Rattle.arrays.proofs.PackedLaws.{scattered-next}
 use Rattle.arrays.proofs.packed.scatter_runs.Goals as goal
-use Rattle.arrays.specs.PackedLaws.{room-next}
 
 pub packed_run-requires-clause-within : goal.packed_run-requires-clause-within
 packed_run-requires-clause-within c =

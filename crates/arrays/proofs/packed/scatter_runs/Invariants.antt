@@ -1,7 +1,4 @@
-use Rattle.std.proofs.Common.{◌≡◌, ◌+◌, ◌*◌, ◌≤◌, length, All}
-use Rattle.arrays.specs.Words.{EachWithin, all_offsets}
-use Rattle.arrays.specs.Assignments.{assigned}
-use Rattle.arrays.specs.Packed.{row_offsets}
+use Rattle.arrays.proofs.Words.{◌≡◌, ◌+◌, ◌*◌, ◌≤◌, length, All, EachWithin, all_offsets, assigned, row_offsets}
 use Rattle.arrays.proofs.packed.scatter_runs.Given as goal
 
 abbrev pub invariant-loop-run : goal.invariant-loop-run

@@ -1,7 +1,4 @@
-use Rattle.std.proofs.Common.{refl, inr}
-use Rattle.bench_engine.specs.Machine.{format_outcome, accepted_with}
-use Rattle.bench_engine.specs.Replies.{format_text}
-use Rattle.name_store.specs.ArrayLaws.{found-array as found}
+use Rattle.bench_engine.proofs.Words.{refl, inr, format_outcome, accepted_with, format_text, found}
 use Rattle.bench_engine.proofs.Looks.{not_found}
 use Rattle.bench_engine.proofs.Steps.{spare}
 use Rattle.bench_engine.proofs.ask.format.Goals as goal

@@ -1,10 +1,6 @@
-use Rattle.std.proofs.Common.{◌≡◌, sym, refl, inr}
-use Rattle.bench_engine.specs.Words.{offsets, addresses}
-use Rattle.bench_engine.specs.Replies.{info_text}
-use Rattle.name_store.specs.ArrayLaws.{found-array as found}
+use Rattle.bench_engine.proofs.Words.{◌≡◌, sym, refl, inr, offsets, addresses, info_text, found, info_outcome, accepted_with}
 use Rattle.bench_engine.proofs.Looks.{not_found}
 use Rattle.bench_engine.proofs.Steps.{spare}
-use Rattle.bench_engine.specs.Machine.{info_outcome, accepted_with}
 use Rattle.bench_engine.proofs.ask.info.Goals as goal
 
 pub returns-in_default : goal.returns-in_default

@@ -1,5 +1,4 @@
-use Rattle.std.proofs.Common.{sym}
-use Rattle.bench_engine.specs.Machine.{accepted_with}
+use Rattle.bench_engine.proofs.Words.{sym, accepted_with}
 use Rattle.bench_engine.proofs.Steps.{spare}
 use Rattle.bench_engine.proofs.ask.names.Goals as goal
 

@@ -1,8 +1,5 @@
-use Rattle.std.proofs.Common.{refl, sym, ◌∙◌, inr}
-use Rattle.bench_engine.specs.Words.{offsets, array_text, items_from}
-use Rattle.name_store.specs.ArrayLaws.{found-array as found}
+use Rattle.bench_engine.proofs.Words.{refl, sym, ◌∙◌, inr, offsets, array_text, items_from, found, accepted_with}
 use Rattle.bench_engine.proofs.Looks.{not_found, print-unknown, print-found}
-use Rattle.bench_engine.specs.Machine.{accepted_with}
 use Rattle.bench_engine.proofs.Steps.{spare}
 use Rattle.bench_engine.proofs.ask.print.Goals as goal
 

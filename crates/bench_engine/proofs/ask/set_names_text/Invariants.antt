@@ -1,5 +1,4 @@
-use Rattle.std.proofs.Common.{◌≡◌, ◌++◌, drop}
-use Rattle.bench_engine.specs.Replies.{names_text}
+use Rattle.bench_engine.proofs.Words.{◌≡◌, ◌++◌, drop, names_text}
 use Rattle.bench_engine.proofs.Listings.{listed}
 use Rattle.bench_engine.proofs.ask.set_names_text.Given as goal
 

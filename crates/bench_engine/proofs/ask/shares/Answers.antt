@@ -1,10 +1,6 @@
-use Rattle.std.proofs.Common.{◌≡◌, ap, sym, refl, ◌∙◌, arith}
-use Rattle.std.proofs.lemmas.Result.{err_from_is_err_and}
-use Rattle.std.proofs.lemmas.Grind.{common_steps}
-use Rattle.bench_engine.specs.Replies.{shares_text}
+use Rattle.bench_engine.proofs.Words.{◌≡◌, ap, sym, refl, ◌∙◌, arith, err_from_is_err_and, common_steps, shares_text, accepted_with}
 use Rattle.bench_engine.proofs.Outcomes.{shares-done, shares-refused}
 use Rattle.bench_engine.proofs.Steps.{spare}
-use Rattle.bench_engine.specs.Machine.{accepted_with}
 use Rattle.bench_engine.proofs.ask.shares.Goals as goal
 
 pub returns-in_err-yes : goal.returns-in_err-yes

@@ -1,7 +1,4 @@
-use Rattle.std.proofs.Common.{◌≡◌, ◌*◌, ◌∙◌, [], ◌∷◌, Ok, Err, sym, inl, inr, arith, ap, refl}
-use Rattle.std.proofs.lemmas.Result.{err_from_is_err_and}
-use Rattle.bench_engine.specs.Words.{size, count, descriptor, range_items}
-use Rattle.bench_engine.specs.Contents.{range_scalar, arange_contents}
+use Rattle.bench_engine.proofs.Words.{◌≡◌, ◌*◌, ◌∙◌, [], ◌∷◌, Ok, Err, sym, inl, inr, arith, ap, refl, err_from_is_err_and, size, count, descriptor, range_items, range_scalar, arange_contents}
 use Rattle.bench_engine.proofs.Makes.{passed, integer-given, range-shape, range-shape-refused, arange-done, in-order}
 use Rattle.bench_engine.proofs.create.arange.Goals.{After-branch-len}
 use Rattle.bench_engine.proofs.create.arange.Goals as goal

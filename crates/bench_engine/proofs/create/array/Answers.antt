@@ -1,9 +1,5 @@
-use Rattle.std.proofs.Common.{◌≡◌, length, arith, inr, ap, refl}
-use Rattle.std.proofs.lemmas.Result.{err_from_is_err_and}
-use Rattle.bench_engine.specs.Words.{count, item_values}
-use Rattle.bench_engine.specs.Contents.{array_type, array_contents}
+use Rattle.bench_engine.proofs.Words.{◌≡◌, length, arith, inr, ap, refl, err_from_is_err_and, count, item_values, array_type, array_contents, eq-eqb}
 use Rattle.bench_engine.proofs.Makes.{passed, array-number, array-done}
-use Rattle.std.proofs.lemmas.Bool.{eq-eqb}
 use Rattle.bench_engine.proofs.create.array.Goals as goal
 
 pub returns-in_err-descr : goal.returns-in_err-descr

@@ -1,9 +1,5 @@
-use Rattle.std.proofs.Common.{◌≡◌, ◌*◌, inr, arith, refl}
-use Rattle.std.proofs.lemmas.Bool.{le-leb, lt-leb}
-use Rattle.std.proofs.lemmas.Result.{err_from_is_err_and}
-use Rattle.bench_engine.specs.Words.{descriptor, item_size, max_bytes, count, shape_of}
+use Rattle.bench_engine.proofs.Words.{◌≡◌, ◌*◌, inr, arith, refl, le-leb, lt-leb, err_from_is_err_and, descriptor, item_size, max_bytes, count, shape_of, array_type}
 use Rattle.bench_engine.proofs.Makes.{passed}
-use Rattle.bench_engine.specs.Contents.{array_type}
 use Rattle.bench_engine.proofs.create.array_type.Goals as goal
 
 pub returns-in_err-descr-clause-value : goal.returns-in_err-descr-clause-value

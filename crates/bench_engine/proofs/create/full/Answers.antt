@@ -1,7 +1,4 @@
-use Rattle.std.proofs.Common.{◌≡◌, ◌∙◌, ap, sym, subst, length, replicate, Ok, arith, refl}
-use Rattle.std.proofs.lemmas.Result.{err_from_is_err_and}
-use Rattle.bench_engine.specs.Words.{item_size, decode_item, blocks, item_value}
-use Rattle.bench_engine.specs.Contents.{array_type, full_contents}
+use Rattle.bench_engine.proofs.Words.{◌≡◌, ◌∙◌, ap, sym, subst, length, replicate, Ok, arith, refl, err_from_is_err_and, item_size, decode_item, blocks, item_value, array_type, full_contents}
 use Rattle.bench_engine.proofs.Makes.{passed, full-done}
 use Rattle.bench_engine.proofs.create.full.Goals as goal
 

@@ -1,7 +1,4 @@
-use Rattle.std.proofs.Common.{sym, refl, inr}
-use Rattle.std.proofs.lemmas.Result.{err_from_is_err_and}
-use Rattle.bench_engine.specs.Contents.{contents_of}
-use Rattle.bench_engine.specs.Machine.{creation_outcome}
+use Rattle.bench_engine.proofs.Words.{sym, refl, inr, err_from_is_err_and, contents_of, creation_outcome}
 use Rattle.bench_engine.proofs.Creates.{creation-refused, made-answers}
 use Rattle.bench_engine.proofs.create.make.Goals as goal
 

@@ -1,5 +1,4 @@
-use Rattle.std.proofs.Common.{ap, ◌∙◌, subst, map, min, ◌-◌, ◌^◌}
-use Rattle.bench_engine.specs.Words.{Gives, shape_of}
+use Rattle.bench_engine.proofs.Words.{ap, ◌∙◌, subst, map, min, ◌-◌, ◌^◌, Gives, shape_of}
 use Rattle.bench_engine.proofs.Capped.{shape_of-capped}
 use Rattle.bench_engine.proofs.create.shape_of.Goals as goal
 

@@ -1,6 +1,4 @@
-use Rattle.std.proofs.Common.{refl}
-use Rattle.std.proofs.lemmas.Result.{err_from_is_err_and}
-use Rattle.bench_engine.specs.Contents.{array_type, zeros_contents}
+use Rattle.bench_engine.proofs.Words.{refl, err_from_is_err_and, array_type, zeros_contents}
 use Rattle.bench_engine.proofs.Makes.{passed, zeros-made}
 use Rattle.bench_engine.proofs.create.zeros.Goals as goal
 

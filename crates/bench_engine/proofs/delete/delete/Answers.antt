@@ -1,10 +1,4 @@
-use Rattle.std.proofs.Common.{◌≡◌, ◌≤◌, ◌⊎◌, ◌&&◌, ℕ, true, false, inl, inr, nat_lt, List, arith, codes, refl, sym, ◌++◌}
-use Rattle.std.proofs.lemmas.Bool.{lt-ltb}
-use Rattle.std.proofs.lemmas.Grind.{common_steps}
-use Rattle.std.proofs.lemmas.Result.{err_from_is_err_and}
-use Rattle.bench_engine.specs.Words.{Refusal, UnknownName, OutOfMemory, State, is_bound}
-use Rattle.bench_engine.specs.Machine.{delete_outcome, accepted_with}
-use Rattle.bench_engine.specs.inside.Contract.{IsRefused}
+use Rattle.bench_engine.proofs.Words.{◌≡◌, ◌≤◌, ◌⊎◌, ◌&&◌, ℕ, true, false, inl, inr, nat_lt, List, arith, codes, refl, sym, ◌++◌, lt-ltb, common_steps, err_from_is_err_and, Refusal, UnknownName, OutOfMemory, State, is_bound, delete_outcome, accepted_with, IsRefused}
 use Rattle.bench_engine.proofs.Steps.{spare}
 use Rattle.bench_engine.proofs.delete.delete.Goals as goal
 

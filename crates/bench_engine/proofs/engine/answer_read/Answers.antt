@@ -1,7 +1,4 @@
-use Rattle.std.proofs.Common.{refl, [], ◌∷◌, arith, rules, ◌≡◌}
-use Rattle.std.proofs.lemmas.Grind.{common_steps}
-use Rattle.bench_engine.specs.Replies.{refusal}
-use Rattle.bench_engine.specs.Words.{refusal_text}
+use Rattle.bench_engine.proofs.Words.{refl, [], ◌∷◌, arith, rules, ◌≡◌, common_steps, refusal, refusal_text}
 use Rattle.bench_engine.proofs.Steps.{answered, silent_line, refused_line, answered_weaker, silent_weaker, refused_weaker}
 use Rattle.bench_engine.proofs.engine.answer_read.Goals as goal
 

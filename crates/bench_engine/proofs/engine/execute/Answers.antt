@@ -1,7 +1,4 @@
-use Rattle.std.proofs.Common.{refl, true, ◌≡◌, arith}
-use Rattle.std.proofs.lemmas.Grind.{common_steps}
-use Rattle.bench_engine.specs.Words.{refusal_text}
-use Rattle.bench_engine.specs.Replies.{refusal}
+use Rattle.bench_engine.proofs.Words.{refl, true, ◌≡◌, arith, common_steps, refusal_text, refusal}
 use Rattle.bench_engine.proofs.engine.execute.Goals as goal
 
 pub returns-in-Ok : goal.returns-in-Ok

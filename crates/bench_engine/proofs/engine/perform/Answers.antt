@@ -1,7 +1,4 @@
-use Rattle.std.proofs.Math.Bool.{and-true}
-use Rattle.bench_engine.specs.Words.{Delete}
-use Rattle.bench_engine.specs.Machine.{delete_outcome}
-use Rattle.bench_engine.specs.Memory.{may_lack_memory}
+use Rattle.bench_engine.proofs.Words.{and-true, Delete, delete_outcome, may_lack_memory}
 use Rattle.bench_engine.proofs.Steps.{carried}
 use Rattle.bench_engine.proofs.engine.perform.Goals as goal
 

@@ -1,7 +1,4 @@
-use Rattle.std.proofs.Common.{[], refl, sym, inl, Err}
-use Rattle.std.proofs.lemmas.Result.{err_from_is_err_and}
-use Rattle.bench_engine.specs.inside.OwnContents.{held}
-use Rattle.bench_engine.specs.Steps.{bound_loaded}
+use Rattle.bench_engine.proofs.Words.{[], refl, sym, inl, Err, err_from_is_err_and, held, bound_loaded}
 use Rattle.bench_engine.proofs.Creates.{fresh-answers}
 use Rattle.bench_engine.proofs.LoadedFiles.{load-full, find-refused, load-answers}
 use Rattle.bench_engine.proofs.files.load.Goals as goal

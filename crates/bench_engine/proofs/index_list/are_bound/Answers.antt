@@ -1,8 +1,4 @@
-use Rattle.std.proofs.Common.{sym, ap, ◌∙◌, List, ℕ, take, take_all, length, ◌≤◌, arith}
-use Rattle.std.specs.List.{list_all}
-use Rattle.std.proofs.lemmas.List.{take_more}
-use Rattle.bench_engine.specs.Words.{IndexItem, is_bound}
-use Rattle.bench_engine.specs.IndexLists.{names_in_item, names_in_index}
+use Rattle.bench_engine.proofs.Words.{sym, ap, ◌∙◌, List, ℕ, take, take_all, length, ◌≤◌, arith, list_all, take_more, IndexItem, is_bound, names_in_item, names_in_index}
 use Rattle.bench_engine.proofs.IndexLaws.{none-bound, bound-more}
 use Rattle.bench_engine.proofs.index_list.are_bound.Goals as goal
 

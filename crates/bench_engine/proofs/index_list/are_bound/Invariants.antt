@@ -1,7 +1,4 @@
-use Rattle.std.proofs.Common.{◌≡◌, true, take}
-use Rattle.std.specs.List.{list_all}
-use Rattle.bench_engine.specs.Words.{is_bound}
-use Rattle.bench_engine.specs.IndexLists.{names_in_index}
+use Rattle.bench_engine.proofs.Words.{◌≡◌, true, take, list_all, is_bound, names_in_index}
 use Rattle.bench_engine.proofs.index_list.are_bound.Given as goal
 
 -- the names so far are bound

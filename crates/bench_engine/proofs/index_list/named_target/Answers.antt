@@ -1,6 +1,4 @@
-use Rattle.std.proofs.Common.{sym, inr, ap, ◌∙◌, subst, length, ◌≤◌, ◌<◌, ◌*◌}
-use Rattle.std.proofs.lemmas.Result.{err_from_is_err_and}
-use Rattle.bench_engine.specs.Words.{item_size, index_items, max_bytes}
+use Rattle.bench_engine.proofs.Words.{sym, inr, ap, ◌∙◌, subst, length, ◌≤◌, ◌<◌, ◌*◌, err_from_is_err_and, item_size, index_items, max_bytes}
 use Rattle.bench_engine.proofs.IndexLaws.{gathers, refuses, too-large}
 use Rattle.bench_engine.proofs.TargetLaws.{aims-view, aims-plan}
 use Rattle.bench_engine.proofs.index_list.named_target.Goals as goal

@@ -1,7 +1,4 @@
-use Rattle.std.proofs.Common.{refl, sym, ap, ◌∙◌}
-use Rattle.elem_descr.specs.declared.index_item.IndexItem.TheVariants.{Array as ArrayItem}
-use Rattle.bench_engine.specs.Words.{Items, found-array}
-use Rattle.bench_engine.specs.IndexLists.{by_items}
+use Rattle.bench_engine.proofs.Words.{refl, sym, ap, ◌∙◌, ArrayItem, Items, found-array, by_items}
 use Rattle.bench_engine.proofs.IndexLaws.{array-is}
 use Rattle.bench_engine.proofs.index_list.with_array.Goals as goal
 

@@ -1,7 +1,4 @@
-use Rattle.std.proofs.Common.{ap, ◌∙◌, List, ℕ}
-use Rattle.std.specs.List.{list_all}
-use Rattle.bench_engine.specs.Words.{IndexItem, is_bound}
-use Rattle.bench_engine.specs.IndexLists.{names_in_item, array_by_items}
+use Rattle.bench_engine.proofs.Words.{ap, ◌∙◌, List, ℕ, list_all, IndexItem, is_bound, names_in_item, array_by_items}
 use Rattle.bench_engine.proofs.IndexLaws.{item-added, each-bound}
 use Rattle.bench_engine.proofs.index_list.with_arrays.Goals as goal
 

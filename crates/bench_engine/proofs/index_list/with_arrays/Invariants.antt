@@ -1,6 +1,4 @@
-use Rattle.std.proofs.Common.{◌≡◌, map, take}
-use Rattle.bench_engine.specs.Words.{index_items}
-use Rattle.bench_engine.specs.IndexLists.{array_by_items}
+use Rattle.bench_engine.proofs.Words.{◌≡◌, map, take, index_items, array_by_items}
 use Rattle.bench_engine.proofs.index_list.with_arrays.Given as goal
 
 -- the items so far, with their arrays

@@ -1,9 +1,4 @@
-use Rattle.std.proofs.Common.{◌≡◌, rules, refl, Bool, true, false, pos, sym, ◌∙◌, inr, subst}
-use Rattle.std.proofs.lemmas.Int.{to_z-of_z}
-use mir.Val.{SFits, bool_byte}
-use mir.Syntax.{w128}
-use Rattle.bench_engine.specs.Words.{Gives, Boolean, literal_number}
-use Rattle.script_lang.specs.declared.literal.ScalarLiteral.TheVariants.{Integer, Bytes}
+use Rattle.bench_engine.proofs.Words.{◌≡◌, rules, refl, Bool, true, false, pos, sym, ◌∙◌, inr, subst, to_z-of_z, SFits, bool_byte, w128, Gives, Boolean, literal_number, Integer, Bytes}
 use Rattle.bench_engine.proofs.LiteralLaws.{literal-gives, compared-record, integers-are, booleans-are, bytes-are, number-items}
 use Rattle.bench_engine.proofs.operate.compare_literal.Goals as goal
 

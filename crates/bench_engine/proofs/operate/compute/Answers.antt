@@ -1,8 +1,4 @@
-use Rattle.std.proofs.Common.{refl, sym, ap, inr, ◌∙◌}
-use Rattle.std.proofs.lemmas.Result.{err_from_is_err_and}
-use Rattle.bench_engine.specs.Machine.{bound_new}
-use Rattle.bench_engine.specs.inside.Computed.{computed_contents}
-use Rattle.bench_engine.specs.inside.OwnContents.{held}
+use Rattle.bench_engine.proofs.Words.{refl, sym, ap, inr, ◌∙◌, err_from_is_err_and, bound_new, computed_contents, held}
 use Rattle.bench_engine.proofs.Computes.{compute-unknown, compute-many, compute-bad, compute-done}
 use Rattle.bench_engine.proofs.Creates.{same-answers}
 use Rattle.bench_engine.proofs.Views.{refused-or}

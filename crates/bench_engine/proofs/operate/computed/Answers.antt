@@ -1,10 +1,4 @@
-use Rattle.std.proofs.Common.{ap, refl, subst, sym, ◌∙◌}
-use Rattle.std.proofs.lemmas.Result.{err_from_is_err_and}
-use Rattle.bench_engine.specs.Machine.{cast_contents, operand_part, operand_values, operation_contents, transformed}
-use Rattle.bench_engine.specs.Words.{Computation, Gives, descriptor}
-use Rattle.bench_engine.specs.declared.write.Given.{Given}
-use Rattle.bench_engine.specs.inside.Operands.{AreSources, IsGiven, IsPart}
-use Rattle.bench_engine.specs.inside.OwnContents.{held}
+use Rattle.bench_engine.proofs.Words.{ap, refl, subst, sym, ◌∙◌, err_from_is_err_and, cast_contents, operand_part, operand_values, operation_contents, transformed, Computation, Gives, descriptor, Given, AreSources, IsGiven, IsPart, held}
 use Rattle.bench_engine.proofs.Answered.{met}
 use Rattle.bench_engine.proofs.Casts.{cast-gives}
 use Rattle.bench_engine.proofs.Computes.{combined-bad, combined-part, transformed-gives}

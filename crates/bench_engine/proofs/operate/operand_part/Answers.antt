@@ -1,14 +1,8 @@
-use Rattle.std.proofs.Common.{◌∙◌, refl, sym, ap, subst, map, inl, Ok}
-use Rattle.std.proofs.lemmas.Result.{err_from_is_err_and}
-use Rattle.bench_engine.specs.Words.{Descr, item_from, offsets}
-use Rattle.bench_engine.specs.IndexLists.{taken}
-use Rattle.bench_engine.specs.Machine.{operand_part}
+use Rattle.bench_engine.proofs.Words.{◌∙◌, refl, sym, ap, subst, map, inl, Ok, err_from_is_err_and, Descr, item_from, offsets, taken, operand_part, Meets, IsPart}
 use Rattle.bench_engine.specs.declared.operate.Part.TheVariants as part
 use Rattle.bench_engine.proofs.Computes.{part-whole, part-bad, part-done}
 use Rattle.bench_engine.proofs.Makes.{in-order, passed}
 use Rattle.bench_engine.proofs.TargetLaws.{aimed, copy-lacks, plan-within, takes-copy}
-use Rattle.bench_engine.specs.inside.Meeting.{Meets}
-use Rattle.bench_engine.specs.inside.Operands.{IsPart}
 use Rattle.bench_engine.proofs.operate.operand_part.Goals as goal
 
 pub gather_owned-requires : goal.gather_owned-requires

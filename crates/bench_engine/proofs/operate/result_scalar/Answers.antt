@@ -1,6 +1,4 @@
-use Rattle.std.proofs.Common.{refl}
-use Rattle.std.proofs.lemmas.Result.{err_from_is_err_and}
-use Rattle.bench_engine.specs.Machine.{operation_scalar}
+use Rattle.bench_engine.proofs.Words.{refl, err_from_is_err_and, operation_scalar}
 use Rattle.bench_engine.proofs.operate.result_scalar.Goals as goal
 
 pub returns-in_err-from : goal.returns-in_err-from

@@ -1,7 +1,4 @@
-use Rattle.std.proofs.Common.{◌≡◌, ◌*◌, ◌∷◌, [], length, ap, sym, ◌∙◌, inl, inr, arith}
-use Rattle.std.proofs.lemmas.Result.{err_from_is_err_and}
-use Rattle.elem_descr.specs.declared.descr.Descr.TheVariants.{Scalar as ScalarDescr}
-use Rattle.bench_engine.specs.Words.{item_size, count, multiples, shape_of-same}
+use Rattle.bench_engine.proofs.Words.{◌≡◌, ◌*◌, ◌∷◌, [], length, ap, sym, ◌∙◌, inl, inr, arith, err_from_is_err_and, ScalarDescr, item_size, count, multiples, shape_of-same}
 use Rattle.bench_engine.proofs.LegalLaws.{no-refusal}
 use Rattle.bench_engine.proofs.operate.single.Goals as goal
 

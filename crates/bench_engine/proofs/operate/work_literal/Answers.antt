@@ -1,10 +1,6 @@
-use Rattle.std.proofs.Common.{sym, ap, ◌∙◌, subst}
-use Rattle.bench_engine.specs.Words.{Gives, Binary}
-use Rattle.bench_engine.specs.Machine.{operand_of_literal, operation_with}
-use Rattle.bench_engine.specs.inside.OwnContents.{held}
+use Rattle.bench_engine.proofs.Words.{sym, ap, ◌∙◌, subst, Gives, Binary, operand_of_literal, operation_with, held, OwnStands}
 use Rattle.bench_engine.proofs.OperandLaws.{own-stands}
 use Rattle.bench_engine.proofs.WorkLaws.{binary-gives}
-use Rattle.bench_engine.specs.inside.Operands.{OwnStands}
 use Rattle.bench_engine.proofs.Answered.{met}
 use Rattle.bench_engine.proofs.operate.work_literal.Goals as goal
 

@@ -1,5 +1,4 @@
-use Rattle.std.proofs.Common.{inr}
-use Rattle.std.proofs.lemmas.Result.{err_from_is_err_and}
+use Rattle.bench_engine.proofs.Words.{inr, err_from_is_err_and}
 use Rattle.bench_engine.proofs.LiteralLaws.{literal-record, literal-other, literal-type, single-gives}
 use Rattle.bench_engine.proofs.operate.worked_literal.Goals as goal
 

@@ -1,8 +1,4 @@
-use Rattle.std.proofs.Common.{◌≡◌, [], true, Err, ap, sym, refl, subst, inl, inr, arith}
-use Rattle.std.proofs.lemmas.Grind.{common_steps}
-use Rattle.bench_engine.specs.Words.{UnknownName, OutOfMemory, Sends, SendsPart, appends_nothing, offsets, array_text, items_from, refusal_text}
-use Rattle.name_store.specs.ArrayLaws.{found-array as found}
-use Rattle.bench_engine.specs.Replies.{refusal}
+use Rattle.bench_engine.proofs.Words.{◌≡◌, [], true, Err, ap, sym, refl, subst, inl, inr, arith, common_steps, UnknownName, OutOfMemory, Sends, SendsPart, appends_nothing, offsets, array_text, items_from, refusal_text, found, refusal}
 use Rattle.bench_engine.proofs.Looks.{bound, not_found, print-unknown, print-found, may-print, may-refuse}
 use Rattle.bench_engine.proofs.printing.print.Goals as goal
 

@@ -1,5 +1,4 @@
-use Rattle.std.proofs.Common.{arith, refl, ◌∙◌}
-use Rattle.std.proofs.lemmas.Result.{err_from_is_err_and}
+use Rattle.bench_engine.proofs.Words.{arith, refl, ◌∙◌, err_from_is_err_and}
 use Rattle.bench_engine.proofs.Whole.{answers-script, ended-by, reading-new, whole-lines}
 use Rattle.bench_engine.proofs.runner.run_within.Goals as goal
 

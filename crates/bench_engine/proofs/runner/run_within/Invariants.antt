@@ -1,6 +1,4 @@
-use Rattle.std.proofs.Common.{◌≡◌, ◌≤◌, ◌+◌, ◌*◌, vec_len}
-use Rattle.bench_engine.specs.Headline.{outside}
-use Rattle.bench_engine.specs.inside.Sessions.{Reading}
+use Rattle.bench_engine.proofs.Words.{◌≡◌, ◌≤◌, ◌+◌, ◌*◌, vec_len, outside, Reading}
 use Rattle.bench_engine.proofs.runner.run_within.Given as goal
 
 -- the session was fed what was read so far

@@ -1,7 +1,4 @@
-use Rattle.std.proofs.Common.{◌≡◌, ◌++◌, take, inl, inr, map, refl}
-use Rattle.std.proofs.lemmas.Result.{err_from_is_err_and}
-use Rattle.bench_engine.specs.declared.runner.RunFault.TheVariants.{Read}
-use Rattle.bench_engine.specs.Headline.{trimmed}
+use Rattle.bench_engine.proofs.Words.{◌≡◌, ◌++◌, take, inl, inr, map, refl, err_from_is_err_and, Read, trimmed}
 use Rattle.bench_engine.proofs.Lines.{lines-end, whole_lines-on}
 use Rattle.bench_engine.proofs.Feeding.{told-on, fed-on, cut-on}
 use Rattle.bench_engine.proofs.Whole.{first-lines}

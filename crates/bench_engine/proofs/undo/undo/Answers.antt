@@ -1,8 +1,5 @@
-use Rattle.std.proofs.Common.{◌≡◌, Err, inr, ap, sym, arith, codes}
-use Rattle.std.proofs.lemmas.Grind.{common_steps}
-use Rattle.std.proofs.lemmas.Result.{err_from_is_err_and}
+use Rattle.bench_engine.proofs.Words.{◌≡◌, Err, inr, ap, sym, arith, codes, common_steps, err_from_is_err_and, undo_outcome, accepted_with}
 use Rattle.bench_engine.proofs.Steps.{spare}
-use Rattle.bench_engine.specs.Machine.{undo_outcome, accepted_with}
 use Rattle.bench_engine.proofs.undo.undo.Goals as goal
 
 pub returns-in_err-undo : goal.returns-in_err-undo

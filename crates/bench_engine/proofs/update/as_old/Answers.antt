@@ -1,6 +1,4 @@
-use Rattle.std.proofs.Common.{refl, sym, ◌∙◌}
-use Rattle.std.proofs.lemmas.Simd.{map-map}
-use Rattle.bench_engine.specs.Words.{item_from, cast_item, length-offsets, offsets}
+use Rattle.bench_engine.proofs.Words.{refl, sym, ◌∙◌, map-map, item_from, cast_item, length-offsets, offsets}
 use Rattle.bench_engine.proofs.Assigns.{kept-items}
 use Rattle.bench_engine.proofs.OperandLaws.{own-inside}
 use Rattle.bench_engine.proofs.Updates.{cast-changed}

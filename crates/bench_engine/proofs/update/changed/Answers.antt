@@ -1,7 +1,4 @@
-use Rattle.std.proofs.Common.{subst}
-use Rattle.bench_engine.specs.Machine.{operand_values}
-use Rattle.bench_engine.specs.inside.Operands.{IsGiven}
-use Rattle.bench_engine.specs.declared.write.Given.{Given}
+use Rattle.bench_engine.proofs.Words.{subst, operand_values, IsGiven, Given}
 use Rattle.bench_engine.proofs.OperandLaws.{all-stand}
 use Rattle.bench_engine.proofs.update.changed.Goals as goal
 

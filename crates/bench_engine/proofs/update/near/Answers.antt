@@ -1,6 +1,4 @@
-use Rattle.std.proofs.Common.{refl}
-use Rattle.std.proofs.lemmas.List.Sorted.{IsPermutation-refl}
-use Rattle.bench_engine.specs.Words.{offsets, pair_even, firsts-reordered}
+use Rattle.bench_engine.proofs.Words.{refl, IsPermutation-refl, offsets, pair_even, firsts-reordered}
 use Rattle.bench_engine.proofs.update.near.Goals as goal
 
 pub returns-in-Some : goal.returns-in-Some

@@ -1,7 +1,4 @@
-use Rattle.std.proofs.Common.{◌≤◌, ◌+◌, ◌*◌, ℕ, length, refl, sym, subst, ◌∙◌, Ok, Err}
-use Rattle.std.proofs.lemmas.Result.{err_from_is_err_and}
-use Rattle.std.proofs.lemmas.List.Sorted.{All-permutation, length_permutation}
-use Rattle.bench_engine.specs.Words.{item_size, count, length-offsets, offsets, max_bytes, IsShape}
+use Rattle.bench_engine.proofs.Words.{◌≤◌, ◌+◌, ◌*◌, ℕ, length, refl, sym, subst, ◌∙◌, Ok, Err, err_from_is_err_and, All-permutation, length_permutation, item_size, count, length-offsets, offsets, max_bytes, IsShape}
 use Rattle.bench_engine.proofs.Moved.{items-gives, together-inside, together-moved}
 use Rattle.bench_engine.proofs.Written.{view-inside}
 use Rattle.bench_engine.proofs.update.pair_by_items.Goals as goal

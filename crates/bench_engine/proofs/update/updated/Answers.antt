@@ -1,15 +1,7 @@
-use Rattle.std.proofs.Common.{subst, ◌∙◌, Ok, Err}
-use Rattle.std.proofs.lemmas.Result.{err_from_is_err_and}
-use Rattle.bench_engine.specs.Words.{Target, Plan, Descr, count}
-use Rattle.bench_engine.specs.declared.write.Given.{Given}
-use Rattle.bench_engine.specs.inside.Operands.{IsGiven, HoldsItems}
-use Rattle.bench_engine.specs.Machine.{operand_values, updated}
-use Rattle.bench_engine.specs.inside.Assigns.{IsTarget}
-use Rattle.bench_engine.specs.inside.Writings.{IsTargetOf}
+use Rattle.bench_engine.proofs.Words.{subst, ◌∙◌, Ok, Err, err_from_is_err_and, Target, Plan, Descr, count, Given, IsGiven, HoldsItems, operand_values, updated, IsTarget, IsTargetOf, Meets}
 use Rattle.bench_engine.proofs.Moved.{unmoved-gives}
 use Rattle.bench_engine.proofs.OperandLaws.{all-stand}
 use Rattle.bench_engine.proofs.Written.{plan-inside, old-plan}
-use Rattle.bench_engine.specs.inside.Meeting.{Meets}
 use Rattle.bench_engine.proofs.update.updated.Goals as goal
 
 pub view_by_literal-requires : goal.view_by_literal-requires

@@ -1,13 +1,8 @@
-use Rattle.std.proofs.Common.{◌≤◌, ◌*◌, ℕ, sym, subst, ◌∙◌, Ok, Err}
-use Rattle.std.proofs.lemmas.Result.{err_from_is_err_and}
-use Rattle.bench_engine.specs.Words.{Descr, item_size, count, length-offsets, max_bytes}
+use Rattle.bench_engine.proofs.Words.{◌≤◌, ◌*◌, ℕ, sym, subst, ◌∙◌, Ok, Err, err_from_is_err_and, Descr, item_size, count, length-offsets, max_bytes, operand_values, updated_items, Meets, HoldsItems}
 use Rattle.name_store.specs.declared.write.Target.TheVariants.{View}
-use Rattle.bench_engine.specs.Machine.{operand_values, updated_items}
 use Rattle.bench_engine.proofs.Moved.{unmoved-gives}
 use Rattle.bench_engine.proofs.OperandLaws.{all-stand}
 use Rattle.bench_engine.proofs.Written.{old-view, view-inside}
-use Rattle.bench_engine.specs.inside.Meeting.{Meets}
-use Rattle.bench_engine.specs.inside.Operands.{HoldsItems}
 use Rattle.bench_engine.proofs.update.view_by_items.Goals as goal
 
 pub items_of_view-requires : goal.items_of_view-requires

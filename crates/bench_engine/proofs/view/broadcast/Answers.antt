@@ -1,6 +1,4 @@
-use Rattle.std.proofs.Common.{subst, List, ℕ, Ok, false}
-use Rattle.std.proofs.lemmas.Bool.{false≢true}
-use Rattle.bench_engine.specs.Words.{GivesView, stretched}
+use Rattle.bench_engine.proofs.Words.{subst, List, ℕ, Ok, false, false≢true, GivesView, stretched}
 use Rattle.bench_engine.proofs.Views.{viewed-part}
 use Rattle.bench_engine.proofs.view.broadcast.Goals as goal
 

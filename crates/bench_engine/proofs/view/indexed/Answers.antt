@@ -1,6 +1,4 @@
-use Rattle.std.proofs.Common.{◌∙◌, sym, ap, map, inl}
-use Rattle.std.proofs.lemmas.Result.{err_from_is_err_and}
-use Rattle.bench_engine.specs.Words.{Descr, item_from, offsets}
+use Rattle.bench_engine.proofs.Words.{◌∙◌, sym, ap, map, inl, err_from_is_err_and, Descr, item_from, offsets}
 use Rattle.bench_engine.proofs.Makes.{in-order}
 use Rattle.bench_engine.proofs.PartLaws.{copy-seen, view-seen}
 use Rattle.bench_engine.proofs.TargetLaws.{aimed, copy-lacks, plan-within, takes-copy}

@@ -1,13 +1,6 @@
-use Rattle.std.proofs.Common.{◌≡◌, ℕ, true, List, Some, Ok, refl, sym, inr}
-use Rattle.std.specs.List.{list_all}
-use Rattle.bench_engine.specs.Words.{Viewing, State, find_array, is_bound, has_room_for}
-use Rattle.name_store.specs.States.{Array}
-use Rattle.std.proofs.lemmas.Result.{err_from_is_err_and}
-use Rattle.bench_engine.specs.Machine.{Choice, ViewOrCopy, seen, names_in_viewing, view_outcome, bound_seen}
-use Rattle.name_store.specs.ArrayLaws.{found-array as found}
+use Rattle.bench_engine.proofs.Words.{◌≡◌, ℕ, true, List, Some, Ok, refl, sym, inr, list_all, Viewing, State, find_array, is_bound, has_room_for, Array, err_from_is_err_and, Choice, ViewOrCopy, seen, names_in_viewing, view_outcome, bound_seen, found, IsSeen}
 use Rattle.bench_engine.proofs.Looks.{not_found, bound}
 use Rattle.bench_engine.proofs.Views.{refused-or, may-bind-seen, seen-answers}
-use Rattle.bench_engine.specs.inside.Parts.{IsSeen}
 use Rattle.bench_engine.proofs.Answered.{met}
 use Rattle.bench_engine.proofs.view.view.Goals as goal
 

@@ -1,6 +1,4 @@
-use Rattle.std.proofs.Common.{sym, ap, ◌∙◌, refl, inl, inr, map}
-use Rattle.std.proofs.lemmas.Result.{err_from_is_err_and}
-use Rattle.bench_engine.specs.Words.{offsets, Descr, item_from, item_size}
+use Rattle.bench_engine.proofs.Words.{sym, ap, ◌∙◌, refl, inl, inr, map, err_from_is_err_and, offsets, Descr, item_from, item_size}
 use Rattle.bench_engine.proofs.Assigns.{kept-items}
 use Rattle.bench_engine.proofs.GivenLaws.{stretches, wide-shape, wide-inside, cast-lacks}
 use Rattle.bench_engine.proofs.write.fitted.Goals as goal

@@ -1,7 +1,4 @@
-use Rattle.std.proofs.Common.{◌≡◌, ap, sym, refl, ◌∙◌, inl, arith, subst, ℕ}
-use Rattle.std.proofs.lemmas.Result.{err_from_is_err_and}
-use Rattle.bench_engine.specs.Words.{Supplies, descr_of, written}
-use Rattle.bench_engine.specs.Machine.{accepted_with, write_reply}
+use Rattle.bench_engine.proofs.Words.{◌≡◌, ap, sym, refl, ◌∙◌, inl, arith, subst, ℕ, err_from_is_err_and, Supplies, descr_of, written, accepted_with, write_reply}
 use Rattle.bench_engine.proofs.Steps.{spare}
 use Rattle.bench_engine.proofs.write.set.Goals as goal
 

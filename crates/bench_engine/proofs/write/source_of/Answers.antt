@@ -1,6 +1,4 @@
-use Rattle.std.proofs.Common.{subst}
-use Rattle.bench_engine.specs.inside.Operands.{IsGiven}
-use Rattle.bench_engine.specs.declared.write.Given.{Given}
+use Rattle.bench_engine.proofs.Words.{subst, IsGiven, Given}
 use Rattle.bench_engine.proofs.GivenLaws.{part-given}
 use Rattle.bench_engine.proofs.write.source_of.Goals as goal
 

@@ -1,5 +1,4 @@
-use Rattle.std.proofs.Common.{inr, arith}
-use Rattle.std.proofs.lemmas.Result.{err_from_is_err_and}
+use Rattle.bench_engine.proofs.Words.{inr, arith, err_from_is_err_and}
 use Rattle.bench_engine.proofs.TargetLaws.{refused-target, fixed-target, given-target}
 use Rattle.bench_engine.proofs.write.target_of.Goals as goal
 

@@ -1,17 +1,4 @@
-use Rattle.std.proofs.Common.{◌≡◌, ◌≤◌, ◌⊎◌, ◌&&◌, ◌++◌, ap, sym, subst, refl, ◌∙◌, inl, inr, arith, List, ℕ, true, Option, Some, None, Result, Ok, Err}
-use Rattle.std.specs.List.{list_all}
-use Rattle.std.proofs.lemmas.List.Folds.{list_all-append}
-use Rattle.std.proofs.lemmas.Result.{err_from_is_err_and}
-use Rattle.bench_engine.specs.Words.{Argument, Descr, IndexItem, Operation, OutOfMemory, Refusal, Shows, State, UnknownName, LeafValue, count, descr_of, find_array, is_bound, max_items, written}
-use Rattle.name_store.specs.ArrayLaws.{found-array as found}
-use Rattle.name_store.specs.States.{Array}
-use Rattle.bench_engine.specs.IndexLists.{names_in_index}
-use Rattle.bench_engine.specs.Machine.{accepted_with, names_in_argument, new_items, target_part, write_outcome, write_reply}
-use Rattle.bench_engine.specs.declared.update.Writing.{Writing}
-use Rattle.bench_engine.specs.inside.Assigns.{IsTarget}
-use Rattle.bench_engine.specs.inside.Meeting.{Meets}
-use Rattle.bench_engine.specs.inside.Operands.{GivesGiven}
-use Rattle.bench_engine.specs.inside.Writings.{Leaves, Prepares}
+use Rattle.bench_engine.proofs.Words.{◌≡◌, ◌≤◌, ◌⊎◌, ◌&&◌, ◌++◌, ap, sym, subst, refl, ◌∙◌, inl, inr, arith, List, ℕ, true, Option, Some, None, Result, Ok, Err, list_all, list_all-append, err_from_is_err_and, Argument, Descr, IndexItem, Operation, OutOfMemory, Refusal, Shows, State, UnknownName, LeafValue, count, descr_of, find_array, is_bound, max_items, written, found, Array, names_in_index, accepted_with, names_in_argument, new_items, target_part, write_outcome, write_reply, Writing, IsTarget, Meets, GivesGiven, Leaves, Prepares}
 use Rattle.bench_engine.proofs.Answered.{met}
 use Rattle.bench_engine.proofs.Looks.{not_found}
 use Rattle.bench_engine.proofs.Views.{refused-or}

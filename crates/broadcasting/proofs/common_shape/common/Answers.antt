@@ -1,6 +1,5 @@
-use Rattle.std.proofs.lemmas.Result.{err_from_is_err_and}
+use Rattle.broadcasting.proofs.Words.{err_from_is_err_and, given-fits}
 use Rattle.broadcasting.proofs.CommonLaws.{seen, common-more, common-refused, finished}
-use Rattle.broadcasting.specs.FitLaws.{given-fits}
 use Rattle.broadcasting.proofs.common_shape.common.Goals as goal
 
 pub returns-in_err-lengths-clause-value : goal.returns-in_err-lengths-clause-value

@@ -1,5 +1,4 @@
-use Rattle.std.proofs.Common.{◌≡◌, ◌<◌, ℕ, pos, length, get_or}
-use Rattle.broadcasting.specs.Shrinking.{ShrinksTo}
+use Rattle.broadcasting.proofs.Words.{◌≡◌, ◌<◌, ℕ, pos, length, get_or, ShrinksTo}
 use Rattle.broadcasting.proofs.shrinking.shrunk_lengths.Given as goal
 
 abbrev pub invariant-loop-axis : goal.invariant-loop-axis

@@ -1,5 +1,4 @@
-use Rattle.std.proofs.Common.{sym, subst}
-use Rattle.broadcasting.specs.Words.{IsShape}
+use Rattle.broadcasting.proofs.Words.{sym, subst, IsShape}
 use Rattle.broadcasting.proofs.ShrinkLaws.{moved, IsShape-shrunk}
 use Rattle.broadcasting.proofs.shrinking.shrunk_shape.Goals as goal
 

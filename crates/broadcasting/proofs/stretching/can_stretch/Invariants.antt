@@ -1,5 +1,4 @@
-use Rattle.std.proofs.Common.{◌≡◌, drop}
-use Rattle.broadcasting.specs.Broadcasts.{aligned, all_stretch}
+use Rattle.broadcasting.proofs.Words.{◌≡◌, drop, aligned, all_stretch}
 use Rattle.broadcasting.proofs.stretching.can_stretch.Given as goal
 
 abbrev pub invariant-loop-axis : goal.invariant-loop-axis

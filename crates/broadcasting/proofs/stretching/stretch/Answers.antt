@@ -1,6 +1,4 @@
-use Rattle.std.proofs.Common.{inr, sym, ◌∙◌}
-use Rattle.broadcasting.specs.Broadcasts.{can_stretch}
-use Rattle.broadcasting.specs.BroadcastLaws.{stretched-ok}
+use Rattle.broadcasting.proofs.Words.{inr, sym, ◌∙◌, can_stretch, stretched-ok}
 use Rattle.broadcasting.proofs.StretchLaws.{stretched-err}
 use Rattle.broadcasting.proofs.stretching.stretch.Goals as goal
 

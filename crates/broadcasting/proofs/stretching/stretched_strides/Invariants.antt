@@ -1,5 +1,4 @@
-use Rattle.std.proofs.Common.{◌≡◌, ◌++◌, pos, drop, replicate}
-use Rattle.broadcasting.specs.inside.Stretches.{kept_strides}
+use Rattle.broadcasting.proofs.Words.{◌≡◌, ◌++◌, pos, drop, replicate, kept_strides}
 use Rattle.broadcasting.proofs.stretching.stretched_strides.Given as goal
 
 abbrev pub invariant-loop-axis : goal.invariant-loop-axis

@@ -1,12 +1,4 @@
-use Rattle.std.proofs.Common.{◌∷◌, ◌∙◌, ℕ, List, refl, sym, ap, subst}
-use Rattle.std.specs.FinMap.{get}
-use Rattle.disk.specs.declared.cached.Event.{Event}
-use Rattle.disk.specs.declared.cached.Event.TheVariants.{Changed}
-use Rattle.disk.specs.Files.{SameBut}
-use Rattle.disk.specs.Crashes.{Leaves}
-use Rattle.disk.specs.Changes.{bytes_of_change, bound}
-use Rattle.disk.specs.ChangeLaws.{bound_here, bound_else}
-use Rattle.disk.specs.Cached.{found, cached_history}
+use Rattle.disk.proofs.Words.{◌∷◌, ◌∙◌, ℕ, List, refl, sym, ap, subst, get, Event, Changed, SameBut, Leaves, bytes_of_change, bound, bound_here, bound_else, found, cached_history}
 use Rattle.disk.proofs.Events.{still_but, changes}
 use Rattle.disk.proofs.cached.change.Goals as goal
 

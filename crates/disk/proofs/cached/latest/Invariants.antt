@@ -1,6 +1,4 @@
-use Rattle.std.proofs.Common.{◌≡◌, length}
-use Rattle.std.specs.FinMap.{get}
-use Rattle.disk.specs.Cached.{found}
+use Rattle.disk.proofs.Words.{◌≡◌, length, get, found}
 use Rattle.disk.proofs.cached.latest.Given as goal
 
 abbrev pub invariant-loop-rest : goal.invariant-loop-rest

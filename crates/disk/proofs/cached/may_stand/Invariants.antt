@@ -1,6 +1,4 @@
-use Rattle.std.proofs.Common.{◌↔◌, length}
-use Rattle.disk.specs.Changes.{bytes_of_change}
-use Rattle.disk.specs.Cached.{MayStand}
+use Rattle.disk.proofs.Words.{◌↔◌, length, bytes_of_change, MayStand}
 use Rattle.disk.proofs.cached.may_stand.Given as goal
 
 abbrev pub invariant-loop-rest : goal.invariant-loop-rest

@@ -1,6 +1,4 @@
-use Rattle.std.proofs.Common.{◌∷◌, ◌∙◌, true, List, Some, None, refl, sym, ap}
-use Rattle.disk.specs.declared.cached.Event.{Event}
-use Rattle.disk.specs.declared.cached.Event.TheVariants.{Changed}
+use Rattle.disk.proofs.Words.{◌∷◌, ◌∙◌, true, List, Some, None, refl, sym, ap, Event, Changed}
 use Rattle.disk.proofs.Events.{still_both, still_in_place, shifted, shifts_files, shifts_both, shifts_whole, is_synced_there}
 use Rattle.disk.proofs.cached.shift.Goals as goal
 

@@ -1,6 +1,4 @@
-use Rattle.std.proofs.Common.{ap, arith}
-use Rattle.elem_descr.specs.Items.{leaves_in}
-use Rattle.elem_descr.specs.DescriptorLaws.{rest_at}
+use Rattle.elem_descr.proofs.Words.{ap, arith, leaves_in, rest_at}
 use Rattle.elem_descr.proofs.descr.leaf_sum.Goals as goal
 
 pub overflow_add-sum : goal.overflow_add-sum

@@ -1,8 +1,4 @@
-use Rattle.std.proofs.Common.{ap, ◌∙◌, List, append_assoc, arith, rules}
-use Rattle.elem_descr.specs.declared.descr.Field.{Field}
-use Rattle.elem_descr.specs.Descriptors.{listed}
-use Rattle.elem_descr.specs.Items.{leaves_from}
-use Rattle.elem_descr.specs.DescriptorLaws.{rest_at, field_within}
+use Rattle.elem_descr.proofs.Words.{ap, ◌∙◌, List, append_assoc, arith, rules, Field, listed, leaves_from, rest_at, field_within}
 use Rattle.elem_descr.proofs.FieldLaws.{leaves_before}
 use Rattle.elem_descr.proofs.descr.leaves_in.Goals as goal
 

@@ -1,6 +1,4 @@
-use Rattle.std.proofs.Common.{◌≡◌, ◌++◌, drop}
-use Rattle.elem_descr.specs.Descriptors.{listed}
-use Rattle.elem_descr.specs.Items.{leaves_from}
+use Rattle.elem_descr.proofs.Words.{◌≡◌, ◌++◌, drop, listed, leaves_from}
 use Rattle.elem_descr.proofs.descr.leaves_in.Given as goal
 
 -- the leaves of the fields so far are appended

@@ -1,5 +1,4 @@
-use Rattle.std.proofs.Common.{arith}
-use Rattle.elem_descr.specs.ItemLaws.{leaf_within}
+use Rattle.elem_descr.proofs.Words.{arith, leaf_within}
 use Rattle.elem_descr.proofs.descr.push_moved.Goals as goal
 
 pub overflow_add-by : goal.overflow_add-by

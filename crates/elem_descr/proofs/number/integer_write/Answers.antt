@@ -1,8 +1,4 @@
-use Rattle.std.specs.Prelude.{FitsSigned}
-use Rattle.std.specs.Int.{w128}
-use Rattle.std.proofs.lemmas.Int.{to_z-of_z}
-use Rattle.byteorder.specs.Endian.{little_bytes, big_bytes}
-use Rattle.elem_descr.specs.WrapLaws.{written_whole}
+use Rattle.elem_descr.proofs.Words.{FitsSigned, w128, to_z-of_z, little_bytes, big_bytes, written_whole}
 use Rattle.elem_descr.proofs.number.integer_write.Goals as goal
 
 pub returns-in-Little : goal.returns-in-Little

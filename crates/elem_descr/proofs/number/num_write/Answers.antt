@@ -1,10 +1,4 @@
-use Rattle.std.proofs.Common.{ap, ◌∙◌}
-use Rattle.std.specs.Prelude.{FitsSigned}
-use Rattle.std.specs.Int.{w128}
-use Rattle.std.proofs.lemmas.Int.{to_z-of_z}
-use Rattle.elem_descr.specs.Encoding.{decode}
-use Rattle.elem_descr.specs.EncodingLaws.{decode_encode}
-use Rattle.elem_descr.specs.NumberLaws.{wrap_fits, wraps_to, wrap_stays}
+use Rattle.elem_descr.proofs.Words.{ap, ◌∙◌, FitsSigned, w128, to_z-of_z, decode, decode_encode, wrap_fits, wraps_to, wrap_stays}
 use Rattle.elem_descr.proofs.number.num_write.Goals as goal
 
 pub returns-clause-reads_back : goal.returns-clause-reads_back

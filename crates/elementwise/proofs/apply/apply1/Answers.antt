@@ -1,14 +1,9 @@
-use Rattle.std.proofs.Common.{inr, Ok, map, sym, ◌∙◌}
-use Rattle.std.proofs.lemmas.Result.{err_from_is_err_and}
-use Rattle.elem_descr.specs.declared.descr.Descr.TheVariants.{Scalar as ScalarDescr}
-use Rattle.elementwise.specs.Words.{item_from, number_size, offsets, can-itself, little}
-use Rattle.elementwise.specs.Results.{unary_item}
+use Rattle.elementwise.proofs.Words.{inr, Ok, map, sym, ◌∙◌, err_from_is_err_and, ScalarDescr, item_from, number_size, offsets, can-itself, little, unary_item, is_scalar}
 use Rattle.elementwise.proofs.WorkLaws.{number_small}
 use Rattle.elementwise.proofs.MadeLaws.{made-gives, made-order, made-items, made-encoded}
 use Rattle.elementwise.proofs.PromotedLaws.{promoted_one, native-little, number-read, can-number, operand_refused, kind_refused, one_given}
 use Rattle.elementwise.proofs.AppliedLaws.{changed}
 use Rattle.elementwise.proofs.apply.apply1.Goals as goal
-use Rattle.elementwise.specs.ResultLaws.{is_scalar}
 
 pub returns-in_err-from-clause-gives : goal.returns-in_err-from-clause-gives
 returns-in_err-from-clause-gives c =

@@ -1,14 +1,9 @@
-use Rattle.std.proofs.Common.{inl, inr, Ok, sym, ◌∙◌}
-use Rattle.std.proofs.lemmas.Result.{err_from_is_err_and}
-use Rattle.elem_descr.specs.declared.descr.Descr.TheVariants.{Scalar as ScalarDescr}
-use Rattle.elementwise.specs.Words.{number_size, little}
-use Rattle.elementwise.specs.Results.{pairwise, binary_item, stretched_items}
+use Rattle.elementwise.proofs.Words.{inl, inr, Ok, sym, ◌∙◌, err_from_is_err_and, ScalarDescr, number_size, little, pairwise, binary_item, stretched_items, is_scalar}
 use Rattle.elementwise.proofs.WorkLaws.{number_small}
 use Rattle.elementwise.proofs.MadeLaws.{made-gives, made-order, made-items, made-encoded}
 use Rattle.elementwise.proofs.PromotedLaws.{promoted, native-little, number-read, can-number, left_refused, right_refused, promotion_refused, shapes_refused, all_given}
 use Rattle.elementwise.proofs.AppliedLaws.{combined}
 use Rattle.elementwise.proofs.apply.apply2.Goals as goal
-use Rattle.elementwise.specs.ResultLaws.{is_scalar}
 
 pub returns-in_err-from-clause-gives : goal.returns-in_err-from-clause-gives
 returns-in_err-from-clause-gives c =

@@ -1,5 +1,4 @@
-use Rattle.std.proofs.Common.{◌≡◌, rules, ap, arith}
-use Rattle.elementwise.specs.Words.{count, max_bytes}
+use Rattle.elementwise.proofs.Words.{◌≡◌, rules, ap, arith, count, max_bytes}
 use Rattle.elementwise.proofs.ChunkLaws.{count-run}
 use Rattle.elementwise.proofs.apply.in_runs.Goals as goal
 

@@ -1,11 +1,4 @@
-use Rattle.std.proofs.Common.{◌≡◌, ◌*◌, ◌≤◌, ℕ, true, List, [], ◌∷◌, map, refl, ap, ◌∙◌, arith}
-use Rattle.std.proofs.Math.Nat.{mul-le-mul_left}
-use Rattle.elem_descr.specs.declared.descr.Descr.TheVariants.{Scalar as ScalarDescr}
-use Rattle.elementwise.specs.Words.{Descr, Items, LeafValue, count, size, item_from, items, offsets, can_stretch}
-use Rattle.elementwise.specs.Casts.{cast_item}
-use Rattle.elementwise.specs.Results.{pairwise, value_in}
-use Rattle.elementwise.specs.inside.Held.{stretched}
-use Rattle.elementwise.specs.inside.Works.{left_of, right_of, target_of, gives}
+use Rattle.elementwise.proofs.Words.{◌≡◌, ◌*◌, ◌≤◌, ℕ, true, List, [], ◌∷◌, map, refl, ap, ◌∙◌, arith, mul-le-mul_left, ScalarDescr, Descr, Items, LeafValue, count, size, item_from, items, offsets, can_stretch, cast_item, pairwise, value_in, stretched, left_of, right_of, target_of, gives}
 use Rattle.elementwise.proofs.MadeLaws.{made-in}
 use Rattle.elementwise.proofs.PairLaws.{pairwise-map}
 use Rattle.elementwise.proofs.StretchedLaws.{stretches-itself}

@@ -1,10 +1,4 @@
-use Rattle.std.proofs.Common.{◌≡◌, ◌+◌, ◌*◌, ◌≤◌, List, [], ◌∷◌, All, length, map, sym, ap, subst, ◌∙◌, arith}
-use Rattle.std.proofs.Math.Nat.{mul-le-mul_left}
-use Rattle.elem_descr.specs.declared.descr.Descr.TheVariants.{Scalar as ScalarDescr}
-use Rattle.elementwise.specs.Words.{LeafValue, size, item_size, item_from, count, offsets, can_stretch}
-use Rattle.elementwise.specs.Casts.{cast_item}
-use Rattle.elementwise.specs.Results.{pairwise, value_in, stretched_items}
-use Rattle.elementwise.specs.inside.Works.{left_of, right_of, target_of, gives}
+use Rattle.elementwise.proofs.Words.{◌≡◌, ◌+◌, ◌*◌, ◌≤◌, List, [], ◌∷◌, All, length, map, sym, ap, subst, ◌∙◌, arith, mul-le-mul_left, ScalarDescr, LeafValue, size, item_size, item_from, count, offsets, can_stretch, cast_item, pairwise, value_in, stretched_items, left_of, right_of, target_of, gives}
 use Rattle.elementwise.proofs.PairLaws.{pairwise-map}
 use Rattle.elementwise.proofs.TypedLaws.{stretched-cast}
 use Rattle.elementwise.proofs.MadeLaws.{made-in}

@@ -1,7 +1,4 @@
-use Rattle.std.proofs.Common.{sym, ◌∙◌}
-use Rattle.std.proofs.lemmas.Simd.{map-map}
-use Rattle.elementwise.specs.Words.{item_from, offsets}
-use Rattle.elementwise.specs.Casts.{cast_item}
+use Rattle.elementwise.proofs.Words.{sym, ◌∙◌, map-map, item_from, offsets, cast_item}
 use Rattle.elementwise.proofs.TypedLaws.{kept}
 use Rattle.elementwise.proofs.apply.stays.Goals as goal
 

@@ -1,6 +1,4 @@
-use Rattle.std.proofs.Common.{◌≡◌, ◌%◌, rules, ◌^◌, ap, ◌∙◌, pos}
-use Rattle.elementwise.specs.Words.{integer, low_bits}
-use Rattle.elementwise.specs.Operations.{floor_quotient}
+use Rattle.elementwise.proofs.Words.{◌≡◌, ◌%◌, rules, ◌^◌, ap, ◌∙◌, pos, integer, low_bits, floor_quotient}
 use Rattle.elementwise.proofs.BitLaws.{moved_down_is}
 use Rattle.elementwise.proofs.bits.moved_down.Goals.{then-signed, else-signed}
 use Rattle.elementwise.proofs.bits.moved_down.Goals as goal

@@ -1,13 +1,7 @@
-use Rattle.std.proofs.Common.{[], ◌∷◌, map, inr, ap, ◌∙◌}
-use Rattle.std.proofs.lemmas.Result.{err_from_is_err_and}
-use Rattle.elem_descr.specs.declared.descr.Descr.TheVariants.{Scalar as ScalarDescr}
-use Rattle.elem_descr.specs.declared.scalar.Scalar.TheVariants.{Bool as BoolScalar}
-use Rattle.elementwise.specs.Words.{offsets, is_text, text, without_nuls, item_from}
-use Rattle.elementwise.specs.Results.{compared_item}
+use Rattle.elementwise.proofs.Words.{[], ◌∷◌, map, inr, ap, ◌∙◌, err_from_is_err_and, ScalarDescr, BoolScalar, offsets, is_text, text, without_nuls, item_from, compared_item, is_scalar}
 use Rattle.elementwise.proofs.MadeLaws.{made-gives, made-order, made-items, made-encoded}
 use Rattle.elementwise.proofs.BytesComparedLaws.{operand_refused, number_refused, one_given}
 use Rattle.elementwise.proofs.byte_comparisons.compare_bytes.Goals as goal
-use Rattle.elementwise.specs.ResultLaws.{is_scalar}
 
 pub returns-in_err-from-clause-gives : goal.returns-in_err-from-clause-gives
 returns-in_err-from-clause-gives c =

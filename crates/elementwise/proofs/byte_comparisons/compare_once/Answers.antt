@@ -1,8 +1,4 @@
-use Rattle.std.proofs.Common.{[], ◌∷◌, ◌∙◌, length}
-use Rattle.elem_descr.specs.declared.descr.Descr.TheVariants.{Scalar as ScalarDescr}
-use Rattle.elem_descr.specs.declared.scalar.Scalar.TheVariants.{Bool as BoolScalar}
-use Rattle.elementwise.specs.Words.{item_size, text, can_stretch, can-itself}
-use Rattle.elementwise.specs.Results.{compared_item}
+use Rattle.elementwise.proofs.Words.{[], ◌∷◌, ◌∙◌, length, ScalarDescr, BoolScalar, item_size, text, can_stretch, can-itself, compared_item}
 use Rattle.elementwise.proofs.MadeLaws.{made-as}
 use Rattle.elementwise.proofs.ShrunkLaws.{each_spread}
 use Rattle.elementwise.proofs.byte_comparisons.compare_once.Goals as goal

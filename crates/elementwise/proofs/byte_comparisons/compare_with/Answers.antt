@@ -1,9 +1,4 @@
-use Rattle.std.proofs.Common.{[], ◌∷◌, map, ◌∙◌, arith}
-use Rattle.std.proofs.lemmas.Simd.{map-map}
-use Rattle.elem_descr.specs.declared.descr.Descr.TheVariants.{Scalar as ScalarDescr}
-use Rattle.elem_descr.specs.declared.scalar.Scalar.TheVariants.{Bool as BoolScalar}
-use Rattle.elementwise.specs.Words.{text, item_from, offsets}
-use Rattle.elementwise.specs.Results.{compared_item}
+use Rattle.elementwise.proofs.Words.{[], ◌∷◌, map, ◌∙◌, arith, map-map, ScalarDescr, BoolScalar, text, item_from, offsets, compared_item}
 use Rattle.elementwise.proofs.AppliedLaws.{pairwise-same}
 use Rattle.elementwise.proofs.MadeLaws.{made-as}
 use Rattle.elementwise.proofs.byte_comparisons.compare_with.Goals as goal

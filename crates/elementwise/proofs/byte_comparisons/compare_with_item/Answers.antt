@@ -1,7 +1,4 @@
-use Rattle.std.proofs.Common.{refl, subst, IfOk}
-use Rattle.elem_descr.specs.declared.descr.Descr.TheVariants.{Scalar as ScalarDescr}
-use Rattle.elementwise.specs.Words.{Bytes, text}
-use Rattle.elementwise.specs.inside.Combined.{AreComparedWith}
+use Rattle.elementwise.proofs.Words.{refl, subst, IfOk, ScalarDescr, Bytes, text, AreComparedWith}
 use Rattle.elementwise.proofs.ComparedLaws.{comparable_scalars}
 use Rattle.elementwise.proofs.byte_comparisons.compare_with_item.Goals as goal
 

@@ -1,5 +1,4 @@
-use Rattle.std.proofs.Common.{◌-◌, ◌++◌, length, replicate, ap, ◌∙◌}
-use Rattle.elementwise.specs.Words.{without_nuls, without_nuls-more}
+use Rattle.elementwise.proofs.Words.{◌-◌, ◌++◌, length, replicate, ap, ◌∙◌, without_nuls, without_nuls-more}
 use Rattle.elementwise.proofs.byte_comparisons.filled_up.Goals as goal
 
 pub returns-clause-same : goal.returns-clause-same

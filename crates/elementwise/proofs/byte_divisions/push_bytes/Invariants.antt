@@ -1,9 +1,4 @@
-use Rattle.std.proofs.Common.{◌≡◌, ◌+◌, ◌*◌, ◌++◌}
-use Rattle.std.specs.Prelude.{not, ◌==◌}
-use Rattle.elementwise.specs.Words.{Little, joined}
-use Rattle.elementwise.specs.Operations.{binary}
-use Rattle.elementwise.specs.inside.PairPasses.{division_op, number_pair}
-use Rattle.elementwise.specs.inside.Sides.{made_of}
+use Rattle.elementwise.proofs.Words.{◌≡◌, ◌+◌, ◌*◌, ◌++◌, not, ◌==◌, Little, joined, binary, division_op, number_pair, made_of}
 use Rattle.elementwise.proofs.byte_divisions.push_bytes.Given as goal
 
 abbrev pub invariant-loop-k : goal.invariant-loop-k

@@ -1,5 +1,4 @@
-use Rattle.std.proofs.Common.{◌-◌, length, take, drop, sym, ◌∙◌, rules}
-use Rattle.elementwise.specs.Comparisons.{says}
+use Rattle.elementwise.proofs.Words.{◌-◌, length, take, drop, sym, ◌∙◌, rules, says}
 use Rattle.elementwise.proofs.ComparedLaws.{below-cmp, above-cmp}
 use Rattle.elementwise.proofs.TextWordLaws.{below-cut}
 use Rattle.elementwise.proofs.WordOrderLaws.{words-tell}

@@ -1,9 +1,4 @@
-use Rattle.std.proofs.Common.{ℕ, ◌-◌, length, take, reverse, ap, ◌∙◌, rules, tests}
-use Rattle.std.specs.Prelude.{nat_eq}
-use Rattle.std.proofs.lemmas.Iterator.Adapters.{YieldsList-from_rev_slice}
-use Rattle.std.proofs.lemmas.Iterator.Consumers.{count_from_yields_List}
-use Rattle.std.proofs.lemmas.Iterator.Search.{YieldsList-from_take_while}
-use Rattle.std.proofs.lemmas.List.Folds.{length-prefix_len}
+use Rattle.elementwise.proofs.Words.{ℕ, ◌-◌, length, take, reverse, ap, ◌∙◌, rules, tests, nat_eq, YieldsList-from_rev_slice, count_from_yields_List, YieldsList-from_take_while, length-prefix_len}
 use Rattle.elementwise.proofs.byte_string_pairs.without_nuls.Goals as goal
 
 pub returns : goal.returns

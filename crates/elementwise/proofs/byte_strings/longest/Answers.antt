@@ -1,6 +1,4 @@
-use Rattle.std.proofs.Common.{◌+◌, ◌≤◌, length, arith}
-use Rattle.std.proofs.lemmas.List.Elements.{All-cons, All-rest, All-same}
-use Rattle.elementwise.specs.Words.{without_nuls, item_at}
+use Rattle.elementwise.proofs.Words.{◌+◌, ◌≤◌, length, arith, All-cons, All-rest, All-same, without_nuls, item_at}
 use Rattle.elementwise.proofs.TrimmedLaws.{as_sliced, no_longer}
 use Rattle.elementwise.proofs.byte_strings.longest.Goals as goal
 

@@ -1,5 +1,4 @@
-use Rattle.std.proofs.Common.{◌-◌, arith, rules}
-use Rattle.elementwise.specs.Words.{without_nuls}
+use Rattle.elementwise.proofs.Words.{◌-◌, arith, rules, without_nuls}
 use Rattle.elementwise.proofs.TextWordLaws.{fewer-nuls}
 use Rattle.elementwise.proofs.byte_strings.without_nul_words.Goals as goal
 

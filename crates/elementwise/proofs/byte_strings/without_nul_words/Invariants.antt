@@ -1,5 +1,4 @@
-use Rattle.std.proofs.Common.{◌≡◌, ◌≤◌, length, take}
-use Rattle.elementwise.specs.Words.{without_nuls}
+use Rattle.elementwise.proofs.Words.{◌≡◌, ◌≤◌, length, take, without_nuls}
 use Rattle.elementwise.proofs.byte_strings.without_nul_words.Given as goal
 
 abbrev pub invariant-loop-len : goal.invariant-loop-len

@@ -1,6 +1,4 @@
-use Rattle.std.proofs.Common.{◌≡◌, ◌+◌, ◌*◌}
-use Rattle.elementwise.specs.Words.{total, listed, weight}
-use Rattle.elementwise.specs.Casts.{can_cast_fields}
+use Rattle.elementwise.proofs.Words.{◌≡◌, ◌+◌, ◌*◌, total, listed, weight, can_cast_fields}
 use Rattle.elementwise.proofs.FieldLaws.{left}
 use Rattle.elementwise.proofs.castable.+can_cast_fields.Given as goal
 

@@ -1,5 +1,4 @@
-use Rattle.std.proofs.Common.{◌≡◌, ◌<◌, ℕ}
-use Rattle.elementwise.specs.Words.{leaf_at}
+use Rattle.elementwise.proofs.Words.{◌≡◌, ◌<◌, ℕ, leaf_at}
 use Rattle.elementwise.proofs.castable.are_alike.Given as goal
 
 -- the first leaves are the same

@@ -1,6 +1,4 @@
-use Rattle.std.proofs.Common.{◌≡◌, true, take}
-use Rattle.std.specs.List.{list_all}
-use Rattle.elementwise.specs.Casts.{can_cast_scalar}
+use Rattle.elementwise.proofs.Words.{◌≡◌, true, take, list_all, can_cast_scalar}
 use Rattle.elementwise.proofs.castable.can_cast_to_all.Given as goal
 
 -- the first leaves pass

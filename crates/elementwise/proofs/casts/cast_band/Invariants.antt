@@ -1,6 +1,4 @@
-use Rattle.std.proofs.Common.{◌≡◌, ◌*◌, ◌<◌, ℕ, length}
-use Rattle.elementwise.specs.Words.{item_size, run_offsets}
-use Rattle.elementwise.specs.inside.LeafCasts.{IsLeafCast}
+use Rattle.elementwise.proofs.Words.{◌≡◌, ◌*◌, ◌<◌, ℕ, length, item_size, run_offsets, IsLeafCast}
 use Rattle.elementwise.proofs.EncodedLaws.{HaveZeros}
 use Rattle.elementwise.proofs.casts.cast_band.Given as goal
 

@@ -1,10 +1,4 @@
-use Rattle.std.proofs.Common.{◌*◌, ◌≤◌, true, map, IfOk, sym, ap, arith, subst, ◌∙◌}
-use Rattle.std.proofs.lemmas.Bool.{and_parts}
-use Rattle.std.proofs.lemmas.Simd.{map-map}
-use Rattle.elementwise.specs.Words.{Descr, item_size, item_from, count, max_bytes, offsets}
-use Rattle.elem_descr.specs.declared.descr.Descr.TheVariants.{Scalar as ScalarDescr}
-use Rattle.elementwise.specs.Casts.{can_cast_scalar, can_cast, cast_item}
-use Rattle.elementwise.specs.inside.Made.{IsMade}
+use Rattle.elementwise.proofs.Words.{◌*◌, ◌≤◌, true, map, IfOk, sym, ap, arith, subst, ◌∙◌, and_parts, map-map, Descr, item_size, item_from, count, max_bytes, offsets, ScalarDescr, can_cast_scalar, can_cast, cast_item, IsMade}
 use Rattle.elementwise.proofs.CutLaws.{no_text, numbers_cast}
 use Rattle.elementwise.proofs.MadeLaws.{made-in}
 use Rattle.elementwise.proofs.casts.cast_items.Goals as goal

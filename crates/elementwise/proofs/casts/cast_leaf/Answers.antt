@@ -1,7 +1,4 @@
-use Rattle.std.proofs.Common.{◌+◌, ◌≤◌, length, sym, subst, ◌∙◌, arith}
-use Rattle.elementwise.specs.Words.{item_size, leaf_at, EachWithin}
-use Rattle.elementwise.specs.Casts.{can_cast_scalar}
-use Rattle.elementwise.specs.inside.LeafCasts.{source}
+use Rattle.elementwise.proofs.Words.{◌+◌, ◌≤◌, length, sym, subst, ◌∙◌, arith, item_size, leaf_at, EachWithin, can_cast_scalar, source}
 use Rattle.elementwise.proofs.CastLaws.{has_source}
 use Rattle.elementwise.proofs.ColumnLaws.{leaves-within, leaf-put}
 use Rattle.elementwise.proofs.casts.cast_leaf.Goals as goal

@@ -1,6 +1,4 @@
-use Rattle.std.proofs.Common.{sym}
-use Rattle.elementwise.specs.Words.{offsets}
-use Rattle.elem_descr.specs.declared.descr.Descr.TheVariants.{Scalar as ScalarDescr}
+use Rattle.elementwise.proofs.Words.{sym, offsets, ScalarDescr}
 use Rattle.elementwise.proofs.CastingLaws.{values_cast}
 use Rattle.elementwise.proofs.LeafLaws.{cast_number}
 use Rattle.elementwise.proofs.MadeLaws.{made-as}

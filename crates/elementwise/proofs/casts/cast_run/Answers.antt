@@ -1,8 +1,4 @@
-use Rattle.std.proofs.Common.{◌≡◌, ◌+◌, ◌*◌, ◌≤◌, ◌++◌, length, sym, ap, subst, ◌∙◌, arith, add-mul, mul-le-mul_right}
-use Rattle.std.proofs.lemmas.List.{map-append}
-use Rattle.elementwise.specs.Words.{run_offsets, length-run_offsets}
-use Rattle.elementwise.specs.inside.LeafCasts.{cast_items, run_part}
-use Rattle.elementwise.specs.inside.Made.{AreItems}
+use Rattle.elementwise.proofs.Words.{◌≡◌, ◌+◌, ◌*◌, ◌≤◌, ◌++◌, length, sym, ap, subst, ◌∙◌, arith, add-mul, mul-le-mul_right, map-append, run_offsets, length-run_offsets, cast_items, run_part, AreItems}
 use Rattle.elementwise.proofs.ColumnLaws.{run-parts, length-cast_items}
 use Rattle.elementwise.proofs.EncodedLaws.{items-append}
 use Rattle.elementwise.proofs.casts.cast_run.Goals as goal

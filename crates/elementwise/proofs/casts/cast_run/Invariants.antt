@@ -1,7 +1,4 @@
-use Rattle.std.proofs.Common.{◌≡◌, ◌+◌, ◌-◌, ◌*◌, ◌≤◌}
-use Rattle.elementwise.specs.Words.{run_offsets}
-use Rattle.elementwise.specs.inside.LeafCasts.{cast_items}
-use Rattle.elementwise.specs.inside.Made.{AreItems}
+use Rattle.elementwise.proofs.Words.{◌≡◌, ◌+◌, ◌-◌, ◌*◌, ◌≤◌, run_offsets, cast_items, AreItems}
 use Rattle.elementwise.proofs.casts.cast_run.Given as goal
 
 -- the first items are cast

@@ -1,12 +1,4 @@
-use Rattle.std.proofs.Common.{◌≡◌, ◌+◌, ◌*◌, ◌<◌, ◌≤◌, ◌++◌, length, map, refl, sym, ap, ◌∙◌, arith, add-mul, mul-le-mul_right}
-use Rattle.std.proofs.Math.Nat.{mul-le-mul}
-use Rattle.std.specs.List.{flat_map}
-use Rattle.std.proofs.lemmas.Grind.{flat_map-append}
-use Rattle.elem_descr.specs.declared.descr.Descr.TheVariants.{Scalar as ScalarDescr}
-use Rattle.elementwise.specs.Words.{size, item_size, item_from, encode_item, count, multiples, run_front}
-use Rattle.elementwise.specs.inside.Combined.{run_items, all_given}
-use Rattle.elementwise.specs.inside.LeafCasts.{run_part}
-use Rattle.elementwise.specs.inside.Works.{target_of}
+use Rattle.elementwise.proofs.Words.{◌≡◌, ◌+◌, ◌*◌, ◌<◌, ◌≤◌, ◌++◌, length, map, refl, sym, ap, ◌∙◌, arith, add-mul, mul-le-mul_right, mul-le-mul, flat_map, flat_map-append, ScalarDescr, size, item_size, item_from, encode_item, count, multiples, run_front, run_items, all_given, run_part, target_of}
 use Rattle.elementwise.proofs.ChunkLaws.{count-given, long-given, given-are, given-more, many_left, many_right, runs_given}
 use Rattle.elementwise.proofs.EncodedLaws.{items-read}
 use Rattle.elementwise.proofs.MadeLaws.{made-as, over-made}

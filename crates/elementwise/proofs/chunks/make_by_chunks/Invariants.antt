@@ -1,9 +1,4 @@
-use Rattle.std.proofs.Common.{◌≡◌, ◌+◌, ◌-◌, ◌*◌, ◌≤◌}
-use Rattle.std.specs.List.{flat_map}
-use Rattle.elem_descr.specs.declared.descr.Descr.TheVariants.{Scalar as ScalarDescr}
-use Rattle.elementwise.specs.Words.{size, encode_item, run_front}
-use Rattle.elementwise.specs.inside.Combined.{all_given}
-use Rattle.elementwise.specs.inside.Works.{target_of}
+use Rattle.elementwise.proofs.Words.{◌≡◌, ◌+◌, ◌-◌, ◌*◌, ◌≤◌, flat_map, ScalarDescr, size, encode_item, run_front, all_given, target_of}
 use Rattle.elementwise.proofs.chunks.make_by_chunks.Given as goal
 
 -- the results on the first items are appended, and there is room for the rest

@@ -1,9 +1,4 @@
-use Rattle.std.proofs.Common.{◌≡◌, ◌<◌, [], ◌∷◌, rules, w64, sym, ap, subst, ◌∙◌, arith}
-use Rattle.std.proofs.lemmas.Bool.{false≢true}
-use Rattle.std.proofs.lemmas.Int.{ints, to_z-of_z}
-use mir.Val.{SFits}
-use Rattle.elementwise.specs.Words.{LieWithin, count, max_bytes, lie-within}
-use Rattle.elementwise.specs.inside.LeafCasts.{run_part}
+use Rattle.elementwise.proofs.Words.{◌≡◌, ◌<◌, [], ◌∷◌, rules, w64, sym, ap, subst, ◌∙◌, arith, false≢true, ints, to_z-of_z, SFits, LieWithin, count, max_bytes, lie-within, run_part}
 use Rattle.elementwise.proofs.ChunkLaws.{begins-at, one-axis, part-begins}
 use Rattle.elementwise.proofs.chunks.part.Goals as goal
 

@@ -1,14 +1,4 @@
-use Rattle.std.proofs.Common.{◌≡◌, ◌+◌, ◌*◌, ◌≤◌, ◌++◌, List, [], ◌∷◌, All, length, map, refl, sym, ap, subst, ◌∙◌, arith}
-use Rattle.std.specs.List.{flat_map}
-use Rattle.elem_descr.specs.declared.descr.Descr.TheVariants.{Scalar as ScalarDescr}
-use Rattle.elementwise.specs.Words.{LeafValue, count, encode_item, item_from, item_size, items, size}
-use Rattle.elementwise.specs.Casts.{cast_item}
-use Rattle.elementwise.specs.Results.{pairwise, value_in}
-use Rattle.elementwise.specs.declared.row_pairs.Operands.{Operands}
-use Rattle.elementwise.specs.inside.Combined.{run_items}
-use Rattle.elementwise.specs.inside.LeafCasts.{run_part}
-use Rattle.elementwise.specs.inside.Operands.{made_of_all}
-use Rattle.elementwise.specs.inside.Works.{left_of, right_of, target_of, gives, pair_made}
+use Rattle.elementwise.proofs.Words.{◌≡◌, ◌+◌, ◌*◌, ◌≤◌, ◌++◌, List, [], ◌∷◌, All, length, map, refl, sym, ap, subst, ◌∙◌, arith, flat_map, ScalarDescr, LeafValue, count, encode_item, item_from, item_size, items, size, cast_item, pairwise, value_in, Operands, run_items, run_part, made_of_all, left_of, right_of, target_of, gives, pair_made}
 use Rattle.elementwise.proofs.ChunkLaws.{part-inside, many_left, many_right}
 use Rattle.elementwise.proofs.PairLaws.{pairwise-map}
 use Rattle.elementwise.proofs.PairedLaws.{all_paired}

@@ -1,13 +1,7 @@
-use Rattle.std.proofs.Common.{inl, inr, Ok, refl, ◌∙◌}
-use Rattle.std.proofs.lemmas.Result.{err_from_is_err_and}
-use Rattle.elem_descr.specs.declared.descr.Descr.TheVariants.{Scalar as ScalarDescr}
-use Rattle.elem_descr.specs.declared.scalar.Scalar.TheVariants.{Bool as BoolScalar}
-use Rattle.elementwise.specs.Results.{pairwise, compared_item}
-use Rattle.elementwise.specs.inside.Held.{stretched}
+use Rattle.elementwise.proofs.Words.{inl, inr, Ok, refl, ◌∙◌, err_from_is_err_and, ScalarDescr, BoolScalar, pairwise, compared_item, stretched, is_scalar}
 use Rattle.elementwise.proofs.ComparedLaws.{compared_bools, comparable_scalars, left_refused, right_refused, type_refused, shapes_refused, all_given}
 use Rattle.elementwise.proofs.MadeLaws.{made-gives, made-order, made-items, made-encoded}
 use Rattle.elementwise.proofs.comparisons.compare.Goals as goal
-use Rattle.elementwise.specs.ResultLaws.{is_scalar}
 
 pub returns-in_err-from-clause-gives : goal.returns-in_err-from-clause-gives
 returns-in_err-from-clause-gives c =

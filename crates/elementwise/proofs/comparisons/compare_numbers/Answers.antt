@@ -1,13 +1,5 @@
-use Rattle.std.proofs.Common.{◌≤◌, [], ◌∷◌, sym, subst, ◌∙◌, IfOk}
-use Rattle.elem_descr.specs.declared.descr.Descr.TheVariants.{Scalar as ScalarDescr}
-use Rattle.elementwise.specs.Words.{Scalar, size, number_size}
-use Rattle.elem_descr.specs.declared.scalar.Scalar.TheVariants.{Bool as BoolScalar}
-use Rattle.elementwise.specs.Casts.{cast_item}
-use Rattle.elementwise.specs.Results.{pairwise, value_in}
-use Rattle.elementwise.specs.inside.Held.{stretched}
-use Rattle.elementwise.specs.inside.Made.{IsMade}
+use Rattle.elementwise.proofs.Words.{◌≤◌, [], ◌∷◌, sym, subst, ◌∙◌, IfOk, ScalarDescr, Scalar, size, number_size, BoolScalar, cast_item, pairwise, value_in, stretched, IsMade, left_of, right_of, gives}
 use Rattle.elementwise.proofs.WorkLaws.{bool_small}
-use Rattle.elementwise.specs.inside.Works.{left_of, right_of, gives}
 use Rattle.elementwise.proofs.PromotedLaws.{can-number}
 use Rattle.elementwise.proofs.HeldLaws.{number-no_text, compared_all}
 use Rattle.elementwise.proofs.MadeLaws.{made-as}

@@ -1,8 +1,4 @@
-use Rattle.std.proofs.Common.{map, refl, ap, ◌∙◌, length, arith}
-use Rattle.elem_descr.specs.declared.descr.Descr.TheVariants.{Scalar as ScalarDescr}
-use Rattle.elementwise.specs.Words.{Bytes, item_from, count}
-use Rattle.elem_descr.specs.declared.scalar.Scalar.TheVariants.{Bool as BoolScalar}
-use Rattle.elementwise.specs.Results.{pairwise, compared_item}
+use Rattle.elementwise.proofs.Words.{map, refl, ap, ◌∙◌, length, arith, ScalarDescr, Bytes, item_from, count, BoolScalar, pairwise, compared_item}
 use Rattle.elementwise.proofs.MadeLaws.{made-in}
 use Rattle.elementwise.proofs.StretchedLaws.{inside}
 use Rattle.elementwise.proofs.TrimmedLaws.{fewer_inside, trimmed_items}

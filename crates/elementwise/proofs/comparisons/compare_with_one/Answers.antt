@@ -1,8 +1,4 @@
-use Rattle.std.proofs.Common.{◌≡◌, ◌*◌, [], ◌∷◌, sym, ap, subst, ◌∙◌, arith}
-use Rattle.elem_descr.specs.declared.descr.Descr.TheVariants.{Scalar as ScalarDescr}
-use Rattle.elem_descr.specs.declared.scalar.Scalar.TheVariants.{Bool as BoolScalar}
-use Rattle.elementwise.specs.Words.{decode, size, count, can-itself}
-use Rattle.elementwise.specs.inside.Works.{AreComparable}
+use Rattle.elementwise.proofs.Words.{◌≡◌, ◌*◌, [], ◌∷◌, sym, ap, subst, ◌∙◌, arith, ScalarDescr, BoolScalar, decode, size, count, can-itself, AreComparable}
 use Rattle.elementwise.proofs.MadeLaws.{made-as}
 use Rattle.elementwise.proofs.IntegerLaws.{one_read, one-stretches, all_held}
 use Rattle.elementwise.proofs.comparisons.compare_with_one.Goals as goal

@@ -1,7 +1,4 @@
-use Rattle.std.proofs.Common.{sym, ap, subst, refl, ◌∙◌}
-use Rattle.std.specs.Prelude.{not}
-use Rattle.elementwise.specs.Words.{Little, Eight, Int, little}
-use Rattle.elementwise.specs.inside.PairPasses.{Holds}
+use Rattle.elementwise.proofs.Words.{sym, ap, subst, refl, ◌∙◌, not, Little, Eight, Int, little, Holds}
 use Rattle.elementwise.proofs.CommonLaws.{common-held, common-signs}
 use Rattle.elementwise.proofs.HeldLaws.{little-little, holds-wide, number-no_text}
 use Rattle.elementwise.proofs.PromotedLaws.{AnswersNative, common-native, native-little, number-read}

@@ -1,10 +1,4 @@
-use Rattle.std.proofs.Common.{◌≡◌, ◌+◌, ◌*◌, ◌^◌, ◌<◌, ◌≤◌, ◌++◌, suc, sym, ap, subst, ◌∙◌, append_assoc, arith}
-use Rattle.std.specs.Prelude.{unsigned_abs, not, ◌==◌}
-use Rattle.std.proofs.Math.Nat.{suc-mul, add-mul, mul-le-mul_right}
-use Rattle.elementwise.specs.Words.{Little, number, encode, joined}
-use Rattle.elementwise.specs.Operations.{binary}
-use Rattle.elementwise.specs.inside.PairPasses.{division_op, number_pair}
-use Rattle.elementwise.specs.inside.Sides.{made_of, pair_count}
+use Rattle.elementwise.proofs.Words.{◌≡◌, ◌+◌, ◌*◌, ◌^◌, ◌<◌, ◌≤◌, ◌++◌, suc, sym, ap, subst, ◌∙◌, append_assoc, arith, unsigned_abs, not, ◌==◌, suc-mul, add-mul, mul-le-mul_right, Little, number, encode, joined, binary, division_op, number_pair, made_of, pair_count}
 use Rattle.elementwise.proofs.HeldLaws.{side-small}
 use Rattle.elementwise.proofs.divisions.push_divided.Goals as goal
 

@@ -1,11 +1,4 @@
-use Rattle.std.proofs.Common.{◌≡◌, pos, length, replicate, refl, ap, ◌∙◌}
-use Rattle.std.specs.Int.{w128}
-use Rattle.std.specs.Prelude.{int_lt, not}
-use Rattle.std.proofs.lemmas.Int.{to_z-of_z}
-use Rattle.std.proofs.lemmas.List.{length-replicate}
-use Rattle.elementwise.specs.Comparisons.{says}
-use Rattle.elem_descr.specs.declared.descr.Descr.TheVariants.{Scalar as ScalarDescr}
-use Rattle.elem_descr.specs.declared.scalar.Scalar.TheVariants.{Bool as BoolScalar}
+use Rattle.elementwise.proofs.Words.{◌≡◌, pos, length, replicate, refl, ap, ◌∙◌, w128, int_lt, not, to_z-of_z, length-replicate, says, ScalarDescr, BoolScalar}
 use Rattle.elementwise.proofs.MadeLaws.{made-as, over-made}
 use Rattle.elementwise.proofs.IntegerLaws.{all_beyond, alike_made}
 use Rattle.elementwise.proofs.integer_comparisons.compare_beyond.Goals as goal

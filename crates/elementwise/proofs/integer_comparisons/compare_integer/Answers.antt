@@ -1,15 +1,7 @@
-use Rattle.std.proofs.Common.{[], ◌∷◌, map, inr, sym, ◌∙◌}
-use Rattle.std.specs.Int.{w128}
-use Rattle.std.proofs.lemmas.Int.{to_z-of_z}
-use Rattle.std.proofs.lemmas.Result.{err_from_is_err_and}
-use Rattle.elem_descr.specs.declared.descr.Descr.TheVariants.{Scalar as ScalarDescr}
-use Rattle.elem_descr.specs.declared.scalar.Scalar.TheVariants.{Bool as BoolScalar}
-use Rattle.elementwise.specs.Words.{number, item_from, offsets}
-use Rattle.elementwise.specs.Results.{compared_item}
+use Rattle.elementwise.proofs.Words.{[], ◌∷◌, map, inr, sym, ◌∙◌, w128, to_z-of_z, err_from_is_err_and, ScalarDescr, BoolScalar, number, item_from, offsets, compared_item, is_scalar}
 use Rattle.elementwise.proofs.MadeLaws.{made-gives, made-order, made-items, made-encoded}
 use Rattle.elementwise.proofs.IntegerLaws.{operand_refused, text_refused, one_given}
 use Rattle.elementwise.proofs.integer_comparisons.compare_integer.Goals as goal
-use Rattle.elementwise.specs.ResultLaws.{is_scalar}
 
 pub returns-in_err-from-clause-gives : goal.returns-in_err-from-clause-gives
 returns-in_err-from-clause-gives c =

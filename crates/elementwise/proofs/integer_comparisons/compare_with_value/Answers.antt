@@ -1,9 +1,4 @@
-use Rattle.std.proofs.Common.{length, sym, ap, subst, ◌∙◌, IfOk}
-use Rattle.std.specs.Int.{w128}
-use Rattle.std.proofs.lemmas.Int.{to_z-of_z}
-use Rattle.elem_descr.specs.declared.descr.Descr.TheVariants.{Scalar as ScalarDescr}
-use Rattle.elementwise.specs.Words.{IsNumber, decode, wrap, number, little}
-use Rattle.elementwise.specs.inside.Combined.{AreComparedWith}
+use Rattle.elementwise.proofs.Words.{length, sym, ap, subst, ◌∙◌, IfOk, w128, to_z-of_z, ScalarDescr, IsNumber, decode, wrap, number, little, AreComparedWith}
 use Rattle.elementwise.proofs.WorkLaws.{number-little}
 use Rattle.elementwise.proofs.ComparedLaws.{comparable_scalars, comparable_numbers}
 use Rattle.elementwise.proofs.integer_comparisons.compare_with_value.Goals as goal

@@ -1,7 +1,4 @@
-use Rattle.std.proofs.Common.{◌≡◌, ◌+◌, length, take}
-use Rattle.elementwise.specs.Words.{joined}
-use Rattle.elementwise.specs.inside.PairPasses.{number_pair}
-use Rattle.elementwise.specs.inside.Sides.{made_of}
+use Rattle.elementwise.proofs.Words.{◌≡◌, ◌+◌, length, take, joined, number_pair, made_of}
 use Rattle.elementwise.proofs.kernels.made_sixteen.Given as goal
 
 abbrev pub invariant-loop-j : goal.invariant-loop-j

@@ -1,8 +1,4 @@
-use Rattle.std.proofs.Common.{◌≡◌, ◌+◌, ◌*◌, ◌≤◌, ◌++◌, suc, ap, ◌∙◌, append_assoc, arith}
-use Rattle.std.proofs.Math.Nat.{suc-mul, add-mul, mul-le-mul_right}
-use Rattle.elementwise.specs.Words.{number, encode, joined}
-use Rattle.elementwise.specs.inside.PairPasses.{number_pair}
-use Rattle.elementwise.specs.inside.Sides.{made_of, pair_count}
+use Rattle.elementwise.proofs.Words.{◌≡◌, ◌+◌, ◌*◌, ◌≤◌, ◌++◌, suc, ap, ◌∙◌, append_assoc, arith, suc-mul, add-mul, mul-le-mul_right, number, encode, joined, number_pair, made_of, pair_count}
 use Rattle.elementwise.proofs.kernels.push_from.Goals as goal
 
 pub push-requires : goal.push-requires

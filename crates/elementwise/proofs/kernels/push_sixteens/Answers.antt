@@ -1,7 +1,4 @@
-use Rattle.std.proofs.Common.{◌≡◌, ◌+◌, ◌*◌, ◌++◌, ap, ◌∙◌, append_assoc, arith}
-use Rattle.elementwise.specs.Words.{joined, joined-add}
-use Rattle.elementwise.specs.inside.PairPasses.{number_pair}
-use Rattle.elementwise.specs.inside.Sides.{made_of}
+use Rattle.elementwise.proofs.Words.{◌≡◌, ◌+◌, ◌*◌, ◌++◌, ap, ◌∙◌, append_assoc, arith, joined, joined-add, number_pair, made_of}
 use Rattle.elementwise.proofs.kernels.push_sixteens.Goals as goal
 
 pub loop-group-preserved : goal.loop-group-preserved

@@ -1,7 +1,4 @@
-use Rattle.std.proofs.Common.{◌≡◌, ◌+◌, ◌*◌, ◌++◌}
-use Rattle.elementwise.specs.Words.{joined}
-use Rattle.elementwise.specs.inside.PairPasses.{number_pair}
-use Rattle.elementwise.specs.inside.Sides.{made_of}
+use Rattle.elementwise.proofs.Words.{◌≡◌, ◌+◌, ◌*◌, ◌++◌, joined, number_pair, made_of}
 use Rattle.elementwise.proofs.kernels.push_sixteens.Given as goal
 
 abbrev pub invariant-loop-group : goal.invariant-loop-group

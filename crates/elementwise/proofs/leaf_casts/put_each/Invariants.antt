@@ -1,6 +1,4 @@
-use Rattle.std.proofs.Common.{◌≡◌}
-use Rattle.elementwise.specs.Words.{item_in}
-use Rattle.elementwise.specs.inside.Columns.{with_leaves}
+use Rattle.elementwise.proofs.Words.{◌≡◌, item_in, with_leaves}
 use Rattle.elementwise.proofs.leaf_casts.put_each.Given as goal
 
 abbrev pub invariant-loop-k : goal.invariant-loop-k

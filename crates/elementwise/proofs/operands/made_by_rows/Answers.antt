@@ -1,7 +1,4 @@
-use Rattle.std.proofs.Common.{◌≡◌, ◌*◌, ◌++◌, sym, ◌∙◌, arith}
-use Rattle.elementwise.specs.Words.{size}
-use Rattle.elementwise.specs.inside.Operands.{pairs_of, made_of_all}
-use Rattle.elementwise.specs.inside.Works.{pair_made}
+use Rattle.elementwise.proofs.Words.{◌≡◌, ◌*◌, ◌++◌, sym, ◌∙◌, arith, size, pairs_of, made_of_all, pair_made}
 use Rattle.elementwise.proofs.PairedLaws.{all_paired, pairs_made}
 use Rattle.elementwise.proofs.operands.made_by_rows.Goals as goal
 

@@ -1,10 +1,4 @@
-use Rattle.std.proofs.Common.{◌≡◌, [], ◌∷◌, ◌+◌, ◌*◌, ◌≤◌, ◌++◌, ℕ, List, length, All, sym, ap, subst, ◌∙◌, arith}
-use Rattle.std.specs.List.{concat}
-use Rattle.elem_descr.specs.declared.descr.Descr.TheVariants.{Scalar as ScalarDescr}
-use Rattle.elementwise.specs.Words.{LeafValue, size, item_size, fortran_order, count, offsets, length-offsets, offsets_within, count-reverse, fortran-all}
-use Rattle.elementwise.specs.Results.{pairwise, value_in}
-use Rattle.elementwise.specs.inside.PairPasses.{pair_from}
-use Rattle.elementwise.specs.inside.Works.{left_of, right_of, target_of, gives, pair_made}
+use Rattle.elementwise.proofs.Words.{◌≡◌, [], ◌∷◌, ◌+◌, ◌*◌, ◌≤◌, ◌++◌, ℕ, List, length, All, sym, ap, subst, ◌∙◌, arith, concat, ScalarDescr, LeafValue, size, item_size, fortran_order, count, offsets, length-offsets, offsets_within, count-reverse, fortran-all, pairwise, value_in, pair_from, left_of, right_of, target_of, gives, pair_made}
 use Rattle.elementwise.proofs.PairedLaws.{each-wide, pairs_made}
 use Rattle.elementwise.proofs.MadeLaws.{made-in}
 use Rattle.elementwise.proofs.TurnedLaws.{AreWide, both_turned, turned-back, turned-long}

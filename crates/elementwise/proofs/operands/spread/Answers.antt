@@ -1,8 +1,4 @@
-use Rattle.std.proofs.Common.{map, ap, ◌∙◌, length, arith}
-use Rattle.elem_descr.specs.declared.descr.Descr.TheVariants.{Scalar as ScalarDescr}
-use Rattle.elem_descr.specs.declared.scalar.Scalar.TheVariants.{Bool as BoolScalar}
-use Rattle.elementwise.specs.Words.{item_size, item_from, count, can_stretch}
-use Rattle.elementwise.specs.Results.{stretched_items}
+use Rattle.elementwise.proofs.Words.{map, ap, ◌∙◌, length, arith, ScalarDescr, BoolScalar, item_size, item_from, count, can_stretch, stretched_items}
 use Rattle.elementwise.proofs.StretchedLaws.{inside}
 use Rattle.elementwise.proofs.ShrunkLaws.{bools_again}
 use Rattle.elementwise.proofs.MadeLaws.{made-in}

@@ -1,8 +1,4 @@
-use Rattle.std.proofs.Common.{◌++◌, sym, ap, ◌∙◌}
-use Rattle.std.specs.List.{concat}
-use Rattle.elem_descr.specs.declared.scalar.Scalar.TheVariants.{Bool as BoolScalar}
-use Rattle.elementwise.specs.Words.{Big, item_size, offsets}
-use Rattle.elementwise.specs.inside.PairPasses.{number_pair, text_pair, says_number}
+use Rattle.elementwise.proofs.Words.{◌++◌, sym, ap, ◌∙◌, concat, BoolScalar, Big, item_size, offsets, number_pair, text_pair, says_number}
 use Rattle.elementwise.proofs.TextNumberLaws.{words-compared, pairs-alike}
 use Rattle.elementwise.proofs.text_comparisons.push_numbers.Goals as goal
 

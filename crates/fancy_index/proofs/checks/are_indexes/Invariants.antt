@@ -1,7 +1,4 @@
-use Rattle.std.proofs.Common.{◌≡◌, drop}
-use Rattle.std.specs.List.{list_all}
-use Rattle.fancy_index.specs.IndexArrays.{is_index}
-use Rattle.fancy_index.specs.Sources.{index_items}
+use Rattle.fancy_index.proofs.Words.{◌≡◌, drop, list_all, is_index, index_items}
 use Rattle.fancy_index.proofs.checks.are_indexes.Given as goal
 
 abbrev pub invariant-loop-item : goal.invariant-loop-item

@@ -1,6 +1,4 @@
-use Rattle.std.proofs.Common.{◌≤◌, length, sym, ◌∙◌, arith}
-use Rattle.fancy_index.specs.IndexArrays.{array_axes_taken}
-use Rattle.fancy_index.specs.Sources.{index_items}
+use Rattle.fancy_index.proofs.Words.{◌≤◌, length, sym, ◌∙◌, arith, array_axes_taken, index_items}
 use Rattle.fancy_index.proofs.IndexedLaws.{refused-kind, refused-many, refused-lengths, refused-step, same_steps}
 use Rattle.fancy_index.proofs.checks.check.Goals as goal
 use Rattle.fancy_index.proofs.checks.check.Goals.{In-Some}

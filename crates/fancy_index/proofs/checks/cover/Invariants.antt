@@ -1,6 +1,4 @@
-use Rattle.std.proofs.Common.{◌≡◌, length}
-use Rattle.fancy_index.specs.IndexArrays.{cover}
-use Rattle.fancy_index.specs.inside.Lists.{items_left}
+use Rattle.fancy_index.proofs.Words.{◌≡◌, length, cover, items_left}
 use Rattle.fancy_index.proofs.checks.cover.Given as goal
 
 abbrev pub invariant-loop-item : goal.invariant-loop-item

@@ -1,8 +1,4 @@
-use Rattle.std.proofs.Common.{◌≡◌, length, All}
-use Rattle.fancy_index.specs.Words.{offsets}
-use Rattle.fancy_index.specs.Plans.{put_each}
-use Rattle.fancy_index.specs.inside.Kept.{offsets_from}
-use Rattle.fancy_index.specs.inside.Moved.{moved_all, AreStarts}
+use Rattle.fancy_index.proofs.Words.{◌≡◌, length, All, offsets, put_each, offsets_from, moved_all, AreStarts}
 use Rattle.fancy_index.proofs.Passes.{Filling}
 use Rattle.fancy_index.proofs.gather_scatter.fill.Given as goal
 

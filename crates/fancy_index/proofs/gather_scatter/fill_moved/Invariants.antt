@@ -1,6 +1,4 @@
-use Rattle.std.proofs.Common.{◌≡◌, length}
-use Rattle.fancy_index.specs.Plans.{put_each}
-use Rattle.fancy_index.specs.inside.Kept.{moved_offsets}
+use Rattle.fancy_index.proofs.Words.{◌≡◌, length, put_each, moved_offsets}
 use Rattle.fancy_index.proofs.Passes.{RunsLeft, Filling, moved_runs}
 use Rattle.fancy_index.proofs.gather_scatter.fill_moved.Given as goal
 

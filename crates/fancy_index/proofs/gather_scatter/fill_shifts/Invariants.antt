@@ -1,7 +1,4 @@
-use Rattle.std.proofs.Common.{◌≡◌, length, drop}
-use Rattle.fancy_index.specs.Words.{offsets}
-use Rattle.fancy_index.specs.Plans.{put_each}
-use Rattle.fancy_index.specs.inside.Moved.{shifted_all}
+use Rattle.fancy_index.proofs.Words.{◌≡◌, length, drop, offsets, put_each, shifted_all}
 use Rattle.fancy_index.proofs.Passes.{Filling}
 use Rattle.fancy_index.proofs.gather_scatter.fill_shifts.Given as goal
 

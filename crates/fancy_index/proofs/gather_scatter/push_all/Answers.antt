@@ -1,7 +1,4 @@
-use Rattle.std.proofs.Common.{ap}
-use Rattle.std.proofs.lemmas.List.Elements.{All-rest}
-use Rattle.fancy_index.specs.Words.{offsets}
-use Rattle.fancy_index.specs.inside.Moved.{moved_all, AreStarts}
+use Rattle.fancy_index.proofs.Words.{ap, All-rest, offsets, moved_all, AreStarts}
 use Rattle.fancy_index.proofs.Passes.{push_front, pushed_front, pushed_all, split-places}
 use Rattle.fancy_index.proofs.gather_scatter.push_all.Goals as goal
 

@@ -1,7 +1,4 @@
-use Rattle.std.proofs.Common.{All}
-use Rattle.fancy_index.specs.Words.{offsets}
-use Rattle.fancy_index.specs.inside.Kept.{offsets_from}
-use Rattle.fancy_index.specs.inside.Moved.{moved_all, AreStarts}
+use Rattle.fancy_index.proofs.Words.{All, offsets, offsets_from, moved_all, AreStarts}
 use Rattle.fancy_index.proofs.Passes.{Pushing}
 use Rattle.fancy_index.proofs.gather_scatter.push_all.Given as goal
 

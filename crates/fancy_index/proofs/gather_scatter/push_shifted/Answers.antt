@@ -1,7 +1,4 @@
-use Rattle.std.proofs.Common.{ap, arith}
-use Rattle.std.proofs.lemmas.List.{drop_all}
-use Rattle.fancy_index.specs.Words.{offsets}
-use Rattle.fancy_index.specs.inside.Moved.{shifted_all}
+use Rattle.fancy_index.proofs.Words.{ap, arith, drop_all, offsets, shifted_all}
 use Rattle.fancy_index.proofs.Passes.{push_front, pushed_front, pushed_all, split-shifts}
 use Rattle.fancy_index.proofs.gather_scatter.push_shifted.Goals as goal
 

@@ -1,7 +1,4 @@
-use Rattle.std.proofs.Common.{drop}
-use Rattle.fancy_index.specs.Words.{offsets}
-use Rattle.fancy_index.specs.inside.Moved.{shifted_all}
-use Rattle.fancy_index.specs.inside.Kept.{shifted_offsets}
+use Rattle.fancy_index.proofs.Words.{drop, offsets, shifted_all, shifted_offsets}
 use Rattle.fancy_index.proofs.Passes.{Pushing}
 use Rattle.fancy_index.proofs.gather_scatter.push_shifted.Given as goal
 

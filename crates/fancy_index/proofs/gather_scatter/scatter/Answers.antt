@@ -1,8 +1,4 @@
-use Rattle.std.proofs.Common.{◌∙◌}
-use Rattle.std.proofs.lemmas.List.Elements.{All-rest}
-use Rattle.fancy_index.specs.Words.{offsets}
-use Rattle.fancy_index.specs.inside.Moved.{moved_all, AreStarts}
-use Rattle.fancy_index.specs.inside.Kept.{shifted_offsets}
+use Rattle.fancy_index.proofs.Words.{◌∙◌, All-rest, offsets, moved_all, AreStarts, shifted_offsets}
 use Rattle.fancy_index.proofs.Passes.{scatter_front, scattered_front, split-places}
 use Rattle.fancy_index.proofs.gather_scatter.scatter.Goals as goal
 

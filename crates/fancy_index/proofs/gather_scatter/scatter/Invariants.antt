@@ -1,8 +1,4 @@
-use Rattle.std.proofs.Common.{◌≡◌, ◌+◌, ◌*◌, length, All}
-use Rattle.fancy_index.specs.Words.{offsets, assigned}
-use Rattle.fancy_index.specs.inside.Kept.{offsets_from}
-use Rattle.fancy_index.specs.inside.Moved.{moved_all, AreStarts}
-use Rattle.arrays.specs.Packed.{row_offsets as packed}
+use Rattle.fancy_index.proofs.Words.{◌≡◌, ◌+◌, ◌*◌, length, All, offsets, assigned, offsets_from, moved_all, AreStarts, packed}
 use Rattle.fancy_index.proofs.Passes.{Scattering}
 use Rattle.fancy_index.proofs.gather_scatter.scatter.Given as goal
 

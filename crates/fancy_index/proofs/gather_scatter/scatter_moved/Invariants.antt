@@ -1,5 +1,4 @@
-use Rattle.std.proofs.Common.{◌≡◌, length}
-use Rattle.fancy_index.specs.inside.Kept.{moved_offsets, end_of, put_packed}
+use Rattle.fancy_index.proofs.Words.{◌≡◌, length, moved_offsets, end_of, put_packed}
 use Rattle.fancy_index.proofs.Passes.{RunsLeft, Scattering, moved_runs}
 use Rattle.fancy_index.proofs.gather_scatter.scatter_moved.Given as goal
 

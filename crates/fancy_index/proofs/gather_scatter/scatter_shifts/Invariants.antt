@@ -1,7 +1,4 @@
-use Rattle.std.proofs.Common.{◌≡◌, length, drop}
-use Rattle.fancy_index.specs.Words.{offsets}
-use Rattle.fancy_index.specs.inside.Moved.{shifted_all}
-use Rattle.fancy_index.specs.inside.Kept.{shifted_offsets, end_of, put_packed}
+use Rattle.fancy_index.proofs.Words.{◌≡◌, length, drop, offsets, shifted_all, shifted_offsets, end_of, put_packed}
 use Rattle.fancy_index.proofs.Passes.{Scattering}
 use Rattle.fancy_index.proofs.gather_scatter.scatter_shifts.Given as goal
 

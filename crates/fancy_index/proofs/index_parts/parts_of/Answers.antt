@@ -1,5 +1,4 @@
-use Rattle.std.proofs.Common.{◌≤◌, All, subst}
-use Rattle.fancy_index.specs.Words.{max_items, All-back}
+use Rattle.fancy_index.proofs.Words.{◌≤◌, All, subst, max_items, All-back}
 use Rattle.fancy_index.proofs.PartLaws.{parts_on}
 use Rattle.fancy_index.proofs.index_parts.parts_of.Goals as goal
 

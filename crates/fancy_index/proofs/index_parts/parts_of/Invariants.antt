@@ -1,6 +1,4 @@
-use Rattle.std.proofs.Common.{◌≤◌, length, All}
-use Rattle.fancy_index.specs.Words.{max_items}
-use Rattle.fancy_index.specs.inside.Lists.{items_left}
+use Rattle.fancy_index.proofs.Words.{◌≤◌, length, All, max_items, items_left}
 use Rattle.fancy_index.proofs.PartLaws.{HaveParts}
 use Rattle.fancy_index.proofs.index_parts.parts_of.Given as goal
 

@@ -1,9 +1,4 @@
-use Rattle.std.proofs.Common.{rules, refl, sym, get_or, [], ◌∷◌, ap, ◌∙◌}
-use Rattle.std.proofs.lemmas.Int.{to_z-of_z}
-use mir.Val.{SFits}
-use mir.Syntax.{w128}
-use Rattle.fancy_index.specs.Words.{IndexOutOfRange, check, is_place}
-use Rattle.fancy_index.specs.inside.PointLists.{place_of}
+use Rattle.fancy_index.proofs.Words.{rules, refl, sym, get_or, [], ◌∷◌, ap, ◌∙◌, to_z-of_z, SFits, w128, IndexOutOfRange, check, is_place, place_of}
 use Rattle.fancy_index.proofs.PartLaws.{adds_integer, adds_points, passed}
 use Rattle.fancy_index.proofs.index_parts.push_parts.Goals as goal
 

@@ -1,6 +1,4 @@
-use Rattle.std.proofs.Common.{true, take}
-use Rattle.fancy_index.specs.Parts.{wholes}
-use Rattle.fancy_index.specs.inside.PartLists.{AddsParts}
+use Rattle.fancy_index.proofs.Words.{true, take, wholes, AddsParts}
 use Rattle.fancy_index.proofs.index_parts.push_wholes.Given as goal
 
 abbrev pub invariant-loop-n : goal.invariant-loop-n

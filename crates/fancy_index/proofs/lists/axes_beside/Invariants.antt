@@ -1,6 +1,4 @@
-use Rattle.std.proofs.Common.{◌≡◌, ◌+◌, drop}
-use Rattle.fancy_index.specs.IndexArrays.{array_axes_taken}
-use Rattle.fancy_index.specs.Sources.{index_items}
+use Rattle.fancy_index.proofs.Words.{◌≡◌, ◌+◌, drop, array_axes_taken, index_items}
 use Rattle.fancy_index.proofs.lists.axes_beside.Given as goal
 
 abbrev pub invariant-loop-item : goal.invariant-loop-item

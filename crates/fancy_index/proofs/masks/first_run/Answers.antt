@@ -1,6 +1,4 @@
-use Rattle.std.proofs.Common.{rules, ◌≡◌, [], length, All, sym, ap, subst, ◌∙◌, arith}
-use Rattle.std.specs.List.{flat_map}
-use Rattle.fancy_index.specs.Words.{offsets, length-offsets, max_bytes, run_offsets, BeginsWithin}
+use Rattle.fancy_index.proofs.Words.{rules, ◌≡◌, [], length, All, sym, ap, subst, ◌∙◌, arith, flat_map, offsets, length-offsets, max_bytes, run_offsets, BeginsWithin}
 use Rattle.fancy_index.proofs.masks.first_run.Goals as goal
 
 pub unreachable-requires : goal.unreachable-requires

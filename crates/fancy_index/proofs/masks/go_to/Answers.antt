@@ -1,5 +1,4 @@
-use Rattle.std.proofs.Common.{refl, ap, arith}
-use Rattle.fancy_index.specs.Words.{Layout, count}
+use Rattle.fancy_index.proofs.Words.{refl, ap, arith, Layout, count}
 use Rattle.fancy_index.proofs.RankLaws.{next-at, not-last}
 use Rattle.fancy_index.proofs.masks.go_to.Goals as goal
 

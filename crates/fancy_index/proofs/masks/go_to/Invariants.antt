@@ -1,5 +1,4 @@
-use Rattle.std.proofs.Common.{◌≡◌, ◌≤◌, length}
-use Rattle.fancy_index.specs.inside.Ranks.{IsAtRun}
+use Rattle.fancy_index.proofs.Words.{◌≡◌, ◌≤◌, length, IsAtRun}
 use Rattle.fancy_index.proofs.masks.go_to.Given as goal
 
 abbrev pub invariant-loop-at : goal.invariant-loop-at

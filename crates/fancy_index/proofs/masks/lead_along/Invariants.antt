@@ -1,6 +1,4 @@
-use Rattle.std.proofs.Common.{◌≡◌, ◌++◌, take, drop}
-use Rattle.fancy_index.specs.Words.{run_offsets}
-use Rattle.fancy_index.specs.inside.Ranks.{led}
+use Rattle.fancy_index.proofs.Words.{◌≡◌, ◌++◌, take, drop, run_offsets, led}
 use Rattle.fancy_index.proofs.masks.lead_along.Given as goal
 
 abbrev pub invariant-loop-rank : goal.invariant-loop-rank

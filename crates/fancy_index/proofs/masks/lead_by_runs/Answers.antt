@@ -1,7 +1,4 @@
-use Rattle.std.proofs.Common.{ℕ, ◌<◌, get_or, slice_set, ap, ◌∙◌, arith}
-use Rattle.std.proofs.lemmas.List.{get_or_default}
-use Rattle.std.proofs.lemmas.List.Edits.{map_over_more}
-use Rattle.fancy_index.specs.Words.{Layout, count, offsets}
+use Rattle.fancy_index.proofs.Words.{ℕ, ◌<◌, get_or, slice_set, ap, ◌∙◌, arith, get_or_default, map_over_more, Layout, count, offsets}
 use Rattle.fancy_index.proofs.RankLaws.{holds_yet, all_changed}
 use Rattle.fancy_index.proofs.masks.lead_by_runs.Goals as goal
 

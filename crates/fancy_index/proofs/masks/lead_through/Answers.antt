@@ -1,5 +1,4 @@
-use Rattle.std.proofs.Common.{length, ap, arith}
-use Rattle.fancy_index.specs.Words.{length-offsets, length-run_offsets}
+use Rattle.fancy_index.proofs.Words.{length, ap, arith, length-offsets, length-run_offsets}
 use Rattle.fancy_index.proofs.masks.lead_through.Goals as goal
 
 pub lead_along-requires-clause-few : goal.lead_along-requires-clause-few

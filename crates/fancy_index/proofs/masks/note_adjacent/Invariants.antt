@@ -1,5 +1,4 @@
-use Rattle.std.proofs.Common.{◌≡◌, ◌+◌, ◌-◌, ◌≤◌, ◌++◌, length, take}
-use Rattle.fancy_index.specs.inside.Bools.{ranks_from}
+use Rattle.fancy_index.proofs.Words.{◌≡◌, ◌+◌, ◌-◌, ◌≤◌, ◌++◌, length, take, ranks_from}
 use Rattle.fancy_index.proofs.masks.note_adjacent.Given as goal
 
 abbrev pub invariant-loop-at : goal.invariant-loop-at

@@ -1,6 +1,4 @@
-use Rattle.std.proofs.Common.{◌≡◌, ◌+◌, ◌-◌, ◌≤◌, ◌++◌, length, take, drop}
-use Rattle.fancy_index.specs.inside.PointLists.{true_ranks}
-use Rattle.fancy_index.specs.inside.Bools.{bools_in}
+use Rattle.fancy_index.proofs.Words.{◌≡◌, ◌+◌, ◌-◌, ◌≤◌, ◌++◌, length, take, drop, true_ranks, bools_in}
 use Rattle.fancy_index.proofs.masks.note_all.Given as goal
 
 abbrev pub invariant-loop-k : goal.invariant-loop-k

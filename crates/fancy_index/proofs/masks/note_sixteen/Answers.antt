@@ -1,7 +1,4 @@
-use Rattle.std.proofs.Common.{◌≡◌, ◌+◌, ◌*◌, ◌%◌, ◌^◌, ◌≤◌, ◌++◌, replicate, take, get_or, sym, ap, subst, ◌∙◌, arith, rules}
-use lib.IntN.{pos}
-use lib.Lanes.{zip2}
-use Rattle.fancy_index.specs.inside.Bools.{bools_in, AreBits, ranks_from}
+use Rattle.fancy_index.proofs.Words.{◌≡◌, ◌+◌, ◌*◌, ◌%◌, ◌^◌, ◌≤◌, ◌++◌, replicate, take, get_or, sym, ap, subst, ◌∙◌, arith, rules, pos, zip2, bools_in, AreBits, ranks_from}
 use Rattle.fancy_index.proofs.BoolLaws.{length-bools, byte-within, loaded-bits, found_added}
 use Rattle.fancy_index.proofs.FourLaws.{wrapped, shifted, four_ranks, none_added}
 use Rattle.fancy_index.proofs.masks.note_sixteen.Goals as goal

@@ -1,5 +1,4 @@
-use Rattle.std.proofs.Common.{◌≡◌, ◌+◌, ◌-◌, ◌*◌, ◌≤◌, ◌++◌, List, ℕ, length, replicate, take}
-use Rattle.fancy_index.specs.inside.Bools.{AreBits, ranks_from}
+use Rattle.fancy_index.proofs.Words.{◌≡◌, ◌+◌, ◌-◌, ◌*◌, ◌≤◌, ◌++◌, List, ℕ, length, replicate, take, AreBits, ranks_from}
 use Rattle.fancy_index.proofs.masks.note_sixteen.Given as goal
 
 abbrev pub invariant-loop : goal.invariant-loop

@@ -1,8 +1,4 @@
-use Rattle.std.proofs.Common.{◌≡◌, ℕ, ◌+◌, ◌<◌, ◌++◌, length, take, sym, ap, subst, ◌∙◌, arith}
-use Rattle.std.proofs.Math.ListN.{length-set}
-use lib.IntN.{pos}
-use Rattle.fancy_index.specs.Words.{length-run_offsets}
-use Rattle.fancy_index.specs.inside.Bools.{bools_in, ranks_from}
+use Rattle.fancy_index.proofs.Words.{◌≡◌, ℕ, ◌+◌, ◌<◌, ◌++◌, length, take, sym, ap, subst, ◌∙◌, arith, length-set, pos, length-run_offsets, bools_in, ranks_from}
 use Rattle.fancy_index.proofs.BoolLaws.{noted, length-bools, bool-there}
 use Rattle.fancy_index.proofs.RunLaws.{first-low, steps-low, steps-high, lies-there}
 use Rattle.fancy_index.proofs.masks.note_true.Goals as goal

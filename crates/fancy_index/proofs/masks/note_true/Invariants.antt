@@ -1,5 +1,4 @@
-use Rattle.std.proofs.Common.{◌≡◌, ◌+◌, ◌≤◌, ◌++◌, ℕ, List, length, take}
-use Rattle.fancy_index.specs.inside.Bools.{ranks_from}
+use Rattle.fancy_index.proofs.Words.{◌≡◌, ◌+◌, ◌≤◌, ◌++◌, ℕ, List, length, take, ranks_from}
 use Rattle.fancy_index.proofs.masks.note_true.Given as goal
 
 abbrev pub invariant-loop-k : goal.invariant-loop-k

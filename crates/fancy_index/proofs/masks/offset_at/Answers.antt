@@ -1,6 +1,4 @@
-use Rattle.std.proofs.Common.{get_or, ap, ◌∙◌, arith}
-use Rattle.std.proofs.lemmas.Int.{ints}
-use Rattle.fancy_index.specs.Words.{Layout, offsets}
+use Rattle.fancy_index.proofs.Words.{get_or, ap, ◌∙◌, arith, ints, Layout, offsets}
 use Rattle.fancy_index.proofs.RankLaws.{start, low, high, offset-is}
 use Rattle.fancy_index.proofs.masks.offset_at.Goals as goal
 

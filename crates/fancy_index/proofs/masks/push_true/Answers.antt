@@ -1,7 +1,4 @@
-use Rattle.std.proofs.Common.{◌+◌, ◌++◌, sym, ap, ◌∙◌, arith, append-nil}
-use Rattle.std.proofs.lemmas.List.{drop_all}
-use Rattle.fancy_index.specs.inside.Bools.{bools_in}
-use Rattle.fancy_index.specs.inside.PointLists.{true_ranks}
+use Rattle.fancy_index.proofs.Words.{◌+◌, ◌++◌, sym, ap, ◌∙◌, arith, append-nil, drop_all, bools_in, true_ranks}
 use Rattle.fancy_index.proofs.BoolLaws.{length-bools}
 use Rattle.fancy_index.proofs.masks.push_true.Goals as goal
 

@@ -1,6 +1,4 @@
-use Rattle.std.proofs.Common.{◌≡◌, ◌+◌, ◌-◌, ◌≤◌, ◌++◌, drop}
-use Rattle.fancy_index.specs.inside.PointLists.{true_ranks}
-use Rattle.fancy_index.specs.inside.Bools.{bools_in}
+use Rattle.fancy_index.proofs.Words.{◌≡◌, ◌+◌, ◌-◌, ◌≤◌, ◌++◌, drop, true_ranks, bools_in}
 use Rattle.fancy_index.proofs.masks.push_true.Given as goal
 
 abbrev pub invariant-loop-from : goal.invariant-loop-from

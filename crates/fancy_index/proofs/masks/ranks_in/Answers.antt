@@ -1,10 +1,4 @@
-use Rattle.std.proofs.Common.{rules, ◌≡◌, ◌+◌, ◌≤◌, ◌++◌, length, map, All, sym, ap, subst, ◌∙◌, arith, append-nil, length-append}
-use Rattle.std.specs.List.{flat_map}
-use Rattle.std.proofs.lemmas.List.Elements.{All-rest}
-use Rattle.fancy_index.specs.Words.{item_size, max_bytes, max_items, offsets, length-offsets, run_offsets, length-run_offsets}
-use Rattle.fancy_index.specs.inside.Bools.{bool_at}
-use Rattle.fancy_index.specs.inside.PointLists.{true_ranks}
-use Rattle.fancy_index.specs.inside.Words.{LiesIn}
+use Rattle.fancy_index.proofs.Words.{rules, ◌≡◌, ◌+◌, ◌≤◌, ◌++◌, length, map, All, sym, ap, subst, ◌∙◌, arith, append-nil, length-append, flat_map, All-rest, item_size, max_bytes, max_items, offsets, length-offsets, run_offsets, length-run_offsets, bool_at, true_ranks, LiesIn}
 use Rattle.fancy_index.proofs.BoolLaws.{mask-bool, numbers-are, found_added, run_noted}
 use Rattle.fancy_index.proofs.WordLaws.{runs-lie}
 use Rattle.fancy_index.proofs.masks.ranks_in.Goals as goal

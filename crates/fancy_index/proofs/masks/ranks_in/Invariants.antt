@@ -1,9 +1,4 @@
-use Rattle.std.proofs.Common.{◌≡◌, ◌+◌, ◌≤◌, ◌++◌, length, map, All}
-use Rattle.std.specs.List.{flat_map}
-use Rattle.fancy_index.specs.Words.{item_size, offsets, max_items, run_offsets}
-use Rattle.fancy_index.specs.inside.Bools.{bool_at}
-use Rattle.fancy_index.specs.inside.PointLists.{true_ranks}
-use Rattle.fancy_index.specs.inside.Words.{LiesIn}
+use Rattle.fancy_index.proofs.Words.{◌≡◌, ◌+◌, ◌≤◌, ◌++◌, length, map, All, flat_map, item_size, offsets, max_items, run_offsets, bool_at, true_ranks, LiesIn}
 use Rattle.fancy_index.proofs.masks.ranks_in.Given as goal
 
 abbrev pub invariant-loop-run : goal.invariant-loop-run

@@ -1,6 +1,4 @@
-use Rattle.std.proofs.Common.{◌≡◌, ap, sym, ◌∙◌, arith, rules, to_z, of_z, w32, w64}
-use Rattle.std.proofs.lemmas.Int.{ints}
-use lib.IntN.{pos, ◌*ℤ◌, zero-*ℤ, *ℤ-zero}
+use Rattle.fancy_index.proofs.Words.{◌≡◌, ap, sym, ◌∙◌, arith, rules, to_z, of_z, w32, w64, ints, pos, ◌*ℤ◌, zero-*ℤ, *ℤ-zero}
 use Rattle.fancy_index.proofs.RunLaws.{steps-low, steps-high}
 use Rattle.fancy_index.proofs.masks.small_step.Goals as goal
 

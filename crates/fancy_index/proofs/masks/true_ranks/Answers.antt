@@ -1,7 +1,4 @@
-use Rattle.std.proofs.Common.{map, ap, ◌∙◌}
-use Rattle.std.proofs.lemmas.Result.{IfOk-weaker}
-use Rattle.fancy_index.specs.Words.{Descr, item_from, offsets}
-use Rattle.fancy_index.specs.inside.PointLists.{true_ranks}
+use Rattle.fancy_index.proofs.Words.{map, ap, ◌∙◌, IfOk-weaker, Descr, item_from, offsets, true_ranks}
 use Rattle.fancy_index.proofs.BoolLaws.{numbers-same}
 use Rattle.fancy_index.proofs.masks.true_ranks.Goals as goal
 

@@ -1,5 +1,4 @@
-use Rattle.std.proofs.Common.{◌≡◌, ◌++◌, map, drop}
-use Rattle.view_ops.specs.declared.picks.AxisPick.TheVariants.{At as AtAxis}
+use Rattle.fancy_index.proofs.Words.{◌≡◌, ◌++◌, map, drop, AtAxis}
 use Rattle.fancy_index.proofs.other_axes.push_zeros.Given as goal
 
 abbrev pub invariant-loop : goal.invariant-loop

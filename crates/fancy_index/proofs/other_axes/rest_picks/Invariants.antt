@@ -1,5 +1,4 @@
-use Rattle.std.proofs.Common.{◌≡◌, ◌++◌, drop}
-use Rattle.fancy_index.specs.inside.PartLists.{rest_picks}
+use Rattle.fancy_index.proofs.Words.{◌≡◌, ◌++◌, drop, rest_picks}
 use Rattle.fancy_index.proofs.other_axes.rest_picks.Given as goal
 
 abbrev pub invariant-loop-part : goal.invariant-loop-part

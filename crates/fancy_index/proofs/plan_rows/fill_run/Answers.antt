@@ -1,7 +1,5 @@
-use Rattle.std.proofs.Common.{length, ◌∙◌}
-use Rattle.fancy_index.specs.Words.{filled}
+use Rattle.fancy_index.proofs.Words.{length, ◌∙◌, filled, filled-run}
 use Rattle.fancy_index.proofs.plan_rows.fill_run.Goals as goal
-use Rattle.fancy_index.specs.PlanLaws.{filled-run}
 
 pub returns-clause-written : goal.returns-clause-written
 returns-clause-written c =

@@ -1,7 +1,4 @@
-use Rattle.std.proofs.Common.{rules, w64, ◌∙◌}
-use Rattle.std.proofs.lemmas.Int.{to_z-of_z}
-use mir.Val.{SFits}
-use Rattle.fancy_index.specs.Words.{run_offsets}
+use Rattle.fancy_index.proofs.Words.{rules, w64, ◌∙◌, to_z-of_z, SFits, run_offsets}
 use Rattle.fancy_index.proofs.RunLaws.{first_moved, each-moved, offsets-moved}
 use Rattle.fancy_index.proofs.plan_rows.moved_run.Goals as goal
 

@@ -1,10 +1,4 @@
-use Rattle.std.proofs.Common.{map, sym, ap, subst, ◌∙◌}
-use Rattle.std.proofs.lemmas.Result.{err_from_is_err_and}
-use Rattle.fancy_index.specs.IndexArrays.{are_within}
-use Rattle.fancy_index.specs.Parts.{parts}
-use Rattle.fancy_index.specs.Sources.{index_items}
-use Rattle.fancy_index.specs.Plans.{GivesPlan}
-use Rattle.fancy_index.specs.inside.PartLists.{shown_part, all_named}
+use Rattle.fancy_index.proofs.Words.{map, sym, ap, subst, ◌∙◌, err_from_is_err_and, are_within, parts, index_items, GivesPlan, shown_part, all_named}
 use Rattle.fancy_index.proofs.AnswerLaws.{named-view}
 use Rattle.fancy_index.proofs.IndexedLaws.{indexed-parts, refused-range}
 use Rattle.fancy_index.proofs.planning.plan.Goals as goal

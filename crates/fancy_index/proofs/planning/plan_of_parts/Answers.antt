@@ -1,7 +1,4 @@
-use Rattle.std.proofs.Common.{Ok, map, ap, ◌∙◌, refl, arith}
-use Rattle.fancy_index.specs.Words.{IndexOutOfRange, shape_of}
-use Rattle.fancy_index.specs.Indexed.{all_axes}
-use Rattle.fancy_index.specs.inside.PartLists.{shown_part, all_named}
+use Rattle.fancy_index.proofs.Words.{Ok, map, ap, ◌∙◌, refl, arith, IndexOutOfRange, shape_of, all_axes, shown_part, all_named}
 use Rattle.fancy_index.proofs.AnswerLaws.{shape-made, gives_named, gives_none, gives_some, points-ready}
 use Rattle.fancy_index.proofs.PartLaws.{passed}
 use Rattle.fancy_index.proofs.planning.plan_of_parts.Goals as goal

@@ -1,8 +1,4 @@
-use Rattle.std.proofs.Common.{◌<◌, ◌/◌, ℕ, List, [], map, length, take, drop, All, sym, ap, subst, ◌∙◌, arith}
-use Rattle.fancy_index.specs.Words.{count, zero_filled, IsIndex-first, offsets, IsShape}
-use Rattle.fancy_index.specs.Parts.{other_axes}
-use Rattle.fancy_index.specs.inside.Moved.{moved_all, AreStarts}
-use Rattle.fancy_index.specs.inside.PartLists.{shown_part}
+use Rattle.fancy_index.proofs.Words.{◌<◌, ◌/◌, ℕ, List, [], map, length, take, drop, All, sym, ap, subst, ◌∙◌, arith, count, zero_filled, IsIndex-first, offsets, IsShape, other_axes, moved_all, AreStarts, shown_part}
 use Rattle.fancy_index.proofs.LaidLaws.{IsLaid, some_others, points_many, first-in, starts, is-plan, count-is, small-offset}
 use Rattle.fancy_index.proofs.LeadLaws.{rest-are}
 use Rattle.fancy_index.proofs.ShiftLaws.{all_ready_at}

@@ -1,6 +1,4 @@
-use Rattle.std.proofs.Common.{map}
-use Rattle.std.proofs.lemmas.Result.{err_from_is_err_and}
-use Rattle.fancy_index.specs.inside.PartLists.{shown_part}
+use Rattle.fancy_index.proofs.Words.{map, err_from_is_err_and, shown_part}
 use Rattle.fancy_index.proofs.AnswerLaws.{view_no_points, view_no_shape}
 use Rattle.fancy_index.proofs.planning.shapes.Goals as goal
 

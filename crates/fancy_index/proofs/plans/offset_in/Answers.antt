@@ -1,6 +1,4 @@
-use Rattle.std.proofs.Common.{◌≡◌, ◌+◌, ◌*◌, ◌<◌, length, get_or, All, subst, ap, ◌∙◌, sym, arith}
-use Rattle.fancy_index.specs.Words.{offsets, length-offsets}
-use Rattle.fancy_index.specs.inside.Moved.{moved_offset, moved_all, IsMoved, AreStarts}
+use Rattle.fancy_index.proofs.Words.{◌≡◌, ◌+◌, ◌*◌, ◌<◌, length, get_or, All, subst, ap, ◌∙◌, sym, arith, offsets, length-offsets, moved_offset, moved_all, IsMoved, AreStarts}
 use Rattle.fancy_index.proofs.PlanLaws.{some_of, place_low, get_or-moved_all, start_at, item_at}
 use Rattle.fancy_index.proofs.plans.offset_in.Goals as goal
 use Rattle.fancy_index.proofs.plans.offset_in.Goals.{After-spot_at-at}

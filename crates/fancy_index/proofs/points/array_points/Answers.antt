@@ -1,12 +1,4 @@
-use Rattle.std.proofs.Common.{◌≡◌, length, refl, sym, ap, subst, ◌∙◌}
-use Rattle.std.proofs.lemmas.List.{length-map}
-use Rattle.std.proofs.lemmas.Result.{err_from_is_err_and}
-use Rattle.fancy_index.specs.Words.{count, offsets, length-offsets, Items}
-use Rattle.fancy_index.specs.IndexArrays.{kind, axes_of_kind, are_places}
-use Rattle.fancy_index.specs.Parts.{points_of}
-use Rattle.fancy_index.specs.Sources.{number_from, index_array_of}
-use Rattle.fancy_index.specs.inside.Items.{IsOutside}
-use Rattle.fancy_index.specs.inside.PointLists.{IsPart}
+use Rattle.fancy_index.proofs.Words.{◌≡◌, length, refl, sym, ap, subst, ◌∙◌, length-map, err_from_is_err_and, count, offsets, length-offsets, Items, kind, axes_of_kind, are_places, points_of, number_from, index_array_of, IsOutside, IsPart}
 use Rattle.fancy_index.proofs.PointLaws.{part-of_mask, part-of_integers, places_tested}
 use Rattle.fancy_index.proofs.points.array_points.Goals as goal
 

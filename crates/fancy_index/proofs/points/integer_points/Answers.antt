@@ -1,8 +1,4 @@
-use Rattle.std.proofs.Common.{◌≡◌, inl, inr, length, ap, ◌∙◌, arith}
-use Rattle.std.proofs.lemmas.List.{length-map, nil_from_length}
-use Rattle.fancy_index.specs.Words.{IndexOutOfRange, check, count, offsets, length-offsets, Items}
-use Rattle.fancy_index.specs.Sources.{number_from}
-use Rattle.fancy_index.specs.inside.Items.{numbers_in}
+use Rattle.fancy_index.proofs.Words.{◌≡◌, inl, inr, length, ap, ◌∙◌, arith, length-map, nil_from_length, IndexOutOfRange, check, count, offsets, length-offsets, Items, number_from, numbers_in}
 use Rattle.fancy_index.proofs.PointLaws.{none-named}
 use Rattle.fancy_index.proofs.points.integer_points.Goals as goal
 use Rattle.fancy_index.proofs.points.integer_points.Goals.{else-n-eq0-via-then-n-eq0+else-items-gt0, else-n-eq0-via-else-n-eq0}

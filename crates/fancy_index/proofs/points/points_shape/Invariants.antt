@@ -1,8 +1,4 @@
-use Rattle.std.proofs.Common.{◌≡◌, map, drop}
-use Rattle.fancy_index.specs.Words.{common_with}
-use Rattle.fancy_index.specs.Parts.{point_shapes}
-use Rattle.fancy_index.specs.Indexed.{as_index_shapes, points_shape}
-use Rattle.fancy_index.specs.inside.PartLists.{shown_part}
+use Rattle.fancy_index.proofs.Words.{◌≡◌, map, drop, common_with, point_shapes, as_index_shapes, points_shape, shown_part}
 use Rattle.fancy_index.proofs.points.points_shape.Given as goal
 
 abbrev pub invariant-loop-part : goal.invariant-loop-part

@@ -1,13 +1,4 @@
-use Rattle.std.proofs.Common.{rules, ◌≡◌, ◌+◌, ◌-◌, ◌++◌, ℕ, [], length, map, take, drop, All, refl, sym, ap, subst, ◌∙◌, arith, append_assoc, length-append}
-use lib.IntN.{ℤ}
-use Rattle.std.specs.List.{flat_map}
-use Rattle.std.proofs.lemmas.List.{map-append}
-use Rattle.std.proofs.lemmas.List.Elements.{All-rest}
-use Rattle.std.proofs.lemmas.Slice.{take-put_mid}
-use borrow.Rule.Slice.PartMut.{mid_len, same_len_mid}
-use Rattle.fancy_index.specs.Words.{item_size, length-offsets, offsets, run_offsets, length-run_offsets}
-use Rattle.fancy_index.specs.Sources.{number_from}
-use Rattle.fancy_index.specs.inside.Words.{words_along, LiesIn, ArePlaces}
+use Rattle.fancy_index.proofs.Words.{rules, ◌≡◌, ◌+◌, ◌-◌, ◌++◌, ℕ, [], length, map, take, drop, All, refl, sym, ap, subst, ◌∙◌, arith, append_assoc, length-append, ℤ, flat_map, map-append, All-rest, take-put_mid, mid_len, same_len_mid, item_size, length-offsets, offsets, run_offsets, length-run_offsets, number_from, words_along, LiesIn, ArePlaces}
 use Rattle.fancy_index.proofs.WordLaws.{runs-lie, length-words, more_places}
 use Rattle.fancy_index.proofs.positions.put_all.Goals as goal
 use Rattle.fancy_index.proofs.positions.put_all.Goals.{In-Some-run}

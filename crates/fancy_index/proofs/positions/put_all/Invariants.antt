@@ -1,8 +1,4 @@
-use Rattle.std.proofs.Common.{◌≡◌, ◌+◌, ◌++◌, ℕ, List, length, map, take, All}
-use Rattle.std.specs.List.{flat_map}
-use Rattle.fancy_index.specs.Words.{item_size, offsets, run_offsets}
-use Rattle.fancy_index.specs.Sources.{number_from}
-use Rattle.fancy_index.specs.inside.Words.{LiesIn, ArePlaces}
+use Rattle.fancy_index.proofs.Words.{◌≡◌, ◌+◌, ◌++◌, ℕ, List, length, map, take, All, flat_map, item_size, offsets, run_offsets, number_from, LiesIn, ArePlaces}
 use Rattle.fancy_index.proofs.positions.put_all.Given as goal
 
 abbrev pub invariant-loop-run : goal.invariant-loop-run

@@ -1,5 +1,4 @@
-use Rattle.std.proofs.Common.{◌∙◌, refl, sym, subst}
-use Rattle.fancy_index.specs.inside.Words.{ArePlaces}
+use Rattle.fancy_index.proofs.Words.{◌∙◌, refl, sym, subst, ArePlaces}
 use Rattle.fancy_index.proofs.WordLaws.{length-words, native-end, native-numbers}
 use Rattle.fancy_index.proofs.positions.put_run.Goals as goal
 

@@ -1,6 +1,4 @@
-use Rattle.std.proofs.Common.{◌≡◌, ◌+◌, ◌≤◌, map, drop}
-use Rattle.fancy_index.specs.Parts.{axes_before}
-use Rattle.fancy_index.specs.inside.PartLists.{shown_part}
+use Rattle.fancy_index.proofs.Words.{◌≡◌, ◌+◌, ◌≤◌, map, drop, axes_before, shown_part}
 use Rattle.fancy_index.proofs.result_axes.axes_before.Given as goal
 
 abbrev pub invariant-loop-part : goal.invariant-loop-part

@@ -1,6 +1,4 @@
-use Rattle.std.proofs.Common.{◌≡◌, ◌++◌, map, drop}
-use Rattle.fancy_index.specs.Parts.{other_axes}
-use Rattle.fancy_index.specs.inside.PartLists.{shown_part}
+use Rattle.fancy_index.proofs.Words.{◌≡◌, ◌++◌, map, drop, other_axes, shown_part}
 use Rattle.fancy_index.proofs.result_axes.other_axes.Given as goal
 
 abbrev pub invariant-loop-part : goal.invariant-loop-part

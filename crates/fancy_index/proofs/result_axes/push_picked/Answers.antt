@@ -1,5 +1,4 @@
-use Rattle.std.proofs.Common.{◌++◌, ◌∷◌, [], sym, ap, ◌∙◌}
-use Rattle.fancy_index.specs.Words.{length-run}
+use Rattle.fancy_index.proofs.Words.{◌++◌, ◌∷◌, [], sym, ap, ◌∙◌, length-run}
 use Rattle.fancy_index.proofs.result_axes.push_picked.Goals as goal
 
 pub returns-in_ok-push-in-Along : goal.returns-in_ok-push-in-Along

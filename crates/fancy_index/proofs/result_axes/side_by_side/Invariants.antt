@@ -1,7 +1,4 @@
-use Rattle.std.proofs.Common.{◌≡◌, map, drop}
-use Rattle.fancy_index.specs.Parts.{side_by_side}
-use Rattle.fancy_index.specs.inside.PartLists.{shown_part}
-use Rattle.fancy_index.specs.inside.Places.{stand}
+use Rattle.fancy_index.proofs.Words.{◌≡◌, map, drop, side_by_side, shown_part, stand}
 use Rattle.fancy_index.proofs.result_axes.side_by_side.Given as goal
 
 abbrev pub invariant-loop-part : goal.invariant-loop-part

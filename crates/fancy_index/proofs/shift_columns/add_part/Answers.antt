@@ -1,11 +1,4 @@
-use Rattle.std.proofs.Common.{◌≡◌, ◌<◌, ◌++◌, ℕ, List, length, take, drop, get_or, sym, ap, subst, ◌∙◌, arith}
-use Rattle.std.proofs.lemmas.List.{length-map}
-use Rattle.fancy_index.specs.Words.{count, rank, offsets, broadcast_index}
-use Rattle.fancy_index.specs.declared.index_parts.IndexPart.{IndexPart}
-use Rattle.fancy_index.specs.inside.Moved.{IsMoved}
-use Rattle.fancy_index.specs.inside.PointLists.{tuple}
-use Rattle.fancy_index.specs.inside.PartLists.{IsReady}
-use Rattle.fancy_index.specs.inside.Sums.{point_number, part_offset, BeginsAt}
+use Rattle.fancy_index.proofs.Words.{◌≡◌, ◌<◌, ◌++◌, ℕ, List, length, take, drop, get_or, sym, ap, subst, ◌∙◌, arith, length-map, count, rank, offsets, broadcast_index, IndexPart, IsMoved, tuple, IsReady, point_number, part_offset, BeginsAt}
 use Rattle.fancy_index.proofs.StartLaws.{led-number}
 use Rattle.fancy_index.proofs.SumLaws.{written, regrown}
 use Rattle.fancy_index.proofs.shift_columns.add_part.Goals as goal

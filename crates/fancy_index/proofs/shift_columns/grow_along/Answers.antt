@@ -1,9 +1,4 @@
-use Rattle.std.proofs.Common.{◌<◌, [], ◌∷◌, length, get_or, sym, ap, subst, ◌∙◌, arith, length-drop}
-use Rattle.std.specs.List.{flat_map}
-use Rattle.std.proofs.lemmas.List.Elements.{All-rest}
-use Rattle.fancy_index.specs.Words.{Run, LieWithin, max_bytes, offsets, length-offsets, run_offsets}
-use Rattle.fancy_index.specs.inside.Moved.{IsMoved}
-use Rattle.fancy_index.specs.inside.Sums.{number_along}
+use Rattle.fancy_index.proofs.Words.{◌<◌, [], ◌∷◌, length, get_or, sym, ap, subst, ◌∙◌, arith, length-drop, flat_map, All-rest, Run, LieWithin, max_bytes, offsets, length-offsets, run_offsets, IsMoved, number_along}
 use Rattle.fancy_index.proofs.SumLaws.{grown_all, grown_run, NextRun, next_run, run_here}
 use Rattle.fancy_index.proofs.shift_columns.grow_along.Goals as goal
 use Rattle.fancy_index.proofs.shift_columns.grow_along.Goals.{In-Some}

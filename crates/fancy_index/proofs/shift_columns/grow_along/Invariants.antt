@@ -1,7 +1,4 @@
-use Rattle.std.proofs.Common.{◌≡◌, ◌≤◌, [], ◌∷◌, All, get_or, drop, length}
-use Rattle.std.specs.List.{flat_map}
-use Rattle.fancy_index.specs.Words.{LieWithin, max_bytes, offsets, run_offsets}
-use Rattle.fancy_index.specs.inside.Sums.{HaveGrownFrom}
+use Rattle.fancy_index.proofs.Words.{◌≡◌, ◌≤◌, [], ◌∷◌, All, get_or, drop, length, flat_map, LieWithin, max_bytes, offsets, run_offsets, HaveGrownFrom}
 use Rattle.fancy_index.proofs.shift_columns.grow_along.Given as goal
 
 abbrev pub invariant-loop-run : goal.invariant-loop-run

@@ -1,8 +1,4 @@
-use Rattle.std.proofs.Common.{◌≡◌, ◌+◌, ◌-◌, ◌<◌, ◌≤◌, length, get_or, sym, ap, subst, ◌∙◌, arith}
-use Rattle.std.proofs.lemmas.Int.{ints}
-use Rattle.fancy_index.specs.Words.{max_bytes, run_offsets, length-run_offsets}
-use Rattle.fancy_index.specs.inside.Moved.{moved_offset, IsMoved}
-use Rattle.fancy_index.specs.inside.Sums.{HaveGrownFrom, number_along}
+use Rattle.fancy_index.proofs.Words.{◌≡◌, ◌+◌, ◌-◌, ◌<◌, ◌≤◌, length, get_or, sym, ap, subst, ◌∙◌, arith, ints, max_bytes, run_offsets, length-run_offsets, moved_offset, IsMoved, HaveGrownFrom, number_along}
 use Rattle.fancy_index.proofs.RunLaws.{first-low, steps-low, steps-high, lies-there}
 use Rattle.fancy_index.proofs.SumLaws.{grown_more}
 use Rattle.fancy_index.proofs.shift_columns.grow_each.Goals as goal

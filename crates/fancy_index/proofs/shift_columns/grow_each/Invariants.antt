@@ -1,5 +1,4 @@
-use Rattle.std.proofs.Common.{◌+◌}
-use Rattle.fancy_index.specs.inside.Sums.{HaveGrownFrom, number_along}
+use Rattle.fancy_index.proofs.Words.{◌+◌, HaveGrownFrom, number_along}
 use Rattle.fancy_index.proofs.shift_columns.grow_each.Given as goal
 
 abbrev pub invariant-loop-k : goal.invariant-loop-k

@@ -1,8 +1,4 @@
-use Rattle.std.proofs.Common.{◌≡◌, ℕ, ◌+◌, ◌-◌, ◌<◌, ◌≤◌, length, get_or, pos, sym, ap, subst, ◌∙◌, arith}
-use Rattle.std.proofs.lemmas.Int.{ints}
-use Rattle.fancy_index.specs.Words.{length-run_offsets}
-use Rattle.fancy_index.specs.inside.Moved.{moved_offset, IsMoved}
-use Rattle.fancy_index.specs.inside.Sums.{number_along}
+use Rattle.fancy_index.proofs.Words.{◌≡◌, ℕ, ◌+◌, ◌-◌, ◌<◌, ◌≤◌, length, get_or, pos, sym, ap, subst, ◌∙◌, arith, ints, length-run_offsets, moved_offset, IsMoved, number_along}
 use Rattle.fancy_index.proofs.RunLaws.{at-one-place, first-low}
 use Rattle.fancy_index.proofs.shift_columns.grow_run.Goals as goal
 use Rattle.fancy_index.proofs.shift_columns.grow_run.Goals.{Then-places-gt0}

@@ -1,9 +1,4 @@
-use Rattle.std.proofs.Common.{◌≡◌, ◌+◌, ◌<◌, ℕ, List, length, get_or, slice_set, drop, sym, ap, subst, ◌∙◌, arith}
-use Rattle.std.proofs.lemmas.Result.{err_from_is_err_and}
-use Rattle.std.proofs.lemmas.List.{get_or-drop, get_or_default, drop-drop, drop-set-lt}
-use Rattle.fancy_index.specs.Words.{IndexOutOfRange, IsIndex, address}
-use Rattle.fancy_index.specs.declared.index_parts.IndexPart.{IndexPart}
-use Rattle.fancy_index.specs.inside.PartLists.{IsReady}
+use Rattle.fancy_index.proofs.Words.{◌≡◌, ◌+◌, ◌<◌, ℕ, List, length, get_or, slice_set, drop, sym, ap, subst, ◌∙◌, arith, err_from_is_err_and, get_or-drop, get_or_default, drop-drop, drop-set-lt, IndexOutOfRange, IsIndex, address, IndexPart, IsReady}
 use Rattle.fancy_index.proofs.StartLaws.{start-in, begins, can-add, axis-low, axis-after, added, sums_all}
 use Rattle.fancy_index.proofs.PartLaws.{passed, named_more, outside-at}
 use Rattle.fancy_index.proofs.shift_columns.shifts.Goals as goal

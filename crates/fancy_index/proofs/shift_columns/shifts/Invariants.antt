@@ -1,6 +1,4 @@
-use Rattle.std.proofs.Common.{◌≡◌, true, take, drop}
-use Rattle.fancy_index.specs.inside.PartLists.{all_named}
-use Rattle.fancy_index.specs.inside.Sums.{AreSums}
+use Rattle.fancy_index.proofs.Words.{◌≡◌, true, take, drop, all_named, AreSums}
 use Rattle.fancy_index.proofs.shift_columns.shifts.Given as goal
 
 abbrev pub invariant-loop-part : goal.invariant-loop-part

@@ -1,5 +1,4 @@
-use Rattle.std.proofs.Common.{◌≡◌, ◌++◌, drop}
-use Rattle.fancy_index.specs.inside.Sums.{starts}
+use Rattle.fancy_index.proofs.Words.{◌≡◌, ◌++◌, drop, starts}
 use Rattle.fancy_index.proofs.shift_columns.starts.Given as goal
 
 abbrev pub invariant-loop-part : goal.invariant-loop-part

@@ -1,6 +1,4 @@
-use Rattle.std.proofs.Common.{◌∙◌}
-use Rattle.std.proofs.lemmas.Result.{IfOk-weaker}
-use Rattle.fancy_index.specs.Words.{can_stretch}
+use Rattle.fancy_index.proofs.Words.{◌∙◌, IfOk-weaker, can_stretch}
 use Rattle.fancy_index.proofs.SizeLaws.{places-given}
 use Rattle.fancy_index.proofs.shift_columns.stretched_places.Goals as goal
 

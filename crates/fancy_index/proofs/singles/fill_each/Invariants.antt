@@ -1,6 +1,4 @@
-use Rattle.std.proofs.Common.{◌≡◌, length, map, drop}
-use Rattle.fancy_index.specs.Plans.{put_each}
-use Rattle.fancy_index.specs.inside.Moved.{moved_offset}
+use Rattle.fancy_index.proofs.Words.{◌≡◌, length, map, drop, put_each, moved_offset}
 use Rattle.fancy_index.proofs.Passes.{Filling}
 use Rattle.fancy_index.proofs.singles.fill_each.Given as goal
 

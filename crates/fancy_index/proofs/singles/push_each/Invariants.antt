@@ -1,6 +1,4 @@
-use Rattle.std.proofs.Common.{map, drop}
-use Rattle.fancy_index.specs.inside.Moved.{moved_offset}
-use Rattle.fancy_index.specs.inside.Kept.{first_offsets}
+use Rattle.fancy_index.proofs.Words.{map, drop, moved_offset, first_offsets}
 use Rattle.fancy_index.proofs.Passes.{Pushing}
 use Rattle.fancy_index.proofs.singles.push_each.Given as goal
 

@@ -1,6 +1,4 @@
-use Rattle.std.proofs.Common.{◌≡◌, ◌+◌, ◌*◌, true, drop}
-use Rattle.literal_items.specs.Words.{total, listed, weight, all_values}
-use Rattle.literal_items.specs.LiteralItems.{can_hold}
+use Rattle.literal_items.proofs.Words.{◌≡◌, ◌+◌, ◌*◌, true, drop, total, listed, weight, all_values, can_hold}
 use Rattle.literal_items.proofs.Fields.{put_fields}
 use Rattle.literal_items.proofs.literal_item.+write_fields.Given as goal
 

@@ -1,6 +1,4 @@
-use Rattle.std.proofs.Common.{◌≡◌, true, take}
-use Rattle.std.specs.List.{list_all}
-use Rattle.literal_items.specs.LiteralItems.{is_item_in_range}
+use Rattle.literal_items.proofs.Words.{◌≡◌, true, take, list_all, is_item_in_range}
 use Rattle.literal_items.proofs.literal_item.are_items_in_range.Given as goal
 
 -- the literals so far are in range

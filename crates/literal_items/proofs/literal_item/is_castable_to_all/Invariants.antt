@@ -1,6 +1,4 @@
-use Rattle.std.proofs.Common.{◌≡◌, true, take}
-use Rattle.std.specs.List.{list_all}
-use Rattle.literal_items.specs.LiteralItems.{is_castable}
+use Rattle.literal_items.proofs.Words.{◌≡◌, true, take, list_all, is_castable}
 use Rattle.literal_items.proofs.literal_item.is_castable_to_all.Given as goal
 
 -- the leaves so far pass

@@ -1,8 +1,4 @@
-use Rattle.std.proofs.Common.{◌≡◌, ◌+◌, ◌-◌, ◌*◌, ◌<◌, ◌≤◌, length, drop, take, map, sym, ap, ◌∙◌, ◌++◌, [], ◌∷◌, arith, add-mul, length-take, length-drop}
-use Rattle.std.proofs.lemmas.List.{map-append}
-use Rattle.std.proofs.Math.Nat.{mul-le-mul_right}
-use Rattle.literal_items.specs.Words.{item_size, encode_item, decode_item}
-use Rattle.literal_items.specs.LiteralItems.{values_of}
+use Rattle.literal_items.proofs.Words.{◌≡◌, ◌+◌, ◌-◌, ◌*◌, ◌<◌, ◌≤◌, length, drop, take, map, sym, ap, ◌∙◌, ◌++◌, [], ◌∷◌, arith, add-mul, length-take, length-drop, map-append, mul-le-mul_right, item_size, encode_item, decode_item, values_of}
 use Rattle.literal_items.proofs.Lists.{map_more}
 use Rattle.literal_items.proofs.Blocked.{blocks-put, map-blocks-put}
 use Rattle.literal_items.proofs.literal_item.write_casts.Goals as goal

@@ -1,6 +1,4 @@
-use Rattle.std.proofs.Common.{◌≡◌, map, take}
-use Rattle.literal_items.specs.Words.{item_size, encode_item, decode_item, blocks}
-use Rattle.literal_items.specs.LiteralItems.{values_of}
+use Rattle.literal_items.proofs.Words.{◌≡◌, map, take, item_size, encode_item, decode_item, blocks, values_of}
 use Rattle.literal_items.proofs.literal_item.write_casts.Given as goal
 
 -- the block begins with the items so far

@@ -1,7 +1,4 @@
-use Rattle.std.proofs.Common.{map, sym, ◌∙◌}
-use Rattle.std.specs.List.{list_all}
-use Rattle.literal_items.specs.Words.{LiteralOutOfRange, NoSuchCast}
-use Rattle.literal_items.specs.LiteralItems.{can_be_item, is_item_in_range, values_of, item_values}
+use Rattle.literal_items.proofs.Words.{map, sym, ◌∙◌, list_all, LiteralOutOfRange, NoSuchCast, can_be_item, is_item_in_range, values_of, item_values}
 use Rattle.literal_items.proofs.Decided.{decided_first, decided_second, decided_ok}
 use Rattle.literal_items.proofs.literal_item.write_items.Goals as goal
 

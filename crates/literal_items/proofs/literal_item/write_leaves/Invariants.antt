@@ -1,6 +1,4 @@
-use Rattle.std.proofs.Common.{◌≡◌, drop, map}
-use Rattle.literal_items.specs.LiteralItems.{leaf_value}
-use Rattle.literal_items.specs.inside.FieldItems.{put_leaves}
+use Rattle.literal_items.proofs.Words.{◌≡◌, drop, map, leaf_value, put_leaves}
 use Rattle.literal_items.proofs.literal_item.write_leaves.Given as goal
 
 -- the remaining leaves complete the item

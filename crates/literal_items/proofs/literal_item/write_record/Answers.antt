@@ -1,7 +1,4 @@
-use Rattle.std.proofs.Common.{replicate, sym, ap, ◌∙◌}
-use Rattle.elem_descr.specs.declared.descr.Descr.TheVariants.{Record as RecordDescr}
-use Rattle.literal_items.specs.Words.{AreInOrder, leaves_from, leaves_in_order}
-use Rattle.literal_items.specs.LiteralItems.{can_hold, can_be_item}
+use Rattle.literal_items.proofs.Words.{replicate, sym, ap, ◌∙◌, RecordDescr, AreInOrder, leaves_from, leaves_in_order, can_hold, can_be_item}
 use Rattle.literal_items.proofs.Fields.{seen_values, put_all, put_each, record_written, record_read}
 use Rattle.literal_items.proofs.literal_item.write_record.Goals as goal
 

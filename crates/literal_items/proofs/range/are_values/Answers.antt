@@ -1,8 +1,4 @@
-use Rattle.std.proofs.Common.{◌-◌, sym, ap, subst, ◌∙◌, arith}
-use Rattle.std.specs.Prelude.{FitsSigned}
-use Rattle.std.specs.Int.{w128}
-use Rattle.std.proofs.lemmas.Int.{to_z-of_z}
-use Rattle.literal_items.specs.Words.{is_value}
+use Rattle.literal_items.proofs.Words.{◌-◌, sym, ap, subst, ◌∙◌, arith, FitsSigned, w128, to_z-of_z, is_value}
 use Rattle.literal_items.proofs.Ends.{first_fits, last_decides, first_fails}
 use Rattle.literal_items.proofs.range.are_values.Goals as goal
 

@@ -1,6 +1,4 @@
-use Rattle.std.proofs.Common.{arith, rules}
-use Rattle.std.specs.Prelude.{FitsSigned}
-use Rattle.std.specs.Int.{w128}
+use Rattle.literal_items.proofs.Words.{arith, rules, FitsSigned, w128}
 use Rattle.literal_items.proofs.Stepping.{number_far}
 use Rattle.literal_items.proofs.range.number_at.Goals as goal
 

@@ -1,9 +1,4 @@
-use Rattle.std.proofs.Common.{◌≡◌, ◌≢◌, pos, sym, ap, ◌∙◌, arith, rules, unsigned_abs}
-use Rattle.std.specs.Prelude.{FitsSigned}
-use Rattle.std.specs.Int.{w128, cast_unsigned, div_ceil}
-use Rattle.std.proofs.lemmas.Int.{ints, to_z-of_z}
-use Rattle.literal_items.specs.Words.{numbers_from}
-use Rattle.literal_items.specs.RangeItems.{range_count}
+use Rattle.literal_items.proofs.Words.{◌≡◌, ◌≢◌, pos, sym, ap, ◌∙◌, arith, rules, unsigned_abs, FitsSigned, w128, cast_unsigned, div_ceil, ints, to_z-of_z, numbers_from, range_count}
 use Rattle.literal_items.proofs.Stepping.{range_length-zero, range_length-large, range_length-ok, count-divided, numbers-counted, counted_before, counted_fits}
 use Rattle.literal_items.proofs.range.range_len.Goals as goal
 

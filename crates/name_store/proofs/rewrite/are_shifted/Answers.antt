@@ -1,6 +1,4 @@
-use Rattle.std.proofs.Common.{rules, sym, ◌∙◌}
-use Rattle.std.proofs.lemmas.Bool.Decides.{Decides-int_eq}
-use Rattle.std.proofs.lemmas.Slice.Eq.{slice_eq-Decides}
+use Rattle.name_store.proofs.Words.{rules, sym, ◌∙◌, Decides-int_eq, slice_eq-Decides}
 use Rattle.name_store.proofs.rewrite.are_shifted.Goals as goal
 
 pub returns-then-eq-clause-sound : goal.returns-then-eq-clause-sound

@@ -1,6 +1,4 @@
-use Rattle.std.proofs.Common.{length, All, subst, ◌∙◌}
-use Rattle.std.proofs.lemmas.List.Elements.{All-rest, All-head}
-use Rattle.name_store.specs.Words.{EachWithin, filled, Run}
+use Rattle.name_store.proofs.Words.{length, All, subst, ◌∙◌, All-rest, All-head, EachWithin, filled, Run}
 use Rattle.name_store.proofs.RunWrites.{filled-next}
 use Rattle.name_store.proofs.rewrite.fill_runs.Goals as goal
 

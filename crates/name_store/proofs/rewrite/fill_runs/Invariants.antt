@@ -1,6 +1,4 @@
-use Rattle.std.proofs.Common.{◌≡◌, length, All}
-use Rattle.std.specs.List.{flat_map}
-use Rattle.name_store.specs.Words.{EachWithin, run_offsets, put_each}
+use Rattle.name_store.proofs.Words.{◌≡◌, length, All, flat_map, EachWithin, run_offsets, put_each}
 use Rattle.name_store.proofs.rewrite.fill_runs.Given as goal
 
 -- the remaining runs complete what all runs write

@@ -1,8 +1,4 @@
-use Rattle.std.proofs.Common.{◌∙◌, sym, ap, length, inl, inr}
-use Rattle.std.proofs.lemmas.Bool.{both_ways}
-use Rattle.name_store.specs.Words.{length-offsets, offsets_within}
-use Rattle.name_store.specs.Targets.{target_offsets}
-use Rattle.name_store.specs.declared.write.Target.{Target}
+use Rattle.name_store.proofs.Words.{◌∙◌, sym, ap, length, inl, inr, both_ways, length-offsets, offsets_within, target_offsets, Target}
 use Rattle.name_store.proofs.rewrite.move_to.Goals as goal
 
 pub assign-requires-clause-count : goal.assign-requires-clause-count

@@ -1,5 +1,4 @@
-use Rattle.std.proofs.Common.{◌≡◌, ◌≤◌, ◌<◌, ℕ, is_some, true}
-use Rattle.name_store.specs.View.{slot_at}
+use Rattle.name_store.proofs.Words.{◌≡◌, ◌≤◌, ◌<◌, ℕ, is_some, true, slot_at}
 use Rattle.name_store.proofs.slots.first_free.Given as goal
 
 -- each slot that was passed is occupied

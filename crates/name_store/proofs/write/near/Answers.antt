@@ -1,7 +1,4 @@
-use Rattle.std.proofs.Common.{sym, subst}
-use Rattle.name_store.specs.declared.write.Target.{Target}
-use Rattle.name_store.specs.declared.write.Target.TheVariants.{View}
-use Rattle.name_store.specs.inside.Puts.{IsNear}
+use Rattle.name_store.proofs.Words.{sym, subst, Target, View, IsNear}
 use Rattle.name_store.proofs.NearLaws.{is-near}
 use Rattle.name_store.proofs.write.near.Goals as goal
 

@@ -1,5 +1,4 @@
-use Rattle.std.proofs.Common.{◌∙◌, ◌++◌}
-use Rattle.name_store.specs.Words.{joined}
+use Rattle.name_store.proofs.Words.{◌∙◌, ◌++◌, joined}
 use Rattle.name_store.proofs.ExchangeLaws.{repeated-packed}
 use Rattle.name_store.proofs.write.repeated.Goals as goal
 

@@ -1,11 +1,4 @@
-use Rattle.std.proofs.Common.{◌≡◌, ◌≤◌, refl, sym, ap, subst, ◌∙◌, is_some, slice_set, Some, arith}
-use Rattle.std.proofs.lemmas.Option.{same_Some, IfSome_then}
-use Rattle.std.proofs.lemmas.Result.{IfOk-weaker, IfErr-weaker}
-use Rattle.name_store.specs.Words.{max_bytes}
-use Rattle.name_store.specs.View.{slot_at}
-use Rattle.name_store.specs.declared.slot.Slot.{Slot}
-use Rattle.name_store.specs.inside.OldItems.{AreKept}
-use Rattle.name_store.specs.inside.Puts.{CanPut, NeedsNone, with_source, without_slot}
+use Rattle.name_store.proofs.Words.{◌≡◌, ◌≤◌, refl, sym, ap, subst, ◌∙◌, is_some, slice_set, Some, arith, same_Some, IfSome_then, IfOk-weaker, IfErr-weaker, max_bytes, slot_at, Slot, AreKept, CanPut, NeedsNone, with_source, without_slot}
 use Rattle.name_store.proofs.RewriteLaws.{can-slot, puts-back, keeps-back, length-tried}
 use Rattle.name_store.proofs.SlotLaws.{slot_at-get_or, slot_at-within}
 use Rattle.name_store.proofs.write.write_items.Goals.{After-as_slice}

@@ -1,6 +1,4 @@
-use Rattle.std.proofs.Common.{◌≡◌, ◌++◌, List, ℕ, Some, ap, ◌∙◌, subst, append_assoc}
-use Rattle.std.specs.FinMap.{get}
-use Rattle.npy_files.specs.Words.{Files, SameBut, Leaves, Appends, both_but, but_same, always_ok}
+use Rattle.npy_files.proofs.Words.{◌≡◌, ◌++◌, List, ℕ, Some, ap, ◌∙◌, subst, append_assoc, get, Files, SameBut, Leaves, Appends, both_but, but_same, always_ok}
 use Rattle.npy_files.proofs.put.fill.Goals as goal
 
 pub returns-in_err-append-2-clause-crash : goal.returns-in_err-append-2-clause-crash

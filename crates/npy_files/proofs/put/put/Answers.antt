@@ -1,5 +1,4 @@
-use Rattle.std.proofs.Common.{◌++◌, Some, List, ℕ, Option, subst}
-use Rattle.npy_files.specs.Words.{Leaves, Replaces, only_but, but_replaces, then_same}
+use Rattle.npy_files.proofs.Words.{◌++◌, Some, List, ℕ, Option, subst, Leaves, Replaces, only_but, but_replaces, then_same}
 use Rattle.npy_files.proofs.put.put.Goals as goal
 
 pub returns-in_err-_file-clause-crash : goal.returns-in_err-_file-clause-crash

@@ -1,6 +1,4 @@
-use Rattle.std.proofs.Common.{◌++◌, [], subst}
-use Rattle.std.specs.FinMap.{get}
-use Rattle.npy_files.specs.Words.{SameBut, Leaves, Appends, both_but}
+use Rattle.npy_files.proofs.Words.{◌++◌, [], subst, get, SameBut, Leaves, Appends, both_but}
 use Rattle.npy_files.proofs.put.stage.Goals as goal
 
 pub returns-in-Ok-clause-staged : goal.returns-in-Ok-clause-staged

@@ -1,5 +1,4 @@
-use Rattle.std.specs.FinMap.{get}
-use Rattle.npy_files.specs.Words.{then_but}
+use Rattle.npy_files.proofs.Words.{get, then_but}
 use Rattle.npy_files.proofs.put.take_place.Goals as goal
 
 pub returns-in-Err-clause-crash : goal.returns-in-Err-clause-crash

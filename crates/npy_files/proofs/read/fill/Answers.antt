@@ -1,6 +1,4 @@
-use Rattle.std.proofs.Common.{◌≡◌, ◌≤◌, ◌-◌, length, refl, ◌∙◌, arith}
-use Rattle.std.proofs.lemmas.Grind.{common_steps}
-use Rattle.npy_files.specs.Words.{both_same, unmoved}
+use Rattle.npy_files.proofs.Words.{◌≡◌, ◌≤◌, ◌-◌, length, refl, ◌∙◌, arith, common_steps, both_same, unmoved}
 use Rattle.npy_files.proofs.Pieces.{put_length, rest_length, read_on}
 use Rattle.npy_files.proofs.read.fill.Goals as goal
 

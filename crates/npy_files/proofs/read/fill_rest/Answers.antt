@@ -1,5 +1,4 @@
-use Rattle.std.proofs.Common.{refl, ap, ◌∙◌, length, length-append, arith}
-use Rattle.npy_files.specs.Words.{both_same, unmoved}
+use Rattle.npy_files.proofs.Words.{refl, ap, ◌∙◌, length, length-append, arith, both_same, unmoved}
 use Rattle.npy_files.proofs.read.fill_rest.Goals as goal
 
 pub loop-block-init : goal.loop-block-init

@@ -1,5 +1,4 @@
-use Rattle.std.proofs.Common.{◌≡◌, ◌+◌, ◌++◌, ℕ, List, length, ap, ◌∙◌, subst, sym}
-use Rattle.npy_files.specs.Words.{both_same, unmoved}
+use Rattle.npy_files.proofs.Words.{◌≡◌, ◌+◌, ◌++◌, ℕ, List, length, ap, ◌∙◌, subst, sym, both_same, unmoved}
 use Rattle.npy_files.proofs.Pieces.{none_left, all_read}
 use Rattle.npy_files.proofs.read.read_block.Goals as goal
 

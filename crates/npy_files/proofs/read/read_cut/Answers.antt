@@ -1,8 +1,5 @@
-use Rattle.std.proofs.Common.{◌≡◌, ◌++◌, take, drop, arith}
-use Rattle.std.proofs.lemmas.Grind.{common_steps}
-use Rattle.std.proofs.lemmas.List.{take_all}
+use Rattle.npy_files.proofs.Words.{◌≡◌, ◌++◌, take, drop, arith, common_steps, take_all, both_same}
 use Rattle.npy_files.proofs.Pieces.{cut_read}
-use Rattle.npy_files.specs.Words.{both_same}
 use Rattle.npy_files.proofs.read.read_cut.Goals as goal
 
 pub returns-in_err-block-clause-crash : goal.returns-in_err-block-clause-crash

@@ -1,6 +1,4 @@
-use Rattle.std.proofs.Common.{◌≡◌, sym, ap, subst, ◌∙◌, arith, length}
-use Rattle.npy_format.specs.Files.{HoldsFileItems}
-use Rattle.npy_format.specs.inside.LoadedParts.{load_behind}
+use Rattle.npy_format.proofs.Words.{◌≡◌, sym, ap, subst, ◌∙◌, arith, length, HoldsFileItems, load_behind}
 use Rattle.npy_format.proofs.PartLaws.{nothing_behind}
 use Rattle.npy_format.proofs.file_parts.load_behind.Goals as goal
 

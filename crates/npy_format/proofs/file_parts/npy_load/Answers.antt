@@ -1,5 +1,4 @@
-use Rattle.std.proofs.Common.{◌≡◌, ◌++◌, [], Ok, sym, ap, subst, ◌∙◌, arith}
-use Rattle.npy_format.specs.Files.{Loads, split_header}
+use Rattle.npy_format.proofs.Words.{◌≡◌, ◌++◌, [], Ok, sym, ap, subst, ◌∙◌, arith, Loads, split_header}
 use Rattle.npy_format.proofs.PartLaws.{empty, header_more, load_split}
 use Rattle.npy_format.proofs.file_parts.npy_load.Goals as goal
 

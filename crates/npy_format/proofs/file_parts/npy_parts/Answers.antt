@@ -1,6 +1,4 @@
-use Rattle.std.proofs.Common.{◌≡◌, ◌*◌, ◌++◌, map, inr, sym, ap, ◌∙◌, Ok, arith}
-use Rattle.npy_format.specs.Words.{item_size, item_from, count, offsets}
-use Rattle.npy_format.specs.WrittenFiles.{is_fortran, file_of}
+use Rattle.npy_format.proofs.Words.{◌≡◌, ◌*◌, ◌++◌, map, inr, sym, ap, ◌∙◌, Ok, arith, item_size, item_from, count, offsets, is_fortran, file_of}
 use Rattle.npy_format.proofs.WriterLaws.{saved-large, saved-small}
 use Rattle.npy_format.proofs.SaverLaws.{large-loads, small-loads}
 use Rattle.npy_format.proofs.file_parts.npy_parts.Goals as goal

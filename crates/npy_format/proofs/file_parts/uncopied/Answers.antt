@@ -1,9 +1,4 @@
-use Rattle.std.proofs.Common.{◌++◌, map, ap, ◌∙◌}
-use Rattle.std.specs.List.{flat_map}
-use Rattle.npy_format.specs.Words.{item_size, encode_item, item_from, offsets, length-offsets}
-use Rattle.npy_format.specs.Files.{file_order}
-use Rattle.npy_format.specs.WrittenHeaders.{written_text, written_header}
-use Rattle.npy_format.specs.WrittenFiles.{is_fortran, ordered}
+use Rattle.npy_format.proofs.Words.{◌++◌, map, ap, ◌∙◌, flat_map, item_size, encode_item, item_from, offsets, length-offsets, file_order, written_text, written_header, is_fortran, ordered}
 use Rattle.npy_format.proofs.SaverLaws.{stretch_ends, stretch_written}
 use Rattle.npy_format.proofs.file_parts.uncopied.Goals as goal
 

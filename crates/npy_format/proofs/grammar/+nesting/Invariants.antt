@@ -1,7 +1,4 @@
-use Rattle.std.proofs.Common.{◌≡◌, ◌+◌, ◌*◌, length}
-use Rattle.npy_format.specs.Tokens.{tokens}
-use Rattle.npy_format.specs.Literals.{pair_in, literal_in}
-use Rattle.npy_format.specs.inside.Entries.{behind_entries}
+use Rattle.npy_format.proofs.Words.{◌≡◌, ◌+◌, ◌*◌, length, tokens, pair_in, literal_in, behind_entries}
 use Rattle.npy_format.proofs.grammar.+nesting.Given as goal
 
 -- what is in brackets is allowed one level less

@@ -1,5 +1,4 @@
-use Rattle.std.proofs.Common.{sym}
-use Rattle.npy_format.specs.Tokens.{tokens}
+use Rattle.npy_format.proofs.Words.{sym, tokens}
 use Rattle.npy_format.proofs.HeaderLaws.{no_token, dictionary_found}
 use Rattle.npy_format.proofs.header.dictionary.Goals as goal
 

@@ -1,7 +1,4 @@
-use Rattle.std.proofs.Common.{◌+◌, ◌≤◌, List, length}
-use Rattle.npy_format.specs.Listed.{Pair}
-use Rattle.npy_format.specs.Tokens.{tokens}
-use Rattle.npy_format.specs.inside.Places.{HasPairs}
+use Rattle.npy_format.proofs.Words.{◌+◌, ◌≤◌, List, length, Pair, tokens, HasPairs}
 use Rattle.npy_format.proofs.HeaderLaws.{PairsLeft}
 use Rattle.npy_format.proofs.header.pair_count.Given as goal
 

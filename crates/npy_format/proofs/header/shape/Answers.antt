@@ -1,6 +1,4 @@
-use Rattle.std.proofs.Common.{◌∙◌, sym, ap, inr, arith}
-use Rattle.npy_format.specs.Words.{value_of, shape_of}
-use Rattle.npy_format.specs.Tokens.{tokens}
+use Rattle.npy_format.proofs.Words.{◌∙◌, sym, ap, inr, arith, value_of, shape_of, tokens}
 use Rattle.npy_format.proofs.HeaderLaws.{shape_ends, shape_next, shape_long}
 use Rattle.npy_format.proofs.header.shape.Goals as goal
 

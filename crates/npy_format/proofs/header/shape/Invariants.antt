@@ -1,6 +1,4 @@
-use Rattle.std.proofs.Common.{ℕ, List, length}
-use Rattle.npy_format.specs.Tokens.{tokens}
-use Rattle.npy_format.specs.inside.Places.{HasLengths}
+use Rattle.npy_format.proofs.Words.{ℕ, List, length, tokens, HasLengths}
 use Rattle.npy_format.proofs.HeaderLaws.{ShapeLeft}
 use Rattle.npy_format.proofs.header.shape.Given as goal
 

@@ -1,6 +1,4 @@
-use Rattle.std.specs.Prelude.{codes}
-use Rattle.npy_format.specs.Words.{shape_text}
-use Rattle.npy_format.specs.WrittenHeaders.{written_descr, written_truth}
+use Rattle.npy_format.proofs.Words.{codes, shape_text, written_descr, written_truth}
 use Rattle.npy_format.proofs.WrittenEntries.{seven_written}
 use Rattle.npy_format.proofs.header_text.header_text.Goals as goal
 

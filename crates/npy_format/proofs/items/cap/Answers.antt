@@ -1,6 +1,4 @@
-use Rattle.std.proofs.Common.{◌≡◌, ◌+◌, ◌<◌, ◌≤◌, ◌++◌, suc, length, take, drop, slice_set, sym, ap, subst, ◌∙◌, arith, append-nil}
-use Rattle.std.proofs.lemmas.List.{take_all, drop_all}
-use Rattle.npy_format.specs.inside.WrittenItems.{capped}
+use Rattle.npy_format.proofs.Words.{◌≡◌, ◌+◌, ◌<◌, ◌≤◌, ◌++◌, suc, length, take, drop, slice_set, sym, ap, subst, ◌∙◌, arith, append-nil, take_all, drop_all, capped}
 use Rattle.npy_format.proofs.WrittenItemLaws.{byte_capped}
 use Rattle.npy_format.proofs.items.cap.Goals as goal
 

@@ -1,5 +1,4 @@
-use Rattle.std.proofs.Common.{◌≡◌, ◌++◌, take, drop}
-use Rattle.npy_format.specs.inside.WrittenItems.{capped}
+use Rattle.npy_format.proofs.Words.{◌≡◌, ◌++◌, take, drop, capped}
 use Rattle.npy_format.proofs.items.cap.Given as goal
 
 -- the bytes so far are capped

@@ -1,7 +1,4 @@
-use Rattle.std.proofs.Common.{◌≤◌, ◌++◌, length, take, sym, ap, ◌∙◌, arith, append-nil}
-use Rattle.std.specs.List.{repeat}
-use Rattle.std.proofs.lemmas.List.{take_all, drop_all}
-use Rattle.npy_format.specs.inside.WrittenItems.{capped}
+use Rattle.npy_format.proofs.Words.{◌≤◌, ◌++◌, length, take, sym, ap, ◌∙◌, arith, append-nil, repeat, take_all, drop_all, capped}
 use Rattle.npy_format.proofs.WrittenItemLaws.{band_capped}
 use Rattle.npy_format.proofs.items.cap_each.Goals as goal
 

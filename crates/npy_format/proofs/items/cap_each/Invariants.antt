@@ -1,6 +1,4 @@
-use Rattle.std.proofs.Common.{◌≡◌, ◌-◌, ◌≤◌, ◌++◌, length, take, drop}
-use Rattle.std.specs.List.{repeat}
-use Rattle.npy_format.specs.inside.WrittenItems.{capped}
+use Rattle.npy_format.proofs.Words.{◌≡◌, ◌-◌, ◌≤◌, ◌++◌, length, take, drop, repeat, capped}
 use Rattle.npy_format.proofs.items.cap_each.Given as goal
 
 -- the bytes so far are capped

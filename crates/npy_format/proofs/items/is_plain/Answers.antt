@@ -1,8 +1,4 @@
-use Rattle.std.proofs.Common.{◌+◌, List, drop, sym, subst, ◌∙◌, arith}
-use Rattle.std.proofs.lemmas.Bool.{eqb-true}
-use Rattle.std.proofs.lemmas.List.{drop_all}
-use Rattle.npy_format.specs.Words.{Leaf, size, rest_at, AreInOrder, AreInOrder-within}
-use Rattle.npy_format.specs.inside.WrittenItems.{IsPlain}
+use Rattle.npy_format.proofs.Words.{◌+◌, List, drop, sym, subst, ◌∙◌, arith, eqb-true, drop_all, Leaf, size, rest_at, AreInOrder, AreInOrder-within, IsPlain}
 use Rattle.npy_format.proofs.items.is_plain.Goals as goal
 
 pub overflow_add-end : goal.overflow_add-end

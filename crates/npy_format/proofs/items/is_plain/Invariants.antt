@@ -1,6 +1,4 @@
-use Rattle.std.proofs.Common.{drop}
-use Rattle.npy_format.specs.Words.{AreInOrder}
-use Rattle.npy_format.specs.inside.WrittenItems.{IsPlain}
+use Rattle.npy_format.proofs.Words.{drop, AreInOrder, IsPlain}
 use Rattle.npy_format.proofs.items.is_plain.Given as goal
 
 -- the leaves so far fill the bytes, and none is a bool

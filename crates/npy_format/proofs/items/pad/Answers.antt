@@ -1,6 +1,4 @@
-use Rattle.std.proofs.Common.{◌≡◌, ◌-◌, ◌++◌, length, replicate, ◌∙◌, rules}
-use Rattle.std.specs.Vec.{vec_len}
-use Rattle.std.proofs.lemmas.List.{take_all}
+use Rattle.npy_format.proofs.Words.{◌≡◌, ◌-◌, ◌++◌, length, replicate, ◌∙◌, rules, vec_len, take_all}
 use Rattle.npy_format.proofs.items.pad.Goals as goal
 
 pub returns : goal.returns

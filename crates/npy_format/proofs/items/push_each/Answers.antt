@@ -1,7 +1,4 @@
-use Rattle.std.proofs.Common.{◌++◌, length, sym, ap, ◌∙◌, arith}
-use Rattle.std.proofs.lemmas.List.{append-nil}
-use Rattle.npy_format.specs.Words.{run_offsets, begins_within}
-use Rattle.npy_format.specs.inside.WrittenItems.{gathered}
+use Rattle.npy_format.proofs.Words.{◌++◌, length, sym, ap, ◌∙◌, arith, append-nil, run_offsets, begins_within, gathered}
 use Rattle.npy_format.proofs.GatherLaws.{item_pushed}
 use Rattle.npy_format.proofs.items.push_each.Goals as goal
 

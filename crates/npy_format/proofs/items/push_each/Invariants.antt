@@ -1,6 +1,4 @@
-use Rattle.std.proofs.Common.{◌≡◌, ◌++◌}
-use Rattle.npy_format.specs.Words.{run_offsets}
-use Rattle.npy_format.specs.inside.WrittenItems.{gathered}
+use Rattle.npy_format.proofs.Words.{◌≡◌, ◌++◌, run_offsets, gathered}
 use Rattle.npy_format.proofs.items.push_each.Given as goal
 
 -- the items so far are appended

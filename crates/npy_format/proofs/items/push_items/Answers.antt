@@ -1,7 +1,4 @@
-use Rattle.std.proofs.Common.{◌≡◌, ◌≤◌, ◌<◌, ◌+◌, ◌*◌, ◌^◌, length, All, sym, ap, subst, ◌∙◌, arith, rules}
-use Rattle.std.specs.List.{flat_map}
-use Rattle.npy_format.specs.Words.{item_at, EachWithin, max_bytes, offsets, length-offsets, run_offsets, runs, runs-within}
-use Rattle.npy_format.specs.inside.WrittenItems.{gathered, addresses_in_file}
+use Rattle.npy_format.proofs.Words.{◌≡◌, ◌≤◌, ◌<◌, ◌+◌, ◌*◌, ◌^◌, length, All, sym, ap, subst, ◌∙◌, arith, rules, flat_map, item_at, EachWithin, max_bytes, offsets, length-offsets, run_offsets, runs, runs-within, gathered, addresses_in_file}
 use Rattle.npy_format.proofs.GatherLaws.{together, in_file-none, few-counts}
 use Rattle.npy_format.proofs.items.push_items.Goals as goal
 

@@ -1,6 +1,4 @@
-use Rattle.std.proofs.Common.{◌^◌, ◌<◌, ◌≤◌, length}
-use Rattle.std.proofs.lemmas.List.Elements.{All-rest}
-use Rattle.npy_format.specs.Words.{EachWithin}
+use Rattle.npy_format.proofs.Words.{◌^◌, ◌<◌, ◌≤◌, length, All-rest, EachWithin}
 use Rattle.npy_format.proofs.GatherLaws.{run_pushed}
 use Rattle.npy_format.proofs.items.push_runs.Goals as goal
 

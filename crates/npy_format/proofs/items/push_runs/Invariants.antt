@@ -1,7 +1,4 @@
-use Rattle.std.proofs.Common.{◌≡◌, ◌^◌, ◌<◌, ◌≤◌, ◌++◌, length, All}
-use Rattle.std.specs.List.{flat_map}
-use Rattle.npy_format.specs.Words.{EachWithin, run_offsets}
-use Rattle.npy_format.specs.inside.WrittenItems.{gathered}
+use Rattle.npy_format.proofs.Words.{◌≡◌, ◌^◌, ◌<◌, ◌≤◌, ◌++◌, length, All, flat_map, EachWithin, run_offsets, gathered}
 use Rattle.npy_format.proofs.items.push_runs.Given as goal
 
 -- what is appended so far, followed by what remains, is all that is to be appended

@@ -1,9 +1,4 @@
-use Rattle.std.proofs.Common.{◌≡◌, ◌<◌, ℕ, ◌+◌, ◌*◌, ◌≤◌, length, get_or, rules, ap, ◌∙◌, arith, mul-one}
-use Rattle.std.specs.List.{repeat}
-use Rattle.std.proofs.Math.Nat.{mul-le-mul_left}
-use Rattle.std.proofs.lemmas.List.Elements.{same_from_all_zip}
-use Rattle.npy_format.specs.Words.{item_size, leaves_of}
-use Rattle.npy_format.specs.inside.WrittenItems.{written_item, limits_from, capped}
+use Rattle.npy_format.proofs.Words.{◌≡◌, ◌<◌, ℕ, ◌+◌, ◌*◌, ◌≤◌, length, get_or, rules, ap, ◌∙◌, arith, mul-one, repeat, mul-le-mul_left, same_from_all_zip, item_size, leaves_of, written_item, limits_from, capped}
 use Rattle.npy_format.proofs.WrittenItemLaws.{plain_again, all_again, length-limits, length-repeat, bands_capped}
 use Rattle.npy_format.proofs.items.write_items.Goals as goal
 

@@ -1,5 +1,4 @@
-use Rattle.std.proofs.Common.{refl, sym, subst, ◌∙◌, rules}
-use Rattle.npy_format.specs.Files.{Loads}
+use Rattle.npy_format.proofs.Words.{refl, sym, subst, ◌∙◌, rules, Loads}
 use Rattle.npy_format.proofs.PartLaws.{load_split}
 use Rattle.npy_format.proofs.reader.npy_read.Goals as goal
 

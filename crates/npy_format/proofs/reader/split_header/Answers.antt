@@ -1,5 +1,4 @@
-use Rattle.std.proofs.Common.{ap, sym, ◌∙◌}
-use Rattle.npy_format.specs.Files.{split_front}
+use Rattle.npy_format.proofs.Words.{ap, sym, ◌∙◌, split_front}
 use Rattle.npy_format.proofs.FileLaws.{header_split}
 use Rattle.npy_format.proofs.reader.split_header.Goals as goal
 

@@ -1,11 +1,4 @@
-use Rattle.std.proofs.Common.{◌≡◌, ◌∙◌, ⊎_elim, inl, inr, ap, sym, true, false, Ok, arith, rules}
-use Rattle.std.proofs.lemmas.Result.{err_from_is_err_and}
-use Rattle.elem_descr.specs.declared.descr.Descr.TheVariants.{Record as RecordDescr}
-use Rattle.npy_format.specs.Words.{is_legal_name, ◌>>=◌, is_empty, Partial}
-use Rattle.npy_format.specs.Tokens.{tokens}
-use Rattle.npy_format.specs.Literals.{symbol_token_at}
-use Rattle.npy_format.specs.RecordLists.{type_in, record_in}
-use Rattle.npy_format.specs.inside.Places.{value_in}
+use Rattle.npy_format.proofs.Words.{◌≡◌, ◌∙◌, ⊎_elim, inl, inr, ap, sym, true, false, Ok, arith, rules, err_from_is_err_and, RecordDescr, is_legal_name, ◌>>=◌, is_empty, Partial, tokens, symbol_token_at, type_in, record_in, value_in}
 use Rattle.npy_format.proofs.GrammarLaws.{literal_leaves}
 use Rattle.npy_format.proofs.StandLaws.{symbol_open, symbol_closed, string_stands, list_stands, no_type, pad_is}
 use Rattle.npy_format.proofs.HeaderLaws.{entry_shorter}

@@ -1,7 +1,4 @@
-use Rattle.std.proofs.Common.{◌≡◌, ◌+◌, ◌*◌, List, length}
-use Rattle.npy_format.specs.Listed.{Literal}
-use Rattle.npy_format.specs.Tokens.{tokens}
-use Rattle.npy_format.specs.inside.Places.{HasValues}
+use Rattle.npy_format.proofs.Words.{◌≡◌, ◌+◌, ◌*◌, List, length, Literal, tokens, HasValues}
 use Rattle.npy_format.proofs.RecordListLaws.{FieldsLeft}
 use Rattle.npy_format.proofs.record_list.+record.Given as goal
 

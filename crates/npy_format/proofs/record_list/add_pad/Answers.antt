@@ -1,5 +1,4 @@
-use Rattle.std.proofs.Common.{rules}
-use Rattle.npy_format.specs.Words.{value_of, widened-capped}
+use Rattle.npy_format.proofs.Words.{rules, value_of, widened-capped}
 use Rattle.npy_format.proofs.record_list.add_pad.Goals as goal
 
 pub returns-clause-answers : goal.returns-clause-answers

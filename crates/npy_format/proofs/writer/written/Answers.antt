@@ -1,10 +1,4 @@
-use Rattle.std.proofs.Common.{◌≡◌, ◌+◌, ◌*◌, ◌≤◌, ◌++◌, length, map, All, sym, ap, subst, ◌∙◌, rules}
-use Rattle.std.specs.List.{flat_map}
-use Rattle.npy_format.specs.Words.{encode_item, item_from, offsets, length-offsets}
-use Rattle.npy_format.specs.Files.{file_order}
-use Rattle.npy_format.specs.WrittenHeaders.{written_text, written_header}
-use Rattle.npy_format.specs.WrittenFiles.{is_fortran, ordered, file_of}
-use Rattle.npy_format.specs.inside.WrittenItems.{gathered, addresses_in_file}
+use Rattle.npy_format.proofs.Words.{◌≡◌, ◌+◌, ◌*◌, ◌≤◌, ◌++◌, length, map, All, sym, ap, subst, ◌∙◌, rules, flat_map, encode_item, item_from, offsets, length-offsets, file_order, written_text, written_header, is_fortran, ordered, file_of, gathered, addresses_in_file}
 use Rattle.npy_format.proofs.WriterLaws.{file_length, file_written}
 use Rattle.npy_format.proofs.writer.written.Goals as goal
 

@@ -1,6 +1,4 @@
-use Rattle.std.proofs.Common.{◌≡◌, ◌+◌, ◌∷◌, length, map, drop, sym, ap, subst, ◌∙◌}
-use Rattle.overlap_copy.specs.Words.{axes}
-use Rattle.overlap_copy.specs.Apart.{step_of, IsGreatestDivisor}
+use Rattle.overlap_copy.proofs.Words.{◌≡◌, ◌+◌, ◌∷◌, length, map, drop, sym, ap, subst, ◌∙◌, axes, step_of, IsGreatestDivisor}
 use Rattle.overlap_copy.proofs.ApartLaws.{divisor-one, divisor-more, steps_more, no_axes}
 use Rattle.overlap_copy.proofs.apart.divisor_with.Goals as goal
 

@@ -1,6 +1,4 @@
-use Rattle.std.proofs.Common.{◌-◌, arith}
-use Rattle.std.proofs.lemmas.Bool.{leb-true, le-leb, false≢true}
-use Rattle.overlap_copy.specs.Apart.{steps}
+use Rattle.overlap_copy.proofs.Words.{◌-◌, arith, leb-true, le-leb, false≢true, steps}
 use Rattle.overlap_copy.proofs.ApartLaws.{divisor-both, between_made, between_found, none_between}
 use Rattle.overlap_copy.proofs.apart.lie_between.Goals as goal
 

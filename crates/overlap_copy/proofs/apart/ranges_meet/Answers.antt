@@ -1,6 +1,4 @@
-use Rattle.std.proofs.Common.{◌&&◌, nat_lt, sym, ap, ◌∙◌}
-use Rattle.std.proofs.lemmas.Bool.{lt-ltb, le-ltb, and_left}
-use Rattle.overlap_copy.specs.Words.{offsets}
+use Rattle.overlap_copy.proofs.Words.{◌&&◌, nat_lt, sym, ap, ◌∙◌, lt-ltb, le-ltb, and_left, offsets}
 use Rattle.overlap_copy.proofs.OverlapLaws.{IsSpanOf, meet-spans, apart-common}
 use Rattle.overlap_copy.proofs.apart.ranges_meet.Goals as goal
 

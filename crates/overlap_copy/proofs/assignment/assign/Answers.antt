@@ -1,7 +1,4 @@
-use Rattle.std.proofs.Common.{◌≡◌, ◌*◌, length, sym, ap, subst, ◌∙◌, All, ◌+◌, ◌≤◌, arith}
-use Rattle.std.proofs.lemmas.Bool.{both_ways}
-use Rattle.overlap_copy.specs.Words.{max_bytes, offsets, multiples, length-offsets, offsets_within, walked-within, with_items, assigned}
-use Rattle.overlap_copy.specs.inside.Moves.{LieApart, firsts, seconds}
+use Rattle.overlap_copy.proofs.Words.{◌≡◌, ◌*◌, length, sym, ap, subst, ◌∙◌, All, ◌+◌, ◌≤◌, arith, both_ways, max_bytes, offsets, multiples, length-offsets, offsets_within, walked-within, with_items, assigned, LieApart, firsts, seconds}
 use Rattle.overlap_copy.proofs.AssignLaws.{lie_apart}
 use Rattle.overlap_copy.proofs.assignment.assign.Goals as goal
 

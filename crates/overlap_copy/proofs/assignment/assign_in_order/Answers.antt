@@ -1,5 +1,4 @@
-use Rattle.std.proofs.Common.{length}
-use Rattle.overlap_copy.specs.Words.{max_bytes, offsets, walked-within}
+use Rattle.overlap_copy.proofs.Words.{length, max_bytes, offsets, walked-within}
 use Rattle.overlap_copy.proofs.PairCopies.{as_many, one-within}
 use Rattle.overlap_copy.proofs.assignment.assign_in_order.Goals as goal
 

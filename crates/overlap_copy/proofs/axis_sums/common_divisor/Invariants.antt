@@ -1,5 +1,4 @@
-use Rattle.std.proofs.Common.{ℕ}
-use Rattle.std.specs.Int.{IsGcd}
+use Rattle.overlap_copy.proofs.Words.{ℕ, IsGcd}
 use Rattle.overlap_copy.proofs.axis_sums.common_divisor.Given as goal
 
 -- the greatest common divisor of the two numbers is that of the first two

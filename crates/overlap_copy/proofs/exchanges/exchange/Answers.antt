@@ -1,7 +1,5 @@
-use Rattle.std.proofs.Common.{◌+◌, ◌≤◌, length, sym, ap, ◌∙◌}
-use Rattle.overlap_copy.specs.Words.{count, offsets, items_at, even, pair_even, All-firsts, All-seconds, firsts-reordered, seconds-reordered, flipped-reordered}
+use Rattle.overlap_copy.proofs.Words.{◌+◌, ◌≤◌, length, sym, ap, ◌∙◌, count, offsets, items_at, even, pair_even, All-firsts, All-seconds, firsts-reordered, seconds-reordered, flipped-reordered, nested-reordered, assigned-reordered}
 use Rattle.overlap_copy.proofs.TradeLaws.{items-assigned}
-use Rattle.overlap_copy.specs.OrderLaws.{nested-reordered, assigned-reordered}
 use Rattle.overlap_copy.proofs.exchanges.exchange.Goals as goal
 
 pub exchange_pairs-requires : goal.exchange_pairs-requires

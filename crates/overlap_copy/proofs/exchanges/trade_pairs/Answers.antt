@@ -1,6 +1,4 @@
-use Rattle.std.proofs.Common.{◌≡◌, length, sym, subst, ◌∙◌}
-use Rattle.std.proofs.lemmas.List.Elements.{All-rest}
-use Rattle.overlap_copy.specs.Words.{EachWithin, next_pair}
+use Rattle.overlap_copy.proofs.Words.{◌≡◌, length, sym, subst, ◌∙◌, All-rest, EachWithin, next_pair}
 use Rattle.overlap_copy.proofs.TradeLaws.{traded-pair}
 use Rattle.overlap_copy.proofs.exchanges.trade_pairs.Goals as goal
 

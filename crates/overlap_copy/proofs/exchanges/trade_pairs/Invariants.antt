@@ -1,7 +1,4 @@
-use Rattle.std.proofs.Common.{◌≡◌, length, All}
-use Rattle.overlap_copy.specs.Words.{EachWithin}
-use Rattle.overlap_copy.specs.inside.Trades.{traded_at}
-use Rattle.overlap_copy.specs.inside.Moves.{firsts, seconds}
+use Rattle.overlap_copy.proofs.Words.{◌≡◌, length, All, EachWithin, traded_at, firsts, seconds}
 use Rattle.overlap_copy.proofs.exchanges.trade_pairs.Given as goal
 
 -- the remaining pairs complete what all pairs do

@@ -1,5 +1,4 @@
-use Rattle.std.proofs.Common.{sym, ◌∙◌}
-use Rattle.overlap_copy.specs.Words.{traded}
+use Rattle.overlap_copy.proofs.Words.{sym, ◌∙◌, traded}
 use Rattle.overlap_copy.proofs.TradeLaws.{traded-even}
 use Rattle.overlap_copy.proofs.exchanges.trade_run.Goals as goal
 

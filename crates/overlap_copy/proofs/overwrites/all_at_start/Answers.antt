@@ -1,6 +1,4 @@
-use Rattle.std.proofs.Common.{◌≡◌, ◌<◌, Bool, false, true, replicate, sym, ap, subst, ◌∙◌}
-use Rattle.std.specs.Option.{IsSome}
-use Rattle.overlap_copy.specs.Words.{LieWithin, max_bytes, count, length-offsets}
+use Rattle.overlap_copy.proofs.Words.{◌≡◌, ◌<◌, Bool, false, true, replicate, sym, ap, subst, ◌∙◌, IsSome, LieWithin, max_bytes, count, length-offsets}
 use Rattle.overlap_copy.proofs.OverwriteLaws.{start-offsets, start-within}
 use Rattle.overlap_copy.proofs.overwrites.all_at_start.Goals as goal
 

@@ -1,6 +1,4 @@
-use Rattle.std.proofs.Common.{length, ap, ◌∙◌}
-use Rattle.std.proofs.lemmas.Result.{IfOk-weaker}
-use Rattle.overlap_copy.specs.Words.{offsets, items_at, with_items}
+use Rattle.overlap_copy.proofs.Words.{length, ap, ◌∙◌, IfOk-weaker, offsets, items_at, with_items}
 use Rattle.overlap_copy.proofs.OverwriteLaws.{same-items}
 use Rattle.overlap_copy.proofs.overwrites.overwrite_each.Goals as goal
 

@@ -1,9 +1,6 @@
-use Rattle.std.proofs.Common.{◌≡◌, ◌+◌, ◌≤◌, length, refl, sym, ap, subst, ◌∙◌}
-use Rattle.std.proofs.lemmas.List.Elements.{All-rest}
-use Rattle.overlap_copy.specs.Words.{BeginsWithin, IsNested, run_offsets, next_pair}
+use Rattle.overlap_copy.proofs.Words.{◌≡◌, ◌+◌, ◌≤◌, length, refl, sym, ap, subst, ◌∙◌, All-rest, BeginsWithin, IsNested, run_offsets, next_pair, firsts, seconds}
 use Rattle.overlap_copy.proofs.MovingLaws.{nested-front}
 use Rattle.overlap_copy.proofs.OverwriteLaws.{all-left, left-on, next-all, next-room}
-use Rattle.overlap_copy.specs.inside.Moves.{firsts, seconds}
 use Rattle.overlap_copy.proofs.overwrites.overwrite_pairs.Goals as goal
 
 pub loop-pair-init : goal.loop-pair-init

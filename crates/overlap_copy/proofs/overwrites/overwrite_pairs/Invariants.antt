@@ -1,7 +1,5 @@
-use Rattle.std.proofs.Common.{◌≡◌, ◌-◌, ◌*◌, length, All}
-use Rattle.overlap_copy.specs.Words.{BeginsWithin}
+use Rattle.overlap_copy.proofs.Words.{◌≡◌, ◌-◌, ◌*◌, length, All, BeginsWithin, firsts, seconds}
 use Rattle.overlap_copy.proofs.OverwriteLaws.{IsLeft, overwritten}
-use Rattle.overlap_copy.specs.inside.Moves.{firsts, seconds}
 use Rattle.overlap_copy.proofs.overwrites.overwrite_pairs.Given as goal
 
 -- the remaining pairs complete what all pairs do

@@ -1,5 +1,4 @@
-use Rattle.std.proofs.Common.{◌+◌, ◌*◌, ◌≤◌, length, ap, refl, ◌∙◌, arith}
-use Rattle.overlap_copy.specs.Words.{length-run_offsets, run-within}
+use Rattle.overlap_copy.proofs.Words.{◌+◌, ◌*◌, ◌≤◌, length, ap, refl, ◌∙◌, arith, length-run_offsets, run-within}
 use Rattle.overlap_copy.proofs.OverwriteLaws.{all-left, left-on, next-all, next-room}
 use Rattle.overlap_copy.proofs.overwrites.overwrite_run.Goals as goal
 

@@ -1,7 +1,4 @@
-use Rattle.std.proofs.Common.{◌-◌, rules, w64, arith, sym, subst}
-use Rattle.std.proofs.lemmas.Int.{ints, to_z-of_z}
-use mir.Val.{SFits}
-use Rattle.overlap_copy.specs.Words.{BeginsWithin, max_bytes, begins_within, lie-within}
+use Rattle.overlap_copy.proofs.Words.{◌-◌, rules, w64, arith, sym, subst, ints, to_z-of_z, SFits, BeginsWithin, max_bytes, begins_within, lie-within}
 use Rattle.overlap_copy.proofs.OverwriteLaws.{run-split, rest-begins, rest-start}
 use Rattle.overlap_copy.proofs.overwrites.split.Goals as goal
 

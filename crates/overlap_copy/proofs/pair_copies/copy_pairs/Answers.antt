@@ -1,6 +1,4 @@
-use Rattle.std.proofs.Common.{◌≡◌, length, sym, subst, ◌∙◌}
-use Rattle.std.proofs.lemmas.List.Elements.{All-rest}
-use Rattle.overlap_copy.specs.Words.{EachWithin, next_pair}
+use Rattle.overlap_copy.proofs.Words.{◌≡◌, length, sym, subst, ◌∙◌, All-rest, EachWithin, next_pair}
 use Rattle.overlap_copy.proofs.PairCopies.{copied-pair}
 use Rattle.overlap_copy.proofs.pair_copies.copy_pairs.Goals as goal
 

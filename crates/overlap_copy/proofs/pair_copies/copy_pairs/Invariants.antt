@@ -1,6 +1,4 @@
-use Rattle.std.proofs.Common.{◌≡◌, length, All}
-use Rattle.overlap_copy.specs.Words.{EachWithin, assigned}
-use Rattle.overlap_copy.specs.inside.Moves.{firsts, seconds}
+use Rattle.overlap_copy.proofs.Words.{◌≡◌, length, All, EachWithin, assigned, firsts, seconds}
 use Rattle.overlap_copy.proofs.pair_copies.copy_pairs.Given as goal
 
 -- the remaining pairs complete what all pairs do

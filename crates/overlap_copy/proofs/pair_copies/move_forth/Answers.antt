@@ -1,6 +1,4 @@
-use Rattle.std.proofs.Common.{◌+◌, ◌*◌, ◌≤◌, length, arith, sym, subst, ◌∙◌}
-use Rattle.overlap_copy.specs.Words.{EachWithin}
-use Rattle.overlap_copy.specs.inside.Moves.{IsAssigned, place_in}
+use Rattle.overlap_copy.proofs.Words.{◌+◌, ◌*◌, ◌≤◌, length, arith, sym, subst, ◌∙◌, EachWithin, IsAssigned, place_in}
 use Rattle.overlap_copy.proofs.TurnLaws.{back-alike, moved_forwards, moved_backwards}
 use Rattle.overlap_copy.proofs.RunCopyLaws.{whole_within, packed_moved}
 use Rattle.overlap_copy.proofs.pair_copies.move_forth.Goals as goal

@@ -1,7 +1,4 @@
-use Rattle.std.proofs.Common.{◌≡◌, ◌++◌, length, All, sym, subst, ◌∙◌}
-use Rattle.std.proofs.lemmas.List.Elements.{All-rest}
-use Rattle.overlap_copy.specs.Words.{EachWithin, IsNested, run_offsets, length-run_offsets, assigned, next_pair}
-use Rattle.overlap_copy.specs.inside.Moves.{LieApart, firsts, seconds}
+use Rattle.overlap_copy.proofs.Words.{◌≡◌, ◌++◌, length, All, sym, subst, ◌∙◌, All-rest, EachWithin, IsNested, run_offsets, length-run_offsets, assigned, next_pair, LieApart, firsts, seconds}
 use Rattle.overlap_copy.proofs.PairCopies.{ends-of}
 use Rattle.overlap_copy.proofs.MovingLaws.{IsMoving, moving_begins, moving_on, nested-front, nested-back, fewer-targets, fewer-sources}
 use Rattle.overlap_copy.proofs.pair_copies.move_pairs.Goals as goal

@@ -1,6 +1,4 @@
-use Rattle.std.proofs.Common.{◌≡◌, length, All}
-use Rattle.overlap_copy.specs.Words.{EachWithin, IsNested, assigned}
-use Rattle.overlap_copy.specs.inside.Moves.{LieApart, firsts, seconds}
+use Rattle.overlap_copy.proofs.Words.{◌≡◌, length, All, EachWithin, IsNested, assigned, LieApart, firsts, seconds}
 use Rattle.overlap_copy.proofs.MovingLaws.{IsMoving}
 use Rattle.overlap_copy.proofs.pair_copies.move_pairs.Given as goal
 

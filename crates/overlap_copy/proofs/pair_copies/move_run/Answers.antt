@@ -1,9 +1,4 @@
-use Rattle.std.proofs.Common.{rules, ◌≡◌, ◌≤ℤ◌, ◌<ℤ◌, ℤ, pos, negsuc, true, length, w64, sym, ap, subst, ◌∙◌, arith}
-use Rattle.std.specs.Prelude.{int_lt, neg_ℤ}
-use Rattle.std.proofs.lemmas.Int.{ints, to_z-of_z}
-use mir.Val.{SFits}
-use Rattle.overlap_copy.specs.Words.{EachWithin, assigned}
-use Rattle.overlap_copy.specs.inside.Moves.{AreAlike}
+use Rattle.overlap_copy.proofs.Words.{rules, ◌≡◌, ◌≤ℤ◌, ◌<ℤ◌, ℤ, pos, negsuc, true, length, w64, sym, ap, subst, ◌∙◌, arith, int_lt, neg_ℤ, ints, to_z-of_z, SFits, EachWithin, assigned, AreAlike}
 use Rattle.overlap_copy.proofs.MovingLaws.{assigned_from_moves}
 use Rattle.overlap_copy.proofs.ShiftLaws.{back-line, one-offset}
 use Rattle.overlap_copy.proofs.TurnLaws.{spaced, back-alike, back-moved}

@@ -1,10 +1,4 @@
-use Rattle.std.proofs.Common.{rules, ◌≡◌, ◌/◌, ◌≤◌, length, w64, sym, subst, ◌∙◌}
-use Rattle.std.proofs.lemmas.Int.{to_z-of_z}
-use Rattle.std.proofs.Math.Nat.{div-le_self}
-use mir.Val.{SFits}
-use Rattle.raw_block.specs.declared.strided.StridedItems.{StridedItems}
-use Rattle.overlap_copy.specs.Words.{EachWithin, swapped}
-use Rattle.overlap_copy.specs.inside.Moves.{IsAssigned, place_in}
+use Rattle.overlap_copy.proofs.Words.{rules, ◌≡◌, ◌/◌, ◌≤◌, length, w64, sym, subst, ◌∙◌, to_z-of_z, div-le_self, SFits, StridedItems, EachWithin, swapped, IsAssigned, place_in}
 use Rattle.overlap_copy.proofs.MovingLaws.{assigned_from_moves}
 use Rattle.overlap_copy.proofs.TurnLaws.{turned_within, fewer_within, spaced}
 use Rattle.overlap_copy.proofs.SwapLaws.{turned_by_swaps}

@@ -1,6 +1,4 @@
-use Rattle.std.proofs.Common.{◌≡◌, ◌+◌, ◌||◌, false, length, get_or, nat_eq, take, drop, ◌++◌, ap, ◌∙◌, arith}
-use Rattle.std.specs.List.{list_any}
-use Rattle.overlap_copy.specs.Words.{offsets}
+use Rattle.overlap_copy.proofs.Words.{◌≡◌, ◌+◌, ◌||◌, false, length, get_or, nat_eq, take, drop, ◌++◌, ap, ◌∙◌, arith, list_any, offsets}
 use Rattle.overlap_copy.proofs.ShareLaws.{refilled, held-marks, none-clear}
 use Rattle.overlap_copy.proofs.share.held_bytes.Goals as goal
 

@@ -1,8 +1,4 @@
-use Rattle.std.proofs.Common.{◌+◌, ◌≤◌, ◌||◌, ap, sym, ◌∙◌}
-use Rattle.std.specs.List.{list_any}
-use Rattle.std.proofs.lemmas.List.Elements.{All-rest}
-use Rattle.overlap_copy.specs.Words.{max_bytes}
-use Rattle.overlap_copy.specs.inside.Marks.{is_end_marked}
+use Rattle.overlap_copy.proofs.Words.{◌+◌, ◌≤◌, ◌||◌, ap, sym, ◌∙◌, list_any, All-rest, max_bytes, is_end_marked}
 use Rattle.overlap_copy.proofs.share.is_any_end_marked.Goals as goal
 
 pub loop-offset-preserved : goal.loop-offset-preserved

@@ -1,7 +1,4 @@
-use Rattle.std.proofs.Common.{◌≡◌, ◌+◌, ◌≤◌, All}
-use Rattle.std.specs.List.{list_any}
-use Rattle.overlap_copy.specs.Words.{max_bytes}
-use Rattle.overlap_copy.specs.inside.Marks.{is_end_marked}
+use Rattle.overlap_copy.proofs.Words.{◌≡◌, ◌+◌, ◌≤◌, All, list_any, max_bytes, is_end_marked}
 use Rattle.overlap_copy.proofs.share.is_any_end_marked.Given as goal
 
 -- none was found so far

@@ -1,6 +1,4 @@
-use Rattle.std.proofs.Common.{◌+◌, ◌≤◌, ◌<◌, ◌||◌, false, length, get_or, nat_eq, ap, sym, ◌∙◌, subst, All}
-use Rattle.std.specs.List.{list_any}
-use Rattle.std.proofs.lemmas.List.Elements.{All-rest, All-head}
+use Rattle.overlap_copy.proofs.Words.{◌+◌, ◌≤◌, ◌<◌, ◌||◌, false, length, get_or, nat_eq, ap, sym, ◌∙◌, subst, All, list_any, All-rest, All-head}
 use Rattle.overlap_copy.proofs.MarkLaws.{mark_more}
 use Rattle.overlap_copy.proofs.share.mark_each.Goals as goal
 

@@ -1,5 +1,4 @@
-use Rattle.std.proofs.Common.{◌≡◌, ℕ, ◌+◌, ◌≤◌, ◌<◌, ◌||◌, false, length, get_or, nat_eq, All}
-use Rattle.std.specs.List.{list_any}
+use Rattle.overlap_copy.proofs.Words.{◌≡◌, ℕ, ◌+◌, ◌≤◌, ◌<◌, ◌||◌, false, length, get_or, nat_eq, All, list_any}
 use Rattle.overlap_copy.proofs.share.mark_each.Given as goal
 
 -- the remaining offsets add the missing marks

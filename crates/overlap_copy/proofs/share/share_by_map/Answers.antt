@@ -1,7 +1,4 @@
-use Rattle.std.proofs.Common.{◌+◌, ◌-◌, ◌≤◌, All, ◌∙◌, arith}
-use Rattle.std.specs.List.{list_any}
-use Rattle.overlap_copy.specs.Words.{max_bytes, offsets}
-use Rattle.overlap_copy.specs.inside.Marks.{is_end_marked}
+use Rattle.overlap_copy.proofs.Words.{◌+◌, ◌-◌, ◌≤◌, All, ◌∙◌, arith, list_any, max_bytes, offsets, is_end_marked}
 use Rattle.overlap_copy.proofs.OverlapLaws.{some_where_meet, common-ends}
 use Rattle.overlap_copy.proofs.ShareLaws.{ends-held}
 use Rattle.overlap_copy.proofs.share.share_by_map.Goals as goal

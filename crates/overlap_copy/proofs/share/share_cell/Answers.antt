@@ -1,5 +1,4 @@
-use Rattle.std.proofs.Common.{◌≡◌, Bool, IfOk, subst}
-use Rattle.overlap_copy.specs.Words.{offsets}
+use Rattle.overlap_copy.proofs.Words.{◌≡◌, Bool, IfOk, subst, offsets}
 use Rattle.overlap_copy.proofs.OverlapLaws.{common-turned}
 use Rattle.overlap_copy.proofs.share.share_cell.Goals as goal
 

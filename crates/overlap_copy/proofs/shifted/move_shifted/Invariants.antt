@@ -1,7 +1,4 @@
-use Rattle.std.proofs.Common.{◌≤◌, [], ◌∷◌, length, All}
-use Rattle.std.specs.List.{flat_map}
-use Rattle.overlap_copy.specs.Words.{max_bytes, LieWithin, run_offsets, assigned}
-use Rattle.overlap_copy.specs.inside.Shifts.{sources, MayCome}
+use Rattle.overlap_copy.proofs.Words.{◌≤◌, [], ◌∷◌, length, All, flat_map, max_bytes, LieWithin, run_offsets, assigned, sources, MayCome}
 use Rattle.overlap_copy.proofs.MovingLaws.{IsMoving}
 use Rattle.overlap_copy.proofs.shifted.move_shifted.Given as goal
 

@@ -1,51 +1,14 @@
 -- `allocate` lends out the first bytes of a new block, and keeps the right to free it. Assumes `Logic`.
-use Rattle.std.proofs.Common.{◌≡◌, ℕ, ◌+◌, ◌*◌, ◌/◌, ◌^◌, ◌<◌, List, [], ◌∷◌, ◌++◌, refl, ◌∙◌, w64, arith, lit<}
-use base.Logic.{SProp, id⊢}
-use base.Fml.{Lft, Share, ftrue, fwand, froom, flft}
-use mir.MapTy.{inst_fn}
-use mir.Syntax.{Ty, Fn, Args, Body, a_type, dcons, dnil}
-use mir.Val.{Val, vint, vptr, vcons, vnil}
-use contract.BorrowLft.{◌⊑◌, ⊑_trans}
-use contract.Monad.{fact}
-use contract.Running.{tables}
-use prog.Capped.{capped_is}
-use prog.Wp.{Env, Wp, WpFn, after_seq, at_return}
-use types.Kit.{‵, raw, ◌⊛◌, later, prop, at_ret, any_q, Post as After, ◌$◌, ◌∵◌, !, qed, done, move, keep, drop, use0, use1, use2, use3, split, join, fsplit, fjoin, flt_i, await, regoal, rewrite, suffices, frame}
-use types.Match.{live, vrt, in_variant}
-use types.Part.{whole, agg}
-use types.Run.{enter, of_opd, lit, stop, fld, and_then, no_more, first, exec, returns, switches_on}
-use types.ByLocal.{alloc_all, pass_all, free_all, look_at, get, get_in, get_tag, sets, sets_last, lands_as, env}
-use denote.Builtin.{usize, RefOf}
-use denote.Laws.{Is}
-use denote.Param.{param, bounded}
-use denote.RattleType.{RattleType, owns}
-use denote.RawPtr.{Ptr, block_ptr}
-use denote.Signature.{plain, types_at, type_at}
-use denote.Steps.{nothing, heard, owned}
+use Rattle.raw_block.proofs.Words.{◌≡◌, ℕ, ◌+◌, ◌*◌, ◌/◌, ◌^◌, ◌<◌, List, [], ◌∷◌, ◌++◌, refl, ◌∙◌, w64, arith, lit<, SProp, id⊢, Lft, Share, ftrue, fwand, froom, flft, inst_fn, Ty, Fn, Args, Body, a_type, dcons, dnil, Val, vint, vptr, vcons, vnil, ◌⊑◌, ⊑_trans, fact, tables, capped_is, Env, Wp, WpFn, after_seq, at_return, ‵, raw, ◌⊛◌, later, prop, at_ret, any_q, After, ◌$◌, ◌∵◌, !, qed, done, move, keep, use0, use1, use2, use3, split, join, fsplit, fjoin, flt_i, await, regoal, rewrite, suffices, frame, live, vrt, in_variant, whole, agg, enter, of_opd, lit, stop, fld, and_then, no_more, first, exec, returns, switches_on, alloc_all, pass_all, free_all, look_at, get, get_in, get_tag, sets, sets_last, lands_as, env, usize, RefOf, Is, param, bounded, RattleType, owns, Ptr, block_ptr, plain, types_at, type_at, nothing, heard, owned, shape, Struct, Struct-Makes, Tuple, calls_at, alive, Stays, walk_of, says, stay_dropped, Goes-dropped, ends_at, Al, seen, Takes, at_takes, Answered, Takes-goes, Takes-gives, answers, head, arm_body, fm, proved_at, Ok, Err, word, word-Good, ok_of, err_of, words, unwritten, IsSizeFor, ended, clauses, #self}
+use types.Kit.{drop}
 use denote.Struct.Declared as Declared
-use denote.Struct.Owning.{shape}
-use denote.Struct.Struct.{Struct, Struct-Makes}
-use denote.Struct.Tuple.{Tuple}
-use denote.Triple.Call.{calls_at}
-use denote.Triple.Entry.{alive}
-use denote.Triple.Walked.{Stays, walk_of, says, stay_dropped, Goes-dropped, ends_at}
-use Rattle.core.proofs.alloc.Calls.{Al, seen, Takes, at_takes, Answered, Takes-goes, Takes-gives, answers}
-use Rattle.core.proofs.alloc.Shapes.{after, head, arm_body}
-use Rattle.core.proofs.atomic.Steps.{fm}
+use Rattle.core.proofs.alloc.Shapes.{after}
 use Rattle.core.specs.contracts.alloc.AllocError as AE
-use Rattle.std.proofs.raw_atomic.Walks.{proved_at}
-use Rattle.std.specs.Prelude.{Ok, Err}
-use Rattle.std_alloc.proofs.RcSteps.{word, word-Good}
-use Rattle.std_alloc.proofs.ResultValues.{ok_of, err_of}
-use Rattle.raw_block.specs.Ownership.{words, unwritten}
-use Rattle.raw_block.specs.inside.Sizes.{IsSizeFor}
 use Rattle.raw_block.proofs.Carving.{carve}
 use Rattle.raw_block.proofs.Values.{no_fields, mark, three_val, base_made, bytes_made, deed_made, three_of}
 use Rattle.raw_block.specs.contracts.base.Base as B
 use Rattle.raw_block.specs.contracts.base.Bytes as Y
 use Rattle.raw_block.specs.contracts.base.Deed as D
-use Rattle.raw_block.specs.contracts.base.allocate.{ended, clauses}
-use Rattle.raw_block.specs.contracts.base.allocate.Key.{name as #self}
 use Rattle.raw_block.proofs.base.allocate.Statement.{statement}
 use Rattle.raw_block.proofs.base.allocate.Code as compiled
 

@@ -1,38 +1,7 @@
 -- `deallocate` restores the block from the bytes, and gives it back with the allocator's token. Assumes `Logic`.
-use Rattle.std.proofs.Common.{◌≡◌, ℕ, ◌+◌, ◌*◌, ◌/◌, ◌^◌, ◌<◌, List, [], ◌∷◌, ◌++◌, length, refl, sym, ap, subst, ◌∙◌, w64, arith, lit<, T}
-use base.Logic.{SProp, id⊢, apply∗}
-use base.Fml.{Lft, Share, ftrue, froom, flft}
-use mir.MapTy.{inst_fn}
-use mir.Syntax.{Ty, Fn, Args, a_type, dcons, dnil, ty_unit}
-use mir.Val.{Val, vint, vptr, vunit, has_ty, WT}
-use contract.BorrowLft.{◌⊑◌, ⊑_trans}
-use contract.Monad.{fact}
-use contract.Running.{tables}
-use prog.Capped.{capped_is}
-use prog.Wp.{Env, WpFn}
-use types.Logic.{sem}
-use types.Kit.{‵, raw, ◌⊛◌, given, later, prop, at_ret, ◌$◌, ◌∵◌, !, qed, done, move, keep, drop, use1, use2, split, join, group, learn, fsplit, fjoin, feq_i, await, regoal, rewrite, suffices}
-use types.Part.{whole, sub}
-use types.Run.{enter, of_opd, lit, unit_lit, stop, fld, and_then, no_more, first, blocks, exec, returns}
-use types.ByLocal.{alloc_all, pass_all, free_all, look_at, get, get_in, sets, lands_last, env}
-use denote.Builtin.{usize, RefOf}
-use denote.Param.{param, bounded}
-use denote.Param.Laws.{param_laws}
-use denote.RattleType.{RattleType, owns}
-use denote.RawPtr.{Ptr, block_ptr, in_a_block}
-use denote.Signature.{plain, types_at}
-use denote.Steps.{nothing, heard}
-use denote.Struct.Laws.{tells}
-use denote.Triple.Call.{calls_at_last}
-use denote.Triple.Entry.{alive}
-use denote.Triple.Walked.{Stays, walk_of, stay_dropped, Goes-dropped, ends_at}
-use Rattle.core.proofs.alloc.Calls.{Al, seen, Goes-blank, Gives, at_gives, Gives-goes, Gives-Gives}
+use Rattle.raw_block.proofs.Words.{◌≡◌, ℕ, ◌+◌, ◌*◌, ◌/◌, ◌^◌, ◌<◌, List, [], ◌∷◌, ◌++◌, length, refl, sym, ap, subst, ◌∙◌, w64, arith, lit<, T, SProp, id⊢, apply∗, Lft, Share, ftrue, froom, flft, inst_fn, Ty, Fn, Args, a_type, dcons, dnil, ty_unit, Val, vint, vptr, vunit, has_ty, WT, ◌⊑◌, ⊑_trans, fact, tables, capped_is, Env, WpFn, sem, ‵, raw, ◌⊛◌, given, later, prop, at_ret, ◌$◌, ◌∵◌, !, qed, done, move, keep, use1, use2, split, join, group, learn, fsplit, fjoin, feq_i, await, regoal, rewrite, suffices, whole, sub, enter, of_opd, lit, unit_lit, stop, fld, and_then, no_more, first, blocks, exec, returns, alloc_all, pass_all, free_all, look_at, get, get_in, sets, lands_last, env, usize, RefOf, param, bounded, param_laws, RattleType, owns, Ptr, block_ptr, in_a_block, plain, types_at, nothing, heard, tells, calls_at_last, alive, Stays, walk_of, stay_dropped, Goes-dropped, ends_at, Al, seen, Goes-blank, Gives, at_gives, Gives-goes, Gives-Gives, fm, proved_at, word, word-Good, words, unwritten, bytes_own, deed_owns, IsSizeFor}
+use types.Kit.{drop}
 use Rattle.core.proofs.alloc.Shapes.{after}
-use Rattle.core.proofs.atomic.Steps.{fm}
-use Rattle.std.proofs.raw_atomic.Walks.{proved_at}
-use Rattle.std_alloc.proofs.RcSteps.{word, word-Good}
-use Rattle.raw_block.specs.Ownership.{words, unwritten, bytes_own, deed_owns}
-use Rattle.raw_block.specs.inside.Sizes.{IsSizeFor}
 use Rattle.raw_block.proofs.Carving.{blank}
 use Rattle.raw_block.proofs.Values.{no_fields, mark}
 use Rattle.raw_block.proofs.base.Base.TheLaws as base_laws

@@ -1,6 +1,4 @@
-use Rattle.std.proofs.Common.{◌≡◌, ◌+◌, ◌*◌, suc, length, sym, subst, ◌∙◌, w64, arith}
-use Rattle.std.proofs.lemmas.Int.{to_z_pos}
-use Rattle.raw_block.specs.Bytes.{place, copied, EachWithin}
+use Rattle.raw_block.proofs.Words.{◌≡◌, ◌+◌, ◌*◌, suc, length, sym, subst, ◌∙◌, w64, arith, to_z_pos, place, copied, EachWithin}
 use Rattle.raw_block.proofs.Grids.{AreWritten, one_more, all_written}
 use Rattle.raw_block.proofs.grid.copy_by_columns.Goals as goal
 

@@ -1,5 +1,4 @@
-use Rattle.std.proofs.Common.{◌≡◌}
-use Rattle.raw_block.specs.Bytes.{put, item_at}
+use Rattle.raw_block.proofs.Words.{◌≡◌, put, item_at}
 use Rattle.raw_block.proofs.item.move_down.Given as goal
 
 abbrev pub invariant-loop-i : goal.invariant-loop-i

@@ -1,5 +1,4 @@
-use Rattle.std.proofs.Common.{◌≡◌, suc, ◌+◌, ◌-◌, ap, ◌∙◌, arith}
-use Rattle.raw_block.specs.Bytes.{put, item_at}
+use Rattle.raw_block.proofs.Words.{◌≡◌, suc, ◌+◌, ◌-◌, ap, ◌∙◌, arith, put, item_at}
 use Rattle.raw_block.proofs.Puts.{moved_up}
 use Rattle.raw_block.proofs.item.move_up.Goals as goal
 

@@ -1,5 +1,4 @@
-use Rattle.std.proofs.Common.{◌≡◌, suc, ◌+◌, ◌-◌, ◌*◌, ◌^◌, ◌<◌, length, get_or, ap, ◌∙◌, subst, arith}
-use Rattle.raw_block.specs.Bytes.{little_from}
+use Rattle.raw_block.proofs.Words.{◌≡◌, suc, ◌+◌, ◌-◌, ◌*◌, ◌^◌, ◌<◌, length, get_or, ap, ◌∙◌, subst, arith, little_from}
 use Rattle.raw_block.proofs.Numbers.{little_step, small_step, fits_word}
 use Rattle.raw_block.proofs.item.number_of.Goals as goal
 

@@ -1,5 +1,4 @@
-use Rattle.std.proofs.Common.{◌≡◌, ◌-◌, ◌^◌, ◌<◌, length}
-use Rattle.raw_block.specs.Bytes.{little_from}
+use Rattle.raw_block.proofs.Words.{◌≡◌, ◌-◌, ◌^◌, ◌<◌, length, little_from}
 use Rattle.raw_block.proofs.item.number_of.Given as goal
 
 abbrev pub invariant-loop-i : goal.invariant-loop-i

@@ -1,5 +1,4 @@
-use Rattle.std.proofs.Common.{◌∙◌}
-use Rattle.raw_block.specs.Bytes.{put}
+use Rattle.raw_block.proofs.Words.{◌∙◌, put}
 use Rattle.raw_block.proofs.Exchanges.{exchanged-apart}
 use Rattle.raw_block.proofs.item.swap_apart.Goals as goal
 

@@ -1,5 +1,4 @@
-use Rattle.std.proofs.Common.{◌≡◌}
-use Rattle.raw_block.specs.Bytes.{exchanged}
+use Rattle.raw_block.proofs.Words.{◌≡◌, exchanged}
 use Rattle.raw_block.proofs.item.swap_items.Given as goal
 
 abbrev pub invariant-loop-i : goal.invariant-loop-i

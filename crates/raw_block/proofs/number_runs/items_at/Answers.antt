@@ -1,8 +1,6 @@
-use Rattle.std.proofs.Common.{◌≡◌, ◌+◌, ◌-◌, ◌*◌, ◌/◌, ℕ, length, take, drop, ap, ◌∙◌, arith, length-take, length-drop}
-use Rattle.std.proofs.Math.Nat.{mul-div_cancel_left}
+use Rattle.raw_block.proofs.Words.{◌≡◌, ◌+◌, ◌-◌, ◌*◌, ◌/◌, ℕ, length, take, drop, ap, ◌∙◌, arith, length-take, length-drop, mul-div_cancel_left, length-chunks}
 use Rattle.raw_block.proofs.Runs.{item_of_run}
 use Rattle.raw_block.proofs.number_runs.items_at.Goals as goal
-use Rattle.raw_block.specs.BytesLaws.{length-chunks}
 
 pub returns : goal.returns
 returns g c =

@@ -1,6 +1,4 @@
-use Rattle.std.proofs.Common.{◌≡◌, ◌+◌, ◌*◌, ◌++◌, ℕ, suc, length, ap, ◌∙◌, append_assoc, length-append, suc-mul, arith}
-use Rattle.raw_block.specs.Bytes.{place, item_at, joined}
-use Rattle.raw_block.specs.BytesLaws.{length-item_at, place_within}
+use Rattle.raw_block.proofs.Words.{◌≡◌, ◌+◌, ◌*◌, ◌++◌, ℕ, suc, length, ap, ◌∙◌, append_assoc, length-append, suc-mul, arith, place, item_at, joined, length-item_at, place_within}
 use Rattle.raw_block.proofs.pushing.push_arrays.Goals as goal
 
 pub loop-k-preserved : goal.loop-k-preserved

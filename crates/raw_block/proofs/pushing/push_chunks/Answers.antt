@@ -1,7 +1,4 @@
-use Rattle.std.proofs.Common.{◌≡◌, ◌++◌, length, take, sym, ap, ◌∙◌, append_assoc, length-append, arith}
-use Rattle.std.proofs.Math.Seq.{take-add}
-use Rattle.raw_block.specs.Bytes.{item_at}
-use Rattle.raw_block.specs.BytesLaws.{length-item_at}
+use Rattle.raw_block.proofs.Words.{◌≡◌, ◌++◌, length, take, sym, ap, ◌∙◌, append_assoc, length-append, arith, take-add, item_at, length-item_at}
 use Rattle.raw_block.proofs.pushing.push_chunks.Goals as goal
 
 pub loop-done-preserved : goal.loop-done-preserved

@@ -1,5 +1,4 @@
-use Rattle.std.proofs.Common.{◌≡◌, ◌+◌, ◌*◌, ◌++◌, ℕ, suc, length, sym, ap, ◌∙◌, append_assoc, length-append, suc-mul, arith}
-use Rattle.raw_block.specs.Bytes.{place, item_at, joined}
+use Rattle.raw_block.proofs.Words.{◌≡◌, ◌+◌, ◌*◌, ◌++◌, ℕ, suc, length, sym, ap, ◌∙◌, append_assoc, length-append, suc-mul, arith, place, item_at, joined}
 use Rattle.raw_block.proofs.pushing.push_each.Goals as goal
 
 pub loop-k-preserved : goal.loop-k-preserved

@@ -1,6 +1,5 @@
-use Rattle.std.proofs.Common.{◌+◌, ◌*◌, ◌++◌, length, sym, ap, ◌∙◌, length-append, arith}
+use Rattle.raw_block.proofs.Words.{◌+◌, ◌*◌, ◌++◌, length, sym, ap, ◌∙◌, length-append, arith, joined_run}
 use Rattle.raw_block.proofs.Runs.{run_within}
-use Rattle.raw_block.specs.JoinedLaws.{joined_run}
 use Rattle.raw_block.proofs.pushing.push_items.Goals as goal
 
 pub part-requires : goal.part-requires

@@ -1,7 +1,4 @@
-use Rattle.std.proofs.Common.{◌≡◌, pos, length, sym, ap, ◌∙◌, w64, arith, rules}
-use Rattle.std.proofs.lemmas.Int.{to_z-of_z}
-use mir.Val.{SFits, to_z}
-use Rattle.raw_block.specs.Bytes.{put, copied, filled}
+use Rattle.raw_block.proofs.Words.{◌≡◌, pos, length, sym, ap, ◌∙◌, w64, arith, rules, to_z-of_z, SFits, to_z, put, copied, filled}
 use Rattle.raw_block.proofs.Runs.{run_within, copied-run, copied-one}
 use Rattle.raw_block.proofs.strided.copy.Goals as goal
 

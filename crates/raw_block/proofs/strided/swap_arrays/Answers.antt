@@ -1,6 +1,4 @@
-use Rattle.std.proofs.Common.{◌⊎◌, ◌+◌, ◌-◌, ◌<◌, ◌≤◌, max, min, inl, inr, length, arith}
-use Rattle.raw_block.specs.Bytes.{place}
-use Rattle.raw_block.specs.BytesLaws.{place_within}
+use Rattle.raw_block.proofs.Words.{◌⊎◌, ◌+◌, ◌-◌, ◌<◌, ◌≤◌, max, min, inl, inr, length, arith, place, place_within}
 use Rattle.raw_block.proofs.Exchanges.{first_within, beside-apart}
 use Rattle.raw_block.proofs.strided.swap_arrays.Goals as goal
 

@@ -1,5 +1,4 @@
-use Rattle.std.proofs.Common.{◌≡◌}
-use Rattle.raw_block.specs.Bytes.{swapped}
+use Rattle.raw_block.proofs.Words.{◌≡◌, swapped}
 use Rattle.raw_block.proofs.strided.swap_each.Given as goal
 
 abbrev pub invariant-loop-k : goal.invariant-loop-k

@@ -1,7 +1,4 @@
-use Rattle.std.proofs.Common.{◌≡◌, ◌≤◌, [], length}
-use Rattle.std.specs.Prelude.{vec_capacity}
-use Rattle.reductions.specs.Words.{number_of_side}
-use Rattle.reductions.specs.inside.Lines.{EachOf}
+use Rattle.reductions.proofs.Words.{◌≡◌, ◌≤◌, [], length, vec_capacity, number_of_side, EachOf}
 use Rattle.reductions.proofs.fills.begin.Given as goal
 
 -- the first lines have a state

@@ -1,8 +1,4 @@
-use Rattle.std.proofs.Common.{◌≡◌, ◌+◌, ◌≤◌, ℤ, List, [], ◌∷◌, ◌++◌, All, length, drop, refl, sym, ap, subst, ◌∙◌, arith, append_assoc, append-nil, length-append}
-use Rattle.std.proofs.lemmas.List.{map-append}
-use Rattle.std.proofs.lemmas.List.Elements.{All-head, All-rest}
-use Rattle.reductions.specs.Words.{EachWithin, runs-within, max_bytes, offsets, length-offsets, entry-first, all_offsets, run_offsets, runs, length-first}
-use Rattle.reductions.specs.inside.Numbers.{number_at, numbers_at}
+use Rattle.reductions.proofs.Words.{◌≡◌, ◌+◌, ◌≤◌, ℤ, List, [], ◌∷◌, ◌++◌, All, length, drop, refl, sym, ap, subst, ◌∙◌, arith, append_assoc, append-nil, length-append, map-append, All-head, All-rest, EachWithin, runs-within, max_bytes, offsets, length-offsets, entry-first, all_offsets, run_offsets, runs, length-first, number_at, numbers_at}
 use Rattle.reductions.proofs.LineLaws.{headed, length-numbers}
 use Rattle.reductions.proofs.fills.fold_all.Goals as goal
 

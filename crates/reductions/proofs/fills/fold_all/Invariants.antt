@@ -1,6 +1,4 @@
-use Rattle.std.proofs.Common.{◌≡◌, ◌+◌, All, length}
-use Rattle.reductions.specs.Words.{EachWithin, count, offsets, all_offsets}
-use Rattle.reductions.specs.inside.Numbers.{number_at, numbers_at}
+use Rattle.reductions.proofs.Words.{◌≡◌, ◌+◌, All, length, EachWithin, count, offsets, all_offsets, number_at, numbers_at}
 use Rattle.reductions.proofs.LineLaws.{TakesOn}
 use Rattle.reductions.proofs.fills.fold_all.Given as goal
 

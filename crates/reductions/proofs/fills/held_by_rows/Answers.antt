@@ -1,8 +1,4 @@
-use Rattle.std.proofs.Common.{◌+◌, ◌<◌, [], ◌∷◌, ◌++◌, length, take, drop, sym, ap, subst, ◌∙◌, get_or}
-use Rattle.std.proofs.Math.Seq.{take-append_seam}
-use Rattle.reductions.specs.Words.{place}
-use Rattle.reductions.specs.inside.Lines.{line_first, line_front, line_run}
-use Rattle.reductions.specs.inside.Numbers.{number_at}
+use Rattle.reductions.proofs.Words.{◌+◌, ◌<◌, [], ◌∷◌, ◌++◌, length, take, drop, sym, ap, subst, ◌∙◌, get_or, take-append_seam, place, line_first, line_front, line_run, number_at}
 use Rattle.reductions.proofs.LineLaws.{front, numbers-more, length-numbers, at_first}
 use Rattle.reductions.proofs.RowLaws.{row_number}
 use Rattle.reductions.proofs.fills.held_by_rows.Goals as goal

@@ -1,6 +1,4 @@
-use Rattle.std.proofs.Common.{◌*◌, ◌<◌, ◌≤◌, ◌^◌, ℕ, List, All, length}
-use Rattle.reductions.specs.Words.{EachWithin, all_offsets, offsets}
-use Rattle.reductions.specs.inside.Numbers.{lines, AddsReduced}
+use Rattle.reductions.proofs.Words.{◌*◌, ◌<◌, ◌≤◌, ◌^◌, ℕ, List, All, length, EachWithin, all_offsets, offsets, lines, AddsReduced}
 use Rattle.reductions.proofs.fills.push_along.Given as goal
 
 -- what the remaining runs append completes the whole

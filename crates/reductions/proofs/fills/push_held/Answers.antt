@@ -1,8 +1,4 @@
-use Rattle.std.proofs.Common.{◌≡◌, ◌-◌, ℤ, List, ◌∷◌, pos, map, sym, ap, subst, ◌∙◌, arith}
-use Rattle.std.specs.Prelude.{◌+ℤ◌}
-use Rattle.reductions.specs.Words.{Little, numbers_from, place, natural, run_offsets}
-use Rattle.reductions.specs.inside.Lines.{line_run, line_first}
-use Rattle.reductions.specs.inside.Numbers.{numbers_at, lines, AddsReduced}
+use Rattle.reductions.proofs.Words.{◌≡◌, ◌-◌, ℤ, List, ◌∷◌, pos, map, sym, ap, subst, ◌∙◌, arith, ◌+ℤ◌, Little, numbers_from, place, natural, run_offsets, line_run, line_first, numbers_at, lines, AddsReduced}
 use Rattle.reductions.proofs.LineLaws.{front, numbers-first}
 use Rattle.reductions.proofs.AddedLaws.{adds_none, line_added, has_room}
 use Rattle.reductions.proofs.fills.push_held.Goals as goal

@@ -1,5 +1,4 @@
-use Rattle.reductions.specs.Words.{run_offsets}
-use Rattle.reductions.specs.inside.Numbers.{lines, AddsReduced}
+use Rattle.reductions.proofs.Words.{run_offsets, lines, AddsReduced}
 use Rattle.reductions.proofs.LineLaws.{front}
 use Rattle.reductions.proofs.fills.push_lines.Given as goal
 

@@ -1,7 +1,4 @@
-use Rattle.std.proofs.Common.{◌≡◌, ◌*◌, ◌<◌, ◌^◌, [], ◌∷◌, length, sym, subst, ◌∙◌, arith}
-use Rattle.std.proofs.lemmas.List.{length-map}
-use Rattle.reductions.specs.Words.{Little, encode, number, offsets, length-offsets, run_along, run_offsets}
-use Rattle.reductions.specs.inside.Numbers.{number_at, numbers_at, lines, lists_from, IsStored, AreReduced}
+use Rattle.reductions.proofs.Words.{◌≡◌, ◌*◌, ◌<◌, ◌^◌, [], ◌∷◌, length, sym, subst, ◌∙◌, arith, length-map, Little, encode, number, offsets, length-offsets, run_along, run_offsets, number_at, numbers_at, lines, lists_from, IsStored, AreReduced}
 use Rattle.reductions.proofs.AddedLaws.{adds_one, whole, full}
 use Rattle.reductions.proofs.fills.reduced.Goals as goal
 

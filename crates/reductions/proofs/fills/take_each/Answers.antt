@@ -1,7 +1,4 @@
-use Rattle.std.proofs.Common.{◌<◌, ℕ, [], ◌∷◌, ◌++◌, length, refl, sym, subst, ◌∙◌, arith}
-use Rattle.std.proofs.lemmas.List.{length-set, get_or_default}
-use Rattle.reductions.specs.Words.{number_of_side}
-use Rattle.reductions.specs.inside.Numbers.{TakesIn}
+use Rattle.reductions.proofs.Words.{◌<◌, ℕ, [], ◌∷◌, ◌++◌, length, refl, sym, subst, ◌∙◌, arith, length-set, get_or_default, number_of_side, TakesIn}
 use Rattle.reductions.proofs.HeldLaws.{pair_set, later_set}
 use Rattle.reductions.proofs.fills.take_each.Goals as goal
 

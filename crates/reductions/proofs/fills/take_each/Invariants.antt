@@ -1,7 +1,4 @@
-use Rattle.std.proofs.Common.{◌≡◌, ◌≤◌, [], ◌∷◌, length}
-use Rattle.reductions.specs.Words.{number_of_side}
-use Rattle.reductions.specs.inside.Lines.{EachPair}
-use Rattle.reductions.specs.inside.Numbers.{TakesIn}
+use Rattle.reductions.proofs.Words.{◌≡◌, ◌≤◌, [], ◌∷◌, length, number_of_side, EachPair, TakesIn}
 use Rattle.reductions.proofs.fills.take_each.Given as goal
 
 -- the first lines have visited their number, and the later ones are unchanged

@@ -1,7 +1,4 @@
-use Rattle.std.proofs.Common.{sym, ap, ◌∙◌}
-use Rattle.std.proofs.Math.Bool.{beq}
-use Rattle.std.specs.Prelude.{nat_eq, not}
-use Rattle.reductions.specs.inside.FoldLaws.{is_true_bits}
+use Rattle.reductions.proofs.Words.{sym, ap, ◌∙◌, beq, nat_eq, not, is_true_bits}
 use Rattle.reductions.proofs.DecidedLaws.{none_better}
 use Rattle.reductions.proofs.folds.is_last.Goals as goal
 

@@ -1,6 +1,4 @@
-use Rattle.std.proofs.Common.{◌-◌, ◌≤◌}
-use Rattle.reductions.specs.inside.Numbers.{numbers_at, TakesIn}
-use Rattle.reductions.specs.Words.{run_offsets}
+use Rattle.reductions.proofs.Words.{◌-◌, ◌≤◌, numbers_at, TakesIn, run_offsets}
 use Rattle.reductions.proofs.LineLaws.{front}
 use Rattle.reductions.proofs.lines.fold_blocks.Given as goal
 

@@ -1,6 +1,4 @@
-use Rattle.std.proofs.Common.{◌++◌, sym, subst, ◌∙◌, arith, length-append}
-use Rattle.reductions.specs.Words.{run_offsets}
-use Rattle.reductions.specs.inside.Numbers.{numbers_at}
+use Rattle.reductions.proofs.Words.{◌++◌, sym, subst, ◌∙◌, arith, length-append, run_offsets, numbers_at}
 use Rattle.reductions.proofs.LineLaws.{front, one_more, length-numbers, side_number}
 use Rattle.reductions.proofs.lines.fold_each.Goals as goal
 

@@ -1,7 +1,4 @@
-use Rattle.std.proofs.Common.{◌≡◌}
-use Rattle.reductions.specs.Words.{run_offsets}
-use Rattle.reductions.specs.Reductions.{first_place}
-use Rattle.reductions.specs.inside.Numbers.{numbers_at}
+use Rattle.reductions.proofs.Words.{◌≡◌, run_offsets, first_place, numbers_at}
 use Rattle.reductions.proofs.LineLaws.{front}
 use Rattle.reductions.proofs.lines.place_of.Given as goal
 

@@ -1,5 +1,4 @@
-use Rattle.std.proofs.Common.{◌≡◌, drop}
-use Rattle.reductions.specs.Words.{count}
+use Rattle.reductions.proofs.Words.{◌≡◌, drop, count}
 use Rattle.reductions.proofs.reduced_axis.have_items.Given as goal
 
 -- if a length is 0, it is one of the remaining lengths

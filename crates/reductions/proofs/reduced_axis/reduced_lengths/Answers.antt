@@ -1,5 +1,4 @@
-use Rattle.std.proofs.Common.{sym, ◌∙◌}
-use Rattle.reductions.specs.Lists.{reduced_shape}
+use Rattle.reductions.proofs.Words.{sym, ◌∙◌, reduced_shape}
 use Rattle.reductions.proofs.AxisLaws.{ones}
 use Rattle.reductions.proofs.reduced_axis.reduced_lengths.Goals as goal
 

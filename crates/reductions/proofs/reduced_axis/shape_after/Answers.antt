@@ -1,9 +1,4 @@
-use Rattle.std.proofs.Common.{inr, sym, ap, subst, ◌∙◌}
-use Rattle.std.specs.Prelude.{◌&&◌}
-use Rattle.reductions.specs.Words.{Gives, shape_of}
-use Rattle.reductions.specs.Lists.{reduced_shape}
-use Rattle.reductions.specs.Outcomes.{has_empty_list}
-use Rattle.reductions.specs.Reductions.{needs_items}
+use Rattle.reductions.proofs.Words.{inr, sym, ap, subst, ◌∙◌, ◌&&◌, Gives, shape_of, reduced_shape, has_empty_list, needs_items}
 use Rattle.reductions.proofs.OutcomeLaws.{after_empty, after_some}
 use Rattle.reductions.proofs.reduced_axis.shape_after.Goals as goal
 

@@ -1,6 +1,4 @@
-use Rattle.std.proofs.Common.{sym, ap, subst, ◌∙◌}
-use Rattle.std.specs.List.{remove}
-use Rattle.reductions.specs.Words.{IsShape}
+use Rattle.reductions.proofs.Words.{sym, ap, subst, ◌∙◌, remove, IsShape}
 use Rattle.reductions.proofs.AxisLaws.{IsShape-remove}
 use Rattle.reductions.proofs.reduced_axis.shape_without.Goals as goal
 

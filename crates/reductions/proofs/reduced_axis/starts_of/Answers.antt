@@ -1,5 +1,4 @@
-use Rattle.std.proofs.Common.{ap, ◌∙◌}
-use Rattle.std.specs.List.{remove}
+use Rattle.reductions.proofs.Words.{ap, ◌∙◌, remove}
 use Rattle.reductions.proofs.AxisLaws.{layout_without}
 use Rattle.reductions.proofs.reduced_axis.starts_of.Goals as goal
 

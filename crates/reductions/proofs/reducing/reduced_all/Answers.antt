@@ -1,5 +1,4 @@
-use Rattle.std.proofs.Common.{refl}
-use Rattle.reductions.specs.Words.{offsets, pair_even, firsts-reordered}
+use Rattle.reductions.proofs.Words.{refl, offsets, pair_even, firsts-reordered}
 use Rattle.reductions.proofs.reducing.reduced_all.Goals as goal
 
 pub reduced_near-requires-clause-same : goal.reduced_near-requires-clause-same

@@ -1,8 +1,4 @@
-use Rattle.std.proofs.Common.{◌+◌, ◌≤◌, All, length, sym, subst}
-use Rattle.std.specs.Prelude.{IfOk}
-use Rattle.reductions.specs.Words.{size, offsets}
-use Rattle.reductions.specs.Reductions.{result_scalar}
-use Rattle.reductions.specs.inside.Numbers.{AreReduced}
+use Rattle.reductions.proofs.Words.{◌+◌, ◌≤◌, All, length, sym, subst, IfOk, size, offsets, result_scalar, AreReduced}
 use Rattle.reductions.proofs.reducing.reduced_from.Goals as goal
 
 pub invariant_of-lists : goal.invariant_of-lists

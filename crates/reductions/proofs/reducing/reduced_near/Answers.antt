@@ -1,10 +1,4 @@
-use Rattle.std.proofs.Common.{◌+◌, ◌≤◌, [], ◌∷◌, Ok, Err, length, sym, subst, arith}
-use Rattle.std.specs.Prelude.{IfOk, Result}
-use Rattle.std.proofs.lemmas.List.Sorted.{All-permutation, length_permutation}
-use Rattle.reductions.specs.Words.{size, length-offsets, offsets}
-use Rattle.reductions.specs.Lists.{lists}
-use Rattle.reductions.specs.Reductions.{result_scalar}
-use Rattle.reductions.specs.inside.Numbers.{AreReduced}
+use Rattle.reductions.proofs.Words.{◌+◌, ◌≤◌, [], ◌∷◌, Ok, Err, length, sym, subst, arith, IfOk, Result, All-permutation, length_permutation, size, length-offsets, offsets, lists, result_scalar, AreReduced}
 use Rattle.reductions.proofs.OrderLaws.{results-reordered}
 use Rattle.reductions.proofs.reducing.reduced_near.Goals as goal
 

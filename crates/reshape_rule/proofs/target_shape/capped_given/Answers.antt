@@ -1,7 +1,4 @@
-use Rattle.std.proofs.Common.{◌≡◌, ◌+◌, ◌*◌, min, pos, drop, get_or, ap, ◌∙◌, arith, rules}
-use Rattle.std.proofs.lemmas.Int.{to_z-of_z}
-use Rattle.reshape_rule.specs.Words.{max_items}
-use Rattle.reshape_rule.specs.Targets.{given, length_or}
+use Rattle.reshape_rule.proofs.Words.{◌≡◌, ◌+◌, ◌*◌, min, pos, drop, get_or, ap, ◌∙◌, arith, rules, to_z-of_z, max_items, given, length_or}
 use Rattle.reshape_rule.proofs.TargetLaws.{capped-more}
 use Rattle.reshape_rule.proofs.target_shape.capped_given.Goals as goal
 

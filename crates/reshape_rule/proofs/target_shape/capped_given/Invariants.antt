@@ -1,6 +1,4 @@
-use Rattle.std.proofs.Common.{◌≡◌, ◌+◌, ◌*◌, ◌≤◌, min, drop}
-use Rattle.reshape_rule.specs.Words.{max_items}
-use Rattle.reshape_rule.specs.Targets.{given}
+use Rattle.reshape_rule.proofs.Words.{◌≡◌, ◌+◌, ◌*◌, ◌≤◌, min, drop, max_items, given}
 use Rattle.reshape_rule.proofs.target_shape.capped_given.Given as goal
 
 abbrev pub invariant-loop-number : goal.invariant-loop-number

@@ -1,5 +1,4 @@
-use Rattle.std.proofs.Common.{◌≡◌, ◌+◌, ◌≤◌, drop}
-use Rattle.reshape_rule.specs.Targets.{left_open}
+use Rattle.reshape_rule.proofs.Words.{◌≡◌, ◌+◌, ◌≤◌, drop, left_open}
 use Rattle.reshape_rule.proofs.target_shape.left_open.Given as goal
 
 abbrev pub invariant-loop-number : goal.invariant-loop-number

@@ -1,6 +1,4 @@
-use Rattle.std.proofs.Common.{◌≡◌, ◌+◌, min, map, take}
-use Rattle.reshape_rule.specs.Words.{max_items}
-use Rattle.reshape_rule.specs.Targets.{length_or}
+use Rattle.reshape_rule.proofs.Words.{◌≡◌, ◌+◌, min, map, take, max_items, length_or}
 use Rattle.reshape_rule.proofs.target_shape.lengths.Given as goal
 
 abbrev pub invariant-loop-number : goal.invariant-loop-number

@@ -1,6 +1,4 @@
-use Rattle.std.proofs.Common.{refl, sym, ap, length, ◌∙◌, ◌<◌, ◌≡◌, arith}
-use Rattle.std.proofs.lemmas.Bool.{false≢true}
-use Rattle.reshape_rule.specs.Words.{count, offsets, no_offsets, length-offsets, length-printed}
+use Rattle.reshape_rule.proofs.Words.{refl, sym, ap, length, ◌∙◌, ◌<◌, ◌≡◌, arith, false≢true, count, offsets, no_offsets, length-offsets, length-printed}
 use Rattle.reshape_rule.proofs.ScaleLaws.{decided-by_places}
 use Rattle.reshape_rule.proofs.ReshapeLaws.{HasUnitStrides, affine-lies, affine-offsets, offsets-affine, reshape-of}
 use Rattle.reshape_rule.proofs.without_copy.no_copy.Goals as goal

@@ -1,6 +1,4 @@
-use Rattle.std.proofs.Common.{◌≡◌, pos, ◌-ℤ◌, ◌∙◌, arith, rules, to_z, of_z, w64}
-use Rattle.std.proofs.lemmas.Int.{ints}
-use Rattle.reshape_rule.specs.Words.{offsets, entry-first, offset_low}
+use Rattle.reshape_rule.proofs.Words.{◌≡◌, pos, ◌-ℤ◌, ◌∙◌, arith, rules, to_z, of_z, w64, ints, offsets, entry-first, offset_low}
 use Rattle.reshape_rule.proofs.RankLaws.{stride-long}
 use Rattle.reshape_rule.proofs.without_copy.unit_stride.Goals as goal
 

@@ -1,6 +1,4 @@
-use Rattle.std.proofs.Common.{ap, sym, drop, ◌+◌, ◌∙◌, ◌∷◌, ◌++◌, [], ◌≡◌, rules, arith}
-use Rattle.std.proofs.lemmas.Int.{to_z-of_z}
-use Rattle.reshape_rule.specs.Words.{offsets, count, printed_strides}
+use Rattle.reshape_rule.proofs.Words.{ap, sym, drop, ◌+◌, ◌∙◌, ◌∷◌, ◌++◌, [], ◌≡◌, rules, arith, to_z-of_z, offsets, count, printed_strides}
 use Rattle.reshape_rule.proofs.RankLaws.{later, later-below, printed-more, pushed_onto}
 use Rattle.reshape_rule.proofs.without_copy.unit_strides.Goals as goal
 

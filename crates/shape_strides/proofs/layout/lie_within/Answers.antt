@@ -1,5 +1,4 @@
-use Rattle.std.proofs.Common.{◌<◌, refl, arith}
-use Rattle.shape_strides.specs.Indexes.{count}
+use Rattle.shape_strides.proofs.Words.{◌<◌, refl, arith, count}
 use Rattle.shape_strides.proofs.ReachLaws.{LieWithin-from_reach, reach_from_LieWithin, LieWithin-empty, le_from_test, test_from_le}
 use Rattle.shape_strides.proofs.layout.lie_within.Goals as goal
 

@@ -1,7 +1,4 @@
-use Rattle.std.proofs.Common.{refl, sym, ap, ◌∙◌, arith}
-use Rattle.std.proofs.lemmas.Bool.{false≢true}
-use Rattle.shape_strides.specs.inside.Alike.{all_alike}
-use Rattle.shape_strides.specs.LayoutLaws.{no_offsets}
+use Rattle.shape_strides.proofs.Words.{refl, sym, ap, ◌∙◌, arith, false≢true, all_alike, no_offsets}
 use Rattle.shape_strides.proofs.SameLaws.{offsets_differ, other_first, decided}
 use Rattle.shape_strides.proofs.layout_extent.have_same_offsets.Goals as goal
 

@@ -1,5 +1,4 @@
-use Rattle.std.proofs.Common.{arith}
-use Rattle.std.proofs.lemmas.Int.{ints}
+use Rattle.shape_strides.proofs.Words.{arith, ints}
 use Rattle.shape_strides.proofs.PairLaws.{after-range}
 use Rattle.shape_strides.proofs.run_pairs.after.Goals as goal
 

@@ -1,6 +1,4 @@
-use Rattle.std.proofs.Common.{◌≡◌, ◌+◌, ◌*◌, ◌≤◌, min, drop}
-use Rattle.shape_strides.specs.Limits.{max_items}
-use Rattle.shape_strides.specs.Indexes.{count}
+use Rattle.shape_strides.proofs.Words.{◌≡◌, ◌+◌, ◌*◌, ◌≤◌, min, drop, max_items, count}
 use Rattle.shape_strides.proofs.shape.capped_count.Given as goal
 
 abbrev pub invariant-loop-len : goal.invariant-loop-len

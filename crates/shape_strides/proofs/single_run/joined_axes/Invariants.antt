@@ -1,5 +1,4 @@
-use Rattle.std.proofs.Common.{◌≡◌, drop, reverse}
-use Rattle.shape_strides.specs.Joined.{strided_axes, all_joined}
+use Rattle.shape_strides.proofs.Words.{◌≡◌, drop, reverse, strided_axes, all_joined}
 use Rattle.shape_strides.proofs.single_run.joined_axes.Given as goal
 
 abbrev pub invariant-loop-axis : goal.invariant-loop-axis

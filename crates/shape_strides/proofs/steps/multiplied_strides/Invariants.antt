@@ -1,7 +1,4 @@
-use Rattle.std.proofs.Common.{◌≡◌, ◌*◌, ◌<◌, ◌≤◌, ◌++◌, drop}
-use Rattle.shape_strides.specs.Limits.{max_bytes}
-use Rattle.shape_strides.specs.Indexes.{count}
-use Rattle.shape_strides.specs.Layouts.{f_strides}
+use Rattle.shape_strides.proofs.Words.{◌≡◌, ◌*◌, ◌<◌, ◌≤◌, ◌++◌, drop, max_bytes, count, f_strides}
 use Rattle.shape_strides.proofs.steps.multiplied_strides.Given as goal
 
 abbrev pub invariant-loop-len : goal.invariant-loop-len

@@ -1,5 +1,4 @@
-use Rattle.std.proofs.Common.{◌≡◌, ◌+◌, ◌*◌, ◌≤◌, drop}
-use Rattle.shape_strides.specs.inside.Reach.{reach_above, max_reach}
+use Rattle.shape_strides.proofs.Words.{◌≡◌, ◌+◌, ◌*◌, ◌≤◌, drop, reach_above, max_reach}
 use Rattle.shape_strides.proofs.steps.reach_above.Given as goal
 
 abbrev pub invariant-loop-axis : goal.invariant-loop-axis

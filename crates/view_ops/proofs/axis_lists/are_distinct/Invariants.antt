@@ -1,5 +1,4 @@
-use Rattle.std.proofs.Common.{◌≡◌, drop}
-use Rattle.view_ops.specs.Transposes.{are_distinct}
+use Rattle.view_ops.proofs.Words.{◌≡◌, drop, are_distinct}
 use Rattle.view_ops.proofs.axis_lists.are_distinct.Given as goal
 
 abbrev pub invariant-loop-k : goal.invariant-loop-k

@@ -1,5 +1,4 @@
-use Rattle.std.proofs.Common.{Ok, ap, sym}
-use Rattle.view_ops.specs.Transposes.{axes_of}
+use Rattle.view_ops.proofs.Words.{Ok, ap, sym, axes_of}
 use Rattle.view_ops.proofs.axis_lists.axes_of.Goals as goal
 
 pub returns-in_ok-reversed_axes-in-None : goal.returns-in_ok-reversed_axes-in-None

@@ -1,6 +1,4 @@
-use Rattle.std.proofs.Common.{◌≡◌, map, take}
-use Rattle.shape_strides.specs.Layouts.{natural}
-use Rattle.view_ops.specs.Slices.{from_front}
+use Rattle.view_ops.proofs.Words.{◌≡◌, map, take, natural, from_front}
 use Rattle.view_ops.proofs.axis_lists.counted_axes.Given as goal
 
 abbrev pub invariant-loop-axis : goal.invariant-loop-axis

@@ -1,5 +1,4 @@
-use Rattle.std.proofs.Common.{inr, sym, ap, ◌∙◌, arith}
-use Rattle.view_ops.specs.Transposes.{are_distinct}
+use Rattle.view_ops.proofs.Words.{inr, sym, ap, ◌∙◌, arith, are_distinct}
 use Rattle.view_ops.proofs.AxesLaws.{axes_of-count, axes_of-range, axes_of-repeated, axes_of-ok}
 use Rattle.view_ops.proofs.axis_lists.named_axes.Goals as goal
 

@@ -1,5 +1,4 @@
-use Rattle.std.proofs.Common.{◌++◌, ◌-◌, ◌∷◌, [], ap, sym, ◌∙◌, arith}
-use Rattle.std.proofs.lemmas.List.FromFn.{map-range_with_len_more}
+use Rattle.view_ops.proofs.Words.{◌++◌, ◌-◌, ◌∷◌, [], ap, sym, ◌∙◌, arith, map-range_with_len_more}
 use Rattle.view_ops.proofs.axis_lists.reversed_axes.Goals as goal
 
 pub loop-k-preserved : goal.loop-k-preserved

@@ -1,5 +1,4 @@
-use Rattle.std.proofs.Common.{sym}
-use Rattle.view_ops.specs.Words.{field_of}
+use Rattle.view_ops.proofs.Words.{sym, field_of}
 use Rattle.view_ops.proofs.FieldLaws.{gives_field}
 use Rattle.view_ops.proofs.fields.field.Goals as goal
 

@@ -1,5 +1,4 @@
-use Rattle.std.proofs.Common.{◌+◌, ap, arith}
-use Rattle.view_ops.specs.Words.{max_bytes, count, rank-lt}
+use Rattle.view_ops.proofs.Words.{◌+◌, ap, arith, max_bytes, count, rank-lt}
 use Rattle.view_ops.proofs.FieldLaws.{offset-within}
 use Rattle.view_ops.proofs.fields.moved.Goals as goal
 

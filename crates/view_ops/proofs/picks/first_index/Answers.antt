@@ -1,6 +1,4 @@
-use Rattle.std.proofs.Common.{◌++◌, get_or, sym, ap, ◌∙◌}
-use Rattle.view_ops.specs.declared.picks.AxisPick.TheVariants.{At}
-use Rattle.view_ops.specs.Picks.{first_of}
+use Rattle.view_ops.proofs.Words.{◌++◌, get_or, sym, ap, ◌∙◌, At, first_of}
 use Rattle.view_ops.proofs.PickViews.{flat_map_on}
 use Rattle.view_ops.proofs.picks.first_index.Goals as goal
 

@@ -1,6 +1,4 @@
-use Rattle.std.proofs.Common.{◌≡◌, take}
-use Rattle.std.specs.List.{flat_map}
-use Rattle.view_ops.specs.Picks.{first_of}
+use Rattle.view_ops.proofs.Words.{◌≡◌, take, flat_map, first_of}
 use Rattle.view_ops.proofs.picks.first_index.Given as goal
 
 abbrev pub invariant-loop-pick : goal.invariant-loop-pick

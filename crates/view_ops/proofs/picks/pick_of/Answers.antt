@@ -1,9 +1,4 @@
-use Rattle.std.proofs.Common.{◌≡◌, ℕ, List, Result, Ok, Err, sym, ap, ◌∙◌}
-use Rattle.std.specs.Prelude.{MatchResult}
-use Rattle.std.specs.Result.{is_ok}
-use Rattle.view_ops.specs.Words.{Refusal}
-use Rattle.view_ops.specs.declared.slice.Progression.{Progression}
-use Rattle.view_ops.specs.Slices.{run_numbers}
+use Rattle.view_ops.proofs.Words.{◌≡◌, ℕ, List, Result, Ok, Err, sym, ap, ◌∙◌, MatchResult, is_ok, Refusal, Progression, run_numbers}
 use Rattle.view_ops.proofs.PickLaws.{has_step-ok}
 use Rattle.view_ops.proofs.picks.pick_of.Goals as goal
 

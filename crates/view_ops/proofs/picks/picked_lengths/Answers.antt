@@ -1,7 +1,4 @@
-use Rattle.std.proofs.Common.{◌++◌, get_or, sym, ap, ◌∙◌}
-use Rattle.view_ops.specs.declared.picks.AxisPick.TheVariants.{At}
-use Rattle.view_ops.specs.Basics.{axis_of}
-use Rattle.view_ops.specs.inside.Picks.{pick_shown}
+use Rattle.view_ops.proofs.Words.{◌++◌, get_or, sym, ap, ◌∙◌, At, axis_of, pick_shown}
 use Rattle.view_ops.proofs.PickViews.{lengths_on}
 use Rattle.view_ops.proofs.picks.picked_lengths.Goals as goal
 

@@ -1,6 +1,4 @@
-use Rattle.std.proofs.Common.{◌≡◌, map, take}
-use Rattle.view_ops.specs.Basics.{picked_shape}
-use Rattle.view_ops.specs.inside.Picks.{pick_shown}
+use Rattle.view_ops.proofs.Words.{◌≡◌, map, take, picked_shape, pick_shown}
 use Rattle.view_ops.proofs.picks.picked_lengths.Given as goal
 
 abbrev pub invariant-loop-pick : goal.invariant-loop-pick

@@ -1,6 +1,4 @@
-use Rattle.std.proofs.Common.{pos}
-use Rattle.std.proofs.lemmas.List.{get_or_read}
-use Rattle.view_ops.specs.Words.{Integer}
+use Rattle.view_ops.proofs.Words.{pos, get_or_read, Integer}
 use Rattle.view_ops.proofs.PickLaws.{picked_more, can_pick}
 use Rattle.view_ops.proofs.picks.picks_of.Goals as goal
 

@@ -1,6 +1,4 @@
-use Rattle.std.proofs.Common.{map, take}
-use Rattle.view_ops.specs.Basics.{whole}
-use Rattle.view_ops.specs.inside.Picks.{AddsPicks}
+use Rattle.view_ops.proofs.Words.{map, take, whole, AddsPicks}
 use Rattle.view_ops.proofs.picks.push_whole.Given as goal
 
 abbrev pub invariant-loop-n : goal.invariant-loop-n

@@ -1,5 +1,4 @@
-use Rattle.std.proofs.Common.{ap, subst, ◌∙◌}
-use Rattle.view_ops.specs.Words.{shape_of, Gives}
+use Rattle.view_ops.proofs.Words.{ap, subst, ◌∙◌, shape_of, Gives}
 use Rattle.view_ops.proofs.BasicLaws.{shape_of-picked}
 use Rattle.view_ops.proofs.picks.shape_picked.Goals as goal
 

@@ -1,7 +1,4 @@
-use Rattle.std.proofs.Common.{◌≡◌, to_z, of_z}
-use Rattle.std.specs.Int.{w128}
-use Rattle.std.proofs.lemmas.Int.{to_z-of_z}
-use Rattle.view_ops.specs.Slices.{lowest, from_front, clamped}
+use Rattle.view_ops.proofs.Words.{◌≡◌, to_z, of_z, w128, to_z-of_z, lowest, from_front, clamped}
 use Rattle.view_ops.proofs.SliceLaws.{clamp_low, clamp_high}
 use Rattle.view_ops.proofs.slice.clamped.Goals as goal
 

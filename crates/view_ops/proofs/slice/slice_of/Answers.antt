@@ -1,8 +1,4 @@
-use Rattle.std.proofs.Common.{◌≡◌, ◌<◌, ◌∙◌, ap, sym, pos, unsigned_abs, to_z, of_z, FitsSigned}
-use Rattle.std.specs.Int.{w128}
-use Rattle.std.proofs.lemmas.Int.{to_z-of_z}
-use Rattle.view_ops.specs.declared.slice.Progression.{Progression}
-use Rattle.view_ops.specs.Slices.{run_numbers}
+use Rattle.view_ops.proofs.Words.{◌≡◌, ◌<◌, ◌∙◌, ap, sym, pos, unsigned_abs, to_z, of_z, FitsSigned, w128, to_z-of_z, Progression, run_numbers}
 use Rattle.view_ops.proofs.SliceLaws.{IsSpan, slice_indices-zero, slice_indices-list, stepped-run, within-run, span_first}
 use Rattle.view_ops.proofs.slice.slice_of.Goals as goal
 

@@ -1,7 +1,4 @@
-use Rattle.std.proofs.Common.{ap, ◌∙◌, unsigned_abs}
-use Rattle.std.specs.Int.{w128, div_ceil}
-use Rattle.std.proofs.lemmas.Int.{to_z-of_z}
-use Rattle.view_ops.specs.Words.{steps_end_below, abs_pos}
+use Rattle.view_ops.proofs.Words.{ap, ◌∙◌, unsigned_abs, w128, div_ceil, to_z-of_z, steps_end_below, abs_pos}
 use Rattle.view_ops.proofs.slice.steps_below.Goals as goal
 
 pub returns : goal.returns

@@ -1,5 +1,4 @@
-use Rattle.std.proofs.Common.{length}
-use Rattle.arrays.specs.Words.{item_size, offsets_within}
+use Rattle.arrays.proofs.Words.{length, item_size, offsets_within}
 use Rattle.arrays.proofs.owned.Owned.items.Goals as goal
 
 pub invariant_of-result : goal.invariant_of-result

@@ -1,8 +1,4 @@
-use Rattle.std.proofs.Common.{refl, sym, subst}
-use Rattle.name_store.specs.States.{Array}
-use Rattle.bench_engine.specs.declared.operate.Part.{Part}
-use Rattle.bench_engine.specs.inside.Assigns.{LiesIn}
-use Rattle.bench_engine.specs.inside.Operands.{IsPart, StandsFor}
+use Rattle.bench_engine.proofs.Words.{refl, sym, subst, Array, Part, LiesIn, IsPart, StandsFor}
 use Rattle.bench_engine.proofs.Assigns.{lies-whole, lies-viewed}
 use Rattle.bench_engine.proofs.OperandLaws.{view-within, view-stands}
 use Rattle.bench_engine.proofs.operate.Part.items.Goals as goal

@@ -1,7 +1,4 @@
-use Rattle.std.proofs.Common.{◌≡◌, ◌++◌, ◌∷◌, [], ◌∙◌, ap, sym, refl, true, false, append_assoc, length-append, arith}
-use Rattle.std.proofs.lemmas.Result.{err_from_is_err_and, on_ok_weaker, on_err_weaker}
-use Rattle.bench_engine.specs.Words.{appends_then}
-use Rattle.bench_engine.specs.declared.session.Session.{Session}
+use Rattle.bench_engine.proofs.Words.{◌≡◌, ◌++◌, ◌∷◌, [], ◌∙◌, ap, sym, refl, true, false, append_assoc, length-append, arith, err_from_is_err_and, on_ok_weaker, on_err_weaker, appends_then, Session}
 use Rattle.bench_engine.proofs.Feeding.{told-print, cut-print}
 use Rattle.bench_engine.proofs.session.Session.send_print.Goals.{then-branch, else-branch}
 use Rattle.bench_engine.proofs.session.Session.send_print.Goals as goal

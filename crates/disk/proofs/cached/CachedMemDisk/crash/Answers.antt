@@ -1,7 +1,4 @@
-use Rattle.std.proofs.Common.{List, IsTrue, refl, rules, subst}
-use Rattle.disk.specs.declared.cached.Event.{Event}
-use Rattle.disk.specs.Changes.{bytes_of_change}
-use Rattle.disk.specs.Cached.{MayStand}
+use Rattle.disk.proofs.Words.{List, IsTrue, refl, rules, subst, Event, bytes_of_change, MayStand}
 use Rattle.disk.proofs.Events.{may_be_left}
 use Rattle.disk.proofs.cached.CachedMemDisk.crash.Goals as goal
 

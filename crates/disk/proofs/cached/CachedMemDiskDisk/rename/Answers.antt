@@ -1,5 +1,4 @@
-use Rattle.std.specs.FinMap.{get}
-use Rattle.disk.specs.Cached.{found}
+use Rattle.disk.proofs.Words.{get, found}
 use Rattle.disk.proofs.Events.{still_both, still_in_place}
 use Rattle.disk.proofs.cached.CachedMemDiskDisk.rename.Goals as goal
 

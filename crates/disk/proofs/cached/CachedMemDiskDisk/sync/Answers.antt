@@ -1,8 +1,4 @@
-use Rattle.std.proofs.Common.{refl, sym, subst, List}
-use Rattle.disk.specs.declared.cached.Event.{Event}
-use Rattle.disk.specs.Files.{Same}
-use Rattle.disk.specs.Crashes.{Leaves}
-use Rattle.disk.specs.Cached.{cached_history}
+use Rattle.disk.proofs.Words.{refl, sym, subst, List, Event, Same, Leaves, cached_history}
 use Rattle.disk.proofs.Events.{still_same, file_synced}
 use Rattle.disk.proofs.cached.CachedMemDiskDisk.sync.Goals as goal
 

@@ -1,9 +1,4 @@
-use Rattle.std.proofs.Common.{refl, sym, subst, List, IsTrue}
-use Rattle.disk.specs.declared.cached.Event.{Event}
-use Rattle.disk.specs.Files.{Same}
-use Rattle.disk.specs.Crashes.{Leaves}
-use Rattle.disk.specs.Calls.{HasNames}
-use Rattle.disk.specs.Cached.{found, is_synced, cached_history}
+use Rattle.disk.proofs.Words.{refl, sym, subst, List, IsTrue, Event, Same, Leaves, HasNames, found, is_synced, cached_history}
 use Rattle.disk.proofs.Events.{still_same, names_synced, has_names}
 use Rattle.disk.proofs.cached.CachedMemDiskDisk.sync_names.Goals as goal
 

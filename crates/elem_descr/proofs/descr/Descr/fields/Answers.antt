@@ -1,7 +1,4 @@
-use Rattle.std.proofs.Common.{length, ap, arith}
-use Rattle.elem_descr.specs.declared.descr.Descr.{Descr}
-use Rattle.elem_descr.specs.Items.{leaves_of}
-use Rattle.elem_descr.specs.ItemLaws.{length-leaves_from}
+use Rattle.elem_descr.proofs.Words.{length, ap, arith, Descr, leaves_of, length-leaves_from}
 use Rattle.elem_descr.proofs.FieldLaws.{fields_within}
 use Rattle.elem_descr.proofs.descr.Descr.fields.Goals as goal
 

@@ -1,7 +1,4 @@
-use Rattle.std.proofs.Common.{◌≡◌, List, length, take, get_or, ap, sym, ◌∙◌, arith}
-use Rattle.std.proofs.lemmas.List.{get_or_default}
-use Rattle.elem_descr.specs.declared.descr.Field.{Field}
-use Rattle.elem_descr.specs.Items.{leaves_of, leaves_in, fields, field_at, no_field}
+use Rattle.elem_descr.proofs.Words.{◌≡◌, List, length, take, get_or, ap, sym, ◌∙◌, arith, get_or_default, Field, leaves_of, leaves_in, fields, field_at, no_field}
 use Rattle.elem_descr.proofs.FieldLaws.{leaves_in_fields, leaves_of_fields, leaves_of_one, leaves_at_one, leaves_in-take}
 use Rattle.elem_descr.proofs.descr.Descr.leaves_of.Goals as goal
 

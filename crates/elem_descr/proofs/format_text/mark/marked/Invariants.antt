@@ -1,5 +1,4 @@
-use Rattle.std.proofs.Common.{◌≡◌, drop}
-use Rattle.elem_descr.specs.inside.Turns.{marked}
+use Rattle.elem_descr.proofs.Words.{◌≡◌, drop, marked}
 use Rattle.elem_descr.proofs.format_text.mark.marked.Given as goal
 
 -- the marks so far are read

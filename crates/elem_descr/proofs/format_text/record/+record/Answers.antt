@@ -1,7 +1,4 @@
-use Rattle.std.proofs.Common.{◌≡◌, ◌<◌, ◌-◌, ◌∙◌, ⊎_elim, inl, inr, length, ap, arith}
-use Rattle.std.proofs.lemmas.Result.{err_from_is_err_and}
-use Rattle.elem_descr.specs.RecordBuilding.{Partial}
-use Rattle.elem_descr.specs.inside.Turns.{record_within}
+use Rattle.elem_descr.proofs.Words.{◌≡◌, ◌<◌, ◌-◌, ◌∙◌, ⊎_elim, inl, inr, length, ap, arith, err_from_is_err_and, Partial, record_within}
 use Rattle.elem_descr.proofs.Binds.{after_ok, after_err}
 use Rattle.elem_descr.proofs.Turns.{no_levels, members_begin, members_closed, members_field}
 use Rattle.elem_descr.proofs.format_text.record.+record.Goals as goal

@@ -1,8 +1,4 @@
-use Rattle.std.proofs.Common.{◌≡◌, ◌-◌, ◌++◌, ℕ, List, refl, sym, ap, ◌∙◌, arith}
-use Rattle.elem_descr.specs.Fields.{Fields}
-use Rattle.elem_descr.specs.Descriptors.{listed}
-use Rattle.elem_descr.specs.WrittenFormats.{written_pad, written_fields}
-use Rattle.elem_descr.specs.DescriptorLaws.{listed-fields_of, field_within, weight-one, first_field}
+use Rattle.elem_descr.proofs.Words.{◌≡◌, ◌-◌, ◌++◌, ℕ, List, refl, sym, ap, ◌∙◌, arith, Fields, listed, written_pad, written_fields, listed-fields_of, field_within, weight-one, first_field}
 use Rattle.elem_descr.proofs.WrittenFields.{one_written, all_written}
 use Rattle.elem_descr.proofs.format_text.write.+written.Goals as goal
 

@@ -1,8 +1,4 @@
-use Rattle.std.proofs.Common.{◌≡◌, ◌+◌, ◌*◌, ◌++◌, drop}
-use Rattle.elem_descr.specs.Fields.{total}
-use Rattle.elem_descr.specs.Descriptors.{InOrder, listed}
-use Rattle.elem_descr.specs.WrittenFormats.{written_fields}
-use Rattle.elem_descr.specs.Weights.{weight}
+use Rattle.elem_descr.proofs.Words.{◌≡◌, ◌+◌, ◌*◌, ◌++◌, drop, total, InOrder, listed, written_fields, weight}
 use Rattle.elem_descr.proofs.format_text.write.+written.Given as goal
 
 abbrev pub decreases-push_descr : goal.decreases-push_descr

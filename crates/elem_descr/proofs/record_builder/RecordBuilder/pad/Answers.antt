@@ -1,5 +1,4 @@
-use Rattle.std.proofs.Common.{arith}
-use Rattle.elem_descr.specs.RecordBuilding.{Partial}
+use Rattle.elem_descr.proofs.Words.{arith, Partial}
 use Rattle.elem_descr.proofs.PartialLaws.{widened_partial}
 use Rattle.elem_descr.proofs.record_builder.RecordBuilder.pad.Goals as goal
 

@@ -1,5 +1,4 @@
-use Rattle.std.proofs.Common.{sym, ◌∙◌}
-use Rattle.std.specs.Cmp.Lexicographic.{same_text}
+use Rattle.elementwise.proofs.Words.{sym, ◌∙◌, same_text}
 use Rattle.elementwise.proofs.StretchedLaws.{is_stretched, stretches-itself}
 use Rattle.elementwise.proofs.apply.Fitted.to.Goals as goal
 

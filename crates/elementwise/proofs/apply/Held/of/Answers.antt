@@ -1,8 +1,4 @@
-use Rattle.std.proofs.Common.{refl, sym, ◌∙◌, map, arith}
-use Rattle.std.proofs.Math.Nat.{mul-le-mul_left}
-use Rattle.std.proofs.lemmas.Simd.{map-map}
-use Rattle.elementwise.specs.Words.{item_from, count, offsets}
-use Rattle.elementwise.specs.Casts.{cast_item}
+use Rattle.elementwise.proofs.Words.{refl, sym, ◌∙◌, map, arith, mul-le-mul_left, map-map, item_from, count, offsets, cast_item}
 use Rattle.elementwise.proofs.TypedLaws.{kept}
 use Rattle.elementwise.proofs.apply.Held.of.Goals as goal
 

@@ -1,8 +1,4 @@
-use Rattle.std.proofs.Common.{◌≡◌, false, sym, ◌∙◌}
-use Rattle.std.specs.Prelude.{pos, not, ◌==◌}
-use Rattle.elementwise.specs.Words.{Little, low_bits, integer}
-use Rattle.elementwise.specs.Operations.{exact}
-use Rattle.elementwise.specs.inside.PairPasses.{division_op}
+use Rattle.elementwise.proofs.Words.{◌≡◌, false, sym, ◌∙◌, pos, not, ◌==◌, Little, low_bits, integer, exact, division_op}
 use Rattle.elementwise.proofs.WordLaws.{are_bits, applied}
 use Rattle.elementwise.proofs.byte_divisions.Reciprocals.divided.Goals as goal
 

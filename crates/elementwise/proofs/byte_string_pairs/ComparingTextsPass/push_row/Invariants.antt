@@ -1,7 +1,4 @@
-use Rattle.std.proofs.Common.{◌≡◌, ◌+◌, ◌++◌}
-use Rattle.elementwise.specs.Words.{joined}
-use Rattle.elementwise.specs.inside.PairPasses.{text_pair}
-use Rattle.elementwise.specs.inside.Sides.{made_of}
+use Rattle.elementwise.proofs.Words.{◌≡◌, ◌+◌, ◌++◌, joined, text_pair, made_of}
 use Rattle.elementwise.proofs.byte_string_pairs.ComparingTextsPass.push_row.Given as goal
 
 abbrev pub invariant-loop-k : goal.invariant-loop-k

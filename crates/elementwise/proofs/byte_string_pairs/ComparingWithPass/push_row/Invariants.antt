@@ -1,8 +1,4 @@
-use Rattle.std.proofs.Common.{◌≡◌, ◌+◌, ◌++◌}
-use Rattle.elem_descr.specs.declared.scalar.Scalar.TheVariants.{Bool as BoolScalar}
-use Rattle.elementwise.specs.Words.{text, encode, without_nuls, joined}
-use Rattle.elementwise.specs.inside.PairPasses.{truth_value}
-use Rattle.elementwise.specs.inside.Sides.{made_of}
+use Rattle.elementwise.proofs.Words.{◌≡◌, ◌+◌, ◌++◌, BoolScalar, text, encode, without_nuls, joined, truth_value, made_of}
 use Rattle.elementwise.proofs.byte_string_pairs.ComparingWithPass.push_row.Given as goal
 
 abbrev pub invariant-loop-k : goal.invariant-loop-k

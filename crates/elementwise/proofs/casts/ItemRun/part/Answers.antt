@@ -1,7 +1,4 @@
-use Rattle.std.proofs.Common.{rules, w64, length, sym, subst, arith}
-use Rattle.std.proofs.lemmas.Int.{to_z-of_z}
-use mir.Val.{SFits, to_z, of_z}
-use Rattle.elementwise.specs.Words.{EachWithin, place}
+use Rattle.elementwise.proofs.Words.{rules, w64, length, sym, subst, arith, to_z-of_z, SFits, to_z, of_z, EachWithin, place}
 use Rattle.elementwise.proofs.ColumnLaws.{part-within}
 use Rattle.elementwise.proofs.casts.ItemRun.part.Goals as goal
 

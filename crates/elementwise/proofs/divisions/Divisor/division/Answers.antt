@@ -1,8 +1,4 @@
-use Rattle.std.proofs.Common.{◌≡◌, ◌^◌, ◌<◌, refl, sym, ap, ◌∙◌, arith, Bool, true, false}
-use Rattle.std.specs.Prelude.{unsigned_abs}
-use Rattle.elementwise.specs.Words.{integer, low_bits}
-use Rattle.elementwise.specs.Operations.{exact}
-use Rattle.elementwise.specs.inside.PairPasses.{division_op}
+use Rattle.elementwise.proofs.Words.{◌≡◌, ◌^◌, ◌<◌, refl, sym, ap, ◌∙◌, arith, Bool, true, false, unsigned_abs, integer, low_bits, exact, division_op}
 use Rattle.elementwise.proofs.BitLaws.{rest_low}
 use Rattle.elementwise.proofs.divisions.Divisor.division.Goals as goal
 

@@ -1,5 +1,4 @@
-use Rattle.std.proofs.Common.{sym, ap, ◌∙◌}
-use Rattle.elementwise.specs.Words.{number, decode, encode, wrap, number_of}
+use Rattle.elementwise.proofs.Words.{sym, ap, ◌∙◌, number, decode, encode, wrap, number_of}
 use Rattle.elementwise.proofs.LeafLaws.{cast_number}
 use Rattle.elementwise.proofs.leaf_casts.CastingNumbersLeafCast.cast.Goals as goal
 

@@ -1,7 +1,4 @@
-use Rattle.std.proofs.Common.{ℕ, ◌+◌, ◌%◌, ◌^◌, sym, ◌∙◌, arith}
-use Rattle.std.specs.Prelude.{pos, ◌+ℤ◌}
-use Rattle.std.proofs.Math.Nat.{mod-lt}
-use Rattle.elementwise.specs.Words.{Little, low_bits, Add}
+use Rattle.elementwise.proofs.Words.{ℕ, ◌+◌, ◌%◌, ◌^◌, sym, ◌∙◌, arith, pos, ◌+ℤ◌, mod-lt, Little, low_bits, Add}
 use Rattle.elementwise.proofs.BitLaws.{sum_low}
 use Rattle.elementwise.proofs.WordLaws.{are_bits, applied}
 use Rattle.elementwise.proofs.operations.AddingKernel.make.Goals as goal

@@ -1,7 +1,4 @@
-use Rattle.std.proofs.Common.{arith}
-use Rattle.std.specs.Prelude.{pos, bit_and}
-use Rattle.std.proofs.lemmas.Nat.{and_mod, and_le_l}
-use Rattle.elementwise.specs.Words.{Little}
+use Rattle.elementwise.proofs.Words.{arith, pos, bit_and, and_mod, and_le_l, Little}
 use Rattle.elementwise.proofs.WordLaws.{are_bits, bits_applied}
 use Rattle.elementwise.proofs.operations.KeepingBothKernel.make.Goals as goal
 

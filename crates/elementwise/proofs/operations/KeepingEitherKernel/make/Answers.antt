@@ -1,6 +1,4 @@
-use Rattle.std.specs.Prelude.{pos, bit_or}
-use Rattle.std.proofs.lemmas.Nat.{or_mod, or_lt}
-use Rattle.elementwise.specs.Words.{Little}
+use Rattle.elementwise.proofs.Words.{pos, bit_or, or_mod, or_lt, Little}
 use Rattle.elementwise.proofs.WordLaws.{are_bits, bits_applied}
 use Rattle.elementwise.proofs.operations.KeepingEitherKernel.make.Goals as goal
 

@@ -1,6 +1,4 @@
-use Rattle.std.specs.Prelude.{pos, bit_xor}
-use Rattle.std.proofs.lemmas.Nat.{xor_mod, xor_lt}
-use Rattle.elementwise.specs.Words.{Little}
+use Rattle.elementwise.proofs.Words.{pos, bit_xor, xor_mod, xor_lt, Little}
 use Rattle.elementwise.proofs.WordLaws.{are_bits, bits_applied}
 use Rattle.elementwise.proofs.operations.KeepingOneKernel.make.Goals as goal
 

@@ -1,7 +1,4 @@
-use Rattle.std.proofs.Common.{sym, ◌∙◌}
-use Rattle.std.specs.Prelude.{pos, ◌*◌}
-use Rattle.elementwise.specs.Words.{Little, size, low_bits, integer, ShiftRight}
-use Rattle.elementwise.specs.Operations.{shifted_right}
+use Rattle.elementwise.proofs.Words.{sym, ◌∙◌, pos, ◌*◌, Little, size, low_bits, integer, ShiftRight, shifted_right}
 use Rattle.elementwise.proofs.WordLaws.{are_bits, applied}
 use Rattle.elementwise.proofs.operations.MovingDownKernel.make.Goals as goal
 

@@ -1,7 +1,4 @@
-use Rattle.std.proofs.Common.{sym, ◌∙◌}
-use Rattle.std.specs.Prelude.{pos, ◌*◌}
-use Rattle.elementwise.specs.Words.{Little, low_bits, ShiftLeft}
-use Rattle.elementwise.specs.Operations.{shifted_left}
+use Rattle.elementwise.proofs.Words.{sym, ◌∙◌, pos, ◌*◌, Little, low_bits, ShiftLeft, shifted_left}
 use Rattle.elementwise.proofs.WordLaws.{are_bits, applied}
 use Rattle.elementwise.proofs.operations.MovingUpKernel.make.Goals as goal
 

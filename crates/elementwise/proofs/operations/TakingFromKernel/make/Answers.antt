@@ -1,7 +1,4 @@
-use Rattle.std.proofs.Common.{ℕ, ◌+◌, ◌-◌, ◌%◌, ◌^◌, sym, ◌∙◌, arith, true}
-use Rattle.std.specs.Prelude.{pos, ◌-ℤ◌}
-use Rattle.std.proofs.Math.Nat.{mod-lt}
-use Rattle.elementwise.specs.Words.{Little, integer, low_bits}
+use Rattle.elementwise.proofs.Words.{ℕ, ◌+◌, ◌-◌, ◌%◌, ◌^◌, sym, ◌∙◌, arith, true, pos, ◌-ℤ◌, mod-lt, Little, integer, low_bits}
 use Rattle.elementwise.proofs.BitLaws.{difference_low}
 use Rattle.elementwise.proofs.WordLaws.{are_bits, applied_one, near_zero}
 use Rattle.elementwise.proofs.operations.TakingFromKernel.make.Goals as goal

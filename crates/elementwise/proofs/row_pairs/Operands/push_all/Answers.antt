@@ -1,6 +1,4 @@
-use Rattle.std.proofs.Common.{◌≡◌, ◌+◌, ◌*◌, ◌≤◌, All, length, sym, ap, subst, ◌∙◌, arith}
-use Rattle.elementwise.specs.Words.{item_size, count, length-offsets, length-run_offsets, run-within}
-use Rattle.elementwise.specs.inside.Operands.{pairs_of}
+use Rattle.elementwise.proofs.Words.{◌≡◌, ◌+◌, ◌*◌, ◌≤◌, All, length, sym, ap, subst, ◌∙◌, arith, item_size, count, length-offsets, length-run_offsets, run-within, pairs_of}
 use Rattle.elementwise.proofs.row_pairs.Operands.push_all.Goals as goal
 
 pub push_row-requires-clause-room : goal.push_row-requires-clause-room

@@ -1,9 +1,4 @@
-use Rattle.std.proofs.Common.{◌≡◌, ◌+◌, ◌*◌, ◌≤◌, ◌++◌, All, length}
-use Rattle.std.specs.List.{concat}
-use Rattle.elementwise.specs.Words.{item_size, EachWithin}
-use Rattle.elementwise.specs.Results.{pairwise}
-use Rattle.elementwise.specs.inside.PairPasses.{pair_from}
-use Rattle.elementwise.specs.inside.Operands.{pairs_of, made_of_all}
+use Rattle.elementwise.proofs.Words.{◌≡◌, ◌+◌, ◌*◌, ◌≤◌, ◌++◌, All, length, concat, item_size, EachWithin, pairwise, pair_from, pairs_of, made_of_all}
 use Rattle.elementwise.proofs.PairLaws.{firsts, seconds}
 use Rattle.elementwise.proofs.row_pairs.Operands.push_rows.Given as goal
 

@@ -1,7 +1,4 @@
-use Rattle.std.proofs.Common.{nat_lt, ◌≡◌, ◌≤◌, ◌+◌, ◌-◌, ◌⊎◌, inl, inr, length, take, drop, ap, sym, ◌∙◌, arith, rules}
-use Rattle.std.proofs.lemmas.Bool.{cases_lt}
-use Rattle.std.proofs.lemmas.List.{take-take}
-use Rattle.elementwise.specs.Words.{item_at}
+use Rattle.elementwise.proofs.Words.{nat_lt, ◌≡◌, ◌≤◌, ◌+◌, ◌-◌, ◌⊎◌, inl, inr, length, take, drop, ap, sym, ◌∙◌, arith, rules, cases_lt, take-take, item_at}
 use Rattle.elementwise.proofs.WordOrderLaws.{in-order}
 use Rattle.elementwise.proofs.text_comparisons.LongerDeciding.numbers.Goals as goal
 

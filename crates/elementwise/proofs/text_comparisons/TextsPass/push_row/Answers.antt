@@ -1,9 +1,4 @@
-use Rattle.std.proofs.Common.{◌≡◌, ◌+◌, ◌++◌, cond, suc, pos, ap, ◌∙◌, append_assoc, arith}
-use Rattle.std.specs.Prelude.{not, ◌==◌}
-use Rattle.elem_descr.specs.declared.scalar.Scalar.TheVariants.{Bool as BoolScalar}
-use Rattle.elementwise.specs.Words.{number, encode, joined}
-use Rattle.elementwise.specs.inside.PairPasses.{said, text_said}
-use Rattle.elementwise.specs.inside.Sides.{made_of}
+use Rattle.elementwise.proofs.Words.{◌≡◌, ◌+◌, ◌++◌, cond, suc, pos, ap, ◌∙◌, append_assoc, arith, not, ◌==◌, BoolScalar, number, encode, joined, said, text_said, made_of}
 use Rattle.elementwise.proofs.text_comparisons.TextsPass.push_row.Goals as goal
 
 pub loop-k-preserved : goal.loop-k-preserved

@@ -1,8 +1,4 @@
-use Rattle.std.proofs.Common.{◌≡◌, ◌+◌, ◌++◌}
-use Rattle.std.specs.Prelude.{not, ◌==◌}
-use Rattle.elementwise.specs.Words.{joined}
-use Rattle.elementwise.specs.inside.PairPasses.{text_said}
-use Rattle.elementwise.specs.inside.Sides.{made_of}
+use Rattle.elementwise.proofs.Words.{◌≡◌, ◌+◌, ◌++◌, not, ◌==◌, joined, text_said, made_of}
 use Rattle.elementwise.proofs.text_comparisons.TextsPass.push_row.Given as goal
 
 abbrev pub invariant-loop-k : goal.invariant-loop-k

@@ -1,6 +1,4 @@
-use Rattle.std.proofs.Common.{◌≤◌, ◌+◌, All, map, length, subst, sym, ap, ◌∙◌, arith}
-use Rattle.fancy_index.specs.Words.{length-offsets, length-run_offsets, max_bytes, run_offsets}
-use Rattle.fancy_index.specs.inside.Moved.{IsMoved, moved_offset}
+use Rattle.fancy_index.proofs.Words.{◌≤◌, ◌+◌, All, map, length, subst, sym, ap, ◌∙◌, arith, length-offsets, length-run_offsets, max_bytes, run_offsets, IsMoved, moved_offset}
 use Rattle.fancy_index.proofs.Passes.{All-unmap}
 use Rattle.fancy_index.proofs.plan_rows.MovedLayout.as_run.Goals as goal
 

@@ -1,8 +1,4 @@
-use Rattle.std.proofs.Common.{w64, length, refl, subst, sym, ap, ◌∙◌, arith}
-use Rattle.std.proofs.lemmas.Int.{to_z_pos}
-use lib.IntN.{ℤ}
-use Rattle.arrays.specs.Packed.{row_offsets as packed}
-use Rattle.fancy_index.specs.inside.Kept.{first_offsets, IsRunOf}
+use Rattle.fancy_index.proofs.Words.{w64, length, refl, subst, sym, ap, ◌∙◌, arith, to_z_pos, ℤ, packed, first_offsets, IsRunOf}
 use Rattle.fancy_index.proofs.RunLaws.{neighbours, run-of}
 use Rattle.fancy_index.proofs.plan_rows.Shifted.as_run.Goals as goal
 

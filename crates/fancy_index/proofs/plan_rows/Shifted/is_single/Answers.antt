@@ -1,5 +1,4 @@
-use Rattle.std.proofs.Common.{sym, ◌∙◌}
-use Rattle.std.proofs.lemmas.Bool.{eqb-true}
+use Rattle.fancy_index.proofs.Words.{sym, ◌∙◌, eqb-true}
 use Rattle.fancy_index.proofs.SingleLaws.{shifted-single}
 use Rattle.fancy_index.proofs.plan_rows.Shifted.is_single.Goals as goal
 

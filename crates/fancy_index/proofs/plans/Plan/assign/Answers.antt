@@ -1,5 +1,4 @@
-use Rattle.std.proofs.Common.{◌+◌, ◌≤◌, length, subst, ap, ◌∙◌, All, arith}
-use Rattle.fancy_index.specs.Words.{multiples}
+use Rattle.fancy_index.proofs.Words.{◌+◌, ◌≤◌, length, subst, ap, ◌∙◌, All, arith, multiples}
 use Rattle.fancy_index.proofs.GatherLaws.{packed-end}
 use Rattle.fancy_index.proofs.Passes.{copied_one}
 use Rattle.fancy_index.proofs.plans.Plan.assign.Goals as goal

@@ -1,5 +1,4 @@
-use Rattle.std.proofs.Common.{◌≡◌, length}
-use Rattle.fancy_index.specs.Words.{offsets, assigned}
+use Rattle.fancy_index.proofs.Words.{◌≡◌, length, offsets, assigned}
 use Rattle.fancy_index.proofs.Passes.{Copying}
 use Rattle.fancy_index.proofs.plans.Plan.assign.Given as goal
 

@@ -1,7 +1,4 @@
-use Rattle.std.proofs.Common.{◌≡◌, length, map, sym, ap, ◌∙◌}
-use Rattle.std.proofs.lemmas.Simd.{map-map}
-use Rattle.fancy_index.specs.Words.{item_from, item_size, decode_item, item_at, count, offsets, multiples, items_at}
-use Rattle.fancy_index.specs.Plans.{Planned}
+use Rattle.fancy_index.proofs.Words.{◌≡◌, length, map, sym, ap, ◌∙◌, map-map, item_from, item_size, decode_item, item_at, count, offsets, multiples, items_at, Planned}
 use Rattle.fancy_index.proofs.plans.Plan.gather_owned.Goals as goal
 
 pub returns-clause-items : goal.returns-clause-items

@@ -1,5 +1,4 @@
-use Rattle.std.proofs.Common.{length, ◌∙◌}
-use Rattle.fancy_index.specs.Words.{assigned, row-multiples}
+use Rattle.fancy_index.proofs.Words.{length, ◌∙◌, assigned, row-multiples}
 use Rattle.fancy_index.proofs.plans.Plan.scatter.Goals as goal
 
 pub returns-clause-written : goal.returns-clause-written

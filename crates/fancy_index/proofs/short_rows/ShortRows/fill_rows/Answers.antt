@@ -1,6 +1,4 @@
-use Rattle.std.proofs.Common.{sym, ap, ◌∙◌, arith}
-use Rattle.fancy_index.specs.Plans.{put_each}
-use Rattle.fancy_index.specs.inside.Kept.{first_offsets}
+use Rattle.fancy_index.proofs.Words.{sym, ap, ◌∙◌, arith, put_each, first_offsets}
 use Rattle.fancy_index.proofs.Passes.{fill_front, filled_front}
 use Rattle.fancy_index.proofs.ShortLaws.{split-rows, no-rows}
 use Rattle.fancy_index.proofs.short_rows.ShortRows.fill_rows.Goals as goal

@@ -1,6 +1,4 @@
-use Rattle.std.proofs.Common.{◌≡◌, length}
-use Rattle.fancy_index.specs.Plans.{put_each}
-use Rattle.fancy_index.specs.inside.Kept.{short_offsets}
+use Rattle.fancy_index.proofs.Words.{◌≡◌, length, put_each, short_offsets}
 use Rattle.fancy_index.proofs.Passes.{Filling}
 use Rattle.fancy_index.proofs.ShortLaws.{rows_from}
 use Rattle.fancy_index.proofs.short_rows.ShortRows.fill_rows.Given as goal

@@ -1,7 +1,4 @@
-use Rattle.std.proofs.Common.{◌≡◌, ◌+◌, ◌*◌, length}
-use Rattle.fancy_index.specs.Words.{assigned}
-use Rattle.fancy_index.specs.inside.Kept.{short_offsets}
-use Rattle.arrays.specs.Packed.{row_offsets as packed}
+use Rattle.fancy_index.proofs.Words.{◌≡◌, ◌+◌, ◌*◌, length, assigned, short_offsets, packed}
 use Rattle.fancy_index.proofs.Passes.{Scattering}
 use Rattle.fancy_index.proofs.ShortLaws.{rows_from}
 use Rattle.fancy_index.proofs.short_rows.ShortRows.scatter_rows.Given as goal

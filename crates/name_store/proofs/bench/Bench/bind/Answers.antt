@@ -1,11 +1,4 @@
-use Rattle.std.proofs.Common.{sym, ◌∙◌, subst, arith, ℕ, List}
-use Rattle.name_store.specs.Words.{spare}
-use Rattle.name_store.specs.Calls.{Binds}
-use Rattle.name_store.specs.Invariants.{IsSound}
-use Rattle.name_store.specs.States.{BenchValue}
-use Rattle.name_store.specs.View.{state_of}
-use Rattle.name_store.specs.Views.{MayBind}
-use Rattle.name_store.specs.declared.bound.Entry.{Entry}
+use Rattle.name_store.proofs.Words.{sym, ◌∙◌, subst, arith, ℕ, List, spare, Binds, IsSound, BenchValue, state_of, MayBind, Entry}
 use Rattle.name_store.proofs.BindLaws.{may-present, bind-held, bind-kept}
 use Rattle.name_store.proofs.KeepLaws.{patches-push}
 use Rattle.name_store.proofs.Needs.{users-small}

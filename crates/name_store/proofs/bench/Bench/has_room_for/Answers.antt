@@ -1,9 +1,4 @@
-use Rattle.std.proofs.Common.{◌≡◌, ap, sym, ◌∙◌, ◌||◌, Bool, true, false, length, refl, arith}
-use Rattle.std.proofs.lemmas.Bool.{le-ltb}
-use Rattle.std.proofs.lemmas.List.{length-map}
-use Rattle.name_store.specs.Arrays.{is_bound}
-use Rattle.name_store.specs.States.{BenchValue}
-use Rattle.name_store.specs.View.{named_array}
+use Rattle.name_store.proofs.Words.{◌≡◌, ap, sym, ◌∙◌, ◌||◌, Bool, true, false, length, refl, arith, le-ltb, length-map, is_bound, BenchValue, named_array}
 use Rattle.name_store.proofs.UnbindLaws.{bound-has}
 use Rattle.name_store.proofs.bench.Bench.has_room_for.Goals as goal
 

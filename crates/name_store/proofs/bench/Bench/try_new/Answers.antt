@@ -1,12 +1,4 @@
-use Rattle.std.proofs.Common.{◌≡◌, ◌∙◌, sym, ap, [], map}
-use Rattle.std.specs.Cmp.{nat_cmp_total}
-use Rattle.std.specs.Ordering.{nat_cmp}
-use Rattle.std.specs.FinMap.{empty, get-empty, same_map, nat_cmp-IsAntisymmetric}
-use Rattle.circular_buffer.specs.Buffer.{Buffer as Ring}
-use Rattle.name_store.specs.Kept.{past_buffers, patch_size}
-use Rattle.name_store.specs.States.{start}
-use Rattle.name_store.specs.View.{state_of}
-use Rattle.name_store.specs.declared.change.Change.{Change}
+use Rattle.name_store.proofs.Words.{◌≡◌, ◌∙◌, sym, ap, [], map, nat_cmp_total, nat_cmp, empty, get-empty, same_map, nat_cmp-IsAntisymmetric, Ring, past_buffers, patch_size, start, state_of, Change}
 use Rattle.name_store.proofs.SlotLaws.{get-past}
 use Rattle.name_store.proofs.bench.Bench.try_new.Goals as goal
 

@@ -1,12 +1,4 @@
-use Rattle.std.proofs.Common.{◌≡◌, ap, sym, subst, ◌∙◌, refl, arith, ℕ, List, inl, inr}
-use Rattle.std.specs.Option.{option_map}
-use Rattle.std.proofs.lemmas.Bool.{false≢true}
-use Rattle.std.proofs.lemmas.Result.{err_from_is_err_and}
-use Rattle.name_store.specs.Words.{spare}
-use Rattle.name_store.specs.Arrays.{unbound}
-use Rattle.name_store.specs.Invariants.{Holds, IsSound}
-use Rattle.name_store.specs.View.{state_of, bench_value}
-use Rattle.name_store.specs.declared.bound.Entry.{Entry}
+use Rattle.name_store.proofs.Words.{◌≡◌, ap, sym, subst, ◌∙◌, refl, arith, ℕ, List, inl, inr, option_map, false≢true, err_from_is_err_and, spare, unbound, Holds, IsSound, state_of, bench_value, Entry}
 use Rattle.name_store.proofs.KeepLaws.{patches-push}
 use Rattle.name_store.proofs.UnbindLaws.{same-sound, removed-holds, unbind-held, unbind-kept, bound-has, deep, removed-one}
 use Rattle.name_store.proofs.bench.Bench.unbind.Goals as goal

@@ -1,9 +1,4 @@
-use Rattle.std.proofs.Common.{◌∙◌, ap, refl, sym, subst}
-use Rattle.circular_buffer.specs.Buffer.{Buffer as Ring}
-use Rattle.name_store.specs.Words.{spare}
-use Rattle.name_store.specs.Invariants.{IsSound}
-use Rattle.name_store.specs.View.{state_of, bench_value}
-use Rattle.name_store.specs.declared.change.Change.{Change}
+use Rattle.name_store.proofs.Words.{◌∙◌, ap, refl, sym, subst, Ring, spare, IsSound, state_of, bench_value, Change}
 use Rattle.name_store.proofs.UndoLaws.{undone-state, patches-pop, same-ring, with-last, none-kept}
 use Rattle.name_store.proofs.bench.Bench.undo.Goals as goal
 

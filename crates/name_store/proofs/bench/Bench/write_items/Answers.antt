@@ -1,14 +1,4 @@
-use Rattle.std.proofs.Common.{ℕ, ap, sym, ◌∙◌, refl, subst, arith, List, nat_lt}
-use Rattle.std.proofs.lemmas.Bool.{false≢true, ltb-false}
-use Rattle.std.proofs.lemmas.Result.{err_from_is_err_and}
-use Rattle.name_store.specs.Words.{spare}
-use Rattle.name_store.specs.Invariants.{IsSound}
-use Rattle.name_store.specs.Memory.{NeedsNoMemory}
-use Rattle.name_store.specs.States.{BenchValue}
-use Rattle.name_store.specs.Targets.{IsAim}
-use Rattle.name_store.specs.View.{state_of, bench_value}
-use Rattle.name_store.specs.declared.bound.Entry.{Entry}
-use Rattle.name_store.specs.inside.Homes.{IsHome}
+use Rattle.name_store.proofs.Words.{ℕ, ap, sym, ◌∙◌, refl, subst, arith, List, nat_lt, false≢true, ltb-false, err_from_is_err_and, spare, IsSound, NeedsNoMemory, BenchValue, IsAim, state_of, bench_value, Entry, IsHome}
 use Rattle.name_store.proofs.UnbindLaws.{same-sound}
 use Rattle.name_store.proofs.WriteKept.{same-still, same-state, same-value, tried-sound, tried-lowest, put-can, none-can, needs-shallow, none-answers, wrote-sound, write-held, write-sound, write-answers, write-counts}
 use Rattle.name_store.proofs.bench.Bench.write_items.Goals as goal

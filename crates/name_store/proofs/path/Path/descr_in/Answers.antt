@@ -1,7 +1,4 @@
-use Rattle.std.proofs.Common.{◌≡◌, ◌+◌, ◌<◌, ℕ, List, ◌∷◌, length, drop, sym, ap, subst, ◌∙◌, slice_index_or, arith, add-one, drop-cons, refl}
-use Rattle.std.proofs.lemmas.List.{drop_all}
-use Rattle.name_store.specs.Words.{Field}
-use Rattle.name_store.specs.Parts.{IsPathOf, descr_at}
+use Rattle.name_store.proofs.Words.{◌≡◌, ◌+◌, ◌<◌, ℕ, List, ◌∷◌, length, drop, sym, ap, subst, ◌∙◌, slice_index_or, arith, add-one, drop-cons, refl, drop_all, Field, IsPathOf, descr_at}
 use Rattle.name_store.proofs.path.Path.descr_in.Goals as goal
 
 -- the remaining numbers are the next one, and those after it

@@ -1,5 +1,4 @@
-use Rattle.std.proofs.Common.{◌≡◌, drop}
-use Rattle.name_store.specs.Parts.{IsPathOf, descr_at}
+use Rattle.name_store.proofs.Words.{◌≡◌, drop, IsPathOf, descr_at}
 use Rattle.name_store.proofs.path.Path.descr_in.Given as goal
 
 -- the remaining numbers lead from here to where the whole path leads

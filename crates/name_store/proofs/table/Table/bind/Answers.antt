@@ -1,5 +1,4 @@
-use Rattle.std.proofs.Common.{refl}
-use Rattle.std.proofs.lemmas.Result.{IfOk-at_ok}
+use Rattle.name_store.proofs.Words.{refl, IfOk-at_ok}
 use Rattle.name_store.proofs.BindLaws.{rebinds, inserted-holds}
 use Rattle.name_store.proofs.table.Table.bind.Goals as goal
 

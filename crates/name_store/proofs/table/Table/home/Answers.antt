@@ -1,6 +1,4 @@
-use Rattle.std.proofs.Common.{◌≡◌, ap, sym, ◌∙◌, refl, Option, Some, None, is_some, Bor}
-use Rattle.std.specs.Option.{option_copied}
-use Rattle.name_store.specs.Words.{item_size}
+use Rattle.name_store.proofs.Words.{◌≡◌, ap, sym, ◌∙◌, refl, Option, Some, None, is_some, Bor, option_copied, item_size}
 use Rattle.name_store.proofs.StateLaws.{found-slot, found-lies, bound-found}
 use Rattle.name_store.proofs.WriteLaws.{entry-bound}
 use Rattle.name_store.proofs.table.Table.home.Goals as goal

@@ -1,12 +1,4 @@
-use Rattle.std.proofs.Common.{◌∙◌, ap, sym, subst, refl, true}
-use Rattle.std.proofs.lemmas.Option.{same_Some}
-use Rattle.name_store.specs.Words.{item_size}
-use Rattle.name_store.specs.View.{present}
-use Rattle.name_store.specs.Views.{MayBind}
-use Rattle.name_store.specs.declared.bound.Bound.{Bound}
-use Rattle.name_store.specs.declared.bound.Entry.{Entry}
-use Rattle.name_store.specs.declared.slot.Slot.{Slot}
-use Rattle.name_store.specs.inside.Rebinds.{Lodges}
+use Rattle.name_store.proofs.Words.{◌∙◌, ap, sym, subst, refl, true, same_Some, item_size, present, MayBind, Bound, Entry, Slot, Lodges}
 use Rattle.name_store.proofs.BindLaws.{fresh-lodges, view-lodges, tried-kept, holds-kept}
 use Rattle.name_store.proofs.Needs.{there-used}
 use Rattle.name_store.proofs.ViewLaws.{view-slot, view-occupied}

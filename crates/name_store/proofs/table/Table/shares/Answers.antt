@@ -1,10 +1,4 @@
-use Rattle.std.proofs.Common.{◌≡◌, ◌&&◌, Bool, true, false, refl, sym, ap, subst, ◌∙◌, is_some, inl, inr}
-use Rattle.std.proofs.lemmas.Result.{err_from_is_err_and}
-use Rattle.std.specs.Option.{option_copied}
-use Rattle.std.proofs.lemmas.Option.{same_Some}
-use Rattle.name_store.specs.Words.{item_size, max_bytes, offsets, Fits, have_common_byte}
-use Rattle.name_store.specs.States.{Array}
-use Rattle.name_store.specs.View.{array_at, slot_at}
+use Rattle.name_store.proofs.Words.{◌≡◌, ◌&&◌, Bool, true, false, refl, sym, ap, subst, ◌∙◌, is_some, inl, inr, err_from_is_err_and, option_copied, same_Some, item_size, max_bytes, offsets, Fits, have_common_byte, Array, array_at, slot_at}
 use Rattle.name_store.proofs.StateLaws.{bound-found, found-slot, none-found}
 use Rattle.name_store.proofs.ShareLaws.{entry-fits, entry-path, shares-apart, shares-one}
 use Rattle.name_store.proofs.table.Table.shares.Goals as goal

@@ -1,9 +1,4 @@
-use Rattle.std.proofs.Common.{◌≡◌, ◌+◌, ◌≤◌, refl, sym, subst, ◌∙◌, All, Some, arith}
-use Rattle.name_store.specs.Invariants.{GoBackAt}
-use Rattle.name_store.specs.Kept.{with_old}
-use Rattle.name_store.specs.Targets.{target_offsets}
-use Rattle.name_store.specs.View.{slot_at}
-use Rattle.name_store.specs.declared.slot.Slot.{Slot}
+use Rattle.name_store.proofs.Words.{◌≡◌, ◌+◌, ◌≤◌, refl, sym, subst, ◌∙◌, All, Some, arith, GoBackAt, with_old, target_offsets, slot_at, Slot}
 use Rattle.name_store.proofs.HeldLaws.{lowest-lent}
 use Rattle.name_store.proofs.RewriteLaws.{lent-new}
 use Rattle.name_store.proofs.SlotLaws.{lent-some, lent-there}

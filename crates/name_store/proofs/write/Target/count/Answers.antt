@@ -1,7 +1,4 @@
-use Rattle.std.proofs.Common.{◌∙◌, sym, ap, length}
-use Rattle.name_store.specs.Words.{length-offsets}
-use Rattle.name_store.specs.Targets.{target_offsets}
-use Rattle.name_store.specs.declared.write.Target.{Target}
+use Rattle.name_store.proofs.Words.{◌∙◌, sym, ap, length, length-offsets, target_offsets, Target}
 use Rattle.name_store.proofs.write.Target.count.Goals as goal
 
 pub returns-in-View : goal.returns-in-View

@@ -1,9 +1,4 @@
-use Rattle.std.proofs.Common.{Some, None, sym, ap, ◌∙◌}
-use Rattle.std.proofs.lemmas.Result.{IfOk-weaker}
-use Rattle.name_store.specs.Words.{with_items, put_each}
-use Rattle.name_store.specs.Targets.{target_offsets}
-use Rattle.name_store.specs.declared.write.Source.{Source}
-use Rattle.name_store.specs.inside.Puts.{with_source}
+use Rattle.name_store.proofs.Words.{Some, None, sym, ap, ◌∙◌, IfOk-weaker, with_items, put_each, target_offsets, Source, with_source}
 use Rattle.name_store.proofs.RewriteLaws.{owned-within, lent-fits, lent-within, lent-parts}
 use Rattle.name_store.proofs.SlotLaws.{slot_at-get_or}
 use Rattle.name_store.proofs.SourceLaws.{put_each-items}

@@ -1,7 +1,4 @@
-use Rattle.std.proofs.Common.{Some, length, sym, ap, ◌∙◌}
-use Rattle.name_store.specs.Words.{length-offsets, offsets, with_items}
-use Rattle.name_store.specs.Targets.{target_offsets}
-use Rattle.name_store.specs.declared.write.Target.{Target}
+use Rattle.name_store.proofs.Words.{Some, length, sym, ap, ◌∙◌, length-offsets, offsets, with_items, target_offsets, Target}
 use Rattle.name_store.proofs.RewriteLaws.{lent-within, lent-parts}
 use Rattle.name_store.proofs.write.Writer.copy_over.Goals as goal
 

@@ -1,9 +1,4 @@
-use Rattle.std.proofs.Common.{◌≡◌, ◌∙◌, ◌*◌, ap, sym, subst, length, arith}
-use Rattle.std.proofs.lemmas.Bool.{eqb-true}
-use Rattle.name_store.specs.Words.{length-offsets, offsets}
-use Rattle.name_store.specs.Targets.{target_offsets}
-use Rattle.name_store.specs.declared.write.Target.{Target}
-use Rattle.name_store.specs.inside.Exchanges.{AreAll}
+use Rattle.name_store.proofs.Words.{◌≡◌, ◌∙◌, ◌*◌, ap, sym, subst, length, arith, eqb-true, length-offsets, offsets, target_offsets, Target, AreAll}
 use Rattle.name_store.proofs.write.Writer.is_all.Goals as goal
 
 pub returns-then-is_c : goal.returns-then-is_c

@@ -1,6 +1,4 @@
-use Rattle.std.proofs.Common.{◌+◌, ◌≤◌, length}
-use Rattle.std.proofs.lemmas.List.Sorted.{All-permutation}
-use Rattle.name_store.specs.Targets.{target_offsets}
+use Rattle.name_store.proofs.Words.{◌+◌, ◌≤◌, length, All-permutation, target_offsets}
 use Rattle.name_store.proofs.write.Writer.put.Goals as goal
 
 pub put_over-requires : goal.put_over-requires

@@ -1,5 +1,4 @@
-use Rattle.std.proofs.Common.{sym, ◌∙◌}
-use Rattle.name_store.specs.Targets.{target_offsets}
+use Rattle.name_store.proofs.Words.{sym, ◌∙◌, target_offsets}
 use Rattle.name_store.proofs.ExchangeLaws.{own-packed, replaced}
 use Rattle.name_store.proofs.write.Writer.put_items.Goals as goal
 

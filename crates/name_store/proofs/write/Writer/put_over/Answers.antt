@@ -1,7 +1,4 @@
-use Rattle.std.proofs.Common.{◌≡◌, refl, sym, ap, ◌∙◌, length}
-use Rattle.name_store.specs.Words.{length-offsets, offsets, multiples, items_at}
-use Rattle.name_store.specs.Targets.{target_offsets}
-use Rattle.name_store.specs.declared.write.Target.{Target}
+use Rattle.name_store.proofs.Words.{◌≡◌, refl, sym, ap, ◌∙◌, length, length-offsets, offsets, multiples, items_at, target_offsets, Target}
 use Rattle.name_store.proofs.ExchangeLaws.{own-packed, own-offsets, replaced, replaced-old}
 use Rattle.name_store.proofs.RewriteLaws.{owned-within}
 use Rattle.name_store.proofs.write.Writer.put_over.Goals as goal

@@ -1,6 +1,4 @@
-use Rattle.std.proofs.Common.{◌≡◌, ◌++◌, IsTrue, false, Ok, Err, None, rules}
-use Rattle.npy_files.specs.Words.{FileParts, unmoved}
-use Rattle.npy_files.specs.Names.{is_user_name}
+use Rattle.npy_files.proofs.Words.{◌≡◌, ◌++◌, IsTrue, false, Ok, Err, None, rules, FileParts, unmoved, is_user_name}
 use Rattle.npy_files.proofs.UserFiles.{user_reads, no_user_file, told_read, told_same}
 use Rattle.npy_files.proofs.folder_store.FolderStoreNpyStore.read_parts.Goals as goal
 

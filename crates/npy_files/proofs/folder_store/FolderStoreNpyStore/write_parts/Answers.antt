@@ -1,5 +1,4 @@
-use Rattle.std.proofs.Common.{◌++◌, IsTrue, Ok, Err, ap, rules, arith, length-append}
-use Rattle.npy_files.specs.Names.{is_user_name}
+use Rattle.npy_files.proofs.Words.{◌++◌, IsTrue, Ok, Err, ap, rules, arith, length-append, is_user_name}
 use Rattle.npy_files.proofs.UserFiles.{replaced, failed, told_written, told_kept}
 use Rattle.npy_files.proofs.UserNames.{nothing_leaves}
 use Rattle.npy_files.proofs.folder_store.FolderStoreNpyStore.write_parts.Goals as goal

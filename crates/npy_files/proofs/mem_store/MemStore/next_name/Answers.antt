@@ -1,7 +1,4 @@
-use Rattle.std.proofs.Common.{◌<◌, sym, ap, ◌∙◌, subst, List, Some, None, length}
-use Rattle.std.proofs.lemmas.Option.{slice_get-get_or}
-use Rattle.npy_files.specs.declared.mem_store.StoredFile.{StoredFile}
-use Rattle.npy_files.specs.inside.Shelves.{IsFirstOf}
+use Rattle.npy_files.proofs.Words.{◌<◌, sym, ap, ◌∙◌, subst, List, Some, None, length, slice_get-get_or, StoredFile, IsFirstOf}
 use Rattle.npy_files.proofs.NextNames.{next, no_next}
 use Rattle.npy_files.proofs.mem_store.MemStore.next_name.Goals as goal
 

@@ -1,6 +1,4 @@
-use Rattle.std.proofs.Common.{◌≡◌, arith, sym, ap, ◌∙◌, Some, position, List, ℕ}
-use Rattle.npy_files.specs.declared.mem_store.StoredFile.{StoredFile}
-use Rattle.npy_files.specs.inside.Shelves.{is_called}
+use Rattle.npy_files.proofs.Words.{◌≡◌, arith, sym, ap, ◌∙◌, Some, position, List, ℕ, StoredFile, is_called}
 use Rattle.npy_files.proofs.StoreLaws.{absent, present}
 use Rattle.npy_files.proofs.mem_store.MemStoreNpyStore.read_parts.Goals as goal
 

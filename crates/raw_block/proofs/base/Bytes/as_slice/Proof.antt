@@ -1,32 +1,5 @@
 -- `as_slice` shows the bytes that the owner lends. Assumes `Logic`.
-use Rattle.std.proofs.Common.{◌≡◌, ℕ, ◌*◌, ◌^◌, ◌<◌, List, [], ◌∷◌, length, refl, ap, ◌∙◌, w64, arith}
-use base.Fraction.{full_share}
-use base.Logic.{id⊢}
-use base.Fml.{ftrue, fat, flft}
-use mir.Syntax.{named}
-use mir.Val.{Val}
-use contract.Monad.{fact}
-use contract.Running.{tables}
-use types.Kit.{‵, raw, ◌⊛◌, at_ret, ◌$◌, ◌∵◌, !, qed, done, move, keep, split, join, fsplit, fjoin, feq_i, flt_l, flt_i, rewrite, suffices, frame}
-use types.Part.{whole, sub, agg}
-use types.Run.{enter, of_opd, stop, fld, and_then, no_more, first, blocks, exec, returns}
-use types.ByLocal.{alloc_all, pass_all, free_all, look_at, get, get_in, sets, sets_last, env, take_at, give_at}
-use denote.Builtin.{usize, RefOf}
-use denote.Opens.{hide, unhide}
-use denote.Param.{layout}
-use denote.Plain.{uint_vals, uint_Tells}
-use denote.RawPtr.{Ptr, in_a_block}
-use denote.Ref.{Bor, ShrRef, shr_vals, shr_Tells}
-use denote.Signature.{plain}
-use denote.Slice.{slice_val}
-use denote.Steps.{nothing, heard}
-use denote.Struct.Laws.{vals, tells}
-use denote.Triple.Walked.{Stays, walk_of, says, stay_dropped, Goes-dropped, ends_at}
-use Rattle.std.proofs.raw_atomic.Walks.{proved}
-use Rattle.std_alloc.proofs.RcSteps.{word, word-Good}
-use Rattle.std_alloc.proofs.VecSteps.Shapes.{after}
-use Rattle.raw_block.specs.Ownership.{bytes_lent}
-use Rattle.raw_block.specs.contracts.base.Bytes.{the_row as R}
+use Rattle.raw_block.proofs.Words.{◌≡◌, ℕ, ◌*◌, ◌^◌, ◌<◌, List, [], ◌∷◌, length, refl, ap, ◌∙◌, w64, arith, full_share, id⊢, ftrue, fat, flft, named, Val, fact, tables, ‵, raw, ◌⊛◌, at_ret, ◌$◌, ◌∵◌, !, qed, done, move, keep, split, join, fsplit, fjoin, feq_i, flt_l, flt_i, rewrite, suffices, frame, whole, sub, agg, enter, of_opd, stop, fld, and_then, no_more, first, blocks, exec, returns, alloc_all, pass_all, free_all, look_at, get, get_in, sets, sets_last, env, take_at, give_at, usize, RefOf, hide, unhide, layout, uint_vals, uint_Tells, Ptr, in_a_block, Bor, ShrRef, shr_vals, shr_Tells, plain, slice_val, nothing, heard, vals, tells, Stays, walk_of, says, stay_dropped, Goes-dropped, ends_at, proved, word, word-Good, after, bytes_lent, R}
 use Rattle.raw_block.specs.contracts.base.Base as B
 use Rattle.raw_block.proofs.base.Base.TheLaws.{the_laws}
 use Rattle.raw_block.specs.contracts.base.Bytes.as_slice as f

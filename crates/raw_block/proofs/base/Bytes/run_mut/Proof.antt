@@ -1,48 +1,5 @@
 -- `run_mut` lends some of the bytes as arrays, and the owner then has those last written. Assumes `Logic`.
-use Rattle.std.proofs.Common.{◌≡◌, ℕ, ◌+◌, ◌*◌, ◌^◌, ◌<◌, ◌≤◌, List, [], ◌∷◌, ◌++◌, length, take, drop as drop_front, refl, sym, ap, subst, ◌∙◌, w64, arith, append_assoc, length-append, length-take, length-drop}
-use Rattle.std.proofs.lemmas.List.{take-append-drop, drop-drop}
-use seplogic.Ra.Ura.{Ura}
-use base.Fraction.{full_share}
-use base.Logic.{ent, sep, id⊢}
-use base.Fml.{Fml, GName, ftrue, fsep, fat, flft}
-use borrow.Table.Elements.{at_mul, cut_app, join_app}
-use borrow.Table.Elements.{at as after_some}
-use mir.MapTy.{inst_fn}
-use mir.Syntax.{Args, Fn, named, a_number}
-use mir.Val.{Val}
-use contract.BorrowLft.{◌⊑◌}
-use contract.Monad.{fact}
-use contract.Running.{tables}
-use types.Logic.{Logic, sem}
-use types.Kit.{‵, raw, ◌⊛◌, some, given, later, at_ret, ◌$◌, ◌∵◌, !, qed, by, done, move, keep, use1, use2, split, split3, join, group, learn, pick, await, fsplit, fsplit3, fjoin, fjoin3, flt_l, rewrite, suffices, frame}
-use types.Part.{whole, sub, agg}
-use types.Run.{enter, of_opd, bin, stop, fld, and_then, no_more, first, blocks, exec, returns}
-use types.ByLocal.{alloc_all, pass_all, free_all, look_at, get, get_in, sets, sets_last, env, take_at, give_at}
-use types.SemTy.{cells}
-use denote.Array.{Array}
-use denote.Builtin.{u8, usize}
-use denote.Follow.{follows}
-use denote.FollowSlice.{Elements, lends_Elements}
-use denote.Index.{whole_in}
-use denote.Memory.{mem}
-use denote.Param.{layout, layouts, number}
-use denote.Plain.{uint_vals, uint_Tells}
-use denote.RawPtr.{Ptr, block_ptr, in_a_block}
-use denote.Ref.{MutBor, MutRef, mut_vals, mut_Tells}
-use denote.Signature.{plain, mut_ref_to}
-use denote.Slice.{MutSlice, Room, slice_val}
-use denote.Steps.{nothing, heard, opens}
-use denote.Struct.Laws.{vals, tells}
-use denote.Triple.Walked.{Stays, walk_of, says, stay_dropped, Goes-dropped, Goes-spent_ref, ends_at}
-use Rattle.core.proofs.slice.Relends.{length-first_chunks, runs_in, runs_out}
-use Rattle.std.proofs.raw_atomic.Walks.{proved}
-use Rattle.std.specs.List.{flat_map}
-use Rattle.std.specs.Simd.{first_chunks}
-use Rattle.std_alloc.proofs.RcSteps.{word, word-Good}
-use Rattle.std_alloc.proofs.VecSteps.Shapes.{after}
-use Rattle.raw_block.specs.Bytes.{put}
-use Rattle.raw_block.specs.Ownership.{bytes_own}
-use Rattle.raw_block.specs.contracts.base.Bytes.{the_row as R}
+use Rattle.raw_block.proofs.Words.{◌≡◌, ℕ, ◌+◌, ◌*◌, ◌^◌, ◌<◌, ◌≤◌, List, [], ◌∷◌, ◌++◌, length, take, drop_front, refl, sym, ap, subst, ◌∙◌, w64, arith, append_assoc, length-append, length-take, length-drop, take-append-drop, drop-drop, Ura, full_share, ent, sep, id⊢, Fml, GName, ftrue, fsep, fat, flft, at_mul, cut_app, join_app, after_some, inst_fn, Args, Fn, named, a_number, Val, ◌⊑◌, fact, tables, Logic, sem, ‵, raw, ◌⊛◌, some, given, later, at_ret, ◌$◌, ◌∵◌, !, qed, by, done, move, keep, use1, use2, split, split3, join, group, learn, pick, await, fsplit, fsplit3, fjoin, fjoin3, flt_l, rewrite, suffices, frame, whole, sub, agg, enter, of_opd, bin, stop, fld, and_then, no_more, first, blocks, exec, returns, alloc_all, pass_all, free_all, look_at, get, get_in, sets, sets_last, env, take_at, give_at, cells, Array, u8, usize, follows, Elements, lends_Elements, whole_in, mem, layout, layouts, number, uint_vals, uint_Tells, Ptr, block_ptr, in_a_block, MutBor, MutRef, mut_vals, mut_Tells, plain, mut_ref_to, MutSlice, Room, slice_val, nothing, heard, opens, vals, tells, Stays, walk_of, says, stay_dropped, Goes-dropped, Goes-spent_ref, ends_at, length-first_chunks, runs_in, runs_out, proved, flat_map, first_chunks, word, word-Good, after, put, bytes_own, R}
 use Rattle.raw_block.specs.contracts.base.Base as B
 use Rattle.raw_block.proofs.base.Base.TheLaws.{the_laws}
 use Rattle.raw_block.proofs.Writing.{written, Rest, back}

@@ -1,7 +1,4 @@
-use Rattle.std.proofs.Common.{drop, length, refl, ap, ◌∙◌}
-use Rattle.std.specs.Simd.{first_chunks}
-use Rattle.raw_block.specs.BytesLaws.{length-chunks}
-use Rattle.raw_block.specs.NumberRuns.{signed_numbers, with_run}
+use Rattle.raw_block.proofs.Words.{drop, length, refl, ap, ◌∙◌, first_chunks, length-chunks, signed_numbers, with_run}
 use Rattle.raw_block.proofs.RunWrites.{chunks-take, numbers-written, others-stay}
 use Rattle.raw_block.proofs.block.RawBlock.run_i64_mut.Goals as goal
 

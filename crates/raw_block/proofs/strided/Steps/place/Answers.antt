@@ -1,6 +1,4 @@
-use Rattle.std.proofs.Common.{◌≡◌, ◌+◌, ◌*◌, ◌%◌, ◌^◌, ap, ◌∙◌, w64, rules}
-use Rattle.std.proofs.lemmas.Int.{to_z-of_z}
-use mir.Val.{SFits, of_z}
+use Rattle.raw_block.proofs.Words.{◌≡◌, ◌+◌, ◌*◌, ◌%◌, ◌^◌, ap, ◌∙◌, w64, rules, to_z-of_z, SFits, of_z}
 use Rattle.raw_block.proofs.Places.{place_wraps}
 use Rattle.raw_block.proofs.strided.Steps.place.Goals as goal
 

@@ -1,9 +1,4 @@
-use Rattle.std.proofs.Common.{sym, ap, ◌∙◌}
-use Rattle.std.specs.List.{fold}
-use Rattle.std.specs.Prelude.{nat_eq, not}
-use Rattle.std.proofs.lemmas.List.Sums.{fold-append}
-use Rattle.reductions.specs.inside.Extremes.{better}
-use Rattle.reductions.specs.inside.Numbers.{numbers_at}
+use Rattle.reductions.proofs.Words.{sym, ap, ◌∙◌, fold, nat_eq, not, fold-append, better, numbers_at}
 use Rattle.reductions.proofs.DecidedLaws.{best-stays}
 use Rattle.reductions.proofs.folds.BestFold.is_decided.Goals as goal
 

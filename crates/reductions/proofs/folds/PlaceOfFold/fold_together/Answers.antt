@@ -1,6 +1,4 @@
-use Rattle.std.proofs.Common.{◌≡◌, ◌-◌, min, ap, subst, ◌∙◌, arith}
-use Rattle.std.specs.Prelude.{nat_eq, not}
-use Rattle.reductions.specs.inside.Numbers.{IsPart}
+use Rattle.reductions.proofs.Words.{◌≡◌, ◌-◌, min, ap, subst, ◌∙◌, arith, nat_eq, not, IsPart}
 use Rattle.reductions.proofs.SoughtLaws.{sought-next}
 use Rattle.reductions.proofs.folds.PlaceOfFold.fold_together.Goals as goal
 

@@ -1,5 +1,4 @@
-use Rattle.std.proofs.Common.{◌-◌, ◌≤◌}
-use Rattle.std.specs.Prelude.{nat_eq, not}
+use Rattle.reductions.proofs.Words.{◌-◌, ◌≤◌, nat_eq, not}
 use Rattle.reductions.proofs.SoughtLaws.{AreSought}
 use Rattle.reductions.proofs.folds.PlaceOfFold.fold_together.Given as goal
 

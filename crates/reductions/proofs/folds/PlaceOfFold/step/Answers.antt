@@ -1,6 +1,4 @@
-use Rattle.std.proofs.Common.{sym, ◌∙◌}
-use Rattle.std.specs.Prelude.{nat_eq, not}
-use Rattle.reductions.specs.inside.FoundLaws.{better_next, better_stays}
+use Rattle.reductions.proofs.Words.{sym, ◌∙◌, nat_eq, not, better_next, better_stays}
 use Rattle.reductions.proofs.folds.PlaceOfFold.step.Goals as goal
 
 pub returns-then-is_better : goal.returns-then-is_better

@@ -1,7 +1,4 @@
-use Rattle.std.proofs.Common.{sym, ap, ◌∙◌}
-use Rattle.std.specs.Prelude.{nat_eq, not}
-use Rattle.std.proofs.lemmas.Bool.{ne_eqb}
-use Rattle.reductions.specs.inside.FoldLaws.{total_step, total_next}
+use Rattle.reductions.proofs.Words.{sym, ap, ◌∙◌, nat_eq, not, ne_eqb, total_step, total_next}
 use Rattle.reductions.proofs.folds.WrappingFold.step.Goals as goal
 
 pub returns-then-this-ne0 : goal.returns-then-this-ne0

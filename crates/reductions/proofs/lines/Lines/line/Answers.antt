@@ -1,5 +1,4 @@
-use Rattle.std.proofs.Common.{sym, ap, subst, length, ◌∙◌}
-use Rattle.reductions.specs.Words.{EachWithin, run_along}
+use Rattle.reductions.proofs.Words.{sym, ap, subst, length, ◌∙◌, EachWithin, run_along}
 use Rattle.reductions.proofs.lines.Lines.line.Goals as goal
 
 pub items_along-requires-clause-within : goal.items_along-requires-clause-within

@@ -1,5 +1,4 @@
-use Rattle.std.proofs.Common.{sym, ap, subst, ◌∙◌, length, arith}
-use Rattle.reductions.specs.Words.{EachWithin, run_along}
+use Rattle.reductions.proofs.Words.{sym, ap, subst, ◌∙◌, length, arith, EachWithin, run_along}
 use Rattle.reductions.proofs.RowLaws.{row_offset, row_within}
 use Rattle.reductions.proofs.lines.Lines.row.Goals as goal
 

@@ -1,7 +1,5 @@
 -- A turn counts one byte, and the brace that it opens or closes.
-use Rattle.std.proofs.Common.{arith, rules}
-use borrow.Author.Tests.{tests}
-use Rattle.std.proofs.lemmas.List.{drop_more, drop_all}
+use Rattle.script_lang.proofs.Words.{arith, rules, tests, drop_more, drop_all}
 use Rattle.script_lang.proofs.Braces.{brace_closes, brace_goes_on, no_brace}
 use Rattle.script_lang.proofs.grammar.descriptors.record_len.Goals as goal
 

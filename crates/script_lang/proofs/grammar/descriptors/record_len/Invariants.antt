@@ -1,6 +1,4 @@
-use Rattle.std.proofs.Common.{◌≡◌, ◌≤◌, ◌+◌, drop, false}
-use Rattle.std.specs.Option.{option_map}
-use Rattle.script_lang.specs.Descriptors.{record_len}
+use Rattle.script_lang.proofs.Words.{◌≡◌, ◌≤◌, ◌+◌, drop, false, option_map, record_len}
 use Rattle.script_lang.proofs.grammar.descriptors.record_len.Given as goal
 
 -- the bytes so far are counted, and each of them opens at most one brace

@@ -1,6 +1,4 @@
-use Rattle.std.proofs.Common.{◌≡◌, length}
-use Rattle.script_lang.specs.Lists.{by_rule, one_or_more}
-use Rattle.script_lang.specs.Indexes.{index_item_at}
+use Rattle.script_lang.proofs.Words.{◌≡◌, length, by_rule, one_or_more, index_item_at}
 use Rattle.script_lang.proofs.Lists.{in_front}
 use Rattle.script_lang.proofs.grammar.indexes.items.Given as goal
 

@@ -1,7 +1,4 @@
-use Rattle.std.proofs.Common.{◌≡◌, ◌+◌, ◌*◌, length}
-use Rattle.script_lang.specs.Lists.{by_rule, none_or_more}
-use Rattle.script_lang.specs.Literals.{literal_within}
-use Rattle.script_lang.specs.Listed.{literals_of}
+use Rattle.script_lang.proofs.Words.{◌≡◌, ◌+◌, ◌*◌, length, by_rule, none_or_more, literal_within, literals_of}
 use Rattle.script_lang.proofs.Lists.{in_front}
 use Rattle.script_lang.proofs.grammar.literals.+nesting.Given as goal
 

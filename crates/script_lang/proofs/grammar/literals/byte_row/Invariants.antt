@@ -1,7 +1,4 @@
-use Rattle.std.proofs.Common.{◌≡◌, length}
-use Rattle.script_lang.specs.Tokens.{byte_at}
-use Rattle.script_lang.specs.Lists.{by_rule, row}
-use Rattle.script_lang.specs.Literals.{text_byte_at}
+use Rattle.script_lang.proofs.Words.{◌≡◌, length, byte_at, by_rule, row, text_byte_at}
 use Rattle.script_lang.proofs.Lists.{in_front}
 use Rattle.script_lang.proofs.grammar.literals.byte_row.Given as goal
 

@@ -1,8 +1,7 @@
 -- What a turn reads is what the rule of the row reads there.
-use Rattle.script_lang.specs.Literals.{literal_at, line_end_at}
+use Rattle.script_lang.proofs.Words.{literal_at, line_end_at, err_from_is_err_and}
 use Rattle.script_lang.proofs.Shorter.{literal_shorter, entry_behind}
 use Rattle.script_lang.proofs.Lists.{row_ends, row_no_entry, row_next, ends_here, goes_on_here, failed_entry}
-use Rattle.std.proofs.lemmas.Result.{err_from_is_err_and}
 use Rattle.script_lang.proofs.grammar.literals.literals.Goals as goal
 
 pub returns-then-is_at_end : goal.returns-then-is_at_end

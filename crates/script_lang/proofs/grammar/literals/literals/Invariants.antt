@@ -1,6 +1,4 @@
-use Rattle.std.proofs.Common.{◌≡◌, length}
-use Rattle.script_lang.specs.Lists.{by_rule, row}
-use Rattle.script_lang.specs.Literals.{literal_at, line_end_at}
+use Rattle.script_lang.proofs.Words.{◌≡◌, length, by_rule, row, literal_at, line_end_at}
 use Rattle.script_lang.proofs.Lists.{in_front}
 use Rattle.script_lang.proofs.grammar.literals.literals.Given as goal
 

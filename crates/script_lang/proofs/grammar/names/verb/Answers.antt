@@ -1,7 +1,5 @@
 -- Each table in the code has those rows of the definition whose words have the table's length.
-use Rattle.std.proofs.Common.{◌==◌, nat_lt, length, sym, ◌∙◌, ap, arith}
-use Rattle.std.proofs.lemmas.Bool.{lt-ltb}
-use Rattle.script_lang.specs.Verbs.{beside, verbs, verb_of}
+use Rattle.script_lang.proofs.Words.{◌==◌, nat_lt, length, sym, ◌∙◌, ap, arith, lt-ltb, beside, verbs, verb_of}
 use Rattle.script_lang.proofs.VerbLaws.{beside-filtered}
 use Rattle.script_lang.proofs.grammar.names.verb.Goals as goal
 

@@ -1,5 +1,4 @@
-use Rattle.std.proofs.Common.{◌≡◌, ◌<◌, ◌^◌, take}
-use Rattle.elem_descr.specs.TypeStrings.{value_of}
+use Rattle.script_lang.proofs.Words.{◌≡◌, ◌<◌, ◌^◌, take, value_of}
 use Rattle.script_lang.proofs.grammar.numbers.value_of.Given as goal
 
 -- the digits so far are read

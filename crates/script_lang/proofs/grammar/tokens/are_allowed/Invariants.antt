@@ -1,6 +1,4 @@
-use Rattle.std.proofs.Common.{◌≡◌, length}
-use Rattle.std.specs.List.{list_all}
-use Rattle.script_lang.specs.Lines.{is_allowed}
+use Rattle.script_lang.proofs.Words.{◌≡◌, length, list_all, is_allowed}
 use Rattle.script_lang.proofs.grammar.tokens.are_allowed.Given as goal
 
 -- the rest is allowed if and only if the whole line is

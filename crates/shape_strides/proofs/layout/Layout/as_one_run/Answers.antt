@@ -1,8 +1,4 @@
-use Rattle.std.proofs.Common.{rules, ◌∷◌, [], w64, sym, ap, subst, ◌∙◌, arith}
-use Rattle.std.proofs.lemmas.Int.{to_z-of_z}
-use mir.Val.{SFits}
-use Rattle.shape_strides.specs.Addresses.{LieWithin}
-use Rattle.shape_strides.specs.Runs.{run_offsets}
+use Rattle.shape_strides.proofs.Words.{rules, ◌∷◌, [], w64, sym, ap, subst, ◌∙◌, arith, to_z-of_z, SFits, LieWithin, run_offsets}
 use Rattle.shape_strides.proofs.SingleLaws.{last_of, whole_run, run_is_all, run_fits}
 use Rattle.shape_strides.proofs.layout.Layout.as_one_run.Goals as goal
 

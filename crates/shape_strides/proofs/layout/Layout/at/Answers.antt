@@ -1,11 +1,5 @@
-use Rattle.std.proofs.Common.{◌≡◌, ◌+ℤ◌, pos, length, take, sym, ap, ◌∙◌, arith, add-one, take_all}
-use Rattle.std.proofs.lemmas.Int.{ints}
-use lib.IntN.{+ℤ_idr}
-use Rattle.shape_strides.specs.Addresses.{dot}
-use Rattle.shape_strides.specs.AxisLaws.{dot-nil}
+use Rattle.shape_strides.proofs.Words.{◌≡◌, ◌+ℤ◌, pos, length, take, sym, ap, ◌∙◌, arith, add-one, take_all, ints, +ℤ_idr, dot, dot-nil, length-index, number-lt, rank-lt, length-offsets, pos-offset}
 use Rattle.shape_strides.proofs.StepLaws.{goes_on}
-use Rattle.shape_strides.specs.IndexLaws.{length-index, number-lt, rank-lt}
-use Rattle.shape_strides.specs.LayoutLaws.{length-offsets, pos-offset}
 use Rattle.shape_strides.proofs.layout.Layout.at.Goals as goal
 
 pub loop-axis-init : goal.loop-axis-init

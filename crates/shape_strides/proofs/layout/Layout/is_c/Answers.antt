@@ -1,5 +1,4 @@
-use Rattle.std.proofs.Common.{◌≡◌, ◌+◌, ◌-◌, ◌*◌, pos, subst, drop, get_or, refl, ap, sym, ◌∙◌, arith}
-use Rattle.shape_strides.specs.Indexes.{count}
+use Rattle.shape_strides.proofs.Words.{◌≡◌, ◌+◌, ◌-◌, ◌*◌, pos, subst, drop, get_or, refl, ap, sym, ◌∙◌, arith, count}
 use Rattle.shape_strides.proofs.ContiguityLaws.{StepsOver, StepsOver-more, bytes-bound, bytes-step, is_c-empty, is_c-true, is_c-false}
 use Rattle.shape_strides.proofs.layout.Layout.is_c.Goals as goal
 

@@ -1,5 +1,4 @@
-use Rattle.std.proofs.Common.{◌≡◌, ◌*◌, ◌≤◌, length, drop}
-use Rattle.shape_strides.specs.Indexes.{count}
+use Rattle.shape_strides.proofs.Words.{◌≡◌, ◌*◌, ◌≤◌, length, drop, count}
 use Rattle.shape_strides.proofs.ContiguityLaws.{StepsOver}
 use Rattle.shape_strides.proofs.layout.Layout.is_c.Given as goal
 

@@ -1,5 +1,4 @@
-use Rattle.std.proofs.Common.{ℕ, ◌+◌, ◌*◌, ◌<◌, ◌≤◌, pos, unsigned_abs, get_or}
-use Rattle.shape_strides.specs.inside.Reach.{reach_within}
+use Rattle.shape_strides.proofs.Words.{ℕ, ◌+◌, ◌*◌, ◌<◌, ◌≤◌, pos, unsigned_abs, get_or, reach_within}
 use Rattle.shape_strides.proofs.layout.Layout.is_stacked.Given as goal
 
 abbrev pub invariant-loop-axis : goal.invariant-loop-axis

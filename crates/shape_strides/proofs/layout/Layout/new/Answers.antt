@@ -1,7 +1,4 @@
-use Rattle.std.proofs.Common.{◌≡◌, pos, length, refl, ap, ◌∙◌, arith}
-use Rattle.std.proofs.lemmas.List.{length-map}
-use Rattle.shape_strides.specs.Limits.{max_bytes}
-use Rattle.shape_strides.specs.Indexes.{count}
+use Rattle.shape_strides.proofs.Words.{◌≡◌, pos, length, refl, ap, ◌∙◌, arith, length-map, max_bytes, count}
 use Rattle.shape_strides.proofs.ReachLaws.{LieWithin-empty}
 use Rattle.shape_strides.proofs.ZeroLaws.{zeros_for}
 use Rattle.shape_strides.proofs.layout.Layout.new.Goals as goal

@@ -1,5 +1,4 @@
-use Rattle.std.proofs.Common.{◌≡◌, pos, map, length, reverse, refl, sym, ap, ◌∙◌}
-use Rattle.shape_strides.specs.Indexes.{count}
+use Rattle.shape_strides.proofs.Words.{◌≡◌, pos, map, length, reverse, refl, sym, ap, ◌∙◌, count}
 use Rattle.shape_strides.proofs.FortranLaws.{reversed, offsets-reversed}
 use Rattle.shape_strides.proofs.layout.Layout.reversed.Goals as goal
 use Rattle.shape_strides.proofs.layout.Layout.reversed.Goals.{After-reversed-2}

@@ -1,13 +1,4 @@
-use Rattle.std.proofs.Common.{◌≡◌, ◌<◌, ◌≤◌, ◌/◌, ℕ, ℤ, List, [], ◌∷◌, All, map, take, refl, sym, ap, subst, ◌∙◌, arith}
-use Rattle.std.specs.List.{flat_map}
-use Rattle.shape_strides.specs.declared.layout.Layout.{Layout}
-use Rattle.shape_strides.specs.declared.single_run.StridedAxis.{StridedAxis}
-use Rattle.shape_strides.specs.declared.runs.Run.{Run}
-use Rattle.shape_strides.specs.Addresses.{LieWithin}
-use Rattle.shape_strides.specs.Indexes.{count}
-use Rattle.shape_strides.specs.Limits.{max_bytes, max_items}
-use Rattle.shape_strides.specs.Runs.{run_along, run_offsets, runs}
-use Rattle.shape_strides.specs.Walks.{AreAxes}
+use Rattle.shape_strides.proofs.Words.{◌≡◌, ◌<◌, ◌≤◌, ◌/◌, ℕ, ℤ, List, [], ◌∷◌, All, map, take, refl, sym, ap, subst, ◌∙◌, arith, flat_map, Layout, StridedAxis, Run, LieWithin, count, max_bytes, max_items, run_along, run_offsets, runs, AreAxes}
 use Rattle.shape_strides.proofs.AddressOrderLaws.{layout-offsets}
 use Rattle.shape_strides.proofs.FortranLaws.{count-take-le}
 use Rattle.shape_strides.proofs.LastRunLaws.{runs-last_of, outside-axes, starts-count}

@@ -1,9 +1,4 @@
-use Rattle.std.proofs.Common.{◌≡◌, ◌+◌, ◌-◌, ◌<◌, Contains, length, refl, sym, ap, arith, subst}
-use Rattle.shape_strides.specs.Limits.{max_bytes}
-use Rattle.shape_strides.specs.Indexes.{count}
-use Rattle.shape_strides.specs.Layouts.{offsets}
-use Rattle.shape_strides.specs.inside.Reach.{reach_above, reach_below}
-use Rattle.shape_strides.specs.LayoutLaws.{length-offsets}
+use Rattle.shape_strides.proofs.Words.{◌≡◌, ◌+◌, ◌-◌, ◌<◌, Contains, length, refl, sym, ap, arith, subst, max_bytes, count, offsets, reach_above, reach_below, length-offsets}
 use Rattle.shape_strides.proofs.SpanLaws.{below_offset, end_within, none_lower, none_higher, lowest_among, highest_among}
 use Rattle.shape_strides.proofs.layout.Layout.span.Goals as goal
 

@@ -1,6 +1,4 @@
-use Rattle.std.proofs.Common.{◌≡◌, ◌∷◌, min, length, subst, sym, ap, ◌∙◌, arith}
-use Rattle.shape_strides.specs.RunPairs.{run_front, pairs_left}
-use Rattle.shape_strides.specs.PairWalks.{IsAtPair}
+use Rattle.shape_strides.proofs.Words.{◌≡◌, ◌∷◌, min, length, subst, sym, ap, ◌∙◌, arith, run_front, pairs_left, IsAtPair}
 use Rattle.shape_strides.proofs.PairLaws.{next_pair}
 use Rattle.shape_strides.proofs.run_pairs.RunPairsIterator.next.Goals as goal
 

@@ -1,8 +1,4 @@
-use Rattle.std.proofs.Common.{reverse, length, sym, ap, subst, ◌∙◌}
-use Rattle.std.proofs.lemmas.List.{length-reverse}
-use Rattle.shape_strides.specs.Indexes.{count}
-use Rattle.shape_strides.specs.Shapes.{IsShape}
-use Rattle.shape_strides.specs.ReverseLaws.{count-reverse}
+use Rattle.shape_strides.proofs.Words.{reverse, length, sym, ap, subst, ◌∙◌, length-reverse, count, IsShape, count-reverse}
 use Rattle.shape_strides.proofs.ZeroLaws.{refilled}
 use Rattle.shape_strides.proofs.FortranLaws.{IsShape-reverse}
 use Rattle.shape_strides.proofs.shape.Shape.reversed.Goals as goal

@@ -1,6 +1,4 @@
-use Rattle.std.proofs.Common.{◌++◌, codes, take, decimal}
-use Rattle.std.specs.List.{flat_map}
-use Rattle.std.specs.Fmt.{HasWritten, IsPlainFormatter}
+use Rattle.shape_strides.proofs.Words.{◌++◌, codes, take, decimal, flat_map, HasWritten, IsPlainFormatter}
 use Rattle.shape_strides.proofs.shape.ShapeDisplay.fmt.Given as goal
 
 abbrev pub invariant-loop-len : goal.invariant-loop-len

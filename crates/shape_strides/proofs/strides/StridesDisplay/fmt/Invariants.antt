@@ -1,6 +1,4 @@
-use Rattle.std.proofs.Common.{◌++◌, codes, take}
-use Rattle.std.specs.List.{flat_map}
-use Rattle.std.specs.Fmt.{signed_decimal, HasWritten, IsPlainFormatter}
+use Rattle.shape_strides.proofs.Words.{◌++◌, codes, take, flat_map, signed_decimal, HasWritten, IsPlainFormatter}
 use Rattle.shape_strides.proofs.strides.StridesDisplay.fmt.Given as goal
 
 abbrev pub invariant-loop-stride : goal.invariant-loop-stride

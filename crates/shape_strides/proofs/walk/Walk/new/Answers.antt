@@ -1,6 +1,4 @@
-use Rattle.std.proofs.Common.{sym, ◌∙◌}
-use Rattle.shape_strides.specs.LayoutLaws.{length-offsets, offsets_within}
-use Rattle.shape_strides.specs.Walks.{offsets_at}
+use Rattle.shape_strides.proofs.Words.{sym, ◌∙◌, length-offsets, offsets_within, offsets_at}
 use Rattle.shape_strides.proofs.AdvanceLaws.{offsets-at}
 use Rattle.shape_strides.proofs.walk.Walk.new.Goals as goal
 

@@ -1,0 +1,9 @@
+-- What the contracts of this crate cite: its own definitions, and names from std and from the crates below.
+pub use Rattle.arrays.specs.Assignments.{assigned, items_at}
+pub use Rattle.arrays.specs.Blocks.{FillsBlock, offsets_in}
+pub use Rattle.arrays.specs.Joined.{joined_at}
+pub use Rattle.arrays.specs.Packed.{row_offsets}
+pub use Rattle.arrays.specs.Words.{C, EachWithin, IsTrue, OutOfMemory, TooLarge, count, flat_map, is_c_contiguous, item_at, item_from, item_size, length, map, max_bytes, multiples, pos, run_offsets, ◌*◌, ◌≡◌, ◌≤◌}
+unfoldable pub use Rattle.arrays.specs.Words.{offsets}
+pub use Rattle.arrays.specs.inside.Rows.{grid_of}
+pub use Rattle.std.specs.Prelude.{All, IfErr, IfOk, if◌then◌else◌, nat_le, replicate, ◌++◌, ◌+◌, ◌<◌, ◌^◌}

@@ -1,0 +1,75 @@
+-- Names from std, from the crates below and from `specs/`, which the proofs use.
+pub use Rattle.bench_engine.specs.Contents.{Contents, array_over, contents_of, integer_scalar, new_contents, new_contents_in, places_in, zero_item, zero_of}
+unfoldable pub use Rattle.bench_engine.specs.Contents.{arange_contents, array_contents, array_type, full_contents, range_scalar, zeros_contents}
+pub use Rattle.bench_engine.specs.Headline.{AnswersFirstLines, AnswersInPart, AnswersLine, AnswersMeaning, AnswersScript, AnswersWholeLines, AreLines, AreWholeLines, ComesTo, IsUnbroken, Meaning, Outside, Run, Splits, accepted_count, first_world, if_any, limit, output, outside, refused_count, reply_line, says, too_long, trimmed}
+unfoldable pub use Rattle.bench_engine.specs.Headline.{meaning_of}
+pub use Rattle.bench_engine.specs.IndexLists.{array_by_items, by_items, names_in_index, names_in_item, taken}
+unfoldable pub use Rattle.bench_engine.specs.IndexLists.{gathered}
+pub use Rattle.bench_engine.specs.Machine.{Choice, IsAllowed, OperandValues, Outcome, ViewOrCopy, a_copy, a_view, accepted_with, after_outcome, argument_items, argument_values, as_copy, bound_new, bound_seen, changed_with, compute_outcome, literal_scalar, literal_value, literal_values, names_in_argument, names_in_viewing, new_items, one_item, operand_values, operation_item, operation_with, part_seen, question_outcome, seen, under_shape, updated, viewed, write_reply}
+unfoldable pub use Rattle.bench_engine.specs.Machine.{cast_contents, cast_items, cast_outcome, compared_literal, computed_outcome, copied_contents, copy_outcome, creation_outcome, delete_outcome, format_outcome, info_outcome, operand_of_literal, operand_part, operation_contents, operation_on, operation_scalar, print_outcome, reduced_contents, reshaped, shares_outcome, target_part, transformed, undo_outcome, updated_items, view_outcome, write_outcome}
+pub use Rattle.bench_engine.specs.Memory.{MayAnswer, MayAnswerLine, bound_in_computation, may_lack_memory}
+pub use Rattle.bench_engine.specs.Replies.{Reply, bound_text, format_text, info_text, names_text, refusal, shares_text}
+pub use Rattle.bench_engine.specs.Sessions.{Ends, EndsInPart, Fed, FedInPart, Feeds, HasTold, HoldsBytes, HoldsPiece, IsNew}
+pub use Rattle.bench_engine.specs.Steps.{DoesAlone, Found, LoadStep, MayFind, Refuses, SaveStep, Step, Stored, World, bound_loaded, loaded, loaded_contents, save_reply, store_refusal, world}
+unfoldable pub use Rattle.bench_engine.specs.Steps.{file_of_name, load_outcome}
+pub use Rattle.bench_engine.specs.Words.{All, All-seconds, Answers, AnswersBind, AnswersShares, Appends, AreAlike, Argument, Array, ArrayRef, Ask, BadAxis, Big, BinOp, Binary, Bind, Block, Bool, BoolScalar, Boolean, Bound, Broadcast, Buffer, Byte, C, Cast, Combine, Command, Compare, Comparison, Computation, Consumes, Contains, Delete, Descr, Device, Duplicate, Eight, Err, FaultHasCause, Fits, Fortran, Four, Fresh, Gives, GivesField, GivesPlan, GivesView, HoldsFileItems, IfOk, IfSome, IndexArray, IndexItem, Int, IsAffine, IsAtEnd, IsAxisOf, IsFieldOf, IsIndex, IsIndex-broadcast, IsIndex-from_reverse, IsIndex-insert, IsKept, IsNested, IsPermutation, IsPlanOf, IsRead, IsReshapeOf, IsSameStore, IsShape, IsTrue, IsViewIn, IsViewOf, IsWritten, Items, Keeps, KeepsNested, Layout, LayoutPair, LeadsTo, Leaf, LeafValue, Line, LineTooLong, List, Literal, Little, Loaded, Loads, MayBind, MayLackRoom, MayWrite, Memory, MemoryOrder, NoSuchCast, NoSuchField, None, NotForThisKind, NumberOfValues, Ok, Operand, Operation, Option, Order, OutOfMemory, Owned, Plan, Planned, Print, ReadOnly, RecordDescr, Red, Reduce, Refusal, Result, Save, Says, Scalar, ScalarDescr, ScalarLiteral, Sends, SendsPart, ShapesDoNotBroadcast, Shows, Some, Source, State, StoreFault, StoreState, Supplies, Target, TooLarge, TooLong, TooManyAxes, TooManyNames, Transform, Two, UnOp, UnknownName, View, Viewing, [], addresses, affine, affine_or_not, aligned, all_go_together, all_stretch, appends_nothing, appends_then, array_text, asks, axes_beyond, axis_below, bad_byte, basic, big_from, binary_item, bind_ok, bind_same, blocks, bound_to, bound_view, broadcast_index, buffer_of, can-itself, can_cast, can_stretch, cast_item, check, check_test, codes, common-fits, common-some, common_length, common_lengths, common_of_two, common_with, compared_item, count, count-reverse, count_by, decimal, decode, decode_item, descr-then, descr_at, descr_of, descriptor, distance, ends_with, f_multiples, false, few-axes, field_at, field_of, fields, file_order, find_array, first_number, firsts-reordered, fits-offsets, flat_map, found-array, from_front, get, get_or-indexes, go_together, has_room_for, if◌then◌else◌, index_array_of, index_at, index_item_of, index_items, indexed, indexes, integer, is_axis, is_basic, is_bound, is_castable, is_scalar, is_text, item_from, item_pairs, item_size, item_value, item_values, items_from, items_in, joined, joined-add, keeping, leaves_of, length, length-indexes, length-joined, length-offsets, line_of, list_all, lists, literal_number, little_from, map, map-swap, max_bytes, max_items, misspelt, multiples, named_axis, nat_eq, nat_le, nat_lt, nested-reordered, not, not_affine, number, number_in, number_scalar, offsets, offsets-at, offsets_in, offsets_of, offsets_within, ok_or, ordered, outcome_of, pair_even, pairwise, part_at, parts_take_memory, path-then, placed_item, places_of, pos, position, promote, range_with_len, rank, rank-lt, read, reduced_item, reduced_items, refusal_text, replicate, rest_of, reverse, same_answer, same_on_indexes, saved, scalar_of, shape_of-same, shape_read, share_cells, silent, size, span_of, start-then, start_at, stretched-ok, stretched-self, stretched_items, stretches, take, target_of, target_offsets, text, transposed, true, truth, unary_item, unary_result, view_through, with_part, without_nuls, write, written, ℕ, ℤ, ◌&&◌, ◌*◌, ◌++◌, ◌+◌, ◌-◌, ◌<◌, ◌>>=◌, ◌^◌, ◌∷◌, ◌≡◌, ◌≢◌, ◌≤◌, ◌⊎◌}
+unfoldable pub use Rattle.bench_engine.specs.Words.{binary_result, bytes_compared_result, common_shape, compared_result, compared_type, integer_compared_result, range_items, same_kind, shape_of, stretched, stretched_into}
+pub use Rattle.bench_engine.specs.declared.operate.Part.{Part}
+pub use Rattle.bench_engine.specs.declared.replies.Origin.{Origin}
+pub use Rattle.bench_engine.specs.declared.runner.RunFault.{RunFault}
+pub use Rattle.bench_engine.specs.declared.runner.RunFault.TheVariants.{Read, Write}
+pub use Rattle.bench_engine.specs.declared.session.Session.{Session}
+pub use Rattle.bench_engine.specs.declared.session.Summary.{Summary}
+pub use Rattle.bench_engine.specs.declared.update.Writing.{Writing}
+pub use Rattle.bench_engine.specs.declared.view.Viewed.{Viewed}
+pub use Rattle.bench_engine.specs.declared.write.Given.{Given}
+pub use Rattle.bench_engine.specs.inside.Assigns.{Fitted, Holds, IsAimed, IsTarget, LiesIn, Stretches, cast_from}
+pub use Rattle.bench_engine.specs.inside.Computed.{computed_contents, origin_of}
+pub use Rattle.bench_engine.specs.inside.Contract.{Carried, CarriesOut, IsRefused}
+pub use Rattle.bench_engine.specs.inside.LoadedFiles.{Finds}
+pub use Rattle.bench_engine.specs.inside.Meeting.{Meets}
+pub use Rattle.bench_engine.specs.inside.Operands.{AreSources, GivesGiven, HoldsItems, IsGiven, IsPart, LiesInBuffer, OwnStands, Stands, StandsFor}
+pub use Rattle.bench_engine.specs.inside.OwnContents.{IsInCOrder, held}
+pub use Rattle.bench_engine.specs.inside.Parts.{IsOf, IsSeen, descr_seen, origin_of_bound, shape_of_bound}
+pub use Rattle.bench_engine.specs.inside.Printing.{AsksToPrint, MayPrint}
+pub use Rattle.bench_engine.specs.inside.ReadLines.{ReadsAs}
+pub use Rattle.bench_engine.specs.inside.SavedFiles.{Puts, refused}
+pub use Rattle.bench_engine.specs.inside.Sessions.{AnswersHeld, Ended, Reading, Told, ToldInPart, Turned}
+pub use Rattle.bench_engine.specs.inside.Writings.{GoTogether, IsTargetOf, Leaves, Prepares}
+pub use Rattle.elem_descr.specs.declared.index_item.IndexItem.TheVariants.{Array as ArrayItem}
+pub use Rattle.elem_descr.specs.declared.scalar.Scalar.TheVariants.{Bytes as BytesScalar}
+pub use Rattle.name_store.specs.ArrayLaws.{found-array as found}
+pub use Rattle.script_lang.specs.declared.command.Value.TheVariants.{Load as LoadValue}
+pub use Rattle.script_lang.specs.declared.command.Viewing.TheVariants.{Field}
+pub use Rattle.script_lang.specs.declared.literal.ScalarLiteral.TheVariants.{Bytes, Integer}
+pub use Rattle.std.proofs.Common.{Bor, IfErr, add-one, add_assoc, ap, append_assoc, arith, cond, drop, drop-cons, get_or, get_or-set_other, get_or-set_same, inl, inr, is_some, length-append, length-drop, length-set, length-take, max, min, one-add, option_copied, refl, rules, set, slice_get, slice_index, subst, suc, sym, take_all, vec_len, zero, zero-add, ◌/◌, ◌==◌, ◌↔◌, ◌∙◌}
+pub use Rattle.std.proofs.Math.Bool.{and-false, and-true}
+pub use Rattle.std.proofs.Math.Dec.{eqb, eqb-suc-zero}
+pub use Rattle.std.proofs.Math.Nat.{div-lt_iff_lt-mul, div-mul-le_self, lt-div-mul-add, mul-div_cancel_left, mul-le-mul_left}
+pub use Rattle.std.proofs.Math.Seq.{drop-append_seam, take-append_seam}
+pub use Rattle.std.proofs.lemmas.Bool.{and_parts, cases_eq, cases_lt, eq-eqb, eqb-false, eqb-true, false≢true, le-leb, le-ltb, leb-false, leb-true, lt-leb, lt-ltb, ltb-false, ne_eqb}
+pub use Rattle.std.proofs.lemmas.Bool.Decides.{eqb_tells, nat_tests}
+pub use Rattle.std.proofs.lemmas.Grind.{common_steps, flat_map-append}
+pub use Rattle.std.proofs.lemmas.Int.{to_z-of_z}
+pub use Rattle.std.proofs.lemmas.List.{append-nil, ext_get_or, get_or-map, get_or_default, length-map, map-append, map_push, reverse-reverse, same_lists, take-append-drop, take_more}
+pub use Rattle.std.proofs.lemmas.List.Elements.{All-append, All-cons, All-contains, All-from_recursion, All-head, All-map, All-nil, All-tail, Contains-get_or}
+pub use Rattle.std.proofs.lemmas.List.Folds.{list_all-append}
+pub use Rattle.std.proofs.lemmas.List.FromFn.{get_or-map-range_with_len, length-map-range_with_len}
+pub use Rattle.std.proofs.lemmas.List.Quantifiers.{position-Some}
+pub use Rattle.std.proofs.lemmas.List.Sorted.{All-permutation, Contains-permutation, IsPermutation-keeps, IsPermutation-map, IsPermutation-refl, IsPermutation-swap, IsPermutation-sym, IsPermutation-trans, length_permutation}
+pub use Rattle.std.proofs.lemmas.List.Sums.{suffix_len_is, sum_by-append}
+pub use Rattle.std.proofs.lemmas.Map.Steps.{length-le_from_distinct_below}
+pub use Rattle.std.proofs.lemmas.Option.{unwrap_or-slice_get}
+pub use Rattle.std.proofs.lemmas.Result.{err_from_is_err_and, on_err_weaker, on_ok_weaker}
+pub use Rattle.std.proofs.lemmas.Simd.{map-map, splat_is_map}
+pub use Rattle.std.proofs.lemmas.Slice.Zip.{firsts-zip, get_or-zip, length-zip, seconds-zip}
+pub use Rattle.std.specs.FinMap.{FinMap, entries, find, get-entries, insert, nat_cmp-IsAntisymmetric}
+pub use Rattle.std.specs.List.{AllByRecursion, list_any, position_or_len, remove, suffix_len, swap, zip}
+unfoldable pub use Rattle.std.specs.List.{IsDistinct}
+pub use Rattle.std.specs.Option.{option_map}
+pub use Rattle.std.specs.Ordering.{eq_by_cmp, is_eq, nat_cmp}
+pub use Rattle.std.specs.Result.{is_ok}
+pub use Rattle.std.specs.declared.cmp.Ordering.TheVariants.{Equal, Greater, Less}
+pub use Rattle.view_ops.specs.Views.{View as ViewOf}
+pub use mir.Syntax.{w128}
+pub use mir.Val.{SFits, bool_byte}

@@ -1,0 +1,13 @@
+-- What the contracts of this crate cite: its own definitions, and names from std and from the crates below.
+pub use Rattle.disk.specs.Cached.{MayStand, cached_history, found, is_synced}
+pub use Rattle.disk.specs.CachedLaws.{found_may_stay}
+pub use Rattle.disk.specs.Calls.{HasCause, HasRisen, Replaces, SameButBoth}
+pub use Rattle.disk.specs.ChangeLaws.{latest}
+pub use Rattle.disk.specs.Changes.{IsFound, after, bytes_of_change, history_of}
+pub use Rattle.disk.specs.Crashes.{Leaves, MayLeave}
+pub use Rattle.disk.specs.Files.{Files, Same, SameBut}
+pub use Rattle.disk.specs.Words.{IfOk, IsTrue, OnOk, [], drop, empty, false, get, length, take, true, ◌++◌, ◌<◌, ◌∷◌, ◌≡◌, ◌≢◌, ◌≤◌}
+pub use Rattle.disk.specs.declared.disk.DiskFault.TheVariants.{Failed}
+pub use Rattle.disk.specs.inside.HostErrors.{IsUnsupported}
+pub use Rattle.std.specs.IoError.{error_kind}
+pub use Rattle.std.specs.Prelude.{IfErr, IsErrAnd, MatchOption, OnErr, ◌↔◌}

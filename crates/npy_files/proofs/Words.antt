@@ -1,0 +1,24 @@
+-- Names from std, from the crates below and from `specs/`, which the proofs use.
+pub use Rattle.npy_files.specs.Folders.{IsPut, OldOrNew, folder_shelf, user_files}
+pub use Rattle.npy_files.specs.Names.{hidden_name, is_user_name}
+pub use Rattle.npy_files.specs.Stores.{IsFirstAfter, IsKept, IsNextName, IsRead, IsWritten, StoreState, comes_before}
+pub use Rattle.npy_files.specs.Words.{Appends, Bool, Err, FileParts, Files, History, IsSome, IsTrue, Leaves, List, None, Ok, Option, Replaces, Result, Same, SameBut, Some, always_ok, both_but, both_same, but_replaces, but_same, cond, empty, false, from_entries, get, insert, is_lt, length, map, nat_cmp, only_but, slice_cmp, suc, then_but, then_same, true, unmoved, weaker, zero, ℕ, ◌++◌, ◌+◌, ◌<◌, ◌≡◌, ◌≢◌, ◌≤◌, ◌⊎◌}
+pub use Rattle.npy_files.specs.declared.mem_store.StoredFile.{StoredFile}
+pub use Rattle.npy_files.specs.declared.store.StoreFault.{StoreFault}
+pub use Rattle.npy_files.specs.declared.store.StoreFault.TheVariants.{Device, Memory, TooLong}
+pub use Rattle.npy_files.specs.inside.Shelves.{IsFirstOf, IsNamed, files_of, is_called, named_bytes}
+pub use Rattle.std.proofs.Common.{IfSome, MatchOption, [], ap, append_assoc, arith, drop, get_or, inl, inr, is_some, length-append, length-drop, nat_lt, not, position, refl, rules, slice_set, subst, sym, take, take-append-drop, ◌-◌, ◌∙◌, ◌∷◌}
+pub use Rattle.std.proofs.Math.Nat.{eq-or-lt_of_le}
+pub use Rattle.std.proofs.lemmas.Bool.{false_from_ne_true, ltb-false, true≢false}
+pub use Rattle.std.proofs.lemmas.Grind.{common_steps}
+pub use Rattle.std.proofs.lemmas.List.{append-nil, length-take-le, map-append, nil_from_length, take_all, take_at}
+pub use Rattle.std.proofs.lemmas.List.Quantifiers.{position-Some}
+pub use Rattle.std.proofs.lemmas.Option.{slice_get-get_or, slice_get_within}
+pub use Rattle.std.proofs.lemmas.Slice.Eq.{bytes_eq-Decides}
+pub use Rattle.std.specs.Cmp.Lexicographic.{nat_list_cmp_total, texts_ties}
+pub use Rattle.std.specs.FinMap.{IsAntisymmetric, find, from_entries_push, get-from_entries, get-insert, get-retain_keys, nat_cmp-IsAntisymmetric, same_map, slice_cmp-IsAntisymmetric}
+pub use Rattle.std.specs.List.{position_or_len}
+pub use Rattle.std.specs.Ordering.{eq_by_cmp, ordering_reverse}
+pub use Rattle.std.specs.declared.cmp.Ordering.{Ordering}
+pub use Rattle.std.specs.declared.cmp.Ordering.TheVariants.{Equal, Greater, Less}
+pub use borrow.Rule.Slice.PartMut.{put_mid}

@@ -1,0 +1,16 @@
+-- What the contracts of this crate cite: its own definitions, and names from std and from the crates below.
+pub use Rattle.overlap_copy.specs.Apart.{AreApart, IsGreatestDivisor, LieBetween, steps}
+pub use Rattle.overlap_copy.specs.Overlaps.{do_ranges_meet, have_common_byte}
+pub use Rattle.overlap_copy.specs.Runs.{IsRun}
+pub use Rattle.overlap_copy.specs.Words.{All, Axis, BeginsWithin, Fits, IsNested, IsPermutation, IsStacked, IsTrue, LieWithin, List, [], assigned, copied_within, count, false, flat_map, if◌then◌else◌, item_pairs, items_at, joined_at, length, list_any, map, max_axes, max_bytes, max_items, multiples, nat_le, neg_ℤ, pos, reach, run_offsets, slice_index_or, with_items, ℕ, ℤ, ◌%◌, ◌*ℤ◌, ◌*◌, ◌++◌, ◌+ℤ◌, ◌+◌, ◌-◌, ◌<◌, ◌||◌, ◌∷◌, ◌≡◌, ◌≤◌}
+unfoldable pub use Rattle.overlap_copy.specs.Words.{offsets}
+pub use Rattle.overlap_copy.specs.declared.axis_sums.Answer.TheVariants.{No, Yes}
+pub use Rattle.overlap_copy.specs.inside.Joins.{AreJoined, GoesOn, SameSums}
+pub use Rattle.overlap_copy.specs.inside.Marks.{IsMarkedUpTo, holds_byte, is_end_marked, is_marked}
+pub use Rattle.overlap_copy.specs.inside.Moves.{AreAlike, IsAssigned, IsLine, IsTurned, LieApart, RunLies, firsts, place_in, seconds}
+pub use Rattle.overlap_copy.specs.inside.Shifts.{MayCome, source_run, sources}
+pub use Rattle.overlap_copy.specs.inside.Sums.{AreForward, HasSum, max_reach, reach_of, stepping}
+pub use Rattle.overlap_copy.specs.inside.Trades.{traded_at}
+pub use Rattle.overlap_copy.specs.inside.Turns.{IsTurn}
+pub use Rattle.std.specs.Int.{IsGcd}
+pub use Rattle.std.specs.Prelude.{IfErr, IfOk, IfSome, IsOk, drop, nat_eq, replicate, reverse, take, unsigned_abs, ◌↔◌, ◌≤ℤ◌}
