@@ -3,7 +3,7 @@ ghost use Rattle.elementwise.specs.Clauses.{can_cast, cast_item, binary_item, bi
 
 use crate::castable::keeps_items;
 use crate::casts::cast_items;
-use crate::chunks::{InRuns, MANY, make_by_chunks};
+use crate::chunks::{InRuns, MANY_ITEMS, make_by_chunks};
 use crate::operands::{Broadcast, FEW, made, read_as};
 use crate::pairing::{Pairing, Work};
 use crate::promotion::{promote, promote_one, scalar_of};
@@ -166,7 +166,7 @@ impl<'a> Fitted<'a> {
 /// The results for the items of two arrays, each of which is cast as a whole and then stretched.
 /// Its frame is large, so it is not inlined.
 #[inline(never)]
-pub(crate) fn make_whole(
+fn make_whole(
     alloc: Global,
     pairing: &Pairing<'_>,
     both: Broadcast<'_>,
@@ -216,7 +216,7 @@ fn in_runs(both: Broadcast<'_>) -> Option<InRuns<'_>>
 {
     let Broadcast { left, right, shape } = both;
     let lengths = shape.as_slice();
-    if shape.items() < MANY
+    if shape.items() < MANY_ITEMS
         || left.layout.shape.as_slice() != lengths
         || right.layout.shape.as_slice() != lengths
     {

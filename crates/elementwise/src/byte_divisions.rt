@@ -68,7 +68,7 @@ impl Reciprocals {
 }
 
 /// Appends the quotients or remainders of pairs of unsigned numbers of one byte.
-pub(crate) fn push_bytes<const LEAVES: bool, N: Number, O: Ordered>(
+pub(crate) fn push_divided_bytes<const LEAVES: bool, N: Number, O: Ordered>(
     block: BlockBuilder,
     pairs: Pairs<'_, '_>,
 ) -> BlockBuilder

@@ -17,7 +17,7 @@ use shape_strides::{Layout, Run, Shape, Strides};
 use std::alloc::{AllocError, Global};
 
 /// Fewer items than this are cast as a whole: the cast items stay in the cache.
-pub(crate) const MANY: usize = 262_144;
+pub(crate) const MANY_ITEMS: usize = 262_144;
 
 /// How many items of each operand are cast at a time.
 const CHUNK: usize = 16_384;

@@ -7,7 +7,7 @@ ghost use Rattle.elementwise.specs.inside.PairPasses.{division_op, number_pair};
 ghost use Rattle.elementwise.specs.inside.Sides.{made_of, pair_count};
 
 use crate::bits::{is_negative, magnitude};
-use crate::byte_divisions::push_bytes;
+use crate::byte_divisions::push_divided_bytes;
 use crate::kernels::Numbers;
 use crate::operands::note_slice;
 use crate::operations::Dividing;
@@ -21,7 +21,7 @@ use std::marker::PhantomData;
 const FEW: usize = 4;
 
 /// Fewer pairs of bytes than this are not worth a table of reciprocals.
-const MANY: usize = 2048;
+const MANY_BYTES: usize = 2048;
 
 /// The divisor of all pairs, if there are many pairs with a single divisor other than 0.
 fn divisor_of<N: Number, O: Ordered>(pairs: Pairs<'_, '_>) -> Option<Divisor>
@@ -97,7 +97,7 @@ fn are_many_bytes<N: Number>(pairs: Pairs<'_, '_>) -> bool
     let Pairs { left, right } = pairs;
     N::WIDTH == 1
         && !N::SIGNED
-        && left.run.count >= MANY
+        && left.run.count >= MANY_BYTES
         && left.run.step == 1
         && right.run.step == 1
 }
@@ -125,7 +125,7 @@ impl<const LEAVES: bool, N: Number, O: Ordered> Pass for Divisions<LEAVES, N, O>
             }
             Some(divisor) => push_divided::<LEAVES, N, O>(block, pairs, divisor),
             None if are_many_bytes::<N>(pairs) => {
-                push_bytes::<LEAVES, N, O>(block, pairs.with_steps(1, 1))
+                push_divided_bytes::<LEAVES, N, O>(block, pairs.with_steps(1, 1))
             }
             None => {
                 Numbers::<Dividing<LEAVES>, N, N, N, O, LowFirst>(PhantomData).push_row(

@@ -18,7 +18,7 @@ pub use Rattle.raw_block.specs.inside.Bands.{band}
 pub use Rattle.raw_block.specs.inside.Lends.{with_items}
 pub use Rattle.raw_block.specs.inside.Pairs.{LieApart}
 pub use Rattle.raw_block.specs.inside.Sizes.{IsSizeFor}
-pub use Rattle.std.proofs.Common.{Bool, T, cond, drop-cons, drop as drop_front, false, lit<, ltb, max, min, rules, subst, true, w32, w64, w8, ◌%◌}
+pub use Rattle.std.proofs.Common.{Bool, T, cond, drop-cons, drop as drop_front, false, lit<, ltb, max, min, rules, subst, true, unsigned_abs, w32, w64, w8, ◌%◌}
 pub use Rattle.std.proofs.Math.Nat.{add-mod-mod, add-mul-mod_self_right, mod-eq_of_lt, mul-add, mul-div_cancel_left, mul-le-mul_left, mul-zero, pow-le-pow_right, pow-suc}
 pub use Rattle.std.proofs.Math.Seq.{drop-append-add, set-append_seam}
 pub use Rattle.std.proofs.lemmas.Bool.{cases_lt}

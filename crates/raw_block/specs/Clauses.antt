@@ -4,4 +4,4 @@ pub use Rattle.raw_block.specs.NumberRuns.{signed_numbers}
 pub use Rattle.raw_block.specs.Words.{List, [], length, pos, slice_index_or, take, ℕ, ℤ, ◌*◌, ◌++◌, ◌+◌, ◌<◌, ◌^◌, ◌≡◌, ◌≤ℤ◌, ◌≤◌, ◌⊎◌}
 pub use Rattle.raw_block.specs.inside.Bands.{band}
 pub use Rattle.raw_block.specs.inside.Pairs.{LieApart}
-pub use Rattle.std.specs.Prelude.{IsTrue, max, min, ◌<ℤ◌}
+pub use Rattle.std.specs.Prelude.{IsTrue, max, min, unsigned_abs, ◌<ℤ◌}

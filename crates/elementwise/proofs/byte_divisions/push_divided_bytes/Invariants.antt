@@ -1,5 +1,5 @@
 use Rattle.elementwise.proofs.Words.{◌≡◌, ◌+◌, ◌*◌, ◌++◌, not, ◌==◌, Little, joined, binary, division_op, number_pair, made_of}
-use Rattle.elementwise.proofs.byte_divisions.push_bytes.Given as goal
+use Rattle.elementwise.proofs.byte_divisions.push_divided_bytes.Given as goal
 
 abbrev pub invariant-loop-k : goal.invariant-loop-k
 invariant-loop-k g l = record {

@@ -1,6 +1,6 @@
 use Rattle.elementwise.proofs.Words.{◌≡◌, ◌+◌, ◌*◌, ◌<◌, ◌≤◌, ◌++◌, suc, sym, ap, subst, ◌∙◌, append_assoc, arith, unsigned_abs, not, ◌==◌, suc-mul, add-mul, mul-le-mul_right, Little, number, encode, joined, binary, division_op, number_pair, made_of, pair_count}
 use Rattle.elementwise.proofs.HeldLaws.{side-small}
-use Rattle.elementwise.proofs.byte_divisions.push_bytes.Goals as goal
+use Rattle.elementwise.proofs.byte_divisions.push_divided_bytes.Goals as goal
 
 pub push-requires : goal.push-requires
 push-requires g c =

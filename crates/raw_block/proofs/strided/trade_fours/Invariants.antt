@@ -1,0 +1,5 @@
+use Rattle.raw_block.proofs.Words.{◌≡◌, ◌*◌, traded}
+use Rattle.raw_block.proofs.strided.trade_fours.Given as goal
+
+abbrev pub invariant-loop-k : goal.invariant-loop-k
+invariant-loop-k g l = (l.bytes, l.other) ≡ traded l.a.at l.a.step l.b.at l.b.step g.row.N (l.k * 4) l.initial.bytes l.initial.other
