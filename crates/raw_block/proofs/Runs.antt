@@ -47,7 +47,7 @@ copied-run dst other src width (suc n) bytes to from =
     ap (put (dst + m) (item_at (src + m) width other)) (copied-run dst other src width n bytes (omega (arith, more)) (omega (arith, more)))
     ∙ put_next dst src m width other bytes (omega (arith, more)) (omega (arith, more)) ∙ ap (λ k. put dst (item_at src k other) bytes) (sym more)
 
-abbrev both : List ℕ → List ℕ → List ℕ × List ℕ
+abbrev pub both : List ℕ → List ℕ → List ℕ × List ℕ
 both xs ys = (xs, ys)
 
 -- exchanging adjacent items of two lists is exchanging one range of each

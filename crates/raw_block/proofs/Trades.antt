@@ -1,6 +1,7 @@
 -- Items of runs that do not overlap themselves are exchanged in one step: each is then what its counterpart was.
 use Rattle.raw_block.proofs.Words.{◌≡◌, ℕ, zero, suc, ◌+◌, ◌*◌, ◌<◌, ◌≤◌, ◌⊎◌, inl, inr, List, length, sym, ap, ◌∙◌, arith, ints, subst, nat_abs, ◌+ℤ◌, ◌≤ℤ◌, mul-le-mul_right, suc-mul, ℤ, pos, negsuc, unsigned_abs, place, position, item_at, put, copied, traded, EachWithin, not_negative, position-add, place_within}
 use Rattle.raw_block.proofs.Copies.{copied-outside}
+use Rattle.raw_block.proofs.Runs.{both}
 
 -- items are apart if the steps are at least as long as they are
 pub steps-apart : (len at : ℕ) (step : ℤ) (width n i j : ℕ) → EachWithin len at step width n → width ≤ unsigned_abs step → i < j → j < n → (place at step i + width ≤ place at step j) ⊎ (place at step j + width ≤ place at step i)
@@ -35,9 +36,6 @@ module _ (len at : ℕ) (step : ℤ) (width all m : ℕ) (each : EachWithin len 
         | inl before ↦ inr (omega (arith, before, here))
         | inr after ↦ inl (omega (arith, after, here))
       ]
-
-abbrev both : List ℕ → List ℕ → List ℕ × List ℕ
-both xs ys = (xs, ys)
 
 module _ (a : ℕ) (a_step : ℤ) (b : ℕ) (b_step : ℤ) (width m all : ℕ) (bytes other first second : List ℕ) (in_a : EachWithin (length first) a a_step width all) (in_b : EachWithin (length second) b b_step width all)
     (wide_a : width ≤ unsigned_abs a_step) (wide_b : width ≤ unsigned_abs b_step) (now : ◌≡◌ {A = List ℕ × List ℕ} (first, second) (traded a a_step b b_step width m bytes other)) where

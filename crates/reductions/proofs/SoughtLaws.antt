@@ -19,15 +19,6 @@ pub record AreSought (greatest : Bool) (scalar : Scalar) (s : Side) (seen : ℕ)
   pub found : before < s.run.count → (first : ℤ) (earlier : List ℤ) → seen ≡ length earlier → HasFound (better greatest) held at first earlier →
       HasFound (better greatest) best (seen + before + first_place best (block_at scalar s before)) first (earlier ++ firsts scalar s done)
 
-pub sought-none : (greatest : Bool) (scalar : Scalar) (s : Side) (seen : ℕ) (held : ℤ) (at : ℕ) → AreSought greatest scalar s seen held at 0 held s.run.count
-sought-none greatest scalar s seen held at = record {
-  within = inl refl;
-  best_is = λ first earlier long so_far. so_far.best_is ∙ ap (fold (better greatest) first) (sym (append-nil earlier));
-  held_on = λ _. refl;
-  stays = λ _ first earlier long so_far. subst (HasFound (better greatest) held at first) (sym (append-nil earlier)) so_far;
-  found = λ less. absurd (omega (arith, less));
-}
-
 module _ (greatest : Bool) (scalar : Scalar) (s t : Side) (seen : ℕ) (held : ℤ) (at done n : ℕ) (low : done < s.run.count) (part : IsPart done (min 512 (s.run.count - done)) s t) (is_n : n ≡ min 512 (s.run.count - done)) where
   abbrev pub block : List ℤ
   block = numbers_of scalar t

@@ -1,15 +1,9 @@
 -- Laws for loops over a walk.
-use Rattle.shape_strides.specs.Words.{◌≡◌, List, [], ◌∷◌, ◌++◌, map, sym, ◌∙◌, ap, append_assoc, ℕ, ◌+◌, length, arith, length-append, length-map, length-map-range_with_len, pos, ◌+ℤ◌, ◌*ℤ◌, numbers_from}
+use Rattle.shape_strides.specs.Words.{◌≡◌, List, ◌∷◌, ◌∙◌, ℕ, ◌+◌, length, arith, length-append, length-map, length-map-range_with_len, pos, ◌+ℤ◌, ◌*ℤ◌, numbers_from}
 use Rattle.shape_strides.specs.declared.runs.Run.{Run}
 use Rattle.shape_strides.specs.Addresses.{natural}
 use Rattle.shape_strides.specs.Runs.{run_offsets, runs}
 use Rattle.shape_strides.specs.RunPairs.{all_offsets}
-
--- One more item of a list that is mapped while it is walked: the results so far, with those of the remaining items, are
--- still the whole.
-pub mapped_more : {X Y : Type 0} (f : X → Y) (made made' : List Y) (left left' all : List X) (x : X) → made' ≡ made ++ f x ∷ [] → left ≡ x ∷ left' → made ++ map f left ≡ map f all → made' ++ map f left' ≡ map f all
-mapped_more f made made' left left' all x pushed walked so_far =
-    ap (λ m. m ++ map f left') pushed ∙ append_assoc made (f x ∷ []) (map f left') ∙ ap (λ l. made ++ map f l) (sym walked) ∙ so_far
 
 pub length-run_offsets : (run : Run) → length (run_offsets run) ≡ run.count
 length-run_offsets run =
