@@ -1,5 +1,6 @@
 -- An axis of an array that is sent, block by block.
-use Rattle.array_print.proofs.Words.{Option, ◌≡◌, ℕ, ◌+◌, ◌-◌, ◌<◌, ◌≤◌, pos, ◌+ℤ◌, ◌*ℤ◌, List, ◌++◌, codes, map, length, drop, get_or, refl, sym, ◌∙◌, ap, arith, append_assoc, Layout, block_text, separator, Sends, SendsPart, opened, IsPart, part_offsets, lead}
+use Rattle.std.proofs.Common.{Option, ◌≡◌, ℕ, ◌+◌, ◌-◌, ◌<◌, ◌≤◌, pos, ◌+ℤ◌, ◌*ℤ◌, List, ◌++◌, codes, map, length, drop, get_or, refl, sym, ◌∙◌, ap, arith, append_assoc}
+use Rattle.array_print.proofs.Words.{Layout, block_text, separator, Sends, SendsPart, opened, IsPart, part_offsets, lead}
 use Rattle.array_print.proofs.PrintLaws.{opened-next, opened-end, opened-rest, sends-grown}
 use Rattle.array_print.proofs.PartLaws.{part-block, length-part}
 

@@ -1,5 +1,6 @@
 -- Laws of the texts of an item's values, and of their widths.
-use Rattle.array_print.proofs.Words.{◌≡◌, ℕ, zero, suc, ◌+◌, ◌<◌, ◌≤◌, List, [], ◌∷◌, ◌++◌, length, map, take, drop, replicate, get_or, refl, sym, ap, subst, ◌∙◌, ◌-◌, arith, append_assoc, IfSome, slice_get, take-take, drop-take, drop-drop, take_more, length-take, AllZip-long, Scalar, Byte, Int, Bytes, Leaf, Descr, Field, Fields, before, listed, length-leaves_from, leaf_value, LeafValue, size, decode, leaves_of, BoolScalar, ScalarDescr, RecordDescr, leaf_text, leaf_texts, first_text, later_texts, leaf_width, leaf_widths, widths, right_justified, all_justified, join_texts, in_parentheses, field_texts, structure_text, IsWidth, AreWidths, lead}
+use Rattle.std.proofs.Common.{◌≡◌, ℕ, zero, suc, ◌+◌, ◌<◌, ◌≤◌, List, [], ◌∷◌, ◌++◌, length, map, take, drop, replicate, get_or, refl, sym, ap, subst, ◌∙◌, ◌-◌, arith, append_assoc, IfSome, slice_get}
+use Rattle.array_print.proofs.Words.{take-take, drop-take, drop-drop, take_more, length-take, AllZip-long, Scalar, Byte, Int, Bytes, Leaf, Descr, Field, Fields, before, listed, length-leaves_from, leaf_value, LeafValue, size, decode, leaves_of, BoolScalar, ScalarDescr, RecordDescr, leaf_text, leaf_texts, first_text, later_texts, leaf_width, leaf_widths, widths, right_justified, all_justified, join_texts, in_parentheses, field_texts, structure_text, IsWidth, AreWidths, lead}
 
 -- ---- values in a block
 

@@ -1,5 +1,6 @@
 -- Laws of the parts of an array.
-use Rattle.array_print.proofs.Words.{◌≡◌, ℕ, ◌+◌, ◌*◌, ◌<◌, ◌≤◌, ℤ, pos, ◌+ℤ◌, ◌*ℤ◌, ◌≤ℤ◌, List, [], ◌∷◌, length, map, take, drop, get_or, refl, sym, ◌∙◌, ap, subst, arith, All, mul_comm, zero-mul, ints, length-map, length-take, length-drop, get_or-map, get_or-take, get_or-drop, same_lists, drop_more, drop_all, +ℤ_assoc, +ℤ_idr, *ℤ-zero, Layout, count, indexes, zero_filled, dot-zeros, IsIndex-first, dot, natural, address_at, LieWithin, length-indexes, get_or-blocks, factors_pos, mul-step, offsets, max_bytes, fits-offsets, offsets_at, IsPart, part_offsets}
+use Rattle.std.proofs.Common.{◌≡◌, ℕ, ◌+◌, ◌*◌, ◌<◌, ◌≤◌, ℤ, pos, ◌+ℤ◌, ◌*ℤ◌, ◌≤ℤ◌, List, [], ◌∷◌, length, map, take, drop, get_or, refl, sym, ◌∙◌, ap, subst, arith, All, mul_comm, zero-mul, length-drop}
+use Rattle.array_print.proofs.Words.{ints, length-map, length-take, get_or-map, get_or-take, get_or-drop, same_lists, drop_more, drop_all, +ℤ_assoc, +ℤ_idr, *ℤ-zero, Layout, count, indexes, zero_filled, dot-zeros, IsIndex-first, dot, natural, address_at, LieWithin, length-indexes, get_or-blocks, factors_pos, mul-step, offsets, max_bytes, fits-offsets, offsets_at, IsPart, part_offsets}
 
 -- ---- one axis, and those inside it
 

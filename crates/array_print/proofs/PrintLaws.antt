@@ -1,5 +1,6 @@
 -- Laws of printed text: blocks, what joins them, and what stays at the start.
-use Rattle.array_print.proofs.Words.{Option, ◌≡◌, ℕ, zero, suc, ◌+◌, ◌-◌, ◌*◌, ◌<◌, ◌≤◌, List, [], ◌∷◌, ◌++◌, codes, map, length, length-append, take_all, take-add, take, drop, slice_range, get_or, refl, sym, ◌∙◌, ap, arith, add-one, suc-mul, zero-mul, append_assoc, append-nil, take_at, drop_at, take-take, take-map, drop-map, drop-drop, drop-take, length-drop, drop_more, drop-append-le, take-append-le, StartsWith, count, blocks, join_texts, block_text, separator, lead, repeated, Sends, opened, StartsWith-trans}
+use Rattle.std.proofs.Common.{Option, ◌≡◌, ℕ, zero, suc, ◌+◌, ◌-◌, ◌*◌, ◌<◌, ◌≤◌, List, [], ◌∷◌, ◌++◌, codes, map, length, length-append, take_all, take-add, take, drop, slice_range, get_or, refl, sym, ◌∙◌, ap, arith, add-one, suc-mul, zero-mul, append_assoc, length-drop}
+use Rattle.array_print.proofs.Words.{append-nil, take_at, drop_at, take-take, take-map, drop-map, drop-drop, drop-take, drop_more, drop-append-le, take-append-le, StartsWith, count, blocks, join_texts, block_text, separator, lead, repeated, Sends, opened, StartsWith-trans}
 
 -- ---- a list that begins with another
 

@@ -1,5 +1,6 @@
 -- Repeated items do not change the widths of leaves.
-use Rattle.array_print.proofs.Words.{◌≡◌, ℕ, zero, suc, ◌+◌, ◌*◌, ◌<◌, List, [], ◌∷◌, ◌++◌, length, map, take, drop, get_or, pos, max, refl, sym, ap, ap₂, ◌∙◌, ◌-◌, arith, take-add, take_all, fold, map-append, drop_more, BoolScalar, Scalar, Byte, Int, Bytes, Leaf, Descr, Layout, count, item_from, leaves_of, items_from, widest, leaf_texts, first_text, later_texts, leaf_width, leaf_widths, widths_at, IsPart, part_offsets}
+use Rattle.std.proofs.Common.{◌≡◌, ℕ, zero, suc, ◌+◌, ◌*◌, ◌<◌, List, [], ◌∷◌, ◌++◌, length, map, take, drop, get_or, pos, max, refl, sym, ap, ap₂, ◌∙◌, ◌-◌, arith, take-add, take_all, fold}
+use Rattle.array_print.proofs.Words.{map-append, drop_more, BoolScalar, Scalar, Byte, Int, Bytes, Leaf, Descr, Layout, count, item_from, leaves_of, items_from, widest, leaf_texts, first_text, later_texts, leaf_width, leaf_widths, widths_at, IsPart, part_offsets}
 use Rattle.array_print.proofs.PartLaws.{stays, part-some, part-block, length-part}
 
 -- ---- the longest text of a list

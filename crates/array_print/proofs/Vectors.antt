@@ -1,5 +1,6 @@
 -- The definitions at arrays that NumPy prints.
-use Rattle.array_print.proofs.Words.{◌≡◌, [], ◌∷◌, List, ℕ, true, false, codes, refl, digits, Little, Big, Two, Four, Eight, Byte, Int, Bytes, Descr, no_more, scalar_field, record_field, BoolScalar, ScalarDescr, RecordDescr, array_text, items_from}
+use Rattle.std.proofs.Common.{◌≡◌, [], ◌∷◌, List, ℕ, true, false, codes, refl}
+use Rattle.array_print.proofs.Words.{digits, Little, Big, Two, Four, Eight, Byte, Int, Bytes, Descr, no_more, scalar_field, record_field, BoolScalar, ScalarDescr, RecordDescr, array_text, items_from}
 
 -- the text of items of a block, under a shape
 abbrev text_of_array : Descr → List ℕ → List ℕ → List ℕ → List ℕ

@@ -1,5 +1,6 @@
 -- The whole text of an array, as the block that all its axes lead to.
-use Rattle.array_print.proofs.Words.{◌≡◌, ℕ, List, [], ◌∷◌, cond, codes, map, drop, refl, sym, ◌∙◌, ap, arith, zero, suc, ◌<◌, ne_eqb, Descr, Layout, count, offsets, array_text, block_text, item_text, widths, items_from, shown, part_offsets}
+use Rattle.std.proofs.Common.{◌≡◌, ℕ, List, [], ◌∷◌, cond, codes, map, drop, refl, sym, ◌∙◌, ap, arith, zero, suc, ◌<◌}
+use Rattle.array_print.proofs.Words.{ne_eqb, Descr, Layout, count, offsets, array_text, block_text, item_text, widths, items_from, shown, part_offsets}
 use Rattle.array_print.proofs.PartLaws.{whole-offsets}
 
 texts-shown : (descr : Descr) (ws block offs : List ℕ) → map (shown descr ws block) offs ≡ map (item_text descr ws) (items_from descr block offs)

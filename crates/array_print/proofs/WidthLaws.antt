@@ -1,5 +1,6 @@
 -- Widths of leaves, as they grow item by item.
-use Rattle.array_print.proofs.Words.{◌≡◌, ℕ, ◌+◌, ◌<◌, ◌≤◌, List, [], ◌∷◌, ◌++◌, length, map, take, drop, get_or, refl, sym, ap, arith, ◌∙◌, IfSome, slice_get, refill, take-append_seam, map-append, Scalar, Descr, size, decode, item_size, leaves_of, leaf_text, leaf_texts, leaf_width, leaf_widths, widths, items_from, widths_at}
+use Rattle.std.proofs.Common.{◌≡◌, ℕ, ◌+◌, ◌<◌, ◌≤◌, List, [], ◌∷◌, ◌++◌, length, map, take, drop, get_or, refl, sym, ap, arith, ◌∙◌, IfSome, slice_get}
+use Rattle.array_print.proofs.Words.{refill, take-append_seam, map-append, Scalar, Descr, size, decode, item_size, leaves_of, leaf_text, leaf_texts, leaf_width, leaf_widths, widths, items_from, widths_at}
 use Rattle.array_print.proofs.LeafLaws.{are-leaf-widths, bytes-at, count-widths, leaf-width-at}
 
 pub length-widths-at : (descr : Descr) (block seen : List ℕ) → length (widths_at descr block seen) ≡ length (leaves_of descr)

@@ -1,5 +1,6 @@
 -- The printed text of an array.
-use Rattle.array_print.specs.Words.{ℕ, zero, suc, ◌+◌, ◌-◌, ◌/◌, ◌%◌, ℤ, pos, Bool, ◌&&◌, not, List, [], ◌∷◌, ◌++◌, length, map, replicate, drop, codes, fold, max, flat_map, slice_index, nat_eq, nat_le, if◌then◌else◌, signed_decimal, Scalar, Byte, Int, Bytes, Leaf, Descr, LeafValue, number_of, text_of, is_one_of, leaves_of, Fields, no_more, scalar_field, record_field, leaf_count, blocks, item_from, count, BoolScalar, ScalarDescr, RecordDescr}
+use Rattle.std.specs.Prelude.{ℕ, zero, suc, ◌+◌, ◌-◌, ◌/◌, ◌%◌, ℤ, pos, Bool, ◌&&◌, not, List, [], ◌∷◌, ◌++◌, length, map, replicate, drop, codes, fold, max, flat_map, slice_index, nat_eq, nat_le, if◌then◌else◌}
+use Rattle.array_print.specs.Words.{signed_decimal, Scalar, Byte, Int, Bytes, Leaf, Descr, LeafValue, number_of, text_of, is_one_of, leaves_of, Fields, no_more, scalar_field, record_field, leaf_count, blocks, item_from, count, BoolScalar, ScalarDescr, RecordDescr}
 
 -- a hexadecimal digit, in lower case
 abbrev pub hex_digit : ℕ → ℕ

@@ -1,5 +1,6 @@
 -- A text that is sent part by part.
-use Rattle.array_print.specs.Words.{◌≡◌, ℕ, List, ◌++◌, Option, Appends}
+use Rattle.std.specs.Prelude.{◌≡◌, ℕ, List, ◌++◌, Option}
+use Rattle.array_print.specs.Words.{Appends}
 
 -- all of the text was written, except for this suffix
 abbrev pub Sends : Option (List ℕ) → Option (List ℕ) → List ℕ → List ℕ → Type 0

@@ -1,5 +1,7 @@
 -- Laws of texts that are sent part by part.
-use Rattle.array_print.specs.Words.{◌≡◌, ℕ, List, [], ◌++◌, Option, Some, None, append_assoc, take, drop, length, take_all, length-drop, arith, ◌-◌, ◌≤◌, refl, ap, sym, ◌∙◌, append-nil, take-append-drop, Appends}
+use Rattle.std.specs.Prelude.{◌≡◌, ℕ, List, [], ◌++◌, Option, drop, length, ◌-◌, ◌≤◌}
+use Rattle.std.proofs.Common.{Some, None, append_assoc, take, take_all, length-drop, arith, refl, ap, sym, ◌∙◌}
+use Rattle.array_print.specs.Words.{append-nil, take-append-drop, Appends}
 use Rattle.array_print.specs.Sending.{Sends}
 
 pub appends_then : (a b c : Option (List ℕ)) (x y : List ℕ) → Appends a b x → Appends b c y → Appends a c (x ++ y)

@@ -1,5 +1,7 @@
 -- Laws of bytes that start with other bytes.
-use Rattle.array_print.specs.Words.{ℕ, ◌≤◌, List, length, take, sym, ◌∙◌, ap, arith, StartsWith, take-take, length-take}
+use Rattle.std.specs.Prelude.{ℕ, ◌≤◌, List, length}
+use Rattle.std.proofs.Common.{take, sym, ◌∙◌, ap, arith}
+use Rattle.array_print.specs.Words.{StartsWith, take-take, length-take}
 
 pub StartsWith-trans : (xs ys zs : List ℕ) → StartsWith xs ys → StartsWith ys zs → StartsWith xs zs
 StartsWith-trans xs ys zs first second =

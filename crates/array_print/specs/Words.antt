@@ -30,10 +30,8 @@ pub use Rattle.shape_strides.specs.Limits.{max_bytes, max_items}
 pub use Rattle.shape_strides.specs.PlaceLaws.{fits-offsets}
 pub use Rattle.shape_strides.specs.Walks.{offsets_at}
 pub use Rattle.shape_strides.specs.declared.layout.Layout.{Layout}
-pub use Rattle.std.proofs.Common.{None, Some, ap, append_assoc, arith, length-drop, refl, sym, take, take_all, ◌∙◌}
 pub use Rattle.std.proofs.lemmas.List.{append-nil, length-take, take-append-drop, take-take}
 pub use Rattle.std.specs.Fmt.{signed_decimal}
 pub use Rattle.std.specs.Io.{StartsWith}
 pub use Rattle.std.specs.Io.KnownBytes.{Appends}
 pub use Rattle.std.specs.List.{AllZip}
-pub use Rattle.std.specs.Prelude.{All, Bool, IfOk, IsTrue, List, OnErr, OnOk, Option, [], codes, drop, flat_map, fold, get_or, if◌then◌else◌, length, map, max, nat_eq, nat_le, not, pos, replicate, slice_index, slice_index_or, suc, vec_capacity, zero, ℕ, ℤ, ◌%◌, ◌&&◌, ◌*ℤ◌, ◌++◌, ◌+ℤ◌, ◌+◌, ◌-◌, ◌/◌, ◌<◌, ◌^◌, ◌↔◌, ◌∷◌, ◌≡◌, ◌≤ℤ◌, ◌≤◌}

@@ -1,5 +1,6 @@
 //! The text of an array, sent while it is made. Of a long text, little more than a band is held.
-ghost use Rattle.array_print.specs.Clauses.{array_text, block_text, items_from, Sends, SendsPart, item_size, leaves_of, offsets, Memory, WriteOut, Grows, IsPart, part_offsets, AreWidths, shown, Appends, StartsWith, All, IfOk, IsErrOf, List, OnErr, OnOk, drop, get_or, length, map, vec_capacity, ℕ, ◌++◌, ◌+◌, ◌<◌, ◌≡◌, ◌≤◌};
+ghost use Rattle.std.specs.Prelude.{All, IfOk, IsErrOf, List, OnErr, OnOk, drop, get_or, length, map, vec_capacity, ℕ, ◌++◌, ◌+◌, ◌<◌, ◌≡◌, ◌≤◌};
+ghost use Rattle.array_print.specs.Clauses.{array_text, block_text, items_from, Sends, SendsPart, item_size, leaves_of, offsets, Memory, WriteOut, Grows, IsPart, part_offsets, AreWidths, shown, Appends, StartsWith};
 
 use crate::padding::{push_again, push_lead};
 use crate::printer::{Items, push_block, repeats, step_along};

@@ -1,5 +1,6 @@
 //! Spaces, separators, and texts padded to a width.
-ghost use Rattle.array_print.specs.Clauses.{◌≡◌, ◌+◌, ◌≤◌, ◌++◌, codes, length, drop, slice_range, replicate, vec_capacity, IfOk, OnOk, StartsWith, separator, right_justified, record_end, lead, repeated};
+ghost use Rattle.std.specs.Prelude.{◌≡◌, ◌+◌, ◌≤◌, ◌++◌, codes, length, drop, slice_range, replicate, vec_capacity, IfOk, OnOk};
+ghost use Rattle.array_print.specs.Clauses.{StartsWith, separator, right_justified, record_end, lead, repeated};
 
 use std::alloc::AllocError;
 

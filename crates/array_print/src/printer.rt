@@ -1,6 +1,7 @@
 //! The text of an array: items in nested brackets, each value padded to the width of its leaf.
 ghost use Rattle.array_print.specs.Printed.{array_text, block_text, field_texts, in_parentheses, items_from, structure_text};
-ghost use Rattle.array_print.specs.Words.{item_size, leaf_count, leaves_of, listed, max_bytes, max_items, offsets, StartsWith, All, IfOk, IsTrue, OnErr, OnOk, [], codes, drop, get_or, length, map, pos, slice_index_or, vec_capacity, ◌*ℤ◌, ◌++◌, ◌+ℤ◌, ◌+◌, ◌<◌, ◌^◌, ◌↔◌, ◌≡◌, ◌≤ℤ◌, ◌≤◌};
+ghost use Rattle.std.specs.Prelude.{All, IfOk, IsTrue, OnErr, OnOk, [], codes, drop, get_or, length, map, pos, slice_index_or, vec_capacity, ◌*ℤ◌, ◌++◌, ◌+ℤ◌, ◌+◌, ◌<◌, ◌^◌, ◌↔◌, ◌≡◌, ◌≤ℤ◌, ◌≤◌};
+ghost use Rattle.array_print.specs.Words.{item_size, leaf_count, leaves_of, listed, max_bytes, max_items, offsets, StartsWith};
 ghost use Rattle.array_print.specs.inside.Parts.{IsPart, part_offsets};
 ghost use Rattle.array_print.specs.inside.Shown.{AreWidths, shown, texts_at};
 

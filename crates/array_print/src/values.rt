@@ -1,5 +1,6 @@
 //! The text of a single value.
-ghost use Rattle.array_print.specs.Clauses.{◌≡◌, ◌++◌, ◌≤◌, ◌<◌, length, flat_map, vec_capacity, OnOk, StartsWith, signed_decimal, IsNumber, size, decode, number_of, without_nuls, hex_digit, stands_for_itself, escaped, byte_string_text, bool_text, leaf_text, right_justified, IsWidth};
+ghost use Rattle.std.specs.Prelude.{◌≡◌, ◌++◌, ◌≤◌, ◌<◌, length, flat_map, vec_capacity, OnOk};
+ghost use Rattle.array_print.specs.Clauses.{StartsWith, signed_decimal, IsNumber, size, decode, number_of, without_nuls, hex_digit, stands_for_itself, escaped, byte_string_text, bool_text, leaf_text, right_justified, IsWidth};
 
 use crate::padding::push_padded;
 use elem_descr::{Scalar, num_read};

@@ -1,5 +1,6 @@
 //! The widths to which the values of an array are padded.
-ghost use Rattle.array_print.specs.Clauses.{◌≡◌, ◌⊎◌, ◌+◌, ◌≤◌, ◌<◌, ◌∷◌, ◌++◌, [], ℕ, List, pos, get_or, slice_index_or, length, max, take, drop, All, IfOk, IsNumber, size, decode, item_size, leaves_of, offsets, Fits, widths, leaf_width, leaf_widths, leaf_text, items_from, integer_at, widths_at, IsPart, part_offsets};
+ghost use Rattle.std.specs.Prelude.{◌≡◌, ◌⊎◌, ◌+◌, ◌≤◌, ◌<◌, ◌∷◌, ◌++◌, [], ℕ, List, pos, get_or, slice_index_or, length, max, take, drop, All, IfOk};
+ghost use Rattle.array_print.specs.Clauses.{IsNumber, size, decode, item_size, leaves_of, offsets, Fits, widths, leaf_width, leaf_widths, leaf_text, items_from, integer_at, widths_at, IsPart, part_offsets};
 
 use crate::printer::{repeats, step_along};
 use elem_descr::{Descr, Scalar, num_read};

@@ -1,5 +1,6 @@
 -- Laws of rows as the rows of grids.
-use Rattle.arrays.proofs.Words.{◌≡◌, ℕ, ◌+◌, ◌*◌, ◌<◌, ◌≤◌, List, [], ◌∷◌, ◌++◌, map, length, All, refl, sym, ap, subst, ◌∙◌, arith, zero-mul, mul_assoc, add-mul, suc-mul, append_assoc, length-append, flat_map, flat_map-append, ints, length-map, get_or-map, map-append, pos, nat_abs, ◌+ℤ◌, ◌*ℤ◌, ◌≤ℤ◌, position, place, item_at, joined, grid_item, grid_items, EachWithin, GridWithin, not_negative, first_position, joined-same, StridedAxis, Run, max_bytes, run_along, run_offsets, length-run_offsets, length-first, all_offsets, All-front, All-back, place-at, joined_at, rows_of, grid_of, joined-by, joined-offsets}
+use Rattle.std.proofs.Common.{◌≡◌, ℕ, ◌+◌, ◌*◌, ◌<◌, ◌≤◌, List, [], ◌∷◌, ◌++◌, map, length, All, refl, sym, ap, subst, ◌∙◌, arith, zero-mul, mul_assoc, add-mul, suc-mul, append_assoc, length-append, pos, ◌+ℤ◌, ◌*ℤ◌, ◌≤ℤ◌}
+use Rattle.arrays.proofs.Words.{flat_map, flat_map-append, ints, length-map, get_or-map, map-append, nat_abs, position, place, item_at, joined, grid_item, grid_items, EachWithin, GridWithin, not_negative, first_position, joined-same, StridedAxis, Run, max_bytes, run_along, run_offsets, length-run_offsets, length-first, all_offsets, All-front, All-back, place-at, joined_at, rows_of, grid_of, joined-by, joined-offsets}
 
 -- the rows that begin at these offsets
 abbrev rows_from : StridedAxis → List ℕ → List Run

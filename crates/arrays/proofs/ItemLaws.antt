@@ -1,5 +1,6 @@
 -- Items and their bytes.
-use Rattle.arrays.proofs.Words.{◌≡◌, ℕ, List, map, sym, ap, ◌∙◌, map-map, item_at, Descr, item_size, decode_item, item_from}
+use Rattle.std.proofs.Common.{◌≡◌, ℕ, List, map, sym, ap, ◌∙◌}
+use Rattle.arrays.proofs.Words.{map-map, item_at, Descr, item_size, decode_item, item_from}
 
 -- items with equal bytes have equal values
 pub items-from_bytes : (descr : Descr) (block other to from : List ℕ) → map (λ o. item_at o (item_size descr) block) to ≡ map (λ o. item_at o (item_size descr) other) from → map (item_from descr block) to ≡ map (item_from descr other) from

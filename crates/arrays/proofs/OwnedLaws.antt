@@ -1,5 +1,6 @@
 -- Adjacent items in C order and in Fortran order.
-use Rattle.arrays.proofs.Words.{reverse, ◌≡◌, ◌+◌, ◌*◌, ◌<◌, ◌≤◌, ◌&&◌, ◌||◌, ℕ, zero, suc, Bool, true, false, List, [], ◌∷◌, map, IsTrue, refl, sym, ap, subst, ◌∙◌, arith, range_with_len, mul-div_cancel_left, mul-suc, eq-eqb, indexes, rank, is_c_contiguous, is_f_contiguous, fortran_order, multiples, f_multiples, places_of}
+use Rattle.std.proofs.Common.{reverse, ◌≡◌, ◌+◌, ◌*◌, ◌<◌, ◌≤◌, ◌&&◌, ◌||◌, ℕ, zero, suc, Bool, true, false, List, [], ◌∷◌, map, IsTrue, refl, sym, ap, subst, ◌∙◌, arith}
+use Rattle.arrays.proofs.Words.{range_with_len, mul-div_cancel_left, mul-suc, eq-eqb, indexes, rank, is_c_contiguous, is_f_contiguous, fortran_order, multiples, f_multiples, places_of}
 
 some-bytes : {item : ℕ} → 1 ≤ item → 0 < item
 some-bytes some = omega (arith, some)

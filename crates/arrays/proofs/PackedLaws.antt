@@ -1,5 +1,6 @@
 -- Laws of adjacent items.
-use Rattle.arrays.proofs.Words.{◌≡◌, ◌+◌, ◌*◌, ◌≤◌, ℕ, suc, pos, List, ◌∷◌, ◌++◌, length, sym, ap, ◌∙◌, arith, suc-mul, add-mul, mul-le-mul_right, append_assoc, ints, flat_map-append, item_at, EachWithin, Run, run_offsets, length-run_offsets, length-first, all_offsets, assigned-append, assigned, packed_run, row_offsets, joined_at, length-row, row-split}
+use Rattle.std.proofs.Common.{◌≡◌, ◌+◌, ◌*◌, ◌≤◌, ℕ, suc, pos, List, ◌∷◌, ◌++◌, length, sym, ap, ◌∙◌, arith, suc-mul, add-mul, mul-le-mul_right, append_assoc}
+use Rattle.arrays.proofs.Words.{ints, flat_map-append, item_at, EachWithin, Run, run_offsets, length-run_offsets, length-first, all_offsets, assigned-append, assigned, packed_run, row_offsets, joined_at, length-row, row-split}
 
 pub row-within : (len at width n : ℕ) → at + n * width ≤ len → EachWithin len at (pos width) width n
 row-within len at width n ends = record {

@@ -1,5 +1,6 @@
 -- Copies of runs: what the operations of a block do, item by item.
-use Rattle.arrays.proofs.Words.{◌≡◌, ℕ, zero, suc, List, [], ◌∷◌, length, refl, sym, ap, subst, ◌∙◌, ℤ, put, item_at, place, EachWithin, copied, fewer, Run, run_offsets, length-run_offsets, run_offsets-more, assigned-append, assigned}
+use Rattle.std.proofs.Common.{◌≡◌, ℕ, zero, suc, List, [], ◌∷◌, length, refl, sym, ap, subst, ◌∙◌}
+use Rattle.arrays.proofs.Words.{ℤ, put, item_at, place, EachWithin, copied, fewer, Run, run_offsets, length-run_offsets, run_offsets-more, assigned-append, assigned}
 
 copied-run : (len other_len dst : ℕ) (dst_step : ℤ) (src : ℕ) (src_step : ℤ) (width n : ℕ) (other block : List ℕ) → EachWithin len dst dst_step width n → EachWithin other_len src src_step width n →
     copied dst dst_step other src src_step width n block

@@ -1,5 +1,6 @@
 -- Assignments, with NumPy's results.
-use Rattle.arrays.proofs.Words.{◌≡◌, [], ◌∷◌, refl, assigned}
+use Rattle.std.proofs.Common.{◌≡◌, [], ◌∷◌, refl}
+use Rattle.arrays.proofs.Words.{assigned}
 
 -- `numpy.arange(6, dtype="u1").reshape(2, 3).copy(order="F").tobytes(order="A")`
 copy_in_fortran_order : assigned (0 ∷ 2 ∷ 4 ∷ 1 ∷ 3 ∷ 5 ∷ []) (0 ∷ 1 ∷ 2 ∷ 3 ∷ 4 ∷ 5 ∷ []) 1 (0 ∷ 1 ∷ 2 ∷ 3 ∷ 4 ∷ 5 ∷ []) (0 ∷ 0 ∷ 0 ∷ 0 ∷ 0 ∷ 0 ∷ []) ≡ 0 ∷ 3 ∷ 1 ∷ 4 ∷ 2 ∷ 5 ∷ []

@@ -1,5 +1,6 @@
 -- Adjacent items that are copied as one range.
-use Rattle.arrays.proofs.Words.{◌≡◌, ◌+◌, ◌-◌, ◌*◌, ◌≤◌, ◌==◌, ℕ, true, List, [], ◌∷◌, length, map, take, drop, refl, sym, ap, ◌∙◌, All, arith, zero-mul, mul-zero, suc-mul, range_with_len, eqb-true, and_parts, drop-drop, drop-take, take-take, All-head, All-tail, mul-suc, item_at, first_address, is_c_contiguous, multiples}
+use Rattle.std.proofs.Common.{◌≡◌, ◌+◌, ◌-◌, ◌*◌, ◌≤◌, ◌==◌, ℕ, true, List, [], ◌∷◌, length, map, take, drop, refl, sym, ap, ◌∙◌, All, arith, zero-mul, mul-zero, suc-mul}
+use Rattle.arrays.proofs.Words.{range_with_len, eqb-true, and_parts, drop-drop, drop-take, take-take, All-head, All-tail, mul-suc, item_at, first_address, is_c_contiguous, multiples}
 
 -- an item of the range is an item of the bytes
 stretch-item : (first at width len : ℕ) (bytes : List ℕ) → at + width ≤ len → item_at at width (item_at first len bytes) ≡ item_at (first + at) width bytes

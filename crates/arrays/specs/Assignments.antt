@@ -1,5 +1,7 @@
 -- Assignment: all items are read, and then written to other places.
-use Rattle.arrays.specs.Words.{ℕ, List, ◌∷◌, map, put, item_at}
+use Rattle.std.proofs.Common.{ℕ}
+use Rattle.std.specs.Prelude.{List, ◌∷◌, map}
+use Rattle.arrays.specs.Words.{put, item_at}
 
 -- the items of `width` bytes that a block has at the offsets
 abbrev pub items_at : List ℕ → ℕ → List ℕ → List (List ℕ)

@@ -1,5 +1,7 @@
 -- Blocks that a layout fills exactly.
-use Rattle.arrays.specs.Words.{◌≡◌, ◌≤◌, ◌*◌, ◌/◌, ◌||◌, ℕ, List, length, map, IsTrue, Descr, item_size, Layout, MemoryOrder, C, Fortran, max_bytes, count, is_c_contiguous, is_f_contiguous, offsets, multiples, f_multiples, Fits, IsNested}
+use Rattle.std.specs.Prelude.{◌≡◌, ◌≤◌, ◌*◌, ◌/◌, ◌||◌, List, length, map, IsTrue}
+use Rattle.std.proofs.Common.{ℕ}
+use Rattle.arrays.specs.Words.{Descr, item_size, Layout, MemoryOrder, C, Fortran, max_bytes, count, is_c_contiguous, is_f_contiguous, offsets, multiples, f_multiples, Fits, IsNested}
 
 -- the offsets of items of `item` bytes that are adjacent in this order
 abbrev pub offsets_in : MemoryOrder → ℕ → List ℕ → List ℕ

@@ -1,5 +1,7 @@
 -- Items that are adjacent in Fortran order. If the axes are reversed, they are adjacent in C order.
-use Rattle.arrays.specs.Words.{◌≡◌, ◌*◌, ◌<◌, ℕ, List, [], length, map, reverse, get_or, All, sym, ap, subst, ◌∙◌, arith, length-map, get_or-map, same_lists, reverse-reverse, length-map-range_with_len, get_or-map-range_with_len, item_at, fortran_order, count, indexes, rank, IsIndex, length-indexes, rank-lt, get_or-indexes, index_at, multiples, f_multiples, count-reverse, IsIndex-reverse, IsIndex-from_reverse}
+use Rattle.std.specs.Prelude.{◌≡◌, ◌*◌, ◌<◌, List, length, map}
+use Rattle.std.proofs.Common.{ℕ, [], reverse, get_or, All, sym, ap, subst, ◌∙◌, arith}
+use Rattle.arrays.specs.Words.{length-map, get_or-map, same_lists, reverse-reverse, length-map-range_with_len, get_or-map-range_with_len, item_at, fortran_order, count, indexes, rank, IsIndex, length-indexes, rank-lt, get_or-indexes, index_at, multiples, f_multiples, count-reverse, IsIndex-reverse, IsIndex-from_reverse}
 use Rattle.arrays.specs.Assignments.{items_at}
 
 -- in a list with a number for each index in C order, the number of an index is at its rank

@@ -1,5 +1,6 @@
 -- Items, as lists of their values.
-use Rattle.arrays.specs.Words.{List, map, LeafValue, item_from, offsets}
+use Rattle.std.specs.Prelude.{List, map}
+use Rattle.arrays.specs.Words.{LeafValue, item_from, offsets}
 use Rattle.arrays.specs.declared.items.Items.{Items}
 use Rattle.arrays.specs.declared.owned.Owned.{Owned}
 

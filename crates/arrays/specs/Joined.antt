@@ -1,5 +1,7 @@
 -- Concatenated items.
-use Rattle.arrays.specs.Words.{ℕ, List, flat_map, item_at}
+use Rattle.std.proofs.Common.{ℕ}
+use Rattle.std.specs.Prelude.{List}
+use Rattle.arrays.specs.Words.{flat_map, item_at}
 
 -- the bytes of the items of `width` bytes at these offsets, concatenated
 abbrev pub joined_at : List ℕ → ℕ → List ℕ → List ℕ

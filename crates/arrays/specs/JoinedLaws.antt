@@ -1,5 +1,7 @@
 -- Laws of concatenated items.
-use Rattle.arrays.specs.Words.{◌≡◌, ◌+◌, ◌*◌, ◌≤◌, ℕ, zero, suc, List, [], ◌∷◌, ◌++◌, All, map, length, take, refl, sym, ap, ◌∙◌, arith, zero-mul, mul-zero, suc-mul, append_assoc, append-nil, length-append, flat_map, range_with_len, mul-suc, take-append_seam, drop-append_seam, flat_map-append, All-head, All-tail, place, item_at, joined, EachWithin, length-item_at, fewer, Run, multiples, run_offsets}
+use Rattle.std.specs.Prelude.{◌≡◌, ◌+◌, ◌*◌, ◌≤◌, List, ◌∷◌, ◌++◌, map, length}
+use Rattle.std.proofs.Common.{ℕ, zero, suc, [], All, take, refl, sym, ap, ◌∙◌, arith, zero-mul, mul-zero, suc-mul, append_assoc, append-nil, length-append}
+use Rattle.arrays.specs.Words.{flat_map, range_with_len, mul-suc, take-append_seam, drop-append_seam, flat_map-append, All-head, All-tail, place, item_at, joined, EachWithin, length-item_at, fewer, Run, multiples, run_offsets}
 use Rattle.arrays.specs.Joined.{joined_at}
 use Rattle.arrays.specs.RunLaws.{run_offsets-more}
 

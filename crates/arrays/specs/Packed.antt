@@ -1,5 +1,7 @@
 -- Adjacent items.
-use Rattle.arrays.specs.Words.{ℕ, pos, List, Run, run_offsets}
+use Rattle.std.proofs.Common.{ℕ}
+use Rattle.std.specs.Prelude.{pos, List}
+use Rattle.arrays.specs.Words.{Run, run_offsets}
 
 -- n adjacent items of `width` bytes, starting at `at`
 abbrev pub packed_run : ℕ → ℕ → ℕ → Run

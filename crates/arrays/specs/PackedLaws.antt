@@ -1,5 +1,7 @@
 -- Laws of adjacent items.
-use Rattle.arrays.specs.Words.{◌≡◌, ◌+◌, List, ◌∷◌, length, arith, ℕ, ◌*◌, ◌≤◌, ap, ◌∙◌, add-mul, pos, ◌+ℤ◌, ◌*ℤ◌, ◌++◌, map, mul_comm, map-append, range_with_len, map-map, Run, length-run_offsets, length-first, all_offsets, natural, multiples, numbers_from, numbers-split}
+use Rattle.std.specs.Prelude.{◌≡◌, ◌+◌, List, ◌∷◌, length, ◌*◌, ◌≤◌, pos, ◌+ℤ◌, ◌*ℤ◌, ◌++◌, map}
+use Rattle.std.proofs.Common.{arith, ℕ, ap, ◌∙◌, add-mul, mul_comm}
+use Rattle.arrays.specs.Words.{map-append, range_with_len, map-map, Run, length-run_offsets, length-first, all_offsets, natural, multiples, numbers_from, numbers-split}
 use Rattle.arrays.specs.Packed.{packed_run, row_offsets}
 
 pub length-row : (at width n : ℕ) → length (row_offsets at width n) ≡ n

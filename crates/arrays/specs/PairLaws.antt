@@ -1,5 +1,7 @@
 -- Pairs of items in another order, and pairs of layouts.
-use Rattle.arrays.specs.Words.{◌≡◌, ℕ, List, [], ◌∷◌, map, length, All, refl, sym, ap, subst, ◌∙◌, zip, IsPermutation, IsPermutation-map, All-permutation, firsts-zip, seconds-zip, Layout, LayoutPair, count, length-offsets, offsets}
+use Rattle.std.specs.Prelude.{◌≡◌, List, ◌∷◌, map, length}
+use Rattle.std.proofs.Common.{ℕ, [], All, refl, sym, ap, subst, ◌∙◌}
+use Rattle.arrays.specs.Words.{zip, IsPermutation, IsPermutation-map, All-permutation, firsts-zip, seconds-zip, Layout, LayoutPair, count, length-offsets, offsets}
 
 -- if the pairs are reordered, so are their first parts, and so are their second parts
 pub firsts-reordered : (to from to' from' : List ℕ) → length from ≡ length to → length from' ≡ length to' → IsPermutation (zip to from) (zip to' from') → IsPermutation to to'

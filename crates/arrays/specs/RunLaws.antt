@@ -7,7 +7,9 @@
 --     run-within                   a run whose items begin within the limit and end within the bytes
 --     All-front, All-back          a property of all also holds for the first ones, and for those after them
 --     runs-within, walked-within   runs whose items end within the bytes lie within them
-use Rattle.arrays.specs.Words.{◌≡◌, ℕ, zero, suc, ◌+◌, ◌-◌, ◌<◌, ◌≤◌, List, [], ◌∷◌, ◌++◌, All, map, length, get_or, refl, sym, ap, subst, ◌∙◌, arith, length-append, flat_map, range_with_len, Each, *ℤ_comm, +ℤ_idr, ints, map-append, get_or-map, get_or_append_left, get_or-append_right, All-head, All-tail, All-from_get_or, All-from_recursion, length-map-range_with_len, get_or-map-range_with_len, ℤ, pos, negsuc, nat_abs, ◌+ℤ◌, ◌*ℤ◌, ◌≤ℤ◌, position, place, EachWithin, put, item_at, place_within, numbers_from, Run, natural, LieWithin, max_bytes, run_offsets, length-run_offsets, RunPair}
+use Rattle.std.specs.Prelude.{◌≡◌, ◌+◌, ◌-◌, ◌<◌, ◌≤◌, List, ◌∷◌, ◌++◌, map, length, pos, ◌+ℤ◌, ◌*ℤ◌, ◌≤ℤ◌}
+use Rattle.std.proofs.Common.{ℕ, zero, suc, [], All, get_or, refl, sym, ap, subst, ◌∙◌, arith, length-append}
+use Rattle.arrays.specs.Words.{flat_map, range_with_len, Each, *ℤ_comm, +ℤ_idr, ints, map-append, get_or-map, get_or_append_left, get_or-append_right, All-head, All-tail, All-from_get_or, All-from_recursion, length-map-range_with_len, get_or-map-range_with_len, ℤ, negsuc, nat_abs, position, place, EachWithin, put, item_at, place_within, numbers_from, Run, natural, LieWithin, max_bytes, run_offsets, length-run_offsets, RunPair}
 use Rattle.arrays.specs.Assignments.{assigned}
 
 -- ---- the offset of an item

@@ -29,7 +29,6 @@ pub use Rattle.shape_strides.specs.declared.layout_pair.LayoutPair.{LayoutPair}
 pub use Rattle.shape_strides.specs.declared.run_pairs.RunPair.{RunPair}
 pub use Rattle.shape_strides.specs.declared.runs.Run.{Run}
 pub use Rattle.shape_strides.specs.declared.single_run.StridedAxis.{StridedAxis}
-pub use Rattle.std.proofs.Common.{All, [], add-mul, ap, append-nil, append_assoc, arith, get_or, length-append, mul-zero, mul_comm, refl, reverse, subst, suc, suc-mul, sym, take, zero, zero-mul, ℕ, ◌*ℤ◌, ◌++◌, ◌+ℤ◌, ◌+◌, ◌-◌, ◌<◌, ◌∙◌, ◌∷◌}
 pub use Rattle.std.proofs.Math.IntN.{*ℤ_comm, +ℤ_idr}
 pub use Rattle.std.proofs.Math.Nat.{mul-suc}
 pub use Rattle.std.proofs.Math.Seq.{drop-append_seam, take-append_seam}
@@ -43,6 +42,4 @@ pub use Rattle.std.proofs.lemmas.Simd.{map-map}
 pub use Rattle.std.proofs.lemmas.Slice.Zip.{firsts-zip, seconds-zip}
 pub use Rattle.std.specs.List.{AllByRecursion as Each, flat_map, range_with_len, zip}
 pub use Rattle.std.specs.List.Sorted.{IsPermutation}
-pub use Rattle.std.specs.Prelude.{IsTrue, List, length, map, pos, ◌*◌, ◌/◌, ◌||◌, ◌≡◌, ◌≤◌}
 pub use lib.IntN.{nat_abs, negsuc, ℤ}
-pub use lib.Signed.{◌≤ℤ◌}

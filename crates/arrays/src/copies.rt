@@ -1,5 +1,6 @@
 //! Copies of a layout's items in a block of their own.
-ghost use Rattle.arrays.specs.Clauses.{assigned, items_at, offsets_in, EachWithin, OutOfMemory, TooLarge, count, item_at, item_from, item_size, max_bytes, offsets, run_offsets, All, IfErr, IfOk, if◌then◌else◌, length, map, nat_le, ◌*◌, ◌+◌, ◌≡◌, ◌≤◌};
+ghost use Rattle.std.specs.Prelude.{All, IfErr, IfOk, if◌then◌else◌, length, map, nat_le, ◌*◌, ◌+◌, ◌≡◌, ◌≤◌};
+ghost use Rattle.arrays.specs.Clauses.{assigned, items_at, offsets_in, EachWithin, OutOfMemory, TooLarge, count, item_at, item_from, item_size, max_bytes, offsets, run_offsets};
 
 use crate::owned::Owned;
 use crate::packed::gather;

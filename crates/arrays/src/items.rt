@@ -1,5 +1,7 @@
 //! Borrowed items: a block, a layout within it, and their element type.
-ghost use Rattle.arrays.specs.Words.{◌≡◌, ◌+◌, ◌≤◌, length, All, item_size, offsets};
+ghost use Rattle.std.specs.Prelude.{◌≡◌, ◌+◌, ◌≤◌, length};
+ghost use Rattle.std.proofs.Common.{All};
+ghost use Rattle.arrays.specs.Words.{item_size, offsets};
 
 use crate::owned::Owned;
 use elem_descr::Descr;

@@ -1,5 +1,6 @@
 //! Arrays that own their block.
-ghost use Rattle.arrays.specs.Clauses.{◌≡◌, ◌*◌, ◌≤◌, length, nat_le, replicate, if◌then◌else◌, IfOk, IfErr, OutOfMemory, TooLarge, item_size, C, max_bytes, count, offsets, FillsBlock, offsets_in};
+ghost use Rattle.std.specs.Prelude.{◌≡◌, ◌*◌, ◌≤◌, length, nat_le, replicate, if◌then◌else◌, IfOk, IfErr};
+ghost use Rattle.arrays.specs.Clauses.{OutOfMemory, TooLarge, item_size, C, max_bytes, count, offsets, FillsBlock, offsets_in};
 
 use elem_descr::{Descr, MemoryOrder, Refusal};
 use raw_block::RawBlock;

@@ -1,7 +1,6 @@
 -- Names from std, from the crates below and from `specs/`, which the proofs use.
 pub use Rattle.bench_c.specs.contracts.handle.Handle.closed.Key.{name as #self}
 pub use Rattle.core.proofs.alloc.Calls.{Fits, Goes-blank, handle_tells, token, α}
-pub use Rattle.std.specs.Prelude.{IsSome, None, Option, Some}
 pub use Rattle.std_alloc.proofs.BoxSteps.Form.{B, Bx, D, P, R, X, args, box_ty, box_typed, word, τ}
 pub use Rattle.std_alloc.proofs.BoxSteps.Steps.{box_in, box_out}
 pub use Rattle.std_alloc.proofs.ResultValues.{and_tt}
@@ -30,9 +29,9 @@ pub use denote.Triple.Statement.{Contract, Triple}
 pub use denote.Triple.Table.{entered}
 pub use denote.Triple.Walked.{Goes-dropped, Stays, ends_at, says, stay_dropped, walk_Meets, walk_of}
 pub use lib.Dec.{T, lit<}
-pub use mathlib.Core.Bool.{true, ◌&&◌}
-pub use mathlib.Core.List.{List, [], ◌++◌, ◌∷◌}
-pub use mathlib.Core.Path.{ap, refl, subst, sym, ◌∙◌, ◌≡◌}
+pub use mathlib.Core.Bool.{true}
+pub use mathlib.Core.List.{List, []}
+pub use mathlib.Core.Path.{ap, refl, subst, sym, ◌∙◌}
 pub use mir.MapTy.{inst_fn}
 pub use mir.Raw.{raw as bare}
 pub use mir.Syntax.{Args, Body, Dict, Fn, a_type, assign, copy, dcons, dnil, impl, place, return, rv_opd, seq, tnil}

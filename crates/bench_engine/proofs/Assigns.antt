@@ -1,5 +1,6 @@
 -- Items that are written to a name's array, and where they come from.
-use Rattle.bench_engine.proofs.Words.{◌≡◌, ◌<◌, ◌≤◌, ◌+◌, ◌*◌, ℕ, zero, suc, ◌==◌, Bool, true, false, List, [], ◌∷◌, ◌++◌, length, take, drop, replicate, IfOk, map, refl, sym, ap, ◌∙◌, subst, get_or, slice_index, All, Result, Ok, Err, arith, Contains, list_all, length-map, All-map, Contains-get_or, Refusal, ShapesDoNotBroadcast, ◌>>=◌, check, Descr, item_size, AreAlike, size, decode, item_from, cast_item, axes_beyond, stretched, stretched_into, Layout, indexes, rank, offsets, view_through, IsViewOf, GivesView, State, buffer_of, start_at, Shows, ArrayRef, offsets-at, View, Array, viewed, LiesIn}
+use Rattle.std.proofs.Common.{◌≡◌, ◌<◌, ◌≤◌, ◌+◌, ◌*◌, ℕ, zero, suc, ◌==◌, Bool, true, false, List, [], ◌∷◌, ◌++◌, length, take, drop, replicate, IfOk, map, refl, sym, ap, ◌∙◌, subst, get_or, slice_index, All, Result, Ok, Err, arith}
+use Rattle.bench_engine.proofs.Words.{Contains, list_all, length-map, All-map, Contains-get_or, Refusal, ShapesDoNotBroadcast, ◌>>=◌, check, Descr, item_size, AreAlike, size, decode, item_from, cast_item, axes_beyond, stretched, stretched_into, Layout, indexes, rank, offsets, view_through, IsViewOf, GivesView, State, buffer_of, start_at, Shows, ArrayRef, offsets-at, View, Array, viewed, LiesIn}
 
 -- a shown array is a part of itself
 pub lies-whole : (s : State) (a : Array) (r : ArrayRef) → Shows s a r → LiesIn s a a r.layout.now

@@ -1,5 +1,6 @@
 -- Lengths of a script, capped to 64 bits.
-use Rattle.bench_engine.proofs.Words.{◌≡◌, ◌≤◌, ◌-◌, ◌^◌, ℕ, true, false, List, [], ◌∷◌, length, map, min, refl, sym, ap, ◌∙◌, Err, nat_le, arith, list_all, le-leb, leb-true, leb-false, lt-leb, and_parts, length-map, ◌>>=◌, check, TooManyAxes, TooLarge, max_items, shape_of}
+use Rattle.std.proofs.Common.{◌≡◌, ◌≤◌, ◌-◌, ◌^◌, ℕ, true, false, List, [], ◌∷◌, length, map, min, refl, sym, ap, ◌∙◌, Err, nat_le, arith}
+use Rattle.bench_engine.proofs.Words.{list_all, le-leb, leb-true, leb-false, lt-leb, and_parts, length-map, ◌>>=◌, check, TooManyAxes, TooLarge, max_items, shape_of}
 
 -- a capped length is too large exactly if the length is
 pub capped-fits : (n : ℕ) → nat_le (min n (2 ^ 64 - 1)) max_items ≡ nat_le n max_items

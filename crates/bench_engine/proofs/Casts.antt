@@ -1,5 +1,6 @@
 -- Arrays that are cast.
-use Rattle.bench_engine.proofs.Words.{◌≡◌, ◌⊎◌, ◌≤◌, ◌*◌, ℕ, nat_le, true, false, List, map, refl, sym, ap, ◌∙◌, subst, if◌then◌else◌, Result, Ok, Err, IfOk, IfErr, inl, inr, le-leb, map-map, Refusal, OutOfMemory, TooLarge, NoSuchCast, Gives, descriptor, Descr, item_size, item_from, can_cast, cast_item, C, max_bytes, count, offsets, Owned, offsets_in, State, descr_of, read, Shows, ArrayRef, Array, new_contents, held, cast_items, cast_contents}
+use Rattle.std.proofs.Common.{◌≡◌, ◌⊎◌, ◌≤◌, ◌*◌, ℕ, nat_le, true, false, List, map, refl, sym, ap, ◌∙◌, subst, if◌then◌else◌, Result, Ok, Err, IfOk, IfErr, inl, inr}
+use Rattle.bench_engine.proofs.Words.{le-leb, map-map, Refusal, OutOfMemory, TooLarge, NoSuchCast, Gives, descriptor, Descr, item_size, item_from, can_cast, cast_item, C, max_bytes, count, offsets, Owned, offsets_in, State, descr_of, read, Shows, ArrayRef, Array, new_contents, held, cast_items, cast_contents}
 use Rattle.bench_engine.proofs.Copies.{made-held}
 
 -- ---- the array that is made

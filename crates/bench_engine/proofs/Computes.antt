@@ -1,5 +1,6 @@
 -- A name that is bound to the result of a computation.
-use Rattle.bench_engine.proofs.Words.{◌≡◌, ℕ, true, false, Some, None, List, map, IfOk, Option, Result, Ok, Err, refl, sym, ap, ◌∙◌, ◌⊎◌, inl, inr, list_all, map-map, Refusal, UnknownName, TooManyNames, OutOfMemory, Descr, Gives, check, ◌>>=◌, item_from, IndexItem, MemoryOrder, C, offsets, unary_result, unary_item, Items, Owned, Operation, UnOp, Operand, Argument, Computation, Duplicate, Cast, Combine, Transform, Reduce, State, find_array, is_bound, has_room_for, descr_of, read, View, Array, Contents, new_contents, taken, bound_in_computation, Choice, Outcome, compute_outcome, bound_new, copy_outcome, cast_outcome, operand_values, viewed, operand_part, argument_values, operation_with, operation_contents, transformed, creation_outcome, computed_outcome, computed_contents, origin_of, StandsFor, GivesGiven, held, IsInCOrder}
+use Rattle.std.proofs.Common.{◌≡◌, ℕ, true, false, Some, None, List, map, IfOk, Option, Result, Ok, Err, refl, sym, ap, ◌∙◌, ◌⊎◌, inl, inr}
+use Rattle.bench_engine.proofs.Words.{list_all, map-map, Refusal, UnknownName, TooManyNames, OutOfMemory, Descr, Gives, check, ◌>>=◌, item_from, IndexItem, MemoryOrder, C, offsets, unary_result, unary_item, Items, Owned, Operation, UnOp, Operand, Argument, Computation, Duplicate, Cast, Combine, Transform, Reduce, State, find_array, is_bound, has_room_for, descr_of, read, View, Array, Contents, new_contents, taken, bound_in_computation, Choice, Outcome, compute_outcome, bound_new, copy_outcome, cast_outcome, operand_values, viewed, operand_part, argument_values, operation_with, operation_contents, transformed, creation_outcome, computed_outcome, computed_contents, origin_of, StandsFor, GivesGiven, held, IsInCOrder}
 use Rattle.bench_engine.proofs.Copies.{made-held}
 
 -- ---- the command

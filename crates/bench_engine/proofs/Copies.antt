@@ -1,5 +1,6 @@
 -- Arrays that are copied.
-use Rattle.bench_engine.proofs.Words.{◌≡◌, ◌⊎◌, ◌≤◌, ◌*◌, ℕ, nat_le, true, false, List, map, refl, sym, ap, ◌∙◌, subst, if◌then◌else◌, Result, Ok, Err, IfOk, IfErr, inl, inr, arith, le-leb, Refusal, OutOfMemory, TooLarge, Gives, Descr, item_size, items_in, item_from, LeafValue, MemoryOrder, max_bytes, count, offsets, Owned, offsets_in, places_of, State, descr_of, read, Shows, ArrayRef, Array, new_contents_in, held, copied_contents}
+use Rattle.std.proofs.Common.{◌≡◌, ◌⊎◌, ◌≤◌, ◌*◌, ℕ, nat_le, true, false, List, map, refl, sym, ap, ◌∙◌, subst, if◌then◌else◌, Result, Ok, Err, IfOk, IfErr, inl, inr, arith}
+use Rattle.bench_engine.proofs.Words.{le-leb, Refusal, OutOfMemory, TooLarge, Gives, Descr, item_size, items_in, item_from, LeafValue, MemoryOrder, max_bytes, count, offsets, Owned, offsets_in, places_of, State, descr_of, read, Shows, ArrayRef, Array, new_contents_in, held, copied_contents}
 use Rattle.bench_engine.proofs.Stored.{places-stored, stored-is}
 
 pub copied-large : (s : State) (a : Array) (order : MemoryOrder) (shape : List ℕ) → nat_le (count shape * item_size (descr_of s a)) max_bytes ≡ false → copied_contents s a order shape ≡ Err TooLarge

@@ -1,5 +1,6 @@
 -- A name bound to a new array.
-use Rattle.bench_engine.proofs.Words.{subst, IsTrue, ◌≡◌, ℕ, Bool, true, false, List, refl, sym, ap, ◌∙◌, Result, Ok, Err, ◌⊎◌, inl, inr, Refusal, OutOfMemory, Owned, State, has_room_for, bound_to, AnswersBind, Fresh, Contents, array_over, held, IsRefused, CarriesOut, Choice, Outcome, creation_outcome, bound_new, accepted_with, Origin, bound_text}
+use Rattle.std.proofs.Common.{subst, IsTrue, ◌≡◌, ℕ, Bool, true, false, List, refl, sym, ap, ◌∙◌, Result, Ok, Err, ◌⊎◌, inl, inr}
+use Rattle.bench_engine.proofs.Words.{Refusal, OutOfMemory, Owned, State, has_room_for, bound_to, AnswersBind, Fresh, Contents, array_over, held, IsRefused, CarriesOut, Choice, Outcome, creation_outcome, bound_new, accepted_with, Origin, bound_text}
 use Rattle.bench_engine.specs.declared.replies.Origin.TheVariants as origin
 
 pub creation-refused : (s : State) (name : List ℕ) (contents : Result Contents Refusal) (e : Refusal) → has_room_for s name ≡ true → (e ≡ OutOfMemory) ⊎ (contents ≡ Err e) →

@@ -1,5 +1,6 @@
 -- A session that is fed more bytes.
-use Rattle.bench_engine.proofs.Words.{◌≡◌, ◌≢◌, ◌<◌, ◌+◌, ℕ, Bool, true, false, List, [], ◌∷◌, ◌++◌, length, map, Option, Some, None, is_some, refl, sym, ap, ◌∙◌, subst, arith, append_assoc, add_assoc, not, cond, ◌&&◌, nat_eq, Appends, count_by, eqb-suc-zero, false≢true, All-nil, sum_by-append, append-nil, map-append, flat_map-append, State, StoreState, appends_nothing, appends_then, Sends, Session, Reply, World, world, AnswersLine, meaning_of, Run, IsUnbroken, trimmed, output, reply_line, accepted_count, refused_count, AnswersInPart, HoldsPiece, HoldsBytes, HasTold, Fed, FedInPart, Ends, EndsInPart, AsksToPrint, MayPrint, Told, ToldInPart, AnswersHeld}
+use Rattle.std.proofs.Common.{◌≡◌, ◌≢◌, ◌<◌, ◌+◌, ℕ, Bool, true, false, List, [], ◌∷◌, ◌++◌, length, map, Option, Some, None, is_some, refl, sym, ap, ◌∙◌, subst, arith, append_assoc, add_assoc, not, cond, ◌&&◌, nat_eq, count_by}
+use Rattle.bench_engine.proofs.Words.{Appends, eqb-suc-zero, false≢true, All-nil, sum_by-append, append-nil, map-append, flat_map-append, State, StoreState, appends_nothing, appends_then, Sends, Session, Reply, World, world, AnswersLine, meaning_of, Run, IsUnbroken, trimmed, output, reply_line, accepted_count, refused_count, AnswersInPart, HoldsPiece, HoldsBytes, HasTold, Fed, FedInPart, Ends, EndsInPart, AsksToPrint, MayPrint, Told, ToldInPart, AnswersHeld}
 use Rattle.bench_engine.proofs.Steps.{answered_weaker}
 use Rattle.bench_engine.proofs.Lines.{splits, splits-one, splits-more, splits-then, splits-on, lines-one, lines-none}
 

@@ -1,5 +1,6 @@
 -- Shapes within the limits, and items stretched to their own shape.
-use Rattle.bench_engine.proofs.Words.{◌≡◌, ℕ, true, List, [], ◌∷◌, Result, Ok, Err, sym, ap, ◌∙◌, arith, is_ok, false≢true, Refusal, ◌>>=◌, shape_of, IsShape, shape_read, can_stretch, common_shape}
+use Rattle.std.proofs.Common.{◌≡◌, ℕ, true, List, [], ◌∷◌, Result, Ok, Err, sym, ap, ◌∙◌, arith}
+use Rattle.bench_engine.proofs.Words.{is_ok, false≢true, Refusal, ◌>>=◌, shape_of, IsShape, shape_read, can_stretch, common_shape}
 use Rattle.bench_engine.proofs.StretchLaws.{common-lengths}
 
 pub none-legal : IsShape []

@@ -1,5 +1,6 @@
 -- Bytes that are split at newlines, and more bytes after them.
-use Rattle.bench_engine.proofs.Words.{◌≡◌, ◌≢◌, ◌<◌, ◌≤◌, ◌+◌, ℕ, true, false, List, [], ◌∷◌, ◌++◌, length, map, refl, sym, ap, ◌∙◌, cond, arith, nat_eq, take, get_or, Some, None, nat_lt, one-add, subst, take_all, not, drop, append_assoc, add-one, drop-cons, suc, position, position_or_len, flat_map, eqb-true, eqb-false, ltb-false, map-append, append-nil, take-append-drop, All-nil, All-cons, All-head, All-tail, All-append, position-Some, flat_map-append, IsUnbroken, Splits, trimmed, if_any, AreWholeLines, AreLines}
+use Rattle.std.proofs.Common.{◌≡◌, ◌≢◌, ◌<◌, ◌≤◌, ◌+◌, ℕ, true, false, List, [], ◌∷◌, ◌++◌, length, map, refl, sym, ap, ◌∙◌, cond, arith, nat_eq, take, get_or, Some, None, nat_lt, one-add, subst, take_all, not, drop, append_assoc, add-one, drop-cons, suc}
+use Rattle.bench_engine.proofs.Words.{position, position_or_len, flat_map, eqb-true, eqb-false, ltb-false, map-append, append-nil, take-append-drop, All-nil, All-cons, All-head, All-tail, All-append, position-Some, flat_map-append, IsUnbroken, Splits, trimmed, if_any, AreWholeLines, AreLines}
 
 -- the pieces, each with its newline
 abbrev with_newlines : List (List ℕ) → List ℕ

@@ -1,5 +1,6 @@
 -- The names of a bench, one after the other.
-use Rattle.bench_engine.proofs.Words.{◌≡◌, ℕ, zero, suc, List, [], ◌∷◌, ◌++◌, drop, codes, ap, Some, slice_get, flat_map, option_map, Array}
+use Rattle.std.proofs.Common.{◌≡◌, ℕ, zero, suc, List, [], ◌∷◌, ◌++◌, drop, codes, ap, Some, slice_get}
+use Rattle.bench_engine.proofs.Words.{flat_map, option_map, Array}
 
 -- the names, each after a space
 abbrev pub listed : List (List ℕ × Array) → List ℕ

@@ -1,5 +1,6 @@
 -- Literals as operands.
-use Rattle.bench_engine.proofs.Words.{◌≡◌, ◌⊎◌, ℕ, zero, suc, ℤ, Bool, true, false, not, List, [], ◌∷◌, length, map, replicate, IfOk, Result, Ok, Err, refl, sym, ap, ◌∙◌, subst, inl, inr, arith, is_ok, false≢true, length-map, map-map, Refusal, OutOfMemory, NotForThisKind, Descr, Scalar, Byte, Int, Gives, ◌>>=◌, check, same_answer, item_size, item_from, LeafValue, number, C, count, offsets, length-offsets, IsShape, can_stretch, common_shape, can-itself, stretched-self, is_text, compared_type, promote, scalar_of, integer_compared_result, bytes_compared_result, compared_item, pairwise, Items, Owned, offsets_in, is_castable, item_value, BinOp, Comparison, Operation, Binary, Compare, ScalarLiteral, Boolean, Literal, ScalarDescr, RecordDescr, BoolScalar, BytesScalar, Integer, Bytes, OperandValues, one_item, literal_value, literal_scalar, operand_of_literal, compared_literal, literal_values, operation_scalar, operation_with, Stands, OwnStands, held, IsInCOrder, Meets}
+use Rattle.std.proofs.Common.{◌≡◌, ◌⊎◌, ℕ, zero, suc, ℤ, Bool, true, false, not, List, [], ◌∷◌, length, map, replicate, IfOk, Result, Ok, Err, refl, sym, ap, ◌∙◌, subst, inl, inr, arith}
+use Rattle.bench_engine.proofs.Words.{is_ok, false≢true, length-map, map-map, Refusal, OutOfMemory, NotForThisKind, Descr, Scalar, Byte, Int, Gives, ◌>>=◌, check, same_answer, item_size, item_from, LeafValue, number, C, count, offsets, length-offsets, IsShape, can_stretch, common_shape, can-itself, stretched-self, is_text, compared_type, promote, scalar_of, integer_compared_result, bytes_compared_result, compared_item, pairwise, Items, Owned, offsets_in, is_castable, item_value, BinOp, Comparison, Operation, Binary, Compare, ScalarLiteral, Boolean, Literal, ScalarDescr, RecordDescr, BoolScalar, BytesScalar, Integer, Bytes, OperandValues, one_item, literal_value, literal_scalar, operand_of_literal, compared_literal, literal_values, operation_scalar, operation_with, Stands, OwnStands, held, IsInCOrder, Meets}
 use Rattle.script_lang.specs.declared.literal.Literal.TheVariants as literal
 use Rattle.bench_engine.proofs.Copies.{made-held}
 use Rattle.bench_engine.proofs.LegalLaws.{legal-common}

@@ -1,5 +1,6 @@
 -- Arrays that are loaded.
-use Rattle.bench_engine.proofs.Words.{◌≡◌, ◌∙◌, ℕ, true, false, List, refl, sym, ap, subst, inl, inr, arith, Option, Some, None, Result, Ok, Err, get, Refusal, TooManyNames, OutOfMemory, item_size, items_in, count, Owned, places_of, StoreState, IsSameStore, FaultHasCause, IsRead, StoreFault, Device, TooLong, Memory, Loaded, Loads, HoldsFileItems, file_order, Bind, State, has_room_for, LoadValue, held, CarriesOut, Carried, Finds, refusal, MayAnswer, Choice, IsAllowed, after_outcome, world, Found, MayFind, loaded, loaded_contents, bound_loaded, load_outcome, LoadStep}
+use Rattle.std.proofs.Common.{◌≡◌, ◌∙◌, ℕ, true, false, List, refl, sym, ap, subst, inl, inr, arith, Option, Some, None, Result, Ok, Err}
+use Rattle.bench_engine.proofs.Words.{get, Refusal, TooManyNames, OutOfMemory, item_size, items_in, count, Owned, places_of, StoreState, IsSameStore, FaultHasCause, IsRead, StoreFault, Device, TooLong, Memory, Loaded, Loads, HoldsFileItems, file_order, Bind, State, has_room_for, LoadValue, held, CarriesOut, Carried, Finds, refusal, MayAnswer, Choice, IsAllowed, after_outcome, world, Found, MayFind, loaded, loaded_contents, bound_loaded, load_outcome, LoadStep}
 use Rattle.bench_engine.proofs.Stored.{places-stored}
 use Rattle.bench_engine.proofs.Steps.{spare}
 

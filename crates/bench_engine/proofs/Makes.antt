@@ -1,5 +1,6 @@
 -- The contents of the arrays that commands make, for each way in which a command may end.
-use Rattle.bench_engine.proofs.Words.{◌≡◌, ◌≢◌, ◌≤◌, ◌*◌, ℕ, zero, suc, ℤ, List, [], ◌∷◌, length, drop, map, replicate, refl, sym, ap, ◌∙◌, Result, Ok, Err, IfOk, IfErr, nat_le, if◌then◌else◌, ◌⊎◌, inl, inr, arith, le-leb, ne_eqb, eq-eqb, length-map, Refusal, OutOfMemory, TooLarge, NumberOfValues, Scalar, Descr, Gives, Answers, descriptor, size, item_size, decode_item, blocks, items_in, LeafValue, max_bytes, max_items, C, count, offsets, offsets_in, places_of, shape_of, Literal, Owned, item_value, item_values, range_items, ScalarDescr, range_with_len, new_contents, array_type, zeros_contents, full_contents, array_contents, arange_contents, integer_scalar, range_scalar, held, IsInCOrder}
+use Rattle.std.proofs.Common.{◌≡◌, ◌≢◌, ◌≤◌, ◌*◌, ℕ, zero, suc, ℤ, List, [], ◌∷◌, length, drop, map, replicate, refl, sym, ap, ◌∙◌, Result, Ok, Err, IfOk, IfErr, nat_le, if◌then◌else◌, ◌⊎◌, inl, inr, arith}
+use Rattle.bench_engine.proofs.Words.{le-leb, ne_eqb, eq-eqb, length-map, Refusal, OutOfMemory, TooLarge, NumberOfValues, Scalar, Descr, Gives, Answers, descriptor, size, item_size, decode_item, blocks, items_in, LeafValue, max_bytes, max_items, C, count, offsets, offsets_in, places_of, shape_of, Literal, Owned, item_value, item_values, range_items, ScalarDescr, range_with_len, new_contents, array_type, zeros_contents, full_contents, array_contents, arange_contents, integer_scalar, range_scalar, held, IsInCOrder}
 use Rattle.bench_engine.proofs.Stored.{divided}
 use Rattle.bench_engine.proofs.StretchLaws.{map-replicate}
 use Rattle.bench_engine.proofs.Zeros.{items_in-zeros}

@@ -1,5 +1,6 @@
 -- The meaning of a line, by its length.
-use Rattle.bench_engine.proofs.Words.{◌≡◌, ◌<◌, ◌≤◌, ◌+◌, ℕ, Bool, true, false, List, [], ◌∷◌, length, refl, sym, cond, arith, nat_eq, take, ◌-◌, length-take, ends_with, lt-ltb, le-ltb, trimmed, too_long, says, meaning_of, limit, line_of, HoldsBytes}
+use Rattle.std.proofs.Common.{◌≡◌, ◌<◌, ◌≤◌, ◌+◌, ℕ, Bool, true, false, List, [], ◌∷◌, length, refl, sym, cond, arith, nat_eq, take, ◌-◌, length-take}
+use Rattle.bench_engine.proofs.Words.{ends_with, lt-ltb, le-ltb, trimmed, too_long, says, meaning_of, limit, line_of, HoldsBytes}
 
 length-trimmed : (piece : List ℕ) → length piece ≤ length (trimmed piece) + 1
 length-trimmed piece = elim (ends_with nat_eq piece (13 ∷ [])) as (λ t. length piece ≤ length (cond t (take (length piece - 1) piece) piece) + 1) [ true ↦ omega (arith, length-take (length piece - 1) piece) | false ↦ omega arith ]

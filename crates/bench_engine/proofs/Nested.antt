@@ -1,5 +1,6 @@
 -- Items that do not overlap have no more bytes than there are.
-use Rattle.bench_engine.proofs.Words.{◌≡◌, ◌+◌, ◌*◌, ◌/◌, ◌<◌, ◌≤◌, ℕ, zero, suc, true, false, List, [], ◌∷◌, length, map, slice_index, All, inl, inr, sym, ap, subst, arith, list_any, IsDistinct, AllByRecursion, length-map, ne_eqb, eqb_tells, length-le_from_distinct_below, eqb, lt-div-mul-add, div-mul-le_self, div-lt_iff_lt-mul, mul-le-mul_left, IsNested, distance}
+use Rattle.std.proofs.Common.{◌≡◌, ◌+◌, ◌*◌, ◌/◌, ◌<◌, ◌≤◌, ℕ, zero, suc, true, false, List, [], ◌∷◌, length, map, slice_index, All, inl, inr, sym, ap, subst, arith}
+use Rattle.bench_engine.proofs.Words.{list_any, IsDistinct, AllByRecursion, length-map, ne_eqb, eqb_tells, length-le_from_distinct_below, eqb, lt-div-mul-add, div-mul-le_self, div-lt_iff_lt-mul, mul-le-mul_left, IsNested, distance}
 
 -- offsets with the same quotient by the width are less than a width apart
 close : (w o p : ℕ) → 1 ≤ w → o / w ≡ p / w → w ≤ distance o p → ⊥

@@ -1,5 +1,6 @@
 -- The outcome of the question whether two arrays share cells.
-use Rattle.bench_engine.proofs.Words.{◌≡◌, ℕ, false, ◌&&◌, is_some, inl, inr, List, refl, sym, ap, ◌∙◌, Option, Some, None, Err, Refusal, UnknownName, State, find_array, is_bound, share_cells, AnswersShares, Array, IsRefused, shares_outcome, accepted_with, shares_text}
+use Rattle.std.proofs.Common.{◌≡◌, ℕ, false, ◌&&◌, is_some, inl, inr, List, refl, sym, ap, ◌∙◌, Option, Some, None, Err}
+use Rattle.bench_engine.proofs.Words.{Refusal, UnknownName, State, find_array, is_bound, share_cells, AnswersShares, Array, IsRefused, shares_outcome, accepted_with, shares_text}
 
 pub shares-done : (s : State) (left right : List ℕ) (a b : Array) → find_array s.names left ≡ Some a → find_array s.names right ≡ Some b → shares_outcome s left right ≡ accepted_with s (shares_text (share_cells s a b))
 unfolding shares_outcome

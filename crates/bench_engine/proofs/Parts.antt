@@ -1,5 +1,6 @@
 -- Fields of arrays: names that are bound to them.
-use Rattle.bench_engine.proofs.Words.{◌≡◌, ◌<◌, ◌+◌, ◌*◌, ℕ, List, [], ◌∷◌, ◌++◌, length, map, refl, sym, ap, ◌∙◌, subst, Option, Some, Ok, arith, ok_or, NoSuchField, ◌>>=◌, Descr, item_size, fields, field_at, field_of, Layout, offsets, Fits, IsNested, offsets_of, IsFieldOf, GivesField, State, buffer_of, descr_of, descr_at, start_at, Shows, IsViewIn, path-then, descr-then, start-then, ArrayRef, Bound, Array, Field, IsOf, IsSeen, a_view, seen, Meets}
+use Rattle.std.proofs.Common.{◌≡◌, ◌<◌, ◌+◌, ◌*◌, ℕ, List, [], ◌∷◌, ◌++◌, length, map, refl, sym, ap, ◌∙◌, subst, Option, Some, Ok, arith}
+use Rattle.bench_engine.proofs.Words.{ok_or, NoSuchField, ◌>>=◌, Descr, item_size, fields, field_at, field_of, Layout, offsets, Fits, IsNested, offsets_of, IsFieldOf, GivesField, State, buffer_of, descr_of, descr_at, start_at, Shows, IsViewIn, path-then, descr-then, start-then, ArrayRef, Bound, Array, Field, IsOf, IsSeen, a_view, seen, Meets}
 use Rattle.name_store.specs.declared.bound.Bound.TheVariants as bound
 
 -- one field of an array

@@ -1,5 +1,6 @@
 -- The result of a reduction.
-use Rattle.bench_engine.proofs.Words.{◌≡◌, ◌<◌, ◌≤◌, ◌+◌, ℕ, ℤ, zero, suc, Bool, true, Option, Some, None, List, [], ◌∷◌, length, map, get_or, slice_index, IfOk, Result, Ok, Err, refl, sym, ap, ◌∙◌, inl, inr, arith, remove, range_with_len, length-map, get_or-map, map-map, Refusal, BadAxis, Descr, Gives, item_from, LeafValue, check_test, bind_ok, C, count, indexes, rank, IsIndex, rank-lt, same_on_indexes, length-offsets, offsets, axis_below, from_front, Owned, Red, lists, named_axis, is_axis, IsAxisOf, IsIndex-insert, outcome_of, number_scalar, reduced_item, reduced_items, State, find_array, buffer_of, descr_of, read, span_of, placed_item, part_at, Shows, ArrayRef, Array, new_contents, reduced_contents, held, IsInCOrder}
+use Rattle.std.proofs.Common.{◌≡◌, ◌<◌, ◌≤◌, ◌+◌, ℕ, ℤ, zero, suc, Bool, true, Option, Some, None, List, [], ◌∷◌, length, map, get_or, slice_index, IfOk, Result, Ok, Err, refl, sym, ap, ◌∙◌, inl, inr, arith}
+use Rattle.bench_engine.proofs.Words.{remove, range_with_len, length-map, get_or-map, map-map, Refusal, BadAxis, Descr, Gives, item_from, LeafValue, check_test, bind_ok, C, count, indexes, rank, IsIndex, rank-lt, same_on_indexes, length-offsets, offsets, axis_below, from_front, Owned, Red, lists, named_axis, is_axis, IsAxisOf, IsIndex-insert, outcome_of, number_scalar, reduced_item, reduced_items, State, find_array, buffer_of, descr_of, read, span_of, placed_item, part_at, Shows, ArrayRef, Array, new_contents, reduced_contents, held, IsInCOrder}
 use Rattle.std.specs.List.{insert}
 use Rattle.reductions.specs.Outcomes as reductions
 use Rattle.bench_engine.proofs.Copies.{made-held}

@@ -1,5 +1,6 @@
 -- Items that are changed in another order, each with its place.
-use Rattle.bench_engine.proofs.Words.{◌≡◌, ◌<◌, ℕ, suc, true, List, [], ◌∷◌, length, map, Result, Ok, Err, refl, sym, ap, subst, ◌∙◌, arith, zip, swap, IsPermutation, length-map, IsPermutation-refl, IsPermutation-trans, IsPermutation-swap, IsPermutation-map, IsPermutation-keeps, map-map, firsts-zip, seconds-zip, Refusal, Descr, Scalar, ◌>>=◌, LeafValue, IsShape, map-swap, can_stretch, stretched-ok, cast_item, same_kind, scalar_of, pairwise, Operation, ScalarDescr, OperandValues, operation_scalar, operation_item, updated_items}
+use Rattle.std.proofs.Common.{◌≡◌, ◌<◌, ℕ, suc, true, List, [], ◌∷◌, length, map, Result, Ok, Err, refl, sym, ap, subst, ◌∙◌, arith}
+use Rattle.bench_engine.proofs.Words.{zip, swap, IsPermutation, length-map, IsPermutation-refl, IsPermutation-trans, IsPermutation-swap, IsPermutation-map, IsPermutation-keeps, map-map, firsts-zip, seconds-zip, Refusal, Descr, Scalar, ◌>>=◌, LeafValue, IsShape, map-swap, can_stretch, stretched-ok, cast_item, same_kind, scalar_of, pairwise, Operation, ScalarDescr, OperandValues, operation_scalar, operation_item, updated_items}
 use Rattle.bench_engine.proofs.LegalLaws.{legal-common}
 use Rattle.bench_engine.proofs.Updates.{changed-type, changed-record, changed-kind, changed-done}
 use Rattle.bench_engine.proofs.WorkLaws.{worked-done}

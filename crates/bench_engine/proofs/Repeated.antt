@@ -1,5 +1,6 @@
 -- A repeated item.
-use Rattle.bench_engine.proofs.Words.{◌≡◌, ℕ, zero, suc, ◌+◌, List, ◌∷◌, ◌++◌, length, replicate, refl, sym, ap, ◌∙◌, arith, take-append_seam, drop-append_seam, blocks, joined, joined-add}
+use Rattle.std.proofs.Common.{◌≡◌, ℕ, zero, suc, ◌+◌, List, ◌∷◌, ◌++◌, length, replicate, refl, sym, ap, ◌∙◌, arith}
+use Rattle.bench_engine.proofs.Words.{take-append_seam, drop-append_seam, blocks, joined, joined-add}
 
 pub blocks-repeated : (item : List ℕ) (n : ℕ) → blocks (length item) n (joined (λ _. item) n) ≡ replicate n item
 blocks-repeated item zero = refl

@@ -1,5 +1,6 @@
 -- Arrays that are saved.
-use Rattle.bench_engine.proofs.Words.{◌≡◌, ◌⊎◌, ◌∙◌, ℕ, true, List, ◌++◌, length, map, codes, decimal, refl, sym, ap, inl, inr, subst, Some, None, Result, Ok, Err, Refusal, UnknownName, OutOfMemory, item_from, offsets, StoreState, IsSameStore, FaultHasCause, IsKept, IsWritten, saved, Save, State, find_array, is_bound, Shows, ArrayRef, Array, Reply, refusal, world, store_refusal, Stored, file_of_name, save_reply, SaveStep, MayAnswer, refused, Puts}
+use Rattle.std.proofs.Common.{◌≡◌, ◌⊎◌, ◌∙◌, ℕ, true, List, ◌++◌, length, map, codes, decimal, refl, sym, ap, inl, inr, subst, Some, None, Result, Ok, Err}
+use Rattle.bench_engine.proofs.Words.{Refusal, UnknownName, OutOfMemory, item_from, offsets, StoreState, IsSameStore, FaultHasCause, IsKept, IsWritten, saved, Save, State, find_array, is_bound, Shows, ArrayRef, Array, Reply, refusal, world, store_refusal, Stored, file_of_name, save_reply, SaveStep, MayAnswer, refused, Puts}
 
 unknown : (s : State) (name : List ℕ) → find_array s.names name ≡ None → file_of_name s name ≡ Err UnknownName
 unfolding file_of_name

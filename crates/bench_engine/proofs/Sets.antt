@@ -1,5 +1,6 @@
 -- Parts of an array: the items that are read, and how many bytes are written.
-use Rattle.bench_engine.proofs.Words.{◌≡◌, ◌≤◌, ◌+◌, ◌*◌, ℕ, zero, suc, List, [], ◌∷◌, length, map, refl, sym, ap, ◌∙◌, subst, All, get_or, arith, Contains, map-map, get_or-map, All-contains, Descr, item_size, item_from, Layout, count, max_bytes, offsets, IsNested, offsets_of, length-offsets, offsets_within, State, buffer_of, read, start_at, part_at, span_of, placed_item, Shows, ArrayRef, Array, LiesIn}
+use Rattle.std.proofs.Common.{◌≡◌, ◌≤◌, ◌+◌, ◌*◌, ℕ, zero, suc, List, [], ◌∷◌, length, map, refl, sym, ap, ◌∙◌, subst, All, get_or, arith}
+use Rattle.bench_engine.proofs.Words.{Contains, map-map, get_or-map, All-contains, Descr, item_size, item_from, Layout, count, max_bytes, offsets, IsNested, offsets_of, length-offsets, offsets_within, State, buffer_of, read, start_at, part_at, span_of, placed_item, Shows, ArrayRef, Array, LiesIn}
 use Rattle.bench_engine.proofs.Nested.{nested-fits}
 
 -- ---- parts

@@ -1,5 +1,6 @@
 -- The answers to a command and to a line, from what the calls that carry them out ensure.
-use Rattle.bench_engine.proofs.Words.{◌⊎◌, Bool, IsTrue, Result, ◌≡◌, ◌≢◌, ◌≤◌, ◌+◌, ℕ, suc, false, List, [], ◌∷◌, Some, None, refl, sym, ap, subst, ◌∙◌, inl, inr, arith, Err, Ok, nat_cmp, eq_by_cmp, is_eq, Less, Equal, Greater, AllByRecursion, FinMap, get, get-entries, find, entries, nat_cmp-IsAntisymmetric, All-from_recursion, Refusal, LineTooLong, OutOfMemory, Command, Line, silent, bad_byte, misspelt, asks, MayLackRoom, Says, parts_take_memory, State, Buffer, StoreState, Array, Reply, refusal, Choice, IsAllowed, Outcome, after_outcome, World, world, Refuses, DoesAlone, Step, Meaning, too_long, says, AnswersMeaning, MayAnswer, MayAnswerLine, IsRefused, CarriesOut, Carried, ReadsAs}
+use Rattle.std.proofs.Common.{◌⊎◌, Bool, IsTrue, Result, ◌≡◌, ◌≢◌, ◌≤◌, ◌+◌, ℕ, suc, false, List, [], ◌∷◌, Some, None, refl, sym, ap, subst, ◌∙◌, inl, inr, arith, Err, Ok}
+use Rattle.bench_engine.proofs.Words.{nat_cmp, eq_by_cmp, is_eq, Less, Equal, Greater, AllByRecursion, FinMap, get, get-entries, find, entries, nat_cmp-IsAntisymmetric, All-from_recursion, Refusal, LineTooLong, OutOfMemory, Command, Line, silent, bad_byte, misspelt, asks, MayLackRoom, Says, parts_take_memory, State, Buffer, StoreState, Array, Reply, refusal, Choice, IsAllowed, Outcome, after_outcome, World, world, Refuses, DoesAlone, Step, Meaning, too_long, says, AnswersMeaning, MayAnswer, MayAnswerLine, IsRefused, CarriesOut, Carried, ReadsAs}
 
 apart : (q k : ℕ) → k ≢ q → eq_by_cmp nat_cmp q k ≡ false
 apart q k ne =

@@ -1,5 +1,6 @@
 -- Items that are stretched to a shape.
-use Rattle.bench_engine.proofs.Words.{◌≡◌, ◌<◌, ℕ, zero, suc, ◌-◌, ◌&&◌, max, true, false, List, [], ◌∷◌, ◌++◌, length, map, get_or, slice_index, replicate, Result, Ok, refl, sym, ap, ◌∙◌, arith, is_ok, false≢true, and_parts, nat_tests, length-map, get_or-map, map-map, Refusal, ◌>>=◌, count, indexes, rank, IsIndex, length-indexes, rank-lt, same_on_indexes, shape_of, shape_of-same, view_through, aligned, go_together, common_length, all_go_together, common_lengths, common_of_two, common_with, common_shape, stretches, all_stretch, can_stretch, broadcast_index, stretched, IsIndex-broadcast, common-some, few-axes}
+use Rattle.std.proofs.Common.{◌≡◌, ◌<◌, ℕ, zero, suc, ◌-◌, ◌&&◌, max, true, false, List, [], ◌∷◌, ◌++◌, length, map, get_or, slice_index, replicate, Result, Ok, refl, sym, ap, ◌∙◌, arith}
+use Rattle.bench_engine.proofs.Words.{is_ok, false≢true, and_parts, nat_tests, length-map, get_or-map, map-map, Refusal, ◌>>=◌, count, indexes, rank, IsIndex, length-indexes, rank-lt, same_on_indexes, shape_of, shape_of-same, view_through, aligned, go_together, common_length, all_go_together, common_lengths, common_of_two, common_with, common_shape, stretches, all_stretch, can_stretch, broadcast_index, stretched, IsIndex-broadcast, common-some, few-axes}
 
 -- ---- items, stretched
 

@@ -1,5 +1,6 @@
 -- Items that are changed by an operation.
-use Rattle.bench_engine.proofs.Words.{◌≡◌, ◌≤◌, ◌*◌, ℕ, true, nat_le, if◌then◌else◌, IfErr, List, [], ◌∷◌, map, IfOk, Result, Ok, Err, refl, sym, ap, ◌∙◌, subst, inl, is_ok, false≢true, Refusal, OutOfMemory, TooLarge, NoSuchCast, Descr, Scalar, Byte, Int, same_answer, bind_ok, item_from, item_size, leaves_of, LeafValue, count, max_bytes, offsets, broadcast_index, can_stretch, common_shape, stretched, stretched-ok, can_cast, cast_item, same_kind, scalar_of, stretched_items, Items, length-offsets, IsShape, Owned, Literal, Operation, ScalarDescr, BoolScalar, View, map-map, Contents, OperandValues, literal_values, operation_scalar, operation_on, operation_with, updated_items, changed_with, Stands, HoldsItems, held, IsInCOrder, Meets}
+use Rattle.std.proofs.Common.{◌≡◌, ◌≤◌, ◌*◌, ℕ, true, nat_le, if◌then◌else◌, IfErr, List, [], ◌∷◌, map, IfOk, Result, Ok, Err, refl, sym, ap, ◌∙◌, subst, inl}
+use Rattle.bench_engine.proofs.Words.{is_ok, false≢true, Refusal, OutOfMemory, TooLarge, NoSuchCast, Descr, Scalar, Byte, Int, same_answer, bind_ok, item_from, item_size, leaves_of, LeafValue, count, max_bytes, offsets, broadcast_index, can_stretch, common_shape, stretched, stretched-ok, can_cast, cast_item, same_kind, scalar_of, stretched_items, Items, length-offsets, IsShape, Owned, Literal, Operation, ScalarDescr, BoolScalar, View, map-map, Contents, OperandValues, literal_values, operation_scalar, operation_on, operation_with, updated_items, changed_with, Stands, HoldsItems, held, IsInCOrder, Meets}
 use Rattle.elem_descr.specs.declared.scalar.Scalar.TheVariants.{Bytes}
 use Rattle.bench_engine.proofs.GivenLaws.{cast-lacks}
 use Rattle.bench_engine.proofs.LegalLaws.{legal-common}

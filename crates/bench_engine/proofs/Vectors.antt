@@ -1,5 +1,6 @@
 -- What `broadcast` gives, compared with NumPy's `broadcast_to`.
-use Rattle.bench_engine.proofs.Words.{◌≡◌, ℕ, Bool, true, false, List, [], ◌∷◌, Ok, Err, refl, TooLarge, ShapesDoNotBroadcast, shape_of, stretched, Broadcast, State, Array, a_view, seen}
+use Rattle.std.proofs.Common.{◌≡◌, ℕ, Bool, true, false, List, [], ◌∷◌, Ok, Err, refl}
+use Rattle.bench_engine.proofs.Words.{TooLarge, ShapesDoNotBroadcast, shape_of, stretched, Broadcast, State, Array, a_view, seen}
 
 -- an array over buffer 0 with these places
 over_places : List ℕ → List ℕ → Bool → Array

@@ -1,5 +1,6 @@
 -- The outcome of a run, from the state of its session.
-use Rattle.bench_engine.proofs.Words.{◌≡◌, ◌≢◌, [], ◌⊎◌, inl, inr, ◌++◌, ap, ◌∙◌, sym, append_assoc, zero-add, ℕ, List, Option, Some, None, Err, subst, IfSome, refl, map, Consumes, IsAtEnd, StoreState, RunFault, Read, Write, Session, Summary, World, world, IsNew, AreLines, AreWholeLines, Outside, first_world, AnswersScript, AnswersWholeLines, AnswersInPart, AnswersFirstLines, ComesTo, trimmed, Ended, Reading, Turned, All-nil, appends_nothing}
+use Rattle.std.proofs.Common.{◌≡◌, ◌≢◌, [], ◌⊎◌, inl, inr, ◌++◌, ap, ◌∙◌, sym, append_assoc, zero-add, ℕ, List, Option, Some, None, Err, subst, IfSome, refl, map}
+use Rattle.bench_engine.proofs.Words.{Consumes, IsAtEnd, StoreState, RunFault, Read, Write, Session, Summary, World, world, IsNew, AreLines, AreWholeLines, Outside, first_world, AnswersScript, AnswersWholeLines, AnswersInPart, AnswersFirstLines, ComesTo, trimmed, Ended, Reading, Turned, All-nil, appends_nothing}
 use Rattle.bench_engine.specs.declared.runner.RunFault.TheVariants.{Memory}
 use Rattle.bench_engine.proofs.Lines.{splits-one, lines-front}
 use Rattle.bench_engine.proofs.Known.{all_read}

@@ -1,5 +1,6 @@
 -- The result of an operation on operands.
-use Rattle.bench_engine.proofs.Words.{◌≡◌, ◌⊎◌, ℕ, true, List, [], ◌∷◌, map, Result, Ok, Err, IfOk, refl, sym, ap, ◌∙◌, subst, inl, inr, arith, is_ok, false≢true, Refusal, Descr, Scalar, Gives, ◌>>=◌, same_answer, bind_same, item_size, item_from, C, offsets, can_stretch, common_shape, common-fits, promote, compared_type, scalar_of, binary_result, compared_result, binary_item, compared_item, pairwise, stretched_items, Items, Owned, offsets_in, BinOp, Comparison, Operation, Binary, Compare, ScalarDescr, new_contents, OperandValues, operation_scalar, operation_on, operation_item, Stands, held, IsInCOrder}
+use Rattle.std.proofs.Common.{◌≡◌, ◌⊎◌, ℕ, true, List, [], ◌∷◌, map, Result, Ok, Err, IfOk, refl, sym, ap, ◌∙◌, subst, inl, inr, arith}
+use Rattle.bench_engine.proofs.Words.{is_ok, false≢true, Refusal, Descr, Scalar, Gives, ◌>>=◌, same_answer, bind_same, item_size, item_from, C, offsets, can_stretch, common_shape, common-fits, promote, compared_type, scalar_of, binary_result, compared_result, binary_item, compared_item, pairwise, stretched_items, Items, Owned, offsets_in, BinOp, Comparison, Operation, Binary, Compare, ScalarDescr, new_contents, OperandValues, operation_scalar, operation_on, operation_item, Stands, held, IsInCOrder}
 use Rattle.bench_engine.proofs.Copies.{made-held}
 
 -- the element type and the shape of a result, or the refusal

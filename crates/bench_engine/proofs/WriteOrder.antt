@@ -1,5 +1,6 @@
 -- Items that are written at different places: the order does not matter.
-use Rattle.bench_engine.proofs.Words.{◌≡◌, ◌≢◌, ◌<◌, ◌≤◌, ◌⊎◌, inl, inr, ℕ, zero, suc, List, [], ◌∷◌, length, get_or, set, refl, sym, ap, ◌∙◌, arith, length-set, get_or-set_same, get_or-set_other, zip, IsPermutation, cases_lt, cases_eq, ext_get_or, get_or_default, Contains-get_or, IsPermutation-sym, Contains-permutation, unwrap_or-slice_get, get_or-zip, length-zip, IsNested, distance, nested-reordered, write, placed_item, with_part}
+use Rattle.std.proofs.Common.{◌≡◌, ◌≢◌, ◌<◌, ◌≤◌, ◌⊎◌, inl, inr, ℕ, zero, suc, List, [], ◌∷◌, length, get_or, set, refl, sym, ap, ◌∙◌, arith, length-set, get_or-set_same, get_or-set_other}
+use Rattle.bench_engine.proofs.Words.{zip, IsPermutation, cases_lt, cases_eq, ext_get_or, get_or_default, Contains-get_or, IsPermutation-sym, Contains-permutation, unwrap_or-slice_get, get_or-zip, length-zip, IsNested, distance, nested-reordered, write, placed_item, with_part}
 use Rattle.bench_engine.proofs.Reordered.{Item}
 
 abbrev Placed : Type 0

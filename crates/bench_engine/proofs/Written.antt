@@ -1,5 +1,6 @@
 -- The old items of a target, and the new ones.
-use Rattle.bench_engine.proofs.Words.{◌≡◌, ◌≤◌, ◌+◌, ◌*◌, ℕ, List, length, map, get_or, All, refl, sym, ap, ◌∙◌, subst, arith, Contains, length-map, get_or-map, All-map, All-contains, item_from, item_size, Layout, offsets, offsets_of, Items, Owned, Planned, State, buffer_of, descr_of, read, start_at, Shows, ArrayRef, Array, LiesIn, IsTarget, StandsFor}
+use Rattle.std.proofs.Common.{◌≡◌, ◌≤◌, ◌+◌, ◌*◌, ℕ, List, length, map, get_or, All, refl, sym, ap, ◌∙◌, subst, arith}
+use Rattle.bench_engine.proofs.Words.{Contains, length-map, get_or-map, All-map, All-contains, item_from, item_size, Layout, offsets, offsets_of, Items, Owned, Planned, State, buffer_of, descr_of, read, start_at, Shows, ArrayRef, Array, LiesIn, IsTarget, StandsFor}
 use Rattle.name_store.specs.declared.write.Target.TheVariants as target
 use Rattle.bench_engine.proofs.Sets.{items-at, read-part, part-inside}
 

@@ -1,5 +1,6 @@
 -- Bytes that are all 0, as items.
-use Rattle.bench_engine.proofs.Words.{◌≡◌, ◌-◌, ℕ, zero, suc, pos, true, false, List, [], ◌∷◌, length, map, take, drop, replicate, get_or, refl, ap, nat_eq, arith, suffix_len, suffix_len_is, little_from, big_from, Scalar, Byte, Int, Two, Four, Eight, Order, Little, Big, Leaf, Descr, size, decode, number_in, integer, truth, without_nuls, item_size, leaves_of, decode_item, blocks, items_in, number, text, BoolScalar, zero_of, zero_item}
+use Rattle.std.proofs.Common.{◌≡◌, ◌-◌, ℕ, zero, suc, pos, true, false, List, [], ◌∷◌, length, map, take, drop, replicate, get_or, refl, ap, nat_eq, arith}
+use Rattle.bench_engine.proofs.Words.{suffix_len, suffix_len_is, little_from, big_from, Scalar, Byte, Int, Two, Four, Eight, Order, Little, Big, Leaf, Descr, size, decode, number_in, integer, truth, without_nuls, item_size, leaves_of, decode_item, blocks, items_in, number, text, BoolScalar, zero_of, zero_item}
 use Rattle.elem_descr.specs.declared.scalar.Scalar.TheVariants.{Bytes}
 
 -- every byte is 0

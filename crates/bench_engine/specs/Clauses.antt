@@ -6,7 +6,7 @@ pub use Rattle.bench_engine.specs.Machine.{OperandValues, accepted_with, argumen
 pub use Rattle.bench_engine.specs.Memory.{MayAnswer, MayAnswerLine, bound_in_computation, bound_in_question}
 pub use Rattle.bench_engine.specs.Replies.{Reply, Tells, array_words, bound_text, descr_text, format_text, info_text, layout_words, names_text, order_text, origin_word, yes_or_no}
 pub use Rattle.bench_engine.specs.Steps.{bound_loaded, store_refusal, world}
-pub use Rattle.bench_engine.specs.Words.{All, Answers, Argument, Array, Bind, Boolean, Broadcast, Gives, IfOk, IfSome, Indexed, IsNumber, IsPermutation, IsShape, List, Load, Ok, OnErr, OnOk, Reshaped, Save, ScalarDescr, Sends, SendsPart, Shows, Some, State, Supplies, Transposed, Whole, [], blocks, can_cast, cast_item, codes, compared_item, count, decimal, decode_item, false, find_array, has_room_for, index_item_of, index_items, is_basic, is_bound, item_from, item_size, length, list_all, literal_number, map, max_bytes, max_items, nat_lt, range_count, replicate, size, true, ℕ, ◌&&◌, ◌*◌, ◌++◌, ◌+◌, ◌-◌, ◌^◌, ◌∷◌, ◌≡◌, ◌≤◌}
+pub use Rattle.bench_engine.specs.Words.{Answers, Argument, Array, Bind, Boolean, Broadcast, Gives, Indexed, IsNumber, IsPermutation, IsShape, Load, Reshaped, Save, ScalarDescr, Sends, SendsPart, Shows, State, Supplies, Transposed, Whole, blocks, can_cast, cast_item, compared_item, count, decode_item, find_array, has_room_for, index_item_of, index_items, is_basic, is_bound, item_from, item_size, list_all, literal_number, max_bytes, max_items, range_count, size}
 unfoldable pub use Rattle.bench_engine.specs.Words.{integer_compared_result, item_value, item_values, offsets, promote, range_items, shape_of}
 pub use Rattle.bench_engine.specs.inside.Assigns.{Fitted, IsAimed, IsTarget}
 pub use Rattle.bench_engine.specs.inside.Computed.{computed_contents, origin_of}
@@ -23,4 +23,3 @@ pub use Rattle.bench_engine.specs.inside.Writings.{GoTogether, IsTargetIn, IsTar
 pub use Rattle.name_store.specs.declared.write.Target.TheVariants.{View}
 pub use Rattle.script_lang.specs.declared.command.Argument.TheVariants.{Literal as LiteralArgument}
 pub use Rattle.script_lang.specs.declared.command.Viewing.TheVariants.{Field}
-pub use Rattle.std.specs.Prelude.{min, option_copied}

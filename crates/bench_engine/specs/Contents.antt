@@ -1,5 +1,6 @@
 -- The contents of new arrays.
-use Rattle.bench_engine.specs.Words.{ℕ, ◌*◌, ℤ, pos, true, List, [], ◌∷◌, length, map, replicate, reverse, Result, Ok, Err, nat_eq, nat_le, range_with_len, Refusal, TooLarge, NotForThisKind, NumberOfValues, Scalar, Byte, Int, Descr, ◌>>=◌, check, descriptor, item_size, leaves_of, LeafValue, number, text, max_bytes, MemoryOrder, C, Fortran, count, indexes, rank, shape_of, Literal, NewItems, Zeros, Full, Arange, Buffer, item_value, item_values, range_items, ordered, Bytes, ScalarDescr}
+use Rattle.std.specs.Prelude.{ℕ, ◌*◌, ℤ, pos, true, List, [], ◌∷◌, length, map, replicate, reverse, Result, Ok, Err, nat_eq, nat_le}
+use Rattle.bench_engine.specs.Words.{range_with_len, Refusal, TooLarge, NotForThisKind, NumberOfValues, Scalar, Byte, Int, Descr, ◌>>=◌, check, descriptor, item_size, leaves_of, LeafValue, number, text, max_bytes, MemoryOrder, C, Fortran, count, indexes, rank, shape_of, Literal, NewItems, Zeros, Full, Arange, Buffer, item_value, item_values, range_items, ordered, Bytes, ScalarDescr}
 use Rattle.script_lang.specs.declared.command.NewItems.TheVariants.{Array}
 use Rattle.name_store.specs.States as states
 

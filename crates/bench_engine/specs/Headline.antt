@@ -1,6 +1,7 @@
 -- The headline: the outcome of a run, for every script, store and undo depth. `run` ensures `ComesTo`, the last
 -- definition. Each definition uses those above it, and `Step`, a step of the machine.
-use Rattle.bench_engine.specs.Words.{◌≡◌, ◌≢◌, ◌⊎◌, ◌<◌, ◌-◌, ℕ, List, [], ◌∷◌, ◌++◌, length, map, take, count_by, not, nat_eq, nat_lt, if◌then◌else◌, All, Option, IfSome, Result, Ok, Err, Appends, Consumes, IsAtEnd, ends_with, flat_map, LineTooLong, ByteNotAllowed, Syntax, OutOfMemory, Line, line_of, silent, bad_byte, misspelt, asks, State, start, StoreState}
+use Rattle.std.specs.Prelude.{◌≡◌, ◌≢◌, ◌⊎◌, ◌<◌, ◌-◌, ℕ, List, [], ◌∷◌, ◌++◌, length, map, take, count_by, not, nat_eq, nat_lt, if◌then◌else◌, All, Option, IfSome, Result, Ok, Err}
+use Rattle.bench_engine.specs.Words.{Appends, Consumes, IsAtEnd, ends_with, flat_map, LineTooLong, ByteNotAllowed, Syntax, OutOfMemory, Line, line_of, silent, bad_byte, misspelt, asks, State, start, StoreState}
 use Rattle.bench_engine.specs.declared.session.Summary.{Summary}
 use Rattle.bench_engine.specs.declared.runner.RunFault.{RunFault}
 use Rattle.bench_engine.specs.declared.runner.RunFault.TheVariants.{Read, Write, Memory}

@@ -1,5 +1,6 @@
 -- What an index list selects from an array of a state. A name in the list means the array that it is bound to.
-use Rattle.bench_engine.specs.Words.{ℕ, ◌*◌, if◌then◌else◌, List, [], ◌∷◌, map, Option, Some, None, Result, Ok, nat_le, list_all, flat_map, Refusal, TooLarge, ◌>>=◌, check, item_size, IndexItem, Slice, Ellipsis, NewAxis, is_basic, max_bytes, count, basic, IndexArray, no_array, indexed, first_number, State, find_array, descr_of, read, Integer, View}
+use Rattle.std.specs.Prelude.{ℕ, ◌*◌, if◌then◌else◌, List, [], ◌∷◌, map, Option, Some, None, Result, Ok, nat_le}
+use Rattle.bench_engine.specs.Words.{list_all, flat_map, Refusal, TooLarge, ◌>>=◌, check, item_size, IndexItem, Slice, Ellipsis, NewAxis, is_basic, max_bytes, count, basic, IndexArray, no_array, indexed, first_number, State, find_array, descr_of, read, Integer, View}
 use Rattle.elem_descr.specs.declared.index_item.IndexItem.TheVariants.{Array}
 use Rattle.name_store.specs.States as states
 

@@ -1,6 +1,7 @@
 -- When a command may be refused as out of memory. `execute` and `answer` promise this in addition to a step of the
 -- machine.
-use Rattle.bench_engine.specs.Words.{◌⊎◌, ℕ, Bool, true, false, IsTrue, ◌&&◌, ◌++◌, List, [], ◌∷◌, nat_lt, list_all, OutOfMemory, Computation, Value, Question, Command, asks, parts_take_memory, State, is_bound}
+use Rattle.std.specs.Prelude.{◌⊎◌, ℕ, Bool, true, false, IsTrue, ◌&&◌, ◌++◌, List, [], ◌∷◌, nat_lt}
+use Rattle.bench_engine.specs.Words.{list_all, OutOfMemory, Computation, Value, Question, Command, asks, parts_take_memory, State, is_bound}
 use Rattle.script_lang.specs.declared.command.Computation.TheVariants as computation
 use Rattle.script_lang.specs.declared.command.Value.TheVariants as value
 use Rattle.script_lang.specs.declared.command.Question.TheVariants as question

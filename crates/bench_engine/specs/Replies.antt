@@ -1,5 +1,6 @@
 -- The texts of replies.
-use Rattle.bench_engine.specs.Words.{◌≡◌, ℕ, Bool, false, if◌then◌else◌, List, [], ◌∷◌, ◌++◌, Option, Some, None, codes, decimal, flat_map, Refusal, Descr, spelling, written_format, item_size, shape_text, first_address, printed_strides, is_c_contiguous, is_f_contiguous, strides_text, refusal_text, State, ScalarDescr, RecordDescr}
+use Rattle.std.specs.Prelude.{◌≡◌, ℕ, Bool, false, if◌then◌else◌, List, [], ◌∷◌, ◌++◌, Option, Some, None, codes, decimal}
+use Rattle.bench_engine.specs.Words.{flat_map, Refusal, Descr, spelling, written_format, item_size, shape_text, first_address, printed_strides, is_c_contiguous, is_f_contiguous, strides_text, refusal_text, State, ScalarDescr, RecordDescr}
 use Rattle.bench_engine.specs.declared.replies.Origin.{Origin}
 use Rattle.bench_engine.specs.declared.replies.Origin.TheVariants.{New, View, Copy}
 

@@ -1,5 +1,6 @@
 -- The state of a session, and what it has done after some bytes of the script.
-use Rattle.bench_engine.specs.Words.{◌≡◌, ◌<◌, ◌+◌, ℕ, Bool, true, false, List, [], ◌++◌, length, map, Option, Appends, start, StoreState}
+use Rattle.std.specs.Prelude.{◌≡◌, ◌<◌, ◌+◌, ℕ, Bool, true, false, List, [], ◌++◌, length, map, Option}
+use Rattle.bench_engine.specs.Words.{Appends, start, StoreState}
 use Rattle.bench_engine.specs.declared.session.HeldLine.{HeldLine}
 use Rattle.bench_engine.specs.declared.session.Session.{Session}
 use Rattle.bench_engine.specs.Replies.{Reply}

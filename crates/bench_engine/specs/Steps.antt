@@ -1,5 +1,6 @@
 -- Steps of the machine: the outcome of each command, and its requests to the store of files.
-use Rattle.bench_engine.specs.Words.{◌≡◌, ℕ, true, List, ◌++◌, length, codes, decimal, MatchBool, Option, Some, None, MatchResult, Result, Ok, Err, get, Refusal, TooManyNames, NoSuchFile, FileTooLong, OutOfMemory, ◌>>=◌, items_in, count, Value, Make, Compute, Load, Command, Bind, Set, Update, Delete, Ask, Save, Undo, State, has_room_for, bound_to, descr_of, addresses, read, Loaded, load, file_order, saved, StoreState, IsSameStore, FaultHasCause, IsRead, IsKept, IsWritten, StoreFault, Device, TooLong, Memory, StoreFailed}
+use Rattle.std.specs.Prelude.{◌≡◌, ℕ, true, List, ◌++◌, length, codes, decimal, MatchBool, Option, Some, None, MatchResult, Result, Ok, Err}
+use Rattle.bench_engine.specs.Words.{get, Refusal, TooManyNames, NoSuchFile, FileTooLong, OutOfMemory, ◌>>=◌, items_in, count, Value, Make, Compute, Load, Command, Bind, Set, Update, Delete, Ask, Save, Undo, State, has_room_for, bound_to, descr_of, addresses, read, Loaded, load, file_order, saved, StoreState, IsSameStore, FaultHasCause, IsRead, IsKept, IsWritten, StoreFault, Device, TooLong, Memory, StoreFailed}
 use Rattle.script_lang.specs.declared.command.Value.TheVariants.{View}
 use Rattle.bench_engine.specs.declared.replies.Origin.TheVariants as origin
 use Rattle.bench_engine.specs.Contents.{Contents, places_in, array_over, contents_of}

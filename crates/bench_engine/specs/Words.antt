@@ -1,8 +1,7 @@
 -- Names from std and from the crates below, which this crate's definitions, contracts and proofs use.
 pub use Rattle.array_print.specs.Printed.{array_text, items_from}
 pub use Rattle.array_print.specs.Sending.{Sends, SendsPart}
-pub use Rattle.array_print.specs.SendingLaws.{appends_nothing, appends_then, rest_of, sends-none}
-pub use Rattle.array_print.specs.StartLaws.{StartsWith-trans}
+pub use Rattle.array_print.specs.SendingLaws.{appends_nothing, appends_then, rest_of}
 pub use Rattle.arrays.specs.Blocks.{offsets_in, places_of}
 pub use Rattle.arrays.specs.PairLaws.{All-seconds, firsts-reordered, pair_even}
 pub use Rattle.arrays.specs.declared.items.Items.{Items}
@@ -133,7 +132,6 @@ pub use Rattle.std.specs.Io.KnownBytes.{Appends, Consumes, IsAtEnd, Keeps}
 pub use Rattle.std.specs.List.{Contains, ends_with, flat_map, list_all, position, range_with_len}
 pub use Rattle.std.specs.List.Sorted.{IsPermutation}
 pub use Rattle.std.specs.Option.{ok_or}
-pub use Rattle.std.specs.Prelude.{All, Bool, Err, IfOk, IfSome, IsErrOf, IsSome, IsTrue, List, MatchBool, MatchOption, MatchResult, None, Ok, OnErr, OnOk, Option, Result, Some, [], codes, count_by, decimal, false, if◌then◌else◌, length, map, nat_eq, nat_le, nat_lt, not, pos, replicate, reverse, take, true, unwrap_or, vec_capacity, ℕ, ℤ, ◌&&◌, ◌*◌, ◌++◌, ◌+◌, ◌-◌, ◌<◌, ◌^◌, ◌∷◌, ◌≡◌, ◌≢◌, ◌≤◌, ◌⊎◌}
 unfoldable pub use Rattle.view_ops.specs.Basics.{basic}
 pub use Rattle.view_ops.specs.FieldViews.{GivesField, IsFieldOf}
 pub use Rattle.view_ops.specs.Slices.{from_front}

@@ -1,5 +1,6 @@
 //! `print X`, `info X`, `format X`, `names`, `shares X Y`: questions, which change nothing.
-ghost use Rattle.bench_engine.specs.Clauses.{◌≡◌, ◌++◌, codes, OnOk, true, ◌&&◌, is_bound, offsets, CarriesOut, print_outcome, info_outcome, format_outcome, accepted_with, shares_outcome, info_text, layout_words, order_text, yes_or_no, format_text, names_text};
+ghost use Rattle.std.specs.Prelude.{◌≡◌, ◌++◌, codes, OnOk, true, ◌&&◌};
+ghost use Rattle.bench_engine.specs.Clauses.{is_bound, offsets, CarriesOut, print_outcome, info_outcome, format_outcome, accepted_with, shares_outcome, info_text, layout_words, order_text, yes_or_no, format_text, names_text};
 
 use crate::replies::set_array_words;
 use crate::reply_text::ReplyText;

@@ -1,5 +1,6 @@
 //! `X = zeros ..`, `full`, `arange`, `array`: bind a name to a new array.
-ghost use Rattle.bench_engine.specs.Clauses.{◌≡◌, IfOk, ◌≤◌, ◌-◌, ◌*◌, ◌^◌, length, map, min, replicate, true, Gives, Answers, item_size, decode_item, item_value, item_values, blocks, IsNumber, size, max_bytes, max_items, count, shape_of, range_count, range_items, has_room_for, ScalarDescr, array_type, zeros_contents, full_contents, array_contents, arange_contents, contents_of, integer_scalar, range_scalar, held, CarriesOut, bound_new, creation_outcome};
+ghost use Rattle.std.specs.Prelude.{◌≡◌, IfOk, ◌≤◌, ◌-◌, ◌*◌, ◌^◌, length, map, min, replicate, true};
+ghost use Rattle.bench_engine.specs.Clauses.{Gives, Answers, item_size, decode_item, item_value, item_values, blocks, IsNumber, size, max_bytes, max_items, count, shape_of, range_count, range_items, has_room_for, ScalarDescr, array_type, zeros_contents, full_contents, array_contents, arange_contents, contents_of, integer_scalar, range_scalar, held, CarriesOut, bound_new, creation_outcome};
 
 use crate::replies::{Origin, set_bound_text};
 use crate::reply_text::ReplyText;

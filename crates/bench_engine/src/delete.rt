@@ -1,5 +1,6 @@
 //! `del X`: unbinds a name.
-ghost use Rattle.bench_engine.specs.Clauses.{◌≡◌, ◌&&◌, nat_lt, is_bound, CarriesOut, delete_outcome};
+ghost use Rattle.std.specs.Prelude.{◌≡◌, ◌&&◌, nat_lt};
+ghost use Rattle.bench_engine.specs.Clauses.{is_bound, CarriesOut, delete_outcome};
 
 use crate::reply_text::ReplyText;
 use elem_descr::{Name, Refusal};

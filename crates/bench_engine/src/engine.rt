@@ -1,5 +1,6 @@
 //! Carries out one line, and makes its reply.
-ghost use Rattle.bench_engine.specs.Clauses.{◌≡◌, List, list_all, Bind, is_bound, CarriesOut, Carried, question_outcome, Reply, Tells, world, meaning_of, AnswersMeaning, AnswersLine, bound_in_question, MayAnswer, MayAnswerLine, ReadsAs, meaning_of_read};
+ghost use Rattle.std.specs.Prelude.{◌≡◌, List};
+ghost use Rattle.bench_engine.specs.Clauses.{list_all, Bind, is_bound, CarriesOut, Carried, question_outcome, Reply, Tells, world, meaning_of, AnswersMeaning, AnswersLine, bound_in_question, MayAnswer, MayAnswerLine, ReadsAs, meaning_of_read};
 
 use crate::ask::{format, info, names, print, shares};
 use crate::create::make;

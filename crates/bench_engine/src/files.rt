@@ -1,6 +1,7 @@
 //! `save X "f"` and `X = load "f"`: write an array to a file, and bind a name to the array in a
 //! file.
-ghost use Rattle.bench_engine.specs.Clauses.{◌≡◌, ◌++◌, codes, decimal, OnOk, store_refusal, world, bound_loaded, Save, Bind, has_room_for, Load, MayAnswer, Carried, CarriesOut, Puts};
+ghost use Rattle.std.specs.Prelude.{◌≡◌, ◌++◌, codes, decimal, OnOk};
+ghost use Rattle.bench_engine.specs.Clauses.{store_refusal, world, bound_loaded, Save, Bind, has_room_for, Load, MayAnswer, Carried, CarriesOut, Puts};
 ghost use Rattle.bench_engine.specs.declared.replies.Origin.TheVariants as origin;
 ghost use Rattle.bench_engine.specs.Clauses.{bound_text, held, Finds};
 

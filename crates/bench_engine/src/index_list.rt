@@ -1,6 +1,7 @@
 //! Index lists, which may name arrays, and what they select from an array: a view if they name no
 //! array, and a copy otherwise.
-ghost use Rattle.bench_engine.specs.Clauses.{◌≡◌, true, map, IfOk, list_all, index_item_of, index_items, is_bound, Shows, is_basic, Array, names_in_item, names_in_index, array_by_items, taken, Meets, IsAimed};
+ghost use Rattle.std.specs.Prelude.{◌≡◌, true, map, IfOk};
+ghost use Rattle.bench_engine.specs.Clauses.{list_all, index_item_of, index_items, is_bound, Shows, is_basic, Array, names_in_item, names_in_index, array_by_items, taken, Meets, IsAimed};
 
 use arrays::Items;
 use elem_descr::{IndexItem, Name, Refusal};

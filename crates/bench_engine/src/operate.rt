@@ -1,6 +1,7 @@
 //! `X = copy Y C`, `cast Y D`, `OP operand Z`, `neg operand`, `RED Y [axis] [keep]`: compute an
 //! array, and bind a name to it.
-ghost use Rattle.bench_engine.specs.Clauses.{◌≡◌, ◌≤◌, ◌+◌, true, length, All, ◌∷◌, [], map, IfOk, Some, list_all, item_size, offsets, is_bound, State, Gives, Answers, item_from, promote, integer_compared_result, compared_item, item_value, literal_number, Boolean, Array, operand_part, names_in_operand, names_in_argument, OperandValues, literal_value, literal_scalar, operand_of_literal, compared_literal, literal_values, operation_scalar, operation_on, operation_with, argument_values, compute_outcome, AreSources, IsGiven, IsNamed, IsNamedBy, IsPart, Knows, LiesInBuffer, OwnStands, Stands, StandsFor, buffer_number, ScalarDescr};
+ghost use Rattle.std.specs.Prelude.{◌≡◌, ◌≤◌, ◌+◌, true, length, All, ◌∷◌, [], map, IfOk, Some};
+ghost use Rattle.bench_engine.specs.Clauses.{list_all, item_size, offsets, is_bound, State, Gives, Answers, item_from, promote, integer_compared_result, compared_item, item_value, literal_number, Boolean, Array, operand_part, names_in_operand, names_in_argument, OperandValues, literal_value, literal_scalar, operand_of_literal, compared_literal, literal_values, operation_scalar, operation_on, operation_with, argument_values, compute_outcome, AreSources, IsGiven, IsNamed, IsNamedBy, IsPart, Knows, LiesInBuffer, OwnStands, Stands, StandsFor, buffer_number, ScalarDescr};
 ghost use Rattle.elem_descr.specs.Values as leaf;
 ghost use Rattle.script_lang.specs.declared.command.Operation.TheVariants as operation;
 ghost use Rattle.bench_engine.specs.Clauses.{held, IsInCOrder, bound_in_computation, computed_contents, origin_of, CarriesOut, Meets};

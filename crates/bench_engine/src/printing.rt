@@ -1,5 +1,6 @@
 //! `print X` in a run: the reply is sent while it is made.
-ghost use Rattle.bench_engine.specs.Clauses.{◌≡◌, IfOk, IfSome, OnErr, Sends, SendsPart, Reply, AsksToPrint, MayPrint, meaning_of_read};
+ghost use Rattle.std.specs.Prelude.{◌≡◌, IfOk, IfSome, OnErr};
+ghost use Rattle.bench_engine.specs.Clauses.{Sends, SendsPart, Reply, AsksToPrint, MayPrint, meaning_of_read};
 
 use crate::engine::read_line;
 use crate::reply_text::ReplyText;

@@ -1,5 +1,6 @@
 //! Parts of replies that several commands use.
-ghost use Rattle.bench_engine.specs.Clauses.{◌≡◌, ◌≤◌, ◌++◌, length, OnOk, descr_text, array_words, origin_word, bound_text};
+ghost use Rattle.std.specs.Prelude.{◌≡◌, ◌≤◌, ◌++◌, length, OnOk};
+ghost use Rattle.bench_engine.specs.Clauses.{descr_text, array_words, origin_word, bound_text};
 
 use crate::reply_text::ReplyText;
 use elem_descr::{Descr, Name, format_write, typestr_write};

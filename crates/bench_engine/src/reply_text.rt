@@ -1,5 +1,6 @@
 //! The text of a reply.
-ghost use Rattle.bench_engine.specs.Words.{◌≡◌, ◌≤◌, ◌+◌, ◌++◌, ◌∷◌, [], List, ℕ, length, All, IfOk, OnOk, OnErr, IsErrOf, ◌<◌, Appends, Sends, SendsPart, array_text, item_size, items_from, offsets};
+ghost use Rattle.std.specs.Prelude.{◌≡◌, ◌≤◌, ◌+◌, ◌++◌, ◌∷◌, [], List, ℕ, length, All, IfOk, OnOk, OnErr, IsErrOf, ◌<◌};
+ghost use Rattle.bench_engine.specs.Words.{Appends, Sends, SendsPart, array_text, item_size, items_from, offsets};
 
 use array_print::{PrintFault, WriteFault, print_by_bands, print_into, send};
 use elem_descr::Descr;

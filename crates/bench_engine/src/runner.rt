@@ -1,5 +1,6 @@
 //! A whole run: it reads a script and writes the replies.
-ghost use Rattle.bench_engine.specs.Words.{◌≡◌, ◌≤◌, ◌<◌, ◌+◌, List, ℕ, Option, IsSome, length, take, MatchOption, ◌*◌, ◌^◌, IfOk, OnOk, IsErrOf, Consumes, Keeps, IsAtEnd};
+ghost use Rattle.std.specs.Prelude.{◌≡◌, ◌≤◌, ◌<◌, ◌+◌, List, ℕ, Option, IsSome, length, take, MatchOption, ◌*◌, ◌^◌, IfOk, OnOk, IsErrOf};
+ghost use Rattle.bench_engine.specs.Words.{Consumes, Keeps, IsAtEnd};
 ghost use Rattle.bench_engine.specs.Headline.{Outside, outside, ReadsInTime, ComesTo};
 ghost use Rattle.bench_engine.specs.inside.Sessions.{Reading, Turned};
 ghost use Rattle.bench_engine.specs.declared.runner.RunFault.TheVariants.{Write, Memory};

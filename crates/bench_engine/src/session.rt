@@ -1,5 +1,6 @@
 //! What a run keeps between two reads: the state, and the line that is being read.
-ghost use Rattle.bench_engine.specs.Words.{◌≡◌, ◌≤◌, ◌<◌, ◌++◌, ◌∷◌, [], List, ℕ, length, OnOk, OnErr, vec_capacity, IfOk, false, ◌&&◌, nat_eq, not, ◌+◌, ◌^◌, Option, Appends, position};
+ghost use Rattle.std.specs.Prelude.{◌≡◌, ◌≤◌, ◌<◌, ◌++◌, ◌∷◌, [], List, ℕ, length, OnOk, OnErr, vec_capacity, IfOk, false, ◌&&◌, nat_eq, not, ◌+◌, ◌^◌, Option};
+ghost use Rattle.bench_engine.specs.Words.{Appends, position};
 
 use crate::engine::answer_read;
 use crate::printing::{asks_to_print, print};

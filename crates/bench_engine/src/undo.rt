@@ -1,5 +1,6 @@
 //! `undo`: goes back to the state before the last change.
-ghost use Rattle.bench_engine.specs.Clauses.{false, CarriesOut, undo_outcome};
+ghost use Rattle.std.specs.Prelude.{false};
+ghost use Rattle.bench_engine.specs.Clauses.{CarriesOut, undo_outcome};
 
 use crate::reply_text::ReplyText;
 use elem_descr::Refusal;

@@ -1,5 +1,6 @@
 //! `upd X[ix] OP Z`: the new items, and the places where they are written.
-ghost use Rattle.bench_engine.specs.Clauses.{◌≡◌, ◌≤◌, ◌*◌, true, map, Ok, IfSome, IsPermutation, item_from, item_size, can_cast, cast_item, offsets, count, max_bytes, IsShape, Argument, State, LiteralArgument, View, OperandValues, argument_values, literal_values, operand_values, updated_items, changed_with, updated, IsGiven, Stands, HoldsItems, GoTogether, IsTargetIn, IsTargetOf, Writes, WritesIn, Meets};
+ghost use Rattle.std.specs.Prelude.{◌≡◌, ◌≤◌, ◌*◌, true, map, Ok, IfSome};
+ghost use Rattle.bench_engine.specs.Clauses.{IsPermutation, item_from, item_size, can_cast, cast_item, offsets, count, max_bytes, IsShape, Argument, State, LiteralArgument, View, OperandValues, argument_values, literal_values, operand_values, updated_items, changed_with, updated, IsGiven, Stands, HoldsItems, GoTogether, IsTargetIn, IsTargetOf, Writes, WritesIn, Meets};
 
 use crate::operate::{items_of_view, result_scalar, work, work_literal};
 use crate::write::Given;

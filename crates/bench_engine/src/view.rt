@@ -1,6 +1,7 @@
 //! `X = Y`, `X = Y[ix]`, `X = transpose Y`, `X = reshape Y S`, `X = broadcast Y S`, `X = field Y
 //! "f"`: bind a name to a view of another name's array, or to a copy of some of its items.
-ghost use Rattle.bench_engine.specs.Clauses.{◌≡◌, true, option_copied, ◌∷◌, list_all, count, Whole, Indexed, Transposed, Reshaped, Broadcast, is_bound, Shows, Field, Array, names_in_index, names_in_viewing, view_outcome, IsShown, Sees, SeesIn, Duplicates, shape_of_bound, origin_of_bound, CarriesOut};
+ghost use Rattle.std.specs.Prelude.{◌≡◌, true, option_copied, ◌∷◌};
+ghost use Rattle.bench_engine.specs.Clauses.{list_all, count, Whole, Indexed, Transposed, Reshaped, Broadcast, is_bound, Shows, Field, Array, names_in_index, names_in_viewing, view_outcome, IsShown, Sees, SeesIn, Duplicates, shape_of_bound, origin_of_bound, CarriesOut};
 ghost use Rattle.name_store.specs.declared.bound.Bound.TheVariants.{View};
 
 use crate::create::shape_of;

@@ -1,5 +1,6 @@
 //! `set X[ix] = Z` and `upd X[ix] OP Z`: write to items of an array.
-ghost use Rattle.bench_engine.specs.Clauses.{◌≡◌, ◌≤◌, ◌*◌, true, ℕ, List, Some, ◌++◌, ◌∷◌, list_all, item_size, count, max_bytes, max_items, is_bound, find_array, State, Argument, Shows, Supplies, Array, argument_items, names_in_argument, target_part, new_items, write_outcome, write_reply, Fitted, IsTarget, IsGiven, GivesGiven, IsNamedBy, names_in_index, CarriesOut, Meets, IsTargetIn, Prepares, WritesIn};
+ghost use Rattle.std.specs.Prelude.{◌≡◌, ◌≤◌, ◌*◌, true, ℕ, List, Some, ◌++◌, ◌∷◌};
+ghost use Rattle.bench_engine.specs.Clauses.{list_all, item_size, count, max_bytes, max_items, is_bound, find_array, State, Argument, Shows, Supplies, Array, argument_items, names_in_argument, target_part, new_items, write_outcome, write_reply, Fitted, IsTarget, IsGiven, GivesGiven, IsNamedBy, names_in_index, CarriesOut, Meets, IsTargetIn, Prepares, WritesIn};
 
 use crate::create::item_of;
 use crate::index_list::{are_bound, named_target};

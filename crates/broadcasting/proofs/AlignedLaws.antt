@@ -1,5 +1,6 @@
 -- Laws of aligned shapes, axis by axis.
-use Rattle.broadcasting.proofs.Words.{◌≡◌, ℕ, ◌+◌, ◌<◌, ◌≤◌, ◌&&◌, max, Bool, true, false, Ok, Err, ℤ, pos, List, [], ◌∷◌, ◌++◌, length, drop, get_or, refl, sym, ap, ◌∙◌, arith, append-nil, le-max_left, le-max_right, drop_of_length-le, false_from_ne_true, and_left, drop_more, ShapesDoNotBroadcast, aligned, go_together, all_go_together, common_lengths, common_of_two, can_stretch, length-aligned, common-none, common-some, few-axes, kept_stride, kept_strides}
+use Rattle.std.proofs.Common.{◌≡◌, ℕ, ◌+◌, ◌<◌, ◌≤◌, ◌&&◌, max, Bool, true, false, Ok, Err, ℤ, pos, List, [], ◌∷◌, ◌++◌, length, drop, get_or, refl, sym, ap, ◌∙◌, arith, append-nil}
+use Rattle.broadcasting.proofs.Words.{le-max_left, le-max_right, drop_of_length-le, false_from_ne_true, and_left, drop_more, ShapesDoNotBroadcast, aligned, go_together, all_go_together, common_lengths, common_of_two, can_stretch, length-aligned, common-none, common-some, few-axes, kept_stride, kept_strides}
 
 -- ---- the common lengths of two shapes
 

@@ -1,5 +1,6 @@
 -- Laws of the common shape.
-use Rattle.broadcasting.proofs.Words.{◌≡◌, ◌⊎◌, inl, inr, Result, Ok, Err, ℕ, ◌+◌, ◌<◌, ◌≤◌, List, [], ◌∷◌, map, length, drop, get_or, Bor, sym, ap, subst, ◌∙◌, arith, drop_of_length-le, drop_more, length-map, get_or-map, Refusal, OutOfMemory, Gives, ◌>>=◌, shape_of, common_of_two, common_with, common_shape}
+use Rattle.std.proofs.Common.{◌≡◌, ◌⊎◌, inl, inr, Result, Ok, Err, ℕ, ◌+◌, ◌<◌, ◌≤◌, List, [], ◌∷◌, map, length, drop, get_or, Bor, sym, ap, subst, ◌∙◌, arith}
+use Rattle.broadcasting.proofs.Words.{drop_of_length-le, drop_more, length-map, get_or-map, Refusal, OutOfMemory, Gives, ◌>>=◌, shape_of, common_of_two, common_with, common_shape}
 
 -- the shapes as borrowed values
 abbrev pub seen : List (Bor (List ℕ)) → List (List ℕ)

@@ -1,5 +1,6 @@
 -- A layout without its first axes, each of which has length 1, is a view.
-use Rattle.broadcasting.proofs.Words.{◌≡◌, ℕ, zero, suc, ◌-◌, ◌*◌, ◌≤◌, ◌==◌, true, ℤ, pos, ◌+ℤ◌, List, [], ◌∷◌, ◌++◌, length, take, drop, replicate, refl, sym, ap, subst, ◌∙◌, arith, one-mul, list_all, eqb-true, and_parts, length-drop, All-drop, +ℤ_idl, *ℤ-zero, Layout, max_items, max_bytes, count, IsIndex, dot, LieWithin, IsShape, slice-rest, ShowsThrough, LieWithin-view}
+use Rattle.std.proofs.Common.{◌≡◌, ℕ, zero, suc, ◌-◌, ◌*◌, ◌≤◌, ◌==◌, true, ℤ, pos, ◌+ℤ◌, List, [], ◌∷◌, ◌++◌, length, take, drop, replicate, refl, sym, ap, subst, ◌∙◌, arith, one-mul}
+use Rattle.broadcasting.proofs.Words.{list_all, eqb-true, and_parts, length-drop, All-drop, +ℤ_idl, *ℤ-zero, Layout, max_items, max_bytes, count, IsIndex, dot, LieWithin, IsShape, slice-rest, ShowsThrough, LieWithin-view}
 
 -- ---- the remaining axes
 

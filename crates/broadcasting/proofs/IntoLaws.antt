@@ -1,5 +1,6 @@
 -- An array stretched into a target is a view of a view.
-use Rattle.broadcasting.proofs.Words.{◌≡◌, inl, inr, Result, Ok, Err, ℕ, ◌-◌, ◌==◌, Bool, true, false, List, ◌++◌, length, take, drop, replicate, sym, ap, subst, ◌∙◌, list_all, is_ok, false≢true, cases_Bool, Refusal, ShapesDoNotBroadcast, ◌>>=◌, Layout, View, IsViewOf, GivesView, view-twice, can_stretch, broadcast_index, stretched, axes_beyond, stretched_into, stretched-ok}
+use Rattle.std.proofs.Common.{◌≡◌, inl, inr, Result, Ok, Err, ℕ, ◌-◌, ◌==◌, Bool, true, false, List, ◌++◌, length, take, drop, replicate, sym, ap, subst, ◌∙◌}
+use Rattle.broadcasting.proofs.Words.{list_all, is_ok, false≢true, cases_Bool, Refusal, ShapesDoNotBroadcast, ◌>>=◌, Layout, View, IsViewOf, GivesView, view-twice, can_stretch, broadcast_index, stretched, axes_beyond, stretched_into, stretched-ok}
 use Rattle.broadcasting.proofs.StretchLaws.{stretched-err}
 
 -- ---- views of views, and refusals

@@ -1,5 +1,6 @@
 -- A layout is a stretch of the layout that it shrinks to.
-use Rattle.broadcasting.proofs.Words.{◌≡◌, inl, inr, ℕ, suc, ◌-◌, ◌<◌, ◌≤◌, ◌==◌, ◌&&◌, true, false, if◌then◌else◌, ℤ, pos, ◌+ℤ◌, ◌*ℤ◌, List, [], ◌∷◌, ◌++◌, All, length, get_or, drop, replicate, refl, sym, ap, subst, ◌∙◌, arith, zero-mul, ◌+◌, below_more, get_or-append-add, mul-le-mul, eqb-true, nat_tests, get_or_default, get_or_append_left, Layout, max_items, max_bytes, count, IsIndex, dot, address_at, LieWithin, rank-lt, length-index, number-lt, IsIndex-from_numbers, IsShape, ShowsThrough, LieWithin-view, stretches, all_stretch, can_stretch, within_axes, broadcast_index, broadcast_index-is, IsIndex-broadcast, ShrinksTo, CanShrink, IsStretchOf}
+use Rattle.std.proofs.Common.{◌≡◌, inl, inr, ℕ, suc, ◌-◌, ◌<◌, ◌≤◌, ◌==◌, ◌&&◌, true, false, if◌then◌else◌, ℤ, pos, ◌+ℤ◌, ◌*ℤ◌, List, [], ◌∷◌, ◌++◌, All, length, get_or, drop, replicate, refl, sym, ap, subst, ◌∙◌, arith, zero-mul, ◌+◌, below_more, get_or-append-add}
+use Rattle.broadcasting.proofs.Words.{mul-le-mul, eqb-true, nat_tests, get_or_default, get_or_append_left, Layout, max_items, max_bytes, count, IsIndex, dot, address_at, LieWithin, rank-lt, length-index, number-lt, IsIndex-from_numbers, IsShape, ShowsThrough, LieWithin-view, stretches, all_stretch, can_stretch, within_axes, broadcast_index, broadcast_index-is, IsIndex-broadcast, ShrinksTo, CanShrink, IsStretchOf}
 use Rattle.broadcasting.proofs.StretchLaws.{HasNumbers, numbers-view}
 
 -- ---- one axis

@@ -1,5 +1,6 @@
 -- A stretched layout is a view.
-use Rattle.broadcasting.proofs.Words.{◌≡◌, Option, Some, Err, ℕ, zero, suc, ◌-◌, ◌<◌, ◌==◌, Bool, true, false, if◌then◌else◌, ℤ, pos, ◌+ℤ◌, ◌*ℤ◌, List, [], ◌∷◌, ◌++◌, length, drop, replicate, refl, sym, ap, subst, ◌∙◌, arith, zero-mul, length-append, IfSome, length-replicate, +ℤ_idl, *ℤ-zero, ShapesDoNotBroadcast, Layout, max_bytes, count, IsIndex, dot, address_at, LieWithin, offsets, rank-lt, dot-nil, view_through, IsViewOf, ShowsThrough, IsView, LieWithin-view, inside-view, offsets-view, can_stretch, within_axes, broadcast_index, stretched, kept_strides, AreStretched, broadcast_index-is, IsIndex-broadcast, few-axes}
+use Rattle.std.proofs.Common.{◌≡◌, Option, Some, Err, ℕ, zero, suc, ◌-◌, ◌<◌, ◌==◌, Bool, true, false, if◌then◌else◌, ℤ, pos, ◌+ℤ◌, ◌*ℤ◌, List, [], ◌∷◌, ◌++◌, length, drop, replicate, refl, sym, ap, subst, ◌∙◌, arith, zero-mul, length-append}
+use Rattle.broadcasting.proofs.Words.{IfSome, length-replicate, +ℤ_idl, *ℤ-zero, ShapesDoNotBroadcast, Layout, max_bytes, count, IsIndex, dot, address_at, LieWithin, offsets, rank-lt, dot-nil, view_through, IsViewOf, ShowsThrough, IsView, LieWithin-view, inside-view, offsets-view, can_stretch, within_axes, broadcast_index, stretched, kept_strides, AreStretched, broadcast_index-is, IsIndex-broadcast, few-axes}
 
 -- ---- addresses
 

@@ -1,5 +1,6 @@
 -- Examples from NumPy's user guide on broadcasting, and of `broadcast_shapes` and `broadcast_to`.
-use Rattle.broadcasting.proofs.Words.{◌≡◌, true, false, [], ◌∷◌, Ok, Err, refl, TooLarge, ShapesDoNotBroadcast, shape_of, view_through, common_of_two, common_shape, can_stretch, broadcast_index, stretched, stretched_into}
+use Rattle.std.proofs.Common.{◌≡◌, true, false, [], ◌∷◌, Ok, Err, refl}
+use Rattle.broadcasting.proofs.Words.{TooLarge, ShapesDoNotBroadcast, shape_of, view_through, common_of_two, common_shape, can_stretch, broadcast_index, stretched, stretched_into}
 
 -- `numpy.broadcast_shapes((8, 1, 6, 1), (7, 1, 5))`
 four_axes : common_shape ((8 ∷ 1 ∷ 6 ∷ 1 ∷ []) ∷ (7 ∷ 1 ∷ 5 ∷ []) ∷ []) ≡ Ok (8 ∷ 7 ∷ 6 ∷ 5 ∷ [])

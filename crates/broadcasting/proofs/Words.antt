@@ -4,10 +4,9 @@ pub use Rattle.broadcasting.specs.Broadcasts.{aligned, all_go_together, all_stre
 unfoldable pub use Rattle.broadcasting.specs.Broadcasts.{common_of_two, common_shape, stretched, stretched_into}
 pub use Rattle.broadcasting.specs.FitLaws.{common-none, common-some, few-axes, given-fits, length-aligned}
 pub use Rattle.broadcasting.specs.Shrinking.{CanShrink, IsStretchOf, ShrinksTo}
-pub use Rattle.broadcasting.specs.Words.{All, Bool, Err, Gives, GivesView, IsIndex, IsIndex-from_numbers, IsShape, IsView, IsViewOf, Layout, LieWithin, LieWithin-view, List, Ok, OutOfMemory, Refusal, Result, ShapesDoNotBroadcast, ShowsThrough, TooLarge, View, [], address_at, and_parts, ap, arith, cases_Bool, count, dot, dot-nil, drop, eqb-true, false, false≢true, get_or, if◌then◌else◌, inl, inr, inside-view, is_ok, le-max_left, le-max_right, length, length-append, length-index, length-replicate, list_all, max, max_bytes, max_items, nat_tests, number-lt, offsets, offsets-view, pos, rank-lt, refl, replicate, slice-rest, suc, sym, take, true, view-twice, view_through, zero, ℕ, ℤ, ◌&&◌, ◌++◌, ◌+◌, ◌-◌, ◌<◌, ◌==◌, ◌>>=◌, ◌∙◌, ◌∷◌, ◌≡◌, ◌≤◌, ◌⊎◌}
+pub use Rattle.broadcasting.specs.Words.{Gives, GivesView, IsIndex, IsIndex-from_numbers, IsShape, IsView, IsViewOf, Layout, LieWithin, LieWithin-view, OutOfMemory, Refusal, ShapesDoNotBroadcast, ShowsThrough, TooLarge, View, address_at, and_parts, cases_Bool, count, dot, dot-nil, eqb-true, false≢true, inside-view, is_ok, le-max_left, le-max_right, length-index, length-replicate, list_all, max_bytes, max_items, nat_tests, number-lt, offsets, offsets-view, rank-lt, slice-rest, view-twice, view_through, ◌>>=◌}
 unfoldable pub use Rattle.broadcasting.specs.Words.{shape_of}
 pub use Rattle.broadcasting.specs.inside.Stretches.{AreStretched, kept_stride, kept_strides}
-pub use Rattle.std.proofs.Common.{Bor, Option, Some, append-nil, below_more, get_or-append-add, map, one-mul, subst, zero-mul, ◌*ℤ◌, ◌*◌, ◌+ℤ◌}
 pub use Rattle.std.proofs.Math.ListN.{drop_of_length-le}
 pub use Rattle.std.proofs.Math.Nat.{mul-le-mul}
 pub use Rattle.std.proofs.lemmas.Bool.{and_left, false_from_ne_true}

@@ -1,6 +1,8 @@
 -- Laws of broadcasting: an array stretched to its own shape is unchanged, and one stretched into a target has its
 -- shape.
-use Rattle.broadcasting.specs.Words.{◌≡◌, Result, Ok, Err, ℕ, zero, suc, ◌-◌, ◌<◌, ◌==◌, ◌&&◌, ◌||◌, true, false, if◌then◌else◌, List, [], ◌∷◌, ◌++◌, length, take, drop, replicate, refl, sym, ap, ◌∙◌, arith, get_or, list_all, is_ok, false≢true, eqb-true, and_parts, nat_tests, Refusal, ShapesDoNotBroadcast, ◌>>=◌, same_answer, check_passed, IsIndex, rank, length-index, same_on_indexes, Layout, natural, address, offsets, get_or-offsets, View, view_through}
+use Rattle.std.specs.Prelude.{◌≡◌, ℕ, ◌-◌, ◌<◌, ◌==◌, ◌&&◌, ◌||◌, true, if◌then◌else◌, List, ◌∷◌, ◌++◌, length, take, drop, replicate}
+use Rattle.std.proofs.Common.{Result, Ok, Err, zero, suc, false, [], refl, sym, ap, ◌∙◌, arith, get_or}
+use Rattle.broadcasting.specs.Words.{list_all, is_ok, false≢true, eqb-true, and_parts, nat_tests, Refusal, ShapesDoNotBroadcast, ◌>>=◌, same_answer, check_passed, IsIndex, rank, length-index, same_on_indexes, Layout, natural, address, offsets, get_or-offsets, View, view_through}
 use Rattle.broadcasting.specs.Broadcasts.{stretches, all_stretch, can_stretch, within_axes, broadcast_index, stretched, axes_beyond, stretched_into}
 
 -- ---- a shape stretched to itself

@@ -1,5 +1,7 @@
 -- Broadcasting, as in NumPy: shapes are aligned at their last axes, and axes of length 1 are stretched.
-use Rattle.broadcasting.specs.Words.{ℕ, ◌-◌, max, ◌==◌, Bool, true, false, ◌&&◌, ◌||◌, if◌then◌else◌, List, [], ◌∷◌, ◌++◌, length, take, drop, replicate, Result, Ok, list_all, Refusal, ShapesDoNotBroadcast, ◌>>=◌, check, shape_of, View}
+use Rattle.std.specs.Prelude.{ℕ, ◌-◌, max, ◌==◌, Bool, true, ◌&&◌, ◌||◌, if◌then◌else◌, List, ◌∷◌, ◌++◌, length, take, drop, replicate}
+use Rattle.std.proofs.Common.{false, [], Result, Ok}
+use Rattle.broadcasting.specs.Words.{list_all, Refusal, ShapesDoNotBroadcast, ◌>>=◌, check, shape_of, View}
 
 -- a shape padded to `rank` axes: the missing axes come first and have length 1
 abbrev pub aligned : ℕ → List ℕ → List ℕ

@@ -1,5 +1,7 @@
 -- Shapes can be stretched to their common shape.
-use Rattle.broadcasting.specs.Words.{◌≡◌, inl, inr, Result, Ok, Err, ℕ, zero, suc, ◌-◌, ◌+◌, ◌≤◌, ◌&&◌, max, true, false, IsTrue, List, [], ◌∷◌, ◌++◌, All, length, replicate, refl, sym, ap, ◌∙◌, arith, length-append, is_ok, IfOk, le-max_left, le-max_right, false≢true, cases_Bool, and_parts, nat_tests, append_assoc, replicate-append-replicate, length-replicate, All-cons, All-nil, same_answer, Refusal, ShapesDoNotBroadcast, Gives, ◌>>=◌, shape_of, shape_of-same}
+use Rattle.std.specs.Prelude.{◌≡◌, ℕ, ◌-◌, ◌+◌, ◌≤◌, ◌&&◌, max, true, IsTrue, List, ◌∷◌, ◌++◌, length, replicate, IfOk}
+use Rattle.std.proofs.Common.{inl, inr, Result, Ok, Err, zero, suc, false, [], All, refl, sym, ap, ◌∙◌, arith, length-append}
+use Rattle.broadcasting.specs.Words.{is_ok, le-max_left, le-max_right, false≢true, cases_Bool, and_parts, nat_tests, append_assoc, replicate-append-replicate, length-replicate, All-cons, All-nil, same_answer, Refusal, ShapesDoNotBroadcast, Gives, ◌>>=◌, shape_of, shape_of-same}
 use Rattle.broadcasting.specs.Broadcasts.{aligned, go_together, common_length, all_go_together, common_lengths, common_of_two, common_with, common_shape, stretches, all_stretch, can_stretch}
 use Rattle.broadcasting.specs.BroadcastLaws.{can-itself}
 

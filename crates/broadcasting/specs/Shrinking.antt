@@ -1,5 +1,6 @@
 -- Arrays whose items repeat along some axes, and the smaller arrays from which they can be stretched.
-use Rattle.broadcasting.specs.Words.{◌≡◌, ◌<◌, ◌⊎◌, ℕ, true, ℤ, pos, List, length, slice_index, slice_index_or, Layout, IsViewOf}
+use Rattle.std.specs.Prelude.{◌≡◌, ◌<◌, ◌⊎◌, ℕ, true, ℤ, pos, List, length, slice_index, slice_index_or}
+use Rattle.broadcasting.specs.Words.{Layout, IsViewOf}
 use Rattle.broadcasting.specs.Broadcasts.{can_stretch, broadcast_index}
 
 -- The axis has two items or more, and its stride is 0, so that it repeats one item.

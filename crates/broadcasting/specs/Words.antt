@@ -16,14 +16,12 @@ pub use Rattle.shape_strides.specs.ShapeLaws.{shape_of-same}
 pub use Rattle.shape_strides.specs.Shapes.{IsShape}
 unfoldable pub use Rattle.shape_strides.specs.Shapes.{shape_of}
 pub use Rattle.shape_strides.specs.declared.layout.Layout.{Layout}
-pub use Rattle.std.proofs.Common.{All, Err, Ok, Result, [], ap, arith, false, get_or, inl, inr, length-append, refl, suc, sym, zero, ◌&&◌, ◌+◌, ◌-◌, ◌||◌, ◌∙◌, ◌∷◌}
 pub use Rattle.std.proofs.Math.Nat.{le-max_left, le-max_right}
 pub use Rattle.std.proofs.lemmas.Bool.{and_parts, cases_Bool, eqb-true, false≢true}
 pub use Rattle.std.proofs.lemmas.Bool.Decides.{nat_tests}
 pub use Rattle.std.proofs.lemmas.List.{append_assoc, length-replicate, replicate-append-replicate}
 pub use Rattle.std.proofs.lemmas.List.Elements.{All-cons, All-nil}
 pub use Rattle.std.specs.List.{list_all}
-pub use Rattle.std.specs.Prelude.{Bool, IfOk, IsTrue, List, drop, if◌then◌else◌, length, max, pos, replicate, slice_index, slice_index_or, take, true, ℕ, ℤ, ◌++◌, ◌<◌, ◌==◌, ◌≡◌, ◌≤◌, ◌⊎◌}
 pub use Rattle.std.specs.Result.{is_ok}
 pub use Rattle.view_ops.specs.Shows.{IsView, ShowsThrough}
 pub use Rattle.view_ops.specs.ViewLaws.{LieWithin-view, inside-view, offsets-view, view-twice}

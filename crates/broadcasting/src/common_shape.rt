@@ -1,5 +1,6 @@
 //! The shape that arrays broadcast to together.
-ghost use Rattle.broadcasting.specs.Clauses.{aligned, can_stretch, common_length, common_of_two, common_shape, go_together, Gives, All, IfOk, IsTrue, length, map, slice_index, ◌<◌, ◌≡◌, ◌≤◌};
+ghost use Rattle.std.specs.Prelude.{All, IfOk, IsTrue, length, map, slice_index, ◌<◌, ◌≡◌, ◌≤◌};
+ghost use Rattle.broadcasting.specs.Clauses.{aligned, can_stretch, common_length, common_of_two, common_shape, go_together, Gives};
 
 use elem_descr::Refusal;
 use shape_strides::Shape;

@@ -1,5 +1,6 @@
 //! Layouts whose items repeat, shrunk to the layouts that they were stretched from.
-ghost use Rattle.broadcasting.specs.Clauses.{◌≡◌, ◌<◌, ℕ, pos, false, length, slice_index, slice_index_or, IfOk, IsTrue, RepeatsAlong, ShrinksTo, CanShrink, IsStretchOf};
+ghost use Rattle.std.specs.Prelude.{◌≡◌, ◌<◌, ℕ, pos, false, length, slice_index, slice_index_or, IfOk, IsTrue};
+ghost use Rattle.broadcasting.specs.Clauses.{RepeatsAlong, ShrinksTo, CanShrink, IsStretchOf};
 
 use shape_strides::{Layout, Shape, Strides};
 use smallvec::SmallVec;

@@ -1,5 +1,6 @@
 //! Layouts stretched to a larger shape.
-ghost use Rattle.broadcasting.specs.Clauses.{◌≡◌, ◌==◌, ◌<◌, ◌≤◌, true, pos, ◌++◌, length, take, drop, replicate, slice_index, slice_index_or, IfOk, IsTrue, list_all, IsViewOf, GivesView, stretches, can_stretch, broadcast_index, stretched, stretched_into, kept_stride, AreStretched};
+ghost use Rattle.std.specs.Prelude.{◌≡◌, ◌==◌, ◌<◌, ◌≤◌, true, pos, ◌++◌, length, take, drop, replicate, slice_index, slice_index_or, IfOk, IsTrue};
+ghost use Rattle.broadcasting.specs.Clauses.{list_all, IsViewOf, GivesView, stretches, can_stretch, broadcast_index, stretched, stretched_into, kept_stride, AreStretched};
 
 use crate::common_shape::length_at;
 use elem_descr::Refusal;

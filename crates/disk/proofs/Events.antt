@@ -1,5 +1,6 @@
 -- What a disk with a cache finds, and what crashes leave after each event.
-use Rattle.disk.proofs.Words.{◌≡◌, ◌≢◌, inl, inr, ⊎_elim, ◌-◌, ◌<◌, ◌≤◌, Bool, true, false, ℕ, suc, List, [], ◌∷◌, length, take, drop, get_or, Option, None, Vec, IsTrue, cond, MatchBool, refl, sym, ap, ◌∙◌, subst, arith, Global, common_steps, get, get-empty, slice_cmp, nat_cmp, bytes_eq, cases_lt, false_from_ne_true, when_true, when_false, bytes_eq-Decides, Event, Changed, FileSynced, NamesSynced, Files, Same, SameBut, Leaves, SameButBoth, Replaces, HasNames, follows, weaker, then_but, unmoved, bytes_of_change, bound, get-bound, bound_here, bound_else, found, is_synced, MayStand, MayStay, cached_history, found_may_stand, newest}
+use Rattle.std.proofs.Common.{◌≡◌, ◌≢◌, inl, inr, ⊎_elim, ◌-◌, ◌<◌, ◌≤◌, Bool, true, false, ℕ, suc, List, [], ◌∷◌, length, take, drop, get_or, Option, None, Vec, IsTrue, cond, MatchBool, refl, sym, ap, ◌∙◌, subst, arith}
+use Rattle.disk.proofs.Words.{Global, common_steps, get, get-empty, slice_cmp, nat_cmp, bytes_eq, cases_lt, false_from_ne_true, when_true, when_false, bytes_eq-Decides, Event, Changed, FileSynced, NamesSynced, Files, Same, SameBut, Leaves, SameButBoth, Replaces, HasNames, follows, weaker, then_but, unmoved, bytes_of_change, bound, get-bound, bound_here, bound_else, found, is_synced, MayStand, MayStay, cached_history, found_may_stand, newest}
 
 -- a list by its first event
 headed : (rest : List Event) (event : Event) → 1 ≤ length rest → event ≡ get_or rest 0 event → rest ≡ event ∷ take (length rest - 1) (drop 1 rest)

@@ -7,11 +7,10 @@ pub use Rattle.disk.specs.Changes.{after, bound, bytes_of_change, history_of}
 pub use Rattle.disk.specs.CrashLaws.{follows, then_but, unmoved, weaker}
 pub use Rattle.disk.specs.Crashes.{Leaves}
 pub use Rattle.disk.specs.Files.{Files, Same, SameBut}
-pub use Rattle.disk.specs.Words.{Bool, Global, IsTrue, List, MatchBool, None, Option, Some, Vec, [], ap, arith, bytes_eq, bytes_eq-Decides, cases_lt, cond, drop, false, false_from_ne_true, get, get-empty, inl, inr, length, nat_cmp, refl, slice_cmp, subst, sym, take, true, ℕ, ⊎_elim, ◌++◌, ◌-◌, ◌<◌, ◌∙◌, ◌∷◌, ◌≡◌, ◌≢◌, ◌≤◌, ◌⊎◌}
+pub use Rattle.disk.specs.Words.{Global, bytes_eq, bytes_eq-Decides, cases_lt, false_from_ne_true, get, get-empty, nat_cmp, slice_cmp}
 pub use Rattle.disk.specs.declared.cached.Event.{Event}
 pub use Rattle.disk.specs.declared.cached.Event.TheVariants.{Changed, FileSynced, NamesSynced}
 pub use Rattle.disk.specs.declared.memory.Change.{Change}
-pub use Rattle.std.proofs.Common.{drop-cons, drop-drop, get_or, min, rules, suc, take-append-drop, ◌+◌, ◌↔◌}
 pub use Rattle.std.proofs.lemmas.Bool.Decides.{when_false, when_true}
 pub use Rattle.std.proofs.lemmas.Grind.{common_steps}
 pub use Rattle.std.proofs.lemmas.List.{drop_all, take_at}

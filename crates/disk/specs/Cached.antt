@@ -1,5 +1,7 @@
 -- A disk with a cache: what a read finds, and what a crash may leave.
-use Rattle.disk.specs.Words.{◌≡◌, ◌⊎◌, ◌-◌, ◌||◌, ℕ, Bool, true, List, [], ◌∷◌, length, drop, Option, None, MatchBool, cond, bytes_eq, empty, get}
+use Rattle.std.specs.Prelude.{◌≡◌, ◌⊎◌, ◌-◌, ◌||◌, ℕ, Bool, true, List, [], ◌∷◌, length, drop, Option, None, MatchBool}
+use Rattle.std.proofs.Common.{cond}
+use Rattle.disk.specs.Words.{bytes_eq, empty, get}
 use Rattle.disk.specs.declared.cached.Event.{Event}
 use Rattle.disk.specs.declared.cached.Event.TheVariants.{Changed, FileSynced, NamesSynced, Restarted}
 use Rattle.disk.specs.Files.{Files}

@@ -1,5 +1,7 @@
 -- What a crash may leave of a disk with a cache.
-use Rattle.disk.specs.Words.{◌≡◌, ◌⊎◌, inr, ◌-◌, Bool, true, false, ℕ, List, [], ◌∷◌, length, drop, Option, cond, MatchBool, refl, sym, ap, subst, arith, get, get-empty, slice_cmp, nat_cmp, bytes_eq}
+use Rattle.std.specs.Prelude.{◌≡◌, ◌⊎◌, ◌-◌, Bool, true, false, ℕ, List, [], ◌∷◌, length, drop, Option, MatchBool}
+use Rattle.std.proofs.Common.{inr, cond, refl, sym, ap, subst, arith}
+use Rattle.disk.specs.Words.{get, get-empty, slice_cmp, nat_cmp, bytes_eq}
 use Rattle.disk.specs.declared.cached.Event.{Event}
 use Rattle.disk.specs.declared.cached.Event.TheVariants.{Changed, FileSynced, NamesSynced, Restarted}
 use Rattle.disk.specs.Changes.{bytes_of_change}

@@ -1,5 +1,7 @@
 -- The files after changes in memory.
-use Rattle.disk.specs.Words.{◌≡◌, ◌-◌, ℕ, List, length, drop, Option, Some, None, cond, refl, sym, ap, ◌∙◌, arith, bytes_eq, texts_ties, nat_list_cmp_total, get, get-insert, get-remove, false_from_ne_true, bytes_eq-Decides}
+use Rattle.std.specs.Prelude.{◌≡◌, ◌-◌, ℕ, List, length, drop, Option, Some, None}
+use Rattle.std.proofs.Common.{cond, refl, sym, ap, ◌∙◌, arith}
+use Rattle.disk.specs.Words.{bytes_eq, texts_ties, nat_list_cmp_total, get, get-insert, get-remove, false_from_ne_true, bytes_eq-Decides}
 use Rattle.disk.specs.declared.memory.Change.{Change}
 use Rattle.disk.specs.Files.{Files, SameBut}
 use Rattle.disk.specs.Changes.{after, bound}

@@ -6,8 +6,7 @@ pub use Rattle.disk.specs.ChangeLaws.{latest}
 pub use Rattle.disk.specs.Changes.{IsFound, after, bytes_of_change, history_of}
 pub use Rattle.disk.specs.Crashes.{Leaves, MayLeave}
 pub use Rattle.disk.specs.Files.{Files, Same, SameBut}
-pub use Rattle.disk.specs.Words.{IfOk, IsTrue, OnOk, [], drop, empty, false, get, length, take, true, ◌++◌, ◌<◌, ◌∷◌, ◌≡◌, ◌≢◌, ◌≤◌}
+pub use Rattle.disk.specs.Words.{empty, get}
 pub use Rattle.disk.specs.declared.disk.DiskFault.TheVariants.{Failed}
 pub use Rattle.disk.specs.inside.HostErrors.{IsUnsupported}
 pub use Rattle.std.specs.IoError.{error_kind}
-pub use Rattle.std.specs.Prelude.{IfErr, IsErrAnd, MatchOption, OnErr, ◌↔◌}

@@ -1,5 +1,7 @@
 -- What crashes leave after more than one call.
-use Rattle.disk.specs.Words.{◌≡◌, ◌≢◌, inl, inr, ⊎_elim, ℕ, List, Option, Result, Ok, Err, OnOk, refl, ◌∙◌, subst, arith, cases_lt}
+use Rattle.std.specs.Prelude.{◌≡◌, ◌≢◌, ℕ, List, Option, Result, OnOk}
+use Rattle.std.proofs.Common.{inl, inr, ⊎_elim, Ok, Err, refl, ◌∙◌, subst, arith}
+use Rattle.disk.specs.Words.{cases_lt}
 use Rattle.disk.specs.Files.{Files, Same, SameBut}
 use Rattle.disk.specs.Crashes.{History, Leaves}
 use Rattle.disk.specs.Calls.{Replaces}

@@ -1,5 +1,6 @@
 //! A disk in memory with a cache: a crash may lose what was not synced.
-ghost use Rattle.disk.specs.Clauses.{◌≡◌, ◌≢◌, ◌↔◌, ◌∷◌, true, drop, IsTrue, IfOk, OnOk, OnErr, MatchOption, empty, get, Failed, Files, Same, SameBut, MayLeave, Leaves, HasCause, SameButBoth, Replaces, bytes_of_change, IsFound, found, is_synced, MayStand, cached_history, found_may_stay};
+ghost use Rattle.std.specs.Prelude.{◌≡◌, ◌≢◌, ◌↔◌, ◌∷◌, true, drop, IsTrue, IfOk, OnOk, OnErr, MatchOption};
+ghost use Rattle.disk.specs.Clauses.{empty, get, Failed, Files, Same, SameBut, MayLeave, Leaves, HasCause, SameButBoth, Replaces, bytes_of_change, IsFound, found, is_synced, MayStand, cached_history, found_may_stay};
 
 use crate::disk::{Disk, DiskFault};
 use crate::failing::Failing;

@@ -1,5 +1,6 @@
 //! The calls of a disk.
-ghost use Rattle.disk.specs.Words.{◌≡◌, ◌≢◌, ◌<◌, ◌≤◌, ◌++◌, ℕ, Bool, List, [], length, take, IsTrue, IfOk, OnOk, IsErrOf, get};
+ghost use Rattle.std.specs.Prelude.{◌≡◌, ◌≢◌, ◌<◌, ◌≤◌, ◌++◌, ℕ, Bool, List, [], length, take, IsTrue, IfOk, OnOk, IsErrOf};
+ghost use Rattle.disk.specs.Words.{get};
 ghost use Rattle.disk.specs.Files.{Files, Same, SameBut};
 ghost use Rattle.disk.specs.Crashes.{History, MayLeave, Leaves};
 ghost use Rattle.disk.specs.declared.disk.DiskFault.TheVariants.{Failed, Memory};

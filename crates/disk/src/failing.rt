@@ -1,5 +1,6 @@
 //! Calls that are made to fail.
-ghost use Rattle.disk.specs.Clauses.{◌≡◌, ◌≤◌, OnErr, Failed, HasCause, HasRisen};
+ghost use Rattle.std.specs.Prelude.{◌≡◌, ◌≤◌, OnErr};
+ghost use Rattle.disk.specs.Clauses.{Failed, HasCause, HasRisen};
 
 use crate::disk::DiskFault;
 

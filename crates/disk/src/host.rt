@@ -1,5 +1,6 @@
 //! A folder of the operating system.
-ghost use Rattle.disk.specs.Clauses.{◌≡◌, ◌≤◌, [], false, IfOk, OnErr, empty, Failed, HasCause, HasRisen};
+ghost use Rattle.std.specs.Prelude.{◌≡◌, ◌≤◌, [], false, IfOk, OnErr};
+ghost use Rattle.disk.specs.Clauses.{empty, Failed, HasCause, HasRisen};
 
 use crate::disk::{Disk, DiskFault};
 use crate::host_calls::{

@@ -1,6 +1,7 @@
 //! The calls of the operating system that a folder needs, each repeated if a signal interrupts it,
 //! and what their errors become. `docs/DECISIONS.md` has the table of calls, errors and answers.
-ghost use Rattle.disk.specs.Clauses.{IsUnsupported, error_kind, IfErr, IfOk, IsErrAnd, IsTrue, OnOk, length, ◌↔◌, ◌≡◌, ◌≢◌, ◌≤◌};
+ghost use Rattle.std.specs.Prelude.{IfErr, IfOk, IsErrAnd, IsTrue, OnOk, length, ◌↔◌, ◌≡◌, ◌≢◌, ◌≤◌};
+ghost use Rattle.disk.specs.Clauses.{IsUnsupported, error_kind};
 
 use std::fs::{File, Metadata, OpenFile, OpenOptions, Permissions};
 use std::io::{Error, ErrorKind, Read};

@@ -1,5 +1,6 @@
 //! A disk in memory.
-ghost use Rattle.disk.specs.Clauses.{HasCause, Replaces, latest, IsFound, after, bytes_of_change, history_of, Leaves, SameBut, Failed, empty, get, IfOk, OnErr, OnOk, [], drop, length, take, true, ◌++◌, ◌<◌, ◌≡◌, ◌≢◌, ◌≤◌};
+ghost use Rattle.std.specs.Prelude.{IfOk, OnErr, OnOk, [], drop, length, take, true, ◌++◌, ◌<◌, ◌≡◌, ◌≢◌, ◌≤◌};
+ghost use Rattle.disk.specs.Clauses.{HasCause, Replaces, latest, IsFound, after, bytes_of_change, history_of, Leaves, SameBut, Failed, empty, get};
 
 use crate::disk::{Disk, DiskFault};
 use crate::failing::Failing;

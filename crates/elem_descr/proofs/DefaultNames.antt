@@ -1,5 +1,6 @@
 -- The default names of fields are legal.
-use Rattle.elem_descr.proofs.Words.{◌≡◌, ◌≤◌, ◌<◌, ◌+◌, ◌/◌, ◌%◌, ℕ, ◌++◌, codes, IsTrue, true, arith, ⊎_elim, refl, decimal, decimal_digit, decimal_step, cases_lt, nat_tests, is_legal_name, is_field_name_byte}
+use Rattle.std.proofs.Common.{◌≡◌, ◌≤◌, ◌<◌, ◌+◌, ◌/◌, ◌%◌, ℕ, ◌++◌, codes, IsTrue, true, arith, ⊎_elim, refl, decimal}
+use Rattle.elem_descr.proofs.Words.{decimal_digit, decimal_step, cases_lt, nat_tests, is_legal_name, is_field_name_byte}
 
 digit_is_name_byte : (d : ℕ) → d ≤ 9 → is_field_name_byte (48 + d) ≡ true
 digit_is_name_byte d small = grind (arith, nat_tests)

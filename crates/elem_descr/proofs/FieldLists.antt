@@ -1,5 +1,6 @@
 -- Lists of fields: appending a field keeps their properties.
-use Rattle.elem_descr.proofs.Words.{◌≡◌, ◌≤◌, ◌+◌, ℕ, List, [], ◌∷◌, ◌++◌, length, max, refl, arith, Field, Descr, ScalarDescr, RecordDescr, size, Fields, no_more, scalar_field, record_field, InOrder, AreNamedWithin, listed, before, depth, leaf_count, item_size, leaves_of, IsShallow, leaf_count-before, some_depth}
+use Rattle.std.proofs.Common.{◌≡◌, ◌≤◌, ◌+◌, ℕ, List, [], ◌∷◌, ◌++◌, length, max, refl, arith}
+use Rattle.elem_descr.proofs.Words.{Field, Descr, ScalarDescr, RecordDescr, size, Fields, no_more, scalar_field, record_field, InOrder, AreNamedWithin, listed, before, depth, leaf_count, item_size, leaves_of, IsShallow, leaf_count-before, some_depth}
 
 -- Fields that are in order up to `bytes` are also in order up to a later end.
 InOrder-later : (from : ℕ) (fields : Fields) (bytes more : ℕ) → InOrder from fields bytes → bytes ≤ more → InOrder from fields more

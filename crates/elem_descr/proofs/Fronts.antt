@@ -1,5 +1,6 @@
 -- The longest prefix of a list whose elements pass a test.
-use Rattle.elem_descr.proofs.Words.{◌≡◌, ◌+◌, ℕ, zero, suc, Bool, true, false, List, [], ◌∷◌, take, cond, refl, IsTrue, arith, list_all, prefix_len, nat_tests, is_empty}
+use Rattle.std.proofs.Common.{◌≡◌, ◌+◌, ℕ, zero, suc, Bool, true, false, List, [], ◌∷◌, take, cond, refl, IsTrue, arith}
+use Rattle.elem_descr.proofs.Words.{list_all, prefix_len, nat_tests, is_empty}
 
 pub one_more : (n : ℕ) → 1 + n ≡ suc n
 one_more n = omega arith

@@ -1,5 +1,6 @@
 -- The pieces of a text, from its first byte and the pieces of the rest.
-use Rattle.elem_descr.proofs.Words.{◌&&◌, ◌≡◌, ℕ, Bool, true, false, not, List, [], ◌∷◌, ◌++◌, take, drop, Option, Some, None, Result, Ok, Err, if◌then◌else◌, refl, sym, ap, ◌∙◌, arith, is_ascii_digit, list_all, prefix_len, option_map, nat_tests, and_parts, Refusal, BadDescriptor, DescriptorLeftOut, is_legal_name, is_one_of, is_empty, Behind, nothing, between_colons, lone_colon, Piece, letter, opening, brace, stray, digit_onto, letter_onto, byte_onto, is_colon, cut_at_colons, pieces_between, pieces, is_opened, name_at}
+use Rattle.std.proofs.Common.{◌&&◌, ◌≡◌, ℕ, Bool, true, false, not, List, [], ◌∷◌, ◌++◌, take, drop, Option, Some, None, Result, Ok, Err, if◌then◌else◌, refl, sym, ap, ◌∙◌, arith}
+use Rattle.elem_descr.proofs.Words.{is_ascii_digit, list_all, prefix_len, option_map, nat_tests, and_parts, Refusal, BadDescriptor, DescriptorLeftOut, is_legal_name, is_one_of, is_empty, Behind, nothing, between_colons, lone_colon, Piece, letter, opening, brace, stray, digit_onto, letter_onto, byte_onto, is_colon, cut_at_colons, pieces_between, pieces, is_opened, name_at}
 use Rattle.elem_descr.proofs.Fronts.{one_more, some_left}
 
 -- the name up to the next colon, and the text after the colon, if there is one

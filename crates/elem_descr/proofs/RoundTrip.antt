@@ -1,5 +1,6 @@
 -- A descriptor that is written as a format text is read back as the same descriptor.
-use Rattle.elem_descr.proofs.Words.{◌≡◌, ◌≤◌, ◌<◌, ◌+◌, ◌-◌, ℕ, zero, suc, true, false, List, [], ◌∷◌, ◌++◌, length, None, Result, Ok, refl, ap, subst, sym, ◌∙◌, arith, append_assoc, length-append, add-zero, is_ascii_digit, decimal, IsDistinct, list_all, bytes_eq, le-leb, and_parts, nat_tests, decimal_nonempty, append-nil, Refusal, Little, Big, Two, Four, Eight, Scalar, BoolScalar, Byte, Int, Bytes, Field, Descr, ScalarDescr, RecordDescr, Body, Mark, Aligned, Native, LittleMark, BigMark, ◌>>=◌, size, Fields, no_more, scalar_field, record_field, Structure, is_legal_name, IsLegal, AreNamedWithin, InOrder, fields_of, listed, names_of, depth, leaf_count, item_size, leaves_of, leaves_from, is_aligning, own_alignment, aligned_to, Partial, is_taken, widened, closed_size, closed_record, format, format_in_turns, member_at, held_at, Reader, is_named, marked, closing, scalar_in, pad_in, body_in, next_field, turn, members, record_within, nothing_follows, scalar_alone, record_alone, alone, written_mark, written_count, written_letter, written_scalar, written_pad, written_name, braced, written_fields, written_format, digits-decimal, packed, multiple_of_one, field_of, grown, name_ok, added_ok, names, not_taken, listed-fields_of, InOrder-within, some_depth, length-leaves_from}
+use Rattle.std.proofs.Common.{◌≡◌, ◌≤◌, ◌<◌, ◌+◌, ◌-◌, ℕ, zero, suc, true, false, List, [], ◌∷◌, ◌++◌, length, None, Result, Ok, refl, ap, subst, sym, ◌∙◌, arith, append_assoc, length-append, add-zero, decimal}
+use Rattle.elem_descr.proofs.Words.{is_ascii_digit, IsDistinct, list_all, bytes_eq, le-leb, and_parts, nat_tests, decimal_nonempty, append-nil, Refusal, Little, Big, Two, Four, Eight, Scalar, BoolScalar, Byte, Int, Bytes, Field, Descr, ScalarDescr, RecordDescr, Body, Mark, Aligned, Native, LittleMark, BigMark, ◌>>=◌, size, Fields, no_more, scalar_field, record_field, Structure, is_legal_name, IsLegal, AreNamedWithin, InOrder, fields_of, listed, names_of, depth, leaf_count, item_size, leaves_of, leaves_from, is_aligning, own_alignment, aligned_to, Partial, is_taken, widened, closed_size, closed_record, format, format_in_turns, member_at, held_at, Reader, is_named, marked, closing, scalar_in, pad_in, body_in, next_field, turn, members, record_within, nothing_follows, scalar_alone, record_alone, alone, written_mark, written_count, written_letter, written_scalar, written_pad, written_name, braced, written_fields, written_format, digits-decimal, packed, multiple_of_one, field_of, grown, name_ok, added_ok, names, not_taken, listed-fields_of, InOrder-within, some_depth, length-leaves_from}
 use Rattle.elem_descr.proofs.Binds.{after_ok}
 use Rattle.elem_descr.proofs.SameFormat.{same_format}
 use Rattle.elem_descr.proofs.WrittenMembers.{mark_of, marked_digits, after_letter, reads_scalar, reads_pad, reads_name}

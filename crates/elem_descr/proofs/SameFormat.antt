@@ -1,5 +1,6 @@
 -- A text means the same by its pieces as by its members, read in turns.
-use Rattle.elem_descr.proofs.Words.{◌≡◌, ℕ, Bool, true, false, not, ◌&&◌, List, [], ◌∷◌, length, take, drop, inl, inr, Option, Some, None, Result, Ok, Err, cond, is_some, unwrap_or, nat_le, if◌then◌else◌, refl, sym, ap, subst, ◌∙◌, arith, find, is_ascii_digit, list_all, prefix_len, option_map, ok_or, cases_Bool, Refusal, BadDescriptor, DescriptorLeftOut, TooLarge, Scalar, Descr, ScalarDescr, RecordDescr, Body, Mark, Aligned, ◌>>=◌, check, is_one_of, size, Member, Value, Pad, Opened, is_empty, mark_meant, letters, number_letter, number_member, other_member, lettered, empty, Behind, nothing, between_colons, lone_colon, Piece, letter, is_colon, pieces, part_of, unnamed, Reading, begun, complete, beyond, at_begin, closed_in, behind_member, step, read_on, format, after, marked, is_named, is_opened, lettered_before, after_count, member_at, fitting, as_held, held_at, record_within, nothing_follows, scalar_alone, record_alone, alone, format_in_turns, bind_same}
+use Rattle.std.proofs.Common.{◌≡◌, ℕ, Bool, true, false, not, ◌&&◌, List, [], ◌∷◌, length, take, drop, inl, inr, Option, Some, None, Result, Ok, Err, cond, is_some, unwrap_or, nat_le, if◌then◌else◌, refl, sym, ap, subst, ◌∙◌, arith, find}
+use Rattle.elem_descr.proofs.Words.{is_ascii_digit, list_all, prefix_len, option_map, ok_or, cases_Bool, Refusal, BadDescriptor, DescriptorLeftOut, TooLarge, Scalar, Descr, ScalarDescr, RecordDescr, Body, Mark, Aligned, ◌>>=◌, check, is_one_of, size, Member, Value, Pad, Opened, is_empty, mark_meant, letters, number_letter, number_member, other_member, lettered, empty, Behind, nothing, between_colons, lone_colon, Piece, letter, is_colon, pieces, part_of, unnamed, Reading, begun, complete, beyond, at_begin, closed_in, behind_member, step, read_on, format, after, marked, is_named, is_opened, lettered_before, after_count, member_at, fitting, as_held, held_at, record_within, nothing_follows, scalar_alone, record_alone, alone, format_in_turns, bind_same}
 use Rattle.elem_descr.proofs.Pieces.{name_end, behind_colon, behind, behind-colon, pieces-letter, some_piece}
 use Rattle.elem_descr.proofs.PieceMembers.{bind_bind, one_of_one, sign_cases, Then, front, met, meant, member_met}
 use Rattle.elem_descr.proofs.SameMembers.{marked_none, Unmarked, unmarked, sign_letter, marks_begun, marks_beyond, marks_read, behind_bare, unnamed_same, members_same}

@@ -1,5 +1,6 @@
 -- The members of a record are the same by their pieces as when they are read in turns.
-use Rattle.elem_descr.proofs.Words.{◌≡◌, ◌≤◌, ◌<◌, ◌+◌, ℕ, zero, suc, Bool, true, false, not, ◌&&◌, List, [], ◌∷◌, length, take, drop, ◌++◌, codes, inl, inr, Option, Some, None, Result, Ok, Err, if◌then◌else◌, refl, sym, ap, subst, ◌∙◌, arith, length-drop, nat_le, decimal, is_ascii_digit, prefix_len, next_multiple_of, option_map, cases_Bool, leb-false, lt-leb, Refusal, BadDescriptor, DescriptorLeftOut, TooLarge, Scalar, Descr, ScalarDescr, RecordDescr, Body, Mark, ◌>>=◌, check, leaves_of, is_legal_name, is_one_of, size, Member, Value, Pad, Opened, own_alignment, aligned_to, Partial, empty, if_small, with_field, checked_name, added, widened, Behind, nothing, between_colons, lone_colon, Piece, letter, stray, is_colon, pieces, closed_body, part_of, called, next_name, with_scalar, with_pad, with_record, opened, unnamed, Reading, begun, within, beyond, closed_in, in_record, step, read_on, name_at, after, marked, is_named, is_opened, lettered_before, after_count, member_at, fitting, capped, as_held, named, Later, scalar_in, pad_in, body_in, taken_in, next_field, closing, turn, members, record_within, widened-capped, bind_same}
+use Rattle.std.proofs.Common.{◌≡◌, ◌≤◌, ◌<◌, ◌+◌, ℕ, zero, suc, Bool, true, false, not, ◌&&◌, List, [], ◌∷◌, length, take, drop, ◌++◌, codes, inl, inr, Option, Some, None, Result, Ok, Err, if◌then◌else◌, refl, sym, ap, subst, ◌∙◌, arith, nat_le, decimal}
+use Rattle.elem_descr.proofs.Words.{length-drop, is_ascii_digit, prefix_len, next_multiple_of, option_map, cases_Bool, leb-false, lt-leb, Refusal, BadDescriptor, DescriptorLeftOut, TooLarge, Scalar, Descr, ScalarDescr, RecordDescr, Body, Mark, ◌>>=◌, check, leaves_of, is_legal_name, is_one_of, size, Member, Value, Pad, Opened, own_alignment, aligned_to, Partial, empty, if_small, with_field, checked_name, added, widened, Behind, nothing, between_colons, lone_colon, Piece, letter, stray, is_colon, pieces, closed_body, part_of, called, next_name, with_scalar, with_pad, with_record, opened, unnamed, Reading, begun, within, beyond, closed_in, in_record, step, read_on, name_at, after, marked, is_named, is_opened, lettered_before, after_count, member_at, fitting, capped, as_held, named, Later, scalar_in, pad_in, body_in, taken_in, next_field, closing, turn, members, record_within, widened-capped, bind_same}
 use Rattle.elem_descr.proofs.Pieces.{name_end, behind_colon, behind, name_at-ended, ended_name, pieces-colon, behind-colon, behind-other, pieces-letter}
 use Rattle.elem_descr.proofs.PieceMembers.{bind_bind, one_of_one, sign_cases, Then, front, met, meant, member_met}
 

@@ -1,5 +1,6 @@
 -- The members of a record, turn by turn.
-use Rattle.elem_descr.proofs.Words.{◌≡◌, ◌≤◌, ◌<◌, ◌+◌, ◌-◌, ℕ, suc, List, [], ◌∷◌, length, get_or, take, drop, Option, Some, None, Result, Ok, Err, refl, sym, ap, ◌∙◌, arith, take_all, is_ascii_digit, prefix_len, Refusal, Held, Mark, DescriptorLeftOut, ◌>>=◌, Partial, empty, Member, closed_body, lettered_before, after_count, member_at, held_member, held_at, Reader, marked, closing, next_field, turn, members, record_within}
+use Rattle.std.proofs.Common.{◌≡◌, ◌≤◌, ◌<◌, ◌+◌, ◌-◌, ℕ, suc, List, [], ◌∷◌, length, get_or, take, drop, Option, Some, None, Result, Ok, Err, refl, sym, ap, ◌∙◌, arith}
+use Rattle.elem_descr.proofs.Words.{take_all, is_ascii_digit, prefix_len, Refusal, Held, Mark, DescriptorLeftOut, ◌>>=◌, Partial, empty, Member, closed_body, lettered_before, after_count, member_at, held_member, held_at, Reader, marked, closing, next_field, turn, members, record_within}
 
 -- If no levels are allowed, a record is refused.
 pub no_levels : (levels : ℕ) (mark : Mark) (leaves : ℕ) (text : List ℕ) → levels ≡ 0 → record_within levels mark leaves text ≡ Err DescriptorLeftOut

@@ -1,5 +1,6 @@
 -- An item of NumPy, decoded and encoded, and format texts that are read.
-use Rattle.elem_descr.proofs.Words.{◌≡◌, true, List, [], ◌∷◌, Ok, Err, codes, refl, lit<, decimal, decimal_digit, pos, negsuc, BadDescriptor, DescriptorLeftOut, Little, Big, Two, Four, Scalar, BoolScalar, Byte, Int, Bytes, Descr, LeafValue, number, text, no_more, scalar_field, record_field, decode_item, encode_item, checked_name, added, widened, closed_record, nothing, between_colons, letter, opening, pieces, format, written_format, one, record_type}
+use Rattle.std.proofs.Common.{◌≡◌, true, List, [], ◌∷◌, Ok, Err, codes, refl, lit<, decimal, pos, negsuc}
+use Rattle.elem_descr.proofs.Words.{decimal_digit, BadDescriptor, DescriptorLeftOut, Little, Big, Two, Four, Scalar, BoolScalar, Byte, Int, Bytes, Descr, LeafValue, number, text, no_more, scalar_field, record_field, decode_item, encode_item, checked_name, added, widened, closed_record, nothing, between_colons, letter, opening, pieces, format, written_format, one, record_type}
 
 -- numpy.dtype({'names': ['x', 'y', 't', 'b'], 'formats': ['<i4', '>i2', 'S5', '?'], 'offsets': [0, 6, 8, 13],
 -- 'itemsize': 15})

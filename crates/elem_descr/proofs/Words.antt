@@ -22,7 +22,7 @@ pub use Rattle.elem_descr.specs.SpellingLaws.{one}
 pub use Rattle.elem_descr.specs.TypeStrings.{is_one_of, value_of}
 pub use Rattle.elem_descr.specs.Values.{LeafValue, number, text}
 pub use Rattle.elem_descr.specs.Weights.{weight}
-pub use Rattle.elem_descr.specs.Words.{AllByRecursion, Bool, Err, FitsSigned, IsTrue, List, None, Ok, Option, Result, Some, [], add-one, ap, append-nil, arith, big_bytes, bytes_eq, cases_lt, codes, cond, decimal, decimal_digit, drop, false, find, get_or, if◌then◌else◌, inl, inr, is_ascii_digit, le-leb, length, length-append, length-drop, length-map, list_all, lit<, little_bytes, lt-leb, map, max, min, min-eq_left, nat_le, negsuc, next_multiple_of, not, ok_or, option_map, pos, prefix_len, refl, rules, subst, suc, sym, take, take-append-drop, take-append_seam, take_all, true, unwrap_or, w128, zero, ℕ, ◌%◌, ◌&&◌, ◌*◌, ◌++◌, ◌+◌, ◌-◌, ◌/◌, ◌<◌, ◌||◌, ◌∙◌, ◌∷◌, ◌≡◌, ◌≤◌}
+pub use Rattle.elem_descr.specs.Words.{AllByRecursion, append-nil, big_bytes, bytes_eq, cases_lt, decimal_digit, is_ascii_digit, le-leb, length-drop, length-map, list_all, little_bytes, lt-leb, min-eq_left, next_multiple_of, ok_or, option_map, prefix_len, take-append-drop, take-append_seam, take_all, w128}
 unfoldable pub use Rattle.elem_descr.specs.Words.{IsDistinct}
 pub use Rattle.elem_descr.specs.WrapLaws.{written_whole}
 pub use Rattle.elem_descr.specs.WrittenFormats.{braced, written_count, written_fields, written_format, written_letter, written_mark, written_name, written_pad, written_scalar}
@@ -44,7 +44,6 @@ pub use Rattle.elem_descr.specs.inside.Partials.{IsPartial}
 pub use Rattle.elem_descr.specs.inside.Records.{IsRecord}
 pub use Rattle.elem_descr.specs.inside.Turns.{Later, Reader, after, after_count, alone, as_held, capped, closing, fitting, format_in_turns, held_at, held_member, is_named, is_opened, lettered_before, marked, member_at, members, name_at, named, taken_in, turn}
 unfoldable pub use Rattle.elem_descr.specs.inside.Turns.{body_in, next_field, nothing_follows, pad_in, record_alone, record_within, scalar_alone, scalar_in}
-pub use Rattle.std.proofs.Common.{add-zero, append_assoc, drop-cons, is_some, ⊎_elim}
 pub use Rattle.std.proofs.Math.Seq.{drop-append-add, drop-append_seam}
 pub use Rattle.std.proofs.lemmas.Bool.{and_parts, cases_Bool, cases_eq, leb-false}
 pub use Rattle.std.proofs.lemmas.Bool.Decides.{nat_tests}

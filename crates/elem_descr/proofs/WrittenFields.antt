@@ -1,5 +1,6 @@
 -- The text of fields, written one after another.
-use Rattle.elem_descr.proofs.Words.{◌≡◌, ◌≤◌, ◌<◌, ◌+◌, ◌-◌, ℕ, List, ◌++◌, length, get_or, drop, refl, sym, ap, ◌∙◌, append_assoc, at_drop_all, Field, Descr, ScalarDescr, RecordDescr, Fields, listed, before, item_size, written_pad, written_name, written_fields, written_format, rest_at}
+use Rattle.std.proofs.Common.{◌≡◌, ◌≤◌, ◌<◌, ◌+◌, ◌-◌, ℕ, List, ◌++◌, length, get_or, drop, refl, sym, ap, ◌∙◌, append_assoc}
+use Rattle.elem_descr.proofs.Words.{at_drop_all, Field, Descr, ScalarDescr, RecordDescr, Fields, listed, before, item_size, written_pad, written_name, written_fields, written_format, rest_at}
 
 written_before : (from : ℕ) (name : List ℕ) (at : ℕ) (descr : Descr) (rest : Fields) (bytes : ℕ) → written_fields from (before name at descr rest) bytes ≡ written_pad (at - from) ++ (written_format descr ++ (written_name name ++ written_fields (at + item_size descr) rest bytes))
 written_before from name at (ScalarDescr scalar) rest bytes = refl

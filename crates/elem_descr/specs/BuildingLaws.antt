@@ -1,5 +1,7 @@
 -- Laws of building a record without alignment.
-use Rattle.elem_descr.specs.Words.{◌≡◌, ◌≤◌, ◌<◌, ◌+◌, ℕ, min, false, List, [], ◌∷◌, ◌++◌, length, map, Ok, inl, inr, refl, ap, arith, next_multiple_of, IsDistinct, AllByRecursion, bytes_eq, cases_lt, le-leb, lt-leb, lt-ltb, min-eq_left, min-eq_right}
+use Rattle.std.specs.Prelude.{◌≡◌, ◌≤◌, ◌<◌, ◌+◌, ℕ, List, [], ◌∷◌, ◌++◌, length, map, Ok}
+use Rattle.std.proofs.Common.{min, false, inl, inr, refl, ap, arith}
+use Rattle.elem_descr.specs.Words.{next_multiple_of, IsDistinct, AllByRecursion, bytes_eq, cases_lt, le-leb, lt-leb, lt-ltb, min-eq_left, min-eq_right}
 use Rattle.elem_descr.specs.declared.descr.Field.{Field}
 use Rattle.elem_descr.specs.declared.descr.Descr.{Descr}
 use Rattle.elem_descr.specs.declared.descr.Descr.TheVariants.{Record as RecordDescr}

@@ -1,5 +1,7 @@
 -- Laws of the bytes of values, and of the numbers in bytes.
-use Rattle.elem_descr.specs.Words.{◌<◌, ℕ, List, get_or, ◌+◌, drop, sym, subst, inl, inr, take, arith, length-take, ◌*◌, ◌^◌, ◌≡◌, true, false, cond, refl, ◌-◌, length, replicate, length-append, [], ◌∷◌, ◌++◌, ap, ◌∙◌, get_or-drop, get_or-take, get_or_past, length-replicate, append-nil, cases_lt, nat_eq, big_from-lt, little_from-lt, length-bytes_low_first, length-bytes_high_first, pow256}
+use Rattle.std.specs.Prelude.{◌<◌, ℕ, List, ◌+◌, take, ◌*◌, ◌^◌, ◌≡◌, ◌-◌, length, [], ◌∷◌, ◌++◌, nat_eq}
+use Rattle.std.proofs.Common.{get_or, drop, sym, subst, inl, inr, arith, length-take, true, false, cond, refl, replicate, length-append, ap, ◌∙◌}
+use Rattle.elem_descr.specs.Words.{get_or-drop, get_or-take, get_or_past, length-replicate, append-nil, cases_lt, big_from-lt, little_from-lt, length-bytes_low_first, length-bytes_high_first, pow256}
 use Rattle.elem_descr.specs.declared.scalar.Order.{Order}
 use Rattle.elem_descr.specs.declared.scalar.Order.TheVariants.{Little, Big}
 use Rattle.elem_descr.specs.Encoding.{number_in, truth, bytes_of, padded, size, width_size, low_bits, number_of, text_of, encode}

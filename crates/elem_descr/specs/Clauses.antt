@@ -11,8 +11,7 @@ pub use Rattle.elem_descr.specs.RecordBuilding.{max_size}
 pub use Rattle.elem_descr.specs.Refusals.{Answers, Gives}
 pub use Rattle.elem_descr.specs.TypeStrings.{byte_string, is_one_of, letter_of, mark, number_spelled, spelling, typestr, value_of}
 pub use Rattle.elem_descr.specs.Values.{number}
-pub use Rattle.elem_descr.specs.Words.{IfOk, IsTrue, OnOk, [], codes, decimal, if◌then◌else◌, is_ascii_digit, length, list_all, not, prefix_len, ◌++◌, ◌+◌, ◌∷◌, ◌≡◌, ◌≤◌}
+pub use Rattle.elem_descr.specs.Words.{is_ascii_digit, list_all, prefix_len}
 pub use Rattle.elem_descr.specs.WrittenFormats.{written_count, written_fields, written_format, written_letter, written_mark, written_name, written_pad, written_scalar}
 pub use Rattle.elem_descr.specs.declared.refusal.Refusal.TheVariants.{OutOfMemory}
 pub use Rattle.elem_descr.specs.inside.Turns.{after, held_at, held_member, is_named, is_opened, lettered_before, marked, member_at, name_at, nothing_follows, record_alone, scalar_alone}
-pub use Rattle.std.specs.Prelude.{min, ◌^◌}

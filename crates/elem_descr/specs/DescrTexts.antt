@@ -1,5 +1,7 @@
 -- A descriptor in a script: a type string or a format text.
-use Rattle.elem_descr.specs.Words.{ℕ, Bool, false, List, [], ◌∷◌, codes, ◌&&◌, ◌||◌, if◌then◌else◌, Result, Ok, is_ascii_digit}
+use Rattle.std.specs.Prelude.{ℕ, Bool, List, [], ◌∷◌, codes, ◌&&◌, ◌||◌, if◌then◌else◌, Result, Ok}
+use Rattle.std.proofs.Common.{false}
+use Rattle.elem_descr.specs.Words.{is_ascii_digit}
 use Rattle.elem_descr.specs.declared.refusal.Refusal.{Refusal}
 use Rattle.elem_descr.specs.declared.descr.Descr.{Descr}
 use Rattle.elem_descr.specs.declared.descr.Descr.TheVariants.{Scalar as ScalarDescr}

@@ -1,5 +1,6 @@
 -- Descriptors: a scalar, or a record whose fields, in the order of their offsets, are scalars and records.
-use Rattle.elem_descr.specs.Words.{◌≤◌, ◌+◌, ℕ, IsTrue, List, [], ◌∷◌, length, map, max, IsDistinct, list_all, bytes_eq}
+use Rattle.std.specs.Prelude.{◌≤◌, ◌+◌, ℕ, IsTrue, List, [], ◌∷◌, length, map, max}
+use Rattle.elem_descr.specs.Words.{IsDistinct, list_all, bytes_eq}
 use Rattle.elem_descr.specs.declared.descr.Field.{Field}
 use Rattle.elem_descr.specs.declared.descr.Descr.{Descr}
 use Rattle.elem_descr.specs.declared.descr.Descr.TheVariants.{Scalar as ScalarDescr, Record as RecordDescr}

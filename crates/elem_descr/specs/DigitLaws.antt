@@ -1,5 +1,7 @@
 -- A number written in decimal consists of digits, and these digits have its value.
-use Rattle.elem_descr.specs.Words.{◌≡◌, ◌<◌, ◌-◌, ◌+◌, ◌*◌, ◌^◌, ◌&&◌, ℕ, List, [], ◌∷◌, true, fold, refl, sym, ap, ◌∙◌, is_ascii_digit, decimal, list_all, all_ascii_digits, digits_decimal, digits_value-decimal, IsNumeralModel, numerals_by_fold, tells_all_ascii_digits}
+use Rattle.std.specs.Prelude.{◌≡◌, ◌<◌, ◌-◌, ◌+◌, ◌*◌, ◌^◌, ◌&&◌, ℕ, List, [], ◌∷◌, decimal}
+use Rattle.std.proofs.Common.{true, fold, refl, sym, ap, ◌∙◌}
+use Rattle.elem_descr.specs.Words.{is_ascii_digit, list_all, all_ascii_digits, digits_decimal, digits_value-decimal, IsNumeralModel, numerals_by_fold, tells_all_ascii_digits}
 use Rattle.elem_descr.specs.TypeStrings.{value_of}
 
 -- texts of digits and their values are a model of the numerals of std

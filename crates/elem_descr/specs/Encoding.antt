@@ -1,5 +1,7 @@
 -- The values of a scalar as bytes.
-use Rattle.elem_descr.specs.Words.{◌≡◌, ◌⊎◌, ◌↔◌, ℕ, ℤ, pos, neg_ℤ, ◌-◌, ◌*◌, ◌^◌, ◌+ℤ◌, ◌≤ℤ◌, ◌<ℤ◌, Bool, true, false, List, [], ◌∷◌, ◌++◌, length, take, replicate, nat_eq, if◌then◌else◌, unsigned_abs, int_rem_euclid, int_eq, suffix_len, little_number, big_number, little_bytes, big_bytes, twos_complement}
+use Rattle.std.specs.Prelude.{◌≡◌, ◌⊎◌, ◌↔◌, ℕ, ℤ, pos, neg_ℤ, ◌-◌, ◌*◌, ◌^◌, ◌+ℤ◌, ◌≤ℤ◌, ◌<ℤ◌, Bool, List, [], ◌∷◌, ◌++◌, length, take, nat_eq, if◌then◌else◌, unsigned_abs}
+use Rattle.std.proofs.Common.{true, false, replicate}
+use Rattle.elem_descr.specs.Words.{int_rem_euclid, int_eq, suffix_len, little_number, big_number, little_bytes, big_bytes, twos_complement}
 use Rattle.elem_descr.specs.declared.scalar.Order.{Order}
 use Rattle.elem_descr.specs.declared.scalar.Order.TheVariants.{Little, Big}
 use Rattle.elem_descr.specs.declared.scalar.Width.{Width}

@@ -1,5 +1,7 @@
 -- Decoding the bytes of a value gives the value back.
-use Rattle.elem_descr.specs.Words.{◌≡◌, ℕ, zero, suc, ◌*◌, ◌<◌, ◌≤◌, Bool, true, false, refl, sym, ap, ◌∙◌, arith, [], ◌^◌, ◌-◌, cond, nat_lt, ℤ, pos, negsuc, ◌-ℤ◌, unsigned_abs, nat_eq, int_rem_euclid, mod-lt, mod-eq_of_lt, ltb-true, ltb-false, ne_eqb, ints, int_rem_euclid_is, pow_pos, append-nil, little_number, little_bytes, big_number, big_bytes, big_number-reads_back, little_number-reads_back, pow256}
+use Rattle.std.specs.Prelude.{◌≡◌, ℕ, ◌*◌, ◌<◌, ◌≤◌, Bool, [], ◌^◌, ◌-◌, ℤ, pos, negsuc, ◌-ℤ◌, unsigned_abs, nat_eq}
+use Rattle.std.proofs.Common.{zero, suc, true, false, refl, sym, ap, ◌∙◌, arith, cond, nat_lt}
+use Rattle.elem_descr.specs.Words.{int_rem_euclid, mod-lt, mod-eq_of_lt, ltb-true, ltb-false, ne_eqb, ints, int_rem_euclid_is, pow_pos, append-nil, little_number, little_bytes, big_number, big_bytes, big_number-reads_back, little_number-reads_back, pow256}
 use Rattle.elem_descr.specs.declared.scalar.Order.{Order}
 use Rattle.elem_descr.specs.declared.scalar.Order.TheVariants.{Little, Big}
 use Rattle.elem_descr.specs.declared.scalar.Scalar.{Scalar}

@@ -1,5 +1,7 @@
 -- Format texts of PEP 3118: the marks, the letters, and the members that they mean.
-use Rattle.elem_descr.specs.Words.{ℕ, zero, suc, Bool, true, false, List, [], ◌∷◌, length, codes, find, nat_eq, if◌then◌else◌, Option, unwrap_or, Result, Ok, Err, option_map}
+use Rattle.std.specs.Prelude.{ℕ, Bool, List, [], ◌∷◌, length, codes, find, nat_eq, if◌then◌else◌, Option, unwrap_or, Result, Ok, Err}
+use Rattle.std.proofs.Common.{zero, suc, true, false}
+use Rattle.elem_descr.specs.Words.{option_map}
 use Rattle.elem_descr.specs.declared.refusal.Refusal.{Refusal}
 use Rattle.elem_descr.specs.declared.refusal.Refusal.TheVariants.{BadDescriptor, DescriptorLeftOut}
 use Rattle.elem_descr.specs.declared.scalar.Order.{Order}

@@ -1,6 +1,7 @@
 -- Format texts of PEP 3118: splitting a text into pieces, before they are given a meaning. `T{<5s:a:4x}` has the pieces
 -- `T{`, `<`, `5s:a:`, `4x` and `}`.
-use Rattle.elem_descr.specs.Words.{ℕ, Bool, List, [], ◌∷◌, codes, if◌then◌else◌, is_ascii_digit}
+use Rattle.std.specs.Prelude.{ℕ, Bool, List, [], ◌∷◌, codes, if◌then◌else◌}
+use Rattle.elem_descr.specs.Words.{is_ascii_digit}
 use Rattle.elem_descr.specs.TypeStrings.{is_one_of}
 
 -- what directly follows a letter: nothing, a name between two colons, or a colon without a second one

@@ -1,5 +1,7 @@
 -- Format texts of PEP 3118: the descriptor that a text means, or the refusal for the first error from the left.
-use Rattle.elem_descr.specs.Words.{ℕ, zero, suc, ◌&&◌, List, [], ◌∷◌, ◌++◌, length, codes, decimal, nat_le, if◌then◌else◌, Option, Some, None, unwrap_or, Result, Ok, Err, option_map}
+use Rattle.std.specs.Prelude.{ℕ, ◌&&◌, List, [], ◌∷◌, ◌++◌, length, codes, decimal, nat_le, if◌then◌else◌, Option, Some, None, unwrap_or, Result, Ok, Err}
+use Rattle.std.proofs.Common.{zero, suc}
+use Rattle.elem_descr.specs.Words.{option_map}
 use Rattle.elem_descr.specs.declared.refusal.Refusal.{Refusal}
 use Rattle.elem_descr.specs.declared.refusal.Refusal.TheVariants.{BadDescriptor, DescriptorLeftOut, TooLarge}
 use Rattle.elem_descr.specs.declared.scalar.Scalar.{Scalar}

@@ -1,5 +1,7 @@
 -- Laws of the leaves of an item: their order and their number.
-use Rattle.elem_descr.specs.Words.{◌≡◌, ℕ, zero, suc, ◌+◌, ◌<◌, ◌≤◌, ◌∷◌, map, length, get_or, refl, sym, ap, arith, List, [], ◌++◌, length-append, take, drop, map-append}
+use Rattle.std.specs.Prelude.{◌≡◌, ℕ, ◌+◌, ◌<◌, ◌≤◌, ◌∷◌, map, length, List, [], ◌++◌, take}
+use Rattle.std.proofs.Common.{zero, suc, get_or, refl, sym, ap, arith, length-append, drop}
+use Rattle.elem_descr.specs.Words.{map-append}
 use Rattle.elem_descr.specs.declared.descr.Leaf.{Leaf}
 use Rattle.elem_descr.specs.declared.descr.Descr.{Descr}
 use Rattle.elem_descr.specs.declared.descr.Descr.TheVariants.{Scalar as ScalarDescr, Record as RecordDescr}

@@ -1,5 +1,7 @@
 -- The items of a descriptor: one value per leaf.
-use Rattle.elem_descr.specs.Words.{◌≡◌, ◌+◌, ◌-◌, ◌<◌, ◌≤◌, ℕ, List, [], ◌∷◌, ◌++◌, length, get_or, map, position, take, drop, replicate, Option, bytes_eq}
+use Rattle.std.specs.Prelude.{◌≡◌, ◌+◌, ◌-◌, ◌<◌, ◌≤◌, ℕ, List, [], ◌∷◌, ◌++◌, length, map, position, take, Option}
+use Rattle.std.proofs.Common.{get_or, drop, replicate}
+use Rattle.elem_descr.specs.Words.{bytes_eq}
 use Rattle.elem_descr.specs.declared.descr.Descr.{Descr}
 use Rattle.elem_descr.specs.declared.descr.Descr.TheVariants.{Scalar as ScalarDescr, Record as RecordDescr}
 use Rattle.elem_descr.specs.declared.descr.Field.{Field}

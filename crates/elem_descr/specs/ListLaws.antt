@@ -1,5 +1,7 @@
 -- General laws of lists and truth values.
-use Rattle.elem_descr.specs.Words.{◌≡◌, ℕ, ◌-◌, List, length, take, drop, arith, [], ◌∷◌, ◌++◌, refl, ◌∙◌, ap, map, sym, Bool, true, false, ℤ, pos, get_or, length-drop, take_all, map-append, flat_map, flat_map-append, take-append_seam}
+use Rattle.std.specs.Prelude.{◌≡◌, ℕ, ◌-◌, List, length, take, [], ◌∷◌, ◌++◌, map, Bool, ℤ, pos}
+use Rattle.std.proofs.Common.{drop, arith, refl, ◌∙◌, ap, sym, true, false, get_or}
+use Rattle.elem_descr.specs.Words.{length-drop, take_all, map-append, flat_map, flat_map-append, take-append_seam}
 
 -- The slice from `k` to the end is all of the list but its first `k` elements.
 pub slice-rest : {X : Type 0} (k : ℕ) (whole : List X) → take (length whole - k) (drop k whole) ≡ drop k whole

@@ -1,5 +1,6 @@
 -- The names of fields.
-use Rattle.elem_descr.specs.Words.{ℕ, Bool, List, length, codes, nat_le, not, ◌&&◌, list_all}
+use Rattle.std.specs.Prelude.{ℕ, Bool, List, length, codes, nat_le, not, ◌&&◌}
+use Rattle.elem_descr.specs.Words.{list_all}
 use Rattle.elem_descr.specs.TypeStrings.{is_one_of}
 
 -- a printable ASCII byte other than the two quotes, the backslash and the colon

@@ -1,5 +1,7 @@
 -- Laws of the NULs at the end of a byte string: they do not count.
-use Rattle.elem_descr.specs.Words.{◌≡◌, ◌+◌, ◌-◌, ◌≤◌, ◌<◌, ℕ, zero, suc, List, ◌++◌, length, get_or, take, drop, replicate, reverse, sym, ap, ◌∙◌, arith, length-take, length-drop, length-append, nat_eq, prefix_len, eqb-true, length-replicate, length-reverse, reverse-append, get_or-reverse, get_or-drop, get_or-replicate, same_lists, take-append-drop, take-append-le, prefix_len_passes, suffix_len-le-length}
+use Rattle.std.specs.Prelude.{◌≡◌, ◌+◌, ◌-◌, ◌≤◌, ◌<◌, ℕ, List, ◌++◌, length, take, nat_eq}
+use Rattle.std.proofs.Common.{zero, suc, get_or, drop, replicate, reverse, sym, ap, ◌∙◌, arith, length-take, length-append}
+use Rattle.elem_descr.specs.Words.{length-drop, prefix_len, eqb-true, length-replicate, length-reverse, reverse-append, get_or-reverse, get_or-drop, get_or-replicate, same_lists, take-append-drop, take-append-le, prefix_len_passes, suffix_len-le-length}
 use Rattle.elem_descr.specs.Encoding.{without_nuls}
 use Rattle.elem_descr.specs.Nuls.{nuls}
 

@@ -1,5 +1,6 @@
 -- The NULs at the end of a byte string.
-use Rattle.elem_descr.specs.Words.{ℕ, nat_eq, List, suffix_len}
+use Rattle.std.specs.Prelude.{ℕ, nat_eq, List}
+use Rattle.elem_descr.specs.Words.{suffix_len}
 
 -- the number of NULs at the end of a byte string
 abbrev pub nuls : List ℕ → ℕ

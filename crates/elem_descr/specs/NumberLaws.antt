@@ -1,5 +1,7 @@
 -- The laws of wrapping for every scalar.
-use Rattle.elem_descr.specs.Words.{◌≡◌, ◌≤◌, ℕ, zero, suc, Bool, true, false, refl, ap, subst, inl, inr, arith, ints, Decides-int_eq, Decides, ℤ, pos, negsuc}
+use Rattle.std.specs.Prelude.{◌≡◌, ◌≤◌, ℕ, Bool, ℤ, pos, negsuc}
+use Rattle.std.proofs.Common.{zero, suc, true, false, refl, ap, subst, inl, inr, arith}
+use Rattle.elem_descr.specs.Words.{ints, Decides-int_eq, Decides}
 use Rattle.elem_descr.specs.declared.scalar.Order.{Order}
 use Rattle.elem_descr.specs.declared.scalar.Width.{Width}
 use Rattle.elem_descr.specs.declared.scalar.Width.TheVariants.{Two, Four, Eight}

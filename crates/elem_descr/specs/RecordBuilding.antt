@@ -1,5 +1,7 @@
 -- Building a record field by field.
-use Rattle.elem_descr.specs.Words.{ℕ, ◌+◌, ◌≤◌, max, Bool, not, List, [], ◌∷◌, ◌++◌, length, nat_lt, nat_le, if◌then◌else◌, Result, Ok, Err, next_multiple_of, list_any, bytes_eq}
+use Rattle.std.specs.Prelude.{ℕ, ◌+◌, ◌≤◌, max, Bool, not, List, [], ◌∷◌, ◌++◌, length, nat_le, if◌then◌else◌, Result, Ok, Err}
+use Rattle.std.proofs.Common.{nat_lt}
+use Rattle.elem_descr.specs.Words.{next_multiple_of, list_any, bytes_eq}
 use Rattle.elem_descr.specs.declared.refusal.Refusal.{Refusal}
 use Rattle.elem_descr.specs.declared.refusal.Refusal.TheVariants.{BadDescriptor, DescriptorLeftOut, TooLarge}
 use Rattle.elem_descr.specs.declared.descr.Field.{Field}

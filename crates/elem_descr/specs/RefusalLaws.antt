@@ -1,5 +1,7 @@
 -- Laws of results that may be refusals.
-use Rattle.elem_descr.specs.Words.{◌≡◌, Bool, true, false, Result, Ok, ap, refl, Err, is_ok, false≢true}
+use Rattle.std.specs.Prelude.{◌≡◌, Bool, Result, Ok, Err}
+use Rattle.std.proofs.Common.{true, false, ap, refl}
+use Rattle.elem_descr.specs.Words.{is_ok, false≢true}
 use Rattle.elem_descr.specs.declared.refusal.Refusal.{Refusal}
 use Rattle.elem_descr.specs.Refusals.{◌>>=◌, check}
 

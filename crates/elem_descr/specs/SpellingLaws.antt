@@ -1,5 +1,7 @@
 -- A scalar that is written as a type string is read back as the same scalar.
-use Rattle.elem_descr.specs.Words.{◌≡◌, ◌≤◌, ℕ, true, false, [], ◌∷◌, Ok, refl, arith, lit<, decimal, le-leb, ne_eqb, decimal_digit}
+use Rattle.std.specs.Prelude.{◌≡◌, ◌≤◌, ℕ, [], ◌∷◌, Ok, decimal}
+use Rattle.std.proofs.Common.{true, false, refl, arith, lit<}
+use Rattle.elem_descr.specs.Words.{le-leb, ne_eqb, decimal_digit}
 use Rattle.elem_descr.specs.declared.scalar.Order.TheVariants.{Little, Big}
 use Rattle.elem_descr.specs.declared.scalar.Width.TheVariants.{Two, Four, Eight}
 use Rattle.elem_descr.specs.declared.scalar.Scalar.{Scalar}

@@ -1,5 +1,7 @@
 -- Numbers in steps: `start`, `start + step`, `start + 2 * step`, ...
-use Rattle.elem_descr.specs.Words.{◌≡◌, ℕ, ℤ, pos, ◌+ℤ◌, ◌-ℤ◌, ◌*ℤ◌, ◌≤ℤ◌, ◌<ℤ◌, int_lt, Bool, if◌then◌else◌, List, map, filter, int_max, range_with_len}
+use Rattle.std.specs.Prelude.{◌≡◌, ℕ, ℤ, pos, ◌+ℤ◌, ◌-ℤ◌, ◌*ℤ◌, ◌≤ℤ◌, ◌<ℤ◌, Bool, if◌then◌else◌, List, map}
+use Rattle.std.proofs.Common.{int_lt, filter}
+use Rattle.elem_descr.specs.Words.{int_max, range_with_len}
 
 -- whether a number is strictly before `stop` in the direction of `step`
 abbrev pub is_before : ℤ → ℤ → ℤ → Bool

@@ -1,5 +1,7 @@
 -- Type strings of NumPy's array interface: a byte order, a letter for the kind, and the number of bytes of an item.
-use Rattle.elem_descr.specs.Words.{ℕ, ◌+◌, ◌-◌, ◌*◌, Bool, true, false, List, [], ◌∷◌, ◌++◌, codes, decimal, fold, find, nat_eq, nat_le, if◌then◌else◌, Option, Some, None, Result, Ok, Err, is_ascii_digit, list_all, list_any, option_map, bytes_eq}
+use Rattle.std.specs.Prelude.{ℕ, ◌+◌, ◌-◌, ◌*◌, Bool, List, [], ◌∷◌, ◌++◌, codes, decimal, find, nat_eq, nat_le, if◌then◌else◌, Option, Some, None, Result, Ok, Err}
+use Rattle.std.proofs.Common.{true, false, fold}
+use Rattle.elem_descr.specs.Words.{is_ascii_digit, list_all, list_any, option_map, bytes_eq}
 use Rattle.elem_descr.specs.declared.refusal.Refusal.{Refusal}
 use Rattle.elem_descr.specs.declared.refusal.Refusal.TheVariants.{BadDescriptor, DescriptorLeftOut, TooLarge}
 use Rattle.elem_descr.specs.declared.scalar.Order.{Order}

@@ -1,5 +1,7 @@
 -- The values of leaves.
-use Rattle.elem_descr.specs.Words.{◌≡◌, ◌⊎◌, ℕ, ℤ, List, refl, Coded, code_by, coded⊎, coded_ℕ, coded_ℤ, coded_list, inl, inr}
+use Rattle.std.specs.Prelude.{◌≡◌, ◌⊎◌, ℕ, ℤ, List}
+use Rattle.std.proofs.Common.{refl, inl, inr}
+use Rattle.elem_descr.specs.Words.{Coded, code_by, coded⊎, coded_ℕ, coded_ℤ, coded_list}
 
 -- A bool or an integer is a number, which is 0 or 1 for a bool. A byte string is its bytes without the NULs at the end.
 pub data LeafValue : Type 0 where

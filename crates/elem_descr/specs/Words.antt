@@ -2,7 +2,6 @@
 pub use Rattle.byteorder.proofs.Bytes.{pow256}
 pub use Rattle.byteorder.specs.Endian.{big_bytes, big_number, little_bytes, little_number, low_bytes, twos_complement}
 pub use Rattle.byteorder.specs.Numbers.{big_from-lt, big_number-reads_back, length-bytes_high_first, length-bytes_low_first, little_from-lt, little_number-reads_back}
-pub use Rattle.std.proofs.Common.{add-mul, add-one, ap, arith, cond, drop, false, filter, fold, get_or, inl, inr, int_lt, length-append, length-take, lit<, min, mul-le-mul_left, mul_comm, nat_lt, refl, replicate, reverse, rules, subst, suc, sym, true, zero, ◌%◌, ◌*ℤ◌, ◌*◌, ◌-◌, ◌/◌, ◌<◌, ◌^◌, ◌↔◌, ◌∙◌, ◌≢◌}
 pub use Rattle.std.proofs.Math.IntN.{*ℤ-zero, +ℤ_idr}
 pub use Rattle.std.proofs.Math.Nat.{min-eq_left, min-eq_right, mod-eq_of_lt, mod-lt, mul-le-mul_right, two-pow-succ}
 pub use Rattle.std.proofs.Math.Seq.{take-append_seam}
@@ -28,7 +27,6 @@ pub use Rattle.std.specs.List.{AllByRecursion, flat_map, list_all, list_any, pre
 unfoldable pub use Rattle.std.specs.List.{IsDistinct}
 pub use Rattle.std.specs.Option.{ok_or, option_map}
 pub use Rattle.std.specs.Ordering.{int_eq}
-pub use Rattle.std.specs.Prelude.{Bool, Err, FitsSigned, IfOk, IfSome, IsTrue, List, None, Ok, OnOk, Option, Result, Some, [], codes, decimal, find, if◌then◌else◌, length, map, max, nat_eq, nat_le, neg_ℤ, negsuc, not, pos, position, slice_get, take, unsigned_abs, unwrap_or, ℕ, ℤ, ◌&&◌, ◌++◌, ◌+ℤ◌, ◌+◌, ◌-ℤ◌, ◌<ℤ◌, ◌||◌, ◌∷◌, ◌≡◌, ◌≤ℤ◌, ◌≤◌, ◌⊎◌}
 pub use Rattle.std.specs.Result.{is_ok}
 pub use Rattle.std.specs.Str.{all_ascii_digits, bytes_eq}
 pub use base.Stored.{coded_unit}

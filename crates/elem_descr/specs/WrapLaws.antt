@@ -1,5 +1,7 @@
 -- Wrapped numbers: the lowest bits of a number, and the integer that they mean.
-use Rattle.elem_descr.specs.Words.{◌≡◌, ◌≤◌, ◌<◌, ◌+◌, ◌-◌, ◌*◌, ◌/◌, ◌^◌, ℕ, zero, suc, Bool, true, false, List, ◌++◌, length, drop, refl, sym, ap, ◌∙◌, inl, inr, arith, ℤ, pos, negsuc, neg_ℤ, ◌+ℤ◌, ◌-ℤ◌, ◌≤ℤ◌, ◌<ℤ◌, unsigned_abs, FitsSigned, w128, cast_unsigned, int_rem_euclid, w64, cast_signed, int_wrap, ints, int_rem_euclid_is, append-nil, drop_all, pow_pos, pow-add, two-pow-succ, low_bytes}
+use Rattle.std.specs.Prelude.{◌≡◌, ◌≤◌, ◌<◌, ◌+◌, ◌-◌, ◌*◌, ◌/◌, ◌^◌, ℕ, Bool, List, ◌++◌, length, ℤ, pos, negsuc, neg_ℤ, ◌+ℤ◌, ◌-ℤ◌, ◌≤ℤ◌, ◌<ℤ◌, unsigned_abs, FitsSigned}
+use Rattle.std.proofs.Common.{zero, suc, true, false, drop, refl, sym, ap, ◌∙◌, inl, inr, arith}
+use Rattle.elem_descr.specs.Words.{w128, cast_unsigned, int_rem_euclid, w64, cast_signed, int_wrap, ints, int_rem_euclid_is, append-nil, drop_all, pow_pos, pow-add, two-pow-succ, low_bytes}
 use Rattle.elem_descr.specs.Encoding.{low_bits, integer, FitsBytes, DifferByMultiple}
 use Rattle.elem_descr.specs.inside.Signs.{with_sign}
 use Rattle.elem_descr.specs.EncodingLaws.{by_sign, low_bits-lt}

@@ -3,7 +3,9 @@ ghost use Rattle.elem_descr.specs.Descriptors.{IsLegal, fields_of, listed};
 ghost use Rattle.elem_descr.specs.Encoding.{size};
 ghost use Rattle.elem_descr.specs.Fields.{Structure, no_more};
 ghost use Rattle.elem_descr.specs.Items.{AreInOrder, LeavesInOrder, field_at, field_leaves, field_of, fields, item_size, leaves_from, leaves_in, leaves_of, moved_leaf};
-ghost use Rattle.elem_descr.specs.Words.{IfOk, IfSome, OnOk, [], drop, get_or, length, map, position, slice_get, take, ℕ, ◌++◌, ◌+◌, ◌<◌, ◌∷◌, ◌≡◌, ◌≤◌, bytes_eq};
+ghost use Rattle.std.specs.Prelude.{IfOk, IfSome, OnOk, [], length, map, position, slice_get, take, ℕ, ◌++◌, ◌+◌, ◌<◌, ◌∷◌, ◌≡◌, ◌≤◌};
+ghost use Rattle.std.proofs.Common.{drop, get_or};
+ghost use Rattle.elem_descr.specs.Words.{bytes_eq};
 
 use crate::name::FieldName;
 use crate::scalar::Scalar;

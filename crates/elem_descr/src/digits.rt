@@ -1,5 +1,6 @@
 //! Decimal digits.
-ghost use Rattle.elem_descr.specs.Clauses.{◌≡◌, ◌≤◌, ◌+◌, ◌^◌, length, min, is_ascii_digit, list_all, prefix_len, value_of, count_of, max_size};
+ghost use Rattle.std.specs.Prelude.{◌≡◌, ◌≤◌, ◌+◌, ◌^◌, length, min};
+ghost use Rattle.elem_descr.specs.Clauses.{is_ascii_digit, list_all, prefix_len, value_of, count_of, max_size};
 
 use crate::scalar::MAX_ITEM_SIZE;
 

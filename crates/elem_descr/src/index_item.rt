@@ -1,5 +1,6 @@
 //! The items of an index list.
-ghost use Rattle.elem_descr.specs.Clauses.{◌≡◌, is_basic, is_ellipsis};
+ghost use Rattle.std.specs.Prelude.{◌≡◌};
+ghost use Rattle.elem_descr.specs.Clauses.{is_basic, is_ellipsis};
 
 /// One item of an index list, in which an array is given as an `A`.
 #[derive(Clone, Copy, Debug, Default, PartialEq, Eq, Drop)]

@@ -1,7 +1,9 @@
 //! The names of fields and of arrays.
 ghost use Rattle.std.specs.Hash as fed;
 ghost use Rattle.elem_descr.specs.Names.{is_field_name_byte, is_legal_name};
-ghost use Rattle.elem_descr.specs.Words.{rules, nat_list_eq_equiv, hashing, partial_equiv_from_equiv, list_all, IfOk, IsTrue, codes, decimal, length, ◌++◌, ◌≡◌, ◌≤◌, bytes_eq};
+ghost use Rattle.std.proofs.Common.{rules};
+ghost use Rattle.std.specs.Prelude.{IfOk, IsTrue, codes, decimal, length, ◌++◌, ◌≡◌, ◌≤◌};
+ghost use Rattle.elem_descr.specs.Words.{nat_list_eq_equiv, hashing, partial_equiv_from_equiv, list_all, bytes_eq};
 
 use itoa::Buffer;
 use smallvec::SmallVec;

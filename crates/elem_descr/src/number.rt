@@ -1,5 +1,6 @@
 //! Numbers as bytes, in either byte order.
-ghost use Rattle.elem_descr.specs.Clauses.{◌≡◌, ◌≤◌, length, number, IsNumber, size, decode, encode, wrap, integer, number_in, bytes_of, low_bits, IsValueOf, is_value, WrapsTo};
+ghost use Rattle.std.specs.Prelude.{◌≡◌, ◌≤◌, length};
+ghost use Rattle.elem_descr.specs.Clauses.{number, IsNumber, size, decode, encode, wrap, integer, number_in, bytes_of, low_bits, IsValueOf, is_value, WrapsTo};
 
 use crate::scalar::{Order, Scalar};
 use byteorder::{BigEndian, ByteOrder, LittleEndian};

@@ -1,5 +1,6 @@
 //! Refusals, with their codes and texts.
-ghost use Rattle.elem_descr.specs.Clauses.{◌≡◌, ◌≤◌, length, OutOfMemory};
+ghost use Rattle.std.specs.Prelude.{◌≡◌, ◌≤◌, length};
+ghost use Rattle.elem_descr.specs.Clauses.{OutOfMemory};
 
 use std::alloc::{AllocError, AllocFailed};
 use std::error::Error;

@@ -1,5 +1,6 @@
 -- Casts that leave items unchanged.
-use Rattle.elementwise.proofs.Words.{◌≡◌, ◌<◌, ◌≤◌, ℕ, pos, List, [], ◌∷◌, map, length, take, drop, refl, sym, ap, ◌∙◌, arith, length-take, ext_get_or, Leaf, Little, Scalar, Byte, Int, Bytes, Descr, LeafValue, number, text, size, decode, integer, number_in, width_size, low_bits-integer, item_size, leaves_of, leaf_at, no_leaf, AreAlike, item_from, AreBytes, bytes-drop, bytes-take, number-lt, truth-twice, BoolScalar, ScalarDescr, RecordDescr, cast_value, cast_values, cast_item}
+use Rattle.std.proofs.Common.{◌≡◌, ◌<◌, ◌≤◌, ℕ, pos, List, [], ◌∷◌, map, length, take, drop, refl, sym, ap, ◌∙◌, arith, length-take}
+use Rattle.elementwise.proofs.Words.{ext_get_or, Leaf, Little, Scalar, Byte, Int, Bytes, Descr, LeafValue, number, text, size, decode, integer, number_in, width_size, low_bits-integer, item_size, leaves_of, leaf_at, no_leaf, AreAlike, item_from, AreBytes, bytes-drop, bytes-take, number-lt, truth-twice, BoolScalar, ScalarDescr, RecordDescr, cast_value, cast_values, cast_item}
 use Rattle.elementwise.proofs.NulLaws.{text_stays}
 
 -- descriptors are alike if all their leaves are the same

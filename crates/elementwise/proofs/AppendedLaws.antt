@@ -1,5 +1,6 @@
 -- Items that are appended to bytes, part by part.
-use Rattle.elementwise.proofs.Words.{subst, ◌≡◌, ◌+◌, ◌*◌, ℕ, zero, suc, List, [], ◌∷◌, ◌++◌, length, drop, replicate, refl, sym, ap, ◌∙◌, arith, append_assoc, length-append, length-drop, suc-mul, add-mul, concat, Each, take-append_seam, drop-append-add, concat-append, nil_from_length, length-replicate, All-from_recursion, place, put, item_at, joined, EachWithin, RunPair, run_offsets, length-run_offsets, items_at, with_items, length-row, row-split, row_offsets, pairwise, pair_from}
+use Rattle.std.proofs.Common.{subst, ◌≡◌, ◌+◌, ◌*◌, ℕ, zero, suc, List, [], ◌∷◌, ◌++◌, length, drop, replicate, refl, sym, ap, ◌∙◌, arith, append_assoc, length-append, length-drop, suc-mul, add-mul}
+use Rattle.elementwise.proofs.Words.{concat, Each, take-append_seam, drop-append-add, concat-append, nil_from_length, length-replicate, All-from_recursion, place, put, item_at, joined, EachWithin, RunPair, run_offsets, length-run_offsets, items_at, with_items, length-row, row-split, row_offsets, pairwise, pair_from}
 use Rattle.elementwise.proofs.PairLaws.{pairwise-append, joined_pairs, firsts, seconds}
 use Rattle.elementwise.proofs.RowLaws.{landed, rows-in, rows-lie}
 use Rattle.elementwise.proofs.TurnedLaws.{AreWide}

@@ -1,5 +1,6 @@
 -- Results for operands that were cast.
-use Rattle.elementwise.proofs.Words.{ℤ, ◌≡◌, true, ℕ, List, [], ◌∷◌, map, refl, ap, ◌∙◌, false≢true, map-map, Scalar, Byte, Int, Bytes, Descr, LeafValue, number, IsNumber, wrap, number_of, item_from, Layout, offsets, BinOp, UnOp, little, stretched-self, BoolScalar, ScalarDescr, RecordDescr, can_cast, cast_item, binary, unary, value_in, number_as, binary_item, unary_item, pairwise, stretched_items}
+use Rattle.std.proofs.Common.{ℤ, ◌≡◌, true, ℕ, List, [], ◌∷◌, map, refl, ap, ◌∙◌}
+use Rattle.elementwise.proofs.Words.{false≢true, map-map, Scalar, Byte, Int, Bytes, Descr, LeafValue, number, IsNumber, wrap, number_of, item_from, Layout, offsets, BinOp, UnOp, little, stretched-self, BoolScalar, ScalarDescr, RecordDescr, can_cast, cast_item, binary, unary, value_in, number_as, binary_item, unary_item, pairwise, stretched_items}
 use Rattle.elementwise.proofs.LeafLaws.{cast_number}
 
 -- the byte order of a scalar makes no difference to wrapping

@@ -1,5 +1,6 @@
 -- Numbers, given by their lowest 64 bits.
-use Rattle.elementwise.proofs.Words.{◌≡◌, ℕ, zero, suc, ◌+◌, ◌-◌, ◌*◌, ◌/◌, ◌%◌, ◌^◌, ◌<◌, ◌≤◌, max, inl, inr, cond, nat_lt, Bool, true, false, refl, sym, ap, ◌∙◌, arith, ℤ, pos, negsuc, neg_ℤ, ◌+ℤ◌, ◌-ℤ◌, ◌*ℤ◌, w64, cast_signed, cast_unsigned, int_wrap, cases_lt, nat_tests, wrapping_add-bits, wrapping_sub-bits, wrapping_mul-bits, int_wrap-add_left, int_wrap-add_right, int_wrap-sub_right, int_wrap-mul_left, int_wrap-mul_right, of_z-to_z, pow_below, div-add-mod, div-le_self, mod-lt, mod-eq_of_lt, mul-le-mul_left, mul-le-mul_right, div-div-eq-div-mul, integer, low_bits, low_bits-lt, low_bits-integer, int_wrap-low_bits, floor_quotient, modulo, sign_bits, shifted_left, shifted_right}
+use Rattle.std.proofs.Common.{◌≡◌, ℕ, zero, suc, ◌+◌, ◌-◌, ◌*◌, ◌/◌, ◌%◌, ◌^◌, ◌<◌, ◌≤◌, max, inl, inr, cond, nat_lt, Bool, true, false, refl, sym, ap, ◌∙◌, arith, ℤ, pos, negsuc, neg_ℤ, ◌+ℤ◌, ◌-ℤ◌, ◌*ℤ◌, w64, mul-le-mul_right}
+use Rattle.elementwise.proofs.Words.{cast_signed, cast_unsigned, int_wrap, cases_lt, nat_tests, wrapping_add-bits, wrapping_sub-bits, wrapping_mul-bits, int_wrap-add_left, int_wrap-add_right, int_wrap-sub_right, int_wrap-mul_left, int_wrap-mul_right, of_z-to_z, pow_below, div-add-mod, div-le_self, mod-lt, mod-eq_of_lt, mul-le-mul_left, div-div-eq-div-mul, integer, low_bits, low_bits-lt, low_bits-integer, int_wrap-low_bits, floor_quotient, modulo, sign_bits, shifted_left, shifted_right}
 
 -- The lowest bits of a sum, a difference or a product depend only on the lowest bits of the operands.
 module _ (f : ℕ → ℕ → ℕ) (op : ℤ → ℤ → ℤ) (first : (a b : ℤ) → int_wrap w64 (op (int_wrap w64 a) b) ≡ int_wrap w64 (op a b)) (second : (a b : ℤ) → int_wrap w64 (op a (int_wrap w64 b)) ≡ int_wrap w64 (op a b)) (word : (m n : ℕ) → m < 2 ^ 64 → n < 2 ^ 64 → cast_signed w64 (f m n) ≡ int_wrap w64 (op (cast_signed w64 m) (cast_signed w64 n))) (below : (m n : ℕ) → f m n < 2 ^ 64) where

@@ -1,5 +1,6 @@
 -- Byte strings that are compared with one byte string.
-use Rattle.elementwise.proofs.Words.{◌≡◌, ℕ, true, false, Ok, Err, List, refl, Refusal, NotForThisKind, Descr, Scalar, Byte, Int, Bytes, is_text, ScalarDescr, BoolScalar, scalar_of, bytes_compared_result}
+use Rattle.std.proofs.Common.{◌≡◌, ℕ, true, false, Ok, Err, List, refl}
+use Rattle.elementwise.proofs.Words.{Refusal, NotForThisKind, Descr, Scalar, Byte, Int, Bytes, is_text, ScalarDescr, BoolScalar, scalar_of, bytes_compared_result}
 
 not_text : (s : Scalar) → ((n : ℕ) → s ≡ Bytes n → ⊥) → is_text s ≡ false
 not_text BoolScalar other = refl

@@ -1,5 +1,6 @@
 -- Items that are cast leaf by leaf.
-use Rattle.elementwise.proofs.Words.{◌≡◌, ◌+◌, ◌-◌, ◌*◌, ◌<◌, ◌≤◌, inl, inr, ℕ, zero, suc, true, pos, List, [], ◌∷◌, ◌++◌, map, length, get_or, take, drop, All, refl, sym, ap, subst, ◌∙◌, arith, mul_comm, and_parts, cases_lt, length-map, get_or-map, same_lists, take-take, drop-take, drop-drop, All-from_get_or, AllPass-from_list_all, Leaf, Descr, LeafValue, number, size, decode, encode, Fields, no_more, scalar_field, record_field, item_size, leaves_of, leaves_from, leaf_at, no_leaf, LeavesInOrder, item_from, item_at, with_items, length-row, row_offsets, ScalarDescr, RecordDescr, can_cast, can_cast_scalar, can_cast_fields, cast_value, cast_values, cast_item, leaf_from, source, HasSource, with_leaf, IsLeafCast}
+use Rattle.std.proofs.Common.{◌≡◌, ◌+◌, ◌-◌, ◌*◌, ◌<◌, ◌≤◌, inl, inr, ℕ, zero, suc, true, pos, List, [], ◌∷◌, ◌++◌, map, length, get_or, take, drop, All, refl, sym, ap, subst, ◌∙◌, arith, mul_comm}
+use Rattle.elementwise.proofs.Words.{and_parts, cases_lt, length-map, get_or-map, same_lists, take-take, drop-take, drop-drop, All-from_get_or, AllPass-from_list_all, Leaf, Descr, LeafValue, number, size, decode, encode, Fields, no_more, scalar_field, record_field, item_size, leaves_of, leaves_from, leaf_at, no_leaf, LeavesInOrder, item_from, item_at, with_items, length-row, row_offsets, ScalarDescr, RecordDescr, can_cast, can_cast_scalar, can_cast_fields, cast_value, cast_values, cast_item, leaf_from, source, HasSource, with_leaf, IsLeafCast}
 use Rattle.elementwise.proofs.RowLaws.{row-entry, AreBeside, landed, kept, row-in, rows-in, rows-lie, rows-beside}
 use Rattle.elementwise.proofs.LeafLaws.{length-leaf_cast, cast_read_back}
 

@@ -1,5 +1,6 @@
 -- Values that are cast to a scalar. Numbers are cast as unsigned ones.
-use Rattle.elementwise.proofs.Words.{◌≡◌, ℕ, Bool, false, List, [], ◌∷◌, map, sym, ◌∙◌, map-map, Descr, Order, Width, Scalar, Byte, Int, LeafValue, wrap, item_from, ScalarDescr, cast_value, cast_item, pairwise, value_in, number_pair}
+use Rattle.std.proofs.Common.{◌≡◌, ℕ, Bool, false, List, [], ◌∷◌, map, sym, ◌∙◌}
+use Rattle.elementwise.proofs.Words.{map-map, Descr, Order, Width, Scalar, Byte, Int, LeafValue, wrap, item_from, ScalarDescr, cast_value, cast_item, pairwise, value_in, number_pair}
 use Rattle.elementwise.proofs.AppliedLaws.{pairwise-same}
 use Rattle.elementwise.proofs.LeafLaws.{byte_alike, int_alike}
 

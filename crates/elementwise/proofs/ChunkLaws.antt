@@ -1,5 +1,6 @@
 -- Parts of runs as layouts of one axis, and the results on them.
-use Rattle.elementwise.proofs.Words.{◌≡◌, ◌+◌, ◌*◌, ◌<◌, ◌≤◌, All, ℕ, pos, ◌+ℤ◌, ◌*ℤ◌, List, [], ◌∷◌, ◌++◌, map, length, take_all, append-nil, get_or, sym, ap, subst, ◌∙◌, arith, ints, length-map, map-append, same_lists, get_or_default, All-cons, flat_map, ScalarDescr, *ℤ_comm, +ℤ_idr, *ℤ-zero, ◌≤ℤ◌, Descr, Scalar, LeafValue, Items, size, encode, decode, encode_item, decode_item, item_from, one-encoded, length-encode, run_front, Layout, Run, BeginsWithin, IsIndex, address_at, natural, position, place, position-add, rank, count, offsets, run_offsets, max_bytes, lie-within, run-ends, run-within, nth-offset, get_or-offsets, length-offsets, length-run_offsets, pairwise, value_in, cast_item, InRuns, Broadcast, Pairing, given, run_items, all_given, stretched, run_part, AreItems, left_of, right_of, target_of, gives, CanPair}
+use Rattle.std.proofs.Common.{◌≡◌, ◌+◌, ◌*◌, ◌<◌, ◌≤◌, All, ℕ, pos, ◌+ℤ◌, ◌*ℤ◌, List, [], ◌∷◌, ◌++◌, map, length, append-nil, get_or, sym, ap, subst, ◌∙◌, arith, ◌≤ℤ◌}
+use Rattle.elementwise.proofs.Words.{take_all, ints, length-map, map-append, same_lists, get_or_default, All-cons, flat_map, ScalarDescr, *ℤ_comm, +ℤ_idr, *ℤ-zero, Descr, Scalar, LeafValue, Items, size, encode, decode, encode_item, decode_item, item_from, one-encoded, length-encode, run_front, Layout, Run, BeginsWithin, IsIndex, address_at, natural, position, place, position-add, rank, count, offsets, run_offsets, max_bytes, lie-within, run-ends, run-within, nth-offset, get_or-offsets, length-offsets, length-run_offsets, pairwise, value_in, cast_item, InRuns, Broadcast, Pairing, given, run_items, all_given, stretched, run_part, AreItems, left_of, right_of, target_of, gives, CanPair}
 use Rattle.elementwise.proofs.ColumnLaws.{part-within, run-parts}
 use Rattle.elementwise.proofs.EncodedLaws.{items-append, no-items}
 use Rattle.elementwise.proofs.PairLaws.{length-pairwise, pairwise-append}

@@ -1,5 +1,6 @@
 -- One leaf of the items of a run, which is read, cast and written to its place.
-use Rattle.elementwise.proofs.Words.{◌≡◌, ◌+◌, ◌*◌, ◌-◌, ◌<◌, ◌≤◌, min, ℕ, ℤ, zero, suc, pos, inl, inr, List, [], ◌∷◌, ◌++◌, map, length, drop, take, refl, sym, ap, subst, ◌∙◌, arith, ◌+ℤ◌, ◌*ℤ◌, cases_lt, ints, *ℤ_comm, map-map, ◌≤ℤ◌, length-map, map-append, length-drop, take_all, drop-drop, drop_all, Descr, Leaf, size, item_size, item_from, decode_item, items_at, put, item_at, position, place, EachWithin, not_negative, position-add, numbers_from, numbers-split, natural, with_items, Run, run_offsets, row_offsets, length-row, length-run_offsets, run_offsets-more, with_leaves, leaf_cast, leaf_from, run_part, cast_items, cast_item}
+use Rattle.std.proofs.Common.{◌≡◌, ◌+◌, ◌*◌, ◌-◌, ◌<◌, ◌≤◌, min, ℕ, ℤ, zero, suc, pos, inl, inr, List, [], ◌∷◌, ◌++◌, map, length, drop, take, refl, sym, ap, subst, ◌∙◌, arith, ◌+ℤ◌, ◌*ℤ◌, ◌≤ℤ◌, length-drop}
+use Rattle.elementwise.proofs.Words.{cases_lt, ints, *ℤ_comm, map-map, length-map, map-append, take_all, drop-drop, drop_all, Descr, Leaf, size, item_size, item_from, decode_item, items_at, put, item_at, position, place, EachWithin, not_negative, position-add, numbers_from, numbers-split, natural, with_items, Run, run_offsets, row_offsets, length-row, length-run_offsets, run_offsets-more, with_leaves, leaf_cast, leaf_from, run_part, cast_items, cast_item}
 use Rattle.elementwise.proofs.RowLaws.{row-within}
 
 -- the bytes from a position on, or none if there are fewer

@@ -1,5 +1,6 @@
 -- The smallest type that holds the numbers of two types.
-use Rattle.elementwise.proofs.Words.{◌≡◌, ◌⊎◌, inl, inr, ◌*◌, ◌-◌, ◌≤◌, ◌^◌, ℕ, ℤ, max, nat_le, Bool, true, false, cond, Result, Ok, Err, refl, sym, ap, subst, arith, not, is_ok, pow-le-pow_right, false≢true, cases_lt, leb-true, ints, Refusal, NeedsFloats, Two, Four, Eight, Scalar, Byte, Int, Bytes, IsNumber, IsValueOf, FitsBytes, size, width_size, same_answer, check_passed, check_test, is_signed, little, BoolScalar, integer_type, mixed_type, common_integers, common_type, Holds}
+use Rattle.std.proofs.Common.{◌≡◌, ◌⊎◌, inl, inr, ◌*◌, ◌-◌, ◌≤◌, ◌^◌, ℕ, ℤ, max, nat_le, Bool, true, false, cond, Result, Ok, Err, refl, sym, ap, subst, arith, not}
+use Rattle.elementwise.proofs.Words.{is_ok, pow-le-pow_right, false≢true, cases_lt, leb-true, ints, Refusal, NeedsFloats, Two, Four, Eight, Scalar, Byte, Int, Bytes, IsNumber, IsValueOf, FitsBytes, size, width_size, same_answer, check_passed, check_test, is_signed, little, BoolScalar, integer_type, mixed_type, common_integers, common_type, Holds}
 
 -- ---- integers of n bytes
 

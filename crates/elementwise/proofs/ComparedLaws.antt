@@ -1,5 +1,6 @@
 -- Comparisons and their results.
-use Rattle.elementwise.proofs.Words.{◌≡◌, ℕ, true, Ok, Err, List, [], ◌∷◌, refl, sym, subst, arith, Ordering, nat_cmp, is_lt, is_gt, slice_cmp, same_from_slice_cmp, nat_tests, Refusal, NotForThisKind, Scalar, Byte, Int, Bytes, Descr, IsNumber, little, same_answer, check_passed, check_test, common_shape, BoolScalar, ScalarDescr, AreComparable, text_below, are_comparable, compared_type, scalar_of, compared_result}
+use Rattle.std.proofs.Common.{◌≡◌, ℕ, true, Ok, Err, List, [], ◌∷◌, refl, sym, subst, arith}
+use Rattle.elementwise.proofs.Words.{Ordering, nat_cmp, is_lt, is_gt, slice_cmp, same_from_slice_cmp, nat_tests, Refusal, NotForThisKind, Scalar, Byte, Int, Bytes, Descr, IsNumber, little, same_answer, check_passed, check_test, common_shape, BoolScalar, ScalarDescr, AreComparable, text_below, are_comparable, compared_type, scalar_of, compared_result}
 
 -- ---- byte strings
 

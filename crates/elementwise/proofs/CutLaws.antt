@@ -1,5 +1,6 @@
 -- Casts of byte strings that do not get longer, and of numbers.
-use Rattle.elementwise.proofs.Words.{◌≡◌, ◌+◌, ◌-◌, ◌*◌, ◌≤◌, ◌++◌, inl, inr, true, false, ℕ, zero, suc, List, [], ◌∷◌, map, length, take, drop, replicate, sym, subst, ◌∙◌, All, arith, refl, append-nil, false≢true, take-take, All-head, All-rest, Descr, Scalar, Byte, Int, Bytes, IsNumber, is_text, LeavesInOrder, padded, without_nuls, item_at, length-item_at, items_at, item_size, multiples, row-multiples, ScalarDescr, BoolScalar, can_cast_scalar, IsCut, cast_items, leaf_from, source, AreItems}
+use Rattle.std.proofs.Common.{◌≡◌, ◌+◌, ◌-◌, ◌*◌, ◌≤◌, ◌++◌, inl, inr, true, false, ℕ, zero, suc, List, [], ◌∷◌, map, length, take, drop, replicate, sym, subst, ◌∙◌, All, arith, refl, append-nil}
+use Rattle.elementwise.proofs.Words.{false≢true, take-take, All-head, All-rest, Descr, Scalar, Byte, Int, Bytes, IsNumber, is_text, LeavesInOrder, padded, without_nuls, item_at, length-item_at, items_at, item_size, multiples, row-multiples, ScalarDescr, BoolScalar, can_cast_scalar, IsCut, cast_items, leaf_from, source, AreItems}
 use Rattle.elementwise.proofs.EncodedLaws.{all-encoded}
 use Rattle.elementwise.proofs.NulLaws.{text_pushed}
 

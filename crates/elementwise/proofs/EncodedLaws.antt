@@ -1,5 +1,6 @@
 -- Items that are written leaf by leaf over zeros: their bytes are the encoded values.
-use Rattle.elementwise.proofs.Words.{◌≡◌, ◌+◌, ◌-◌, ◌*◌, ◌<◌, ◌≤◌, inl, inr, ℕ, zero, suc, true, pos, List, [], ◌∷◌, ◌++◌, map, length, get_or, take, drop, replicate, sym, ap, ◌∙◌, arith, append_assoc, length-append, refl, mul_comm, zero-mul, suc-mul, add-mul, mul-le-mul_right, take-add, flat_map-append, length-map, get_or-map, same_lists, drop-drop, take-replicate, drop-replicate, All-from_get_or, All-append, length-map-range_with_len, get_or-map-range_with_len, Leaf, Descr, LeafValue, number, size, encode, item_size, leaves_of, no_leaf, LeavesInOrder, encode_from, decode_item, encode_item, item_from, item_at, length-item_at, joined, all_joined, joined_list, item_of_joined, multiples, can_cast, cast_item, source, with_leaf, cast_items, IsLeafCast, AreItems}
+use Rattle.std.proofs.Common.{◌≡◌, ◌+◌, ◌-◌, ◌*◌, ◌<◌, ◌≤◌, inl, inr, ℕ, zero, suc, true, pos, List, [], ◌∷◌, ◌++◌, map, length, get_or, take, drop, replicate, sym, ap, ◌∙◌, arith, append_assoc, length-append, refl, mul_comm, zero-mul, suc-mul, add-mul, mul-le-mul_right}
+use Rattle.elementwise.proofs.Words.{take-add, flat_map-append, length-map, get_or-map, same_lists, drop-drop, take-replicate, drop-replicate, All-from_get_or, All-append, length-map-range_with_len, get_or-map-range_with_len, Leaf, Descr, LeafValue, number, size, encode, item_size, leaves_of, no_leaf, LeavesInOrder, encode_from, decode_item, encode_item, item_from, item_at, length-item_at, joined, all_joined, joined_list, item_of_joined, multiples, can_cast, cast_item, source, with_leaf, cast_items, IsLeafCast, AreItems}
 use Rattle.elementwise.proofs.RowLaws.{AreBeside}
 use Rattle.elementwise.proofs.CastLaws.{row-kept, each-wide, length-cast_item, leaf-encoded, one_item}
 

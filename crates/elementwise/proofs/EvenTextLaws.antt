@@ -1,5 +1,6 @@
 -- Byte strings of the same length: the NULs at their ends decide nothing.
-use Rattle.elementwise.proofs.Words.{◌≡◌, ◌+◌, ◌-◌, ◌<◌, ◌≤◌, ◌==◌, ◌&&◌, ◌||◌, true, false, nat_lt, ℕ, zero, suc, List, [], ◌∷◌, ◌++◌, length, get_or, replicate, reverse, refl, sym, ap, ◌∙◌, arith, length-take, length-append, nat_eq, lt-ltb, nat_tests, get_or-reverse, get_or-take, length-reverse, length-replicate, prefix_len_stops, suffix_len-le-length, and-false, without_nuls, without_nuls-back, nuls, text_below}
+use Rattle.std.proofs.Common.{◌≡◌, ◌+◌, ◌-◌, ◌<◌, ◌≤◌, ◌==◌, ◌&&◌, ◌||◌, true, false, nat_lt, ℕ, zero, suc, List, [], ◌∷◌, ◌++◌, length, get_or, replicate, reverse, refl, sym, ap, ◌∙◌, arith, length-take, length-append, nat_eq}
+use Rattle.elementwise.proofs.Words.{lt-ltb, nat_tests, get_or-reverse, get_or-take, length-reverse, length-replicate, prefix_len_stops, suffix_len-le-length, and-false, without_nuls, without_nuls-back, nuls, text_below}
 
 -- ---- byte strings that do not end in NUL
 

@@ -1,5 +1,6 @@
 -- Fields and the fields that they are cast to, one by one.
-use Rattle.elementwise.proofs.Words.{◌≡◌, ◌+◌, ◌<◌, ◌≤◌, ℕ, Bool, true, false, List, [], ◌∷◌, length, get_or, drop, refl, sym, ap, ◌∙◌, arith, ◌&&◌, drop_all, and_parts, Descr, Field, Fields, no_more, Structure, before, listed, fields_of, rest_at, seen_fields, ScalarDescr, RecordDescr, can_cast_fields, can_cast_field}
+use Rattle.std.proofs.Common.{◌≡◌, ◌+◌, ◌<◌, ◌≤◌, ℕ, Bool, true, false, List, [], ◌∷◌, length, get_or, drop, refl, sym, ap, ◌∙◌, arith, ◌&&◌}
+use Rattle.elementwise.proofs.Words.{drop_all, and_parts, Descr, Field, Fields, no_more, Structure, before, listed, fields_of, rest_at, seen_fields, ScalarDescr, RecordDescr, can_cast_fields, can_cast_field}
 
 fields-before : (name name' : List ℕ) (at at' : ℕ) (from to : Descr) (rest others : Fields) → can_cast_fields (before name at from rest) (before name' at' to others) ≡ (can_cast_field from to && can_cast_fields rest others)
 fields-before name name' at at' (ScalarDescr from) (ScalarDescr to) rest others = refl

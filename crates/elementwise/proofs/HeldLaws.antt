@@ -1,5 +1,6 @@
 -- Numbers that are compared as numbers of a larger scalar, which holds their values.
-use Rattle.elementwise.proofs.Words.{◌≡◌, ◌-◌, ◌*◌, ◌^◌, ◌<◌, ◌≤◌, inl, inr, ℕ, zero, suc, true, false, Bool, cond, List, [], ◌∷◌, map, take, drop, refl, sym, ap, subst, ◌∙◌, arith, ℤ, pos, negsuc, unsigned_abs, pow-lt, ints, Little, Eight, Scalar, Byte, Int, Bytes, Descr, LeafValue, number, IsNumber, IsValueOf, FitsBytes, size, width_size, number_in, truth, number_of, decode, wrap_stays, some_bytes, fits_eight_bytes, integer-fits, truth_suc, item_from, AreBytes, bytes-drop, bytes-take, number-lt, Layout, offsets, view_through, broadcast_index, Comparison, place, item_in, number_of_side, Side, is_signed, is_text, little, BoolScalar, ScalarDescr, cast_item, compared, value_in, compared_item, stretched_items, pairwise, compared_value, Holds, AreHeld}
+use Rattle.std.proofs.Common.{◌≡◌, ◌-◌, ◌*◌, ◌^◌, ◌<◌, ◌≤◌, inl, inr, ℕ, zero, suc, true, false, Bool, cond, List, [], ◌∷◌, map, take, drop, refl, sym, ap, subst, ◌∙◌, arith, ℤ, pos, negsuc, unsigned_abs}
+use Rattle.elementwise.proofs.Words.{pow-lt, ints, Little, Eight, Scalar, Byte, Int, Bytes, Descr, LeafValue, number, IsNumber, IsValueOf, FitsBytes, size, width_size, number_in, truth, number_of, decode, wrap_stays, some_bytes, fits_eight_bytes, integer-fits, truth_suc, item_from, AreBytes, bytes-drop, bytes-take, number-lt, Layout, offsets, view_through, broadcast_index, Comparison, place, item_in, number_of_side, Side, is_signed, is_text, little, BoolScalar, ScalarDescr, cast_item, compared, value_in, compared_item, stretched_items, pairwise, compared_value, Holds, AreHeld}
 use Rattle.elementwise.proofs.LeafLaws.{cast_number}
 use Rattle.elementwise.proofs.PairLaws.{pairwise-map}
 

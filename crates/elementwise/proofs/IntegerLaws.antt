@@ -1,5 +1,6 @@
 -- Numbers that are compared with one integer.
-use Rattle.elementwise.proofs.Words.{◌≡◌, ◌*◌, ◌-◌, ◌^◌, ◌≤◌, ◌<◌, ◌⊎◌, inl, inr, ℕ, zero, suc, Bool, true, false, Ok, Err, List, [], ◌∷◌, ◌++◌, map, length, get_or, take, drop, replicate, refl, sym, ap, ◌∙◌, arith, ℤ, pos, negsuc, neg_ℤ, ◌≤ℤ◌, ◌<ℤ◌, int_lt, not, ◌==◌, ◌&&◌, ◌||◌, ints, pow_pos, take_all, length-replicate, get_or-replicate, take-replicate, drop-replicate, fill_by_all, range_with_len, flat_map, map-map, splat_is_map, Refusal, NotForThisKind, Little, Descr, LeafValue, number, encode_item, item_from, Layout, count, indexes, rank, length-indexes, offsets, multiples, length-offsets, all_stretch, can_stretch, broadcast_index, stretched-self, Owned, owned_items, Comparison, Scalar, Byte, Int, Bytes, IsNumber, IsValueOf, FitsBytes, size, width_size, wrap, number_of, decode, wrap_stays, AreBytes, bytes-drop, bytes-take, is_text, little, ScalarDescr, BoolScalar, says, compared, scalar_of, integer_compared_result, compared_item, truth_item, stretched_items, pairwise, bool_byte}
+use Rattle.std.proofs.Common.{◌≡◌, ◌*◌, ◌-◌, ◌^◌, ◌≤◌, ◌<◌, ◌⊎◌, inl, inr, ℕ, zero, suc, Bool, true, false, Ok, Err, List, [], ◌∷◌, ◌++◌, map, length, get_or, take, drop, replicate, refl, sym, ap, ◌∙◌, arith, ℤ, pos, negsuc, neg_ℤ, ◌≤ℤ◌, ◌<ℤ◌, int_lt, not, ◌==◌, ◌&&◌, ◌||◌}
+use Rattle.elementwise.proofs.Words.{ints, pow_pos, take_all, length-replicate, get_or-replicate, take-replicate, drop-replicate, fill_by_all, range_with_len, flat_map, map-map, splat_is_map, Refusal, NotForThisKind, Little, Descr, LeafValue, number, encode_item, item_from, Layout, count, indexes, rank, length-indexes, offsets, multiples, length-offsets, all_stretch, can_stretch, broadcast_index, stretched-self, Owned, owned_items, Comparison, Scalar, Byte, Int, Bytes, IsNumber, IsValueOf, FitsBytes, size, width_size, wrap, number_of, decode, wrap_stays, AreBytes, bytes-drop, bytes-take, is_text, little, ScalarDescr, BoolScalar, says, compared, scalar_of, integer_compared_result, compared_item, truth_item, stretched_items, pairwise, bool_byte}
 use Rattle.elementwise.proofs.PairLaws.{pairwise-map}
 use Rattle.elementwise.proofs.AppliedLaws.{pairwise-same}
 use Rattle.elementwise.proofs.HeldLaws.{value-of, is-number}

@@ -1,5 +1,6 @@
 -- Values of leaves that are cast, and their bytes.
-use Rattle.elementwise.proofs.Words.{◌≡◌, ℕ, Bool, false, List, length, take, refl, sym, ap, ◌∙◌, arith, length-take, ℤ, Order, Little, Width, Scalar, Byte, Int, Bytes, LeafValue, number, text, IsNumber, size, width_size, wrap, number_of, text_of, decode, encode, decode_encode, encode_wrap, length-encode, BoolScalar, cast_value, leaf_cast}
+use Rattle.std.proofs.Common.{◌≡◌, ℕ, Bool, false, List, length, take, refl, sym, ap, ◌∙◌, arith, length-take, ℤ}
+use Rattle.elementwise.proofs.Words.{Order, Little, Width, Scalar, Byte, Int, Bytes, LeafValue, number, text, IsNumber, size, width_size, wrap, number_of, text_of, decode, encode, decode_encode, encode_wrap, length-encode, BoolScalar, cast_value, leaf_cast}
 use Rattle.elementwise.proofs.NulLaws.{text_read_back}
 
 -- a value as a number

@@ -1,5 +1,6 @@
 -- New arrays, as the contracts of calls describe them.
-use Rattle.elementwise.proofs.Words.{◌≡◌, ℕ, Result, Ok, Err, List, map, IfOk, sym, ap, subst, ◌∙◌, flat_map, AllocError, Refusal, Descr, LeafValue, item_size, encode_item, item_from, C, count, offsets, multiples, offsets_in, owned_items, Owned, IsMade}
+use Rattle.std.proofs.Common.{◌≡◌, ℕ, Result, Ok, Err, List, map, IfOk, sym, ap, subst, ◌∙◌}
+use Rattle.elementwise.proofs.Words.{flat_map, AllocError, Refusal, Descr, LeafValue, item_size, encode_item, item_from, C, count, offsets, multiples, offsets_in, owned_items, Owned, IsMade}
 
 -- an array with a block of items
 pub over-made : (t d : Descr) (shape : List ℕ) (values : List (List LeafValue)) (result : Result Owned AllocError) (block : List ℕ) → t ≡ d →

@@ -1,5 +1,6 @@
 -- Test vectors: operations and comparisons of single values, as in NumPy.
-use Rattle.elementwise.proofs.Words.{◌≡◌, ℤ, pos, negsuc, Bool, true, false, List, [], ◌∷◌, map, refl, Little, Four, Eight, Scalar, Byte, Int, LeafValue, number, text, BinOp, Add, Subtract, Multiply, FloorDivide, Modulo, And, Or, Xor, ShiftLeft, ShiftRight, Negate, Invert, Comparison, Equal, NotEqual, Less, LessOrEqual, Greater, GreaterOrEqual, BoolScalar, binary, unary, compared}
+use Rattle.std.proofs.Common.{◌≡◌, ℤ, pos, negsuc, Bool, true, false, List, [], ◌∷◌, map, refl}
+use Rattle.elementwise.proofs.Words.{Little, Four, Eight, Scalar, Byte, Int, LeafValue, number, text, BinOp, Add, Subtract, Multiply, FloorDivide, Modulo, And, Or, Xor, ShiftLeft, ShiftRight, Negate, Invert, Comparison, Equal, NotEqual, Less, LessOrEqual, Greater, GreaterOrEqual, BoolScalar, binary, unary, compared}
 
 -- each number of the first list with each number of the second
 abbrev table : BinOp → Scalar → List ℤ → List ℤ → List (List ℤ)

@@ -1,5 +1,6 @@
 -- Pairs of items of two lists, and the results on them, one after another.
-use Rattle.elementwise.proofs.Words.{◌≡◌, ◌<◌, ℕ, zero, suc, ℤ, List, [], ◌∷◌, ◌++◌, map, length, get_or, refl, sym, ap, ◌∙◌, arith, append_assoc, concat, flat_map, append-nil, place, joined, EachWithin, fewer, Run, RunPair, run_offsets, length-run_offsets, run_offsets-more, pairwise}
+use Rattle.std.proofs.Common.{◌≡◌, ◌<◌, ℕ, zero, suc, ℤ, List, [], ◌∷◌, ◌++◌, map, length, get_or, refl, sym, ap, ◌∙◌, arith, append_assoc, append-nil}
+use Rattle.elementwise.proofs.Words.{concat, flat_map, place, joined, EachWithin, fewer, Run, RunPair, run_offsets, length-run_offsets, run_offsets-more, pairwise}
 
 -- ---- pairs of two lists
 

@@ -1,5 +1,6 @@
 -- The results on the items of two layouts, item by item.
-use Rattle.elementwise.proofs.Words.{◌≡◌, ◌*◌, ℕ, Result, IfOk, List, [], ◌∷◌, ◌++◌, map, length, drop, refl, sym, ap, ◌∙◌, arith, concat, flat_map, Each, AllocError, take-take, map-map, ScalarDescr, Scalar, LeafValue, size, decode, encode, item_from, item_at, count, offsets, multiples, item_size, encode_item, length-encode, one-encoded, length-offsets, Owned, row-multiples, row_offsets, pairwise, value_in, Pairing, Operands, IsMade, all_made, pairs_of, made_of_all, left_of, right_of, target_of, gives, pair_made, CanPair, value_pair, pair_from}
+use Rattle.std.proofs.Common.{◌≡◌, ◌*◌, ℕ, Result, IfOk, List, [], ◌∷◌, ◌++◌, map, length, drop, refl, sym, ap, ◌∙◌, arith}
+use Rattle.elementwise.proofs.Words.{concat, flat_map, Each, AllocError, take-take, map-map, ScalarDescr, Scalar, LeafValue, size, decode, encode, item_from, item_at, count, offsets, multiples, item_size, encode_item, length-encode, one-encoded, length-offsets, Owned, row-multiples, row_offsets, pairwise, value_in, Pairing, Operands, IsMade, all_made, pairs_of, made_of_all, left_of, right_of, target_of, gives, pair_made, CanPair, value_pair, pair_from}
 use Rattle.elementwise.proofs.WorkLaws.{pair_reads_back}
 use Rattle.elementwise.proofs.MadeLaws.{over-made}
 use Rattle.elementwise.proofs.AppendedLaws.{rows-read}

@@ -1,5 +1,6 @@
 -- Promoted types and results.
-use Rattle.elementwise.proofs.Words.{◌≡◌, ◌*◌, ℕ, max, nat_le, Bool, true, false, cond, Result, Ok, Err, List, [], ◌∷◌, refl, sym, subst, ◌∙◌, arith, not, ◌&&◌, ◌||◌, ◌==◌, false≢true, not-true, Refusal, NotForThisKind, NeedsFloats, Little, Two, Four, Eight, Scalar, Byte, Int, Bytes, Descr, ◌>>=◌, check, same_answer, check_passed, check_test, IsNumber, size, common_shape, BinOp, UnOp, is_bool, is_text, is_signed, little, BoolScalar, ScalarDescr, can_cast, integer_type, mixed_type, common_integers, common_type, is_division, promote, promote_one, serves_bools, serves_one, scalar_of, binary_result, unary_result, IsNative}
+use Rattle.std.proofs.Common.{◌≡◌, ◌*◌, ℕ, max, nat_le, Bool, true, false, cond, Result, Ok, Err, List, [], ◌∷◌, refl, sym, subst, ◌∙◌, arith, not, ◌&&◌, ◌||◌, ◌==◌}
+use Rattle.elementwise.proofs.Words.{false≢true, not-true, Refusal, NotForThisKind, NeedsFloats, Little, Two, Four, Eight, Scalar, Byte, Int, Bytes, Descr, ◌>>=◌, check, same_answer, check_passed, check_test, IsNumber, size, common_shape, BinOp, UnOp, is_bool, is_text, is_signed, little, BoolScalar, ScalarDescr, can_cast, integer_type, mixed_type, common_integers, common_type, is_division, promote, promote_one, serves_bools, serves_one, scalar_of, binary_result, unary_result, IsNative}
 
 -- ---- native types
 

@@ -1,5 +1,6 @@
 -- Test vectors: the types of results, as NumPy 2 promotes them.
-use Rattle.elementwise.proofs.Words.{◌≡◌, true, false, List, [], ◌∷◌, map, Result, Ok, Err, refl, Refusal, NotForThisKind, NeedsFloats, NotSameKind, Little, Big, Two, Four, Eight, Scalar, Byte, Int, Bytes, BinOp, Add, Subtract, Multiply, FloorDivide, Modulo, And, Or, Xor, ShiftLeft, ShiftRight, Divide, Negate, Invert, BoolScalar, promote, compared_type, literal_type, promote_one, same_kind}
+use Rattle.std.proofs.Common.{◌≡◌, true, false, List, [], ◌∷◌, map, Result, Ok, Err, refl}
+use Rattle.elementwise.proofs.Words.{Refusal, NotForThisKind, NeedsFloats, NotSameKind, Little, Big, Two, Four, Eight, Scalar, Byte, Int, Bytes, BinOp, Add, Subtract, Multiply, FloorDivide, Modulo, And, Or, Xor, ShiftLeft, ShiftRight, Divide, Negate, Invert, BoolScalar, promote, compared_type, literal_type, promote_one, same_kind}
 
 abbrev b1 : Scalar
 b1 = BoolScalar

@@ -1,5 +1,6 @@
 -- Items that are written at equal steps: they are read back, and the other bytes do not change.
-use Rattle.elementwise.proofs.Words.{◌≡◌, ◌+◌, ◌-◌, ◌*◌, ◌<◌, ◌≤◌, ◌⊎◌, inl, inr, ℕ, suc, pos, List, [], ◌∷◌, map, length, get_or, All, refl, sym, ap, subst, ◌∙◌, arith, suc-mul, mul-le-mul_right, cases_lt, All-rest, All-head, All-from_get_or, ints, put, item_at, place, EachWithin, length-put, item_at-put_same, item_at-put_apart, Run, place-at, length-row, row_offsets, with_items}
+use Rattle.std.proofs.Common.{◌≡◌, ◌+◌, ◌-◌, ◌*◌, ◌<◌, ◌≤◌, ◌⊎◌, inl, inr, ℕ, suc, pos, List, [], ◌∷◌, map, length, get_or, All, refl, sym, ap, subst, ◌∙◌, arith, suc-mul, mul-le-mul_right}
+use Rattle.elementwise.proofs.Words.{cases_lt, All-rest, All-head, All-from_get_or, ints, put, item_at, place, EachWithin, length-put, item_at-put_same, item_at-put_apart, Run, place-at, length-row, row_offsets, with_items}
 
 -- rows of items
 pub row-within : (len at item width n : ℕ) → width ≤ item → at + n * item ≤ len + item - width → EachWithin len at (pos item) width n

@@ -1,5 +1,6 @@
 -- Arrays whose items repeat: the result on the different items is stretched.
-use Rattle.elementwise.proofs.Words.{◌≡◌, ◌<◌, ℕ, pos, true, List, [], ◌∷◌, map, take, drop, length, get_or, All, sym, ap, subst, ◌∙◌, arith, length-map, get_or-map, All-map, map-map, Descr, Little, LeafValue, number, number_in, item_from, truth-twice, Layout, count, indexes, rank, IsIndex, length-indexes, rank-lt, get_or-indexes, index_at, same_on_indexes, offsets, length-offsets, view_through, can_stretch, broadcast_index, IsIndex-broadcast, stretched-self, IsStretchOf, IsViewOf, Owned, ScalarDescr, BoolScalar, cast_item, stretched_items, pairwise, IsShrunk, stretched_view, IsMade}
+use Rattle.std.proofs.Common.{◌≡◌, ◌<◌, ℕ, pos, true, List, [], ◌∷◌, map, take, drop, length, get_or, All, sym, ap, subst, ◌∙◌, arith}
+use Rattle.elementwise.proofs.Words.{length-map, get_or-map, All-map, map-map, Descr, Little, LeafValue, number, number_in, item_from, truth-twice, Layout, count, indexes, rank, IsIndex, length-indexes, rank-lt, get_or-indexes, index_at, same_on_indexes, offsets, length-offsets, view_through, can_stretch, broadcast_index, IsIndex-broadcast, stretched-self, IsStretchOf, IsViewOf, Owned, ScalarDescr, BoolScalar, cast_item, stretched_items, pairwise, IsShrunk, stretched_view, IsMade}
 use Rattle.elementwise.proofs.PairLaws.{pairwise-map, get_or-pairwise}
 use Rattle.elementwise.proofs.StretchedLaws.{inside}
 use Rattle.elementwise.proofs.AppliedLaws.{pairwise-same}

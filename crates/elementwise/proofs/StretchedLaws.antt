@@ -1,5 +1,6 @@
 -- Layouts that are stretched to a shape.
-use Rattle.elementwise.proofs.Words.{◌≡◌, ◌+◌, ◌≤◌, ℕ, List, All, sym, ◌∙◌, Layout, offsets, offsets_within, fits-offsets, View, view_through, IsViewOf, broadcast_index, stretched-self, IsStretched, stretched_view}
+use Rattle.std.proofs.Common.{◌≡◌, ◌+◌, ◌≤◌, ℕ, List, All, sym, ◌∙◌}
+use Rattle.elementwise.proofs.Words.{Layout, offsets, offsets_within, fits-offsets, View, view_through, IsViewOf, broadcast_index, stretched-self, IsStretched, stretched_view}
 
 pub inside : {old new : Layout} {view : View} (len width : ℕ) → IsViewOf old new view → All (λ offset. offset + width ≤ len) (offsets old) → All (λ offset. offset + width ≤ len) (offsets new)
 inside {old} {new} len width is ends = offsets_within new len width (is.fits len width (fits-offsets old len width ends))

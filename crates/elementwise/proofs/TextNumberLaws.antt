@@ -1,5 +1,6 @@
 -- Byte strings that are compared as numbers.
-use Rattle.elementwise.proofs.Words.{◌≡◌, ◌+◌, ◌*◌, ◌^◌, ◌<◌, ◌≤◌, ◌==◌, ◌&&◌, ◌||◌, inl, inr, cond, nat_lt, false, ℕ, zero, suc, pos, List, [], ◌∷◌, length, drop, refl, sym, ap, ◌∙◌, All, arith, length-take, length-drop, suc-mul, mul-le-mul_right, cases_lt, lt-ltb, nat_tests, All-tail, big_number, little_number, big_from-cons, big_from-lt, AreBytes, bytes-take, bytes-drop, Big, Scalar, Byte, Int, width_size, encode, number, item_at, Comparison, BoolScalar, text_below, says, pairwise, number_pair, text_pair, pair_from, says_number, IsWord}
+use Rattle.std.proofs.Common.{◌≡◌, ◌+◌, ◌*◌, ◌^◌, ◌<◌, ◌≤◌, ◌==◌, ◌&&◌, ◌||◌, inl, inr, cond, nat_lt, false, ℕ, zero, suc, pos, List, [], ◌∷◌, length, drop, refl, sym, ap, ◌∙◌, All, arith, length-take, length-drop, suc-mul, mul-le-mul_right}
+use Rattle.elementwise.proofs.Words.{cases_lt, lt-ltb, nat_tests, All-tail, big_number, little_number, big_from-cons, big_from-lt, AreBytes, bytes-take, bytes-drop, Big, Scalar, Byte, Int, width_size, encode, number, item_at, Comparison, BoolScalar, text_below, says, pairwise, number_pair, text_pair, pair_from, says_number, IsWord}
 use Rattle.elementwise.proofs.TextWordLaws.{lt-self, eq-self}
 use Rattle.elementwise.proofs.EvenTextLaws.{below-even}
 

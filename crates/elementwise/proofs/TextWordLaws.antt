@@ -1,5 +1,6 @@
 -- Byte strings that are compared eight bytes at a time.
-use Rattle.elementwise.proofs.Words.{◌≡◌, ◌+◌, ◌-◌, ◌*◌, ◌<◌, ◌≤◌, ◌==◌, ◌&&◌, ◌||◌, inl, inr, nat_lt, true, false, ℕ, zero, suc, List, [], ◌∷◌, ◌++◌, length, get_or, take, drop, replicate, refl, sym, ap, subst, ◌∙◌, arith, length-take, length-drop, take-add, get_or-eq_default, cases_lt, nat_tests, same_lists, get_or_default, get_or-drop, get_or-take, take-append-drop, take_all, little_from, little_number, without_nuls, without_nuls-more, text_below}
+use Rattle.std.proofs.Common.{◌≡◌, ◌+◌, ◌-◌, ◌*◌, ◌<◌, ◌≤◌, ◌==◌, ◌&&◌, ◌||◌, inl, inr, nat_lt, true, false, ℕ, zero, suc, List, [], ◌∷◌, ◌++◌, length, get_or, take, drop, replicate, refl, sym, ap, subst, ◌∙◌, arith, length-take, length-drop}
+use Rattle.elementwise.proofs.Words.{take-add, get_or-eq_default, cases_lt, nat_tests, same_lists, get_or_default, get_or-drop, get_or-take, take-append-drop, take_all, little_from, little_number, without_nuls, without_nuls-more, text_below}
 
 -- ---- words
 

@@ -1,5 +1,6 @@
 -- Byte strings of an array that are cut: only NULs at the end of all of them are lost.
-use Rattle.elementwise.proofs.Words.{◌≡◌, ◌+◌, ◌-◌, ◌≤◌, ℕ, true, List, [], ◌∷◌, ◌++◌, map, length, take, drop, replicate, All, refl, sym, ap, ◌∙◌, arith, length-append, length-take, length-drop, take-take, take-replicate, length-replicate, All-head, All-tail, take-append-add, Descr, Bytes, LeafValue, text, without_nuls, item_size, item_from, without_nuls-back, without_nuls-more, length-without_nuls, nuls, item_at, Layout, offsets, length-offsets, view_through, can_stretch, broadcast_index, ScalarDescr, stretched_items, pairwise}
+use Rattle.std.proofs.Common.{◌≡◌, ◌+◌, ◌-◌, ◌≤◌, ℕ, true, List, [], ◌∷◌, ◌++◌, map, length, take, drop, replicate, All, refl, sym, ap, ◌∙◌, arith, length-append, length-take, length-drop}
+use Rattle.elementwise.proofs.Words.{take-take, take-replicate, length-replicate, All-head, All-tail, take-append-add, Descr, Bytes, LeafValue, text, without_nuls, item_size, item_from, without_nuls-back, without_nuls-more, length-without_nuls, nuls, item_at, Layout, offsets, length-offsets, view_through, can_stretch, broadcast_index, ScalarDescr, stretched_items, pairwise}
 use Rattle.elementwise.proofs.ShrunkLaws.{all_through}
 
 -- a byte string that is cut after its last byte that is not NUL

@@ -1,5 +1,6 @@
 -- Results that are made column by column, and read in C order.
-use Rattle.elementwise.proofs.Words.{◌≡◌, ◌+◌, ◌*◌, ◌<◌, ℕ, zero, suc, List, [], ◌∷◌, ◌++◌, Option, Some, IfSome, length, reverse, get_or, take, drop, sym, ap, subst, ◌∙◌, arith, zero-mul, suc-mul, mul_comm, length-append, concat, Each, take-append_seam, drop-append-add, get_or-map, length-map-range_with_len, get_or-map-range_with_len, item_at, all_joined, Layout, fortran_order, count, rank, rank-lt, index_at, multiples, count-reverse, IsIndex-reverse, items_at, length-fortran, fortran-at, Layouts, IsTurned, pairwise}
+use Rattle.std.proofs.Common.{◌≡◌, ◌+◌, ◌*◌, ◌<◌, ℕ, zero, suc, List, [], ◌∷◌, ◌++◌, Option, Some, IfSome, length, reverse, get_or, take, drop, sym, ap, subst, ◌∙◌, arith, zero-mul, suc-mul, mul_comm, length-append}
+use Rattle.elementwise.proofs.Words.{concat, Each, take-append_seam, drop-append-add, get_or-map, length-map-range_with_len, get_or-map-range_with_len, item_at, all_joined, Layout, fortran_order, count, rank, rank-lt, index_at, multiples, count-reverse, IsIndex-reverse, items_at, length-fortran, fortran-at, Layouts, IsTurned, pairwise}
 use Rattle.elementwise.proofs.PairLaws.{length-pairwise, get_or-pairwise}
 
 -- both layouts with their axes reversed, if there are any

@@ -1,5 +1,6 @@
 -- Operands that are cast, and the results on them.
-use Rattle.elementwise.proofs.Words.{◌≡◌, ◌+◌, ◌<◌, ◌≤◌, ℕ, true, List, [], ◌∷◌, map, length, get_or, All, refl, sym, ap, ◌∙◌, arith, slice_index, length-map, get_or-map, map-map, All-head, All-rest, Descr, LeafValue, item_size, item_from, offsets, Layout, count, indexes, rank, rank-lt, same_on_indexes, length-offsets, can_stretch, broadcast_index, IsIndex-broadcast, cast_item, stretched_items}
+use Rattle.std.proofs.Common.{◌≡◌, ◌+◌, ◌<◌, ◌≤◌, ℕ, true, List, [], ◌∷◌, map, length, get_or, All, refl, sym, ap, ◌∙◌, arith, slice_index}
+use Rattle.elementwise.proofs.Words.{length-map, get_or-map, map-map, All-head, All-rest, Descr, LeafValue, item_size, item_from, offsets, Layout, count, indexes, rank, rank-lt, same_on_indexes, length-offsets, can_stretch, broadcast_index, IsIndex-broadcast, cast_item, stretched_items}
 
 -- items that a cast leaves unchanged
 pub kept : (from to : Descr) (block os : List ℕ) → All (λ offset. offset + item_size from ≤ length block) os →

@@ -1,5 +1,6 @@
 -- Test vectors: casts of single items, as in NumPy.
-use Rattle.elementwise.proofs.Words.{◌≡◌, pos, negsuc, true, false, [], ◌∷◌, codes, refl, Little, Big, Two, Four, Eight, Byte, Int, Bytes, Descr, no_more, scalar_field, record_field, number, text, BoolScalar, ScalarDescr, RecordDescr, can_cast, cast_item}
+use Rattle.std.proofs.Common.{◌≡◌, pos, negsuc, true, false, [], ◌∷◌, codes, refl}
+use Rattle.elementwise.proofs.Words.{Little, Big, Two, Four, Eight, Byte, Int, Bytes, Descr, no_more, scalar_field, record_field, number, text, BoolScalar, ScalarDescr, RecordDescr, can_cast, cast_item}
 
 abbrev byte : Descr
 byte = ScalarDescr (Byte true)

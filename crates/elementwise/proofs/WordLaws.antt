@@ -1,5 +1,6 @@
 -- Operations on the lowest 64 bits, and their results in a scalar.
-use Rattle.elementwise.proofs.Words.{◌≡◌, ℕ, suc, ◌+◌, ◌-◌, ◌*◌, ◌%◌, ◌^◌, ◌<◌, ◌≤◌, inl, inr, Bool, true, false, refl, sym, ap, subst, ◌∙◌, arith, mul_assoc, ℤ, pos, negsuc, ◌+ℤ◌, ◌-ℤ◌, unsigned_abs, nat_lt, mod-mod, mod-eq_of_lt, mod-mod-pow, false≢true, ltb-true, ints, int_rem_euclid_is, pow_pos, pow-add, Scalar, Byte, Int, Bytes, IsNumber, width_size, integer, low_bits, wrap, truth, low_bits-integer, truth_suc, integer-differs, integer-fits, BinOp, Add, Subtract, Multiply, FloorDivide, Modulo, And, Or, Xor, ShiftLeft, ShiftRight, Divide, is_bool, AreBits, BoolScalar, IsTruth, exact, binary, of_bits}
+use Rattle.std.proofs.Common.{◌≡◌, ℕ, suc, ◌+◌, ◌-◌, ◌*◌, ◌%◌, ◌^◌, ◌<◌, ◌≤◌, inl, inr, Bool, true, false, refl, sym, ap, subst, ◌∙◌, arith, mul_assoc, ℤ, pos, negsuc, ◌+ℤ◌, ◌-ℤ◌, unsigned_abs, nat_lt}
+use Rattle.elementwise.proofs.Words.{mod-mod, mod-eq_of_lt, mod-mod-pow, false≢true, ltb-true, ints, int_rem_euclid_is, pow_pos, pow-add, Scalar, Byte, Int, Bytes, IsNumber, width_size, integer, low_bits, wrap, truth, low_bits-integer, truth_suc, integer-differs, integer-fits, BinOp, Add, Subtract, Multiply, FloorDivide, Modulo, And, Or, Xor, ShiftLeft, ShiftRight, Divide, is_bool, AreBits, BoolScalar, IsTruth, exact, binary, of_bits}
 use Rattle.elementwise.proofs.WorkLaws.{small_width}
 
 -- bits are the bits of the number that they are

@@ -1,5 +1,6 @@
 -- Byte strings that are ordered like big-endian words of their bytes.
-use Rattle.elementwise.proofs.Words.{◌≡◌, ◌+◌, ◌*◌, ◌^◌, ◌<◌, ◌≤◌, ◌==◌, ◌&&◌, ◌||◌, inl, inr, ◌⊎◌, nat_lt, false, ℕ, List, [], ◌∷◌, ◌++◌, length, take, drop, refl, sym, ap, ◌∙◌, arith, length-take, length-drop, cases_eq, nat_tests, take-append-drop, take_all, take-take, big_number, item_at, AreBytes, bytes-take, bytes-drop, text_below, AreInOrder}
+use Rattle.std.proofs.Common.{◌≡◌, ◌+◌, ◌*◌, ◌^◌, ◌<◌, ◌≤◌, ◌==◌, ◌&&◌, ◌||◌, inl, inr, ◌⊎◌, nat_lt, false, ℕ, List, [], ◌∷◌, ◌++◌, length, take, drop, refl, sym, ap, ◌∙◌, arith, length-take, length-drop}
+use Rattle.elementwise.proofs.Words.{cases_eq, nat_tests, take-append-drop, take_all, take-take, big_number, item_at, AreBytes, bytes-take, bytes-drop, text_below, AreInOrder}
 use Rattle.elementwise.proofs.TextWordLaws.{lt-self, eq-self, below-rest}
 use Rattle.elementwise.proofs.TextNumberLaws.{words-below}
 use Rattle.elementwise.proofs.EvenTextLaws.{below-even}

@@ -1,5 +1,6 @@
 -- The results on numbers: the number of their bytes, and that they are read back.
-use Rattle.elementwise.proofs.Words.{◌≡◌, ◌≤◌, true, false, cond, refl, arith, ℤ, pos, int_lt, Width, Two, Four, Eight, Scalar, Byte, Int, Bytes, LeafValue, number, text, IsNumber, size, width_size, number_of, decode, encode, decode_encode, number_size, Comparison, little, BoolScalar, says, compared, exact, exact_one, compared_value, truth_value, target, meaning, IsWork, target_of, gives, CanPair, Work, Pairing, Alike, Signs, Texts, With, Combine, Change, Compare, Cast}
+use Rattle.std.proofs.Common.{◌≡◌, ◌≤◌, true, false, cond, refl, arith, ℤ, pos, int_lt}
+use Rattle.elementwise.proofs.Words.{Width, Two, Four, Eight, Scalar, Byte, Int, Bytes, LeafValue, number, text, IsNumber, size, width_size, number_of, decode, encode, decode_encode, number_size, Comparison, little, BoolScalar, says, compared, exact, exact_one, compared_value, truth_value, target, meaning, IsWork, target_of, gives, CanPair, Work, Pairing, Alike, Signs, Texts, With, Combine, Change, Compare, Cast}
 
 pub number-little : (scalar : Scalar) → IsNumber scalar → IsNumber (little scalar)
 number-little BoolScalar is = tt

@@ -1,6 +1,7 @@
 -- Casts: items of one element type as items of another, as in NumPy's `astype`. An integer that is out of range is
 -- wrapped, not refused.
-use Rattle.elementwise.specs.Words.{pos, Bool, true, false, ◌&&◌, List, [], ◌∷◌, get_or, map, take, list_all, Descr, Leaf, Scalar, Byte, Int, Bytes, LeafValue, number, text, wrap, without_nuls, number_of, text_of, Fields, no_more, scalar_field, record_field, leaves_of, ScalarDescr, RecordDescr, BoolScalar}
+use Rattle.std.specs.Prelude.{pos, Bool, true, false, ◌&&◌, List, [], ◌∷◌, get_or, map, take}
+use Rattle.elementwise.specs.Words.{list_all, Descr, Leaf, Scalar, Byte, Int, Bytes, LeafValue, number, text, wrap, without_nuls, number_of, text_of, Fields, no_more, scalar_field, record_field, leaves_of, ScalarDescr, RecordDescr, BoolScalar}
 
 -- ---- which casts exist
 

@@ -6,7 +6,7 @@ pub use Rattle.elementwise.specs.Comparisons.{compared, says}
 pub use Rattle.elementwise.specs.Operations.{binary, exact, floor_quotient, modulo, serves_bools, serves_one, shifted_left, shifted_right}
 pub use Rattle.elementwise.specs.Promotion.{are_comparable, common_integers, common_type, compared_type, integer_type, literal_type, mixed_type, promote, promote_one, rank_of_kind, same_kind}
 pub use Rattle.elementwise.specs.Results.{binary_item, binary_result, bytes_compared_result, compared_item, compared_result, integer_compared_result, pairwise, scalar_of, stretched_items, unary_item, unary_result}
-pub use Rattle.elementwise.specs.Words.{Add, All, And, Answers, AreAlike, Bool, BoolScalar, Bytes, C, Eight, Gives, IfOk, IfSome, Int, IsNumber, IsTrue, Little, Multiply, NoSuchCast, Or, OutOfMemory, Scalar, ScalarDescr, ShiftLeft, ShiftRight, Subtract, TooLarge, Xor, [], big_number, can_stretch, count, decode, encode, encode_item, false, flat_map, get_or, if◌then◌else◌, int_lt, integer, is_bool, is_signed, is_text, item_at, item_from, item_in, item_size, items, joined, leaf_at, leaves_of, length, list_all, listed, little, low_bits, map, max_bytes, nat_le, not, number, offsets_in, owned_items, padded, place, pos, run_offsets, size, take, text, true, unsigned_abs, without_nuls, wrap, ℕ, ◌&&◌, ◌*◌, ◌++◌, ◌+◌, ◌-ℤ◌, ◌-◌, ◌/◌, ◌<◌, ◌^◌, ◌||◌, ◌∷◌, ◌≡◌, ◌≤◌}
+pub use Rattle.elementwise.specs.Words.{Add, And, Answers, AreAlike, BoolScalar, Bytes, C, Eight, Gives, Int, IsNumber, Little, Multiply, NoSuchCast, Or, OutOfMemory, Scalar, ScalarDescr, ShiftLeft, ShiftRight, Subtract, TooLarge, Xor, big_number, can_stretch, count, decode, encode, encode_item, flat_map, integer, is_bool, is_signed, is_text, item_at, item_from, item_in, item_size, items, joined, leaf_at, leaves_of, list_all, listed, little, low_bits, max_bytes, number, offsets_in, owned_items, padded, place, run_offsets, size, text, without_nuls, wrap}
 unfoldable pub use Rattle.elementwise.specs.Words.{offsets}
 pub use Rattle.elementwise.specs.inside.Combined.{AreCastable, AreCompared, AreComparedWith, IsCombined}
 pub use Rattle.elementwise.specs.inside.FieldCasts.{can_cast_field}
@@ -19,5 +19,3 @@ pub use Rattle.elementwise.specs.inside.Shrunk.{IsStretched}
 pub use Rattle.elementwise.specs.inside.Sides.{made_of, pair_count}
 pub use Rattle.elementwise.specs.inside.Words.{AreInOrder, CanCut, IsWord, IsWordLen}
 pub use Rattle.elementwise.specs.inside.Works.{AreComparable, IsComparing, IsWork, meaning, target}
-pub use Rattle.std.proofs.Common.{arith}
-pub use Rattle.std.specs.Prelude.{IfErr, drop, ◌↔◌, ◌≢◌}

@@ -1,5 +1,6 @@
 -- Comparisons: numbers are compared by value, and byte strings byte by byte.
-use Rattle.elementwise.specs.Words.{ℕ, nat_lt, ◌==◌, int_lt, Bool, true, false, not, ◌&&◌, ◌||◌, List, [], ◌∷◌, LeafValue, number, text, Comparison, Equal, NotEqual, Less, LessOrEqual, Greater, GreaterOrEqual}
+use Rattle.std.specs.Prelude.{ℕ, nat_lt, ◌==◌, int_lt, Bool, true, false, not, ◌&&◌, ◌||◌, List, [], ◌∷◌}
+use Rattle.elementwise.specs.Words.{LeafValue, number, text, Comparison, Equal, NotEqual, Less, LessOrEqual, Greater, GreaterOrEqual}
 
 -- whether a byte string is below another: the first byte that differs decides, and a prefix is below the longer string
 abbrev pub text_below : List ℕ → List ℕ → Bool

@@ -1,5 +1,6 @@
 -- Operations on numbers by value. The results are wrapped to a scalar.
-use Rattle.elementwise.specs.Words.{ℕ, zero, suc, ◌*◌, ◌^◌, nat_lt, ℤ, pos, negsuc, ◌+ℤ◌, ◌-ℤ◌, ◌*ℤ◌, neg_ℤ, Bool, true, false, not, ◌&&◌, if◌then◌else◌, bit_and, bit_or, bit_xor, int_div_euclid, Scalar, size, wrap, low_bits, BinOp, Add, Subtract, Multiply, FloorDivide, Modulo, And, Or, Xor, ShiftLeft, ShiftRight, Divide, UnOp, Negate, Invert, is_bool, is_text}
+use Rattle.std.specs.Prelude.{ℕ, zero, suc, ◌*◌, ◌^◌, nat_lt, ℤ, pos, negsuc, ◌+ℤ◌, ◌-ℤ◌, ◌*ℤ◌, neg_ℤ, Bool, true, false, not, ◌&&◌, if◌then◌else◌, bit_and, bit_or, bit_xor}
+use Rattle.elementwise.specs.Words.{int_div_euclid, Scalar, size, wrap, low_bits, BinOp, Add, Subtract, Multiply, FloorDivide, Modulo, And, Or, Xor, ShiftLeft, ShiftRight, Divide, UnOp, Negate, Invert, is_bool, is_text}
 
 -- ---- division
 

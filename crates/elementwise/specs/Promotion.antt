@@ -1,5 +1,6 @@
 -- The type of a result, as NumPy 2 promotes the types of two operands.
-use Rattle.elementwise.specs.Words.{ℕ, ◌*◌, max, ◌==◌, nat_le, Bool, true, false, not, ◌&&◌, ◌||◌, if◌then◌else◌, Result, Ok, Refusal, NotForThisKind, NeedsFloats, NotSameKind, Little, Two, Four, Eight, Scalar, Byte, Int, size, ◌>>=◌, check, is_bool, is_text, is_signed, little, BinOp, Divide, UnOp, BoolScalar}
+use Rattle.std.specs.Prelude.{ℕ, ◌*◌, max, ◌==◌, nat_le, Bool, true, false, not, ◌&&◌, ◌||◌, if◌then◌else◌, Result, Ok}
+use Rattle.elementwise.specs.Words.{Refusal, NotForThisKind, NeedsFloats, NotSameKind, Little, Two, Four, Eight, Scalar, Byte, Int, size, ◌>>=◌, check, is_bool, is_text, is_signed, little, BinOp, Divide, UnOp, BoolScalar}
 use Rattle.elementwise.specs.Operations.{serves_bools, serves_one}
 
 -- ---- kinds

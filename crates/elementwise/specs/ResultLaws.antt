@@ -1,5 +1,7 @@
 -- Laws about the results of operations and casts.
-use Rattle.elementwise.specs.Words.{◌≡◌, Ok, ap, is_ok, false≢true, Scalar, Descr, same_answer, ScalarDescr, RecordDescr}
+use Rattle.std.specs.Prelude.{◌≡◌, Ok}
+use Rattle.std.proofs.Common.{ap}
+use Rattle.elementwise.specs.Words.{is_ok, false≢true, Scalar, Descr, same_answer, ScalarDescr, RecordDescr}
 use Rattle.elementwise.specs.Results.{scalar_of}
 
 -- an element type with a scalar is that scalar

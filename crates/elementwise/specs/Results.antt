@@ -1,5 +1,6 @@
 -- Results of operations and comparisons on arrays: their type, their shape and their items.
-use Rattle.elementwise.specs.Words.{ℕ, ℤ, pos, Bool, if◌then◌else◌, not, List, [], ◌∷◌, get_or, map, Result, Ok, Err, Refusal, NotForThisKind, Descr, Scalar, LeafValue, number, wrap, number_of, ◌>>=◌, check, item_from, Layout, offsets, view_through, common_shape, broadcast_index, BinOp, UnOp, Comparison, is_text, ScalarDescr, RecordDescr, BoolScalar}
+use Rattle.std.specs.Prelude.{ℕ, ℤ, pos, Bool, if◌then◌else◌, not, List, [], ◌∷◌, get_or, map, Result, Ok, Err}
+use Rattle.elementwise.specs.Words.{Refusal, NotForThisKind, Descr, Scalar, LeafValue, number, wrap, number_of, ◌>>=◌, check, item_from, Layout, offsets, view_through, common_shape, broadcast_index, BinOp, UnOp, Comparison, is_text, ScalarDescr, RecordDescr, BoolScalar}
 use Rattle.elementwise.specs.Promotion.{promote, promote_one, compared_type}
 use Rattle.elementwise.specs.Operations.{binary, unary}
 use Rattle.elementwise.specs.Comparisons.{compared}

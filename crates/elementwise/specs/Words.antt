@@ -57,7 +57,7 @@ pub use Rattle.machine_numbers.specs.Sides.{item_in, number_of_side}
 pub use Rattle.machine_numbers.specs.declared.sides.Side.{Side}
 pub use Rattle.raw_block.specs.Bytes.{EachWithin, item_at, joined, place, position, put}
 pub use Rattle.raw_block.specs.BytesLaws.{fewer, item_at-put_apart, item_at-put_same, length-item_at, length-put, not_negative, position-add}
-pub use Rattle.raw_block.specs.JoinedLaws.{all_joined, item_of_joined, joined-add, joined-same, joined_list, joined_run, length-joined}
+pub use Rattle.raw_block.specs.JoinedLaws.{all_joined, item_of_joined, joined-add, joined_list}
 pub use Rattle.shape_strides.specs.Addresses.{LieWithin, address_at, natural}
 pub use Rattle.shape_strides.specs.Contiguity.{fortran_order}
 pub use Rattle.shape_strides.specs.IndexLaws.{get_or-indexes, index_at, length-indexes, rank-lt, same_on_indexes}
@@ -75,10 +75,8 @@ pub use Rattle.shape_strides.specs.WalkLaws.{length-run_offsets}
 pub use Rattle.shape_strides.specs.declared.layout.Layout.{Layout}
 pub use Rattle.shape_strides.specs.declared.run_pairs.RunPair.{RunPair}
 pub use Rattle.shape_strides.specs.declared.runs.Run.{Run}
-pub use Rattle.std.proofs.Common.{ap}
 pub use Rattle.std.proofs.lemmas.Bool.{false≢true}
 pub use Rattle.std.specs.Int.{int_div_euclid}
 pub use Rattle.std.specs.List.{concat, flat_map, list_all}
-pub use Rattle.std.specs.Prelude.{All, Bool, Err, IfOk, IfSome, IsTrue, List, Ok, Result, [], bit_and, bit_or, bit_xor, false, get_or, if◌then◌else◌, int_lt, length, map, max, nat_le, nat_lt, neg_ℤ, negsuc, not, pos, reverse, slice_index_or, suc, take, true, unsigned_abs, zero, ℕ, ℤ, ◌&&◌, ◌*ℤ◌, ◌*◌, ◌++◌, ◌+ℤ◌, ◌+◌, ◌-ℤ◌, ◌-◌, ◌/◌, ◌<◌, ◌==◌, ◌^◌, ◌||◌, ◌∷◌, ◌≡◌, ◌≤◌}
 pub use Rattle.std.specs.Result.{is_ok}
 pub use Rattle.view_ops.specs.Views.{IsViewOf, View, view_through}

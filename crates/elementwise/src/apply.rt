@@ -1,5 +1,6 @@
 //! Operations on all items of arrays: operands are cast, stretched and combined.
-ghost use Rattle.elementwise.specs.Clauses.{can_cast, cast_item, binary_item, binary_result, pairwise, stretched_items, unary_item, unary_result, AreAlike, C, Gives, can_stretch, encode_item, item_from, item_size, items, offsets, offsets_in, owned_items, AreCastable, IsCombined, fitted_layout, IsStretched, flat_map, IfOk, IfSome, IsTrue, map, true, ◌≡◌, ◌≤◌};
+ghost use Rattle.std.specs.Prelude.{IfOk, IfSome, IsTrue, map, true, ◌≡◌, ◌≤◌};
+ghost use Rattle.elementwise.specs.Clauses.{can_cast, cast_item, binary_item, binary_result, pairwise, stretched_items, unary_item, unary_result, AreAlike, C, Gives, can_stretch, encode_item, item_from, item_size, items, offsets, offsets_in, owned_items, AreCastable, IsCombined, fitted_layout, IsStretched, flat_map};
 
 use crate::castable::keeps_items;
 use crate::casts::cast_items;

@@ -1,5 +1,6 @@
 //! Operations on numbers that are given by their lowest 64 bits; all higher bits repeat the sign.
-ghost use Rattle.elementwise.specs.Clauses.{◌≡◌, ◌≤◌, Bool, int_lt, Scalar, integer, low_bits, exact, floor_quotient, modulo, shifted_left, shifted_right, division_op, is_negative, magnitude_of};
+ghost use Rattle.std.specs.Prelude.{◌≡◌, ◌≤◌, Bool, int_lt};
+ghost use Rattle.elementwise.specs.Clauses.{Scalar, integer, low_bits, exact, floor_quotient, modulo, shifted_left, shifted_right, division_op, is_negative, magnitude_of};
 
 /// Whether the number is negative.
 #[inline(always)]

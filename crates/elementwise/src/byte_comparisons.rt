@@ -1,5 +1,6 @@
 //! Comparisons of all items of arrays of byte strings with bytes.
-ghost use Rattle.elementwise.specs.Clauses.{ScalarDescr, bytes_compared_result, compared_item, Bytes, C, Gives, encode_item, item_from, item_size, offsets, offsets_in, owned_items, text, without_nuls, AreComparedWith, flat_map, IfOk, [], length, map, ◌∷◌, ◌≡◌, ◌≤◌};
+ghost use Rattle.std.specs.Prelude.{IfOk, [], length, map, ◌∷◌, ◌≡◌, ◌≤◌};
+ghost use Rattle.elementwise.specs.Clauses.{ScalarDescr, bytes_compared_result, compared_item, Bytes, C, Gives, encode_item, item_from, item_size, offsets, offsets_in, owned_items, text, without_nuls, AreComparedWith, flat_map};
 
 use crate::byte_string_pairs::without_nuls;
 use crate::comparisons::compare_with_one;

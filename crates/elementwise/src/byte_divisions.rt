@@ -1,5 +1,6 @@
 //! Divisions of pairs of unsigned numbers of one byte, by a table of reciprocals.
-ghost use Rattle.elementwise.specs.Clauses.{binary, exact, floor_quotient, Little, Scalar, integer, joined, low_bits, division_op, number_pair, made_of, pair_count, false, get_or, unsigned_abs, ℕ, ◌*◌, ◌++◌, ◌+◌, ◌-◌, ◌/◌, ◌<◌, ◌^◌, ◌≡◌, ◌≤◌};
+ghost use Rattle.std.specs.Prelude.{false, get_or, unsigned_abs, ℕ, ◌*◌, ◌++◌, ◌+◌, ◌-◌, ◌/◌, ◌<◌, ◌^◌, ◌≡◌, ◌≤◌};
+ghost use Rattle.elementwise.specs.Clauses.{binary, exact, floor_quotient, Little, Scalar, integer, joined, low_bits, division_op, number_pair, made_of, pair_count};
 
 use crate::operands::note_slice;
 use crate::pairing::Pairs;

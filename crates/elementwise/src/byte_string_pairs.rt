@@ -1,5 +1,7 @@
 //! Comparisons of byte strings, row by row.
-ghost use Rattle.elementwise.specs.Clauses.{BoolScalar, compared, encode, item_in, joined, padded, text, without_nuls, text_pair, truth_value, arith, IfSome, take, ◌≡◌, ◌≤◌};
+ghost use Rattle.std.proofs.Common.{arith};
+ghost use Rattle.std.specs.Prelude.{IfSome, take, ◌≡◌, ◌≤◌};
+ghost use Rattle.elementwise.specs.Clauses.{BoolScalar, compared, encode, item_in, joined, padded, text, without_nuls, text_pair, truth_value};
 
 use crate::byte_strings::{shared_words, without_nul_words, word_at};
 use crate::comparison_kernels::says;

@@ -1,5 +1,6 @@
 //! Byte strings: without the trailing NULs that all of them have, and by words of eight bytes.
-ghost use Rattle.elementwise.specs.Clauses.{ScalarDescr, Bytes, big_number, item_at, offsets, without_nuls, CanCut, IsWordLen, All, IfOk, drop, length, take, ◌+◌, ◌≡◌, ◌≤◌};
+ghost use Rattle.std.specs.Prelude.{All, IfOk, drop, length, take, ◌+◌, ◌≡◌, ◌≤◌};
+ghost use Rattle.elementwise.specs.Clauses.{ScalarDescr, Bytes, big_number, item_at, offsets, without_nuls, CanCut, IsWordLen};
 
 use crate::byte_string_pairs::without_nuls;
 use crate::operands::without_repeats;

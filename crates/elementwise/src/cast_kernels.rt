@@ -1,5 +1,6 @@
 //! Casts of the numbers of operands: which kernel does them.
-ghost use Rattle.elementwise.specs.Clauses.{IsNumber, Little, item_size, size, wrap, made_of_all, pairs_of, number_pair, ◌*◌, ◌++◌, ◌+◌, ◌≡◌, ◌≤◌};
+ghost use Rattle.std.specs.Prelude.{◌*◌, ◌++◌, ◌+◌, ◌≡◌, ◌≤◌};
+ghost use Rattle.elementwise.specs.Clauses.{IsNumber, Little, item_size, size, wrap, made_of_all, pairs_of, number_pair};
 
 use crate::kernels::{Kernel, push_made};
 use crate::row_pairs::Operands;

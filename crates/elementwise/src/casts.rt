@@ -1,5 +1,6 @@
 //! Casts: the items of an array as items of another element type.
-ghost use Rattle.elementwise.specs.Clauses.{ScalarDescr, can_cast, cast_item, C, IsNumber, NoSuchCast, OutOfMemory, TooLarge, count, encode_item, item_from, item_size, leaf_at, leaves_of, max_bytes, offsets, offsets_in, owned_items, place, run_offsets, size, HasSource, IsCut, cast_items, source, with_leaf, AreCast, AreItems, IsCast, flat_map, IfErr, IfOk, IsTrue, drop, if◌then◌else◌, length, map, nat_le, true, ◌*◌, ◌+◌, ◌<◌, ◌≡◌, ◌≤◌};
+ghost use Rattle.std.specs.Prelude.{IfErr, IfOk, IsTrue, drop, if◌then◌else◌, length, map, nat_le, true, ◌*◌, ◌+◌, ◌<◌, ◌≡◌, ◌≤◌};
+ghost use Rattle.elementwise.specs.Clauses.{ScalarDescr, can_cast, cast_item, C, IsNumber, NoSuchCast, OutOfMemory, TooLarge, count, encode_item, item_from, item_size, leaf_at, leaves_of, max_bytes, offsets, offsets_in, owned_items, place, run_offsets, size, HasSource, IsCut, cast_items, source, with_leaf, AreCast, AreItems, IsCast, flat_map};
 
 use crate::apply::Held;
 use crate::castable::can_cast;

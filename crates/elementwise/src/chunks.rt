@@ -1,6 +1,7 @@
 //! Operands of two types, cast and combined chunk by chunk, so that the cast items stay in the
 //! cache.
-ghost use Rattle.elementwise.specs.Words.{◌≡◌, ◌+◌, ◌*◌, ◌++◌, ◌≤◌, [], ◌∷◌, IfOk, flat_map, ScalarDescr, encode_item, size, offsets, run_offsets, max_items, BeginsWithin};
+ghost use Rattle.std.specs.Prelude.{◌≡◌, ◌+◌, ◌*◌, ◌++◌, ◌≤◌, [], ◌∷◌, IfOk};
+ghost use Rattle.elementwise.specs.Words.{flat_map, ScalarDescr, encode_item, size, offsets, run_offsets, max_items, BeginsWithin};
 ghost use Rattle.elementwise.specs.inside.Combined.{AreCastable, IsCombined, all_given};
 ghost use Rattle.elementwise.specs.inside.LeafCasts.{run_part};
 ghost use Rattle.elementwise.specs.inside.Works.{target_of};

@@ -1,5 +1,6 @@
 //! Comparisons of the numbers of operands: which kernel does them.
-ghost use Rattle.elementwise.specs.Clauses.{BoolScalar, says, item_size, made_of_all, pairs_of, number_pair, said, says_number, if◌then◌else◌, int_lt, pos, ◌++◌, ◌+◌, ◌≡◌, ◌≤◌};
+ghost use Rattle.std.specs.Prelude.{if◌then◌else◌, int_lt, pos, ◌++◌, ◌+◌, ◌≡◌, ◌≤◌};
+ghost use Rattle.elementwise.specs.Clauses.{BoolScalar, says, item_size, made_of_all, pairs_of, number_pair, said, says_number};
 
 use crate::bits;
 use crate::kernels::{Kernel, push_made};

@@ -1,5 +1,6 @@
 //! Comparisons of all items of arrays.
-ghost use Rattle.elementwise.specs.Clauses.{ScalarDescr, compared_item, compared_result, pairwise, stretched_items, Bytes, C, Gives, IsNumber, decode, encode_item, item_from, item_size, max_bytes, offsets, offsets_in, owned_items, size, AreCompared, AreComparedWith, AreComparable, IsComparing, flat_map, IfOk, length, map, ◌≡◌, ◌≤◌};
+ghost use Rattle.std.specs.Prelude.{IfOk, length, map, ◌≡◌, ◌≤◌};
+ghost use Rattle.elementwise.specs.Clauses.{ScalarDescr, compared_item, compared_result, pairwise, stretched_items, Bytes, C, Gives, IsNumber, decode, encode_item, item_from, item_size, max_bytes, offsets, offsets_in, owned_items, size, AreCompared, AreComparedWith, AreComparable, IsComparing, flat_map};
 
 use crate::apply::make_cast;
 use crate::byte_string_pairs::ComparingTexts;

@@ -2,7 +2,8 @@
 //! used.
 ghost use Rattle.elementwise.specs.Bits.{IsTruth};
 ghost use Rattle.elementwise.specs.Operations.{binary, exact, floor_quotient};
-ghost use Rattle.elementwise.specs.Words.{Little, Scalar, integer, is_bool, joined, low_bits, number_of_side, IfSome, IsTrue, false, pos, true, unsigned_abs, ℕ, ◌*◌, ◌++◌, ◌+◌, ◌-◌, ◌/◌, ◌<◌, ◌^◌, ◌≡◌, ◌≤◌};
+ghost use Rattle.std.specs.Prelude.{IfSome, IsTrue, false, pos, true, unsigned_abs, ℕ, ◌*◌, ◌++◌, ◌+◌, ◌-◌, ◌/◌, ◌<◌, ◌^◌, ◌≡◌, ◌≤◌};
+ghost use Rattle.elementwise.specs.Words.{Little, Scalar, integer, is_bool, joined, low_bits, number_of_side};
 ghost use Rattle.elementwise.specs.inside.PairPasses.{division_op, number_pair};
 ghost use Rattle.elementwise.specs.inside.Sides.{made_of, pair_count};
 

@@ -1,5 +1,6 @@
 //! Comparisons of all items of arrays of numbers with one integer.
-ghost use Rattle.elementwise.specs.Clauses.{ScalarDescr, compared_item, integer_compared_result, C, Gives, IsNumber, encode_item, item_from, item_size, little, number, offsets, offsets_in, owned_items, wrap, AreComparedWith, flat_map, IfOk, [], map, ◌∷◌, ◌≡◌, ◌≢◌};
+ghost use Rattle.std.specs.Prelude.{IfOk, [], map, ◌∷◌, ◌≡◌, ◌≢◌};
+ghost use Rattle.elementwise.specs.Clauses.{ScalarDescr, compared_item, integer_compared_result, C, Gives, IsNumber, encode_item, item_from, item_size, little, number, offsets, offsets_in, owned_items, wrap, AreComparedWith, flat_map};
 
 use crate::comparison_kernels::says;
 use crate::comparisons::compare_with_one;

@@ -1,5 +1,6 @@
 //! Loops over pairs of numbers, which append the results of a kernel.
-ghost use Rattle.elementwise.specs.Words.{◌≡◌, ◌+◌, ◌*◌, ◌≤◌, ◌++◌, ◌/◌, ℕ, ℤ, List, item_size, joined};
+ghost use Rattle.std.specs.Prelude.{◌≡◌, ◌+◌, ◌*◌, ◌≤◌, ◌++◌, ◌/◌, ℕ, ℤ, List};
+ghost use Rattle.elementwise.specs.Words.{item_size, joined};
 ghost use Rattle.elementwise.specs.inside.PairPasses.{number_pair};
 ghost use Rattle.elementwise.specs.inside.Operands.{pairs_of, made_of_all};
 ghost use Rattle.elementwise.specs.inside.Sides.{pair_count, made_of};

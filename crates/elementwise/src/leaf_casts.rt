@@ -1,5 +1,6 @@
 //! Casts of leaves at equal steps, each to its place in a row of its own.
-ghost use Rattle.elementwise.specs.Words.{◌≡◌, ◌+◌, ◌*◌, ◌≤◌, ℕ, List, length, take, IsNumber, size, put, padded, without_nuls, item_in};
+ghost use Rattle.std.specs.Prelude.{◌≡◌, ◌+◌, ◌*◌, ◌≤◌, ℕ, List, length, take};
+ghost use Rattle.elementwise.specs.Words.{IsNumber, size, put, padded, without_nuls, item_in};
 ghost use Rattle.elementwise.specs.inside.LeafCasts.{leaf_cast};
 ghost use Rattle.elementwise.specs.inside.Columns.{HasRoom, with_leaves, AreRows};
 

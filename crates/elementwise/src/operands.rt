@@ -1,5 +1,6 @@
 //! The operands of operations, and arrays of the results for their pairs.
-ghost use Rattle.elementwise.specs.Words.{ScalarDescr, BoolScalar, can_stretch, little, IfOk, IfSome, IsTrue, slice_index_or, ℕ, ◌<◌, ◌≡◌};
+ghost use Rattle.std.specs.Prelude.{IfOk, IfSome, IsTrue, slice_index_or, ℕ, ◌<◌, ◌≡◌};
+ghost use Rattle.elementwise.specs.Words.{ScalarDescr, BoolScalar, can_stretch, little};
 ghost use Rattle.elementwise.specs.Results.{stretched_items};
 ghost use Rattle.elementwise.specs.inside.Made.{IsMade, IsTurned};
 ghost use Rattle.elementwise.specs.inside.Operands.{AreMatched, IsPaired};

@@ -1,6 +1,7 @@
 //! Operations on operands of one number type, and the kernels that do them. Each operation works on
 //! the lowest 64 bits, of which a number keeps as many as its type has.
-ghost use Rattle.elementwise.specs.Clauses.{◌≡◌, ◌+◌, ◌*◌, ◌≤◌, ◌++◌, true, ◌-ℤ◌, Little, size, integer, wrap, item_size, Add, Subtract, Multiply, And, Or, Xor, ShiftLeft, ShiftRight, is_bool, binary, serves_bools, serves_one, division_op, number_pair, pairs_of, made_of_all, target, meaning, IsWork};
+ghost use Rattle.std.specs.Prelude.{◌≡◌, ◌+◌, ◌*◌, ◌≤◌, ◌++◌, true, ◌-ℤ◌};
+ghost use Rattle.elementwise.specs.Clauses.{Little, size, integer, wrap, item_size, Add, Subtract, Multiply, And, Or, Xor, ShiftLeft, ShiftRight, is_bool, binary, serves_bools, serves_one, division_op, number_pair, pairs_of, made_of_all, target, meaning, IsWork};
 
 use crate::bits;
 use crate::cast_kernels::cast;

@@ -1,5 +1,6 @@
 //! Combines the items of two operands, pair by pair.
-ghost use Rattle.elementwise.specs.Words.{item_size, size, ◌*◌, ◌++◌, ◌+◌, ◌≡◌, ◌≤◌};
+ghost use Rattle.std.specs.Prelude.{◌*◌, ◌++◌, ◌+◌, ◌≡◌, ◌≤◌};
+ghost use Rattle.elementwise.specs.Words.{item_size, size};
 ghost use Rattle.elementwise.specs.inside.Operands.{made_of_all, pairs_of};
 
 use crate::byte_string_pairs::{ComparingTexts, ComparingWith};

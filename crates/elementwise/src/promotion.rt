@@ -1,5 +1,6 @@
 //! The types of results, as NumPy 2 promotes the types of operands.
-ghost use Rattle.elementwise.specs.Clauses.{◌≡◌, ◌≤◌, not, ◌&&◌, ◌||◌, Little, Eight, Int, Answers, is_bool, is_text, is_signed, little, rank_of_kind, same_kind, integer_type, mixed_type, common_integers, common_type, promote, are_comparable, compared_type, literal_type, promote_one, serves_bools, scalar_of};
+ghost use Rattle.std.specs.Prelude.{◌≡◌, ◌≤◌, not, ◌&&◌, ◌||◌};
+ghost use Rattle.elementwise.specs.Clauses.{Little, Eight, Int, Answers, is_bool, is_text, is_signed, little, rank_of_kind, same_kind, integer_type, mixed_type, common_integers, common_type, promote, are_comparable, compared_type, literal_type, promote_one, serves_bools, scalar_of};
 
 use crate::operations::{serves_bools, serves_one};
 use elem_descr::{BinOp, Descr, Order, Refusal, Scalar, UnOp, Width};

@@ -1,6 +1,7 @@
 //! Combines the items of two operands, row by row.
 ghost use Rattle.elementwise.specs.Results.{pairwise};
-ghost use Rattle.elementwise.specs.Words.{BeginsWithin, EachWithin, item_size, joined, offsets, run_offsets, concat, IfSome, List, length, ℕ, ◌*◌, ◌++◌, ◌+◌, ◌≡◌, ◌≤◌};
+ghost use Rattle.std.specs.Prelude.{IfSome, List, length, ℕ, ◌*◌, ◌++◌, ◌+◌, ◌≡◌, ◌≤◌};
+ghost use Rattle.elementwise.specs.Words.{BeginsWithin, EachWithin, item_size, joined, offsets, run_offsets, concat};
 ghost use Rattle.elementwise.specs.inside.PairPasses.{pair_from};
 
 use crate::pairing::Pairs;

@@ -1,6 +1,8 @@
 //! Comparisons of byte strings, pair by pair. Byte strings of the same length are compared by
 //! words.
-ghost use Rattle.elementwise.specs.Clauses.{BigOrder, item_size, made_of_all, pairs_of, text_pair, text_said, AreInOrder, IsWord, IsWordLen, arith, length, ℕ, ◌*◌, ◌++◌, ◌+◌, ◌^◌, ◌≡◌, ◌≤◌};
+ghost use Rattle.std.proofs.Common.{arith};
+ghost use Rattle.std.specs.Prelude.{length, ℕ, ◌*◌, ◌++◌, ◌+◌, ◌^◌, ◌≡◌, ◌≤◌};
+ghost use Rattle.elementwise.specs.Clauses.{BigOrder, item_size, made_of_all, pairs_of, text_pair, text_said, AreInOrder, IsWord, IsWordLen};
 
 use crate::byte_string_pairs::ComparingTexts;
 use crate::byte_strings::{shared_words, word_at};

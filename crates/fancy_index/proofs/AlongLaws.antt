@@ -1,5 +1,6 @@
 -- Addresses along some axes, with the rest of the index fixed.
-use Rattle.fancy_index.proofs.Words.{◌≡◌, ℕ, ◌+◌, ◌<◌, ◌≤◌, ◌≤ℤ◌, List, [], ◌∷◌, ◌++◌, map, length, get_or, take, drop, All, refl, sym, ap, subst, ◌∙◌, arith, length-append, length-drop, length-take-le, ints, get_or-map, length-map, All-drop, ℤ, pos, ◌+ℤ◌, *ℤ-zero, Layout, max_axes, max_items, count, rank, IsIndex, dot, natural, address_at, address, offsets, pos-natural, get_or-offsets, IsShape, length-index, index_at, rank-lt, ShowsThrough, tuple, strides_along, offset_along, BeginAt}
+use Rattle.std.proofs.Common.{◌≡◌, ℕ, ◌+◌, ◌<◌, ◌≤◌, ◌≤ℤ◌, List, [], ◌∷◌, ◌++◌, map, length, get_or, take, drop, All, refl, sym, ap, subst, ◌∙◌, arith, length-append, length-drop, length-take-le, ℤ, pos, ◌+ℤ◌}
+use Rattle.fancy_index.proofs.Words.{ints, get_or-map, length-map, All-drop, *ℤ-zero, Layout, max_axes, max_items, count, rank, IsIndex, dot, natural, address_at, address, offsets, pos-natural, get_or-offsets, IsShape, length-index, index_at, rank-lt, ShowsThrough, tuple, strides_along, offset_along, BeginAt}
 use Rattle.fancy_index.proofs.CutLaws.{dot-cut, some-behind, few-behind, shape-before}
 use Rattle.fancy_index.proofs.ShiftLaws.{tuple-is, tuple-in}
 

@@ -1,5 +1,6 @@
 -- What each exit of the planning must return.
-use Rattle.fancy_index.proofs.Words.{◌≡◌, ◌⊎◌, inl, inr, Result, Ok, Err, ℕ, ◌≤◌, Bool, true, false, IsTrue, List, [], map, length, get_or, All, refl, sym, ap, subst, ◌∙◌, arith, is_ok, IfOk, false≢true, nil_from_length, length-map, Refusal, OutOfMemory, IndexOutOfRange, check, ◌>>=◌, Layout, max_axes, count, indexes, rank, shape_of, shape_of-same, offsets, length-indexes, rank-lt, common_with, can_stretch, with-fits, IndexPart, Part, point_shapes, as_index_shapes, points_shape, all_axes, leads_through, parts_view, Planned, IsPlanOf, GivesPlan, IsWithin, IsOutside, shown_part, all_named, view_if_named, AreParts, IsReady}
+use Rattle.std.proofs.Common.{◌≡◌, ◌⊎◌, inl, inr, Result, Ok, Err, ℕ, ◌≤◌, Bool, true, false, IsTrue, List, [], map, length, get_or, All, refl, sym, ap, subst, ◌∙◌, arith}
+use Rattle.fancy_index.proofs.Words.{is_ok, IfOk, false≢true, nil_from_length, length-map, Refusal, OutOfMemory, IndexOutOfRange, check, ◌>>=◌, Layout, max_axes, count, indexes, rank, shape_of, shape_of-same, offsets, length-indexes, rank-lt, common_with, can_stretch, with-fits, IndexPart, Part, point_shapes, as_index_shapes, points_shape, all_axes, leads_through, parts_view, Planned, IsPlanOf, GivesPlan, IsWithin, IsOutside, shown_part, all_named, view_if_named, AreParts, IsReady}
 use Rattle.fancy_index.proofs.LeadLaws.{all_ready}
 use Rattle.fancy_index.proofs.PartLaws.{passed}
 

@@ -1,5 +1,6 @@
 -- The ranks of true bools.
-use Rattle.fancy_index.proofs.Words.{◌≡◌, ◌⊎◌, inl, inr, ℕ, zero, suc, ◌+◌, ◌*◌, ◌/◌, ◌%◌, ◌^◌, ◌<◌, ◌≤◌, true, false, List, [], ◌∷◌, ◌++◌, map, length, get_or, set, take, drop, refl, sym, ap, subst, ◌∙◌, arith, append_assoc, flat_map, int_eq, ints, map-map, get_or-map, length-map, get_or-drop, get_or-take, drop_more, map-append, take-set, take_more_set, ℤ, pos, ◌*ℤ◌, item_at, Descr, Byte, Int, Bytes, item_from, truth, Run, run_offsets, length-run_offsets, ScalarDescr, RecordDescr, BoolScalar, Mask, kind_of, axes_of_kind, first_number, number_from, Bools, bool_at, bools_in, AreBits, LieInBytes, true_ranks}
+use Rattle.std.proofs.Common.{◌≡◌, ◌⊎◌, inl, inr, ℕ, zero, suc, ◌+◌, ◌*◌, ◌/◌, ◌%◌, ◌^◌, ◌<◌, ◌≤◌, true, false, List, [], ◌∷◌, ◌++◌, map, length, get_or, set, take, drop, refl, sym, ap, subst, ◌∙◌, arith, append_assoc, ℤ, pos, ◌*ℤ◌}
+use Rattle.fancy_index.proofs.Words.{flat_map, int_eq, ints, map-map, get_or-map, length-map, get_or-drop, get_or-take, drop_more, map-append, take-set, take_more_set, item_at, Descr, Byte, Int, Bytes, item_from, truth, Run, run_offsets, length-run_offsets, ScalarDescr, RecordDescr, BoolScalar, Mask, kind_of, axes_of_kind, first_number, number_from, Bools, bool_at, bools_in, AreBits, LieInBytes, true_ranks}
 use Rattle.fancy_index.proofs.RunLaws.{lies-there}
 
 -- ---- the bools of a mask

@@ -1,6 +1,7 @@
 -- A layout that is cut between two axes: its first axes with 0 on the later ones, and its later axes with 0 on the
 -- first.
-use Rattle.fancy_index.proofs.Words.{◌≡◌, ◌⊎◌, inl, inr, Result, Ok, Err, ℕ, ◌*◌, ◌<◌, ◌≤◌, List, [], ◌∷◌, ◌++◌, length, take, drop, All, refl, sym, ap, subst, ◌∙◌, arith, length-drop, length-take-le, mul-le-mul_left, mul-le-mul_right, mul-one, one-mul, is_ok, false≢true, ints, take-append-drop, All-take, All-drop, ℤ, pos, ◌+ℤ◌, ◌*ℤ◌, +ℤ_idl, +ℤ_idr, +ℤ_assoc, Refusal, OutOfMemory, Layout, max_axes, max_items, max_bytes, count, IsIndex, IsShape, dot, address_at, LieWithin, address, zero_filled, factors_pos, length-index, IsIndex-append, dot-zeros, IsIndex-first, count-append, ShowsThrough, LieWithin-view}
+use Rattle.std.proofs.Common.{◌≡◌, ◌⊎◌, inl, inr, Result, Ok, Err, ℕ, ◌*◌, ◌<◌, ◌≤◌, List, [], ◌∷◌, ◌++◌, length, take, drop, All, refl, sym, ap, subst, ◌∙◌, arith, length-drop, length-take-le, mul-le-mul_left, mul-le-mul_right, mul-one, one-mul, ℤ, pos, ◌+ℤ◌, ◌*ℤ◌}
+use Rattle.fancy_index.proofs.Words.{is_ok, false≢true, ints, take-append-drop, All-take, All-drop, +ℤ_idl, +ℤ_idr, +ℤ_assoc, Refusal, OutOfMemory, Layout, max_axes, max_items, max_bytes, count, IsIndex, IsShape, dot, address_at, LieWithin, address, zero_filled, factors_pos, length-index, IsIndex-append, dot-zeros, IsIndex-first, count-append, ShowsThrough, LieWithin-view}
 
 -- ---- sums
 

@@ -1,5 +1,6 @@
 -- The ranks of four true bools at once: the tables, and bools as the bits of a number.
-use Rattle.fancy_index.proofs.Words.{◌≡◌, ℕ, zero, suc, ◌+◌, ◌/◌, ◌%◌, ◌^◌, ◌<◌, ◌≤◌, true, false, cond, List, [], ◌∷◌, ◌++◌, map, length, get_or, take, drop, refl, sym, ap, subst, ◌∙◌, arith, int_eq, range_with_len, put_chunk_is, Each1-get_or, get_or-range_with_len, take-map, length-take, length-map, length-take-le, take-append-le, drop_more, pow-add, take-append-add, div-one, div-div-eq-div-mul, ℤ, pos, put_chunk, bits, true_ranks, PLACES, COUNTS}
+use Rattle.std.proofs.Common.{◌≡◌, ℕ, zero, suc, ◌+◌, ◌/◌, ◌%◌, ◌^◌, ◌<◌, ◌≤◌, true, false, cond, List, [], ◌∷◌, ◌++◌, map, length, get_or, take, drop, refl, sym, ap, subst, ◌∙◌, arith, length-take-le, ℤ, pos}
+use Rattle.fancy_index.proofs.Words.{int_eq, range_with_len, put_chunk_is, Each1-get_or, get_or-range_with_len, take-map, length-take, length-map, take-append-le, drop_more, pow-add, take-append-add, div-one, div-div-eq-div-mul, put_chunk, bits, true_ranks, PLACES, COUNTS}
 use Rattle.fancy_index.proofs.BoolLaws.{true_ranks-append}
 
 -- ---- the tables

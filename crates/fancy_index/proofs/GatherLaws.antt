@@ -1,5 +1,6 @@
 -- Adjacent items.
-use Rattle.fancy_index.proofs.Words.{◌≡◌, ℕ, zero, suc, ◌+◌, ◌*◌, ◌≤◌, List, ◌∷◌, length, get_or, All, sym, ap, ◌∙◌, arith, zero-mul, suc-mul, mul_comm, pos, length-map-range_with_len, get_or-map-range_with_len, Run, run_offsets, multiples, length-run_offsets, row-multiples, packed, packed-append}
+use Rattle.std.proofs.Common.{◌≡◌, ℕ, zero, suc, ◌+◌, ◌*◌, ◌≤◌, List, ◌∷◌, length, get_or, All, sym, ap, ◌∙◌, arith, zero-mul, suc-mul, mul_comm, pos}
+use Rattle.fancy_index.proofs.Words.{length-map-range_with_len, get_or-map-range_with_len, Run, run_offsets, multiples, length-run_offsets, row-multiples, packed, packed-append}
 
 pub packed-suc : (at width n : ℕ) → packed at width (suc n) ≡ at ∷ packed (at + width) width n
 packed-suc at width n =

@@ -1,5 +1,6 @@
 -- Indexes of concatenated axes, and lists over them.
-use Rattle.fancy_index.proofs.Words.{◌≡◌, ℕ, List, [], ◌∷◌, ◌++◌, map, length, get_or, take, drop, All, refl, sym, ap, ◌∙◌, arith, append-nil, flat_map, range_with_len, All-map, All-head, All-tail, flat_map-map, map-map, Layout, natural, indexes, IsIndex, address, offsets, length-indexes, get_or-indexes, index_at, same_on_indexes, flat_map_same, flat_map-flat_map, map-flat_map, moved_offset, shifted, shifted_all, moved_all}
+use Rattle.std.proofs.Common.{◌≡◌, ℕ, List, [], ◌∷◌, ◌++◌, map, length, get_or, take, drop, All, refl, sym, ap, ◌∙◌, arith, append-nil}
+use Rattle.fancy_index.proofs.Words.{flat_map, range_with_len, All-map, All-head, All-tail, flat_map-map, map-map, Layout, natural, indexes, IsIndex, address, offsets, length-indexes, get_or-indexes, index_at, same_on_indexes, flat_map_same, flat_map-flat_map, map-flat_map, moved_offset, shifted, shifted_all, moved_all}
 
 -- ---- properties of each index
 

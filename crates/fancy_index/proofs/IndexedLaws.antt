@@ -1,5 +1,6 @@
 -- What each check of an index list must return.
-use Rattle.fancy_index.proofs.Words.{◌≡◌, ◌⊎◌, inl, inr, Err, ℕ, ◌<◌, ◌≤◌, nat_le, true, false, ◌&&◌, List, [], ◌∷◌, length, refl, ap, ◌∙◌, arith, list_all, le-leb, nat_tests, Refusal, OutOfMemory, NotAnIndexType, TooManyIndices, MaskLengths, ZeroStep, IndexOutOfRange, ◌>>=◌, check, IndexItem, Integer, Slice, Ellipsis, Array, has_step, Items, IndexArray, is_index, array_axes_taken, cover, are_within, parts, index_item_of, index_items, parts_view, indexed, IsChecked}
+use Rattle.std.proofs.Common.{◌≡◌, ◌⊎◌, inl, inr, Err, ℕ, ◌<◌, ◌≤◌, nat_le, true, false, ◌&&◌, List, [], ◌∷◌, length, refl, ap, ◌∙◌, arith}
+use Rattle.fancy_index.proofs.Words.{list_all, le-leb, nat_tests, Refusal, OutOfMemory, NotAnIndexType, TooManyIndices, MaskLengths, ZeroStep, IndexOutOfRange, ◌>>=◌, check, IndexItem, Integer, Slice, Ellipsis, Array, has_step, Items, IndexArray, is_index, array_axes_taken, cover, are_within, parts, index_item_of, index_items, parts_view, indexed, IsChecked}
 use Rattle.fancy_index.specs.Words.{NewAxis}
 
 pub refused-kind : (shape : List ℕ) (items : List (IndexItem IndexArray)) → list_all is_index items ≡ false → indexed shape items ≡ Err NotAnIndexType

@@ -1,5 +1,6 @@
 -- A plan is made of the other axes and of the offset of the first item with each point.
-use Rattle.fancy_index.proofs.Words.{◌≡◌, ℕ, zero, suc, ◌+◌, ◌*◌, ◌/◌, ◌<◌, ◌≤◌, ◌≤ℤ◌, Bool, true, false, cond, List, [], ◌++◌, map, length, get_or, take, drop, All, sym, ap, subst, ◌∙◌, arith, append_assoc, mul_assoc, mul_comm, length-take-le, ints, div-mul-add, length-map, drop-drop, take-append-drop, All-map, take-append_seam, drop-append_seam, ℤ, pos, ◌+ℤ◌, +ℤ_idr, Layout, max_bytes, count, indexes, rank, IsIndex, dot, address_at, natural, address, offsets, zero_filled, factors_pos, length-index, length-indexes, dot-zeros, IsIndex-first, pos-natural, get_or-offsets, count-append, picked_index, view_through, IndexPart, Part, other_axes, side_by_side, axes_before, points_place, leads, all_axes, leads_through, Planned, IsPlanOf, moved_offset, moved_all, IsMoved, IsStart, AreStarts, shown_part, AreParts, IsReady, IsReadyAt, first_at, first_offset, rest_picks, IsRest}
+use Rattle.std.proofs.Common.{◌≡◌, ℕ, zero, suc, ◌+◌, ◌*◌, ◌/◌, ◌<◌, ◌≤◌, ◌≤ℤ◌, Bool, true, false, cond, List, [], ◌++◌, map, length, get_or, take, drop, All, sym, ap, subst, ◌∙◌, arith, append_assoc, mul_assoc, mul_comm, length-take-le, ℤ, pos, ◌+ℤ◌}
+use Rattle.fancy_index.proofs.Words.{ints, div-mul-add, length-map, drop-drop, take-append-drop, All-map, take-append_seam, drop-append_seam, +ℤ_idr, Layout, max_bytes, count, indexes, rank, IsIndex, dot, address_at, natural, address, offsets, zero_filled, factors_pos, length-index, length-indexes, dot-zeros, IsIndex-first, pos-natural, get_or-offsets, count-append, picked_index, view_through, IndexPart, Part, other_axes, side_by_side, axes_before, points_place, leads, all_axes, leads_through, Planned, IsPlanOf, moved_offset, moved_all, IsMoved, IsStart, AreStarts, shown_part, AreParts, IsReady, IsReadyAt, first_at, first_offset, rest_picks, IsRest}
 use Rattle.fancy_index.proofs.CutLaws.{IsIndex-whole, some-behind, address-both}
 use Rattle.fancy_index.proofs.IndexSplits.{all_indexes, all_offsets, moved-joined, IsIndex-cut}
 use Rattle.fancy_index.proofs.LeadLaws.{leads-in, first-leads, split}

@@ -1,5 +1,6 @@
 -- Which indexes of the array the indexes of the result lead to, part by part.
-use Rattle.fancy_index.proofs.Words.{◌≡◌, ℕ, ◌+◌, ◌<◌, ◌≤◌, IsTrue, List, [], ◌∷◌, ◌++◌, map, length, get_or, take, drop, All, refl, sym, ap, subst, ◌∙◌, arith, length-append, ints, get_or-map, All-head, All-tail, All-cons, All-nil, ℤ, pos, ◌+ℤ◌, ◌*ℤ◌, +ℤ_idl, *ℤ-zero, max_axes, count, rank, IsIndex, dot, zero_filled, factors_pos, length-index, IsIndex-append, AxisPick, run_numbers, picked_index, pick_shown, ArePicks, length-run, number_at, can_stretch, broadcast_index, AtAxis, AlongAxis, NewAxis, PointList, IndexPart, AxisPart, PointsPart, BetweenPart, point_shapes, other_axes, leads, tuple, ranks_of, shown_part, AreParts, IsReady, HasPointAt, IsReadyAt, point_of, first_at, rest_picks}
+use Rattle.std.proofs.Common.{◌≡◌, ℕ, ◌+◌, ◌<◌, ◌≤◌, IsTrue, List, [], ◌∷◌, ◌++◌, map, length, get_or, take, drop, All, refl, sym, ap, subst, ◌∙◌, arith, length-append, ℤ, pos, ◌+ℤ◌, ◌*ℤ◌}
+use Rattle.fancy_index.proofs.Words.{ints, get_or-map, All-head, All-tail, All-cons, All-nil, +ℤ_idl, *ℤ-zero, max_axes, count, rank, IsIndex, dot, zero_filled, factors_pos, length-index, IsIndex-append, AxisPick, run_numbers, picked_index, pick_shown, ArePicks, length-run, number_at, can_stretch, broadcast_index, AtAxis, AlongAxis, NewAxis, PointList, IndexPart, AxisPart, PointsPart, BetweenPart, point_shapes, other_axes, leads, tuple, ranks_of, shown_part, AreParts, IsReady, HasPointAt, IsReadyAt, point_of, first_at, rest_picks}
 use Rattle.fancy_index.specs.Words.{first_number}
 use Rattle.fancy_index.proofs.CutLaws.{dot-cut}
 use Rattle.fancy_index.proofs.ShiftLaws.{rank-low, point-low, tuple-in}

@@ -1,5 +1,6 @@
 -- Loops over axes.
-use Rattle.fancy_index.proofs.Words.{◌≡◌, ℕ, ◌+◌, ◌<◌, List, [], ◌∷◌, ◌++◌, map, length, drop, sym, ap, ◌∙◌, append_assoc, drop_more}
+use Rattle.std.proofs.Common.{◌≡◌, ℕ, ◌+◌, ◌<◌, List, [], ◌∷◌, ◌++◌, map, length, drop, sym, ap, ◌∙◌, append_assoc}
+use Rattle.fancy_index.proofs.Words.{drop_more}
 
 -- the loop appends an item for one more axis
 pub filled_more : {A : Type 0} (a : A) (axes : List ℕ) (k : ℕ) (done new whole : List A) → k < length axes → new ≡ done ++ a ∷ [] → done ++ map (λ _. a) (drop k axes) ≡ whole → new ++ map (λ _. a) (drop (k + 1) axes) ≡ whole

@@ -1,5 +1,6 @@
 -- Passes over the offsets of a plan: each step keeps what the whole pass must do.
-use Rattle.fancy_index.proofs.Words.{◌≡◌, ℕ, ◌+◌, ◌*◌, ◌<◌, ◌≤◌, List, [], ◌∷◌, ◌++◌, map, length, get_or, drop, All, sym, ap, subst, ◌∙◌, arith, add-mul, zero-mul, length-append, append_assoc, append-nil, flat_map, get_or-map, length-map, map-append, drop_more, flat_map-append, All-head, All-tail, put, item_at, Run, LieWithin, max_bytes, run_offsets, length-run_offsets, assigned, joined_at, All-back, All-front, assigned-append, pos, put_each, moved_offset, shifted_all, moved_all, IsMoved, packed, length-packed, packed-append, put_each-append}
+use Rattle.std.proofs.Common.{◌≡◌, ℕ, ◌+◌, ◌*◌, ◌<◌, ◌≤◌, List, [], ◌∷◌, ◌++◌, map, length, get_or, drop, All, sym, ap, subst, ◌∙◌, arith, add-mul, zero-mul, length-append, append_assoc, append-nil, pos}
+use Rattle.fancy_index.proofs.Words.{flat_map, get_or-map, length-map, map-append, drop_more, flat_map-append, All-head, All-tail, put, item_at, Run, LieWithin, max_bytes, run_offsets, length-run_offsets, assigned, joined_at, All-back, All-front, assigned-append, put_each, moved_offset, shifted_all, moved_all, IsMoved, packed, length-packed, packed-append, put_each-append}
 
 pub All-unmap : (P : ℕ → Type 0) (f : ℕ → ℕ) (xs : List ℕ) → All P (map f xs) → All (λ x. P (f x)) xs
 All-unmap P f xs all = λ k d below. subst P (get_or-map f xs k d (f d) below) (all k (f d) (omega (arith, length-map xs f)))

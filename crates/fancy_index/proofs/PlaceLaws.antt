@@ -1,5 +1,6 @@
 -- The place of the points, part by part.
-use Rattle.fancy_index.proofs.Words.{◌≡◌, ℕ, ◌+◌, ◌≤◌, ◌<◌, Bool, false, Option, Some, None, List, [], ◌∷◌, map, length, drop, get_or, refl, sym, ap, ◌∙◌, arith, length-append, drop_more, Stretch, Before, Among, After, IndexPart, Part, Axis, Points, Between, axes_of_part, other_axes, are_points, axes_before, shown_part, gone_on, stand}
+use Rattle.std.proofs.Common.{◌≡◌, ℕ, ◌+◌, ◌≤◌, ◌<◌, Bool, false, Option, Some, None, List, [], ◌∷◌, map, length, drop, get_or, refl, sym, ap, ◌∙◌, arith, length-append}
+use Rattle.fancy_index.proofs.Words.{drop_more, Stretch, Before, Among, After, IndexPart, Part, Axis, Points, Between, axes_of_part, other_axes, are_points, axes_before, shown_part, gone_on, stand}
 
 abbrev stand_if : Option Stretch → List Part → Bool
 stand_if None parts = false

@@ -1,5 +1,6 @@
 -- The offsets of a plan, one by one.
-use Rattle.fancy_index.proofs.Words.{◌≡◌, ℕ, zero, suc, ◌+◌, ◌-◌, ◌*◌, ◌/◌, ◌%◌, ◌<◌, inl, inr, List, [], ◌∷◌, ◌++◌, length, get_or, All, refl, sym, ap, ◌∙◌, arith, add-mul, suc-mul, zero-mul, length-append, flat_map, length-map, get_or-map, get_or_append_left, get_or-append_right, All-get_or, div-add-mod', cases_lt, mul_assoc, mul-le-mul_right, factors_pos, moved_offset, shifted, shifted_all, moved_all, IsMoved, IsStart, AreStarts}
+use Rattle.std.proofs.Common.{◌≡◌, ℕ, zero, suc, ◌+◌, ◌-◌, ◌*◌, ◌/◌, ◌%◌, ◌<◌, inl, inr, List, [], ◌∷◌, ◌++◌, length, get_or, All, refl, sym, ap, ◌∙◌, arith, add-mul, suc-mul, zero-mul, length-append, mul_assoc, mul-le-mul_right}
+use Rattle.fancy_index.proofs.Words.{flat_map, length-map, get_or-map, get_or_append_left, get_or-append_right, All-get_or, div-add-mod', cases_lt, factors_pos, moved_offset, shifted, shifted_all, moved_all, IsMoved, IsStart, AreStarts}
 
 -- ---- concatenated lists of the same length
 

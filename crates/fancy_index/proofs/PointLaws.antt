@@ -1,5 +1,6 @@
 -- The points that the code stores are those of the definitions.
-use Rattle.fancy_index.proofs.Words.{◌≡◌, inl, inr, Result, Ok, Err, IfOk, ℕ, ◌+◌, ◌<◌, Bool, true, false, cond, ◌&&◌, List, [], ◌∷◌, map, length, get_or, drop, All, refl, sym, ap, subst, ◌∙◌, arith, list_all, int_eq, bytes_eq, and_parts, mod-eq_of_lt, mod-lt, length-map, drop_more, All-cons, bytes_eq-Decides, ℤ, pos, Refusal, Gives, count, indexes, rank, get_or-indexes, length-indexes, axis_below, from_front, is_place, PointList, Kind, Integers, Mask, covers_kind, are_places, Points, true_indexes, point_at, points_of, place_of, named_places, rank_on, HavePlaces, true_ranks, tuple, ranks_of, are_named, IsPart}
+use Rattle.std.proofs.Common.{◌≡◌, inl, inr, Result, Ok, Err, ℕ, ◌+◌, ◌<◌, Bool, true, false, cond, ◌&&◌, List, [], ◌∷◌, map, length, get_or, drop, All, refl, sym, ap, subst, ◌∙◌, arith, ℤ, pos}
+use Rattle.fancy_index.proofs.Words.{IfOk, list_all, int_eq, bytes_eq, and_parts, mod-eq_of_lt, mod-lt, length-map, drop_more, All-cons, bytes_eq-Decides, Refusal, Gives, count, indexes, rank, get_or-indexes, length-indexes, axis_below, from_front, is_place, PointList, Kind, Integers, Mask, covers_kind, are_places, Points, true_indexes, point_at, points_of, place_of, named_places, rank_on, HavePlaces, true_ranks, tuple, ranks_of, are_named, IsPart}
 use Rattle.fancy_index.proofs.WordLaws.{places-named}
 
 pub place-low : (n : ℕ) (at : ℤ) → is_place n at ≡ true → place_of n at < n

@@ -1,5 +1,6 @@
 -- Going through the runs of a layout, and turning ranks into offsets one after the other.
-use Rattle.fancy_index.proofs.Words.{◌≡◌, ℕ, ◌+◌, ◌-◌, ◌<◌, ◌≤◌, ◌≤ℤ◌, List, [], ◌∷◌, ◌++◌, map, length, get_or, take, drop, All, refl, sym, ap, subst, ◌∙◌, arith, append-nil, length-drop, length-take-le, flat_map, take_all, drop_all, length-map, get_or-append_right, get_or-drop, All-head, All-tail, pos, ◌+ℤ◌, ◌*ℤ◌, count, offsets, length-offsets, max_bytes, run_offsets, BeginsWithin, RunAt, IsAtRun}
+use Rattle.std.proofs.Common.{◌≡◌, ℕ, ◌+◌, ◌-◌, ◌<◌, ◌≤◌, ◌≤ℤ◌, List, [], ◌∷◌, ◌++◌, map, length, get_or, take, drop, All, refl, sym, ap, subst, ◌∙◌, arith, append-nil, length-drop, length-take-le, pos, ◌+ℤ◌, ◌*ℤ◌}
+use Rattle.fancy_index.proofs.Words.{flat_map, take_all, drop_all, length-map, get_or-append_right, get_or-drop, All-head, All-tail, count, offsets, length-offsets, max_bytes, run_offsets, BeginsWithin, RunAt, IsAtRun}
 use Rattle.fancy_index.proofs.RunLaws.{first-low, steps-low, steps-high, lies-there}
 use Rattle.fancy_index.proofs.SumLaws.{NextRun, next_run}
 

@@ -1,5 +1,6 @@
 -- What is picked if all points are 0.
-use Rattle.fancy_index.proofs.Words.{◌≡◌, Result, Ok, Err, ℕ, ◌<◌, ◌≤◌, nat_le, true, pos, List, [], ◌∷◌, ◌++◌, map, length, get_or, refl, sym, ap, subst, ◌∙◌, arith, IfOk, IfErr, le-leb, get_or-map, Refusal, OutOfMemory, Layout, max_axes, indexes, rank, IsIndex, address, offsets, length-indexes, rank-lt, get_or-indexes, pos-offset, AxisPick, axis_of, picked_shape, picked_index, shape_picked, picked_view, pick_shown, View, IsViewOf, GivesView, AtAxis, IndexPart, AxisPart, PointsPart, BetweenPart, other_axes, shown_part, rest_picks, IsRest}
+use Rattle.std.proofs.Common.{◌≡◌, Result, Ok, Err, ℕ, ◌<◌, ◌≤◌, nat_le, true, pos, List, [], ◌∷◌, ◌++◌, map, length, get_or, refl, sym, ap, subst, ◌∙◌, arith}
+use Rattle.fancy_index.proofs.Words.{IfOk, IfErr, le-leb, get_or-map, Refusal, OutOfMemory, Layout, max_axes, indexes, rank, IsIndex, address, offsets, length-indexes, rank-lt, get_or-indexes, pos-offset, AxisPick, axis_of, picked_shape, picked_index, shape_picked, picked_view, pick_shown, View, IsViewOf, GivesView, AtAxis, IndexPart, AxisPart, PointsPart, BetweenPart, other_axes, shown_part, rest_picks, IsRest}
 use Rattle.fancy_index.proofs.CutLaws.{only-memory}
 
 -- ---- the shape

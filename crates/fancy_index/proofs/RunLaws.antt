@@ -1,5 +1,6 @@
 -- Runs that are moved, and adjacent items.
-use Rattle.fancy_index.proofs.Words.{◌≡◌, ℕ, ◌+◌, ◌-◌, ◌*◌, ◌<◌, ◌≤◌, ◌≤ℤ◌, List, [], ◌∷◌, map, length, get_or, All, sym, ap, subst, ◌∙◌, arith, mul_comm, ints, length-map, get_or-map, get_or_default, same_lists, All-get_or, same_number_lists, ℤ, pos, nat_abs, ◌+ℤ◌, ◌*ℤ◌, zero-*ℤ, *ℤ-zero, +ℤ_idr, position, place, EachWithin, not_negative, Run, natural, LieWithin, max_bytes, run_offsets, length-run_offsets, nth-offset, place-at, lie-within, moved_offset, IsMoved, IsRunOf, packed, length-packed}
+use Rattle.std.proofs.Common.{◌≡◌, ℕ, ◌+◌, ◌-◌, ◌*◌, ◌<◌, ◌≤◌, ◌≤ℤ◌, List, [], ◌∷◌, map, length, get_or, All, sym, ap, subst, ◌∙◌, arith, mul_comm, ℤ, pos, ◌+ℤ◌, ◌*ℤ◌}
+use Rattle.fancy_index.proofs.Words.{ints, length-map, get_or-map, get_or_default, same_lists, All-get_or, same_number_lists, nat_abs, zero-*ℤ, *ℤ-zero, +ℤ_idr, position, place, EachWithin, not_negative, Run, natural, LieWithin, max_bytes, run_offsets, length-run_offsets, nth-offset, place-at, lie-within, moved_offset, IsMoved, IsRunOf, packed, length-packed}
 
 -- ---- a run that is moved
 

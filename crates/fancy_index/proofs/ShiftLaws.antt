@@ -1,5 +1,6 @@
 -- The point at an index of the common shape.
-use Rattle.fancy_index.proofs.Words.{◌≡◌, ℕ, ◌<◌, List, [], length, get_or, All, sym, ap, subst, ◌∙◌, arith, count, rank, IsIndex, length-index, rank-lt, get_or-indexes, index_at, broadcast_index, IsIndex-broadcast, few-axes, PointList, IndexPart, AxisPart, PointsPart, BetweenPart, tuple, ranks_of, IsReady, HasPointAt, IsReadyAt}
+use Rattle.std.proofs.Common.{◌≡◌, ℕ, ◌<◌, List, [], length, get_or, All, sym, ap, subst, ◌∙◌, arith}
+use Rattle.fancy_index.proofs.Words.{count, rank, IsIndex, length-index, rank-lt, get_or-indexes, index_at, broadcast_index, IsIndex-broadcast, few-axes, PointList, IndexPart, AxisPart, PointsPart, BetweenPart, tuple, ranks_of, IsReady, HasPointAt, IsReadyAt}
 
 -- ---- points
 

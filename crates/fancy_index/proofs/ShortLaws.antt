@@ -1,5 +1,6 @@
 -- Loops over short rows, place by place.
-use Rattle.fancy_index.proofs.Words.{◌≡◌, ℕ, ◌+◌, ◌<◌, ◌≤◌, List, [], ◌++◌, get_or, drop, ap, arith, drop_more, drop_all, offsets, run_offsets, length-run_offsets, moved_all, row_at, ShortRows}
+use Rattle.std.proofs.Common.{◌≡◌, ℕ, ◌+◌, ◌<◌, ◌≤◌, List, [], ◌++◌, get_or, drop, ap, arith}
+use Rattle.fancy_index.proofs.Words.{drop_more, drop_all, offsets, run_offsets, length-run_offsets, moved_all, row_at, ShortRows}
 use Rattle.fancy_index.proofs.Passes.{split-places}
 
 -- the offsets of the rows from the `k`-th place on

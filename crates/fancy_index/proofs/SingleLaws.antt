@@ -1,5 +1,6 @@
 -- Single items that are gathered, scattered and filled.
-use Rattle.fancy_index.proofs.Words.{◌≡◌, ℕ, ◌+◌, ◌-◌, ◌<◌, ◌≤◌, List, [], ◌∷◌, ◌++◌, map, length, get_or, drop, slice_range, refl, sym, ap, ◌∙◌, arith, append-nil, drop_more, map-append, drop_split, put, item_at, Layout, count, offsets, length-offsets, entry-first, assigned, moved_offset, shifted_all, packed}
+use Rattle.std.proofs.Common.{◌≡◌, ℕ, ◌+◌, ◌-◌, ◌<◌, ◌≤◌, List, [], ◌∷◌, ◌++◌, map, length, get_or, drop, slice_range, refl, sym, ap, ◌∙◌, arith, append-nil}
+use Rattle.fancy_index.proofs.Words.{drop_more, map-append, drop_split, put, item_at, Layout, count, offsets, length-offsets, entry-first, assigned, moved_offset, shifted_all, packed}
 use Rattle.fancy_index.proofs.GatherLaws.{packed-suc}
 use Rattle.fancy_index.proofs.Passes.{CanScatter, Scattering, Pushing, Filling, scatter_front, scattered_front, push_front, pushed_front, fill_front, filled_front}
 

@@ -1,5 +1,6 @@
 -- Lists of lengths that are shapes: the middle of a shape with items, and the lengths that can be stretched to a shape.
-use Rattle.fancy_index.proofs.Words.{◌≡◌, ℕ, zero, suc, ◌-◌, ◌*◌, ◌<◌, ◌≤◌, true, List, [], ◌∷◌, ◌++◌, length, get_or, take, drop, replicate, All, ap, subst, ◌∙◌, arith, length-append, mul-le-mul_right, one-mul, mul-le-mul, take-append_seam, drop-append_seam, false≢true, and_parts, nat_tests, All-head, All-tail, All-cons, All-nil, All-take, All-drop, get_or-map-range_with_len, Layout, max_items, count, rank, offsets, multiples, IsShape, factors_pos, rank-lt, same_on_indexes, IsViewOf, stretches, all_stretch, can_stretch, broadcast_index, few-axes, stretched_ranks}
+use Rattle.std.proofs.Common.{◌≡◌, ℕ, zero, suc, ◌-◌, ◌*◌, ◌<◌, ◌≤◌, true, List, [], ◌∷◌, ◌++◌, length, get_or, take, drop, replicate, All, ap, subst, ◌∙◌, arith, length-append, mul-le-mul_right, one-mul}
+use Rattle.fancy_index.proofs.Words.{mul-le-mul, take-append_seam, drop-append_seam, false≢true, and_parts, nat_tests, All-head, All-tail, All-cons, All-nil, All-take, All-drop, get_or-map-range_with_len, Layout, max_items, count, rank, offsets, multiples, IsShape, factors_pos, rank-lt, same_on_indexes, IsViewOf, stretches, all_stretch, can_stretch, broadcast_index, few-axes, stretched_ranks}
 use Rattle.fancy_index.proofs.CutLaws.{some-before, few-before, few-behind}
 
 -- ---- in the middle of a shape

@@ -1,5 +1,6 @@
 -- The sums over parts are the offsets of the first items.
-use Rattle.fancy_index.proofs.Words.{◌≡◌, ℕ, ◌+◌, ◌<◌, ◌≤◌, ◌≤ℤ◌, true, List, [], ◌∷◌, ◌++◌, map, length, get_or, take, drop, All, refl, sym, ap, subst, ◌∙◌, arith, length-append, append_assoc, append-nil, take-append_seam, ints, flat_map-append, drop_more, take_more, take_all, drop_all, same_lists, get_or-map, length-map, take-append-drop, get_or_default, All-head, All-tail, All-take, All-drop, ℤ, pos, ◌+ℤ◌, Layout, max_bytes, count, indexes, rank, IsIndex, dot, natural, address, offsets, length-index, length-indexes, index_at, rank-lt, IsIndex-append, pos-natural, first_of, can_stretch, broadcast_index, broadcast_index-itself, IsIndex-broadcast, AtAxis, AlongAxis, NewAxis, PointList, IndexPart, AxisPart, PointsPart, BetweenPart, moved_offset, IsMoved, tuple, ranks_of, led, AreParts, IsReady, HasPointAt, IsReadyAt, point_of, numbers_at, first_at, first_offset, LeadInto, stretched_ranks, point_number, start_of, starts, strides_along, part_offset, BeginAt, BeginsAt, CanGrow, HaveGrown, partly, AreSums}
+use Rattle.std.proofs.Common.{◌≡◌, ℕ, ◌+◌, ◌<◌, ◌≤◌, ◌≤ℤ◌, true, List, [], ◌∷◌, ◌++◌, map, length, get_or, take, drop, All, refl, sym, ap, subst, ◌∙◌, arith, length-append, append_assoc, append-nil, ℤ, pos, ◌+ℤ◌}
+use Rattle.fancy_index.proofs.Words.{take-append_seam, ints, flat_map-append, drop_more, take_more, take_all, drop_all, same_lists, get_or-map, length-map, take-append-drop, get_or_default, All-head, All-tail, All-take, All-drop, Layout, max_bytes, count, indexes, rank, IsIndex, dot, natural, address, offsets, length-index, length-indexes, index_at, rank-lt, IsIndex-append, pos-natural, first_of, can_stretch, broadcast_index, broadcast_index-itself, IsIndex-broadcast, AtAxis, AlongAxis, NewAxis, PointList, IndexPart, AxisPart, PointsPart, BetweenPart, moved_offset, IsMoved, tuple, ranks_of, led, AreParts, IsReady, HasPointAt, IsReadyAt, point_of, numbers_at, first_at, first_offset, LeadInto, stretched_ranks, point_number, start_of, starts, strides_along, part_offset, BeginAt, BeginsAt, CanGrow, HaveGrown, partly, AreSums}
 use Rattle.fancy_index.proofs.AlongLaws.{along-adds, pos-along, led-along}
 use Rattle.fancy_index.proofs.ShiftLaws.{rank-low, point-low, tuple-is, tuple-in, ready_at, all_ready_at}
 

@@ -1,6 +1,7 @@
 -- Test vectors: index lists with arrays, on items that are numbered in C order. Each selects what NumPy selects, and
 -- the refusals come in the stated order.
-use Rattle.fancy_index.proofs.Words.{◌≡◌, ℕ, pos, negsuc, true, Some, None, List, [], ◌∷◌, Result, Ok, Err, replicate, refl, range_with_len, Refusal, TooManyAxes, TooLarge, NotAnIndexType, TooManyIndices, MaskLengths, ZeroStep, IndexOutOfRange, IndexShapes, Descr, Byte, Bytes, ◌>>=◌, stepped, IndexItem, Integer, Slice, Ellipsis, Array, count, shape_of, slice_indices, New, view_through, common_of_two, ScalarDescr, BoolScalar, IndexArray, Axis, Points, indexed, parts_view}
+use Rattle.std.proofs.Common.{◌≡◌, ℕ, pos, negsuc, true, Some, None, List, [], ◌∷◌, Result, Ok, Err, replicate, refl}
+use Rattle.fancy_index.proofs.Words.{range_with_len, Refusal, TooManyAxes, TooLarge, NotAnIndexType, TooManyIndices, MaskLengths, ZeroStep, IndexOutOfRange, IndexShapes, Descr, Byte, Bytes, ◌>>=◌, stepped, IndexItem, Integer, Slice, Ellipsis, Array, count, shape_of, slice_indices, New, view_through, common_of_two, ScalarDescr, BoolScalar, IndexArray, Axis, Points, indexed, parts_view}
 use Rattle.fancy_index.specs.Words.{NewAxis}
 
 abbrev boolean : Descr

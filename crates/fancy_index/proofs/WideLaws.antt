@@ -1,5 +1,6 @@
 -- Adjacent items, copied as one.
-use Rattle.fancy_index.proofs.Words.{◌≡◌, ◌+◌, ◌-◌, ◌*◌, ◌≤◌, ◌++◌, get_or, ℕ, zero, suc, List, [], ◌∷◌, map, length, take, drop, refl, sym, ap, subst, ◌∙◌, All, arith, length-append, suc-mul, zero-mul, add-mul, take-add, flat_map-append, length-map, drop-drop, All-head, All-rest, All-cons, All-nil, All-back, All-front, item_at, joined_at, row_offsets, offsets, length-offsets, entry-first, length-row, Shifted, AreWide, moved_offset, shifted, shifted_all}
+use Rattle.std.proofs.Common.{◌≡◌, ◌+◌, ◌-◌, ◌*◌, ◌≤◌, ◌++◌, get_or, ℕ, zero, suc, List, [], ◌∷◌, map, length, take, drop, refl, sym, ap, subst, ◌∙◌, All, arith, length-append, suc-mul, zero-mul, add-mul}
+use Rattle.fancy_index.proofs.Words.{take-add, flat_map-append, length-map, drop-drop, All-head, All-rest, All-cons, All-nil, All-back, All-front, item_at, joined_at, row_offsets, offsets, length-offsets, entry-first, length-row, Shifted, AreWide, moved_offset, shifted, shifted_all}
 use Rattle.fancy_index.proofs.GatherLaws.{packed-suc}
 
 module _ (base : ℕ) where

@@ -1,5 +1,6 @@
 -- The integers of an array, and the places that they name.
-use Rattle.fancy_index.proofs.Words.{◌≡◌, ℕ, suc, ◌+◌, ◌-◌, ◌*◌, ◌<◌, ◌≤◌, Bool, true, false, cond, ◌&&◌, Ok, Err, is_ok, IfOk, List, [], ◌∷◌, ◌++◌, map, length, get_or, take, All, refl, sym, ap, subst, ◌∙◌, arith, list_all, flat_map, mul-suc, false≢true, and_parts, same_lists, get_or-map, length-map, map-append, get_or_default, get_or-flat_map, list_all-append, length-flat_map-take, ℤ, pos, IndexOutOfRange, integer, number_in, item_size, item_at, signed_number, LieWithin, max_bytes, max_items, count, offsets, length-offsets, Run, run_offsets, length-run_offsets, is_place, Items, Form, word, words_along, IsNative, LiesIn, ArePlaces, place_of, named_places}
+use Rattle.std.proofs.Common.{◌≡◌, ℕ, suc, ◌+◌, ◌-◌, ◌*◌, ◌<◌, ◌≤◌, Bool, true, false, cond, ◌&&◌, Ok, Err, List, [], ◌∷◌, ◌++◌, map, length, get_or, take, All, refl, sym, ap, subst, ◌∙◌, arith, ℤ, pos}
+use Rattle.fancy_index.proofs.Words.{is_ok, IfOk, list_all, flat_map, mul-suc, false≢true, and_parts, same_lists, get_or-map, length-map, map-append, get_or_default, get_or-flat_map, list_all-append, length-flat_map-take, IndexOutOfRange, integer, number_in, item_size, item_at, signed_number, LieWithin, max_bytes, max_items, count, offsets, length-offsets, Run, run_offsets, length-run_offsets, is_place, Items, Form, word, words_along, IsNative, LiesIn, ArePlaces, place_of, named_places}
 use Rattle.fancy_index.proofs.RunLaws.{packed-entry}
 
 -- ---- a run of integers

@@ -9,7 +9,7 @@ pub use Rattle.fancy_index.specs.Parts.{Axis, Between, Part, Points, are_points,
 pub use Rattle.fancy_index.specs.PlanLaws.{filled-run, put_each-append}
 pub use Rattle.fancy_index.specs.Plans.{GivesPlan, IsPlanOf, Planned, put_each}
 pub use Rattle.fancy_index.specs.Sources.{first_number, index_array_of, index_item_of, index_items, number_from}
-pub use Rattle.fancy_index.specs.Words.{All, All-back, All-front, AlongAxis, ArePicks, Array, AtAxis, AxisPick, BeginsWithin, Bool, BoolScalar, Byte, Bytes, Descr, EachWithin, Ellipsis, Err, Gives, GivesView, IfSome, IndexItem, IndexOutOfRange, IndexShapes, Int, Integer, IsIndex, IsIndex-append, IsIndex-broadcast, IsIndex-first, IsShape, IsTrue, IsViewOf, Items, Layout, LieWithin, LieWithin-view, List, MaskLengths, New, None, NotAnIndexType, Ok, Option, OutOfMemory, Refusal, Result, Run, ScalarDescr, ShowsThrough, Slice, Some, TooLarge, TooManyAxes, TooManyIndices, View, ZeroStep, [], address, address_at, all_stretch, ap, assigned, assigned-append, axis_below, axis_of, broadcast_index, broadcast_index-itself, bytes_eq, can_stretch, check, common_with, count, count-append, decode_item, dot, dot-zeros, drop, entry-first, factors_pos, false, few-axes, filled, first_of, flat_map, flat_map-flat_map, flat_map_same, from_front, get_or, get_or-indexes, get_or-offsets, has_step, index_at, indexes, int_eq, integer, is_place, item_at, item_from, item_size, items_at, joined-items, joined_at, length, length-index, length-indexes, length-joined_at, length-offsets, length-run, length-run_offsets, lie-within, list_all, map, map-flat_map, max_axes, max_bytes, max_items, multiples, nat_le, natural, not, not_negative, nth-offset, number_at, number_in, pick_shown, picked_index, picked_shape, place, place-at, pos, pos-natural, pos-offset, position, put, rank, rank-lt, refl, row-multiples, row_offsets, run_numbers, run_offsets, same_on_indexes, shape_of-same, signed_number, slice-rest, stretches, suc, sym, take, true, truth, view_through, whole, with-fits, zero, zero_filled, ℕ, ℤ, ◌%◌, ◌*◌, ◌++◌, ◌+◌, ◌-◌, ◌/◌, ◌<◌, ◌>>=◌, ◌^◌, ◌∙◌, ◌∷◌, ◌≡◌, ◌≤◌, ◌⊎◌}
+pub use Rattle.fancy_index.specs.Words.{All-back, All-front, AlongAxis, ArePicks, Array, AtAxis, AxisPick, BeginsWithin, BoolScalar, Byte, Bytes, Descr, EachWithin, Ellipsis, Gives, GivesView, IndexItem, IndexOutOfRange, IndexShapes, Int, Integer, IsIndex, IsIndex-append, IsIndex-broadcast, IsIndex-first, IsShape, IsViewOf, Items, Layout, LieWithin, LieWithin-view, MaskLengths, New, NotAnIndexType, OutOfMemory, Refusal, Run, ScalarDescr, ShowsThrough, Slice, TooLarge, TooManyAxes, TooManyIndices, View, ZeroStep, address, address_at, all_stretch, assigned, assigned-append, axis_below, axis_of, broadcast_index, broadcast_index-itself, bytes_eq, can_stretch, check, common_with, count, count-append, decode_item, dot, dot-zeros, entry-first, factors_pos, few-axes, filled, first_of, flat_map, flat_map-flat_map, flat_map_same, from_front, get_or-indexes, get_or-offsets, has_step, index_at, indexes, int_eq, integer, is_place, item_at, item_from, item_size, items_at, joined-items, joined_at, length-index, length-indexes, length-joined_at, length-offsets, length-run, length-run_offsets, lie-within, list_all, map-flat_map, max_axes, max_bytes, max_items, multiples, natural, not_negative, nth-offset, number_at, number_in, pick_shown, picked_index, picked_shape, place, place-at, pos-natural, pos-offset, position, put, rank, rank-lt, row-multiples, row_offsets, run_numbers, run_offsets, same_on_indexes, shape_of-same, signed_number, slice-rest, stretches, truth, view_through, whole, with-fits, zero_filled, ◌>>=◌}
 unfoldable pub use Rattle.fancy_index.specs.Words.{common_of_two, offsets, picked_view, shape_of, shape_picked, slice_indices, stepped}
 pub use Rattle.fancy_index.specs.declared.index_parts.IndexPart.{IndexPart}
 pub use Rattle.fancy_index.specs.declared.index_parts.IndexPart.TheVariants.{Axis as AxisPart, Between as BetweenPart, Points as PointsPart}
@@ -35,7 +35,6 @@ pub use Rattle.fancy_index.specs.inside.PointLists.{HavePlaces, IsPart, are_name
 pub use Rattle.fancy_index.specs.inside.Ranks.{IsAtRun, led}
 pub use Rattle.fancy_index.specs.inside.Sums.{AllCanGrow, AreSums, BeginAt, BeginsAt, CanGrow, HaveAllGrown, HaveGrown, HaveGrownFrom, number_along, offset_along, part_offset, partly, point_number, start_of, starts, stretched_ranks, strides_along}
 pub use Rattle.fancy_index.specs.inside.Words.{ArePlaces, IsNative, IsPlaceOf, LiesIn, word, words_along}
-pub use Rattle.std.proofs.Common.{SomeIff, add-mul, append-nil, append_assoc, arith, cond, eqb, inl, inr, length-append, length-drop, length-take-le, mul-le-mul_left, mul-le-mul_right, mul-one, mul_assoc, mul_comm, of_z, one-mul, replicate, rules, set, slice_range, slice_set, subst, suc-mul, to_z, w32, w64, w8, zero-mul, ◌&&◌, ◌≤ℤ◌}
 pub use Rattle.std.proofs.Math.Bool.{and-true, and_assoc}
 pub use Rattle.std.proofs.Math.ListN.{length-set}
 pub use Rattle.std.proofs.Math.Nat.{div-div-eq-div-mul, div-one, mod-eq_of_lt, mod-lt, mul-le-mul, mul-suc}
@@ -56,11 +55,10 @@ pub use Rattle.std.proofs.lemmas.Simd.{Each1-get_or, bit_mask_l, bitmask_splat, 
 pub use Rattle.std.proofs.lemmas.Slice.{take-put_mid}
 pub use Rattle.std.proofs.lemmas.Slice.Eq.{bytes_eq-Decides}
 pub use Rattle.std.specs.List.{range_with_len}
-pub use Rattle.std.specs.Prelude.{negsuc}
 pub use Rattle.std.specs.Result.{IfErr, IfOk, is_ok}
 pub use Rattle.view_ops.specs.declared.picks.AxisPick.TheVariants.{New as NewAxis}
 pub use borrow.Rule.Slice.PartMut.{mid_len, same_len_mid}
-pub use lib.IntN.{*ℤ-zero, +ℤ_assoc, +ℤ_idl, +ℤ_idr, nat_abs, zero-*ℤ, ◌*ℤ◌, ◌+ℤ◌}
+pub use lib.IntN.{*ℤ-zero, +ℤ_assoc, +ℤ_idl, +ℤ_idr, nat_abs, zero-*ℤ}
 pub use lib.Lanes.{put_chunk, zip2}
 pub use mir.Syntax.{w128}
 pub use mir.Val.{SFits}

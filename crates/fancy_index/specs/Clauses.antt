@@ -4,7 +4,7 @@ pub use Rattle.fancy_index.specs.Indexed.{all_axes, as_index_shapes, indexed, pa
 pub use Rattle.fancy_index.specs.Parts.{Between, are_points, axes_before, axes_of_part, other_axes, parts, parts_of, points_place, shapes_of_part, side_by_side, wholes}
 pub use Rattle.fancy_index.specs.Plans.{GivesPlan, IsPlanOf, put_each}
 pub use Rattle.fancy_index.specs.Sources.{index_array_of, index_item_of, index_items}
-pub use Rattle.fancy_index.specs.Words.{All, ArePicks, AtAxis, C, Err, Gives, IsShape, IsTrue, LieWithin, List, Ok, OutOfMemory, TooLarge, [], assigned, axis_of, can_stretch, common_with, count, drop, false, first_of, get_or, has_step, if◌then◌else◌, indexes, is_ellipsis, is_place, item_at, item_from, item_size, items_at, joined_at, length, list_all, map, max_axes, max_bytes, max_items, multiples, nat_le, offsets_in, pick_shown, pos, put, row_offsets, run_offsets, slice_index, take, true, truth, ℕ, ◌%◌, ◌*◌, ◌++◌, ◌+◌, ◌/◌, ◌<◌, ◌^◌, ◌∷◌, ◌≡◌, ◌≤◌, ◌⊎◌}
+pub use Rattle.fancy_index.specs.Words.{ArePicks, AtAxis, C, Gives, IsShape, LieWithin, OutOfMemory, TooLarge, assigned, axis_of, can_stretch, common_with, count, first_of, has_step, indexes, is_ellipsis, is_place, item_at, item_from, item_size, items_at, joined_at, list_all, max_axes, max_bytes, max_items, multiples, offsets_in, pick_shown, put, row_offsets, run_offsets, truth}
 unfoldable pub use Rattle.fancy_index.specs.Words.{offsets, shape_of}
 pub use Rattle.fancy_index.specs.declared.index_parts.Kind.TheVariants.{Integers, Mask, NoIndex}
 pub use Rattle.fancy_index.specs.inside.Bools.{AreAll, LieInBytes, bits, bools_in, ranks_from}
@@ -17,4 +17,3 @@ pub use Rattle.fancy_index.specs.inside.Places.{gone_on}
 pub use Rattle.fancy_index.specs.inside.PointLists.{HavePlaces, IsPart, are_named, place_of, rank_on, ranks_of, true_ranks}
 pub use Rattle.fancy_index.specs.inside.Ranks.{IsAtRun, led}
 pub use Rattle.fancy_index.specs.inside.Sums.{AllCanGrow, AreSoMany, BeginAt, BeginsAt, CanAdd, CanGrow, HaveAdded, HaveAllGrown, HaveGrown, HaveGrownFrom, number_along, number_through, point_number, start_of, starts, stretched_ranks, strides_along}
-pub use Rattle.std.specs.Prelude.{IfErr, IfOk, OnOk, replicate, ◌*ℤ◌, ◌≢◌}

@@ -1,5 +1,6 @@
 -- What an index list with arrays selects from an array, as in NumPy's integer and boolean indexing.
-use Rattle.fancy_index.specs.Words.{ℕ, ◌+◌, nat_le, List, [], ◌++◌, take, drop, length, Result, Ok, Err, list_all, Refusal, NotAnIndexType, TooManyIndices, MaskLengths, ZeroStep, IndexOutOfRange, IndexShapes, ◌>>=◌, check, IndexItem, shape_of, has_step, View, common_with}
+use Rattle.std.specs.Prelude.{ℕ, ◌+◌, nat_le, List, [], ◌++◌, take, drop, length, Result, Ok, Err}
+use Rattle.fancy_index.specs.Words.{list_all, Refusal, NotAnIndexType, TooManyIndices, MaskLengths, ZeroStep, IndexOutOfRange, IndexShapes, ◌>>=◌, check, IndexItem, shape_of, has_step, View, common_with}
 use Rattle.fancy_index.specs.IndexArrays.{IndexArray, is_index, array_axes_taken, cover, are_within}
 use Rattle.fancy_index.specs.Parts.{Part, parts, point_shapes, other_axes, points_place, leads}
 

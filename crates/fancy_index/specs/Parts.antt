@@ -1,5 +1,6 @@
 -- The parts of an index list with arrays: what each item says about the axes that it takes.
-use Rattle.fancy_index.specs.Words.{ℕ, ◌+◌, Bool, true, false, not, if◌then◌else◌, ℤ, pos, List, [], ◌∷◌, ◌++◌, map, length, slice_index, get_or, int_eq, list_any, flat_map, IndexItem, Integer, Ellipsis, Array, natural, indexes, rank, from_front, Pick, At, Along, New, whole, picks_of, axis_of, broadcast_index}
+use Rattle.std.specs.Prelude.{ℕ, ◌+◌, Bool, true, false, not, if◌then◌else◌, ℤ, pos, List, [], ◌∷◌, ◌++◌, map, length, slice_index, get_or}
+use Rattle.fancy_index.specs.Words.{int_eq, list_any, flat_map, IndexItem, Integer, Ellipsis, Array, natural, indexes, rank, from_front, Pick, At, Along, New, whole, picks_of, axis_of, broadcast_index}
 use Rattle.fancy_index.specs.IndexArrays.{IndexArray, kind, placed_arrays, left_over}
 use Rattle.fancy_index.specs.declared.index_parts.Kind.{Kind}
 use Rattle.fancy_index.specs.declared.index_parts.Kind.TheVariants.{Integers, Mask}

@@ -1,5 +1,7 @@
 -- Laws about what a plan writes.
-use Rattle.fancy_index.specs.Words.{◌≡◌, ℕ, zero, suc, ℤ, List, [], ◌∷◌, ◌++◌, length, refl, sym, ap, ◌∙◌, put, place, EachWithin, filled, fewer, Run, run_offsets, run_offsets-more}
+use Rattle.std.specs.Prelude.{◌≡◌, ℕ, ℤ, List, [], ◌∷◌, ◌++◌, length}
+use Rattle.std.proofs.Common.{zero, suc, refl, sym, ap, ◌∙◌}
+use Rattle.fancy_index.specs.Words.{put, place, EachWithin, filled, fewer, Run, run_offsets, run_offsets-more}
 use Rattle.fancy_index.specs.Plans.{put_each}
 
 -- Writing an item at `to ++ to'` is the same as writing it at `to`, and then at `to'`.

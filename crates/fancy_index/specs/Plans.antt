@@ -1,5 +1,6 @@
 -- Plans: where in a buffer the items are that an index list with arrays selects.
-use Rattle.fancy_index.specs.Words.{◌≡◌, ◌⊎◌, ℕ, List, [], ◌∷◌, Result, Ok, Err, put, Refusal, OutOfMemory, Layout, IsIndex, offsets, View, view_through}
+use Rattle.std.specs.Prelude.{◌≡◌, ◌⊎◌, ℕ, List, [], ◌∷◌, Result, Ok, Err}
+use Rattle.fancy_index.specs.Words.{put, Refusal, OutOfMemory, Layout, IsIndex, offsets, View, view_through}
 
 -- what a contract sees of a plan: its shape, and the offsets of its items in C order
 pub record Planned : Type 0 where

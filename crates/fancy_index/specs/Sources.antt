@@ -1,5 +1,6 @@
 -- The arrays of an index list, read from blocks.
-use Rattle.fancy_index.specs.Words.{ℕ, ℤ, pos, List, [], ◌∷◌, map, Descr, LeafValue, number_of, item_from, IndexItem, Integer, Slice, Ellipsis, NewAxis, Array, offsets, Items}
+use Rattle.std.specs.Prelude.{ℕ, ℤ, pos, List, [], ◌∷◌, map}
+use Rattle.fancy_index.specs.Words.{Descr, LeafValue, number_of, item_from, IndexItem, Integer, Slice, Ellipsis, NewAxis, Array, offsets, Items}
 use Rattle.fancy_index.specs.IndexArrays.{IndexArray}
 
 -- the first value of an item, as a number

@@ -2,7 +2,7 @@
 pub use Rattle.arrays.specs.Assignments.{assigned, items_at}
 pub use Rattle.arrays.specs.Blocks.{offsets_in}
 pub use Rattle.arrays.specs.Joined.{joined_at}
-pub use Rattle.arrays.specs.JoinedLaws.{joined-items, joined-offsets, length-joined_at}
+pub use Rattle.arrays.specs.JoinedLaws.{joined-items, length-joined_at}
 pub use Rattle.arrays.specs.Packed.{row_offsets}
 pub use Rattle.arrays.specs.PackedLaws.{row-multiples}
 pub use Rattle.arrays.specs.RunLaws.{All-back, All-front, BeginsWithin, assigned-append, lie-within, nth-offset, place-at, run_offsets-more}
@@ -28,7 +28,7 @@ pub use Rattle.elem_descr.specs.declared.refusal.Refusal.{Refusal}
 pub use Rattle.elem_descr.specs.declared.refusal.Refusal.TheVariants.{IndexOutOfRange, IndexShapes, MaskLengths, NotAnIndexType, OutOfMemory, TooLarge, TooManyAxes, TooManyIndices, ZeroStep}
 pub use Rattle.elem_descr.specs.declared.scalar.Order.TheVariants.{Little}
 pub use Rattle.elem_descr.specs.declared.scalar.Scalar.TheVariants.{Bool as BoolScalar, Byte, Bytes, Int}
-pub use Rattle.raw_block.specs.Bytes.{EachWithin, filled, item_at, joined, place, position, put}
+pub use Rattle.raw_block.specs.Bytes.{EachWithin, filled, item_at, place, position, put}
 pub use Rattle.raw_block.specs.BytesLaws.{fewer, not_negative}
 pub use Rattle.raw_block.specs.NumberRuns.{signed_number}
 pub use Rattle.shape_strides.specs.Addresses.{LieWithin, address_at, dot, natural}
@@ -49,10 +49,8 @@ unfoldable pub use Rattle.shape_strides.specs.Shapes.{shape_of}
 pub use Rattle.shape_strides.specs.WalkLaws.{length-run_offsets}
 pub use Rattle.shape_strides.specs.declared.layout.Layout.{Layout}
 pub use Rattle.shape_strides.specs.declared.runs.Run.{Run}
-pub use Rattle.std.proofs.Common.{ap, refl, suc, sym, zero, ◌∙◌}
 pub use Rattle.std.specs.List.{flat_map, list_all, list_any}
 pub use Rattle.std.specs.Ordering.{int_eq}
-pub use Rattle.std.specs.Prelude.{All, Bool, Err, IfSome, IsTrue, List, None, Ok, Option, Result, Some, [], drop, false, get_or, if◌then◌else◌, length, map, nat_le, not, pos, slice_index, sum_by, take, true, ℕ, ℤ, ◌%◌, ◌*◌, ◌++◌, ◌+◌, ◌-◌, ◌/◌, ◌<◌, ◌^◌, ◌∷◌, ◌≡◌, ◌≤◌, ◌⊎◌}
 pub use Rattle.std.specs.Simd.Lanes.{digits_l}
 pub use Rattle.std.specs.Str.{bytes_eq}
 pub use Rattle.view_ops.specs.Basics.{Along, At, New, Pick, Placed, axis_of, has_step, is_on_axis, picked_index, picked_shape, picks_of, whole}

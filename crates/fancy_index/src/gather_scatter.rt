@@ -1,6 +1,7 @@
 //! Gathers the items of a plan, copies items to them, and fills them with one item, strictly one
 //! after the other.
-ghost use Rattle.fancy_index.specs.Clauses.{put_each, assigned, joined_at, row_offsets, FitAt, end_of, moved_offsets, offsets_from, put_packed, shifted_offsets, All, length, ◌*◌, ◌++◌, ◌+◌, ◌≡◌, ◌≤◌};
+ghost use Rattle.std.specs.Prelude.{All, length, ◌*◌, ◌++◌, ◌+◌, ◌≡◌, ◌≤◌};
+ghost use Rattle.fancy_index.specs.Clauses.{put_each, assigned, joined_at, row_offsets, FitAt, end_of, moved_offsets, offsets_from, put_packed, shifted_offsets};
 
 use crate::plan_rows::{MovedLayout, PlanAxes, Shifted, fill_run, moved, moved_run};
 use crate::short_rows::ShortRows;

@@ -1,5 +1,6 @@
 //! Arrays in an index list.
-ghost use Rattle.fancy_index.specs.Words.{◌≡◌, ◌≤◌, max_items};
+ghost use Rattle.std.specs.Prelude.{◌≡◌, ◌≤◌};
+ghost use Rattle.fancy_index.specs.Words.{max_items};
 ghost use Rattle.fancy_index.specs.declared.index_parts.Kind.TheVariants.{Integers};
 ghost use Rattle.fancy_index.specs.IndexArrays.{kind};
 ghost use Rattle.fancy_index.specs.Sources.{index_array_of};

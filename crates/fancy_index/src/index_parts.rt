@@ -1,5 +1,6 @@
 //! The parts of an index list.
-ghost use Rattle.fancy_index.specs.Clauses.{are_within, covers, is_index, is_within, item_axes, kind_of, Between, parts, parts_of, wholes, index_item_of, has_step, is_ellipsis, max_items, IsOutside, IsWithin, items_left, AddsParts, AreParts, IsChecked, all_named, is_named, shown_part, All, IfErr, IfOk, OnOk, false, length, map, true, ◌∷◌, ◌≡◌, ◌≤◌};
+ghost use Rattle.std.specs.Prelude.{All, IfErr, IfOk, OnOk, false, length, map, true, ◌∷◌, ◌≡◌, ◌≤◌};
+ghost use Rattle.fancy_index.specs.Clauses.{are_within, covers, is_index, is_within, item_axes, kind_of, Between, parts, parts_of, wholes, index_item_of, has_step, is_ellipsis, max_items, IsOutside, IsWithin, items_left, AddsParts, AreParts, IsChecked, all_named, is_named, shown_part};
 
 use crate::lists::Left;
 use crate::points::{PointList, Ranks, array_points, integer_point};

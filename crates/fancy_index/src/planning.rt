@@ -1,5 +1,6 @@
 //! Plans of index lists with arrays.
-ghost use Rattle.fancy_index.specs.Clauses.{◌≡◌, ◌⊎◌, ◌<◌, [], map, All, Ok, Err, IfOk, IfErr, OutOfMemory, count, shape_of, points_shape, all_axes, view_of, parts_view, indexed, index_items, IsPlanOf, GivesPlan, IsWithin, shown_part, all_named, AreParts, IsReady, view_if_named};
+ghost use Rattle.std.specs.Prelude.{◌≡◌, ◌⊎◌, ◌<◌, [], map, All, Ok, Err, IfOk, IfErr};
+ghost use Rattle.fancy_index.specs.Clauses.{OutOfMemory, count, shape_of, points_shape, all_axes, view_of, parts_view, indexed, index_items, IsPlanOf, GivesPlan, IsWithin, shown_part, all_named, AreParts, IsReady, view_if_named};
 
 use crate::checks::check;
 use crate::index_parts::{IndexPart, check_numbers, parts_of};

@@ -1,5 +1,6 @@
 //! Plans: where in a buffer the items are that an index list with arrays selects.
-ghost use Rattle.fancy_index.specs.Clauses.{◌≡◌, ◌+◌, ◌*◌, ◌<◌, ◌≤◌, length, map, nat_le, slice_index, if◌then◌else◌, All, IfOk, IfErr, IsTrue, OutOfMemory, TooLarge, item_from, item_size, C, max_bytes, max_items, count, offsets, multiples, items_at, assigned, offsets_in, put_each, laid_offsets, AllStart, offsets_from};
+ghost use Rattle.std.specs.Prelude.{◌≡◌, ◌+◌, ◌*◌, ◌<◌, ◌≤◌, length, map, nat_le, slice_index, if◌then◌else◌, All, IfOk, IfErr, IsTrue};
+ghost use Rattle.fancy_index.specs.Clauses.{OutOfMemory, TooLarge, item_from, item_size, C, max_bytes, max_items, count, offsets, multiples, items_at, assigned, offsets_in, put_each, laid_offsets, AllStart, offsets_from};
 
 use crate::gather_scatter::{fill, push_all, scatter};
 use crate::plan_rows::{PlanAxes, moved};
@@ -25,7 +26,8 @@ impl Model for Plan {
 
     ghost Value = { Planned };
 
-    ghost use Rattle.fancy_index.specs.Clauses.{◌≡◌, length, count, offsets_from};
+    ghost use Rattle.std.specs.Prelude.{◌≡◌, length};
+    ghost use Rattle.fancy_index.specs.Clauses.{count, offsets_from};
 
     ghost view = { λ p. record { shape = p.shape; offsets = offsets_from p.axes.value } };
 

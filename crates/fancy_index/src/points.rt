@@ -1,6 +1,7 @@
 //! Points on some axes: the points of an integer, of an array of integers and of a mask; and their
 //! common lengths.
-ghost use Rattle.fancy_index.specs.Clauses.{covers, is_within, item_axes, as_index_shapes, points_shape, parts_of, shapes_of_part, index_array_of, Gives, common_with, is_place, max_items, Integers, Mask, NoIndex, IsOutside, IsWithin, array_item, kind_in, numbers_in, shown_part, HavePlaces, IsPart, are_named, place_of, rank_on, ranks_of, true_ranks, list_all, All, IfErr, IfOk, [], length, map, true, ◌∷◌, ◌≡◌, ◌≢◌, ◌≤◌};
+ghost use Rattle.std.specs.Prelude.{All, IfErr, IfOk, [], length, map, true, ◌∷◌, ◌≡◌, ◌≢◌, ◌≤◌};
+ghost use Rattle.fancy_index.specs.Clauses.{covers, is_within, item_axes, as_index_shapes, points_shape, parts_of, shapes_of_part, index_array_of, Gives, common_with, is_place, max_items, Integers, Mask, NoIndex, IsOutside, IsWithin, array_item, kind_in, numbers_in, shown_part, HavePlaces, IsPart, are_named, place_of, rank_on, ranks_of, true_ranks, list_all};
 
 use crate::index_array::{Named, kind};
 use crate::index_parts::{IndexPart, Kind};

@@ -1,5 +1,6 @@
 //! The integers of an array, read in place, and the indexes that they stand for.
-ghost use Rattle.fancy_index.specs.Words.{◌≡◌, ◌≤◌, ◌<◌, ℤ, List, length, get_or, pos, IsTrue, Gives, count, max_items};
+ghost use Rattle.std.specs.Prelude.{◌≡◌, ◌≤◌, ◌<◌, ℤ, List, length, get_or, pos, IsTrue};
+ghost use Rattle.fancy_index.specs.Words.{Gives, count, max_items};
 ghost use Rattle.fancy_index.specs.declared.index_parts.Kind.TheVariants.{Integers};
 ghost use Rattle.fancy_index.specs.inside.Items.{kind_in, numbers_in};
 ghost use Rattle.fancy_index.specs.inside.PointLists.{named_place, named_places};

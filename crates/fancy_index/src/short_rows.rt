@@ -1,6 +1,7 @@
 //! Short rows: a few items at each place of a run, as `a[:,j]` selects them if `j` is short. They
 //! are gathered, copied and filled in a single loop, with a loop of its own for each common width.
-ghost use Rattle.fancy_index.specs.Words.{◌≡◌, ◌≤◌, BeginsWithin, count, max_items, offsets, run_offsets};
+ghost use Rattle.std.specs.Prelude.{◌≡◌, ◌≤◌};
+ghost use Rattle.fancy_index.specs.Words.{BeginsWithin, count, max_items, offsets, run_offsets};
 
 use crate::plan_rows::{PlanAxes, Shifted, are_adjacent};
 use crate::singles::{PackedItems, fill_each, push_each, scatter_each};
@@ -26,7 +27,8 @@ pub(crate) struct ShortRows<'a> {
 }
 
 impl<'a> ShortRows<'a> {
-    ghost use Rattle.fancy_index.specs.Words.{◌+◌, ◌*◌, ◌<◌, ◌++◌, length, IfSome, assigned, joined_at, row_offsets};
+    ghost use Rattle.std.specs.Prelude.{◌+◌, ◌*◌, ◌<◌, ◌++◌, length, IfSome};
+    ghost use Rattle.fancy_index.specs.Words.{assigned, joined_at, row_offsets};
     ghost use Rattle.fancy_index.specs.Plans.{put_each};
     ghost use Rattle.fancy_index.specs.inside.Kept.{FitAt, first_offsets, offsets_from, row_at, short_offsets};
 

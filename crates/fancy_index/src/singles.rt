@@ -1,5 +1,6 @@
 //! Single items at shifted places: gathered, copied and filled, one after the other.
-ghost use Rattle.fancy_index.specs.Clauses.{◌≡◌, ◌+◌, ◌*◌, ◌≤◌, ◌++◌, length, map, All, item_at, put, joined_at, put_each, first_offsets, put_packed, end_of, FitAt};
+ghost use Rattle.std.specs.Prelude.{◌≡◌, ◌+◌, ◌*◌, ◌≤◌, ◌++◌, length, map, All};
+ghost use Rattle.fancy_index.specs.Clauses.{item_at, put, joined_at, put_each, first_offsets, put_packed, end_of, FitAt};
 
 use crate::plan_rows::{Shifted, moved};
 use arrays::{copy_run, packed_run, push_run};

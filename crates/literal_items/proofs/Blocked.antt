@@ -1,5 +1,6 @@
 -- Blocks of items.
-use Rattle.literal_items.proofs.Words.{◌≡◌, ◌+◌, ◌*◌, ◌≤◌, ℕ, zero, suc, List, [], ◌∷◌, ◌++◌, length, take, drop, map, sym, ap, ◌∙◌, refl, arith, length-take, suc-mul, drop-drop, drop-take, take-take, take_at, drop_at, map-append, blocks}
+use Rattle.std.proofs.Common.{◌≡◌, ◌+◌, ◌*◌, ◌≤◌, ℕ, zero, suc, List, [], ◌∷◌, ◌++◌, length, take, drop, map, sym, ap, ◌∙◌, refl, arith, length-take}
+use Rattle.literal_items.proofs.Words.{suc-mul, drop-drop, drop-take, take-take, take_at, drop_at, map-append, blocks}
 
 -- blocks depend only on the bytes in them
 pub blocks-front : {A : Type 0} (size n : ℕ) (xs ys : List A) → take (n * size) xs ≡ take (n * size) ys → blocks size n xs ≡ blocks size n ys

@@ -1,5 +1,6 @@
 -- Numbers that are counted by their lowest 64 bits, and read back from their bytes.
-use Rattle.literal_items.proofs.Words.{◌≡◌, ℕ, zero, suc, ◌+◌, ◌*◌, ◌%◌, ◌^◌, ◌<◌, inl, inr, Bool, true, false, List, [], ◌∷◌, ◌++◌, length, take, map, refl, sym, ap, ◌∙◌, arith, ℤ, pos, ◌+ℤ◌, ◌*ℤ◌, append-nil, w64, cast_signed, cast_unsigned, int_wrap, list_all, range_with_len, ints, wrapping_add-bits, int_wrap-add_left, int_wrap-add_right, of_z-to_z, take_all, map-map, map-range_with_len_more, get_or-map-range_with_len, AllPass-from_list_all, mod-lt, Scalar, Byte, number, IsNumber, IsValueOf, FitsBytes, is_value, size, integer, low_bits, decode, encode, low_bits-lt, decode_encode, integer-low_bits, int_wrap-low_bits, decode_item, blocks, items_in, numbers_from, next_number, length-numbers_from, length-encode, fits_eight_bytes, value_decides, joined, length-joined, AreBits, BoolScalar, IntScalar, BytesScalar, ScalarDescr, numbered}
+use Rattle.std.proofs.Common.{◌≡◌, ℕ, zero, suc, ◌+◌, ◌*◌, ◌%◌, ◌^◌, ◌<◌, inl, inr, Bool, true, false, List, [], ◌∷◌, ◌++◌, length, take, map, refl, sym, ap, ◌∙◌, arith, ℤ, pos, ◌+ℤ◌, ◌*ℤ◌, append-nil}
+use Rattle.literal_items.proofs.Words.{w64, cast_signed, cast_unsigned, int_wrap, list_all, range_with_len, ints, wrapping_add-bits, int_wrap-add_left, int_wrap-add_right, of_z-to_z, take_all, map-map, map-range_with_len_more, get_or-map-range_with_len, AllPass-from_list_all, mod-lt, Scalar, Byte, number, IsNumber, IsValueOf, FitsBytes, is_value, size, integer, low_bits, decode, encode, low_bits-lt, decode_encode, integer-low_bits, int_wrap-low_bits, decode_item, blocks, items_in, numbers_from, next_number, length-numbers_from, length-encode, fits_eight_bytes, value_decides, joined, length-joined, AreBits, BoolScalar, IntScalar, BytesScalar, ScalarDescr, numbered}
 use Rattle.literal_items.proofs.Blocked.{map-blocks-put}
 use Rattle.literal_items.proofs.Scalars.{scalar_read, value_is}
 

@@ -1,5 +1,6 @@
 -- Two checks, and then an answer.
-use Rattle.literal_items.proofs.Words.{◌≡◌, Bool, true, false, Result, Ok, Err, ap, Refusal, ◌>>=◌, check}
+use Rattle.std.proofs.Common.{◌≡◌, Bool, true, false, Result, Ok, Err, ap}
+use Rattle.literal_items.proofs.Words.{Refusal, ◌>>=◌, check}
 
 abbrev pub decided : {A : Type 0} → Bool → Refusal → Bool → Refusal → A → Result A Refusal
 decided a r b s x = check a r >>= λ _. (check b s >>= λ _. Ok x)

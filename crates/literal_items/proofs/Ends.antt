@@ -1,5 +1,6 @@
 -- The first and the last number of a range decide whether all are values of a scalar.
-use Rattle.literal_items.proofs.Words.{◌≡◌, ◌-◌, suc, Bool, get_or, ℕ, ◌*◌, ◌<◌, ◌≤◌, ◌⊎◌, true, false, ℤ, pos, negsuc, unsigned_abs, ◌+ℤ◌, ◌*ℤ◌, ◌≤ℤ◌, inl, inr, sym, ap, ◌∙◌, subst, arith, *ℤ-zero, mul-le-mul_left, cases_lt, cases_Bool, ints, get_or-map-range_with_len, list_all-from_AllPass, list_all, FitsSigned, w128, Scalar, Byte, IsNumber, IsValueOf, FitsBytes, is_value, width_size, numbers_from, value_decides, length-numbers_from, number_at, BoolScalar, IntScalar, BytesScalar}
+use Rattle.std.proofs.Common.{◌≡◌, ◌-◌, suc, Bool, get_or, ℕ, ◌*◌, ◌<◌, ◌≤◌, ◌⊎◌, true, false, ℤ, pos, negsuc, unsigned_abs, ◌+ℤ◌, ◌*ℤ◌, ◌≤ℤ◌, inl, inr, sym, ap, ◌∙◌, subst, arith, FitsSigned}
+use Rattle.literal_items.proofs.Words.{*ℤ-zero, mul-le-mul_left, cases_lt, cases_Bool, ints, get_or-map-range_with_len, list_all-from_AllPass, list_all, w128, Scalar, Byte, IsNumber, IsValueOf, FitsBytes, is_value, width_size, numbers_from, value_decides, length-numbers_from, number_at, BoolScalar, IntScalar, BytesScalar}
 use Rattle.literal_items.proofs.Lists.{all_fails}
 
 bytes_between : (signed : Bool) (n : ℕ) (a z b : ℤ) → a ≤ℤ z → z ≤ℤ b → FitsBytes signed n a → FitsBytes signed n b → FitsBytes signed n z

@@ -1,5 +1,6 @@
 -- Fields and their literals, one by one.
-use Rattle.literal_items.proofs.Words.{◌≡◌, ◌+◌, ◌<◌, ◌≤◌, ℕ, Bool, true, false, List, [], ◌∷◌, ◌++◌, length, get_or, take, drop, map, min, replicate, refl, sym, ap, ◌∙◌, arith, ◌&&◌, drop_all, and_parts, Leaf, Scalar, Byte, Int, Descr, Field, LeafValue, text, width_size, low_bits, wrap, without_nuls, Fields, no_more, scalar_field, record_field, Structure, before, listed, fields_of, InOrder, IsLegal, item_size, moved_leaf, leaves_of, leaves_from, AreInOrder, encode_item, decode_item, decode_encode, rest_at, field_within, seen_fields, leaves_from-before, leaves_from-moved, Little, length-bytes_of, length-padded, ScalarLiteral, Literal, Values, no_values, scalar_value, record_value, value_before, all_values, literals_of, listed_literals_of, BoolScalar, BytesScalar, ScalarDescr, RecordDescr, ScalarOf, RecordOf, literal_number, literal_bytes, leaf_value, stand_for, can_hold, field_values, can_be_item, values_of, stands_for, can_be_field, field_value, put_leaves}
+use Rattle.std.proofs.Common.{◌≡◌, ◌+◌, ◌<◌, ◌≤◌, ℕ, Bool, true, false, List, [], ◌∷◌, ◌++◌, length, get_or, take, drop, map, min, replicate, refl, sym, ap, ◌∙◌, arith, ◌&&◌}
+use Rattle.literal_items.proofs.Words.{drop_all, and_parts, Leaf, Scalar, Byte, Int, Descr, Field, LeafValue, text, width_size, low_bits, wrap, without_nuls, Fields, no_more, scalar_field, record_field, Structure, before, listed, fields_of, InOrder, IsLegal, item_size, moved_leaf, leaves_of, leaves_from, AreInOrder, encode_item, decode_item, decode_encode, rest_at, field_within, seen_fields, leaves_from-before, leaves_from-moved, Little, length-bytes_of, length-padded, ScalarLiteral, Literal, Values, no_values, scalar_value, record_value, value_before, all_values, literals_of, listed_literals_of, BoolScalar, BytesScalar, ScalarDescr, RecordDescr, ScalarOf, RecordOf, literal_number, literal_bytes, leaf_value, stand_for, can_hold, field_values, can_be_item, values_of, stands_for, can_be_field, field_value, put_leaves}
 use Rattle.literal_items.proofs.Nuls.{bytes_encoded, bytes_read_back}
 use Rattle.literal_items.proofs.Leaves.{ReadsBack, AreSound, AreSound-append, put_leaves-append, put_encoded, put_read}
 

@@ -1,5 +1,6 @@
 -- The leaves of an item, each with its value.
-use Rattle.literal_items.proofs.Words.{◌≡◌, ◌+◌, ◌-◌, ◌≤◌, ℕ, suc, List, [], ◌∷◌, ◌++◌, length, take, drop, map, replicate, refl, sym, ap, ◌∙◌, arith, append_assoc, length-append, AllZip, length-replicate, take_at, drop_at, take-replicate, drop-replicate, Leaf, Scalar, LeafValue, size, encode, decode, AreInOrder, encode_from, AreInOrder-within, put, put_leaves}
+use Rattle.std.proofs.Common.{◌≡◌, ◌+◌, ◌-◌, ◌≤◌, ℕ, suc, List, [], ◌∷◌, ◌++◌, length, take, drop, map, replicate, refl, sym, ap, ◌∙◌, arith, append_assoc, length-append}
+use Rattle.literal_items.proofs.Words.{AllZip, length-replicate, take_at, drop_at, take-replicate, drop-replicate, Leaf, Scalar, LeafValue, size, encode, decode, AreInOrder, encode_from, AreInOrder-within, put, put_leaves}
 
 -- the bytes of a value have the size of the scalar, and read back as the value
 pub record ReadsBack (scalar : Scalar) (value : LeafValue) : Type 0 where

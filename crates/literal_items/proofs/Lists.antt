@@ -1,5 +1,6 @@
 -- Lists element by element.
-use Rattle.literal_items.proofs.Words.{◌≡◌, ◌+◌, ◌<◌, ℕ, Bool, true, false, List, [], ◌∷◌, ◌++◌, length, get_or, take, map, refl, sym, ap, ◌∙◌, list_all, take_more, map-append, AllPass-from_list_all, list_all_at}
+use Rattle.std.proofs.Common.{◌≡◌, ◌+◌, ◌<◌, ℕ, Bool, true, false, List, [], ◌∷◌, ◌++◌, length, get_or, take, map, refl, sym, ap, ◌∙◌}
+use Rattle.literal_items.proofs.Words.{list_all, take_more, map-append, AllPass-from_list_all, list_all_at}
 
 pub all_fails : {X : Type 0} (p : X → Bool) (xs : List X) (k : ℕ) (x : X) → k < length xs → get_or xs k x ≡ x → p x ≡ false → list_all p xs ≡ false
 all_fails p xs k x low is here = list_all_at p xs k x low (ap p is ∙ here)

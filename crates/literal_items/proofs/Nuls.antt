@@ -1,5 +1,6 @@
 -- Byte strings padded with NULs.
-use Rattle.literal_items.proofs.Words.{◌≡◌, ◌+◌, ◌-◌, ◌≤◌, ℕ, min, List, ◌++◌, length, take, drop, replicate, sym, ap, ◌∙◌, arith, append_assoc, length-take, nat_eq, take_all, take_min, drop-replicate, replicate-append-replicate, suffix_len-le-length, without_nuls, padded, without_nuls-back, without_nuls-more, nuls}
+use Rattle.std.proofs.Common.{◌≡◌, ◌+◌, ◌-◌, ◌≤◌, ℕ, min, List, ◌++◌, length, take, drop, replicate, sym, ap, ◌∙◌, arith, append_assoc, length-take, nat_eq}
+use Rattle.literal_items.proofs.Words.{take_all, take_min, drop-replicate, replicate-append-replicate, suffix_len-le-length, without_nuls, padded, without_nuls-back, without_nuls-more, nuls}
 
 padded-without_nuls : (n : ℕ) (bytes : List ℕ) → length bytes ≤ n → padded n (without_nuls bytes) ≡ bytes ++ replicate (n - length bytes) 0
 padded-without_nuls n bytes fits =

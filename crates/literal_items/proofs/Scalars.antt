@@ -1,5 +1,6 @@
 -- Items of one scalar.
-use Rattle.literal_items.proofs.Words.{◌≡◌, ℕ, true, List, [], ◌∷◌, length, ℤ, ap, ◌∙◌, arith, take_all, Decides-int_eq, Scalar, LeafValue, number, is_value, size, wrap, decode, decode_item, ScalarDescr}
+use Rattle.std.proofs.Common.{◌≡◌, ℕ, true, List, [], ◌∷◌, length, ℤ, ap, ◌∙◌, arith}
+use Rattle.literal_items.proofs.Words.{take_all, Decides-int_eq, Scalar, LeafValue, number, is_value, size, wrap, decode, decode_item, ScalarDescr}
 
 pub scalar_read : (scalar : Scalar) (item : List ℕ) (value : LeafValue) → length item ≡ size scalar → decode scalar item ≡ value → decode_item (ScalarDescr scalar) item ≡ value ∷ []
 scalar_read scalar item value whole is = ap (λ bytes. decode scalar bytes ∷ []) (take_all (size scalar) item (omega arith)) ∙ ap (λ v. v ∷ []) is

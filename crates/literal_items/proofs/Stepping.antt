@@ -1,5 +1,6 @@
 -- The numbers of a range.
-use Rattle.literal_items.proofs.Words.{◌≡◌, ◌≢◌, ◌^◌, Bool, List, [], ◌∷◌, length, map, Result, Ok, Err, ◌↔◌, ℕ, ◌+◌, ◌*◌, ◌%◌, ◌<◌, ◌≤◌, true, false, ℤ, pos, unsigned_abs, ◌+ℤ◌, ◌-ℤ◌, ◌*ℤ◌, ◌≤ℤ◌, inl, inr, lit<, sym, ap, ◌∙◌, arith, cases_lt, cases_Bool, Decides-int_eq, nat_tests, FitsSigned, not, nat_le, list_all, Refusal, LiteralOutOfRange, TooLarge, ZeroStep, Scalar, ◌>>=◌, check, is_before, numbers_from, IsGap, LeafValue, number, CountsSteps, steps_end_below, abs_pos, between_back, between_forth, near_before, far_after, counted_within, stepped_first, length-numbers_from, is_value, max_items, int_eq, *ℤ_comm, mod-lt, ints, clamps, by_lt_z, to_z-of_z, wrapping_add_onto, wrapping_mul_onto, int_wrap-add_left, int_wrap_fits, w128, int_wrap, div_ceil, cast_signed, cast_unsigned, range_count, range_numbers, range_length, range_items}
+use Rattle.std.proofs.Common.{◌≡◌, ◌≢◌, ◌^◌, Bool, List, [], ◌∷◌, length, map, Result, Ok, Err, ◌↔◌, ℕ, ◌+◌, ◌*◌, ◌%◌, ◌<◌, ◌≤◌, true, false, ℤ, pos, unsigned_abs, ◌+ℤ◌, ◌-ℤ◌, ◌*ℤ◌, ◌≤ℤ◌, inl, inr, lit<, sym, ap, ◌∙◌, arith, FitsSigned, not, nat_le}
+use Rattle.literal_items.proofs.Words.{cases_lt, cases_Bool, Decides-int_eq, nat_tests, list_all, Refusal, LiteralOutOfRange, TooLarge, ZeroStep, Scalar, ◌>>=◌, check, is_before, numbers_from, IsGap, LeafValue, number, CountsSteps, steps_end_below, abs_pos, between_back, between_forth, near_before, far_after, counted_within, stepped_first, length-numbers_from, is_value, max_items, int_eq, *ℤ_comm, mod-lt, ints, clamps, by_lt_z, to_z-of_z, wrapping_add_onto, wrapping_mul_onto, int_wrap-add_left, int_wrap_fits, w128, int_wrap, div_ceil, cast_signed, cast_unsigned, range_count, range_numbers, range_length, range_items}
 use Rattle.literal_items.proofs.Decided.{decided_first, decided_second, decided_ok}
 
 -- ---- the count is a quotient, rounded up

@@ -1,5 +1,6 @@
 -- Literals and ranges as items, worked out by hand and by NumPy.
-use Rattle.literal_items.proofs.Words.{◌≡◌, ◌≢◌, ◌<◌, ℕ, true, false, pos, negsuc, ◌-ℤ◌, [], ◌∷◌, length, map, Ok, Err, codes, refl, sym, ap, arith, int_max, list_all, ints, stepped, IsGap, LiteralOutOfRange, NoSuchCast, TooLarge, ZeroStep, Little, Big, Four, Eight, Byte, Int, Descr, no_more, scalar_field, record_field, encode_item, number, text, is_value, Integer, Boolean, Bytes, no_values, scalar_value, record_value, BoolScalar, BytesScalar, ScalarDescr, RecordDescr, ScalarOf, RecordOf, values_of, item_value, item_values, range_length, range_items}
+use Rattle.std.proofs.Common.{◌≡◌, ◌≢◌, ◌<◌, ℕ, true, false, pos, negsuc, ◌-ℤ◌, [], ◌∷◌, length, map, Ok, Err, codes, refl, sym, ap, arith}
+use Rattle.literal_items.proofs.Words.{int_max, list_all, ints, stepped, IsGap, LiteralOutOfRange, NoSuchCast, TooLarge, ZeroStep, Little, Big, Four, Eight, Byte, Int, Descr, no_more, scalar_field, record_field, encode_item, number, text, is_value, Integer, Boolean, Bytes, no_values, scalar_value, record_value, BoolScalar, BytesScalar, ScalarDescr, RecordDescr, ScalarOf, RecordOf, values_of, item_value, item_values, range_length, range_items}
 use Rattle.literal_items.proofs.Stepping.{numbers-divided, count-divided, range_length-large, range_length-ok, range_items-refused, range_items-ok}
 
 -- T{<b:x:3x<i:y:}

@@ -1,5 +1,6 @@
 -- Literals as items of a descriptor.
-use Rattle.literal_items.specs.Words.{ℕ, ℤ, pos, Bool, true, false, not, ◌&&◌, List, [], ◌∷◌, ◌++◌, map, take, Result, Ok, list_all, Refusal, LiteralOutOfRange, NoSuchCast, Scalar, Descr, ◌>>=◌, check, LeafValue, number, text, is_value, wrap, without_nuls, Fields, no_more, scalar_field, record_field, leaves_of, ScalarLiteral, Integer, Boolean, Bytes, Literal, Values, no_values, scalar_value, record_value, BoolScalar, BytesScalar, ScalarDescr, RecordDescr, ScalarOf, RecordOf}
+use Rattle.std.specs.Prelude.{ℕ, ℤ, pos, Bool, true, false, not, ◌&&◌, List, [], ◌∷◌, ◌++◌, map, take, Result, Ok}
+use Rattle.literal_items.specs.Words.{list_all, Refusal, LiteralOutOfRange, NoSuchCast, Scalar, Descr, ◌>>=◌, check, LeafValue, number, text, is_value, wrap, without_nuls, Fields, no_more, scalar_field, record_field, leaves_of, ScalarLiteral, Integer, Boolean, Bytes, Literal, Values, no_values, scalar_value, record_value, BoolScalar, BytesScalar, ScalarDescr, RecordDescr, ScalarOf, RecordOf}
 
 -- One value
 

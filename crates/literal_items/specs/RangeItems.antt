@@ -1,5 +1,6 @@
 -- The numbers start, start + step, start + 2 * step, .. before a stop, as items of a scalar.
-use Rattle.literal_items.specs.Words.{ℕ, ℤ, pos, ◌-ℤ◌, unsigned_abs, not, List, [], ◌∷◌, length, map, nat_le, Result, Ok, int_eq, list_all, Refusal, TooLarge, ZeroStep, LiteralOutOfRange, Scalar, ◌>>=◌, check, stepped, LeafValue, number, is_value, max_items}
+use Rattle.std.specs.Prelude.{ℕ, ℤ, pos, ◌-ℤ◌, unsigned_abs, not, List, [], ◌∷◌, length, map, nat_le, Result, Ok}
+use Rattle.literal_items.specs.Words.{int_eq, list_all, Refusal, TooLarge, ZeroStep, LiteralOutOfRange, Scalar, ◌>>=◌, check, stepped, LeafValue, number, is_value, max_items}
 
 -- the numbers of a range. There are at most as many as the distance from start to stop.
 abbrev pub range_numbers : ℤ → ℤ → ℤ → List ℤ

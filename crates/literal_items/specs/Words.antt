@@ -42,4 +42,3 @@ pub use Rattle.script_lang.specs.declared.literal.ScalarLiteral.TheVariants.{Boo
 pub use Rattle.shape_strides.specs.Limits.{max_items}
 pub use Rattle.std.specs.List.{list_all}
 pub use Rattle.std.specs.Ordering.{int_eq}
-pub use Rattle.std.specs.Prelude.{Bool, List, Ok, Result, [], drop, false, length, map, nat_le, not, pos, take, true, unsigned_abs, ℕ, ℤ, ◌&&◌, ◌*ℤ◌, ◌++◌, ◌+ℤ◌, ◌-ℤ◌, ◌∷◌}

@@ -1,5 +1,6 @@
 //! Literals as the bytes of one leaf.
-ghost use Rattle.literal_items.specs.Clauses.{◌≡◌, true, length, take, IsNumber, size, decode, encode, padded, without_nuls, takes_number, is_castable, is_in_range, leaf_value};
+ghost use Rattle.std.specs.Prelude.{◌≡◌, true, length, take};
+ghost use Rattle.literal_items.specs.Clauses.{IsNumber, size, decode, encode, padded, without_nuls, takes_number, is_castable, is_in_range, leaf_value};
 
 use elem_descr::{Scalar, is_value, num_write};
 use script_lang::ScalarLiteral;

@@ -1,5 +1,6 @@
 //! Literals as items of a descriptor.
-ghost use Rattle.literal_items.specs.Clauses.{RecordDescr, are_in_range, can_be_item, can_hold, field_values, is_castable, is_in_range, is_item_in_range, item_value, item_values, leaf_value, values_of, AreInOrder, IsLegal, LiteralOutOfRange, all_values, blocks, decode_item, encode_item, item_size, leaves_from, leaves_of, listed, moved_leaf, can_be_field, field_value, is_field_in_range, put_leaves, list_all, Err, IfOk, MatchResult, Ok, OnErr, drop, length, map, replicate, take, true, ◌*◌, ◌++◌, ◌+◌, ◌≡◌, ◌≤◌};
+ghost use Rattle.std.specs.Prelude.{Err, IfOk, MatchResult, Ok, OnErr, drop, length, map, replicate, take, true, ◌*◌, ◌++◌, ◌+◌, ◌≡◌, ◌≤◌};
+ghost use Rattle.literal_items.specs.Clauses.{RecordDescr, are_in_range, can_be_item, can_hold, field_values, is_castable, is_in_range, is_item_in_range, item_value, item_values, leaf_value, values_of, AreInOrder, IsLegal, LiteralOutOfRange, all_values, blocks, decode_item, encode_item, item_size, leaves_from, leaves_of, listed, moved_leaf, can_be_field, field_value, is_field_in_range, put_leaves, list_all};
 
 use crate::leaf::{is_castable, is_in_range, write_leaf};
 use elem_descr::{Descr, Field, Leaf, Record, Refusal};

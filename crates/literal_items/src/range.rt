@@ -1,5 +1,6 @@
 //! The numbers of a range as items.
-ghost use Rattle.literal_items.specs.Clauses.{◌≡◌, ◌<◌, ◌≤◌, ◌↔◌, ◌+◌, ◌*◌, ◌++◌, ℕ, ℤ, pos, ◌+ℤ◌, ◌*ℤ◌, FitsSigned, IsTrue, length, true, IfOk, list_all, w128, ScalarDescr, Gives, IsNumber, is_value, low_bits, size, items_in, is_before, numbers_from, IsGap, joined, max_items, range_numbers, range_count, range_length, range_items, numbered};
+ghost use Rattle.std.specs.Prelude.{◌≡◌, ◌<◌, ◌≤◌, ◌↔◌, ◌+◌, ◌*◌, ◌++◌, ℕ, ℤ, pos, ◌+ℤ◌, ◌*ℤ◌, FitsSigned, IsTrue, length, true, IfOk};
+ghost use Rattle.literal_items.specs.Clauses.{list_all, w128, ScalarDescr, Gives, IsNumber, is_value, low_bits, size, items_in, is_before, numbers_from, IsGap, joined, max_items, range_numbers, range_count, range_length, range_items, numbered};
 
 use elem_descr::{Refusal, Scalar, is_value};
 use machine_numbers::{Number, NumberTask, Ordered, on_number};

@@ -1,5 +1,6 @@
 -- Binding a name, and keeping the change.
-use Rattle.name_store.proofs.Words.{◌≡◌, ◌+◌, ◌≤◌, ℕ, Bool, true, false, List, [], ◌∷◌, ◌++◌, length, map, min, refl, sym, ap, subst, ◌∙◌, cond, Option, Some, None, is_some, IfSome, Result, Ok, Err, IsOk, IfOk, OnOk, OnErr, nat_eq, arith, inl, inr, AllByRecursion, list_any, lookup, option_map, nat_cmp_total, get, retain_keys, get-insert, get-retain_keys, same_map, nat_cmp-IsAntisymmetric, eqb-true, All-from_recursion, recursion_from_All, item_size, buffer, keep_last, insert_entry, Layout, count, Owned, Ring, find_array, put_array, without, is_in_use, has_room_for, keeping, Binds, IsUnused, own_array, own_buffer, Holds, IsSound, LiesAt, IsUndoable, one_at, users_of, users_at, users_in, found_at, pins, all_pins, Names, names_before, past_buffers, past_buffer, kept_states, Array, Buffer, State, array_at, named_array, buffer_in, slot_at, present, state_of, IsViewIn, MayBind, Bound, Fresh, Change, Bind, Entry, Slot, stand, Adds, IsOf, Lodges, Rebinds}
+use Rattle.std.proofs.Common.{◌≡◌, ◌+◌, ◌≤◌, ℕ, Bool, true, false, List, [], ◌∷◌, ◌++◌, length, map, min, refl, sym, ap, subst, ◌∙◌, cond, Option, Some, None, is_some, IfSome, Result, Ok, Err, IsOk, IfOk, OnOk, OnErr, nat_eq, arith, inl, inr}
+use Rattle.name_store.proofs.Words.{AllByRecursion, list_any, lookup, option_map, nat_cmp_total, get, retain_keys, get-insert, get-retain_keys, same_map, nat_cmp-IsAntisymmetric, eqb-true, All-from_recursion, recursion_from_All, item_size, buffer, keep_last, insert_entry, Layout, count, Owned, Ring, find_array, put_array, without, is_in_use, has_room_for, keeping, Binds, IsUnused, own_array, own_buffer, Holds, IsSound, LiesAt, IsUndoable, one_at, users_of, users_at, users_in, found_at, pins, all_pins, Names, names_before, past_buffers, past_buffer, kept_states, Array, Buffer, State, array_at, named_array, buffer_in, slot_at, present, state_of, IsViewIn, MayBind, Bound, Fresh, Change, Bind, Entry, Slot, stand, Adds, IsOf, Lodges, Rebinds}
 use Rattle.std.specs.FinMap.{insert}
 use Rattle.name_store.specs.declared.bound.Bound.TheVariants.{View}
 use Rattle.name_store.proofs.FreshLaws.{fresh-lies, fresh-array_at, fresh-buffer}

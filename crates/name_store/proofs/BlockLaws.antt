@@ -1,5 +1,6 @@
 -- Adjacent items in a block of bytes.
-use Rattle.name_store.proofs.Words.{◌≡◌, ◌≤◌, ◌<◌, ◌+◌, ◌*◌, ℕ, zero, suc, List, ◌∷◌, ◌++◌, length, take, drop, map, refl, sym, ap, ◌∙◌, Some, slice_get, slice_set, append_assoc, arith, length-take, length-drop, mul-suc, suc-mul, mul-le-mul_left, take-add, map-set, drop-drop, drop_at, Descr, item_size, decode_item, put, blocks, items_in, item_from, take_front}
+use Rattle.std.proofs.Common.{◌≡◌, ◌≤◌, ◌<◌, ◌+◌, ◌*◌, ℕ, zero, suc, List, ◌∷◌, ◌++◌, length, take, drop, map, refl, sym, ap, ◌∙◌, Some, slice_get, slice_set, append_assoc, arith, length-take, length-drop}
+use Rattle.name_store.proofs.Words.{mul-suc, suc-mul, mul-le-mul_left, take-add, map-set, drop-drop, drop_at, Descr, item_size, decode_item, put, blocks, items_in, item_from, take_front}
 
 pub put-add : (width at : ℕ) (item bytes : List ℕ) → put (width + at) item bytes ≡ take width bytes ++ put at item (drop width bytes)
 put-add width at item bytes =

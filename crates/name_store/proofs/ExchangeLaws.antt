@@ -1,5 +1,6 @@
 -- A block that replaces another has the bytes that a copy of all its items would have written.
-use Rattle.name_store.proofs.Words.{◌≡◌, ◌+◌, ◌*◌, ◌≤◌, ◌<◌, ◌==◌, ℕ, zero, suc, true, List, [], ◌∷◌, length, map, replicate, refl, sym, ap, subst, ◌∙◌, All, arith, inl, inr, AllByRecursion, range_with_len, cases_lt, eqb-true, and_parts, get_or_past, recursion_from_All, mul-suc, mul_comm, item_at, joined, length-joined, item_of_joined, item_size, is_c_contiguous, length-offsets, offsets, multiples, Fits, Owned, items_at, with_items, OldItems, AreAll, IsPacked, AreOld}
+use Rattle.std.proofs.Common.{◌≡◌, ◌+◌, ◌*◌, ◌≤◌, ◌<◌, ◌==◌, ℕ, zero, suc, true, List, [], ◌∷◌, length, map, replicate, refl, sym, ap, subst, ◌∙◌, All, arith, inl, inr}
+use Rattle.name_store.proofs.Words.{AllByRecursion, range_with_len, cases_lt, eqb-true, and_parts, get_or_past, recursion_from_All, mul-suc, mul_comm, item_at, joined, length-joined, item_of_joined, item_size, is_c_contiguous, length-offsets, offsets, multiples, Fits, Owned, items_at, with_items, OldItems, AreAll, IsPacked, AreOld}
 use Rattle.name_store.proofs.LaidLaws.{offsets-within}
 use Rattle.name_store.proofs.RestoreLaws.{Within, put-back}
 

@@ -1,5 +1,6 @@
 -- The fields of a record: where their bytes and leaves are in those of the record.
-use Rattle.name_store.proofs.Words.{◌≡◌, ◌+◌, ◌<◌, ◌≤◌, ℕ, zero, suc, List, [], ◌∷◌, ◌++◌, length, take, map, get_or, refl, sym, ap, subst, ◌∙◌, append_assoc, arith, length-append, append-nil, map-append, length-map, Descr, Field, Leaf, InOrder, AreNamedWithin, fields_of, depth, leaf_count, size, Fields, no_more, scalar_field, record_field, item_size, leaves_of, leaves_from, leaves_in, fields, field_at, no_field, moved_leaf, AreInOrder, leaves_from-in_order, leaves_from-moved, leaves_in_order, length-leaves_from, AreInOrder-earlier, AreInOrder-append, some_leaves, legal_size, InOrder-within, some_depth, ScalarDescr, RecordDescr, IsElementType}
+use Rattle.std.proofs.Common.{◌≡◌, ◌+◌, ◌<◌, ◌≤◌, ℕ, zero, suc, List, [], ◌∷◌, ◌++◌, length, take, map, get_or, refl, sym, ap, subst, ◌∙◌, append_assoc, arith, length-append}
+use Rattle.name_store.proofs.Words.{append-nil, map-append, length-map, Descr, Field, Leaf, InOrder, AreNamedWithin, fields_of, depth, leaf_count, size, Fields, no_more, scalar_field, record_field, item_size, leaves_of, leaves_from, leaves_in, fields, field_at, no_field, moved_leaf, AreInOrder, leaves_from-in_order, leaves_from-moved, leaves_in_order, length-leaves_from, AreInOrder-earlier, AreInOrder-append, some_leaves, legal_size, InOrder-within, some_depth, ScalarDescr, RecordDescr, IsElementType}
 
 -- ---- leaves in order
 

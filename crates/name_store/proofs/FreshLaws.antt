@@ -1,5 +1,6 @@
 -- New arrays, which fill a block of their own.
-use Rattle.name_store.proofs.Words.{◌≡◌, ◌+◌, ◌*◌, map, ℕ, true, List, [], ◌∷◌, refl, sym, ap, subst, ◌∙◌, arith, item_size, count, offsets, Fits, offsets_of, Owned, items_in, places_of, own_array, own_buffer, LiesIn, array_at, buffer_in, IsLaidOut, Entry, Slot}
+use Rattle.std.proofs.Common.{◌≡◌, ◌+◌, ◌*◌, map, ℕ, true, List, [], ◌∷◌, refl, sym, ap, subst, ◌∙◌, arith}
+use Rattle.name_store.proofs.Words.{item_size, count, offsets, Fits, offsets_of, Owned, items_in, places_of, own_array, own_buffer, LiesIn, array_at, buffer_in, IsLaidOut, Entry, Slot}
 use Rattle.name_store.proofs.LaidLaws.{laid-same}
 
 from_start : (item : ℕ) (places : List ℕ) → map (λ place. item * place) places ≡ offsets_of item 0 places

@@ -1,5 +1,6 @@
 -- Slots after one of them is set: their contents and their users.
-use Rattle.name_store.proofs.Words.{◌≡◌, ◌+◌, ◌<◌, ◌≤◌, ℕ, Bool, true, false, List, length, refl, sym, ap, subst, ◌∙◌, cond, Option, Some, None, is_some, nat_eq, nat_lt, slice_set, arith, option_map, nat_eq_equiv, eqb-true, ne_eqb, lt-ltb, ltb-true, ltb-false, one_at, users_of, users_at, slot_at, Slot, IsLowest, stand}
+use Rattle.std.proofs.Common.{◌≡◌, ◌+◌, ◌<◌, ◌≤◌, ℕ, Bool, true, false, List, length, refl, sym, ap, subst, ◌∙◌, cond, Option, Some, None, is_some, nat_eq, nat_lt, slice_set, arith}
+use Rattle.name_store.proofs.Words.{option_map, nat_eq_equiv, eqb-true, ne_eqb, lt-ltb, ltb-true, ltb-false, one_at, users_of, users_at, slot_at, Slot, IsLowest, stand}
 use Rattle.name_store.proofs.SlotLaws.{slot_at-set, slot_at-past, slot_at-within}
 
 one-when : (t : Bool) (q n : ℕ) → nat_eq q n ≡ t → one_at q n ≡ cond t 1 0

@@ -1,5 +1,6 @@
 -- Keeping a change.
-use Rattle.name_store.proofs.Words.{◌≡◌, ◌+◌, ◌-◌, ◌≤◌, ℕ, true, false, List, [], ◌∷◌, ◌++◌, length, drop, map, min, refl, sym, ap, subst, ◌∙◌, cond, Some, None, nat_lt, slice_get, arith, length-drop, length-append, list_any, option_map, ltb-false, length-map, map-append, drop-map, buffer, keep_last, Ring, is_in_use, keeping, Holds, IsSound, LiesAt, IsUndoable, AreUndoable, one_at, users_at, users_in, held_number, found_at, all_pins, Names, names_before, past_buffers, kept_states, patch_size, named_array, slot_at, state_of, Change, Entry, stand}
+use Rattle.std.proofs.Common.{◌≡◌, ◌+◌, ◌-◌, ◌≤◌, ℕ, true, false, List, [], ◌∷◌, ◌++◌, length, drop, map, min, refl, sym, ap, subst, ◌∙◌, cond, Some, None, nat_lt, slice_get, arith, length-drop, length-append}
+use Rattle.name_store.proofs.Words.{list_any, option_map, ltb-false, length-map, map-append, drop-map, buffer, keep_last, Ring, is_in_use, keeping, Holds, IsSound, LiesAt, IsUndoable, AreUndoable, one_at, users_at, users_in, held_number, found_at, all_pins, Names, names_before, past_buffers, kept_states, patch_size, named_array, slot_at, state_of, Change, Entry, stand}
 use Rattle.name_store.proofs.NameLaws.{all-both, all-in_use, in_front}
 use Rattle.name_store.proofs.Needs.{needs, is_needed}
 use Rattle.name_store.proofs.PastLaws.{Alike, alike-shape, past-alike, lies-shaped, Restored, restored-shape, same-buffers, kept-push, kept-free, kept-drop, kept-length, undoable-push, undoable-drop, undoable-still, Slots}

@@ -1,5 +1,6 @@
 -- The places of the items of a layout of an array.
-use Rattle.name_store.proofs.Words.{◌≡◌, ◌+◌, ◌*◌, ◌<◌, ◌≤◌, ◌⊎◌, inl, inr, map, ℕ, zero, suc, ℤ, pos, negsuc, ◌+ℤ◌, ◌≤ℤ◌, List, [], ◌∷◌, ◌++◌, Bool, subst, arith, AllByRecursion, flat_map, range_with_len, cases_lt, ints, mul_comm, mul-le-mul_left, Descr, item_size, Layout, indexes, IsIndex, address, natural, offsets, Fits, offsets_of, Array, descr_at, start_at, IsLaidOut}
+use Rattle.std.proofs.Common.{◌≡◌, ◌+◌, ◌*◌, ◌<◌, ◌≤◌, ◌⊎◌, inl, inr, map, ℕ, zero, suc, ℤ, pos, negsuc, ◌+ℤ◌, ◌≤ℤ◌, List, [], ◌∷◌, ◌++◌, Bool, subst, arith}
+use Rattle.name_store.proofs.Words.{AllByRecursion, flat_map, range_with_len, cases_lt, ints, mul_comm, mul-le-mul_left, Descr, item_size, Layout, indexes, IsIndex, address, natural, offsets, Fits, offsets_of, Array, descr_at, start_at, IsLaidOut}
 
 -- a property of all indexes of a shape
 both-parts : {X : Type 0} (P : X → Type 0) (xs ys : List X) → AllByRecursion P xs → AllByRecursion P ys → AllByRecursion P (xs ++ ys)

@@ -1,5 +1,6 @@
 -- Looking up, putting and removing names in a table.
-use Rattle.name_store.proofs.Words.{◌≡◌, ◌+◌, ℕ, suc, Bool, true, false, List, [], ◌∷◌, take, drop, insert, map, refl, sym, ap, subst, ◌∙◌, cond, ◌||◌, not, Some, None, nat_eq, arith, ◌⊎◌, inl, inr, AllByRecursion, list_any, position_or_len, take-append-drop, list_any-append, option_map, bytes_eq, nat_eq_equiv, bytes_eq-Decides, insert_entry, shift_remove_entry, lookup, keys_of, Array, find_array, put_array, without, is_in_use, array_at, named_array, Entry}
+use Rattle.std.proofs.Common.{◌≡◌, ◌+◌, ℕ, suc, Bool, true, false, List, [], ◌∷◌, take, drop, insert, map, refl, sym, ap, subst, ◌∙◌, cond, ◌||◌, not, Some, None, nat_eq, arith, ◌⊎◌, inl, inr}
+use Rattle.name_store.proofs.Words.{AllByRecursion, list_any, position_or_len, take-append-drop, list_any-append, option_map, bytes_eq, nat_eq_equiv, bytes_eq-Decides, insert_entry, shift_remove_entry, lookup, keys_of, Array, find_array, put_array, without, is_in_use, array_at, named_array, Entry}
 
 same : (xs ys : List ℕ) → bytes_eq xs ys ≡ true → xs ≡ ys
 same xs ys e = (bytes_eq-Decides xs ys).0 e

@@ -1,5 +1,6 @@
 -- Targets with their places in another order.
-use Rattle.name_store.proofs.Words.{◌+◌, ◌≤◌, length, refl, IsPermutation, All-permutation, Layout, LayoutPair, item_pairs, offsets_within, offsets, fits-offsets, pair_even, firsts-reordered, nested-reordered, filled-reordered, View, IsNear}
+use Rattle.std.proofs.Common.{◌+◌, ◌≤◌, length, refl}
+use Rattle.name_store.proofs.Words.{IsPermutation, All-permutation, Layout, LayoutPair, item_pairs, offsets_within, offsets, fits-offsets, pair_even, firsts-reordered, nested-reordered, filled-reordered, View, IsNear}
 
 pub is-near : (l : Layout) (pair : LayoutPair) → IsPermutation (item_pairs l l) (item_pairs pair.target pair.source) → IsNear (View l) (View pair.target)
 is-near l pair same =

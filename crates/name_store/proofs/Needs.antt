@@ -1,5 +1,6 @@
 -- Whether a buffer is needed, and how many users it has.
-use Rattle.name_store.proofs.Words.{◌≡◌, ◌+◌, ◌-◌, ◌^◌, ◌≤◌, ◌<◌, ℕ, zero, suc, Bool, true, false, List, [], ◌∷◌, ◌++◌, length, insert, map, refl, sym, ap, ◌∙◌, cond, ◌||◌, Option, Some, None, is_some, nat_eq, nat_lt, arith, list_any, option_map, bytes_eq, lt-ltb, length-map, find_array, put_array, without, is_in_use, IsSound, one_at, users_in, pins, found_at, held_number, all_pins, users_of, users_at, Names, Array, named_array, slot_at, Change, Bind, Unbind, Write, Entry, Slot, Ring}
+use Rattle.std.proofs.Common.{◌≡◌, ◌+◌, ◌-◌, ◌^◌, ◌≤◌, ◌<◌, ℕ, zero, suc, Bool, true, false, List, [], ◌∷◌, ◌++◌, length, insert, map, refl, sym, ap, ◌∙◌, cond, ◌||◌, Option, Some, None, is_some, nat_eq, nat_lt, arith}
+use Rattle.name_store.proofs.Words.{list_any, option_map, bytes_eq, lt-ltb, length-map, find_array, put_array, without, is_in_use, IsSound, one_at, users_in, pins, found_at, held_number, all_pins, users_of, users_at, Names, Array, named_array, slot_at, Change, Bind, Unbind, Write, Entry, Slot, Ring}
 
 -- whether buffer `number` is needed to undo a change
 abbrev pub needs : ℕ → Change → Bool

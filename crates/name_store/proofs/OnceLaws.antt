@@ -1,5 +1,6 @@
 -- No two places of a writable array are equal.
-use Rattle.name_store.proofs.Words.{◌≡◌, ◌≢◌, ◌+◌, ◌*◌, ◌/◌, ◌<◌, ℕ, List, length, IsTrue, sym, ap, ◌∙◌, slice_index, arith, length-map, item_size, offsets, distance, places_of, LiesIn, start_at, array_at, Entry, Slot, offset-at}
+use Rattle.std.proofs.Common.{◌≡◌, ◌≢◌, ◌+◌, ◌*◌, ◌/◌, ◌<◌, ℕ, List, length, IsTrue, sym, ap, ◌∙◌, slice_index, arith}
+use Rattle.name_store.proofs.Words.{length-map, item_size, offsets, distance, places_of, LiesIn, start_at, array_at, Entry, Slot, offset-at}
 use Rattle.name_store.proofs.PartLaws.{part-some}
 
 no-distance : (a b : ℕ) → a ≡ b → distance a b ≡ 0

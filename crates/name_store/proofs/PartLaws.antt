@@ -1,5 +1,6 @@
 -- Parts of an item: where their bytes are, and how they are read and written.
-use Rattle.name_store.proofs.Words.{◌≡◌, ◌+◌, ◌-◌, ◌<◌, ◌≤◌, ℕ, List, [], ◌∷◌, ◌++◌, length, take, drop, map, refl, sym, ap, ◌∙◌, append_assoc, arith, length-take, length-append, take-append_seam, take-take, drop-drop, map-append, length-map, take-append-le, drop-append-le, take-append-drop, drop-take, take_at, drop_at, Descr, Leaf, item_from, size, decode, item_size, leaves_of, leaves_in, fields, field_at, moved_leaf, AreInOrder, decode_item, LeafValue, AreInOrder-within, leaf_value, put, IsPathOf, descr_at, start_at, first_at, span_at, part_at, with_part, IsElementType}
+use Rattle.std.proofs.Common.{◌≡◌, ◌+◌, ◌-◌, ◌<◌, ◌≤◌, ℕ, List, [], ◌∷◌, ◌++◌, length, take, drop, map, refl, sym, ap, ◌∙◌, append_assoc, arith, length-take, length-append}
+use Rattle.name_store.proofs.Words.{take-append_seam, take-take, drop-drop, map-append, length-map, take-append-le, drop-append-le, take-append-drop, drop-take, take_at, drop_at, Descr, Leaf, item_from, size, decode, item_size, leaves_of, leaves_in, fields, field_at, moved_leaf, AreInOrder, decode_item, LeafValue, AreInOrder-within, leaf_value, put, IsPathOf, descr_at, start_at, first_at, span_at, part_at, with_part, IsElementType}
 use Rattle.name_store.proofs.FieldSplits.{Split, split-whole, split-within, records_deep, type-some, type-in_order, type-leaves, type-shallow, fields-deep, field-deep, field-legal, field-split}
 
 -- ---- the bytes of a part

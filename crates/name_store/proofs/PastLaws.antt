@@ -1,5 +1,6 @@
 -- The kept states after a change is kept, undone or forgotten.
-use Rattle.name_store.proofs.Words.{◌≡◌, ◌+◌, ◌*◌, ◌≤◌, ℕ, zero, suc, Bool, true, false, List, [], ◌∷◌, ◌++◌, length, drop, refl, sym, ap, subst, ◌∙◌, cond, ◌||◌, Option, Some, None, All, ◌⊎◌, inl, inr, AllByRecursion, list_any, option_map, nat_cmp_total, get, same_map, nat_cmp-IsAntisymmetric, eqb-true, Descr, items_in, item_size, Buffer, put_array, is_in_use, LiesAt, GoBackAt, IsUndoable, AreUndoable, Names, names_before, bytes_before, past_names, past_bytes, past_buffer, past_buffers, kept_states, target_offsets, array_at, slot_at, Change, Bind, Unbind, Write, Entry, OldItems, Slot, Target, stand}
+use Rattle.std.proofs.Common.{◌≡◌, ◌+◌, ◌*◌, ◌≤◌, ℕ, zero, suc, Bool, true, false, List, [], ◌∷◌, ◌++◌, length, drop, refl, sym, ap, subst, ◌∙◌, cond, ◌||◌, Option, Some, None, All, ◌⊎◌, inl, inr}
+use Rattle.name_store.proofs.Words.{AllByRecursion, list_any, option_map, nat_cmp_total, get, same_map, nat_cmp-IsAntisymmetric, eqb-true, Descr, items_in, item_size, Buffer, put_array, is_in_use, LiesAt, GoBackAt, IsUndoable, AreUndoable, Names, names_before, bytes_before, past_names, past_bytes, past_buffer, past_buffers, kept_states, target_offsets, array_at, slot_at, Change, Bind, Unbind, Write, Entry, OldItems, Slot, Target, stand}
 use Rattle.name_store.proofs.LaidLaws.{laid-same}
 use Rattle.name_store.proofs.NameLaws.{in_front, in_tail, either, used-back-put, used-back-without, used-back-insert, used-put, used-insert, nat_itself}
 use Rattle.name_store.proofs.Needs.{needs, is_needed}

@@ -1,5 +1,6 @@
 -- Reading and putting parts of items in a block.
-use Rattle.name_store.proofs.Words.{◌≡◌, ◌+◌, ◌*◌, ◌<◌, ◌≤◌, ℕ, List, [], ◌∷◌, ◌++◌, length, take, drop, map, refl, sym, ap, ◌∙◌, unwrap_or, slice_set, append_assoc, arith, length-take, length-drop, AllByRecursion, drop-drop, Descr, items_in, item_from, item_size, decode_item, put, with_items, length-put, offsets_of, placed_item, write, IsPathOf, descr_at, start_at, span_at, part_at, with_part, IsElementType}
+use Rattle.std.proofs.Common.{◌≡◌, ◌+◌, ◌*◌, ◌<◌, ◌≤◌, ℕ, List, [], ◌∷◌, ◌++◌, length, take, drop, map, refl, sym, ap, ◌∙◌, unwrap_or, slice_set, append_assoc, arith, length-take, length-drop}
+use Rattle.name_store.proofs.Words.{AllByRecursion, drop-drop, Descr, items_in, item_from, item_size, decode_item, put, with_items, length-put, offsets_of, placed_item, write, IsPathOf, descr_at, start_at, span_at, part_at, with_part, IsElementType}
 use Rattle.name_store.proofs.BlockLaws.{put-add, put-item, item-at, item-inside}
 use Rattle.name_store.proofs.PartLaws.{put-front, part-within, part-read, part-put}
 

@@ -1,5 +1,6 @@
 -- Writing old items back restores the bytes, even if the items overlap.
-use Rattle.name_store.proofs.Words.{◌≡◌, ◌+◌, ◌-◌, ◌<◌, ◌≤◌, ℕ, zero, suc, List, [], ◌∷◌, length, drop, refl, sym, ap, subst, ◌∙◌, get_or, arith, ◌⊎◌, inl, inr, AllByRecursion, get_or-take, get_or-drop, ext_get_or, IsPermutation, get_or_default, Contains-get_or, Contains-permutation, cases_lt, put, item_at, length-put, length-item_at, get_or-put_before, get_or-put_after, item_at-put_same, items_at, with_items}
+use Rattle.std.proofs.Common.{◌≡◌, ◌+◌, ◌-◌, ◌<◌, ◌≤◌, ℕ, zero, suc, List, [], ◌∷◌, length, drop, refl, sym, ap, subst, ◌∙◌, get_or, arith, ◌⊎◌, inl, inr}
+use Rattle.name_store.proofs.Words.{AllByRecursion, get_or-take, get_or-drop, ext_get_or, IsPermutation, get_or_default, Contains-get_or, Contains-permutation, cases_lt, put, item_at, length-put, length-item_at, get_or-put_before, get_or-put_after, item_at-put_same, items_at, with_items}
 
 -- Byte k is in one of the items. For `SameElse`, every other byte is the same in both lists.
 abbrev pub Within : ℕ → List ℕ → ℕ → Type 0

@@ -1,5 +1,6 @@
 -- One item written at the offsets of runs.
-use Rattle.name_store.proofs.Words.{◌≡◌, ℕ, List, ◌∷◌, length, sym, ap, ◌∙◌, flat_map, filled, EachWithin, Run, run_offsets, put_each, put_each-append, filled-run}
+use Rattle.std.proofs.Common.{◌≡◌, ℕ, List, ◌∷◌, length, sym, ap, ◌∙◌}
+use Rattle.name_store.proofs.Words.{flat_map, filled, EachWithin, Run, run_offsets, put_each, put_each-append, filled-run}
 
 -- one more run is filled
 pub filled-next : (len : ℕ) (left left' : List Run) (run : Run) (item block block' whole : List ℕ) → left ≡ run ∷ left' → EachWithin len run.offset run.step (length item) run.count →

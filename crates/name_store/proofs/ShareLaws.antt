@@ -1,5 +1,6 @@
 -- Arrays in one buffer share cells if and only if their items share a byte.
-use Rattle.name_store.proofs.Words.{◌≡◌, ◌+◌, ◌*◌, ◌<◌, ◌≤◌, ◌&&◌, ◌||◌, ◌⊎◌, inl, inr, ℕ, zero, suc, Bool, true, false, List, [], ◌∷◌, length, take, refl, sym, ap, subst, ◌∙◌, Some, nat_eq, nat_lt, arith, pos, ◌+ℤ◌, ◌≤ℤ◌, list_any, range_with_len, lookup, ints, eqb-true, eqb-false, ltb-true, ltb-false, lt-ltb, le-ltb, ne_eqb, cases_lt, and_parts, and-false, and-true, same_from_decides, Descr, item_size, leaves_of, leaves_in, fields, field_at, Layout, max_bytes, address, offsets, Fits, offsets_of, places_of, have_common_byte, mul-step, Buffer, buffer_of, share_cells, Holds, LiesIn, IsPathOf, descr_at, start_at, first_at, have_common, share_leaves, IsElementType, array_at, slot_at, present, Entry, Slot}
+use Rattle.std.proofs.Common.{◌≡◌, ◌+◌, ◌*◌, ◌<◌, ◌≤◌, ◌&&◌, ◌||◌, ◌⊎◌, inl, inr, ℕ, zero, suc, Bool, true, false, List, [], ◌∷◌, length, take, refl, sym, ap, subst, ◌∙◌, Some, nat_eq, nat_lt, arith, pos, ◌+ℤ◌, ◌≤ℤ◌}
+use Rattle.name_store.proofs.Words.{list_any, range_with_len, lookup, ints, eqb-true, eqb-false, ltb-true, ltb-false, lt-ltb, le-ltb, ne_eqb, cases_lt, and_parts, and-false, and-true, same_from_decides, Descr, item_size, leaves_of, leaves_in, fields, field_at, Layout, max_bytes, address, offsets, Fits, offsets_of, places_of, have_common_byte, mul-step, Buffer, buffer_of, share_cells, Holds, LiesIn, IsPathOf, descr_at, start_at, first_at, have_common, share_leaves, IsElementType, array_at, slot_at, present, Entry, Slot}
 use Rattle.name_store.proofs.FieldSplits.{field-legal, field-before, field_leaves-before}
 use Rattle.name_store.proofs.NameLaws.{TestsName, lookup-used, nat_itself}
 use Rattle.name_store.proofs.PartLaws.{part-leaves, part-some, part-within, span-within}

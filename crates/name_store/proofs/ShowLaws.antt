@@ -1,5 +1,6 @@
 -- What a lookup shows: an entry, and the slot that its array lies in.
-use Rattle.name_store.proofs.Words.{◌≡◌, ◌≤◌, ◌<◌, ◌+◌, ◌*◌, ℕ, suc, All, arith, List, [], ◌∷◌, length, map, true, refl, sym, ap, subst, ◌∙◌, Option, Some, is_some, unwrap_or, get, AllByRecursion, option_map, All-from_recursion, mul-suc, mul-le-mul_left, Descr, item_size, fields, offsets, offsets_of, max_bytes, items_in, item_from, State, Array, Buffer, buffer_of, descr_of, placed_item, no_buffer, read, is_in_use, descr_at, start_at, span_at, part_at, LiesIn, Shows, Finds, Ring, array_at, named_array, buffer_in, slot_at, present, state_of, Change, ArrayRef, Entry, Slot}
+use Rattle.std.proofs.Common.{◌≡◌, ◌≤◌, ◌<◌, ◌+◌, ◌*◌, ℕ, suc, All, arith, List, [], ◌∷◌, length, map, true, refl, sym, ap, subst, ◌∙◌, Option, Some, is_some, unwrap_or}
+use Rattle.name_store.proofs.Words.{get, AllByRecursion, option_map, All-from_recursion, mul-suc, mul-le-mul_left, Descr, item_size, fields, offsets, offsets_of, max_bytes, items_in, item_from, State, Array, Buffer, buffer_of, descr_of, placed_item, no_buffer, read, is_in_use, descr_at, start_at, span_at, part_at, LiesIn, Shows, Finds, Ring, array_at, named_array, buffer_in, slot_at, present, state_of, Change, ArrayRef, Entry, Slot}
 use Rattle.name_store.proofs.BlockLaws.{length-items_in}
 use Rattle.name_store.proofs.LaidLaws.{laid-same, places-within}
 use Rattle.name_store.proofs.OnceLaws.{no_place_twice}

@@ -1,5 +1,6 @@
 -- Slots by number, and the buffers in them.
-use Rattle.name_store.proofs.Words.{◌≡◌, ◌≢◌, ◌+◌, ◌<◌, ◌≤◌, ℕ, zero, suc, Bool, true, false, List, [], ◌∷◌, ◌++◌, length, map, refl, sym, ap, ◌∙◌, cond, Option, Some, None, is_some, nat_eq, slice_set, get_or, arith, MutBor, option_copied_mut, option_map, nat_cmp, eq_by_cmp, is_eq, nat_cmp_total, eq_by_cmp_equiv, Less, Equal, Greater, get, find, from_entries, get-from_entries, get-retain_keys, nat_cmp-IsAntisymmetric, eqb-true, eqb-false, ne_eqb, is_in_use, Names, numbered, past_buffer, past_buffers, named_array, slot_at, buffer_in, present, Change, Entry, Slot}
+use Rattle.std.proofs.Common.{◌≡◌, ◌≢◌, ◌+◌, ◌<◌, ◌≤◌, ℕ, zero, suc, Bool, true, false, List, [], ◌∷◌, ◌++◌, length, map, refl, sym, ap, ◌∙◌, cond, Option, Some, None, is_some, nat_eq, slice_set, get_or, arith, MutBor}
+use Rattle.name_store.proofs.Words.{option_copied_mut, option_map, nat_cmp, eq_by_cmp, is_eq, nat_cmp_total, eq_by_cmp_equiv, Less, Equal, Greater, get, find, from_entries, get-from_entries, get-retain_keys, nat_cmp-IsAntisymmetric, eqb-true, eqb-false, ne_eqb, is_in_use, Names, numbered, past_buffer, past_buffers, named_array, slot_at, buffer_in, present, Change, Entry, Slot}
 use Rattle.name_store.proofs.NameLaws.{nat_itself}
 
 eq-suc : (q n : ℕ) → nat_eq q n ≡ nat_eq (suc q) (suc n)

@@ -1,5 +1,6 @@
 -- The bytes of the items that are written, and their values.
-use Rattle.name_store.proofs.Words.{◌≡◌, ◌+◌, ◌≤◌, ℕ, zero, suc, List, [], ◌∷◌, length, take, drop, map, replicate, refl, sym, ap, ◌∙◌, arith, length-take, length-drop, AllByRecursion, Descr, item_from, size, decode, item_size, decode_item, AreAlike, LeafValue, put, items_at, with_items, put_each}
+use Rattle.std.proofs.Common.{◌≡◌, ◌+◌, ◌≤◌, ℕ, zero, suc, List, [], ◌∷◌, length, take, drop, map, replicate, refl, sym, ap, ◌∙◌, arith, length-take, length-drop}
+use Rattle.name_store.proofs.Words.{AllByRecursion, Descr, item_from, size, decode, item_size, decode_item, AreAlike, LeafValue, put, items_at, with_items, put_each}
 
 -- writing one item at each offset
 pub put_each-items : (os item block : List ℕ) → put_each os item block ≡ with_items os (replicate (length os) item) block

@@ -1,5 +1,6 @@
 -- Names and slots after buffers are freed.
-use Rattle.name_store.proofs.Words.{◌≡◌, ◌+◌, ◌<◌, ◌≤◌, ℕ, Bool, true, List, length, map, refl, sym, ap, subst, ◌∙◌, cond, ◌||◌, Option, Some, None, is_some, nat_lt, arith, lookup, option_map, ltb-true, length-map, find_array, has_room_for, Holds, LiesAt, LiesIn, users_at, users_in, all_pins, Names, array_at, named_array, slot_at, present, Change, Entry, Slot, stand}
+use Rattle.std.proofs.Common.{◌≡◌, ◌+◌, ◌<◌, ◌≤◌, ℕ, Bool, true, List, length, map, refl, sym, ap, subst, ◌∙◌, cond, ◌||◌, Option, Some, None, is_some, nat_lt, arith}
+use Rattle.name_store.proofs.Words.{lookup, option_map, ltb-true, length-map, find_array, has_room_for, Holds, LiesAt, LiesIn, users_at, users_in, all_pins, Names, array_at, named_array, slot_at, present, Change, Entry, Slot, stand}
 use Rattle.name_store.proofs.NameLaws.{TestsName, find-lookup, all-lookup}
 use Rattle.name_store.proofs.Needs.{is_needed, needed-count, there-used}
 use Rattle.name_store.proofs.SlotLaws.{slot_at-within}

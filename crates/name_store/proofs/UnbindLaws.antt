@@ -1,5 +1,6 @@
 -- Unbinding a name, and keeping the change.
-use Rattle.name_store.proofs.Words.{◌≡◌, ◌+◌, ◌<◌, ◌≤◌, ℕ, zero, suc, Bool, true, false, List, [], ◌∷◌, ◌++◌, length, map, min, position, insert, refl, sym, ap, subst, ◌∙◌, cond, Option, Some, None, is_some, nat_lt, arith, AllByRecursion, position_or_len, lookup, keys_of, option_map, ltb-true, length-map, buffer, keep_last, shift_remove_entry, Ring, find_array, is_in_use, without, unbound, Holds, IsSound, LiesAt, IsUndoable, users_at, users_in, found_at, pins, all_pins, Names, names_before, past_buffers, past_buffer, bytes_before, array_at, named_array, slot_at, state_of, present, Change, Unbind, Entry, Slot, stand, nat_cmp_total, retain_keys, get-retain_keys, same_map, nat_cmp-IsAntisymmetric}
+use Rattle.std.proofs.Common.{◌≡◌, ◌+◌, ◌<◌, ◌≤◌, ℕ, zero, suc, Bool, true, false, List, [], ◌∷◌, ◌++◌, length, map, min, position, insert, refl, sym, ap, subst, ◌∙◌, cond, Option, Some, None, is_some, nat_lt, arith}
+use Rattle.name_store.proofs.Words.{AllByRecursion, position_or_len, lookup, keys_of, option_map, ltb-true, length-map, buffer, keep_last, shift_remove_entry, Ring, find_array, is_in_use, without, unbound, Holds, IsSound, LiesAt, IsUndoable, users_at, users_in, found_at, pins, all_pins, Names, names_before, past_buffers, past_buffer, bytes_before, array_at, named_array, slot_at, state_of, present, Change, Unbind, Entry, Slot, stand, nat_cmp_total, retain_keys, get-retain_keys, same_map, nat_cmp-IsAntisymmetric}
 use Rattle.name_store.proofs.NameLaws.{TestsName, find-lookup, without-remove, all-lookup, all-remove, insert-removed, used-back-without}
 use Rattle.name_store.proofs.Needs.{is_needed, made-held, kept-counted, number_of, users-without}
 use Rattle.name_store.proofs.PastLaws.{Restored, content_before, Slots}

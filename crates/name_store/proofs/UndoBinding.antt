@@ -1,5 +1,6 @@
 -- Undoing a binding: the name is bound to its earlier array again, or unbound if it had none.
-use Rattle.name_store.proofs.Words.{◌≡◌, ◌+◌, ◌≤◌, ℕ, List, [], ◌∷◌, ◌++◌, map, refl, sym, ap, subst, ◌∙◌, Option, Some, None, arith, AllByRecursion, lookup, option_map, bytes_eq, buffer, insert_entry, shift_remove_entry, Ring, find_array, IsSound, IsUndoable, LiesAt, users_at, users_in, found_at, pins, Names, names_before, array_at, named_array, slot_at, Change, Bind, Entry, Undoes}
+use Rattle.std.proofs.Common.{◌≡◌, ◌+◌, ◌≤◌, ℕ, List, [], ◌∷◌, ◌++◌, map, refl, sym, ap, subst, ◌∙◌, Option, Some, None, arith}
+use Rattle.name_store.proofs.Words.{AllByRecursion, lookup, option_map, bytes_eq, buffer, insert_entry, shift_remove_entry, Ring, find_array, IsSound, IsUndoable, LiesAt, users_at, users_in, found_at, pins, Names, names_before, array_at, named_array, slot_at, Change, Bind, Entry, Undoes}
 use Rattle.name_store.proofs.NameLaws.{TestsName, find-lookup, without-remove, put-insert, all-remove, all-insert}
 use Rattle.name_store.proofs.Needs.{number_of, users-without, users-put}
 use Rattle.name_store.proofs.StateLaws.{Freed}

@@ -1,5 +1,6 @@
 -- Undoing a change.
-use Rattle.name_store.proofs.Words.{◌≡◌, ◌+◌, ◌-◌, ◌≤◌, ℕ, suc, true, false, List, [], ◌∷◌, ◌++◌, length, take, map, slice_get, refl, sym, ap, subst, ◌∙◌, cond, Some, None, is_some, Result, Ok, Err, IsOk, OnOk, arith, length-append, AllByRecursion, list_any, option_map, option_map_or, length-map, map-append, take-append_seam, buffer, last_item, Ring, FinMap, nat_cmp, Buffer, is_in_use, has_kept, undone, IsSound, LiesAt, IsUndoable, AreUndoable, users_at, users_in, pins, all_pins, Names, names_before, past_buffers, kept_states, patch_size, named_array, slot_at, state_of, Change, Entry, stand, Undoes}
+use Rattle.std.proofs.Common.{◌≡◌, ◌+◌, ◌-◌, ◌≤◌, ℕ, suc, true, false, List, [], ◌∷◌, ◌++◌, length, take, map, slice_get, refl, sym, ap, subst, ◌∙◌, cond, Some, None, is_some, Result, Ok, Err, IsOk, OnOk, arith, length-append}
+use Rattle.name_store.proofs.Words.{AllByRecursion, list_any, option_map, option_map_or, length-map, map-append, take-append_seam, buffer, last_item, Ring, FinMap, nat_cmp, Buffer, is_in_use, has_kept, undone, IsSound, LiesAt, IsUndoable, AreUndoable, users_at, users_in, pins, all_pins, Names, names_before, past_buffers, kept_states, patch_size, named_array, slot_at, state_of, Change, Entry, stand, Undoes}
 use Rattle.name_store.proofs.NameLaws.{all-both, all-in_use, in_front}
 use Rattle.name_store.proofs.Needs.{needs, is_needed, pins-push}
 use Rattle.name_store.proofs.PastLaws.{Alike, alike-shape, past-alike, lies-shaped, Restored, restored-shape, same-buffers, kept-push, kept-free, undoable-pop, undoable-still, Slots}

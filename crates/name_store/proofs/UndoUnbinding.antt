@@ -1,5 +1,6 @@
 -- Undoing an unbinding.
-use Rattle.name_store.proofs.Words.{◌≡◌, ◌+◌, ◌≤◌, ℕ, zero, suc, Bool, true, false, List, [], ◌∷◌, ◌++◌, length, map, insert, refl, sym, ap, subst, ◌∙◌, cond, not, Option, Some, None, arith, AllByRecursion, position_or_len, lookup, keys_of, option_map, length-map, buffer, insert_entry, move_index, Ring, push_moved, IsSound, LiesAt, users_in, Names, array_at, named_array, slot_at, Change, Unbind, Entry, Undoes}
+use Rattle.std.proofs.Common.{◌≡◌, ◌+◌, ◌≤◌, ℕ, zero, suc, Bool, true, false, List, [], ◌∷◌, ◌++◌, length, map, insert, refl, sym, ap, subst, ◌∙◌, cond, not, Option, Some, None, arith}
+use Rattle.name_store.proofs.Words.{AllByRecursion, position_or_len, lookup, keys_of, option_map, length-map, buffer, insert_entry, move_index, Ring, push_moved, IsSound, LiesAt, users_in, Names, array_at, named_array, slot_at, Change, Unbind, Entry, Undoes}
 use Rattle.name_store.proofs.NameLaws.{TestsName, find-lookup}
 use Rattle.name_store.proofs.Needs.{users-insert}
 use Rattle.name_store.proofs.StateLaws.{freed-none}

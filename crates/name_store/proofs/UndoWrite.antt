@@ -1,5 +1,6 @@
 -- Undoing a write.
-use Rattle.name_store.proofs.Words.{◌≡◌, ◌<◌, ℕ, true, false, List, [], ◌∷◌, ◌++◌, length, refl, sym, ap, ◌∙◌, cond, Option, Some, None, is_some, nat_eq, arith, AllByRecursion, option_map, eqb-true, buffer, Ring, IsSound, LiesAt, GoBackAt, users_at, with_old, target_offsets, slot_at, Change, Write, Entry, OldItems, Slot, Target, stand, HasNew, Undoes}
+use Rattle.std.proofs.Common.{◌≡◌, ◌<◌, ℕ, true, false, List, [], ◌∷◌, ◌++◌, length, refl, sym, ap, ◌∙◌, cond, Option, Some, None, is_some, nat_eq, arith}
+use Rattle.name_store.proofs.Words.{AllByRecursion, option_map, eqb-true, buffer, Ring, IsSound, LiesAt, GoBackAt, users_at, with_old, target_offsets, slot_at, Change, Write, Entry, OldItems, Slot, Target, stand, HasNew, Undoes}
 use Rattle.name_store.proofs.NameLaws.{all-both}
 use Rattle.name_store.proofs.PastLaws.{Restored, content_before, restored-shape, lies-shaped, Slots}
 use Rattle.name_store.proofs.RewriteLaws.{new-users}

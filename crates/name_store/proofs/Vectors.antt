@@ -1,5 +1,6 @@
 -- The definitions applied to examples, with the results of `numpy.shares_memory` and of rebinding names in Python.
-use Rattle.name_store.proofs.Words.{◌≡◌, ℕ, pos, true, false, List, [], ◌∷◌, Ok, refl, from_entries, Descr, Byte, Int, Two, Four, Little, Big, no_more, scalar_field, record_field, number, offsets_of, ScalarDescr, RecordDescr, Array, State, start, no_buffer, is_in_use, share_cells, bound_view, unbound, written, has_kept, undone, write, Counts, CountsUndo, descr_at, start_at, span_at, part_at, with_part, have_common, share_leaves}
+use Rattle.std.proofs.Common.{◌≡◌, ℕ, pos, true, false, List, [], ◌∷◌, Ok, refl}
+use Rattle.name_store.proofs.Words.{from_entries, Descr, Byte, Int, Two, Four, Little, Big, no_more, scalar_field, record_field, number, offsets_of, ScalarDescr, RecordDescr, Array, State, start, no_buffer, is_in_use, share_cells, bound_view, unbound, written, has_kept, undone, write, Counts, CountsUndo, descr_at, start_at, span_at, part_at, with_part, have_common, share_leaves}
 
 abbrev at_places : ℕ → List ℕ → List ℕ → Array
 at_places buffer path places = record { buffer = buffer; path = path; shape = []; places = places; writable = true }

@@ -1,5 +1,6 @@
 -- Views: places of an array in an existing buffer.
-use Rattle.name_store.proofs.Words.{◌≡◌, ◌<◌, ◌*◌, ℕ, Bool, List, length, map, refl, sym, ap, subst, ◌∙◌, cond, Option, Some, None, is_some, true, false, unwrap_or, arith, option_map, Descr, item_from, item_size, Layout, offsets, Fits, offsets_of, places_of, Array, Buffer, buffer_of, descr_of, is_in_use, no_buffer, placed_item, read, LiesIn, descr_at, start_at, span_at, part_at, IsPathOf, array_at, named_array, buffer_in, slot_at, present, IsLaidOut, IsViewIn, Entry, Slot, places-offsets}
+use Rattle.std.proofs.Common.{◌≡◌, ◌<◌, ◌*◌, ℕ, Bool, List, length, map, refl, sym, ap, subst, ◌∙◌, cond, Option, Some, None, is_some, true, false, unwrap_or, arith}
+use Rattle.name_store.proofs.Words.{option_map, Descr, item_from, item_size, Layout, offsets, Fits, offsets_of, places_of, Array, Buffer, buffer_of, descr_of, is_in_use, no_buffer, placed_item, read, LiesIn, descr_at, start_at, span_at, part_at, IsPathOf, array_at, named_array, buffer_in, slot_at, present, IsLaidOut, IsViewIn, Entry, Slot, places-offsets}
 use Rattle.name_store.proofs.BlockLaws.{length-items_in}
 use Rattle.name_store.proofs.LaidLaws.{laid-same, places-within}
 use Rattle.name_store.proofs.PartLaws.{part-some, part-within}

@@ -1,5 +1,6 @@
 -- Writing items to places of a name's array, and reading items.
-use Rattle.name_store.proofs.Words.{◌≡◌, ◌*◌, ◌<◌, ◌≤◌, ℕ, Bool, true, false, List, [], ◌∷◌, length, map, refl, sym, ap, subst, ◌∙◌, cond, Option, Some, None, is_some, nat_eq, All, Contains, arith, get, get-insert, same_map, nat_cmp-IsAntisymmetric, nat_cmp_total, AllByRecursion, lookup, option_map, eqb-true, All-contains, All-head, All-tail, All-from_recursion, same_Some, items_in, item_size, decode_item, Layout, offsets, Fits, offsets_of, with_items, places_of, State, Array, Buffer, find_array, buffer_of, descr_of, span_of, addresses, write, written, is_in_use, is_bound, Holds, LiesAt, LiesIn, descr_at, start_at, span_at, target_offsets, FitsBuffer, LeadsTo, IsHome, HasNew, array_at, named_array, buffer_in, slot_at, present, Entry, Slot, Target}
+use Rattle.std.proofs.Common.{◌≡◌, ◌*◌, ◌<◌, ◌≤◌, ℕ, Bool, true, false, List, [], ◌∷◌, length, map, refl, sym, ap, subst, ◌∙◌, cond, Option, Some, None, is_some, nat_eq, All, arith}
+use Rattle.name_store.proofs.Words.{Contains, get, get-insert, same_map, nat_cmp-IsAntisymmetric, nat_cmp_total, AllByRecursion, lookup, option_map, eqb-true, All-contains, All-head, All-tail, All-from_recursion, same_Some, items_in, item_size, decode_item, Layout, offsets, Fits, offsets_of, with_items, places_of, State, Array, Buffer, find_array, buffer_of, descr_of, span_of, addresses, write, written, is_in_use, is_bound, Holds, LiesAt, LiesIn, descr_at, start_at, span_at, target_offsets, FitsBuffer, LeadsTo, IsHome, HasNew, array_at, named_array, buffer_in, slot_at, present, Entry, Slot, Target}
 use Rattle.std.specs.FinMap.{insert}
 use Rattle.name_store.proofs.BlockLaws.{length-items_in}
 use Rattle.name_store.proofs.PartLaws.{part-some}

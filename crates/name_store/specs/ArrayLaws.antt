@@ -1,5 +1,7 @@
 -- Laws of array lookups, and of the places of arrays.
-use Rattle.name_store.specs.Words.{◌≡◌, ◌+◌, ◌*◌, ◌/◌, ◌<◌, ℕ, zero, suc, List, [], ◌∷◌, length, slice_index, Option, Some, None, refl, ap, ◌∙◌, arith, map, All, div-mul-add, mul_comm, offsets_of, rank, places_of}
+use Rattle.std.specs.Prelude.{◌≡◌, ◌+◌, ◌*◌, ◌/◌, ◌<◌, ℕ, suc, List, [], ◌∷◌, length, Option, Some, None, map, All}
+use Rattle.std.proofs.Common.{zero, slice_index, refl, ap, ◌∙◌, arith}
+use Rattle.name_store.specs.Words.{div-mul-add, mul_comm, offsets_of, rank, places_of}
 use Rattle.name_store.specs.States.{State, Array}
 use Rattle.name_store.specs.Shown.{Shows, Finds}
 use Rattle.name_store.specs.declared.bound.ArrayRef.{ArrayRef}

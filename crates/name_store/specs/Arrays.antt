@@ -1,5 +1,6 @@
 -- Operations on a state: names are looked up, bound and removed, and arrays are read and written.
-use Rattle.name_store.specs.Words.{ℕ, ◌-◌, Bool, true, List, [], ◌∷◌, ◌++◌, length, take, map, Option, Some, None, slice_get, slice_set, is_some, nat_eq, nat_lt, if◌then◌else◌, unwrap_or, ◌||◌, ◌&&◌, list_any, option_map_or, bytes_eq, get, insert, retain_keys, keep_last, last_item, Descr, Int, Four, Little, item_size, LeafValue, offsets_of, ScalarDescr}
+use Rattle.std.specs.Prelude.{ℕ, ◌-◌, Bool, true, List, [], ◌∷◌, ◌++◌, length, take, map, Option, Some, None, slice_get, slice_set, is_some, nat_eq, nat_lt, if◌then◌else◌, unwrap_or, ◌||◌, ◌&&◌}
+use Rattle.name_store.specs.Words.{list_any, option_map_or, bytes_eq, get, insert, retain_keys, keep_last, last_item, Descr, Int, Four, Little, item_size, LeafValue, offsets_of, ScalarDescr}
 use Rattle.name_store.specs.Parts.{descr_at, start_at, span_at, part_at, with_part, have_common, share_leaves}
 use Rattle.name_store.specs.States.{Buffer, Array, State}
 

@@ -1,5 +1,6 @@
 -- What the calls of a bench return, and how they change it.
-use Rattle.name_store.specs.Words.{◌≡◌, ◌<◌, ◌≤◌, ◌⊎◌, ◌&&◌, ◌-◌, ◌*◌, ℕ, Bool, true, false, List, [], ◌∷◌, ◌++◌, length, take, Result, Ok, Err, Some, None, All, get, keep_last, Refusal, OutOfMemory, TooManyNames, UnknownName, NothingToUndo, Owned, item_size, LeafValue, count, offsets, places_of, items_in}
+use Rattle.std.specs.Prelude.{◌≡◌, ◌<◌, ◌≤◌, ◌⊎◌, ◌&&◌, ◌-◌, ◌*◌, ℕ, Bool, true, false, List, [], ◌∷◌, ◌++◌, length, take, Result, Ok, Err, Some, None, All}
+use Rattle.name_store.specs.Words.{get, keep_last, Refusal, OutOfMemory, TooManyNames, UnknownName, NothingToUndo, Owned, item_size, LeafValue, count, offsets, places_of, items_in}
 use Rattle.name_store.specs.States.{State, Array, BenchValue, Buffer}
 use Rattle.name_store.specs.Arrays.{has_kept, undone, is_bound, has_room_for, bound_to, bound_view, unbound, descr_of, written, find_array, share_cells}
 use Rattle.name_store.specs.Targets.{target_offsets, LeadsTo, Supplies}

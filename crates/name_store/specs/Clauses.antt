@@ -9,7 +9,7 @@ pub use Rattle.name_store.specs.States.{BenchValue, start}
 pub use Rattle.name_store.specs.Targets.{IsAim, target_offsets, target_shape}
 pub use Rattle.name_store.specs.View.{bench_value, slot_at}
 pub use Rattle.name_store.specs.Views.{MayBind}
-pub use Rattle.name_store.specs.Words.{All, EachWithin, Fits, IfErr, IfOk, IfSome, IsOk, IsTrue, None, Ring, Some, [], assigned, buffer, if◌then◌else◌, is_some, keep_last, last_item, length, max_bytes, nat_lt, option_map, put_each, replicate, run_offsets, slice_get, spare, take, unwrap_or, ℕ, ◌*◌, ◌++◌, ◌+◌, ◌-◌, ◌<◌, ◌∷◌, ◌≡◌, ◌≤◌}
+pub use Rattle.name_store.specs.Words.{EachWithin, Fits, Ring, assigned, buffer, keep_last, last_item, max_bytes, option_map, put_each, run_offsets, spare}
 unfoldable pub use Rattle.name_store.specs.Words.{offsets}
 pub use Rattle.name_store.specs.declared.change.Change.{Change}
 pub use Rattle.name_store.specs.inside.Codes.{value_code}
@@ -18,4 +18,3 @@ pub use Rattle.name_store.specs.inside.Held.{stand}
 pub use Rattle.name_store.specs.inside.OldItems.{AreKept, AreKeptAt, AreOld}
 pub use Rattle.name_store.specs.inside.Puts.{CanWrite, InPlace, IsNear, MayPut, MayRun, NeedsNone, Runs, RunsInPlace, Writes, parts_for, without_slot}
 pub use Rattle.std.specs.List.{flat_map}
-pub use Rattle.std.specs.Prelude.{IsFalse, OnOk, min, option_copied, ◌^◌}

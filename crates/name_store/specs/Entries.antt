@@ -1,5 +1,7 @@
 -- The arrays that the entries of the table represent, and the slots by number.
-use Rattle.name_store.specs.Words.{ℕ, zero, suc, List, [], ◌∷◌, Option, None, offsets, places_of}
+use Rattle.std.specs.Prelude.{ℕ, suc, List, [], ◌∷◌, Option, None}
+use Rattle.std.proofs.Common.{zero}
+use Rattle.name_store.specs.Words.{offsets, places_of}
 use Rattle.name_store.specs.States.{Array}
 use Rattle.name_store.specs.declared.bound.Entry.{Entry}
 use Rattle.name_store.specs.declared.slot.Slot.{Slot}

@@ -1,5 +1,6 @@
 -- The invariants of a bench.
-use Rattle.name_store.specs.Words.{◌≡◌, ◌≤◌, ◌+◌, ◌*◌, ℕ, true, List, [], ◌∷◌, length, map, Option, Some, None, nat_eq, if◌then◌else◌, All, AllByRecursion, Ring, item_size}
+use Rattle.std.specs.Prelude.{◌≡◌, ◌≤◌, ◌+◌, ◌*◌, ℕ, true, List, [], ◌∷◌, length, map, Option, Some, None, nat_eq, if◌then◌else◌, All}
+use Rattle.name_store.specs.Words.{AllByRecursion, Ring, item_size}
 use Rattle.name_store.specs.Arrays.{find_array, is_in_use}
 use Rattle.name_store.specs.Kept.{Names, names_before, past_names}
 use Rattle.name_store.specs.Targets.{target_offsets}

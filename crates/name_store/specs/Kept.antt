@@ -1,7 +1,7 @@
 -- The kept states, computed from the present state by undoing the changes, the newest first. The names and the buffers
 -- are computed separately, and so are the bytes of each buffer.
-use Rattle.name_store.specs.Words.{ℕ, List, [], ◌∷◌, Some, None, nat_eq, if◌then◌else◌, Option, suc, length, FinMap, from_entries, retain_keys, nat_cmp, items_in, multiples, assigned}
-use Rattle.std.specs.Prelude.{insert}
+use Rattle.name_store.specs.Words.{FinMap, from_entries, retain_keys, nat_cmp, items_in, multiples, assigned}
+use Rattle.std.specs.Prelude.{insert, ℕ, List, [], ◌∷◌, Some, None, nat_eq, if◌then◌else◌, Option, suc, length}
 use Rattle.name_store.specs.States.{Array, Buffer}
 use Rattle.name_store.specs.Arrays.{put_array, without, is_in_use}
 use Rattle.name_store.specs.Targets.{target_offsets}

@@ -1,5 +1,7 @@
 -- What a path leads to if one more field is appended to it.
-use Rattle.name_store.specs.Words.{◌≡◌, ◌<◌, ◌+◌, ℕ, List, [], ◌∷◌, ◌++◌, length, refl, arith, Descr, fields, field_at}
+use Rattle.std.specs.Prelude.{◌≡◌, ◌<◌, ◌+◌, ℕ, List, [], ◌∷◌, ◌++◌, length}
+use Rattle.std.proofs.Common.{refl, arith}
+use Rattle.name_store.specs.Words.{Descr, fields, field_at}
 use Rattle.name_store.specs.Parts.{IsPathOf, descr_at, start_at}
 
 pub path-then : (descr : Descr) (path : List ℕ) (k : ℕ) → IsPathOf descr path → k < length (fields (descr_at descr path)) → IsPathOf descr (path ++ k ∷ [])

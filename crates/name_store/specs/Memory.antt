@@ -1,5 +1,6 @@
 -- The calls that take no memory: writes, if no states are kept, and `shares`, if the arrays lie in different buffers.
-use Rattle.name_store.specs.Words.{◌≡◌, ◌≢◌, ◌⊎◌, ℕ, ℤ, List, Some, reverse, IsTrue, item_size, Layout, is_c_contiguous, offsets, IsStacked, AreApart, IsRun}
+use Rattle.std.specs.Prelude.{◌≡◌, ◌≢◌, ◌⊎◌, ℕ, ℤ, List, Some, reverse, IsTrue}
+use Rattle.name_store.specs.Words.{item_size, Layout, is_c_contiguous, offsets, IsStacked, AreApart, IsRun}
 use Rattle.name_store.specs.States.{State, Array}
 use Rattle.name_store.specs.Arrays.{find_array, descr_of}
 use Rattle.name_store.specs.declared.write.Source.{Source}

@@ -1,6 +1,7 @@
 -- Parts of an item: the whole item, or the field that a path leads to. A path is a list of field numbers, each of which
 -- is the number of a field in what the numbers before it lead to.
-use Rattle.name_store.specs.Words.{◌<◌, ℕ, ◌+◌, Bool, List, [], ◌∷◌, ◌++◌, length, take, drop, nat_eq, list_any, range_with_len, Descr, leaves_of, leaves_in, fields, field_at, LeafValue}
+use Rattle.std.specs.Prelude.{◌<◌, ℕ, ◌+◌, Bool, List, [], ◌∷◌, ◌++◌, length, take, drop, nat_eq}
+use Rattle.name_store.specs.Words.{list_any, range_with_len, Descr, leaves_of, leaves_in, fields, field_at, LeafValue}
 
 -- each number of the path is that of an existing field
 abbrev pub IsPathOf : Descr → List ℕ → Type 0

@@ -1,5 +1,6 @@
 -- Element types, and blocks of their items.
-use Rattle.name_store.specs.Words.{◌≡◌, ◌≤◌, ℕ, ◌*◌, List, length, Descr, IsLegal, size, item_size, max_bytes, ScalarDescr, RecordDescr}
+use Rattle.std.specs.Prelude.{◌≡◌, ◌≤◌, ℕ, ◌*◌, List, length}
+use Rattle.name_store.specs.Words.{Descr, IsLegal, size, item_size, max_bytes, ScalarDescr, RecordDescr}
 
 -- a valid element type: a scalar of at least one byte, or a legal record
 abbrev pub IsElementType : Descr → Type 0

@@ -1,5 +1,7 @@
 -- What a lookup returns for an array.
-use Rattle.name_store.specs.Words.{◌≡◌, ◌≢◌, ◌<◌, ℕ, ◌*◌, slice_index, map, length, Option, Some, None, IsTrue, All, ◌+◌, ◌≤◌, item_size, fields, offsets, max_bytes, items_in, item_from}
+use Rattle.std.specs.Prelude.{◌≡◌, ◌≢◌, ◌<◌, ℕ, ◌*◌, map, length, Option, Some, None, IsTrue, All, ◌+◌, ◌≤◌}
+use Rattle.std.proofs.Common.{slice_index}
+use Rattle.name_store.specs.Words.{item_size, fields, offsets, max_bytes, items_in, item_from}
 use Rattle.name_store.specs.States.{State, Array}
 use Rattle.name_store.specs.Arrays.{buffer_of, descr_of, read}
 use Rattle.name_store.specs.Parts.{start_at}

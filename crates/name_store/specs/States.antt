@@ -1,5 +1,6 @@
 -- Buffers, arrays and the state of a bench.
-use Rattle.name_store.specs.Words.{ℕ, Bool, List, [], nat_cmp, FinMap, empty, Descr, LeafValue}
+use Rattle.std.specs.Prelude.{ℕ, Bool, List, []}
+use Rattle.name_store.specs.Words.{nat_cmp, FinMap, empty, Descr, LeafValue}
 
 -- an element type and items of it, each of which has one value for each leaf
 pub record Buffer : Type 0 where

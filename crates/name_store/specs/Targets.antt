@@ -1,5 +1,6 @@
 -- The places of an array that are written, and the items that are written to them.
-use Rattle.name_store.specs.Words.{◌≡◌, ◌≤◌, ◌*◌, ℕ, true, false, List, length, map, replicate, Some, All, Contains, Descr, item_size, decode_item, AreAlike, item_from, LeafValue, Layout, offsets, Fits, IsNested, max_bytes, Owned}
+use Rattle.std.specs.Prelude.{◌≡◌, ◌≤◌, ◌*◌, ℕ, true, false, List, length, map, replicate, Some, All}
+use Rattle.name_store.specs.Words.{Contains, Descr, item_size, decode_item, AreAlike, item_from, LeafValue, Layout, offsets, Fits, IsNested, max_bytes, Owned}
 use Rattle.name_store.specs.States.{State, Array}
 use Rattle.name_store.specs.Arrays.{find_array, buffer_of, descr_of, addresses, read}
 use Rattle.name_store.specs.Views.{IsViewIn}

@@ -1,6 +1,7 @@
 -- The state that the fields of a bench represent.
 pub use Rattle.name_store.specs.Entries.{array_at, named_array, slot_at}
-use Rattle.name_store.specs.Words.{ℕ, List, [], map, Option, Ring, items_in}
+use Rattle.std.specs.Prelude.{ℕ, List, [], map, Option}
+use Rattle.name_store.specs.Words.{Ring, items_in}
 use Rattle.name_store.specs.States.{BenchValue, Buffer, State}
 use Rattle.name_store.specs.Kept.{past_buffers, kept_states, patch_size}
 use Rattle.name_store.specs.declared.change.Change.{Change}

@@ -1,5 +1,6 @@
 -- Views: layouts of the items of an array, in the block of its buffer.
-use Rattle.name_store.specs.Words.{◌≡◌, ℕ, ◌*◌, true, Bool, List, length, is_some, IsTrue, get, Descr, item_size, Layout, offsets, Fits, IsNested, offsets_of}
+use Rattle.std.specs.Prelude.{◌≡◌, ℕ, ◌*◌, true, Bool, List, length, is_some, IsTrue}
+use Rattle.name_store.specs.Words.{get, Descr, item_size, Layout, offsets, Fits, IsNested, offsets_of}
 use Rattle.name_store.specs.States.{State, Array}
 use Rattle.name_store.specs.Arrays.{buffer_of}
 use Rattle.name_store.specs.Parts.{descr_at, start_at, IsPathOf}

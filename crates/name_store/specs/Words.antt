@@ -48,7 +48,6 @@ pub use Rattle.shape_strides.specs.Stacks.{IsStacked}
 pub use Rattle.shape_strides.specs.declared.layout.Layout.{Layout}
 pub use Rattle.shape_strides.specs.declared.layout_pair.LayoutPair.{LayoutPair}
 pub use Rattle.shape_strides.specs.declared.runs.Run.{Run}
-pub use Rattle.std.proofs.Common.{ap, arith, refl, slice_index, zero, ◌/◌, ◌∙◌}
 pub use Rattle.std.proofs.Math.Nat.{mul_comm}
 pub use Rattle.std.proofs.Props.{props}
 pub use Rattle.std.proofs.lemmas.Nat.{div-mul-add}
@@ -58,5 +57,4 @@ pub use Rattle.std.specs.List.{AllByRecursion, AllByRecursion-prop, Contains, li
 pub use Rattle.std.specs.List.Sorted.{IsPermutation}
 pub use Rattle.std.specs.Option.{option_map, option_map_or}
 pub use Rattle.std.specs.Ordering.{nat_cmp}
-pub use Rattle.std.specs.Prelude.{All, Bool, Err, IfErr, IfOk, IfSome, IsOk, IsTrue, List, None, Ok, OnErr, Option, Result, Some, [], drop, false, if◌then◌else◌, is_some, length, map, nat_eq, nat_lt, replicate, reverse, slice_get, slice_set, suc, take, true, unwrap_or, ℕ, ℤ, ◌&&◌, ◌*◌, ◌++◌, ◌+◌, ◌-◌, ◌<◌, ◌||◌, ◌∷◌, ◌≡◌, ◌≢◌, ◌≤◌, ◌⊎◌}
 pub use Rattle.std.specs.Str.{bytes_eq}

@@ -1,5 +1,6 @@
 //! The bench.
-ghost use Rattle.name_store.specs.Clauses.{◌≡◌, ◌≤◌, ◌<◌, length, [], Some, slice_get, IfOk, IsOk, option_map};
+ghost use Rattle.std.specs.Prelude.{◌≡◌, ◌≤◌, ◌<◌, length, [], Some, slice_get, IfOk, IsOk};
+ghost use Rattle.name_store.specs.Clauses.{option_map};
 
 use crate::bound::{ArrayRef, Bound};
 use crate::change::Change;

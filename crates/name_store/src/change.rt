@@ -1,5 +1,6 @@
 //! Changes of the bench, as `undo` needs them.
-ghost use Rattle.name_store.specs.Clauses.{◌≡◌, patch_size};
+ghost use Rattle.std.specs.Prelude.{◌≡◌};
+ghost use Rattle.name_store.specs.Clauses.{patch_size};
 
 use crate::bound::Entry;
 use crate::write::Target;

@@ -1,5 +1,6 @@
 //! The changes that can be undone, and how they are kept.
-ghost use Rattle.name_store.specs.Clauses.{all_pins, users_at, slot_at, buffer, keep_last, last_item, spare, stand, option_map, IfOk, IsOk, None, OnOk, [], if◌then◌else◌, length, min, nat_lt, option_copied, slice_get, take, ℕ, ◌++◌, ◌+◌, ◌-◌, ◌<◌, ◌^◌, ◌∷◌, ◌≡◌, ◌≤◌};
+ghost use Rattle.std.specs.Prelude.{IfOk, IsOk, None, OnOk, [], if◌then◌else◌, length, min, nat_lt, option_copied, slice_get, take, ℕ, ◌++◌, ◌+◌, ◌-◌, ◌<◌, ◌^◌, ◌∷◌, ◌≡◌, ◌≤◌};
+ghost use Rattle.name_store.specs.Clauses.{all_pins, users_at, slot_at, buffer, keep_last, last_item, spare, stand, option_map};
 
 use crate::bound::Entry;
 use crate::change::Change;
@@ -17,7 +18,8 @@ pub struct History {
 }
 
 impl Model for History {
-    ghost use Rattle.name_store.specs.Clauses.{unwrap_or, [], Ring, buffer, Change};
+    ghost use Rattle.std.specs.Prelude.{unwrap_or, []};
+    ghost use Rattle.name_store.specs.Clauses.{Ring, buffer, Change};
 
     ghost Value = { Ring Change };
 

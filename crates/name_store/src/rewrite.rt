@@ -1,5 +1,6 @@
 //! Reads and writes the bytes of a block at the offsets of a target.
-ghost use Rattle.name_store.specs.Clauses.{◌≡◌, ◌+◌, ◌*◌, ◌≤◌, length, All, IfOk, IfErr, IsOk, IsTrue, flat_map, EachWithin, max_bytes, offsets, Fits, run_offsets, assigned, put_each, with_old, AreShifted, target_offsets, AreOld, MayPut, InPlace};
+ghost use Rattle.std.specs.Prelude.{◌≡◌, ◌+◌, ◌*◌, ◌≤◌, length, All, IfOk, IfErr, IsOk, IsTrue};
+ghost use Rattle.name_store.specs.Clauses.{flat_map, EachWithin, max_bytes, offsets, Fits, run_offsets, assigned, put_each, with_old, AreShifted, target_offsets, AreOld, MayPut, InPlace};
 
 use crate::change::OldItems;
 use crate::write::Target;

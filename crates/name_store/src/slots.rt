@@ -45,7 +45,8 @@ fn put_slot(cells: &mut Vec<Option<Slot>>, number: usize, slot: Slot)
 }
 
 impl Slots {
-    ghost use Rattle.name_store.specs.Words.{◌≡◌, ◌≤◌, ◌<◌, ◌+◌, ℕ, [], true, IfOk, OnErr, Some, None, is_some, nat_lt, if◌then◌else◌, option_map};
+    ghost use Rattle.std.specs.Prelude.{◌≡◌, ◌≤◌, ◌<◌, ◌+◌, ℕ, [], true, IfOk, OnErr, Some, None, is_some, nat_lt, if◌then◌else◌};
+    ghost use Rattle.name_store.specs.Words.{option_map};
     ghost use Rattle.name_store.specs.View.{slot_at};
     ghost use Rattle.name_store.specs.Invariants.{one_at, users_at};
     ghost use Rattle.name_store.specs.inside.Held.{Adds, stand};

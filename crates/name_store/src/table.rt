@@ -1,5 +1,6 @@
 //! Names, and the slots of their arrays.
-ghost use Rattle.name_store.specs.Words.{◌≡◌, item_size};
+ghost use Rattle.std.specs.Prelude.{◌≡◌};
+ghost use Rattle.name_store.specs.Words.{item_size};
 ghost use Rattle.name_store.specs.Invariants.{Holds};
 ghost use Rattle.name_store.specs.Places.{IsElementType};
 ghost use Rattle.name_store.specs.inside.HeldOnce.{Holds-prop};
@@ -46,7 +47,8 @@ fn legal_size(descr: &Descr) -> usize
 }
 
 impl Table {
-    ghost use Rattle.name_store.specs.Words.{◌≡◌, ◌≤◌, ◌<◌, ◌+◌, ℕ, [], true, IfOk, OnErr, IsOk, Some, None, spare};
+    ghost use Rattle.std.specs.Prelude.{◌≡◌, ◌≤◌, ◌<◌, ◌+◌, ℕ, [], true, IfOk, OnErr, IsOk, Some, None};
+    ghost use Rattle.name_store.specs.Words.{spare};
     ghost use Rattle.name_store.specs.Arrays.{has_room_for, is_bound};
     ghost use Rattle.name_store.specs.Calls.{AnswersShares};
     ghost use Rattle.name_store.specs.Invariants.{users_at};

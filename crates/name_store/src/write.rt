@@ -1,5 +1,6 @@
 //! Writes items to the places of a target in a buffer, and returns the old ones if they are kept.
-ghost use Rattle.name_store.specs.Clauses.{target_offsets, target_shape, AreAll, IsPacked, AreKept, AreKeptAt, AreOld, CanWrite, IsNear, MayRun, NeedsNone, Runs, RunsInPlace, Writes, parts_for, without_slot, IfOk, IfSome, IsFalse, IsOk, IsTrue, is_some, length, replicate, ◌≡◌};
+ghost use Rattle.std.specs.Prelude.{IfOk, IfSome, IsFalse, IsOk, IsTrue, is_some, length, replicate, ◌≡◌};
+ghost use Rattle.name_store.specs.Clauses.{target_offsets, target_shape, AreAll, IsPacked, AreKept, AreKeptAt, AreOld, CanWrite, IsNear, MayRun, NeedsNone, Runs, RunsInPlace, Writes, parts_for, without_slot};
 
 use crate::change::OldItems;
 use crate::rewrite::{copy_to, fill, move_to, old_items};

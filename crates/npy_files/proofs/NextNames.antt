@@ -1,5 +1,6 @@
 -- The first name after another one, found by going through a list of files.
-use Rattle.npy_files.proofs.Words.{◌≡◌, ◌<◌, ◌≤◌, ◌+◌, ℕ, zero, suc, Bool, true, false, List, [], ◌∷◌, map, length, refl, sym, ap, subst, ◌∙◌, cond, Option, Some, None, IsSome, MatchOption, arith, ◌⊎◌, inl, inr, is_some, eq-or-lt_of_le, nat_cmp, is_lt, eq_by_cmp, ordering_reverse, slice_cmp, nat_list_cmp_total, texts_ties, find, get-from_entries, Ordering, Less, Equal, Greater, true≢false, false_from_ne_true, slice_get_within, bytes_eq-Decides, StoredFile, comes_before, IsFirstAfter, IsNextName, named_bytes, files_of, IsNamed, IsFirstOf}
+use Rattle.std.proofs.Common.{◌≡◌, ◌<◌, ◌≤◌, ◌+◌, ℕ, zero, suc, Bool, true, false, List, [], ◌∷◌, map, length, refl, sym, ap, subst, ◌∙◌, cond, Option, Some, None, IsSome, MatchOption, arith, ◌⊎◌, inl, inr, is_some}
+use Rattle.npy_files.proofs.Words.{eq-or-lt_of_le, nat_cmp, is_lt, eq_by_cmp, ordering_reverse, slice_cmp, nat_list_cmp_total, texts_ties, find, get-from_entries, Ordering, Less, Equal, Greater, true≢false, false_from_ne_true, slice_get_within, bytes_eq-Decides, StoredFile, comes_before, IsFirstAfter, IsNextName, named_bytes, files_of, IsNamed, IsFirstOf}
 use Rattle.npy_files.proofs.StoreLaws.{tied_same}
 
 -- ---- the order of names

@@ -1,5 +1,6 @@
 -- Bytes that are read piece by piece.
-use Rattle.npy_files.proofs.Words.{◌≡◌, ◌≤◌, ◌+◌, ◌-◌, ◌++◌, ℕ, List, length, take, drop, sym, ap, ◌∙◌, arith, append_assoc, length-append, length-drop, take-append-drop, take_at, length-take-le, append-nil, nil_from_length, put_mid}
+use Rattle.std.proofs.Common.{◌≡◌, ◌≤◌, ◌+◌, ◌-◌, ◌++◌, ℕ, List, length, take, drop, sym, ap, ◌∙◌, arith, append_assoc, length-append, length-drop, take-append-drop}
+use Rattle.npy_files.proofs.Words.{take_at, length-take-le, append-nil, nil_from_length, put_mid}
 
 -- a piece replaces the end of some bytes, and the first of its bytes were read
 module _ (bytes piece rest next : List ℕ) (at count : ℕ) (within : at ≤ length bytes) (long : length piece ≡ length bytes - at) (few : count ≤ length piece) (taken : rest ≡ take count piece ++ next) where

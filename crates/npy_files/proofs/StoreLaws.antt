@@ -1,5 +1,6 @@
 -- Files in memory: what is found by a name, and also after a file is put there.
-use Rattle.npy_files.proofs.Words.{◌≡◌, ◌<◌, ◌≤◌, ◌+◌, ℕ, zero, suc, Bool, true, false, List, [], ◌∷◌, ◌++◌, map, length, refl, sym, ap, ◌∙◌, cond, not, Some, None, slice_set, get_or, arith, position, is_some, nat_lt, slice_cmp, texts_ties, nat_list_cmp_total, get, insert, find, from_entries, get-from_entries, get-insert, same_map, from_entries_push, IsAntisymmetric, nat_cmp-IsAntisymmetric, slice_cmp-IsAntisymmetric, nat_cmp, eq_by_cmp, position_or_len, true≢false, ltb-false, bytes_eq-Decides, map-append, position-Some, StoredFile, named_bytes, is_called, files_of}
+use Rattle.std.proofs.Common.{◌≡◌, ◌<◌, ◌≤◌, ◌+◌, ℕ, zero, suc, Bool, true, false, List, [], ◌∷◌, ◌++◌, map, length, refl, sym, ap, ◌∙◌, cond, not, Some, None, slice_set, get_or, arith, position, is_some, nat_lt}
+use Rattle.npy_files.proofs.Words.{slice_cmp, texts_ties, nat_list_cmp_total, get, insert, find, from_entries, get-from_entries, get-insert, same_map, from_entries_push, IsAntisymmetric, nat_cmp-IsAntisymmetric, slice_cmp-IsAntisymmetric, nat_cmp, eq_by_cmp, position_or_len, true≢false, ltb-false, bytes_eq-Decides, map-append, position-Some, StoredFile, named_bytes, is_called, files_of}
 
 abbrev pub by_name : List ℕ → List ℕ → Bool
 by_name a b = eq_by_cmp (slice_cmp nat_cmp) a b

@@ -1,5 +1,6 @@
 -- The files that a user sees in a folder.
-use Rattle.npy_files.proofs.Words.{◌≡◌, ◌≢◌, ℕ, Bool, true, false, List, Option, Some, None, Ok, Err, Result, IsTrue, cond, refl, sym, ap, ◌∙◌, subst, texts_ties, nat_list_cmp_total, empty, get, insert, get-retain_keys, get-insert, same_map, true≢false, bytes_eq-Decides, Files, SameBut, StoreFault, Device, TooLong, Memory, is_user_name, StoreState, IsRead, IsKept, IsWritten, user_files, folder_shelf, IsPut}
+use Rattle.std.proofs.Common.{◌≡◌, ◌≢◌, ℕ, Bool, true, false, List, Option, Some, None, Ok, Err, Result, IsTrue, cond, refl, sym, ap, ◌∙◌, subst}
+use Rattle.npy_files.proofs.Words.{texts_ties, nat_list_cmp_total, empty, get, insert, get-retain_keys, get-insert, same_map, true≢false, bytes_eq-Decides, Files, SameBut, StoreFault, Device, TooLong, Memory, is_user_name, StoreState, IsRead, IsKept, IsWritten, user_files, folder_shelf, IsPut}
 use Rattle.npy_files.proofs.StoreLaws.{exact, by_name}
 
 tied : (a b : List ℕ) → by_name a b ≡ true → a ≡ b

@@ -1,5 +1,6 @@
 -- What a user sees when a file is written under a hidden name, and then put in place.
-use Rattle.npy_files.proofs.Words.{◌≡◌, ◌≢◌, ℕ, List, Some, IsTrue, inl, sym, ◌∙◌, subst, true≢false, Files, Same, History, Leaves, Replaces, unmoved, weaker, is_user_name, hidden_name, OldOrNew}
+use Rattle.std.proofs.Common.{◌≡◌, ◌≢◌, ℕ, List, Some, IsTrue, inl, sym, ◌∙◌, subst}
+use Rattle.npy_files.proofs.Words.{true≢false, Files, Same, History, Leaves, Replaces, unmoved, weaker, is_user_name, hidden_name, OldOrNew}
 
 -- no user's file has a hidden name
 pub apart : (name other : List ℕ) → IsTrue (is_user_name other) → other ≢ hidden_name name

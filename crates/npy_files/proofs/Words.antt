@@ -2,12 +2,11 @@
 pub use Rattle.npy_files.specs.Folders.{IsPut, OldOrNew, folder_shelf, user_files}
 pub use Rattle.npy_files.specs.Names.{hidden_name, is_user_name}
 pub use Rattle.npy_files.specs.Stores.{IsFirstAfter, IsKept, IsNextName, IsRead, IsWritten, StoreState, comes_before}
-pub use Rattle.npy_files.specs.Words.{Appends, Bool, Err, FileParts, Files, History, IsSome, IsTrue, Leaves, List, None, Ok, Option, Replaces, Result, Same, SameBut, Some, always_ok, both_but, both_same, but_replaces, but_same, cond, empty, false, from_entries, get, insert, is_lt, length, map, nat_cmp, only_but, slice_cmp, suc, then_but, then_same, true, unmoved, weaker, zero, ℕ, ◌++◌, ◌+◌, ◌<◌, ◌≡◌, ◌≢◌, ◌≤◌, ◌⊎◌}
+pub use Rattle.npy_files.specs.Words.{Appends, FileParts, Files, History, Leaves, Replaces, Same, SameBut, always_ok, both_but, both_same, but_replaces, but_same, empty, from_entries, get, insert, is_lt, nat_cmp, only_but, slice_cmp, then_but, then_same, unmoved, weaker}
 pub use Rattle.npy_files.specs.declared.mem_store.StoredFile.{StoredFile}
 pub use Rattle.npy_files.specs.declared.store.StoreFault.{StoreFault}
 pub use Rattle.npy_files.specs.declared.store.StoreFault.TheVariants.{Device, Memory, TooLong}
 pub use Rattle.npy_files.specs.inside.Shelves.{IsFirstOf, IsNamed, files_of, is_called, named_bytes}
-pub use Rattle.std.proofs.Common.{IfSome, MatchOption, [], ap, append_assoc, arith, drop, get_or, inl, inr, is_some, length-append, length-drop, nat_lt, not, position, refl, rules, slice_set, subst, sym, take, take-append-drop, ◌-◌, ◌∙◌, ◌∷◌}
 pub use Rattle.std.proofs.Math.Nat.{eq-or-lt_of_le}
 pub use Rattle.std.proofs.lemmas.Bool.{false_from_ne_true, ltb-false, true≢false}
 pub use Rattle.std.proofs.lemmas.Grind.{common_steps}

@@ -1,7 +1,6 @@
 -- What the contracts of this crate cite: its own definitions, and names from std and from the crates below.
 pub use Rattle.npy_files.specs.Folders.{IsPut, OldOrNew, folder_shelf}
 pub use Rattle.npy_files.specs.Stores.{FaultHasCause, IsKept, IsNextName, IsRead, IsSameStore, ReadsFile, WritesFile, comes_before, empty_shelf}
-pub use Rattle.npy_files.specs.Words.{AlwaysHas, Appends, Failed, HasCause, IfOk, IsErrOf, IsTrue, Leaves, List, Memory, None, OnOk, Replaces, Same, SameBut, Some, empty, false, get, length, true, ℕ, ◌++◌, ◌+◌, ◌<◌, ◌≡◌, ◌≢◌, ◌≤◌}
+pub use Rattle.npy_files.specs.Words.{AlwaysHas, Appends, Failed, HasCause, Leaves, Memory, Replaces, Same, SameBut, empty, get}
 pub use Rattle.npy_files.specs.declared.store.StoreFault.TheVariants.{Device, TooLong}
 pub use Rattle.npy_files.specs.inside.Shelves.{IsFirstOf, IsNamed, answer_by, calls_after, is_called}
-pub use Rattle.std.specs.Prelude.{IfSome, MatchOption, [], drop, position, take, ◌^◌}

@@ -1,5 +1,6 @@
 -- A folder on a disk, as a store of files.
-use Rattle.npy_files.specs.Words.{◌≡◌, ◌≢◌, ◌⊎◌, ℕ, Bool, List, Some, Result, IsTrue, OnOk, IsErrOf, cond, empty, get, retain_keys, Files, DiskFault}
+use Rattle.std.specs.Prelude.{◌≡◌, ◌≢◌, ◌⊎◌, ℕ, Bool, List, Some, Result, IsTrue, OnOk, IsErrOf, cond}
+use Rattle.npy_files.specs.Words.{empty, get, retain_keys, Files, DiskFault}
 use Rattle.disk.specs.declared.disk.DiskFault.TheVariants as disk_fault
 use Rattle.npy_files.specs.declared.store.StoreFault.{StoreFault}
 use Rattle.npy_files.specs.declared.store.StoreFault.TheVariants as store_fault

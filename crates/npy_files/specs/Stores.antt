@@ -1,5 +1,6 @@
 -- What a store of files is, and what its calls return.
-use Rattle.npy_files.specs.Words.{◌≡◌, ◌≢◌, ◌⊎◌, ◌<◌, ◌≤◌, ℕ, Bool, true, false, List, length, Option, Some, None, IsSome, Result, Ok, Err, nat_cmp, is_lt, slice_cmp, empty, get, insert, Files, SameBut, last_count}
+use Rattle.std.specs.Prelude.{◌≡◌, ◌≢◌, ◌⊎◌, ◌<◌, ◌≤◌, ℕ, Bool, true, false, List, length, Option, Some, None, IsSome, Result, Ok, Err}
+use Rattle.npy_files.specs.Words.{nat_cmp, is_lt, slice_cmp, empty, get, insert, Files, SameBut, last_count}
 use Rattle.npy_files.specs.declared.store.StoreFault.{StoreFault}
 use Rattle.npy_files.specs.declared.store.StoreFault.TheVariants.{Device, TooLong, Memory}
 

@@ -9,5 +9,4 @@ pub use Rattle.npy_format.specs.declared.file_parts.FileParts.{FileParts}
 pub use Rattle.std.specs.Cmp.Lexicographic.{slice_cmp}
 pub use Rattle.std.specs.FinMap.{empty, from_entries, get, insert, retain_keys}
 pub use Rattle.std.specs.Ordering.{is_lt, nat_cmp}
-pub use Rattle.std.specs.Prelude.{Bool, Err, IfOk, IsErrOf, IsSome, IsTrue, List, None, Ok, OnOk, Option, Result, Some, cond, false, length, map, slice_get, suc, true, zero, ℕ, ◌++◌, ◌+◌, ◌<◌, ◌≡◌, ◌≢◌, ◌≤◌, ◌⊎◌}
 pub use Rattle.std.specs.Str.{bytes_eq}

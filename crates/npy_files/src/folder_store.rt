@@ -1,7 +1,8 @@
 //! A store that is a folder on a disk.
 ghost use Rattle.disk.specs.Calls as calls;
 ghost use Rattle.npy_files.specs.Names as names;
-ghost use Rattle.npy_files.specs.Clauses.{IsPut, OldOrNew, folder_shelf, FaultHasCause, IsKept, IsSameStore, ReadsFile, WritesFile, Leaves, Same, Device, TooLong, empty, get, IfOk, IsErrOf, IsTrue, OnOk, Some, false, length, true, ◌++◌, ◌^◌, ◌≡◌, ◌≤◌};
+ghost use Rattle.std.specs.Prelude.{IfOk, IsErrOf, IsTrue, OnOk, Some, false, length, true, ◌++◌, ◌^◌, ◌≡◌, ◌≤◌};
+ghost use Rattle.npy_files.specs.Clauses.{IsPut, OldOrNew, folder_shelf, FaultHasCause, IsKept, IsSameStore, ReadsFile, WritesFile, Leaves, Same, Device, TooLong, empty, get};
 
 use crate::put::put;
 use crate::read::{Cutter, HeaderCutter, read_file};

@@ -1,5 +1,6 @@
 //! A store whose device fails once.
-ghost use Rattle.npy_files.specs.Clauses.{◌≡◌, ◌++◌, true, get, IsSameStore, FaultHasCause, ReadsFile, IsKept, WritesFile, Device, answer_by, calls_after};
+ghost use Rattle.std.specs.Prelude.{◌≡◌, ◌++◌, true};
+ghost use Rattle.npy_files.specs.Clauses.{get, IsSameStore, FaultHasCause, ReadsFile, IsKept, WritesFile, Device, answer_by, calls_after};
 
 use crate::mem_store::MemStore;
 use crate::store::{NpyStore, StoreFault};

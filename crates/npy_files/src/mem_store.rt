@@ -1,5 +1,6 @@
 //! A store in memory.
-ghost use Rattle.npy_files.specs.Clauses.{◌≡◌, ◌<◌, ℕ, List, true, length, position, IfSome, MatchOption, comes_before, is_called, IsNamed, IsFirstOf};
+ghost use Rattle.std.specs.Prelude.{◌≡◌, ◌<◌, ℕ, List, true, length, position, IfSome, MatchOption};
+ghost use Rattle.npy_files.specs.Clauses.{comes_before, is_called, IsNamed, IsFirstOf};
 
 use crate::store::{NpyStore, StoreFault, is_longer};
 use npy_format::FileParts;
@@ -61,7 +62,8 @@ fn place_after(files: &[StoredFile], after: &[u8]) -> Option<usize>
 }
 
 impl MemStore {
-    ghost use Rattle.npy_files.specs.Clauses.{Some, None, get, empty_shelf, IsNextName};
+    ghost use Rattle.std.specs.Prelude.{Some, None};
+    ghost use Rattle.npy_files.specs.Clauses.{get, empty_shelf, IsNextName};
 
     /// A store without files, which takes files of at most `limit` bytes.
     pub fn new(alloc: Global, limit: usize) -> MemStore

@@ -1,5 +1,6 @@
 //! Replaces a file: writes it under a hidden name, then renames it.
-ghost use Rattle.npy_files.specs.Clauses.{◌≡◌, ◌≢◌, ◌++◌, [], IsTrue, IfOk, OnOk, IsErrOf, get, Failed, Memory, SameBut, Leaves, HasCause, Replaces, Appends, AlwaysHas};
+ghost use Rattle.std.specs.Prelude.{◌≡◌, ◌≢◌, ◌++◌, [], IsTrue, IfOk, OnOk, IsErrOf};
+ghost use Rattle.npy_files.specs.Clauses.{get, Failed, Memory, SameBut, Leaves, HasCause, Replaces, Appends, AlwaysHas};
 
 use disk::{Disk, DiskFault};
 

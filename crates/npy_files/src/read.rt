@@ -1,5 +1,6 @@
 //! Reads files in two parts.
-ghost use Rattle.npy_files.specs.Clauses.{IsRead, HasCause, Leaves, Same, Device, TooLong, get, IfOk, IsErrOf, IsTrue, List, OnOk, [], drop, length, take, ℕ, ◌++◌, ◌+◌, ◌<◌, ◌≡◌, ◌≤◌};
+ghost use Rattle.std.specs.Prelude.{IfOk, IsErrOf, IsTrue, List, OnOk, [], drop, length, take, ℕ, ◌++◌, ◌+◌, ◌<◌, ◌≡◌, ◌≤◌};
+ghost use Rattle.npy_files.specs.Clauses.{IsRead, HasCause, Leaves, Same, Device, TooLong, get};
 
 use crate::store::StoreFault;
 use disk::Disk;

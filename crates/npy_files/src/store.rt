@@ -1,7 +1,8 @@
 //! Stores of files, and the names of files.
 ghost use Rattle.npy_files.specs.Names as spec;
 ghost use Rattle.npy_files.specs.Stores.{FaultHasCause, IsKept, IsSameStore, ReadsFile, StoreState, WritesFile};
-ghost use Rattle.npy_files.specs.Words.{get, IfOk, false, true, ◌++◌, ◌+◌, ◌<◌, ◌≡◌, ◌≤◌};
+ghost use Rattle.std.specs.Prelude.{IfOk, false, true, ◌++◌, ◌+◌, ◌<◌, ◌≡◌, ◌≤◌};
+ghost use Rattle.npy_files.specs.Words.{get};
 
 use disk::DiskFault;
 use npy_format::FileParts;

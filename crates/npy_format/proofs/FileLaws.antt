@@ -1,5 +1,6 @@
 -- The parts of a file, one after another.
-use Rattle.npy_format.proofs.Words.{◌≡◌, ◌⊎◌, ◌+◌, ℕ, true, List, [], ◌∷◌, ◌++◌, length, take, drop, Ok, refl, sym, ap, ◌∙◌, inl, inr, arith, length-append, append_assoc, ◌≤◌, replicate, codes, take-replicate, length-replicate, little_bytes, spaces_after, padded_text, with_length, magic, begins_well, split_front, length_bytes, text_behind, split_header}
+use Rattle.std.proofs.Common.{◌≡◌, ◌⊎◌, ◌+◌, ℕ, true, List, [], ◌∷◌, ◌++◌, length, take, drop, Ok, refl, sym, ap, ◌∙◌, inl, inr, arith, length-append, append_assoc, ◌≤◌, replicate, codes}
+use Rattle.npy_format.proofs.Words.{take-replicate, length-replicate, little_bytes, spaces_after, padded_text, with_length, magic, begins_well, split_front, length_bytes, text_behind, split_header}
 
 pub header_split : (file version rest field behind : List ℕ) (width : ℕ) → begins_well file ≡ true → split_front 2 (drop 6 file) ≡ Ok (version, rest) → length_bytes version ≡ Ok width → split_front width rest ≡ Ok (field, behind) → split_header file ≡ text_behind field behind
 unfolding split_header

@@ -1,5 +1,6 @@
 -- Files that are written: whole files, byte for byte, as the format says.
-use Rattle.npy_format.proofs.Words.{◌≡◌, ℕ, true, false, List, [], ◌∷◌, ◌++◌, Ok, Err, codes, replicate, refl, pos, digits, TooLarge, Little, Big, Two, Four, Scalar, Byte, Int, Bytes, no_more, scalar_field, record_field, LeafValue, number, ScalarDescr, RecordDescr, is_fortran, saved}
+use Rattle.std.proofs.Common.{◌≡◌, ℕ, true, false, List, [], ◌∷◌, ◌++◌, Ok, Err, codes, replicate, refl, pos}
+use Rattle.npy_format.proofs.Words.{digits, TooLarge, Little, Big, Two, Four, Scalar, Byte, Int, Bytes, no_more, scalar_field, record_field, LeafValue, number, ScalarDescr, RecordDescr, is_fortran, saved}
 
 abbrev int : Scalar
 int = Int true Four Little

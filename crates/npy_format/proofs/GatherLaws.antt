@@ -1,5 +1,6 @@
 -- Appending items one after another.
-use Rattle.npy_format.proofs.Words.{◌≡◌, inl, inr, ℕ, suc, ◌+◌, ◌-◌, ◌*◌, ◌^◌, ◌<◌, ◌≤◌, ◌&&◌, ◌||◌, not, true, false, Bool, pos, List, [], ◌∷◌, ◌++◌, length, get_or, take, drop, replicate, reverse, All, refl, sym, ap, subst, ◌∙◌, arith, append_assoc, zero-mul, suc-mul, length-append, ◌==◌, if◌then◌else◌, flat_map, Each, take-add, eqb-true, true≢false, cases_lt, flat_map-append, append-nil, drop-drop, length-map, get_or-map, get_or_past, length-reverse, All-head, All-tail, All-from_recursion, place, item_at, EachWithin, begins_within, Run, count, indexes, rank, length-indexes, rank-lt, get_or-indexes, index_at, rank-zeros, IsIndex-first, zero_filled, count-reverse, IsIndex-from_reverse, first_address, fortran_order, is_c_contiguous, is_f_contiguous, Layout, max_items, offsets, length-offsets, run_offsets, runs, first_address-entry, length-run_offsets, run_offsets-more, place-at, run-ends, length-fortran, reverse-replicate, gathered, addresses_in_file}
+use Rattle.std.proofs.Common.{◌≡◌, inl, inr, ℕ, suc, ◌+◌, ◌-◌, ◌*◌, ◌^◌, ◌<◌, ◌≤◌, ◌&&◌, ◌||◌, not, true, false, Bool, pos, List, [], ◌∷◌, ◌++◌, length, get_or, take, drop, replicate, reverse, All, refl, sym, ap, subst, ◌∙◌, arith, append_assoc, zero-mul, suc-mul, length-append, ◌==◌, if◌then◌else◌}
+use Rattle.npy_format.proofs.Words.{flat_map, Each, take-add, eqb-true, true≢false, cases_lt, flat_map-append, append-nil, drop-drop, length-map, get_or-map, get_or_past, length-reverse, All-head, All-tail, All-from_recursion, place, item_at, EachWithin, begins_within, Run, count, indexes, rank, length-indexes, rank-lt, get_or-indexes, index_at, rank-zeros, IsIndex-first, zero_filled, count-reverse, IsIndex-from_reverse, first_address, fortran_order, is_c_contiguous, is_f_contiguous, Layout, max_items, offsets, length-offsets, run_offsets, runs, first_address-entry, length-run_offsets, run_offsets-more, place-at, run-ends, length-fortran, reverse-replicate, gathered, addresses_in_file}
 
 -- ---- adjacent items
 

@@ -1,5 +1,6 @@
 -- Laws of literals for a text that is read a second time.
-use Rattle.npy_format.proofs.Words.{◌≡◌, ◌<◌, ◌≤◌, ℕ, zero, suc, Bool, true, false, List, [], ◌∷◌, length, Option, Some, None, Result, Ok, Err, refl, ap, sym, ◌∙◌, arith, nat_eq, if◌then◌else◌, ok_or, Refusal, BadHeader, ◌>>=◌, Token, Literal, Read, symbol_token_at, if_read, list_end, entries_in, tuple_in, list_in, pair_in, dictionary_in, bracketed, literal_in}
+use Rattle.std.proofs.Common.{◌≡◌, ◌<◌, ◌≤◌, ℕ, zero, suc, Bool, true, false, List, [], ◌∷◌, length, Option, Some, None, Result, Ok, Err, refl, ap, sym, ◌∙◌, arith, nat_eq, if◌then◌else◌}
+use Rattle.npy_format.proofs.Words.{ok_or, Refusal, BadHeader, ◌>>=◌, Token, Literal, Read, symbol_token_at, if_read, list_end, entries_in, tuple_in, list_in, pair_in, dictionary_in, bracketed, literal_in}
 use Rattle.npy_format.specs.Tokens as token
 
 -- ---- what is read at a depth is read at a greater depth

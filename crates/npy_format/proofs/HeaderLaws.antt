@@ -1,5 +1,6 @@
 -- What a header says, pair by pair.
-use Rattle.npy_format.proofs.Words.{◌≡◌, ◌≢◌, ◌≤◌, ◌<◌, ◌+◌, ℕ, Bool, true, false, List, [], ◌∷◌, ◌++◌, length, Option, Some, None, Result, Ok, Err, refl, ap, sym, subst, ◌∙◌, arith, codes, map, min, append_assoc, length-append, MatchOption, MatchResult, if◌then◌else◌, ok_or, is_some, append-nil, length-map, map-append, Refusal, BadHeader, TooManyAxes, Descr, ◌>>=◌, Answers, bind_ok, max_items, shape_of, shape_of-many, shape_of-capped, Token, Literal, Pair, Row, all_listed_values, Round, Read, symbol_token_at, pair_in, entries_in, descr_in, is_key, value_under, truth_of, integers_of, lengths_of, dictionary_of, header_of, behind, behind_comma, behind_entry, behind_key, behind_entries, string_at, integer_at, is_string_token, HasPairs, HasValues, HasLengths, Stands, value_in}
+use Rattle.std.proofs.Common.{◌≡◌, ◌≢◌, ◌≤◌, ◌<◌, ◌+◌, ℕ, Bool, true, false, List, [], ◌∷◌, ◌++◌, length, Option, Some, None, Result, Ok, Err, refl, ap, sym, subst, ◌∙◌, arith, codes, map, min, append_assoc, length-append, MatchOption, MatchResult, if◌then◌else◌}
+use Rattle.npy_format.proofs.Words.{ok_or, is_some, append-nil, length-map, map-append, Refusal, BadHeader, TooManyAxes, Descr, ◌>>=◌, Answers, bind_ok, max_items, shape_of, shape_of-many, shape_of-capped, Token, Literal, Pair, Row, all_listed_values, Round, Read, symbol_token_at, pair_in, entries_in, descr_in, is_key, value_under, truth_of, integers_of, lengths_of, dictionary_of, header_of, behind, behind_comma, behind_entry, behind_key, behind_entries, string_at, integer_at, is_string_token, HasPairs, HasValues, HasLengths, Stands, value_in}
 use Rattle.npy_format.proofs.GrammarLaws.{Shortens, symbol_shorter}
 use Rattle.npy_format.proofs.SkipLaws.{behind_ok}
 use Rattle.npy_format.proofs.PlaceLaws.{stand_open, stand_closed, same_read}

@@ -1,5 +1,6 @@
 -- Splitting a written file into its parts again.
-use Rattle.npy_format.proofs.Words.{◌≡◌, ℕ, ◌+◌, ◌-◌, ◌%◌, ◌^◌, ◌<◌, ◌≤◌, List, [], ◌∷◌, ◌++◌, length, drop, replicate, codes, Ok, refl, sym, ap, ◌∙◌, arith, append_assoc, length-append, inl, inr, if◌then◌else◌, take-append_seam, drop-append_seam, mod-lt, le-leb, lt-ltb, le-ltb, cases_lt, append-nil, little_bytes, little_number, little_number-reads_back, length-bytes_low_first, magic, max_header, split_front, length_bytes, text_behind, split_header, max_short_text, spaces_after, padded_text, with_length, written_header}
+use Rattle.std.proofs.Common.{◌≡◌, ℕ, ◌+◌, ◌-◌, ◌%◌, ◌^◌, ◌<◌, ◌≤◌, List, [], ◌∷◌, ◌++◌, length, drop, replicate, codes, Ok, refl, sym, ap, ◌∙◌, arith, append_assoc, length-append, inl, inr, if◌then◌else◌}
+use Rattle.npy_format.proofs.Words.{take-append_seam, drop-append_seam, mod-lt, le-leb, lt-ltb, le-ltb, cases_lt, append-nil, little_bytes, little_number, little_number-reads_back, length-bytes_low_first, magic, max_header, split_front, length_bytes, text_behind, split_header, max_short_text, spaces_after, padded_text, with_length, written_header}
 use Rattle.npy_format.proofs.FileLaws.{header_split, length-padded}
 
 pub front_split : (front back : List ℕ) → split_front (length front) (front ++ back) ≡ Ok (front, back)

@@ -1,5 +1,6 @@
 -- Files in two parts, the first of which contains the header.
-use Rattle.npy_format.proofs.Words.{◌≡◌, ◌⊎◌, ◌<◌, ◌≤◌, ℕ, Bool, true, false, List, [], ◌∷◌, ◌++◌, length, take, drop, Ok, Err, refl, sym, ap, ◌∙◌, arith, length-append, length-take, nat_le, inl, inr, if◌then◌else◌, le-leb, leb-true, cases_lt, bytes_eq-Decides, take-append-le, drop-append-le, append-nil, bytes_eq, little_number, Refusal, BadMagic, Truncated, TooLarge, check, bind_ok, magic, max_header, split_front, begins_well, length_bytes, text_behind, split_header, load, load_behind}
+use Rattle.std.proofs.Common.{◌≡◌, ◌⊎◌, ◌<◌, ◌≤◌, ℕ, Bool, true, false, List, [], ◌∷◌, ◌++◌, length, take, drop, Ok, Err, refl, sym, ap, ◌∙◌, arith, length-append, length-take, nat_le, inl, inr, if◌then◌else◌}
+use Rattle.npy_format.proofs.Words.{le-leb, leb-true, cases_lt, bytes_eq-Decides, take-append-le, drop-append-le, append-nil, bytes_eq, little_number, Refusal, BadMagic, Truncated, TooLarge, check, bind_ok, magic, max_header, split_front, begins_well, length_bytes, text_behind, split_header, load, load_behind}
 use Rattle.npy_format.proofs.FileLaws.{header_split}
 
 checked : (test : Bool) (refusal : Refusal) (u : Unit {0}) → check test refusal ≡ Ok u → test ≡ true

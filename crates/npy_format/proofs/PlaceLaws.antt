@@ -1,5 +1,6 @@
 -- The values in tokens that were read before.
-use Rattle.npy_format.proofs.Words.{◌≡◌, ◌≢◌, ℕ, zero, suc, Bool, true, false, List, [], ◌∷◌, length, Option, Some, None, Result, Ok, Err, refl, ap, sym, ◌∙◌, arith, nat_eq, if◌then◌else◌, ok_or, eqb-true, Refusal, BadHeader, ◌>>=◌, bind_ok, Token, Text, Integer, Truth, Nothing, Dictionary, Round, Square, no_values, Literal, Plain, Row, all_listed_values, Read, symbol_token_at, if_read, list_end, entries_in, tuple_in, list_in, pairs_in, dictionary_in, bracketed, literal_in, behind_comma, StandIn, Stands, value_in}
+use Rattle.std.proofs.Common.{◌≡◌, ◌≢◌, ℕ, zero, suc, Bool, true, false, List, [], ◌∷◌, length, Option, Some, None, Result, Ok, Err, refl, ap, sym, ◌∙◌, arith, nat_eq, if◌then◌else◌}
+use Rattle.npy_format.proofs.Words.{ok_or, eqb-true, Refusal, BadHeader, ◌>>=◌, bind_ok, Token, Text, Integer, Truth, Nothing, Dictionary, Round, Square, no_values, Literal, Plain, Row, all_listed_values, Read, symbol_token_at, if_read, list_end, entries_in, tuple_in, list_in, pairs_in, dictionary_in, bracketed, literal_in, behind_comma, StandIn, Stands, value_in}
 use Rattle.npy_format.specs.Tokens as token
 use Rattle.npy_format.proofs.GrammarLaws.{entries_less, literal_less}
 

@@ -1,5 +1,6 @@
 -- Reading a header from the text that is written.
-use Rattle.npy_format.proofs.Words.{◌≡◌, ℕ, zero, suc, ◌-◌, ◌<◌, ◌≤◌, Bool, true, false, All, List, [], ◌∷◌, ◌++◌, length, replicate, codes, decimal, None, Ok, refl, sym, ap, subst, ◌∙◌, arith, append_assoc, nat_eq, is_ascii_digit, list_all, flat_map, All-head, All-tail, Descr, ◌>>=◌, max_items, IsShape, shape_text, shape_read, Token, is_plain_byte, tokens, Round, Text, Integer, Truth, Literal, Plain, Row, Pair, all_listed_values, symbol_token_at, entries_in, pair_in, tuple_in, literal_in, descr_in, integers_of, lengths_of, dictionary_of, header_of, header, written_descr, written_truth, written_text, IsSound}
+use Rattle.std.proofs.Common.{◌≡◌, ℕ, zero, suc, ◌-◌, ◌<◌, ◌≤◌, Bool, true, false, All, List, [], ◌∷◌, ◌++◌, length, replicate, codes, decimal, None, Ok, refl, sym, ap, subst, ◌∙◌, arith, append_assoc, nat_eq}
+use Rattle.npy_format.proofs.Words.{is_ascii_digit, list_all, flat_map, All-head, All-tail, Descr, ◌>>=◌, max_items, IsShape, shape_text, shape_read, Token, is_plain_byte, tokens, Round, Text, Integer, Truth, Literal, Plain, Row, Pair, all_listed_values, symbol_token_at, entries_in, pair_in, tuple_in, literal_in, descr_in, integers_of, lengths_of, dictionary_of, header_of, header, written_descr, written_truth, written_text, IsSound}
 use Rattle.npy_format.specs.Tokens as token
 use Rattle.npy_format.proofs.ReadTokens.{Scans, scan_token, scan_space, scan_spaces, scan_end, scan_quoted, scan_number}
 use Rattle.npy_format.proofs.ReadValues.{IsValue}

@@ -1,5 +1,6 @@
 -- The tokens of a written text.
-use Rattle.npy_format.proofs.Words.{◌≡◌, ℕ, zero, suc, ◌+◌, ◌^◌, ◌<◌, ◌≤◌, Bool, true, false, List, [], ◌∷◌, ◌++◌, length, get_or, take, drop, replicate, refl, sym, ap, subst, ◌∙◌, arith, codes, decimal, length-append, nat_eq, if◌then◌else◌, is_ascii_digit, is_ascii_alphabetic, list_all, prefix_len, take-append_seam, drop-append_seam, ne_eqb, and_parts, nat_tests, first_decimal, decimal_nonempty, decimal_digit, value_of, digits-decimal, value_of-decimal, max_items, Token, Symbol, Stray, is_space, is_quote, is_plain_byte, text_token, ended_text, is_integer, behind_long, integer_token, word_token, token_from, unspaced_text, first_token, tokens_in}
+use Rattle.std.proofs.Common.{◌≡◌, ℕ, zero, suc, ◌+◌, ◌^◌, ◌<◌, ◌≤◌, Bool, true, false, List, [], ◌∷◌, ◌++◌, length, get_or, take, drop, replicate, refl, sym, ap, subst, ◌∙◌, arith, codes, decimal, length-append, nat_eq, if◌then◌else◌}
+use Rattle.npy_format.proofs.Words.{is_ascii_digit, is_ascii_alphabetic, list_all, prefix_len, take-append_seam, drop-append_seam, ne_eqb, and_parts, nat_tests, first_decimal, decimal_nonempty, decimal_digit, value_of, digits-decimal, value_of-decimal, max_items, Token, Symbol, Stray, is_space, is_quote, is_plain_byte, text_token, ended_text, is_integer, behind_long, integer_token, word_token, token_from, unspaced_text, first_token, tokens_in}
 use Rattle.npy_format.specs.Tokens.{Text, Integer}
 
 -- the tokens of a text, in any number of turns that is at least the number of its bytes

@@ -1,5 +1,6 @@
 -- A file whose items are stored in their block as in the file.
-use Rattle.npy_format.proofs.Words.{◌≡◌, ℕ, ◌+◌, ◌*◌, ◌<◌, ◌≤◌, Bool, true, List, ◌++◌, map, length, drop, All, IfOk, refl, sym, ap, subst, ◌∙◌, arith, ◌||◌, flat_map, take-append_seam, drop-append_seam, item_at, length-item_at, Descr, item_size, leaves_of, AreInOrder, encode_item, decode_item, blocks, item_from, count, first_address, is_c_contiguous, is_f_contiguous, LeafValue, AreBytes, bytes-drop, bytes-take, max_bytes, file_order, is_fortran, ordered, file_of, saved, LoadsAs, gathered, IsPlain, addresses_in_file}
+use Rattle.std.proofs.Common.{◌≡◌, ℕ, ◌+◌, ◌*◌, ◌<◌, ◌≤◌, Bool, true, List, ◌++◌, map, length, drop, All, IfOk, refl, sym, ap, subst, ◌∙◌, arith, ◌||◌}
+use Rattle.npy_format.proofs.Words.{flat_map, take-append_seam, drop-append_seam, item_at, length-item_at, Descr, item_size, leaves_of, AreInOrder, encode_item, decode_item, blocks, item_from, count, first_address, is_c_contiguous, is_f_contiguous, LeafValue, AreBytes, bytes-drop, bytes-take, max_bytes, file_order, is_fortran, ordered, file_of, saved, LoadsAs, gathered, IsPlain, addresses_in_file}
 use Rattle.npy_format.proofs.WrittenItemLaws.{plain_again, all_again}
 use Rattle.npy_format.proofs.GatherLaws.{together}
 use Rattle.npy_format.proofs.WriterLaws.{file_written, saved-large, saved-small}

@@ -1,5 +1,6 @@
 -- The bytes of a scalar, read and written back.
-use Rattle.npy_format.proofs.Words.{◌≡◌, ℕ, zero, suc, ◌+◌, ◌-◌, ◌*◌, ◌/◌, ◌^◌, ◌<◌, List, [], ◌∷◌, ◌++◌, length, replicate, refl, sym, ap, ◌∙◌, arith, length-take, nat_eq, byte_at, bytes_low_first, bytes_high_first, mod-lt, div-mul-add, append-nil, take_all, suffix_len-le-length, little_from, big_from, little_number, big_number, little_bytes, big_bytes, little_from-cons, big_from-cons, little_from-lt, big_from-lt, length-bytes_low_first, length-bytes_high_first, little_number-reads_back, big_number-reads_back, Order, Little, Big, Scalar, Byte, Int, Bytes, size, decode, encode, number_in, bytes_of, truth, width_size, without_nuls, padded, low_bits-integer, without_nuls-back, nuls, AreBytes, number-lt, truth-twice, BoolScalar, limit}
+use Rattle.std.proofs.Common.{◌≡◌, ℕ, zero, suc, ◌+◌, ◌-◌, ◌*◌, ◌/◌, ◌^◌, ◌<◌, List, [], ◌∷◌, ◌++◌, length, replicate, refl, sym, ap, ◌∙◌, arith, length-take, nat_eq}
+use Rattle.npy_format.proofs.Words.{byte_at, bytes_low_first, bytes_high_first, mod-lt, div-mul-add, append-nil, take_all, suffix_len-le-length, little_from, big_from, little_number, big_number, little_bytes, big_bytes, little_from-cons, big_from-cons, little_from-lt, big_from-lt, length-bytes_low_first, length-bytes_high_first, little_number-reads_back, big_number-reads_back, Order, Little, Big, Scalar, Byte, Int, Bytes, size, decode, encode, number_in, bytes_of, truth, width_size, without_nuls, padded, low_bits-integer, without_nuls-back, nuls, AreBytes, number-lt, truth-twice, BoolScalar, limit}
 
 -- ---- numbers
 

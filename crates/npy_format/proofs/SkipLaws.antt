@@ -1,5 +1,6 @@
 -- The tokens after entries, read turn by turn, and after a value in brackets.
-use Rattle.npy_format.proofs.Words.{◌≡◌, ◌<◌, ◌≤◌, ◌-◌, ℕ, zero, suc, Bool, List, [], ◌∷◌, length, Option, Some, None, Ok, Err, refl, ap, ◌∙◌, arith, ok_or, Refusal, BadHeader, ◌>>=◌, bind_same, Token, Literal, Pair, HeaderAnyTurns, Read, symbol_token_at, if_read, list_end, entries_in, tuple_in, list_in, pair_in, dictionary_in, bracketed, literal_in, behind, behind_entries, behind_key}
+use Rattle.std.proofs.Common.{◌≡◌, ◌<◌, ◌≤◌, ◌-◌, ℕ, zero, suc, Bool, List, [], ◌∷◌, length, Option, Some, None, Ok, Err, refl, ap, ◌∙◌, arith}
+use Rattle.npy_format.proofs.Words.{ok_or, Refusal, BadHeader, ◌>>=◌, bind_same, Token, Literal, Pair, HeaderAnyTurns, Read, symbol_token_at, if_read, list_end, entries_in, tuple_in, list_in, pair_in, dictionary_in, bracketed, literal_in, behind, behind_entries, behind_key}
 use Rattle.npy_format.specs.Tokens as token
 use Rattle.npy_format.proofs.GrammarLaws.{Shortens, symbol_shorter, pair_leaves, literal_leaves}
 use Rattle.npy_format.proofs.TokenLaws.{tokens_any_turns}

@@ -1,5 +1,6 @@
 -- What is found when a text is read a second time.
-use Rattle.npy_format.proofs.Words.{◌≡◌, ◌≢◌, ℕ, true, false, List, [], ◌∷◌, Option, Some, None, Result, Ok, Err, Bor, refl, ap, sym, subst, ◌∙◌, arith, is_some, option_map, option_copied, Refusal, BadHeader, BadDescriptor, DescriptorLeftOut, Structure, ◌>>=◌, Partial, bind_ok, Token, tokens, Text, Integer, Round, Square, Literal, Plain, Row, all_listed_values, Read, symbol_token_at, literal_in, pad_in, type_in, descr_in, is_string, truth_of, integers_of, lengths_of, behind_comma, behind_entry, string_at, integer_at, truth_at, is_string_token, pad_at, StandIn, HasValues, HasLengths, Stands, value_in, name_and_type, entry_parts}
+use Rattle.std.proofs.Common.{◌≡◌, ◌≢◌, ℕ, true, false, List, [], ◌∷◌, Option, Some, None, Result, Ok, Err, refl, ap, sym, subst, ◌∙◌, arith, option_copied}
+use Rattle.npy_format.proofs.Words.{Bor, is_some, option_map, Refusal, BadHeader, BadDescriptor, DescriptorLeftOut, Structure, ◌>>=◌, Partial, bind_ok, Token, tokens, Text, Integer, Round, Square, Literal, Plain, Row, all_listed_values, Read, symbol_token_at, literal_in, pad_in, type_in, descr_in, is_string, truth_of, integers_of, lengths_of, behind_comma, behind_entry, string_at, integer_at, truth_at, is_string_token, pad_at, StandIn, HasValues, HasLengths, Stands, value_in, name_and_type, entry_parts}
 use Rattle.npy_format.specs.Tokens as token
 use Rattle.npy_format.proofs.ValueLaws.{literals_of_listed}
 use Rattle.npy_format.proofs.PlaceLaws.{stand_open, stand_closed, Front, text_front, integer_front, truth_front, nothing_front, boxed_front, tuple_boxed, list_boxed, pairs_boxed, front_of, same_read}

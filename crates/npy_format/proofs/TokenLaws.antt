@@ -1,5 +1,6 @@
 -- The tokens of a text, one after another.
-use Rattle.npy_format.proofs.Words.{◌≡◌, ◌<◌, ◌≤◌, ◌+◌, ◌-◌, ℕ, zero, suc, Bool, true, false, List, [], ◌∷◌, length, take, drop, get_or, refl, ap, sym, ◌∙◌, arith, length-drop, take_all, nat_eq, if◌then◌else◌, is_ascii_digit, is_ascii_alphabetic, prefix_len, Token, Symbol, Stray, is_space, is_quote, is_plain_byte, ended_text, text_token, behind_long, integer_token, word_token, token_from, unspaced_text, first_token, tokens_in, tokens}
+use Rattle.std.proofs.Common.{◌≡◌, ◌<◌, ◌≤◌, ◌+◌, ◌-◌, ℕ, zero, suc, Bool, true, false, List, [], ◌∷◌, length, take, drop, get_or, refl, ap, sym, ◌∙◌, arith, length-drop, nat_eq, if◌then◌else◌}
+use Rattle.npy_format.proofs.Words.{take_all, is_ascii_digit, is_ascii_alphabetic, prefix_len, Token, Symbol, Stray, is_space, is_quote, is_plain_byte, ended_text, text_token, behind_long, integer_token, word_token, token_from, unspaced_text, first_token, tokens_in, tokens}
 use Rattle.npy_format.specs.Tokens.{Text}
 
 -- ---- a token takes at least one byte

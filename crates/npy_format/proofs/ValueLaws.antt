@@ -1,5 +1,6 @@
 -- Turning literals into the values of a tuple or a list and back gives the same literals.
-use Rattle.npy_format.proofs.Words.{◌≡◌, List, [], ◌∷◌, refl, ap, Literal, Plain, Row, all_listed_values, value_literals}
+use Rattle.std.proofs.Common.{◌≡◌, List, [], ◌∷◌, refl, ap}
+use Rattle.npy_format.proofs.Words.{Literal, Plain, Row, all_listed_values, value_literals}
 
 pub literals_of_listed : (literals : List Literal) → value_literals (all_listed_values literals) ≡ literals
 literals_of_listed [] = refl

@@ -1,5 +1,6 @@
 -- Headers: what NumPy writes and reads, and the order of refusals.
-use Rattle.npy_format.proofs.Words.{◌≡◌, ℕ, Bool, true, false, List, [], ◌∷◌, ◌++◌, Ok, Err, codes, refl, Result, Refusal, BadDescriptor, DescriptorLeftOut, TooLarge, BadHeader, Little, Big, Two, Four, Scalar, Byte, Int, Descr, no_more, scalar_field, record_field, checked_name, added, widened, closed_record, record_type, shape_of, ScalarDescr, Header, tokens, entries_in, tuple_in, list_in, pair_in, dictionary_in, literal_in, field_in, record_in, header_of, header}
+use Rattle.std.proofs.Common.{◌≡◌, ℕ, Bool, true, false, List, [], ◌∷◌, ◌++◌, Ok, Err, codes, refl, Result}
+use Rattle.npy_format.proofs.Words.{Refusal, BadDescriptor, DescriptorLeftOut, TooLarge, BadHeader, Little, Big, Two, Four, Scalar, Byte, Int, Descr, no_more, scalar_field, record_field, checked_name, added, widened, closed_record, record_type, shape_of, ScalarDescr, Header, tokens, entries_in, tuple_in, list_in, pair_in, dictionary_in, literal_in, field_in, record_in, header_of, header}
 
 abbrev int : Scalar
 int = Int true Four Little

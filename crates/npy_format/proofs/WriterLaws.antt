@@ -1,5 +1,6 @@
 -- A file, put together from its header and its items.
-use Rattle.npy_format.proofs.Words.{◌≡◌, ℕ, ◌+◌, ◌*◌, ◌<◌, ◌≤◌, true, false, Bool, List, [], ◌∷◌, ◌++◌, map, length, get_or, take, drop, reverse, All, Ok, Err, refl, sym, ap, ◌∙◌, arith, zero-mul, suc-mul, length-append, if◌then◌else◌, flat_map, take-append_seam, drop-append_seam, lt-leb, le-leb, length-map, get_or-map, ext_get_or, flat_map-map, All-head, All-tail, item_at, length-item_at, TooLarge, Descr, LeafValue, item_size, encode_item, decode_item, blocks, item_from, max_bytes, count, indexes, rank, fortran_order, length-fortran, file_order, is_fortran, ordered, file_of, saved, gathered, addresses_in_file}
+use Rattle.std.proofs.Common.{◌≡◌, ℕ, ◌+◌, ◌*◌, ◌<◌, ◌≤◌, true, false, Bool, List, [], ◌∷◌, ◌++◌, map, length, get_or, take, drop, reverse, All, Ok, Err, refl, sym, ap, ◌∙◌, arith, zero-mul, suc-mul, length-append, if◌then◌else◌}
+use Rattle.npy_format.proofs.Words.{flat_map, take-append_seam, drop-append_seam, lt-leb, le-leb, length-map, get_or-map, ext_get_or, flat_map-map, All-head, All-tail, item_at, length-item_at, TooLarge, Descr, LeafValue, item_size, encode_item, decode_item, blocks, item_from, max_bytes, count, indexes, rank, fortran_order, length-fortran, file_order, is_fortran, ordered, file_of, saved, gathered, addresses_in_file}
 use Rattle.npy_format.proofs.GatherLaws.{fortran-entry, fortran-within}
 
 -- gathered items, item by item

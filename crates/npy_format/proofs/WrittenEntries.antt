@@ -1,5 +1,6 @@
 -- The entries of a list, written one after another.
-use Rattle.npy_format.proofs.Words.{◌≡◌, ◌≤◌, ◌<◌, ◌+◌, ◌-◌, ℕ, zero, suc, Bool, true, false, ◌&&◌, List, [], ◌∷◌, ◌++◌, codes, decimal, length, get_or, drop, refl, sym, ap, ◌∙◌, append_assoc, nat_eq, arith, at_drop_all, ne_eqb, Field, Descr, Fields, listed, before, item_size, rest_at, ScalarDescr, RecordDescr, quoted, opened_entry, entry, gap, entry_separator, separated, in_brackets, entries, written_descr}
+use Rattle.std.proofs.Common.{◌≡◌, ◌≤◌, ◌<◌, ◌+◌, ◌-◌, ℕ, zero, suc, Bool, true, false, ◌&&◌, List, [], ◌∷◌, ◌++◌, codes, decimal, length, get_or, drop, refl, sym, ap, ◌∙◌, append_assoc, nat_eq, arith}
+use Rattle.npy_format.proofs.Words.{at_drop_all, ne_eqb, Field, Descr, Fields, listed, before, item_size, rest_at, ScalarDescr, RecordDescr, quoted, opened_entry, entry, gap, entry_separator, separated, in_brackets, entries, written_descr}
 
 entries_before : (from : ℕ) (name : List ℕ) (at : ℕ) (descr : Descr) (rest : Fields) (bytes : ℕ) → entries from (before name at descr rest) bytes ≡ gap (at - from) ++ (entry name (written_descr descr) ∷ entries (at + item_size descr) rest bytes)
 entries_before from name at (ScalarDescr scalar) rest bytes = refl

@@ -1,5 +1,6 @@
 -- Reading the bytes of NPY files, from the front.
-use Rattle.npy_format.specs.Words.{◌≡◌, ◌⊎◌, ℕ, ◌*◌, ◌^◌, Bool, List, [], ◌∷◌, length, take, drop, nat_le, if◌then◌else◌, Result, Ok, Err, bytes_eq, little_number, Refusal, BadMagic, BadVersion, Truncated, TooLarge, OutOfMemory, ◌>>=◌, check, item_size, MemoryOrder, C, Fortran, max_bytes, count, offsets, Owned, offsets_in}
+use Rattle.std.specs.Prelude.{◌≡◌, ◌⊎◌, ℕ, ◌*◌, ◌^◌, Bool, List, [], ◌∷◌, length, take, drop, nat_le, if◌then◌else◌, Result, Ok, Err}
+use Rattle.npy_format.specs.Words.{bytes_eq, little_number, Refusal, BadMagic, BadVersion, Truncated, TooLarge, OutOfMemory, ◌>>=◌, check, item_size, MemoryOrder, C, Fortran, max_bytes, count, offsets, Owned, offsets_in}
 use Rattle.npy_format.specs.declared.header.Header.{Header}
 use Rattle.npy_format.specs.Headers.{header}
 

@@ -1,5 +1,6 @@
 -- The header of a file: one dictionary, and what it says about an array.
-use Rattle.npy_format.specs.Words.{◌≡◌, ◌≤◌, ℕ, Bool, false, List, [], ◌∷◌, codes, length, nat_eq, if◌then◌else◌, Result, Ok, Err, ok_or, bytes_eq, Refusal, BadHeader, ◌>>=◌, check, shape_of}
+use Rattle.std.specs.Prelude.{◌≡◌, ◌≤◌, ℕ, Bool, false, List, [], ◌∷◌, codes, length, nat_eq, if◌then◌else◌, Result, Ok, Err}
+use Rattle.npy_format.specs.Words.{ok_or, bytes_eq, Refusal, BadHeader, ◌>>=◌, check, shape_of}
 use Rattle.npy_format.specs.Tokens.{Token, tokens_in, tokens}
 use Rattle.npy_format.specs.Values.{Round, Text, Integer, Truth}
 use Rattle.npy_format.specs.Listed.{Literal, Plain, Row, Pair, value_literals}

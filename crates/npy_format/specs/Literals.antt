@@ -1,6 +1,7 @@
 -- Literals of Python, as productions over tokens. Each reader takes the remaining tokens, and returns what it reads and
 -- the tokens after it. If it finds something else, the header is bad.
-use Rattle.npy_format.specs.Words.{ℕ, zero, suc, List, [], ◌∷◌, length, nat_eq, if◌then◌else◌, Option, Some, None, Result, Ok, Err, ok_or, Refusal, BadHeader, ◌>>=◌}
+use Rattle.std.specs.Prelude.{ℕ, zero, suc, List, [], ◌∷◌, length, nat_eq, if◌then◌else◌, Option, Some, None, Result, Ok, Err}
+use Rattle.npy_format.specs.Words.{ok_or, Refusal, BadHeader, ◌>>=◌}
 use Rattle.npy_format.specs.Tokens.{Token}
 use Rattle.npy_format.specs.Tokens as token
 use Rattle.npy_format.specs.Values.{Round, Square, Text, Integer, Truth, Nothing, Dictionary, no_values}

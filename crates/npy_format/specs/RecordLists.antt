@@ -1,5 +1,6 @@
 -- Element types in a header: a type string, or a list of the fields of a record.
-use Rattle.npy_format.specs.Words.{ℕ, zero, suc, false, ◌&&◌, not, List, [], ◌∷◌, nat_eq, if◌then◌else◌, Result, Ok, Err, is_ascii_digit, list_all, Refusal, BadDescriptor, DescriptorLeftOut, Descr, ◌>>=◌, check, Structure, is_legal_name, marked, value_of, typestr, is_empty, Partial, max_depth, empty, checked_name, added, widened, closed_record, ScalarDescr, RecordDescr}
+use Rattle.std.specs.Prelude.{ℕ, zero, suc, false, ◌&&◌, not, List, [], ◌∷◌, nat_eq, if◌then◌else◌, Result, Ok, Err}
+use Rattle.npy_format.specs.Words.{is_ascii_digit, list_all, Refusal, BadDescriptor, DescriptorLeftOut, Descr, ◌>>=◌, check, Structure, is_legal_name, marked, value_of, typestr, is_empty, Partial, max_depth, empty, checked_name, added, widened, closed_record, ScalarDescr, RecordDescr}
 use Rattle.npy_format.specs.Values.{Round, Square, Text}
 use Rattle.npy_format.specs.Listed.{Literal, Plain, Row, value_literals}
 

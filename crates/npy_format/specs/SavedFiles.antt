@@ -1,5 +1,6 @@
 -- Loading the file of an array.
-use Rattle.npy_format.specs.Words.{◌≡◌, ℕ, List, map, Ok, Descr, LeafValue, item_size, item_from, offsets_in}
+use Rattle.std.specs.Prelude.{◌≡◌, ℕ, List, map, Ok}
+use Rattle.npy_format.specs.Words.{Descr, LeafValue, item_size, item_from, offsets_in}
 use Rattle.npy_format.specs.Files.{Loaded, load, file_order}
 
 -- the file loads as an array of this element type and this shape, with these items in C order of their indexes, and no

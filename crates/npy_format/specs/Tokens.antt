@@ -1,5 +1,6 @@
 -- The tokens of a header: the tokens of Python that its literals use.
-use Rattle.npy_format.specs.Words.{ℕ, zero, suc, Bool, true, false, not, ◌&&◌, ◌||◌, List, [], ◌∷◌, length, take, drop, codes, nat_eq, nat_le, if◌then◌else◌, is_ascii_digit, is_ascii_alphabetic, prefix_len, bytes_eq, value_of}
+use Rattle.std.specs.Prelude.{ℕ, zero, suc, Bool, true, false, not, ◌&&◌, ◌||◌, List, [], ◌∷◌, length, take, drop, codes, nat_eq, nat_le, if◌then◌else◌}
+use Rattle.npy_format.specs.Words.{is_ascii_digit, is_ascii_alphabetic, prefix_len, bytes_eq, value_of}
 
 -- A token: a string (its bytes), an unsigned integer, a word (`True`, `False` or `None`), a symbol (any byte that
 -- begins no other token), or something that no literal contains.

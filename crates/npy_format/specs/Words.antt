@@ -65,5 +65,4 @@ pub use Rattle.std.specs.Borrow.{Bor}
 pub use Rattle.std.specs.Char.{is_ascii_alphabetic, is_ascii_digit}
 pub use Rattle.std.specs.List.{flat_map, list_all, prefix_len}
 pub use Rattle.std.specs.Option.{ok_or, option_map}
-pub use Rattle.std.specs.Prelude.{Bool, Err, List, MatchResult, None, Ok, Option, Result, Some, [], codes, decimal, drop, false, get_or, if◌then◌else◌, length, map, min, nat_eq, nat_le, nat_lt, not, option_copied, replicate, reverse, suc, take, true, zero, ℕ, ◌%◌, ◌&&◌, ◌*◌, ◌++◌, ◌+◌, ◌-◌, ◌^◌, ◌||◌, ◌∷◌, ◌≡◌, ◌≤◌, ◌⊎◌}
 pub use Rattle.std.specs.Str.{bytes_eq}

@@ -1,5 +1,6 @@
 -- Writing the file of an array.
-use Rattle.npy_format.specs.Words.{ℕ, ◌*◌, Bool, ◌&&◌, not, List, [], ◌++◌, map, get_or, reverse, nat_le, Result, Ok, flat_map, Refusal, TooLarge, Descr, ◌>>=◌, check, LeafValue, item_size, encode_item, MemoryOrder, C, Fortran, max_bytes, count, indexes, rank, is_c_contiguous, is_f_contiguous}
+use Rattle.std.specs.Prelude.{ℕ, ◌*◌, Bool, ◌&&◌, not, List, [], ◌++◌, map, get_or, reverse, nat_le, Result, Ok}
+use Rattle.npy_format.specs.Words.{flat_map, Refusal, TooLarge, Descr, ◌>>=◌, check, LeafValue, item_size, encode_item, MemoryOrder, C, Fortran, max_bytes, count, indexes, rank, is_c_contiguous, is_f_contiguous}
 use Rattle.npy_format.specs.Files.{file_order}
 use Rattle.npy_format.specs.WrittenHeaders.{written_text, written_header}
 

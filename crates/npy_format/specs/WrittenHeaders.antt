@@ -1,5 +1,6 @@
 -- Writing the header of an array.
-use Rattle.npy_format.specs.Words.{ℕ, zero, suc, ◌+◌, ◌-◌, ◌%◌, Bool, true, false, List, [], ◌∷◌, ◌++◌, length, codes, decimal, replicate, nat_lt, if◌then◌else◌, little_bytes, Descr, size, Fields, no_more, scalar_field, record_field, spelling, shape_text, ScalarDescr, RecordDescr}
+use Rattle.std.specs.Prelude.{ℕ, zero, suc, ◌+◌, ◌-◌, ◌%◌, Bool, true, false, List, [], ◌∷◌, ◌++◌, length, codes, decimal, replicate, nat_lt, if◌then◌else◌}
+use Rattle.npy_format.specs.Words.{little_bytes, Descr, size, Fields, no_more, scalar_field, record_field, spelling, shape_text, ScalarDescr, RecordDescr}
 use Rattle.npy_format.specs.Files.{magic}
 
 -- a Python string

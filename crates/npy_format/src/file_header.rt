@@ -1,5 +1,6 @@
 //! The bytes of a file before its items.
-ghost use Rattle.npy_format.specs.Clauses.{◌≡◌, ◌≤◌, ◌<◌, ◌+◌, ◌^◌, ◌⊎◌, ◌∷◌, ◌++◌, [], length, replicate, IfOk, OnOk, little_bytes, magic, spaces_after, padded_text, with_length, written_header};
+ghost use Rattle.std.specs.Prelude.{◌≡◌, ◌≤◌, ◌<◌, ◌+◌, ◌^◌, ◌⊎◌, ◌∷◌, ◌++◌, [], length, replicate, IfOk, OnOk};
+ghost use Rattle.npy_format.specs.Clauses.{little_bytes, magic, spaces_after, padded_text, with_length, written_header};
 
 use byteorder::{ByteOrder, LittleEndian};
 use std::alloc::{AllocError, Global};

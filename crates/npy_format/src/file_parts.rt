@@ -1,5 +1,6 @@
 //! Files in two parts: how they are saved and loaded.
-ghost use Rattle.npy_format.specs.Clauses.{Loads, load, LoadsAs, AreInOrder, Gives, TooLarge, count, is_c_contiguous, is_f_contiguous, item_at, item_from, item_size, leaves_of, max_bytes, offsets, file_of, is_fortran, saved, load_behind, IsPlain, file_at, All, Err, IfOk, length, map, true, ◌*◌, ◌++◌, ◌+◌, ◌<◌, ◌||◌, ◌≡◌, ◌≤◌};
+ghost use Rattle.std.specs.Prelude.{All, Err, IfOk, length, map, true, ◌*◌, ◌++◌, ◌+◌, ◌<◌, ◌||◌, ◌≡◌, ◌≤◌};
+ghost use Rattle.npy_format.specs.Clauses.{Loads, load, LoadsAs, AreInOrder, Gives, TooLarge, count, is_c_contiguous, is_f_contiguous, item_at, item_from, item_size, leaves_of, max_bytes, offsets, file_of, is_fortran, saved, load_behind, IsPlain, file_at};
 
 use crate::items::{are_plain, are_together};
 use crate::reader::{array, array_over, contents, front_len, npy_read, split_header};

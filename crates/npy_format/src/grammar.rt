@@ -1,5 +1,6 @@
 //! Parses the literals in the text of a header.
-ghost use Rattle.npy_format.specs.Words.{◌≡◌, length, option_copied, option_map, value_of};
+ghost use Rattle.std.specs.Prelude.{◌≡◌, length, option_copied};
+ghost use Rattle.npy_format.specs.Words.{option_map, value_of};
 ghost use Rattle.npy_format.specs.Tokens.{tokens};
 ghost use Rattle.npy_format.specs.Literals.{symbol_token_at, tuple_in, pair_in, bracketed, literal_in};
 ghost use Rattle.npy_format.specs.inside.Entries.{Follows, behind, behind_entries, behind_key, behind_comma, behind_entry};

@@ -1,5 +1,6 @@
 //! The header of a file.
-ghost use Rattle.npy_format.specs.Clauses.{◌≡◌, List, ℕ, length, MatchResult, Ok, Err, Answers, Gives, shape_of, tokens, Literal, Pair, dictionary_of, value_under, lengths_of, header_of, header, HeaderAnyTurns, string_at, is_string_token, truth_at, BeginsWith, Stands, HasPairs, HasLengths};
+ghost use Rattle.std.specs.Prelude.{◌≡◌, List, ℕ, length, MatchResult, Ok, Err};
+ghost use Rattle.npy_format.specs.Clauses.{Answers, Gives, shape_of, tokens, Literal, Pair, dictionary_of, value_under, lengths_of, header_of, header, HeaderAnyTurns, string_at, is_string_token, truth_at, BeginsWith, Stands, HasPairs, HasLengths};
 
 use crate::grammar::{
     MAX_VALUE_DEPTH, behind_pair, integer, skip_comma, skip_key, skip_pairs, string, symbol,

@@ -1,5 +1,6 @@
 //! Writes the text of a header.
-ghost use Rattle.npy_format.specs.Clauses.{◌≡◌, ◌++◌, ◌&&◌, nat_eq, IfOk, OnOk, spelling, shape_text, quoted, opened_entry, gap, entry_separator, separated, in_brackets, entries, written_descr, written_truth, written_text};
+ghost use Rattle.std.specs.Prelude.{◌≡◌, ◌++◌, ◌&&◌, nat_eq, IfOk, OnOk};
+ghost use Rattle.npy_format.specs.Clauses.{spelling, shape_text, quoted, opened_entry, gap, entry_separator, separated, in_brackets, entries, written_descr, written_truth, written_text};
 
 use elem_descr::{Descr, Record, Scalar, typestr_write};
 use itoa::Buffer;

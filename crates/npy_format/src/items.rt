@@ -1,5 +1,6 @@
 //! Appends the bytes of items as a file stores them: a bool is 0 or 1, and padding is zero.
-ghost use Rattle.npy_format.specs.Clauses.{AreInOrder, EachWithin, blocks, count, decode_item, encode_item, is_c_contiguous, is_f_contiguous, item_at, item_size, leaves_of, max_bytes, offsets, place, position, put, run_offsets, IsPlain, addresses_in_file, as_in_file, capped, gathered, limit, limits_from, flat_map, repeat, All, IfOk, IsTrue, OnOk, length, pos, replicate, ◌*◌, ◌++◌, ◌+◌, ◌-◌, ◌<ℤ◌, ◌<◌, ◌^◌, ◌||◌, ◌≡◌, ◌≤ℤ◌, ◌≤◌};
+ghost use Rattle.std.specs.Prelude.{All, IfOk, IsTrue, OnOk, length, pos, replicate, ◌*◌, ◌++◌, ◌+◌, ◌-◌, ◌<ℤ◌, ◌<◌, ◌^◌, ◌||◌, ◌≡◌, ◌≤ℤ◌, ◌≤◌};
+ghost use Rattle.npy_format.specs.Clauses.{AreInOrder, EachWithin, blocks, count, decode_item, encode_item, is_c_contiguous, is_f_contiguous, item_at, item_size, leaves_of, max_bytes, offsets, place, position, put, run_offsets, IsPlain, addresses_in_file, as_in_file, capped, gathered, limit, limits_from, flat_map, repeat};
 
 use elem_descr::{Descr, Leaf, Scalar};
 use shape_strides::{Layout, Run, Runs};

@@ -1,5 +1,6 @@
 //! Reads files.
-ghost use Rattle.npy_format.specs.Clauses.{◌≡◌, ◌≤◌, ◌^◌, ◌++◌, length, IfOk, Answers, Gives, max_bytes, split_front, begins_well, length_bytes, text_behind, split_header, data_size, file_order, load, HoldsFileItems, Loads, load_behind};
+ghost use Rattle.std.specs.Prelude.{◌≡◌, ◌≤◌, ◌^◌, ◌++◌, length, IfOk};
+ghost use Rattle.npy_format.specs.Clauses.{Answers, Gives, max_bytes, split_front, begins_well, length_bytes, text_behind, split_header, data_size, file_order, load, HoldsFileItems, Loads, load_behind};
 
 use crate::header::{Header, header_read};
 use arrays::Owned;

@@ -1,5 +1,6 @@
 //! Element types in a header.
-ghost use Rattle.npy_format.specs.Clauses.{◌≡◌, ◌≤◌, ℕ, List, IfOk, MatchOption, Some, None, Answers, Gives, value_of, max_depth, max_leaves, IsShallow, pad_kind, scalar_in, type_in, field_in, entry_in, record_in, descr_in, Literal, tokens, string_at, pad_at, Stands, HasValues, entry_parts};
+ghost use Rattle.std.specs.Prelude.{◌≡◌, ◌≤◌, ℕ, List, IfOk, MatchOption, Some, None};
+ghost use Rattle.npy_format.specs.Clauses.{Answers, Gives, value_of, max_depth, max_leaves, IsShallow, pad_kind, scalar_in, type_in, field_in, entry_in, record_in, descr_in, Literal, tokens, string_at, pad_at, Stands, HasValues, entry_parts};
 
 use crate::grammar::{behind_value, string, symbol};
 use elem_descr::{

@@ -1,5 +1,6 @@
 //! The tokens of a header.
-ghost use Rattle.npy_format.specs.Clauses.{◌≡◌, ◌≤◌, ◌∷◌, [], length, MatchOption, is_ascii_alphabetic, prefix_len, is_space, unspaced_text, is_quote, is_plain_byte, text_token, is_integer, behind_long, integer_token, word, word_token, token_from, tokens, token_of};
+ghost use Rattle.std.specs.Prelude.{◌≡◌, ◌≤◌, ◌∷◌, [], length, MatchOption};
+ghost use Rattle.npy_format.specs.Clauses.{is_ascii_alphabetic, prefix_len, is_space, unspaced_text, is_quote, is_plain_byte, text_token, is_integer, behind_long, integer_token, word, word_token, token_from, tokens, token_of};
 
 use elem_descr::digits_len;
 

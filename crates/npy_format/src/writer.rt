@@ -1,5 +1,6 @@
 //! Writes files.
-ghost use Rattle.npy_format.specs.Clauses.{◌≡◌, Bool, ◌+◌, ◌*◌, ◌<◌, ◌≤◌, ◌++◌, length, map, take, drop, All, IfOk, OnOk, Err, flat_map, TooLarge, Gives, item_size, decode_item, encode_item, item_from, blocks, max_bytes, count, offsets, written_text, written_header, is_fortran, file_of, saved, LoadsAs, IsSound, as_in_file, file_at};
+ghost use Rattle.std.specs.Prelude.{◌≡◌, Bool, ◌+◌, ◌*◌, ◌<◌, ◌≤◌, ◌++◌, length, map, take, drop, All, IfOk, OnOk, Err};
+ghost use Rattle.npy_format.specs.Clauses.{flat_map, TooLarge, Gives, item_size, decode_item, encode_item, item_from, blocks, max_bytes, count, offsets, written_text, written_header, is_fortran, file_of, saved, LoadsAs, IsSound, as_in_file, file_at};
 
 use crate::file_header::file_header;
 use crate::header_text::header_text;

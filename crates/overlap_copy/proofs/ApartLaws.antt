@@ -1,5 +1,6 @@
 -- Laws of disjoint layouts: greatest common divisors, and items in the gaps between others.
-use Rattle.overlap_copy.proofs.Words.{◌≡◌, ◌+◌, ◌-◌, ◌*◌, ◌/◌, ◌%◌, ◌<◌, ◌≤◌, inl, inr, ℕ, zero, suc, ℤ, pos, negsuc, ◌+ℤ◌, ◌*ℤ◌, List, [], ◌∷◌, ◌++◌, length, map, get_or, drop, All, Contains, nat_le, false, refl, sym, ap, subst, ◌∙◌, arith, add-one, mul-suc, mul-zero, mul_assoc, mul-le-mul_left, IsGcd, ◌∣◌, Each, unsigned_abs, neg_ℤ, cases_lt, cond-true, le-leb, false_from_ne_true, ints, recursion_from_All, All-from_recursion, dvd_refl, dvd-zero, dvd_trans, dvd_antisymm, drop_all, div-add-mod, add-mul-mod_self_left, mod-mod, mod-lt, *ℤ-zero, Layout, IsIndex, address, offsets, axes, index_at, length-offsets, pos-offset, times_of, dot, have_common_byte, step_of, steps, IsGreatestDivisor, LieBetween}
+use Rattle.std.proofs.Common.{◌≡◌, ◌+◌, ◌-◌, ◌*◌, ◌/◌, ◌%◌, ◌<◌, ◌≤◌, inl, inr, ℕ, zero, suc, ℤ, pos, negsuc, ◌+ℤ◌, ◌*ℤ◌, List, [], ◌∷◌, ◌++◌, length, map, get_or, drop, All, Contains, nat_le, false, refl, sym, ap, subst, ◌∙◌, arith, add-one, mul-suc, mul-zero, mul_assoc, mul-le-mul_left, unsigned_abs, neg_ℤ}
+use Rattle.overlap_copy.proofs.Words.{IsGcd, ◌∣◌, Each, cases_lt, cond-true, le-leb, false_from_ne_true, ints, recursion_from_All, All-from_recursion, dvd_refl, dvd-zero, dvd_trans, dvd_antisymm, drop_all, div-add-mod, add-mul-mod_self_left, mod-mod, mod-lt, *ℤ-zero, Layout, IsIndex, address, offsets, axes, index_at, length-offsets, pos-offset, times_of, dot, have_common_byte, step_of, steps, IsGreatestDivisor, LieBetween}
 use Rattle.overlap_copy.proofs.MovingLaws.{Each-append, Each-front, Each-back}
 use Rattle.overlap_copy.proofs.OverlapLaws.{common_from_test}
 

@@ -1,5 +1,6 @@
 -- Items that have no bytes in common.
-use Rattle.overlap_copy.proofs.Words.{◌≡◌, ◌+◌, ◌<◌, ◌≤◌, inl, inr, false, ℕ, List, get_or, Contains, arith, both_ways, cases_lt, get_or_default, recursion_from_All, distance, have_common_byte, LiesApart, LieApart}
+use Rattle.std.proofs.Common.{◌≡◌, ◌+◌, ◌<◌, ◌≤◌, inl, inr, false, ℕ, List, get_or, Contains, arith}
+use Rattle.overlap_copy.proofs.Words.{both_ways, cases_lt, get_or_default, recursion_from_All, distance, have_common_byte, LiesApart, LieApart}
 use Rattle.overlap_copy.proofs.OverlapLaws.{test_from_common}
 
 -- if no two items share a byte, they are at least `width` apart

@@ -1,5 +1,6 @@
 -- Items of a layout that are all moved by the same number of bytes, in the order of their addresses.
-use Rattle.overlap_copy.proofs.Words.{◌≡◌, ◌+◌, ◌-◌, ◌<◌, ◌≤◌, ◌⊎◌, inl, inr, ℕ, ℤ, pos, ◌+ℤ◌, List, length, get_or, All, Contains, sym, ap, subst, ◌∙◌, arith, cases_lt, ints, length-map, get_or-map, get_or_default, item_at, Layout, max_bytes, max_items, rank, IsIndex, count, offsets, Fits, IsNested, distance, IsRising, IsFalling, index_at, length-offsets, pos-offset, offsets_within, entry-first, assigned, IsAssigned, source, sources, MayCome}
+use Rattle.std.proofs.Common.{◌≡◌, ◌+◌, ◌-◌, ◌<◌, ◌≤◌, ◌⊎◌, inl, inr, ℕ, ℤ, pos, ◌+ℤ◌, List, length, get_or, All, Contains, sym, ap, subst, ◌∙◌, arith}
+use Rattle.overlap_copy.proofs.Words.{cases_lt, ints, length-map, get_or-map, get_or_default, item_at, Layout, max_bytes, max_items, rank, IsIndex, count, offsets, Fits, IsNested, distance, IsRising, IsFalling, index_at, length-offsets, pos-offset, offsets_within, entry-first, assigned, IsAssigned, source, sources, MayCome}
 use Rattle.shape_strides.specs.Layouts.{dot}
 use Rattle.overlap_copy.proofs.MoveLaws.{same_assigned, assigned_is}
 

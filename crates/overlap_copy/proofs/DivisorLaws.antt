@@ -1,5 +1,6 @@
 -- Laws of the divisors of the steps of the first axes.
-use Rattle.overlap_copy.proofs.Words.{◌≡◌, ℕ, zero, suc, ◌+◌, ◌-◌, ◌*◌, ◌/◌, ◌<◌, ◌≤◌, inl, inr, List, [], ◌∷◌, length, get_or, take, drop, sym, subst, ap, ◌∙◌, arith, add-one, mul-suc, mul_assoc, mul_comm, mul-zero, zero-mul, mul-add, mul-le-mul_left, mod-lt, IsGcd, ◌∣◌, Each, cases_lt, div-add-mod, drop_more, dvd_trans, Axis, IsIndex, reach, lengths_in, reached, times_of, reach_of, HasSum}
+use Rattle.std.proofs.Common.{◌≡◌, ℕ, zero, suc, ◌+◌, ◌-◌, ◌*◌, ◌/◌, ◌<◌, ◌≤◌, inl, inr, List, [], ◌∷◌, length, get_or, take, drop, sym, subst, ap, ◌∙◌, arith, add-one, mul-suc, mul_assoc, mul_comm, mul-zero, zero-mul, mul-add, mul-le-mul_left}
+use Rattle.overlap_copy.proofs.Words.{mod-lt, IsGcd, ◌∣◌, Each, cases_lt, div-add-mod, drop_more, dvd_trans, Axis, IsIndex, reach, lengths_in, reached, times_of, reach_of, HasSum}
 use Rattle.overlap_copy.proofs.SearchLaws.{most_sum}
 
 -- a number divides the steps of the first k axes

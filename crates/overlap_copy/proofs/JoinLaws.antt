@@ -1,5 +1,6 @@
 -- Laws of joined axes.
-use Rattle.overlap_copy.proofs.Words.{◌≡◌, ℕ, zero, suc, ◌+◌, ◌-◌, ◌*◌, ◌/◌, ◌%◌, ◌<◌, ◌≤◌, inl, inr, List, [], ◌∷◌, length, get_or, set, take, drop, sum_by, length-drop, sym, subst, ap, refl, ◌∙◌, arith, mul_assoc, mul-add, mul-le-mul_left, zero-mul, mod-lt, IsPermutation, cases_lt, drop_more, drop-set, take_all, All-cons, All-tail, All-drop, sum_by-cons, IsPermutation-sym, All-permutation, sum_by-IsPermutation, div-add-mod, Axis, IsIndex, reach, lengths_in, reached, reordered, reach_of, max_reach, AreForward, HasSum, GoesOn, SameSums, AreJoined}
+use Rattle.std.proofs.Common.{◌≡◌, ℕ, zero, suc, ◌+◌, ◌-◌, ◌*◌, ◌/◌, ◌%◌, ◌<◌, ◌≤◌, inl, inr, List, [], ◌∷◌, length, get_or, set, take, drop, sum_by, length-drop, sym, subst, ap, refl, ◌∙◌, arith, mul_assoc, mul-add, mul-le-mul_left, zero-mul}
+use Rattle.overlap_copy.proofs.Words.{mod-lt, IsPermutation, cases_lt, drop_more, drop-set, take_all, All-cons, All-tail, All-drop, sum_by-cons, IsPermutation-sym, All-permutation, sum_by-IsPermutation, div-add-mod, Axis, IsIndex, reach, lengths_in, reached, reordered, reach_of, max_reach, AreForward, HasSum, GoesOn, SameSums, AreJoined}
 
 -- ---- lists of axes with the same sums
 

@@ -1,5 +1,6 @@
 -- Runs that are the reverse of each other.
-use Rattle.overlap_copy.proofs.Words.{◌≡◌, ◌-◌, ◌<◌, ◌≤◌, ℕ, ℤ, pos, ◌+ℤ◌, ◌*ℤ◌, ◌≤ℤ◌, reverse, get_or, sym, ap, subst, ◌∙◌, arith, nat_abs, *ℤ_comm, *ℤ-one, zero-*ℤ, +ℤ_idr, one, ints, get_or-reverse, BeginsWithin, Run, length-run_offsets, lie-within, max_bytes, not_negative, place-at, position, run_offsets, IsTurned, place_in}
+use Rattle.std.proofs.Common.{◌≡◌, ◌-◌, ◌<◌, ◌≤◌, ℕ, ℤ, pos, ◌+ℤ◌, ◌*ℤ◌, ◌≤ℤ◌, reverse, get_or, sym, ap, subst, ◌∙◌, arith, nat_abs}
+use Rattle.overlap_copy.proofs.Words.{*ℤ_comm, *ℤ-one, zero-*ℤ, +ℤ_idr, one, ints, get_or-reverse, BeginsWithin, Run, length-run_offsets, lie-within, max_bytes, not_negative, place-at, position, run_offsets, IsTurned, place_in}
 use Rattle.overlap_copy.proofs.TurnLaws.{turned_position, turned_place}
 
 step_of_two : (a b s t p q : ℤ) → p ≡ q → p ≡ a +ℤ s → q ≡ b +ℤ t → a ≡ b → s ≡ t

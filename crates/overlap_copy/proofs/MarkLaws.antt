@@ -1,5 +1,6 @@
 -- Laws of maps of bytes.
-use Rattle.overlap_copy.proofs.Words.{◌≡◌, ◌↔◌, inl, inr, ℕ, ◌+◌, ◌-◌, ◌<◌, ◌≤◌, Bool, true, false, ◌||◌, List, ◌∷◌, length, get_or, set, IsTrue, nat_eq, nat_lt, refl, sym, ap, ◌∙◌, arith, list_any, both_ways, cases_eq, eq-eqb, ne_eqb, lt-ltb, ltb-true, or_right, get_or-set_same, get_or-set_other, IsMarkedUpTo}
+use Rattle.std.proofs.Common.{◌≡◌, ◌↔◌, inl, inr, ℕ, ◌+◌, ◌-◌, ◌<◌, ◌≤◌, Bool, true, false, ◌||◌, List, ◌∷◌, length, get_or, set, IsTrue, nat_eq, nat_lt, refl, sym, ap, ◌∙◌, arith}
+use Rattle.overlap_copy.proofs.Words.{list_any, both_ways, cases_eq, eq-eqb, ne_eqb, lt-ltb, ltb-true, or_right, get_or-set_same, get_or-set_other, IsMarkedUpTo}
 
 -- ---- the byte at one more offset is marked
 

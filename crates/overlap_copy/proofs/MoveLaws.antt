@@ -1,5 +1,6 @@
 -- Moves of items: the result of an assignment, by index, and that every safe order of moves gives it.
-use Rattle.overlap_copy.proofs.Words.{◌≡◌, ◌+◌, ◌-◌, ◌<◌, ◌≤◌, ◌⊎◌, inl, inr, ℕ, zero, suc, ℤ, List, [], ◌∷◌, length, get_or, All, refl, sym, ap, subst, ◌∙◌, arith, cases_lt, ext_get_or, All-rest, All-head, byte_of, put, item_at, place, EachWithin, copied_within, length-item_at, length-put, get_or-put_before, get_or-put_after, item_at-put_same, item_at-put_apart, place_within, fewer, IsNested, distance, assigned, IsOutside, IsAssigned}
+use Rattle.std.proofs.Common.{◌≡◌, ◌+◌, ◌-◌, ◌<◌, ◌≤◌, ◌⊎◌, inl, inr, ℕ, zero, suc, ℤ, List, [], ◌∷◌, length, get_or, All, refl, sym, ap, subst, ◌∙◌, arith}
+use Rattle.overlap_copy.proofs.Words.{cases_lt, ext_get_or, All-rest, All-head, byte_of, put, item_at, place, EachWithin, copied_within, length-item_at, length-put, get_or-put_before, get_or-put_after, item_at-put_same, item_at-put_apart, place_within, fewer, IsNested, distance, assigned, IsOutside, IsAssigned}
 
 -- ---- the bytes of items
 

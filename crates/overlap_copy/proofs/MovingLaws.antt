@@ -1,5 +1,6 @@
 -- Runs that are moved within one block, one after the other.
-use Rattle.overlap_copy.proofs.Words.{◌≡◌, ◌+◌, ◌≤◌, ℕ, suc, List, [], ◌∷◌, ◌++◌, length, get_or, All, refl, sym, ap, subst, ◌∙◌, arith, length-append, get_or-append-add, Each, get_or_append_left, All-from_recursion, item_at, EachWithin, copied_within, Run, IsNested, distance, run_offsets, length-run_offsets, place-at, run-ends, All-back, All-front, assigned-append, items_at, with_items, assigned, IsAssigned, LiesApart, LieApart, place_in}
+use Rattle.std.proofs.Common.{◌≡◌, ◌+◌, ◌≤◌, ℕ, suc, List, [], ◌∷◌, ◌++◌, length, get_or, All, refl, sym, ap, subst, ◌∙◌, arith, length-append, get_or-append-add}
+use Rattle.overlap_copy.proofs.Words.{Each, get_or_append_left, All-from_recursion, item_at, EachWithin, copied_within, Run, IsNested, distance, run_offsets, length-run_offsets, place-at, run-ends, All-back, All-front, assigned-append, items_at, with_items, assigned, IsAssigned, LiesApart, LieApart, place_in}
 use Rattle.overlap_copy.proofs.CopyLaws.{kept}
 use Rattle.overlap_copy.proofs.MoveLaws.{same_assigned, retold, assigned_is, passed}
 

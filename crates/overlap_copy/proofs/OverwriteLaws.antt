@@ -1,5 +1,6 @@
 -- Items that are kept before others are written over them, part by part.
-use Rattle.overlap_copy.proofs.Words.{◌≡◌, ◌+◌, ◌-◌, ◌*◌, ◌<◌, ◌≤◌, ℕ, zero, suc, ℤ, pos, ◌+ℤ◌, ◌*ℤ◌, ◌≤ℤ◌, List, [], ◌∷◌, ◌++◌, length, get_or, map, replicate, All, refl, sym, ap, subst, ◌∙◌, arith, append_assoc, get_or-append-add, length-append, nat_abs, *ℤ_comm, zero-*ℤ, +ℤ_idl, add-mul, flat_map-append, ints, map-append, get_or-map, get_or-replicate, length-replicate, same_lists, take_all, All-head, All-tail, numbers_from, numbers-split, natural, put, item_at, length-item_at, length-put, place, position, position-add, max_bytes, LieWithin, address, address_at, Layout, count, indexes, length-indexes, offsets, length-offsets, Run, run_offsets, length-run_offsets, BeginsWithin, lie-within, IsNested, All-back, All-front, assigned-append, items_at, assigned, joined_at}
+use Rattle.std.proofs.Common.{◌≡◌, ◌+◌, ◌-◌, ◌*◌, ◌<◌, ◌≤◌, ℕ, zero, suc, ℤ, pos, ◌+ℤ◌, ◌*ℤ◌, ◌≤ℤ◌, List, [], ◌∷◌, ◌++◌, length, get_or, map, replicate, All, refl, sym, ap, subst, ◌∙◌, arith, append_assoc, get_or-append-add, length-append, nat_abs}
+use Rattle.overlap_copy.proofs.Words.{*ℤ_comm, zero-*ℤ, +ℤ_idl, add-mul, flat_map-append, ints, map-append, get_or-map, get_or-replicate, length-replicate, same_lists, take_all, All-head, All-tail, numbers_from, numbers-split, natural, put, item_at, length-item_at, length-put, place, position, position-add, max_bytes, LieWithin, address, address_at, Layout, count, indexes, length-indexes, offsets, length-offsets, Run, run_offsets, length-run_offsets, BeginsWithin, lie-within, IsNested, All-back, All-front, assigned-append, items_at, assigned, joined_at}
 use Rattle.overlap_copy.specs.Words.{dot}
 use Rattle.overlap_copy.proofs.MovingLaws.{nested-back}
 use Rattle.overlap_copy.proofs.ShiftLaws.{lies-from}

@@ -1,5 +1,6 @@
 -- Runs that are copied from one block to another, and the assignment that this makes.
-use Rattle.overlap_copy.proofs.Words.{◌≡◌, inl, inr, ◌+◌, ◌*◌, ◌<◌, ◌≤◌, ℕ, zero, suc, ℤ, pos, List, length, get_or, sym, ap, subst, ◌∙◌, arith, suc-mul, mul-le-mul_right, zero-mul, ext_get_or, cases_lt, byte_of, put, item_at, place, EachWithin, length-item_at, length-put, get_or-put_before, get_or-put_after, item_at-put_same, place_within, Run, IsAssigned, place_in}
+use Rattle.std.proofs.Common.{◌≡◌, inl, inr, ◌+◌, ◌*◌, ◌<◌, ◌≤◌, ℕ, zero, suc, ℤ, pos, List, length, get_or, sym, ap, subst, ◌∙◌, arith, suc-mul, mul-le-mul_right, zero-mul}
+use Rattle.overlap_copy.proofs.Words.{ext_get_or, cases_lt, byte_of, put, item_at, place, EachWithin, length-item_at, length-put, get_or-put_before, get_or-put_after, item_at-put_same, place_within, Run, IsAssigned, place_in}
 
 -- ---- adjacent items
 

@@ -1,5 +1,6 @@
 -- Laws of sums along axes, and of the search for a sum within bounds.
-use Rattle.overlap_copy.proofs.Words.{◌≡◌, ℕ, ◌+◌, ◌-◌, ◌*◌, ◌<◌, ◌≤◌, inl, inr, List, [], ◌∷◌, length, get_or, take, drop, All, sym, subst, ap, refl, arith, mul-suc, mul-le-mul_left, mul_comm, div_ceil, cases_lt, div_ceil_times, take_all, recursion_from_All, All-from_recursion, IsIndex, Axis, reach, lengths_in, reached, reach_of, AreForward, HasSum}
+use Rattle.std.proofs.Common.{◌≡◌, ℕ, ◌+◌, ◌-◌, ◌*◌, ◌<◌, ◌≤◌, inl, inr, List, [], ◌∷◌, length, get_or, take, drop, All, sym, subst, ap, refl, arith, mul-suc, mul-le-mul_left, mul_comm}
+use Rattle.overlap_copy.proofs.Words.{div_ceil, cases_lt, div_ceil_times, take_all, recursion_from_All, All-from_recursion, IsIndex, Axis, reach, lengths_in, reached, reach_of, AreForward, HasSum}
 
 -- ---- the first axis and the rest
 

@@ -1,5 +1,6 @@
 -- Laws of the map of bytes that finds shared bytes.
-use Rattle.overlap_copy.proofs.Words.{◌≡◌, ◌↔◌, inl, inr, ℕ, ◌+◌, ◌-◌, ◌<◌, ◌≤◌, Bool, false, ◌&&◌, ◌||◌, List, ◌++◌, length, get_or, take, drop, replicate, All, IsTrue, nat_eq, nat_le, sym, ap, ◌∙◌, arith, list_any, cases_lt, eq-eqb, eqb-true, le-leb, lt-leb, and_left, false_from_ne_true, get_or-replicate, get_or_past, length-replicate, take-append-le, take_all, Any-from_list_any, list_any-from_Any, holds_byte, IsMarkedUpTo, is_marked, is_end_marked, same_test}
+use Rattle.std.proofs.Common.{◌≡◌, ◌↔◌, inl, inr, ℕ, ◌+◌, ◌-◌, ◌<◌, ◌≤◌, Bool, false, ◌&&◌, ◌||◌, List, ◌++◌, length, get_or, take, drop, replicate, All, IsTrue, nat_eq, nat_le, sym, ap, ◌∙◌, arith}
+use Rattle.overlap_copy.proofs.Words.{list_any, cases_lt, eq-eqb, eqb-true, le-leb, lt-leb, and_left, false_from_ne_true, get_or-replicate, get_or_past, length-replicate, take-append-le, take_all, Any-from_list_any, list_any-from_Any, holds_byte, IsMarkedUpTo, is_marked, is_end_marked, same_test}
 use Rattle.overlap_copy.proofs.OverlapLaws.{all_at, held_from_test, test_from_held}
 
 -- a vector that is written through a slice

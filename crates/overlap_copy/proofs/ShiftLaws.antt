@@ -1,5 +1,6 @@
 -- Items that are all moved by the same number of bytes, in the order of their addresses.
-use Rattle.overlap_copy.proofs.Words.{◌≡◌, ◌+◌, ◌-◌, ◌<◌, ◌≤◌, ℕ, ℤ, pos, ◌+ℤ◌, ◌*ℤ◌, ◌≤ℤ◌, List, [], ◌∷◌, ◌++◌, map, length, get_or, All, sym, ap, subst, ◌∙◌, arith, length-append, get_or-append-add, nat_abs, flat_map, *ℤ_comm, *ℤ-zero, +ℤ_idr, ints, length-map, get_or-map, map-append, get_or_append_left, get_or_default, same_lists, recursion_from_All, All-head, numbers_from, natural, position, EachWithin, not_negative, Run, max_bytes, max_items, LieWithin, address_at, IsIndex, distance, run_offsets, length-run_offsets, place-at, run-ends, lie-within, runs-within, All-back, All-front, assigned, IsLine, IsTurned, LiesApart, LieApart, place_in, source, sources, source_run, MayCome}
+use Rattle.std.proofs.Common.{◌≡◌, ◌+◌, ◌-◌, ◌<◌, ◌≤◌, ℕ, ℤ, pos, ◌+ℤ◌, ◌*ℤ◌, ◌≤ℤ◌, List, [], ◌∷◌, ◌++◌, map, length, get_or, All, sym, ap, subst, ◌∙◌, arith, length-append, get_or-append-add, nat_abs}
+use Rattle.overlap_copy.proofs.Words.{flat_map, *ℤ_comm, *ℤ-zero, +ℤ_idr, ints, length-map, get_or-map, map-append, get_or_append_left, get_or_default, same_lists, recursion_from_All, All-head, numbers_from, natural, position, EachWithin, not_negative, Run, max_bytes, max_items, LieWithin, address_at, IsIndex, distance, run_offsets, length-run_offsets, place-at, run-ends, lie-within, runs-within, All-back, All-front, assigned, IsLine, IsTurned, LiesApart, LieApart, place_in, source, sources, source_run, MayCome}
 use Rattle.overlap_copy.proofs.MovingLaws.{nested-front, nested-back, IsMoving, moving_on}
 use Rattle.overlap_copy.proofs.TurnLaws.{turned_within, add-nothing}
 use Rattle.overlap_copy.proofs.LineLaws.{first_place}

@@ -1,5 +1,6 @@
 -- Laws of steps along an axis that can be taken back.
-use Rattle.overlap_copy.proofs.Words.{◌≡◌, ℕ, zero, suc, ◌+◌, ◌-◌, ◌*◌, ◌/◌, ◌<◌, ◌≤◌, inl, inr, List, ◌∷◌, length, get_or, take, drop, sym, subst, ap, ◌∙◌, arith, mul_assoc, mul_comm, mul-zero, mul-add, mul-le-mul_left, IsGcd, ◌∣◌, cases_lt, Axis, times_of, reach_of, max_reach, AreForward, HasSum, IsTurn}
+use Rattle.std.proofs.Common.{◌≡◌, ℕ, zero, suc, ◌+◌, ◌-◌, ◌*◌, ◌/◌, ◌<◌, ◌≤◌, inl, inr, List, ◌∷◌, length, get_or, take, drop, sym, subst, ap, ◌∙◌, arith, mul_assoc, mul_comm, mul-zero, mul-add, mul-le-mul_left}
+use Rattle.overlap_copy.proofs.Words.{IsGcd, ◌∣◌, cases_lt, Axis, times_of, reach_of, max_reach, AreForward, HasSum, IsTurn}
 use Rattle.overlap_copy.proofs.SearchLaws.{no_axis, first_rest, with_first, first_of, NoneBelow}
 
 -- some steps along one axis lead as far as some steps along the next

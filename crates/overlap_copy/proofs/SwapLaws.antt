@@ -1,5 +1,6 @@
 -- Items of a run that are swapped, the first with the last and so on.
-use Rattle.overlap_copy.proofs.Words.{◌≡◌, ◌≢◌, ◌+◌, ◌-◌, ◌*◌, ◌/◌, ◌%◌, ◌<◌, ◌≤◌, ◌⊎◌, inl, inr, ℕ, zero, suc, List, length, get_or, refl, sym, ap, subst, ◌∙◌, arith, div-add-mod, mod-lt, cases_lt, item_at, EachWithin, exchanged, swapped, place_within, length-exchanged, exchanged-outside, exchanged-items, Run, distance, IsAssigned, IsTurned, AreSpaced, place_in}
+use Rattle.std.proofs.Common.{◌≡◌, ◌≢◌, ◌+◌, ◌-◌, ◌*◌, ◌/◌, ◌%◌, ◌<◌, ◌≤◌, ◌⊎◌, inl, inr, ℕ, zero, suc, List, length, get_or, refl, sym, ap, subst, ◌∙◌, arith}
+use Rattle.overlap_copy.proofs.Words.{div-add-mod, mod-lt, cases_lt, item_at, EachWithin, exchanged, swapped, place_within, length-exchanged, exchanged-outside, exchanged-items, Run, distance, IsAssigned, IsTurned, AreSpaced, place_in}
 use Rattle.overlap_copy.proofs.MoveLaws.{beside, retold, same_item}
 use Rattle.overlap_copy.proofs.TurnLaws.{turned_place}
 

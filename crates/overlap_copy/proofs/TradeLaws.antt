@@ -1,5 +1,6 @@
 -- Items of two blocks that are exchanged: each block then has the items that the other one had.
-use Rattle.overlap_copy.proofs.Words.{◌≡◌, ◌+◌, ◌<◌, ◌≤◌, ◌⊎◌, inl, inr, ℕ, zero, suc, ℤ, List, [], ◌∷◌, ◌++◌, length, get_or, All, refl, sym, ap, subst, ◌∙◌, arith, cases_lt, same_lists, length-map, get_or-map, All-head, All-tail, put, item_at, place, EachWithin, traded, length-item_at, length-put, item_at-put_apart, fewer, Run, RunPair, IsNested, distance, run_offsets, length-run_offsets, run_offsets-more, items_at, with_items, assigned, traded_at, firsts, seconds}
+use Rattle.std.proofs.Common.{◌≡◌, ◌+◌, ◌<◌, ◌≤◌, ◌⊎◌, inl, inr, ℕ, zero, suc, ℤ, List, [], ◌∷◌, ◌++◌, length, get_or, All, refl, sym, ap, subst, ◌∙◌, arith}
+use Rattle.overlap_copy.proofs.Words.{cases_lt, same_lists, length-map, get_or-map, All-head, All-tail, put, item_at, place, EachWithin, traded, length-item_at, length-put, item_at-put_apart, fewer, Run, RunPair, IsNested, distance, run_offsets, length-run_offsets, run_offsets-more, items_at, with_items, assigned, traded_at, firsts, seconds}
 use Rattle.overlap_copy.proofs.MoveLaws.{assigned_is}
 use Rattle.overlap_copy.proofs.MovingLaws.{nested-back}
 

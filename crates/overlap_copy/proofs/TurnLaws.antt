@@ -1,5 +1,6 @@
 -- Laws of runs in a block, forward and in reverse.
-use Rattle.overlap_copy.proofs.Words.{◌≡◌, ◌+◌, ◌-◌, ◌*◌, ◌<◌, ◌≤◌, ℕ, zero, suc, ℤ, pos, negsuc, ◌+ℤ◌, ◌*ℤ◌, ◌≤ℤ◌, List, [], ◌∷◌, length, refl, sym, ap, subst, ◌∙◌, arith, mul-le-mul_right, suc-mul, mul-add, neg_ℤ, nat_abs, *ℤ-zero, *ℤ-one, pos-*ℤ-negsuc, negsuc-*ℤ-pos, one, ints, position, place, EachWithin, copied_within, Run, max_bytes, IsIndex, IsNested, distance, run_offsets, length-run_offsets, place-at, AreAlike, IsAssigned, IsLine, AreSpaced, IsTurned, place_in}
+use Rattle.std.proofs.Common.{◌≡◌, ◌+◌, ◌-◌, ◌*◌, ◌<◌, ◌≤◌, ℕ, zero, suc, ℤ, pos, negsuc, ◌+ℤ◌, ◌*ℤ◌, ◌≤ℤ◌, List, [], ◌∷◌, length, refl, sym, ap, subst, ◌∙◌, arith, mul-le-mul_right, suc-mul, mul-add, neg_ℤ, nat_abs}
+use Rattle.overlap_copy.proofs.Words.{*ℤ-zero, *ℤ-one, pos-*ℤ-negsuc, negsuc-*ℤ-pos, one, ints, position, place, EachWithin, copied_within, Run, max_bytes, IsIndex, IsNested, distance, run_offsets, length-run_offsets, place-at, AreAlike, IsAssigned, IsLine, AreSpaced, IsTurned, place_in}
 use Rattle.overlap_copy.proofs.MoveLaws.{reordered, passed}
 
 -- ---- the places of the items of a run

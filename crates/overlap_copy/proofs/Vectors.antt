@@ -1,5 +1,6 @@
 -- The definitions applied to the offsets of NumPy's views.
-use Rattle.overlap_copy.proofs.Words.{◌≡◌, true, false, [], ◌∷◌, refl, have_common_byte, do_ranges_meet, begins_below, holds_byte, is_marked, is_end_marked}
+use Rattle.std.proofs.Common.{◌≡◌, true, false, [], ◌∷◌, refl}
+use Rattle.overlap_copy.proofs.Words.{have_common_byte, do_ranges_meet, begins_below, holds_byte, is_marked, is_end_marked}
 
 -- `a = numpy.arange(6, dtype="<i4")`; `numpy.shares_memory(a[::2], a[1::2])`, and with `a[1:]` instead of `a[1::2]`
 even_and_odd : have_common_byte (0 ∷ 8 ∷ 16 ∷ []) 4 (4 ∷ 12 ∷ 20 ∷ []) 4 ≡ false

@@ -3,7 +3,7 @@ pub use Rattle.overlap_copy.specs.Apart.{IsGreatestDivisor, LieBetween, step_of,
 pub use Rattle.overlap_copy.specs.OrderLaws.{assigned-reordered, nested-reordered}
 pub use Rattle.overlap_copy.specs.Overlaps.{do_ranges_meet}
 unfoldable pub use Rattle.overlap_copy.specs.Overlaps.{begins_below, have_common_byte}
-pub use Rattle.overlap_copy.specs.Words.{All, All-back, All-firsts, All-from_recursion, All-front, All-head, All-permutation, All-seconds, All-tail, Axis, BeginsWithin, Bool, Each, EachWithin, Fits, IsFalling, IsIndex, IsNested, IsPermutation, IsPermutation-sym, IsRising, IsTrue, Layout, LieAbove, LieBelow, LieWithin, List, Run, RunPair, [], address, address_at, ap, arith, assigned, assigned-append, axes, begins_within, byte_of, cases_eq, cases_lt, copied_within, count, distance, dot, entry-first, even, exchanged, exchanged-items, exchanged-outside, ext_get_or, factors_pos, false, fewer, firsts-reordered, flat_map, flipped-reordered, get_or, get_or-map, get_or-put_after, get_or-put_before, get_or_default, index_at, indexes, inl, inr, item_at, item_at-put_apart, item_at-put_same, items_at, joined-items, joined_at, length, length-exchanged, length-indexes, length-item_at, length-joined_at, length-map, length-offsets, length-put, length-replicate, length-run_offsets, lengths_in, lie-within, list_any, map, max_bytes, max_items, multiples, nat_le, nat_lt, natural, neg_ℤ, next_pair, not_negative, numbers-split, numbers_from, offsets_within, pair_even, place, place-at, place_within, pos, pos-offset, position, position-add, put, rank, reach, reached, refl, reordered, replicate, run-ends, run-within, run_offsets, run_offsets-more, runs-within, same_test, seconds-reordered, subst, suc, swapped, sym, times_of, traded, walked-within, with_items, zero, ℕ, ℤ, ◌%◌, ◌&&◌, ◌*ℤ◌, ◌*◌, ◌++◌, ◌+ℤ◌, ◌+◌, ◌-◌, ◌/◌, ◌<◌, ◌==◌, ◌||◌, ◌∙◌, ◌∣◌, ◌∷◌, ◌≡◌, ◌≢◌, ◌≤◌, ◌⊎◌}
+pub use Rattle.overlap_copy.specs.Words.{All-back, All-firsts, All-from_recursion, All-front, All-head, All-permutation, All-seconds, All-tail, Axis, BeginsWithin, Each, EachWithin, Fits, IsFalling, IsIndex, IsNested, IsPermutation, IsPermutation-sym, IsRising, Layout, LieAbove, LieBelow, LieWithin, Run, RunPair, address, address_at, assigned, assigned-append, axes, begins_within, byte_of, cases_eq, cases_lt, copied_within, count, distance, dot, entry-first, even, exchanged, exchanged-items, exchanged-outside, ext_get_or, factors_pos, fewer, firsts-reordered, flat_map, flipped-reordered, get_or-map, get_or-put_after, get_or-put_before, get_or_default, index_at, indexes, item_at, item_at-put_apart, item_at-put_same, items_at, joined-items, joined_at, length-exchanged, length-indexes, length-item_at, length-joined_at, length-map, length-offsets, length-put, length-replicate, length-run_offsets, lengths_in, lie-within, list_any, max_bytes, max_items, multiples, natural, next_pair, not_negative, numbers-split, numbers_from, offsets_within, pair_even, place, place-at, place_within, pos-offset, position, position-add, put, rank, reach, reached, reordered, run-ends, run-within, run_offsets, run_offsets-more, runs-within, same_test, seconds-reordered, swapped, times_of, traded, walked-within, with_items, ◌∣◌}
 unfoldable pub use Rattle.overlap_copy.specs.Words.{offsets}
 pub use Rattle.overlap_copy.specs.inside.Joins.{AreJoined, GoesOn, SameSums}
 pub use Rattle.overlap_copy.specs.inside.Marks.{IsMarkedUpTo, is_end_marked, is_marked}
@@ -14,7 +14,6 @@ pub use Rattle.overlap_copy.specs.inside.Sums.{AreForward, HasSum, max_reach, re
 pub use Rattle.overlap_copy.specs.inside.Trades.{traded_at}
 pub use Rattle.overlap_copy.specs.inside.Turns.{IsTurn}
 pub use Rattle.raw_block.specs.declared.strided.StridedItems.{StridedItems}
-pub use Rattle.std.proofs.Common.{Any, Contains, IfOk, add-one, append_assoc, drop, get_or-append-add, length-append, length-drop, length-take, mul-add, mul-le-mul_left, mul-le-mul_right, mul-suc, mul-zero, mul_assoc, mul_comm, nat_eq, negsuc, reverse, rules, set, suc-mul, sum_by, take, true, w64, zero-mul, ◌<ℤ◌, ◌↔◌, ◌≤ℤ◌}
 pub use Rattle.std.proofs.Math.IntN.{*ℤ-one, *ℤ-zero, *ℤ_comm, +ℤ_idr, negsuc-*ℤ-pos, pos-*ℤ-negsuc, zero-*ℤ}
 pub use Rattle.std.proofs.Math.Nat.{add-mul, add-mul-mod_self_left, div-add-mod, div-le_self, mod-lt, mod-mod}
 pub use Rattle.std.proofs.Math.Seq.{take-suc-set}
@@ -30,7 +29,6 @@ pub use Rattle.std.proofs.lemmas.Nat.Gcd.{IsGcd-from_mod, IsGcd-from_zero, dvd-z
 pub use Rattle.std.proofs.lemmas.Result.{IfOk-weaker}
 pub use Rattle.std.specs.Int.{IsGcd, div_ceil}
 pub use Rattle.std.specs.Option.{IsSome}
-pub use Rattle.std.specs.Prelude.{int_lt, nat_abs, unsigned_abs}
 pub use lib.IntN.{+ℤ_idl}
 unfoldable pub use lib.IntN.{one}
 pub use mir.Val.{SFits}

@@ -1,5 +1,6 @@
 -- Layouts in one block whose byte ranges and strides show that they are disjoint.
-use Rattle.overlap_copy.specs.Words.{◌≡◌, ◌+◌, ◌%◌, ◌<◌, ◌≤◌, ◌⊎◌, ℕ, List, ◌++◌, All, map, false, nat_le, if◌then◌else◌, ◌∣◌, Layout, offsets, Axis, axes}
+use Rattle.std.specs.Prelude.{◌≡◌, ◌+◌, ◌%◌, ◌<◌, ◌≤◌, ◌⊎◌, ℕ, List, ◌++◌, All, map, false, nat_le, if◌then◌else◌}
+use Rattle.overlap_copy.specs.Words.{◌∣◌, Layout, offsets, Axis, axes}
 use Rattle.overlap_copy.specs.Overlaps.{do_ranges_meet}
 
 -- `g` is the greatest common divisor of the numbers: it divides each of them, and every common divisor divides it

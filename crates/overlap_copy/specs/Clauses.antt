@@ -2,7 +2,7 @@
 pub use Rattle.overlap_copy.specs.Apart.{AreApart, IsGreatestDivisor, LieBetween, steps}
 pub use Rattle.overlap_copy.specs.Overlaps.{do_ranges_meet, have_common_byte}
 pub use Rattle.overlap_copy.specs.Runs.{IsRun}
-pub use Rattle.overlap_copy.specs.Words.{All, Axis, BeginsWithin, Fits, IsNested, IsPermutation, IsStacked, IsTrue, LieWithin, List, [], assigned, copied_within, count, false, flat_map, if◌then◌else◌, item_pairs, items_at, joined_at, length, list_any, map, max_axes, max_bytes, max_items, multiples, nat_le, neg_ℤ, pos, reach, run_offsets, slice_index_or, with_items, ℕ, ℤ, ◌%◌, ◌*ℤ◌, ◌*◌, ◌++◌, ◌+ℤ◌, ◌+◌, ◌-◌, ◌<◌, ◌||◌, ◌∷◌, ◌≡◌, ◌≤◌}
+pub use Rattle.overlap_copy.specs.Words.{Axis, BeginsWithin, Fits, IsNested, IsPermutation, IsStacked, LieWithin, assigned, copied_within, count, flat_map, item_pairs, items_at, joined_at, list_any, max_axes, max_bytes, max_items, multiples, reach, run_offsets, with_items}
 unfoldable pub use Rattle.overlap_copy.specs.Words.{offsets}
 pub use Rattle.overlap_copy.specs.declared.axis_sums.Answer.TheVariants.{No, Yes}
 pub use Rattle.overlap_copy.specs.inside.Joins.{AreJoined, GoesOn, SameSums}
@@ -13,4 +13,3 @@ pub use Rattle.overlap_copy.specs.inside.Sums.{AreForward, HasSum, max_reach, re
 pub use Rattle.overlap_copy.specs.inside.Trades.{traded_at}
 pub use Rattle.overlap_copy.specs.inside.Turns.{IsTurn}
 pub use Rattle.std.specs.Int.{IsGcd}
-pub use Rattle.std.specs.Prelude.{IfErr, IfOk, IfSome, IsOk, drop, nat_eq, replicate, reverse, take, unsigned_abs, ◌↔◌, ◌≤ℤ◌}

@@ -2,7 +2,9 @@
 --     with_items-reordered         items and their places
 --     assigned-reordered           places, and the places that the items are copied from
 --     filled-reordered             one item at all places
-use Rattle.overlap_copy.specs.Words.{◌≡◌, ◌≢◌, ◌+◌, ◌-◌, ◌<◌, ◌≤◌, ◌⊎◌, inl, inr, ℕ, zero, suc, List, [], ◌∷◌, map, length, get_or, replicate, All, refl, sym, ap, subst, ◌∙◌, arith, zip, swap, Each, IsPermutation, cases_lt, cases_eq, ext_get_or, get_or_default, length-map, get_or-map, length-replicate, length-swap, swapped_from_swap, All-head, All-tail, All-from_recursion, Contains-get_or, IsPermutation-map, IsPermutation-sym, IsPermutation-keeps, All-permutation, Contains-permutation, get_or-zip, length-zip, put, item_at, length-put, get_or-put_before, get_or-put_after, item_at-put_same, length-item_at, byte_of, IsNested, distance, items_at, with_items, assigned}
+use Rattle.std.specs.Prelude.{◌≡◌, ◌≢◌, ◌+◌, ◌-◌, ◌<◌, ◌≤◌, ◌⊎◌, ℕ, List, [], ◌∷◌, map, length, All}
+use Rattle.std.proofs.Common.{inl, inr, zero, suc, get_or, replicate, refl, sym, ap, subst, ◌∙◌, arith}
+use Rattle.overlap_copy.specs.Words.{zip, swap, Each, IsPermutation, cases_lt, cases_eq, ext_get_or, get_or_default, length-map, get_or-map, length-replicate, length-swap, swapped_from_swap, All-head, All-tail, All-from_recursion, Contains-get_or, IsPermutation-map, IsPermutation-sym, IsPermutation-keeps, All-permutation, Contains-permutation, get_or-zip, length-zip, put, item_at, length-put, get_or-put_before, get_or-put_after, item_at-put_same, length-item_at, byte_of, IsNested, distance, items_at, with_items, assigned}
 
 -- ---- items, each with its place
 

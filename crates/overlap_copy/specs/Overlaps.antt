@@ -1,5 +1,6 @@
 -- Whether the items at two lists of offsets have bytes in common.
-use Rattle.overlap_copy.specs.Words.{ℕ, ◌+◌, Bool, ◌&&◌, List, nat_lt, list_any}
+use Rattle.std.specs.Prelude.{ℕ, ◌+◌, Bool, ◌&&◌, List, nat_lt}
+use Rattle.overlap_copy.specs.Words.{list_any}
 
 -- some item of one list shares a byte with some item of the other
 unfoldable pub have_common_byte : List ℕ → ℕ → List ℕ → ℕ → Bool

@@ -1,13 +1,13 @@
 -- Names from std and from the crates below, which this crate's definitions, contracts and proofs use.
 pub use Rattle.arrays.specs.Assignments.{assigned, items_at, with_items}
 pub use Rattle.arrays.specs.Joined.{joined_at}
-pub use Rattle.arrays.specs.JoinedLaws.{joined-items, joined-offsets, length-joined_at}
+pub use Rattle.arrays.specs.JoinedLaws.{joined-items, length-joined_at}
 pub use Rattle.arrays.specs.PairLaws.{All-firsts, All-seconds, even, firsts-reordered, flipped-reordered, pair_even, seconds-reordered}
 pub use Rattle.arrays.specs.RunLaws.{All-back, All-front, BeginsWithin, assigned-append, lie-within, next_pair, place-at, run-ends, run-within, run_offsets-more, runs-within, walked-within}
 pub use Rattle.elem_descr.specs.ListLaws.{same_test}
 pub use Rattle.elem_descr.specs.StepLaws.{numbers-split}
 pub use Rattle.elem_descr.specs.Steps.{numbers_from}
-pub use Rattle.raw_block.specs.Bytes.{EachWithin, copied_within, exchanged, item_at, joined, place, position, put, swapped, traded}
+pub use Rattle.raw_block.specs.Bytes.{EachWithin, copied_within, exchanged, item_at, place, position, put, swapped, traded}
 pub use Rattle.raw_block.specs.BytesLaws.{begins_within, byte_of, fewer, get_or-put_after, get_or-put_before, item_at-put_apart, item_at-put_same, length-item_at, length-put, not_negative, place_within, position-add}
 pub use Rattle.raw_block.specs.ExchangeLaws.{exchanged-items, exchanged-outside, length-exchanged}
 pub use Rattle.shape_strides.specs.AddressOrders.{IsFalling, IsRising}
@@ -29,7 +29,6 @@ pub use Rattle.shape_strides.specs.declared.layout.Layout.{Layout}
 pub use Rattle.shape_strides.specs.declared.run_pairs.RunPair.{RunPair}
 pub use Rattle.shape_strides.specs.declared.runs.Run.{Run}
 pub use Rattle.shape_strides.specs.declared.stacked.Axis.{Axis}
-pub use Rattle.std.proofs.Common.{ap, arith, get_or, inl, inr, refl, replicate, subst, suc, sym, zero, ◌∙◌, ◌≢◌}
 pub use Rattle.std.proofs.lemmas.Bool.{cases_eq, cases_lt}
 pub use Rattle.std.proofs.lemmas.List.{ext_get_or, get_or-map, get_or_default, length-map, length-replicate}
 pub use Rattle.std.proofs.lemmas.List.Edits.{length-swap, swapped_from_swap}
@@ -39,4 +38,3 @@ pub use Rattle.std.proofs.lemmas.Slice.Zip.{get_or-zip, length-zip}
 pub use Rattle.std.specs.Int.{◌∣◌}
 pub use Rattle.std.specs.List.{AllByRecursion as Each, flat_map, list_any, swap, zip}
 pub use Rattle.std.specs.List.Sorted.{IsPermutation}
-pub use Rattle.std.specs.Prelude.{All, Bool, IsTrue, List, [], false, if◌then◌else◌, length, map, nat_le, nat_lt, neg_ℤ, pos, slice_index, slice_index_or, ℕ, ℤ, ◌%◌, ◌&&◌, ◌*ℤ◌, ◌*◌, ◌++◌, ◌+ℤ◌, ◌+◌, ◌-◌, ◌/◌, ◌<◌, ◌==◌, ◌^◌, ◌||◌, ◌∷◌, ◌≡◌, ◌≤◌, ◌⊎◌}

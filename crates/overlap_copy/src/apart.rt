@@ -1,5 +1,6 @@
 //! Decides by byte ranges and strides whether two layouts in one block are disjoint.
-ghost use Rattle.overlap_copy.specs.Clauses.{AreApart, IsGreatestDivisor, LieBetween, steps, do_ranges_meet, have_common_byte, Fits, max_bytes, offsets, IsTrue, false, if◌then◌else◌, length, nat_le, pos, slice_index_or, unsigned_abs, ◌%◌, ◌+◌, ◌<◌, ◌↔◌, ◌∷◌, ◌≡◌, ◌≤◌};
+ghost use Rattle.std.specs.Prelude.{IsTrue, false, if◌then◌else◌, length, nat_le, pos, slice_index_or, unsigned_abs, ◌%◌, ◌+◌, ◌<◌, ◌↔◌, ◌∷◌, ◌≡◌, ◌≤◌};
+ghost use Rattle.overlap_copy.specs.Clauses.{AreApart, IsGreatestDivisor, LieBetween, steps, do_ranges_meet, have_common_byte, Fits, max_bytes, offsets};
 
 use crate::axis_sums::common_divisor;
 use shape_strides::Layout;

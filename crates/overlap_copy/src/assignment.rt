@@ -1,5 +1,6 @@
 //! Assignment: copies the items of one layout to another.
-ghost use Rattle.overlap_copy.specs.Clauses.{◌≡◌, ◌+◌, ◌≤◌, ℤ, length, reverse, false, All, IfOk, IfErr, IfSome, IsOk, IsTrue, IsPermutation, max_bytes, count, offsets, Fits, IsNested, item_pairs, assigned, AreApart, IsRun, have_common_byte};
+ghost use Rattle.std.specs.Prelude.{◌≡◌, ◌+◌, ◌≤◌, ℤ, length, reverse, false, All, IfOk, IfErr, IfSome, IsOk, IsTrue};
+ghost use Rattle.overlap_copy.specs.Clauses.{IsPermutation, max_bytes, count, offsets, Fits, IsNested, item_pairs, assigned, AreApart, IsRun, have_common_byte};
 
 use crate::apart::may_overlap;
 use crate::pair_copies::{

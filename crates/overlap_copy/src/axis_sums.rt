@@ -1,5 +1,6 @@
 //! Decides whether some sum along axes lies within bounds.
-ghost use Rattle.overlap_copy.specs.Clauses.{No, Yes, AreForward, HasSum, reach_of, stepping, IsTurn, IsGcd, false, ◌<◌, ◌≡◌};
+ghost use Rattle.std.specs.Prelude.{false, ◌<◌, ◌≡◌};
+ghost use Rattle.overlap_copy.specs.Clauses.{No, Yes, AreForward, HasSum, reach_of, stepping, IsTurn, IsGcd};
 
 use crate::by_axes::join_all;
 use shape_strides::Axis;

@@ -1,5 +1,6 @@
 //! Pairs of runs: copies or moves the items of the second run to the first.
-ghost use Rattle.overlap_copy.specs.Clauses.{BeginsWithin, IsNested, assigned, copied_within, max_bytes, max_items, offsets, run_offsets, AreAlike, IsAssigned, IsLine, IsTurned, LieApart, RunLies, firsts, place_in, seconds, All, IfSome, IsTrue, length, neg_ℤ, pos, ◌*ℤ◌, ◌*◌, ◌+ℤ◌, ◌↔◌, ◌≡◌, ◌≤ℤ◌, ◌≤◌};
+ghost use Rattle.std.specs.Prelude.{All, IfSome, IsTrue, length, neg_ℤ, pos, ◌*ℤ◌, ◌*◌, ◌+ℤ◌, ◌↔◌, ◌≡◌, ◌≤ℤ◌, ◌≤◌};
+ghost use Rattle.overlap_copy.specs.Clauses.{BeginsWithin, IsNested, assigned, copied_within, max_bytes, max_items, offsets, run_offsets, AreAlike, IsAssigned, IsLine, IsTurned, LieApart, RunLies, firsts, place_in, seconds};
 
 use arrays::{copy_run, strided};
 use raw_block::RawBlock;

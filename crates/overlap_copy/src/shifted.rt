@@ -1,5 +1,6 @@
 //! Assignment between layouts of the same shape and strides, without memory.
-ghost use Rattle.overlap_copy.specs.Clauses.{◌≡◌, ◌+◌, ◌≤◌, [], ◌∷◌, length, All, flat_map, max_bytes, LieWithin, offsets, Fits, run_offsets, IsStacked, assigned, sources, source_run, MayCome};
+ghost use Rattle.std.specs.Prelude.{◌≡◌, ◌+◌, ◌≤◌, [], ◌∷◌, length, All};
+ghost use Rattle.overlap_copy.specs.Clauses.{flat_map, max_bytes, LieWithin, offsets, Fits, run_offsets, IsStacked, assigned, sources, source_run, MayCome};
 
 use crate::pair_copies::move_run;
 use raw_block::RawBlock;

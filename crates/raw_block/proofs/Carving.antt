@@ -1,5 +1,6 @@
 -- The memory of a block, as words and as bytes. Assumes `Logic`.
-use Rattle.raw_block.proofs.Words.{◌≡◌, ℕ, ◌+◌, ◌-◌, ◌*◌, ◌/◌, List, [], ◌∷◌, length, refl, sym, w8, arith, Ura, full_share, ent, sep, wand, apply∗, Fml, fwand, froom, Ty, ty_int, ty_array, Logic, sem, ‵, raw, ◌⊛◌, ◌$◌, ◌∵◌, !, qed, by, move, use1, use2, split, frame, assume, rewrite, bytes, bytes-room, past, past_bytes, room_cut, room_glue, unwritten, words, IsSizeFor}
+use Rattle.std.proofs.Common.{◌≡◌, ℕ, ◌+◌, ◌-◌, ◌*◌, ◌/◌, List, [], ◌∷◌, length, refl, sym, w8, arith}
+use Rattle.raw_block.proofs.Words.{Ura, full_share, ent, sep, wand, apply∗, Fml, fwand, froom, Ty, ty_int, ty_array, Logic, sem, ‵, raw, ◌⊛◌, ◌$◌, ◌∵◌, !, qed, by, move, use1, use2, split, frame, assume, rewrite, bytes, bytes-room, past, past_bytes, room_cut, room_glue, unwritten, words, IsSizeFor}
 
 abbrev byte : Ty
 byte = ty_int w8

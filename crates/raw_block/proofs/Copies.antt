@@ -1,5 +1,6 @@
 -- Copies to items that do not overlap: each item then equals its source, and all other bytes are unchanged.
-use Rattle.raw_block.proofs.Words.{◌≡◌, ℕ, zero, suc, ◌+◌, ◌<◌, ◌≤◌, ◌⊎◌, inl, inr, List, length, refl, sym, ap, ◌∙◌, arith, ℤ, place, item_at, copied, EachWithin, last_or_before, item_at-put_same, item_at-put_apart, length-item_at, length-put, place_within, fewer}
+use Rattle.std.proofs.Common.{◌≡◌, ℕ, zero, suc, ◌+◌, ◌<◌, ◌≤◌, ◌⊎◌, inl, inr, List, length, refl, sym, ap, ◌∙◌, arith, ℤ}
+use Rattle.raw_block.proofs.Words.{place, item_at, copied, EachWithin, last_or_before, item_at-put_same, item_at-put_apart, length-item_at, length-put, place_within, fewer}
 
 pub length-copied : (dst : ℕ) (dst_step : ℤ) (other : List ℕ) (src : ℕ) (src_step : ℤ) (width n : ℕ) (bytes : List ℕ) → EachWithin (length bytes) dst dst_step width n → EachWithin (length other) src src_step width n
     → length (copied dst dst_step other src src_step width n bytes) ≡ length bytes

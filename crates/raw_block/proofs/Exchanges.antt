@@ -1,5 +1,6 @@
 -- Disjoint items can be swapped at once, and so can the items of runs that do not overlap.
-use Rattle.raw_block.proofs.Words.{◌≡◌, ℕ, suc, ◌+◌, ◌-◌, ◌*◌, ◌<◌, ◌≤◌, ◌⊎◌, inl, inr, max, min, List, length, get_or, sym, ap, ◌∙◌, arith, mul-le-mul_right, zero-mul, cases_lt, ints, ext_get_or, ℤ, pos, negsuc, ◌≤ℤ◌, position, place, EachWithin, put, item_at, exchanged, length-item_at, length-put, get_or-put_before, get_or-put_after, item_at-put_same, not_negative, byte_of, length-exchanged, exchanged-outside, exchanged-first, exchanged-second, LieApart}
+use Rattle.std.proofs.Common.{◌≡◌, ℕ, suc, ◌+◌, ◌-◌, ◌*◌, ◌<◌, ◌≤◌, ◌⊎◌, inl, inr, max, min, List, length, get_or, sym, ap, ◌∙◌, arith, ℤ, pos, ◌≤ℤ◌}
+use Rattle.raw_block.proofs.Words.{mul-le-mul_right, zero-mul, cases_lt, ints, ext_get_or, negsuc, position, place, EachWithin, put, item_at, exchanged, length-item_at, length-put, get_or-put_before, get_or-put_after, item_at-put_same, not_negative, byte_of, length-exchanged, exchanged-outside, exchanged-first, exchanged-second, LieApart}
 
 -- ---- two disjoint items
 

@@ -1,5 +1,6 @@
 -- Numbers in two's complement.
-use Rattle.raw_block.proofs.Words.{◌≡◌, ℕ, suc, ◌-◌, ◌<◌, ◌^◌, cond, ltb, Bool, true, false, refl, arith, w32, w64, ints, pos, negsuc, ◌-ℤ◌, to_z, twos_complement}
+use Rattle.std.proofs.Common.{◌≡◌, ℕ, suc, ◌-◌, ◌<◌, ◌^◌, cond, ltb, Bool, true, false, refl, arith, w32, w64, pos, ◌-ℤ◌}
+use Rattle.raw_block.proofs.Words.{ints, negsuc, to_z, twos_complement}
 
 in_two_parts : (low : Bool) (top x : ℕ) → x < top → cond low (pos x) (negsuc (top - suc x)) ≡ cond low (pos x) (pos x -ℤ pos top)
 in_two_parts true top x lt = refl

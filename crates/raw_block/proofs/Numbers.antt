@@ -1,5 +1,6 @@
 -- Numbers as bytes, lowest byte first.
-use Rattle.raw_block.proofs.Words.{◌≡◌, ℕ, zero, suc, ◌+◌, ◌*◌, ◌^◌, ◌<◌, ◌≤◌, List, ◌∷◌, take, get_or, refl, ap, arith, lit<, pow-suc, pow-le-pow_right, bytes_low_first, little_from}
+use Rattle.std.proofs.Common.{◌≡◌, ℕ, zero, suc, ◌+◌, ◌*◌, ◌^◌, ◌<◌, ◌≤◌, List, ◌∷◌, take, get_or, refl, ap, arith, lit<}
+use Rattle.raw_block.proofs.Words.{pow-suc, pow-le-pow_right, bytes_low_first, little_from}
 
 -- one byte is added below a number of n bytes
 pub little_step : (item : List ℕ) (number i n : ℕ) → number ≡ little_from (suc i) n item → number * 256 + get_or item i 0 ≡ little_from i (suc n) item

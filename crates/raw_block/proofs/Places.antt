@@ -1,5 +1,6 @@
 -- The place of the k-th item, as the code computes it.
-use Rattle.raw_block.proofs.Words.{◌≡◌, ℕ, suc, ◌+◌, ◌-◌, ◌*◌, ◌%◌, ◌^◌, sym, ap, ◌∙◌, w64, arith, add-mod-mod, add-mul-mod_self_right, mod-eq_of_lt, mul-add, ints, ℤ, pos, negsuc, ◌≤ℤ◌, ◌<ℤ◌, SFits, of_z, position, place, not_negative}
+use Rattle.std.proofs.Common.{◌≡◌, ℕ, suc, ◌+◌, ◌-◌, ◌*◌, ◌%◌, ◌^◌, sym, ap, ◌∙◌, w64, arith, ℤ, pos, ◌≤ℤ◌, ◌<ℤ◌}
+use Rattle.raw_block.proofs.Words.{add-mod-mod, add-mul-mod_self_right, mod-eq_of_lt, mul-add, ints, negsuc, SFits, of_z, position, place, not_negative}
 
 pub place_wraps : (at k : ℕ) (step : ℤ) → SFits w64 step → pos 0 ≤ℤ position at step k → position at step k <ℤ pos (2 ^ 64) → (at + (k * of_z w64 step) % 2 ^ 64) % 2 ^ 64 ≡ place at step k
 place_wraps at k (pos s) fits low high = add-mod-mod at (k * s) (2 ^ 64) ∙ mod-eq_of_lt (omega (arith, ints))

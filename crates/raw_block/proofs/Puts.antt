@@ -1,5 +1,6 @@
 -- An item written to a list of bytes, extended by one byte at either end.
-use Rattle.raw_block.proofs.Words.{◌≡◌, ℕ, suc, ◌+◌, ◌<◌, ◌≤◌, List, [], ◌∷◌, ◌++◌, length, take, drop, get_or, set, sym, ap, ◌∙◌, arith, append_assoc, length-append, length-take, length-drop, drop-cons, set-append_seam, get_or-drop, take_more, put, item_at, length-item_at, front_length, get_or-put_before, get_or-put_after}
+use Rattle.std.proofs.Common.{◌≡◌, ℕ, suc, ◌+◌, ◌<◌, ◌≤◌, List, [], ◌∷◌, ◌++◌, length, take, drop, get_or, set, sym, ap, ◌∙◌, arith, append_assoc, length-append, length-take, length-drop, drop-cons}
+use Rattle.raw_block.proofs.Words.{set-append_seam, get_or-drop, take_more, put, item_at, length-item_at, front_length, get_or-put_before, get_or-put_after}
 
 -- one more byte at the end
 pub set-put_end : (at : ℕ) (xs bytes : List ℕ) (v : ℕ) → at + length xs < length bytes → set (put at xs bytes) (at + length xs) v ≡ put at (xs ++ v ∷ []) bytes

@@ -1,5 +1,6 @@
 -- Adjacent items that are written: they are read back, and all other bytes are unchanged.
-use Rattle.raw_block.proofs.Words.{◌≡◌, ℕ, zero, suc, ◌+◌, ◌*◌, ◌≤◌, List, [], ◌∷◌, ◌++◌, length, take, drop, refl, sym, ap, ◌∙◌, arith, append_assoc, length-append, length-take, suc-mul, mul-suc, mul-zero, take-append_seam, drop-append_seam, take-take, drop-take, flat_map-cons, All, flat_map, first_chunks, put, length-put, signed_numbers, adjacent_numbers, AreArrays, with_run, SameBeside}
+use Rattle.std.proofs.Common.{◌≡◌, ℕ, zero, suc, ◌+◌, ◌*◌, ◌≤◌, List, [], ◌∷◌, ◌++◌, length, take, drop, refl, sym, ap, ◌∙◌, arith, append_assoc, length-append, length-take, All}
+use Rattle.raw_block.proofs.Words.{suc-mul, mul-suc, mul-zero, take-append_seam, drop-append_seam, take-take, drop-take, flat_map-cons, flat_map, first_chunks, put, length-put, signed_numbers, adjacent_numbers, AreArrays, with_run, SameBeside}
 use Rattle.std.proofs.lemmas.List.{take_at}
 
 abbrev flat : List (List ℕ) → List ℕ

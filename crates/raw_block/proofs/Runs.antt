@@ -1,5 +1,6 @@
 -- Adjacent items, whose bytes are written as one range.
-use Rattle.raw_block.proofs.Words.{◌≡◌, ℕ, zero, suc, ◌+◌, ◌-◌, ◌*◌, ◌<◌, ◌≤◌, List, [], ◌∷◌, ◌++◌, length, take, drop, get_or, inr, refl, sym, ap, ◌∙◌, subst, arith, append_assoc, length-append, length-take, drop-cons, suc-mul, mul-suc, mul-zero, mul-le-mul_left, take-add, drop-append-add, take-append-drop, drop-drop, drop-take, take-take, drop_all, first_chunks, ℤ, pos, place, EachWithin, put, item_at, copied, filled, traded, place_within, length-item_at, item_at-put_apart, item_of_chunks}
+use Rattle.std.proofs.Common.{◌≡◌, ℕ, zero, suc, ◌+◌, ◌-◌, ◌*◌, ◌<◌, ◌≤◌, List, [], ◌∷◌, ◌++◌, length, take, drop, get_or, inr, refl, sym, ap, ◌∙◌, subst, arith, append_assoc, length-append, length-take, drop-cons, ℤ, pos}
+use Rattle.raw_block.proofs.Words.{suc-mul, mul-suc, mul-zero, mul-le-mul_left, take-add, drop-append-add, take-append-drop, drop-drop, drop-take, take-take, drop_all, first_chunks, place, EachWithin, put, item_at, copied, filled, traded, place_within, length-item_at, item_at-put_apart, item_of_chunks}
 use Rattle.std.proofs.lemmas.List.{take_at}
 
 -- all of the items lie within `len` bytes

@@ -1,5 +1,6 @@
 -- A `&` to the owner of the bytes is a `&` to each of them. Assumes `Logic`.
-use Rattle.raw_block.proofs.Words.{ℕ, ◌+◌, ◌^◌, List, [], ◌∷◌, length, Ura, full_share, Fml, ftrue, ffalse, fsep, flt, Logic, u8, part_at, shared_of, ShrLaws, said, beside_shr_laws, said_shr_laws, elements_shared, elements_shr_laws, u8-field, u8-copy, Lends, Lends-both, Lends-first, Lends-nothing, Lends-said, Lends-false, Sharable, copy_shared, Ptr, block_ptr, null_ptr, bytes, unwritten, bytes_own, bytes_lent}
+use Rattle.std.proofs.Common.{ℕ, ◌+◌, ◌^◌, List, [], ◌∷◌, length}
+use Rattle.raw_block.proofs.Words.{Ura, full_share, Fml, ftrue, ffalse, fsep, flt, Logic, u8, part_at, shared_of, ShrLaws, said, beside_shr_laws, said_shr_laws, elements_shared, elements_shr_laws, u8-field, u8-copy, Lends, Lends-both, Lends-first, Lends-nothing, Lends-said, Lends-false, Sharable, copy_shared, Ptr, block_ptr, null_ptr, bytes, unwritten, bytes_own, bytes_lent}
 
 u8_shared : Sharable u8-field
 u8_shared = copy_shared u8-field u8-copy

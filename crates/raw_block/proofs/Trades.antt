@@ -1,5 +1,6 @@
 -- Items of runs that do not overlap themselves are exchanged in one step: each is then what its counterpart was.
-use Rattle.raw_block.proofs.Words.{◌≡◌, ℕ, zero, suc, ◌+◌, ◌*◌, ◌<◌, ◌≤◌, ◌⊎◌, inl, inr, List, length, sym, ap, ◌∙◌, arith, ints, subst, nat_abs, ◌+ℤ◌, ◌≤ℤ◌, mul-le-mul_right, suc-mul, ℤ, pos, negsuc, unsigned_abs, place, position, item_at, put, copied, traded, EachWithin, not_negative, position-add, place_within}
+use Rattle.std.proofs.Common.{◌≡◌, ℕ, zero, suc, ◌+◌, ◌*◌, ◌<◌, ◌≤◌, ◌⊎◌, inl, inr, List, length, sym, ap, ◌∙◌, arith, subst, nat_abs, ◌+ℤ◌, ◌≤ℤ◌, ℤ, pos, unsigned_abs}
+use Rattle.raw_block.proofs.Words.{ints, mul-le-mul_right, suc-mul, negsuc, place, position, item_at, put, copied, traded, EachWithin, not_negative, position-add, place_within}
 use Rattle.raw_block.proofs.Copies.{copied-outside}
 use Rattle.raw_block.proofs.Runs.{both}
 

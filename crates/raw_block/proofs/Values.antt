@@ -1,5 +1,6 @@
 -- The machine values of the parts of a block, and of the three together. Assumes `Logic`.
-use Rattle.raw_block.proofs.Words.{List, [], ◌∷◌, refl, Ura, ent, sep, emp, Val, vstruct, vcons, vnil, Logic, sem, ‵, ◌$◌, ◌∵◌, !, qed, done, move, fjoin, fpack, feq_i, RattleType, Valss, Ptr, ptr_val, makes_shadow, nothing, shape, Struct, within, Tuple, tuple_type, Ghosts, word}
+use Rattle.std.proofs.Common.{List, [], ◌∷◌, refl}
+use Rattle.raw_block.proofs.Words.{Ura, ent, sep, emp, Val, vstruct, vcons, vnil, Logic, sem, ‵, ◌$◌, ◌∵◌, !, qed, done, move, fjoin, fpack, feq_i, RattleType, Valss, Ptr, ptr_val, makes_shadow, nothing, shape, Struct, within, Tuple, tuple_type, Ghosts, word}
 use denote.Struct.Declared as Declared
 use Rattle.raw_block.specs.contracts.base.Base as B
 use Rattle.raw_block.specs.contracts.base.Bytes as Y

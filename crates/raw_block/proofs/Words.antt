@@ -10,7 +10,7 @@ pub use Rattle.raw_block.specs.ExchangeLaws.{exchanged-first, exchanged-outside,
 pub use Rattle.raw_block.specs.JoinedLaws.{all_joined, joined-add, joined-same, joined_run}
 pub use Rattle.raw_block.specs.NumberRuns.{AreArrays, SameBeside, adjacent_numbers, signed_number, signed_numbers, with_run}
 pub use Rattle.raw_block.specs.Ownership.{bytes_lent, bytes_own, deed_owns, unwritten, words}
-pub use Rattle.raw_block.specs.Words.{All, Lft, List, Ptr, Ty, [], add-mul, ap, append-nil, append_assoc, arith, block_ptr, bytes, bytes_low_first, drop, drop-append_seam, drop-drop, elements_shared, ext_get_or, ffalse, first_chunks, flat_map, flt, froom, fsep, ftrue, full_share, fwand, get_or, get_or-drop, inl, inr, ints, length, length-append, length-drop, length-take, map, mul-le-mul_right, mul-suc, nat_abs, negsuc, null_ptr, pos, refill, refl, replicate, said, set, slice_index_or, suc, suc-mul, sym, take, take-add, take-append_seam, twos_complement, ty_array, ty_int, zero, zero-mul, ℕ, ℤ, ◌*ℤ◌, ◌*◌, ◌++◌, ◌+ℤ◌, ◌+◌, ◌-◌, ◌/◌, ◌<◌, ◌^◌, ◌∙◌, ◌∷◌, ◌≡◌, ◌≤ℤ◌, ◌≤◌, ◌⊎◌}
+pub use Rattle.raw_block.specs.Words.{Lft, Ptr, Ty, add-mul, block_ptr, bytes, bytes_low_first, drop-append_seam, drop-drop, elements_shared, ext_get_or, ffalse, first_chunks, flat_map, flt, froom, fsep, ftrue, full_share, fwand, get_or-drop, ints, mul-le-mul_right, mul-suc, negsuc, null_ptr, refill, said, suc-mul, take-add, take-append_seam, twos_complement, ty_array, ty_int, zero-mul}
 pub use Rattle.raw_block.specs.contracts.base.Bytes.{the_row as R, the_type}
 pub use Rattle.raw_block.specs.contracts.base.allocate.{clauses, ended}
 pub use Rattle.raw_block.specs.contracts.base.allocate.Key.{name as #self}
@@ -18,7 +18,7 @@ pub use Rattle.raw_block.specs.inside.Bands.{band}
 pub use Rattle.raw_block.specs.inside.Lends.{with_items}
 pub use Rattle.raw_block.specs.inside.Pairs.{LieApart}
 pub use Rattle.raw_block.specs.inside.Sizes.{IsSizeFor}
-pub use Rattle.std.proofs.Common.{Bool, T, cond, drop-cons, drop as drop_front, false, lit<, ltb, max, min, rules, subst, true, unsigned_abs, w32, w64, w8, ◌%◌}
+pub use Rattle.std.proofs.Common.{drop as drop_front}
 pub use Rattle.std.proofs.Math.Nat.{add-mod-mod, add-mul-mod_self_right, mod-eq_of_lt, mul-add, mul-div_cancel_left, mul-le-mul_left, mul-zero, pow-le-pow_right, pow-suc}
 pub use Rattle.std.proofs.Math.Seq.{drop-append-add, set-append_seam}
 pub use Rattle.std.proofs.lemmas.Bool.{cases_lt}
@@ -26,7 +26,6 @@ pub use Rattle.std.proofs.lemmas.Int.{to_z-of_z, to_z_pos}
 pub use Rattle.std.proofs.lemmas.List.{drop-take, drop_all, get_or-map, length-map, take-append-drop, take-take, take_more}
 pub use Rattle.std.proofs.lemmas.List.Concat.{flat_map-cons}
 pub use Rattle.std.proofs.raw_atomic.Walks.{proved, proved_at}
-pub use Rattle.std.specs.Prelude.{Err, Ok}
 pub use Rattle.std_alloc.proofs.RcSteps.{word, word-Good}
 pub use Rattle.std_alloc.proofs.ResultValues.{err_of, ok_of}
 pub use Rattle.std_alloc.proofs.VecSteps.Shapes.{after}
@@ -70,10 +69,8 @@ pub use denote.Struct.Tuple.{Tuple, tuple_type}
 pub use denote.Triple.Call.{calls_at, calls_at_last}
 pub use denote.Triple.Entry.{alive}
 pub use denote.Triple.Walked.{Goes-dropped, Goes-ref, Goes-spent_ref, Stays, ends_at, says, stay_dropped, stay_ref, walk_of}
-pub use lib.IntN.{◌-ℤ◌}
 pub use lib.ListN.{drop as drop_l}
 pub use lib.Seq.{take_at as take_front}
-pub use lib.Signed.{◌<ℤ◌}
 pub use mir.MapTy.{inst_fn}
 pub use mir.Syntax.{Args, Body, Fn, a_number, a_type, dcons, dnil, named, ty_unit}
 pub use mir.Val.{SFits, Val, WT, has_ty, of_z, to_z, vcons, vint, vnil, vptr, vstruct, vunit}

@@ -1,5 +1,6 @@
 -- The owner of the bytes after other bytes are written to them. Assumes `Logic`.
-use Rattle.raw_block.proofs.Words.{◌≡◌, ℕ, ◌+◌, ◌^◌, ◌<◌, List, [], ◌∷◌, length, refl, sym, arith, drop_l, take_front, Ura, full_share, ent, sep, Fml, fsep, Val, Logic, sem, ‵, ◌$◌, ◌∵◌, !, qed, done, move, use1, fsplit3, fjoin, fpack, flt_i, rewrite, cells, u8, whole_out, mem, cell_at, part_of, Ptr, block_ptr, bytes, shape, Struct, refill, with_items, unwritten, bytes_own, R, the_type}
+use Rattle.std.proofs.Common.{◌≡◌, ℕ, ◌+◌, ◌^◌, ◌<◌, List, [], ◌∷◌, length, refl, sym, arith}
+use Rattle.raw_block.proofs.Words.{drop_l, take_front, Ura, full_share, ent, sep, Fml, fsep, Val, Logic, sem, ‵, ◌$◌, ◌∵◌, !, qed, done, move, use1, fsplit3, fjoin, fpack, flt_i, rewrite, cells, u8, whole_out, mem, cell_at, part_of, Ptr, block_ptr, bytes, shape, Struct, refill, with_items, unwritten, bytes_own, R, the_type}
 
 -- the owner, if `ws` was written to the slice last
 abbrev pub written : R.Denot → List ℕ → R.Denot

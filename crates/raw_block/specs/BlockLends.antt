@@ -1,5 +1,6 @@
 -- The final value of a block after a `&mut` to its bytes has ended.
-use Rattle.raw_block.specs.Words.{ℕ, List, length, Fml, MutBor, Array, Lends, u8, refill}
+use Rattle.std.specs.Prelude.{ℕ, List, length}
+use Rattle.raw_block.specs.Words.{Fml, MutBor, Array, Lends, u8, refill}
 use Rattle.raw_block.specs.NumberRuns.{with_run}
 use Rattle.raw_block.specs.contracts.block.RawBlock.{the_row}
 use Rattle.raw_block.specs.contracts.block.builder.BlockBuilder.{the_row as the_builder}

@@ -1,5 +1,7 @@
 -- What a write to bytes changes and what it does not, and where items at equal steps lie.
-use Rattle.raw_block.specs.Words.{◌≡◌, ℕ, suc, ◌+◌, ◌-◌, refl, sym, ap, ◌∙◌, arith, ◌<◌, ◌≤◌, List, length, get_or, ◌++◌, take, drop, append_assoc, length-append, length-take, length-drop, ◌⊎◌, inl, inr, ◌*◌, zero, [], get_or-append_right, get_or_append_left, get_or-take, get_or-drop, ext_get_or, drop-drop, take-append_seam, drop-append_seam, ints, ℤ, zero-*ℤ, zero-mul, add-mul, mul-suc, first_chunks, pos, negsuc, nat_abs, ◌≤ℤ◌}
+use Rattle.std.specs.Prelude.{◌≡◌, ℕ, ◌+◌, ◌-◌, ◌<◌, ◌≤◌, List, length, ◌++◌, take, drop, ◌⊎◌, ◌*◌, [], ℤ, pos, nat_abs, ◌≤ℤ◌}
+use Rattle.std.proofs.Common.{suc, refl, sym, ap, ◌∙◌, arith, get_or, append_assoc, length-append, length-take, length-drop, inl, inr, zero}
+use Rattle.raw_block.specs.Words.{get_or-append_right, get_or_append_left, get_or-take, get_or-drop, ext_get_or, drop-drop, take-append_seam, drop-append_seam, ints, zero-*ℤ, zero-mul, add-mul, mul-suc, first_chunks, negsuc}
 use Rattle.raw_block.specs.Bytes.{position, place, EachWithin, put, item_at}
 
 -- ---- one item

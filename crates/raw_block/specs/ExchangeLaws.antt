@@ -1,5 +1,7 @@
 -- What `exchanged` gives for two disjoint items: it swaps them, and leaves all other bytes unchanged.
-use Rattle.raw_block.specs.Words.{◌≡◌, ◌≢◌, ℕ, zero, suc, ◌+◌, ◌<◌, ◌≤◌, ◌⊎◌, inl, inr, List, length, drop, get_or, set, refl, sym, ap, ◌∙◌, arith, length-set, get_or-set_same, get_or-set_other, ext_get_or, get_or-take, get_or-drop, swap_is, length-swap, swap}
+use Rattle.std.specs.Prelude.{◌≡◌, ◌≢◌, ℕ, ◌+◌, ◌<◌, ◌≤◌, ◌⊎◌, List, length, drop, swap}
+use Rattle.std.proofs.Common.{zero, suc, inl, inr, get_or, set, refl, sym, ap, ◌∙◌, arith, length-set, get_or-set_same, get_or-set_other}
+use Rattle.raw_block.specs.Words.{ext_get_or, get_or-take, get_or-drop, swap_is, length-swap}
 use Rattle.raw_block.specs.Bytes.{item_at, exchanged}
 use Rattle.raw_block.specs.BytesLaws.{length-item_at}
 

@@ -1,5 +1,7 @@
 -- Laws of concatenated items.
-use Rattle.raw_block.specs.Words.{◌≡◌, ℕ, zero, suc, ◌+◌, ◌*◌, ◌<◌, ◌≤◌, inl, inr, List, ◌++◌, length, take, drop, refl, sym, ap, ◌∙◌, arith, append_assoc, append-nil, length-append, length-drop, [], ◌∷◌, get_or, suc-mul, zero-mul, mul-le-mul_right, take-add, drop-append_seam, drop-append-le, take-append-le, take_all, drop-drop, flat_map, ℤ, pos}
+use Rattle.std.specs.Prelude.{◌≡◌, ℕ, ◌+◌, ◌*◌, ◌<◌, ◌≤◌, List, ◌++◌, length, take, drop, [], ◌∷◌, ℤ, pos}
+use Rattle.std.proofs.Common.{zero, suc, inl, inr, refl, sym, ap, ◌∙◌, arith, append_assoc, append-nil, length-append, length-drop, get_or}
+use Rattle.raw_block.specs.Words.{suc-mul, zero-mul, mul-le-mul_right, take-add, drop-append_seam, drop-append-le, take-append-le, take_all, drop-drop, flat_map}
 use Rattle.raw_block.specs.Bytes.{item_at, place, joined}
 use Rattle.raw_block.specs.ExchangeLaws.{last_or_before}
 

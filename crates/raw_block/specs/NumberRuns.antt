@@ -1,5 +1,6 @@
 -- Numbers in adjacent items.
-use Rattle.raw_block.specs.Words.{◌≡◌, ◌+◌, ℕ, ℤ, List, All, length, map, take, drop, flat_map, refill, first_chunks, little_number, twos_complement}
+use Rattle.std.specs.Prelude.{◌≡◌, ◌+◌, ℕ, ℤ, List, All, length, map, take, drop}
+use Rattle.raw_block.specs.Words.{flat_map, refill, first_chunks, little_number, twos_complement}
 use Rattle.raw_block.specs.Bytes.{put}
 
 -- the number that n bytes encode, lowest byte first, in two's complement

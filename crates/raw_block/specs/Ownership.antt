@@ -1,5 +1,6 @@
 -- What the parts of a block own and lend.
-use Rattle.raw_block.specs.Words.{ℕ, ◌+◌, ◌/◌, ◌^◌, List, length, Ty, w8, w128, ty_int, ty_array, full_share, Lft, ffalse, fsep, flt, fwand, froom, elements_shared, said, beside, Ptr, block_ptr, null_ptr, bytes}
+use Rattle.std.specs.Prelude.{ℕ, ◌+◌, ◌/◌, ◌^◌, List, length}
+use Rattle.raw_block.specs.Words.{Ty, w8, w128, ty_int, ty_array, full_share, Lft, ffalse, fsep, flt, fwand, froom, elements_shared, said, beside, Ptr, block_ptr, null_ptr, bytes}
 use base.Fml.{Fml}
 use denote.Builtin.{u8}
 

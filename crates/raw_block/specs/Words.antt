@@ -1,6 +1,5 @@
 -- Names from std and from the crates below, which this crate's definitions, contracts and proofs use.
 pub use Rattle.byteorder.specs.Endian.{little_number, twos_complement}
-pub use Rattle.std.proofs.Common.{ap, append-nil, append_assoc, arith, get_or, get_or-set_other, get_or-set_same, inl, inr, length-append, length-drop, length-set, length-take, refl, set, suc, sym, zero, ◌-◌, ◌∙◌, ◌∷◌, ◌≢◌}
 pub use Rattle.std.proofs.Math.IntN.{zero-*ℤ}
 pub use Rattle.std.proofs.Math.Nat.{add-mul, mul-le-mul_right, mul-suc, suc-mul, zero-mul}
 pub use Rattle.std.proofs.Math.Seq.{drop-append_seam, take-add, take-append_seam}
@@ -10,7 +9,6 @@ pub use Rattle.std.proofs.lemmas.List.Edits.{length-swap, swap_is}
 pub use Rattle.std.specs.Borrow.{Array, Fml, Lends, MutBor, sem, u8}
 pub use Rattle.std.specs.Int.{bytes_low_first}
 pub use Rattle.std.specs.List.{flat_map, refill}
-pub use Rattle.std.specs.Prelude.{All, IfOk, List, [], drop, length, map, nat_abs, pos, replicate, slice_index, slice_index_or, swap, take, ℕ, ℤ, ⊤, ◌*ℤ◌, ◌*◌, ◌++◌, ◌+ℤ◌, ◌+◌, ◌/◌, ◌<◌, ◌^◌, ◌≡◌, ◌≤ℤ◌, ◌≤◌, ◌⊎◌}
 pub use Rattle.std.specs.Simd.{first_chunks}
 pub use base.Fml.{Lft, ffalse, flt, froom, fsep, ftrue, fwand}
 pub use base.Fraction.{full_share}

@@ -1,5 +1,6 @@
 //! A block of bytes: how it is made, read and written as a whole, and dropped.
-ghost use Rattle.raw_block.specs.Words.{◌≡◌, ℕ, pos, ◌+◌, ◌*◌, ◌/◌, ◌^◌, ◌<◌, ◌≤◌, List, length, replicate, slice_index_or, IfOk, sem, refill};
+ghost use Rattle.std.specs.Prelude.{◌≡◌, ℕ, pos, ◌+◌, ◌*◌, ◌/◌, ◌^◌, ◌<◌, ◌≤◌, List, length, replicate, slice_index_or, IfOk};
+ghost use Rattle.raw_block.specs.Words.{sem, refill};
 ghost use Rattle.raw_block.specs.Bytes.{item_at, put, little_number, little_bytes, EachWithin, copied, copied_within, filled, swapped, traded};
 ghost use Rattle.raw_block.specs.NumberRuns.{signed_number, signed_numbers, adjacent_items, adjacent_numbers, AreArrays, with_run, SameBeside};
 ghost use Rattle.raw_block.specs.inside.Sizes.{IsSizeFor};

@@ -1,5 +1,6 @@
 //! Copies the items of a grid column by column to where they are row by row.
-ghost use Rattle.raw_block.specs.Clauses.{◌≡◌, ◌+◌, ◌*◌, ◌^◌, ◌<◌, ◌≤◌, ◌++◌, pos, ◌≤ℤ◌, ◌<ℤ◌, length, take, position, place, grid_items, GridWithin, band};
+ghost use Rattle.std.specs.Prelude.{◌≡◌, ◌+◌, ◌*◌, ◌^◌, ◌<◌, ◌≤◌, ◌++◌, pos, ◌≤ℤ◌, ◌<ℤ◌, length, take};
+ghost use Rattle.raw_block.specs.Clauses.{position, place, grid_items, GridWithin, band};
 
 use crate::strided::{Steps, copy_arrays};
 

@@ -1,5 +1,6 @@
 //! Adjacent numbers, stored in two's complement with the lowest byte first.
-ghost use Rattle.raw_block.specs.Clauses.{◌≡◌, ℕ, pos, ◌+◌, ◌*◌, ◌<◌, ◌≤◌, [], length, slice_index_or, item_at, signed_numbers};
+ghost use Rattle.std.specs.Prelude.{◌≡◌, ℕ, pos, ◌+◌, ◌*◌, ◌<◌, ◌≤◌, [], length, slice_index_or};
+ghost use Rattle.raw_block.specs.Clauses.{item_at, signed_numbers};
 
 use byteorder::{ByteOrder, LittleEndian};
 use std::marker::Model;
@@ -22,7 +23,8 @@ pub struct RunI32<'a> {
 }
 
 impl<'a> Model for RunI32<'a> {
-    ghost use Rattle.raw_block.specs.Clauses.{ℤ, List, signed_numbers};
+    ghost use Rattle.std.specs.Prelude.{ℤ, List};
+    ghost use Rattle.raw_block.specs.Clauses.{signed_numbers};
 
     ghost Value = { List ℤ };
 
@@ -63,7 +65,8 @@ pub struct RunI64<'a> {
 }
 
 impl<'a> Model for RunI64<'a> {
-    ghost use Rattle.raw_block.specs.Clauses.{ℤ, List, signed_numbers};
+    ghost use Rattle.std.specs.Prelude.{ℤ, List};
+    ghost use Rattle.raw_block.specs.Clauses.{signed_numbers};
 
     ghost Value = { List ℤ };
 

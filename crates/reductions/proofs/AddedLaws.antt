@@ -1,5 +1,6 @@
 -- Results that are appended one after another.
-use Rattle.reductions.proofs.Words.{◌≡◌, ◌+◌, ◌*◌, ◌<◌, ◌≤◌, ◌^◌, ℕ, suc, ℤ, List, [], ◌∷◌, ◌++◌, length, take, drop, get_or, inl, inr, sym, ap, subst, ◌∙◌, arith, append_assoc, append-nil, length-append, length-drop, add-mul, add-one, one-mul, zero-mul, suc-mul, mul-le-mul_right, get_or-append-add, drop-append_seam, cases_lt, map-append, length-map, get_or_append_left, drop-append-le, take-append-le, take_all, Scalar, length-encode, size, encode, number, place, item_at, StridedAxis, Run, run_along, run_offsets, length-run_offsets, run_offsets-more, Red, Lines, numbers_at, lines, IsStored, IsReduced, AreReduced, AddsReduced, IsPushed, line_run}
+use Rattle.std.proofs.Common.{◌≡◌, ◌+◌, ◌*◌, ◌<◌, ◌≤◌, ◌^◌, ℕ, suc, ℤ, List, [], ◌∷◌, ◌++◌, length, take, drop, get_or, inl, inr, sym, ap, subst, ◌∙◌, arith, append_assoc, append-nil, length-append, length-drop, add-mul, add-one, one-mul, zero-mul, suc-mul, mul-le-mul_right, get_or-append-add}
+use Rattle.reductions.proofs.Words.{drop-append_seam, cases_lt, map-append, length-map, get_or_append_left, drop-append-le, take-append-le, take_all, Scalar, length-encode, size, encode, number, place, item_at, StridedAxis, Run, run_along, run_offsets, length-run_offsets, run_offsets-more, Red, Lines, numbers_at, lines, IsStored, IsReduced, AreReduced, AddsReduced, IsPushed, line_run}
 use Rattle.reductions.proofs.LineLaws.{front, fewer_within, length-numbers}
 
 -- a result ends before a later one begins

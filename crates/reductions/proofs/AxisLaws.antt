@@ -1,5 +1,6 @@
 -- Lists along an axis, and the items at which they begin.
-use Rattle.reductions.proofs.Words.{◌≡◌, ◌+◌, ◌*◌, ◌<◌, ◌≤◌, ℕ, zero, suc, ℤ, pos, ◌+ℤ◌, ◌*ℤ◌, Some, List, [], ◌∷◌, map, replicate, length, get_or, All, refl, sym, ap, subst, ◌∙◌, arith, mul_comm, mul_assoc, mul-zero, mul-le-mul_right, ◌≤ℤ◌, insert, remove, range_with_len, ints, length-map, get_or-map, same_lists, All-head, All-tail, All-cons, All-from_get_or, length-map-range_with_len, get_or-map-range_with_len, *ℤ_comm, zero-*ℤ, IsShape, position, EachWithin, StridedAxis, Layout, dot, natural, address_at, LieWithin, count, indexes, rank, IsIndex, length-indexes, length-index, rank-lt, get_or-indexes, index_at, address, offsets, length-offsets, pos-offset, max_items, max_bytes, run_along, run_offsets, AreStarts, IsIndex-insert, lists, lines}
+use Rattle.std.proofs.Common.{◌≡◌, ◌+◌, ◌*◌, ◌<◌, ◌≤◌, ℕ, zero, suc, ℤ, pos, ◌+ℤ◌, ◌*ℤ◌, Some, List, [], ◌∷◌, map, replicate, length, get_or, All, refl, sym, ap, subst, ◌∙◌, arith, mul_comm, mul_assoc, mul-zero, mul-le-mul_right, ◌≤ℤ◌}
+use Rattle.reductions.proofs.Words.{insert, remove, range_with_len, ints, length-map, get_or-map, same_lists, All-head, All-tail, All-cons, All-from_get_or, length-map-range_with_len, get_or-map-range_with_len, *ℤ_comm, zero-*ℤ, IsShape, position, EachWithin, StridedAxis, Layout, dot, natural, address_at, LieWithin, count, indexes, rank, IsIndex, length-indexes, length-index, rank-lt, get_or-indexes, index_at, address, offsets, length-offsets, pos-offset, max_items, max_bytes, run_along, run_offsets, AreStarts, IsIndex-insert, lists, lines}
 
 -- ---- removing a number, and inserting one
 

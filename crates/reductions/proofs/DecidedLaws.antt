@@ -1,5 +1,6 @@
 -- States that no further number can change.
-use Rattle.reductions.proofs.Words.{◌≡◌, inl, inr, ℕ, ℤ, pos, Bool, true, false, cond, List, [], ◌∷◌, ◌++◌, refl, sym, ap, subst, ◌∙◌, arith, int_lt, nat_eq, fold, beq, false≢true, false_from_ne_true, ints, Scalar, Byte, Int, Bytes, IsValueOf, is_bool, BoolScalar, bit, is_true, better, is_better, better-none, HasFound, better_passed, number_at, numbers_at}
+use Rattle.std.proofs.Common.{◌≡◌, inl, inr, ℕ, ℤ, pos, Bool, true, false, cond, List, [], ◌∷◌, ◌++◌, refl, sym, ap, subst, ◌∙◌, arith, int_lt, nat_eq}
+use Rattle.reductions.proofs.Words.{fold, beq, false≢true, false_from_ne_true, ints, Scalar, Byte, Int, Bytes, IsValueOf, is_bool, BoolScalar, bit, is_true, better, is_better, better-none, HasFound, better_passed, number_at, numbers_at}
 
 -- ---- bools
 

@@ -1,5 +1,6 @@
 -- The state of each line.
-use Rattle.reductions.proofs.Words.{◌≡◌, ◌+◌, ◌<◌, ◌≤◌, ℕ, List, [], ◌∷◌, ◌++◌, length, get_or, set, inl, inr, sym, ap, subst, ◌∙◌, arith, get_or-append-add, cases_lt, get_or_append_left, get_or-set_same, get_or-set_other, EachOf, EachPair}
+use Rattle.std.proofs.Common.{◌≡◌, ◌+◌, ◌<◌, ◌≤◌, ℕ, List, [], ◌∷◌, ◌++◌, length, get_or, set, inl, inr, sym, ap, subst, ◌∙◌, arith, get_or-append-add}
+use Rattle.reductions.proofs.Words.{cases_lt, get_or_append_left, get_or-set_same, get_or-set_other, EachOf, EachPair}
 
 -- one more value is appended
 pub each_more : {X : Type 0} (P : ℕ → X → Type 0) (n : ℕ) (xs : List X) (x : X) → length xs ≡ n → EachOf n xs P → P n x → EachOf (n + 1) (xs ++ x ∷ []) P

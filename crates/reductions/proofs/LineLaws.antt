@@ -1,5 +1,6 @@
 -- Runs of numbers, visited one by one.
-use Rattle.reductions.proofs.Words.{◌≡◌, ◌+◌, ◌-◌, ◌≤◌, ◌<◌, ℕ, suc, List, [], ◌∷◌, ◌++◌, map, length, refl, sym, ap, subst, ◌∙◌, arith, add-one, append_assoc, drop, get_or, ℤ, pos, ◌+ℤ◌, ◌*ℤ◌, ◌≤ℤ◌, nat_abs, map-append, length-map, zero-*ℤ, *ℤ_comm, +ℤ_idr, Scalar, size, decode, number_of, Side, number_of_side, numbers_from, numbers-suc, numbers-split, natural, position, place, item_at, EachWithin, not_negative, position-add, Run, run_offsets, length-run_offsets, run_offsets-more, first_place, found-next, number_at, numbers_at, numbers_of, IsPart, TakesIn}
+use Rattle.std.proofs.Common.{◌≡◌, ◌+◌, ◌-◌, ◌≤◌, ◌<◌, ℕ, suc, List, [], ◌∷◌, ◌++◌, map, length, refl, sym, ap, subst, ◌∙◌, arith, add-one, append_assoc, drop, get_or, ℤ, pos, ◌+ℤ◌, ◌*ℤ◌, ◌≤ℤ◌, nat_abs}
+use Rattle.reductions.proofs.Words.{map-append, length-map, zero-*ℤ, *ℤ_comm, +ℤ_idr, Scalar, size, decode, number_of, Side, number_of_side, numbers_from, numbers-suc, numbers-split, natural, position, place, item_at, EachWithin, not_negative, position-add, Run, run_offsets, length-run_offsets, run_offsets-more, first_place, found-next, number_at, numbers_at, numbers_of, IsPart, TakesIn}
 
 -- the first `n` items of a run
 abbrev pub front : ℕ → Run → Run

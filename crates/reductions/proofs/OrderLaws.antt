@@ -1,5 +1,6 @@
 -- Reductions that do not depend on the order of the numbers.
-use Rattle.reductions.proofs.Words.{◌≡◌, cond, ◌*◌, ◌<◌, ℕ, zero, suc, ℤ, pos, negsuc, ◌+ℤ◌, ◌*ℤ◌, Bool, true, false, not, ◌&&◌, ◌||◌, List, [], ◌∷◌, length, get_or, set, refl, sym, ap, subst, ◌∙◌, arith, int_min, int_max, fold, list_any, list_all, IsPermutation, neg_ℤ, *ℤ_comm, zero-*ℤ, negsuc-*ℤ-pos, negsuc-*ℤ-negsuc, pos-*ℤ-negsuc, neg_ℤ-neg_ℤ, ints, clamps, swap_is, get_or_default, IsPermutation-keeps, IsPermutation-map, IsPermutation-sym, Contains-permutation, length_permutation, list_any-IsPermutation, false≢true, Scalar, wrap, Red, Sum, Product, Minimum, Maximum, Any, ArgMin, ArgMax, item_at, AllOf, AreReduced, IsReduced, IsStored, number_at, numbers_at, reduced, result_scalar, least, greatest, is_true, depends_on_order}
+use Rattle.std.proofs.Common.{◌≡◌, cond, ◌*◌, ◌<◌, ℕ, zero, suc, ℤ, pos, negsuc, ◌+ℤ◌, ◌*ℤ◌, Bool, true, false, not, ◌&&◌, ◌||◌, List, [], ◌∷◌, length, get_or, set, refl, sym, ap, subst, ◌∙◌, arith}
+use Rattle.reductions.proofs.Words.{int_min, int_max, fold, list_any, list_all, IsPermutation, neg_ℤ, *ℤ_comm, zero-*ℤ, negsuc-*ℤ-pos, negsuc-*ℤ-negsuc, pos-*ℤ-negsuc, neg_ℤ-neg_ℤ, ints, clamps, swap_is, get_or_default, IsPermutation-keeps, IsPermutation-map, IsPermutation-sym, Contains-permutation, length_permutation, list_any-IsPermutation, false≢true, Scalar, wrap, Red, Sum, Product, Minimum, Maximum, Any, ArgMin, ArgMax, item_at, AllOf, AreReduced, IsReduced, IsStored, number_at, numbers_at, reduced, result_scalar, least, greatest, is_true, depends_on_order}
 use Rattle.reductions.proofs.RowLaws.{swapped}
 
 -- ---- an operation that takes any two numbers in either order

@@ -1,5 +1,6 @@
 -- Items at steps along two axes.
-use Rattle.reductions.proofs.Words.{◌≡◌, ◌<◌, ◌≤◌, ℕ, ℤ, pos, length, sym, ap, subst, ◌∙◌, arith, ◌+ℤ◌, ◌*ℤ◌, ◌≤ℤ◌, nat_abs, ints, position, place, EachWithin, not_negative, Run, Scalar, size, Side, number_of_side, Lines, IsRow, line_run, number_at}
+use Rattle.std.proofs.Common.{◌≡◌, ◌<◌, ◌≤◌, ℕ, ℤ, pos, length, sym, ap, subst, ◌∙◌, arith, ◌+ℤ◌, ◌*ℤ◌, ◌≤ℤ◌, nat_abs}
+use Rattle.reductions.proofs.Words.{ints, position, place, EachWithin, not_negative, Run, Scalar, size, Side, number_of_side, Lines, IsRow, line_run, number_at}
 use Rattle.reductions.proofs.LineLaws.{at_first, side_number}
 
 pub swapped : (x y z : ℤ) → (x +ℤ y) +ℤ z ≡ (x +ℤ z) +ℤ y

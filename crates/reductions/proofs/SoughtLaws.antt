@@ -1,5 +1,6 @@
 -- The place of the best number is looked up in the last block that has a better number.
-use Rattle.reductions.proofs.Words.{◌≡◌, ◌+◌, ◌-◌, ◌<◌, ◌⊎◌, inl, inr, ℕ, ℤ, Bool, List, ◌++◌, length, min, refl, sym, ap, subst, ◌∙◌, arith, append_assoc, length-append, fold, fold-append, append-nil, Scalar, Side, place, run_offsets, first_place, numbers_at, numbers_of, IsPart, better, is_better, HasFound, HasSought, better_same, better_taken, better_passed}
+use Rattle.std.proofs.Common.{◌≡◌, ◌+◌, ◌-◌, ◌<◌, ◌⊎◌, inl, inr, ℕ, ℤ, Bool, List, ◌++◌, length, min, refl, sym, ap, subst, ◌∙◌, arith, append_assoc, length-append, append-nil}
+use Rattle.reductions.proofs.Words.{fold, fold-append, Scalar, Side, place, run_offsets, first_place, numbers_at, numbers_of, IsPart, better, is_better, HasFound, HasSought, better_same, better_taken, better_passed}
 use Rattle.reductions.proofs.LineLaws.{front, part_numbers, length-numbers}
 
 -- the first `n` numbers of a side, and the numbers of the block that begins after them

@@ -1,5 +1,6 @@
 -- Test vectors: reductions as in NumPy.
-use Rattle.reductions.proofs.Words.{◌≡◌, true, false, pos, negsuc, [], ◌∷◌, Some, None, Ok, Err, refl, Descr, TooLarge, BadAxis, NotForThisKind, EmptyReduction, Little, Big, Two, Four, Eight, Scalar, Byte, Int, Bytes, number, shape_of, Sum, Product, Minimum, Maximum, Any, ArgMin, ArgMax, ScalarDescr, BoolScalar, lists, reduced, reduced_item, reduced_type}
+use Rattle.std.proofs.Common.{◌≡◌, true, false, pos, negsuc, [], ◌∷◌, Some, None, Ok, Err, refl}
+use Rattle.reductions.proofs.Words.{Descr, TooLarge, BadAxis, NotForThisKind, EmptyReduction, Little, Big, Two, Four, Eight, Scalar, Byte, Int, Bytes, number, shape_of, Sum, Product, Minimum, Maximum, Any, ArgMin, ArgMax, ScalarDescr, BoolScalar, lists, reduced, reduced_item, reduced_type}
 use Rattle.reductions.specs.Words.{All}
 
 abbrev int : Descr

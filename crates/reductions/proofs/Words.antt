@@ -6,7 +6,7 @@ pub use Rattle.reductions.specs.Lists.{IsAxisOf, is_axis, list_length, lists, na
 pub use Rattle.reductions.specs.Outcomes.{ReducedType, has_empty_list, number_scalar, outcome_of}
 unfoldable pub use Rattle.reductions.specs.Outcomes.{reduced_type}
 pub use Rattle.reductions.specs.Reductions.{first_place, greatest, is_true, item_number, least, needs_items, reduced, reduced_item, reduced_items, result_scalar}
-pub use Rattle.reductions.specs.Words.{All-back, All-front, All-head, All-tail, Any, ArgMax, ArgMin, BadAxis, Big, Bool, BoolScalar, Byte, Bytes, Descr, EachWithin, Eight, EmptyReduction, Err, Four, Gives, Int, IsIndex, IsNumber, IsShape, IsValueOf, Layout, LieWithin, List, Little, Maximum, Minimum, None, NotForThisKind, Ok, Option, Product, Red, Refusal, Result, Run, Scalar, ScalarDescr, Side, Some, StridedAxis, Sum, TooLarge, Two, [], address, address_at, all_joined, all_offsets, ap, arith, check, check_passed, clamps, cond, count, decode, dot, encode, encode_item, entry-first, false, false_from_ne_true, firsts-reordered, fold, fold-append, get_or, get_or-indexes, index_at, indexes, inl, inr, insert, int_lt, int_max, int_min, integer, ints, is_bool, item_at, item_from, item_of_joined, item_size, joined, joined_list, length, length-append, length-encode, length-first, length-index, length-indexes, length-joined, length-offsets, length-run_offsets, list_all, list_any, low_bits, map, max_bytes, max_items, multiples, nat_eq, natural, not, not_negative, number, number_of, number_of_side, number_size, numbers-split, numbers-suc, numbers_from, offsets, offsets-none, one-encoded, pair_even, place, place-at, pos, pos-offset, position, position-add, range_with_len, rank, rank-lt, refl, remove, run_along, run_offsets, run_offsets-more, runs, runs-within, shape_of-same, size, slice_index, slice_set, subst, suc, sym, true, wrap, zero, zero-count, ℕ, ℤ, ◌&&◌, ◌*ℤ◌, ◌*◌, ◌++◌, ◌+ℤ◌, ◌+◌, ◌<◌, ◌==◌, ◌>>=◌, ◌^◌, ◌∙◌, ◌∷◌, ◌≡◌, ◌≤◌, ◌⊎◌}
+pub use Rattle.reductions.specs.Words.{All-back, All-front, All-head, All-tail, Any, ArgMax, ArgMin, BadAxis, Big, BoolScalar, Byte, Bytes, Descr, EachWithin, Eight, EmptyReduction, Four, Gives, Int, IsIndex, IsNumber, IsShape, IsValueOf, Layout, LieWithin, Little, Maximum, Minimum, NotForThisKind, Product, Red, Refusal, Run, Scalar, ScalarDescr, Side, StridedAxis, Sum, TooLarge, Two, address, address_at, all_joined, all_offsets, check, check_passed, clamps, count, decode, dot, encode, encode_item, entry-first, false_from_ne_true, firsts-reordered, fold, fold-append, get_or-indexes, index_at, indexes, insert, int_max, int_min, integer, ints, is_bool, item_at, item_from, item_of_joined, item_size, joined, joined_list, length-encode, length-first, length-index, length-indexes, length-joined, length-offsets, length-run_offsets, list_all, list_any, low_bits, max_bytes, max_items, multiples, natural, not_negative, number, number_of, number_of_side, number_size, numbers-split, numbers-suc, numbers_from, offsets, offsets-none, one-encoded, pair_even, place, place-at, pos-offset, position, position-add, range_with_len, rank, rank-lt, remove, run_along, run_offsets, run_offsets-more, runs, runs-within, shape_of-same, size, wrap, zero-count, ◌>>=◌}
 unfoldable pub use Rattle.reductions.specs.Words.{shape_of}
 pub use Rattle.reductions.specs.declared.lines.Lines.{Lines}
 pub use Rattle.reductions.specs.inside.Axes.{AreStarts}
@@ -17,7 +17,6 @@ pub use Rattle.reductions.specs.inside.FoundLaws.{HasFound, HasSought, absent-ne
 pub use Rattle.reductions.specs.inside.Lines.{EachOf, EachPair, IsRow, line_first, line_front, line_run}
 pub use Rattle.reductions.specs.inside.Numbers.{AddsReduced, AreReduced, HaveItems, IsPart, IsPushed, IsReduced, IsStored, TakesIn, lines, lists_from, number_at, numbers_at, numbers_of}
 pub use Rattle.reductions.specs.inside.Orders.{depends_on_order}
-pub use Rattle.std.proofs.Common.{All, add-mul, add-one, append-nil, append_assoc, drop, get_or-append-add, length-drop, min, mul-le-mul_right, mul-zero, mul_assoc, mul_comm, negsuc, one-mul, replicate, rules, set, suc-mul, take, zero-mul, ◌-◌, ◌||◌}
 pub use Rattle.std.proofs.Math.Bool.{beq}
 pub use Rattle.std.proofs.Math.IntN.{*ℤ_comm, +ℤ_idr, neg_ℤ, neg_ℤ-neg_ℤ, negsuc-*ℤ-negsuc, negsuc-*ℤ-pos, pos-*ℤ-negsuc, zero-*ℤ}
 pub use Rattle.std.proofs.Math.Seq.{drop-append_seam, take-append_seam}
@@ -30,4 +29,3 @@ pub use Rattle.std.proofs.lemmas.List.Sorted.{All-permutation, Contains-permutat
 pub use Rattle.std.proofs.lemmas.Result.{err_from_is_err_and}
 pub use Rattle.std.specs.List.{flat_map}
 pub use Rattle.std.specs.List.Sorted.{IsPermutation}
-pub use Rattle.std.specs.Prelude.{IfOk, is_ok, nat_abs, vec_capacity, ◌≤ℤ◌}

@@ -2,7 +2,7 @@
 pub use Rattle.reductions.specs.Lists.{IsAxisOf, is_axis, list_length, lists, named_axis, reduced_shape}
 pub use Rattle.reductions.specs.Outcomes.{has_empty_list, number_scalar, outcome_of, reduced_type}
 pub use Rattle.reductions.specs.Reductions.{needs_items, reduced_items, result_scalar, wide}
-pub use Rattle.reductions.specs.Words.{BadAxis, C, Err, Gives, IsNumber, Little, None, Ok, ScalarDescr, Some, [], count, encode_item, false, item_at, item_from, item_size, length, map, max_items, not, number_of_side, offsets_in, owned_items, pos, remove, run_offsets, size, slice_index, slice_index_or, true, ℕ, ◌&&◌, ◌*◌, ◌+◌, ◌<◌, ◌==◌, ◌∷◌, ◌≡◌, ◌≤◌}
+pub use Rattle.reductions.specs.Words.{BadAxis, C, Gives, IsNumber, Little, ScalarDescr, count, encode_item, item_at, item_from, item_size, max_items, number_of_side, offsets_in, owned_items, remove, run_offsets, size}
 unfoldable pub use Rattle.reductions.specs.Words.{offsets}
 pub use Rattle.reductions.specs.inside.Axes.{AreStarts, shape_after}
 pub use Rattle.reductions.specs.inside.Inputs.{AreResults, lists_of}
@@ -11,4 +11,3 @@ pub use Rattle.reductions.specs.inside.Numbers.{AddsReduced, AreReduced, HaveIte
 pub use Rattle.reductions.specs.inside.Orders.{depends_on_order}
 pub use Rattle.std.specs.List.{flat_map}
 pub use Rattle.std.specs.List.Sorted.{IsPermutation}
-pub use Rattle.std.specs.Prelude.{All, IfErr, IfOk}

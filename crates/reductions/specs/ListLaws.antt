@@ -1,5 +1,7 @@
 -- Laws about the lists of items that are reduced.
-use Rattle.reductions.specs.Words.{◌<◌, ℕ, zero, suc, List, [], ◌∷◌, length, get_or, arith, insert, remove, IsIndex}
+use Rattle.std.specs.Prelude.{◌<◌, ℕ, List, [], ◌∷◌, length}
+use Rattle.std.proofs.Common.{zero, suc, get_or, arith}
+use Rattle.reductions.specs.Words.{insert, remove, IsIndex}
 
 -- An index of the other axes, with a number of the axis inserted, is an index of the array.
 pub IsIndex-insert : (shape index : List ℕ) (a k : ℕ) → a < length shape → IsIndex (remove shape a) index → k < get_or shape a 0 → IsIndex shape (insert index a k)

@@ -1,5 +1,6 @@
 -- The axis of a reduction, and the lists of items that it reduces, one for each item of the result.
-use Rattle.reductions.specs.Words.{ℕ, ◌<◌, ℤ, Bool, true, false, Option, Some, None, List, [], ◌∷◌, map, slice_index, slice_set, range_with_len, insert, remove, natural, count, indexes, rank, from_front, is_place}
+use Rattle.std.specs.Prelude.{ℕ, ◌<◌, ℤ, Bool, true, false, Option, Some, None, List, [], ◌∷◌, map, slice_index, slice_set}
+use Rattle.reductions.specs.Words.{range_with_len, insert, remove, natural, count, indexes, rank, from_front, is_place}
 
 -- the named axis, if there is one, counted from the front; a negative number counts from the end
 abbrev pub named_axis : ℕ → Option ℤ → Option ℕ

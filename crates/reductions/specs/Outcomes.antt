@@ -1,5 +1,6 @@
 -- The type and shape of the array that a reduction gives, or what is refused.
-use Rattle.reductions.specs.Words.{ℕ, ℤ, Bool, not, ◌&&◌, ◌==◌, Option, List, length, Result, Ok, Err, Descr, Refusal, NotForThisKind, BadAxis, EmptyReduction, Scalar, Byte, Int, Bytes, ◌>>=◌, check, count, shape_of, Owned, Red, ScalarDescr, RecordDescr, BoolScalar}
+use Rattle.std.specs.Prelude.{ℕ, ℤ, Bool, not, ◌&&◌, ◌==◌, Option, List, length, Result, Ok, Err}
+use Rattle.reductions.specs.Words.{Descr, Refusal, NotForThisKind, BadAxis, EmptyReduction, Scalar, Byte, Int, Bytes, ◌>>=◌, check, count, shape_of, Owned, Red, ScalarDescr, RecordDescr, BoolScalar}
 use Rattle.reductions.specs.Lists.{named_axis, is_axis, reduced_shape, list_length}
 use Rattle.reductions.specs.Reductions.{result_scalar, needs_items}
 

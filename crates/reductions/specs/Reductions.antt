@@ -1,5 +1,7 @@
 -- What reductions give, as in NumPy: sums and products, least and greatest items and their places, and truth tests.
-use Rattle.reductions.specs.Words.{ℕ, suc, ℤ, pos, ◌+ℤ◌, ◌*ℤ◌, Bool, true, false, not, if◌then◌else◌, List, [], ◌∷◌, map, get_or, int_min, int_max, fold, list_any, list_all, int_eq, Descr, Little, Eight, Scalar, Byte, Int, item_from, LeafValue, number, number_of, wrap, little, Red, Sum, Product, Minimum, Maximum, Any, All, ArgMin, ArgMax, ScalarDescr, RecordDescr, BoolScalar}
+use Rattle.std.specs.Prelude.{ℕ, ℤ, pos, ◌+ℤ◌, ◌*ℤ◌, Bool, true, false, not, if◌then◌else◌, List, [], ◌∷◌, map}
+use Rattle.std.proofs.Common.{suc, get_or}
+use Rattle.reductions.specs.Words.{int_min, int_max, fold, list_any, list_all, int_eq, Descr, Little, Eight, Scalar, Byte, Int, item_from, LeafValue, number, number_of, wrap, little, Red, Sum, Product, Minimum, Maximum, Any, All, ArgMin, ArgMax, ScalarDescr, RecordDescr, BoolScalar}
 
 -- ---- types
 

@@ -53,7 +53,6 @@ pub use Rattle.shape_strides.specs.WalkLaws.{length-first, length-run_offsets}
 pub use Rattle.shape_strides.specs.declared.layout.Layout.{Layout}
 pub use Rattle.shape_strides.specs.declared.runs.Run.{Run}
 pub use Rattle.shape_strides.specs.declared.single_run.StridedAxis.{StridedAxis}
-pub use Rattle.std.proofs.Common.{ap, arith, cond, get_or, inl, inr, length-append, refl, subst, suc, sym, zero, ◌%◌, ◌++◌, ◌∙◌, ◌⊎◌}
 pub use Rattle.std.proofs.Math.Nat.{mod-lt}
 pub use Rattle.std.proofs.lemmas.Bool.{eqb-true, false_from_ne_true, lt-ltb}
 pub use Rattle.std.proofs.lemmas.Int.{clamps, fold-int_max_bounds, fold-int_max_reached, fold-int_min_bounds, fold-int_min_reached, int_wrap-add_left, int_wrap-add_right, int_wrap-mul_left, int_wrap-mul_right, ints, of_z-to_z, wrapping_add-bits, wrapping_mul-bits}
@@ -65,6 +64,5 @@ pub use Rattle.std.specs.Int.{cast_signed, cast_unsigned, int_max, int_min}
 unfoldable pub use Rattle.std.specs.Int.{int_wrap}
 pub use Rattle.std.specs.List.{fold, insert, list_all, list_any, range_with_len, remove}
 pub use Rattle.std.specs.Ordering.{int_eq}
-pub use Rattle.std.specs.Prelude.{Bool, Err, IfSome, IsTrue, List, None, Ok, Option, Result, Some, [], false, if◌then◌else◌, int_lt, is_some, length, map, nat_eq, not, pos, slice_index, slice_index_or, slice_set, true, unsigned_abs, ℕ, ℤ, ◌&&◌, ◌*ℤ◌, ◌*◌, ◌+ℤ◌, ◌+◌, ◌<◌, ◌==◌, ◌^◌, ◌∷◌, ◌≡◌, ◌≤◌}
 pub use Rattle.view_ops.specs.Slices.{from_front, is_place}
 pub use mir.Syntax.{w64}

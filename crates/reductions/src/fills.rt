@@ -1,6 +1,7 @@
 //! Reduces all items of a layout, or the lines along an axis that start at each of its items: one
 //! line after another, or all lines at once, row by row.
-ghost use Rattle.reductions.specs.Clauses.{◌≡◌, ◌+◌, ◌*◌, ◌<◌, ◌≤◌, [], ◌∷◌, length, IfOk, Some, Little, number_of_side, count, offsets, run_offsets, number_at, numbers_at, lines, lists_from, TakesIn, IsPushed, AreReduced, AddsReduced, HaveItems, all_lines, line_run, AreHeld, EachOf, EachPair};
+ghost use Rattle.std.specs.Prelude.{◌≡◌, ◌+◌, ◌*◌, ◌<◌, ◌≤◌, [], ◌∷◌, length, IfOk, Some};
+ghost use Rattle.reductions.specs.Clauses.{Little, number_of_side, count, offsets, run_offsets, number_at, numbers_at, lines, lists_from, TakesIn, IsPushed, AreReduced, AddsReduced, HaveItems, all_lines, line_run, AreHeld, EachOf, EachPair};
 
 use crate::folds::Fold;
 use crate::lines::{Lines, Lists, fold_line, fold_run};

@@ -1,5 +1,7 @@
 //! Reductions that visit numbers one by one.
-ghost use Rattle.reductions.specs.Words.{◌≡◌, ◌+◌, ◌<◌, ◌^◌, ℕ, ℤ, pos, Bool, true, false, [], ◌∷◌, ◌++◌, List, length, if◌then◌else◌, is_some, IfSome, IsTrue, refl, fold, Order, Little, low_bits, size, Red};
+ghost use Rattle.std.specs.Prelude.{◌≡◌, ◌+◌, ◌<◌, ◌^◌, ℕ, ℤ, pos, Bool, true, false, [], ◌∷◌, ◌++◌, List, length, if◌then◌else◌, is_some, IfSome, IsTrue};
+ghost use Rattle.std.proofs.Common.{refl};
+ghost use Rattle.reductions.specs.Words.{fold, Order, Little, low_bits, size, Red};
 ghost use Rattle.reductions.specs.Reductions.{first_place, result_scalar};
 ghost use Rattle.reductions.specs.inside.Numbers.{number_at, numbers_at, numbers_of, TakesIn, IsStored, IsReduced};
 ghost use Rattle.reductions.specs.inside.FoldLaws.{total_of, total, total_is, total_size, truth_of, truth, truth_is, truth_size, is_true_bits};

@@ -1,5 +1,6 @@
 -- A target shape has the same number of items.
-use Rattle.reshape_rule.proofs.Words.{◌≡◌, ℕ, ◌*◌, ◌/◌, ◌%◌, ◌≤◌, ◌==◌, not, true, false, ℤ, pos, negsuc, int_le, List, [], ◌∷◌, map, length, Result, Ok, Err, inl, inr, refl, sym, ◌∙◌, ap, arith, mul_assoc, mul_comm, div-add-mod', list_all, is_ok, IfOk, cases_lt, cases_Bool, and_parts, eqb-true, false≢true, Refusal, Gives, max_axes, count, shape_of-same, left_open, given, make_up, length_or, target_of}
+use Rattle.std.proofs.Common.{◌≡◌, ℕ, ◌*◌, ◌/◌, ◌%◌, ◌≤◌, ◌==◌, not, true, false, ℤ, pos, negsuc, int_le, List, [], ◌∷◌, map, length, Result, Ok, Err, inl, inr, refl, sym, ◌∙◌, ap, arith, mul_assoc, mul_comm, div-add-mod'}
+use Rattle.reshape_rule.proofs.Words.{list_all, is_ok, IfOk, cases_lt, cases_Bool, and_parts, eqb-true, false≢true, Refusal, Gives, max_axes, count, shape_of-same, left_open, given, make_up, length_or, target_of}
 use Rattle.reshape_rule.proofs.TargetLaws.{target_of-many, target_of-low, target_of-opened, target_of-made}
 
 -- ---- the product of the lengths

@@ -1,5 +1,6 @@
 -- Laws of the strides taken from the entries at unit indexes.
-use Rattle.reshape_rule.proofs.Words.{◌≡◌, ℕ, ◌+◌, ◌*◌, ◌/◌, ◌<◌, ◌≤◌, nat_le, true, pos, ◌-ℤ◌, List, [], ◌∷◌, ◌++◌, length, get_or, drop, sym, ◌∙◌, ap, arith, mul_comm, mul-div_cancel, mul-le-mul_right, cond-true, nat_tests, drop_more, append_assoc, count, printed_stride, printed_strides, count-drop, factors_pos}
+use Rattle.std.proofs.Common.{◌≡◌, ℕ, ◌+◌, ◌*◌, ◌/◌, ◌<◌, ◌≤◌, nat_le, true, pos, ◌-ℤ◌, List, [], ◌∷◌, ◌++◌, length, get_or, drop, sym, ◌∙◌, ap, arith, mul_comm, mul-div_cancel, mul-le-mul_right}
+use Rattle.reshape_rule.proofs.Words.{cond-true, nat_tests, drop_more, append_assoc, count, printed_stride, printed_strides, count-drop, factors_pos}
 
 -- the number of items of the axes after axis k
 pub record Later (lengths : List ℕ) (k items : ℕ) : Type 0 where

@@ -1,5 +1,6 @@
 -- Laws of the target shape: the capped product, and each refusal.
-use Rattle.reshape_rule.proofs.Words.{◌≡◌, ℕ, ◌+◌, ◌*◌, ◌/◌, ◌%◌, ◌<◌, ◌≤◌, ◌==◌, min, nat_le, true, false, ℤ, pos, negsuc, int_le, Bool, List, ◌∷◌, map, length, get_or, drop, Err, inl, inr, refl, sym, ◌∙◌, ap, arith, one-mul, mul_comm, mul_assoc, list_all, min-eq_left, min-eq_right, div-eq_of_lt, mod-eq_of_lt, cases_lt, nat_tests, drop_more, map-map, ◌>>=◌, check, TooManyAxes, BadReshape, max_axes, max_items, shape_of, min-mul, shape_of-capped, left_open, given, make_up, length_or, target_of}
+use Rattle.std.proofs.Common.{◌≡◌, ℕ, ◌+◌, ◌*◌, ◌/◌, ◌%◌, ◌<◌, ◌≤◌, ◌==◌, min, nat_le, true, false, ℤ, pos, negsuc, int_le, Bool, List, ◌∷◌, map, length, get_or, drop, Err, inl, inr, refl, sym, ◌∙◌, ap, arith, one-mul, mul_comm, mul_assoc}
+use Rattle.reshape_rule.proofs.Words.{list_all, min-eq_left, min-eq_right, div-eq_of_lt, mod-eq_of_lt, cases_lt, nat_tests, drop_more, map-map, ◌>>=◌, check, TooManyAxes, BadReshape, max_axes, max_items, shape_of, min-mul, shape_of-capped, left_open, given, make_up, length_or, target_of}
 
 -- ---- the numbers from k on
 

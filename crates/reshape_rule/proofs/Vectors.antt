@@ -1,5 +1,6 @@
 -- Examples of NumPy's `reshape`: the shapes, and whether the result is a view.
-use Rattle.reshape_rule.proofs.Words.{◌≡◌, List, ℕ, true, false, pos, negsuc, [], ◌∷◌, Ok, Err, replicate, refl, TooManyAxes, TooLarge, BadReshape, shape_of, printed_strides, target_of, is_affine}
+use Rattle.std.proofs.Common.{◌≡◌, List, ℕ, true, false, pos, negsuc, [], ◌∷◌, Ok, Err, replicate, refl}
+use Rattle.reshape_rule.proofs.Words.{TooManyAxes, TooLarge, BadReshape, shape_of, printed_strides, target_of, is_affine}
 
 -- `numpy.arange(8).reshape(2, 2, -1)`, `(-1,)`, `(2, -1, 4)`, `(1, 8, 1)`
 open_last : target_of 8 (pos 2 ∷ pos 2 ∷ negsuc 0 ∷ []) ≡ Ok (2 ∷ 2 ∷ 2 ∷ [])

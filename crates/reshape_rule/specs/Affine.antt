@@ -1,5 +1,7 @@
 -- Whether a list is affine in a shape. The type of the answer says what is proved, whichever test finds the answer.
-use Rattle.reshape_rule.specs.Words.{◌≡◌, true, false, ℕ, List, refl, sym, ◌∙◌, false≢true}
+use Rattle.std.specs.Prelude.{◌≡◌, ℕ, List}
+use Rattle.std.proofs.Common.{true, false, refl, sym, ◌∙◌}
+use Rattle.reshape_rule.specs.Words.{false≢true}
 use Rattle.reshape_rule.specs.Reshapes.{AffineOrNot, affine, not_affine}
 use Rattle.reshape_rule.specs.inside.Tests.{is_affine}
 use Rattle.reshape_rule.specs.AffineLaws.{affine-from_test, test_from_affine}

@@ -1,5 +1,7 @@
 -- Laws of affine lists: the steps to unit indexes are the only possible strides, so a test of them decides.
-use Rattle.reshape_rule.specs.Words.{◌≡◌, Bool, ℕ, zero, suc, ◌<◌, ◌≤◌, nat_le, true, ℤ, pos, ◌+ℤ◌, ◌-ℤ◌, ◌*ℤ◌, List, [], ◌∷◌, length, get_or, drop, refl, sym, ◌∙◌, ap, arith, cond-true, nat_tests, Decides-int_eq, int_eq, AllPass-from_list_all, list_all-from_AllPass, ints, *ℤ-zero, +ℤ_idr, count, indexes, rank, IsIndex, dot, address_at, first_address, printed_strides, length-indexes, get_or-indexes, rank-lt, index_at, zero_filled, unit, dot-zeros, rank-zeros, IsIndex-first, IsIndex-unit, rank-unit, dot-unit, first_address-entry, printed-at, length-printed}
+use Rattle.std.specs.Prelude.{◌≡◌, Bool, ℕ, ◌<◌, ◌≤◌, ℤ, pos, ◌+ℤ◌, ◌-ℤ◌, ◌*ℤ◌, List, ◌∷◌, length}
+use Rattle.std.proofs.Common.{zero, suc, nat_le, true, [], get_or, drop, refl, sym, ◌∙◌, ap, arith}
+use Rattle.reshape_rule.specs.Words.{cond-true, nat_tests, Decides-int_eq, int_eq, AllPass-from_list_all, list_all-from_AllPass, ints, *ℤ-zero, +ℤ_idr, count, indexes, rank, IsIndex, dot, address_at, first_address, printed_strides, length-indexes, get_or-indexes, rank-lt, index_at, zero_filled, unit, dot-zeros, rank-zeros, IsIndex-first, IsIndex-unit, rank-unit, dot-unit, first_address-entry, printed-at, length-printed}
 use Rattle.reshape_rule.specs.Reshapes.{IsAffine}
 use Rattle.reshape_rule.specs.inside.Tests.{is_affine}
 

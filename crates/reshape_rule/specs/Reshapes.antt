@@ -1,5 +1,6 @@
 -- The same items with another shape, without a copy.
-use Rattle.reshape_rule.specs.Words.{◌≡◌, ℕ, ℤ, pos, ◌+ℤ◌, List, length, slice_index, Layout, rank, IsIndex, dot, offsets, Fits}
+use Rattle.std.specs.Prelude.{◌≡◌, ℕ, ℤ, pos, ◌+ℤ◌, List, length, slice_index}
+use Rattle.reshape_rule.specs.Words.{Layout, rank, IsIndex, dot, offsets, Fits}
 
 -- The entries of the list, in C order, are affine in the shape: there are a first number and a stride for each axis
 -- from which every entry can be computed.

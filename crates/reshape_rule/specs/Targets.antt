@@ -1,5 +1,7 @@
 -- The shape that the numbers of a reshape describe, as in NumPy: one of them may be -1, for the remaining length.
-use Rattle.reshape_rule.specs.Words.{ℕ, ◌+◌, ◌*◌, ◌/◌, ◌%◌, nat_le, ◌==◌, ℤ, pos, negsuc, int_le, Bool, ◌&&◌, not, if◌then◌else◌, List, [], ◌∷◌, length, map, Result, list_all, Refusal, TooManyAxes, BadReshape, ◌>>=◌, check, max_axes, shape_of}
+use Rattle.std.specs.Prelude.{ℕ, ◌+◌, ◌*◌, ◌/◌, ◌%◌, ◌==◌, ℤ, pos, negsuc, int_le, Bool, ◌&&◌, not, if◌then◌else◌, List, ◌∷◌, length, map, Result}
+use Rattle.std.proofs.Common.{nat_le, []}
+use Rattle.reshape_rule.specs.Words.{list_all, Refusal, TooManyAxes, BadReshape, ◌>>=◌, check, max_axes, shape_of}
 
 -- how many numbers are below 0, so that they do not give a length
 abbrev pub left_open : List ℤ → ℕ

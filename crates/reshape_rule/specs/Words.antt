@@ -18,12 +18,10 @@ pub use Rattle.shape_strides.specs.PlaceLaws.{offset_low}
 pub use Rattle.shape_strides.specs.ShapeLaws.{shape_of-capped, shape_of-same}
 unfoldable pub use Rattle.shape_strides.specs.Shapes.{shape_of}
 pub use Rattle.shape_strides.specs.declared.layout.Layout.{Layout}
-pub use Rattle.std.proofs.Common.{[], ap, arith, drop, false, get_or, nat_le, refl, suc, sym, true, zero, ◌*ℤ◌, ◌+ℤ◌, ◌-ℤ◌, ◌<◌, ◌∙◌, ◌∷◌}
 pub use Rattle.std.proofs.lemmas.Bool.{cond-true, false≢true}
 pub use Rattle.std.proofs.lemmas.Bool.Decides.{Decides-int_eq, nat_tests}
 pub use Rattle.std.proofs.lemmas.Int.{ints}
 pub use Rattle.std.proofs.lemmas.List.Sums.{AllPass-from_list_all, list_all-from_AllPass}
 pub use Rattle.std.specs.List.{list_all}
 pub use Rattle.std.specs.Ordering.{int_eq}
-pub use Rattle.std.specs.Prelude.{Bool, List, Result, if◌then◌else◌, int_le, length, map, negsuc, not, pos, slice_index, ℕ, ℤ, ◌%◌, ◌&&◌, ◌*◌, ◌+◌, ◌/◌, ◌==◌, ◌≡◌, ◌≤◌}
 pub use lib.IntN.{*ℤ-zero, +ℤ_idr}

@@ -1,5 +1,6 @@
 //! The shape that the numbers of a reshape mean.
-ghost use Rattle.reshape_rule.specs.Clauses.{◌≡◌, ◌+◌, ◌/◌, ◌≤◌, min, map, negsuc, int_le, IfOk, list_all, Gives, max_items, count, left_open, given, make_up, length_or, target_of};
+ghost use Rattle.std.specs.Prelude.{◌≡◌, ◌+◌, ◌/◌, ◌≤◌, min, map, negsuc, int_le, IfOk};
+ghost use Rattle.reshape_rule.specs.Clauses.{list_all, Gives, max_items, count, left_open, given, make_up, length_or, target_of};
 
 use elem_descr::Refusal;
 use shape_strides::{MAX_AXES, MAX_ITEMS, Shape};

@@ -1,5 +1,6 @@
 -- One more byte on the way to the closing brace.
-use Rattle.script_lang.proofs.Words.{◌≡◌, ◌+◌, ℕ, Bool, true, false, List, [], ◌∷◌, Option, Some, None, refl, ap, ◌∙◌, arith, nat_eq, option_map, record_len, depth_behind, named_behind}
+use Rattle.std.proofs.Common.{◌≡◌, ◌+◌, ℕ, Bool, true, false, List, [], ◌∷◌, Option, Some, None, refl, ap, ◌∙◌, arith, nat_eq}
+use Rattle.script_lang.proofs.Words.{option_map, record_len, depth_behind, named_behind}
 
 shifted : (i : ℕ) (o : Option ℕ) → option_map (λ n. n + i) (option_map (λ n. n + 1) o) ≡ option_map (λ n. n + (i + 1)) o
 shifted i None = refl

@@ -1,5 +1,6 @@
 -- Which commands take memory of their own.
-use Rattle.script_lang.proofs.Words.{◌≡◌, ℕ, ℤ, false, List, Option, Some, None, refl, is_some, IsTrue, IfSome, option_map, IndexItem, Operand, Viewing, Computation, Value, Command, Operation, UnOp, MakeVerb, ViewVerb, ComputeVerb, operation_of, where_true, symbol_at, at_end, word_at, names_unless_verb, name_at, quoted_at, descriptor_at, shape_at, signed_shape_at, bracket_at, optional_index_at, operand_at, argument_at, new_items_at, make_at, viewing_of, plain_view_at, field_name_at, transposed_by, transpose_at, reshape_at, broadcast_at, viewing_at, view_at, cast_at, combine_at, transform_at, computation_at, compute_at, value_at, bind_at, set_at, update_at, form_at, command_at, optional_index_room, index_room, operand_room, argument_room, viewing_room, computation_room, value_room, parts_take_memory}
+use Rattle.std.proofs.Common.{◌≡◌, ℕ, ℤ, false, List, Option, Some, None, refl, is_some, IsTrue, IfSome}
+use Rattle.script_lang.proofs.Words.{option_map, IndexItem, Operand, Viewing, Computation, Value, Command, Operation, UnOp, MakeVerb, ViewVerb, ComputeVerb, operation_of, where_true, symbol_at, at_end, word_at, names_unless_verb, name_at, quoted_at, descriptor_at, shape_at, signed_shape_at, bracket_at, optional_index_at, operand_at, argument_at, new_items_at, make_at, viewing_of, plain_view_at, field_name_at, transposed_by, transpose_at, reshape_at, broadcast_at, viewing_at, view_at, cast_at, combine_at, transform_at, computation_at, compute_at, value_at, bind_at, set_at, update_at, form_at, command_at, optional_index_room, index_room, operand_room, argument_room, viewing_room, computation_room, value_room, parts_take_memory}
 use Rattle.script_lang.proofs.Rooms.{after_step, after_known, or_left, or_right, HasIndexRoom, HasOptionalRoom, HasOperandRoom, HasArgumentRoom}
 
 abbrev HasViewingRoom : Viewing × List ℕ → Type 0

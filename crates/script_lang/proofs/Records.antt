@@ -1,5 +1,6 @@
 -- The values read from a record literal.
-use Rattle.script_lang.proofs.Words.{◌≡◌, ◌==◌, ℕ, true, false, List, Option, Some, None, refl, Literal, Record, Values, value_count, literals_of, listed_literals_of, length_literals_of, by_rule, none_or_more, record_at}
+use Rattle.std.proofs.Common.{◌≡◌, ◌==◌, ℕ, true, false, List, Option, Some, None, refl}
+use Rattle.script_lang.proofs.Words.{Literal, Record, Values, value_count, literals_of, listed_literals_of, length_literals_of, by_rule, none_or_more, record_at}
 
 module _ (value_at : List ℕ → Option (Literal × List ℕ)) (bytes rest : List ℕ) (values : Values) (read : by_rule (none_or_more value_at 41) bytes ≡ Some (literals_of values, rest)) where
   pub record_empty : (value_count values == 0) ≡ true → record_at value_at bytes ≡ None

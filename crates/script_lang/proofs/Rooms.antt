@@ -1,5 +1,6 @@
 -- What takes memory of its own.
-use Rattle.script_lang.proofs.Words.{◌≡◌, ◌==◌, ℕ, Bool, true, false, List, length, not, Option, Some, None, refl, IsTrue, IfSome, nat_le, count_by, ◌||◌, option_and_then, option_map, false≢true, IndexItem, is_ellipsis, ScalarLiteral, Literal, Operand, Argument, where_true, byte_at, unspaced, by_rule, none_or_more, one_or_more, byte_text_at, bytes_at, scalar_at, literal_of_scalar, record_at, literal_at, index_item_at, index_at, optional_index_at, operand_named, operand_of, literal_of, bare_name_at, argument_at, scalar_room, literal_room, index_room, optional_index_room, operand_room, argument_room}
+use Rattle.std.proofs.Common.{◌≡◌, ◌==◌, ℕ, Bool, true, false, List, length, not, Option, Some, None, refl, IsTrue, IfSome, nat_le, count_by, ◌||◌}
+use Rattle.script_lang.proofs.Words.{option_and_then, option_map, false≢true, IndexItem, is_ellipsis, ScalarLiteral, Literal, Operand, Argument, where_true, byte_at, unspaced, by_rule, none_or_more, one_or_more, byte_text_at, bytes_at, scalar_at, literal_of_scalar, record_at, literal_at, index_item_at, index_at, optional_index_at, operand_named, operand_of, literal_of, bare_name_at, argument_at, scalar_room, literal_room, index_room, optional_index_room, operand_room, argument_room}
 
 -- If what follows a step has P for every result of the step, the whole has P.
 pub after_step : {A B : Type 0} (P : B → Type 0) (step : Option A) (next : A → Option B) → ((x : A) → IfSome (next x) P) → IfSome (option_and_then next step) P

@@ -1,5 +1,6 @@
 -- Bytes that are numbers.
-use Rattle.script_lang.proofs.Words.{◌≡◌, ◌≤◌, ◌<◌, ◌^◌, ◌+◌, ℕ, suc, Bool, true, false, List, [], ◌∷◌, take, Some, None, refl, arith, nat_eq, cond, if◌then◌else◌, IfSome, length, drop, subst, length-drop, record_mark_at, is_mark, pow-le-pow_right, list_all, prefix_len, option_map, byte_at, number_at, signed_at, positive, negative}
+use Rattle.std.proofs.Common.{◌≡◌, ◌≤◌, ◌<◌, ◌^◌, ◌+◌, ℕ, suc, Bool, true, false, List, [], ◌∷◌, take, Some, None, refl, arith, nat_eq, cond, if◌then◌else◌, IfSome, length, drop, subst, length-drop}
+use Rattle.script_lang.proofs.Words.{record_mark_at, is_mark, pow-le-pow_right, list_all, prefix_len, option_map, byte_at, number_at, signed_at, positive, negative}
 use Rattle.script_lang.proofs.Shorter.{Few, two_within}
 
 -- A number with fewer digits is below the power of ten for more digits.

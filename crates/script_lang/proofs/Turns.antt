@@ -1,5 +1,6 @@
 -- More turns than there are bytes do not change what a rule reads.
-use Rattle.script_lang.proofs.Words.{◌≡◌, ◌<◌, ℕ, zero, suc, List, ◌∷◌, length, Option, Some, None, refl, ap, arith, IfSome, option_and_then, ◌or_else◌, byte_at, symbol_at, length_at, integer_at, in_turns, by_rule, AnyTurns, closed, entry_first, comma_next, one_or_more, none_or_more, row, text_byte_at, literal_within, literal_at, line_end_at, index_item_at, EachListAnyTurns}
+use Rattle.std.proofs.Common.{◌≡◌, ◌<◌, ℕ, zero, suc, List, ◌∷◌, length, Option, Some, None, refl, ap, arith, IfSome}
+use Rattle.script_lang.proofs.Words.{option_and_then, ◌or_else◌, byte_at, symbol_at, length_at, integer_at, in_turns, by_rule, AnyTurns, closed, entry_first, comma_next, one_or_more, none_or_more, row, text_byte_at, literal_within, literal_at, line_end_at, index_item_at, EachListAnyTurns}
 use Rattle.script_lang.proofs.Shorter.{Less, Few, Shortens, weaker, symbol_shorter, length_shorter, integer_shorter, index_item_shorter, text_byte_shorter, literal_within_shorter, literal_shorter}
 
 -- a rule that takes at least one byte before it goes on

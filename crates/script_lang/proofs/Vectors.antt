@@ -1,5 +1,6 @@
 -- Record literals, worked out by hand.
-use Rattle.script_lang.proofs.Words.{◌≡◌, ℕ, pos, true, [], ◌∷◌, Some, None, codes, refl, ScalarLiteral, Integer, Boolean, Bytes, Scalar, Record, Values, no_values, scalar_value, record_value, value_count, all_values, literals_of, word_at, number_at, integer_at, is_parted, bytes_mark_at, by_rule, in_turns, entry_first, comma_next, one_or_more, none_or_more, row, text_byte_at, byte_text_at, boolean_at, bytes_at, scalar_at, record_at, literal_within, literal_at}
+use Rattle.std.proofs.Common.{◌≡◌, ℕ, pos, true, [], ◌∷◌, Some, None, codes, refl}
+use Rattle.script_lang.proofs.Words.{ScalarLiteral, Integer, Boolean, Bytes, Scalar, Record, Values, no_values, scalar_value, record_value, value_count, all_values, literals_of, word_at, number_at, integer_at, is_parted, bytes_mark_at, by_rule, in_turns, entry_first, comma_next, one_or_more, none_or_more, row, text_byte_at, byte_text_at, boolean_at, bytes_at, scalar_at, record_at, literal_within, literal_at}
 
 abbrev number : ℕ → ScalarLiteral
 number n = Integer (pos n)

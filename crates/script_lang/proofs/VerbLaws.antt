@@ -1,5 +1,6 @@
 -- To look up a word that passes a test, the rows whose words fail the test may be left out of the table.
-use Rattle.script_lang.proofs.Words.{◌≡◌, ℕ, Bool, true, false, List, [], ◌∷◌, filter, Some, inl, inr, refl, sym, ◌∙◌, ap, if◌then◌else◌, bytes_eq, cases_Bool, false_from_ne_true, false≢true, bytes_eq-Decides, Verb, beside}
+use Rattle.std.proofs.Common.{◌≡◌, ℕ, Bool, true, false, List, [], ◌∷◌, filter, Some, inl, inr, refl, sym, ◌∙◌, ap, if◌then◌else◌}
+use Rattle.script_lang.proofs.Words.{bytes_eq, cases_Bool, false_from_ne_true, false≢true, bytes_eq-Decides, Verb, beside}
 
 pub beside-filtered : (test : List ℕ → Bool) (rows : List (List ℕ × Verb)) (word : List ℕ) → test word ≡ true → beside rows word ≡ beside (filter (λ row. test row.0) rows) word
 unfolding beside

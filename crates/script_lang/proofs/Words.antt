@@ -18,7 +18,7 @@ pub use Rattle.script_lang.specs.Tokens.{at_end, byte_at, front_at, front_of, if
 unfoldable pub use Rattle.script_lang.specs.Tokens.{bytes_mark_at, integer_at, is_parted, keyword_at, length_at, name_at, number_at, optional_integer_at, word_at}
 pub use Rattle.script_lang.specs.Verbs.{operation_of, verbs}
 unfoldable pub use Rattle.script_lang.specs.Verbs.{beside, verb_of}
-pub use Rattle.script_lang.specs.Words.{Bool, Ellipsis, IfSome, IndexItem, IsTrue, List, NewAxis, None, Option, OutOfMemory, Refusal, Some, Syntax, UnOp, [], ap, arith, bytes_eq, codes, count_by, drop, false, if◌then◌else◌, inl, inr, is_ellipsis, is_some, length, list_all, nat_eq, nat_le, nat_lt, not, option_and_then, option_map, pos, prefix_len, refl, suc, sym, take, true, value_of, zero, ℕ, ℤ, ◌*◌, ◌+◌, ◌<◌, ◌==◌, ◌||◌, ◌∙◌, ◌∷◌, ◌≡◌, ◌≤◌, ◌⊎◌}
+pub use Rattle.script_lang.specs.Words.{Ellipsis, IndexItem, NewAxis, OutOfMemory, Refusal, Syntax, UnOp, bytes_eq, is_ellipsis, list_all, option_and_then, option_map, prefix_len, value_of}
 pub use Rattle.script_lang.specs.declared.command.Argument.{Argument}
 pub use Rattle.script_lang.specs.declared.command.Command.{Command}
 pub use Rattle.script_lang.specs.declared.command.Computation.{Computation}
@@ -34,7 +34,6 @@ pub use Rattle.script_lang.specs.declared.verb.ComputeVerb.{ComputeVerb}
 pub use Rattle.script_lang.specs.declared.verb.MakeVerb.{MakeVerb}
 pub use Rattle.script_lang.specs.declared.verb.Verb.{Verb}
 pub use Rattle.script_lang.specs.declared.verb.ViewVerb.{ViewVerb}
-pub use Rattle.std.proofs.Common.{append_assoc, cond, filter, length-append, length-drop, map, of_z, rules, subst, to_z, ◌++◌, ◌^◌}
 pub use Rattle.std.proofs.Math.Dec.{eqb-suc-zero}
 pub use Rattle.std.proofs.Math.Nat.{pow-le-pow_right}
 pub use Rattle.std.proofs.lemmas.Bool.{cases_Bool, cases_lt, false_from_ne_true, false≢true, lt-ltb}

@@ -9,6 +9,5 @@ pub use Rattle.script_lang.specs.Literals.{boolean_at, byte_text_at, bytes_at, e
 pub use Rattle.script_lang.specs.Reading.{Reads, Says, Scans, argument_room, computation_room, index_room, literal_room, operand_room, optional_index_room, parts_take_memory, scalar_room, value_room, viewing_room}
 pub use Rattle.script_lang.specs.Tokens.{at_end, byte_at, bytes_mark_at, file_name_at, flag_at, front_at, integer_at, is_blank, is_digit, is_file_byte, is_file_name, is_name_byte, is_name_start, is_parted, is_sign, keyword_at, length_at, name_at, names_unless_verb, number_at, optional_integer_at, quoted_at, starts_file_name, starts_name, symbol_at, unspaced, word_at}
 pub use Rattle.script_lang.specs.Verbs.{beside, is_constant, operation_of, order_of, verb_of}
-pub use Rattle.script_lang.specs.Words.{IfSome, bytes_eq, count_by, false, is_ellipsis, is_some, length, list_all, prefix_len, true, value_of, ◌+◌, ◌<◌, ◌≡◌, ◌≤◌}
+pub use Rattle.script_lang.specs.Words.{bytes_eq, is_ellipsis, list_all, prefix_len, value_of}
 pub use Rattle.script_lang.specs.inside.Classes.{is_in}
-pub use Rattle.std.specs.Prelude.{map, ◌^◌}

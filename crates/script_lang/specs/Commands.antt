@@ -1,6 +1,7 @@
 -- The commands and the values, with one production each. A production takes the bytes after its word, and returns what
 -- it reads and the bytes after that.
-use Rattle.script_lang.specs.Words.{ℕ, ℤ, List, codes, Option, Some, None, is_some, if◌then◌else◌, option_map, IndexItem, UnOp, Red}
+use Rattle.std.specs.Prelude.{ℕ, ℤ, List, codes, Option, Some, None, is_some, if◌then◌else◌}
+use Rattle.script_lang.specs.Words.{option_map, IndexItem, UnOp, Red}
 use Rattle.script_lang.specs.declared.command.Operation.{Operation}
 use Rattle.script_lang.specs.declared.verb.Verb.{Verb}
 use Rattle.script_lang.specs.declared.verb.Verb.TheVariants as verb

@@ -1,5 +1,6 @@
 -- The text of a descriptor in a line.
-use Rattle.script_lang.specs.Words.{ℕ, ◌+◌, ◌-◌, Bool, true, false, List, [], ◌∷◌, length, Option, Some, None, nat_eq, if◌then◌else◌, take, drop, not, ◌||◌, prefix_len, option_map}
+use Rattle.std.specs.Prelude.{ℕ, ◌+◌, ◌-◌, Bool, true, false, List, [], ◌∷◌, length, Option, Some, None, nat_eq, if◌then◌else◌, take, drop, not, ◌||◌}
+use Rattle.script_lang.specs.Words.{prefix_len, option_map}
 use Rattle.script_lang.specs.Tokens.{◌>>=◌, if_found, where_true, is_blank, is_parted, byte_at, front_at}
 
 -- the marks `<`, `>`, `!`, `=`, `@` and `^`

@@ -1,5 +1,6 @@
 -- Shapes, index lists and operands.
-use Rattle.script_lang.specs.Words.{ℕ, ℤ, List, codes, Option, Some, None, is_some, nat_le, count_by, if◌then◌else◌, option_map, IndexItem, Integer, Slice, Ellipsis, NewAxis, Array, is_ellipsis}
+use Rattle.std.specs.Prelude.{ℕ, ℤ, List, codes, Option, Some, None, is_some, nat_le, count_by, if◌then◌else◌}
+use Rattle.script_lang.specs.Words.{option_map, IndexItem, Integer, Slice, Ellipsis, NewAxis, Array, is_ellipsis}
 use Rattle.script_lang.specs.declared.literal.Literal.{Literal}
 use Rattle.script_lang.specs.declared.command.Operand.{Operand}
 use Rattle.script_lang.specs.declared.command.Argument.{Argument}

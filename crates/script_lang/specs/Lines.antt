@@ -1,5 +1,6 @@
 -- What a line of the script says.
-use Rattle.script_lang.specs.Words.{ℕ, Bool, true, List, [], ◌∷◌, Option, Some, None, nat_eq, nat_le, if◌then◌else◌, ◌||◌, ◌&&◌, list_all}
+use Rattle.std.specs.Prelude.{ℕ, Bool, true, List, [], ◌∷◌, Option, Some, None, nat_eq, nat_le, if◌then◌else◌, ◌||◌, ◌&&◌}
+use Rattle.script_lang.specs.Words.{list_all}
 use Rattle.script_lang.specs.declared.command.Command.{Command}
 use Rattle.script_lang.specs.Tokens.{unspaced, byte_at, length_at, integer_at}
 use Rattle.script_lang.specs.Lists.{AnyTurns, one_or_more, none_or_more, row}

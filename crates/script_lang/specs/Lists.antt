@@ -1,5 +1,6 @@
 -- Lists of entries. A rule reads a list, given a reader for the list after the first entry.
-use Rattle.script_lang.specs.Words.{◌≡◌, ◌<◌, ℕ, zero, suc, List, [], ◌∷◌, length, Option, Some, None, option_and_then}
+use Rattle.std.specs.Prelude.{◌≡◌, ◌<◌, ℕ, zero, suc, List, [], ◌∷◌, length, Option, Some, None}
+use Rattle.script_lang.specs.Words.{option_and_then}
 use Rattle.script_lang.specs.Tokens.{symbol_at, ◌>>=◌, ◌or_else◌}
 
 -- what a rule reads if it may be applied at most `turns` times

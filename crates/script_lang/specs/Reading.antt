@@ -1,5 +1,6 @@
 -- How the result of the parser relates to what a line says.
-use Rattle.script_lang.specs.Words.{◌≡◌, ◌⊎◌, Bool, true, false, IsTrue, IfSome, ℕ, List, Option, Some, None, is_some, Result, Ok, Err, length, nat_lt, ◌||◌, Refusal, ByteNotAllowed, Syntax, OutOfMemory, IndexItem}
+use Rattle.std.specs.Prelude.{◌≡◌, ◌⊎◌, Bool, true, false, IsTrue, IfSome, ℕ, List, Option, Some, None, is_some, Result, Ok, Err, length, nat_lt, ◌||◌}
+use Rattle.script_lang.specs.Words.{Refusal, ByteNotAllowed, Syntax, OutOfMemory, IndexItem}
 use Rattle.script_lang.specs.declared.literal.ScalarLiteral.{ScalarLiteral}
 use Rattle.script_lang.specs.declared.literal.ScalarLiteral.TheVariants.{Bytes}
 use Rattle.script_lang.specs.declared.literal.Literal.{Literal}

@@ -1,5 +1,7 @@
 -- Laws of the values of a record literal.
-use Rattle.script_lang.specs.Words.{ℕ, zero, suc, ◌≡◌, ◌<◌, List, [], ◌∷◌, length, All, slice_index_or, arith, refl, ap, sym, ◌∙◌}
+use Rattle.std.specs.Prelude.{ℕ, zero, suc, ◌≡◌, ◌<◌, List, [], ◌∷◌, length}
+use Rattle.std.proofs.Common.{slice_index_or, arith, refl, ap, sym, ◌∙◌}
+use Rattle.script_lang.specs.Words.{All}
 use Rattle.script_lang.specs.declared.literal.Literal.{Literal}
 use Rattle.script_lang.specs.declared.literal.Literal.TheVariants.{Scalar, Record}
 use Rattle.script_lang.specs.RecordValues.{Values, no_values, scalar_value, record_value, value_count}

@@ -1,6 +1,7 @@
 -- The tokens of a line. Each reader takes the remaining bytes, and returns what it reads and the bytes after it. Blanks
 -- may precede each token, except where a comment says 'at once'.
-use Rattle.script_lang.specs.Words.{ℕ, ℤ, pos, neg_ℤ, Bool, true, false, List, [], ◌∷◌, length, Option, Some, None, is_some, nat_eq, nat_le, if◌then◌else◌, take, drop, not, ◌||◌, ◌&&◌, prefix_len, list_all, option_and_then, option_map, bytes_eq, value_of}
+use Rattle.std.specs.Prelude.{ℕ, ℤ, pos, neg_ℤ, Bool, true, false, List, [], ◌∷◌, length, Option, Some, None, is_some, nat_eq, nat_le, if◌then◌else◌, take, drop, not, ◌||◌, ◌&&◌}
+use Rattle.script_lang.specs.Words.{prefix_len, list_all, option_and_then, option_map, bytes_eq, value_of}
 use Rattle.script_lang.specs.Verbs.{verb_of, is_constant}
 
 infixl 10 ◌>>=◌

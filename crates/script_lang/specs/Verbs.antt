@@ -1,5 +1,6 @@
 -- The words of the language, and what each of them means.
-use Rattle.script_lang.specs.Words.{ℕ, Bool, List, [], ◌∷◌, codes, Option, Some, None, ◌||◌, if◌then◌else◌, option_and_then, bytes_eq, MemoryOrder, C, Fortran, Add, Subtract, Multiply, FloorDivide, Modulo, And, Or, Xor, ShiftLeft, ShiftRight, Divide, Equal, NotEqual, Less, LessOrEqual, Greater, GreaterOrEqual, UnOp, Negate, Invert, Red, Sum, Product, Minimum, Maximum, Any, ArgMin, ArgMax}
+use Rattle.std.specs.Prelude.{ℕ, Bool, List, [], ◌∷◌, codes, Option, Some, None, ◌||◌, if◌then◌else◌}
+use Rattle.script_lang.specs.Words.{option_and_then, bytes_eq, MemoryOrder, C, Fortran, Add, Subtract, Multiply, FloorDivide, Modulo, And, Or, Xor, ShiftLeft, ShiftRight, Divide, Equal, NotEqual, Less, LessOrEqual, Greater, GreaterOrEqual, UnOp, Negate, Invert, Red, Sum, Product, Minimum, Maximum, Any, ArgMin, ArgMax}
 use Rattle.script_lang.specs.declared.command.Operation.{Operation}
 use Rattle.script_lang.specs.declared.command.Operation.TheVariants.{Binary, Compare}
 use Rattle.elem_descr.specs.declared.operators.Red.TheVariants.{All}

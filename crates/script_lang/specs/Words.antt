@@ -14,10 +14,8 @@ pub use Rattle.elem_descr.specs.declared.operators.UnOp.{UnOp}
 pub use Rattle.elem_descr.specs.declared.operators.UnOp.TheVariants.{Invert, Negate}
 pub use Rattle.elem_descr.specs.declared.refusal.Refusal.{Refusal}
 pub use Rattle.elem_descr.specs.declared.refusal.Refusal.TheVariants.{ByteNotAllowed, OutOfMemory, Syntax}
-pub use Rattle.std.proofs.Common.{ap, arith, inl, inr, refl, slice_index_or, sym, ◌∙◌}
 pub use Rattle.std.specs.Coded.{Coded, code_by, coded_bool, coded_list, coded⊎}
 pub use Rattle.std.specs.List.{All, list_all, prefix_len}
 pub use Rattle.std.specs.Option.{option_and_then, option_map}
-pub use Rattle.std.specs.Prelude.{Bool, Err, IfOk, IfSome, IsOk, IsTrue, List, None, Ok, Option, Result, Some, [], codes, count_by, drop, false, if◌then◌else◌, is_some, length, max, nat_eq, nat_le, nat_lt, neg_ℤ, not, pos, suc, take, true, zero, ℕ, ℤ, ◌&&◌, ◌*◌, ◌+◌, ◌-◌, ◌<◌, ◌==◌, ◌||◌, ◌∷◌, ◌≡◌, ◌≤◌, ◌⊎◌}
 pub use Rattle.std.specs.Str.{bytes_eq}
 pub use denote.Param.Weighed.{most}

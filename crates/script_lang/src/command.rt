@@ -1,5 +1,6 @@
 //! The commands of a script, with their index lists and lists of numbers.
-ghost use Rattle.script_lang.specs.Clauses.{is_ellipsis, count_by, ◌≡◌};
+ghost use Rattle.std.specs.Prelude.{count_by, ◌≡◌};
+ghost use Rattle.script_lang.specs.Clauses.{is_ellipsis};
 
 use crate::literal::{Literal, Literals};
 use crate::short_list::ShortList;

@@ -1,5 +1,6 @@
 //! The grammar of a line.
-ghost use Rattle.script_lang.specs.Clauses.{◌≤◌, length, load_at, value_at, bind_at, ask_at, verb_command_at, line_of, EachListAnyTurns, Scans, Reads, Says, value_room, parts_take_memory};
+ghost use Rattle.std.specs.Prelude.{◌≤◌, length};
+ghost use Rattle.script_lang.specs.Clauses.{load_at, value_at, bind_at, ask_at, verb_command_at, line_of, EachListAnyTurns, Scans, Reads, Says, value_room, parts_take_memory};
 
 mod computations;
 mod creations;

@@ -59,7 +59,8 @@ pub struct Literals {
 }
 
 impl Model for Literals {
-    ghost use Rattle.script_lang.specs.Words.{List, coded_list};
+    ghost use Rattle.std.specs.Prelude.{List};
+    ghost use Rattle.script_lang.specs.Words.{coded_list};
     ghost use Rattle.script_lang.specs.declared.literal.Literal.{Literal};
     ghost use Rattle.script_lang.specs.contracts.literal.Literal as literal;
 

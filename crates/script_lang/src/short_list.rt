@@ -13,7 +13,8 @@ pub struct ShortList<T, const N: usize> {
 }
 
 impl<T, const N: usize> Model for ShortList<T, N> {
-    ghost use Rattle.script_lang.specs.Words.{List, ◌≤◌, coded_list};
+    ghost use Rattle.std.specs.Prelude.{List, ◌≤◌};
+    ghost use Rattle.script_lang.specs.Words.{coded_list};
 
     ghost Value = { List T };
 

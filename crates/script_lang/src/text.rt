@@ -1,5 +1,6 @@
 //! Texts that a command keeps as they are written.
-ghost use Rattle.script_lang.specs.Words.{refusal_text, IfOk, IsOk, length, ◌≡◌, ◌≤◌};
+ghost use Rattle.std.specs.Prelude.{IfOk, IsOk, length, ◌≡◌, ◌≤◌};
+ghost use Rattle.script_lang.specs.Words.{refusal_text};
 
 use elem_descr::Refusal;
 use smallvec::SmallVec;

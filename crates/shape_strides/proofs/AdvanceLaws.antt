@@ -1,5 +1,6 @@
 -- The loop that moves to the next index in C order, one iteration at a time.
-use Rattle.shape_strides.proofs.Words.{◌≡◌, ℕ, zero, suc, ◌+◌, ◌-◌, ◌<◌, ◌≤◌, ℤ, pos, ◌+ℤ◌, ◌-ℤ◌, ◌*ℤ◌, ◌≤ℤ◌, List, [], ◌∷◌, ◌++◌, length, get_or, set, take, drop, replicate, refl, sym, ◌∙◌, ap, subst, arith, length-take-le, length-append, take_all, ints, length-map, drop_more, drop_all, +ℤ_idr, Layout, count, indexes, rank, IsIndex, max_bytes, max_items, dot, natural, address_at, address, offsets, AreAxes, IsOnWalk, offsets_at, IsIndex-first, dot-zeros, rank-zeros, *ℤ-more, length-offsets, pos-offset, length-index, length-indexes, number-lt, zero_filled}
+use Rattle.std.proofs.Common.{◌≡◌, ℕ, zero, suc, ◌+◌, ◌-◌, ◌<◌, ◌≤◌, ℤ, pos, ◌+ℤ◌, ◌-ℤ◌, ◌*ℤ◌, ◌≤ℤ◌, List, [], ◌∷◌, ◌++◌, length, get_or, set, take, drop, replicate, refl, sym, ◌∙◌, ap, subst, arith, length-take-le, length-append, take_all}
+use Rattle.shape_strides.proofs.Words.{ints, length-map, drop_more, drop_all, +ℤ_idr, Layout, count, indexes, rank, IsIndex, max_bytes, max_items, dot, natural, address_at, address, offsets, AreAxes, IsOnWalk, offsets_at, IsIndex-first, dot-zeros, rank-zeros, *ℤ-more, length-offsets, pos-offset, length-index, length-indexes, number-lt, zero_filled}
 use Rattle.shape_strides.proofs.StepLaws.{length-padded, dot-padded, dot-push, dot-take_more, IsIndex-padded_push, rank-stepped, part_low, part_high, sum_start, sum_bounds, IsIndex-zeros, last-more}
 
 -- the layout with these axes

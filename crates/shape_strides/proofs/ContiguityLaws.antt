@@ -1,5 +1,6 @@
 -- Laws of adjacent items, and of strides that make items adjacent.
-use Rattle.shape_strides.proofs.Words.{◌≡◌, ℕ, zero, suc, ◌+◌, ◌*◌, ◌^◌, ◌<◌, ◌≤◌, ◌≢◌, true, false, ◌==◌, ℤ, pos, ◌+ℤ◌, ◌*ℤ◌, List, [], ◌∷◌, length, get_or, drop, mul-le-mul, mul-le-mul_right, add-one, inl, inr, refl, sym, ◌∙◌, ap, arith, map, nat_le, unsigned_abs, negsuc, mul-zero, one-mul, mul-suc, zero-mul, mul_comm, cases_lt, cases_Bool, cond-true, cond-false, eqb-true, eq-eqb, and_parts, and_from, false_from_ne_true, nat_tests, ints, drop_more, get_or-map, *ℤ-zero, +ℤ_idl, Layout, count, rank, IsIndex, max_items, max_bytes, dot, natural, offsets, first_address, printed_strides, is_c_contiguous, unit, IsIndex-unit, rank-unit, dot-unit, entry-first, length-offsets, get_or-offsets, pos-offset, offsets_within, offsets-none, first_address-entry, printed-at, rank-lt, index_at, max_reach, factors_pos, count-drop, factor-pos}
+use Rattle.std.proofs.Common.{◌≡◌, ℕ, zero, suc, ◌+◌, ◌*◌, ◌^◌, ◌<◌, ◌≤◌, ◌≢◌, true, false, ◌==◌, ℤ, pos, ◌+ℤ◌, ◌*ℤ◌, List, [], ◌∷◌, length, get_or, drop, mul-le-mul, mul-le-mul_right, add-one, inl, inr, refl, sym, ◌∙◌, ap, arith, map, nat_le, unsigned_abs, negsuc, mul-zero, one-mul, mul-suc, zero-mul, mul_comm}
+use Rattle.shape_strides.proofs.Words.{cases_lt, cases_Bool, cond-true, cond-false, eqb-true, eq-eqb, and_parts, and_from, false_from_ne_true, nat_tests, ints, drop_more, get_or-map, *ℤ-zero, +ℤ_idl, Layout, count, rank, IsIndex, max_items, max_bytes, dot, natural, offsets, first_address, printed_strides, is_c_contiguous, unit, IsIndex-unit, rank-unit, dot-unit, entry-first, length-offsets, get_or-offsets, pos-offset, offsets_within, offsets-none, first_address-entry, printed-at, rank-lt, index_at, max_reach, factors_pos, count-drop, factor-pos}
 
 -- ---- addresses that grow by the size of an item
 

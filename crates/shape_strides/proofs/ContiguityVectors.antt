@@ -1,5 +1,6 @@
 -- Examples of the definitions of strides and contiguity: arrays whose strides and flags NumPy gives.
-use Rattle.shape_strides.proofs.Words.{◌≡◌, true, false, pos, negsuc, [], ◌∷◌, codes, refl, arith, IsPermutation-refl, digits, f_strides, f_multiples, reach_within, axes, StepsClear, CanStack, first_address, printed_strides, is_c_contiguous, is_f_contiguous, fortran_order, strides_text}
+use Rattle.std.proofs.Common.{◌≡◌, true, false, pos, negsuc, [], ◌∷◌, codes, refl, arith}
+use Rattle.shape_strides.proofs.Words.{IsPermutation-refl, digits, f_strides, f_multiples, reach_within, axes, StepsClear, CanStack, first_address, printed_strides, is_c_contiguous, is_f_contiguous, fortran_order, strides_text}
 
 -- `numpy.zeros((2, 3), "<i4")`
 c_strides : printed_strides (2 ∷ 3 ∷ []) (0 ∷ 4 ∷ 8 ∷ 12 ∷ 16 ∷ 20 ∷ []) ≡ pos 12 ∷ pos 4 ∷ []

@@ -1,5 +1,6 @@
 -- Laws of the number of items: the capped product and its division.
-use Rattle.shape_strides.proofs.Words.{◌≡◌, ℕ, suc, ◌+◌, ◌*◌, ◌/◌, ◌<◌, min, ℤ, pos, List, [], ◌∷◌, map, length, get_or, drop, inl, inr, refl, sym, ◌∙◌, ap, arith, mul_assoc, mul_comm, mul-div_cancel, cases_lt, drop_more, length-map, count, c_strides, factors_pos, min-mul, count-drop}
+use Rattle.std.proofs.Common.{◌≡◌, ℕ, suc, ◌+◌, ◌*◌, ◌/◌, ◌<◌, min, ℤ, pos, List, [], ◌∷◌, map, length, get_or, drop, inl, inr, refl, sym, ◌∙◌, ap, arith, mul_assoc, mul_comm, mul-div_cancel}
+use Rattle.shape_strides.proofs.Words.{cases_lt, drop_more, length-map, count, c_strides, factors_pos, min-mul, count-drop}
 
 -- The capped product takes one more factor.
 pub capped-more : (lengths : List ℕ) (k items top : ℕ) → k < length lengths → min (min (items * get_or lengths k 0) top * count (drop (k + 1) lengths)) top ≡ min (items * count (drop k lengths)) top

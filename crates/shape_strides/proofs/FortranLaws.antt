@@ -1,5 +1,6 @@
 -- Laws of Fortran order, which is C order with the axes reversed.
-use Rattle.shape_strides.proofs.Words.{◌≡◌, ℕ, zero, suc, ◌+◌, ◌*◌, ◌^◌, ◌-◌, ◌<◌, ◌≤◌, ◌≢◌, true, false, ℤ, pos, ◌+ℤ◌, ◌*ℤ◌, List, [], ◌∷◌, ◌++◌, map, reverse, length, get_or, take, drop, refl, sym, ◌∙◌, ap, arith, mul_comm, mul-one, one-mul, mul-le-mul_left, length-drop, take_all, inl, inr, All, subst, cases_order, ints, drop_more, length-reverse, reverse-reverse, reverse-append, take_more, get_or-reverse, take-append-drop, map-append, drop-append_seam, +ℤ_idl, +ℤ_assoc, Layout, count, indexes, rank, IsIndex, max_axes, max_items, max_bytes, IsShape, dot, address_at, natural, LieWithin, address, offsets, IsNested, distance, multiples, c_strides, f_strides, f_multiples, fortran_order, is_c_contiguous, is_f_contiguous, same_on_indexes, rank-same, index_at, rank-lt, length-index, length-offsets, get_or-offsets, mul-step, factors_pos, count-drop, max_reach, reverse-cons, count-append, count-reverse, IsIndex-reverse, IsIndex-from_reverse}
+use Rattle.std.proofs.Common.{◌≡◌, ℕ, zero, suc, ◌+◌, ◌*◌, ◌^◌, ◌-◌, ◌<◌, ◌≤◌, ◌≢◌, true, false, ℤ, pos, ◌+ℤ◌, ◌*ℤ◌, List, [], ◌∷◌, ◌++◌, map, reverse, length, get_or, take, drop, refl, sym, ◌∙◌, ap, arith, mul_comm, mul-one, one-mul, mul-le-mul_left, length-drop, take_all, inl, inr, All, subst}
+use Rattle.shape_strides.proofs.Words.{cases_order, ints, drop_more, length-reverse, reverse-reverse, reverse-append, take_more, get_or-reverse, take-append-drop, map-append, drop-append_seam, +ℤ_idl, +ℤ_assoc, Layout, count, indexes, rank, IsIndex, max_axes, max_items, max_bytes, IsShape, dot, address_at, natural, LieWithin, address, offsets, IsNested, distance, multiples, c_strides, f_strides, f_multiples, fortran_order, is_c_contiguous, is_f_contiguous, same_on_indexes, rank-same, index_at, rank-lt, length-index, length-offsets, get_or-offsets, mul-step, factors_pos, count-drop, max_reach, reverse-cons, count-append, count-reverse, IsIndex-reverse, IsIndex-from_reverse}
 use Rattle.shape_strides.proofs.LayoutLaws.{dot-c_strides, address-made, StandsInCOrder, offsets-c_order}
 use Rattle.shape_strides.proofs.CountLaws.{length-c_strides, length-ordered}
 use Rattle.shape_strides.proofs.ContiguityLaws.{StepsOver, product-bound, is_c-empty, is_c-true, is_c-false}

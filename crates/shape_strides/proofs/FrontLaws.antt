@@ -1,5 +1,6 @@
 -- Laws of runs along the last axis, and of the axes outside of it.
-use Rattle.shape_strides.proofs.Words.{◌≡◌, ℕ, ◌*◌, ◌<◌, ◌≤◌, ℤ, pos, List, [], ◌∷◌, ◌++◌, map, refl, sym, ◌∙◌, ap, subst, arith, mul-le-mul_left, mul-le-mul_right, Each, numbers_from, flat_map_same, map-flat_map, Layout, StridedAxis, Run, count, natural, address, strided_axes, all_joined, run_along, runs_from, IsInBytes, lengths_of, factors_pos}
+use Rattle.std.proofs.Common.{◌≡◌, ℕ, ◌*◌, ◌<◌, ◌≤◌, ℤ, pos, List, [], ◌∷◌, ◌++◌, map, refl, sym, ◌∙◌, ap, subst, arith, mul-le-mul_left, mul-le-mul_right}
+use Rattle.shape_strides.proofs.Words.{Each, numbers_from, flat_map_same, map-flat_map, Layout, StridedAxis, Run, count, natural, address, strided_axes, all_joined, run_along, runs_from, IsInBytes, lengths_of, factors_pos}
 use Rattle.shape_strides.proofs.JoinedLaws.{addresses, addresses-indexes, addresses-joined}
 use Rattle.shape_strides.proofs.RunLaws.{Each-indexes}
 use Rattle.shape_strides.proofs.StartLaws.{count-joined, lengths_of-axes}

@@ -1,5 +1,6 @@
 -- Joined axes lead to the same addresses.
-use Rattle.shape_strides.proofs.Words.{◌≡◌, ℕ, zero, suc, ◌+◌, ◌*◌, ◌==◌, ℤ, pos, ◌+ℤ◌, ◌*ℤ◌, List, [], ◌∷◌, ◌++◌, map, length, refl, sym, ◌∙◌, ap, arith, zero-mul, suc-mul, flat_map, range_with_len, cond_both, eqb-true, Decides-int_eq, append-nil, flat_map-map, map-map, +ℤ_idr, +ℤ_assoc, numbers_from, none_more, numbers-suc, numbers-split, flat_map_same, flat_map-flat_map, map-flat_map, Layout, StridedAxis, indexes, dot, natural, address, offsets, strided_axes, leads_over, join_outside, all_joined}
+use Rattle.std.proofs.Common.{◌≡◌, ℕ, zero, suc, ◌+◌, ◌*◌, ◌==◌, ℤ, pos, ◌+ℤ◌, ◌*ℤ◌, List, [], ◌∷◌, ◌++◌, map, length, refl, sym, ◌∙◌, ap, arith, zero-mul, suc-mul}
+use Rattle.shape_strides.proofs.Words.{flat_map, range_with_len, cond_both, eqb-true, Decides-int_eq, append-nil, flat_map-map, map-map, +ℤ_idr, +ℤ_assoc, numbers_from, none_more, numbers-suc, numbers-split, flat_map_same, flat_map-flat_map, map-flat_map, Layout, StridedAxis, indexes, dot, natural, address, offsets, strided_axes, leads_over, join_outside, all_joined}
 
 -- ---- lists
 

@@ -1,5 +1,6 @@
 -- Examples of joined axes and of runs: arrays whose shapes and strides NumPy gives.
-use Rattle.shape_strides.proofs.Words.{◌≡◌, pos, negsuc, [], ◌∷◌, refl, arith, lit≤, Layout, strided_axes, all_joined, runs, run_pairs}
+use Rattle.std.proofs.Common.{◌≡◌, pos, negsuc, [], ◌∷◌, refl, arith, lit≤}
+use Rattle.shape_strides.proofs.Words.{Layout, strided_axes, all_joined, runs, run_pairs}
 use Rattle.shape_strides.proofs.ReachLaws.{LieWithin-from_reach}
 
 -- `a = numpy.zeros((2, 3, 4), "<i4")`, whose strides are (48, 16, 4)

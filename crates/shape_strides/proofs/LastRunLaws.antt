@@ -1,5 +1,6 @@
 -- Laws of the run that the last axes of a layout make: a run begins at each offset that the outer axes lead to.
-use Rattle.shape_strides.proofs.Words.{◌≡◌, ℕ, zero, suc, ◌-◌, ◌*◌, ◌/◌, ◌<◌, ◌≤◌, ◌==◌, cond, ℤ, pos, ◌+ℤ◌, ◌*ℤ◌, ◌≤ℤ◌, List, [], ◌∷◌, ◌++◌, map, length, get_or, take, drop, refl, sym, ◌∙◌, ap, subst, arith, mul_assoc, mul-le-mul_left, length-append, length-take, one-mul, mul-div_cancel, cond_both, cond-true, cond-false, ne_eqb, eqb-true, All-from_recursion, map-map, Layout, StridedAxis, Run, max_items, max_bytes, count, indexes, IsIndex, dot, natural, address_at, strided_axes, leads_over, join_outside, all_joined, run_along, runs_from, runs, AreAxes, offsets_at, zero_filled, if_long, IsLastRun, dot-nil, IsIndex-first, length-index, factors_pos, offsets-none}
+use Rattle.std.proofs.Common.{◌≡◌, ℕ, zero, suc, ◌-◌, ◌*◌, ◌/◌, ◌<◌, ◌≤◌, ◌==◌, cond, ℤ, pos, ◌+ℤ◌, ◌*ℤ◌, ◌≤ℤ◌, List, [], ◌∷◌, ◌++◌, map, length, get_or, take, drop, refl, sym, ◌∙◌, ap, subst, arith, mul_assoc, mul-le-mul_left, length-append, length-take, one-mul, mul-div_cancel}
+use Rattle.shape_strides.proofs.Words.{cond_both, cond-true, cond-false, ne_eqb, eqb-true, All-from_recursion, map-map, Layout, StridedAxis, Run, max_items, max_bytes, count, indexes, IsIndex, dot, natural, address_at, strided_axes, leads_over, join_outside, all_joined, run_along, runs_from, runs, AreAxes, offsets_at, zero_filled, if_long, IsLastRun, dot-nil, IsIndex-first, length-index, factors_pos, offsets-none}
 use Rattle.shape_strides.proofs.StepLaws.{dot-padded}
 use Rattle.shape_strides.proofs.JoinedLaws.{addresses, addresses-indexes, addresses-joined}
 use Rattle.shape_strides.proofs.RunLaws.{runs-some, runs-none}

@@ -1,5 +1,6 @@
 -- Laws of addresses and offsets.
-use Rattle.shape_strides.proofs.Words.{◌≡◌, ℕ, ◌+◌, ◌*◌, ◌<◌, ◌≤◌, ℤ, pos, ◌+ℤ◌, ◌≤ℤ◌, List, [], ◌∷◌, length, get_or, sym, ◌∙◌, ap, arith, mul-zero, mul_comm, ints, same_lists, length-map-range_with_len, get_or-map-range_with_len, +ℤ_idl, Layout, count, rank, IsIndex, dot, address_at, natural, LieWithin, offsets, IsNested, multiples, c_strides, mul-step, length-offsets, get_or-offsets, rank-lt, index_at}
+use Rattle.std.proofs.Common.{◌≡◌, ℕ, ◌+◌, ◌*◌, ◌<◌, ◌≤◌, ℤ, pos, ◌+ℤ◌, ◌≤ℤ◌, List, [], ◌∷◌, length, get_or, sym, ◌∙◌, ap, arith, mul-zero, mul_comm}
+use Rattle.shape_strides.proofs.Words.{ints, same_lists, length-map-range_with_len, get_or-map-range_with_len, +ℤ_idl, Layout, count, rank, IsIndex, dot, address_at, natural, LieWithin, offsets, IsNested, multiples, c_strides, mul-step, length-offsets, get_or-offsets, rank-lt, index_at}
 
 -- ---- layouts that fit
 

@@ -1,5 +1,6 @@
 -- Laws of two layouts that are walked together: the pairs cover the items of both.
-use Rattle.shape_strides.proofs.Words.{◌≡◌, ℕ, zero, suc, ◌+◌, ◌-◌, ◌<◌, ◌≤◌, ◌==◌, min, ℤ, pos, ◌+ℤ◌, ◌*ℤ◌, List, [], ◌∷◌, ◌++◌, Option, Some, None, All, map, length, inl, inr, refl, sym, ◌∙◌, ap, subst, arith, append_assoc, length-append, flat_map, Each, cases_lt, cond_both, cond-true, eq-eqb, eqb-true, eqb-false, map-append, All-from_recursion, numbers_from, Layout, StridedAxis, Run, RunPair, max_items, count, natural, offsets, strided_axes, all_joined, run_offsets, runs_from, runs, GoesBy, run_front, run_after, cut, paired, all_offsets, pairs, pairs_left, run_pairs, lengths_of, IsInBytes, IsWhole, AreWhole, AreEven, IsAtPair, IsHead, both, pos-natural, length-offsets, numbers-split, numbers-suc, length-run_offsets, length-first}
+use Rattle.std.proofs.Common.{◌≡◌, ℕ, zero, suc, ◌+◌, ◌-◌, ◌<◌, ◌≤◌, ◌==◌, min, ℤ, pos, ◌+ℤ◌, ◌*ℤ◌, List, [], ◌∷◌, ◌++◌, Option, Some, None, All, map, length, inl, inr, refl, sym, ◌∙◌, ap, subst, arith, append_assoc, length-append}
+use Rattle.shape_strides.proofs.Words.{flat_map, Each, cases_lt, cond_both, cond-true, eq-eqb, eqb-true, eqb-false, map-append, All-from_recursion, numbers_from, Layout, StridedAxis, Run, RunPair, max_items, count, natural, offsets, strided_axes, all_joined, run_offsets, runs_from, runs, GoesBy, run_front, run_after, cut, paired, all_offsets, pairs, pairs_left, run_pairs, lengths_of, IsInBytes, IsWhole, AreWhole, AreEven, IsAtPair, IsHead, both, pos-natural, length-offsets, numbers-split, numbers-suc, length-run_offsets, length-first}
 use Rattle.shape_strides.proofs.JoinedLaws.{flat_map-id, addresses}
 use Rattle.shape_strides.proofs.RunLaws.{NoneBelow, Each-front, Each-back, numbers-natural, empty, IsJoined, HasItems, IsJoined-joined, HasItems-axes, runs-some, runs-none, runs-offsets, runs-alone}
 use Rattle.shape_strides.proofs.FrontLaws.{in_bytes, lengths-low, count-whole}

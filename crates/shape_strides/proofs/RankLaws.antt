@@ -1,5 +1,6 @@
 -- Finding the index with a rank, number by number from the last axis to the first.
-use Rattle.shape_strides.proofs.Words.{◌≡◌, ℕ, zero, suc, ◌+◌, ◌*◌, ◌/◌, ◌%◌, ◌<◌, ◌≤◌, List, [], ◌∷◌, length, get_or, set, take, drop, sym, ap, ◌∙◌, arith, add-mul, take_all, drop_more, drop_all, drop-set, take_more, length-set, div-add-mod', div_below, mod-lt, mul_assoc, count, rank, IsIndex, factors_pos, count-append}
+use Rattle.std.proofs.Common.{◌≡◌, ℕ, zero, suc, ◌+◌, ◌*◌, ◌/◌, ◌%◌, ◌<◌, ◌≤◌, List, [], ◌∷◌, length, get_or, set, take, drop, sym, ap, ◌∙◌, arith, add-mul, take_all, div-add-mod', mod-lt, mul_assoc}
+use Rattle.shape_strides.proofs.Words.{drop_more, drop_all, drop-set, take_more, length-set, div_below, count, rank, IsIndex, factors_pos, count-append}
 
 -- The numbers of the axes from `axis` on are found, and `left` is the rank along the axes before it.
 pub record IsFound (shape index : List ℕ) (at left axis : ℕ) : Type 0 where

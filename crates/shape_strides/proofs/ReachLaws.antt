@@ -1,5 +1,6 @@
 -- Laws of the reach of a layout's addresses.
-use Rattle.shape_strides.proofs.Words.{◌≡◌, ℕ, zero, suc, ◌+◌, ◌-◌, ◌*◌, ◌<◌, ◌≤◌, IsTrue, nat_le, ℤ, pos, negsuc, ◌+ℤ◌, ◌*ℤ◌, neg_ℤ, ◌≤ℤ◌, List, [], ◌∷◌, length, refl, ap, arith, zero-mul, mul-le-mul_left, ints, nat_tests, *ℤ-zero, negsuc-*ℤ-pos, count, IsIndex, dot, natural, LieWithin, reach_above, reach_below, rank-lt, factors_pos}
+use Rattle.std.proofs.Common.{◌≡◌, ℕ, zero, suc, ◌+◌, ◌-◌, ◌*◌, ◌<◌, ◌≤◌, IsTrue, nat_le, ℤ, pos, negsuc, ◌+ℤ◌, ◌*ℤ◌, neg_ℤ, ◌≤ℤ◌, List, [], ◌∷◌, length, refl, ap, arith, zero-mul, mul-le-mul_left}
+use Rattle.shape_strides.proofs.Words.{ints, nat_tests, *ℤ-zero, negsuc-*ℤ-pos, count, IsIndex, dot, natural, LieWithin, reach_above, reach_below, rank-lt, factors_pos}
 
 -- the part of one axis in an address, for a number below its length
 axis_high : (s : ℤ) (k n : ℕ) → k < n → (s *ℤ pos k) ≤ℤ pos (natural s * (n - 1))

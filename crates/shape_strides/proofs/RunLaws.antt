@@ -1,5 +1,6 @@
 -- Laws of runs: their items are those of the layout, and there is one run if all offsets go by one step.
-use Rattle.shape_strides.proofs.Words.{◌≡◌, ℕ, zero, suc, ◌*◌, ◌<◌, ◌≤◌, ◌==◌, false, ℤ, pos, ◌+ℤ◌, ◌*ℤ◌, ◌≤ℤ◌, List, [], ◌∷◌, ◌++◌, map, length, get_or, inl, inr, refl, sym, ◌∙◌, ap, subst, arith, suc-mul, flat_map, Each, cases_lt, cond_both, cond-true, cond-false, eqb-false, eq-eqb, ne_eqb, both_ways, Decides-int_eq, flat_map-append, ints, append-nil, map-append, length-map, get_or-map, recursion_from_All, numbers_from, Layout, StridedAxis, Run, count, indexes, IsIndex, natural, address, offsets, strided_axes, leads_over, join_outside, all_joined, run_offsets, runs_from, runs, GoesBy, index_at, length-indexes, get_or-indexes, pos-natural, offsets-none, factors_pos, one-step, numbers-suc, steps_later}
+use Rattle.std.proofs.Common.{◌≡◌, ℕ, zero, suc, ◌*◌, ◌<◌, ◌≤◌, ◌==◌, false, ℤ, pos, ◌+ℤ◌, ◌*ℤ◌, ◌≤ℤ◌, List, [], ◌∷◌, ◌++◌, map, length, get_or, inl, inr, refl, sym, ◌∙◌, ap, subst, arith, suc-mul}
+use Rattle.shape_strides.proofs.Words.{flat_map, Each, cases_lt, cond_both, cond-true, cond-false, eqb-false, eq-eqb, ne_eqb, both_ways, Decides-int_eq, flat_map-append, ints, append-nil, map-append, length-map, get_or-map, recursion_from_All, numbers_from, Layout, StridedAxis, Run, count, indexes, IsIndex, natural, address, offsets, strided_axes, leads_over, join_outside, all_joined, run_offsets, runs_from, runs, GoesBy, index_at, length-indexes, get_or-indexes, pos-natural, offsets-none, factors_pos, one-step, numbers-suc, steps_later}
 use Rattle.shape_strides.proofs.JoinedLaws.{flat_map-id, addresses, addresses-indexes, addresses-joined, offsets-joined}
 
 -- ---- properties of each address

@@ -1,5 +1,6 @@
 -- Layouts with the same offsets have the same first offset and the same joined axes.
-use Rattle.shape_strides.proofs.Words.{◌≡◌, ◌↔◌, ◌≢◌, ◌<◌, ◌==◌, Bool, true, false, ◌&&◌, IsTrue, ℤ, pos, List, [], ◌∷◌, map, length, get_or, reverse, inl, inr, refl, sym, ◌∙◌, ap, arith, cases_Bool, eqb-true, eq-eqb, false≢true, and_parts, Decides-int_eq, reverse-reverse, int_eq, Layout, StridedAxis, count, natural, offsets, strided_axes, all_joined, all_alike, pos-natural, length-offsets}
+use Rattle.std.proofs.Common.{◌≡◌, ◌↔◌, ◌≢◌, ◌<◌, ◌==◌, Bool, true, false, ◌&&◌, IsTrue, ℤ, pos, List, [], ◌∷◌, map, length, get_or, reverse, inl, inr, refl, sym, ◌∙◌, ap, arith}
+use Rattle.shape_strides.proofs.Words.{cases_Bool, eqb-true, eq-eqb, false≢true, and_parts, Decides-int_eq, reverse-reverse, int_eq, Layout, StridedAxis, count, natural, offsets, strided_axes, all_joined, all_alike, pos-natural, length-offsets}
 use Rattle.shape_strides.proofs.JoinedLaws.{addresses, offsets-joined}
 use Rattle.shape_strides.proofs.RunLaws.{NoneBelow, none_below}
 use Rattle.shape_strides.proofs.StartLaws.{lengths_of-axes}

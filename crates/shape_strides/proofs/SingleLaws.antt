@@ -1,5 +1,6 @@
 -- Laws of layouts whose items make a single run.
-use Rattle.shape_strides.proofs.Words.{◌≡◌, ℕ, zero, suc, ◌+◌, ◌-◌, ◌*◌, ◌<◌, ◌≤◌, ◌==◌, inl, inr, ℤ, pos, List, [], ◌∷◌, All, length, get_or, drop, refl, sym, ◌∙◌, ap, subst, arith, cases_lt, cond_both, cond-true, cond-false, eq-eqb, ne_eqb, append-nil, flat_map, Layout, StridedAxis, max_items, count, LieWithin, offsets, Fits, strided_axes, leads_over, join_outside, all_joined, run_offsets, run_along, runs_from, runs, GoesBy, if_long, AreJoinedFrom, IsLastRun, factors_pos, count-drop}
+use Rattle.std.proofs.Common.{◌≡◌, ℕ, zero, suc, ◌+◌, ◌-◌, ◌*◌, ◌<◌, ◌≤◌, ◌==◌, inl, inr, ℤ, pos, List, [], ◌∷◌, All, length, get_or, drop, refl, sym, ◌∙◌, ap, subst, arith}
+use Rattle.shape_strides.proofs.Words.{cases_lt, cond_both, cond-true, cond-false, eq-eqb, ne_eqb, append-nil, flat_map, Layout, StridedAxis, max_items, count, LieWithin, offsets, Fits, strided_axes, leads_over, join_outside, all_joined, run_offsets, run_along, runs_from, runs, GoesBy, if_long, AreJoinedFrom, IsLastRun, factors_pos, count-drop}
 use Rattle.shape_strides.proofs.RunLaws.{runs-some, runs-offsets, two_never, run_goes}
 use Rattle.shape_strides.proofs.StartLaws.{count-later}
 use Rattle.shape_strides.proofs.RunBounds.{runs-lie}

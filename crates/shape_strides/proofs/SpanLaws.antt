@@ -1,5 +1,6 @@
 -- Laws of the range of bytes in which the items of a layout lie.
-use Rattle.shape_strides.proofs.Words.{◌≡◌, ℕ, ◌+◌, ◌<◌, ◌≤◌, ℤ, pos, ◌+ℤ◌, ◌≤ℤ◌, List, length, get_or, All, Contains, sym, ap, ◌∙◌, arith, ints, Layout, count, rank, IsIndex, max_bytes, dot, offsets, Fits, reach_above, reach_below, rank-lt, index_at, length-offsets, pos-offset}
+use Rattle.std.proofs.Common.{◌≡◌, ℕ, ◌+◌, ◌<◌, ◌≤◌, ℤ, pos, ◌+ℤ◌, ◌≤ℤ◌, List, length, get_or, All, Contains, sym, ap, ◌∙◌, arith}
+use Rattle.shape_strides.proofs.Words.{ints, Layout, count, rank, IsIndex, max_bytes, dot, offsets, Fits, reach_above, reach_below, rank-lt, index_at, length-offsets, pos-offset}
 use Rattle.shape_strides.proofs.ReachLaws.{dot_high, dot_low, top_of, bottom_of, reach_from_LieWithin}
 
 -- the arithmetic behind it

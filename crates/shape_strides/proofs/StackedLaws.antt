@@ -1,5 +1,6 @@
 -- In a stacked layout, no two items share a byte.
-use Rattle.shape_strides.proofs.Words.{◌≡◌, ◌≢◌, ◌⊎◌, ℕ, suc, ◌+◌, ◌-◌, ◌*◌, ◌<◌, ◌≤◌, ℤ, pos, negsuc, ◌+ℤ◌, ◌*ℤ◌, ◌≤ℤ◌, unsigned_abs, List, [], ◌∷◌, All, sum_by, length, get_or, inl, inr, refl, sym, ◌∙◌, ap, arith, mul-le-mul_left, cases_lt, cases_eq, cases_order, ints, All-head, All-tail, sum_by-cons, negsuc-*ℤ-pos, Layout, rank, IsIndex, dot, offsets, IsNested, distance, Axis, reach, axes, IsStacked, index_at, length-offsets, pos-offset, mul-step}
+use Rattle.std.proofs.Common.{◌≡◌, ◌≢◌, ◌⊎◌, ℕ, suc, ◌+◌, ◌-◌, ◌*◌, ◌<◌, ◌≤◌, ℤ, pos, negsuc, ◌+ℤ◌, ◌*ℤ◌, ◌≤ℤ◌, unsigned_abs, List, [], ◌∷◌, All, sum_by, length, get_or, inl, inr, refl, sym, ◌∙◌, ap, arith, mul-le-mul_left}
+use Rattle.shape_strides.proofs.Words.{cases_lt, cases_eq, cases_order, ints, All-head, All-tail, sum_by-cons, negsuc-*ℤ-pos, Layout, rank, IsIndex, dot, offsets, IsNested, distance, Axis, reach, axes, IsStacked, index_at, length-offsets, pos-offset, mul-step}
 use Rattle.shape_strides.proofs.StackLaws.{within, within-all, within-none, within-le, IsClear, each_from_CanStack}
 
 -- ---- one axis

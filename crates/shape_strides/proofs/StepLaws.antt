@@ -1,5 +1,6 @@
 -- Sums of strides over the first axes, and the next index.
-use Rattle.shape_strides.proofs.Words.{◌≡◌, ℕ, zero, suc, ◌+◌, ◌<◌, ◌≤◌, ℤ, pos, ◌+ℤ◌, ◌*ℤ◌, ◌≤ℤ◌, List, [], ◌∷◌, ◌++◌, length, get_or, take, drop, refl, sym, ◌∙◌, ap, arith, add-one, add-mul, length-take, length-take-le, ints, take_more, +ℤ_assoc, +ℤ_idl, +ℤ_idr, Layout, zero_filled, dot-nil, dot-zeros, rank-zeros, length-index, count, rank, IsIndex, max_bytes, dot, address}
+use Rattle.std.proofs.Common.{◌≡◌, ℕ, zero, suc, ◌+◌, ◌<◌, ◌≤◌, ℤ, pos, ◌+ℤ◌, ◌*ℤ◌, ◌≤ℤ◌, List, [], ◌∷◌, ◌++◌, length, get_or, take, drop, refl, sym, ◌∙◌, ap, arith, add-one, add-mul, length-take, length-take-le}
+use Rattle.shape_strides.proofs.Words.{ints, take_more, +ℤ_assoc, +ℤ_idl, +ℤ_idr, Layout, zero_filled, dot-nil, dot-zeros, rank-zeros, length-index, count, rank, IsIndex, max_bytes, dot, address}
 
 pub length-padded : (shape front : List ℕ) → length (zero_filled shape front) ≡ length shape
 length-padded [] front = refl

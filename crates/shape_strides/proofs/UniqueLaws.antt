@@ -1,5 +1,6 @@
 -- Joined axes are determined by the addresses to which they lead.
-use Rattle.shape_strides.proofs.Words.{◌≡◌, ℕ, zero, suc, ◌+◌, ◌-◌, ◌*◌, ◌<◌, ◌≤◌, ◌==◌, false, ℤ, pos, ◌+ℤ◌, ◌*ℤ◌, List, [], ◌∷◌, ◌++◌, length, drop, reverse, inl, inr, refl, sym, ◌∙◌, ap, subst, arith, append_assoc, mul-le-mul_left, flat_map, cases_lt, cond_both, eqb-false, false≢true, Decides-int_eq, reverse_onto, ints, append-nil, append_cancel_left, reverse-reverse, numbers_from, StridedAxis, count, leads_over, join_outside, all_joined, lengths_of, factors_pos, numbers-suc, numbers-split, flat_map_same, flat_map-flat_map, first_is}
+use Rattle.std.proofs.Common.{◌≡◌, ℕ, zero, suc, ◌+◌, ◌-◌, ◌*◌, ◌<◌, ◌≤◌, ◌==◌, false, ℤ, pos, ◌+ℤ◌, ◌*ℤ◌, List, [], ◌∷◌, ◌++◌, length, drop, reverse, inl, inr, refl, sym, ◌∙◌, ap, subst, arith, append_assoc, mul-le-mul_left}
+use Rattle.shape_strides.proofs.Words.{flat_map, cases_lt, cond_both, eqb-false, false≢true, Decides-int_eq, reverse_onto, ints, append-nil, append_cancel_left, reverse-reverse, numbers_from, StridedAxis, count, leads_over, join_outside, all_joined, lengths_of, factors_pos, numbers-suc, numbers-split, flat_map_same, flat_map-flat_map, first_is}
 use Rattle.shape_strides.proofs.JoinedLaws.{flat_map-id, addresses}
 
 -- ---- lists of joined axes

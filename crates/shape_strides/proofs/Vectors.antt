@@ -1,5 +1,6 @@
 -- Examples of the definitions: arrays whose shapes, strides and indexes NumPy and Python give.
-use Rattle.shape_strides.proofs.Words.{◌≡◌, pos, negsuc, [], ◌∷◌, Ok, Err, replicate, codes, refl, arith, lit≤, digits, TooManyAxes, TooLarge, Layout, count, indexes, rank, c_strides, offsets, shape_of, shape_text}
+use Rattle.std.proofs.Common.{◌≡◌, pos, negsuc, [], ◌∷◌, Ok, Err, replicate, codes, refl, arith, lit≤}
+use Rattle.shape_strides.proofs.Words.{digits, TooManyAxes, TooLarge, Layout, count, indexes, rank, c_strides, offsets, shape_of, shape_text}
 use Rattle.shape_strides.proofs.ReachLaws.{LieWithin-from_reach}
 
 -- `numpy.zeros(()).size`, `numpy.zeros((2, 3, 4)).size`, `numpy.zeros((2, 0, 4)).size`

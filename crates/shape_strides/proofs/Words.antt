@@ -31,7 +31,7 @@ unfoldable pub use Rattle.shape_strides.specs.Shapes.{shape_of}
 pub use Rattle.shape_strides.specs.Stacks.{Axis, CanStack, IsStacked, StepsClear, axes, lengths_in, reach}
 pub use Rattle.shape_strides.specs.WalkLaws.{length-first, length-run_offsets}
 pub use Rattle.shape_strides.specs.Walks.{AreAxes, IsOnWalk, offsets_at}
-pub use Rattle.shape_strides.specs.Words.{*ℤ-zero, +ℤ_idl, +ℤ_idr, All, All-from_recursion, All-head, All-permutation, All-tail, Bool, Contains, Each, Err, IsPermutation, IsPermutation-map, IsPermutation-refl, IsPermutation-swap, IsPermutation-trans, IsTrue, List, None, Ok, Option, Some, TooLarge, TooManyAxes, [], and_parts, ap, append_assoc, arith, cases_Bool, cases_eq, cases_lt, codes, decimal, div-add-mod', div_below, drop, drop_more, false, false≢true, flat_map, get_or, get_or-map, inl, inr, int_eq, ints, length, length-append, length-map, length-map-range_with_len, length-set, map, min, mod-lt, mul-le-mul_left, mul-one, mul-suc, mul-zero, mul_assoc, mul_comm, nat_le, neg_ℤ, neg_ℤ-+ℤ, negsuc, numbers_from, one-mul, pos, range_with_len, recursion_from_All, refl, reverse, reverse-reverse, reverse_onto, same_lists, set, signed_decimal, subst, suc, suc-mul, sum_by, sum_by-IsPermutation, sum_by-cons, swap, sym, true, unsigned_abs, zero, zero-mul, zip, ℕ, ℤ, ◌%◌, ◌&&◌, ◌*ℤ◌, ◌*◌, ◌++◌, ◌+ℤ◌, ◌+◌, ◌-ℤ◌, ◌-◌, ◌/◌, ◌<◌, ◌==◌, ◌↔◌, ◌∙◌, ◌∷◌, ◌≡◌, ◌≤ℤ◌, ◌≤◌}
+pub use Rattle.shape_strides.specs.Words.{*ℤ-zero, +ℤ_idl, +ℤ_idr, All-from_recursion, All-head, All-permutation, All-tail, Each, IsPermutation, IsPermutation-map, IsPermutation-refl, IsPermutation-swap, IsPermutation-trans, TooLarge, TooManyAxes, and_parts, cases_Bool, cases_eq, cases_lt, decimal, div_below, drop_more, false≢true, flat_map, get_or-map, int_eq, ints, length-map, length-map-range_with_len, length-set, neg_ℤ-+ℤ, numbers_from, range_with_len, recursion_from_All, reverse-reverse, reverse_onto, same_lists, signed_decimal, sum_by-IsPermutation, sum_by-cons, zip}
 pub use Rattle.shape_strides.specs.declared.layout.Layout.{Layout}
 pub use Rattle.shape_strides.specs.declared.layout_pair.LayoutPair.{LayoutPair}
 pub use Rattle.shape_strides.specs.declared.run_pairs.RunPair.{RunPair}
@@ -45,7 +45,6 @@ pub use Rattle.shape_strides.specs.inside.Orders.{IsInOrder, IsShortStep, IsStar
 pub use Rattle.shape_strides.specs.inside.Reach.{max_reach, reach_above, reach_below, reach_within}
 pub use Rattle.shape_strides.specs.inside.Single.{if_long}
 pub use Rattle.shape_strides.specs.inside.Starts.{lengths_of}
-pub use Rattle.std.proofs.Common.{Any, FitsSigned, add-mul, add-one, cond, div-le_self, length-drop, length-take, length-take-le, lit≤, mul-add, mul-div_cancel, mul-le-mul, mul-le-mul_right, nat_lt, replicate, rules, take, take_all, w64, ◌^◌, ◌≢◌, ◌⊎◌}
 pub use Rattle.std.proofs.Math.Seq.{drop-append_seam, take-append_seam}
 pub use Rattle.std.proofs.lemmas.Bool.{and_from, both_ways, cases_order, cond-false, cond-true, cond_both, eq-eqb, eqb-false, eqb-true, false_from_ne_true, ne_eqb}
 pub use Rattle.std.proofs.lemmas.Bool.Decides.{Decides-int_eq, nat_tests}

@@ -1,5 +1,6 @@
 -- Laws of overwritten lists and of strides of 0.
-use Rattle.shape_strides.proofs.Words.{◌≡◌, ℕ, ℤ, pos, List, [], ◌∷◌, map, length, refl, sym, ap, ◌∙◌, arith, refill, take-append_seam}
+use Rattle.std.proofs.Common.{◌≡◌, ℕ, ℤ, pos, List, [], ◌∷◌, map, length, refl, sym, ap, ◌∙◌, arith}
+use Rattle.shape_strides.proofs.Words.{refill, take-append_seam}
 
 -- A list overwritten with the same number of new entries is the new entries.
 pub refilled : {X : Type 0} (n : ℕ) (old new : List X) → length new ≡ n → refill n old new ≡ new

@@ -1,5 +1,7 @@
 -- What single axes add to an address and to a rank, and lists of strides that are all 0.
-use Rattle.shape_strides.specs.Words.{◌≡◌, ℕ, zero, suc, ◌+◌, ◌*◌, ◌<◌, ◌≤◌, ℤ, pos, negsuc, ◌+ℤ◌, ◌*ℤ◌, List, [], ◌∷◌, length, get_or, drop, refl, sym, ◌∙◌, ap, arith, map, zero-mul, one-mul, ◌&&◌, true, not, length-map, get_or-map, same_lists, get_or_default, int_lt, false≢true, ltb-true, and_parts, neg_ℤ, neg_ℤ-+ℤ, +ℤ_idr, *ℤ-zero, +ℤ_idl, one, *ℤ-one}
+use Rattle.std.specs.Prelude.{◌≡◌, ℕ, ◌+◌, ◌*◌, ◌<◌, ◌≤◌, ℤ, pos, negsuc, ◌+ℤ◌, ◌*ℤ◌, List, [], ◌∷◌, length, map, ◌&&◌, true, int_lt, neg_ℤ}
+use Rattle.std.proofs.Common.{zero, suc, get_or, drop, refl, sym, ◌∙◌, ap, arith, zero-mul, one-mul, not}
+use Rattle.shape_strides.specs.Words.{length-map, get_or-map, same_lists, get_or_default, false≢true, ltb-true, and_parts, neg_ℤ-+ℤ, +ℤ_idr, *ℤ-zero, +ℤ_idl, one, *ℤ-one}
 use Rattle.shape_strides.specs.Addresses.{dot, natural}
 use Rattle.shape_strides.specs.Indexes.{count, rank, IsIndex}
 use Rattle.shape_strides.specs.AxisIndexes.{zero_filled, unit}

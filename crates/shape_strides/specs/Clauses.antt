@@ -10,7 +10,7 @@ pub use Rattle.shape_strides.specs.Reaches.{LieAbove, LieBelow}
 pub use Rattle.shape_strides.specs.Runs.{GoesBy, run_offsets}
 pub use Rattle.shape_strides.specs.Stacks.{IsStacked, axes, lengths_in}
 pub use Rattle.shape_strides.specs.Walks.{AreAxes, offsets_at}
-pub use Rattle.shape_strides.specs.Words.{All, Contains, IfOk, IfSome, IsPermutation, IsTrue, [], flat_map, if◌then◌else◌, length, map, nat_le, neg_ℤ, pos, reverse, slice_index, slice_index_or, unsigned_abs, ℕ, ℤ, ◌*ℤ◌, ◌*◌, ◌+ℤ◌, ◌+◌, ◌-ℤ◌, ◌-◌, ◌<◌, ◌↔◌, ◌∷◌, ◌≡◌, ◌≤ℤ◌, ◌≤◌}
+pub use Rattle.shape_strides.specs.Words.{IsPermutation, flat_map}
 pub use Rattle.shape_strides.specs.inside.Alike.{all_alike}
 pub use Rattle.shape_strides.specs.inside.LastRuns.{IsLastRun}
 pub use Rattle.shape_strides.specs.inside.Orders.{IsInOrder, IsShortStep, IsStart, along}
@@ -18,4 +18,3 @@ pub use Rattle.shape_strides.specs.inside.Reach.{max_reach, reach_above, reach_b
 pub use Rattle.shape_strides.specs.inside.Single.{if_long}
 pub use Rattle.shape_strides.specs.inside.Starts.{lengths_of}
 pub use Rattle.std.specs.List.Sorted.{IsNonDecreasingBy}
-pub use Rattle.std.specs.Prelude.{Any, IsFalse, MatchOption, OnOk, take, ◌≢◌}

@@ -1,6 +1,7 @@
 -- The strides of an array as NumPy prints them, and whether it is C or Fortran contiguous, defined by the addresses of
 -- its items in C order. The stride of an axis of length 1 is 0, and so are all strides if there are no items.
-use Rattle.shape_strides.specs.Words.{ℕ, ◌+◌, nat_le, ◌==◌, Bool, true, ◌&&◌, if◌then◌else◌, ℤ, pos, ◌-ℤ◌, List, [], ◌∷◌, ◌++◌, codes, map, reverse, slice_index, flat_map, signed_decimal}
+use Rattle.std.specs.Prelude.{ℕ, ◌+◌, nat_le, ◌==◌, Bool, true, ◌&&◌, if◌then◌else◌, ℤ, pos, ◌-ℤ◌, List, [], ◌∷◌, ◌++◌, codes, map, reverse, slice_index}
+use Rattle.shape_strides.specs.Words.{flat_map, signed_decimal}
 use Rattle.shape_strides.specs.Indexes.{count, indexes, rank}
 
 -- the address of the first item, or 0 if there are no items

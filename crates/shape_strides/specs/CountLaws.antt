@@ -1,5 +1,7 @@
 -- Laws of products and of the number of items.
-use Rattle.shape_strides.specs.Words.{◌≡◌, ℕ, ◌<◌, ◌≤◌, List, length, arith, zero, suc, ◌+◌, ◌*◌, get_or, sym, ◌∙◌, ap, zero-mul, mul-zero, min, drop, inl, inr, mul-suc, mul-le-mul_left, ◌/◌, min-eq_left, min-eq_right, div-add-mod, cases_lt, drop_more, ◌∣◌, mod-eq-zero_of_dvd}
+use Rattle.std.specs.Prelude.{◌≡◌, ℕ, ◌<◌, ◌≤◌, List, length, ◌+◌, ◌*◌, ◌/◌}
+use Rattle.std.proofs.Common.{arith, zero, suc, get_or, sym, ◌∙◌, ap, zero-mul, mul-zero, min, drop, inl, inr, mul-suc, mul-le-mul_left}
+use Rattle.shape_strides.specs.Words.{min-eq_left, min-eq_right, div-add-mod, cases_lt, drop_more, ◌∣◌, mod-eq-zero_of_dvd}
 use Rattle.shape_strides.specs.Indexes.{count}
 
 -- If a product is above a number, its second factor is not 0.

@@ -1,5 +1,7 @@
 -- Laws of indexes and their ranks.
-use Rattle.shape_strides.specs.Words.{◌≡◌, ℕ, ◌<◌, List, length, arith, zero, suc, ◌+◌, ◌*◌, ◌/◌, ◌%◌, [], ◌∷◌, ◌++◌, map, get_or, refl, sym, ◌∙◌, ap, length-append, get_or-append-add, zero-mul, suc-mul, mod-lt, div-add-mod', mul_comm, flat_map, range_with_len, get_or_append_left, length-map, get_or-map, same_lists, mul-add-lt, div_below}
+use Rattle.std.specs.Prelude.{◌≡◌, ℕ, ◌<◌, List, length, ◌+◌, ◌*◌, ◌/◌, ◌%◌, [], ◌∷◌, ◌++◌, map}
+use Rattle.std.proofs.Common.{arith, zero, suc, get_or, refl, sym, ◌∙◌, ap, length-append, get_or-append-add, zero-mul, suc-mul, mod-lt, div-add-mod', mul_comm}
+use Rattle.shape_strides.specs.Words.{flat_map, range_with_len, get_or_append_left, length-map, get_or-map, same_lists, mul-add-lt, div_below}
 use Rattle.shape_strides.specs.Indexes.{count, indexes, rank, IsIndex}
 use Rattle.shape_strides.specs.CountLaws.{pos_of_factor}
 

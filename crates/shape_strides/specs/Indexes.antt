@@ -1,5 +1,6 @@
 -- The indexes of a shape in C order, and their ranks. A shape is the list of its axis lengths.
-use Rattle.shape_strides.specs.Words.{ℕ, ◌+◌, ◌*◌, ◌<◌, List, [], ◌∷◌, map, flat_map, range_with_len}
+use Rattle.std.specs.Prelude.{ℕ, ◌+◌, ◌*◌, ◌<◌, List, [], ◌∷◌, map}
+use Rattle.shape_strides.specs.Words.{flat_map, range_with_len}
 
 -- the number of items of an array of this shape: the product of the lengths
 abbrev pub count : List ℕ → ℕ

@@ -1,5 +1,6 @@
 -- The items of two layouts, paired.
-use Rattle.shape_strides.specs.Words.{ℕ, List, zip}
+use Rattle.std.specs.Prelude.{ℕ, List}
+use Rattle.shape_strides.specs.Words.{zip}
 use Rattle.shape_strides.specs.declared.layout.Layout.{Layout}
 use Rattle.shape_strides.specs.Layouts.{offsets}
 

@@ -1,5 +1,6 @@
 -- The axes of a layout. Adjacent axes are joined if a single stride steps through both.
-use Rattle.shape_strides.specs.Words.{ℕ, ◌*◌, ◌==◌, Bool, if◌then◌else◌, ℤ, pos, ◌*ℤ◌, List, [], ◌∷◌, int_eq}
+use Rattle.std.specs.Prelude.{ℕ, ◌*◌, ◌==◌, Bool, if◌then◌else◌, ℤ, pos, ◌*ℤ◌, List, [], ◌∷◌}
+use Rattle.shape_strides.specs.Words.{int_eq}
 use Rattle.shape_strides.specs.declared.single_run.StridedAxis.{StridedAxis}
 
 -- each axis with its stride, the first axis first

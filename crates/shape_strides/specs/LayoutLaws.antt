@@ -1,5 +1,7 @@
 -- Laws of the offsets of a layout.
-use Rattle.shape_strides.specs.Words.{◌≡◌, ℕ, ◌<◌, ◌≤◌, List, length, arith, ◌+◌, [], get_or, refl, sym, ◌∙◌, ap, ℤ, pos, ◌+ℤ◌, ◌≤ℤ◌, negsuc, All, subst, ints, nil_from_length, length-map, get_or-map, +ℤ_idr}
+use Rattle.std.specs.Prelude.{◌≡◌, ℕ, ◌<◌, ◌≤◌, List, length, ◌+◌, [], ℤ, pos, ◌+ℤ◌, ◌≤ℤ◌, negsuc, All}
+use Rattle.std.proofs.Common.{arith, get_or, refl, sym, ◌∙◌, ap, subst}
+use Rattle.shape_strides.specs.Words.{ints, nil_from_length, length-map, get_or-map, +ℤ_idr}
 use Rattle.shape_strides.specs.declared.layout.Layout.{Layout}
 use Rattle.shape_strides.specs.Addresses.{natural}
 use Rattle.shape_strides.specs.Indexes.{count, indexes, rank, IsIndex}

@@ -1,5 +1,6 @@
 -- The addresses of a layout's items, in bytes.
-use Rattle.shape_strides.specs.Words.{ℕ, ◌+◌, ◌-◌, ◌*◌, ◌<◌, ◌≤◌, ℤ, pos, List, [], ◌∷◌, length, map, reverse, slice_index, range_with_len}
+use Rattle.std.specs.Prelude.{ℕ, ◌+◌, ◌-◌, ◌*◌, ◌<◌, ◌≤◌, ℤ, pos, List, [], ◌∷◌, length, map, reverse, slice_index}
+use Rattle.shape_strides.specs.Words.{range_with_len}
 use Rattle.shape_strides.specs.declared.layout.Layout.{Layout}
 use Rattle.shape_strides.specs.Indexes.{count, indexes, rank}
 pub use Rattle.shape_strides.specs.Addresses.{dot, natural}

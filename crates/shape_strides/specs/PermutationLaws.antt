@@ -1,5 +1,7 @@
 -- Axes in another order have the same number of items and reach the same distances from the first item.
-use Rattle.shape_strides.specs.Words.{◌≡◌, ℕ, zero, suc, ◌+◌, ◌*◌, ◌<◌, List, [], ◌∷◌, map, sum_by, length, get_or, set, Contains, inl, inr, refl, sym, ◌∙◌, ap, subst, arith, mul_comm, mul_assoc, mul-zero, zero-mul, swap, Each, IsPermutation, cases_lt, cases_eq, length-set, length-map, map-set, get_or-map, get_or-set_same, get_or-set_other, All-from_recursion, recursion_from_All, sum_by-cons, IsPermutation-refl, IsPermutation-trans, IsPermutation-swap, IsPermutation-map, IsPermutation-keeps, All-permutation, Contains-permutation, sum_by-IsPermutation}
+use Rattle.std.specs.Prelude.{◌≡◌, ℕ, ◌+◌, ◌*◌, ◌<◌, List, [], ◌∷◌, map, length, Contains, swap}
+use Rattle.std.proofs.Common.{zero, suc, sum_by, get_or, set, inl, inr, refl, sym, ◌∙◌, ap, subst, arith, mul_comm, mul_assoc, mul-zero, zero-mul}
+use Rattle.shape_strides.specs.Words.{Each, IsPermutation, cases_lt, cases_eq, length-set, length-map, map-set, get_or-map, get_or-set_same, get_or-set_other, All-from_recursion, recursion_from_All, sum_by-cons, IsPermutation-refl, IsPermutation-trans, IsPermutation-swap, IsPermutation-map, IsPermutation-keeps, All-permutation, Contains-permutation, sum_by-IsPermutation}
 use Rattle.shape_strides.specs.Indexes.{count, IsIndex}
 use Rattle.shape_strides.specs.Stacks.{Axis, lengths_in}
 use Rattle.shape_strides.specs.CountLaws.{factors_pos}

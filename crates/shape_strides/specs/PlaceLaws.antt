@@ -1,5 +1,7 @@
 -- What the offsets of a layout's items imply about the layout.
-use Rattle.shape_strides.specs.Words.{◌+◌, ◌<◌, ◌≤◌, ℕ, get_or, pos, ◌+ℤ◌, ◌≤ℤ◌, All, subst, arith, ints}
+use Rattle.std.specs.Prelude.{◌+◌, ◌<◌, ◌≤◌, ℕ, pos, ◌+ℤ◌, ◌≤ℤ◌, All}
+use Rattle.std.proofs.Common.{get_or, subst, arith}
+use Rattle.shape_strides.specs.Words.{ints}
 use Rattle.shape_strides.specs.declared.layout.Layout.{Layout}
 use Rattle.shape_strides.specs.Indexes.{count, rank}
 use Rattle.shape_strides.specs.IndexLaws.{rank-lt}

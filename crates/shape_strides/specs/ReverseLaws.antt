@@ -1,5 +1,7 @@
 -- Laws of shapes and indexes with their axes reversed.
-use Rattle.shape_strides.specs.Words.{◌≡◌, ℕ, ◌*◌, List, [], ◌∷◌, ◌++◌, reverse, refl, sym, ◌∙◌, ap, mul_comm, mul_assoc, mul-one, one-mul, reverse-reverse, reverse_onto}
+use Rattle.std.specs.Prelude.{◌≡◌, ℕ, ◌*◌, List, [], ◌∷◌, ◌++◌, reverse}
+use Rattle.std.proofs.Common.{refl, sym, ◌∙◌, ap, mul_comm, mul_assoc, mul-one, one-mul}
+use Rattle.shape_strides.specs.Words.{reverse-reverse, reverse_onto}
 use Rattle.shape_strides.specs.Indexes.{count, IsIndex}
 use Rattle.shape_strides.specs.IndexLaws.{IsIndex-append}
 

@@ -1,5 +1,7 @@
 -- Two layouts with the same number of items, walked together: a run is cut wherever a run of the other layout ends.
-use Rattle.shape_strides.specs.Words.{ℕ, suc, ◌-◌, ◌==◌, min, if◌then◌else◌, pos, ◌+ℤ◌, ◌*ℤ◌, List, [], ◌∷◌, length, Option, Some, None, flat_map}
+use Rattle.std.specs.Prelude.{ℕ, ◌-◌, ◌==◌, if◌then◌else◌, pos, ◌+ℤ◌, ◌*ℤ◌, List, [], ◌∷◌, length, Option, Some, None}
+use Rattle.std.proofs.Common.{suc, min}
+use Rattle.shape_strides.specs.Words.{flat_map}
 use Rattle.shape_strides.specs.declared.layout.Layout.{Layout}
 use Rattle.shape_strides.specs.declared.runs.Run.{Run}
 use Rattle.shape_strides.specs.declared.run_pairs.RunPair.{RunPair}

@@ -1,5 +1,6 @@
 -- A layout as runs. In a run each item lies one step after the previous one.
-use Rattle.shape_strides.specs.Words.{◌≡◌, ℕ, ◌==◌, if◌then◌else◌, ℤ, pos, ◌+ℤ◌, List, [], ◌∷◌, map, flat_map, numbers_from}
+use Rattle.std.specs.Prelude.{◌≡◌, ℕ, ◌==◌, if◌then◌else◌, ℤ, pos, ◌+ℤ◌, List, [], ◌∷◌, map}
+use Rattle.shape_strides.specs.Words.{flat_map, numbers_from}
 use Rattle.shape_strides.specs.declared.layout.Layout.{Layout}
 use Rattle.shape_strides.specs.declared.single_run.StridedAxis.{StridedAxis}
 use Rattle.shape_strides.specs.declared.runs.Run.{Run}

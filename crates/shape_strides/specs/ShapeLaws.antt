@@ -1,5 +1,7 @@
 -- Which lengths make a shape, and which refusal is returned otherwise.
-use Rattle.shape_strides.specs.Words.{◌≡◌, ℕ, ◌<◌, ◌≤◌, min, map, nat_le, true, false, List, length, Ok, Err, inl, inr, refl, ap, sym, ◌∙◌, arith, All, [], ◌∷◌, list_all, cases_lt, cases_Bool, lt-leb, le-leb, leb-true, leb-false, and_parts, length-map, min-eq_left, All-head, All-tail, TooManyAxes, TooLarge, same_answer, check_passed}
+use Rattle.std.specs.Prelude.{◌≡◌, ℕ, ◌<◌, ◌≤◌, map, nat_le, true, false, List, length, All, [], ◌∷◌}
+use Rattle.std.proofs.Common.{min, Ok, Err, inl, inr, refl, ap, sym, ◌∙◌, arith}
+use Rattle.shape_strides.specs.Words.{list_all, cases_lt, cases_Bool, lt-leb, le-leb, leb-true, leb-false, and_parts, length-map, min-eq_left, All-head, All-tail, TooManyAxes, TooLarge, same_answer, check_passed}
 use Rattle.shape_strides.specs.Limits.{max_axes, max_items}
 use Rattle.shape_strides.specs.Indexes.{count}
 use Rattle.shape_strides.specs.Shapes.{shape_of, IsShape}

@@ -1,5 +1,7 @@
 -- Which lists of lengths are shapes, and how they are written.
-use Rattle.shape_strides.specs.Words.{ℕ, ◌≤◌, nat_le, List, [], ◌∷◌, ◌++◌, codes, length, All, Result, Ok, list_all, flat_map, decimal, Refusal, TooManyAxes, TooLarge, ◌>>=◌, check}
+use Rattle.std.specs.Prelude.{ℕ, ◌≤◌, nat_le, List, [], ◌∷◌, ◌++◌, codes, length, All, Result}
+use Rattle.std.proofs.Common.{Ok}
+use Rattle.shape_strides.specs.Words.{list_all, flat_map, decimal, Refusal, TooManyAxes, TooLarge, ◌>>=◌, check}
 use Rattle.shape_strides.specs.Limits.{max_axes, max_items}
 use Rattle.shape_strides.specs.Indexes.{count}
 

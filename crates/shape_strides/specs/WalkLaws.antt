@@ -1,5 +1,7 @@
 -- Laws for loops over a walk.
-use Rattle.shape_strides.specs.Words.{◌≡◌, List, ◌∷◌, ◌∙◌, ℕ, ◌+◌, length, arith, length-append, length-map, length-map-range_with_len, pos, ◌+ℤ◌, ◌*ℤ◌, numbers_from}
+use Rattle.std.specs.Prelude.{◌≡◌, List, ◌∷◌, ℕ, ◌+◌, length, pos, ◌+ℤ◌, ◌*ℤ◌}
+use Rattle.std.proofs.Common.{◌∙◌, arith, length-append}
+use Rattle.shape_strides.specs.Words.{length-map, length-map-range_with_len, numbers_from}
 use Rattle.shape_strides.specs.declared.runs.Run.{Run}
 use Rattle.shape_strides.specs.Addresses.{natural}
 use Rattle.shape_strides.specs.Runs.{run_offsets, runs}

@@ -4,7 +4,6 @@ pub use Rattle.elem_descr.specs.Refusals.{Gives, check, ◌>>=◌}
 pub use Rattle.elem_descr.specs.Steps.{numbers_from}
 pub use Rattle.elem_descr.specs.declared.refusal.Refusal.{Refusal}
 pub use Rattle.elem_descr.specs.declared.refusal.Refusal.TheVariants.{TooLarge, TooManyAxes}
-pub use Rattle.std.proofs.Common.{Err, Ok, ap, append_assoc, arith, div-add-mod', drop, get_or, get_or-append-add, inl, inr, length-append, min, mod-lt, mul-le-mul_left, mul-one, mul-suc, mul-zero, mul_assoc, mul_comm, not, one-mul, refl, set, subst, suc, suc-mul, sum_by, sym, zero, zero-mul, ◌%◌, ◌/◌, ◌∙◌}
 pub use Rattle.std.proofs.Math.Nat.{div-add-mod, min-eq_left, min-eq_right}
 pub use Rattle.std.proofs.lemmas.Bool.{and_parts, cases_Bool, cases_eq, cases_lt, false≢true, le-leb, leb-false, leb-true, lt-leb, ltb-true}
 pub use Rattle.std.proofs.lemmas.Grind.{reverse_onto}
@@ -21,6 +20,5 @@ pub use Rattle.std.specs.Int.{◌∣◌}
 pub use Rattle.std.specs.List.{AllByRecursion as Each, flat_map, list_all, range_with_len, zip}
 pub use Rattle.std.specs.List.Sorted.{IsPermutation}
 pub use Rattle.std.specs.Ordering.{int_eq}
-pub use Rattle.std.specs.Prelude.{All, Bool, Contains, IfOk, IfSome, IsTrue, List, None, Option, Result, Some, [], codes, false, if◌then◌else◌, int_lt, length, map, nat_le, neg_ℤ, negsuc, pos, reverse, slice_index, slice_index_or, slice_set, swap, true, unsigned_abs, ℕ, ℤ, ◌&&◌, ◌*ℤ◌, ◌*◌, ◌++◌, ◌+ℤ◌, ◌+◌, ◌-ℤ◌, ◌-◌, ◌<◌, ◌==◌, ◌↔◌, ◌∷◌, ◌≡◌, ◌≤ℤ◌, ◌≤◌}
 pub use lib.IntN.{*ℤ-one, *ℤ-zero, +ℤ_idl, +ℤ_idr, neg_ℤ-+ℤ}
 unfoldable pub use lib.IntN.{one}

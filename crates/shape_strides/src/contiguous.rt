@@ -1,5 +1,6 @@
 //! C order and Fortran order, and strides as NumPy shows them.
-ghost use Rattle.shape_strides.specs.Clauses.{◌≡◌, ◌≢◌, ◌*◌, ◌<◌, ◌≤◌, pos, length, map, reverse, slice_index_or, IfOk, IsTrue, IsFalse, max_bytes, count, offsets, Fits, IsNested, multiples, f_multiples, f_strides, fortran_order, first_address, printed_strides, is_c_contiguous, is_f_contiguous, max_reach};
+ghost use Rattle.std.specs.Prelude.{◌≡◌, ◌≢◌, ◌*◌, ◌<◌, ◌≤◌, pos, length, map, reverse, slice_index_or, IfOk, IsTrue, IsFalse};
+ghost use Rattle.shape_strides.specs.Clauses.{max_bytes, count, offsets, Fits, IsNested, multiples, f_multiples, f_strides, fortran_order, first_address, printed_strides, is_c_contiguous, is_f_contiguous, max_reach};
 
 use crate::layout::Layout;
 use crate::shape::Shape;

@@ -1,5 +1,6 @@
 //! The bytes that a layout's items take, its axes, and whether two layouts have the same offsets.
-ghost use Rattle.shape_strides.specs.Clauses.{offsets, axes, all_alike, All, Any, Contains, IfOk, IsTrue, [], length, take, ℕ, ◌+◌, ◌<◌, ◌↔◌, ◌≡◌, ◌≤◌};
+ghost use Rattle.std.specs.Prelude.{All, Any, Contains, IfOk, IsTrue, [], length, take, ℕ, ◌+◌, ◌<◌, ◌↔◌, ◌≡◌, ◌≤◌};
+ghost use Rattle.shape_strides.specs.Clauses.{offsets, axes, all_alike};
 
 use crate::address_order::axes_of;
 use crate::layout::Layout;

@@ -4,7 +4,8 @@ ghost use Rattle.shape_strides.specs.Indexes.{count};
 ghost use Rattle.shape_strides.specs.Layouts.{Fits, offsets};
 ghost use Rattle.shape_strides.specs.Limits.{max_bytes};
 ghost use Rattle.shape_strides.specs.Runs.{run_along, run_offsets};
-ghost use Rattle.shape_strides.specs.Words.{flat_map, All, IsTrue, [], length, map, ℕ, ℤ, ◌+◌, ◌<◌, ◌↔◌, ◌∷◌, ◌≡◌, ◌≤◌};
+ghost use Rattle.std.specs.Prelude.{All, IsTrue, [], length, map, ℕ, ℤ, ◌+◌, ◌<◌, ◌↔◌, ◌∷◌, ◌≡◌, ◌≤◌};
+ghost use Rattle.shape_strides.specs.Words.{flat_map};
 
 use crate::layout::Layout;
 use crate::single_run::{StridedAxis, last_run};

@@ -1,5 +1,7 @@
 //! Shapes: the lengths of an array's axes.
-ghost use Rattle.shape_strides.specs.Words.{◌≡◌, ◌+◌, ◌<◌, ◌≤◌, min, length, reverse, swap, nat_le, IsTrue, All, IfOk, Some, list_all, Gives};
+ghost use Rattle.std.specs.Prelude.{◌≡◌, ◌+◌, ◌<◌, ◌≤◌, length, reverse, swap, nat_le, IsTrue, All, IfOk, Some};
+ghost use Rattle.std.proofs.Common.{min};
+ghost use Rattle.shape_strides.specs.Words.{list_all, Gives};
 ghost use Rattle.shape_strides.specs.Limits.{max_axes, max_items};
 ghost use Rattle.shape_strides.specs.Indexes.{count};
 ghost use Rattle.shape_strides.specs.Shapes.{shape_of, shape_text, IsShape};

@@ -1,5 +1,6 @@
 //! The run that the last axes of a layout make, and axes that a single step leads through.
-ghost use Rattle.shape_strides.specs.Clauses.{LieWithin, count, all_joined, join_outside, leads_over, strided_axes, Fits, offsets, max_items, GoesBy, run_offsets, IsLastRun, if_long, lengths_of, IfOk, IfSome, MatchOption, OnOk, [], length, pos, reverse, ℕ, ℤ, ◌*◌, ◌<◌, ◌∷◌, ◌≡◌, ◌≤◌};
+ghost use Rattle.std.specs.Prelude.{IfOk, IfSome, MatchOption, OnOk, [], length, pos, reverse, ℕ, ℤ, ◌*◌, ◌<◌, ◌∷◌, ◌≡◌, ◌≤◌};
+ghost use Rattle.shape_strides.specs.Clauses.{LieWithin, count, all_joined, join_outside, leads_over, strided_axes, Fits, offsets, max_items, GoesBy, run_offsets, IsLastRun, if_long, lengths_of};
 
 use crate::layout::Layout;
 use crate::runs::Run;

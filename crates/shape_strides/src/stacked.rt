@@ -1,5 +1,6 @@
 //! Layouts in which each axis steps over all that the axes with smaller steps reach.
-ghost use Rattle.shape_strides.specs.Clauses.{◌≡◌, ◌↔◌, ◌+◌, ◌-◌, ◌*◌, ◌<◌, ◌≤◌, pos, nat_le, unsigned_abs, if◌then◌else◌, length, slice_index, slice_index_or, All, IsTrue, max_axes, max_items, offsets, IsNested, reach_within, max_reach, IsStacked};
+ghost use Rattle.std.specs.Prelude.{◌≡◌, ◌↔◌, ◌+◌, ◌-◌, ◌*◌, ◌<◌, ◌≤◌, pos, nat_le, unsigned_abs, if◌then◌else◌, length, slice_index, slice_index_or, All, IsTrue};
+ghost use Rattle.shape_strides.specs.Clauses.{max_axes, max_items, offsets, IsNested, reach_within, max_reach, IsStacked};
 
 use crate::layout::Layout;
 

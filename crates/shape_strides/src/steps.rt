@@ -1,5 +1,6 @@
 //! Sums of strides. A stride is read from its slice, and an offset is never below 0.
-ghost use Rattle.shape_strides.specs.Clauses.{◌≡◌, ◌-◌, ◌*◌, ◌<◌, ◌≤◌, pos, neg_ℤ, ◌+ℤ◌, ◌-ℤ◌, ◌*ℤ◌, ◌≤ℤ◌, length, map, slice_index_or, All, IfOk, max_axes, max_items, max_bytes, count, natural, c_strides, f_strides, reach_above, reach_below, max_reach};
+ghost use Rattle.std.specs.Prelude.{◌≡◌, ◌-◌, ◌*◌, ◌<◌, ◌≤◌, pos, neg_ℤ, ◌+ℤ◌, ◌-ℤ◌, ◌*ℤ◌, ◌≤ℤ◌, length, map, slice_index_or, All, IfOk};
+ghost use Rattle.shape_strides.specs.Clauses.{max_axes, max_items, max_bytes, count, natural, c_strides, f_strides, reach_above, reach_below, max_reach};
 
 use crate::shape::Shape;
 use crate::strides::Strides;

@@ -1,5 +1,6 @@
 -- The axes that a list of numbers names.
-use Rattle.view_ops.proofs.Words.{◌≡◌, ◌≢◌, ℕ, zero, suc, ◌+◌, ◌-◌, ◌<◌, ◌≤◌, ◌==◌, true, false, not, ℤ, Option, Some, None, List, [], ◌∷◌, map, length, get_or, Result, Ok, Err, inl, inr, refl, sym, ap, ◌∙◌, arith, list_any, list_all, range_with_len, cases_Bool, cases_eq, and_parts, false≢true, not-true, is_ok, Refusal, BadAxis, axis_below, same_answer, nat_tests, length-map, length-range_with_len, natural, from_front, is_place, are_distinct, axes_of, AreAxes, AreAllAxes}
+use Rattle.std.proofs.Common.{◌≡◌, ◌≢◌, ℕ, zero, suc, ◌+◌, ◌-◌, ◌<◌, ◌≤◌, ◌==◌, true, false, not, ℤ, Option, Some, None, List, [], ◌∷◌, map, length, get_or, Result, Ok, Err, inl, inr, refl, sym, ap, ◌∙◌, arith}
+use Rattle.view_ops.proofs.Words.{list_any, list_all, range_with_len, cases_Bool, cases_eq, and_parts, false≢true, not-true, is_ok, Refusal, BadAxis, axis_below, same_answer, nat_tests, length-map, length-range_with_len, natural, from_front, is_place, are_distinct, axes_of, AreAxes, AreAllAxes}
 
 pub axes_of-count : (rank : ℕ) (named : List ℤ) → length named ≢ rank → axes_of rank (Some named) ≡ Err BadAxis
 unfolding axes_of

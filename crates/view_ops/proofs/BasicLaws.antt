@@ -1,5 +1,6 @@
 -- The result that the definition gives at each exit of a basic index.
-use Rattle.view_ops.proofs.Words.{◌≡◌, ◌⊎◌, inl, inr, Bool, Ok, Err, ℕ, ◌<◌, ◌≤◌, nat_le, true, false, List, All, map, length, ap, ◌∙◌, arith, list_all, cases_lt, nat_tests, Refusal, OutOfMemory, TooManyAxes, TooManyIndices, ZeroStep, IndexOutOfRange, ◌>>=◌, check, Layout, IndexItem, max_axes, max_items, count, shape_of, shape_of-many, AxisPick, axes_taken, has_step, are_on_axes, picks, shape_picked, picked_view, basic, pick_shown, ArePicks, IsViewOf, GivesView}
+use Rattle.std.proofs.Common.{◌≡◌, ◌⊎◌, inl, inr, Bool, Ok, Err, ℕ, ◌<◌, ◌≤◌, nat_le, true, false, List, All, map, length, ap, ◌∙◌, arith}
+use Rattle.view_ops.proofs.Words.{list_all, cases_lt, nat_tests, Refusal, OutOfMemory, TooManyAxes, TooManyIndices, ZeroStep, IndexOutOfRange, ◌>>=◌, check, Layout, IndexItem, max_axes, max_items, count, shape_of, shape_of-many, AxisPick, axes_taken, has_step, are_on_axes, picks, shape_picked, picked_view, basic, pick_shown, ArePicks, IsViewOf, GivesView}
 use Rattle.view_ops.proofs.PickViews.{shape_of_picks, leads_of_picks, shape_of-picks}
 use Rattle.view_ops.proofs.ViewLaws.{gives_refusal}
 

@@ -1,5 +1,6 @@
 -- Examples of NumPy's basic indexes: the shape of the result, and the item to which one of its indexes leads.
-use Rattle.view_ops.proofs.Words.{◌≡◌, ℕ, ◌^◌, pos, negsuc, Some, None, List, [], ◌∷◌, replicate, Result, Ok, Err, refl, Refusal, TooManyAxes, TooManyIndices, IndexOutOfRange, ZeroStep, ◌>>=◌, IndexItem, Integer, Slice, Ellipsis, stepped, slice_indices, shape_picked, picked_view, basic}
+use Rattle.std.proofs.Common.{◌≡◌, ℕ, ◌^◌, pos, negsuc, Some, None, List, [], ◌∷◌, replicate, Result, Ok, Err, refl}
+use Rattle.view_ops.proofs.Words.{Refusal, TooManyAxes, TooManyIndices, IndexOutOfRange, ZeroStep, ◌>>=◌, IndexItem, Integer, Slice, Ellipsis, stepped, slice_indices, shape_picked, picked_view, basic}
 use Rattle.view_ops.specs.Words.{NewAxis}
 
 record Seen : Type 0 where

@@ -1,5 +1,6 @@
 -- Laws of fields.
-use Rattle.view_ops.proofs.Words.{◌≡◌, ℕ, ◌+◌, ◌<◌, ◌≤◌, ℤ, pos, negsuc, ◌+ℤ◌, ◌≤ℤ◌, Option, Some, List, [], map, length, get_or, Ok, refl, sym, ap, ◌∙◌, arith, ints, length-map, get_or-map, same_lists, +ℤ_idr, Descr, Field, item_size, field_at, Layout, count, rank, IsIndex, address, offsets, Fits, distance, IsNested, index_at, length-offsets, get_or-offsets, IsIndex-first, dot-zeros, zero_filled, GivesField}
+use Rattle.std.proofs.Common.{◌≡◌, ℕ, ◌+◌, ◌<◌, ◌≤◌, ℤ, pos, negsuc, ◌+ℤ◌, ◌≤ℤ◌, Option, Some, List, [], map, length, get_or, Ok, refl, sym, ap, ◌∙◌, arith}
+use Rattle.view_ops.proofs.Words.{ints, length-map, get_or-map, same_lists, +ℤ_idr, Descr, Field, item_size, field_at, Layout, count, rank, IsIndex, address, offsets, Fits, distance, IsNested, index_at, length-offsets, get_or-offsets, IsIndex-first, dot-zeros, zero_filled, GivesField}
 use Rattle.shape_strides.specs.Addresses.{natural}
 
 -- The first item is at the offset, so it lies in the first `len` bytes.

@@ -1,5 +1,6 @@
 -- Laws of slices.
-use Rattle.view_ops.proofs.Words.{◌≡◌, ◌≢◌, ◌↔◌, ℕ, zero, suc, ◌+◌, ◌*◌, ◌<◌, ◌≤◌, true, false, ℤ, pos, negsuc, neg_ℤ, unsigned_abs, ◌+ℤ◌, ◌-ℤ◌, ◌*ℤ◌, ◌<ℤ◌, ◌≤ℤ◌, int_lt, List, ◌∷◌, map, Option, unwrap_or, Ok, Err, inl, inr, refl, sym, ap, ◌∙◌, arith, cases_Bool, Decides-int_eq, int_eq, ZeroStep, stepped, product_back, product_forth, counted_within, stepped_first, pos-natural, ints, clamps, by_lt_z, int_min, int_max, range_with_len, *ℤ-zero, natural, Progression, lowest, highest, start_of, stop_of, slice_indices, run_number, run_numbers, IsRunWithin}
+use Rattle.std.proofs.Common.{◌≡◌, ◌≢◌, ◌↔◌, ℕ, zero, suc, ◌+◌, ◌*◌, ◌<◌, ◌≤◌, true, false, ℤ, pos, negsuc, neg_ℤ, unsigned_abs, ◌+ℤ◌, ◌-ℤ◌, ◌*ℤ◌, ◌<ℤ◌, ◌≤ℤ◌, int_lt, List, ◌∷◌, map, Option, unwrap_or, Ok, Err, inl, inr, refl, sym, ap, ◌∙◌, arith}
+use Rattle.view_ops.proofs.Words.{cases_Bool, Decides-int_eq, int_eq, ZeroStep, stepped, product_back, product_forth, counted_within, stepped_first, pos-natural, ints, clamps, by_lt_z, int_min, int_max, range_with_len, *ℤ-zero, natural, Progression, lowest, highest, start_of, stop_of, slice_indices, run_number, run_numbers, IsRunWithin}
 
 pub clamp_low : (x low : ℤ) (n : ℕ) → low ≤ℤ int_min (int_max x low) (low +ℤ pos n)
 clamp_low x low n = omega (arith, ints, clamps)

@@ -1,5 +1,6 @@
 -- Examples of slices: what Python's `list(range(*slice(start, stop, step).indices(n)))` gives.
-use Rattle.view_ops.proofs.Words.{◌≡◌, pos, negsuc, Some, None, [], ◌∷◌, Ok, Err, refl, ZeroStep, stepped, slice_indices}
+use Rattle.std.proofs.Common.{◌≡◌, pos, negsuc, Some, None, [], ◌∷◌, Ok, Err, refl}
+use Rattle.view_ops.proofs.Words.{ZeroStep, stepped, slice_indices}
 
 -- n = 5, [-1:-6:3]
 slice_0 : slice_indices 5 (Some (negsuc 0)) (Some (negsuc 5)) (Some (pos 3)) ≡ Ok ([])

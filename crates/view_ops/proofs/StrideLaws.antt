@@ -1,5 +1,6 @@
 -- Laws of strides and steps.
-use Rattle.view_ops.proofs.Words.{◌≡◌, ℕ, zero, suc, ◌+◌, ◌*◌, ◌<◌, ℤ, pos, negsuc, neg_ℤ, unsigned_abs, ◌+ℤ◌, ◌*ℤ◌, sym, ap, ◌∙◌, arith, zero-mul, ints, by_lt_z, negsuc-*ℤ-pos, pos-*ℤ-negsuc, negsuc-*ℤ-negsuc, pos-natural, cancel, product_back, product_forth, abs_pos, Progression, run_number, IsRunWithin}
+use Rattle.std.proofs.Common.{◌≡◌, ℕ, zero, suc, ◌+◌, ◌*◌, ◌<◌, ℤ, pos, negsuc, neg_ℤ, unsigned_abs, ◌+ℤ◌, ◌*ℤ◌, sym, ap, ◌∙◌, arith, zero-mul}
+use Rattle.view_ops.proofs.Words.{ints, by_lt_z, negsuc-*ℤ-pos, pos-*ℤ-negsuc, negsuc-*ℤ-negsuc, pos-natural, cancel, product_back, product_forth, abs_pos, Progression, run_number, IsRunWithin}
 
 -- ---- a stride along a run
 

@@ -1,5 +1,6 @@
 -- Laws of transposes.
-use Rattle.view_ops.proofs.Words.{◌≡◌, ◌≢◌, ℕ, zero, suc, ◌*◌, ◌<◌, ◌==◌, Bool, true, false, ◌||◌, ℤ, pos, ◌+ℤ◌, ◌*ℤ◌, List, [], ◌∷◌, map, length, replicate, get_or, set, inl, inr, refl, sym, ap, ◌∙◌, arith, mul_assoc, length-set, cases_Bool, false≢true, nat_tests, ints, length-map, length-replicate, get_or-replicate, get_or-set_same, get_or-set_other, length-le_from_distinct_below, list_any, IsDistinct, AllByRecursion, *ℤ-zero, +ℤ_assoc, count, IsIndex, length-index, IsIndex-from_numbers, transposed_shape, transposed_index, put_at, AreAxes}
+use Rattle.std.proofs.Common.{◌≡◌, ◌≢◌, ℕ, zero, suc, ◌*◌, ◌<◌, ◌==◌, Bool, true, false, ◌||◌, ℤ, pos, ◌+ℤ◌, ◌*ℤ◌, List, [], ◌∷◌, map, length, replicate, get_or, set, inl, inr, refl, sym, ap, ◌∙◌, arith, mul_assoc, length-set}
+use Rattle.view_ops.proofs.Words.{cases_Bool, false≢true, nat_tests, ints, length-map, length-replicate, get_or-replicate, get_or-set_same, get_or-set_other, length-le_from_distinct_below, list_any, IsDistinct, AllByRecursion, *ℤ-zero, +ℤ_assoc, count, IsIndex, length-index, IsIndex-from_numbers, transposed_shape, transposed_index, put_at, AreAxes}
 use Rattle.shape_strides.specs.Layouts.{dot}
 
 -- ---- numbers written at the positions of axes

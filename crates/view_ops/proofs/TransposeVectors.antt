@@ -1,5 +1,6 @@
 -- Examples of the axes, shapes and strides of NumPy's transposes.
-use Rattle.view_ops.proofs.Words.{◌≡◌, pos, negsuc, Some, None, [], ◌∷◌, Ok, Err, refl, BadAxis, axes_of, transposed_shape, transposed_index}
+use Rattle.std.proofs.Common.{◌≡◌, pos, negsuc, Some, None, [], ◌∷◌, Ok, Err, refl}
+use Rattle.view_ops.proofs.Words.{BadAxis, axes_of, transposed_shape, transposed_index}
 
 -- `numpy.zeros((2, 3, 4)).T.shape`
 reversed_axes : axes_of 3 None ≡ Ok (2 ∷ 1 ∷ 0 ∷ [])

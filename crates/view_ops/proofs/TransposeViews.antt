@@ -1,5 +1,6 @@
 -- A transposed layout is a view.
-use Rattle.view_ops.proofs.Words.{Refusal, OutOfMemory, Layout, count, IsShape, max_items, max_bytes, address_at, LieWithin, address, offsets, zeros_are, ◌≡◌, ◌⊎◌, inl, inr, Option, Err, ℕ, ◌<◌, ◌≤◌, ℤ, pos, ◌+ℤ◌, List, map, length, replicate, get_or, Ok, refl, sym, ap, subst, ◌∙◌, arith, length-map, get_or-map, dot, axes_of, transposed, transposed_shape, transposed_index, put_at, AreAxes, AreAllAxes, view_through, IsViewOf, GivesView, KeepsNested, ShowsThrough, IsView, LieWithin-view, inside-view, offsets-view}
+use Rattle.std.proofs.Common.{◌≡◌, ◌⊎◌, inl, inr, Option, Err, ℕ, ◌<◌, ◌≤◌, ℤ, pos, ◌+ℤ◌, List, map, length, replicate, get_or, Ok, refl, sym, ap, subst, ◌∙◌, arith}
+use Rattle.view_ops.proofs.Words.{Refusal, OutOfMemory, Layout, count, IsShape, max_items, max_bytes, address_at, LieWithin, address, offsets, zeros_are, length-map, get_or-map, dot, axes_of, transposed, transposed_shape, transposed_index, put_at, AreAxes, AreAllAxes, view_through, IsViewOf, GivesView, KeepsNested, ShowsThrough, IsView, LieWithin-view, inside-view, offsets-view}
 use Rattle.view_ops.proofs.TransposeLaws.{dot-put_at, IsIndex-transposed, transposed-one, count-transposed}
 use Rattle.view_ops.proofs.ViewLaws.{IsNested-view, gives_refusal}
 use Rattle.view_ops.proofs.AxesLaws.{axis-lt}

@@ -1,5 +1,6 @@
 -- The items of views do not overlap, and a refusal is the one of the definition.
-use Rattle.view_ops.proofs.Words.{◌≡◌, ℕ, ◌<◌, ◌≤◌, ◌⊎◌, Result, Ok, Err, List, length, get_or, inl, inr, sym, ap, ◌∙◌, arith, cases_lt, Refusal, OutOfMemory, Layout, count, rank, IsIndex, offsets, distance, IsNested, rank-lt, rank-same, index_at, length-offsets, get_or-offsets, View, GivesView, IsView}
+use Rattle.std.proofs.Common.{◌≡◌, ℕ, ◌<◌, ◌≤◌, ◌⊎◌, Result, Ok, Err, List, length, get_or, inl, inr, sym, ap, ◌∙◌, arith}
+use Rattle.view_ops.proofs.Words.{cases_lt, Refusal, OutOfMemory, Layout, count, rank, IsIndex, offsets, distance, IsNested, rank-lt, rank-same, index_at, length-offsets, get_or-offsets, View, GivesView, IsView}
 use Rattle.shape_strides.specs.Addresses.{natural}
 
 -- The offset of the view at the rank of an index is the offset of the item to which the index leads.

@@ -2,7 +2,6 @@
 pub use Rattle.elem_descr.specs.declared.index_item.IndexItem.TheVariants.{NewAxis as NewItem}
 pub use Rattle.shape_strides.specs.Addresses.{dot}
 pub use Rattle.shape_strides.specs.Layouts.{natural}
-pub use Rattle.std.proofs.Common.{FitsSigned, append_assoc, inl, inr, length-drop, length-set, length-take-le, mul-le-mul_left, mul_assoc, of_z, option_copied, refl, set, slice_range, suc, to_z, unsigned_abs, zero, zero-mul, ◌*◌, ◌-ℤ◌, ◌<ℤ◌, ◌^◌, ◌||◌, ◌↔◌}
 pub use Rattle.std.proofs.Math.Nat.{mul-le-mul_right}
 pub use Rattle.std.proofs.lemmas.Bool.{and_parts, cases_Bool, cases_eq, cases_lt, false≢true, not-true}
 pub use Rattle.std.proofs.lemmas.Bool.Decides.{Decides-int_eq, nat_tests}
@@ -16,7 +15,6 @@ pub use Rattle.std.proofs.lemmas.Result.{err_from_is_err_and}
 pub use Rattle.std.specs.Int.{div_ceil, w128}
 pub use Rattle.std.specs.List.{AllByRecursion}
 unfoldable pub use Rattle.std.specs.List.{IsDistinct}
-pub use Rattle.std.specs.Prelude.{MatchResult}
 pub use Rattle.std.specs.Result.{is_ok}
 pub use Rattle.view_ops.specs.Basics.{Pick, Placed, are_on_axes, axes_taken, axis_of, has_step, is_on_axis, picked_index, picked_shape, picks, picks_of, placed, takes_axis, whole, width}
 unfoldable pub use Rattle.view_ops.specs.Basics.{basic, picked_view, shape_picked}
@@ -30,7 +28,7 @@ pub use Rattle.view_ops.specs.Transposes.{are_distinct, put_at, transposed_index
 unfoldable pub use Rattle.view_ops.specs.Transposes.{axes_of, transposed}
 pub use Rattle.view_ops.specs.ViewLaws.{LieWithin-view, inside-view, offsets-view}
 pub use Rattle.view_ops.specs.Views.{GivesView, IsViewOf, KeepsNested, View, view_through}
-pub use Rattle.view_ops.specs.Words.{*ℤ-zero, +ℤ_idr, All, Array, BadAxis, Bool, Descr, Ellipsis, Err, Field, Fits, Gives, IndexItem, IndexOutOfRange, Integer, IsIndex, IsIndex-first, IsIndex-from_numbers, IsNested, IsShape, Layout, LieWithin, List, None, Ok, Option, OutOfMemory, Refusal, Result, Slice, Some, TooManyAxes, TooManyIndices, ZeroStep, [], abs_pos, address, address_at, ap, arith, axis_below, cancel, check, count, counted_within, distance, dot-nil, dot-zeros, drop, factors_pos, false, field_at, field_of, flat_map, get_or, get_or-map, get_or-offsets, index_at, int_eq, int_lt, int_max, int_min, is_basic, item_size, length, length-index, length-offsets, list_all, list_any, map, max_axes, max_bytes, max_items, nat_le, nat_lt, neg_ℤ, negsuc, not, offsets, one-step, pos, pos-natural, product_back, product_forth, range_with_len, rank, rank-lt, rank-same, replicate, same_answer, shape_of, shape_of-many, shape_of-ok, stepped_first, steps_end_below, subst, sym, take, true, unwrap_or, zero_filled, zeros_are, ℕ, ℤ, ◌&&◌, ◌*ℤ◌, ◌++◌, ◌+ℤ◌, ◌+◌, ◌-◌, ◌<◌, ◌==◌, ◌>>=◌, ◌∙◌, ◌∷◌, ◌≡◌, ◌≢◌, ◌≤ℤ◌, ◌≤◌, ◌⊎◌}
+pub use Rattle.view_ops.specs.Words.{*ℤ-zero, +ℤ_idr, Array, BadAxis, Descr, Ellipsis, Field, Fits, Gives, IndexItem, IndexOutOfRange, Integer, IsIndex, IsIndex-first, IsIndex-from_numbers, IsNested, IsShape, Layout, LieWithin, OutOfMemory, Refusal, Slice, TooManyAxes, TooManyIndices, ZeroStep, abs_pos, address, address_at, axis_below, cancel, check, count, counted_within, distance, dot-nil, dot-zeros, factors_pos, field_at, field_of, flat_map, get_or-map, get_or-offsets, index_at, int_eq, int_max, int_min, is_basic, item_size, length-index, length-offsets, list_all, list_any, max_axes, max_bytes, max_items, offsets, one-step, pos-natural, product_back, product_forth, range_with_len, rank, rank-lt, rank-same, same_answer, shape_of, shape_of-many, shape_of-ok, stepped_first, steps_end_below, zero_filled, zeros_are, ◌>>=◌}
 unfoldable pub use Rattle.view_ops.specs.Words.{stepped}
 pub use Rattle.view_ops.specs.declared.picks.AxisPick.{AxisPick}
 pub use Rattle.view_ops.specs.declared.picks.AxisPick.TheVariants.{Along as AlongAxis, At, At as AtAxis, New as NewAxis}

@@ -1,5 +1,6 @@
 -- Basic indexes, as in NumPy: integers, slices, `...` and new axes.
-use Rattle.view_ops.specs.Words.{ℕ, ◌-◌, nat_le, Bool, true, false, not, pos, unwrap_or, List, [], ◌∷◌, map, take, drop, length, count_by, slice_index, Result, Ok, Err, int_eq, list_all, flat_map, range_with_len, Refusal, TooManyAxes, TooManyIndices, IndexOutOfRange, ZeroStep, ◌>>=◌, check, IndexItem, Integer, Slice, Ellipsis, NewAxis, max_axes, natural}
+use Rattle.std.specs.Prelude.{ℕ, ◌-◌, nat_le, Bool, true, false, not, pos, unwrap_or, List, [], ◌∷◌, map, take, drop, length, count_by, slice_index, Result, Ok, Err}
+use Rattle.view_ops.specs.Words.{int_eq, list_all, flat_map, range_with_len, Refusal, TooManyAxes, TooManyIndices, IndexOutOfRange, ZeroStep, ◌>>=◌, check, IndexItem, Integer, Slice, Ellipsis, NewAxis, max_axes, natural}
 use Rattle.view_ops.specs.Slices.{from_front, is_place, slice_indices}
 use Rattle.view_ops.specs.Views.{View}
 

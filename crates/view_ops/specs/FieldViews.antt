@@ -1,5 +1,6 @@
 -- Views of one field of each item.
-use Rattle.view_ops.specs.Words.{◌≡◌, ℕ, ◌+◌, map, Option, Some, None, Result, Ok, Err, Refusal, NoSuchField, OutOfMemory, Descr, Field, item_size, field_at, Layout, offsets, Fits, IsNested}
+use Rattle.std.specs.Prelude.{◌≡◌, ℕ, ◌+◌, map, Option, Some, None, Result, Ok, Err}
+use Rattle.view_ops.specs.Words.{Refusal, NoSuchField, OutOfMemory, Descr, Field, item_size, field_at, Layout, offsets, Fits, IsNested}
 
 -- A layout has this field of each item of an older layout, whose items have `item` bytes.
 pub record IsFieldOf (old new : Layout) (item : ℕ) (field : Field) : Type 0 where

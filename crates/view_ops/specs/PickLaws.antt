@@ -1,5 +1,7 @@
 -- Laws of runs of numbers.
-use Rattle.view_ops.specs.Words.{◌≡◌, ℕ, ◌<◌, pos, ◌+ℤ◌, length, get_or, ap, ◌∙◌, arith, length-map-range_with_len, get_or-map-range_with_len, *ℤ-zero, +ℤ_idr, natural}
+use Rattle.std.specs.Prelude.{◌≡◌, ℕ, ◌<◌, pos, ◌+ℤ◌, length}
+use Rattle.std.proofs.Common.{get_or, ap, ◌∙◌, arith}
+use Rattle.view_ops.specs.Words.{length-map-range_with_len, get_or-map-range_with_len, *ℤ-zero, +ℤ_idr, natural}
 use Rattle.view_ops.specs.declared.slice.Progression.{Progression}
 use Rattle.view_ops.specs.Slices.{run_number, run_numbers}
 

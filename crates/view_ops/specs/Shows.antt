@@ -1,5 +1,6 @@
 -- Layouts that show the items of another layout.
-use Rattle.view_ops.specs.Words.{◌≡◌, ℕ, ℤ, List, Layout, IsIndex, address_at, address}
+use Rattle.std.specs.Prelude.{◌≡◌, ℕ, ℤ, List}
+use Rattle.view_ops.specs.Words.{Layout, IsIndex, address_at, address}
 
 -- An array with this shape, these strides and this offset shows items of `old`: its item at each index is the one that
 -- `old` has at the index given by `m`.

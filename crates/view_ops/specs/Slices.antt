@@ -1,5 +1,6 @@
 -- Python's slices: `slice(start, stop, step).indices(n)`, and the `range` that it describes.
-use Rattle.view_ops.specs.Words.{◌≢◌, ℕ, ◌<◌, ◌≤◌, Bool, not, ◌&&◌, if◌then◌else◌, ℤ, pos, negsuc, ◌+ℤ◌, ◌*ℤ◌, ◌≤ℤ◌, int_lt, Option, Some, None, unwrap_or, List, map, Result, Ok, int_min, int_max, int_eq, range_with_len, Refusal, ZeroStep, ◌>>=◌, check, stepped, natural}
+use Rattle.std.specs.Prelude.{◌≢◌, ℕ, ◌<◌, ◌≤◌, Bool, not, ◌&&◌, if◌then◌else◌, ℤ, pos, negsuc, ◌+ℤ◌, ◌*ℤ◌, ◌≤ℤ◌, int_lt, Option, Some, None, unwrap_or, List, map, Result, Ok}
+use Rattle.view_ops.specs.Words.{int_min, int_max, int_eq, range_with_len, Refusal, ZeroStep, ◌>>=◌, check, stepped, natural}
 use Rattle.view_ops.specs.declared.slice.Progression.{Progression}
 
 -- the lowest and the highest position of a bound: 0 and n for a positive step, -1 and n - 1 for a negative one

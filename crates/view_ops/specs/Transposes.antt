@@ -1,5 +1,6 @@
 -- Transposes, as in NumPy: axis k of the result is the axis named at position k.
-use Rattle.view_ops.specs.Words.{ℕ, ◌-◌, ◌==◌, Bool, true, not, ◌&&◌, ℤ, Option, Some, None, List, [], ◌∷◌, map, length, replicate, slice_index, slice_set, Result, Ok, list_any, list_all, range_with_len, Refusal, BadAxis, ◌>>=◌, check, natural}
+use Rattle.std.specs.Prelude.{ℕ, ◌-◌, ◌==◌, Bool, true, not, ◌&&◌, ℤ, Option, Some, None, List, [], ◌∷◌, map, length, replicate, slice_index, slice_set, Result, Ok}
+use Rattle.view_ops.specs.Words.{list_any, list_all, range_with_len, Refusal, BadAxis, ◌>>=◌, check, natural}
 use Rattle.view_ops.specs.Slices.{from_front, is_place}
 use Rattle.view_ops.specs.Views.{View}
 

@@ -1,5 +1,7 @@
 -- Laws of layouts that show items of another layout.
-use Rattle.view_ops.specs.Words.{◌≡◌, ℕ, ℤ, ◌<◌, List, [], All, length, get_or, sym, ap, subst, ◌∙◌, arith, get_or-map, Layout, LieWithin, address, offsets, Fits, indexes, rank, IsIndex, length-indexes, rank-lt, get_or-indexes, index_at, same_on_indexes, length-offsets, get_or-offsets, natural}
+use Rattle.std.specs.Prelude.{◌≡◌, ℕ, ℤ, ◌<◌, List, [], All, length}
+use Rattle.std.proofs.Common.{get_or, sym, ap, subst, ◌∙◌, arith}
+use Rattle.view_ops.specs.Words.{get_or-map, Layout, LieWithin, address, offsets, Fits, indexes, rank, IsIndex, length-indexes, rank-lt, get_or-indexes, index_at, same_on_indexes, length-offsets, get_or-offsets, natural}
 use Rattle.view_ops.specs.Views.{View, view_through, IsViewOf}
 use Rattle.view_ops.specs.Shows.{ShowsThrough, IsView}
 

@@ -1,5 +1,6 @@
 -- Views: the same items with another shape.
-use Rattle.view_ops.specs.Words.{◌≡◌, ◌<◌, ℕ, ◌⊎◌, List, map, length, slice_index, All, Result, Ok, Err, Refusal, OutOfMemory, Layout, indexes, rank, IsIndex, offsets, Fits, IsNested}
+use Rattle.std.specs.Prelude.{◌≡◌, ◌<◌, ℕ, ◌⊎◌, List, map, length, slice_index, All, Result, Ok, Err}
+use Rattle.view_ops.specs.Words.{Refusal, OutOfMemory, Layout, indexes, rank, IsIndex, offsets, Fits, IsNested}
 
 -- The list of a view of an array that has this list and shape: the entry at each index of the new shape is the entry of
 -- the array at the index that `leads` gives. The list can hold byte offsets or places.

@@ -26,11 +26,9 @@ pub use Rattle.shape_strides.specs.ShapeLaws.{shape_of-many, shape_of-ok}
 pub use Rattle.shape_strides.specs.Shapes.{IsShape}
 unfoldable pub use Rattle.shape_strides.specs.Shapes.{shape_of}
 pub use Rattle.shape_strides.specs.declared.layout.Layout.{Layout}
-pub use Rattle.std.proofs.Common.{ap, arith, get_or, subst, sym, ◌∙◌}
 pub use Rattle.std.proofs.lemmas.List.{get_or-map}
 pub use Rattle.std.proofs.lemmas.List.FromFn.{get_or-map-range_with_len, length-map-range_with_len}
 pub use Rattle.std.specs.Int.{int_max, int_min}
 pub use Rattle.std.specs.List.{flat_map, list_all, list_any, range_with_len}
 pub use Rattle.std.specs.Ordering.{int_eq}
-pub use Rattle.std.specs.Prelude.{All, Bool, Err, List, None, Ok, Option, Result, Some, [], count_by, drop, false, if◌then◌else◌, int_lt, length, map, nat_le, nat_lt, neg_ℤ, negsuc, not, pos, replicate, slice_index, slice_set, take, true, unwrap_or, ℕ, ℤ, ◌&&◌, ◌*ℤ◌, ◌++◌, ◌+ℤ◌, ◌+◌, ◌-◌, ◌<◌, ◌==◌, ◌∷◌, ◌≡◌, ◌≢◌, ◌≤ℤ◌, ◌≤◌, ◌⊎◌}
 pub use lib.IntN.{*ℤ-zero, +ℤ_idr}

@@ -1,5 +1,6 @@
 //! Views by basic indexes: integers, slices, `...` and new axes; and the axes that these take.
-ghost use Rattle.view_ops.specs.Clauses.{list_all, IfOk, count_by, drop, length, pos, slice_index_or, true, ◌+◌, ◌-◌, ◌<◌, ◌≡◌, ◌≤◌, axes_taken, basic, has_step, takes_axis, width, GivesView, KeepsNested, Integer, is_basic};
+ghost use Rattle.std.specs.Prelude.{IfOk, count_by, drop, length, pos, slice_index_or, true, ◌+◌, ◌-◌, ◌<◌, ◌≡◌, ◌≤◌};
+ghost use Rattle.view_ops.specs.Clauses.{list_all, axes_taken, basic, has_step, takes_axis, width, GivesView, KeepsNested, Integer, is_basic};
 
 use crate::picks::{are_in_range, picks_of, with_picks};
 use elem_descr::{IndexItem, Refusal};

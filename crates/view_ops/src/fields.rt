@@ -1,5 +1,6 @@
 //! Views of one field of each item.
-ghost use Rattle.view_ops.specs.Clauses.{◌≡◌, ℕ, ◌+◌, pos, ◌+ℤ◌, List, IfOk, item_size, field_of, max_bytes, IsIndex, address, Fits, GivesField};
+ghost use Rattle.std.specs.Prelude.{◌≡◌, ℕ, ◌+◌, pos, ◌+ℤ◌, List, IfOk};
+ghost use Rattle.view_ops.specs.Clauses.{item_size, field_of, max_bytes, IsIndex, address, Fits, GivesField};
 
 use elem_descr::{Descr, Refusal};
 use shape_strides::Layout;

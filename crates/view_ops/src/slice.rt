@@ -1,5 +1,6 @@
 //! Slices of an axis, as Python's `slice.indices` has them.
-ghost use Rattle.view_ops.specs.Clauses.{◌≡◌, ℕ, ◌+◌, ◌-◌, ◌*◌, ◌^◌, unsigned_abs, ◌<◌, ◌≤◌, ◌≢◌, ◌↔◌, pos, ◌+ℤ◌, ◌-ℤ◌, ◌*ℤ◌, ◌<ℤ◌, ◌≤ℤ◌, MatchResult, IfOk, All, IsTrue, Ok, Err, int_max, lowest, highest, from_front, is_place, clamped, start_of, stop_of, slice_indices, run_number, run_numbers, IsRunWithin};
+ghost use Rattle.std.specs.Prelude.{◌≡◌, ℕ, ◌+◌, ◌-◌, ◌*◌, ◌^◌, unsigned_abs, ◌<◌, ◌≤◌, ◌≢◌, ◌↔◌, pos, ◌+ℤ◌, ◌-ℤ◌, ◌*ℤ◌, ◌<ℤ◌, ◌≤ℤ◌, MatchResult, IfOk, All, IsTrue, Ok, Err};
+ghost use Rattle.view_ops.specs.Clauses.{int_max, lowest, highest, from_front, is_place, clamped, start_of, stop_of, slice_indices, run_number, run_numbers, IsRunWithin};
 
 use elem_descr::Refusal;
 

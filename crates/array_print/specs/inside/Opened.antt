@@ -1,5 +1,6 @@
 -- The text of an axis while it is being made.
-use Rattle.array_print.specs.Words.{◌≡◌, ℕ, ◌+◌, ◌-◌, ◌≤◌, List, ◌++◌, codes, length, map, drop, get_or, blocks, count}
+use Rattle.std.specs.Prelude.{◌≡◌, ℕ, ◌+◌, ◌-◌, ◌≤◌, List, ◌++◌, codes, length, map, drop, get_or}
+use Rattle.array_print.specs.Words.{blocks, count}
 use Rattle.array_print.specs.Printed.{block_text, join_texts, separator}
 
 -- the opening bracket of an axis, and the text of its first `k` blocks

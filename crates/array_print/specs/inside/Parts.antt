@@ -1,5 +1,6 @@
 -- Parts of an array: the items that some of its axes lead to.
-use Rattle.array_print.specs.Words.{ℕ, ◌<◌, ◌≤◌, List, length, drop, Layout, count, LieWithin, max_bytes, offsets_at}
+use Rattle.std.specs.Prelude.{ℕ, ◌<◌, ◌≤◌, List, length, drop}
+use Rattle.array_print.specs.Words.{Layout, count, LieWithin, max_bytes, offsets_at}
 
 -- the offsets that the axes from `axis` on lead to, beginning at `start`
 abbrev pub part_offsets : Layout → ℕ → ℕ → List ℕ

@@ -1,5 +1,6 @@
 -- Rows of items that begin at the offsets of runs.
-use Rattle.arrays.specs.Words.{List, map, flat_map, Grid, StridedAxis, Run, run_along, run_offsets}
+use Rattle.std.specs.Prelude.{List, map}
+use Rattle.arrays.specs.Words.{flat_map, Grid, StridedAxis, Run, run_along, run_offsets}
 
 -- the rows along an axis, one from each offset of the runs
 abbrev pub rows_of : StridedAxis → List Run → List Run

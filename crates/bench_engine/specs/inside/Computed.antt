@@ -1,5 +1,6 @@
 -- The result of a computation: its contents, and its origin in the reply.
-use Rattle.bench_engine.specs.Words.{Result, Refusal, ◌>>=◌, Computation, Duplicate, Cast, Combine, Transform, Reduce, State}
+use Rattle.std.specs.Prelude.{Result}
+use Rattle.bench_engine.specs.Words.{Refusal, ◌>>=◌, Computation, Duplicate, Cast, Combine, Transform, Reduce, State}
 use Rattle.bench_engine.specs.Contents.{Contents}
 use Rattle.bench_engine.specs.Machine.{array_of, copied_contents, cast_contents, operation_contents, transformed, reduced_contents}
 use Rattle.bench_engine.specs.declared.replies.Origin.{Origin}

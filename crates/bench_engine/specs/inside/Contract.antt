@@ -1,5 +1,6 @@
 -- What a call that carries out a command ensures.
-use Rattle.bench_engine.specs.Words.{◌≡◌, ◌⊎◌, ℕ, Bool, true, IsTrue, List, Result, Ok, Err, Refusal, OutOfMemory, State}
+use Rattle.std.specs.Prelude.{◌≡◌, ◌⊎◌, ℕ, Bool, true, IsTrue, List, Result, Ok, Err}
+use Rattle.bench_engine.specs.Words.{Refusal, OutOfMemory, State}
 use Rattle.bench_engine.specs.Replies.{Reply, refusal}
 use Rattle.bench_engine.specs.Machine.{Choice, Outcome, IsAllowed, accepted_with}
 

@@ -1,5 +1,6 @@
 -- The result of loading a file from the store.
-use Rattle.bench_engine.specs.Words.{ℕ, List, Result, Refusal, Owned, StoreState, Loads}
+use Rattle.std.specs.Prelude.{ℕ, List, Result}
+use Rattle.bench_engine.specs.Words.{Refusal, Owned, StoreState, Loads}
 use Rattle.bench_engine.specs.Steps.{Found, MayFind, loaded}
 
 -- The result is what some possible answer of the store gives.

@@ -1,5 +1,6 @@
 -- What a call returns, compared with its definition.
-use Rattle.bench_engine.specs.Words.{◌≡◌, ◌⊎◌, Result, Ok, Err, Refusal, OutOfMemory}
+use Rattle.std.specs.Prelude.{◌≡◌, ◌⊎◌, Result, Ok, Err}
+use Rattle.bench_engine.specs.Words.{Refusal, OutOfMemory}
 
 -- R relates the result to the defined one. A refusal is the defined one, or out of memory.
 abbrev pub Meets : {X Y : Type 0} → (X → Y → Type 0) → Result X Refusal → Result Y Refusal → Type 0

@@ -1,5 +1,6 @@
 -- Operands: items of a layout in a block, compared with those of arrays of the state.
-use Rattle.bench_engine.specs.Words.{◌≡◌, ◌⊎◌, ℕ, List, map, true, false, IsTrue, Option, Some, None, Result, Ok, Err, list_all, Refusal, OutOfMemory, item_from, Layout, offsets, IsViewOf, can_stretch, stretched_items, Items, Owned, Descr, LeafValue, HasItems, Shows, ArrayRef, State, descr_of, read, Argument, Operand, UnknownName, find_array, is_bound, Computation, Duplicate, Cast, Combine, Transform, Reduce, View, Array}
+use Rattle.std.specs.Prelude.{◌≡◌, ◌⊎◌, ℕ, List, map, true, false, IsTrue, Option, Some, None, Result, Ok, Err}
+use Rattle.bench_engine.specs.Words.{list_all, Refusal, OutOfMemory, item_from, Layout, offsets, IsViewOf, can_stretch, stretched_items, Items, Owned, Descr, LeafValue, HasItems, Shows, ArrayRef, State, descr_of, read, Argument, Operand, UnknownName, find_array, is_bound, Computation, Duplicate, Cast, Combine, Transform, Reduce, View, Array}
 use Rattle.script_lang.specs.declared.command.Argument.TheVariants as argument
 use Rattle.bench_engine.specs.Machine.{OperandValues, operand_part, viewed}
 use Rattle.bench_engine.specs.declared.write.Given.{Given}

@@ -1,5 +1,6 @@
 -- The contents of an owned array.
-use Rattle.bench_engine.specs.Words.{◌≡◌, Owned, item_size, offsets, C, offsets_in, places_of, own_buffer}
+use Rattle.std.specs.Prelude.{◌≡◌}
+use Rattle.bench_engine.specs.Words.{Owned, item_size, offsets, C, offsets_in, places_of, own_buffer}
 use Rattle.bench_engine.specs.Contents.{Contents}
 
 -- the contents of an owned array, whose block becomes the buffer

@@ -1,5 +1,6 @@
 -- Views of an array, and copies of its items, compared with those of the machine.
-use Rattle.bench_engine.specs.Words.{◌≡◌, ℕ, List, Result, Descr, Refusal, Viewing, State, descr_of, Shows, IsViewIn, ArrayRef, Bound, Array}
+use Rattle.std.specs.Prelude.{◌≡◌, ℕ, List, Result}
+use Rattle.bench_engine.specs.Words.{Descr, Refusal, Viewing, State, descr_of, Shows, IsViewIn, ArrayRef, Bound, Array}
 use Rattle.name_store.specs.declared.bound.Bound.TheVariants as bound
 use Rattle.bench_engine.specs.declared.view.Viewed.{Viewed}
 use Rattle.bench_engine.specs.inside.OwnContents.{held}

@@ -1,5 +1,6 @@
 -- The reply to a command that prints an array.
-use Rattle.bench_engine.specs.Words.{ℕ, List, Some, Ok, Ask, Print, State, StoreState}
+use Rattle.std.specs.Prelude.{ℕ, List, Some, Ok}
+use Rattle.bench_engine.specs.Words.{Ask, Print, State, StoreState}
 use Rattle.bench_engine.specs.Replies.{Reply}
 use Rattle.bench_engine.specs.Steps.{world}
 use Rattle.bench_engine.specs.Headline.{Meaning}

@@ -1,5 +1,6 @@
 -- What a line means once it is read.
-use Rattle.bench_engine.specs.Words.{IsErrOf, Option, Result, Refusal, LineTooLong, Command, Says}
+use Rattle.std.specs.Prelude.{IsErrOf, Option, Result}
+use Rattle.bench_engine.specs.Words.{Refusal, LineTooLong, Command, Says}
 use Rattle.bench_engine.specs.declared.session.Line.{Line as ReadLine}
 use Rattle.bench_engine.specs.declared.session.Line.TheVariants.{Held, TooLong}
 use Rattle.bench_engine.specs.Headline.{Meaning, too_long, says, meaning_of}

@@ -1,5 +1,6 @@
 -- The result of saving a file in the store.
-use Rattle.bench_engine.specs.Words.{◌≡◌, ℕ, List, Result, Ok, Err, Refusal, StoreState}
+use Rattle.std.specs.Prelude.{◌≡◌, ℕ, List, Result, Ok, Err}
+use Rattle.bench_engine.specs.Words.{Refusal, StoreState}
 use Rattle.bench_engine.specs.Steps.{Stored, MayStore, store_refusal}
 
 abbrev pub refused : Stored → Result (Unit {0}) Refusal

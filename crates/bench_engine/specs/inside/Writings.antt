@@ -1,5 +1,6 @@
 -- Writings: new items for a part of an array, and the target that they are written to.
-use Rattle.bench_engine.specs.Words.{◌≡◌, ◌≤◌, ℕ, List, ◌∷◌, ◌++◌, length, true, Option, Some, Result, Ok, Err, list_all, IsPermutation, Refusal, LeafValue, Layout, LayoutPair, count, item_pairs, IsViewOf, stretched, State, descr_of, written, LeadsTo, MayWrite, Supplies, target_offsets, Target, Shows, ArrayRef, Argument, IndexItem, Operation, find_array, is_bound, max_items, View, Array}
+use Rattle.std.specs.Prelude.{◌≡◌, ◌≤◌, ℕ, List, ◌∷◌, ◌++◌, length, true, Option, Some, Result, Ok, Err}
+use Rattle.bench_engine.specs.Words.{list_all, IsPermutation, Refusal, LeafValue, Layout, LayoutPair, count, item_pairs, IsViewOf, stretched, State, descr_of, written, LeadsTo, MayWrite, Supplies, target_offsets, Target, Shows, ArrayRef, Argument, IndexItem, Operation, find_array, is_bound, max_items, View, Array}
 use Rattle.bench_engine.specs.declared.update.Writing.{Writing}
 use Rattle.bench_engine.specs.IndexLists.{names_in_index}
 use Rattle.bench_engine.specs.Machine.{accepted_with, names_in_argument, write_outcome, write_reply}

@@ -1,5 +1,7 @@
 -- The strides of a stretched layout.
-use Rattle.broadcasting.specs.Words.{◌≡◌, ℕ, ◌-◌, ◌==◌, true, if◌then◌else◌, ℤ, pos, List, [], ◌∷◌, ◌++◌, length, replicate, Layout}
+use Rattle.std.specs.Prelude.{◌≡◌, ℕ, ◌-◌, ◌==◌, true, if◌then◌else◌, ℤ, pos, List, ◌∷◌, ◌++◌, length, replicate}
+use Rattle.std.proofs.Common.{[]}
+use Rattle.broadcasting.specs.Words.{Layout}
 use Rattle.broadcasting.specs.Broadcasts.{can_stretch}
 
 -- the stride of an axis of length n in the stretched layout: 0 for an axis of one item

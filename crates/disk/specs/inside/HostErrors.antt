@@ -1,5 +1,6 @@
 -- Errors of the operating system that do not count as failures.
-use Rattle.disk.specs.Words.{◌≡◌, ◌⊎◌, ErrorKind, InvalidInput, Unsupported}
+use Rattle.std.specs.Prelude.{◌≡◌, ◌⊎◌}
+use Rattle.disk.specs.Words.{ErrorKind, InvalidInput, Unsupported}
 
 -- the file system does not support the call: EINVAL, ENOSYS or EOPNOTSUPP
 abbrev pub IsUnsupported : ErrorKind → Type 0

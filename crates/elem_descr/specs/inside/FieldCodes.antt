@@ -1,5 +1,7 @@
 -- Codes of fields, which proofs use to tell fields apart.
-use Rattle.elem_descr.specs.Words.{◌≡◌, ◌⊎◌, ℕ, List, [], ◌∷◌, refl, Coded, code_by, coded⊎, coded×, coded_ℕ, coded_list, inl, inr, ap, coded_unit}
+use Rattle.std.specs.Prelude.{◌≡◌, ◌⊎◌, ℕ, List, [], ◌∷◌}
+use Rattle.std.proofs.Common.{refl, inl, inr, ap}
+use Rattle.elem_descr.specs.Words.{Coded, code_by, coded⊎, coded×, coded_ℕ, coded_list, coded_unit}
 use Rattle.elem_descr.specs.declared.scalar.Scalar.{Scalar}
 use Rattle.elem_descr.specs.Fields.{Fields, no_more, scalar_field, record_field, Structure}
 

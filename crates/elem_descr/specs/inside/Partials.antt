@@ -1,5 +1,6 @@
 -- What holds for a record being built, and for one that has been read.
-use Rattle.elem_descr.specs.Words.{◌≤◌, ◌+◌, ℕ, IsTrue, length, map, IsDistinct, list_all, bytes_eq}
+use Rattle.std.specs.Prelude.{◌≤◌, ◌+◌, ℕ, IsTrue, length, map}
+use Rattle.elem_descr.specs.Words.{IsDistinct, list_all, bytes_eq}
 use Rattle.elem_descr.specs.declared.descr.Descr.TheVariants.{Record as RecordDescr}
 use Rattle.elem_descr.specs.declared.format_text.record.Body.{Body}
 use Rattle.elem_descr.specs.Names.{is_legal_name}

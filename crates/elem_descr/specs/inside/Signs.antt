@@ -1,5 +1,6 @@
 -- Numbers read with a sign.
-use Rattle.elem_descr.specs.Words.{ℕ, cond, nat_lt, ℤ, pos, ◌-ℤ◌}
+use Rattle.std.specs.Prelude.{ℕ, ℤ, pos, ◌-ℤ◌}
+use Rattle.std.proofs.Common.{cond, nat_lt}
 
 -- `x`, which is below `d`, read with a sign, if `h` is half of `d`
 abbrev pub with_sign : ℕ → ℕ → ℕ → ℤ

@@ -1,5 +1,7 @@
 -- A record within a record has fewer fields in total.
-use Rattle.elem_descr.specs.Words.{◌≤◌, ◌+◌, ℕ, List, [], ◌∷◌, max, arith, most}
+use Rattle.std.specs.Prelude.{◌≤◌, ◌+◌, ℕ, List, [], ◌∷◌, max}
+use Rattle.std.proofs.Common.{arith}
+use Rattle.elem_descr.specs.Words.{most}
 use Rattle.elem_descr.specs.declared.descr.Field.{Field}
 use Rattle.elem_descr.specs.declared.descr.Descr.{Descr}
 use Rattle.elem_descr.specs.declared.descr.Descr.TheVariants.{Scalar as ScalarDescr, Record as RecordDescr}

@@ -1,5 +1,7 @@
 -- How the code reads a format text: one member after another, each from the remaining text.
-use Rattle.elem_descr.specs.Words.{ℕ, zero, suc, ◌+◌, min, Bool, false, ◌&&◌, not, List, [], ◌∷◌, ◌++◌, length, take, drop, codes, decimal, nat_le, if◌then◌else◌, Option, Some, None, unwrap_or, Result, Ok, Err, is_ascii_digit, list_all, prefix_len, option_map, ok_or}
+use Rattle.std.specs.Prelude.{ℕ, ◌+◌, Bool, ◌&&◌, not, List, [], ◌∷◌, ◌++◌, length, take, codes, decimal, nat_le, if◌then◌else◌, Option, Some, None, unwrap_or, Result, Ok, Err}
+use Rattle.std.proofs.Common.{zero, suc, min, false, drop}
+use Rattle.elem_descr.specs.Words.{is_ascii_digit, list_all, prefix_len, option_map, ok_or}
 use Rattle.elem_descr.specs.declared.refusal.Refusal.{Refusal}
 use Rattle.elem_descr.specs.declared.refusal.Refusal.TheVariants.{BadDescriptor, DescriptorLeftOut, TooLarge}
 use Rattle.elem_descr.specs.declared.scalar.Scalar.{Scalar}

@@ -1,5 +1,6 @@
 //! The marks of a format text, and the numbers that its letters mean.
-ghost use Rattle.elem_descr.specs.Clauses.{◌≡◌, ◌≤◌, number_letter, order_under, long_under, is_aligning, aligned_to, own_alignment, after, marked};
+ghost use Rattle.std.specs.Prelude.{◌≡◌, ◌≤◌};
+ghost use Rattle.elem_descr.specs.Clauses.{number_letter, order_under, long_under, is_aligning, aligned_to, own_alignment, after, marked};
 
 use crate::scalar::{Order, Scalar, Width};
 

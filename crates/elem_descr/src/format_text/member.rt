@@ -1,5 +1,6 @@
 //! The members of a format text, and their names.
-ghost use Rattle.elem_descr.specs.Clauses.{◌≡◌, ◌≤◌, not, length, IsTrue, IfOk, if◌then◌else◌, prefix_len, Answers, is_legal_name, is_empty, count_of, is_left_out, number_member, text_member, other_member, lettered, is_colon, is_named, is_opened, lettered_before, member_at, held_member, held_at, name_at};
+ghost use Rattle.std.specs.Prelude.{◌≡◌, ◌≤◌, not, length, IsTrue, IfOk, if◌then◌else◌};
+ghost use Rattle.elem_descr.specs.Clauses.{prefix_len, Answers, is_legal_name, is_empty, count_of, is_left_out, number_member, text_member, other_member, lettered, is_colon, is_named, is_opened, lettered_before, member_at, held_member, held_at, name_at};
 
 use crate::digits::{count, digits_len};
 use crate::format_text::mark::Mark;

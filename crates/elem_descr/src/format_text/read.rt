@@ -1,5 +1,6 @@
 //! Reads format texts.
-ghost use Rattle.elem_descr.specs.Clauses.{◌≡◌, codes, list_all, Answers, Gives, is_one_of, format, nothing_follows, scalar_alone, record_alone};
+ghost use Rattle.std.specs.Prelude.{◌≡◌, codes};
+ghost use Rattle.elem_descr.specs.Clauses.{list_all, Answers, Gives, is_one_of, format, nothing_follows, scalar_alone, record_alone};
 
 use crate::descr::{Descr, MAX_DEPTH};
 use crate::format_text::mark::{Mark, marked};

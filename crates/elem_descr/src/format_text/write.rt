@@ -1,5 +1,6 @@
 //! Writes the format text of a descriptor.
-ghost use Rattle.elem_descr.specs.Clauses.{◌≡◌, ◌≤◌, ◌++◌, ◌∷◌, [], OnOk, IfOk, decimal, size, IsLegal, format, written_mark, written_letter, written_count, written_scalar, written_pad, written_name, written_fields, written_format};
+ghost use Rattle.std.specs.Prelude.{◌≡◌, ◌≤◌, ◌++◌, ◌∷◌, [], OnOk, IfOk, decimal};
+ghost use Rattle.elem_descr.specs.Clauses.{size, IsLegal, format, written_mark, written_letter, written_count, written_scalar, written_pad, written_name, written_fields, written_format};
 
 use crate::descr::{Descr, Record};
 use crate::scalar::{Order, Scalar, Width};

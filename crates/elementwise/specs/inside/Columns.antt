@@ -1,5 +1,6 @@
 -- One leaf of many items, written to its place in each row.
-use Rattle.elementwise.specs.Words.{◌≡◌, ◌+◌, ◌*◌, ◌≤◌, ℕ, zero, suc, List, length, put, Side, item_in}
+use Rattle.std.specs.Prelude.{◌≡◌, ◌+◌, ◌*◌, ◌≤◌, ℕ, zero, suc, List, length}
+use Rattle.elementwise.specs.Words.{put, Side, item_in}
 use Rattle.elementwise.specs.declared.leaf_casts.Places.{Places}
 use Rattle.elementwise.specs.declared.leaf_casts.Column.{Column}
 

@@ -1,5 +1,6 @@
 -- Casts of single fields.
-use Rattle.elementwise.specs.Words.{Bool, false, Descr, ScalarDescr, RecordDescr}
+use Rattle.std.specs.Prelude.{Bool, false}
+use Rattle.elementwise.specs.Words.{Descr, ScalarDescr, RecordDescr}
 use Rattle.elementwise.specs.Casts.{can_cast_scalar, can_cast_fields}
 
 -- whether one field can be cast to another

@@ -1,5 +1,6 @@
 -- Operands as items of an element type: used in place, or copied to a block of their own.
-use Rattle.elementwise.specs.Words.{ℕ, List, Descr, LeafValue, items, owned_items, Items, Layout}
+use Rattle.std.specs.Prelude.{ℕ, List}
+use Rattle.elementwise.specs.Words.{Descr, LeafValue, items, owned_items, Items, Layout}
 use Rattle.elementwise.specs.Results.{stretched_items}
 use Rattle.elementwise.specs.declared.apply.Held.{Held}
 use Rattle.elementwise.specs.declared.apply.Held.TheVariants.{Kept, Made}

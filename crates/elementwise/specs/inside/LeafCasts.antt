@@ -1,5 +1,6 @@
 -- Items that are cast leaf by leaf.
-use Rattle.elementwise.specs.Words.{◌≡◌, ℕ, ◌+◌, ◌<◌, ◌≤◌, List, length, map, Descr, Leaf, LeafValue, Scalar, Bytes, size, decode, encode, item_size, leaves_of, leaf_at, item_from, item_at, with_items, row_offsets, place, Run, ScalarDescr, RecordDescr}
+use Rattle.std.specs.Prelude.{◌≡◌, ℕ, ◌+◌, ◌<◌, ◌≤◌, List, length, map}
+use Rattle.elementwise.specs.Words.{Descr, Leaf, LeafValue, Scalar, Bytes, size, decode, encode, item_size, leaves_of, leaf_at, item_from, item_at, with_items, row_offsets, place, Run, ScalarDescr, RecordDescr}
 use Rattle.elementwise.specs.Casts.{cast_value, cast_item}
 
 -- the bytes of a value of one scalar, cast to another

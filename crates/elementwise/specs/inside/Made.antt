@@ -1,5 +1,6 @@
 -- New arrays.
-use Rattle.elementwise.specs.Words.{◌≡◌, ◌*◌, ℕ, List, length, map, reverse, All, flat_map, Descr, LeafValue, item_size, decode_item, encode_item, item_from, Items, Layout, fortran_order, count, offsets, run_offsets, multiples, Owned, Side}
+use Rattle.std.specs.Prelude.{◌≡◌, ◌*◌, ℕ, List, length, map, reverse, All}
+use Rattle.elementwise.specs.Words.{flat_map, Descr, LeafValue, item_size, decode_item, encode_item, item_from, Items, Layout, fortran_order, count, offsets, run_offsets, multiples, Owned, Side}
 use Rattle.elementwise.specs.inside.LeafCasts.{cast_items}
 
 -- an array of this element type and shape, in C order, whose items are `values` and whose bytes are the encoded values

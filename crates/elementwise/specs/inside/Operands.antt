@@ -1,5 +1,6 @@
 -- The results on all pairs of items of two operands.
-use Rattle.elementwise.specs.Words.{◌≡◌, ◌≤◌, ◌*◌, ℕ, List, [], ◌∷◌, concat, LeafValue, item_size, items, count, offsets, size, max_bytes, Owned, ScalarDescr}
+use Rattle.std.specs.Prelude.{◌≡◌, ◌≤◌, ◌*◌, ℕ, List, [], ◌∷◌}
+use Rattle.elementwise.specs.Words.{concat, LeafValue, item_size, items, count, offsets, size, max_bytes, Owned, ScalarDescr}
 use Rattle.elementwise.specs.Results.{pairwise, value_in}
 use Rattle.elementwise.specs.inside.PairPasses.{pair_from}
 use Rattle.elementwise.specs.inside.Made.{IsMade}

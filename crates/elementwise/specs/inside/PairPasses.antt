@@ -1,5 +1,6 @@
 -- Functions on the bytes of two items.
-use Rattle.elementwise.specs.Words.{◌≡◌, ℕ, ℤ, pos, int_lt, Bool, true, false, not, ◌||◌, if◌then◌else◌, List, Little, BinOp, FloorDivide, Modulo, Scalar, Byte, Int, Bytes, LeafValue, number, text, Descr, IsNumber, IsValueOf, number_of, decode, encode, without_nuls, Comparison, item_at, BoolScalar, ScalarDescr}
+use Rattle.std.specs.Prelude.{◌≡◌, ℕ, ℤ, pos, int_lt, Bool, true, false, not, ◌||◌, if◌then◌else◌, List}
+use Rattle.elementwise.specs.Words.{Little, BinOp, FloorDivide, Modulo, Scalar, Byte, Int, Bytes, LeafValue, number, text, Descr, IsNumber, IsValueOf, number_of, decode, encode, without_nuls, Comparison, item_at, BoolScalar, ScalarDescr}
 use Rattle.elementwise.specs.Comparisons.{says, compared, text_below}
 
 -- the bytes of `f` of the two numbers that are read from bytes of two scalars

@@ -1,5 +1,6 @@
 -- Stretched layouts, and the smaller ones that show the same.
-use Rattle.elementwise.specs.Words.{◌≡◌, ◌+◌, ◌≤◌, ℕ, List, All, IsTrue, Layout, offsets, View, view_through, can_stretch, broadcast_index}
+use Rattle.std.specs.Prelude.{◌≡◌, ◌+◌, ◌≤◌, ℕ, List, All, IsTrue}
+use Rattle.elementwise.specs.Words.{Layout, offsets, View, view_through, can_stretch, broadcast_index}
 
 -- `small` has the shape `once`, and shows the same as `layout` when both are stretched to `shape`. Its items lie within
 -- any block in which those of `layout` lie.

@@ -1,5 +1,6 @@
 -- Pairs of items at equal steps.
-use Rattle.elementwise.specs.Words.{ℕ, List, item_in}
+use Rattle.std.specs.Prelude.{ℕ, List}
+use Rattle.elementwise.specs.Words.{item_in}
 use Rattle.elementwise.specs.declared.pairing.Pairs.{Pairs}
 
 -- the number of pairs

@@ -1,5 +1,6 @@
 -- What is computed from the values of two items.
-use Rattle.elementwise.specs.Words.{◌≡◌, ℕ, ℤ, List, not, true, false, Little, Eight, Scalar, Int, Bytes, LeafValue, number, text, Descr, Comparison, IsNumber, number_of, wrap, little, BoolScalar, ScalarDescr}
+use Rattle.std.specs.Prelude.{◌≡◌, ℕ, ℤ, List, not, true, false}
+use Rattle.elementwise.specs.Words.{Little, Eight, Scalar, Int, Bytes, LeafValue, number, text, Descr, Comparison, IsNumber, number_of, wrap, little, BoolScalar, ScalarDescr}
 use Rattle.elementwise.specs.Promotion.{is_division, are_comparable}
 use Rattle.elementwise.specs.Operations.{binary, unary}
 use Rattle.elementwise.specs.inside.PairPasses.{says_number, compared_value, truth_value, value_pair, Holds}

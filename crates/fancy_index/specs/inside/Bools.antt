@@ -1,5 +1,6 @@
 -- Bools, read from bytes.
-use Rattle.fancy_index.specs.Words.{ℕ, ◌≡◌, ◌+◌, ◌/◌, ◌%◌, ◌^◌, ◌<◌, ◌≤◌, ℤ, pos, List, [], ◌∷◌, map, length, get_or, drop, All, digits_l, truth, LieWithin, max_items, max_bytes, run_offsets}
+use Rattle.std.specs.Prelude.{ℕ, ◌≡◌, ◌+◌, ◌/◌, ◌%◌, ◌^◌, ◌<◌, ◌≤◌, ℤ, pos, List, [], ◌∷◌, map, length, get_or, drop, All}
+use Rattle.fancy_index.specs.Words.{digits_l, truth, LieWithin, max_items, max_bytes, run_offsets}
 use Rattle.fancy_index.specs.declared.masks.Bools.{Bools}
 use Rattle.fancy_index.specs.inside.PointLists.{true_ranks}
 

@@ -1,5 +1,6 @@
 -- The offsets of the items of a plan.
-use Rattle.fancy_index.specs.Words.{◌≡◌, ◌+◌, ◌*◌, ◌≤◌, ℕ, List, map, length, get_or, All, assigned, joined_at, row_offsets, offsets, EachWithin, Run, run_offsets}
+use Rattle.std.specs.Prelude.{◌≡◌, ◌+◌, ◌*◌, ◌≤◌, ℕ, List, map, length, get_or, All}
+use Rattle.fancy_index.specs.Words.{assigned, joined_at, row_offsets, offsets, EachWithin, Run, run_offsets}
 use Rattle.fancy_index.specs.declared.plan_rows.MovedLayout.{MovedLayout}
 use Rattle.fancy_index.specs.declared.plan_rows.PlanAxes.{PlanAxes}
 use Rattle.fancy_index.specs.declared.plan_rows.Shifted.{Shifted}

@@ -1,5 +1,6 @@
 -- Index lists, item by item.
-use Rattle.fancy_index.specs.Words.{◌≡◌, ℕ, false, List, ◌∷◌, ◌++◌, length, IndexItem, is_ellipsis}
+use Rattle.std.specs.Prelude.{◌≡◌, ℕ, false, List, ◌∷◌, ◌++◌, length}
+use Rattle.fancy_index.specs.Words.{IndexItem, is_ellipsis}
 use Rattle.fancy_index.specs.IndexArrays.{IndexArray, item_axes, placed_arrays, left_over}
 use Rattle.fancy_index.specs.Sources.{index_items}
 use Rattle.fancy_index.specs.declared.lists.Left.{Left}

@@ -1,5 +1,6 @@
 -- The offsets of a plan: those of the inner axes, moved to each place of the outer axes and by each shift.
-use Rattle.fancy_index.specs.Words.{◌≤◌, ◌<◌, ℕ, ◌+◌, ◌-◌, List, map, All, flat_map, Layout, offsets, max_bytes}
+use Rattle.std.specs.Prelude.{◌≤◌, ◌<◌, ℕ, ◌+◌, ◌-◌, List, map, All}
+use Rattle.fancy_index.specs.Words.{flat_map, Layout, offsets, max_bytes}
 
 -- the offset that is as far from `start` as `offset` is from `base`
 abbrev pub moved_offset : ℕ → ℕ → ℕ → ℕ

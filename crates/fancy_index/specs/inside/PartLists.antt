@@ -1,5 +1,6 @@
 -- Parts as the code stores them: slices as runs, and points as ranks.
-use Rattle.fancy_index.specs.Words.{◌≡◌, ◌<◌, ◌≤◌, Bool, true, Result, ℕ, List, [], ◌∷◌, ◌++◌, map, length, get_or, list_all, flat_map, Refusal, IndexOutOfRange, check, ◌>>=◌, View, IndexItem, Layout, rank, IsIndex, natural, address, max_axes, AxisPick, IsRunWithin, has_step, picked_index, pick_shown, first_of, can_stretch, broadcast_index, AtAxis, AlongAxis}
+use Rattle.std.specs.Prelude.{◌≡◌, ◌<◌, ◌≤◌, Bool, true, Result, ℕ, List, [], ◌∷◌, ◌++◌, map, length, get_or}
+use Rattle.fancy_index.specs.Words.{list_all, flat_map, Refusal, IndexOutOfRange, check, ◌>>=◌, View, IndexItem, Layout, rank, IsIndex, natural, address, max_axes, AxisPick, IsRunWithin, has_step, picked_index, pick_shown, first_of, can_stretch, broadcast_index, AtAxis, AlongAxis}
 use Rattle.view_ops.specs.declared.picks.AxisPick.TheVariants.{New as NewAxis}
 use Rattle.fancy_index.specs.declared.points.PointList.{PointList}
 use Rattle.fancy_index.specs.declared.index_parts.IndexPart.{IndexPart}

@@ -1,5 +1,6 @@
 -- Whether points are adjacent, decided by going through the parts one by one.
-use Rattle.fancy_index.specs.Words.{Bool, true, false, not, Option, Some, None, List, list_any}
+use Rattle.std.specs.Prelude.{Bool, true, false, not, Option, Some, None, List}
+use Rattle.fancy_index.specs.Words.{list_any}
 use Rattle.fancy_index.specs.declared.result_axes.Stretch.{Stretch}
 use Rattle.fancy_index.specs.declared.result_axes.Stretch.TheVariants.{Before, Among, After}
 use Rattle.fancy_index.specs.Parts.{Part, are_points, go_on, side_by_side}

@@ -1,5 +1,6 @@
 -- Points as the code stores them: by their ranks along their axes.
-use Rattle.fancy_index.specs.Words.{◌≡◌, ◌⊎◌, ◌<◌, ℕ, ◌+◌, ◌%◌, Bool, true, if◌then◌else◌, ℤ, pos, Option, Some, None, List, [], ◌∷◌, map, length, get_or, All, Result, Ok, Err, list_all, int_eq, Refusal, IndexOutOfRange, count, indexes, natural, from_front, is_place}
+use Rattle.std.specs.Prelude.{◌≡◌, ◌⊎◌, ◌<◌, ℕ, ◌+◌, ◌%◌, Bool, true, if◌then◌else◌, ℤ, pos, Option, Some, None, List, [], ◌∷◌, map, length, get_or, All, Result, Ok, Err}
+use Rattle.fancy_index.specs.Words.{list_all, int_eq, Refusal, IndexOutOfRange, count, indexes, natural, from_front, is_place}
 use Rattle.fancy_index.specs.declared.points.PointList.{PointList}
 use Rattle.fancy_index.specs.declared.points.Ranks.{Ranks}
 use Rattle.fancy_index.specs.declared.points.Ranks.TheVariants.{Held, Unread}

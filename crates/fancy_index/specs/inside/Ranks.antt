@@ -1,5 +1,6 @@
 -- How ranks are turned into offsets, run by run.
-use Rattle.fancy_index.specs.Words.{◌≡◌, ◌≤◌, ℕ, List, [], ◌∷◌, map, length, get_or, drop, All, flat_map, LieWithin, offsets, max_bytes, run_offsets}
+use Rattle.std.specs.Prelude.{◌≡◌, ◌≤◌, ℕ, List, [], ◌∷◌, map, length, get_or, drop, All}
+use Rattle.fancy_index.specs.Words.{flat_map, LieWithin, offsets, max_bytes, run_offsets}
 use Rattle.fancy_index.specs.declared.masks.RunAt.{RunAt}
 
 -- the offsets of the items with these ranks

@@ -1,5 +1,6 @@
 -- Fields of records, and their literals.
-use Rattle.literal_items.specs.Words.{ℕ, Bool, false, List, [], ◌∷◌, ◌++◌, take, drop, Scalar, Leaf, Descr, LeafValue, size, encode, ScalarLiteral, Literal, ScalarDescr, RecordDescr, ScalarOf, RecordOf}
+use Rattle.std.specs.Prelude.{ℕ, Bool, false, List, [], ◌∷◌, ◌++◌, take, drop}
+use Rattle.literal_items.specs.Words.{Scalar, Leaf, Descr, LeafValue, size, encode, ScalarLiteral, Literal, ScalarDescr, RecordDescr, ScalarOf, RecordOf}
 use Rattle.literal_items.specs.LiteralItems.{is_castable, is_in_range, leaf_value, stand_for, field_values}
 
 -- whether a literal matches one field, and each scalar passes a test with its field

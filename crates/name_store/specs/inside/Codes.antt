@@ -1,5 +1,7 @@
 -- Codes of the model's values, which a proof uses to tell values apart.
-use Rattle.name_store.specs.Words.{ℕ, Bool, List, refl, nat_cmp, Coded, code_by, coded×, coded_ℕ, coded_bool, coded_list, FinMap, code, Descr, LeafValue, leaf_code}
+use Rattle.std.specs.Prelude.{ℕ, Bool, List}
+use Rattle.std.proofs.Common.{refl}
+use Rattle.name_store.specs.Words.{nat_cmp, Coded, code_by, coded×, coded_ℕ, coded_bool, coded_list, FinMap, code, Descr, LeafValue, leaf_code}
 use Rattle.elem_descr.specs.contracts.descr.Descr as descr
 use Rattle.name_store.specs.States.{Array, BenchValue, Buffer, State}
 

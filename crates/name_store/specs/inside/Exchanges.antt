@@ -1,5 +1,6 @@
 -- Blocks of adjacent items, which can replace one another.
-use Rattle.name_store.specs.Words.{◌≡◌, ◌*◌, ℕ, List, length, IsTrue, is_c_contiguous, multiples, items_at}
+use Rattle.std.specs.Prelude.{◌≡◌, ◌*◌, ℕ, List, length, IsTrue}
+use Rattle.name_store.specs.Words.{is_c_contiguous, multiples, items_at}
 
 -- the items of `width` bytes at these offsets are the whole block, in order
 pub record AreAll (width : ℕ) (block os : List ℕ) : Type 0 where

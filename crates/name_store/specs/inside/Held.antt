@@ -1,5 +1,6 @@
 -- Occupied slots, and how a buffer is added.
-use Rattle.name_store.specs.Words.{◌≡◌, ◌<◌, ℕ, true, List, Option, Some, None, is_some, nat_eq, if◌then◌else◌, props, Descr}
+use Rattle.std.specs.Prelude.{◌≡◌, ◌<◌, ℕ, true, List, Option, Some, None, is_some, nat_eq, if◌then◌else◌}
+use Rattle.name_store.specs.Words.{props, Descr}
 use Rattle.name_store.specs.Entries.{slot_at}
 use Rattle.name_store.specs.declared.slot.Slot.{Slot}
 

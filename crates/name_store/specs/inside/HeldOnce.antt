@@ -1,5 +1,6 @@
 -- The invariant of a table is a proposition: it has at most one proof.
-use Rattle.name_store.specs.Words.{ℕ, Bool, List, [], ◌∷◌, Option, Some, None, Unit-prop, le_prop, AllByRecursion-prop, props, Descr, field_at, Layout}
+use Rattle.std.specs.Prelude.{ℕ, Bool, List, [], ◌∷◌, Option, Some, None}
+use Rattle.name_store.specs.Words.{Unit-prop, le_prop, AllByRecursion-prop, props, Descr, field_at, Layout}
 use Rattle.name_store.specs.Invariants.{Holds, LiesAt}
 use Rattle.name_store.specs.Parts.{IsPathOf}
 use Rattle.name_store.specs.States.{Array}

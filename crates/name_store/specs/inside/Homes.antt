@@ -1,5 +1,6 @@
 -- Where the array of a name lies, and slots after the bytes of one block are replaced.
-use Rattle.name_store.specs.Words.{◌≡◌, ℕ, List, Option, Some, map, nat_eq, if◌then◌else◌, item_size}
+use Rattle.std.specs.Prelude.{◌≡◌, ℕ, List, Option, Some, map, nat_eq, if◌then◌else◌}
+use Rattle.name_store.specs.Words.{item_size}
 use Rattle.name_store.specs.Arrays.{find_array}
 use Rattle.name_store.specs.Invariants.{LiesIn}
 use Rattle.name_store.specs.Parts.{descr_at}

@@ -1,5 +1,6 @@
 -- Old items, which are adjacent in a block of their own.
-use Rattle.name_store.specs.Words.{◌≡◌, ◌*◌, ℕ, List, length, Option, Some, IsPermutation, option_map, multiples, items_at}
+use Rattle.std.specs.Prelude.{◌≡◌, ◌*◌, ℕ, List, length, Option, Some}
+use Rattle.name_store.specs.Words.{IsPermutation, option_map, multiples, items_at}
 use Rattle.name_store.specs.Invariants.{users_at}
 use Rattle.name_store.specs.Targets.{target_offsets}
 use Rattle.name_store.specs.View.{slot_at}

@@ -1,5 +1,6 @@
 -- The invariant of a buffer is a proposition: it has at most one proof.
-use Rattle.name_store.specs.Words.{◌+◌, ℕ, List, Unit-prop, le_prop, props, Descr, IsLegal, InOrder, AreNamed, AreNamedWithin, size, Fields, no_more, scalar_field, record_field, Structure, ScalarDescr, RecordDescr}
+use Rattle.std.specs.Prelude.{◌+◌, ℕ, List}
+use Rattle.name_store.specs.Words.{Unit-prop, le_prop, props, Descr, IsLegal, InOrder, AreNamed, AreNamedWithin, size, Fields, no_more, scalar_field, record_field, Structure, ScalarDescr, RecordDescr}
 use Rattle.name_store.specs.Places.{IsElementType, HasJustItems}
 
 InOrder-prop : (from : ℕ) (fields : Fields) (bytes : ℕ) → IsProp (InOrder from fields bytes)

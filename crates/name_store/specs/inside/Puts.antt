@@ -1,5 +1,6 @@
 -- Writes of items to a block, and to the slot that has it.
-use Rattle.name_store.specs.Words.{◌≡◌, ◌+◌, ◌≤◌, ◌<◌, ℕ, List, length, replicate, Option, Some, None, Result, IfOk, IfErr, All, slice_set, IsPermutation, item_size, Layout, offsets, Fits, IsNested, max_bytes, items_at, with_items}
+use Rattle.std.specs.Prelude.{◌≡◌, ◌+◌, ◌≤◌, ◌<◌, ℕ, List, length, replicate, Option, Some, None, Result, IfOk, IfErr, All, slice_set}
+use Rattle.name_store.specs.Words.{IsPermutation, item_size, Layout, offsets, Fits, IsNested, max_bytes, items_at, with_items}
 use Rattle.name_store.specs.Memory.{MoveInPlace}
 use Rattle.name_store.specs.Targets.{target_offsets}
 use Rattle.name_store.specs.View.{slot_at}

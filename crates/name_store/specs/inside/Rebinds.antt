@@ -1,5 +1,6 @@
 -- How binding a name changes the names and the slots.
-use Rattle.name_store.specs.Words.{◌≡◌, ◌<◌, ◌+◌, ℕ, true, List, [], map, Option, None, is_some, IfSome, insert, retain_keys, option_map}
+use Rattle.std.specs.Prelude.{◌≡◌, ◌<◌, ◌+◌, ℕ, true, List, [], map, Option, None, is_some, IfSome}
+use Rattle.name_store.specs.Words.{insert, retain_keys, option_map}
 use Rattle.name_store.specs.Arrays.{find_array, put_array, is_in_use}
 use Rattle.name_store.specs.Calls.{own_array, own_buffer}
 use Rattle.name_store.specs.Invariants.{LiesAt, one_at, users_at}

@@ -1,5 +1,6 @@
 -- How undoing a change changes the names and the slots.
-use Rattle.name_store.specs.Words.{◌≡◌, ℕ, List, [], ◌∷◌, ◌++◌, map, Option, buffer, spare, Ring}
+use Rattle.std.specs.Prelude.{◌≡◌, ℕ, List, [], ◌∷◌, ◌++◌, map, Option}
+use Rattle.name_store.specs.Words.{buffer, spare, Ring}
 use Rattle.name_store.specs.Invariants.{IsSound}
 use Rattle.name_store.specs.Kept.{kept_states, past_buffers}
 use Rattle.name_store.specs.View.{named_array}

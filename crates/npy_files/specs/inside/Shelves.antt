@@ -1,5 +1,6 @@
 -- The files of the stores in memory.
-use Rattle.npy_files.specs.Words.{◌≡◌, ◌⊎◌, ◌<◌, ◌≤◌, ℕ, zero, suc, Bool, true, false, List, map, slice_get, Option, Some, None, Result, Ok, Err, from_entries, bytes_eq, Files, last_count}
+use Rattle.std.specs.Prelude.{◌≡◌, ◌⊎◌, ◌<◌, ◌≤◌, ℕ, zero, suc, Bool, true, false, List, map, slice_get, Option, Some, None, Result, Ok, Err}
+use Rattle.npy_files.specs.Words.{from_entries, bytes_eq, Files, last_count}
 use Rattle.npy_files.specs.declared.mem_store.StoredFile.{StoredFile}
 use Rattle.npy_files.specs.declared.store.StoreFault.{StoreFault}
 use Rattle.npy_files.specs.declared.store.StoreFault.TheVariants.{Device, TooLong, Memory}

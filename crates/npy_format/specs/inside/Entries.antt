@@ -1,5 +1,6 @@
 -- The tokens that remain after reading.
-use Rattle.npy_format.specs.Words.{ℕ, List, length, Result, Ok, Bor, ok_or, Refusal, BadHeader, ◌>>=◌, Answers}
+use Rattle.std.specs.Prelude.{ℕ, List, length, Result, Ok}
+use Rattle.npy_format.specs.Words.{Bor, ok_or, Refusal, BadHeader, ◌>>=◌, Answers}
 use Rattle.npy_format.specs.Listed.{Literal}
 use Rattle.npy_format.specs.Tokens.{Token, tokens}
 use Rattle.npy_format.specs.Literals.{Read, symbol_token_at, entries_in, if_read}

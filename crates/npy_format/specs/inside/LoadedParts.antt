@@ -1,5 +1,6 @@
 -- What is loaded from a file, given the text of its header and the bytes after it.
-use Rattle.npy_format.specs.Words.{ℕ, List, length, nat_le, Result, Ok, Refusal, TooLarge, ◌>>=◌, check, max_bytes}
+use Rattle.std.specs.Prelude.{ℕ, List, length, nat_le, Result, Ok}
+use Rattle.npy_format.specs.Words.{Refusal, TooLarge, ◌>>=◌, check, max_bytes}
 use Rattle.npy_format.specs.Headers.{header}
 use Rattle.npy_format.specs.Files.{Loaded, split_front, data_size}
 

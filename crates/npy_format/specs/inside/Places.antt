@@ -1,5 +1,6 @@
 -- Tokens of a header that begin with some of its values.
-use Rattle.npy_format.specs.Words.{◌≡◌, ℕ, List, [], ◌∷◌, Option, Some, None, Result, Ok, Err, MatchResult, Bor, Refusal}
+use Rattle.std.specs.Prelude.{◌≡◌, ℕ, List, [], ◌∷◌, Option, Some, None, Result, Ok, Err, MatchResult}
+use Rattle.npy_format.specs.Words.{Bor, Refusal}
 use Rattle.npy_format.specs.Values.{Text, Round}
 use Rattle.npy_format.specs.Listed.{Literal, Plain, Row, Pair, value_literals}
 use Rattle.npy_format.specs.Tokens.{Token, tokens}

@@ -1,5 +1,6 @@
 -- Tokens as the code reads them from a text.
-use Rattle.npy_format.specs.Words.{ℕ, List, ◌∷◌, Option, Some, None, Bool, false, Result, Ok, Err, bytes_eq, Refusal, BadHeader, DescriptorLeftOut, ◌>>=◌, marked, value_of, Partial, widened}
+use Rattle.std.specs.Prelude.{ℕ, List, ◌∷◌, Option, Some, None, Bool, false, Result, Ok, Err}
+use Rattle.npy_format.specs.Words.{bytes_eq, Refusal, BadHeader, DescriptorLeftOut, ◌>>=◌, marked, value_of, Partial, widened}
 use Rattle.npy_format.specs.RecordLists.{pad_kind}
 use Rattle.npy_format.specs.declared.token.Token.{Token as Scanned}
 use Rattle.npy_format.specs.declared.token.Token.TheVariants as scanned

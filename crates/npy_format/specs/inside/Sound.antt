@@ -1,5 +1,6 @@
 -- What holds for every element type.
-use Rattle.npy_format.specs.Words.{◌≤◌, Descr, size, IsLegal, ScalarDescr, RecordDescr}
+use Rattle.std.specs.Prelude.{◌≤◌}
+use Rattle.npy_format.specs.Words.{Descr, size, IsLegal, ScalarDescr, RecordDescr}
 
 -- a scalar of 1 to 65,536 bytes, or a legal record
 abbrev pub IsSound : Descr → Type 0

@@ -1,5 +1,6 @@
 -- Items as a file stores them, computed from their bytes in memory.
-use Rattle.npy_format.specs.Words.{◌≡◌, ℕ, ◌+◌, ◌-◌, min, List, [], ◌∷◌, ◌++◌, map, replicate, if◌then◌else◌, flat_map, item_at, Descr, Leaf, Scalar, Byte, Int, Bytes, LeafValue, size, decode, item_size, decode_item, encode_item, encode_from, blocks, item_from, fortran_order, BoolScalar}
+use Rattle.std.specs.Prelude.{◌≡◌, ℕ, ◌+◌, ◌-◌, min, List, [], ◌∷◌, ◌++◌, map, replicate, if◌then◌else◌}
+use Rattle.npy_format.specs.Words.{flat_map, item_at, Descr, Leaf, Scalar, Byte, Int, Bytes, LeafValue, size, decode, item_size, decode_item, encode_item, encode_from, blocks, item_from, fortran_order, BoolScalar}
 use Rattle.npy_format.specs.WrittenFiles.{is_fortran, file_of}
 
 -- the value of a leaf of an item

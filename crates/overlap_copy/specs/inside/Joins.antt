@@ -1,5 +1,6 @@
 -- Axes with the same sums as other axes.
-use Rattle.overlap_copy.specs.Words.{◌≡◌, ℕ, ◌*◌, ◌/◌, ◌≤◌, List, Axis}
+use Rattle.std.specs.Prelude.{◌≡◌, ℕ, ◌*◌, ◌/◌, ◌≤◌, List}
+use Rattle.overlap_copy.specs.Words.{Axis}
 use Rattle.overlap_copy.specs.inside.Sums.{reach_of, AreForward, HasSum}
 
 -- a step of the wide axis is a whole number of steps of the narrow one, and at most as many as the narrow one has items

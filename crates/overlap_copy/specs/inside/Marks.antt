@@ -1,5 +1,6 @@
 -- The bytes that items take up, and maps of bytes: lists of marks for the bytes from some `start` on.
-use Rattle.overlap_copy.specs.Words.{ℕ, ◌+◌, ◌-◌, ◌≤◌, ◌<◌, Bool, ◌&&◌, false, List, nat_le, nat_lt, slice_index_or, IsTrue, list_any}
+use Rattle.std.specs.Prelude.{ℕ, ◌+◌, ◌-◌, ◌≤◌, ◌<◌, Bool, ◌&&◌, false, List, nat_le, nat_lt, slice_index_or, IsTrue}
+use Rattle.overlap_copy.specs.Words.{list_any}
 
 -- some item contains the byte
 unfoldable pub holds_byte : List ℕ → ℕ → ℕ → Bool

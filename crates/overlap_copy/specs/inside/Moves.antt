@@ -1,5 +1,6 @@
 -- Moves of items, by index: the k-th item is copied from one place to another.
-use Rattle.overlap_copy.specs.Words.{◌≡◌, ℕ, ◌+◌, ◌-◌, ◌<◌, ◌≤◌, ◌⊎◌, pos, neg_ℤ, ◌+ℤ◌, ◌*ℤ◌, List, [], ◌∷◌, length, slice_index, flat_map, Each, EachWithin, item_at, place, Run, RunPair, run_offsets, max_items, LieWithin, distance}
+use Rattle.std.specs.Prelude.{◌≡◌, ℕ, ◌+◌, ◌-◌, ◌<◌, ◌≤◌, ◌⊎◌, pos, neg_ℤ, ◌+ℤ◌, ◌*ℤ◌, List, [], ◌∷◌, length, slice_index}
+use Rattle.overlap_copy.specs.Words.{flat_map, Each, EachWithin, item_at, place, Run, RunPair, run_offsets, max_items, LieWithin, distance}
 
 -- the items of a run, of `width` bytes, lie within `len` bytes
 abbrev pub RunLies : ℕ → ℕ → Run → Type 0

@@ -1,5 +1,6 @@
 -- Items that are all moved by the same number of bytes.
-use Rattle.overlap_copy.specs.Words.{ℕ, ◌+◌, ◌-◌, ◌<◌, ◌≤◌, List, length, map, slice_index, All, Run, max_bytes, max_items, IsNested, distance}
+use Rattle.std.specs.Prelude.{ℕ, ◌+◌, ◌-◌, ◌<◌, ◌≤◌, List, length, map, slice_index, All}
+use Rattle.overlap_copy.specs.Words.{Run, max_bytes, max_items, IsNested, distance}
 
 -- the offset that the item at `offset` comes from, if the item at `to` comes from `from`
 abbrev pub source : ℕ → ℕ → ℕ → ℕ

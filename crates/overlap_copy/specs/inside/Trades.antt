@@ -1,5 +1,6 @@
 -- Exchange of items between two blocks.
-use Rattle.overlap_copy.specs.Words.{ℕ, List, ◌∷◌, put, item_at}
+use Rattle.std.specs.Prelude.{ℕ, List, ◌∷◌}
+use Rattle.overlap_copy.specs.Words.{put, item_at}
 
 -- the two blocks after the items at the offsets `to` of the first are exchanged with the items at the offsets `from` of
 -- the second, one pair after the other

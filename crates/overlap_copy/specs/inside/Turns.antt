@@ -1,5 +1,6 @@
 -- Steps along an axis that can be taken back.
-use Rattle.overlap_copy.specs.Words.{ℕ, ◌+◌, ◌-◌, ◌*◌, ◌<◌, ◌≤◌, List, Axis}
+use Rattle.std.specs.Prelude.{ℕ, ◌+◌, ◌-◌, ◌*◌, ◌<◌, ◌≤◌, List}
+use Rattle.overlap_copy.specs.Words.{Axis}
 use Rattle.overlap_copy.specs.inside.Sums.{HasSum}
 
 -- Suppose that at least `steps` steps are taken along the axis, that the upper bound leaves less than `far` for the

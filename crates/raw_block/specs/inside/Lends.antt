@@ -1,5 +1,6 @@
 -- The final value of the owner of bytes after a `&mut` to them has ended.
-use Rattle.raw_block.specs.Words.{ℕ, List, length, Fml, MutBor, Array, Lends, u8, flat_map, refill}
+use Rattle.std.specs.Prelude.{ℕ, List, length}
+use Rattle.raw_block.specs.Words.{Fml, MutBor, Array, Lends, u8, flat_map, refill}
 use Rattle.raw_block.specs.Bytes.{put}
 use Rattle.raw_block.specs.declared.base.Bytes.{Bytes}
 use Rattle.raw_block.specs.contracts.base.Bytes.{the_row}

@@ -1,5 +1,6 @@
 -- Layouts and shapes without an axis.
-use Rattle.reductions.specs.Words.{◌≡◌, ℕ, Bool, not, ◌&&◌, List, Option, Result, remove, Refusal, EmptyReduction, ◌>>=◌, check, shape_of, Red, Layout}
+use Rattle.std.specs.Prelude.{◌≡◌, ℕ, Bool, not, ◌&&◌, List, Option, Result}
+use Rattle.reductions.specs.Words.{remove, Refusal, EmptyReduction, ◌>>=◌, check, shape_of, Red, Layout}
 use Rattle.reductions.specs.Lists.{reduced_shape}
 use Rattle.reductions.specs.Outcomes.{has_empty_list}
 use Rattle.reductions.specs.Reductions.{needs_items}

@@ -1,5 +1,7 @@
 -- The least and the greatest of numbers: two reductions with the same proofs.
-use Rattle.reductions.specs.Words.{◌≡◌, ◌<◌, ◌≤◌, ◌^◌, ℕ, suc, ℤ, pos, true, false, cond, Bool, List, [], ◌∷◌, ◌++◌, length, refl, sym, ap, subst, ◌∙◌, arith, int_lt, int_min, int_max, fold, int_eq, lt-ltb, ints, clamps, fold-append, Little, Eight, Scalar, Int, size, integer, little, Red, Minimum, Maximum, ArgMin, ArgMax}
+use Rattle.std.specs.Prelude.{◌≡◌, ◌<◌, ◌≤◌, ◌^◌, ℕ, ℤ, pos, true, false, Bool, List, [], ◌∷◌, ◌++◌, length, int_lt}
+use Rattle.std.proofs.Common.{suc, cond, refl, sym, ap, subst, ◌∙◌, arith}
+use Rattle.reductions.specs.Words.{int_min, int_max, fold, int_eq, lt-ltb, ints, clamps, fold-append, Little, Eight, Scalar, Int, size, integer, little, Red, Minimum, Maximum, ArgMin, ArgMax}
 use Rattle.reductions.specs.Reductions.{least, greatest, first_place, result_scalar}
 use Rattle.reductions.specs.inside.Numbers.{IsStored, IsReduced}
 use Rattle.reductions.specs.inside.FoldLaws.{wide_total, little_size}

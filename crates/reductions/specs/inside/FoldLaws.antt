@@ -1,5 +1,7 @@
 -- Reductions that are made number by number.
-use Rattle.reductions.specs.Words.{◌≡◌, ◌+◌, ◌*◌, ◌%◌, ◌<◌, ◌^◌, ℕ, ℤ, pos, ◌+ℤ◌, ◌*ℤ◌, true, false, Bool, List, [], ◌∷◌, ◌++◌, refl, sym, ap, ◌∙◌, int_wrap, cast_signed, cast_unsigned, int_eq, of_z-to_z, int_wrap-add_left, int_wrap-add_right, int_wrap-mul_left, int_wrap-mul_right, wrapping_add-bits, wrapping_mul-bits, mod-lt, pow_pos, w64, unsigned_abs, nat_eq, not, ◌==◌, if◌then◌else◌, list_any, list_all, fold-append, signed_Decides, false_from_ne_true, eqb-true, AreBits, little, Little, Eight, Scalar, Byte, Int, Bytes, number, size, number_of, number_in, bytes_of, integer, low_bits, wrap, low_bits-lt, low_bits-integer, Red, Sum, Product, Any, All, BoolScalar}
+use Rattle.std.specs.Prelude.{◌≡◌, ◌+◌, ◌*◌, ◌%◌, ◌<◌, ◌^◌, ℕ, ℤ, pos, ◌+ℤ◌, ◌*ℤ◌, true, false, Bool, List, [], ◌∷◌, ◌++◌, unsigned_abs, nat_eq, not, ◌==◌, if◌then◌else◌}
+use Rattle.std.proofs.Common.{refl, sym, ap, ◌∙◌}
+use Rattle.reductions.specs.Words.{int_wrap, cast_signed, cast_unsigned, int_eq, of_z-to_z, int_wrap-add_left, int_wrap-add_right, int_wrap-mul_left, int_wrap-mul_right, wrapping_add-bits, wrapping_mul-bits, mod-lt, pow_pos, w64, list_any, list_all, fold-append, signed_Decides, false_from_ne_true, eqb-true, AreBits, little, Little, Eight, Scalar, Byte, Int, Bytes, number, size, number_of, number_in, bytes_of, integer, low_bits, wrap, low_bits-lt, low_bits-integer, Red, Sum, Product, Any, All, BoolScalar}
 use Rattle.reductions.specs.Reductions.{wide, sum_of, product_of, is_true, result_scalar}
 use Rattle.reductions.specs.inside.Numbers.{IsStored, IsReduced}
 

@@ -1,6 +1,7 @@
 -- The place of the least or of the greatest number, found block by block.
-use Rattle.reductions.specs.Words.{◌≡◌, ◌+◌, ◌<◌, ℕ, zero, suc, ℤ, true, false, Bool, List, [], ◌∷◌, ◌++◌, length, get_or, ◌⊎◌, inl, inr, refl, sym, ap, subst, ◌∙◌, arith, length-append, signed_Decides, int_min, int_max, fold, int_eq, false_from_ne_true, ints, fold-int_min_bounds, fold-int_min_reached, fold-int_max_bounds, fold-int_max_reached, All-head, All-tail, fold-append, first_is}
-use Rattle.std.proofs.Common.{All}
+use Rattle.std.specs.Prelude.{◌≡◌, ◌+◌, ◌<◌, ℕ, ℤ, true, false, Bool, List, [], ◌∷◌, ◌++◌, length, ◌⊎◌}
+use Rattle.reductions.specs.Words.{signed_Decides, int_min, int_max, fold, int_eq, false_from_ne_true, ints, fold-int_min_bounds, fold-int_min_reached, fold-int_max_bounds, fold-int_max_reached, All-head, All-tail, fold-append, first_is}
+use Rattle.std.proofs.Common.{All, zero, suc, get_or, inl, inr, refl, sym, ap, subst, ◌∙◌, arith, length-append}
 use Rattle.reductions.specs.Reductions.{first_place}
 use Rattle.reductions.specs.inside.Extremes.{better, is_better, better-one, better-none}
 

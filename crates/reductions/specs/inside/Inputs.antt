@@ -1,5 +1,6 @@
 -- The numbers to reduce, and the results.
-use Rattle.reductions.specs.Words.{ℕ, List, size, offsets, Red}
+use Rattle.std.specs.Prelude.{ℕ, List}
+use Rattle.reductions.specs.Words.{size, offsets, Red}
 use Rattle.reductions.specs.Lists.{lists}
 use Rattle.reductions.specs.Reductions.{result_scalar}
 use Rattle.reductions.specs.inside.Numbers.{AreReduced}

@@ -1,5 +1,6 @@
 -- Lines along an axis, and rows across them.
-use Rattle.reductions.specs.Words.{◌≡◌, ◌<◌, ℕ, ℤ, List, length, slice_index_or, Scalar, place, Side, Run, run_along, run_offsets}
+use Rattle.std.specs.Prelude.{◌≡◌, ◌<◌, ℕ, ℤ, List, length, slice_index_or}
+use Rattle.reductions.specs.Words.{Scalar, place, Side, Run, run_along, run_offsets}
 use Rattle.reductions.specs.declared.lines.Lines.{Lines}
 use Rattle.reductions.specs.inside.Numbers.{number_at, numbers_at, lines, AreAlong}
 

@@ -1,5 +1,6 @@
 -- Whether a reduction depends on the order of the numbers.
-use Rattle.reductions.specs.Words.{Bool, true, false, Red, ArgMin, ArgMax}
+use Rattle.std.specs.Prelude.{Bool, true, false}
+use Rattle.reductions.specs.Words.{Red, ArgMin, ArgMax}
 
 abbrev pub depends_on_order : Red → Bool
 depends_on_order ArgMin = true

@@ -1,5 +1,7 @@
 -- The depth of a literal is at most the number of its nodes.
-use Rattle.script_lang.specs.Words.{◌≤◌, max, List, [], ◌∷◌, arith, most}
+use Rattle.std.specs.Prelude.{◌≤◌, max, List, [], ◌∷◌}
+use Rattle.std.proofs.Common.{arith}
+use Rattle.script_lang.specs.Words.{most}
 use Rattle.script_lang.specs.declared.literal.Literal.{Literal}
 use Rattle.script_lang.specs.declared.literal.Literal.TheVariants.{Scalar, Record}
 use Rattle.script_lang.specs.declared.literal.RecordLiteral.TheDeep.{deep-Literal}

@@ -1,5 +1,7 @@
 -- The code of the values of a record literal, which proofs use to tell them apart.
-use Rattle.script_lang.specs.Words.{◌≡◌, ◌⊎◌, Bool, true, false, List, [], ◌∷◌, refl, inl, inr, ap, Coded, code_by, coded_list, coded⊎, coded_bool}
+use Rattle.std.specs.Prelude.{◌≡◌, ◌⊎◌, Bool, true, false, List, [], ◌∷◌}
+use Rattle.std.proofs.Common.{refl, inl, inr, ap}
+use Rattle.script_lang.specs.Words.{Coded, code_by, coded_list, coded⊎, coded_bool}
 use Rattle.script_lang.specs.declared.literal.ScalarLiteral.{ScalarLiteral}
 use Rattle.script_lang.specs.contracts.literal.ScalarLiteral as scalar
 use Rattle.script_lang.specs.RecordValues.{Values, no_values, scalar_value, record_value}

@@ -1,5 +1,6 @@
 //! What follows `X =` and computes: `copy`, `cast`, operations and reductions.
-ghost use Rattle.script_lang.specs.Clauses.{◌≡◌, copy_at, cast_at, combine_at, transform_at, reduce_at, computation_at, compute_at, Reads, computation_room, value_room};
+ghost use Rattle.std.specs.Prelude.{◌≡◌};
+ghost use Rattle.script_lang.specs.Clauses.{copy_at, cast_at, combine_at, transform_at, reduce_at, computation_at, compute_at, Reads, computation_room, value_room};
 
 use crate::command::{Computation, Operation, Value};
 use crate::grammar::descriptors::descr;

@@ -1,5 +1,6 @@
 //! What follows `X =` and makes an array: `zeros`, `full`, `arange` and `array`.
-ghost use Rattle.script_lang.specs.Clauses.{◌≡◌, true, zeros_at, full_at, arange_at, new_array_at, new_items_at, make_at, Scans, Reads, value_room};
+ghost use Rattle.std.specs.Prelude.{◌≡◌, true};
+ghost use Rattle.script_lang.specs.Clauses.{zeros_at, full_at, arange_at, new_array_at, new_items_at, make_at, Scans, Reads, value_room};
 
 use crate::command::{NewItems, Value};
 use crate::grammar::descriptors::descr;

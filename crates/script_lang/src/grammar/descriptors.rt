@@ -1,5 +1,6 @@
 //! The text of a descriptor.
-ghost use Rattle.script_lang.specs.Clauses.{◌≡◌, ◌≤◌, ◌<◌, ◌+◌, ◌^◌, length, IfSome, false, depth_behind, named_behind, record_mark_at, record_len, record_text_at, descriptor_at, Scans};
+ghost use Rattle.std.specs.Prelude.{◌≡◌, ◌≤◌, ◌<◌, ◌+◌, ◌^◌, length, IfSome, false};
+ghost use Rattle.script_lang.specs.Clauses.{depth_behind, named_behind, record_mark_at, record_len, record_text_at, descriptor_at, Scans};
 
 use crate::grammar::tokens::{Class, byte, front, front_len, is_parted};
 

@@ -1,5 +1,6 @@
 //! Index lists, and operands with an index list.
-ghost use Rattle.script_lang.specs.Clauses.{◌≡◌, ◌≤◌, length, symbol_at, by_rule, one_or_more, step_at, slice_at, ellipsis_at, index_item_at, index_at, bracket_at, optional_index_at, operand_named, operand_at, argument_at, Scans, Reads, index_room, optional_index_room, operand_room, argument_room};
+ghost use Rattle.std.specs.Prelude.{◌≡◌, ◌≤◌, length};
+ghost use Rattle.script_lang.specs.Clauses.{symbol_at, by_rule, one_or_more, step_at, slice_at, ellipsis_at, index_item_at, index_at, bracket_at, optional_index_at, operand_named, operand_at, argument_at, Scans, Reads, index_room, optional_index_room, operand_room, argument_room};
 
 use crate::command::{Argument, Index, Operand, ellipses};
 use crate::grammar::literals::literal;

@@ -1,5 +1,6 @@
 //! Literals.
-ghost use Rattle.script_lang.specs.Clauses.{◌≡◌, ◌<◌, true, IfSome, byte_at, by_rule, none_or_more, row, hex_value, hex_digit_at, escape_at, plain_byte_at, text_byte_at, byte_text_at, boolean_at, bytes_at, scalar_at, record_at, literal_within, literal_at, line_end_at, literals_of, Scans, Reads, scalar_room, literal_room};
+ghost use Rattle.std.specs.Prelude.{◌≡◌, ◌<◌, true, IfSome};
+ghost use Rattle.script_lang.specs.Clauses.{byte_at, by_rule, none_or_more, row, hex_value, hex_digit_at, escape_at, plain_byte_at, text_byte_at, byte_text_at, boolean_at, bytes_at, scalar_at, record_at, literal_within, literal_at, line_end_at, literals_of, Scans, Reads, scalar_room, literal_room};
 
 use crate::grammar::numbers::integer;
 use crate::grammar::tokens::{byte, bytes_mark, is_at_end, symbol, unspaced, word};

@@ -1,5 +1,6 @@
 //! The keywords of the language, and the names of arrays, which keywords cannot be.
-ghost use Rattle.script_lang.specs.Clauses.{Scans, name_at, names_unless_verb, starts_name, beside, is_constant, operation_of, order_of, verb_of, IfSome, length, map, ◌≡◌, ◌≤◌};
+ghost use Rattle.std.specs.Prelude.{IfSome, length, map, ◌≡◌, ◌≤◌};
+ghost use Rattle.script_lang.specs.Clauses.{Scans, name_at, names_unless_verb, starts_name, beside, is_constant, operation_of, order_of, verb_of};
 
 use crate::command::Operation;
 use crate::grammar::tokens::{is_name_start, word};

@@ -1,5 +1,6 @@
 //! Numbers without a sign, integers, and the lists of numbers between parentheses.
-ghost use Rattle.script_lang.specs.Clauses.{value_of, shape_at, signed_shape_at, by_rule, none_or_more, Reads, Scans, integer_at, is_digit, length_at, number_at, optional_integer_at, list_all, IfSome, length, true, ◌<◌, ◌^◌, ◌≡◌, ◌≤◌};
+ghost use Rattle.std.specs.Prelude.{IfSome, length, true, ◌<◌, ◌^◌, ◌≡◌, ◌≤◌};
+ghost use Rattle.script_lang.specs.Clauses.{value_of, shape_at, signed_shape_at, by_rule, none_or_more, Reads, Scans, integer_at, is_digit, length_at, number_at, optional_integer_at, list_all};
 
 use crate::command::{Integers, Lengths};
 use crate::grammar::tokens::{byte, digits, is_parted, symbol, unspaced};

@@ -1,5 +1,6 @@
 //! Texts between quotation marks.
-ghost use Rattle.script_lang.specs.Clauses.{◌≡◌, ◌≤◌, length, IfSome, starts_file_name, is_file_name, quoted_at, file_name_at, Scans};
+ghost use Rattle.std.specs.Prelude.{◌≡◌, ◌≤◌, length, IfSome};
+ghost use Rattle.script_lang.specs.Clauses.{starts_file_name, is_file_name, quoted_at, file_name_at, Scans};
 
 use crate::grammar::tokens::{Class, are_in, byte, front_len, is_name_byte, symbol};
 use crate::text::MAX_FILE_NAME_LEN;

@@ -1,5 +1,6 @@
 //! The commands that bind no name.
-ghost use Rattle.script_lang.specs.Clauses.{asked_at, delete_at, question_at, save_at, set_at, shares_at, update_at, Reads, Scans, parts_take_memory, ◌≡◌};
+ghost use Rattle.std.specs.Prelude.{◌≡◌};
+ghost use Rattle.script_lang.specs.Clauses.{asked_at, delete_at, question_at, save_at, set_at, shares_at, update_at, Reads, Scans, parts_take_memory};
 
 use crate::command::{Command, Question};
 use crate::grammar::indexes::{argument, bracket};

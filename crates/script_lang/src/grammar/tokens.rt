@@ -1,5 +1,6 @@
 //! Classes of bytes; blanks, symbols and words.
-ghost use Rattle.script_lang.specs.Clauses.{is_mark, is_allowed, Scans, at_end, byte_at, bytes_mark_at, flag_at, front_at, is_blank, is_digit, is_file_byte, is_name_byte, is_name_start, is_parted, is_sign, keyword_at, symbol_at, unspaced, word_at, is_in, list_all, prefix_len, IfSome, is_some, length, true, ◌≡◌, ◌≤◌, bytes_eq};
+ghost use Rattle.std.specs.Prelude.{IfSome, is_some, length, true, ◌≡◌, ◌≤◌};
+ghost use Rattle.script_lang.specs.Clauses.{is_mark, is_allowed, Scans, at_end, byte_at, bytes_mark_at, flag_at, front_at, is_blank, is_digit, is_file_byte, is_name_byte, is_name_start, is_parted, is_sign, keyword_at, symbol_at, unspaced, word_at, is_in, list_all, prefix_len, bytes_eq};
 
 #[derive(Clone, Copy)]
 pub enum Class {

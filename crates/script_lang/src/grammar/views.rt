@@ -1,5 +1,6 @@
 //! What follows `X =` and shows the items of another array.
-ghost use Rattle.script_lang.specs.Clauses.{◌≡◌, viewing_of, plain_view_at, field_name_at, transpose_at, reshape_at, broadcast_at, viewing_at, view_at, Reads, viewing_room, value_room};
+ghost use Rattle.std.specs.Prelude.{◌≡◌};
+ghost use Rattle.script_lang.specs.Clauses.{viewing_of, plain_view_at, field_name_at, transpose_at, reshape_at, broadcast_at, viewing_at, view_at, Reads, viewing_room, value_room};
 
 use crate::command::{Index, Value, Viewing};
 use crate::grammar::indexes::optional_index;

@@ -1,5 +1,6 @@
 -- Whether two lists of axes are equal, compared one by one.
-use Rattle.shape_strides.specs.Words.{◌==◌, Bool, true, false, ◌&&◌, List, [], ◌∷◌, int_eq}
+use Rattle.std.specs.Prelude.{◌==◌, Bool, true, false, ◌&&◌, List, [], ◌∷◌}
+use Rattle.shape_strides.specs.Words.{int_eq}
 use Rattle.shape_strides.specs.declared.single_run.StridedAxis.{StridedAxis}
 
 abbrev pub all_alike : List StridedAxis → List StridedAxis → Bool

@@ -1,5 +1,6 @@
 -- Lists of axes in which each axis is named once.
-use Rattle.view_ops.specs.Words.{◌≡◌, ℕ, ◌<◌, ◌==◌, false, List, [], ◌∷◌, length, list_any}
+use Rattle.std.specs.Prelude.{◌≡◌, ℕ, ◌<◌, ◌==◌, false, List, [], ◌∷◌, length}
+use Rattle.view_ops.specs.Words.{list_any}
 
 -- The axes are all below `rank`, and no axis is repeated.
 abbrev pub AreAxes : ℕ → List ℕ → Type 0

@@ -1,4 +1,5 @@
-use Rattle.array_print.proofs.Words.{◌≡◌, ◌+◌, ◌<◌, pos, ◌+ℤ◌, ◌*ℤ◌, ◌≤ℤ◌, get_or, length, sym, ap, subst, ◌∙◌, arith, err_from_is_err_and, max_bytes, sends-none, sends-then}
+use Rattle.std.proofs.Common.{◌≡◌, ◌+◌, ◌<◌, pos, ◌+ℤ◌, ◌*ℤ◌, ◌≤ℤ◌, get_or, length, sym, ap, subst, ◌∙◌, arith}
+use Rattle.array_print.proofs.Words.{err_from_is_err_and, max_bytes, sends-none, sends-then}
 use Rattle.array_print.proofs.PrintLaws.{sends-grown}
 use Rattle.array_print.proofs.BandLaws.{cut, one-more, ended}
 use Rattle.array_print.proofs.PartLaws.{part-step, part-start, part-inner}

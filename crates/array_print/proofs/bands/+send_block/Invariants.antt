@@ -1,4 +1,5 @@
-use Rattle.array_print.proofs.Words.{◌-◌, ◌≤◌, ◌++◌, get_or, length, vec_capacity, Sends, shown, part_offsets, opened}
+use Rattle.std.proofs.Common.{◌-◌, ◌≤◌, ◌++◌, get_or, length, vec_capacity}
+use Rattle.array_print.proofs.Words.{Sends, shown, part_offsets, opened}
 use Rattle.array_print.proofs.bands.+send_block.Given as goal
 
 -- the blocks so far are made, and sent except for the rest

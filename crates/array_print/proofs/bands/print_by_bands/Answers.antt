@@ -1,4 +1,5 @@
-use Rattle.array_print.proofs.Words.{◌≡◌, [], ◌++◌, sym, subst, ◌∙◌, ap, leaves_of, count, offsets, items_from, Sends, SendsPart, appends_nothing, AreWidths}
+use Rattle.std.proofs.Common.{◌≡◌, [], ◌++◌, sym, subst, ◌∙◌, ap}
+use Rattle.array_print.proofs.Words.{leaves_of, count, offsets, items_from, Sends, SendsPart, appends_nothing, AreWidths}
 use Rattle.array_print.proofs.LeafLaws.{are-widths}
 use Rattle.array_print.proofs.PartLaws.{whole-part}
 use Rattle.array_print.proofs.WholeLaws.{above, whole-text}

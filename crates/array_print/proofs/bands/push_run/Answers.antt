@@ -1,4 +1,5 @@
-use Rattle.array_print.proofs.Words.{◌≡◌, ◌+◌, ◌-◌, ◌++◌, pos, ◌+ℤ◌, ◌*ℤ◌, ◌≤ℤ◌, get_or, length, map, drop, sym, ap, subst, ◌∙◌, append_assoc, arith, max_bytes, block_text, separator, part_offsets, opened, shown, lead, repeated}
+use Rattle.std.proofs.Common.{◌≡◌, ◌+◌, ◌-◌, ◌++◌, pos, ◌+ℤ◌, ◌*ℤ◌, ◌≤ℤ◌, get_or, length, map, drop, sym, ap, subst, ◌∙◌, append_assoc, arith}
+use Rattle.array_print.proofs.Words.{max_bytes, block_text, separator, part_offsets, opened, shown, lead, repeated}
 use Rattle.array_print.proofs.PrintLaws.{opened-next, opened-run, made-again}
 use Rattle.array_print.proofs.PartLaws.{stays, part-step, part-start, part-inner, part-block}
 use Rattle.array_print.proofs.bands.push_run.Goals as goal

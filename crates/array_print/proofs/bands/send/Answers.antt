@@ -1,4 +1,5 @@
-use Rattle.array_print.proofs.Words.{take, ◌++◌, appends_then, split_later}
+use Rattle.std.proofs.Common.{take, ◌++◌}
+use Rattle.array_print.proofs.Words.{appends_then, split_later}
 use Rattle.array_print.proofs.bands.send.Goals as goal
 
 pub loop-rest-preserved : goal.loop-rest-preserved

@@ -1,4 +1,5 @@
-use Rattle.array_print.proofs.Words.{◌≡◌, ◌++◌, List, ℕ, length, Appends}
+use Rattle.std.proofs.Common.{◌≡◌, ◌++◌, List, ℕ, length}
+use Rattle.array_print.proofs.Words.{Appends}
 use Rattle.array_print.proofs.bands.send.Given as goal
 
 -- the bytes before the rest are written

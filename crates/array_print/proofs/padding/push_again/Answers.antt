@@ -1,4 +1,5 @@
-use Rattle.array_print.proofs.Words.{◌++◌, drop, ap, ◌∙◌, sym, add-one, append_assoc, arith, separator, repeated}
+use Rattle.std.proofs.Common.{◌++◌, drop, ap, ◌∙◌, sym, add-one, append_assoc, arith}
+use Rattle.array_print.proofs.Words.{separator, repeated}
 use Rattle.array_print.proofs.PrintLaws.{StartsWith-along, first-copy}
 use Rattle.array_print.proofs.padding.push_again.Goals as goal
 

@@ -1,4 +1,5 @@
-use Rattle.array_print.proofs.Words.{◌≡◌, ◌≤◌, ◌++◌, drop, length, vec_capacity, separator, repeated}
+use Rattle.std.proofs.Common.{◌≡◌, ◌≤◌, ◌++◌, drop, length, vec_capacity}
+use Rattle.array_print.proofs.Words.{separator, repeated}
 use Rattle.array_print.proofs.padding.push_again.Given as goal
 
 -- the copies so far are at the end, and the first of them is where it was made

@@ -1,4 +1,5 @@
-use Rattle.array_print.proofs.Words.{◌≡◌, ◌+◌, ◌<◌, ◌++◌, ℕ, List, [], ◌∷◌, codes, get_or, length, take, drop, sym, ap, ◌∙◌, append_assoc, arith, take_all, drop-drop, get_or_default, on_ok_weaker, IfOk-weaker, Descr, Field, Structure, total, fields_of, listed, leaf_count, leaves_of, weight, rest_at, weight-one, listed-fields_of, leaf_count-before, length-leaves_from, RecordDescr, join_texts, record_end, field_texts, structure_text, in_parentheses, first_text, lead, texts_at, StartsWith-trans}
+use Rattle.std.proofs.Common.{◌≡◌, ◌+◌, ◌<◌, ◌++◌, ℕ, List, [], ◌∷◌, codes, get_or, length, take, drop, sym, ap, ◌∙◌, append_assoc, arith, take_all}
+use Rattle.array_print.proofs.Words.{drop-drop, get_or_default, on_ok_weaker, IfOk-weaker, Descr, Field, Structure, total, fields_of, listed, leaf_count, leaves_of, weight, rest_at, weight-one, listed-fields_of, leaf_count-before, length-leaves_from, RecordDescr, join_texts, record_end, field_texts, structure_text, in_parentheses, first_text, lead, texts_at, StartsWith-trans}
 use Rattle.array_print.proofs.LeafLaws.{joined-take-more, field_texts-before, length-field_texts}
 use Rattle.array_print.proofs.PrintLaws.{StartsWith-along, regroup}
 use Rattle.array_print.proofs.printer.+fields.Goals as goal

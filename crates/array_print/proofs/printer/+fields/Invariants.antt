@@ -1,4 +1,5 @@
-use Rattle.array_print.proofs.Words.{◌≡◌, ◌≤◌, ◌+◌, ◌*◌, ◌++◌, codes, take, drop, vec_capacity, listed, leaf_count, total, weight, join_texts, field_texts, texts_at}
+use Rattle.std.proofs.Common.{◌≡◌, ◌≤◌, ◌+◌, ◌*◌, ◌++◌, codes, take, drop, vec_capacity}
+use Rattle.array_print.proofs.Words.{listed, leaf_count, total, weight, join_texts, field_texts, texts_at}
 use Rattle.array_print.proofs.printer.+fields.Given as goal
 
 -- the texts so far follow the opening parenthesis

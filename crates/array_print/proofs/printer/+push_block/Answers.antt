@@ -1,4 +1,5 @@
-use Rattle.array_print.proofs.Words.{◌≡◌, ◌+◌, ◌*◌, ◌-◌, ◌<◌, ◌++◌, pos, ◌+ℤ◌, ◌*ℤ◌, ◌≤ℤ◌, get_or, length, map, drop, refl, sym, ap, subst, ◌∙◌, arith, take_all, count, max_bytes, block_text, separator, StartsWith-trans, part_offsets, shown, lead}
+use Rattle.std.proofs.Common.{◌≡◌, ◌+◌, ◌*◌, ◌-◌, ◌<◌, ◌++◌, pos, ◌+ℤ◌, ◌*ℤ◌, ◌≤ℤ◌, get_or, length, map, drop, refl, sym, ap, subst, ◌∙◌, arith, take_all}
+use Rattle.array_print.proofs.Words.{count, max_bytes, block_text, separator, StartsWith-trans, part_offsets, shown, lead}
 use Rattle.array_print.proofs.PrintLaws.{StartsWith-along, opened-more, opened-all, opened-again}
 use Rattle.array_print.proofs.PartLaws.{at-first, stays, part-some, part-step, part-start, part-inner, part-block, length-part, part-item-inside}
 use Rattle.array_print.proofs.printer.+push_block.Goals as goal

@@ -1,4 +1,5 @@
-use Rattle.array_print.proofs.Words.{◌≡◌, ◌-◌, ◌≤◌, ◌++◌, length, vec_capacity, shown, part_offsets, opened}
+use Rattle.std.proofs.Common.{◌≡◌, ◌-◌, ◌≤◌, ◌++◌, length, vec_capacity}
+use Rattle.array_print.proofs.Words.{shown, part_offsets, opened}
 use Rattle.array_print.proofs.printer.+push_block.Given as goal
 
 -- the blocks so far follow the opening bracket

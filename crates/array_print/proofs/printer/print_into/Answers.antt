@@ -1,4 +1,5 @@
-use Rattle.array_print.proofs.Words.{true, Result, Ok, Err, is_err, ◌≡◌, ◌++◌, sym, subst, ◌∙◌, ap, OnOk, on_ok_weaker, leaves_of, count, offsets, items_from, AreWidths}
+use Rattle.std.proofs.Common.{true, Result, Ok, Err, is_err, ◌≡◌, ◌++◌, sym, subst, ◌∙◌, ap, OnOk}
+use Rattle.array_print.proofs.Words.{on_ok_weaker, leaves_of, count, offsets, items_from, AreWidths}
 use Rattle.array_print.proofs.LeafLaws.{are-widths}
 use Rattle.array_print.proofs.PartLaws.{whole-part}
 use Rattle.array_print.proofs.WholeLaws.{above, whole-text}

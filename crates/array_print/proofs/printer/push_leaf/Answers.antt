@@ -1,4 +1,5 @@
-use Rattle.array_print.proofs.Words.{◌≡◌, ◌+◌, ◌<◌, ◌≤◌, ◌++◌, ℕ, List, [], get_or, length, take, drop, sym, ap, ◌∙◌, arith, IfSome, slice_get, on_ok_weaker, Scalar, Descr, size, decode, item_size, leaves_of, right_justified, leaf_text, AreWidths, texts_at}
+use Rattle.std.proofs.Common.{◌≡◌, ◌+◌, ◌<◌, ◌≤◌, ◌++◌, ℕ, List, [], get_or, length, take, drop, sym, ap, ◌∙◌, arith, IfSome, slice_get}
+use Rattle.array_print.proofs.Words.{on_ok_weaker, Scalar, Descr, size, decode, item_size, leaves_of, right_justified, leaf_text, AreWidths, texts_at}
 use Rattle.array_print.proofs.LeafLaws.{bytes-at, count-widths, width-at, text-at}
 use Rattle.array_print.proofs.printer.push_leaf.Goals as goal
 

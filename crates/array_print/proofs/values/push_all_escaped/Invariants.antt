@@ -1,4 +1,5 @@
-use Rattle.array_print.proofs.Words.{◌≡◌, ◌≤◌, ◌++◌, flat_map, take, vec_capacity, escaped}
+use Rattle.std.proofs.Common.{◌≡◌, ◌≤◌, ◌++◌, flat_map, take, vec_capacity}
+use Rattle.array_print.proofs.Words.{escaped}
 use Rattle.array_print.proofs.values.push_all_escaped.Given as goal
 
 -- the texts of the bytes so far are at the end

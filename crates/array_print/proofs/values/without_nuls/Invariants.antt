@@ -1,4 +1,5 @@
-use Rattle.array_print.proofs.Words.{◌≡◌, ◌+◌, ◌≤◌, nat_eq, length, take, suffix_len}
+use Rattle.std.proofs.Common.{◌≡◌, ◌+◌, ◌≤◌, nat_eq, length, take}
+use Rattle.array_print.proofs.Words.{suffix_len}
 use Rattle.array_print.proofs.values.without_nuls.Given as goal
 
 -- the NULs at the end of the whole string are those cut off so far, and those at the end of what is left

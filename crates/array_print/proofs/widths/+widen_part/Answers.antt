@@ -1,4 +1,5 @@
-use Rattle.array_print.proofs.Words.{◌≡◌, ◌+◌, ◌*◌, ◌<◌, ◌++◌, pos, ◌+ℤ◌, ◌*ℤ◌, ◌≤ℤ◌, inl, inr, get_or, length, take, drop, sym, ap, subst, ◌∙◌, arith, append_assoc, append-nil, take-add, take_all, count, max_bytes, widths_at, part_offsets}
+use Rattle.std.proofs.Common.{◌≡◌, ◌+◌, ◌*◌, ◌<◌, ◌++◌, pos, ◌+ℤ◌, ◌*ℤ◌, ◌≤ℤ◌, inl, inr, get_or, length, take, drop, sym, ap, subst, ◌∙◌, arith, append_assoc, take-add, take_all}
+use Rattle.array_print.proofs.Words.{append-nil, count, max_bytes, widths_at, part_offsets}
 use Rattle.array_print.proofs.PartLaws.{part-step, part-start, part-inner, part-block, length-part, part-item, part-item-inside}
 use Rattle.array_print.proofs.RepeatLaws.{count-outer, widths-of-one}
 use Rattle.array_print.proofs.widths.+widen_part.Goals as goal

@@ -1,4 +1,5 @@
-use Rattle.array_print.proofs.Words.{◌≡◌, ◌+◌, ◌*◌, ◌-◌, ◌++◌, ℕ, List, length, take, drop, count, widths_at, part_offsets}
+use Rattle.std.proofs.Common.{◌≡◌, ◌+◌, ◌*◌, ◌-◌, ◌++◌, ℕ, List, length, take, drop}
+use Rattle.array_print.proofs.Words.{count, widths_at, part_offsets}
 use Rattle.array_print.proofs.widths.+widen_part.Given as goal
 
 abbrev pub decreases-widen_part : goal.decreases-widen_part

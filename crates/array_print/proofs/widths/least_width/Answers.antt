@@ -1,4 +1,5 @@
-use Rattle.array_print.proofs.Words.{[], sym, ap, ◌∙◌, leaf_width}
+use Rattle.std.proofs.Common.{[], sym, ap, ◌∙◌}
+use Rattle.array_print.proofs.Words.{leaf_width}
 use Rattle.array_print.proofs.WidthLaws.{least-at}
 use Rattle.array_print.proofs.widths.least_width.Goals as goal
 

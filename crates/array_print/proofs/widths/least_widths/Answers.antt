@@ -1,4 +1,5 @@
-use Rattle.array_print.proofs.Words.{◌<◌, ◌++◌, ◌∷◌, [], length, sym, ◌∙◌, arith, take_more, take_all, leaves_of, leaf_widths}
+use Rattle.std.proofs.Common.{◌<◌, ◌++◌, ◌∷◌, [], length, sym, ◌∙◌, arith, take_all}
+use Rattle.array_print.proofs.Words.{take_more, leaves_of, leaf_widths}
 use Rattle.array_print.proofs.LeafLaws.{are-leaf-widths, count-widths}
 use Rattle.array_print.proofs.widths.least_widths.Goals as goal
 

@@ -1,4 +1,5 @@
-use Rattle.array_print.proofs.Words.{◌≡◌, [], take, leaves_of, leaf_widths}
+use Rattle.std.proofs.Common.{◌≡◌, [], take}
+use Rattle.array_print.proofs.Words.{leaves_of, leaf_widths}
 use Rattle.array_print.proofs.widths.least_widths.Given as goal
 
 -- the widths of the leaves so far

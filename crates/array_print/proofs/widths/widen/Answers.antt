@@ -1,4 +1,5 @@
-use Rattle.array_print.proofs.Words.{◌<◌, ◌≢◌, ◌≡◌, ◌++◌, ◌∷◌, [], length, get_or, ap, ◌∙◌, arith, below_more, get_or-set_other, get_or-set_same, same_lists, get_or_default, leaves_of, widths_at}
+use Rattle.std.proofs.Common.{◌<◌, ◌≢◌, ◌≡◌, ◌++◌, ◌∷◌, [], length, get_or, ap, ◌∙◌, arith, below_more, get_or-set_other, get_or-set_same}
+use Rattle.array_print.proofs.Words.{same_lists, get_or_default, leaves_of, widths_at}
 use Rattle.array_print.proofs.WidthLaws.{length-widths-at, one-wider}
 use Rattle.array_print.proofs.widths.widen.Goals as goal
 

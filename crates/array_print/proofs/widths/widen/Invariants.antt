@@ -1,4 +1,5 @@
-use Rattle.array_print.proofs.Words.{◌≡◌, ◌<◌, ◌≤◌, ◌++◌, ◌∷◌, [], ℕ, List, get_or, widths_at}
+use Rattle.std.proofs.Common.{◌≡◌, ◌<◌, ◌≤◌, ◌++◌, ◌∷◌, [], ℕ, List, get_or}
+use Rattle.array_print.proofs.Words.{widths_at}
 use Rattle.array_print.proofs.widths.widen.Given as goal
 
 -- the leaves so far have their new widths, and the others their old ones

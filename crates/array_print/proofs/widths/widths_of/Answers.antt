@@ -1,4 +1,5 @@
-use Rattle.array_print.proofs.Words.{◌<◌, [], length, sym, ap, ◌∙◌, arith, item_size, leaves_of, offsets, offsets-none, leaf_widths, widths_at}
+use Rattle.std.proofs.Common.{◌<◌, [], length, sym, ap, ◌∙◌, arith}
+use Rattle.array_print.proofs.Words.{item_size, leaves_of, offsets, offsets-none, leaf_widths, widths_at}
 use Rattle.array_print.proofs.LeafLaws.{are-leaf-widths, count-widths}
 use Rattle.array_print.proofs.PartLaws.{whole-part, whole-offsets}
 use Rattle.array_print.proofs.WidthLaws.{refilled, with-axes}

@@ -1,4 +1,5 @@
-use Rattle.arrays.proofs.Words.{◌≡◌, map, sym, ap, ◌∙◌, item_at, item_size, offsets, offsets_in}
+use Rattle.std.proofs.Common.{◌≡◌, map, sym, ap, ◌∙◌}
+use Rattle.arrays.proofs.Words.{item_at, item_size, offsets, offsets_in}
 use Rattle.arrays.proofs.ItemLaws.{items-from_bytes}
 use Rattle.arrays.proofs.copies.copy.Goals as goal
 

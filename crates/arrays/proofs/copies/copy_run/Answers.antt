@@ -1,4 +1,5 @@
-use Rattle.arrays.proofs.Words.{sym, ◌∙◌, copied}
+use Rattle.std.proofs.Common.{sym, ◌∙◌}
+use Rattle.arrays.proofs.Words.{copied}
 use Rattle.arrays.proofs.RunCopies.{copied-even}
 use Rattle.arrays.proofs.copies.copy_run.Goals as goal
 

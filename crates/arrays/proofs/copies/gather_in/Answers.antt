@@ -1,4 +1,5 @@
-use Rattle.arrays.proofs.Words.{◌≡◌, ◌+◌, ◌*◌, ◌≤◌, ℕ, length, All, sym, ap, subst, ◌∙◌, IfOk-weaker, count, offsets, multiples, length-offsets, count-reverse, items_at, offsets_in, fortran-all, items-in_fortran}
+use Rattle.std.proofs.Common.{◌≡◌, ◌+◌, ◌*◌, ◌≤◌, ℕ, length, All, sym, ap, subst, ◌∙◌}
+use Rattle.arrays.proofs.Words.{IfOk-weaker, count, offsets, multiples, length-offsets, count-reverse, items_at, offsets_in, fortran-all, items-in_fortran}
 use Rattle.arrays.proofs.copies.gather_in.Goals as goal
 use Rattle.arrays.proofs.copies.gather_in.Goals.{After-reversed-in-Fortran}
 

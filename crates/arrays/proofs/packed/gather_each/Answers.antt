@@ -1,4 +1,5 @@
-use Rattle.arrays.proofs.Words.{◌≡◌, ◌*◌, ◌++◌, length, sym, ap, ◌∙◌, arith, offsets, multiples, length-offsets, items_at, joined_at, length-joined_at, joined-items}
+use Rattle.std.proofs.Common.{◌≡◌, ◌*◌, ◌++◌, length, sym, ap, ◌∙◌, arith}
+use Rattle.arrays.proofs.Words.{offsets, multiples, length-offsets, items_at, joined_at, length-joined_at, joined-items}
 use Rattle.arrays.proofs.packed.gather_each.Goals as goal
 use Rattle.arrays.proofs.packed.gather_each.Goals.{After-filled-filled, After-finish}
 

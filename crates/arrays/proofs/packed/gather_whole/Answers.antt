@@ -1,4 +1,5 @@
-use Rattle.arrays.proofs.Words.{◌≡◌, ◌+◌, ◌*◌, ◌≤◌, length, sym, ap, ◌∙◌, arith, IfOk-weaker, item_at, first_address, offsets, multiples, length-offsets, items_at}
+use Rattle.std.proofs.Common.{◌≡◌, ◌+◌, ◌*◌, ◌≤◌, length, sym, ap, ◌∙◌, arith}
+use Rattle.arrays.proofs.Words.{IfOk-weaker, item_at, first_address, offsets, multiples, length-offsets, items_at}
 use Rattle.arrays.proofs.WholeLaws.{whole-ends, whole-items}
 use Rattle.arrays.proofs.packed.gather_whole.Goals as goal
 use Rattle.arrays.proofs.packed.gather_whole.Goals.{After-saturating_mul-len}

@@ -1,4 +1,5 @@
-use Rattle.arrays.proofs.Words.{◌≡◌, ◌+◌, ◌*◌, ◌≤◌, [], ◌∷◌, ◌++◌, map, length, All, sym, ap, subst, ◌∙◌, append-nil, arith, All-rest, All-head, Grid, grid_items, EachWithin, GridWithin, Run, LieWithin, offsets, max_bytes, run_along, run_offsets, all_offsets, lie-within, runs-within, joined_at, rows_of}
+use Rattle.std.proofs.Common.{◌≡◌, ◌+◌, ◌*◌, ◌≤◌, [], ◌∷◌, ◌++◌, map, length, All, sym, ap, subst, ◌∙◌, append-nil, arith}
+use Rattle.arrays.proofs.Words.{All-rest, All-head, Grid, grid_items, EachWithin, GridWithin, Run, LieWithin, offsets, max_bytes, run_along, run_offsets, all_offsets, lie-within, runs-within, joined_at, rows_of}
 use Rattle.arrays.proofs.GridLaws.{grid-within, grid-bytes, rows-first, rows-rest, rows-count, rows-pushed}
 use Rattle.arrays.proofs.packed.push_grids.Goals as goal
 use Rattle.arrays.proofs.packed.push_grids.Goals.{After-grid_of}

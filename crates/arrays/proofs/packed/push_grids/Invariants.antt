@@ -1,4 +1,5 @@
-use Rattle.arrays.proofs.Words.{◌≡◌, ◌+◌, ◌*◌, ◌≤◌, [], ◌∷◌, ◌++◌, length, All, EachWithin, LieWithin, offsets, max_bytes, all_offsets, joined_at, rows_of}
+use Rattle.std.proofs.Common.{◌≡◌, ◌+◌, ◌*◌, ◌≤◌, [], ◌∷◌, ◌++◌, length, All}
+use Rattle.arrays.proofs.Words.{EachWithin, LieWithin, offsets, max_bytes, all_offsets, joined_at, rows_of}
 use Rattle.arrays.proofs.packed.push_grids.Given as goal
 
 abbrev pub invariant-loop-run : goal.invariant-loop-run

@@ -1,4 +1,5 @@
-use Rattle.arrays.proofs.Words.{length, max_bytes, walked-within}
+use Rattle.std.proofs.Common.{length}
+use Rattle.arrays.proofs.Words.{max_bytes, walked-within}
 use Rattle.arrays.proofs.packed.push_layout.Goals as goal
 
 pub push_runs-requires-clause-from : goal.push_runs-requires-clause-from

@@ -1,4 +1,5 @@
-use Rattle.arrays.proofs.Words.{◌++◌, length, ap, ◌∙◌, place, item_at, joined, joined-offsets}
+use Rattle.std.proofs.Common.{◌++◌, length, ap, ◌∙◌}
+use Rattle.arrays.proofs.Words.{place, item_at, joined, joined-offsets}
 use Rattle.arrays.proofs.packed.push_run.Goals as goal
 
 pub returns-clause-bytes : goal.returns-clause-bytes

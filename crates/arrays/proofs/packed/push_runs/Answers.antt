@@ -1,4 +1,5 @@
-use Rattle.arrays.proofs.Words.{◌++◌, length, All, sym, ap, subst, ◌∙◌, append-nil, arith, All-rest, All-head, EachWithin, Run, all_offsets, joined_at}
+use Rattle.std.proofs.Common.{◌++◌, length, All, sym, ap, subst, ◌∙◌, append-nil, arith}
+use Rattle.arrays.proofs.Words.{All-rest, All-head, EachWithin, Run, all_offsets, joined_at}
 use Rattle.arrays.proofs.PackedLaws.{parts, joined-next}
 use Rattle.arrays.proofs.packed.push_runs.Goals as goal
 

@@ -1,4 +1,5 @@
-use Rattle.arrays.proofs.Words.{◌≡◌, ◌+◌, ◌*◌, ◌++◌, length, All, EachWithin, all_offsets, joined_at}
+use Rattle.std.proofs.Common.{◌≡◌, ◌+◌, ◌*◌, ◌++◌, length, All}
+use Rattle.arrays.proofs.Words.{EachWithin, all_offsets, joined_at}
 use Rattle.arrays.proofs.packed.push_runs.Given as goal
 
 abbrev pub invariant-loop-run : goal.invariant-loop-run

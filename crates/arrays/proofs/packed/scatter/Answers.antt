@@ -1,4 +1,5 @@
-use Rattle.arrays.proofs.Words.{◌≡◌, length, ap, ◌∙◌, flat_map, max_bytes, offsets, run_offsets, assigned, row_offsets, row-multiples, walked-within}
+use Rattle.std.proofs.Common.{◌≡◌, length, ap, ◌∙◌}
+use Rattle.arrays.proofs.Words.{flat_map, max_bytes, offsets, run_offsets, assigned, row_offsets, row-multiples, walked-within}
 use Rattle.arrays.proofs.packed.scatter.Goals as goal
 
 pub scatter_runs-requires-clause-to : goal.scatter_runs-requires-clause-to

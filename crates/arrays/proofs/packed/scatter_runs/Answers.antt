@@ -1,4 +1,5 @@
-use Rattle.arrays.proofs.Words.{◌≤◌, length, ◌∙◌, arith, All-rest, EachWithin, room-next}
+use Rattle.std.proofs.Common.{◌≤◌, length, ◌∙◌, arith}
+use Rattle.arrays.proofs.Words.{All-rest, EachWithin, room-next}
 use Rattle.arrays.proofs.PackedLaws.{scattered-next}
 use Rattle.arrays.proofs.packed.scatter_runs.Goals as goal
 

@@ -1,4 +1,5 @@
-use Rattle.bench_engine.proofs.Words.{refl, inr, format_outcome, accepted_with, format_text, found}
+use Rattle.std.proofs.Common.{refl, inr}
+use Rattle.bench_engine.proofs.Words.{format_outcome, accepted_with, format_text, found}
 use Rattle.bench_engine.proofs.Looks.{not_found}
 use Rattle.bench_engine.proofs.Steps.{spare}
 use Rattle.bench_engine.proofs.ask.format.Goals as goal

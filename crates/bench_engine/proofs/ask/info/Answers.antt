@@ -1,4 +1,5 @@
-use Rattle.bench_engine.proofs.Words.{◌≡◌, sym, refl, inr, offsets, addresses, info_text, found, info_outcome, accepted_with}
+use Rattle.std.proofs.Common.{◌≡◌, sym, refl, inr}
+use Rattle.bench_engine.proofs.Words.{offsets, addresses, info_text, found, info_outcome, accepted_with}
 use Rattle.bench_engine.proofs.Looks.{not_found}
 use Rattle.bench_engine.proofs.Steps.{spare}
 use Rattle.bench_engine.proofs.ask.info.Goals as goal

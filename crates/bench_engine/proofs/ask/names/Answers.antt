@@ -1,4 +1,5 @@
-use Rattle.bench_engine.proofs.Words.{sym, accepted_with}
+use Rattle.std.proofs.Common.{sym}
+use Rattle.bench_engine.proofs.Words.{accepted_with}
 use Rattle.bench_engine.proofs.Steps.{spare}
 use Rattle.bench_engine.proofs.ask.names.Goals as goal
 

@@ -1,4 +1,5 @@
-use Rattle.bench_engine.proofs.Words.{refl, sym, ◌∙◌, inr, offsets, array_text, items_from, found, accepted_with}
+use Rattle.std.proofs.Common.{refl, sym, ◌∙◌, inr}
+use Rattle.bench_engine.proofs.Words.{offsets, array_text, items_from, found, accepted_with}
 use Rattle.bench_engine.proofs.Looks.{not_found, print-unknown, print-found}
 use Rattle.bench_engine.proofs.Steps.{spare}
 use Rattle.bench_engine.proofs.ask.print.Goals as goal

@@ -1,4 +1,5 @@
-use Rattle.bench_engine.proofs.Words.{◌≡◌, ◌++◌, drop, names_text}
+use Rattle.std.proofs.Common.{◌≡◌, ◌++◌, drop}
+use Rattle.bench_engine.proofs.Words.{names_text}
 use Rattle.bench_engine.proofs.Listings.{listed}
 use Rattle.bench_engine.proofs.ask.set_names_text.Given as goal
 

@@ -1,4 +1,5 @@
-use Rattle.bench_engine.proofs.Words.{◌≡◌, ap, sym, refl, ◌∙◌, arith, err_from_is_err_and, common_steps, shares_text, accepted_with}
+use Rattle.std.proofs.Common.{◌≡◌, ap, sym, refl, ◌∙◌, arith}
+use Rattle.bench_engine.proofs.Words.{err_from_is_err_and, common_steps, shares_text, accepted_with}
 use Rattle.bench_engine.proofs.Outcomes.{shares-done, shares-refused}
 use Rattle.bench_engine.proofs.Steps.{spare}
 use Rattle.bench_engine.proofs.ask.shares.Goals as goal

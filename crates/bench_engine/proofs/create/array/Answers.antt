@@ -1,4 +1,5 @@
-use Rattle.bench_engine.proofs.Words.{◌≡◌, length, arith, inr, ap, refl, err_from_is_err_and, count, item_values, array_type, array_contents, eq-eqb}
+use Rattle.std.proofs.Common.{◌≡◌, length, arith, inr, ap, refl}
+use Rattle.bench_engine.proofs.Words.{err_from_is_err_and, count, item_values, array_type, array_contents, eq-eqb}
 use Rattle.bench_engine.proofs.Makes.{passed, array-number, array-done}
 use Rattle.bench_engine.proofs.create.array.Goals as goal
 

@@ -1,4 +1,5 @@
-use Rattle.bench_engine.proofs.Words.{◌≡◌, ◌*◌, inr, arith, refl, le-leb, lt-leb, err_from_is_err_and, descriptor, item_size, max_bytes, count, shape_of, array_type}
+use Rattle.std.proofs.Common.{◌≡◌, ◌*◌, inr, arith, refl}
+use Rattle.bench_engine.proofs.Words.{le-leb, lt-leb, err_from_is_err_and, descriptor, item_size, max_bytes, count, shape_of, array_type}
 use Rattle.bench_engine.proofs.Makes.{passed}
 use Rattle.bench_engine.proofs.create.array_type.Goals as goal
 

@@ -1,4 +1,5 @@
-use Rattle.bench_engine.proofs.Words.{◌++◌, length, refl, ap, ◌∙◌, blocks, joined, length-joined}
+use Rattle.std.proofs.Common.{◌++◌, length, refl, ap, ◌∙◌}
+use Rattle.bench_engine.proofs.Words.{blocks, joined, length-joined}
 use Rattle.bench_engine.proofs.Repeated.{blocks-repeated}
 use Rattle.bench_engine.proofs.create.filled.Goals as goal
 

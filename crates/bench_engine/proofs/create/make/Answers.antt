@@ -1,4 +1,5 @@
-use Rattle.bench_engine.proofs.Words.{sym, refl, inr, err_from_is_err_and, contents_of, creation_outcome}
+use Rattle.std.proofs.Common.{sym, refl, inr}
+use Rattle.bench_engine.proofs.Words.{err_from_is_err_and, contents_of, creation_outcome}
 use Rattle.bench_engine.proofs.Creates.{creation-refused, made-answers}
 use Rattle.bench_engine.proofs.create.make.Goals as goal
 

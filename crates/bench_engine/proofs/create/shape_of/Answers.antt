@@ -1,4 +1,5 @@
-use Rattle.bench_engine.proofs.Words.{ap, ◌∙◌, subst, map, min, ◌-◌, ◌^◌, Gives, shape_of}
+use Rattle.std.proofs.Common.{ap, ◌∙◌, subst, map, min, ◌-◌, ◌^◌}
+use Rattle.bench_engine.proofs.Words.{Gives, shape_of}
 use Rattle.bench_engine.proofs.Capped.{shape_of-capped}
 use Rattle.bench_engine.proofs.create.shape_of.Goals as goal
 

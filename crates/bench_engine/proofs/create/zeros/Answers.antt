@@ -1,4 +1,5 @@
-use Rattle.bench_engine.proofs.Words.{refl, err_from_is_err_and, array_type, zeros_contents}
+use Rattle.std.proofs.Common.{refl}
+use Rattle.bench_engine.proofs.Words.{err_from_is_err_and, array_type, zeros_contents}
 use Rattle.bench_engine.proofs.Makes.{passed, zeros-made}
 use Rattle.bench_engine.proofs.create.zeros.Goals as goal
 

@@ -1,4 +1,5 @@
-use Rattle.bench_engine.proofs.Words.{◌≡◌, ◌≤◌, ◌⊎◌, ◌&&◌, ℕ, true, false, inl, inr, nat_lt, List, arith, codes, refl, sym, ◌++◌, lt-ltb, common_steps, err_from_is_err_and, Refusal, UnknownName, OutOfMemory, State, is_bound, delete_outcome, accepted_with, IsRefused}
+use Rattle.std.proofs.Common.{◌≡◌, ◌≤◌, ◌⊎◌, ◌&&◌, ℕ, true, false, inl, inr, nat_lt, List, arith, codes, refl, sym, ◌++◌}
+use Rattle.bench_engine.proofs.Words.{lt-ltb, common_steps, err_from_is_err_and, Refusal, UnknownName, OutOfMemory, State, is_bound, delete_outcome, accepted_with, IsRefused}
 use Rattle.bench_engine.proofs.Steps.{spare}
 use Rattle.bench_engine.proofs.delete.delete.Goals as goal
 

@@ -1,4 +1,5 @@
-use Rattle.bench_engine.proofs.Words.{refl, [], ◌∷◌, arith, rules, ◌≡◌, common_steps, refusal, refusal_text}
+use Rattle.std.proofs.Common.{refl, [], ◌∷◌, arith, rules, ◌≡◌}
+use Rattle.bench_engine.proofs.Words.{common_steps, refusal, refusal_text}
 use Rattle.bench_engine.proofs.Steps.{answered, silent_line, refused_line, answered_weaker, silent_weaker, refused_weaker}
 use Rattle.bench_engine.proofs.engine.answer_read.Goals as goal
 

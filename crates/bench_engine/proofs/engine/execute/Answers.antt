@@ -1,4 +1,5 @@
-use Rattle.bench_engine.proofs.Words.{refl, true, ◌≡◌, arith, common_steps, refusal_text, refusal}
+use Rattle.std.proofs.Common.{refl, true, ◌≡◌, arith}
+use Rattle.bench_engine.proofs.Words.{common_steps, refusal_text, refusal}
 use Rattle.bench_engine.proofs.engine.execute.Goals as goal
 
 pub returns-in-Ok : goal.returns-in-Ok

@@ -1,4 +1,5 @@
-use Rattle.bench_engine.proofs.Words.{[], refl, sym, inl, Err, err_from_is_err_and, held, bound_loaded}
+use Rattle.std.proofs.Common.{[], refl, sym, inl, Err}
+use Rattle.bench_engine.proofs.Words.{err_from_is_err_and, held, bound_loaded}
 use Rattle.bench_engine.proofs.Creates.{fresh-answers}
 use Rattle.bench_engine.proofs.LoadedFiles.{load-full, find-refused, load-answers}
 use Rattle.bench_engine.proofs.files.load.Goals as goal

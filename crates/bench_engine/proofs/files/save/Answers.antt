@@ -1,4 +1,5 @@
-use Rattle.bench_engine.proofs.Words.{◌+◌, ◌++◌, length, codes, decimal, sym, ap, ◌∙◌, length-append, err_from_is_err_and, found}
+use Rattle.std.proofs.Common.{◌+◌, ◌++◌, length, codes, decimal, sym, ap, ◌∙◌, length-append}
+use Rattle.bench_engine.proofs.Words.{err_from_is_err_and, found}
 use Rattle.bench_engine.proofs.Looks.{not_found, bound}
 use Rattle.bench_engine.proofs.SavedFiles.{save-unknown, save-refused, save-not-stored, save-done}
 use Rattle.bench_engine.proofs.files.save.Goals as goal

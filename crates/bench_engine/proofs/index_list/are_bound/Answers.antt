@@ -1,4 +1,5 @@
-use Rattle.bench_engine.proofs.Words.{sym, ap, ◌∙◌, List, ℕ, take, take_all, length, ◌≤◌, arith, list_all, take_more, IndexItem, is_bound, names_in_item, names_in_index}
+use Rattle.std.proofs.Common.{sym, ap, ◌∙◌, List, ℕ, take, take_all, length, ◌≤◌, arith}
+use Rattle.bench_engine.proofs.Words.{list_all, take_more, IndexItem, is_bound, names_in_item, names_in_index}
 use Rattle.bench_engine.proofs.IndexLaws.{none-bound, bound-more}
 use Rattle.bench_engine.proofs.index_list.are_bound.Goals as goal
 

@@ -1,4 +1,5 @@
-use Rattle.bench_engine.proofs.Words.{◌≡◌, true, take, list_all, is_bound, names_in_index}
+use Rattle.std.proofs.Common.{◌≡◌, true, take}
+use Rattle.bench_engine.proofs.Words.{list_all, is_bound, names_in_index}
 use Rattle.bench_engine.proofs.index_list.are_bound.Given as goal
 
 -- the names so far are bound

@@ -1,4 +1,5 @@
-use Rattle.bench_engine.proofs.Words.{sym, inr, ap, ◌∙◌, subst, length, ◌≤◌, ◌<◌, ◌*◌, err_from_is_err_and, item_size, index_items, max_bytes}
+use Rattle.std.proofs.Common.{sym, inr, ap, ◌∙◌, subst, length, ◌≤◌, ◌<◌, ◌*◌}
+use Rattle.bench_engine.proofs.Words.{err_from_is_err_and, item_size, index_items, max_bytes}
 use Rattle.bench_engine.proofs.IndexLaws.{gathers, refuses, too-large}
 use Rattle.bench_engine.proofs.TargetLaws.{aims-view, aims-plan}
 use Rattle.bench_engine.proofs.index_list.named_target.Goals as goal

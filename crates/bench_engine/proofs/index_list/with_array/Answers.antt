@@ -1,4 +1,5 @@
-use Rattle.bench_engine.proofs.Words.{refl, sym, ap, ◌∙◌, ArrayItem, Items, found-array, by_items}
+use Rattle.std.proofs.Common.{refl, sym, ap, ◌∙◌}
+use Rattle.bench_engine.proofs.Words.{ArrayItem, Items, found-array, by_items}
 use Rattle.bench_engine.proofs.IndexLaws.{array-is}
 use Rattle.bench_engine.proofs.index_list.with_array.Goals as goal
 

@@ -1,4 +1,5 @@
-use Rattle.bench_engine.proofs.Words.{ap, ◌∙◌, List, ℕ, list_all, IndexItem, is_bound, names_in_item, array_by_items}
+use Rattle.std.proofs.Common.{ap, ◌∙◌, List, ℕ}
+use Rattle.bench_engine.proofs.Words.{list_all, IndexItem, is_bound, names_in_item, array_by_items}
 use Rattle.bench_engine.proofs.IndexLaws.{item-added, each-bound}
 use Rattle.bench_engine.proofs.index_list.with_arrays.Goals as goal
 

@@ -1,4 +1,5 @@
-use Rattle.bench_engine.proofs.Words.{◌≡◌, map, take, index_items, array_by_items}
+use Rattle.std.proofs.Common.{◌≡◌, map, take}
+use Rattle.bench_engine.proofs.Words.{index_items, array_by_items}
 use Rattle.bench_engine.proofs.index_list.with_arrays.Given as goal
 
 -- the items so far, with their arrays

@@ -1,4 +1,5 @@
-use Rattle.bench_engine.proofs.Words.{◌≡◌, rules, refl, Bool, true, false, pos, sym, ◌∙◌, inr, subst, to_z-of_z, SFits, bool_byte, w128, Gives, Boolean, literal_number, Integer, Bytes}
+use Rattle.std.proofs.Common.{◌≡◌, rules, refl, Bool, true, false, pos, sym, ◌∙◌, inr, subst}
+use Rattle.bench_engine.proofs.Words.{to_z-of_z, SFits, bool_byte, w128, Gives, Boolean, literal_number, Integer, Bytes}
 use Rattle.bench_engine.proofs.LiteralLaws.{literal-gives, compared-record, integers-are, booleans-are, bytes-are, number-items}
 use Rattle.bench_engine.proofs.operate.compare_literal.Goals as goal
 

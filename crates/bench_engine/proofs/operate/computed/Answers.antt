@@ -1,4 +1,5 @@
-use Rattle.bench_engine.proofs.Words.{ap, refl, subst, sym, ◌∙◌, err_from_is_err_and, cast_contents, operand_part, operand_values, operation_contents, transformed, Computation, Gives, descriptor, Given, AreSources, IsGiven, IsPart, held}
+use Rattle.std.proofs.Common.{ap, refl, subst, sym, ◌∙◌}
+use Rattle.bench_engine.proofs.Words.{err_from_is_err_and, cast_contents, operand_part, operand_values, operation_contents, transformed, Computation, Gives, descriptor, Given, AreSources, IsGiven, IsPart, held}
 use Rattle.bench_engine.proofs.Answered.{met}
 use Rattle.bench_engine.proofs.Casts.{cast-gives}
 use Rattle.bench_engine.proofs.Computes.{combined-bad, combined-part, transformed-gives}

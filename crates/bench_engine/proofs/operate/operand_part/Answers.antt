@@ -1,4 +1,5 @@
-use Rattle.bench_engine.proofs.Words.{◌∙◌, refl, sym, ap, subst, map, inl, Ok, err_from_is_err_and, Descr, item_from, offsets, taken, operand_part, Meets, IsPart}
+use Rattle.std.proofs.Common.{◌∙◌, refl, sym, ap, subst, map, inl, Ok}
+use Rattle.bench_engine.proofs.Words.{err_from_is_err_and, Descr, item_from, offsets, taken, operand_part, Meets, IsPart}
 use Rattle.bench_engine.specs.declared.operate.Part.TheVariants as part
 use Rattle.bench_engine.proofs.Computes.{part-whole, part-bad, part-done}
 use Rattle.bench_engine.proofs.Makes.{in-order, passed}

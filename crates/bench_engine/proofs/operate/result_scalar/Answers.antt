@@ -1,4 +1,5 @@
-use Rattle.bench_engine.proofs.Words.{refl, err_from_is_err_and, operation_scalar}
+use Rattle.std.proofs.Common.{refl}
+use Rattle.bench_engine.proofs.Words.{err_from_is_err_and, operation_scalar}
 use Rattle.bench_engine.proofs.operate.result_scalar.Goals as goal
 
 pub returns-in_err-from : goal.returns-in_err-from

@@ -1,4 +1,5 @@
-use Rattle.bench_engine.proofs.Words.{◌≡◌, ◌*◌, ◌∷◌, [], length, ap, sym, ◌∙◌, inl, inr, arith, err_from_is_err_and, ScalarDescr, item_size, count, multiples, shape_of-same}
+use Rattle.std.proofs.Common.{◌≡◌, ◌*◌, ◌∷◌, [], length, ap, sym, ◌∙◌, inl, inr, arith}
+use Rattle.bench_engine.proofs.Words.{err_from_is_err_and, ScalarDescr, item_size, count, multiples, shape_of-same}
 use Rattle.bench_engine.proofs.LegalLaws.{no-refusal}
 use Rattle.bench_engine.proofs.operate.single.Goals as goal
 

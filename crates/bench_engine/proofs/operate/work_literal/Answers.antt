@@ -1,4 +1,5 @@
-use Rattle.bench_engine.proofs.Words.{sym, ap, ◌∙◌, subst, Gives, Binary, operand_of_literal, operation_with, held, OwnStands}
+use Rattle.std.proofs.Common.{sym, ap, ◌∙◌, subst}
+use Rattle.bench_engine.proofs.Words.{Gives, Binary, operand_of_literal, operation_with, held, OwnStands}
 use Rattle.bench_engine.proofs.OperandLaws.{own-stands}
 use Rattle.bench_engine.proofs.WorkLaws.{binary-gives}
 use Rattle.bench_engine.proofs.Answered.{met}

@@ -1,4 +1,5 @@
-use Rattle.bench_engine.proofs.Words.{inr, err_from_is_err_and}
+use Rattle.std.proofs.Common.{inr}
+use Rattle.bench_engine.proofs.Words.{err_from_is_err_and}
 use Rattle.bench_engine.proofs.LiteralLaws.{literal-record, literal-other, literal-type, single-gives}
 use Rattle.bench_engine.proofs.operate.worked_literal.Goals as goal
 

@@ -1,4 +1,5 @@
-use Rattle.bench_engine.proofs.Words.{◌≡◌, [], true, Err, ap, sym, refl, subst, inl, inr, arith, common_steps, UnknownName, OutOfMemory, Sends, SendsPart, appends_nothing, offsets, array_text, items_from, refusal_text, found, refusal}
+use Rattle.std.proofs.Common.{◌≡◌, [], true, Err, ap, sym, refl, subst, inl, inr, arith}
+use Rattle.bench_engine.proofs.Words.{common_steps, UnknownName, OutOfMemory, Sends, SendsPart, appends_nothing, offsets, array_text, items_from, refusal_text, found, refusal}
 use Rattle.bench_engine.proofs.Looks.{bound, not_found, print-unknown, print-found, may-print, may-refuse}
 use Rattle.bench_engine.proofs.printing.print.Goals as goal
 

@@ -1,4 +1,5 @@
-use Rattle.bench_engine.proofs.Words.{arith, refl, ◌∙◌, err_from_is_err_and}
+use Rattle.std.proofs.Common.{arith, refl, ◌∙◌}
+use Rattle.bench_engine.proofs.Words.{err_from_is_err_and}
 use Rattle.bench_engine.proofs.Whole.{answers-script, ended-by, reading-new, whole-lines}
 use Rattle.bench_engine.proofs.runner.run_within.Goals as goal
 

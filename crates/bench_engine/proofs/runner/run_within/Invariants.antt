@@ -1,4 +1,5 @@
-use Rattle.bench_engine.proofs.Words.{◌≡◌, ◌≤◌, ◌+◌, ◌*◌, vec_len, outside, Reading}
+use Rattle.std.proofs.Common.{◌≡◌, ◌≤◌, ◌+◌, ◌*◌, vec_len}
+use Rattle.bench_engine.proofs.Words.{outside, Reading}
 use Rattle.bench_engine.proofs.runner.run_within.Given as goal
 
 -- the session was fed what was read so far

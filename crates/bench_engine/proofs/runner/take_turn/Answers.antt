@@ -1,4 +1,5 @@
-use Rattle.bench_engine.proofs.Words.{◌≡◌, ◌++◌, take, inl, inr, map, refl, err_from_is_err_and, Read, trimmed}
+use Rattle.std.proofs.Common.{◌≡◌, ◌++◌, take, inl, inr, map, refl}
+use Rattle.bench_engine.proofs.Words.{err_from_is_err_and, Read, trimmed}
 use Rattle.bench_engine.proofs.Lines.{lines-end, whole_lines-on}
 use Rattle.bench_engine.proofs.Feeding.{told-on, fed-on, cut-on}
 use Rattle.bench_engine.proofs.Whole.{first-lines}

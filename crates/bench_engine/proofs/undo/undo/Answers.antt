@@ -1,4 +1,5 @@
-use Rattle.bench_engine.proofs.Words.{◌≡◌, Err, inr, ap, sym, arith, codes, common_steps, err_from_is_err_and, undo_outcome, accepted_with}
+use Rattle.std.proofs.Common.{◌≡◌, Err, inr, ap, sym, arith, codes}
+use Rattle.bench_engine.proofs.Words.{common_steps, err_from_is_err_and, undo_outcome, accepted_with}
 use Rattle.bench_engine.proofs.Steps.{spare}
 use Rattle.bench_engine.proofs.undo.undo.Goals as goal
 

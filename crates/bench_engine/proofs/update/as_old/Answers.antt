@@ -1,4 +1,5 @@
-use Rattle.bench_engine.proofs.Words.{refl, sym, ◌∙◌, map-map, item_from, cast_item, length-offsets, offsets}
+use Rattle.std.proofs.Common.{refl, sym, ◌∙◌}
+use Rattle.bench_engine.proofs.Words.{map-map, item_from, cast_item, length-offsets, offsets}
 use Rattle.bench_engine.proofs.Assigns.{kept-items}
 use Rattle.bench_engine.proofs.OperandLaws.{own-inside}
 use Rattle.bench_engine.proofs.Updates.{cast-changed}

@@ -1,4 +1,5 @@
-use Rattle.bench_engine.proofs.Words.{subst, operand_values, IsGiven, Given}
+use Rattle.std.proofs.Common.{subst}
+use Rattle.bench_engine.proofs.Words.{operand_values, IsGiven, Given}
 use Rattle.bench_engine.proofs.OperandLaws.{all-stand}
 use Rattle.bench_engine.proofs.update.changed.Goals as goal
 

@@ -1,4 +1,5 @@
-use Rattle.bench_engine.proofs.Words.{refl, IsPermutation-refl, offsets, pair_even, firsts-reordered}
+use Rattle.std.proofs.Common.{refl}
+use Rattle.bench_engine.proofs.Words.{IsPermutation-refl, offsets, pair_even, firsts-reordered}
 use Rattle.bench_engine.proofs.update.near.Goals as goal
 
 pub returns-in-Some : goal.returns-in-Some

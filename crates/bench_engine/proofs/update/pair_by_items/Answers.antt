@@ -1,4 +1,5 @@
-use Rattle.bench_engine.proofs.Words.{◌≤◌, ◌+◌, ◌*◌, ℕ, length, refl, sym, subst, ◌∙◌, Ok, Err, err_from_is_err_and, All-permutation, length_permutation, item_size, count, length-offsets, offsets, max_bytes, IsShape}
+use Rattle.std.proofs.Common.{◌≤◌, ◌+◌, ◌*◌, ℕ, length, refl, sym, subst, ◌∙◌, Ok, Err}
+use Rattle.bench_engine.proofs.Words.{err_from_is_err_and, All-permutation, length_permutation, item_size, count, length-offsets, offsets, max_bytes, IsShape}
 use Rattle.bench_engine.proofs.Moved.{items-gives, together-inside, together-moved}
 use Rattle.bench_engine.proofs.Written.{view-inside}
 use Rattle.bench_engine.proofs.update.pair_by_items.Goals as goal

@@ -1,4 +1,5 @@
-use Rattle.bench_engine.proofs.Words.{subst, ◌∙◌, Ok, Err, err_from_is_err_and, Target, Plan, Descr, count, Given, IsGiven, HoldsItems, operand_values, updated, IsTarget, IsTargetOf, Meets}
+use Rattle.std.proofs.Common.{subst, ◌∙◌, Ok, Err}
+use Rattle.bench_engine.proofs.Words.{err_from_is_err_and, Target, Plan, Descr, count, Given, IsGiven, HoldsItems, operand_values, updated, IsTarget, IsTargetOf, Meets}
 use Rattle.bench_engine.proofs.Moved.{unmoved-gives}
 use Rattle.bench_engine.proofs.OperandLaws.{all-stand}
 use Rattle.bench_engine.proofs.Written.{plan-inside, old-plan}

@@ -1,4 +1,5 @@
-use Rattle.bench_engine.proofs.Words.{◌≤◌, ◌*◌, ℕ, sym, subst, ◌∙◌, Ok, Err, err_from_is_err_and, Descr, item_size, count, length-offsets, max_bytes, operand_values, updated_items, Meets, HoldsItems}
+use Rattle.std.proofs.Common.{◌≤◌, ◌*◌, ℕ, sym, subst, ◌∙◌, Ok, Err}
+use Rattle.bench_engine.proofs.Words.{err_from_is_err_and, Descr, item_size, count, length-offsets, max_bytes, operand_values, updated_items, Meets, HoldsItems}
 use Rattle.name_store.specs.declared.write.Target.TheVariants.{View}
 use Rattle.bench_engine.proofs.Moved.{unmoved-gives}
 use Rattle.bench_engine.proofs.OperandLaws.{all-stand}

@@ -1,4 +1,5 @@
-use Rattle.bench_engine.proofs.Words.{subst, List, ℕ, Ok, false, false≢true, GivesView, stretched}
+use Rattle.std.proofs.Common.{subst, List, ℕ, Ok, false}
+use Rattle.bench_engine.proofs.Words.{false≢true, GivesView, stretched}
 use Rattle.bench_engine.proofs.Views.{viewed-part}
 use Rattle.bench_engine.proofs.view.broadcast.Goals as goal
 

@@ -1,4 +1,5 @@
-use Rattle.bench_engine.proofs.Words.{refl, err_from_is_err_and}
+use Rattle.std.proofs.Common.{refl}
+use Rattle.bench_engine.proofs.Words.{err_from_is_err_and}
 use Rattle.bench_engine.proofs.Reshapes.{items-duplicated, duplicate-refused}
 use Rattle.bench_engine.proofs.view.duplicate.Goals as goal
 

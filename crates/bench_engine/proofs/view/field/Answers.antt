@@ -1,4 +1,5 @@
-use Rattle.bench_engine.proofs.Words.{refl, sym, ap, ◌∙◌, field_of}
+use Rattle.std.proofs.Common.{refl, sym, ap, ◌∙◌}
+use Rattle.bench_engine.proofs.Words.{field_of}
 use Rattle.elem_descr.specs.declared.descr.Field.{Field}
 use Rattle.bench_engine.proofs.Parts.{field-part}
 use Rattle.bench_engine.proofs.view.field.Goals as goal

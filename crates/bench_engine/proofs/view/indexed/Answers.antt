@@ -1,4 +1,5 @@
-use Rattle.bench_engine.proofs.Words.{◌∙◌, sym, ap, map, inl, err_from_is_err_and, Descr, item_from, offsets}
+use Rattle.std.proofs.Common.{◌∙◌, sym, ap, map, inl}
+use Rattle.bench_engine.proofs.Words.{err_from_is_err_and, Descr, item_from, offsets}
 use Rattle.bench_engine.proofs.Makes.{in-order}
 use Rattle.bench_engine.proofs.PartLaws.{copy-seen, view-seen}
 use Rattle.bench_engine.proofs.TargetLaws.{aimed, copy-lacks, plan-within, takes-copy}

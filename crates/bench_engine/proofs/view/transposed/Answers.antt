@@ -1,4 +1,5 @@
-use Rattle.bench_engine.proofs.Words.{subst, ap, ◌∙◌, List, ℕ, Ok, option_copied, GivesView, transposed}
+use Rattle.std.proofs.Common.{subst, ap, ◌∙◌, List, ℕ, Ok, option_copied}
+use Rattle.bench_engine.proofs.Words.{GivesView, transposed}
 use Rattle.name_store.specs.declared.bound.Bound.TheVariants.{View}
 use Rattle.bench_engine.proofs.Views.{viewed-part}
 use Rattle.bench_engine.proofs.view.transposed.Goals as goal

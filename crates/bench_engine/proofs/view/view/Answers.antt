@@ -1,4 +1,5 @@
-use Rattle.bench_engine.proofs.Words.{◌≡◌, ℕ, true, List, Some, Ok, refl, sym, inr, list_all, Viewing, State, find_array, is_bound, has_room_for, Array, err_from_is_err_and, Choice, ViewOrCopy, seen, names_in_viewing, view_outcome, bound_seen, found, IsSeen}
+use Rattle.std.proofs.Common.{◌≡◌, ℕ, true, List, Some, Ok, refl, sym, inr}
+use Rattle.bench_engine.proofs.Words.{list_all, Viewing, State, find_array, is_bound, has_room_for, Array, err_from_is_err_and, Choice, ViewOrCopy, seen, names_in_viewing, view_outcome, bound_seen, found, IsSeen}
 use Rattle.bench_engine.proofs.Looks.{not_found, bound}
 use Rattle.bench_engine.proofs.Views.{refused-or, may-bind-seen, seen-answers}
 use Rattle.bench_engine.proofs.Answered.{met}

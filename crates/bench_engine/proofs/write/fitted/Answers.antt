@@ -1,4 +1,5 @@
-use Rattle.bench_engine.proofs.Words.{sym, ap, ◌∙◌, refl, inl, inr, map, err_from_is_err_and, offsets, Descr, item_from, item_size}
+use Rattle.std.proofs.Common.{sym, ap, ◌∙◌, refl, inl, inr, map}
+use Rattle.bench_engine.proofs.Words.{err_from_is_err_and, offsets, Descr, item_from, item_size}
 use Rattle.bench_engine.proofs.Assigns.{kept-items}
 use Rattle.bench_engine.proofs.GivenLaws.{stretches, wide-shape, wide-inside, cast-lacks}
 use Rattle.bench_engine.proofs.write.fitted.Goals as goal

@@ -1,4 +1,5 @@
-use Rattle.bench_engine.proofs.Words.{◌≡◌, ap, sym, refl, ◌∙◌, inl, arith, subst, ℕ, err_from_is_err_and, Supplies, descr_of, written, accepted_with, write_reply}
+use Rattle.std.proofs.Common.{◌≡◌, ap, sym, refl, ◌∙◌, inl, arith, subst, ℕ}
+use Rattle.bench_engine.proofs.Words.{err_from_is_err_and, Supplies, descr_of, written, accepted_with, write_reply}
 use Rattle.bench_engine.proofs.Steps.{spare}
 use Rattle.bench_engine.proofs.write.set.Goals as goal
 

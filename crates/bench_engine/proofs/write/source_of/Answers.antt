@@ -1,4 +1,5 @@
-use Rattle.bench_engine.proofs.Words.{subst, IsGiven, Given}
+use Rattle.std.proofs.Common.{subst}
+use Rattle.bench_engine.proofs.Words.{IsGiven, Given}
 use Rattle.bench_engine.proofs.GivenLaws.{part-given}
 use Rattle.bench_engine.proofs.write.source_of.Goals as goal
 

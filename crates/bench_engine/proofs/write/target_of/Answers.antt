@@ -1,4 +1,5 @@
-use Rattle.bench_engine.proofs.Words.{inr, arith, err_from_is_err_and}
+use Rattle.std.proofs.Common.{inr, arith}
+use Rattle.bench_engine.proofs.Words.{err_from_is_err_and}
 use Rattle.bench_engine.proofs.TargetLaws.{refused-target, fixed-target, given-target}
 use Rattle.bench_engine.proofs.write.target_of.Goals as goal
 

@@ -1,4 +1,5 @@
-use Rattle.bench_engine.proofs.Words.{◌≡◌, ◌≤◌, ◌⊎◌, ◌&&◌, ◌++◌, ap, sym, subst, refl, ◌∙◌, inl, inr, arith, List, ℕ, true, Option, Some, None, Result, Ok, Err, list_all, list_all-append, err_from_is_err_and, Argument, Descr, IndexItem, Operation, OutOfMemory, Refusal, Shows, State, UnknownName, LeafValue, count, descr_of, find_array, is_bound, max_items, written, found, Array, names_in_index, accepted_with, names_in_argument, new_items, target_part, write_outcome, write_reply, Writing, IsTarget, Meets, GivesGiven, Leaves, Prepares}
+use Rattle.std.proofs.Common.{◌≡◌, ◌≤◌, ◌⊎◌, ◌&&◌, ◌++◌, ap, sym, subst, refl, ◌∙◌, inl, inr, arith, List, ℕ, true, Option, Some, None, Result, Ok, Err}
+use Rattle.bench_engine.proofs.Words.{list_all, list_all-append, err_from_is_err_and, Argument, Descr, IndexItem, Operation, OutOfMemory, Refusal, Shows, State, UnknownName, LeafValue, count, descr_of, find_array, is_bound, max_items, written, found, Array, names_in_index, accepted_with, names_in_argument, new_items, target_part, write_outcome, write_reply, Writing, IsTarget, Meets, GivesGiven, Leaves, Prepares}
 use Rattle.bench_engine.proofs.Answered.{met}
 use Rattle.bench_engine.proofs.Looks.{not_found}
 use Rattle.bench_engine.proofs.Views.{refused-or}

@@ -1,4 +1,5 @@
-use Rattle.broadcasting.proofs.Words.{◌≡◌, ◌++◌, drop, aligned, all_go_together, common_lengths}
+use Rattle.std.proofs.Common.{◌≡◌, ◌++◌, drop}
+use Rattle.broadcasting.proofs.Words.{aligned, all_go_together, common_lengths}
 use Rattle.broadcasting.proofs.common_shape.common_of_two.Given as goal
 
 abbrev pub invariant-loop-axis : goal.invariant-loop-axis

@@ -1,4 +1,5 @@
-use Rattle.broadcasting.proofs.Words.{◌≡◌, ◌<◌, ℕ, pos, length, get_or, ShrinksTo}
+use Rattle.std.proofs.Common.{◌≡◌, ◌<◌, ℕ, pos, length, get_or}
+use Rattle.broadcasting.proofs.Words.{ShrinksTo}
 use Rattle.broadcasting.proofs.shrinking.shrunk_lengths.Given as goal
 
 abbrev pub invariant-loop-axis : goal.invariant-loop-axis

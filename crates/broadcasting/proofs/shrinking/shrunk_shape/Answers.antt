@@ -1,4 +1,5 @@
-use Rattle.broadcasting.proofs.Words.{sym, subst, IsShape}
+use Rattle.std.proofs.Common.{sym, subst}
+use Rattle.broadcasting.proofs.Words.{IsShape}
 use Rattle.broadcasting.proofs.ShrinkLaws.{moved, IsShape-shrunk}
 use Rattle.broadcasting.proofs.shrinking.shrunk_shape.Goals as goal
 

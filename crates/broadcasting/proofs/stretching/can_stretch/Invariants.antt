@@ -1,4 +1,5 @@
-use Rattle.broadcasting.proofs.Words.{◌≡◌, drop, aligned, all_stretch}
+use Rattle.std.proofs.Common.{◌≡◌, drop}
+use Rattle.broadcasting.proofs.Words.{aligned, all_stretch}
 use Rattle.broadcasting.proofs.stretching.can_stretch.Given as goal
 
 abbrev pub invariant-loop-axis : goal.invariant-loop-axis

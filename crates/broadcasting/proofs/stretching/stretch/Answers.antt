@@ -1,4 +1,5 @@
-use Rattle.broadcasting.proofs.Words.{inr, sym, ◌∙◌, can_stretch, stretched-ok}
+use Rattle.std.proofs.Common.{inr, sym, ◌∙◌}
+use Rattle.broadcasting.proofs.Words.{can_stretch, stretched-ok}
 use Rattle.broadcasting.proofs.StretchLaws.{stretched-err}
 use Rattle.broadcasting.proofs.stretching.stretch.Goals as goal
 

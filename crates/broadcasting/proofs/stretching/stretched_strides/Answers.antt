@@ -1,4 +1,5 @@
-use Rattle.broadcasting.proofs.Words.{ap, length, arith, few-axes}
+use Rattle.std.proofs.Common.{ap, length, arith}
+use Rattle.broadcasting.proofs.Words.{few-axes}
 use Rattle.broadcasting.proofs.stretching.stretched_strides.Goals as goal
 
 pub overflow_sub-more : goal.overflow_sub-more

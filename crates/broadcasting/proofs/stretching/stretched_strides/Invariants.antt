@@ -1,4 +1,5 @@
-use Rattle.broadcasting.proofs.Words.{◌≡◌, ◌++◌, pos, drop, replicate, kept_strides}
+use Rattle.std.proofs.Common.{◌≡◌, ◌++◌, pos, drop, replicate}
+use Rattle.broadcasting.proofs.Words.{kept_strides}
 use Rattle.broadcasting.proofs.stretching.stretched_strides.Given as goal
 
 abbrev pub invariant-loop-axis : goal.invariant-loop-axis

@@ -1,4 +1,5 @@
-use Rattle.broadcasting.proofs.Words.{ap, subst, sym, drop, ◌∙◌, IsShape, slice-rest}
+use Rattle.std.proofs.Common.{ap, subst, sym, drop, ◌∙◌}
+use Rattle.broadcasting.proofs.Words.{IsShape, slice-rest}
 use Rattle.broadcasting.proofs.StretchLaws.{made_numbers, numbers-view}
 use Rattle.broadcasting.proofs.FewerLaws.{IsShape-rest, rest-made, rest-moved, rest-length, rest-lies}
 use Rattle.broadcasting.proofs.stretching.without_first.Goals as goal

@@ -1,4 +1,5 @@
-use Rattle.disk.proofs.Words.{◌≡◌, length, is_synced}
+use Rattle.std.proofs.Common.{◌≡◌, length}
+use Rattle.disk.proofs.Words.{is_synced}
 use Rattle.disk.proofs.cached.are_bytes_synced.Given as goal
 
 abbrev pub invariant-loop-rest : goal.invariant-loop-rest

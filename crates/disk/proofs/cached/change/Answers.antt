@@ -1,4 +1,5 @@
-use Rattle.disk.proofs.Words.{◌∷◌, ◌∙◌, ℕ, List, refl, sym, ap, subst, get, Event, Changed, SameBut, Leaves, bytes_of_change, bound, bound_here, bound_else, found, cached_history}
+use Rattle.std.proofs.Common.{◌∷◌, ◌∙◌, ℕ, List, refl, sym, ap, subst}
+use Rattle.disk.proofs.Words.{get, Event, Changed, SameBut, Leaves, bytes_of_change, bound, bound_here, bound_else, found, cached_history}
 use Rattle.disk.proofs.Events.{still_but, changes}
 use Rattle.disk.proofs.cached.change.Goals as goal
 

@@ -1,4 +1,5 @@
-use Rattle.disk.proofs.Words.{◌≡◌, length, get, found}
+use Rattle.std.proofs.Common.{◌≡◌, length}
+use Rattle.disk.proofs.Words.{get, found}
 use Rattle.disk.proofs.cached.latest.Given as goal
 
 abbrev pub invariant-loop-rest : goal.invariant-loop-rest

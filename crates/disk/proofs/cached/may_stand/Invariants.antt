@@ -1,4 +1,5 @@
-use Rattle.disk.proofs.Words.{◌↔◌, length, bytes_of_change, MayStand}
+use Rattle.std.proofs.Common.{◌↔◌, length}
+use Rattle.disk.proofs.Words.{bytes_of_change, MayStand}
 use Rattle.disk.proofs.cached.may_stand.Given as goal
 
 abbrev pub invariant-loop-rest : goal.invariant-loop-rest

@@ -1,4 +1,5 @@
-use Rattle.disk.proofs.Words.{◌∷◌, ◌∙◌, true, List, Some, None, refl, sym, ap, Event, Changed}
+use Rattle.std.proofs.Common.{◌∷◌, ◌∙◌, true, List, Some, None, refl, sym, ap}
+use Rattle.disk.proofs.Words.{Event, Changed}
 use Rattle.disk.proofs.Events.{still_both, still_in_place, shifted, shifts_files, shifts_both, shifts_whole, is_synced_there}
 use Rattle.disk.proofs.cached.shift.Goals as goal
 

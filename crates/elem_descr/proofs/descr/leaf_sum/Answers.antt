@@ -1,4 +1,5 @@
-use Rattle.elem_descr.proofs.Words.{ap, arith, leaves_in, rest_at}
+use Rattle.std.proofs.Common.{ap, arith}
+use Rattle.elem_descr.proofs.Words.{leaves_in, rest_at}
 use Rattle.elem_descr.proofs.descr.leaf_sum.Goals as goal
 
 pub overflow_add-sum : goal.overflow_add-sum

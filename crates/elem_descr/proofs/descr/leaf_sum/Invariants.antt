@@ -1,4 +1,5 @@
-use Rattle.elem_descr.proofs.Words.{◌≡◌, ◌+◌, drop, leaves_in}
+use Rattle.std.proofs.Common.{◌≡◌, ◌+◌, drop}
+use Rattle.elem_descr.proofs.Words.{leaves_in}
 use Rattle.elem_descr.proofs.descr.leaf_sum.Given as goal
 
 -- the sum counts the leaves of the fields so far

@@ -1,4 +1,5 @@
-use Rattle.elem_descr.proofs.Words.{ap, ◌∙◌, List, append_assoc, arith, rules, Field, listed, leaves_from, rest_at, field_within}
+use Rattle.std.proofs.Common.{ap, ◌∙◌, List, append_assoc, arith, rules}
+use Rattle.elem_descr.proofs.Words.{Field, listed, leaves_from, rest_at, field_within}
 use Rattle.elem_descr.proofs.FieldLaws.{leaves_before}
 use Rattle.elem_descr.proofs.descr.leaves_in.Goals as goal
 

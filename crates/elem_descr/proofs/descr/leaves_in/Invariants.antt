@@ -1,4 +1,5 @@
-use Rattle.elem_descr.proofs.Words.{◌≡◌, ◌++◌, drop, listed, leaves_from}
+use Rattle.std.proofs.Common.{◌≡◌, ◌++◌, drop}
+use Rattle.elem_descr.proofs.Words.{listed, leaves_from}
 use Rattle.elem_descr.proofs.descr.leaves_in.Given as goal
 
 -- the leaves of the fields so far are appended

@@ -1,4 +1,5 @@
-use Rattle.elem_descr.proofs.Words.{arith, leaf_within}
+use Rattle.std.proofs.Common.{arith}
+use Rattle.elem_descr.proofs.Words.{leaf_within}
 use Rattle.elem_descr.proofs.descr.push_moved.Goals as goal
 
 pub overflow_add-by : goal.overflow_add-by

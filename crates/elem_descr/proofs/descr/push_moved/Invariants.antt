@@ -1,4 +1,5 @@
-use Rattle.elem_descr.proofs.Words.{◌≡◌, ◌++◌, map, take, moved_leaf}
+use Rattle.std.proofs.Common.{◌≡◌, ◌++◌, map, take}
+use Rattle.elem_descr.proofs.Words.{moved_leaf}
 use Rattle.elem_descr.proofs.descr.push_moved.Given as goal
 
 -- the leaves so far are appended

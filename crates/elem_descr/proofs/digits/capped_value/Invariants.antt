@@ -1,4 +1,5 @@
-use Rattle.elem_descr.proofs.Words.{◌≡◌, ◌+◌, min, take, value_of}
+use Rattle.std.proofs.Common.{◌≡◌, ◌+◌, min, take}
+use Rattle.elem_descr.proofs.Words.{value_of}
 use Rattle.elem_descr.proofs.digits.capped_value.Given as goal
 
 -- the digits so far are read

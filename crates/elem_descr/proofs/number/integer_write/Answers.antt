@@ -1,4 +1,5 @@
-use Rattle.elem_descr.proofs.Words.{FitsSigned, w128, to_z-of_z, little_bytes, big_bytes, written_whole}
+use Rattle.std.proofs.Common.{FitsSigned}
+use Rattle.elem_descr.proofs.Words.{w128, to_z-of_z, little_bytes, big_bytes, written_whole}
 use Rattle.elem_descr.proofs.number.integer_write.Goals as goal
 
 pub returns-in-Little : goal.returns-in-Little

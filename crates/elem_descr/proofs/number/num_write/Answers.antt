@@ -1,4 +1,5 @@
-use Rattle.elem_descr.proofs.Words.{ap, ◌∙◌, FitsSigned, w128, to_z-of_z, decode, decode_encode, wrap_fits, wraps_to, wrap_stays}
+use Rattle.std.proofs.Common.{ap, ◌∙◌, FitsSigned}
+use Rattle.elem_descr.proofs.Words.{w128, to_z-of_z, decode, decode_encode, wrap_fits, wraps_to, wrap_stays}
 use Rattle.elem_descr.proofs.number.num_write.Goals as goal
 
 pub returns-clause-reads_back : goal.returns-clause-reads_back

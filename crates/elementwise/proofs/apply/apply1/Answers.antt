@@ -1,4 +1,5 @@
-use Rattle.elementwise.proofs.Words.{inr, Ok, map, sym, ◌∙◌, err_from_is_err_and, ScalarDescr, item_from, number_size, offsets, can-itself, little, unary_item, is_scalar}
+use Rattle.std.proofs.Common.{inr, Ok, map, sym, ◌∙◌}
+use Rattle.elementwise.proofs.Words.{err_from_is_err_and, ScalarDescr, item_from, number_size, offsets, can-itself, little, unary_item, is_scalar}
 use Rattle.elementwise.proofs.WorkLaws.{number_small}
 use Rattle.elementwise.proofs.MadeLaws.{made-gives, made-order, made-items, made-encoded}
 use Rattle.elementwise.proofs.PromotedLaws.{promoted_one, native-little, number-read, can-number, operand_refused, kind_refused, one_given}

@@ -1,4 +1,5 @@
-use Rattle.elementwise.proofs.Words.{inl, inr, Ok, sym, ◌∙◌, err_from_is_err_and, ScalarDescr, number_size, little, pairwise, binary_item, stretched_items, is_scalar}
+use Rattle.std.proofs.Common.{inl, inr, Ok, sym, ◌∙◌}
+use Rattle.elementwise.proofs.Words.{err_from_is_err_and, ScalarDescr, number_size, little, pairwise, binary_item, stretched_items, is_scalar}
 use Rattle.elementwise.proofs.WorkLaws.{number_small}
 use Rattle.elementwise.proofs.MadeLaws.{made-gives, made-order, made-items, made-encoded}
 use Rattle.elementwise.proofs.PromotedLaws.{promoted, native-little, number-read, can-number, left_refused, right_refused, promotion_refused, shapes_refused, all_given}

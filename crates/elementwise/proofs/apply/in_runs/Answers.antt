@@ -1,4 +1,5 @@
-use Rattle.elementwise.proofs.Words.{◌≡◌, rules, ap, arith, count, max_bytes}
+use Rattle.std.proofs.Common.{◌≡◌, rules, ap, arith}
+use Rattle.elementwise.proofs.Words.{count, max_bytes}
 use Rattle.elementwise.proofs.ChunkLaws.{count-run}
 use Rattle.elementwise.proofs.apply.in_runs.Goals as goal
 

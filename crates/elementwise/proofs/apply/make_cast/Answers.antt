@@ -1,4 +1,5 @@
-use Rattle.elementwise.proofs.Words.{◌≡◌, ◌*◌, ◌≤◌, ℕ, true, List, [], ◌∷◌, map, refl, ap, ◌∙◌, arith, mul-le-mul_left, ScalarDescr, Descr, Items, LeafValue, count, size, item_from, items, offsets, can_stretch, cast_item, pairwise, value_in, stretched, left_of, right_of, target_of, gives}
+use Rattle.std.proofs.Common.{◌≡◌, ◌*◌, ◌≤◌, ℕ, true, List, [], ◌∷◌, map, refl, ap, ◌∙◌, arith}
+use Rattle.elementwise.proofs.Words.{mul-le-mul_left, ScalarDescr, Descr, Items, LeafValue, count, size, item_from, items, offsets, can_stretch, cast_item, pairwise, value_in, stretched, left_of, right_of, target_of, gives}
 use Rattle.elementwise.proofs.MadeLaws.{made-in}
 use Rattle.elementwise.proofs.PairLaws.{pairwise-map}
 use Rattle.elementwise.proofs.StretchedLaws.{stretches-itself}

@@ -1,4 +1,5 @@
-use Rattle.elementwise.proofs.Words.{sym, ◌∙◌, map-map, item_from, offsets, cast_item}
+use Rattle.std.proofs.Common.{sym, ◌∙◌}
+use Rattle.elementwise.proofs.Words.{map-map, item_from, offsets, cast_item}
 use Rattle.elementwise.proofs.TypedLaws.{kept}
 use Rattle.elementwise.proofs.apply.stays.Goals as goal
 

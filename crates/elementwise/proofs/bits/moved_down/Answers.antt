@@ -1,4 +1,5 @@
-use Rattle.elementwise.proofs.Words.{◌≡◌, ◌%◌, rules, ◌^◌, ap, ◌∙◌, pos, integer, low_bits, floor_quotient}
+use Rattle.std.proofs.Common.{◌≡◌, ◌%◌, rules, ◌^◌, ap, ◌∙◌, pos}
+use Rattle.elementwise.proofs.Words.{integer, low_bits, floor_quotient}
 use Rattle.elementwise.proofs.BitLaws.{moved_down_is}
 use Rattle.elementwise.proofs.bits.moved_down.Goals.{then-signed, else-signed}
 use Rattle.elementwise.proofs.bits.moved_down.Goals as goal

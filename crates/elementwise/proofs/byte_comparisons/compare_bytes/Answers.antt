@@ -1,4 +1,5 @@
-use Rattle.elementwise.proofs.Words.{[], ◌∷◌, map, inr, ap, ◌∙◌, err_from_is_err_and, ScalarDescr, BoolScalar, offsets, is_text, text, without_nuls, item_from, compared_item, is_scalar}
+use Rattle.std.proofs.Common.{[], ◌∷◌, map, inr, ap, ◌∙◌}
+use Rattle.elementwise.proofs.Words.{err_from_is_err_and, ScalarDescr, BoolScalar, offsets, is_text, text, without_nuls, item_from, compared_item, is_scalar}
 use Rattle.elementwise.proofs.MadeLaws.{made-gives, made-order, made-items, made-encoded}
 use Rattle.elementwise.proofs.BytesComparedLaws.{operand_refused, number_refused, one_given}
 use Rattle.elementwise.proofs.byte_comparisons.compare_bytes.Goals as goal

@@ -1,4 +1,5 @@
-use Rattle.elementwise.proofs.Words.{[], ◌∷◌, ◌∙◌, length, ScalarDescr, BoolScalar, item_size, text, can_stretch, can-itself, compared_item}
+use Rattle.std.proofs.Common.{[], ◌∷◌, ◌∙◌, length}
+use Rattle.elementwise.proofs.Words.{ScalarDescr, BoolScalar, item_size, text, can_stretch, can-itself, compared_item}
 use Rattle.elementwise.proofs.MadeLaws.{made-as}
 use Rattle.elementwise.proofs.ShrunkLaws.{each_spread}
 use Rattle.elementwise.proofs.byte_comparisons.compare_once.Goals as goal

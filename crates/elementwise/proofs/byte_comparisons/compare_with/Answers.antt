@@ -1,4 +1,5 @@
-use Rattle.elementwise.proofs.Words.{[], ◌∷◌, map, ◌∙◌, arith, map-map, ScalarDescr, BoolScalar, text, item_from, offsets, compared_item}
+use Rattle.std.proofs.Common.{[], ◌∷◌, map, ◌∙◌, arith}
+use Rattle.elementwise.proofs.Words.{map-map, ScalarDescr, BoolScalar, text, item_from, offsets, compared_item}
 use Rattle.elementwise.proofs.AppliedLaws.{pairwise-same}
 use Rattle.elementwise.proofs.MadeLaws.{made-as}
 use Rattle.elementwise.proofs.byte_comparisons.compare_with.Goals as goal

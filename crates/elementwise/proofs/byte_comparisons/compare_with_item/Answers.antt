@@ -1,4 +1,5 @@
-use Rattle.elementwise.proofs.Words.{refl, subst, IfOk, ScalarDescr, Bytes, text, AreComparedWith}
+use Rattle.std.proofs.Common.{refl, subst, IfOk}
+use Rattle.elementwise.proofs.Words.{ScalarDescr, Bytes, text, AreComparedWith}
 use Rattle.elementwise.proofs.ComparedLaws.{comparable_scalars}
 use Rattle.elementwise.proofs.byte_comparisons.compare_with_item.Goals as goal
 

@@ -1,4 +1,5 @@
-use Rattle.elementwise.proofs.Words.{◌-◌, ◌++◌, length, replicate, ap, ◌∙◌, without_nuls, without_nuls-more}
+use Rattle.std.proofs.Common.{◌-◌, ◌++◌, length, replicate, ap, ◌∙◌}
+use Rattle.elementwise.proofs.Words.{without_nuls, without_nuls-more}
 use Rattle.elementwise.proofs.byte_comparisons.filled_up.Goals as goal
 
 pub returns-clause-same : goal.returns-clause-same

@@ -1,4 +1,5 @@
-use Rattle.elementwise.proofs.Words.{◌-◌, length, take, drop, sym, ◌∙◌, rules, says}
+use Rattle.std.proofs.Common.{◌-◌, length, take, drop, sym, ◌∙◌, rules}
+use Rattle.elementwise.proofs.Words.{says}
 use Rattle.elementwise.proofs.ComparedLaws.{below-cmp, above-cmp}
 use Rattle.elementwise.proofs.TextWordLaws.{below-cut}
 use Rattle.elementwise.proofs.WordOrderLaws.{words-tell}

@@ -1,4 +1,5 @@
-use Rattle.elementwise.proofs.Words.{ℕ, ◌-◌, length, take, reverse, ap, ◌∙◌, rules, tests, nat_eq, YieldsList-from_rev_slice, count_from_yields_List, YieldsList-from_take_while, length-prefix_len}
+use Rattle.std.proofs.Common.{ℕ, ◌-◌, length, take, reverse, ap, ◌∙◌, rules, tests, nat_eq}
+use Rattle.elementwise.proofs.Words.{YieldsList-from_rev_slice, count_from_yields_List, YieldsList-from_take_while, length-prefix_len}
 use Rattle.elementwise.proofs.byte_string_pairs.without_nuls.Goals as goal
 
 pub returns : goal.returns

@@ -1,4 +1,5 @@
-use Rattle.elementwise.proofs.Words.{◌+◌, ◌≤◌, length, arith, All-cons, All-rest, All-same, without_nuls, item_at}
+use Rattle.std.proofs.Common.{◌+◌, ◌≤◌, length, arith}
+use Rattle.elementwise.proofs.Words.{All-cons, All-rest, All-same, without_nuls, item_at}
 use Rattle.elementwise.proofs.TrimmedLaws.{as_sliced, no_longer}
 use Rattle.elementwise.proofs.byte_strings.longest.Goals as goal
 

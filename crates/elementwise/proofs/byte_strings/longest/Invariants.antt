@@ -1,4 +1,5 @@
-use Rattle.elementwise.proofs.Words.{ℕ, ◌+◌, ◌≤◌, length, All, without_nuls, item_at, offsets}
+use Rattle.std.proofs.Common.{ℕ, ◌+◌, ◌≤◌, length, All}
+use Rattle.elementwise.proofs.Words.{without_nuls, item_at, offsets}
 use Rattle.elementwise.proofs.byte_strings.longest.Given as goal
 
 -- a length that is enough for the remaining items is enough for all items

@@ -1,4 +1,5 @@
-use Rattle.elementwise.proofs.Words.{◌*◌, ◌+◌, ◌-◌, ◌≡◌, take, drop, ap, sym, ◌∙◌, arith, rules, subst, ℕ, little_number}
+use Rattle.std.proofs.Common.{◌*◌, ◌+◌, ◌-◌, ◌≡◌, take, drop, ap, sym, ◌∙◌, arith, rules, subst, ℕ}
+use Rattle.elementwise.proofs.Words.{little_number}
 use Rattle.elementwise.proofs.TextWordLaws.{next-word}
 use Rattle.elementwise.proofs.byte_strings.shared_words.Goals as goal
 

@@ -1,4 +1,5 @@
-use Rattle.elementwise.proofs.Words.{◌≡◌, ◌+◌, ◌≤◌, ap, ℕ, List, length, All, subst, rules, arith, without_nuls, item_size, item_at, offsets, can-itself}
+use Rattle.std.proofs.Common.{◌≡◌, ◌+◌, ◌≤◌, ap, ℕ, List, length, All, subst, rules, arith}
+use Rattle.elementwise.proofs.Words.{without_nuls, item_size, item_at, offsets, can-itself}
 use Rattle.elementwise.proofs.ShrunkLaws.{all_seen}
 use Rattle.elementwise.proofs.TrimmedLaws.{cut_all}
 use Rattle.elementwise.proofs.byte_strings.trimmed.Goals as goal

@@ -1,4 +1,5 @@
-use Rattle.elementwise.proofs.Words.{◌-◌, arith, rules, without_nuls}
+use Rattle.std.proofs.Common.{◌-◌, arith, rules}
+use Rattle.elementwise.proofs.Words.{without_nuls}
 use Rattle.elementwise.proofs.TextWordLaws.{fewer-nuls}
 use Rattle.elementwise.proofs.byte_strings.without_nul_words.Goals as goal
 

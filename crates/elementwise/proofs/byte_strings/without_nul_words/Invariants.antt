@@ -1,4 +1,5 @@
-use Rattle.elementwise.proofs.Words.{◌≡◌, ◌≤◌, length, take, without_nuls}
+use Rattle.std.proofs.Common.{◌≡◌, ◌≤◌, length, take}
+use Rattle.elementwise.proofs.Words.{without_nuls}
 use Rattle.elementwise.proofs.byte_strings.without_nul_words.Given as goal
 
 abbrev pub invariant-loop-len : goal.invariant-loop-len

@@ -1,4 +1,5 @@
-use Rattle.elementwise.proofs.Words.{◌++◌, ap, ◌∙◌, made_of_all}
+use Rattle.std.proofs.Common.{◌++◌, ap, ◌∙◌}
+use Rattle.elementwise.proofs.Words.{made_of_all}
 use Rattle.elementwise.proofs.CastingLaws.{as_byte, as_int}
 use Rattle.elementwise.proofs.cast_kernels.cast.Goals as goal
 

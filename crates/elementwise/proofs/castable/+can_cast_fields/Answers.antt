@@ -1,4 +1,5 @@
-use Rattle.elementwise.proofs.Words.{◌≡◌, sym, ap, ◌∙◌, arith, total, weight, weight-one, seen_fields, Field, can_cast_field}
+use Rattle.std.proofs.Common.{◌≡◌, sym, ap, ◌∙◌, arith}
+use Rattle.elementwise.proofs.Words.{total, weight, weight-one, seen_fields, Field, can_cast_field}
 use Rattle.elementwise.proofs.FieldLaws.{IsTurn, turn_fails, turn_passes, none_left, records, uneven}
 use Rattle.elementwise.proofs.castable.+can_cast_fields.Goals as goal
 

@@ -1,4 +1,5 @@
-use Rattle.elementwise.proofs.Words.{◌≡◌, ◌+◌, ◌*◌, total, listed, weight, can_cast_fields}
+use Rattle.std.proofs.Common.{◌≡◌, ◌+◌, ◌*◌}
+use Rattle.elementwise.proofs.Words.{total, listed, weight, can_cast_fields}
 use Rattle.elementwise.proofs.FieldLaws.{left}
 use Rattle.elementwise.proofs.castable.+can_cast_fields.Given as goal
 

@@ -1,4 +1,5 @@
-use Rattle.elementwise.proofs.Words.{◌≡◌, ◌<◌, ℕ, leaf_at}
+use Rattle.std.proofs.Common.{◌≡◌, ◌<◌, ℕ}
+use Rattle.elementwise.proofs.Words.{leaf_at}
 use Rattle.elementwise.proofs.castable.are_alike.Given as goal
 
 -- the first leaves are the same

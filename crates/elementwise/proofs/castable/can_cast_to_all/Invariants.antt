@@ -1,4 +1,5 @@
-use Rattle.elementwise.proofs.Words.{◌≡◌, true, take, list_all, can_cast_scalar}
+use Rattle.std.proofs.Common.{◌≡◌, true, take}
+use Rattle.elementwise.proofs.Words.{list_all, can_cast_scalar}
 use Rattle.elementwise.proofs.castable.can_cast_to_all.Given as goal
 
 -- the first leaves pass

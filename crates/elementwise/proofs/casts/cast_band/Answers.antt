@@ -1,4 +1,5 @@
-use Rattle.elementwise.proofs.Words.{◌≡◌, ◌*◌, ◌<◌, length, replicate, sym, ap, ◌∙◌, arith, length-replicate, item_size, leaves_of, run_offsets, length-run_offsets}
+use Rattle.std.proofs.Common.{◌≡◌, ◌*◌, ◌<◌, length, replicate, sym, ap, ◌∙◌, arith}
+use Rattle.elementwise.proofs.Words.{length-replicate, item_size, leaves_of, run_offsets, length-run_offsets}
 use Rattle.elementwise.proofs.CastLaws.{has_source, source-within, turn-done}
 use Rattle.elementwise.proofs.EncodedLaws.{all-zeros, zeros-stay, all-encoded}
 use Rattle.elementwise.proofs.casts.cast_band.Goals as goal

@@ -1,4 +1,5 @@
-use Rattle.elementwise.proofs.Words.{◌≡◌, ◌*◌, ◌<◌, ℕ, length, item_size, run_offsets, IsLeafCast}
+use Rattle.std.proofs.Common.{◌≡◌, ◌*◌, ◌<◌, ℕ, length}
+use Rattle.elementwise.proofs.Words.{item_size, run_offsets, IsLeafCast}
 use Rattle.elementwise.proofs.EncodedLaws.{HaveZeros}
 use Rattle.elementwise.proofs.casts.cast_band.Given as goal
 

@@ -1,4 +1,5 @@
-use Rattle.elementwise.proofs.Words.{◌≡◌, ◌+◌, ◌*◌, ◌≤◌, ℕ, List, Result, Ok, Err, IfOk, All, pos, w64, length, sym, ap, subst, ◌∙◌, arith, ints, IfOk-weaker, AllocError, to_z, item_size, EachWithin, max_bytes, count, offsets, length-offsets, run_offsets, length-run_offsets, row_offsets, row-multiples, multiples, run-within, items_at, cast_items, AreItems}
+use Rattle.std.proofs.Common.{◌≡◌, ◌+◌, ◌*◌, ◌≤◌, ℕ, List, Result, Ok, Err, IfOk, All, pos, w64, length, sym, ap, subst, ◌∙◌, arith}
+use Rattle.elementwise.proofs.Words.{ints, IfOk-weaker, AllocError, to_z, item_size, EachWithin, max_bytes, count, offsets, length-offsets, run_offsets, length-run_offsets, row_offsets, row-multiples, multiples, run-within, items_at, cast_items, AreItems}
 use Rattle.elementwise.proofs.ColumnLaws.{same-cast}
 use Rattle.elementwise.proofs.CutLaws.{first-bytes-cast}
 use Rattle.elementwise.proofs.RowLaws.{row-within}

@@ -1,4 +1,5 @@
-use Rattle.elementwise.proofs.Words.{◌*◌, map, sym, ap, ◌∙◌, arith, item_size, item_from, offsets, length-offsets, multiples}
+use Rattle.std.proofs.Common.{◌*◌, map, sym, ap, ◌∙◌, arith}
+use Rattle.elementwise.proofs.Words.{item_size, item_from, offsets, length-offsets, multiples}
 use Rattle.elementwise.proofs.ColumnLaws.{length-cast_items}
 use Rattle.elementwise.proofs.EncodedLaws.{items-read}
 use Rattle.elementwise.proofs.MadeLaws.{over-made}

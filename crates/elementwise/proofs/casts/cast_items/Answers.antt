@@ -1,4 +1,5 @@
-use Rattle.elementwise.proofs.Words.{◌*◌, ◌≤◌, true, map, IfOk, sym, ap, arith, subst, ◌∙◌, and_parts, map-map, Descr, item_size, item_from, count, max_bytes, offsets, ScalarDescr, can_cast_scalar, can_cast, cast_item, IsMade}
+use Rattle.std.proofs.Common.{◌*◌, ◌≤◌, true, map, IfOk, sym, ap, arith, subst, ◌∙◌}
+use Rattle.elementwise.proofs.Words.{and_parts, map-map, Descr, item_size, item_from, count, max_bytes, offsets, ScalarDescr, can_cast_scalar, can_cast, cast_item, IsMade}
 use Rattle.elementwise.proofs.CutLaws.{no_text, numbers_cast}
 use Rattle.elementwise.proofs.MadeLaws.{made-in}
 use Rattle.elementwise.proofs.casts.cast_items.Goals as goal

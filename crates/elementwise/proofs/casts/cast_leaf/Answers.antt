@@ -1,4 +1,5 @@
-use Rattle.elementwise.proofs.Words.{◌+◌, ◌≤◌, length, sym, subst, ◌∙◌, arith, item_size, leaf_at, EachWithin, can_cast_scalar, source}
+use Rattle.std.proofs.Common.{◌+◌, ◌≤◌, length, sym, subst, ◌∙◌, arith}
+use Rattle.elementwise.proofs.Words.{item_size, leaf_at, EachWithin, can_cast_scalar, source}
 use Rattle.elementwise.proofs.CastLaws.{has_source}
 use Rattle.elementwise.proofs.ColumnLaws.{leaves-within, leaf-put}
 use Rattle.elementwise.proofs.casts.cast_leaf.Goals as goal

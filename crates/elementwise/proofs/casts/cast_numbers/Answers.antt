@@ -1,4 +1,5 @@
-use Rattle.elementwise.proofs.Words.{sym, offsets, ScalarDescr}
+use Rattle.std.proofs.Common.{sym}
+use Rattle.elementwise.proofs.Words.{offsets, ScalarDescr}
 use Rattle.elementwise.proofs.CastingLaws.{values_cast}
 use Rattle.elementwise.proofs.LeafLaws.{cast_number}
 use Rattle.elementwise.proofs.MadeLaws.{made-as}

@@ -1,4 +1,5 @@
-use Rattle.elementwise.proofs.Words.{◌≡◌, ◌+◌, ◌*◌, ◌≤◌, ◌++◌, length, sym, ap, subst, ◌∙◌, arith, add-mul, mul-le-mul_right, map-append, run_offsets, length-run_offsets, cast_items, run_part, AreItems}
+use Rattle.std.proofs.Common.{◌≡◌, ◌+◌, ◌*◌, ◌≤◌, ◌++◌, length, sym, ap, subst, ◌∙◌, arith, add-mul, mul-le-mul_right}
+use Rattle.elementwise.proofs.Words.{map-append, run_offsets, length-run_offsets, cast_items, run_part, AreItems}
 use Rattle.elementwise.proofs.ColumnLaws.{run-parts, length-cast_items}
 use Rattle.elementwise.proofs.EncodedLaws.{items-append}
 use Rattle.elementwise.proofs.casts.cast_run.Goals as goal

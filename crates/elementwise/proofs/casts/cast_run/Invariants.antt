@@ -1,4 +1,5 @@
-use Rattle.elementwise.proofs.Words.{◌≡◌, ◌+◌, ◌-◌, ◌*◌, ◌≤◌, run_offsets, cast_items, AreItems}
+use Rattle.std.proofs.Common.{◌≡◌, ◌+◌, ◌-◌, ◌*◌, ◌≤◌}
+use Rattle.elementwise.proofs.Words.{run_offsets, cast_items, AreItems}
 use Rattle.elementwise.proofs.casts.cast_run.Given as goal
 
 -- the first items are cast

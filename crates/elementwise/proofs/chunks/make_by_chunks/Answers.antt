@@ -1,4 +1,5 @@
-use Rattle.elementwise.proofs.Words.{◌≡◌, ◌+◌, ◌*◌, ◌<◌, ◌≤◌, ◌++◌, length, map, refl, sym, ap, ◌∙◌, arith, add-mul, mul-le-mul_right, mul-le-mul, flat_map, flat_map-append, ScalarDescr, size, item_size, item_from, encode_item, count, multiples, run_front, run_items, all_given, run_part, target_of}
+use Rattle.std.proofs.Common.{◌≡◌, ◌+◌, ◌*◌, ◌<◌, ◌≤◌, ◌++◌, length, map, refl, sym, ap, ◌∙◌, arith, add-mul, mul-le-mul_right}
+use Rattle.elementwise.proofs.Words.{mul-le-mul, flat_map, flat_map-append, ScalarDescr, size, item_size, item_from, encode_item, count, multiples, run_front, run_items, all_given, run_part, target_of}
 use Rattle.elementwise.proofs.ChunkLaws.{count-given, long-given, given-are, given-more, many_left, many_right, runs_given}
 use Rattle.elementwise.proofs.EncodedLaws.{items-read}
 use Rattle.elementwise.proofs.MadeLaws.{made-as, over-made}

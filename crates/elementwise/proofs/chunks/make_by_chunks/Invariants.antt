@@ -1,4 +1,5 @@
-use Rattle.elementwise.proofs.Words.{◌≡◌, ◌+◌, ◌-◌, ◌*◌, ◌≤◌, flat_map, ScalarDescr, size, encode_item, run_front, all_given, target_of}
+use Rattle.std.proofs.Common.{◌≡◌, ◌+◌, ◌-◌, ◌*◌, ◌≤◌}
+use Rattle.elementwise.proofs.Words.{flat_map, ScalarDescr, size, encode_item, run_front, all_given, target_of}
 use Rattle.elementwise.proofs.chunks.make_by_chunks.Given as goal
 
 -- the results on the first items are appended, and there is room for the rest

@@ -1,4 +1,5 @@
-use Rattle.elementwise.proofs.Words.{◌≡◌, ◌<◌, [], ◌∷◌, rules, w64, sym, ap, subst, ◌∙◌, arith, false≢true, ints, to_z-of_z, SFits, LieWithin, count, max_bytes, lie-within, run_part}
+use Rattle.std.proofs.Common.{◌≡◌, ◌<◌, [], ◌∷◌, rules, w64, sym, ap, subst, ◌∙◌, arith}
+use Rattle.elementwise.proofs.Words.{false≢true, ints, to_z-of_z, SFits, LieWithin, count, max_bytes, lie-within, run_part}
 use Rattle.elementwise.proofs.ChunkLaws.{begins-at, one-axis, part-begins}
 use Rattle.elementwise.proofs.chunks.part.Goals as goal
 

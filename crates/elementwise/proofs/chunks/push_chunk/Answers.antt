@@ -1,4 +1,5 @@
-use Rattle.elementwise.proofs.Words.{◌≡◌, ◌+◌, ◌*◌, ◌≤◌, ◌++◌, List, [], ◌∷◌, All, length, map, refl, sym, ap, subst, ◌∙◌, arith, flat_map, ScalarDescr, LeafValue, count, encode_item, item_from, item_size, items, size, cast_item, pairwise, value_in, Operands, run_items, run_part, made_of_all, left_of, right_of, target_of, gives, pair_made}
+use Rattle.std.proofs.Common.{◌≡◌, ◌+◌, ◌*◌, ◌≤◌, ◌++◌, List, [], ◌∷◌, All, length, map, refl, sym, ap, subst, ◌∙◌, arith}
+use Rattle.elementwise.proofs.Words.{flat_map, ScalarDescr, LeafValue, count, encode_item, item_from, item_size, items, size, cast_item, pairwise, value_in, Operands, run_items, run_part, made_of_all, left_of, right_of, target_of, gives, pair_made}
 use Rattle.elementwise.proofs.ChunkLaws.{part-inside, many_left, many_right}
 use Rattle.elementwise.proofs.PairLaws.{pairwise-map}
 use Rattle.elementwise.proofs.PairedLaws.{all_paired}

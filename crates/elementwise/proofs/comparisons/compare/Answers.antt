@@ -1,4 +1,5 @@
-use Rattle.elementwise.proofs.Words.{inl, inr, Ok, refl, ◌∙◌, err_from_is_err_and, ScalarDescr, BoolScalar, pairwise, compared_item, stretched, is_scalar}
+use Rattle.std.proofs.Common.{inl, inr, Ok, refl, ◌∙◌}
+use Rattle.elementwise.proofs.Words.{err_from_is_err_and, ScalarDescr, BoolScalar, pairwise, compared_item, stretched, is_scalar}
 use Rattle.elementwise.proofs.ComparedLaws.{compared_bools, comparable_scalars, left_refused, right_refused, type_refused, shapes_refused, all_given}
 use Rattle.elementwise.proofs.MadeLaws.{made-gives, made-order, made-items, made-encoded}
 use Rattle.elementwise.proofs.comparisons.compare.Goals as goal

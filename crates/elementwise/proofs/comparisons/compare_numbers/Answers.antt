@@ -1,4 +1,5 @@
-use Rattle.elementwise.proofs.Words.{◌≤◌, [], ◌∷◌, sym, subst, ◌∙◌, IfOk, ScalarDescr, Scalar, size, number_size, BoolScalar, cast_item, pairwise, value_in, stretched, IsMade, left_of, right_of, gives}
+use Rattle.std.proofs.Common.{◌≤◌, [], ◌∷◌, sym, subst, ◌∙◌, IfOk}
+use Rattle.elementwise.proofs.Words.{ScalarDescr, Scalar, size, number_size, BoolScalar, cast_item, pairwise, value_in, stretched, IsMade, left_of, right_of, gives}
 use Rattle.elementwise.proofs.WorkLaws.{bool_small}
 use Rattle.elementwise.proofs.PromotedLaws.{can-number}
 use Rattle.elementwise.proofs.HeldLaws.{number-no_text, compared_all}

@@ -1,4 +1,5 @@
-use Rattle.elementwise.proofs.Words.{◌∙◌, length, ScalarDescr, BoolScalar, item_size, can_stretch, can-itself, compared_item}
+use Rattle.std.proofs.Common.{◌∙◌, length}
+use Rattle.elementwise.proofs.Words.{ScalarDescr, BoolScalar, item_size, can_stretch, can-itself, compared_item}
 use Rattle.elementwise.proofs.ShrunkLaws.{pairs_spread}
 use Rattle.elementwise.proofs.MadeLaws.{made-as}
 use Rattle.elementwise.proofs.comparisons.compare_once.Goals as goal

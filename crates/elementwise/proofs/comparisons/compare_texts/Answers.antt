@@ -1,4 +1,5 @@
-use Rattle.elementwise.proofs.Words.{map, refl, ap, ◌∙◌, length, arith, ScalarDescr, Bytes, item_from, count, BoolScalar, pairwise, compared_item}
+use Rattle.std.proofs.Common.{map, refl, ap, ◌∙◌, length, arith}
+use Rattle.elementwise.proofs.Words.{ScalarDescr, Bytes, item_from, count, BoolScalar, pairwise, compared_item}
 use Rattle.elementwise.proofs.MadeLaws.{made-in}
 use Rattle.elementwise.proofs.StretchedLaws.{inside}
 use Rattle.elementwise.proofs.TrimmedLaws.{fewer_inside, trimmed_items}

@@ -1,4 +1,5 @@
-use Rattle.elementwise.proofs.Words.{◌≡◌, ◌*◌, [], ◌∷◌, sym, ap, subst, ◌∙◌, arith, ScalarDescr, BoolScalar, decode, size, count, can-itself, AreComparable}
+use Rattle.std.proofs.Common.{◌≡◌, ◌*◌, [], ◌∷◌, sym, ap, subst, ◌∙◌, arith}
+use Rattle.elementwise.proofs.Words.{ScalarDescr, BoolScalar, decode, size, count, can-itself, AreComparable}
 use Rattle.elementwise.proofs.MadeLaws.{made-as}
 use Rattle.elementwise.proofs.IntegerLaws.{one_read, one-stretches, all_held}
 use Rattle.elementwise.proofs.comparisons.compare_with_one.Goals as goal

@@ -1,4 +1,5 @@
-use Rattle.elementwise.proofs.Words.{sym, ap, subst, refl, ◌∙◌, not, Little, Eight, Int, little, Holds}
+use Rattle.std.proofs.Common.{sym, ap, subst, refl, ◌∙◌, not}
+use Rattle.elementwise.proofs.Words.{Little, Eight, Int, little, Holds}
 use Rattle.elementwise.proofs.CommonLaws.{common-held, common-signs}
 use Rattle.elementwise.proofs.HeldLaws.{little-little, holds-wide, number-no_text}
 use Rattle.elementwise.proofs.PromotedLaws.{AnswersNative, common-native, native-little, number-read}

@@ -1,4 +1,5 @@
-use Rattle.elementwise.proofs.Words.{◌≡◌, ◌*◌, ◌^◌, ◌<◌, ℕ, Option, Some, None, sym, ap, subst, ◌∙◌, arith, rules, IfSome, pos, ℤ, ◌+ℤ◌, ◌*ℤ◌, nat_abs, unsigned_abs, Bool, true, ints, Little, Scalar, integer, number_of, decode, place, item_at, is_bool, number_of_side, Side, IsTruth, Divisor}
+use Rattle.std.proofs.Common.{◌≡◌, ◌*◌, ◌^◌, ◌<◌, ℕ, Option, Some, None, sym, ap, subst, ◌∙◌, arith, rules, IfSome, pos, ℤ, ◌+ℤ◌, ◌*ℤ◌, nat_abs, unsigned_abs, Bool, true}
+use Rattle.elementwise.proofs.Words.{ints, Little, Scalar, integer, number_of, decode, place, item_at, is_bool, number_of_side, Side, IsTruth, Divisor}
 use Rattle.elementwise.proofs.HeldLaws.{side-small}
 use Rattle.elementwise.proofs.divisions.divisor_of.Goals as goal
 

@@ -1,4 +1,5 @@
-use Rattle.elementwise.proofs.Words.{◌≡◌, ◌+◌, ◌*◌, ◌^◌, ◌<◌, ◌≤◌, ◌++◌, suc, sym, ap, subst, ◌∙◌, append_assoc, arith, unsigned_abs, not, ◌==◌, suc-mul, add-mul, mul-le-mul_right, Little, number, encode, joined, binary, division_op, number_pair, made_of, pair_count}
+use Rattle.std.proofs.Common.{◌≡◌, ◌+◌, ◌*◌, ◌^◌, ◌<◌, ◌≤◌, ◌++◌, suc, sym, ap, subst, ◌∙◌, append_assoc, arith, unsigned_abs, not, ◌==◌, suc-mul, add-mul, mul-le-mul_right}
+use Rattle.elementwise.proofs.Words.{Little, number, encode, joined, binary, division_op, number_pair, made_of, pair_count}
 use Rattle.elementwise.proofs.HeldLaws.{side-small}
 use Rattle.elementwise.proofs.divisions.push_divided.Goals as goal
 

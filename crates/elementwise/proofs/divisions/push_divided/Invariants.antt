@@ -1,4 +1,5 @@
-use Rattle.elementwise.proofs.Words.{◌≡◌, ◌+◌, ◌*◌, ◌++◌, not, ◌==◌, Little, joined, binary, division_op, number_pair, made_of}
+use Rattle.std.proofs.Common.{◌≡◌, ◌+◌, ◌*◌, ◌++◌, not, ◌==◌}
+use Rattle.elementwise.proofs.Words.{Little, joined, binary, division_op, number_pair, made_of}
 use Rattle.elementwise.proofs.divisions.push_divided.Given as goal
 
 abbrev pub invariant-loop-k : goal.invariant-loop-k

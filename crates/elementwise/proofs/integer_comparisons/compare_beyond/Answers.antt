@@ -1,4 +1,5 @@
-use Rattle.elementwise.proofs.Words.{◌≡◌, pos, length, replicate, refl, ap, ◌∙◌, w128, int_lt, not, to_z-of_z, length-replicate, says, ScalarDescr, BoolScalar}
+use Rattle.std.proofs.Common.{◌≡◌, pos, length, replicate, refl, ap, ◌∙◌, int_lt, not}
+use Rattle.elementwise.proofs.Words.{w128, to_z-of_z, length-replicate, says, ScalarDescr, BoolScalar}
 use Rattle.elementwise.proofs.MadeLaws.{made-as, over-made}
 use Rattle.elementwise.proofs.IntegerLaws.{all_beyond, alike_made}
 use Rattle.elementwise.proofs.integer_comparisons.compare_beyond.Goals as goal

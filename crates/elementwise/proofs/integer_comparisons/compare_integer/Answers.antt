@@ -1,4 +1,5 @@
-use Rattle.elementwise.proofs.Words.{[], ◌∷◌, map, inr, sym, ◌∙◌, w128, to_z-of_z, err_from_is_err_and, ScalarDescr, BoolScalar, number, item_from, offsets, compared_item, is_scalar}
+use Rattle.std.proofs.Common.{[], ◌∷◌, map, inr, sym, ◌∙◌}
+use Rattle.elementwise.proofs.Words.{w128, to_z-of_z, err_from_is_err_and, ScalarDescr, BoolScalar, number, item_from, offsets, compared_item, is_scalar}
 use Rattle.elementwise.proofs.MadeLaws.{made-gives, made-order, made-items, made-encoded}
 use Rattle.elementwise.proofs.IntegerLaws.{operand_refused, text_refused, one_given}
 use Rattle.elementwise.proofs.integer_comparisons.compare_integer.Goals as goal

@@ -1,4 +1,5 @@
-use Rattle.elementwise.proofs.Words.{length, sym, ap, subst, ◌∙◌, IfOk, w128, to_z-of_z, ScalarDescr, IsNumber, decode, wrap, number, little, AreComparedWith}
+use Rattle.std.proofs.Common.{length, sym, ap, subst, ◌∙◌, IfOk}
+use Rattle.elementwise.proofs.Words.{w128, to_z-of_z, ScalarDescr, IsNumber, decode, wrap, number, little, AreComparedWith}
 use Rattle.elementwise.proofs.WorkLaws.{number-little}
 use Rattle.elementwise.proofs.ComparedLaws.{comparable_scalars, comparable_numbers}
 use Rattle.elementwise.proofs.integer_comparisons.compare_with_value.Goals as goal

@@ -1,4 +1,5 @@
-use Rattle.elementwise.proofs.Words.{◌≡◌, ◌+◌, length, take, joined, number_pair, made_of}
+use Rattle.std.proofs.Common.{◌≡◌, ◌+◌, length, take}
+use Rattle.elementwise.proofs.Words.{joined, number_pair, made_of}
 use Rattle.elementwise.proofs.kernels.made_sixteen.Given as goal
 
 abbrev pub invariant-loop-j : goal.invariant-loop-j

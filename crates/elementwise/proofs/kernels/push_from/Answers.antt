@@ -1,4 +1,5 @@
-use Rattle.elementwise.proofs.Words.{◌≡◌, ◌+◌, ◌*◌, ◌≤◌, ◌++◌, suc, ap, ◌∙◌, append_assoc, arith, suc-mul, add-mul, mul-le-mul_right, number, encode, joined, number_pair, made_of, pair_count}
+use Rattle.std.proofs.Common.{◌≡◌, ◌+◌, ◌*◌, ◌≤◌, ◌++◌, suc, ap, ◌∙◌, append_assoc, arith, suc-mul, add-mul, mul-le-mul_right}
+use Rattle.elementwise.proofs.Words.{number, encode, joined, number_pair, made_of, pair_count}
 use Rattle.elementwise.proofs.kernels.push_from.Goals as goal
 
 pub push-requires : goal.push-requires

@@ -1,4 +1,5 @@
-use Rattle.elementwise.proofs.Words.{◌≡◌, ◌+◌, ◌*◌, ◌≤◌, ◌++◌, ℕ, List, joined, number_pair, made_of}
+use Rattle.std.proofs.Common.{◌≡◌, ◌+◌, ◌*◌, ◌≤◌, ◌++◌, ℕ, List}
+use Rattle.elementwise.proofs.Words.{joined, number_pair, made_of}
 use Rattle.elementwise.proofs.kernels.push_from.Given as goal
 
 abbrev pub invariant-loop-k : goal.invariant-loop-k

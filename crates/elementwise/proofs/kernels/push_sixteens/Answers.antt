@@ -1,4 +1,5 @@
-use Rattle.elementwise.proofs.Words.{◌≡◌, ◌+◌, ◌*◌, ◌++◌, ap, ◌∙◌, append_assoc, arith, joined, joined-add, number_pair, made_of}
+use Rattle.std.proofs.Common.{◌≡◌, ◌+◌, ◌*◌, ◌++◌, ap, ◌∙◌, append_assoc, arith}
+use Rattle.elementwise.proofs.Words.{joined, joined-add, number_pair, made_of}
 use Rattle.elementwise.proofs.kernels.push_sixteens.Goals as goal
 
 pub loop-group-preserved : goal.loop-group-preserved

@@ -1,4 +1,5 @@
-use Rattle.elementwise.proofs.Words.{◌≡◌, ◌+◌, ◌*◌, ◌++◌, joined, number_pair, made_of}
+use Rattle.std.proofs.Common.{◌≡◌, ◌+◌, ◌*◌, ◌++◌}
+use Rattle.elementwise.proofs.Words.{joined, number_pair, made_of}
 use Rattle.elementwise.proofs.kernels.push_sixteens.Given as goal
 
 abbrev pub invariant-loop-group : goal.invariant-loop-group

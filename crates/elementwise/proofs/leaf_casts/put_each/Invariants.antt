@@ -1,4 +1,5 @@
-use Rattle.elementwise.proofs.Words.{◌≡◌, item_in, with_leaves}
+use Rattle.std.proofs.Common.{◌≡◌}
+use Rattle.elementwise.proofs.Words.{item_in, with_leaves}
 use Rattle.elementwise.proofs.leaf_casts.put_each.Given as goal
 
 abbrev pub invariant-loop-k : goal.invariant-loop-k

@@ -1,4 +1,5 @@
-use Rattle.elementwise.proofs.Words.{◌≡◌, ◌*◌, ◌++◌, sym, ◌∙◌, arith, size, pairs_of, made_of_all, pair_made}
+use Rattle.std.proofs.Common.{◌≡◌, ◌*◌, ◌++◌, sym, ◌∙◌, arith}
+use Rattle.elementwise.proofs.Words.{size, pairs_of, made_of_all, pair_made}
 use Rattle.elementwise.proofs.PairedLaws.{all_paired, pairs_made}
 use Rattle.elementwise.proofs.operands.made_by_rows.Goals as goal
 

@@ -1,4 +1,5 @@
-use Rattle.elementwise.proofs.Words.{◌≡◌, [], ◌∷◌, ◌+◌, ◌*◌, ◌≤◌, ◌++◌, ℕ, List, length, All, sym, ap, subst, ◌∙◌, arith, concat, ScalarDescr, LeafValue, size, item_size, fortran_order, count, offsets, length-offsets, offsets_within, count-reverse, fortran-all, pairwise, value_in, pair_from, left_of, right_of, target_of, gives, pair_made}
+use Rattle.std.proofs.Common.{◌≡◌, [], ◌∷◌, ◌+◌, ◌*◌, ◌≤◌, ◌++◌, ℕ, List, length, All, sym, ap, subst, ◌∙◌, arith}
+use Rattle.elementwise.proofs.Words.{concat, ScalarDescr, LeafValue, size, item_size, fortran_order, count, offsets, length-offsets, offsets_within, count-reverse, fortran-all, pairwise, value_in, pair_from, left_of, right_of, target_of, gives, pair_made}
 use Rattle.elementwise.proofs.PairedLaws.{each-wide, pairs_made}
 use Rattle.elementwise.proofs.MadeLaws.{made-in}
 use Rattle.elementwise.proofs.TurnedLaws.{AreWide, both_turned, turned-back, turned-long}

@@ -1,4 +1,5 @@
-use Rattle.elementwise.proofs.Words.{map, ap, ◌∙◌, length, arith, ScalarDescr, BoolScalar, item_size, item_from, count, can_stretch, stretched_items}
+use Rattle.std.proofs.Common.{map, ap, ◌∙◌, length, arith}
+use Rattle.elementwise.proofs.Words.{ScalarDescr, BoolScalar, item_size, item_from, count, can_stretch, stretched_items}
 use Rattle.elementwise.proofs.StretchedLaws.{inside}
 use Rattle.elementwise.proofs.ShrunkLaws.{bools_again}
 use Rattle.elementwise.proofs.MadeLaws.{made-in}

@@ -1,4 +1,5 @@
-use Rattle.elementwise.proofs.Words.{◌++◌, sym, ap, ◌∙◌, concat, BoolScalar, Big, item_size, offsets, number_pair, text_pair, says_number}
+use Rattle.std.proofs.Common.{◌++◌, sym, ap, ◌∙◌}
+use Rattle.elementwise.proofs.Words.{concat, BoolScalar, Big, item_size, offsets, number_pair, text_pair, says_number}
 use Rattle.elementwise.proofs.TextNumberLaws.{words-compared, pairs-alike}
 use Rattle.elementwise.proofs.text_comparisons.push_numbers.Goals as goal
 

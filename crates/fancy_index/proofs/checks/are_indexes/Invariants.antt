@@ -1,4 +1,5 @@
-use Rattle.fancy_index.proofs.Words.{◌≡◌, drop, list_all, is_index, index_items}
+use Rattle.std.proofs.Common.{◌≡◌, drop}
+use Rattle.fancy_index.proofs.Words.{list_all, is_index, index_items}
 use Rattle.fancy_index.proofs.checks.are_indexes.Given as goal
 
 abbrev pub invariant-loop-item : goal.invariant-loop-item

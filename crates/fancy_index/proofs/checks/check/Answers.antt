@@ -1,4 +1,5 @@
-use Rattle.fancy_index.proofs.Words.{◌≤◌, length, sym, ◌∙◌, arith, array_axes_taken, index_items}
+use Rattle.std.proofs.Common.{◌≤◌, length, sym, ◌∙◌, arith}
+use Rattle.fancy_index.proofs.Words.{array_axes_taken, index_items}
 use Rattle.fancy_index.proofs.IndexedLaws.{refused-kind, refused-many, refused-lengths, refused-step, same_steps}
 use Rattle.fancy_index.proofs.checks.check.Goals as goal
 use Rattle.fancy_index.proofs.checks.check.Goals.{In-Some}

@@ -1,4 +1,5 @@
-use Rattle.fancy_index.proofs.Words.{◌≡◌, length, cover, items_left}
+use Rattle.std.proofs.Common.{◌≡◌, length}
+use Rattle.fancy_index.proofs.Words.{cover, items_left}
 use Rattle.fancy_index.proofs.checks.cover.Given as goal
 
 abbrev pub invariant-loop-item : goal.invariant-loop-item

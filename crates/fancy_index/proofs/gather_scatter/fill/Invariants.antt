@@ -1,4 +1,5 @@
-use Rattle.fancy_index.proofs.Words.{◌≡◌, length, All, offsets, put_each, offsets_from, moved_all, AreStarts}
+use Rattle.std.proofs.Common.{◌≡◌, length, All}
+use Rattle.fancy_index.proofs.Words.{offsets, put_each, offsets_from, moved_all, AreStarts}
 use Rattle.fancy_index.proofs.Passes.{Filling}
 use Rattle.fancy_index.proofs.gather_scatter.fill.Given as goal
 

@@ -1,4 +1,5 @@
-use Rattle.fancy_index.proofs.Words.{◌≡◌, length, put_each, moved_offsets}
+use Rattle.std.proofs.Common.{◌≡◌, length}
+use Rattle.fancy_index.proofs.Words.{put_each, moved_offsets}
 use Rattle.fancy_index.proofs.Passes.{RunsLeft, Filling, moved_runs}
 use Rattle.fancy_index.proofs.gather_scatter.fill_moved.Given as goal
 

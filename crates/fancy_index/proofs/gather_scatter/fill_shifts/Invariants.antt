@@ -1,4 +1,5 @@
-use Rattle.fancy_index.proofs.Words.{◌≡◌, length, drop, offsets, put_each, shifted_all}
+use Rattle.std.proofs.Common.{◌≡◌, length, drop}
+use Rattle.fancy_index.proofs.Words.{offsets, put_each, shifted_all}
 use Rattle.fancy_index.proofs.Passes.{Filling}
 use Rattle.fancy_index.proofs.gather_scatter.fill_shifts.Given as goal
 

@@ -1,4 +1,5 @@
-use Rattle.fancy_index.proofs.Words.{ap, All-rest, offsets, moved_all, AreStarts}
+use Rattle.std.proofs.Common.{ap}
+use Rattle.fancy_index.proofs.Words.{All-rest, offsets, moved_all, AreStarts}
 use Rattle.fancy_index.proofs.Passes.{push_front, pushed_front, pushed_all, split-places}
 use Rattle.fancy_index.proofs.gather_scatter.push_all.Goals as goal
 

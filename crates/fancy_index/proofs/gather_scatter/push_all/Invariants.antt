@@ -1,4 +1,5 @@
-use Rattle.fancy_index.proofs.Words.{All, offsets, offsets_from, moved_all, AreStarts}
+use Rattle.std.proofs.Common.{All}
+use Rattle.fancy_index.proofs.Words.{offsets, offsets_from, moved_all, AreStarts}
 use Rattle.fancy_index.proofs.Passes.{Pushing}
 use Rattle.fancy_index.proofs.gather_scatter.push_all.Given as goal
 

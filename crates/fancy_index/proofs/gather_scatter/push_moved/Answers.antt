@@ -1,4 +1,5 @@
-use Rattle.fancy_index.proofs.Words.{◌*◌, ◌+◌, ◌++◌, length, map, subst, sym, ap, ◌∙◌, arith, flat_map, run_offsets, joined_at, moved_offset}
+use Rattle.std.proofs.Common.{◌*◌, ◌+◌, ◌++◌, length, map, subst, sym, ap, ◌∙◌, arith}
+use Rattle.fancy_index.proofs.Words.{flat_map, run_offsets, joined_at, moved_offset}
 use Rattle.fancy_index.proofs.Passes.{RunsLeft, next_run, later_runs, push_run, pushed_run, pushed_all}
 use Rattle.fancy_index.proofs.gather_scatter.push_moved.Goals as goal
 

@@ -1,4 +1,5 @@
-use Rattle.fancy_index.proofs.Words.{ap, arith, drop_all, offsets, shifted_all}
+use Rattle.std.proofs.Common.{ap, arith}
+use Rattle.fancy_index.proofs.Words.{drop_all, offsets, shifted_all}
 use Rattle.fancy_index.proofs.Passes.{push_front, pushed_front, pushed_all, split-shifts}
 use Rattle.fancy_index.proofs.gather_scatter.push_shifted.Goals as goal
 

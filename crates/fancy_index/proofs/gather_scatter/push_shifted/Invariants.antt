@@ -1,4 +1,5 @@
-use Rattle.fancy_index.proofs.Words.{drop, offsets, shifted_all, shifted_offsets}
+use Rattle.std.proofs.Common.{drop}
+use Rattle.fancy_index.proofs.Words.{offsets, shifted_all, shifted_offsets}
 use Rattle.fancy_index.proofs.Passes.{Pushing}
 use Rattle.fancy_index.proofs.gather_scatter.push_shifted.Given as goal
 

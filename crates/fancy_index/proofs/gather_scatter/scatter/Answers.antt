@@ -1,4 +1,5 @@
-use Rattle.fancy_index.proofs.Words.{◌∙◌, All-rest, offsets, moved_all, AreStarts, shifted_offsets}
+use Rattle.std.proofs.Common.{◌∙◌}
+use Rattle.fancy_index.proofs.Words.{All-rest, offsets, moved_all, AreStarts, shifted_offsets}
 use Rattle.fancy_index.proofs.Passes.{scatter_front, scattered_front, split-places}
 use Rattle.fancy_index.proofs.gather_scatter.scatter.Goals as goal
 

@@ -1,4 +1,5 @@
-use Rattle.fancy_index.proofs.Words.{◌≡◌, ◌+◌, ◌*◌, length, All, offsets, assigned, offsets_from, moved_all, AreStarts, packed}
+use Rattle.std.proofs.Common.{◌≡◌, ◌+◌, ◌*◌, length, All}
+use Rattle.fancy_index.proofs.Words.{offsets, assigned, offsets_from, moved_all, AreStarts, packed}
 use Rattle.fancy_index.proofs.Passes.{Scattering}
 use Rattle.fancy_index.proofs.gather_scatter.scatter.Given as goal
 

@@ -1,4 +1,5 @@
-use Rattle.fancy_index.proofs.Words.{◌≡◌, length, moved_offsets, end_of, put_packed}
+use Rattle.std.proofs.Common.{◌≡◌, length}
+use Rattle.fancy_index.proofs.Words.{moved_offsets, end_of, put_packed}
 use Rattle.fancy_index.proofs.Passes.{RunsLeft, Scattering, moved_runs}
 use Rattle.fancy_index.proofs.gather_scatter.scatter_moved.Given as goal
 

@@ -1,4 +1,5 @@
-use Rattle.fancy_index.proofs.Words.{◌∙◌, map, drop, ◌+◌, offsets, moved_offset, shifted_all}
+use Rattle.std.proofs.Common.{◌∙◌, map, drop, ◌+◌}
+use Rattle.fancy_index.proofs.Words.{offsets, moved_offset, shifted_all}
 use Rattle.fancy_index.proofs.Passes.{scatter_front, scattered_front, split-shifts}
 use Rattle.fancy_index.proofs.gather_scatter.scatter_shifts.Goals as goal
 

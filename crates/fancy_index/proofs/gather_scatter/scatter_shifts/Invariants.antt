@@ -1,4 +1,5 @@
-use Rattle.fancy_index.proofs.Words.{◌≡◌, length, drop, offsets, shifted_all, shifted_offsets, end_of, put_packed}
+use Rattle.std.proofs.Common.{◌≡◌, length, drop}
+use Rattle.fancy_index.proofs.Words.{offsets, shifted_all, shifted_offsets, end_of, put_packed}
 use Rattle.fancy_index.proofs.Passes.{Scattering}
 use Rattle.fancy_index.proofs.gather_scatter.scatter_shifts.Given as goal
 

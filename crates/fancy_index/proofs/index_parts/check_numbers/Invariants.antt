@@ -1,4 +1,5 @@
-use Rattle.fancy_index.proofs.Words.{◌≡◌, true, take, all_named}
+use Rattle.std.proofs.Common.{◌≡◌, true, take}
+use Rattle.fancy_index.proofs.Words.{all_named}
 use Rattle.fancy_index.proofs.index_parts.check_numbers.Given as goal
 
 abbrev pub invariant-loop-part : goal.invariant-loop-part

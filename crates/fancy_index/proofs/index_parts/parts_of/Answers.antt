@@ -1,4 +1,5 @@
-use Rattle.fancy_index.proofs.Words.{◌≤◌, All, subst, max_items, All-back}
+use Rattle.std.proofs.Common.{◌≤◌, All, subst}
+use Rattle.fancy_index.proofs.Words.{max_items, All-back}
 use Rattle.fancy_index.proofs.PartLaws.{parts_on}
 use Rattle.fancy_index.proofs.index_parts.parts_of.Goals as goal
 

@@ -1,4 +1,5 @@
-use Rattle.fancy_index.proofs.Words.{◌≤◌, length, All, max_items, items_left}
+use Rattle.std.proofs.Common.{◌≤◌, length, All}
+use Rattle.fancy_index.proofs.Words.{max_items, items_left}
 use Rattle.fancy_index.proofs.PartLaws.{HaveParts}
 use Rattle.fancy_index.proofs.index_parts.parts_of.Given as goal
 

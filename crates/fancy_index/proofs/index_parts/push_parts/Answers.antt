@@ -1,4 +1,5 @@
-use Rattle.fancy_index.proofs.Words.{rules, refl, sym, get_or, [], ◌∷◌, ap, ◌∙◌, to_z-of_z, SFits, w128, IndexOutOfRange, check, is_place, place_of}
+use Rattle.std.proofs.Common.{rules, refl, sym, get_or, [], ◌∷◌, ap, ◌∙◌}
+use Rattle.fancy_index.proofs.Words.{to_z-of_z, SFits, w128, IndexOutOfRange, check, is_place, place_of}
 use Rattle.fancy_index.proofs.PartLaws.{adds_integer, adds_points, passed}
 use Rattle.fancy_index.proofs.index_parts.push_parts.Goals as goal
 

@@ -1,4 +1,5 @@
-use Rattle.fancy_index.proofs.Words.{true, take, wholes, AddsParts}
+use Rattle.std.proofs.Common.{true, take}
+use Rattle.fancy_index.proofs.Words.{wholes, AddsParts}
 use Rattle.fancy_index.proofs.index_parts.push_wholes.Given as goal
 
 abbrev pub invariant-loop-n : goal.invariant-loop-n

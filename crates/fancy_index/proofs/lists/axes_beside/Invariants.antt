@@ -1,4 +1,5 @@
-use Rattle.fancy_index.proofs.Words.{◌≡◌, ◌+◌, drop, array_axes_taken, index_items}
+use Rattle.std.proofs.Common.{◌≡◌, ◌+◌, drop}
+use Rattle.fancy_index.proofs.Words.{array_axes_taken, index_items}
 use Rattle.fancy_index.proofs.lists.axes_beside.Given as goal
 
 abbrev pub invariant-loop-item : goal.invariant-loop-item

@@ -1,4 +1,5 @@
-use Rattle.fancy_index.proofs.Words.{◌≡◌, ◌/◌, ◌%◌, ◌^◌, ℕ, not, cond, true, eqb, map, length, false, get_or, refl, ap, ◌∙◌, arith, w8, get_or-map, bitmask_splat, bit_mask_l, truth}
+use Rattle.std.proofs.Common.{◌≡◌, ◌/◌, ◌%◌, ◌^◌, ℕ, not, cond, true, eqb, map, length, false, get_or, refl, ap, ◌∙◌, arith, w8}
+use Rattle.fancy_index.proofs.Words.{get_or-map, bitmask_splat, bit_mask_l, truth}
 use Rattle.fancy_index.proofs.masks.bits_of.Goals as goal
 
 flag : (byte : ℕ) → cond (not (eqb byte 0)) 1 0 ≡ truth byte

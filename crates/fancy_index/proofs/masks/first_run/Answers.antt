@@ -1,4 +1,5 @@
-use Rattle.fancy_index.proofs.Words.{rules, ◌≡◌, [], length, All, sym, ap, subst, ◌∙◌, arith, flat_map, offsets, length-offsets, max_bytes, run_offsets, BeginsWithin}
+use Rattle.std.proofs.Common.{rules, ◌≡◌, [], length, All, sym, ap, subst, ◌∙◌, arith}
+use Rattle.fancy_index.proofs.Words.{flat_map, offsets, length-offsets, max_bytes, run_offsets, BeginsWithin}
 use Rattle.fancy_index.proofs.masks.first_run.Goals as goal
 
 pub unreachable-requires : goal.unreachable-requires

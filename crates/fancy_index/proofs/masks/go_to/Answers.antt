@@ -1,4 +1,5 @@
-use Rattle.fancy_index.proofs.Words.{refl, ap, arith, Layout, count}
+use Rattle.std.proofs.Common.{refl, ap, arith}
+use Rattle.fancy_index.proofs.Words.{Layout, count}
 use Rattle.fancy_index.proofs.RankLaws.{next-at, not-last}
 use Rattle.fancy_index.proofs.masks.go_to.Goals as goal
 

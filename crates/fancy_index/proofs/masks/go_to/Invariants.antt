@@ -1,4 +1,5 @@
-use Rattle.fancy_index.proofs.Words.{◌≡◌, ◌≤◌, length, IsAtRun}
+use Rattle.std.proofs.Common.{◌≡◌, ◌≤◌, length}
+use Rattle.fancy_index.proofs.Words.{IsAtRun}
 use Rattle.fancy_index.proofs.masks.go_to.Given as goal
 
 abbrev pub invariant-loop-at : goal.invariant-loop-at

@@ -1,4 +1,5 @@
-use Rattle.fancy_index.proofs.Words.{◌≡◌, ℕ, ◌<◌, ◌≤◌, ◌≤ℤ◌, pos, ◌+ℤ◌, ◌*ℤ◌, get_or, slice_set, ap, ◌∙◌, arith, rules, to_z, of_z, w32, ints, get_or_default, map_over_more, max_bytes, run_offsets}
+use Rattle.std.proofs.Common.{◌≡◌, ℕ, ◌<◌, ◌≤◌, ◌≤ℤ◌, pos, ◌+ℤ◌, ◌*ℤ◌, get_or, slice_set, ap, ◌∙◌, arith, rules, to_z, of_z, w32}
+use Rattle.fancy_index.proofs.Words.{ints, get_or_default, map_over_more, max_bytes, run_offsets}
 use Rattle.fancy_index.proofs.RankLaws.{holds_yet, all_changed}
 use Rattle.fancy_index.proofs.RunLaws.{first-low, steps-low, steps-high, lies-there}
 use Rattle.fancy_index.proofs.masks.lead_along.Goals as goal

@@ -1,4 +1,5 @@
-use Rattle.fancy_index.proofs.Words.{◌≡◌, ◌++◌, take, drop, run_offsets, led}
+use Rattle.std.proofs.Common.{◌≡◌, ◌++◌, take, drop}
+use Rattle.fancy_index.proofs.Words.{run_offsets, led}
 use Rattle.fancy_index.proofs.masks.lead_along.Given as goal
 
 abbrev pub invariant-loop-rank : goal.invariant-loop-rank

@@ -1,4 +1,5 @@
-use Rattle.fancy_index.proofs.Words.{ℕ, ◌<◌, get_or, slice_set, ap, ◌∙◌, arith, get_or_default, map_over_more, Layout, count, offsets}
+use Rattle.std.proofs.Common.{ℕ, ◌<◌, get_or, slice_set, ap, ◌∙◌, arith}
+use Rattle.fancy_index.proofs.Words.{get_or_default, map_over_more, Layout, count, offsets}
 use Rattle.fancy_index.proofs.RankLaws.{holds_yet, all_changed}
 use Rattle.fancy_index.proofs.masks.lead_by_runs.Goals as goal
 

@@ -1,4 +1,5 @@
-use Rattle.fancy_index.proofs.Words.{◌≡◌, ◌++◌, take, drop, offsets, led, IsAtRun}
+use Rattle.std.proofs.Common.{◌≡◌, ◌++◌, take, drop}
+use Rattle.fancy_index.proofs.Words.{offsets, led, IsAtRun}
 use Rattle.fancy_index.proofs.masks.lead_by_runs.Given as goal
 
 abbrev pub invariant-loop-rank : goal.invariant-loop-rank

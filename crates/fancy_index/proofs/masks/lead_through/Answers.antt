@@ -1,4 +1,5 @@
-use Rattle.fancy_index.proofs.Words.{length, ap, arith, length-offsets, length-run_offsets}
+use Rattle.std.proofs.Common.{length, ap, arith}
+use Rattle.fancy_index.proofs.Words.{length-offsets, length-run_offsets}
 use Rattle.fancy_index.proofs.masks.lead_through.Goals as goal
 
 pub lead_along-requires-clause-few : goal.lead_along-requires-clause-few

@@ -1,4 +1,5 @@
-use Rattle.fancy_index.proofs.Words.{◌≡◌, ◌+◌, ◌-◌, ◌≤◌, ◌++◌, length, take, ranks_from}
+use Rattle.std.proofs.Common.{◌≡◌, ◌+◌, ◌-◌, ◌≤◌, ◌++◌, length, take}
+use Rattle.fancy_index.proofs.Words.{ranks_from}
 use Rattle.fancy_index.proofs.masks.note_adjacent.Given as goal
 
 abbrev pub invariant-loop-at : goal.invariant-loop-at

@@ -1,4 +1,5 @@
-use Rattle.fancy_index.proofs.Words.{◌≡◌, ◌+◌, ◌-◌, ◌<◌, ◌++◌, length, set, take, ap, ◌∙◌, arith, length-set, bools_in, ranks_from}
+use Rattle.std.proofs.Common.{◌≡◌, ◌+◌, ◌-◌, ◌<◌, ◌++◌, length, set, take, ap, ◌∙◌, arith}
+use Rattle.fancy_index.proofs.Words.{length-set, bools_in, ranks_from}
 use Rattle.fancy_index.proofs.BoolLaws.{noted, length-bools}
 use Rattle.fancy_index.proofs.masks.note_all.Goals as goal
 

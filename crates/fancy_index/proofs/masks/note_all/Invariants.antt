@@ -1,4 +1,5 @@
-use Rattle.fancy_index.proofs.Words.{◌≡◌, ◌+◌, ◌-◌, ◌≤◌, ◌++◌, length, take, drop, true_ranks, bools_in}
+use Rattle.std.proofs.Common.{◌≡◌, ◌+◌, ◌-◌, ◌≤◌, ◌++◌, length, take, drop}
+use Rattle.fancy_index.proofs.Words.{true_ranks, bools_in}
 use Rattle.fancy_index.proofs.masks.note_all.Given as goal
 
 abbrev pub invariant-loop-k : goal.invariant-loop-k

@@ -1,4 +1,5 @@
-use Rattle.fancy_index.proofs.Words.{rules, w64, to_z, ◌≡◌, ◌+◌, ◌-◌, ◌<◌, ℕ, length, get_or, refl, sym, ap, ◌∙◌, arith, to_z-of_z, pos, SFits, truth, bools_in, ranks_from, AreAll}
+use Rattle.std.proofs.Common.{rules, w64, to_z, ◌≡◌, ◌+◌, ◌-◌, ◌<◌, ℕ, length, get_or, refl, sym, ap, ◌∙◌, arith, pos}
+use Rattle.fancy_index.proofs.Words.{to_z-of_z, SFits, truth, bools_in, ranks_from, AreAll}
 use Rattle.fancy_index.proofs.BoolLaws.{none_true, length-bools, byte-within, bool-after}
 use Rattle.fancy_index.proofs.masks.note_block.Goals as goal
 use Rattle.fancy_index.proofs.masks.note_block.Goals.{Else-step-ne1, Else-not-are_same}

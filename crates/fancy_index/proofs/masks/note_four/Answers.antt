@@ -1,4 +1,5 @@
-use Rattle.fancy_index.proofs.Words.{refl, ◌∙◌, arith, zip2_of_maps, splat_is_map}
+use Rattle.std.proofs.Common.{refl, ◌∙◌, arith}
+use Rattle.fancy_index.proofs.Words.{zip2_of_maps, splat_is_map}
 use Rattle.fancy_index.proofs.FourLaws.{few, four_written, places, wide, wrapped}
 use Rattle.fancy_index.proofs.masks.note_four.Goals as goal
 

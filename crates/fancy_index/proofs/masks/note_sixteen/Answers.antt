@@ -1,4 +1,5 @@
-use Rattle.fancy_index.proofs.Words.{◌≡◌, ◌+◌, ◌*◌, ◌%◌, ◌^◌, ◌≤◌, ◌++◌, replicate, take, get_or, sym, ap, subst, ◌∙◌, arith, rules, pos, zip2, bools_in, AreBits, ranks_from}
+use Rattle.std.proofs.Common.{◌≡◌, ◌+◌, ◌*◌, ◌%◌, ◌^◌, ◌≤◌, ◌++◌, replicate, take, get_or, sym, ap, subst, ◌∙◌, arith, rules, pos}
+use Rattle.fancy_index.proofs.Words.{zip2, bools_in, AreBits, ranks_from}
 use Rattle.fancy_index.proofs.BoolLaws.{length-bools, byte-within, loaded-bits, found_added}
 use Rattle.fancy_index.proofs.FourLaws.{wrapped, shifted, four_ranks, none_added}
 use Rattle.fancy_index.proofs.masks.note_sixteen.Goals as goal

@@ -1,4 +1,5 @@
-use Rattle.fancy_index.proofs.Words.{◌≡◌, ◌+◌, ◌-◌, ◌*◌, ◌≤◌, ◌++◌, List, ℕ, length, replicate, take, AreBits, ranks_from}
+use Rattle.std.proofs.Common.{◌≡◌, ◌+◌, ◌-◌, ◌*◌, ◌≤◌, ◌++◌, List, ℕ, length, replicate, take}
+use Rattle.fancy_index.proofs.Words.{AreBits, ranks_from}
 use Rattle.fancy_index.proofs.masks.note_sixteen.Given as goal
 
 abbrev pub invariant-loop : goal.invariant-loop

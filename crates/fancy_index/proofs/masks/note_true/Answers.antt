@@ -1,4 +1,5 @@
-use Rattle.fancy_index.proofs.Words.{◌≡◌, ℕ, ◌+◌, ◌<◌, ◌++◌, length, take, sym, ap, subst, ◌∙◌, arith, length-set, pos, length-run_offsets, bools_in, ranks_from}
+use Rattle.std.proofs.Common.{◌≡◌, ℕ, ◌+◌, ◌<◌, ◌++◌, length, take, sym, ap, subst, ◌∙◌, arith, pos}
+use Rattle.fancy_index.proofs.Words.{length-set, length-run_offsets, bools_in, ranks_from}
 use Rattle.fancy_index.proofs.BoolLaws.{noted, length-bools, bool-there}
 use Rattle.fancy_index.proofs.RunLaws.{first-low, steps-low, steps-high, lies-there}
 use Rattle.fancy_index.proofs.masks.note_true.Goals as goal

@@ -1,4 +1,5 @@
-use Rattle.fancy_index.proofs.Words.{◌≡◌, ◌+◌, ◌≤◌, ◌++◌, ℕ, List, length, take, ranks_from}
+use Rattle.std.proofs.Common.{◌≡◌, ◌+◌, ◌≤◌, ◌++◌, ℕ, List, length, take}
+use Rattle.fancy_index.proofs.Words.{ranks_from}
 use Rattle.fancy_index.proofs.masks.note_true.Given as goal
 
 abbrev pub invariant-loop-k : goal.invariant-loop-k

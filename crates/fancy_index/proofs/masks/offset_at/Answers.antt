@@ -1,4 +1,5 @@
-use Rattle.fancy_index.proofs.Words.{get_or, ap, ◌∙◌, arith, ints, Layout, offsets}
+use Rattle.std.proofs.Common.{get_or, ap, ◌∙◌, arith}
+use Rattle.fancy_index.proofs.Words.{ints, Layout, offsets}
 use Rattle.fancy_index.proofs.RankLaws.{start, low, high, offset-is}
 use Rattle.fancy_index.proofs.masks.offset_at.Goals as goal
 

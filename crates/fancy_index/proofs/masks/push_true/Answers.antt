@@ -1,4 +1,5 @@
-use Rattle.fancy_index.proofs.Words.{◌+◌, ◌++◌, sym, ap, ◌∙◌, arith, append-nil, drop_all, bools_in, true_ranks}
+use Rattle.std.proofs.Common.{◌+◌, ◌++◌, sym, ap, ◌∙◌, arith, append-nil}
+use Rattle.fancy_index.proofs.Words.{drop_all, bools_in, true_ranks}
 use Rattle.fancy_index.proofs.BoolLaws.{length-bools}
 use Rattle.fancy_index.proofs.masks.push_true.Goals as goal
 

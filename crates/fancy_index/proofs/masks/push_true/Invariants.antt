@@ -1,4 +1,5 @@
-use Rattle.fancy_index.proofs.Words.{◌≡◌, ◌+◌, ◌-◌, ◌≤◌, ◌++◌, drop, true_ranks, bools_in}
+use Rattle.std.proofs.Common.{◌≡◌, ◌+◌, ◌-◌, ◌≤◌, ◌++◌, drop}
+use Rattle.fancy_index.proofs.Words.{true_ranks, bools_in}
 use Rattle.fancy_index.proofs.masks.push_true.Given as goal
 
 abbrev pub invariant-loop-from : goal.invariant-loop-from

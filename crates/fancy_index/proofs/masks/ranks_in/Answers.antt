@@ -1,4 +1,5 @@
-use Rattle.fancy_index.proofs.Words.{rules, ◌≡◌, ◌+◌, ◌≤◌, ◌++◌, length, map, All, sym, ap, subst, ◌∙◌, arith, append-nil, length-append, flat_map, All-rest, item_size, max_bytes, max_items, offsets, length-offsets, run_offsets, length-run_offsets, bool_at, true_ranks, LiesIn}
+use Rattle.std.proofs.Common.{rules, ◌≡◌, ◌+◌, ◌≤◌, ◌++◌, length, map, All, sym, ap, subst, ◌∙◌, arith, append-nil, length-append}
+use Rattle.fancy_index.proofs.Words.{flat_map, All-rest, item_size, max_bytes, max_items, offsets, length-offsets, run_offsets, length-run_offsets, bool_at, true_ranks, LiesIn}
 use Rattle.fancy_index.proofs.BoolLaws.{mask-bool, numbers-are, found_added, run_noted}
 use Rattle.fancy_index.proofs.WordLaws.{runs-lie}
 use Rattle.fancy_index.proofs.masks.ranks_in.Goals as goal

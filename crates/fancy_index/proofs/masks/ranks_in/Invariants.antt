@@ -1,4 +1,5 @@
-use Rattle.fancy_index.proofs.Words.{◌≡◌, ◌+◌, ◌≤◌, ◌++◌, length, map, All, flat_map, item_size, offsets, max_items, run_offsets, bool_at, true_ranks, LiesIn}
+use Rattle.std.proofs.Common.{◌≡◌, ◌+◌, ◌≤◌, ◌++◌, length, map, All}
+use Rattle.fancy_index.proofs.Words.{flat_map, item_size, offsets, max_items, run_offsets, bool_at, true_ranks, LiesIn}
 use Rattle.fancy_index.proofs.masks.ranks_in.Given as goal
 
 abbrev pub invariant-loop-run : goal.invariant-loop-run

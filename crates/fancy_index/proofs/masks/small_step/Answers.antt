@@ -1,4 +1,5 @@
-use Rattle.fancy_index.proofs.Words.{◌≡◌, ap, sym, ◌∙◌, arith, rules, to_z, of_z, w32, w64, ints, pos, ◌*ℤ◌, zero-*ℤ, *ℤ-zero}
+use Rattle.std.proofs.Common.{◌≡◌, ap, sym, ◌∙◌, arith, rules, to_z, of_z, w32, w64, pos, ◌*ℤ◌}
+use Rattle.fancy_index.proofs.Words.{ints, zero-*ℤ, *ℤ-zero}
 use Rattle.fancy_index.proofs.RunLaws.{steps-low, steps-high}
 use Rattle.fancy_index.proofs.masks.small_step.Goals as goal
 

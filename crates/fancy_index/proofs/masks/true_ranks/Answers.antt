@@ -1,4 +1,5 @@
-use Rattle.fancy_index.proofs.Words.{map, ap, ◌∙◌, IfOk-weaker, Descr, item_from, offsets, true_ranks}
+use Rattle.std.proofs.Common.{map, ap, ◌∙◌}
+use Rattle.fancy_index.proofs.Words.{IfOk-weaker, Descr, item_from, offsets, true_ranks}
 use Rattle.fancy_index.proofs.BoolLaws.{numbers-same}
 use Rattle.fancy_index.proofs.masks.true_ranks.Goals as goal
 

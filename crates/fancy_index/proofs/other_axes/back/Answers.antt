@@ -1,4 +1,5 @@
-use Rattle.fancy_index.proofs.Words.{ap, sym, subst, drop, length, ◌∙◌, arith, count, IsShape, slice-rest}
+use Rattle.std.proofs.Common.{ap, sym, subst, drop, length, ◌∙◌, arith}
+use Rattle.fancy_index.proofs.Words.{count, IsShape, slice-rest}
 use Rattle.fancy_index.proofs.CutLaws.{shape-behind, some-behind, lies-behind, strides-behind}
 use Rattle.fancy_index.proofs.other_axes.back.Goals as goal
 

@@ -1,4 +1,5 @@
-use Rattle.fancy_index.proofs.Words.{ap, sym, subst, take, length, ◌∙◌, arith, count, IsShape}
+use Rattle.std.proofs.Common.{ap, sym, subst, take, length, ◌∙◌, arith}
+use Rattle.fancy_index.proofs.Words.{count, IsShape}
 use Rattle.fancy_index.proofs.CutLaws.{shape-before, some-before, lies-before, strides-before}
 use Rattle.fancy_index.proofs.other_axes.front.Goals as goal
 

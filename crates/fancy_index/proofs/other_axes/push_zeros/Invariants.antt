@@ -1,4 +1,5 @@
-use Rattle.fancy_index.proofs.Words.{◌≡◌, ◌++◌, map, drop, AtAxis}
+use Rattle.std.proofs.Common.{◌≡◌, ◌++◌, map, drop}
+use Rattle.fancy_index.proofs.Words.{AtAxis}
 use Rattle.fancy_index.proofs.other_axes.push_zeros.Given as goal
 
 abbrev pub invariant-loop : goal.invariant-loop

@@ -1,4 +1,5 @@
-use Rattle.fancy_index.proofs.Words.{◌≡◌, ◌++◌, drop, rest_picks}
+use Rattle.std.proofs.Common.{◌≡◌, ◌++◌, drop}
+use Rattle.fancy_index.proofs.Words.{rest_picks}
 use Rattle.fancy_index.proofs.other_axes.rest_picks.Given as goal
 
 abbrev pub invariant-loop-part : goal.invariant-loop-part

@@ -1,4 +1,5 @@
-use Rattle.fancy_index.proofs.Words.{length, ◌∙◌, filled, filled-run}
+use Rattle.std.proofs.Common.{length, ◌∙◌}
+use Rattle.fancy_index.proofs.Words.{filled, filled-run}
 use Rattle.fancy_index.proofs.plan_rows.fill_run.Goals as goal
 
 pub returns-clause-written : goal.returns-clause-written

@@ -1,4 +1,5 @@
-use Rattle.fancy_index.proofs.Words.{rules, w64, ◌∙◌, to_z-of_z, SFits, run_offsets}
+use Rattle.std.proofs.Common.{rules, w64, ◌∙◌}
+use Rattle.fancy_index.proofs.Words.{to_z-of_z, SFits, run_offsets}
 use Rattle.fancy_index.proofs.RunLaws.{first_moved, each-moved, offsets-moved}
 use Rattle.fancy_index.proofs.plan_rows.moved_run.Goals as goal
 

@@ -1,4 +1,5 @@
-use Rattle.fancy_index.proofs.Words.{map, sym, ap, subst, ◌∙◌, err_from_is_err_and, are_within, parts, index_items, GivesPlan, shown_part, all_named}
+use Rattle.std.proofs.Common.{map, sym, ap, subst, ◌∙◌}
+use Rattle.fancy_index.proofs.Words.{err_from_is_err_and, are_within, parts, index_items, GivesPlan, shown_part, all_named}
 use Rattle.fancy_index.proofs.AnswerLaws.{named-view}
 use Rattle.fancy_index.proofs.IndexedLaws.{indexed-parts, refused-range}
 use Rattle.fancy_index.proofs.planning.plan.Goals as goal

@@ -1,4 +1,5 @@
-use Rattle.fancy_index.proofs.Words.{Ok, map, ap, ◌∙◌, refl, arith, IndexOutOfRange, shape_of, all_axes, shown_part, all_named}
+use Rattle.std.proofs.Common.{Ok, map, ap, ◌∙◌, refl, arith}
+use Rattle.fancy_index.proofs.Words.{IndexOutOfRange, shape_of, all_axes, shown_part, all_named}
 use Rattle.fancy_index.proofs.AnswerLaws.{shape-made, gives_named, gives_none, gives_some, points-ready}
 use Rattle.fancy_index.proofs.PartLaws.{passed}
 use Rattle.fancy_index.proofs.planning.plan_of_parts.Goals as goal

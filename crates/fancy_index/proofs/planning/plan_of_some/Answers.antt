@@ -1,4 +1,5 @@
-use Rattle.fancy_index.proofs.Words.{◌<◌, ◌/◌, ℕ, List, [], map, length, take, drop, All, sym, ap, subst, ◌∙◌, arith, count, zero_filled, IsIndex-first, offsets, IsShape, other_axes, moved_all, AreStarts, shown_part}
+use Rattle.std.proofs.Common.{◌<◌, ◌/◌, ℕ, List, [], map, length, take, drop, All, sym, ap, subst, ◌∙◌, arith}
+use Rattle.fancy_index.proofs.Words.{count, zero_filled, IsIndex-first, offsets, IsShape, other_axes, moved_all, AreStarts, shown_part}
 use Rattle.fancy_index.proofs.LaidLaws.{IsLaid, some_others, points_many, first-in, starts, is-plan, count-is, small-offset}
 use Rattle.fancy_index.proofs.LeadLaws.{rest-are}
 use Rattle.fancy_index.proofs.ShiftLaws.{all_ready_at}

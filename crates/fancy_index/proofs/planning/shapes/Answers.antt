@@ -1,4 +1,5 @@
-use Rattle.fancy_index.proofs.Words.{map, err_from_is_err_and, shown_part}
+use Rattle.std.proofs.Common.{map}
+use Rattle.fancy_index.proofs.Words.{err_from_is_err_and, shown_part}
 use Rattle.fancy_index.proofs.AnswerLaws.{view_no_points, view_no_shape}
 use Rattle.fancy_index.proofs.planning.shapes.Goals as goal
 

@@ -1,4 +1,5 @@
-use Rattle.fancy_index.proofs.Words.{◌≡◌, ◌+◌, ◌*◌, ◌<◌, length, get_or, All, subst, ap, ◌∙◌, sym, arith, offsets, length-offsets, moved_offset, moved_all, IsMoved, AreStarts}
+use Rattle.std.proofs.Common.{◌≡◌, ◌+◌, ◌*◌, ◌<◌, length, get_or, All, subst, ap, ◌∙◌, sym, arith}
+use Rattle.fancy_index.proofs.Words.{offsets, length-offsets, moved_offset, moved_all, IsMoved, AreStarts}
 use Rattle.fancy_index.proofs.PlanLaws.{some_of, place_low, get_or-moved_all, start_at, item_at}
 use Rattle.fancy_index.proofs.plans.offset_in.Goals as goal
 use Rattle.fancy_index.proofs.plans.offset_in.Goals.{After-spot_at-at}

@@ -1,4 +1,5 @@
-use Rattle.fancy_index.proofs.Words.{◌≡◌, length, refl, sym, ap, subst, ◌∙◌, length-map, err_from_is_err_and, count, offsets, length-offsets, Items, kind, axes_of_kind, are_places, points_of, number_from, index_array_of, IsOutside, IsPart}
+use Rattle.std.proofs.Common.{◌≡◌, length, refl, sym, ap, subst, ◌∙◌}
+use Rattle.fancy_index.proofs.Words.{length-map, err_from_is_err_and, count, offsets, length-offsets, Items, kind, axes_of_kind, are_places, points_of, number_from, index_array_of, IsOutside, IsPart}
 use Rattle.fancy_index.proofs.PointLaws.{part-of_mask, part-of_integers, places_tested}
 use Rattle.fancy_index.proofs.points.array_points.Goals as goal
 

@@ -1,4 +1,5 @@
-use Rattle.fancy_index.proofs.Words.{◌≡◌, inl, inr, length, ap, ◌∙◌, arith, length-map, nil_from_length, IndexOutOfRange, check, count, offsets, length-offsets, Items, number_from, numbers_in}
+use Rattle.std.proofs.Common.{◌≡◌, inl, inr, length, ap, ◌∙◌, arith}
+use Rattle.fancy_index.proofs.Words.{length-map, nil_from_length, IndexOutOfRange, check, count, offsets, length-offsets, Items, number_from, numbers_in}
 use Rattle.fancy_index.proofs.PointLaws.{none-named}
 use Rattle.fancy_index.proofs.points.integer_points.Goals as goal
 use Rattle.fancy_index.proofs.points.integer_points.Goals.{else-n-eq0-via-then-n-eq0+else-items-gt0, else-n-eq0-via-else-n-eq0}

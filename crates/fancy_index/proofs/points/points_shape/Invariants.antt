@@ -1,4 +1,5 @@
-use Rattle.fancy_index.proofs.Words.{◌≡◌, map, drop, common_with, point_shapes, as_index_shapes, points_shape, shown_part}
+use Rattle.std.proofs.Common.{◌≡◌, map, drop}
+use Rattle.fancy_index.proofs.Words.{common_with, point_shapes, as_index_shapes, points_shape, shown_part}
 use Rattle.fancy_index.proofs.points.points_shape.Given as goal
 
 abbrev pub invariant-loop-part : goal.invariant-loop-part

@@ -1,4 +1,5 @@
-use Rattle.fancy_index.proofs.Words.{rules, ◌≡◌, ◌+◌, ◌-◌, ◌++◌, ℕ, [], length, map, take, drop, All, refl, sym, ap, subst, ◌∙◌, arith, append_assoc, length-append, ℤ, flat_map, map-append, All-rest, take-put_mid, mid_len, same_len_mid, item_size, length-offsets, offsets, run_offsets, length-run_offsets, number_from, words_along, LiesIn, ArePlaces}
+use Rattle.std.proofs.Common.{rules, ◌≡◌, ◌+◌, ◌-◌, ◌++◌, ℕ, [], length, map, take, drop, All, refl, sym, ap, subst, ◌∙◌, arith, append_assoc, length-append, ℤ}
+use Rattle.fancy_index.proofs.Words.{flat_map, map-append, All-rest, take-put_mid, mid_len, same_len_mid, item_size, length-offsets, offsets, run_offsets, length-run_offsets, number_from, words_along, LiesIn, ArePlaces}
 use Rattle.fancy_index.proofs.WordLaws.{runs-lie, length-words, more_places}
 use Rattle.fancy_index.proofs.positions.put_all.Goals as goal
 use Rattle.fancy_index.proofs.positions.put_all.Goals.{In-Some-run}

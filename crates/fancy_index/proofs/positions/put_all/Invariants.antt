@@ -1,4 +1,5 @@
-use Rattle.fancy_index.proofs.Words.{◌≡◌, ◌+◌, ◌++◌, ℕ, List, length, map, take, All, flat_map, item_size, offsets, run_offsets, number_from, LiesIn, ArePlaces}
+use Rattle.std.proofs.Common.{◌≡◌, ◌+◌, ◌++◌, ℕ, List, length, map, take, All}
+use Rattle.fancy_index.proofs.Words.{flat_map, item_size, offsets, run_offsets, number_from, LiesIn, ArePlaces}
 use Rattle.fancy_index.proofs.positions.put_all.Given as goal
 
 abbrev pub invariant-loop-run : goal.invariant-loop-run

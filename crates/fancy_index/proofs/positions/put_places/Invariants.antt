@@ -1,4 +1,5 @@
-use Rattle.fancy_index.proofs.Words.{◌≡◌, length, take, ArePlaces}
+use Rattle.std.proofs.Common.{◌≡◌, length, take}
+use Rattle.fancy_index.proofs.Words.{ArePlaces}
 use Rattle.fancy_index.proofs.positions.put_places.Given as goal
 
 abbrev pub invariant-loop-k : goal.invariant-loop-k

@@ -1,4 +1,5 @@
-use Rattle.fancy_index.proofs.Words.{◌∙◌, refl, sym, subst, ArePlaces}
+use Rattle.std.proofs.Common.{◌∙◌, refl, sym, subst}
+use Rattle.fancy_index.proofs.Words.{ArePlaces}
 use Rattle.fancy_index.proofs.WordLaws.{length-words, native-end, native-numbers}
 use Rattle.fancy_index.proofs.positions.put_run.Goals as goal
 

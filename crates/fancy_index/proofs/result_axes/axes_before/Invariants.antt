@@ -1,4 +1,5 @@
-use Rattle.fancy_index.proofs.Words.{◌≡◌, ◌+◌, ◌≤◌, map, drop, axes_before, shown_part}
+use Rattle.std.proofs.Common.{◌≡◌, ◌+◌, ◌≤◌, map, drop}
+use Rattle.fancy_index.proofs.Words.{axes_before, shown_part}
 use Rattle.fancy_index.proofs.result_axes.axes_before.Given as goal
 
 abbrev pub invariant-loop-part : goal.invariant-loop-part

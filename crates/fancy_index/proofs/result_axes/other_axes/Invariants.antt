@@ -1,4 +1,5 @@
-use Rattle.fancy_index.proofs.Words.{◌≡◌, ◌++◌, map, drop, other_axes, shown_part}
+use Rattle.std.proofs.Common.{◌≡◌, ◌++◌, map, drop}
+use Rattle.fancy_index.proofs.Words.{other_axes, shown_part}
 use Rattle.fancy_index.proofs.result_axes.other_axes.Given as goal
 
 abbrev pub invariant-loop-part : goal.invariant-loop-part

@@ -1,4 +1,5 @@
-use Rattle.fancy_index.proofs.Words.{map, arith, shown_part}
+use Rattle.std.proofs.Common.{map, arith}
+use Rattle.fancy_index.proofs.Words.{shown_part}
 use Rattle.fancy_index.proofs.PlaceLaws.{axes-within}
 use Rattle.fancy_index.proofs.result_axes.points_place.Goals as goal
 

@@ -1,4 +1,5 @@
-use Rattle.fancy_index.proofs.Words.{◌++◌, ◌∷◌, [], sym, ap, ◌∙◌, length-run}
+use Rattle.std.proofs.Common.{◌++◌, ◌∷◌, [], sym, ap, ◌∙◌}
+use Rattle.fancy_index.proofs.Words.{length-run}
 use Rattle.fancy_index.proofs.result_axes.push_picked.Goals as goal
 
 pub returns-in_ok-push-in-Along : goal.returns-in_ok-push-in-Along

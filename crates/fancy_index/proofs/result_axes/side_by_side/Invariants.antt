@@ -1,4 +1,5 @@
-use Rattle.fancy_index.proofs.Words.{◌≡◌, map, drop, side_by_side, shown_part, stand}
+use Rattle.std.proofs.Common.{◌≡◌, map, drop}
+use Rattle.fancy_index.proofs.Words.{side_by_side, shown_part, stand}
 use Rattle.fancy_index.proofs.result_axes.side_by_side.Given as goal
 
 abbrev pub invariant-loop-part : goal.invariant-loop-part

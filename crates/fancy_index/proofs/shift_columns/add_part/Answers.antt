@@ -1,4 +1,5 @@
-use Rattle.fancy_index.proofs.Words.{◌≡◌, ◌<◌, ◌++◌, ℕ, List, length, take, drop, get_or, sym, ap, subst, ◌∙◌, arith, length-map, count, rank, offsets, broadcast_index, IndexPart, IsMoved, tuple, IsReady, point_number, part_offset, BeginsAt}
+use Rattle.std.proofs.Common.{◌≡◌, ◌<◌, ◌++◌, ℕ, List, length, take, drop, get_or, sym, ap, subst, ◌∙◌, arith}
+use Rattle.fancy_index.proofs.Words.{length-map, count, rank, offsets, broadcast_index, IndexPart, IsMoved, tuple, IsReady, point_number, part_offset, BeginsAt}
 use Rattle.fancy_index.proofs.StartLaws.{led-number}
 use Rattle.fancy_index.proofs.SumLaws.{written, regrown}
 use Rattle.fancy_index.proofs.shift_columns.add_part.Goals as goal

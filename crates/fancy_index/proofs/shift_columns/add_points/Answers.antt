@@ -1,4 +1,5 @@
-use Rattle.fancy_index.proofs.Words.{rules, ◌≡◌, [], length, get_or, refl, sym, ap, subst, ◌∙◌, arith, count, offsets, stretched_ranks, point_number, HaveGrown}
+use Rattle.std.proofs.Common.{rules, ◌≡◌, [], length, get_or, refl, sym, ap, subst, ◌∙◌, arith}
+use Rattle.fancy_index.proofs.Words.{count, offsets, stretched_ranks, point_number, HaveGrown}
 use Rattle.fancy_index.proofs.SizeLaws.{stretched-shape}
 use Rattle.fancy_index.proofs.StartLaws.{whole-number, length-places, stretched-number, places-low}
 use Rattle.fancy_index.proofs.SumLaws.{written, can-begun, grown-begun, first-grown}

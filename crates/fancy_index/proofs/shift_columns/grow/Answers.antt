@@ -1,4 +1,5 @@
-use Rattle.fancy_index.proofs.Words.{get_or, sym, subst, arith, IsMoved}
+use Rattle.std.proofs.Common.{get_or, sym, subst, arith}
+use Rattle.fancy_index.proofs.Words.{IsMoved}
 use Rattle.fancy_index.proofs.shift_columns.grow.Goals as goal
 use Rattle.fancy_index.proofs.shift_columns.grow.Goals.{In-loop-k}
 

@@ -1,4 +1,5 @@
-use Rattle.fancy_index.proofs.Words.{get_or, HaveGrownFrom}
+use Rattle.std.proofs.Common.{get_or}
+use Rattle.fancy_index.proofs.Words.{HaveGrownFrom}
 use Rattle.fancy_index.proofs.shift_columns.grow.Given as goal
 
 abbrev pub invariant-loop-k : goal.invariant-loop-k

@@ -1,4 +1,5 @@
-use Rattle.fancy_index.proofs.Words.{◌<◌, [], ◌∷◌, length, get_or, sym, ap, subst, ◌∙◌, arith, length-drop, flat_map, All-rest, Run, LieWithin, max_bytes, offsets, length-offsets, run_offsets, IsMoved, number_along}
+use Rattle.std.proofs.Common.{◌<◌, [], ◌∷◌, length, get_or, sym, ap, subst, ◌∙◌, arith, length-drop}
+use Rattle.fancy_index.proofs.Words.{flat_map, All-rest, Run, LieWithin, max_bytes, offsets, length-offsets, run_offsets, IsMoved, number_along}
 use Rattle.fancy_index.proofs.SumLaws.{grown_all, grown_run, NextRun, next_run, run_here}
 use Rattle.fancy_index.proofs.shift_columns.grow_along.Goals as goal
 use Rattle.fancy_index.proofs.shift_columns.grow_along.Goals.{In-Some}

@@ -1,4 +1,5 @@
-use Rattle.fancy_index.proofs.Words.{◌≡◌, ◌≤◌, [], ◌∷◌, All, get_or, drop, length, flat_map, LieWithin, max_bytes, offsets, run_offsets, HaveGrownFrom}
+use Rattle.std.proofs.Common.{◌≡◌, ◌≤◌, [], ◌∷◌, All, get_or, drop, length}
+use Rattle.fancy_index.proofs.Words.{flat_map, LieWithin, max_bytes, offsets, run_offsets, HaveGrownFrom}
 use Rattle.fancy_index.proofs.shift_columns.grow_along.Given as goal
 
 abbrev pub invariant-loop-run : goal.invariant-loop-run

@@ -1,4 +1,5 @@
-use Rattle.fancy_index.proofs.Words.{◌≡◌, ◌+◌, ◌-◌, ◌<◌, ◌≤◌, length, get_or, sym, ap, subst, ◌∙◌, arith, ints, max_bytes, run_offsets, length-run_offsets, moved_offset, IsMoved, HaveGrownFrom, number_along}
+use Rattle.std.proofs.Common.{◌≡◌, ◌+◌, ◌-◌, ◌<◌, ◌≤◌, length, get_or, sym, ap, subst, ◌∙◌, arith}
+use Rattle.fancy_index.proofs.Words.{ints, max_bytes, run_offsets, length-run_offsets, moved_offset, IsMoved, HaveGrownFrom, number_along}
 use Rattle.fancy_index.proofs.RunLaws.{first-low, steps-low, steps-high, lies-there}
 use Rattle.fancy_index.proofs.SumLaws.{grown_more}
 use Rattle.fancy_index.proofs.shift_columns.grow_each.Goals as goal

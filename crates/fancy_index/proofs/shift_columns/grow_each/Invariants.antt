@@ -1,4 +1,5 @@
-use Rattle.fancy_index.proofs.Words.{◌+◌, HaveGrownFrom, number_along}
+use Rattle.std.proofs.Common.{◌+◌}
+use Rattle.fancy_index.proofs.Words.{HaveGrownFrom, number_along}
 use Rattle.fancy_index.proofs.shift_columns.grow_each.Given as goal
 
 abbrev pub invariant-loop-k : goal.invariant-loop-k

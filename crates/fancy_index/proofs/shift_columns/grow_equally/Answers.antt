@@ -1,4 +1,5 @@
-use Rattle.fancy_index.proofs.Words.{◌≡◌, ◌+◌, ◌-◌, get_or, sym, subst, arith, moved_offset, IsMoved, HaveGrownFrom}
+use Rattle.std.proofs.Common.{◌≡◌, ◌+◌, ◌-◌, get_or, sym, subst, arith}
+use Rattle.fancy_index.proofs.Words.{moved_offset, IsMoved, HaveGrownFrom}
 use Rattle.fancy_index.proofs.SumLaws.{grown_more}
 use Rattle.fancy_index.proofs.shift_columns.grow_equally.Goals as goal
 use Rattle.fancy_index.proofs.shift_columns.grow_equally.Goals.{In-loop-k}

@@ -1,4 +1,5 @@
-use Rattle.fancy_index.proofs.Words.{◌≡◌, ℕ, ◌+◌, ◌-◌, ◌<◌, ◌≤◌, length, get_or, pos, sym, ap, subst, ◌∙◌, arith, ints, length-run_offsets, moved_offset, IsMoved, number_along}
+use Rattle.std.proofs.Common.{◌≡◌, ℕ, ◌+◌, ◌-◌, ◌<◌, ◌≤◌, length, get_or, pos, sym, ap, subst, ◌∙◌, arith}
+use Rattle.fancy_index.proofs.Words.{ints, length-run_offsets, moved_offset, IsMoved, number_along}
 use Rattle.fancy_index.proofs.RunLaws.{at-one-place, first-low}
 use Rattle.fancy_index.proofs.shift_columns.grow_run.Goals as goal
 use Rattle.fancy_index.proofs.shift_columns.grow_run.Goals.{Then-places-gt0}

@@ -1,4 +1,5 @@
-use Rattle.fancy_index.proofs.Words.{◌≡◌, ◌+◌, ◌<◌, ℕ, List, length, get_or, slice_set, drop, sym, ap, subst, ◌∙◌, arith, err_from_is_err_and, get_or-drop, get_or_default, drop-drop, drop-set-lt, IndexOutOfRange, IsIndex, address, IndexPart, IsReady}
+use Rattle.std.proofs.Common.{◌≡◌, ◌+◌, ◌<◌, ℕ, List, length, get_or, slice_set, drop, sym, ap, subst, ◌∙◌, arith}
+use Rattle.fancy_index.proofs.Words.{err_from_is_err_and, get_or-drop, get_or_default, drop-drop, drop-set-lt, IndexOutOfRange, IsIndex, address, IndexPart, IsReady}
 use Rattle.fancy_index.proofs.StartLaws.{start-in, begins, can-add, axis-low, axis-after, added, sums_all}
 use Rattle.fancy_index.proofs.PartLaws.{passed, named_more, outside-at}
 use Rattle.fancy_index.proofs.shift_columns.shifts.Goals as goal

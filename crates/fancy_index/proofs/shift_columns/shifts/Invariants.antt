@@ -1,4 +1,5 @@
-use Rattle.fancy_index.proofs.Words.{◌≡◌, true, take, drop, all_named, AreSums}
+use Rattle.std.proofs.Common.{◌≡◌, true, take, drop}
+use Rattle.fancy_index.proofs.Words.{all_named, AreSums}
 use Rattle.fancy_index.proofs.shift_columns.shifts.Given as goal
 
 abbrev pub invariant-loop-part : goal.invariant-loop-part

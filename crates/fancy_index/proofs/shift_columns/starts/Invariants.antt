@@ -1,4 +1,5 @@
-use Rattle.fancy_index.proofs.Words.{◌≡◌, ◌++◌, drop, starts}
+use Rattle.std.proofs.Common.{◌≡◌, ◌++◌, drop}
+use Rattle.fancy_index.proofs.Words.{starts}
 use Rattle.fancy_index.proofs.shift_columns.starts.Given as goal
 
 abbrev pub invariant-loop-part : goal.invariant-loop-part

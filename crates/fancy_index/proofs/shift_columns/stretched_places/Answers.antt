@@ -1,4 +1,5 @@
-use Rattle.fancy_index.proofs.Words.{◌∙◌, IfOk-weaker, can_stretch}
+use Rattle.std.proofs.Common.{◌∙◌}
+use Rattle.fancy_index.proofs.Words.{IfOk-weaker, can_stretch}
 use Rattle.fancy_index.proofs.SizeLaws.{places-given}
 use Rattle.fancy_index.proofs.shift_columns.stretched_places.Goals as goal
 

@@ -1,4 +1,5 @@
-use Rattle.fancy_index.proofs.Words.{◌≡◌, length, map, drop, put_each, moved_offset}
+use Rattle.std.proofs.Common.{◌≡◌, length, map, drop}
+use Rattle.fancy_index.proofs.Words.{put_each, moved_offset}
 use Rattle.fancy_index.proofs.Passes.{Filling}
 use Rattle.fancy_index.proofs.singles.fill_each.Given as goal
 

@@ -1,4 +1,5 @@
-use Rattle.fancy_index.proofs.Words.{◌++◌, length, map, ap, ◌∙◌, arith, drop_all, item_at, moved_offset}
+use Rattle.std.proofs.Common.{◌++◌, length, map, ap, ◌∙◌, arith}
+use Rattle.fancy_index.proofs.Words.{drop_all, item_at, moved_offset}
 use Rattle.fancy_index.proofs.Passes.{pushed_all}
 use Rattle.fancy_index.proofs.SingleLaws.{push_one, pushed_one}
 use Rattle.fancy_index.proofs.singles.push_each.Goals as goal

@@ -1,4 +1,5 @@
-use Rattle.fancy_index.proofs.Words.{◌-◌, ◌≤◌, length, map, drop, moved_offset, first_offsets}
+use Rattle.std.proofs.Common.{◌-◌, ◌≤◌, length, map, drop}
+use Rattle.fancy_index.proofs.Words.{moved_offset, first_offsets}
 use Rattle.fancy_index.proofs.Passes.{Pushing}
 use Rattle.fancy_index.proofs.singles.push_singles.Given as goal
 

@@ -1,4 +1,5 @@
-use Rattle.fancy_index.proofs.Words.{◌++◌, ap, ◌∙◌, joined_at}
+use Rattle.std.proofs.Common.{◌++◌, ap, ◌∙◌}
+use Rattle.fancy_index.proofs.Words.{joined_at}
 use Rattle.fancy_index.proofs.singles.push_stretch.Goals as goal
 
 pub returns-in-Some-default-clause-bytes : goal.returns-in-Some-default-clause-bytes

@@ -1,4 +1,5 @@
-use Rattle.fancy_index.proofs.Words.{length, ap, ◌∙◌, arith, item_at, put}
+use Rattle.std.proofs.Common.{length, ap, ◌∙◌, arith}
+use Rattle.fancy_index.proofs.Words.{item_at, put}
 use Rattle.fancy_index.proofs.SingleLaws.{scatter_one, scattered_one}
 use Rattle.fancy_index.proofs.singles.scatter_each.Goals as goal
 

@@ -1,4 +1,5 @@
-use Rattle.fancy_index.proofs.Words.{◌∙◌, arith, first_offsets}
+use Rattle.std.proofs.Common.{◌∙◌, arith}
+use Rattle.fancy_index.proofs.Words.{first_offsets}
 use Rattle.fancy_index.proofs.Passes.{scatter_front, scattered_front}
 use Rattle.fancy_index.proofs.SingleLaws.{split-part}
 use Rattle.fancy_index.proofs.singles.scatter_singles.Goals as goal

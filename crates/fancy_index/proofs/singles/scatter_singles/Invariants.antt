@@ -1,4 +1,5 @@
-use Rattle.fancy_index.proofs.Words.{◌≡◌, ◌-◌, ◌≤◌, length, map, drop, moved_offset, first_offsets, end_of, put_packed}
+use Rattle.std.proofs.Common.{◌≡◌, ◌-◌, ◌≤◌, length, map, drop}
+use Rattle.fancy_index.proofs.Words.{moved_offset, first_offsets, end_of, put_packed}
 use Rattle.fancy_index.proofs.Passes.{Scattering}
 use Rattle.fancy_index.proofs.singles.scatter_singles.Given as goal
 

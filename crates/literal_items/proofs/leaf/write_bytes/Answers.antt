@@ -1,4 +1,5 @@
-use Rattle.literal_items.proofs.Words.{◌++◌, ◌∙◌, length, drop, without_nuls}
+use Rattle.std.proofs.Common.{◌++◌, ◌∙◌, length, drop}
+use Rattle.literal_items.proofs.Words.{without_nuls}
 use Rattle.literal_items.proofs.Nuls.{bytes_encoded, bytes_read_back}
 use Rattle.literal_items.proofs.leaf.write_bytes.Goals as goal
 

@@ -1,4 +1,5 @@
-use Rattle.literal_items.proofs.Words.{sym, ap, ◌∙◌, arith, total, weight, weight-one, seen_fields, is_castable, is_in_range}
+use Rattle.std.proofs.Common.{sym, ap, ◌∙◌, arith}
+use Rattle.literal_items.proofs.Words.{total, weight, weight-one, seen_fields, is_castable, is_in_range}
 use Rattle.literal_items.proofs.Fields.{IsTurn, turn_fails, turn_passes, turn_passed, stand_for-record, stand_for-length}
 use Rattle.literal_items.proofs.literal_item.+are_in_range.Goals as goal
 

@@ -1,4 +1,5 @@
-use Rattle.literal_items.proofs.Words.{◌≡◌, ◌+◌, ◌*◌, true, drop, total, listed, weight, all_values, can_hold, are_in_range}
+use Rattle.std.proofs.Common.{◌≡◌, ◌+◌, ◌*◌, true, drop}
+use Rattle.literal_items.proofs.Words.{total, listed, weight, all_values, can_hold, are_in_range}
 use Rattle.literal_items.proofs.literal_item.+are_in_range.Given as goal
 
 -- the remaining fields decide the answer, and they can hold their literals

@@ -1,4 +1,5 @@
-use Rattle.literal_items.proofs.Words.{sym, ap, ◌∙◌, arith, total, listed, weight, weight-one, seen_fields, all_values, is_castable, can_hold}
+use Rattle.std.proofs.Common.{sym, ap, ◌∙◌, arith}
+use Rattle.literal_items.proofs.Words.{total, listed, weight, weight-one, seen_fields, all_values, is_castable, can_hold}
 use Rattle.literal_items.proofs.Lists.{not_true}
 use Rattle.literal_items.proofs.Fields.{IsTurn, turn_fails, turn_passes, none_left, stand_for-record, stand_for-length}
 use Rattle.literal_items.proofs.literal_item.+can_hold.Goals as goal

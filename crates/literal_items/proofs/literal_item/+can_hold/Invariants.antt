@@ -1,4 +1,5 @@
-use Rattle.literal_items.proofs.Words.{◌≡◌, ◌+◌, ◌*◌, drop, total, listed, weight, all_values, can_hold}
+use Rattle.std.proofs.Common.{◌≡◌, ◌+◌, ◌*◌, drop}
+use Rattle.literal_items.proofs.Words.{total, listed, weight, all_values, can_hold}
 use Rattle.literal_items.proofs.literal_item.+can_hold.Given as goal
 
 -- the remaining fields decide the answer

@@ -1,4 +1,5 @@
-use Rattle.literal_items.proofs.Words.{◌+◌, drop, sym, ap, ◌∙◌, arith, rules, refl, total, item_size, leaves_from, weight, weight-one, seen_fields, all_values, is_castable, can_hold, field_values, put_leaves}
+use Rattle.std.proofs.Common.{◌+◌, drop, sym, ap, ◌∙◌, arith, rules, refl}
+use Rattle.literal_items.proofs.Words.{total, item_size, leaves_from, weight, weight-one, seen_fields, all_values, is_castable, can_hold, field_values, put_leaves}
 use Rattle.literal_items.proofs.Fields.{IsTurn, turn_passes, turn_passed, stand_for-literals, stand_for-length, turn_within, put_record, put_fields, put_fields-at, put_fields-none}
 use Rattle.literal_items.proofs.literal_item.+write_fields.Goals as goal
 

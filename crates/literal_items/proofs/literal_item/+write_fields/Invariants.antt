@@ -1,4 +1,5 @@
-use Rattle.literal_items.proofs.Words.{◌≡◌, ◌+◌, ◌*◌, true, drop, total, listed, weight, all_values, can_hold}
+use Rattle.std.proofs.Common.{◌≡◌, ◌+◌, ◌*◌, true, drop}
+use Rattle.literal_items.proofs.Words.{total, listed, weight, all_values, can_hold}
 use Rattle.literal_items.proofs.Fields.{put_fields}
 use Rattle.literal_items.proofs.literal_item.+write_fields.Given as goal
 

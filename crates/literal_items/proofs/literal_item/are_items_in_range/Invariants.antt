@@ -1,4 +1,5 @@
-use Rattle.literal_items.proofs.Words.{◌≡◌, true, take, list_all, is_item_in_range}
+use Rattle.std.proofs.Common.{◌≡◌, true, take}
+use Rattle.literal_items.proofs.Words.{list_all, is_item_in_range}
 use Rattle.literal_items.proofs.literal_item.are_items_in_range.Given as goal
 
 -- the literals so far are in range

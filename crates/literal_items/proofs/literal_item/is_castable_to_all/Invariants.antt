@@ -1,4 +1,5 @@
-use Rattle.literal_items.proofs.Words.{◌≡◌, true, take, list_all, is_castable}
+use Rattle.std.proofs.Common.{◌≡◌, true, take}
+use Rattle.literal_items.proofs.Words.{list_all, is_castable}
 use Rattle.literal_items.proofs.literal_item.is_castable_to_all.Given as goal
 
 -- the leaves so far pass

@@ -1,4 +1,5 @@
-use Rattle.literal_items.proofs.Words.{◌≡◌, ◌+◌, ◌-◌, ◌*◌, ◌<◌, ◌≤◌, length, drop, take, map, sym, ap, ◌∙◌, ◌++◌, [], ◌∷◌, arith, add-mul, length-take, length-drop, map-append, mul-le-mul_right, item_size, encode_item, decode_item, values_of}
+use Rattle.std.proofs.Common.{◌≡◌, ◌+◌, ◌-◌, ◌*◌, ◌<◌, ◌≤◌, length, drop, take, map, sym, ap, ◌∙◌, ◌++◌, [], ◌∷◌, arith, add-mul, length-take, length-drop}
+use Rattle.literal_items.proofs.Words.{map-append, mul-le-mul_right, item_size, encode_item, decode_item, values_of}
 use Rattle.literal_items.proofs.Lists.{map_more}
 use Rattle.literal_items.proofs.Blocked.{blocks-put, map-blocks-put}
 use Rattle.literal_items.proofs.literal_item.write_casts.Goals as goal

@@ -1,4 +1,5 @@
-use Rattle.literal_items.proofs.Words.{◌≡◌, map, take, item_size, encode_item, decode_item, blocks, values_of}
+use Rattle.std.proofs.Common.{◌≡◌, map, take}
+use Rattle.literal_items.proofs.Words.{item_size, encode_item, decode_item, blocks, values_of}
 use Rattle.literal_items.proofs.literal_item.write_casts.Given as goal
 
 -- the block begins with the items so far

@@ -1,4 +1,5 @@
-use Rattle.literal_items.proofs.Words.{sym, ◌∙◌, LiteralOutOfRange, NoSuchCast, can_be_item, is_item_in_range, values_of, item_value}
+use Rattle.std.proofs.Common.{sym, ◌∙◌}
+use Rattle.literal_items.proofs.Words.{LiteralOutOfRange, NoSuchCast, can_be_item, is_item_in_range, values_of, item_value}
 use Rattle.literal_items.proofs.Decided.{decided_first, decided_second, decided_ok}
 use Rattle.literal_items.proofs.literal_item.write_item.Goals as goal
 

@@ -1,4 +1,5 @@
-use Rattle.literal_items.proofs.Words.{map, sym, ◌∙◌, list_all, LiteralOutOfRange, NoSuchCast, can_be_item, is_item_in_range, values_of, item_values}
+use Rattle.std.proofs.Common.{map, sym, ◌∙◌}
+use Rattle.literal_items.proofs.Words.{list_all, LiteralOutOfRange, NoSuchCast, can_be_item, is_item_in_range, values_of, item_values}
 use Rattle.literal_items.proofs.Decided.{decided_first, decided_second, decided_ok}
 use Rattle.literal_items.proofs.literal_item.write_items.Goals as goal
 

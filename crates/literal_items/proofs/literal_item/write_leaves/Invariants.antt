@@ -1,4 +1,5 @@
-use Rattle.literal_items.proofs.Words.{◌≡◌, drop, map, leaf_value, put_leaves}
+use Rattle.std.proofs.Common.{◌≡◌, drop, map}
+use Rattle.literal_items.proofs.Words.{leaf_value, put_leaves}
 use Rattle.literal_items.proofs.literal_item.write_leaves.Given as goal
 
 -- the remaining leaves complete the item

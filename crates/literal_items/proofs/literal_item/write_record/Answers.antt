@@ -1,4 +1,5 @@
-use Rattle.literal_items.proofs.Words.{replicate, sym, ap, ◌∙◌, RecordDescr, AreInOrder, leaves_from, leaves_in_order, can_hold, can_be_item}
+use Rattle.std.proofs.Common.{replicate, sym, ap, ◌∙◌}
+use Rattle.literal_items.proofs.Words.{RecordDescr, AreInOrder, leaves_from, leaves_in_order, can_hold, can_be_item}
 use Rattle.literal_items.proofs.Fields.{seen_values, put_all, put_each, record_written, record_read}
 use Rattle.literal_items.proofs.literal_item.write_record.Goals as goal
 

@@ -1,4 +1,5 @@
-use Rattle.literal_items.proofs.Words.{◌-◌, sym, ap, subst, ◌∙◌, arith, FitsSigned, w128, to_z-of_z, is_value}
+use Rattle.std.proofs.Common.{◌-◌, sym, ap, subst, ◌∙◌, arith, FitsSigned}
+use Rattle.literal_items.proofs.Words.{w128, to_z-of_z, is_value}
 use Rattle.literal_items.proofs.Ends.{first_fits, last_decides, first_fails}
 use Rattle.literal_items.proofs.range.are_values.Goals as goal
 

@@ -1,4 +1,5 @@
-use Rattle.literal_items.proofs.Words.{arith, rules, FitsSigned, w128}
+use Rattle.std.proofs.Common.{arith, rules, FitsSigned}
+use Rattle.literal_items.proofs.Words.{w128}
 use Rattle.literal_items.proofs.Stepping.{number_far}
 use Rattle.literal_items.proofs.range.number_at.Goals as goal
 

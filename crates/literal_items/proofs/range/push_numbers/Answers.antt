@@ -1,4 +1,5 @@
-use Rattle.literal_items.proofs.Words.{◌≡◌, ◌+◌, ◌*◌, ◌%◌, ◌^◌, ◌≤◌, ◌++◌, suc, pos, ◌+ℤ◌, ◌*ℤ◌, sym, ap, ◌∙◌, append_assoc, append-nil, arith, suc-mul, add-mul, zero-mul, mul-le-mul_right, number, encode, low_bits, none_more, joined, numbered}
+use Rattle.std.proofs.Common.{◌≡◌, ◌+◌, ◌*◌, ◌%◌, ◌^◌, ◌≤◌, ◌++◌, suc, pos, ◌+ℤ◌, ◌*ℤ◌, sym, ap, ◌∙◌, append_assoc, append-nil, arith, add-mul}
+use Rattle.literal_items.proofs.Words.{suc-mul, zero-mul, mul-le-mul_right, number, encode, low_bits, none_more, joined, numbered}
 use Rattle.literal_items.proofs.Counted.{next_bits, bits_of_value, value_at}
 use Rattle.literal_items.proofs.Scalars.{wrap_is}
 use Rattle.literal_items.proofs.range.push_numbers.Goals as goal

@@ -1,4 +1,5 @@
-use Rattle.literal_items.proofs.Words.{◌≡◌, ◌+◌, ◌*◌, ◌++◌, pos, ◌+ℤ◌, ◌*ℤ◌, low_bits, joined, numbered}
+use Rattle.std.proofs.Common.{◌≡◌, ◌+◌, ◌*◌, ◌++◌, pos, ◌+ℤ◌, ◌*ℤ◌}
+use Rattle.literal_items.proofs.Words.{low_bits, joined, numbered}
 use Rattle.literal_items.proofs.range.push_numbers.Given as goal
 
 -- the numbers so far are appended, and the lowest bits of the next one are known

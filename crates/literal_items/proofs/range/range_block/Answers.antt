@@ -1,4 +1,5 @@
-use Rattle.literal_items.proofs.Words.{◌≡◌, ◌*◌, ◌++◌, true, [], ◌∷◌, length, map, sym, ap, ◌∙◌, inr, list_all, err_from_is_err_and, ScalarDescr, number, is_value, size, items_in, numbers_from, joined, numbered}
+use Rattle.std.proofs.Common.{◌≡◌, ◌*◌, ◌++◌, true, [], ◌∷◌, length, map, sym, ap, ◌∙◌, inr}
+use Rattle.literal_items.proofs.Words.{list_all, err_from_is_err_and, ScalarDescr, number, is_value, size, items_in, numbers_from, joined, numbered}
 use Rattle.literal_items.proofs.Counted.{numbers_read, length-numbered}
 use Rattle.literal_items.proofs.Stepping.{range_items-refused, range_items-beyond, range_items-ok}
 use Rattle.literal_items.proofs.range.range_block.Goals as goal

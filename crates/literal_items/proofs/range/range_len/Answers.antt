@@ -1,4 +1,5 @@
-use Rattle.literal_items.proofs.Words.{◌≡◌, ◌≢◌, pos, sym, ap, ◌∙◌, arith, rules, unsigned_abs, FitsSigned, w128, cast_unsigned, div_ceil, ints, to_z-of_z, numbers_from, range_count}
+use Rattle.std.proofs.Common.{◌≡◌, ◌≢◌, pos, sym, ap, ◌∙◌, arith, rules, unsigned_abs, FitsSigned}
+use Rattle.literal_items.proofs.Words.{w128, cast_unsigned, div_ceil, ints, to_z-of_z, numbers_from, range_count}
 use Rattle.literal_items.proofs.Stepping.{range_length-zero, range_length-large, range_length-ok, count-divided, numbers-counted, counted_before, counted_fits}
 use Rattle.literal_items.proofs.range.range_len.Goals as goal
 

@@ -1,4 +1,5 @@
-use Rattle.name_store.proofs.Words.{rules, sym, ◌∙◌, Decides-int_eq, slice_eq-Decides}
+use Rattle.std.proofs.Common.{rules, sym, ◌∙◌}
+use Rattle.name_store.proofs.Words.{Decides-int_eq, slice_eq-Decides}
 use Rattle.name_store.proofs.rewrite.are_shifted.Goals as goal
 
 pub returns-then-eq-clause-sound : goal.returns-then-eq-clause-sound

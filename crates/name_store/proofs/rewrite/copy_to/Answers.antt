@@ -1,4 +1,5 @@
-use Rattle.name_store.proofs.Words.{◌∙◌, sym, ap, length, length-offsets, target_offsets, Target}
+use Rattle.std.proofs.Common.{◌∙◌, sym, ap, length}
+use Rattle.name_store.proofs.Words.{length-offsets, target_offsets, Target}
 use Rattle.name_store.proofs.rewrite.copy_to.Goals as goal
 
 pub assign_from-requires-clause-count : goal.assign_from-requires-clause-count

@@ -1,4 +1,5 @@
-use Rattle.name_store.proofs.Words.{◌+◌, ◌≤◌, All, length, refl, sym, ap, subst, ◌∙◌, offsets, pair_even, put_each, All-firsts, firsts-reordered, filled-reordered, target_offsets, Target}
+use Rattle.std.proofs.Common.{◌+◌, ◌≤◌, All, length, refl, sym, ap, subst, ◌∙◌}
+use Rattle.name_store.proofs.Words.{offsets, pair_even, put_each, All-firsts, firsts-reordered, filled-reordered, target_offsets, Target}
 use Rattle.name_store.proofs.SourceLaws.{put_each-items}
 use Rattle.name_store.proofs.rewrite.fill.Goals.{In-View-2}
 use Rattle.name_store.proofs.rewrite.fill.Goals as goal

@@ -1,4 +1,5 @@
-use Rattle.name_store.proofs.Words.{◌+◌, ◌≤◌, sym, ap, subst, ◌∙◌, All, length, StridedItems, EachWithin, filled, max_bytes, runs, run-within, runs-within, put_each, filled-run}
+use Rattle.std.proofs.Common.{◌+◌, ◌≤◌, sym, ap, subst, ◌∙◌, All, length}
+use Rattle.name_store.proofs.Words.{StridedItems, EachWithin, filled, max_bytes, runs, run-within, runs-within, put_each, filled-run}
 use Rattle.name_store.proofs.rewrite.fill_each.Goals as goal
 use Rattle.name_store.proofs.rewrite.fill_each.Goals.{In-Some}
 

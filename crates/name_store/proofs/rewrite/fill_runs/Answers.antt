@@ -1,4 +1,5 @@
-use Rattle.name_store.proofs.Words.{length, All, subst, ◌∙◌, All-rest, All-head, EachWithin, filled, Run}
+use Rattle.std.proofs.Common.{length, All, subst, ◌∙◌}
+use Rattle.name_store.proofs.Words.{All-rest, All-head, EachWithin, filled, Run}
 use Rattle.name_store.proofs.RunWrites.{filled-next}
 use Rattle.name_store.proofs.rewrite.fill_runs.Goals as goal
 

@@ -1,4 +1,5 @@
-use Rattle.name_store.proofs.Words.{◌≡◌, length, All, flat_map, EachWithin, run_offsets, put_each}
+use Rattle.std.proofs.Common.{◌≡◌, length, All}
+use Rattle.name_store.proofs.Words.{flat_map, EachWithin, run_offsets, put_each}
 use Rattle.name_store.proofs.rewrite.fill_runs.Given as goal
 
 -- the remaining runs complete what all runs write

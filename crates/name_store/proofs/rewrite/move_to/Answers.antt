@@ -1,4 +1,5 @@
-use Rattle.name_store.proofs.Words.{◌∙◌, sym, ap, length, inl, inr, both_ways, length-offsets, offsets_within, target_offsets, Target}
+use Rattle.std.proofs.Common.{◌∙◌, sym, ap, length, inl, inr}
+use Rattle.name_store.proofs.Words.{both_ways, length-offsets, offsets_within, target_offsets, Target}
 use Rattle.name_store.proofs.rewrite.move_to.Goals as goal
 
 pub assign-requires-clause-count : goal.assign-requires-clause-count

@@ -1,4 +1,5 @@
-use Rattle.name_store.proofs.Words.{◌≡◌, ◌+◌, ◌<◌, ◌≤◌, ℕ, Bool, true, false, refl, sym, ap, subst, ◌∙◌, Option, Some, None, is_some, not, nat_lt, arith, ltb-true, ltb-false, slot_at, Slot}
+use Rattle.std.proofs.Common.{◌≡◌, ◌+◌, ◌<◌, ◌≤◌, ℕ, Bool, true, false, refl, sym, ap, subst, ◌∙◌, Option, Some, None, is_some, not, nat_lt, arith}
+use Rattle.name_store.proofs.Words.{ltb-true, ltb-false, slot_at, Slot}
 use Rattle.name_store.proofs.SlotLaws.{slot_at-get_or, slot_at-past}
 use Rattle.name_store.proofs.slots.first_free.Goals as goal
 

@@ -1,4 +1,5 @@
-use Rattle.name_store.proofs.Words.{◌≡◌, ◌≤◌, ◌<◌, ℕ, is_some, true, slot_at}
+use Rattle.std.proofs.Common.{◌≡◌, ◌≤◌, ◌<◌, ℕ, is_some, true}
+use Rattle.name_store.proofs.Words.{slot_at}
 use Rattle.name_store.proofs.slots.first_free.Given as goal
 
 -- each slot that was passed is occupied

@@ -1,4 +1,5 @@
-use Rattle.name_store.proofs.Words.{◌≡◌, ◌++◌, ◌∷◌, [], ap, ◌∙◌, cond, Some, Option, List, nat_eq, arith, rules, true, is_ok, slot_at, Slot}
+use Rattle.std.proofs.Common.{◌≡◌, ◌++◌, ◌∷◌, [], ap, ◌∙◌, cond, Some, Option, List, nat_eq, arith, rules, true}
+use Rattle.name_store.proofs.Words.{is_ok, slot_at, Slot}
 use Rattle.name_store.proofs.SlotLaws.{slot_at-set, slot_at-push}
 use Rattle.name_store.proofs.slots.put_slot.Goals as goal
 

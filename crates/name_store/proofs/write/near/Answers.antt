@@ -1,4 +1,5 @@
-use Rattle.name_store.proofs.Words.{sym, subst, Target, View, IsNear}
+use Rattle.std.proofs.Common.{sym, subst}
+use Rattle.name_store.proofs.Words.{Target, View, IsNear}
 use Rattle.name_store.proofs.NearLaws.{is-near}
 use Rattle.name_store.proofs.write.near.Goals as goal
 

@@ -1,4 +1,5 @@
-use Rattle.name_store.proofs.Words.{◌∙◌, ◌++◌, joined}
+use Rattle.std.proofs.Common.{◌∙◌, ◌++◌}
+use Rattle.name_store.proofs.Words.{joined}
 use Rattle.name_store.proofs.ExchangeLaws.{repeated-packed}
 use Rattle.name_store.proofs.write.repeated.Goals as goal
 

@@ -1,4 +1,5 @@
-use Rattle.name_store.proofs.Words.{◌≡◌, ◌≤◌, refl, sym, ap, subst, ◌∙◌, is_some, slice_set, Some, arith, same_Some, IfSome_then, IfOk-weaker, IfErr-weaker, max_bytes, slot_at, Slot, AreKept, CanPut, NeedsNone, with_source, without_slot}
+use Rattle.std.proofs.Common.{◌≡◌, ◌≤◌, refl, sym, ap, subst, ◌∙◌, is_some, slice_set, Some, arith}
+use Rattle.name_store.proofs.Words.{same_Some, IfSome_then, IfOk-weaker, IfErr-weaker, max_bytes, slot_at, Slot, AreKept, CanPut, NeedsNone, with_source, without_slot}
 use Rattle.name_store.proofs.RewriteLaws.{can-slot, puts-back, keeps-back, length-tried}
 use Rattle.name_store.proofs.SlotLaws.{slot_at-get_or, slot_at-within}
 use Rattle.name_store.proofs.write.write_items.Goals.{After-as_slice}

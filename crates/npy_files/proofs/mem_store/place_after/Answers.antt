@@ -1,4 +1,5 @@
-use Rattle.npy_files.proofs.Words.{◌≡◌, ◌+◌, length, sym, ap, ◌∙◌, subst, arith, Some, IfSome, ◌<◌, slice_get-get_or, IsNamed, IsFirstOf}
+use Rattle.std.proofs.Common.{◌≡◌, ◌+◌, length, sym, ap, ◌∙◌, subst, arith, Some, IfSome, ◌<◌}
+use Rattle.npy_files.proofs.Words.{slice_get-get_or, IsNamed, IsFirstOf}
 use Rattle.npy_files.proofs.NextNames.{passed, kept, taken}
 use Rattle.npy_files.proofs.mem_store.place_after.Goals.{then-comes_before+then-comes_first, else-comes_before, else-comes_before-via-then-comes_before+else-comes_first, else-comes_before-via-else-comes_before}
 use Rattle.npy_files.proofs.mem_store.place_after.Goals as goal

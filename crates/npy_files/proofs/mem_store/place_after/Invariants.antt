@@ -1,4 +1,5 @@
-use Rattle.npy_files.proofs.Words.{◌<◌, length, IfSome, IsFirstOf}
+use Rattle.std.proofs.Common.{◌<◌, length, IfSome}
+use Rattle.npy_files.proofs.Words.{IsFirstOf}
 use Rattle.npy_files.proofs.mem_store.place_after.Given as goal
 
 abbrev pub invariant-loop-place : goal.invariant-loop-place

@@ -1,4 +1,5 @@
-use Rattle.npy_files.proofs.Words.{◌≡◌, ◌++◌, List, ℕ, Some, ap, ◌∙◌, subst, append_assoc, get, Files, SameBut, Leaves, Appends, both_but, but_same, always_ok}
+use Rattle.std.proofs.Common.{◌≡◌, ◌++◌, List, ℕ, Some, ap, ◌∙◌, subst, append_assoc}
+use Rattle.npy_files.proofs.Words.{get, Files, SameBut, Leaves, Appends, both_but, but_same, always_ok}
 use Rattle.npy_files.proofs.put.fill.Goals as goal
 
 pub returns-in_err-append-2-clause-crash : goal.returns-in_err-append-2-clause-crash

@@ -1,4 +1,5 @@
-use Rattle.npy_files.proofs.Words.{◌++◌, Some, List, ℕ, Option, subst, Leaves, Replaces, only_but, but_replaces, then_same}
+use Rattle.std.proofs.Common.{◌++◌, Some, List, ℕ, Option, subst}
+use Rattle.npy_files.proofs.Words.{Leaves, Replaces, only_but, but_replaces, then_same}
 use Rattle.npy_files.proofs.put.put.Goals as goal
 
 pub returns-in_err-_file-clause-crash : goal.returns-in_err-_file-clause-crash

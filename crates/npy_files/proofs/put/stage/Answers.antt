@@ -1,4 +1,5 @@
-use Rattle.npy_files.proofs.Words.{◌++◌, [], subst, get, SameBut, Leaves, Appends, both_but}
+use Rattle.std.proofs.Common.{◌++◌, [], subst}
+use Rattle.npy_files.proofs.Words.{get, SameBut, Leaves, Appends, both_but}
 use Rattle.npy_files.proofs.put.stage.Goals as goal
 
 pub returns-in-Ok-clause-staged : goal.returns-in-Ok-clause-staged

@@ -1,4 +1,5 @@
-use Rattle.npy_files.proofs.Words.{◌≡◌, ◌≤◌, ◌-◌, length, refl, ◌∙◌, arith, common_steps, both_same, unmoved}
+use Rattle.std.proofs.Common.{◌≡◌, ◌≤◌, ◌-◌, length, refl, ◌∙◌, arith}
+use Rattle.npy_files.proofs.Words.{common_steps, both_same, unmoved}
 use Rattle.npy_files.proofs.Pieces.{put_length, rest_length, read_on}
 use Rattle.npy_files.proofs.read.fill.Goals as goal
 

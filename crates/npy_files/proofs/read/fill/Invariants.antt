@@ -1,4 +1,5 @@
-use Rattle.npy_files.proofs.Words.{◌≡◌, ◌++◌, ◌+◌, ◌-◌, ◌≤◌, length, take, IsTrue, Same, Leaves}
+use Rattle.std.proofs.Common.{◌≡◌, ◌++◌, ◌+◌, ◌-◌, ◌≤◌, length, take, IsTrue}
+use Rattle.npy_files.proofs.Words.{Same, Leaves}
 use Rattle.npy_files.proofs.read.fill.Given as goal
 
 abbrev pub invariant-loop-at : goal.invariant-loop-at

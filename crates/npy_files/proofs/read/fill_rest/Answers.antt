@@ -1,4 +1,5 @@
-use Rattle.npy_files.proofs.Words.{refl, ap, ◌∙◌, length, length-append, arith, both_same, unmoved}
+use Rattle.std.proofs.Common.{refl, ap, ◌∙◌, length, length-append, arith}
+use Rattle.npy_files.proofs.Words.{both_same, unmoved}
 use Rattle.npy_files.proofs.read.fill_rest.Goals as goal
 
 pub loop-block-init : goal.loop-block-init

@@ -1,4 +1,5 @@
-use Rattle.npy_files.proofs.Words.{◌≡◌, ◌++◌, ◌+◌, ◌-◌, ◌≤◌, length, IsTrue, Same, Leaves}
+use Rattle.std.proofs.Common.{◌≡◌, ◌++◌, ◌+◌, ◌-◌, ◌≤◌, length, IsTrue}
+use Rattle.npy_files.proofs.Words.{Same, Leaves}
 use Rattle.npy_files.proofs.read.fill_rest.Given as goal
 
 abbrev pub invariant-loop-block : goal.invariant-loop-block

@@ -1,4 +1,5 @@
-use Rattle.npy_files.proofs.Words.{◌≡◌, ◌+◌, ◌++◌, ℕ, List, length, ap, ◌∙◌, subst, sym, both_same, unmoved}
+use Rattle.std.proofs.Common.{◌≡◌, ◌+◌, ◌++◌, ℕ, List, length, ap, ◌∙◌, subst, sym}
+use Rattle.npy_files.proofs.Words.{both_same, unmoved}
 use Rattle.npy_files.proofs.Pieces.{none_left, all_read}
 use Rattle.npy_files.proofs.read.read_block.Goals as goal
 

@@ -1,4 +1,5 @@
-use Rattle.npy_files.proofs.Words.{◌≡◌, ◌++◌, take, drop, arith, common_steps, take_all, both_same}
+use Rattle.std.proofs.Common.{◌≡◌, ◌++◌, take, drop, arith}
+use Rattle.npy_files.proofs.Words.{common_steps, take_all, both_same}
 use Rattle.npy_files.proofs.Pieces.{cut_read}
 use Rattle.npy_files.proofs.read.read_cut.Goals as goal
 

@@ -1,4 +1,5 @@
-use Rattle.npy_format.proofs.Words.{◌≡◌, sym, ap, subst, ◌∙◌, arith, length, HoldsFileItems, load_behind}
+use Rattle.std.proofs.Common.{◌≡◌, sym, ap, subst, ◌∙◌, arith, length}
+use Rattle.npy_format.proofs.Words.{HoldsFileItems, load_behind}
 use Rattle.npy_format.proofs.PartLaws.{nothing_behind}
 use Rattle.npy_format.proofs.file_parts.load_behind.Goals as goal
 

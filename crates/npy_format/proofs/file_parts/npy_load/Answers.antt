@@ -1,4 +1,5 @@
-use Rattle.npy_format.proofs.Words.{◌≡◌, ◌++◌, [], Ok, sym, ap, subst, ◌∙◌, arith, Loads, split_header}
+use Rattle.std.proofs.Common.{◌≡◌, ◌++◌, [], Ok, sym, ap, subst, ◌∙◌, arith}
+use Rattle.npy_format.proofs.Words.{Loads, split_header}
 use Rattle.npy_format.proofs.PartLaws.{empty, header_more, load_split}
 use Rattle.npy_format.proofs.file_parts.npy_load.Goals as goal
 

@@ -1,4 +1,5 @@
-use Rattle.npy_format.proofs.Words.{◌≡◌, ◌*◌, ◌++◌, map, inr, sym, ap, ◌∙◌, Ok, arith, item_size, item_from, count, offsets, is_fortran, file_of}
+use Rattle.std.proofs.Common.{◌≡◌, ◌*◌, ◌++◌, map, inr, sym, ap, ◌∙◌, Ok, arith}
+use Rattle.npy_format.proofs.Words.{item_size, item_from, count, offsets, is_fortran, file_of}
 use Rattle.npy_format.proofs.WriterLaws.{saved-large, saved-small}
 use Rattle.npy_format.proofs.SaverLaws.{large-loads, small-loads}
 use Rattle.npy_format.proofs.file_parts.npy_parts.Goals as goal

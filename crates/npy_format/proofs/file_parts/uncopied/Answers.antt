@@ -1,4 +1,5 @@
-use Rattle.npy_format.proofs.Words.{◌++◌, map, ap, ◌∙◌, flat_map, item_size, encode_item, item_from, offsets, length-offsets, file_order, written_text, written_header, is_fortran, ordered}
+use Rattle.std.proofs.Common.{◌++◌, map, ap, ◌∙◌}
+use Rattle.npy_format.proofs.Words.{flat_map, item_size, encode_item, item_from, offsets, length-offsets, file_order, written_text, written_header, is_fortran, ordered}
 use Rattle.npy_format.proofs.SaverLaws.{stretch_ends, stretch_written}
 use Rattle.npy_format.proofs.file_parts.uncopied.Goals as goal
 

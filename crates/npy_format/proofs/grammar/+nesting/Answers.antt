@@ -1,5 +1,6 @@
 -- What a turn leaves is what `entries_in` leaves there.
-use Rattle.npy_format.proofs.Words.{Scanned, ⊎_elim, ◌≡◌, ◌∷◌, ◌∙◌, ap, arith, err_from_is_err_and, ◌>>=◌, tokens, pair_in, literal_in, behind, token_of}
+use Rattle.std.proofs.Common.{⊎_elim, ◌≡◌, ◌∷◌, ◌∙◌, ap, arith}
+use Rattle.npy_format.proofs.Words.{Scanned, err_from_is_err_and, ◌>>=◌, tokens, pair_in, literal_in, behind, token_of}
 use Rattle.npy_format.specs.declared.token.Token.TheVariants as scanned
 use Rattle.npy_format.proofs.GrammarLaws.{symbol_shorter, literal_leaves, pair_leaves}
 use Rattle.npy_format.proofs.SkipLaws.{skip_closed, skip_refused, skip_last, skip_no_mark, skip_shorter, skip_next, tuple_closed, tuple_refused, tuple_no_mark, tuple_next, list_skipped, dictionary_skipped, pair_skipped, no_literal, no_pair, skip_text, skip_integer, skip_truth, skip_nothing, no_stray, no_level, skip_symbol, skip_end}

@@ -1,4 +1,5 @@
-use Rattle.npy_format.proofs.Words.{◌≡◌, ◌+◌, ◌*◌, length, tokens, pair_in, literal_in, behind_entries}
+use Rattle.std.proofs.Common.{◌≡◌, ◌+◌, ◌*◌, length}
+use Rattle.npy_format.proofs.Words.{tokens, pair_in, literal_in, behind_entries}
 use Rattle.npy_format.proofs.grammar.+nesting.Given as goal
 
 -- what is in brackets is allowed one level less

@@ -1,4 +1,5 @@
-use Rattle.npy_format.proofs.Words.{sym, tokens}
+use Rattle.std.proofs.Common.{sym}
+use Rattle.npy_format.proofs.Words.{tokens}
 use Rattle.npy_format.proofs.HeaderLaws.{no_token, dictionary_found}
 use Rattle.npy_format.proofs.header.dictionary.Goals as goal
 

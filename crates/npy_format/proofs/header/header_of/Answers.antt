@@ -1,5 +1,6 @@
 -- The refusals of a header, in order.
-use Rattle.npy_format.proofs.Words.{◌≡◌, ◌∙◌, ⊎_elim, inl, inr, sym, length, arith, err_from_is_err_and, tokens}
+use Rattle.std.proofs.Common.{◌≡◌, ◌∙◌, ⊎_elim, inl, inr, sym, length, arith}
+use Rattle.npy_format.proofs.Words.{err_from_is_err_and, tokens}
 use Rattle.npy_format.proofs.StandLaws.{truth_is}
 use Rattle.npy_format.proofs.HeaderLaws.{no_truth, no_shape, no_lengths, no_descr, shape_refused, header_said}
 use Rattle.npy_format.proofs.header.header_of.Goals as goal

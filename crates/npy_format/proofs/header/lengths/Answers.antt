@@ -1,4 +1,5 @@
-use Rattle.npy_format.proofs.Words.{◌∙◌, value_of, tokens, symbol_token_at}
+use Rattle.std.proofs.Common.{◌∙◌}
+use Rattle.npy_format.proofs.Words.{value_of, tokens, symbol_token_at}
 use Rattle.npy_format.proofs.StandLaws.{no_tuple, tuple_stands, symbol_open, symbol_closed}
 use Rattle.npy_format.proofs.HeaderLaws.{lengths_good, lengths_bad, lengths_on, lengths_inside}
 use Rattle.npy_format.proofs.header.lengths.Goals as goal

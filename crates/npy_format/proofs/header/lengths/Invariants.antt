@@ -1,4 +1,5 @@
-use Rattle.npy_format.proofs.Words.{List, length, Literal, tokens, HasValues}
+use Rattle.std.proofs.Common.{List, length}
+use Rattle.npy_format.proofs.Words.{Literal, tokens, HasValues}
 use Rattle.npy_format.proofs.HeaderLaws.{LengthsLeft}
 use Rattle.npy_format.proofs.header.lengths.Given as goal
 

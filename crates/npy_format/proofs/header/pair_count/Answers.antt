@@ -1,4 +1,5 @@
-use Rattle.npy_format.proofs.Words.{ap, Ok, arith, tokens, symbol_token_at, pair_in, value_in}
+use Rattle.std.proofs.Common.{ap, Ok, arith}
+use Rattle.npy_format.proofs.Words.{tokens, symbol_token_at, pair_in, value_in}
 use Rattle.npy_format.proofs.TokenLaws.{few_tokens}
 use Rattle.npy_format.proofs.GrammarLaws.{literal_leaves, pair_leaves}
 use Rattle.npy_format.proofs.StandLaws.{symbol_open, symbol_closed}

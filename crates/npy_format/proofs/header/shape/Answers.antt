@@ -1,4 +1,5 @@
-use Rattle.npy_format.proofs.Words.{◌∙◌, sym, ap, inr, arith, value_of, shape_of, tokens}
+use Rattle.std.proofs.Common.{◌∙◌, sym, ap, inr, arith}
+use Rattle.npy_format.proofs.Words.{value_of, shape_of, tokens}
 use Rattle.npy_format.proofs.HeaderLaws.{shape_ends, shape_next, shape_long}
 use Rattle.npy_format.proofs.header.shape.Goals as goal
 

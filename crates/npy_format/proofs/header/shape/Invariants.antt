@@ -1,4 +1,5 @@
-use Rattle.npy_format.proofs.Words.{ℕ, List, length, tokens, HasLengths}
+use Rattle.std.proofs.Common.{ℕ, List, length}
+use Rattle.npy_format.proofs.Words.{tokens, HasLengths}
 use Rattle.npy_format.proofs.HeaderLaws.{ShapeLeft}
 use Rattle.npy_format.proofs.header.shape.Given as goal
 

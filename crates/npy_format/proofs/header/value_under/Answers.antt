@@ -1,4 +1,5 @@
-use Rattle.npy_format.proofs.Words.{sym, tokens, symbol_token_at, pair_in, value_in}
+use Rattle.std.proofs.Common.{sym}
+use Rattle.npy_format.proofs.Words.{tokens, symbol_token_at, pair_in, value_in}
 use Rattle.npy_format.proofs.GrammarLaws.{literal_leaves, pair_leaves}
 use Rattle.npy_format.proofs.StandLaws.{symbol_open, symbol_closed}
 use Rattle.npy_format.proofs.HeaderLaws.{answered, entry_shorter, key_ends, key_next, key_read, key_found, key_no_fault}

@@ -1,4 +1,5 @@
-use Rattle.npy_format.proofs.Words.{List, length, Pair, tokens, HasPairs}
+use Rattle.std.proofs.Common.{List, length}
+use Rattle.npy_format.proofs.Words.{Pair, tokens, HasPairs}
 use Rattle.npy_format.proofs.HeaderLaws.{KeyLeft}
 use Rattle.npy_format.proofs.header.value_under.Given as goal
 

@@ -1,4 +1,5 @@
-use Rattle.npy_format.proofs.Words.{◌≡◌, ◌++◌, ℕ, List, refl, ap, ◌∙◌, arith, Fields, listed, listed-fields_of, field_within, weight-one, first_field, opened_entry, entry_separator, in_brackets, entries}
+use Rattle.std.proofs.Common.{◌≡◌, ◌++◌, ℕ, List, refl, ap, ◌∙◌, arith}
+use Rattle.npy_format.proofs.Words.{Fields, listed, listed-fields_of, field_within, weight-one, first_field, opened_entry, entry_separator, in_brackets, entries}
 use Rattle.npy_format.proofs.WrittenEntries.{one_written, list_written}
 use Rattle.npy_format.proofs.header_text.+written.Goals as goal
 

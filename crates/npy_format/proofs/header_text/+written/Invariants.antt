@@ -1,4 +1,5 @@
-use Rattle.npy_format.proofs.Words.{◌≡◌, ◌+◌, ◌*◌, ◌++◌, true, codes, drop, total, InOrder, listed, weight, separated, entries}
+use Rattle.std.proofs.Common.{◌≡◌, ◌+◌, ◌*◌, ◌++◌, true, codes, drop}
+use Rattle.npy_format.proofs.Words.{total, InOrder, listed, weight, separated, entries}
 use Rattle.npy_format.proofs.header_text.+written.Given as goal
 
 abbrev pub decreases-push_descr : goal.decreases-push_descr

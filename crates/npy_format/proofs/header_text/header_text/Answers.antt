@@ -1,4 +1,5 @@
-use Rattle.npy_format.proofs.Words.{codes, shape_text, written_descr, written_truth}
+use Rattle.std.proofs.Common.{codes}
+use Rattle.npy_format.proofs.Words.{shape_text, written_descr, written_truth}
 use Rattle.npy_format.proofs.WrittenEntries.{seven_written}
 use Rattle.npy_format.proofs.header_text.header_text.Goals as goal
 

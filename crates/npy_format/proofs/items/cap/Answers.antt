@@ -1,4 +1,5 @@
-use Rattle.npy_format.proofs.Words.{◌≡◌, ◌+◌, ◌<◌, ◌≤◌, ◌++◌, suc, length, take, drop, slice_set, sym, ap, subst, ◌∙◌, arith, append-nil, take_all, drop_all, capped}
+use Rattle.std.proofs.Common.{◌≡◌, ◌+◌, ◌<◌, ◌≤◌, ◌++◌, suc, length, take, drop, slice_set, sym, ap, subst, ◌∙◌, arith}
+use Rattle.npy_format.proofs.Words.{append-nil, take_all, drop_all, capped}
 use Rattle.npy_format.proofs.WrittenItemLaws.{byte_capped}
 use Rattle.npy_format.proofs.items.cap.Goals as goal
 

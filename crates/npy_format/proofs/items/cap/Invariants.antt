@@ -1,4 +1,5 @@
-use Rattle.npy_format.proofs.Words.{◌≡◌, ◌++◌, take, drop, capped}
+use Rattle.std.proofs.Common.{◌≡◌, ◌++◌, take, drop}
+use Rattle.npy_format.proofs.Words.{capped}
 use Rattle.npy_format.proofs.items.cap.Given as goal
 
 -- the bytes so far are capped

@@ -1,4 +1,5 @@
-use Rattle.npy_format.proofs.Words.{◌≤◌, ◌++◌, length, take, sym, ap, ◌∙◌, arith, append-nil, repeat, take_all, drop_all, capped}
+use Rattle.std.proofs.Common.{◌≤◌, ◌++◌, length, take, sym, ap, ◌∙◌, arith}
+use Rattle.npy_format.proofs.Words.{append-nil, repeat, take_all, drop_all, capped}
 use Rattle.npy_format.proofs.WrittenItemLaws.{band_capped}
 use Rattle.npy_format.proofs.items.cap_each.Goals as goal
 

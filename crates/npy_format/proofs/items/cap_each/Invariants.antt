@@ -1,4 +1,5 @@
-use Rattle.npy_format.proofs.Words.{◌≡◌, ◌-◌, ◌≤◌, ◌++◌, length, take, drop, repeat, capped}
+use Rattle.std.proofs.Common.{◌≡◌, ◌-◌, ◌≤◌, ◌++◌, length, take, drop}
+use Rattle.npy_format.proofs.Words.{repeat, capped}
 use Rattle.npy_format.proofs.items.cap_each.Given as goal
 
 -- the bytes so far are capped

@@ -1,4 +1,5 @@
-use Rattle.npy_format.proofs.Words.{◌+◌, List, drop, sym, subst, ◌∙◌, arith, eqb-true, drop_all, Leaf, size, rest_at, AreInOrder, AreInOrder-within, IsPlain}
+use Rattle.std.proofs.Common.{◌+◌, List, drop, sym, subst, ◌∙◌, arith}
+use Rattle.npy_format.proofs.Words.{eqb-true, drop_all, Leaf, size, rest_at, AreInOrder, AreInOrder-within, IsPlain}
 use Rattle.npy_format.proofs.items.is_plain.Goals as goal
 
 pub overflow_add-end : goal.overflow_add-end

@@ -1,4 +1,5 @@
-use Rattle.npy_format.proofs.Words.{drop, AreInOrder, IsPlain}
+use Rattle.std.proofs.Common.{drop}
+use Rattle.npy_format.proofs.Words.{AreInOrder, IsPlain}
 use Rattle.npy_format.proofs.items.is_plain.Given as goal
 
 -- the leaves so far fill the bytes, and none is a bool

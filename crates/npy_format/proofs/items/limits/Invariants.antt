@@ -1,4 +1,5 @@
-use Rattle.npy_format.proofs.Words.{◌≡◌, ◌++◌, length, drop, AreInOrder, limits_from}
+use Rattle.std.proofs.Common.{◌≡◌, ◌++◌, length, drop}
+use Rattle.npy_format.proofs.Words.{AreInOrder, limits_from}
 use Rattle.npy_format.proofs.items.limits.Given as goal
 
 -- the limits so far, followed by those of the remaining leaves, are all limits

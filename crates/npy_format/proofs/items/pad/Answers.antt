@@ -1,4 +1,5 @@
-use Rattle.npy_format.proofs.Words.{◌≡◌, ◌-◌, ◌++◌, length, replicate, ◌∙◌, rules, vec_len, take_all}
+use Rattle.std.proofs.Common.{◌≡◌, ◌-◌, ◌++◌, length, replicate, ◌∙◌, rules}
+use Rattle.npy_format.proofs.Words.{vec_len, take_all}
 use Rattle.npy_format.proofs.items.pad.Goals as goal
 
 pub returns : goal.returns

@@ -1,4 +1,5 @@
-use Rattle.npy_format.proofs.Words.{◌++◌, length, sym, ap, ◌∙◌, arith, append-nil, run_offsets, begins_within, gathered}
+use Rattle.std.proofs.Common.{◌++◌, length, sym, ap, ◌∙◌, arith}
+use Rattle.npy_format.proofs.Words.{append-nil, run_offsets, begins_within, gathered}
 use Rattle.npy_format.proofs.GatherLaws.{item_pushed}
 use Rattle.npy_format.proofs.items.push_each.Goals as goal
 

@@ -1,4 +1,5 @@
-use Rattle.npy_format.proofs.Words.{◌≡◌, ◌++◌, run_offsets, gathered}
+use Rattle.std.proofs.Common.{◌≡◌, ◌++◌}
+use Rattle.npy_format.proofs.Words.{run_offsets, gathered}
 use Rattle.npy_format.proofs.items.push_each.Given as goal
 
 -- the items so far are appended

@@ -1,4 +1,5 @@
-use Rattle.npy_format.proofs.Words.{◌≡◌, ◌≤◌, ◌<◌, ◌+◌, ◌*◌, ◌^◌, length, All, sym, ap, subst, ◌∙◌, arith, rules, flat_map, item_at, EachWithin, max_bytes, offsets, length-offsets, run_offsets, runs, runs-within, gathered, addresses_in_file}
+use Rattle.std.proofs.Common.{◌≡◌, ◌≤◌, ◌<◌, ◌+◌, ◌*◌, ◌^◌, length, All, sym, ap, subst, ◌∙◌, arith, rules}
+use Rattle.npy_format.proofs.Words.{flat_map, item_at, EachWithin, max_bytes, offsets, length-offsets, run_offsets, runs, runs-within, gathered, addresses_in_file}
 use Rattle.npy_format.proofs.GatherLaws.{together, in_file-none, few-counts}
 use Rattle.npy_format.proofs.items.push_items.Goals as goal
 

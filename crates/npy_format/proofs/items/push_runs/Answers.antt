@@ -1,4 +1,5 @@
-use Rattle.npy_format.proofs.Words.{◌^◌, ◌<◌, ◌≤◌, length, All-rest, EachWithin}
+use Rattle.std.proofs.Common.{◌^◌, ◌<◌, ◌≤◌, length}
+use Rattle.npy_format.proofs.Words.{All-rest, EachWithin}
 use Rattle.npy_format.proofs.GatherLaws.{run_pushed}
 use Rattle.npy_format.proofs.items.push_runs.Goals as goal
 

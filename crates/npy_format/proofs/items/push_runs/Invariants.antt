@@ -1,4 +1,5 @@
-use Rattle.npy_format.proofs.Words.{◌≡◌, ◌^◌, ◌<◌, ◌≤◌, ◌++◌, length, All, flat_map, EachWithin, run_offsets, gathered}
+use Rattle.std.proofs.Common.{◌≡◌, ◌^◌, ◌<◌, ◌≤◌, ◌++◌, length, All}
+use Rattle.npy_format.proofs.Words.{flat_map, EachWithin, run_offsets, gathered}
 use Rattle.npy_format.proofs.items.push_runs.Given as goal
 
 -- what is appended so far, followed by what remains, is all that is to be appended

@@ -1,4 +1,5 @@
-use Rattle.npy_format.proofs.Words.{◌≡◌, ◌<◌, ℕ, ◌+◌, ◌*◌, ◌≤◌, length, get_or, rules, ap, ◌∙◌, arith, mul-one, repeat, mul-le-mul_left, same_from_all_zip, item_size, leaves_of, written_item, limits_from, capped}
+use Rattle.std.proofs.Common.{◌≡◌, ◌<◌, ℕ, ◌+◌, ◌*◌, ◌≤◌, length, get_or, rules, ap, ◌∙◌, arith, mul-one}
+use Rattle.npy_format.proofs.Words.{repeat, mul-le-mul_left, same_from_all_zip, item_size, leaves_of, written_item, limits_from, capped}
 use Rattle.npy_format.proofs.WrittenItemLaws.{plain_again, all_again, length-limits, length-repeat, bands_capped}
 use Rattle.npy_format.proofs.items.write_items.Goals as goal
 

@@ -1,4 +1,5 @@
-use Rattle.npy_format.proofs.Words.{refl, sym, subst, ◌∙◌, rules, Loads}
+use Rattle.std.proofs.Common.{refl, sym, subst, ◌∙◌, rules}
+use Rattle.npy_format.proofs.Words.{Loads}
 use Rattle.npy_format.proofs.PartLaws.{load_split}
 use Rattle.npy_format.proofs.reader.npy_read.Goals as goal
 

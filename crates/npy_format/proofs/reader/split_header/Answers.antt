@@ -1,4 +1,5 @@
-use Rattle.npy_format.proofs.Words.{ap, sym, ◌∙◌, split_front}
+use Rattle.std.proofs.Common.{ap, sym, ◌∙◌}
+use Rattle.npy_format.proofs.Words.{split_front}
 use Rattle.npy_format.proofs.FileLaws.{header_split}
 use Rattle.npy_format.proofs.reader.split_header.Goals as goal
 

@@ -1,4 +1,5 @@
-use Rattle.npy_format.proofs.Words.{◌≡◌, ◌∙◌, ⊎_elim, inl, inr, ap, sym, true, false, Ok, arith, rules, err_from_is_err_and, RecordDescr, is_legal_name, ◌>>=◌, is_empty, Partial, tokens, symbol_token_at, type_in, record_in, value_in}
+use Rattle.std.proofs.Common.{◌≡◌, ◌∙◌, ⊎_elim, inl, inr, ap, sym, true, false, Ok, arith, rules}
+use Rattle.npy_format.proofs.Words.{err_from_is_err_and, RecordDescr, is_legal_name, ◌>>=◌, is_empty, Partial, tokens, symbol_token_at, type_in, record_in, value_in}
 use Rattle.npy_format.proofs.GrammarLaws.{literal_leaves}
 use Rattle.npy_format.proofs.StandLaws.{symbol_open, symbol_closed, string_stands, list_stands, no_type, pad_is}
 use Rattle.npy_format.proofs.HeaderLaws.{entry_shorter}

@@ -1,4 +1,5 @@
-use Rattle.npy_format.proofs.Words.{◌≡◌, ◌+◌, ◌*◌, List, length, Literal, tokens, HasValues}
+use Rattle.std.proofs.Common.{◌≡◌, ◌+◌, ◌*◌, List, length}
+use Rattle.npy_format.proofs.Words.{Literal, tokens, HasValues}
 use Rattle.npy_format.proofs.RecordListLaws.{FieldsLeft}
 use Rattle.npy_format.proofs.record_list.+record.Given as goal
 

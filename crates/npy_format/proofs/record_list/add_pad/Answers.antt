@@ -1,4 +1,5 @@
-use Rattle.npy_format.proofs.Words.{rules, value_of, widened-capped}
+use Rattle.std.proofs.Common.{rules}
+use Rattle.npy_format.proofs.Words.{value_of, widened-capped}
 use Rattle.npy_format.proofs.record_list.add_pad.Goals as goal
 
 pub returns-clause-answers : goal.returns-clause-answers

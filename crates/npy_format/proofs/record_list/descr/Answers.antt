@@ -1,4 +1,5 @@
-use Rattle.npy_format.proofs.Words.{◌∙◌, ⊎_elim, inl, inr, ap, sym, Ok, err_from_is_err_and, RecordDescr, ◌>>=◌, tokens, descr_in}
+use Rattle.std.proofs.Common.{◌∙◌, ⊎_elim, inl, inr, ap, sym, Ok}
+use Rattle.npy_format.proofs.Words.{err_from_is_err_and, RecordDescr, ◌>>=◌, tokens, descr_in}
 use Rattle.npy_format.proofs.StandLaws.{string_stands, list_stands, no_type}
 use Rattle.npy_format.proofs.RecordListLaws.{gives_value, list_descr}
 use Rattle.npy_format.proofs.record_list.descr.Goals as goal

@@ -1,4 +1,5 @@
-use Rattle.npy_format.proofs.Words.{◌<◌, ℕ, get_or, refl, rules, offsets, length-offsets}
+use Rattle.std.proofs.Common.{◌<◌, ℕ, get_or, refl, rules}
+use Rattle.npy_format.proofs.Words.{offsets, length-offsets}
 use Rattle.npy_format.proofs.RoundTrip.{file_loads}
 use Rattle.npy_format.proofs.writer.will_load.Goals as goal
 

@@ -1,4 +1,5 @@
-use Rattle.npy_format.proofs.Words.{◌≡◌, ◌+◌, ◌*◌, ◌≤◌, ◌++◌, length, map, All, sym, ap, subst, ◌∙◌, rules, flat_map, encode_item, item_from, offsets, length-offsets, file_order, written_text, written_header, is_fortran, ordered, file_of, gathered, addresses_in_file}
+use Rattle.std.proofs.Common.{◌≡◌, ◌+◌, ◌*◌, ◌≤◌, ◌++◌, length, map, All, sym, ap, subst, ◌∙◌, rules}
+use Rattle.npy_format.proofs.Words.{flat_map, encode_item, item_from, offsets, length-offsets, file_order, written_text, written_header, is_fortran, ordered, file_of, gathered, addresses_in_file}
 use Rattle.npy_format.proofs.WriterLaws.{file_length, file_written}
 use Rattle.npy_format.proofs.writer.written.Goals as goal
 

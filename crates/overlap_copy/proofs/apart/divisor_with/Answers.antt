@@ -1,4 +1,5 @@
-use Rattle.overlap_copy.proofs.Words.{◌≡◌, ◌+◌, ◌∷◌, length, map, drop, sym, ap, subst, ◌∙◌, axes, step_of, IsGreatestDivisor}
+use Rattle.std.proofs.Common.{◌≡◌, ◌+◌, ◌∷◌, length, map, drop, sym, ap, subst, ◌∙◌}
+use Rattle.overlap_copy.proofs.Words.{axes, step_of, IsGreatestDivisor}
 use Rattle.overlap_copy.proofs.ApartLaws.{divisor-one, divisor-more, steps_more, no_axes}
 use Rattle.overlap_copy.proofs.apart.divisor_with.Goals as goal
 

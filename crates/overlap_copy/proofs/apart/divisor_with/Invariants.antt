@@ -1,4 +1,5 @@
-use Rattle.overlap_copy.proofs.Words.{ℕ, ◌∷◌, map, drop, axes, step_of, IsGreatestDivisor}
+use Rattle.std.proofs.Common.{ℕ, ◌∷◌, map, drop}
+use Rattle.overlap_copy.proofs.Words.{axes, step_of, IsGreatestDivisor}
 use Rattle.overlap_copy.proofs.apart.divisor_with.Given as goal
 
 -- the divisor so far and the remaining axes have the same greatest divisor as all of them

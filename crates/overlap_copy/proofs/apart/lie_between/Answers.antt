@@ -1,4 +1,5 @@
-use Rattle.overlap_copy.proofs.Words.{◌-◌, arith, leb-true, le-leb, false≢true, steps}
+use Rattle.std.proofs.Common.{◌-◌, arith}
+use Rattle.overlap_copy.proofs.Words.{leb-true, le-leb, false≢true, steps}
 use Rattle.overlap_copy.proofs.ApartLaws.{divisor-both, between_made, between_found, none_between}
 use Rattle.overlap_copy.proofs.apart.lie_between.Goals as goal
 

@@ -1,4 +1,5 @@
-use Rattle.overlap_copy.proofs.Words.{◌&&◌, nat_lt, sym, ap, ◌∙◌, lt-ltb, le-ltb, and_left, offsets}
+use Rattle.std.proofs.Common.{◌&&◌, nat_lt, sym, ap, ◌∙◌}
+use Rattle.overlap_copy.proofs.Words.{lt-ltb, le-ltb, and_left, offsets}
 use Rattle.overlap_copy.proofs.OverlapLaws.{IsSpanOf, meet-spans, apart-common}
 use Rattle.overlap_copy.proofs.apart.ranges_meet.Goals as goal
 

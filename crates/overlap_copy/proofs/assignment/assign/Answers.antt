@@ -1,4 +1,5 @@
-use Rattle.overlap_copy.proofs.Words.{◌≡◌, ◌*◌, length, sym, ap, subst, ◌∙◌, All, ◌+◌, ◌≤◌, arith, both_ways, max_bytes, offsets, multiples, length-offsets, offsets_within, walked-within, with_items, assigned, LieApart, firsts, seconds}
+use Rattle.std.proofs.Common.{◌≡◌, ◌*◌, length, sym, ap, subst, ◌∙◌, All, ◌+◌, ◌≤◌, arith}
+use Rattle.overlap_copy.proofs.Words.{both_ways, max_bytes, offsets, multiples, length-offsets, offsets_within, walked-within, with_items, assigned, LieApart, firsts, seconds}
 use Rattle.overlap_copy.proofs.AssignLaws.{lie_apart}
 use Rattle.overlap_copy.proofs.assignment.assign.Goals as goal
 

@@ -1,4 +1,5 @@
-use Rattle.overlap_copy.proofs.Words.{◌+◌, ◌≤◌, length, ◌∙◌, offsets, even, pair_even, All-firsts, All-seconds, assigned-reordered}
+use Rattle.std.proofs.Common.{◌+◌, ◌≤◌, length, ◌∙◌}
+use Rattle.overlap_copy.proofs.Words.{offsets, even, pair_even, All-firsts, All-seconds, assigned-reordered}
 use Rattle.overlap_copy.proofs.assignment.assign_from.Goals as goal
 
 pub assign_in_order-requires-clause-dst : goal.assign_in_order-requires-clause-dst

@@ -1,4 +1,5 @@
-use Rattle.overlap_copy.proofs.Words.{length, max_bytes, offsets, walked-within}
+use Rattle.std.proofs.Common.{length}
+use Rattle.overlap_copy.proofs.Words.{max_bytes, offsets, walked-within}
 use Rattle.overlap_copy.proofs.PairCopies.{as_many, one-within}
 use Rattle.overlap_copy.proofs.assignment.assign_in_order.Goals as goal
 

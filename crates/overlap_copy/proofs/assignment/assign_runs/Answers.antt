@@ -1,4 +1,5 @@
-use Rattle.overlap_copy.proofs.Words.{◌≡◌, length, reverse, sym, ap, subst, ◌∙◌, arith, both_ways, max_bytes, IsNested, run_offsets, lie-within, assigned}
+use Rattle.std.proofs.Common.{◌≡◌, length, reverse, sym, ap, subst, ◌∙◌, arith}
+use Rattle.overlap_copy.proofs.Words.{both_ways, max_bytes, IsNested, run_offsets, lie-within, assigned}
 use Rattle.overlap_copy.proofs.LineLaws.{turned_line}
 use Rattle.overlap_copy.proofs.PairCopies.{as_many}
 use Rattle.overlap_copy.proofs.assignment.assign_runs.Goals as goal

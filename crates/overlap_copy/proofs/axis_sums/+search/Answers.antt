@@ -1,4 +1,5 @@
-use Rattle.overlap_copy.proofs.Words.{rules, ◌<◌, arith, ◌-◌, length, take, drop, subst, sym, length-take, length-drop, HasSum}
+use Rattle.std.proofs.Common.{rules, ◌<◌, arith, ◌-◌, length, take, drop, subst, sym, length-take, length-drop}
+use Rattle.overlap_copy.proofs.Words.{HasSum}
 use Rattle.overlap_copy.proofs.SearchLaws.{no_axis, first_rest, none_at_first, none_more, none_beyond, with_first, forward_rest, reach_rest}
 use Rattle.overlap_copy.proofs.StepsBackLaws.{none_turned}
 use Rattle.overlap_copy.proofs.axis_sums.+search.Goals as goal

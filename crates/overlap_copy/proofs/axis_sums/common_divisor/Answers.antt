@@ -1,4 +1,5 @@
-use Rattle.overlap_copy.proofs.Words.{arith, IsGcd-from_mod, IsGcd-from_zero}
+use Rattle.std.proofs.Common.{arith}
+use Rattle.overlap_copy.proofs.Words.{IsGcd-from_mod, IsGcd-from_zero}
 use Rattle.overlap_copy.proofs.axis_sums.common_divisor.Goals as goal
 
 pub loop-rest-preserved : goal.loop-rest-preserved

@@ -1,4 +1,5 @@
-use Rattle.overlap_copy.proofs.Words.{ℕ, IsGcd}
+use Rattle.std.proofs.Common.{ℕ}
+use Rattle.overlap_copy.proofs.Words.{IsGcd}
 use Rattle.overlap_copy.proofs.axis_sums.common_divisor.Given as goal
 
 -- the greatest common divisor of the two numbers is that of the first two

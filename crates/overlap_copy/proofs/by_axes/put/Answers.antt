@@ -1,4 +1,5 @@
-use Rattle.overlap_copy.proofs.Words.{◌≡◌, ◌+◌, ◌<◌, [], ◌∷◌, ◌++◌, length, map, set, take, suc, sym, ap, ◌∙◌, arith, append_assoc, take-suc-set, length-map, length-set, get_or-map, take_more, stepping}
+use Rattle.std.proofs.Common.{◌≡◌, ◌+◌, ◌<◌, [], ◌∷◌, ◌++◌, length, map, set, take, suc, sym, ap, ◌∙◌, arith, append_assoc}
+use Rattle.overlap_copy.proofs.Words.{take-suc-set, length-map, length-set, get_or-map, take_more, stepping}
 use Rattle.overlap_copy.proofs.SearchLaws.{no_axis}
 use Rattle.overlap_copy.proofs.by_axes.put.Goals as goal
 

@@ -1,4 +1,5 @@
-use Rattle.overlap_copy.proofs.Words.{◌+◌, ◌≤◌, length, sym, ap, ◌∙◌, count, offsets, items_at, even, pair_even, All-firsts, All-seconds, firsts-reordered, seconds-reordered, flipped-reordered, nested-reordered, assigned-reordered}
+use Rattle.std.proofs.Common.{◌+◌, ◌≤◌, length, sym, ap, ◌∙◌}
+use Rattle.overlap_copy.proofs.Words.{count, offsets, items_at, even, pair_even, All-firsts, All-seconds, firsts-reordered, seconds-reordered, flipped-reordered, nested-reordered, assigned-reordered}
 use Rattle.overlap_copy.proofs.TradeLaws.{items-assigned}
 use Rattle.overlap_copy.proofs.exchanges.exchange.Goals as goal
 

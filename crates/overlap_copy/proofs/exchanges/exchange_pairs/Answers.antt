@@ -1,4 +1,5 @@
-use Rattle.overlap_copy.proofs.Words.{◌≡◌, ◌+◌, ◌≤◌, ℕ, List, All, length, ap, ◌∙◌, max_bytes, Layout, count, offsets, IsNested, assigned, walked-within, even, traded_at, firsts, seconds}
+use Rattle.std.proofs.Common.{◌≡◌, ◌+◌, ◌≤◌, ℕ, List, All, length, ap, ◌∙◌}
+use Rattle.overlap_copy.proofs.Words.{max_bytes, Layout, count, offsets, IsNested, assigned, walked-within, even, traded_at, firsts, seconds}
 use Rattle.overlap_copy.proofs.PairCopies.{as_many, one-within}
 use Rattle.overlap_copy.proofs.TradeLaws.{traded-apart}
 use Rattle.overlap_copy.proofs.exchanges.exchange_pairs.Goals as goal

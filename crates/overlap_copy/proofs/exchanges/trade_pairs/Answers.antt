@@ -1,4 +1,5 @@
-use Rattle.overlap_copy.proofs.Words.{◌≡◌, length, sym, subst, ◌∙◌, All-rest, EachWithin, next_pair}
+use Rattle.std.proofs.Common.{◌≡◌, length, sym, subst, ◌∙◌}
+use Rattle.overlap_copy.proofs.Words.{All-rest, EachWithin, next_pair}
 use Rattle.overlap_copy.proofs.TradeLaws.{traded-pair}
 use Rattle.overlap_copy.proofs.exchanges.trade_pairs.Goals as goal
 

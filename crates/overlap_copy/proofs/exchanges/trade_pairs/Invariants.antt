@@ -1,4 +1,5 @@
-use Rattle.overlap_copy.proofs.Words.{◌≡◌, length, All, EachWithin, traded_at, firsts, seconds}
+use Rattle.std.proofs.Common.{◌≡◌, length, All}
+use Rattle.overlap_copy.proofs.Words.{EachWithin, traded_at, firsts, seconds}
 use Rattle.overlap_copy.proofs.exchanges.trade_pairs.Given as goal
 
 -- the remaining pairs complete what all pairs do

@@ -1,4 +1,5 @@
-use Rattle.overlap_copy.proofs.Words.{sym, ◌∙◌, traded}
+use Rattle.std.proofs.Common.{sym, ◌∙◌}
+use Rattle.overlap_copy.proofs.Words.{traded}
 use Rattle.overlap_copy.proofs.TradeLaws.{traded-even}
 use Rattle.overlap_copy.proofs.exchanges.trade_run.Goals as goal
 

@@ -1,4 +1,5 @@
-use Rattle.overlap_copy.proofs.Words.{◌≡◌, ◌<◌, Bool, false, true, replicate, sym, ap, subst, ◌∙◌, IsSome, LieWithin, max_bytes, count, length-offsets}
+use Rattle.std.proofs.Common.{◌≡◌, ◌<◌, Bool, false, true, replicate, sym, ap, subst, ◌∙◌}
+use Rattle.overlap_copy.proofs.Words.{IsSome, LieWithin, max_bytes, count, length-offsets}
 use Rattle.overlap_copy.proofs.OverwriteLaws.{start-offsets, start-within}
 use Rattle.overlap_copy.proofs.overwrites.all_at_start.Goals as goal
 

@@ -1,4 +1,5 @@
-use Rattle.overlap_copy.proofs.Words.{◌≡◌, ◌*◌, ◌++◌, length, sym, ap, ◌∙◌, arith, offsets, multiples, length-offsets, items_at, joined_at, length-joined_at, joined-items, firsts}
+use Rattle.std.proofs.Common.{◌≡◌, ◌*◌, ◌++◌, length, sym, ap, ◌∙◌, arith}
+use Rattle.overlap_copy.proofs.Words.{offsets, multiples, length-offsets, items_at, joined_at, length-joined_at, joined-items, firsts}
 use Rattle.overlap_copy.proofs.overwrites.overwrite.Goals as goal
 use Rattle.overlap_copy.proofs.overwrites.overwrite.Goals.{After-new, After-finish}
 

@@ -1,4 +1,5 @@
-use Rattle.overlap_copy.proofs.Words.{length, ap, ◌∙◌, IfOk-weaker, offsets, items_at, with_items}
+use Rattle.std.proofs.Common.{length, ap, ◌∙◌}
+use Rattle.overlap_copy.proofs.Words.{IfOk-weaker, offsets, items_at, with_items}
 use Rattle.overlap_copy.proofs.OverwriteLaws.{same-items}
 use Rattle.overlap_copy.proofs.overwrites.overwrite_each.Goals as goal
 

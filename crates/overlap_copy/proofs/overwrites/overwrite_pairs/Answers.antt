@@ -1,4 +1,5 @@
-use Rattle.overlap_copy.proofs.Words.{◌≡◌, ◌+◌, ◌≤◌, length, refl, sym, ap, subst, ◌∙◌, All-rest, BeginsWithin, IsNested, run_offsets, next_pair, firsts, seconds}
+use Rattle.std.proofs.Common.{◌≡◌, ◌+◌, ◌≤◌, length, refl, sym, ap, subst, ◌∙◌}
+use Rattle.overlap_copy.proofs.Words.{All-rest, BeginsWithin, IsNested, run_offsets, next_pair, firsts, seconds}
 use Rattle.overlap_copy.proofs.MovingLaws.{nested-front}
 use Rattle.overlap_copy.proofs.OverwriteLaws.{all-left, left-on, next-all, next-room}
 use Rattle.overlap_copy.proofs.overwrites.overwrite_pairs.Goals as goal

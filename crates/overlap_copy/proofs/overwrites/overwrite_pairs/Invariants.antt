@@ -1,4 +1,5 @@
-use Rattle.overlap_copy.proofs.Words.{◌≡◌, ◌-◌, ◌*◌, length, All, BeginsWithin, firsts, seconds}
+use Rattle.std.proofs.Common.{◌≡◌, ◌-◌, ◌*◌, length, All}
+use Rattle.overlap_copy.proofs.Words.{BeginsWithin, firsts, seconds}
 use Rattle.overlap_copy.proofs.OverwriteLaws.{IsLeft, overwritten}
 use Rattle.overlap_copy.proofs.overwrites.overwrite_pairs.Given as goal
 

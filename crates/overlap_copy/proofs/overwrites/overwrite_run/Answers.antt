@@ -1,4 +1,5 @@
-use Rattle.overlap_copy.proofs.Words.{◌+◌, ◌*◌, ◌≤◌, length, ap, refl, ◌∙◌, arith, length-run_offsets, run-within}
+use Rattle.std.proofs.Common.{◌+◌, ◌*◌, ◌≤◌, length, ap, refl, ◌∙◌, arith}
+use Rattle.overlap_copy.proofs.Words.{length-run_offsets, run-within}
 use Rattle.overlap_copy.proofs.OverwriteLaws.{all-left, left-on, next-all, next-room}
 use Rattle.overlap_copy.proofs.overwrites.overwrite_run.Goals as goal
 

@@ -1,4 +1,5 @@
-use Rattle.overlap_copy.proofs.Words.{◌≡◌, ◌-◌, ◌*◌, length, BeginsWithin, run_offsets}
+use Rattle.std.proofs.Common.{◌≡◌, ◌-◌, ◌*◌, length}
+use Rattle.overlap_copy.proofs.Words.{BeginsWithin, run_offsets}
 use Rattle.overlap_copy.proofs.OverwriteLaws.{IsLeft, overwritten}
 use Rattle.overlap_copy.proofs.overwrites.overwrite_run.Given as goal
 

@@ -1,4 +1,5 @@
-use Rattle.overlap_copy.proofs.Words.{◌-◌, rules, w64, arith, sym, subst, ints, to_z-of_z, SFits, BeginsWithin, max_bytes, begins_within, lie-within}
+use Rattle.std.proofs.Common.{◌-◌, rules, w64, arith, sym, subst}
+use Rattle.overlap_copy.proofs.Words.{ints, to_z-of_z, SFits, BeginsWithin, max_bytes, begins_within, lie-within}
 use Rattle.overlap_copy.proofs.OverwriteLaws.{run-split, rest-begins, rest-start}
 use Rattle.overlap_copy.proofs.overwrites.split.Goals as goal
 

@@ -1,4 +1,5 @@
-use Rattle.overlap_copy.proofs.Words.{◌≡◌, length, All, EachWithin, assigned, firsts, seconds}
+use Rattle.std.proofs.Common.{◌≡◌, length, All}
+use Rattle.overlap_copy.proofs.Words.{EachWithin, assigned, firsts, seconds}
 use Rattle.overlap_copy.proofs.pair_copies.copy_pairs.Given as goal
 
 -- the remaining pairs complete what all pairs do

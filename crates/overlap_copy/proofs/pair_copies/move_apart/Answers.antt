@@ -1,4 +1,5 @@
-use Rattle.overlap_copy.proofs.Words.{length, sym, subst, ◌∙◌, arith, EachWithin, IsAssigned, place_in}
+use Rattle.std.proofs.Common.{length, sym, subst, ◌∙◌, arith}
+use Rattle.overlap_copy.proofs.Words.{EachWithin, IsAssigned, place_in}
 use Rattle.overlap_copy.proofs.RunCopyLaws.{whole_within, packed_moved}
 use Rattle.overlap_copy.proofs.MovingLaws.{assigned_from_moves, apart_passed}
 use Rattle.overlap_copy.proofs.pair_copies.move_apart.Goals as goal

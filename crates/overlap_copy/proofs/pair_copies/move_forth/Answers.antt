@@ -1,4 +1,5 @@
-use Rattle.overlap_copy.proofs.Words.{◌+◌, ◌*◌, ◌≤◌, length, arith, sym, subst, ◌∙◌, EachWithin, IsAssigned, place_in}
+use Rattle.std.proofs.Common.{◌+◌, ◌*◌, ◌≤◌, length, arith, sym, subst, ◌∙◌}
+use Rattle.overlap_copy.proofs.Words.{EachWithin, IsAssigned, place_in}
 use Rattle.overlap_copy.proofs.TurnLaws.{back-alike, moved_forwards, moved_backwards}
 use Rattle.overlap_copy.proofs.RunCopyLaws.{whole_within, packed_moved}
 use Rattle.overlap_copy.proofs.pair_copies.move_forth.Goals as goal

@@ -1,4 +1,5 @@
-use Rattle.overlap_copy.proofs.Words.{◌≡◌, ◌++◌, length, All, sym, subst, ◌∙◌, All-rest, EachWithin, IsNested, run_offsets, length-run_offsets, assigned, next_pair, LieApart, firsts, seconds}
+use Rattle.std.proofs.Common.{◌≡◌, ◌++◌, length, All, sym, subst, ◌∙◌}
+use Rattle.overlap_copy.proofs.Words.{All-rest, EachWithin, IsNested, run_offsets, length-run_offsets, assigned, next_pair, LieApart, firsts, seconds}
 use Rattle.overlap_copy.proofs.PairCopies.{ends-of}
 use Rattle.overlap_copy.proofs.MovingLaws.{IsMoving, moving_begins, moving_on, nested-front, nested-back, fewer-targets, fewer-sources}
 use Rattle.overlap_copy.proofs.pair_copies.move_pairs.Goals as goal

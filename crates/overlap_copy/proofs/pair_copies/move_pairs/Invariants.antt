@@ -1,4 +1,5 @@
-use Rattle.overlap_copy.proofs.Words.{◌≡◌, length, All, EachWithin, IsNested, assigned, LieApart, firsts, seconds}
+use Rattle.std.proofs.Common.{◌≡◌, length, All}
+use Rattle.overlap_copy.proofs.Words.{EachWithin, IsNested, assigned, LieApart, firsts, seconds}
 use Rattle.overlap_copy.proofs.MovingLaws.{IsMoving}
 use Rattle.overlap_copy.proofs.pair_copies.move_pairs.Given as goal
 

@@ -1,4 +1,5 @@
-use Rattle.overlap_copy.proofs.Words.{rules, ◌≡◌, ◌≤ℤ◌, ◌<ℤ◌, ℤ, pos, negsuc, true, length, w64, sym, ap, subst, ◌∙◌, arith, int_lt, neg_ℤ, ints, to_z-of_z, SFits, EachWithin, assigned, AreAlike}
+use Rattle.std.proofs.Common.{rules, ◌≡◌, ◌≤ℤ◌, ◌<ℤ◌, ℤ, pos, negsuc, true, length, w64, sym, ap, subst, ◌∙◌, arith, int_lt, neg_ℤ}
+use Rattle.overlap_copy.proofs.Words.{ints, to_z-of_z, SFits, EachWithin, assigned, AreAlike}
 use Rattle.overlap_copy.proofs.MovingLaws.{assigned_from_moves}
 use Rattle.overlap_copy.proofs.ShiftLaws.{back-line, one-offset}
 use Rattle.overlap_copy.proofs.TurnLaws.{spaced, back-alike, back-moved}

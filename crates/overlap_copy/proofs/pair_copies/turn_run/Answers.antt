@@ -1,4 +1,5 @@
-use Rattle.overlap_copy.proofs.Words.{rules, ◌≡◌, ◌/◌, ◌≤◌, length, w64, sym, subst, ◌∙◌, to_z-of_z, div-le_self, SFits, StridedItems, EachWithin, swapped, IsAssigned, place_in}
+use Rattle.std.proofs.Common.{rules, ◌≡◌, ◌/◌, ◌≤◌, length, w64, sym, subst, ◌∙◌}
+use Rattle.overlap_copy.proofs.Words.{to_z-of_z, div-le_self, SFits, StridedItems, EachWithin, swapped, IsAssigned, place_in}
 use Rattle.overlap_copy.proofs.MovingLaws.{assigned_from_moves}
 use Rattle.overlap_copy.proofs.TurnLaws.{turned_within, fewer_within, spaced}
 use Rattle.overlap_copy.proofs.SwapLaws.{turned_by_swaps}

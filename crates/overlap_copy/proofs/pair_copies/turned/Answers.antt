@@ -1,4 +1,5 @@
-use Rattle.overlap_copy.proofs.Words.{rules, pos, ◌+ℤ◌, ◌≤ℤ◌, w64, sym, subst, to_z-of_z, SFits, max_bytes}
+use Rattle.std.proofs.Common.{rules, pos, ◌+ℤ◌, ◌≤ℤ◌, w64, sym, subst}
+use Rattle.overlap_copy.proofs.Words.{to_z-of_z, SFits, max_bytes}
 use Rattle.overlap_copy.proofs.TurnLaws.{line_start, line_end, line_step}
 use Rattle.overlap_copy.proofs.pair_copies.turned.Goals as goal
 

@@ -1,4 +1,5 @@
-use Rattle.overlap_copy.proofs.Words.{◌≡◌, ◌+◌, ◌||◌, false, length, get_or, nat_eq, take, drop, ◌++◌, ap, ◌∙◌, arith, list_any, offsets}
+use Rattle.std.proofs.Common.{◌≡◌, ◌+◌, ◌||◌, false, length, get_or, nat_eq, take, drop, ◌++◌, ap, ◌∙◌, arith}
+use Rattle.overlap_copy.proofs.Words.{list_any, offsets}
 use Rattle.overlap_copy.proofs.ShareLaws.{refilled, held-marks, none-clear}
 use Rattle.overlap_copy.proofs.share.held_bytes.Goals as goal
 

@@ -1,4 +1,5 @@
-use Rattle.overlap_copy.proofs.Words.{◌+◌, ◌≤◌, ◌||◌, ap, sym, ◌∙◌, list_any, All-rest, max_bytes, is_end_marked}
+use Rattle.std.proofs.Common.{◌+◌, ◌≤◌, ◌||◌, ap, sym, ◌∙◌}
+use Rattle.overlap_copy.proofs.Words.{list_any, All-rest, max_bytes, is_end_marked}
 use Rattle.overlap_copy.proofs.share.is_any_end_marked.Goals as goal
 
 pub loop-offset-preserved : goal.loop-offset-preserved

@@ -1,4 +1,5 @@
-use Rattle.overlap_copy.proofs.Words.{◌≡◌, ◌+◌, ◌≤◌, All, list_any, max_bytes, is_end_marked}
+use Rattle.std.proofs.Common.{◌≡◌, ◌+◌, ◌≤◌, All}
+use Rattle.overlap_copy.proofs.Words.{list_any, max_bytes, is_end_marked}
 use Rattle.overlap_copy.proofs.share.is_any_end_marked.Given as goal
 
 -- none was found so far

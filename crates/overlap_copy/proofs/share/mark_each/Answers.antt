@@ -1,4 +1,5 @@
-use Rattle.overlap_copy.proofs.Words.{◌+◌, ◌≤◌, ◌<◌, ◌||◌, false, length, get_or, nat_eq, ap, sym, ◌∙◌, subst, All, list_any, All-rest, All-head}
+use Rattle.std.proofs.Common.{◌+◌, ◌≤◌, ◌<◌, ◌||◌, false, length, get_or, nat_eq, ap, sym, ◌∙◌, subst, All}
+use Rattle.overlap_copy.proofs.Words.{list_any, All-rest, All-head}
 use Rattle.overlap_copy.proofs.MarkLaws.{mark_more}
 use Rattle.overlap_copy.proofs.share.mark_each.Goals as goal
 

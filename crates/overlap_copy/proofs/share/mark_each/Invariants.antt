@@ -1,4 +1,5 @@
-use Rattle.overlap_copy.proofs.Words.{◌≡◌, ℕ, ◌+◌, ◌≤◌, ◌<◌, ◌||◌, false, length, get_or, nat_eq, All, list_any}
+use Rattle.std.proofs.Common.{◌≡◌, ℕ, ◌+◌, ◌≤◌, ◌<◌, ◌||◌, false, length, get_or, nat_eq, All}
+use Rattle.overlap_copy.proofs.Words.{list_any}
 use Rattle.overlap_copy.proofs.share.mark_each.Given as goal
 
 -- the remaining offsets add the missing marks

@@ -1,4 +1,5 @@
-use Rattle.overlap_copy.proofs.Words.{◌+◌, ◌-◌, ◌≤◌, All, ◌∙◌, arith, list_any, max_bytes, offsets, is_end_marked}
+use Rattle.std.proofs.Common.{◌+◌, ◌-◌, ◌≤◌, All, ◌∙◌, arith}
+use Rattle.overlap_copy.proofs.Words.{list_any, max_bytes, offsets, is_end_marked}
 use Rattle.overlap_copy.proofs.OverlapLaws.{some_where_meet, common-ends}
 use Rattle.overlap_copy.proofs.ShareLaws.{ends-held}
 use Rattle.overlap_copy.proofs.share.share_by_map.Goals as goal

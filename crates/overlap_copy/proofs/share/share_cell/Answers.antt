@@ -1,4 +1,5 @@
-use Rattle.overlap_copy.proofs.Words.{◌≡◌, Bool, IfOk, subst, offsets}
+use Rattle.std.proofs.Common.{◌≡◌, Bool, IfOk, subst}
+use Rattle.overlap_copy.proofs.Words.{offsets}
 use Rattle.overlap_copy.proofs.OverlapLaws.{common-turned}
 use Rattle.overlap_copy.proofs.share.share_cell.Goals as goal
 

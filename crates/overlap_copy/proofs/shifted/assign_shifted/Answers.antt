@@ -1,4 +1,5 @@
-use Rattle.overlap_copy.proofs.Words.{length, ap, ◌∙◌, sym, subst, arith, assigned, sources, MayCome}
+use Rattle.std.proofs.Common.{length, ap, ◌∙◌, sym, subst, arith}
+use Rattle.overlap_copy.proofs.Words.{assigned, sources, MayCome}
 use Rattle.overlap_copy.proofs.ComeLaws.{offset-within, assigned-order, come-rising, come-falling, nested-rising, nested-falling}
 use Rattle.overlap_copy.proofs.shifted.assign_shifted.Goals as goal
 

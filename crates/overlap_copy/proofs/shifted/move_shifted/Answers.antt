@@ -1,4 +1,5 @@
-use Rattle.overlap_copy.proofs.Words.{◌≤◌, [], ◌∷◌, length, All, sym, ap, subst, ◌∙◌, flat_map, All-rest, EachWithin, max_bytes, LieWithin, run_offsets, assigned, sources, MayCome}
+use Rattle.std.proofs.Common.{◌≤◌, [], ◌∷◌, length, All, sym, ap, subst, ◌∙◌}
+use Rattle.overlap_copy.proofs.Words.{flat_map, All-rest, EachWithin, max_bytes, LieWithin, run_offsets, assigned, sources, MayCome}
 use Rattle.overlap_copy.proofs.MovingLaws.{IsMoving, moving_begins}
 use Rattle.overlap_copy.proofs.ShiftLaws.{sources-end, next-come, later-come, next-within, next-start, next-low, next-few, next-source-lies, next-source-within, run-moved}
 use Rattle.overlap_copy.proofs.shifted.move_shifted.Goals as goal

@@ -1,4 +1,5 @@
-use Rattle.overlap_copy.proofs.Words.{◌≤◌, [], ◌∷◌, length, All, flat_map, max_bytes, LieWithin, run_offsets, assigned, sources, MayCome}
+use Rattle.std.proofs.Common.{◌≤◌, [], ◌∷◌, length, All}
+use Rattle.overlap_copy.proofs.Words.{flat_map, max_bytes, LieWithin, run_offsets, assigned, sources, MayCome}
 use Rattle.overlap_copy.proofs.MovingLaws.{IsMoving}
 use Rattle.overlap_copy.proofs.shifted.move_shifted.Given as goal
 

@@ -1,5 +1,6 @@
 -- `allocate` lends out the first bytes of a new block, and keeps the right to free it. Assumes `Logic`.
-use Rattle.raw_block.proofs.Words.{◌≡◌, ℕ, ◌+◌, ◌*◌, ◌/◌, ◌^◌, ◌<◌, List, [], ◌∷◌, ◌++◌, refl, ◌∙◌, w64, arith, lit<, SProp, id⊢, Lft, Share, ftrue, fwand, froom, flft, inst_fn, Ty, Fn, Args, Body, a_type, dcons, dnil, Val, vint, vptr, vcons, vnil, ◌⊑◌, ⊑_trans, fact, tables, capped_is, Env, Wp, WpFn, after_seq, at_return, ‵, raw, ◌⊛◌, later, prop, at_ret, any_q, After, ◌$◌, ◌∵◌, !, qed, done, move, keep, use0, use1, use2, use3, split, join, fsplit, fjoin, flt_i, await, regoal, rewrite, suffices, frame, live, vrt, in_variant, whole, agg, enter, of_opd, lit, stop, fld, and_then, no_more, first, exec, returns, switches_on, alloc_all, pass_all, free_all, look_at, get, get_in, get_tag, sets, sets_last, lands_as, env, usize, RefOf, Is, param, bounded, RattleType, owns, Ptr, block_ptr, plain, types_at, type_at, nothing, heard, owned, shape, Struct, Struct-Makes, Tuple, calls_at, alive, Stays, walk_of, says, stay_dropped, Goes-dropped, ends_at, Al, seen, Takes, at_takes, Answered, Takes-goes, Takes-gives, answers, head, arm_body, fm, proved_at, Ok, Err, word, word-Good, ok_of, err_of, words, unwritten, IsSizeFor, ended, clauses, #self}
+use Rattle.std.proofs.Common.{◌≡◌, ℕ, ◌+◌, ◌*◌, ◌/◌, ◌^◌, ◌<◌, List, [], ◌∷◌, ◌++◌, refl, ◌∙◌, w64, arith, lit<, Ok, Err}
+use Rattle.raw_block.proofs.Words.{SProp, id⊢, Lft, Share, ftrue, fwand, froom, flft, inst_fn, Ty, Fn, Args, Body, a_type, dcons, dnil, Val, vint, vptr, vcons, vnil, ◌⊑◌, ⊑_trans, fact, tables, capped_is, Env, Wp, WpFn, after_seq, at_return, ‵, raw, ◌⊛◌, later, prop, at_ret, any_q, After, ◌$◌, ◌∵◌, !, qed, done, move, keep, use0, use1, use2, use3, split, join, fsplit, fjoin, flt_i, await, regoal, rewrite, suffices, frame, live, vrt, in_variant, whole, agg, enter, of_opd, lit, stop, fld, and_then, no_more, first, exec, returns, switches_on, alloc_all, pass_all, free_all, look_at, get, get_in, get_tag, sets, sets_last, lands_as, env, usize, RefOf, Is, param, bounded, RattleType, owns, Ptr, block_ptr, plain, types_at, type_at, nothing, heard, owned, shape, Struct, Struct-Makes, Tuple, calls_at, alive, Stays, walk_of, says, stay_dropped, Goes-dropped, ends_at, Al, seen, Takes, at_takes, Answered, Takes-goes, Takes-gives, answers, head, arm_body, fm, proved_at, word, word-Good, ok_of, err_of, words, unwritten, IsSizeFor, ended, clauses, #self}
 use types.Kit.{drop}
 use denote.Struct.Declared as Declared
 use Rattle.core.proofs.alloc.Shapes.{after}

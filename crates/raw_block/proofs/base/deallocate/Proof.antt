@@ -1,5 +1,6 @@
 -- `deallocate` restores the block from the bytes, and gives it back with the allocator's token. Assumes `Logic`.
-use Rattle.raw_block.proofs.Words.{◌≡◌, ℕ, ◌+◌, ◌*◌, ◌/◌, ◌^◌, ◌<◌, List, [], ◌∷◌, ◌++◌, length, refl, sym, ap, subst, ◌∙◌, w64, arith, lit<, T, SProp, id⊢, apply∗, Lft, Share, ftrue, froom, flft, inst_fn, Ty, Fn, Args, a_type, dcons, dnil, ty_unit, Val, vint, vptr, vunit, has_ty, WT, ◌⊑◌, ⊑_trans, fact, tables, capped_is, Env, WpFn, sem, ‵, raw, ◌⊛◌, given, later, prop, at_ret, ◌$◌, ◌∵◌, !, qed, done, move, keep, use1, use2, split, join, group, learn, fsplit, fjoin, feq_i, await, regoal, rewrite, suffices, whole, sub, enter, of_opd, lit, unit_lit, stop, fld, and_then, no_more, first, blocks, exec, returns, alloc_all, pass_all, free_all, look_at, get, get_in, sets, lands_last, env, usize, RefOf, param, bounded, param_laws, RattleType, owns, Ptr, block_ptr, in_a_block, plain, types_at, nothing, heard, tells, calls_at_last, alive, Stays, walk_of, stay_dropped, Goes-dropped, ends_at, Al, seen, Goes-blank, Gives, at_gives, Gives-goes, Gives-Gives, fm, proved_at, word, word-Good, words, unwritten, bytes_own, deed_owns, IsSizeFor}
+use Rattle.std.proofs.Common.{◌≡◌, ℕ, ◌+◌, ◌*◌, ◌/◌, ◌^◌, ◌<◌, List, [], ◌∷◌, ◌++◌, length, refl, sym, ap, subst, ◌∙◌, w64, arith, lit<, T}
+use Rattle.raw_block.proofs.Words.{SProp, id⊢, apply∗, Lft, Share, ftrue, froom, flft, inst_fn, Ty, Fn, Args, a_type, dcons, dnil, ty_unit, Val, vint, vptr, vunit, has_ty, WT, ◌⊑◌, ⊑_trans, fact, tables, capped_is, Env, WpFn, sem, ‵, raw, ◌⊛◌, given, later, prop, at_ret, ◌$◌, ◌∵◌, !, qed, done, move, keep, use1, use2, split, join, group, learn, fsplit, fjoin, feq_i, await, regoal, rewrite, suffices, whole, sub, enter, of_opd, lit, unit_lit, stop, fld, and_then, no_more, first, blocks, exec, returns, alloc_all, pass_all, free_all, look_at, get, get_in, sets, lands_last, env, usize, RefOf, param, bounded, param_laws, RattleType, owns, Ptr, block_ptr, in_a_block, plain, types_at, nothing, heard, tells, calls_at_last, alive, Stays, walk_of, stay_dropped, Goes-dropped, ends_at, Al, seen, Goes-blank, Gives, at_gives, Gives-goes, Gives-Gives, fm, proved_at, word, word-Good, words, unwritten, bytes_own, deed_owns, IsSizeFor}
 use types.Kit.{drop}
 use Rattle.core.proofs.alloc.Shapes.{after}
 use Rattle.raw_block.proofs.Carving.{blank}

@@ -1,4 +1,5 @@
-use Rattle.raw_block.proofs.Words.{◌≡◌, ◌+◌, ◌*◌, suc, length, sym, subst, ◌∙◌, w64, arith, to_z_pos, place, copied, EachWithin}
+use Rattle.std.proofs.Common.{◌≡◌, ◌+◌, ◌*◌, suc, length, sym, subst, ◌∙◌, w64, arith}
+use Rattle.raw_block.proofs.Words.{to_z_pos, place, copied, EachWithin}
 use Rattle.raw_block.proofs.Grids.{AreWritten, one_more, all_written}
 use Rattle.raw_block.proofs.grid.copy_by_columns.Goals as goal
 

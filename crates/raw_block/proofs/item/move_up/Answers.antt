@@ -1,4 +1,5 @@
-use Rattle.raw_block.proofs.Words.{◌≡◌, suc, ◌+◌, ◌-◌, ap, ◌∙◌, arith, put, item_at}
+use Rattle.std.proofs.Common.{◌≡◌, suc, ◌+◌, ◌-◌, ap, ◌∙◌, arith}
+use Rattle.raw_block.proofs.Words.{put, item_at}
 use Rattle.raw_block.proofs.Puts.{moved_up}
 use Rattle.raw_block.proofs.item.move_up.Goals as goal
 

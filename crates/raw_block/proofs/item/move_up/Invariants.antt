@@ -1,4 +1,5 @@
-use Rattle.raw_block.proofs.Words.{◌≡◌, ◌+◌, ◌-◌, put, item_at}
+use Rattle.std.proofs.Common.{◌≡◌, ◌+◌, ◌-◌}
+use Rattle.raw_block.proofs.Words.{put, item_at}
 use Rattle.raw_block.proofs.item.move_up.Given as goal
 
 abbrev pub invariant-loop-i : goal.invariant-loop-i

@@ -1,4 +1,5 @@
-use Rattle.raw_block.proofs.Words.{◌≡◌, suc, ◌+◌, ◌-◌, ◌*◌, ◌^◌, ◌<◌, length, get_or, ap, ◌∙◌, subst, arith, little_from}
+use Rattle.std.proofs.Common.{◌≡◌, suc, ◌+◌, ◌-◌, ◌*◌, ◌^◌, ◌<◌, length, get_or, ap, ◌∙◌, subst, arith}
+use Rattle.raw_block.proofs.Words.{little_from}
 use Rattle.raw_block.proofs.Numbers.{little_step, small_step, fits_word}
 use Rattle.raw_block.proofs.item.number_of.Goals as goal
 

@@ -1,4 +1,5 @@
-use Rattle.raw_block.proofs.Words.{◌≡◌, ◌-◌, ◌^◌, ◌<◌, length, little_from}
+use Rattle.std.proofs.Common.{◌≡◌, ◌-◌, ◌^◌, ◌<◌, length}
+use Rattle.raw_block.proofs.Words.{little_from}
 use Rattle.raw_block.proofs.item.number_of.Given as goal
 
 abbrev pub invariant-loop-i : goal.invariant-loop-i

@@ -1,4 +1,5 @@
-use Rattle.raw_block.proofs.Words.{take, ap, ◌∙◌, arith, put}
+use Rattle.std.proofs.Common.{take, ap, ◌∙◌, arith}
+use Rattle.raw_block.proofs.Words.{put}
 use Rattle.raw_block.proofs.Numbers.{take-bytes_low_first}
 use Rattle.raw_block.proofs.item.put_number.Goals as goal
 

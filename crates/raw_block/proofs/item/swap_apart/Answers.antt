@@ -1,4 +1,5 @@
-use Rattle.raw_block.proofs.Words.{◌∙◌, put}
+use Rattle.std.proofs.Common.{◌∙◌}
+use Rattle.raw_block.proofs.Words.{put}
 use Rattle.raw_block.proofs.Exchanges.{exchanged-apart}
 use Rattle.raw_block.proofs.item.swap_apart.Goals as goal
 

@@ -1,4 +1,5 @@
-use Rattle.raw_block.proofs.Words.{◌≡◌, exchanged}
+use Rattle.std.proofs.Common.{◌≡◌}
+use Rattle.raw_block.proofs.Words.{exchanged}
 use Rattle.raw_block.proofs.item.swap_items.Given as goal
 
 abbrev pub invariant-loop-i : goal.invariant-loop-i

@@ -1,4 +1,5 @@
-use Rattle.raw_block.proofs.Words.{◌≡◌, ◌+◌, ◌-◌, ◌*◌, ◌/◌, ℕ, length, take, drop, ap, ◌∙◌, arith, length-take, length-drop, mul-div_cancel_left, length-chunks}
+use Rattle.std.proofs.Common.{◌≡◌, ◌+◌, ◌-◌, ◌*◌, ◌/◌, ℕ, length, take, drop, ap, ◌∙◌, arith, length-take, length-drop}
+use Rattle.raw_block.proofs.Words.{mul-div_cancel_left, length-chunks}
 use Rattle.raw_block.proofs.Runs.{item_of_run}
 use Rattle.raw_block.proofs.number_runs.items_at.Goals as goal
 

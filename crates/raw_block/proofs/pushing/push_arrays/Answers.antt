@@ -1,4 +1,5 @@
-use Rattle.raw_block.proofs.Words.{◌≡◌, ◌+◌, ◌*◌, ◌++◌, ℕ, suc, length, ap, ◌∙◌, append_assoc, length-append, suc-mul, arith, place, item_at, joined, length-item_at, place_within}
+use Rattle.std.proofs.Common.{◌≡◌, ◌+◌, ◌*◌, ◌++◌, ℕ, suc, length, ap, ◌∙◌, append_assoc, length-append, arith}
+use Rattle.raw_block.proofs.Words.{suc-mul, place, item_at, joined, length-item_at, place_within}
 use Rattle.raw_block.proofs.pushing.push_arrays.Goals as goal
 
 pub loop-k-preserved : goal.loop-k-preserved

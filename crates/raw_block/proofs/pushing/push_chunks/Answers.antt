@@ -1,4 +1,5 @@
-use Rattle.raw_block.proofs.Words.{◌≡◌, ◌++◌, length, take, sym, ap, ◌∙◌, append_assoc, length-append, arith, take-add, item_at, length-item_at}
+use Rattle.std.proofs.Common.{◌≡◌, ◌++◌, length, take, sym, ap, ◌∙◌, append_assoc, length-append, arith}
+use Rattle.raw_block.proofs.Words.{take-add, item_at, length-item_at}
 use Rattle.raw_block.proofs.pushing.push_chunks.Goals as goal
 
 pub loop-done-preserved : goal.loop-done-preserved

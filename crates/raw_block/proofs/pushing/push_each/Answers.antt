@@ -1,4 +1,5 @@
-use Rattle.raw_block.proofs.Words.{◌≡◌, ◌+◌, ◌*◌, ◌++◌, ℕ, suc, length, sym, ap, ◌∙◌, append_assoc, length-append, suc-mul, arith, place, item_at, joined}
+use Rattle.std.proofs.Common.{◌≡◌, ◌+◌, ◌*◌, ◌++◌, ℕ, suc, length, sym, ap, ◌∙◌, append_assoc, length-append, arith}
+use Rattle.raw_block.proofs.Words.{suc-mul, place, item_at, joined}
 use Rattle.raw_block.proofs.pushing.push_each.Goals as goal
 
 pub loop-k-preserved : goal.loop-k-preserved

@@ -1,4 +1,5 @@
-use Rattle.raw_block.proofs.Words.{◌+◌, ◌*◌, ◌++◌, length, sym, ap, ◌∙◌, length-append, arith, joined_run}
+use Rattle.std.proofs.Common.{◌+◌, ◌*◌, ◌++◌, length, sym, ap, ◌∙◌, length-append, arith}
+use Rattle.raw_block.proofs.Words.{joined_run}
 use Rattle.raw_block.proofs.Runs.{run_within}
 use Rattle.raw_block.proofs.pushing.push_items.Goals as goal
 

@@ -1,4 +1,5 @@
-use Rattle.raw_block.proofs.Words.{◌≡◌, pos, length, sym, ap, ◌∙◌, w64, arith, rules, to_z-of_z, SFits, to_z, put, copied, filled}
+use Rattle.std.proofs.Common.{◌≡◌, pos, length, sym, ap, ◌∙◌, w64, arith, rules}
+use Rattle.raw_block.proofs.Words.{to_z-of_z, SFits, to_z, put, copied, filled}
 use Rattle.raw_block.proofs.Runs.{run_within, copied-run, copied-one}
 use Rattle.raw_block.proofs.strided.copy.Goals as goal
 

@@ -1,4 +1,5 @@
-use Rattle.raw_block.proofs.Words.{◌≡◌, copied_within}
+use Rattle.std.proofs.Common.{◌≡◌}
+use Rattle.raw_block.proofs.Words.{copied_within}
 use Rattle.raw_block.proofs.strided.copy_each_within.Given as goal
 
 abbrev pub invariant-loop-k : goal.invariant-loop-k

@@ -1,4 +1,5 @@
-use Rattle.raw_block.proofs.Words.{◌∙◌, filled}
+use Rattle.std.proofs.Common.{◌∙◌}
+use Rattle.raw_block.proofs.Words.{filled}
 use Rattle.raw_block.proofs.Runs.{eight_bytes}
 use Rattle.raw_block.proofs.strided.fill_by_width.Goals as goal
 

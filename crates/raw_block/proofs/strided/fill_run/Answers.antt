@@ -1,4 +1,5 @@
-use Rattle.raw_block.proofs.Words.{length, pos, ◌∙◌, filled}
+use Rattle.std.proofs.Common.{length, pos, ◌∙◌}
+use Rattle.raw_block.proofs.Words.{filled}
 use Rattle.raw_block.proofs.Runs.{eight_bytes}
 use Rattle.raw_block.proofs.strided.fill_run.Goals as goal
 

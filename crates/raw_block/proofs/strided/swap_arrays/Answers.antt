@@ -1,4 +1,5 @@
-use Rattle.raw_block.proofs.Words.{◌⊎◌, ◌+◌, ◌-◌, ◌<◌, ◌≤◌, max, min, inl, inr, length, arith, place, place_within}
+use Rattle.std.proofs.Common.{◌⊎◌, ◌+◌, ◌-◌, ◌<◌, ◌≤◌, max, min, inl, inr, length, arith}
+use Rattle.raw_block.proofs.Words.{place, place_within}
 use Rattle.raw_block.proofs.Exchanges.{first_within, beside-apart}
 use Rattle.raw_block.proofs.strided.swap_arrays.Goals as goal
 

@@ -1,4 +1,5 @@
-use Rattle.raw_block.proofs.Words.{◌≡◌, swapped}
+use Rattle.std.proofs.Common.{◌≡◌}
+use Rattle.raw_block.proofs.Words.{swapped}
 use Rattle.raw_block.proofs.strided.swap_each.Given as goal
 
 abbrev pub invariant-loop-k : goal.invariant-loop-k

@@ -1,4 +1,5 @@
-use Rattle.raw_block.proofs.Words.{length, sym, ◌∙◌, arith, rules, traded}
+use Rattle.std.proofs.Common.{length, sym, ◌∙◌, arith, rules}
+use Rattle.raw_block.proofs.Words.{traded}
 use Rattle.raw_block.proofs.Runs.{run_within, traded-run}
 use Rattle.raw_block.proofs.strided.trade.Goals as goal
 

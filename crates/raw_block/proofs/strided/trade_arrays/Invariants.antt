@@ -1,4 +1,5 @@
-use Rattle.raw_block.proofs.Words.{◌≡◌, traded}
+use Rattle.std.proofs.Common.{◌≡◌}
+use Rattle.raw_block.proofs.Words.{traded}
 use Rattle.raw_block.proofs.strided.trade_arrays.Given as goal
 
 abbrev pub invariant-loop-k : goal.invariant-loop-k

@@ -1,4 +1,5 @@
-use Rattle.raw_block.proofs.Words.{◌*◌, length, refl, sym, ap, subst, ◌∙◌, arith, EachWithin, copied, traded}
+use Rattle.std.proofs.Common.{◌*◌, length, refl, sym, ap, subst, ◌∙◌, arith}
+use Rattle.raw_block.proofs.Words.{EachWithin, copied, traded}
 use Rattle.raw_block.proofs.Trades.{rest_within, traded-more}
 use Rattle.raw_block.proofs.strided.trade_fours.Goals as goal
 

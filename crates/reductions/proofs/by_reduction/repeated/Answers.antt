@@ -1,4 +1,5 @@
-use Rattle.reductions.proofs.Words.{◌≡◌, ◌*◌, ◌++◌, [], ◌∷◌, length, take, drop, ap, subst, sym, ◌∙◌, take-append_seam, length-encode, item_at, joined, length-joined, item_of_joined, Little, IsStored}
+use Rattle.std.proofs.Common.{◌≡◌, ◌*◌, ◌++◌, [], ◌∷◌, length, take, drop, ap, subst, sym, ◌∙◌}
+use Rattle.reductions.proofs.Words.{take-append_seam, length-encode, item_at, joined, length-joined, item_of_joined, Little, IsStored}
 use Rattle.reductions.proofs.by_reduction.repeated.Goals as goal
 
 pub returns-clause-items : goal.returns-clause-items

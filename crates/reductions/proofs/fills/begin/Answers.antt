@@ -1,4 +1,5 @@
-use Rattle.reductions.proofs.Words.{◌+◌, [], ◌∷◌, length, ap, subst, sym, ◌∙◌, arith, length-append, number_of_side, EachOf}
+use Rattle.std.proofs.Common.{◌+◌, [], ◌∷◌, length, ap, subst, sym, ◌∙◌, arith, length-append}
+use Rattle.reductions.proofs.Words.{number_of_side, EachOf}
 use Rattle.reductions.proofs.HeldLaws.{each_more}
 use Rattle.reductions.proofs.fills.begin.Goals as goal
 

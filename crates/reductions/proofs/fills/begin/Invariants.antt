@@ -1,4 +1,5 @@
-use Rattle.reductions.proofs.Words.{◌≡◌, ◌≤◌, [], length, vec_capacity, number_of_side, EachOf}
+use Rattle.std.proofs.Common.{◌≡◌, ◌≤◌, [], length, vec_capacity}
+use Rattle.reductions.proofs.Words.{number_of_side, EachOf}
 use Rattle.reductions.proofs.fills.begin.Given as goal
 
 -- the first lines have a state

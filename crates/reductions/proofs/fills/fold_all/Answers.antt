@@ -1,4 +1,5 @@
-use Rattle.reductions.proofs.Words.{◌≡◌, ◌+◌, ◌≤◌, ℤ, List, [], ◌∷◌, ◌++◌, All, length, drop, refl, sym, ap, subst, ◌∙◌, arith, append_assoc, append-nil, length-append, map-append, All-head, All-rest, EachWithin, runs-within, max_bytes, offsets, length-offsets, entry-first, all_offsets, run_offsets, runs, length-first, number_at, numbers_at}
+use Rattle.std.proofs.Common.{◌≡◌, ◌+◌, ◌≤◌, ℤ, List, [], ◌∷◌, ◌++◌, All, length, drop, refl, sym, ap, subst, ◌∙◌, arith, append_assoc, append-nil, length-append}
+use Rattle.reductions.proofs.Words.{map-append, All-head, All-rest, EachWithin, runs-within, max_bytes, offsets, length-offsets, entry-first, all_offsets, run_offsets, runs, length-first, number_at, numbers_at}
 use Rattle.reductions.proofs.LineLaws.{headed, length-numbers}
 use Rattle.reductions.proofs.fills.fold_all.Goals as goal
 

@@ -1,4 +1,5 @@
-use Rattle.reductions.proofs.Words.{◌≡◌, ◌+◌, All, length, EachWithin, count, offsets, all_offsets, number_at, numbers_at}
+use Rattle.std.proofs.Common.{◌≡◌, ◌+◌, All, length}
+use Rattle.reductions.proofs.Words.{EachWithin, count, offsets, all_offsets, number_at, numbers_at}
 use Rattle.reductions.proofs.LineLaws.{TakesOn}
 use Rattle.reductions.proofs.fills.fold_all.Given as goal
 

@@ -1,4 +1,5 @@
-use Rattle.reductions.proofs.Words.{◌+◌, ◌<◌, [], ◌∷◌, ◌++◌, length, take, drop, sym, ap, subst, ◌∙◌, get_or, take-append_seam, place, line_first, line_front, line_run, number_at}
+use Rattle.std.proofs.Common.{◌+◌, ◌<◌, [], ◌∷◌, ◌++◌, length, take, drop, sym, ap, subst, ◌∙◌, get_or}
+use Rattle.reductions.proofs.Words.{take-append_seam, place, line_first, line_front, line_run, number_at}
 use Rattle.reductions.proofs.LineLaws.{front, numbers-more, length-numbers, at_first}
 use Rattle.reductions.proofs.RowLaws.{row_number}
 use Rattle.reductions.proofs.fills.held_by_rows.Goals as goal

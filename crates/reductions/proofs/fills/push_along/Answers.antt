@@ -1,4 +1,5 @@
-use Rattle.reductions.proofs.Words.{◌≡◌, ◌+◌, ◌*◌, ◌≤◌, All, length, sym, ap, subst, ◌∙◌, arith, add-mul, map-append, All-head, All-rest, place, EachWithin, runs-within, place-at, All-front, All-back, max_bytes, offsets, length-offsets, all_offsets, run_along, run_offsets, runs, length-run_offsets, length-first, lines, AddsReduced}
+use Rattle.std.proofs.Common.{◌≡◌, ◌+◌, ◌*◌, ◌≤◌, All, length, sym, ap, subst, ◌∙◌, arith, add-mul}
+use Rattle.reductions.proofs.Words.{map-append, All-head, All-rest, place, EachWithin, runs-within, place-at, All-front, All-back, max_bytes, offsets, length-offsets, all_offsets, run_along, run_offsets, runs, length-run_offsets, length-first, lines, AddsReduced}
 use Rattle.reductions.proofs.AddedLaws.{adds_none, adds_all, length-lines}
 use Rattle.reductions.proofs.fills.push_along.Goals as goal
 

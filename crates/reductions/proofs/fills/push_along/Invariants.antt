@@ -1,4 +1,5 @@
-use Rattle.reductions.proofs.Words.{◌*◌, ◌<◌, ◌≤◌, ◌^◌, ℕ, List, All, length, EachWithin, all_offsets, offsets, lines, AddsReduced}
+use Rattle.std.proofs.Common.{◌*◌, ◌<◌, ◌≤◌, ◌^◌, ℕ, List, All, length}
+use Rattle.reductions.proofs.Words.{EachWithin, all_offsets, offsets, lines, AddsReduced}
 use Rattle.reductions.proofs.fills.push_along.Given as goal
 
 -- what the remaining runs append completes the whole

@@ -1,4 +1,5 @@
-use Rattle.reductions.proofs.Words.{◌≡◌, ◌-◌, ℤ, List, ◌∷◌, pos, map, sym, ap, subst, ◌∙◌, arith, ◌+ℤ◌, Little, numbers_from, place, natural, run_offsets, line_run, line_first, numbers_at, lines, AddsReduced}
+use Rattle.std.proofs.Common.{◌≡◌, ◌-◌, ℤ, List, ◌∷◌, pos, map, sym, ap, subst, ◌∙◌, arith, ◌+ℤ◌}
+use Rattle.reductions.proofs.Words.{Little, numbers_from, place, natural, run_offsets, line_run, line_first, numbers_at, lines, AddsReduced}
 use Rattle.reductions.proofs.LineLaws.{front, numbers-first}
 use Rattle.reductions.proofs.AddedLaws.{adds_none, line_added, has_room}
 use Rattle.reductions.proofs.fills.push_held.Goals as goal

@@ -1,4 +1,5 @@
-use Rattle.reductions.proofs.Words.{ap, subst, ◌∙◌, arith, Little, run_offsets, numbers_at, lines, AddsReduced}
+use Rattle.std.proofs.Common.{ap, subst, ◌∙◌, arith}
+use Rattle.reductions.proofs.Words.{Little, run_offsets, numbers_at, lines, AddsReduced}
 use Rattle.reductions.proofs.LineLaws.{front}
 use Rattle.reductions.proofs.AddedLaws.{adds_none, line_added, has_room}
 use Rattle.reductions.proofs.fills.push_lines.Goals as goal

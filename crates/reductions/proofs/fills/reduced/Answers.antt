@@ -1,4 +1,5 @@
-use Rattle.reductions.proofs.Words.{◌≡◌, ◌*◌, ◌<◌, ◌^◌, [], ◌∷◌, length, sym, subst, ◌∙◌, arith, length-map, Little, encode, number, offsets, length-offsets, run_along, run_offsets, number_at, numbers_at, lines, lists_from, IsStored, AreReduced}
+use Rattle.std.proofs.Common.{◌≡◌, ◌*◌, ◌<◌, ◌^◌, [], ◌∷◌, length, sym, subst, ◌∙◌, arith}
+use Rattle.reductions.proofs.Words.{length-map, Little, encode, number, offsets, length-offsets, run_along, run_offsets, number_at, numbers_at, lines, lists_from, IsStored, AreReduced}
 use Rattle.reductions.proofs.AddedLaws.{adds_one, whole, full}
 use Rattle.reductions.proofs.fills.reduced.Goals as goal
 

@@ -1,4 +1,5 @@
-use Rattle.reductions.proofs.Words.{◌<◌, ℕ, [], ◌∷◌, ◌++◌, length, refl, sym, subst, ◌∙◌, arith, length-set, get_or_default, number_of_side, TakesIn}
+use Rattle.std.proofs.Common.{◌<◌, ℕ, [], ◌∷◌, ◌++◌, length, refl, sym, subst, ◌∙◌, arith}
+use Rattle.reductions.proofs.Words.{length-set, get_or_default, number_of_side, TakesIn}
 use Rattle.reductions.proofs.HeldLaws.{pair_set, later_set}
 use Rattle.reductions.proofs.fills.take_each.Goals as goal
 

@@ -1,4 +1,5 @@
-use Rattle.reductions.proofs.Words.{◌≡◌, ◌≤◌, [], ◌∷◌, length, number_of_side, EachPair, TakesIn}
+use Rattle.std.proofs.Common.{◌≡◌, ◌≤◌, [], ◌∷◌, length}
+use Rattle.reductions.proofs.Words.{number_of_side, EachPair, TakesIn}
 use Rattle.reductions.proofs.fills.take_each.Given as goal
 
 -- the first lines have visited their number, and the later ones are unchanged

@@ -1,4 +1,5 @@
-use Rattle.reductions.proofs.Words.{sym, ap, ◌∙◌, beq, nat_eq, not, is_true_bits}
+use Rattle.std.proofs.Common.{sym, ap, ◌∙◌, nat_eq, not}
+use Rattle.reductions.proofs.Words.{beq, is_true_bits}
 use Rattle.reductions.proofs.DecidedLaws.{none_better}
 use Rattle.reductions.proofs.folds.is_last.Goals as goal
 

@@ -1,4 +1,5 @@
-use Rattle.reductions.proofs.Words.{◌≡◌, false, [], inl, inr, refl, sym, ap, ◌∙◌, rules, nat_eq, not, is_better}
+use Rattle.std.proofs.Common.{◌≡◌, false, [], inl, inr, refl, sym, ap, ◌∙◌, rules, nat_eq, not}
+use Rattle.reductions.proofs.Words.{is_better}
 use Rattle.reductions.proofs.folds.seek_in.Goals as goal
 
 pub returns-then-not-is_better : goal.returns-then-not-is_better

@@ -1,4 +1,5 @@
-use Rattle.reductions.proofs.Words.{◌≡◌, ◌+◌, ◌-◌, ◌++◌, map, pos, ◌+ℤ◌, ◌*ℤ◌, sym, ap, subst, ◌∙◌, arith, append_assoc, length-append, numbers_from, natural, run_offsets, numbers_at, numbers_of}
+use Rattle.std.proofs.Common.{◌≡◌, ◌+◌, ◌-◌, ◌++◌, map, pos, ◌+ℤ◌, ◌*ℤ◌, sym, ap, subst, ◌∙◌, arith, append_assoc, length-append}
+use Rattle.reductions.proofs.Words.{numbers_from, natural, run_offsets, numbers_at, numbers_of}
 use Rattle.reductions.proofs.LineLaws.{front, length-numbers, numbers-cut, part_numbers}
 use Rattle.reductions.proofs.lines.fold_blocks.Goals as goal
 

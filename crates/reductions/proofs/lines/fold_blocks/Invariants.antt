@@ -1,4 +1,5 @@
-use Rattle.reductions.proofs.Words.{◌-◌, ◌≤◌, numbers_at, TakesIn, run_offsets}
+use Rattle.std.proofs.Common.{◌-◌, ◌≤◌}
+use Rattle.reductions.proofs.Words.{numbers_at, TakesIn, run_offsets}
 use Rattle.reductions.proofs.LineLaws.{front}
 use Rattle.reductions.proofs.lines.fold_blocks.Given as goal
 

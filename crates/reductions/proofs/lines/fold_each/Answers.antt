@@ -1,4 +1,5 @@
-use Rattle.reductions.proofs.Words.{◌++◌, sym, subst, ◌∙◌, arith, length-append, run_offsets, numbers_at}
+use Rattle.std.proofs.Common.{◌++◌, sym, subst, ◌∙◌, arith, length-append}
+use Rattle.reductions.proofs.Words.{run_offsets, numbers_at}
 use Rattle.reductions.proofs.LineLaws.{front, one_more, length-numbers, side_number}
 use Rattle.reductions.proofs.lines.fold_each.Goals as goal
 

@@ -1,4 +1,5 @@
-use Rattle.reductions.proofs.Words.{◌≡◌, ℤ, List, [], ◌∷◌, refl, sym, ap, subst, ◌∙◌, numbers_of}
+use Rattle.std.proofs.Common.{◌≡◌, ℤ, List, [], ◌∷◌, refl, sym, ap, subst, ◌∙◌}
+use Rattle.reductions.proofs.Words.{numbers_of}
 use Rattle.reductions.proofs.LineLaws.{side_first, side_rest}
 use Rattle.reductions.proofs.lines.fold_line.Goals as goal
 

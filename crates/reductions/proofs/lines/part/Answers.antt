@@ -1,4 +1,5 @@
-use Rattle.reductions.proofs.Words.{subst, length, sym, ap, ◌∙◌, arith, EachWithin, run_along}
+use Rattle.std.proofs.Common.{subst, length, sym, ap, ◌∙◌, arith}
+use Rattle.reductions.proofs.Words.{EachWithin, run_along}
 use Rattle.reductions.proofs.LineLaws.{part_within}
 use Rattle.reductions.proofs.lines.part.Goals as goal
 

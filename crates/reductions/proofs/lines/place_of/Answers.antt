@@ -1,4 +1,5 @@
-use Rattle.reductions.proofs.Words.{◌≡◌, ◌+◌, ◌∷◌, [], ◌++◌, length, sym, ap, ◌∙◌, integer, low_bits, run_offsets, first_place, absent-next, numbers_at}
+use Rattle.std.proofs.Common.{◌≡◌, ◌+◌, ◌∷◌, [], ◌++◌, length, sym, ap, ◌∙◌}
+use Rattle.reductions.proofs.Words.{integer, low_bits, run_offsets, first_place, absent-next, numbers_at}
 use Rattle.reductions.proofs.LineLaws.{front, numbers-more, length-numbers, found_in, side_number}
 use Rattle.reductions.proofs.lines.place_of.Goals as goal
 

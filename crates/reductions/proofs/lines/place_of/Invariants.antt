@@ -1,4 +1,5 @@
-use Rattle.reductions.proofs.Words.{◌≡◌, run_offsets, first_place, numbers_at}
+use Rattle.std.proofs.Common.{◌≡◌}
+use Rattle.reductions.proofs.Words.{run_offsets, first_place, numbers_at}
 use Rattle.reductions.proofs.LineLaws.{front}
 use Rattle.reductions.proofs.lines.place_of.Given as goal
 

@@ -1,4 +1,5 @@
-use Rattle.reductions.proofs.Words.{◌≡◌, refl, arith, count, zero-count}
+use Rattle.std.proofs.Common.{◌≡◌, refl, arith}
+use Rattle.reductions.proofs.Words.{count, zero-count}
 use Rattle.reductions.proofs.reduced_axis.have_items.Goals as goal
 
 pub returns-then-len-eq0 : goal.returns-then-len-eq0

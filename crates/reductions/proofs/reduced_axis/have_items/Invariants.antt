@@ -1,4 +1,5 @@
-use Rattle.reductions.proofs.Words.{◌≡◌, drop, count}
+use Rattle.std.proofs.Common.{◌≡◌, drop}
+use Rattle.reductions.proofs.Words.{count}
 use Rattle.reductions.proofs.reduced_axis.have_items.Given as goal
 
 -- if a length is 0, it is one of the remaining lengths

@@ -1,4 +1,5 @@
-use Rattle.reductions.proofs.Words.{sym, ◌∙◌, reduced_shape}
+use Rattle.std.proofs.Common.{sym, ◌∙◌}
+use Rattle.reductions.proofs.Words.{reduced_shape}
 use Rattle.reductions.proofs.AxisLaws.{ones}
 use Rattle.reductions.proofs.reduced_axis.reduced_lengths.Goals as goal
 

@@ -1,4 +1,5 @@
-use Rattle.reductions.proofs.Words.{inr, sym, ap, subst, ◌∙◌, ◌&&◌, Gives, shape_of, reduced_shape, has_empty_list, needs_items}
+use Rattle.std.proofs.Common.{inr, sym, ap, subst, ◌∙◌, ◌&&◌}
+use Rattle.reductions.proofs.Words.{Gives, shape_of, reduced_shape, has_empty_list, needs_items}
 use Rattle.reductions.proofs.OutcomeLaws.{after_empty, after_some}
 use Rattle.reductions.proofs.reduced_axis.shape_after.Goals as goal
 

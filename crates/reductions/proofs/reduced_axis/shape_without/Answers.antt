@@ -1,4 +1,5 @@
-use Rattle.reductions.proofs.Words.{sym, ap, subst, ◌∙◌, remove, IsShape}
+use Rattle.std.proofs.Common.{sym, ap, subst, ◌∙◌}
+use Rattle.reductions.proofs.Words.{remove, IsShape}
 use Rattle.reductions.proofs.AxisLaws.{IsShape-remove}
 use Rattle.reductions.proofs.reduced_axis.shape_without.Goals as goal
 

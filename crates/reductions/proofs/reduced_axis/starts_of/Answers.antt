@@ -1,4 +1,5 @@
-use Rattle.reductions.proofs.Words.{ap, ◌∙◌, remove}
+use Rattle.std.proofs.Common.{ap, ◌∙◌}
+use Rattle.reductions.proofs.Words.{remove}
 use Rattle.reductions.proofs.AxisLaws.{layout_without}
 use Rattle.reductions.proofs.reduced_axis.starts_of.Goals as goal
 

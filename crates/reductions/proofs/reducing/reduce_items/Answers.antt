@@ -1,4 +1,5 @@
-use Rattle.reductions.proofs.Words.{◌≡◌, ◌+◌, ◌*◌, ◌≤◌, All, inl, inr, Ok, Err, map, length, refl, sym, ap, subst, ◌∙◌, arith, mul-le-mul_right, flat_map, err_from_is_err_and, ScalarDescr, item_from, size, item_size, encode_item, Gives, count, max_items, offsets, multiples, named_axis, is_axis, lists, reduced_type, outcome_of, result_scalar, reduced_items, shape_after, AreReduced}
+use Rattle.std.proofs.Common.{◌≡◌, ◌+◌, ◌*◌, ◌≤◌, All, inl, inr, Ok, Err, map, length, refl, sym, ap, subst, ◌∙◌, arith, mul-le-mul_right}
+use Rattle.reductions.proofs.Words.{flat_map, err_from_is_err_and, ScalarDescr, item_from, size, item_size, encode_item, Gives, count, max_items, offsets, multiples, named_axis, is_axis, lists, reduced_type, outcome_of, result_scalar, reduced_items, shape_after, AreReduced}
 use Rattle.reductions.proofs.OutcomeLaws.{outcome_kind, outcome_axis, outcome_shape, outcome_ok, shape_is, many_lists, some_after, items_are, bytes_are, result_size-le}
 use Rattle.reductions.proofs.reducing.reduce_items.Goals as goal
 

@@ -1,4 +1,5 @@
-use Rattle.reductions.proofs.Words.{refl, offsets, pair_even, firsts-reordered}
+use Rattle.std.proofs.Common.{refl}
+use Rattle.reductions.proofs.Words.{offsets, pair_even, firsts-reordered}
 use Rattle.reductions.proofs.reducing.reduced_all.Goals as goal
 
 pub reduced_near-requires-clause-same : goal.reduced_near-requires-clause-same

@@ -1,4 +1,5 @@
-use Rattle.reductions.proofs.Words.{◌*◌, ◌≤◌, Some, length, sym, ap, subst, ◌∙◌, arith, slice_index, size, item_at, offsets, lists, list_length, IsAxisOf, result_scalar, numbers_at, lines, IsReduced, HaveItems}
+use Rattle.std.proofs.Common.{◌*◌, ◌≤◌, Some, length, sym, ap, subst, ◌∙◌, arith, slice_index}
+use Rattle.reductions.proofs.Words.{size, item_at, offsets, lists, list_length, IsAxisOf, result_scalar, numbers_at, lines, IsReduced, HaveItems}
 use Rattle.reductions.proofs.AxisLaws.{lists_are, within_lines, starts_within}
 use Rattle.reductions.proofs.OutcomeLaws.{no_items}
 use Rattle.reductions.proofs.reducing.reduced_block.Goals as goal

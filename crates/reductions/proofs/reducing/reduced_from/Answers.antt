@@ -1,4 +1,5 @@
-use Rattle.reductions.proofs.Words.{◌+◌, ◌≤◌, All, length, sym, subst, IfOk, size, offsets, result_scalar, AreReduced}
+use Rattle.std.proofs.Common.{◌+◌, ◌≤◌, All, length, sym, subst, IfOk}
+use Rattle.reductions.proofs.Words.{size, offsets, result_scalar, AreReduced}
 use Rattle.reductions.proofs.reducing.reduced_from.Goals as goal
 
 pub invariant_of-lists : goal.invariant_of-lists

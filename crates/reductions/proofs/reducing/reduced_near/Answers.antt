@@ -1,4 +1,5 @@
-use Rattle.reductions.proofs.Words.{◌+◌, ◌≤◌, [], ◌∷◌, Ok, Err, length, sym, subst, arith, IfOk, Result, All-permutation, length_permutation, size, length-offsets, offsets, lists, result_scalar, AreReduced}
+use Rattle.std.proofs.Common.{◌+◌, ◌≤◌, [], ◌∷◌, Ok, Err, length, sym, subst, arith, IfOk, Result}
+use Rattle.reductions.proofs.Words.{All-permutation, length_permutation, size, length-offsets, offsets, lists, result_scalar, AreReduced}
 use Rattle.reductions.proofs.OrderLaws.{results-reordered}
 use Rattle.reductions.proofs.reducing.reduced_near.Goals as goal
 

@@ -1,4 +1,5 @@
-use Rattle.reshape_rule.proofs.Words.{◌≡◌, ◌+◌, ◌*◌, min, pos, drop, get_or, ap, ◌∙◌, arith, rules, to_z-of_z, max_items, given, length_or}
+use Rattle.std.proofs.Common.{◌≡◌, ◌+◌, ◌*◌, min, pos, drop, get_or, ap, ◌∙◌, arith, rules}
+use Rattle.reshape_rule.proofs.Words.{to_z-of_z, max_items, given, length_or}
 use Rattle.reshape_rule.proofs.TargetLaws.{capped-more}
 use Rattle.reshape_rule.proofs.target_shape.capped_given.Goals as goal
 

@@ -1,4 +1,5 @@
-use Rattle.reshape_rule.proofs.Words.{◌≡◌, ◌+◌, ◌*◌, ◌≤◌, min, drop, max_items, given}
+use Rattle.std.proofs.Common.{◌≡◌, ◌+◌, ◌*◌, ◌≤◌, min, drop}
+use Rattle.reshape_rule.proofs.Words.{max_items, given}
 use Rattle.reshape_rule.proofs.target_shape.capped_given.Given as goal
 
 abbrev pub invariant-loop-number : goal.invariant-loop-number

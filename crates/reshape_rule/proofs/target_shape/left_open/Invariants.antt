@@ -1,4 +1,5 @@
-use Rattle.reshape_rule.proofs.Words.{◌≡◌, ◌+◌, ◌≤◌, drop, left_open}
+use Rattle.std.proofs.Common.{◌≡◌, ◌+◌, ◌≤◌, drop}
+use Rattle.reshape_rule.proofs.Words.{left_open}
 use Rattle.reshape_rule.proofs.target_shape.left_open.Given as goal
 
 abbrev pub invariant-loop-number : goal.invariant-loop-number

@@ -1,4 +1,5 @@
-use Rattle.reshape_rule.proofs.Words.{◌≡◌, ◌+◌, min, map, take, max_items, length_or}
+use Rattle.std.proofs.Common.{◌≡◌, ◌+◌, min, map, take}
+use Rattle.reshape_rule.proofs.Words.{max_items, length_or}
 use Rattle.reshape_rule.proofs.target_shape.lengths.Given as goal
 
 abbrev pub invariant-loop-number : goal.invariant-loop-number

@@ -1,4 +1,5 @@
-use Rattle.reshape_rule.proofs.Words.{◌/◌, inr, sym, ap, subst, ◌∙◌, arith, Gives, count, make_up}
+use Rattle.std.proofs.Common.{◌/◌, inr, sym, ap, subst, ◌∙◌, arith}
+use Rattle.reshape_rule.proofs.Words.{Gives, count, make_up}
 use Rattle.reshape_rule.proofs.CountLaws.{given-count}
 use Rattle.reshape_rule.proofs.TargetLaws.{Passes, target_of-many, target_of-low, target_of-opened, target_of-unmade, target_of-ok}
 use Rattle.reshape_rule.proofs.target_shape.target.Goals as goal

@@ -1,4 +1,5 @@
-use Rattle.reshape_rule.proofs.Words.{refl, sym, ap, length, ◌∙◌, ◌<◌, ◌≡◌, arith, false≢true, count, offsets, no_offsets, length-offsets, length-printed}
+use Rattle.std.proofs.Common.{refl, sym, ap, length, ◌∙◌, ◌<◌, ◌≡◌, arith}
+use Rattle.reshape_rule.proofs.Words.{false≢true, count, offsets, no_offsets, length-offsets, length-printed}
 use Rattle.reshape_rule.proofs.ScaleLaws.{decided-by_places}
 use Rattle.reshape_rule.proofs.ReshapeLaws.{HasUnitStrides, affine-lies, affine-offsets, offsets-affine, reshape-of}
 use Rattle.reshape_rule.proofs.without_copy.no_copy.Goals as goal

@@ -1,4 +1,5 @@
-use Rattle.reshape_rule.proofs.Words.{◌≡◌, pos, ◌-ℤ◌, ◌∙◌, arith, rules, to_z, of_z, w64, ints, offsets, entry-first, offset_low}
+use Rattle.std.proofs.Common.{◌≡◌, pos, ◌-ℤ◌, ◌∙◌, arith, rules, to_z, of_z, w64}
+use Rattle.reshape_rule.proofs.Words.{ints, offsets, entry-first, offset_low}
 use Rattle.reshape_rule.proofs.RankLaws.{stride-long}
 use Rattle.reshape_rule.proofs.without_copy.unit_stride.Goals as goal
 

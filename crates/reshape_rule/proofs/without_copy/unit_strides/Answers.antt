@@ -1,4 +1,5 @@
-use Rattle.reshape_rule.proofs.Words.{ap, sym, drop, ◌+◌, ◌∙◌, ◌∷◌, ◌++◌, [], ◌≡◌, rules, arith, to_z-of_z, offsets, count, printed_strides}
+use Rattle.std.proofs.Common.{ap, sym, drop, ◌+◌, ◌∙◌, ◌∷◌, ◌++◌, [], ◌≡◌, rules, arith}
+use Rattle.reshape_rule.proofs.Words.{to_z-of_z, offsets, count, printed_strides}
 use Rattle.reshape_rule.proofs.RankLaws.{later, later-below, printed-more, pushed_onto}
 use Rattle.reshape_rule.proofs.without_copy.unit_strides.Goals as goal
 

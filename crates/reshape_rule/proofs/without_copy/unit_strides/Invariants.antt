@@ -1,4 +1,5 @@
-use Rattle.reshape_rule.proofs.Words.{◌≡◌, ◌<◌, ◌≤◌, ◌++◌, drop, count, offsets, printed_strides}
+use Rattle.std.proofs.Common.{◌≡◌, ◌<◌, ◌≤◌, ◌++◌, drop}
+use Rattle.reshape_rule.proofs.Words.{count, offsets, printed_strides}
 use Rattle.reshape_rule.proofs.without_copy.unit_strides.Given as goal
 
 abbrev pub invariant-loop-len : goal.invariant-loop-len

@@ -1,4 +1,5 @@
-use Rattle.shape_strides.proofs.Words.{◌<◌, refl, arith, count}
+use Rattle.std.proofs.Common.{◌<◌, refl, arith}
+use Rattle.shape_strides.proofs.Words.{count}
 use Rattle.shape_strides.proofs.ReachLaws.{LieWithin-from_reach, reach_from_LieWithin, LieWithin-empty, le_from_test, test_from_le}
 use Rattle.shape_strides.proofs.layout.lie_within.Goals as goal
 

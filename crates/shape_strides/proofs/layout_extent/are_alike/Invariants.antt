@@ -1,4 +1,5 @@
-use Rattle.shape_strides.proofs.Words.{◌≡◌, drop, all_alike}
+use Rattle.std.proofs.Common.{◌≡◌, drop}
+use Rattle.shape_strides.proofs.Words.{all_alike}
 use Rattle.shape_strides.proofs.layout_extent.are_alike.Given as goal
 
 abbrev pub invariant-loop-k : goal.invariant-loop-k

@@ -1,4 +1,5 @@
-use Rattle.shape_strides.proofs.Words.{refl, sym, ap, ◌∙◌, arith, false≢true, all_alike, no_offsets}
+use Rattle.std.proofs.Common.{refl, sym, ap, ◌∙◌, arith}
+use Rattle.shape_strides.proofs.Words.{false≢true, all_alike, no_offsets}
 use Rattle.shape_strides.proofs.SameLaws.{offsets_differ, other_first, decided}
 use Rattle.shape_strides.proofs.layout_extent.have_same_offsets.Goals as goal
 

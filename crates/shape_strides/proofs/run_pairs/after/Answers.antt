@@ -1,4 +1,5 @@
-use Rattle.shape_strides.proofs.Words.{arith, ints}
+use Rattle.std.proofs.Common.{arith}
+use Rattle.shape_strides.proofs.Words.{ints}
 use Rattle.shape_strides.proofs.PairLaws.{after-range}
 use Rattle.shape_strides.proofs.run_pairs.after.Goals as goal
 

@@ -1,4 +1,5 @@
-use Rattle.shape_strides.proofs.Words.{◌+◌, ◌*◌, min, drop, ap, ◌∙◌, arith, max_items, count}
+use Rattle.std.proofs.Common.{◌+◌, ◌*◌, min, drop, ap, ◌∙◌, arith}
+use Rattle.shape_strides.proofs.Words.{max_items, count}
 use Rattle.shape_strides.proofs.CountLaws.{capped-more}
 use Rattle.shape_strides.proofs.shape.capped_count.Goals as goal
 

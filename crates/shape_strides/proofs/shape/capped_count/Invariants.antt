@@ -1,4 +1,5 @@
-use Rattle.shape_strides.proofs.Words.{◌≡◌, ◌+◌, ◌*◌, ◌≤◌, min, drop, max_items, count}
+use Rattle.std.proofs.Common.{◌≡◌, ◌+◌, ◌*◌, ◌≤◌, min, drop}
+use Rattle.shape_strides.proofs.Words.{max_items, count}
 use Rattle.shape_strides.proofs.shape.capped_count.Given as goal
 
 abbrev pub invariant-loop-len : goal.invariant-loop-len

@@ -1,4 +1,5 @@
-use Rattle.shape_strides.proofs.Words.{◌≡◌, length, sym, ap, ◌∙◌, arith, count}
+use Rattle.std.proofs.Common.{◌≡◌, length, sym, ap, ◌∙◌, arith}
+use Rattle.shape_strides.proofs.Words.{count}
 use Rattle.shape_strides.proofs.StartLaws.{stands_before_axis, put-range}
 use Rattle.shape_strides.proofs.single_run.joined_axes.Goals as goal
 

@@ -1,4 +1,5 @@
-use Rattle.shape_strides.proofs.Words.{◌≡◌, drop, reverse, strided_axes, all_joined}
+use Rattle.std.proofs.Common.{◌≡◌, drop, reverse}
+use Rattle.shape_strides.proofs.Words.{strided_axes, all_joined}
 use Rattle.shape_strides.proofs.single_run.joined_axes.Given as goal
 
 abbrev pub invariant-loop-axis : goal.invariant-loop-axis

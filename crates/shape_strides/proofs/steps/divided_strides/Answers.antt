@@ -1,4 +1,5 @@
-use Rattle.shape_strides.proofs.Words.{◌+◌, ◌/◌, ◌++◌, ◌∷◌, [], pos, w64, drop, get_or, ap, sym, ◌∙◌, append_assoc, arith, div-le_self, to_z_pos, c_strides}
+use Rattle.std.proofs.Common.{◌+◌, ◌/◌, ◌++◌, ◌∷◌, [], pos, w64, drop, get_or, ap, sym, ◌∙◌, append_assoc, arith, div-le_self}
+use Rattle.shape_strides.proofs.Words.{to_z_pos, c_strides}
 use Rattle.shape_strides.proofs.CountLaws.{bytes-more, c_strides-drop}
 use Rattle.shape_strides.proofs.steps.divided_strides.Goals as goal
 

@@ -1,4 +1,5 @@
-use Rattle.shape_strides.proofs.Words.{◌≡◌, ◌*◌, ◌<◌, ◌≤◌, ◌++◌, drop, max_bytes, count, c_strides}
+use Rattle.std.proofs.Common.{◌≡◌, ◌*◌, ◌<◌, ◌≤◌, ◌++◌, drop}
+use Rattle.shape_strides.proofs.Words.{max_bytes, count, c_strides}
 use Rattle.shape_strides.proofs.steps.divided_strides.Given as goal
 
 abbrev pub invariant-loop-len : goal.invariant-loop-len

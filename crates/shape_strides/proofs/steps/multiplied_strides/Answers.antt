@@ -1,4 +1,5 @@
-use Rattle.shape_strides.proofs.Words.{◌+◌, ◌*◌, ◌≤◌, ◌++◌, ◌∷◌, [], w64, drop, get_or, ap, sym, ◌∙◌, append_assoc, arith, mul-le-mul_right, one-mul, to_z_pos, count, f_strides}
+use Rattle.std.proofs.Common.{◌+◌, ◌*◌, ◌≤◌, ◌++◌, ◌∷◌, [], w64, drop, get_or, ap, sym, ◌∙◌, append_assoc, arith, mul-le-mul_right, one-mul}
+use Rattle.shape_strides.proofs.Words.{to_z_pos, count, f_strides}
 use Rattle.shape_strides.proofs.FortranLaws.{f_strides-drop, step-more, count-rest}
 use Rattle.shape_strides.proofs.steps.multiplied_strides.Goals as goal
 

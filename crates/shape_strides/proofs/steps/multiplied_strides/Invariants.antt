@@ -1,4 +1,5 @@
-use Rattle.shape_strides.proofs.Words.{◌≡◌, ◌*◌, ◌<◌, ◌≤◌, ◌++◌, drop, max_bytes, count, f_strides}
+use Rattle.std.proofs.Common.{◌≡◌, ◌*◌, ◌<◌, ◌≤◌, ◌++◌, drop}
+use Rattle.shape_strides.proofs.Words.{max_bytes, count, f_strides}
 use Rattle.shape_strides.proofs.steps.multiplied_strides.Given as goal
 
 abbrev pub invariant-loop-len : goal.invariant-loop-len

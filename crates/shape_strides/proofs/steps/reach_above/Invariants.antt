@@ -1,4 +1,5 @@
-use Rattle.shape_strides.proofs.Words.{◌≡◌, ◌+◌, ◌*◌, ◌≤◌, drop, reach_above, max_reach}
+use Rattle.std.proofs.Common.{◌≡◌, ◌+◌, ◌*◌, ◌≤◌, drop}
+use Rattle.shape_strides.proofs.Words.{reach_above, max_reach}
 use Rattle.shape_strides.proofs.steps.reach_above.Given as goal
 
 abbrev pub invariant-loop-axis : goal.invariant-loop-axis

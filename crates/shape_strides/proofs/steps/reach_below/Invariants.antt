@@ -1,4 +1,5 @@
-use Rattle.shape_strides.proofs.Words.{◌≡◌, ◌+◌, ◌*◌, ◌≤◌, drop, reach_below, max_reach}
+use Rattle.std.proofs.Common.{◌≡◌, ◌+◌, ◌*◌, ◌≤◌, drop}
+use Rattle.shape_strides.proofs.Words.{reach_below, max_reach}
 use Rattle.shape_strides.proofs.steps.reach_below.Given as goal
 
 abbrev pub invariant-loop-axis : goal.invariant-loop-axis

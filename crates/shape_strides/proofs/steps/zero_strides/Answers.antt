@@ -1,4 +1,5 @@
-use Rattle.shape_strides.proofs.Words.{◌++◌, ◌∷◌, [], pos, ap, sym, ◌∙◌, map_more}
+use Rattle.std.proofs.Common.{◌++◌, ◌∷◌, [], pos, ap, sym, ◌∙◌}
+use Rattle.shape_strides.proofs.Words.{map_more}
 use Rattle.shape_strides.proofs.steps.zero_strides.Goals as goal
 
 pub loop-len-preserved : goal.loop-len-preserved

@@ -1,4 +1,5 @@
-use Rattle.view_ops.proofs.Words.{Ok, ap, sym, axes_of}
+use Rattle.std.proofs.Common.{Ok, ap, sym}
+use Rattle.view_ops.proofs.Words.{axes_of}
 use Rattle.view_ops.proofs.axis_lists.axes_of.Goals as goal
 
 pub returns-in_ok-reversed_axes-in-None : goal.returns-in_ok-reversed_axes-in-None

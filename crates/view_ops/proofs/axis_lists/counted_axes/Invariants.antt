@@ -1,4 +1,5 @@
-use Rattle.view_ops.proofs.Words.{◌≡◌, map, take, natural, from_front}
+use Rattle.std.proofs.Common.{◌≡◌, map, take}
+use Rattle.view_ops.proofs.Words.{natural, from_front}
 use Rattle.view_ops.proofs.axis_lists.counted_axes.Given as goal
 
 abbrev pub invariant-loop-axis : goal.invariant-loop-axis

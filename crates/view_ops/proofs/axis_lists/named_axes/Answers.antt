@@ -1,4 +1,5 @@
-use Rattle.view_ops.proofs.Words.{inr, sym, ap, ◌∙◌, arith, are_distinct}
+use Rattle.std.proofs.Common.{inr, sym, ap, ◌∙◌, arith}
+use Rattle.view_ops.proofs.Words.{are_distinct}
 use Rattle.view_ops.proofs.AxesLaws.{axes_of-count, axes_of-range, axes_of-repeated, axes_of-ok}
 use Rattle.view_ops.proofs.axis_lists.named_axes.Goals as goal
 

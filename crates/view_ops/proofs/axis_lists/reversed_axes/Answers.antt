@@ -1,4 +1,5 @@
-use Rattle.view_ops.proofs.Words.{◌++◌, ◌-◌, ◌∷◌, [], ap, sym, ◌∙◌, arith, map-range_with_len_more}
+use Rattle.std.proofs.Common.{◌++◌, ◌-◌, ◌∷◌, [], ap, sym, ◌∙◌, arith}
+use Rattle.view_ops.proofs.Words.{map-range_with_len_more}
 use Rattle.view_ops.proofs.axis_lists.reversed_axes.Goals as goal
 
 pub loop-k-preserved : goal.loop-k-preserved

@@ -1,4 +1,5 @@
-use Rattle.view_ops.proofs.Words.{◌≡◌, ◌-◌, map, range_with_len}
+use Rattle.std.proofs.Common.{◌≡◌, ◌-◌, map}
+use Rattle.view_ops.proofs.Words.{range_with_len}
 use Rattle.view_ops.proofs.axis_lists.reversed_axes.Given as goal
 
 abbrev pub invariant-loop-k : goal.invariant-loop-k

@@ -1,4 +1,5 @@
-use Rattle.view_ops.proofs.Words.{◌≤◌, inr, sym, ap, ◌∙◌, arith, map, length, subst, axes_taken, are_on_axes, picks, picked_view, pick_shown, GivesView}
+use Rattle.std.proofs.Common.{◌≤◌, inr, sym, ap, ◌∙◌, arith, map, length, subst}
+use Rattle.view_ops.proofs.Words.{axes_taken, are_on_axes, picks, picked_view, pick_shown, GivesView}
 use Rattle.view_ops.proofs.BasicLaws.{basic-many, basic-no_step, basic-out, basic-picks}
 use Rattle.view_ops.proofs.basic_index.basic.Goals as goal
 

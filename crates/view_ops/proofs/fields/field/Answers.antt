@@ -1,4 +1,5 @@
-use Rattle.view_ops.proofs.Words.{sym, field_of}
+use Rattle.std.proofs.Common.{sym}
+use Rattle.view_ops.proofs.Words.{field_of}
 use Rattle.view_ops.proofs.FieldLaws.{gives_field}
 use Rattle.view_ops.proofs.fields.field.Goals as goal
 

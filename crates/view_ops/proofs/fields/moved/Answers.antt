@@ -1,4 +1,5 @@
-use Rattle.view_ops.proofs.Words.{◌+◌, ap, arith, max_bytes, count, rank-lt}
+use Rattle.std.proofs.Common.{◌+◌, ap, arith}
+use Rattle.view_ops.proofs.Words.{max_bytes, count, rank-lt}
 use Rattle.view_ops.proofs.FieldLaws.{offset-within}
 use Rattle.view_ops.proofs.fields.moved.Goals as goal
 

@@ -1,4 +1,5 @@
-use Rattle.view_ops.proofs.Words.{◌≡◌, ◌-◌, ◌≤◌, length, drop, axes_taken, are_on_axes}
+use Rattle.std.proofs.Common.{◌≡◌, ◌-◌, ◌≤◌, length, drop}
+use Rattle.view_ops.proofs.Words.{axes_taken, are_on_axes}
 use Rattle.view_ops.proofs.picks.are_in_range.Given as goal
 
 abbrev pub invariant-loop-k : goal.invariant-loop-k

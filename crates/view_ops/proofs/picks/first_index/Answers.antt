@@ -1,4 +1,5 @@
-use Rattle.view_ops.proofs.Words.{◌++◌, get_or, sym, ap, ◌∙◌, At, first_of}
+use Rattle.std.proofs.Common.{◌++◌, get_or, sym, ap, ◌∙◌}
+use Rattle.view_ops.proofs.Words.{At, first_of}
 use Rattle.view_ops.proofs.PickViews.{flat_map_on}
 use Rattle.view_ops.proofs.picks.first_index.Goals as goal
 

@@ -1,4 +1,5 @@
-use Rattle.view_ops.proofs.Words.{◌≡◌, take, flat_map, first_of}
+use Rattle.std.proofs.Common.{◌≡◌, take}
+use Rattle.view_ops.proofs.Words.{flat_map, first_of}
 use Rattle.view_ops.proofs.picks.first_index.Given as goal
 
 abbrev pub invariant-loop-pick : goal.invariant-loop-pick

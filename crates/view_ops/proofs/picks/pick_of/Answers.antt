@@ -1,4 +1,5 @@
-use Rattle.view_ops.proofs.Words.{◌≡◌, ℕ, List, Result, Ok, Err, sym, ap, ◌∙◌, MatchResult, is_ok, Refusal, Progression, run_numbers}
+use Rattle.std.proofs.Common.{◌≡◌, ℕ, List, Result, Ok, Err, sym, ap, ◌∙◌, MatchResult}
+use Rattle.view_ops.proofs.Words.{is_ok, Refusal, Progression, run_numbers}
 use Rattle.view_ops.proofs.PickLaws.{has_step-ok}
 use Rattle.view_ops.proofs.picks.pick_of.Goals as goal
 

@@ -1,4 +1,5 @@
-use Rattle.view_ops.proofs.Words.{◌++◌, get_or, sym, ap, ◌∙◌, At, axis_of, pick_shown}
+use Rattle.std.proofs.Common.{◌++◌, get_or, sym, ap, ◌∙◌}
+use Rattle.view_ops.proofs.Words.{At, axis_of, pick_shown}
 use Rattle.view_ops.proofs.PickViews.{lengths_on}
 use Rattle.view_ops.proofs.picks.picked_lengths.Goals as goal
 

@@ -1,4 +1,5 @@
-use Rattle.view_ops.proofs.Words.{◌≡◌, map, take, picked_shape, pick_shown}
+use Rattle.std.proofs.Common.{◌≡◌, map, take}
+use Rattle.view_ops.proofs.Words.{picked_shape, pick_shown}
 use Rattle.view_ops.proofs.picks.picked_lengths.Given as goal
 
 abbrev pub invariant-loop-pick : goal.invariant-loop-pick

@@ -1,4 +1,5 @@
-use Rattle.view_ops.proofs.Words.{arith, At}
+use Rattle.std.proofs.Common.{arith}
+use Rattle.view_ops.proofs.Words.{At}
 use Rattle.view_ops.proofs.PickViews.{step_at, stepped_on, stepped_all}
 use Rattle.view_ops.proofs.picks.picked_strides.Goals as goal
 

@@ -1,4 +1,5 @@
-use Rattle.view_ops.proofs.Words.{pos, get_or_read, Integer}
+use Rattle.std.proofs.Common.{pos}
+use Rattle.view_ops.proofs.Words.{get_or_read, Integer}
 use Rattle.view_ops.proofs.PickLaws.{picked_more, can_pick}
 use Rattle.view_ops.proofs.picks.picks_of.Goals as goal
 

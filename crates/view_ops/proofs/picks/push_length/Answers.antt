@@ -1,4 +1,5 @@
-use Rattle.view_ops.proofs.Words.{◌++◌, ◌∷◌, [], sym, ap, ◌∙◌, length-run}
+use Rattle.std.proofs.Common.{◌++◌, ◌∷◌, [], sym, ap, ◌∙◌}
+use Rattle.view_ops.proofs.Words.{length-run}
 use Rattle.view_ops.proofs.picks.push_length.Goals as goal
 
 pub returns-in_ok-push-in-Along : goal.returns-in_ok-push-in-Along

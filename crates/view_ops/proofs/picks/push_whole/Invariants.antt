@@ -1,4 +1,5 @@
-use Rattle.view_ops.proofs.Words.{map, take, whole, AddsPicks}
+use Rattle.std.proofs.Common.{map, take}
+use Rattle.view_ops.proofs.Words.{whole, AddsPicks}
 use Rattle.view_ops.proofs.picks.push_whole.Given as goal
 
 abbrev pub invariant-loop-n : goal.invariant-loop-n

@@ -1,4 +1,5 @@
-use Rattle.view_ops.proofs.Words.{ap, subst, ◌∙◌, shape_of, Gives}
+use Rattle.std.proofs.Common.{ap, subst, ◌∙◌}
+use Rattle.view_ops.proofs.Words.{shape_of, Gives}
 use Rattle.view_ops.proofs.BasicLaws.{shape_of-picked}
 use Rattle.view_ops.proofs.picks.shape_picked.Goals as goal
 

@@ -1,4 +1,5 @@
-use Rattle.view_ops.proofs.Words.{◌<◌, ◌∙◌, ap, sym, arith, length, err_from_is_err_and, count}
+use Rattle.std.proofs.Common.{◌<◌, ◌∙◌, ap, sym, arith, length}
+use Rattle.view_ops.proofs.Words.{err_from_is_err_and, count}
 use Rattle.view_ops.proofs.PickViews.{shape_of_picks, IsIndex-firsts, small-layout, length-strides, picked_as, picked_empty, picked-lies, picked-is, picked-nested}
 use Rattle.view_ops.proofs.BasicLaws.{made-shape, gives_picks, gives_no_shape}
 use Rattle.view_ops.proofs.picks.with_picks.Goals as goal

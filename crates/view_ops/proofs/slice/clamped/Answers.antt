@@ -1,4 +1,5 @@
-use Rattle.view_ops.proofs.Words.{◌≡◌, to_z, of_z, w128, to_z-of_z, lowest, from_front, clamped}
+use Rattle.std.proofs.Common.{◌≡◌, to_z, of_z}
+use Rattle.view_ops.proofs.Words.{w128, to_z-of_z, lowest, from_front, clamped}
 use Rattle.view_ops.proofs.SliceLaws.{clamp_low, clamp_high}
 use Rattle.view_ops.proofs.slice.clamped.Goals as goal
 

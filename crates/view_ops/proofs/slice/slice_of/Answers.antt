@@ -1,4 +1,5 @@
-use Rattle.view_ops.proofs.Words.{◌≡◌, ◌<◌, ◌∙◌, ap, sym, pos, unsigned_abs, to_z, of_z, FitsSigned, w128, to_z-of_z, Progression, run_numbers}
+use Rattle.std.proofs.Common.{◌≡◌, ◌<◌, ◌∙◌, ap, sym, pos, unsigned_abs, to_z, of_z, FitsSigned}
+use Rattle.view_ops.proofs.Words.{w128, to_z-of_z, Progression, run_numbers}
 use Rattle.view_ops.proofs.SliceLaws.{IsSpan, slice_indices-zero, slice_indices-list, stepped-run, within-run, span_first}
 use Rattle.view_ops.proofs.slice.slice_of.Goals as goal
 

@@ -1,4 +1,5 @@
-use Rattle.view_ops.proofs.Words.{ap, ◌∙◌, unsigned_abs, w128, div_ceil, to_z-of_z, steps_end_below, abs_pos}
+use Rattle.std.proofs.Common.{ap, ◌∙◌, unsigned_abs}
+use Rattle.view_ops.proofs.Words.{w128, div_ceil, to_z-of_z, steps_end_below, abs_pos}
 use Rattle.view_ops.proofs.slice.steps_below.Goals as goal
 
 pub returns : goal.returns

@@ -1,4 +1,5 @@
-use Rattle.view_ops.proofs.Words.{◌∙◌, Ok, ap, sym, option_copied, err_from_is_err_and}
+use Rattle.std.proofs.Common.{◌∙◌, Ok, ap, sym, option_copied}
+use Rattle.view_ops.proofs.Words.{err_from_is_err_and}
 use Rattle.view_ops.proofs.AxesLaws.{all_axes}
 use Rattle.view_ops.proofs.TransposeViews.{gives_transposed, gives_no_axes}
 use Rattle.view_ops.proofs.transposition.transpose.Goals as goal

@@ -1,4 +1,5 @@
-use Rattle.view_ops.proofs.Words.{refl, sym, ap, subst, ◌∙◌, IsShape, transposed_shape}
+use Rattle.std.proofs.Common.{refl, sym, ap, subst, ◌∙◌}
+use Rattle.view_ops.proofs.Words.{IsShape, transposed_shape}
 use Rattle.view_ops.proofs.TransposeViews.{IsShape-transposed, turned_as, turned-length, turned-lies, turned-zeros, turned-is, turned-nested}
 use Rattle.view_ops.proofs.transposition.with_axes.Goals as goal
 

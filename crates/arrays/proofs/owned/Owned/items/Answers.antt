@@ -1,4 +1,5 @@
-use Rattle.arrays.proofs.Words.{length, item_size, offsets_within}
+use Rattle.std.proofs.Common.{length}
+use Rattle.arrays.proofs.Words.{item_size, offsets_within}
 use Rattle.arrays.proofs.owned.Owned.items.Goals as goal
 
 pub invariant_of-result : goal.invariant_of-result

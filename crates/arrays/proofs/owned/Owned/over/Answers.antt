@@ -1,4 +1,5 @@
-use Rattle.arrays.proofs.Words.{ap, arith, ◌∙◌, common_steps, fortran_order, offsets}
+use Rattle.std.proofs.Common.{ap, arith, ◌∙◌}
+use Rattle.arrays.proofs.Words.{common_steps, fortran_order, offsets}
 use Rattle.arrays.proofs.OwnedLaws.{multiples-whole, f_multiples-whole, c-in_order, f-in_order}
 use Rattle.arrays.proofs.owned.Owned.over.Goals as goal
 use Rattle.arrays.proofs.owned.Owned.over.Goals.{in-C+in_ok-layout-in-C, in-Fortran+in_ok-layout-in-Fortran}

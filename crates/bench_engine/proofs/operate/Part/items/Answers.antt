@@ -1,4 +1,5 @@
-use Rattle.bench_engine.proofs.Words.{refl, sym, subst, Array, Part, LiesIn, IsPart, StandsFor}
+use Rattle.std.proofs.Common.{refl, sym, subst}
+use Rattle.bench_engine.proofs.Words.{Array, Part, LiesIn, IsPart, StandsFor}
 use Rattle.bench_engine.proofs.Assigns.{lies-whole, lies-viewed}
 use Rattle.bench_engine.proofs.OperandLaws.{view-within, view-stands}
 use Rattle.bench_engine.proofs.operate.Part.items.Goals as goal

@@ -1,4 +1,5 @@
-use Rattle.bench_engine.proofs.Words.{sym, ◌<◌, ◌++◌, ◌∷◌, [], ap, ◌∙◌, append_assoc, length, length-append, arith, ℕ, List, err_from_is_err_and, on_err_weaker, appends_then}
+use Rattle.std.proofs.Common.{sym, ◌<◌, ◌++◌, ◌∷◌, [], ap, ◌∙◌, append_assoc, length, length-append, arith, ℕ, List}
+use Rattle.bench_engine.proofs.Words.{err_from_is_err_and, on_err_weaker, appends_then}
 use Rattle.bench_engine.proofs.reply_text.ReplyText.send_line.Goals as goal
 
 longer : (xs ys : List ℕ) → 0 < length xs → 0 < length (xs ++ ys)

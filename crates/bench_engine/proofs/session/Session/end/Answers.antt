@@ -1,4 +1,5 @@
-use Rattle.bench_engine.proofs.Words.{sym, on_ok_weaker, on_err_weaker}
+use Rattle.std.proofs.Common.{sym}
+use Rattle.bench_engine.proofs.Words.{on_ok_weaker, on_err_weaker}
 use Rattle.bench_engine.proofs.Feeding.{ends-told, ends-cut, ends-empty}
 use Rattle.bench_engine.proofs.session.Session.end.Goals as goal
 

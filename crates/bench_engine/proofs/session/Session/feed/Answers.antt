@@ -1,4 +1,5 @@
-use Rattle.bench_engine.proofs.Words.{◌≡◌, ◌++◌, ◌+◌, ◌∷◌, [], List, ℕ, length, take, drop, sym, ap, ◌∙◌, refl, append_assoc, arith, length-drop, append-nil, err_from_is_err_and, rest_of}
+use Rattle.std.proofs.Common.{◌≡◌, ◌++◌, ◌+◌, ◌∷◌, [], List, ℕ, length, take, drop, sym, ap, ◌∙◌, refl, append_assoc, arith, length-drop}
+use Rattle.bench_engine.proofs.Words.{append-nil, err_from_is_err_and, rest_of}
 use Rattle.bench_engine.proofs.Feeding.{cut-newline, fed-newline, fed-nothing, fed-piece, fed_along, fed_in_part_along}
 use Rattle.bench_engine.proofs.Lines.{first_newline, no_newline, newline_in_rest}
 use Rattle.bench_engine.proofs.session.Session.feed.Goals as goal

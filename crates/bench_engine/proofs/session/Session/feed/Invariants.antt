@@ -1,4 +1,5 @@
-use Rattle.bench_engine.proofs.Words.{◌≡◌, ◌≤◌, ◌+◌, ◌++◌, List, ℕ, length, IsUnbroken, HoldsPiece, Feeds}
+use Rattle.std.proofs.Common.{◌≡◌, ◌≤◌, ◌+◌, ◌++◌, List, ℕ, length}
+use Rattle.bench_engine.proofs.Words.{IsUnbroken, HoldsPiece, Feeds}
 use Rattle.bench_engine.proofs.session.Session.feed.Given as goal
 
 -- a prefix of the bytes was fed, up to a newline

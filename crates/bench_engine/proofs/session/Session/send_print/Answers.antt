@@ -1,4 +1,5 @@
-use Rattle.bench_engine.proofs.Words.{◌≡◌, ◌++◌, ◌∷◌, [], ◌∙◌, ap, sym, refl, true, false, append_assoc, length-append, arith, err_from_is_err_and, on_ok_weaker, on_err_weaker, appends_then, Session}
+use Rattle.std.proofs.Common.{◌≡◌, ◌++◌, ◌∷◌, [], ◌∙◌, ap, sym, refl, true, false, append_assoc, length-append, arith}
+use Rattle.bench_engine.proofs.Words.{err_from_is_err_and, on_ok_weaker, on_err_weaker, appends_then, Session}
 use Rattle.bench_engine.proofs.Feeding.{told-print, cut-print}
 use Rattle.bench_engine.proofs.session.Session.send_print.Goals.{then-branch, else-branch}
 use Rattle.bench_engine.proofs.session.Session.send_print.Goals as goal

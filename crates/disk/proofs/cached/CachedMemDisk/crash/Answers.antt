@@ -1,4 +1,5 @@
-use Rattle.disk.proofs.Words.{List, IsTrue, refl, rules, subst, Event, bytes_of_change, MayStand}
+use Rattle.std.proofs.Common.{List, IsTrue, refl, rules, subst}
+use Rattle.disk.proofs.Words.{Event, bytes_of_change, MayStand}
 use Rattle.disk.proofs.Events.{may_be_left}
 use Rattle.disk.proofs.cached.CachedMemDisk.crash.Goals as goal
 

@@ -1,4 +1,5 @@
-use Rattle.disk.proofs.Words.{refl, sym, subst, List, Event, Same, Leaves, cached_history}
+use Rattle.std.proofs.Common.{refl, sym, subst, List}
+use Rattle.disk.proofs.Words.{Event, Same, Leaves, cached_history}
 use Rattle.disk.proofs.Events.{still_same, file_synced}
 use Rattle.disk.proofs.cached.CachedMemDiskDisk.sync.Goals as goal
 

@@ -1,4 +1,5 @@
-use Rattle.disk.proofs.Words.{refl, sym, subst, List, IsTrue, Event, Same, Leaves, HasNames, found, is_synced, cached_history}
+use Rattle.std.proofs.Common.{refl, sym, subst, List, IsTrue}
+use Rattle.disk.proofs.Words.{Event, Same, Leaves, HasNames, found, is_synced, cached_history}
 use Rattle.disk.proofs.Events.{still_same, names_synced, has_names}
 use Rattle.disk.proofs.cached.CachedMemDiskDisk.sync_names.Goals as goal
 

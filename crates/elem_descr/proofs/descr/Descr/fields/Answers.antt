@@ -1,4 +1,5 @@
-use Rattle.elem_descr.proofs.Words.{length, ap, arith, Descr, leaves_of, length-leaves_from}
+use Rattle.std.proofs.Common.{length, ap, arith}
+use Rattle.elem_descr.proofs.Words.{Descr, leaves_of, length-leaves_from}
 use Rattle.elem_descr.proofs.FieldLaws.{fields_within}
 use Rattle.elem_descr.proofs.descr.Descr.fields.Goals as goal
 

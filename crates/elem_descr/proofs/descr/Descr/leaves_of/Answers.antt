@@ -1,4 +1,5 @@
-use Rattle.elem_descr.proofs.Words.{◌≡◌, List, length, take, get_or, ap, sym, ◌∙◌, arith, get_or_default, Field, leaves_of, leaves_in, fields, field_at, no_field}
+use Rattle.std.proofs.Common.{◌≡◌, List, length, take, get_or, ap, sym, ◌∙◌, arith}
+use Rattle.elem_descr.proofs.Words.{get_or_default, Field, leaves_of, leaves_in, fields, field_at, no_field}
 use Rattle.elem_descr.proofs.FieldLaws.{leaves_in_fields, leaves_of_fields, leaves_of_one, leaves_at_one, leaves_in-take}
 use Rattle.elem_descr.proofs.descr.Descr.leaves_of.Goals as goal
 

@@ -1,4 +1,5 @@
-use Rattle.elem_descr.proofs.Words.{◌<◌, length, ap, arith, Structure, leaves_from, leaf_within}
+use Rattle.std.proofs.Common.{◌<◌, length, ap, arith}
+use Rattle.elem_descr.proofs.Words.{Structure, leaves_from, leaf_within}
 use Rattle.elem_descr.proofs.FieldLaws.{kept_in_order, leaf_begins}
 use Rattle.elem_descr.proofs.descr.Record.leaf_at.Goals as goal
 

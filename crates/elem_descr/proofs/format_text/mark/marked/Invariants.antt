@@ -1,4 +1,5 @@
-use Rattle.elem_descr.proofs.Words.{◌≡◌, drop, marked}
+use Rattle.std.proofs.Common.{◌≡◌, drop}
+use Rattle.elem_descr.proofs.Words.{marked}
 use Rattle.elem_descr.proofs.format_text.mark.marked.Given as goal
 
 -- the marks so far are read

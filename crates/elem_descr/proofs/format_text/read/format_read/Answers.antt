@@ -1,4 +1,5 @@
-use Rattle.elem_descr.proofs.Words.{◌≡◌, List, ℕ, drop, rules, sym, ap, ◌∙◌, take_rest, Mark, ◌>>=◌, member_at, held_at, alone, record_alone, format_in_turns}
+use Rattle.std.proofs.Common.{◌≡◌, List, ℕ, drop, rules, sym, ap, ◌∙◌}
+use Rattle.elem_descr.proofs.Words.{take_rest, Mark, ◌>>=◌, member_at, held_at, alone, record_alone, format_in_turns}
 use Rattle.elem_descr.specs.declared.format_text.member.Member.{Member}
 use Rattle.elem_descr.proofs.Binds.{after_ok}
 use Rattle.elem_descr.proofs.SameFormat.{same_format}

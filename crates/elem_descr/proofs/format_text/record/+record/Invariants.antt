@@ -1,4 +1,5 @@
-use Rattle.elem_descr.proofs.Words.{◌≡◌, ◌+◌, ◌-◌, ◌*◌, length, members, record_within}
+use Rattle.std.proofs.Common.{◌≡◌, ◌+◌, ◌-◌, ◌*◌, length}
+use Rattle.elem_descr.proofs.Words.{members, record_within}
 use Rattle.elem_descr.proofs.format_text.record.+record.Given as goal
 
 abbrev pub decreases-field_at : goal.decreases-field_at

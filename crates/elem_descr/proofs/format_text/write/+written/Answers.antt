@@ -1,4 +1,5 @@
-use Rattle.elem_descr.proofs.Words.{◌≡◌, ◌-◌, ◌++◌, ℕ, List, refl, sym, ap, ◌∙◌, arith, Fields, listed, written_pad, written_fields, listed-fields_of, field_within, weight-one, first_field}
+use Rattle.std.proofs.Common.{◌≡◌, ◌-◌, ◌++◌, ℕ, List, refl, sym, ap, ◌∙◌, arith}
+use Rattle.elem_descr.proofs.Words.{Fields, listed, written_pad, written_fields, listed-fields_of, field_within, weight-one, first_field}
 use Rattle.elem_descr.proofs.WrittenFields.{one_written, all_written}
 use Rattle.elem_descr.proofs.format_text.write.+written.Goals as goal
 

@@ -1,4 +1,5 @@
-use Rattle.elem_descr.proofs.Words.{◌≡◌, ◌+◌, ◌*◌, ◌++◌, drop, total, InOrder, listed, written_fields, weight}
+use Rattle.std.proofs.Common.{◌≡◌, ◌+◌, ◌*◌, ◌++◌, drop}
+use Rattle.elem_descr.proofs.Words.{total, InOrder, listed, written_fields, weight}
 use Rattle.elem_descr.proofs.format_text.write.+written.Given as goal
 
 abbrev pub decreases-push_descr : goal.decreases-push_descr

@@ -1,4 +1,5 @@
-use Rattle.elem_descr.proofs.Words.{◌≤◌, size}
+use Rattle.std.proofs.Common.{◌≤◌}
+use Rattle.elem_descr.proofs.Words.{size}
 use Rattle.elem_descr.proofs.RoundTrip.{reads_scalar_back}
 use Rattle.elem_descr.proofs.format_text.write.will_read.Goals as goal
 

@@ -1,4 +1,5 @@
-use Rattle.elem_descr.proofs.Words.{◌≡◌, ◌≤◌, false, length, ap, subst, sym, arith, Field, Partial, IsShallow, is_taken}
+use Rattle.std.proofs.Common.{◌≡◌, ◌≤◌, false, length, ap, subst, sym, arith}
+use Rattle.elem_descr.proofs.Words.{Field, Partial, IsShallow, is_taken}
 use Rattle.elem_descr.proofs.PartialLaws.{partial_push, MayFollow}
 use Rattle.elem_descr.proofs.record_builder.RecordBuilder.add.Goals as goal
 

@@ -1,4 +1,5 @@
-use Rattle.elem_descr.proofs.Words.{◌≡◌, ◌≤◌, length, rules, arith, ap, Partial}
+use Rattle.std.proofs.Common.{◌≡◌, ◌≤◌, length, rules, arith, ap}
+use Rattle.elem_descr.proofs.Words.{Partial}
 use Rattle.elem_descr.proofs.PartialLaws.{closed_legal}
 use Rattle.elem_descr.proofs.record_builder.RecordBuilder.close.Goals as goal
 

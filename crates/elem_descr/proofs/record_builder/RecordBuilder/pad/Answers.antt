@@ -1,4 +1,5 @@
-use Rattle.elem_descr.proofs.Words.{arith, Partial}
+use Rattle.std.proofs.Common.{arith}
+use Rattle.elem_descr.proofs.Words.{Partial}
 use Rattle.elem_descr.proofs.PartialLaws.{widened_partial}
 use Rattle.elem_descr.proofs.record_builder.RecordBuilder.pad.Goals as goal
 

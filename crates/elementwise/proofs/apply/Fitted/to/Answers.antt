@@ -1,4 +1,5 @@
-use Rattle.elementwise.proofs.Words.{sym, ◌∙◌, same_text}
+use Rattle.std.proofs.Common.{sym, ◌∙◌}
+use Rattle.elementwise.proofs.Words.{same_text}
 use Rattle.elementwise.proofs.StretchedLaws.{is_stretched, stretches-itself}
 use Rattle.elementwise.proofs.apply.Fitted.to.Goals as goal
 

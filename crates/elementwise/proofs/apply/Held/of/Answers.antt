@@ -1,4 +1,5 @@
-use Rattle.elementwise.proofs.Words.{refl, sym, ◌∙◌, map, arith, mul-le-mul_left, map-map, item_from, count, offsets, cast_item}
+use Rattle.std.proofs.Common.{refl, sym, ◌∙◌, map, arith}
+use Rattle.elementwise.proofs.Words.{mul-le-mul_left, map-map, item_from, count, offsets, cast_item}
 use Rattle.elementwise.proofs.TypedLaws.{kept}
 use Rattle.elementwise.proofs.apply.Held.of.Goals as goal
 

@@ -1,4 +1,5 @@
-use Rattle.elementwise.proofs.Words.{◌≡◌, false, sym, ◌∙◌, pos, not, ◌==◌, Little, low_bits, integer, exact, division_op}
+use Rattle.std.proofs.Common.{◌≡◌, false, sym, ◌∙◌, pos, not, ◌==◌}
+use Rattle.elementwise.proofs.Words.{Little, low_bits, integer, exact, division_op}
 use Rattle.elementwise.proofs.WordLaws.{are_bits, applied}
 use Rattle.elementwise.proofs.byte_divisions.Reciprocals.divided.Goals as goal
 

@@ -1,4 +1,4 @@
-use Rattle.elementwise.proofs.Words.{◌≡◌, ◌+◌, ◌/◌, ◌<◌, ◌≤◌, ℕ, length, get_or}
+use Rattle.std.proofs.Common.{◌≡◌, ◌+◌, ◌/◌, ◌<◌, ◌≤◌, ℕ, length, get_or}
 use Rattle.elementwise.proofs.byte_divisions.Reciprocals.new.Given as goal
 
 -- the reciprocals of the smaller divisors are there

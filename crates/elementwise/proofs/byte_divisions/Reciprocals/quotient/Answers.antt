@@ -1,4 +1,4 @@
-use Rattle.elementwise.proofs.Words.{◌≡◌, ◌*◌, ◌/◌, ap, ◌∙◌, arith, get_or}
+use Rattle.std.proofs.Common.{◌≡◌, ◌*◌, ◌/◌, ap, ◌∙◌, arith, get_or}
 use Rattle.elementwise.proofs.BitLaws.{byte-quotient, byte_low}
 use Rattle.elementwise.proofs.byte_divisions.Reciprocals.quotient.Goals as goal
 

@@ -1,4 +1,5 @@
-use Rattle.elementwise.proofs.Words.{◌≡◌, ◌+◌, ◌++◌, joined, text_pair, made_of}
+use Rattle.std.proofs.Common.{◌≡◌, ◌+◌, ◌++◌}
+use Rattle.elementwise.proofs.Words.{joined, text_pair, made_of}
 use Rattle.elementwise.proofs.byte_string_pairs.ComparingTextsPass.push_row.Given as goal
 
 abbrev pub invariant-loop-k : goal.invariant-loop-k

@@ -1,4 +1,5 @@
-use Rattle.elementwise.proofs.Words.{◌≡◌, ◌+◌, ◌++◌, BoolScalar, text, encode, without_nuls, joined, truth_value, made_of}
+use Rattle.std.proofs.Common.{◌≡◌, ◌+◌, ◌++◌}
+use Rattle.elementwise.proofs.Words.{BoolScalar, text, encode, without_nuls, joined, truth_value, made_of}
 use Rattle.elementwise.proofs.byte_string_pairs.ComparingWithPass.push_row.Given as goal
 
 abbrev pub invariant-loop-k : goal.invariant-loop-k

@@ -1,4 +1,5 @@
-use Rattle.elementwise.proofs.Words.{rules, w64, length, sym, subst, arith, to_z-of_z, SFits, to_z, of_z, EachWithin, place}
+use Rattle.std.proofs.Common.{rules, w64, length, sym, subst, arith}
+use Rattle.elementwise.proofs.Words.{to_z-of_z, SFits, to_z, of_z, EachWithin, place}
 use Rattle.elementwise.proofs.ColumnLaws.{part-within}
 use Rattle.elementwise.proofs.casts.ItemRun.part.Goals as goal
 

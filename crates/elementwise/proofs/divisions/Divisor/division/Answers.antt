@@ -1,4 +1,5 @@
-use Rattle.elementwise.proofs.Words.{◌≡◌, ◌^◌, ◌<◌, refl, sym, ap, ◌∙◌, arith, Bool, true, false, unsigned_abs, integer, low_bits, exact, division_op}
+use Rattle.std.proofs.Common.{◌≡◌, ◌^◌, ◌<◌, refl, sym, ap, ◌∙◌, arith, Bool, true, false, unsigned_abs}
+use Rattle.elementwise.proofs.Words.{integer, low_bits, exact, division_op}
 use Rattle.elementwise.proofs.BitLaws.{rest_low}
 use Rattle.elementwise.proofs.divisions.Divisor.division.Goals as goal
 

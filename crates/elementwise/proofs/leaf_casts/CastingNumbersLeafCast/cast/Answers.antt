@@ -1,4 +1,5 @@
-use Rattle.elementwise.proofs.Words.{sym, ap, ◌∙◌, number, decode, encode, wrap, number_of}
+use Rattle.std.proofs.Common.{sym, ap, ◌∙◌}
+use Rattle.elementwise.proofs.Words.{number, decode, encode, wrap, number_of}
 use Rattle.elementwise.proofs.LeafLaws.{cast_number}
 use Rattle.elementwise.proofs.leaf_casts.CastingNumbersLeafCast.cast.Goals as goal
 

@@ -1,4 +1,5 @@
-use Rattle.elementwise.proofs.Words.{ℕ, ◌+◌, ◌%◌, ◌^◌, sym, ◌∙◌, arith, pos, ◌+ℤ◌, mod-lt, Little, low_bits, Add}
+use Rattle.std.proofs.Common.{ℕ, ◌+◌, ◌%◌, ◌^◌, sym, ◌∙◌, arith, pos, ◌+ℤ◌}
+use Rattle.elementwise.proofs.Words.{mod-lt, Little, low_bits, Add}
 use Rattle.elementwise.proofs.BitLaws.{sum_low}
 use Rattle.elementwise.proofs.WordLaws.{are_bits, applied}
 use Rattle.elementwise.proofs.operations.AddingKernel.make.Goals as goal

@@ -1,4 +1,5 @@
-use Rattle.elementwise.proofs.Words.{arith, pos, bit_and, and_mod, and_le_l, Little}
+use Rattle.std.proofs.Common.{arith, pos, bit_and}
+use Rattle.elementwise.proofs.Words.{and_mod, and_le_l, Little}
 use Rattle.elementwise.proofs.WordLaws.{are_bits, bits_applied}
 use Rattle.elementwise.proofs.operations.KeepingBothKernel.make.Goals as goal
 

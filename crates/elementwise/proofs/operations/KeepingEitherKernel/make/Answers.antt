@@ -1,4 +1,5 @@
-use Rattle.elementwise.proofs.Words.{pos, bit_or, or_mod, or_lt, Little}
+use Rattle.std.proofs.Common.{pos, bit_or}
+use Rattle.elementwise.proofs.Words.{or_mod, or_lt, Little}
 use Rattle.elementwise.proofs.WordLaws.{are_bits, bits_applied}
 use Rattle.elementwise.proofs.operations.KeepingEitherKernel.make.Goals as goal
 

@@ -1,4 +1,5 @@
-use Rattle.elementwise.proofs.Words.{pos, bit_xor, xor_mod, xor_lt, Little}
+use Rattle.std.proofs.Common.{pos, bit_xor}
+use Rattle.elementwise.proofs.Words.{xor_mod, xor_lt, Little}
 use Rattle.elementwise.proofs.WordLaws.{are_bits, bits_applied}
 use Rattle.elementwise.proofs.operations.KeepingOneKernel.make.Goals as goal
 

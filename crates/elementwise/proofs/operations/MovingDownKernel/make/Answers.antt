@@ -1,4 +1,5 @@
-use Rattle.elementwise.proofs.Words.{sym, ◌∙◌, pos, ◌*◌, Little, size, low_bits, integer, ShiftRight, shifted_right}
+use Rattle.std.proofs.Common.{sym, ◌∙◌, pos, ◌*◌}
+use Rattle.elementwise.proofs.Words.{Little, size, low_bits, integer, ShiftRight, shifted_right}
 use Rattle.elementwise.proofs.WordLaws.{are_bits, applied}
 use Rattle.elementwise.proofs.operations.MovingDownKernel.make.Goals as goal
 

@@ -1,4 +1,5 @@
-use Rattle.elementwise.proofs.Words.{sym, ◌∙◌, pos, ◌*◌, Little, low_bits, ShiftLeft, shifted_left}
+use Rattle.std.proofs.Common.{sym, ◌∙◌, pos, ◌*◌}
+use Rattle.elementwise.proofs.Words.{Little, low_bits, ShiftLeft, shifted_left}
 use Rattle.elementwise.proofs.WordLaws.{are_bits, applied}
 use Rattle.elementwise.proofs.operations.MovingUpKernel.make.Goals as goal
 

@@ -1,4 +1,5 @@
-use Rattle.elementwise.proofs.Words.{ℕ, ◌*◌, ◌%◌, ◌^◌, sym, ◌∙◌, arith, pos, ◌*ℤ◌, mod-lt, Little, low_bits, Multiply}
+use Rattle.std.proofs.Common.{ℕ, ◌*◌, ◌%◌, ◌^◌, sym, ◌∙◌, arith, pos, ◌*ℤ◌}
+use Rattle.elementwise.proofs.Words.{mod-lt, Little, low_bits, Multiply}
 use Rattle.elementwise.proofs.BitLaws.{product_low}
 use Rattle.elementwise.proofs.WordLaws.{are_bits, applied}
 use Rattle.elementwise.proofs.operations.MultiplyingKernel.make.Goals as goal

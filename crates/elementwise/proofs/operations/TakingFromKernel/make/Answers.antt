@@ -1,4 +1,5 @@
-use Rattle.elementwise.proofs.Words.{ℕ, ◌+◌, ◌-◌, ◌%◌, ◌^◌, sym, ◌∙◌, arith, true, pos, ◌-ℤ◌, mod-lt, Little, integer, low_bits}
+use Rattle.std.proofs.Common.{ℕ, ◌+◌, ◌-◌, ◌%◌, ◌^◌, sym, ◌∙◌, arith, true, pos, ◌-ℤ◌}
+use Rattle.elementwise.proofs.Words.{mod-lt, Little, integer, low_bits}
 use Rattle.elementwise.proofs.BitLaws.{difference_low}
 use Rattle.elementwise.proofs.WordLaws.{are_bits, applied_one, near_zero}
 use Rattle.elementwise.proofs.operations.TakingFromKernel.make.Goals as goal

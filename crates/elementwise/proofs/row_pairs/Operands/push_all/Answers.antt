@@ -1,4 +1,5 @@
-use Rattle.elementwise.proofs.Words.{◌≡◌, ◌+◌, ◌*◌, ◌≤◌, All, length, sym, ap, subst, ◌∙◌, arith, item_size, count, length-offsets, length-run_offsets, run-within, pairs_of}
+use Rattle.std.proofs.Common.{◌≡◌, ◌+◌, ◌*◌, ◌≤◌, All, length, sym, ap, subst, ◌∙◌, arith}
+use Rattle.elementwise.proofs.Words.{item_size, count, length-offsets, length-run_offsets, run-within, pairs_of}
 use Rattle.elementwise.proofs.row_pairs.Operands.push_all.Goals as goal
 
 pub push_row-requires-clause-room : goal.push_row-requires-clause-room

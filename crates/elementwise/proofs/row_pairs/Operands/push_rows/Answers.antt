@@ -1,4 +1,5 @@
-use Rattle.elementwise.proofs.Words.{◌≡◌, ◌+◌, ◌*◌, ◌≤◌, ◌++◌, All, length, sym, ap, subst, ◌∙◌, arith, concat, All-rest, item_size, EachWithin, max_bytes, offsets, length-offsets, run_pairs, runs-within, next_pair, pairwise, pair_from, pairs_of}
+use Rattle.std.proofs.Common.{◌≡◌, ◌+◌, ◌*◌, ◌≤◌, ◌++◌, All, length, sym, ap, subst, ◌∙◌, arith}
+use Rattle.elementwise.proofs.Words.{concat, All-rest, item_size, EachWithin, max_bytes, offsets, length-offsets, run_pairs, runs-within, next_pair, pairwise, pair_from, pairs_of}
 use Rattle.elementwise.proofs.PairLaws.{firsts, seconds}
 use Rattle.elementwise.proofs.AppendedLaws.{pushed-next, bytes-next}
 use Rattle.elementwise.proofs.row_pairs.Operands.push_rows.Goals as goal

@@ -1,4 +1,5 @@
-use Rattle.elementwise.proofs.Words.{◌≡◌, ◌+◌, ◌*◌, ◌≤◌, ◌++◌, All, length, concat, item_size, EachWithin, pairwise, pair_from, pairs_of, made_of_all}
+use Rattle.std.proofs.Common.{◌≡◌, ◌+◌, ◌*◌, ◌≤◌, ◌++◌, All, length}
+use Rattle.elementwise.proofs.Words.{concat, item_size, EachWithin, pairwise, pair_from, pairs_of, made_of_all}
 use Rattle.elementwise.proofs.PairLaws.{firsts, seconds}
 use Rattle.elementwise.proofs.row_pairs.Operands.push_rows.Given as goal
 

@@ -1,4 +1,5 @@
-use Rattle.elementwise.proofs.Words.{nat_lt, inl, inr, ◌-◌, length, ap, refl, sym, ◌∙◌, arith, rules, AreBytes, big_number}
+use Rattle.std.proofs.Common.{nat_lt, inl, inr, ◌-◌, length, ap, refl, sym, ◌∙◌, arith, rules}
+use Rattle.elementwise.proofs.Words.{AreBytes, big_number}
 use Rattle.elementwise.proofs.WordOrderLaws.{in-order, same-front, two-in-order}
 use Rattle.elementwise.proofs.text_comparisons.EndsDeciding.numbers.Goals as goal
 

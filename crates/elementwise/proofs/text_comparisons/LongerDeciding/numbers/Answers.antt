@@ -1,4 +1,5 @@
-use Rattle.elementwise.proofs.Words.{nat_lt, ◌≡◌, ◌≤◌, ◌+◌, ◌-◌, ◌⊎◌, inl, inr, length, take, drop, ap, sym, ◌∙◌, arith, rules, cases_lt, take-take, item_at}
+use Rattle.std.proofs.Common.{nat_lt, ◌≡◌, ◌≤◌, ◌+◌, ◌-◌, ◌⊎◌, inl, inr, length, take, drop, ap, sym, ◌∙◌, arith, rules}
+use Rattle.elementwise.proofs.Words.{cases_lt, take-take, item_at}
 use Rattle.elementwise.proofs.WordOrderLaws.{in-order}
 use Rattle.elementwise.proofs.text_comparisons.LongerDeciding.numbers.Goals as goal
 

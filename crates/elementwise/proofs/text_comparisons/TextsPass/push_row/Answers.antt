@@ -1,4 +1,5 @@
-use Rattle.elementwise.proofs.Words.{◌≡◌, ◌+◌, ◌++◌, cond, suc, pos, ap, ◌∙◌, append_assoc, arith, not, ◌==◌, BoolScalar, number, encode, joined, said, text_said, made_of}
+use Rattle.std.proofs.Common.{◌≡◌, ◌+◌, ◌++◌, cond, suc, pos, ap, ◌∙◌, append_assoc, arith, not, ◌==◌}
+use Rattle.elementwise.proofs.Words.{BoolScalar, number, encode, joined, said, text_said, made_of}
 use Rattle.elementwise.proofs.text_comparisons.TextsPass.push_row.Goals as goal
 
 pub loop-k-preserved : goal.loop-k-preserved

@@ -1,4 +1,5 @@
-use Rattle.elementwise.proofs.Words.{◌≡◌, ◌+◌, ◌++◌, not, ◌==◌, joined, text_said, made_of}
+use Rattle.std.proofs.Common.{◌≡◌, ◌+◌, ◌++◌, not, ◌==◌}
+use Rattle.elementwise.proofs.Words.{joined, text_said, made_of}
 use Rattle.elementwise.proofs.text_comparisons.TextsPass.push_row.Given as goal
 
 abbrev pub invariant-loop-k : goal.invariant-loop-k

@@ -1,4 +1,5 @@
-use Rattle.fancy_index.proofs.Words.{◌≤◌, ◌+◌, All, map, length, subst, sym, ap, ◌∙◌, arith, length-offsets, length-run_offsets, max_bytes, run_offsets, IsMoved, moved_offset}
+use Rattle.std.proofs.Common.{◌≤◌, ◌+◌, All, map, length, subst, sym, ap, ◌∙◌, arith}
+use Rattle.fancy_index.proofs.Words.{length-offsets, length-run_offsets, max_bytes, run_offsets, IsMoved, moved_offset}
 use Rattle.fancy_index.proofs.Passes.{All-unmap}
 use Rattle.fancy_index.proofs.plan_rows.MovedLayout.as_run.Goals as goal
 

@@ -1,4 +1,5 @@
-use Rattle.fancy_index.proofs.Words.{w64, length, refl, subst, sym, ap, ◌∙◌, arith, to_z_pos, ℤ, packed, first_offsets, IsRunOf}
+use Rattle.std.proofs.Common.{w64, length, refl, subst, sym, ap, ◌∙◌, arith, ℤ}
+use Rattle.fancy_index.proofs.Words.{to_z_pos, packed, first_offsets, IsRunOf}
 use Rattle.fancy_index.proofs.RunLaws.{neighbours, run-of}
 use Rattle.fancy_index.proofs.plan_rows.Shifted.as_run.Goals as goal
 

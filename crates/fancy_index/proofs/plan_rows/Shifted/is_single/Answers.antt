@@ -1,4 +1,5 @@
-use Rattle.fancy_index.proofs.Words.{sym, ◌∙◌, eqb-true}
+use Rattle.std.proofs.Common.{sym, ◌∙◌}
+use Rattle.fancy_index.proofs.Words.{eqb-true}
 use Rattle.fancy_index.proofs.SingleLaws.{shifted-single}
 use Rattle.fancy_index.proofs.plan_rows.Shifted.is_single.Goals as goal
 

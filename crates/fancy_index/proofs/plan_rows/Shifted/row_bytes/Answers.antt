@@ -1,4 +1,5 @@
-use Rattle.fancy_index.proofs.Words.{◌≡◌, ◌+◌, ◌≤◌, ◌<◌, ◌*◌, ◌^◌, ℕ, Option, None, Some, SomeIff, IfSome, List, All, length, pos, sym, ap, subst, ◌∙◌, arith, joined_at, length-offsets, length-run_offsets, run_offsets, AreWide}
+use Rattle.std.proofs.Common.{◌≡◌, ◌+◌, ◌≤◌, ◌<◌, ◌*◌, ◌^◌, ℕ, Option, None, Some, SomeIff, IfSome, List, All, length, pos, sym, ap, subst, ◌∙◌, arith}
+use Rattle.fancy_index.proofs.Words.{joined_at, length-offsets, length-run_offsets, run_offsets, AreWide}
 use Rattle.fancy_index.proofs.WideLaws.{are-wide}
 use Rattle.fancy_index.proofs.plan_rows.Shifted.row_bytes.Goals as goal
 

@@ -1,4 +1,5 @@
-use Rattle.fancy_index.proofs.Words.{◌+◌, ◌≤◌, length, subst, ap, ◌∙◌, All, arith, multiples}
+use Rattle.std.proofs.Common.{◌+◌, ◌≤◌, length, subst, ap, ◌∙◌, All, arith}
+use Rattle.fancy_index.proofs.Words.{multiples}
 use Rattle.fancy_index.proofs.GatherLaws.{packed-end}
 use Rattle.fancy_index.proofs.Passes.{copied_one}
 use Rattle.fancy_index.proofs.plans.Plan.assign.Goals as goal

@@ -1,4 +1,5 @@
-use Rattle.fancy_index.proofs.Words.{◌≡◌, length, offsets, assigned}
+use Rattle.std.proofs.Common.{◌≡◌, length}
+use Rattle.fancy_index.proofs.Words.{offsets, assigned}
 use Rattle.fancy_index.proofs.Passes.{Copying}
 use Rattle.fancy_index.proofs.plans.Plan.assign.Given as goal
 

@@ -1,4 +1,5 @@
-use Rattle.fancy_index.proofs.Words.{◌≡◌, ℕ, ◌*◌, ◌++◌, List, length, ap, sym, ◌∙◌, arith, multiples, items_at, joined_at, length-joined_at, joined-items, Planned}
+use Rattle.std.proofs.Common.{◌≡◌, ℕ, ◌*◌, ◌++◌, List, length, ap, sym, ◌∙◌, arith}
+use Rattle.fancy_index.proofs.Words.{multiples, items_at, joined_at, length-joined_at, joined-items, Planned}
 use Rattle.fancy_index.proofs.plans.Plan.gather.Goals as goal
 use Rattle.fancy_index.proofs.plans.Plan.gather.Goals.{After-axes, After-finish}
 

@@ -1,4 +1,5 @@
-use Rattle.fancy_index.proofs.Words.{◌≡◌, length, map, sym, ap, ◌∙◌, map-map, item_from, item_size, decode_item, item_at, count, offsets, multiples, items_at, Planned}
+use Rattle.std.proofs.Common.{◌≡◌, length, map, sym, ap, ◌∙◌}
+use Rattle.fancy_index.proofs.Words.{map-map, item_from, item_size, decode_item, item_at, count, offsets, multiples, items_at, Planned}
 use Rattle.fancy_index.proofs.plans.Plan.gather_owned.Goals as goal
 
 pub returns-clause-items : goal.returns-clause-items

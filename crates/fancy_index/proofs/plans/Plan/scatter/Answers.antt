@@ -1,4 +1,5 @@
-use Rattle.fancy_index.proofs.Words.{length, ◌∙◌, assigned, row-multiples}
+use Rattle.std.proofs.Common.{length, ◌∙◌}
+use Rattle.fancy_index.proofs.Words.{assigned, row-multiples}
 use Rattle.fancy_index.proofs.plans.Plan.scatter.Goals as goal
 
 pub returns-clause-written : goal.returns-clause-written

@@ -1,4 +1,5 @@
-use Rattle.fancy_index.proofs.Words.{◌∙◌, sym, ap, subst, arith, item_at, word, IsPlaceOf}
+use Rattle.std.proofs.Common.{◌∙◌, sym, ap, subst, arith}
+use Rattle.fancy_index.proofs.Words.{item_at, word, IsPlaceOf}
 use Rattle.fancy_index.proofs.RunLaws.{first-low, steps-low, steps-high, lies-there}
 use Rattle.fancy_index.proofs.WordLaws.{below-count, ends-there, word-there}
 use Rattle.fancy_index.proofs.positions.WordsIntegral.place.Goals as goal

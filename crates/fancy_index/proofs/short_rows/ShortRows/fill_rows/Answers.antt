@@ -1,4 +1,5 @@
-use Rattle.fancy_index.proofs.Words.{sym, ap, ◌∙◌, arith, put_each, first_offsets}
+use Rattle.std.proofs.Common.{sym, ap, ◌∙◌, arith}
+use Rattle.fancy_index.proofs.Words.{put_each, first_offsets}
 use Rattle.fancy_index.proofs.Passes.{fill_front, filled_front}
 use Rattle.fancy_index.proofs.ShortLaws.{split-rows, no-rows}
 use Rattle.fancy_index.proofs.short_rows.ShortRows.fill_rows.Goals as goal

@@ -1,4 +1,5 @@
-use Rattle.fancy_index.proofs.Words.{◌≡◌, length, put_each, short_offsets}
+use Rattle.std.proofs.Common.{◌≡◌, length}
+use Rattle.fancy_index.proofs.Words.{put_each, short_offsets}
 use Rattle.fancy_index.proofs.Passes.{Filling}
 use Rattle.fancy_index.proofs.ShortLaws.{rows_from}
 use Rattle.fancy_index.proofs.short_rows.ShortRows.fill_rows.Given as goal

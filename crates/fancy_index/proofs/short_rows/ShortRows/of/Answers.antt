@@ -1,4 +1,5 @@
-use Rattle.fancy_index.proofs.Words.{ap, length, arith, offsets, length-offsets, length-run_offsets, max_bytes, moved_all}
+use Rattle.std.proofs.Common.{ap, length, arith}
+use Rattle.fancy_index.proofs.Words.{offsets, length-offsets, length-run_offsets, max_bytes, moved_all}
 use Rattle.fancy_index.proofs.short_rows.ShortRows.of.Goals as goal
 
 pub invariant_of-result : goal.invariant_of-result

@@ -1,4 +1,5 @@
-use Rattle.fancy_index.proofs.Words.{◌≡◌, get_or, length, map, sym, ap, subst, ◌∙◌, arith, offsets, run_offsets, length-run_offsets, moved_offset, shifted_all, AreStarts}
+use Rattle.std.proofs.Common.{◌≡◌, get_or, length, map, sym, ap, subst, ◌∙◌, arith}
+use Rattle.fancy_index.proofs.Words.{offsets, run_offsets, length-run_offsets, moved_offset, shifted_all, AreStarts}
 use Rattle.fancy_index.proofs.RunLaws.{first-low, steps-low, steps-high, lies-there}
 use Rattle.fancy_index.proofs.SingleLaws.{shifted-single}
 use Rattle.fancy_index.proofs.short_rows.ShortRows.row.Goals as goal

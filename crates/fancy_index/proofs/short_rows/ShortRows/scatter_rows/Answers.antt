@@ -1,4 +1,5 @@
-use Rattle.fancy_index.proofs.Words.{length, sym, ap, ◌∙◌, arith, assigned, packed, first_offsets}
+use Rattle.std.proofs.Common.{length, sym, ap, ◌∙◌, arith}
+use Rattle.fancy_index.proofs.Words.{assigned, packed, first_offsets}
 use Rattle.fancy_index.proofs.Passes.{scatter_front, scattered_front}
 use Rattle.fancy_index.proofs.ShortLaws.{split-rows, no-rows}
 use Rattle.fancy_index.proofs.short_rows.ShortRows.scatter_rows.Goals as goal

@@ -1,4 +1,5 @@
-use Rattle.fancy_index.proofs.Words.{◌≡◌, ◌+◌, ◌*◌, length, assigned, short_offsets, packed}
+use Rattle.std.proofs.Common.{◌≡◌, ◌+◌, ◌*◌, length}
+use Rattle.fancy_index.proofs.Words.{assigned, short_offsets, packed}
 use Rattle.fancy_index.proofs.Passes.{Scattering}
 use Rattle.fancy_index.proofs.ShortLaws.{rows_from}
 use Rattle.fancy_index.proofs.short_rows.ShortRows.scatter_rows.Given as goal

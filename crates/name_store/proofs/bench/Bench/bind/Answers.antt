@@ -1,4 +1,5 @@
-use Rattle.name_store.proofs.Words.{sym, ◌∙◌, subst, arith, ℕ, List, spare, Binds, IsSound, BenchValue, state_of, MayBind, Entry}
+use Rattle.std.proofs.Common.{sym, ◌∙◌, subst, arith, ℕ, List}
+use Rattle.name_store.proofs.Words.{spare, Binds, IsSound, BenchValue, state_of, MayBind, Entry}
 use Rattle.name_store.proofs.BindLaws.{may-present, bind-held, bind-kept}
 use Rattle.name_store.proofs.KeepLaws.{patches-push}
 use Rattle.name_store.proofs.Needs.{users-small}

@@ -1,4 +1,5 @@
-use Rattle.name_store.proofs.Words.{ap, sym, ◌∙◌, refl, is_some, option_copied}
+use Rattle.std.proofs.Common.{ap, sym, ◌∙◌, refl, is_some}
+use Rattle.name_store.proofs.Words.{option_copied}
 use Rattle.name_store.proofs.StateLaws.{found-slot, found-lies, bound-found, none-found}
 use Rattle.name_store.proofs.NameLaws.{lookup-used}
 use Rattle.name_store.proofs.ShowLaws.{shown, finds}

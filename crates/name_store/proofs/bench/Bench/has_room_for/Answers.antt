@@ -1,4 +1,5 @@
-use Rattle.name_store.proofs.Words.{◌≡◌, ap, sym, ◌∙◌, ◌||◌, Bool, true, false, length, refl, arith, le-ltb, length-map, is_bound, BenchValue, named_array}
+use Rattle.std.proofs.Common.{◌≡◌, ap, sym, ◌∙◌, ◌||◌, Bool, true, false, length, refl, arith}
+use Rattle.name_store.proofs.Words.{le-ltb, length-map, is_bound, BenchValue, named_array}
 use Rattle.name_store.proofs.UnbindLaws.{bound-has}
 use Rattle.name_store.proofs.bench.Bench.has_room_for.Goals as goal
 

@@ -1,4 +1,5 @@
-use Rattle.name_store.proofs.Words.{◌≡◌, ◌∙◌, sym, ap, [], map, nat_cmp_total, nat_cmp, empty, get-empty, same_map, nat_cmp-IsAntisymmetric, Ring, past_buffers, patch_size, start, state_of, Change}
+use Rattle.std.proofs.Common.{◌≡◌, ◌∙◌, sym, ap, [], map}
+use Rattle.name_store.proofs.Words.{nat_cmp_total, nat_cmp, empty, get-empty, same_map, nat_cmp-IsAntisymmetric, Ring, past_buffers, patch_size, start, state_of, Change}
 use Rattle.name_store.proofs.SlotLaws.{get-past}
 use Rattle.name_store.proofs.bench.Bench.try_new.Goals as goal
 

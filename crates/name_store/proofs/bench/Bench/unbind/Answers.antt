@@ -1,4 +1,5 @@
-use Rattle.name_store.proofs.Words.{◌≡◌, ap, sym, subst, ◌∙◌, refl, arith, ℕ, List, inl, inr, option_map, false≢true, err_from_is_err_and, spare, unbound, Holds, IsSound, state_of, bench_value, Entry}
+use Rattle.std.proofs.Common.{◌≡◌, ap, sym, subst, ◌∙◌, refl, arith, ℕ, List, inl, inr}
+use Rattle.name_store.proofs.Words.{option_map, false≢true, err_from_is_err_and, spare, unbound, Holds, IsSound, state_of, bench_value, Entry}
 use Rattle.name_store.proofs.KeepLaws.{patches-push}
 use Rattle.name_store.proofs.UnbindLaws.{same-sound, removed-holds, unbind-held, unbind-kept, bound-has, deep, removed-one}
 use Rattle.name_store.proofs.bench.Bench.unbind.Goals as goal

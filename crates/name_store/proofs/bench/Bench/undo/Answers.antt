@@ -1,4 +1,5 @@
-use Rattle.name_store.proofs.Words.{◌∙◌, ap, refl, sym, subst, Ring, spare, IsSound, state_of, bench_value, Change}
+use Rattle.std.proofs.Common.{◌∙◌, ap, refl, sym, subst}
+use Rattle.name_store.proofs.Words.{Ring, spare, IsSound, state_of, bench_value, Change}
 use Rattle.name_store.proofs.UndoLaws.{undone-state, patches-pop, same-ring, with-last, none-kept}
 use Rattle.name_store.proofs.bench.Bench.undo.Goals as goal
 

@@ -1,4 +1,5 @@
-use Rattle.name_store.proofs.Words.{ℕ, ap, sym, ◌∙◌, refl, subst, arith, List, nat_lt, false≢true, ltb-false, err_from_is_err_and, spare, IsSound, NeedsNoMemory, BenchValue, IsAim, state_of, bench_value, Entry, IsHome}
+use Rattle.std.proofs.Common.{ℕ, ap, sym, ◌∙◌, refl, subst, arith, List, nat_lt}
+use Rattle.name_store.proofs.Words.{false≢true, ltb-false, err_from_is_err_and, spare, IsSound, NeedsNoMemory, BenchValue, IsAim, state_of, bench_value, Entry, IsHome}
 use Rattle.name_store.proofs.UnbindLaws.{same-sound}
 use Rattle.name_store.proofs.WriteKept.{same-still, same-state, same-value, tried-sound, tried-lowest, put-can, none-can, needs-shallow, none-answers, wrote-sound, write-held, write-sound, write-answers, write-counts}
 use Rattle.name_store.proofs.bench.Bench.write_items.Goals as goal

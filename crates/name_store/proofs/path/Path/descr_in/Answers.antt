@@ -1,4 +1,5 @@
-use Rattle.name_store.proofs.Words.{◌≡◌, ◌+◌, ◌<◌, ℕ, List, ◌∷◌, length, drop, sym, ap, subst, ◌∙◌, slice_index_or, arith, add-one, drop-cons, refl, drop_all, Field, IsPathOf, descr_at}
+use Rattle.std.proofs.Common.{◌≡◌, ◌+◌, ◌<◌, ℕ, List, ◌∷◌, length, drop, sym, ap, subst, ◌∙◌, slice_index_or, arith, add-one, drop-cons, refl}
+use Rattle.name_store.proofs.Words.{drop_all, Field, IsPathOf, descr_at}
 use Rattle.name_store.proofs.path.Path.descr_in.Goals as goal
 
 -- the remaining numbers are the next one, and those after it

@@ -1,4 +1,5 @@
-use Rattle.name_store.proofs.Words.{◌≡◌, drop, IsPathOf, descr_at}
+use Rattle.std.proofs.Common.{◌≡◌, drop}
+use Rattle.name_store.proofs.Words.{IsPathOf, descr_at}
 use Rattle.name_store.proofs.path.Path.descr_in.Given as goal
 
 -- the remaining numbers lead from here to where the whole path leads

@@ -1,4 +1,5 @@
-use Rattle.name_store.proofs.Words.{◌≡◌, ◌+◌, ◌∙◌, ap, refl, arith, Some, None, cond, nat_lt, option_map, users_of, slot_at, stand}
+use Rattle.std.proofs.Common.{◌≡◌, ◌+◌, ◌∙◌, ap, refl, arith, Some, None, cond, nat_lt}
+use Rattle.name_store.proofs.Words.{option_map, users_of, slot_at, stand}
 use Rattle.name_store.proofs.HeldLaws.{set-case, held-stand, used-within, used-some, lent-fewer, lent-freed, lowest-lent, lowest-emptied}
 use Rattle.name_store.proofs.SlotLaws.{lent-some, lent-there}
 use Rattle.name_store.proofs.slots.Slots.release.Goals.{After-unwrap-slot}

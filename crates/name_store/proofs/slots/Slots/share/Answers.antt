@@ -1,4 +1,5 @@
-use Rattle.name_store.proofs.Words.{◌≡◌, ◌∙◌, ap, refl, arith, Some, users_of, slot_at}
+use Rattle.std.proofs.Common.{◌≡◌, ◌∙◌, ap, refl, arith, Some}
+use Rattle.name_store.proofs.Words.{users_of, slot_at}
 use Rattle.name_store.proofs.HeldLaws.{used-within, used-some, lent-more, lent-stays, lowest-lent}
 use Rattle.name_store.proofs.SlotLaws.{lent-some, lent-there}
 use Rattle.name_store.proofs.slots.Slots.share.Goals.{After-unwrap-slot}

@@ -1,4 +1,5 @@
-use Rattle.name_store.proofs.Words.{refl, IfOk-at_ok}
+use Rattle.std.proofs.Common.{refl}
+use Rattle.name_store.proofs.Words.{IfOk-at_ok}
 use Rattle.name_store.proofs.BindLaws.{rebinds, inserted-holds}
 use Rattle.name_store.proofs.table.Table.bind.Goals as goal
 

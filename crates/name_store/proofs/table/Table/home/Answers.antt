@@ -1,4 +1,5 @@
-use Rattle.name_store.proofs.Words.{◌≡◌, ap, sym, ◌∙◌, refl, Option, Some, None, is_some, Bor, option_copied, item_size}
+use Rattle.std.proofs.Common.{◌≡◌, ap, sym, ◌∙◌, refl, Option, Some, None, is_some, Bor}
+use Rattle.name_store.proofs.Words.{option_copied, item_size}
 use Rattle.name_store.proofs.StateLaws.{found-slot, found-lies, bound-found}
 use Rattle.name_store.proofs.WriteLaws.{entry-bound}
 use Rattle.name_store.proofs.table.Table.home.Goals as goal

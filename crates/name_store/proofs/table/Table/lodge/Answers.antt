@@ -1,4 +1,5 @@
-use Rattle.name_store.proofs.Words.{◌∙◌, ap, sym, subst, refl, true, same_Some, item_size, present, MayBind, Bound, Entry, Slot, Lodges}
+use Rattle.std.proofs.Common.{◌∙◌, ap, sym, subst, refl, true}
+use Rattle.name_store.proofs.Words.{same_Some, item_size, present, MayBind, Bound, Entry, Slot, Lodges}
 use Rattle.name_store.proofs.BindLaws.{fresh-lodges, view-lodges, tried-kept, holds-kept}
 use Rattle.name_store.proofs.Needs.{there-used}
 use Rattle.name_store.proofs.ViewLaws.{view-slot, view-occupied}

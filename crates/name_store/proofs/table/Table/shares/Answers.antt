@@ -1,4 +1,5 @@
-use Rattle.name_store.proofs.Words.{◌≡◌, ◌&&◌, Bool, true, false, refl, sym, ap, subst, ◌∙◌, is_some, inl, inr, err_from_is_err_and, option_copied, same_Some, item_size, max_bytes, offsets, Fits, have_common_byte, Array, array_at, slot_at}
+use Rattle.std.proofs.Common.{◌≡◌, ◌&&◌, Bool, true, false, refl, sym, ap, subst, ◌∙◌, is_some, inl, inr}
+use Rattle.name_store.proofs.Words.{err_from_is_err_and, option_copied, same_Some, item_size, max_bytes, offsets, Fits, have_common_byte, Array, array_at, slot_at}
 use Rattle.name_store.proofs.StateLaws.{bound-found, found-slot, none-found}
 use Rattle.name_store.proofs.ShareLaws.{entry-fits, entry-path, shares-apart, shares-one}
 use Rattle.name_store.proofs.table.Table.shares.Goals as goal

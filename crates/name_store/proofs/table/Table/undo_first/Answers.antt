@@ -1,4 +1,5 @@
-use Rattle.name_store.proofs.Words.{◌∙◌, refl, sym, Some, None, arith, spare}
+use Rattle.std.proofs.Common.{◌∙◌, refl, sym, Some, None, arith}
+use Rattle.name_store.proofs.Words.{spare}
 use Rattle.name_store.proofs.StateLaws.{found-held, freed-none}
 use Rattle.name_store.proofs.UndoBinding.{undo-binding}
 use Rattle.name_store.proofs.table.Table.undo_first.Goals as goal

@@ -1,4 +1,5 @@
-use Rattle.name_store.proofs.Words.{◌∙◌, ap, refl, sym, true, false, ◌≡◌, is_some, IfOk-at_ok, spare}
+use Rattle.std.proofs.Common.{◌∙◌, ap, refl, sym, true, false, ◌≡◌, is_some}
+use Rattle.name_store.proofs.Words.{IfOk-at_ok, spare}
 use Rattle.name_store.proofs.UndoLaws.{at-ok, undo-room}
 use Rattle.name_store.proofs.UndoUnbinding.{unbind-absent, unbind-within, undo-unbinding}
 use Rattle.name_store.proofs.table.Table.undo_unbinding.Goals as goal

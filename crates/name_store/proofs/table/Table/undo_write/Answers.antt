@@ -1,4 +1,5 @@
-use Rattle.name_store.proofs.Words.{◌≡◌, ◌+◌, ◌≤◌, refl, sym, subst, ◌∙◌, All, Some, arith, GoBackAt, with_old, target_offsets, slot_at, Slot}
+use Rattle.std.proofs.Common.{◌≡◌, ◌+◌, ◌≤◌, refl, sym, subst, ◌∙◌, All, Some, arith}
+use Rattle.name_store.proofs.Words.{GoBackAt, with_old, target_offsets, slot_at, Slot}
 use Rattle.name_store.proofs.HeldLaws.{lowest-lent}
 use Rattle.name_store.proofs.RewriteLaws.{lent-new}
 use Rattle.name_store.proofs.SlotLaws.{lent-some, lent-there}

@@ -1,4 +1,5 @@
-use Rattle.name_store.proofs.Words.{◌∙◌, sym, ap, length, length-offsets, target_offsets, Target}
+use Rattle.std.proofs.Common.{◌∙◌, sym, ap, length}
+use Rattle.name_store.proofs.Words.{length-offsets, target_offsets, Target}
 use Rattle.name_store.proofs.write.Target.count.Goals as goal
 
 pub returns-in-View : goal.returns-in-View

@@ -1,4 +1,5 @@
-use Rattle.name_store.proofs.Words.{Some, None, sym, ap, ◌∙◌, IfOk-weaker, with_items, put_each, target_offsets, Source, with_source}
+use Rattle.std.proofs.Common.{Some, None, sym, ap, ◌∙◌}
+use Rattle.name_store.proofs.Words.{IfOk-weaker, with_items, put_each, target_offsets, Source, with_source}
 use Rattle.name_store.proofs.RewriteLaws.{owned-within, lent-fits, lent-within, lent-parts}
 use Rattle.name_store.proofs.SlotLaws.{slot_at-get_or}
 use Rattle.name_store.proofs.SourceLaws.{put_each-items}

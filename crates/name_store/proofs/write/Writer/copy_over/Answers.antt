@@ -1,4 +1,5 @@
-use Rattle.name_store.proofs.Words.{Some, length, sym, ap, ◌∙◌, length-offsets, offsets, with_items, target_offsets, Target}
+use Rattle.std.proofs.Common.{Some, length, sym, ap, ◌∙◌}
+use Rattle.name_store.proofs.Words.{length-offsets, offsets, with_items, target_offsets, Target}
 use Rattle.name_store.proofs.RewriteLaws.{lent-within, lent-parts}
 use Rattle.name_store.proofs.write.Writer.copy_over.Goals as goal
 

@@ -1,4 +1,5 @@
-use Rattle.name_store.proofs.Words.{◌≡◌, ◌∙◌, ◌*◌, ap, sym, subst, length, arith, eqb-true, length-offsets, offsets, target_offsets, Target, AreAll}
+use Rattle.std.proofs.Common.{◌≡◌, ◌∙◌, ◌*◌, ap, sym, subst, length, arith}
+use Rattle.name_store.proofs.Words.{eqb-true, length-offsets, offsets, target_offsets, Target, AreAll}
 use Rattle.name_store.proofs.write.Writer.is_all.Goals as goal
 
 pub returns-then-is_c : goal.returns-then-is_c

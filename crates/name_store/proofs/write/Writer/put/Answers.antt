@@ -1,4 +1,5 @@
-use Rattle.name_store.proofs.Words.{◌+◌, ◌≤◌, length, All-permutation, target_offsets}
+use Rattle.std.proofs.Common.{◌+◌, ◌≤◌, length}
+use Rattle.name_store.proofs.Words.{All-permutation, target_offsets}
 use Rattle.name_store.proofs.write.Writer.put.Goals as goal
 
 pub put_over-requires : goal.put_over-requires

@@ -1,4 +1,5 @@
-use Rattle.name_store.proofs.Words.{sym, ◌∙◌, target_offsets}
+use Rattle.std.proofs.Common.{sym, ◌∙◌}
+use Rattle.name_store.proofs.Words.{target_offsets}
 use Rattle.name_store.proofs.ExchangeLaws.{own-packed, replaced}
 use Rattle.name_store.proofs.write.Writer.put_items.Goals as goal
 

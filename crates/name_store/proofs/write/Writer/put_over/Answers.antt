@@ -1,4 +1,5 @@
-use Rattle.name_store.proofs.Words.{◌≡◌, refl, sym, ap, ◌∙◌, length, length-offsets, offsets, multiples, items_at, target_offsets, Target}
+use Rattle.std.proofs.Common.{◌≡◌, refl, sym, ap, ◌∙◌, length}
+use Rattle.name_store.proofs.Words.{length-offsets, offsets, multiples, items_at, target_offsets, Target}
 use Rattle.name_store.proofs.ExchangeLaws.{own-packed, own-offsets, replaced, replaced-old}
 use Rattle.name_store.proofs.RewriteLaws.{owned-within}
 use Rattle.name_store.proofs.write.Writer.put_over.Goals as goal

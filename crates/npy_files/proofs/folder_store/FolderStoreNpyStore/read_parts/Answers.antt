@@ -1,4 +1,5 @@
-use Rattle.npy_files.proofs.Words.{◌≡◌, ◌++◌, IsTrue, false, Ok, Err, None, rules, FileParts, unmoved, is_user_name}
+use Rattle.std.proofs.Common.{◌≡◌, ◌++◌, IsTrue, false, Ok, Err, None, rules}
+use Rattle.npy_files.proofs.Words.{FileParts, unmoved, is_user_name}
 use Rattle.npy_files.proofs.UserFiles.{user_reads, no_user_file, told_read, told_same}
 use Rattle.npy_files.proofs.folder_store.FolderStoreNpyStore.read_parts.Goals as goal
 

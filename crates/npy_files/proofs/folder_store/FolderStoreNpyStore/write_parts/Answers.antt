@@ -1,4 +1,5 @@
-use Rattle.npy_files.proofs.Words.{◌++◌, IsTrue, Ok, Err, ap, rules, arith, length-append, is_user_name}
+use Rattle.std.proofs.Common.{◌++◌, IsTrue, Ok, Err, ap, rules, arith, length-append}
+use Rattle.npy_files.proofs.Words.{is_user_name}
 use Rattle.npy_files.proofs.UserFiles.{replaced, failed, told_written, told_kept}
 use Rattle.npy_files.proofs.UserNames.{nothing_leaves}
 use Rattle.npy_files.proofs.folder_store.FolderStoreNpyStore.write_parts.Goals as goal

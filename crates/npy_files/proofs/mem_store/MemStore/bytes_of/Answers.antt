@@ -1,4 +1,5 @@
-use Rattle.npy_files.proofs.Words.{sym, ap, ◌∙◌, Some, position, is_called}
+use Rattle.std.proofs.Common.{sym, ap, ◌∙◌, Some, position}
+use Rattle.npy_files.proofs.Words.{is_called}
 use Rattle.npy_files.proofs.StoreLaws.{absent, present}
 use Rattle.npy_files.proofs.mem_store.MemStore.bytes_of.Goals as goal
 

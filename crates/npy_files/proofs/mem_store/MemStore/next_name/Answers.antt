@@ -1,4 +1,5 @@
-use Rattle.npy_files.proofs.Words.{◌<◌, sym, ap, ◌∙◌, subst, List, Some, None, length, slice_get-get_or, StoredFile, IsFirstOf}
+use Rattle.std.proofs.Common.{◌<◌, sym, ap, ◌∙◌, subst, List, Some, None, length}
+use Rattle.npy_files.proofs.Words.{slice_get-get_or, StoredFile, IsFirstOf}
 use Rattle.npy_files.proofs.NextNames.{next, no_next}
 use Rattle.npy_files.proofs.mem_store.MemStore.next_name.Goals as goal
 

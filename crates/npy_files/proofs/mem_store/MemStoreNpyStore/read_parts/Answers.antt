@@ -1,4 +1,5 @@
-use Rattle.npy_files.proofs.Words.{◌≡◌, arith, sym, ap, ◌∙◌, Some, position, List, ℕ, StoredFile, is_called}
+use Rattle.std.proofs.Common.{◌≡◌, arith, sym, ap, ◌∙◌, Some, position, List, ℕ}
+use Rattle.npy_files.proofs.Words.{StoredFile, is_called}
 use Rattle.npy_files.proofs.StoreLaws.{absent, present}
 use Rattle.npy_files.proofs.mem_store.MemStoreNpyStore.read_parts.Goals as goal
 

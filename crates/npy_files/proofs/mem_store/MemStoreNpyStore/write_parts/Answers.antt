@@ -1,4 +1,5 @@
-use Rattle.npy_files.proofs.Words.{◌++◌, List, ℕ, length-append, arith, sym, ap, ◌∙◌, position, insert, StoredFile, files_of, is_called}
+use Rattle.std.proofs.Common.{◌++◌, List, ℕ, length-append, arith, sym, ap, ◌∙◌, position}
+use Rattle.npy_files.proofs.Words.{insert, StoredFile, files_of, is_called}
 use Rattle.npy_files.proofs.StoreLaws.{overwritten, added}
 use Rattle.npy_files.proofs.UserFiles.{insert-kept}
 use Rattle.npy_files.proofs.mem_store.MemStoreNpyStore.write_parts.Goals as goal

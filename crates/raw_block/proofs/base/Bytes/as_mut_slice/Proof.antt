@@ -1,5 +1,6 @@
 -- `as_mut_slice` lends the bytes, and the owner then has those last written. Assumes `Logic`.
-use Rattle.raw_block.proofs.Words.{◌≡◌, ℕ, ◌*◌, ◌^◌, ◌<◌, List, [], ◌∷◌, length, refl, sym, ◌∙◌, w64, arith, full_share, id⊢, GName, ftrue, fat, flft, named, fact, tables, sem, ‵, raw, ◌⊛◌, some, later, at_ret, ◌$◌, ◌∵◌, !, qed, done, move, keep, use1, split, join, group, pick, await, fsplit, fsplit3, fjoin, fjoin3, flt_l, rewrite, suffices, frame, whole, sub, agg, enter, of_opd, stop, fld, and_then, no_more, first, blocks, exec, returns, alloc_all, pass_all, free_all, look_at, get, get_in, sets, sets_last, env, take_at, give_at, cells, Array, u8, usize, follows, Elements, lends_Elements, whole_in, mem, layout, uint_vals, uint_Tells, Ptr, in_a_block, MutBor, MutRef, mut_vals, mut_Tells, plain, mut_ref_to, MutSlice, slice_val, nothing, heard, opens, vals, tells, Stays, walk_of, says, stay_dropped, Goes-dropped, Goes-spent_ref, ends_at, proved, word, word-Good, after, bytes_own, R}
+use Rattle.std.proofs.Common.{◌≡◌, ℕ, ◌*◌, ◌^◌, ◌<◌, List, [], ◌∷◌, length, refl, sym, ◌∙◌, w64, arith}
+use Rattle.raw_block.proofs.Words.{full_share, id⊢, GName, ftrue, fat, flft, named, fact, tables, sem, ‵, raw, ◌⊛◌, some, later, at_ret, ◌$◌, ◌∵◌, !, qed, done, move, keep, use1, split, join, group, pick, await, fsplit, fsplit3, fjoin, fjoin3, flt_l, rewrite, suffices, frame, whole, sub, agg, enter, of_opd, stop, fld, and_then, no_more, first, blocks, exec, returns, alloc_all, pass_all, free_all, look_at, get, get_in, sets, sets_last, env, take_at, give_at, cells, Array, u8, usize, follows, Elements, lends_Elements, whole_in, mem, layout, uint_vals, uint_Tells, Ptr, in_a_block, MutBor, MutRef, mut_vals, mut_Tells, plain, mut_ref_to, MutSlice, slice_val, nothing, heard, opens, vals, tells, Stays, walk_of, says, stay_dropped, Goes-dropped, Goes-spent_ref, ends_at, proved, word, word-Good, after, bytes_own, R}
 use Rattle.raw_block.proofs.Writing.{written, Rest, back}
 use Rattle.raw_block.specs.contracts.base.Base as B
 use Rattle.raw_block.proofs.base.Base.TheLaws.{the_laws}

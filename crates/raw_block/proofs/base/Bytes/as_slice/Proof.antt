@@ -1,5 +1,6 @@
 -- `as_slice` shows the bytes that the owner lends. Assumes `Logic`.
-use Rattle.raw_block.proofs.Words.{◌≡◌, ℕ, ◌*◌, ◌^◌, ◌<◌, List, [], ◌∷◌, length, refl, ap, ◌∙◌, w64, arith, full_share, id⊢, ftrue, fat, flft, named, Val, fact, tables, ‵, raw, ◌⊛◌, at_ret, ◌$◌, ◌∵◌, !, qed, done, move, keep, split, join, fsplit, fjoin, feq_i, flt_l, flt_i, rewrite, suffices, frame, whole, sub, agg, enter, of_opd, stop, fld, and_then, no_more, first, blocks, exec, returns, alloc_all, pass_all, free_all, look_at, get, get_in, sets, sets_last, env, take_at, give_at, usize, RefOf, hide, unhide, layout, uint_vals, uint_Tells, Ptr, in_a_block, Bor, ShrRef, shr_vals, shr_Tells, plain, slice_val, nothing, heard, vals, tells, Stays, walk_of, says, stay_dropped, Goes-dropped, ends_at, proved, word, word-Good, after, bytes_lent, R}
+use Rattle.std.proofs.Common.{◌≡◌, ℕ, ◌*◌, ◌^◌, ◌<◌, List, [], ◌∷◌, length, refl, ap, ◌∙◌, w64, arith}
+use Rattle.raw_block.proofs.Words.{full_share, id⊢, ftrue, fat, flft, named, Val, fact, tables, ‵, raw, ◌⊛◌, at_ret, ◌$◌, ◌∵◌, !, qed, done, move, keep, split, join, fsplit, fjoin, feq_i, flt_l, flt_i, rewrite, suffices, frame, whole, sub, agg, enter, of_opd, stop, fld, and_then, no_more, first, blocks, exec, returns, alloc_all, pass_all, free_all, look_at, get, get_in, sets, sets_last, env, take_at, give_at, usize, RefOf, hide, unhide, layout, uint_vals, uint_Tells, Ptr, in_a_block, Bor, ShrRef, shr_vals, shr_Tells, plain, slice_val, nothing, heard, vals, tells, Stays, walk_of, says, stay_dropped, Goes-dropped, ends_at, proved, word, word-Good, after, bytes_lent, R}
 use Rattle.raw_block.specs.contracts.base.Base as B
 use Rattle.raw_block.proofs.base.Base.TheLaws.{the_laws}
 use Rattle.raw_block.specs.contracts.base.Bytes.as_slice as f

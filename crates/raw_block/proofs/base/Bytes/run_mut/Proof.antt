@@ -1,5 +1,6 @@
 -- `run_mut` lends some of the bytes as arrays, and the owner then has those last written. Assumes `Logic`.
-use Rattle.raw_block.proofs.Words.{◌≡◌, ℕ, ◌+◌, ◌*◌, ◌^◌, ◌<◌, ◌≤◌, List, [], ◌∷◌, ◌++◌, length, take, drop_front, refl, sym, ap, subst, ◌∙◌, w64, arith, append_assoc, length-append, length-take, length-drop, take-append-drop, drop-drop, Ura, full_share, ent, sep, id⊢, Fml, GName, ftrue, fsep, fat, flft, at_mul, cut_app, join_app, after_some, inst_fn, Args, Fn, named, a_number, Val, ◌⊑◌, fact, tables, Logic, sem, ‵, raw, ◌⊛◌, some, given, later, at_ret, ◌$◌, ◌∵◌, !, qed, by, done, move, keep, use1, use2, split, split3, join, group, learn, pick, await, fsplit, fsplit3, fjoin, fjoin3, flt_l, rewrite, suffices, frame, whole, sub, agg, enter, of_opd, bin, stop, fld, and_then, no_more, first, blocks, exec, returns, alloc_all, pass_all, free_all, look_at, get, get_in, sets, sets_last, env, take_at, give_at, cells, Array, u8, usize, follows, Elements, lends_Elements, whole_in, mem, layout, layouts, number, uint_vals, uint_Tells, Ptr, block_ptr, in_a_block, MutBor, MutRef, mut_vals, mut_Tells, plain, mut_ref_to, MutSlice, Room, slice_val, nothing, heard, opens, vals, tells, Stays, walk_of, says, stay_dropped, Goes-dropped, Goes-spent_ref, ends_at, length-first_chunks, runs_in, runs_out, proved, flat_map, first_chunks, word, word-Good, after, put, bytes_own, R}
+use Rattle.std.proofs.Common.{◌≡◌, ℕ, ◌+◌, ◌*◌, ◌^◌, ◌<◌, ◌≤◌, List, [], ◌∷◌, ◌++◌, length, take, refl, sym, ap, subst, ◌∙◌, w64, arith, append_assoc, length-append, length-take, length-drop}
+use Rattle.raw_block.proofs.Words.{drop_front, take-append-drop, drop-drop, Ura, full_share, ent, sep, id⊢, Fml, GName, ftrue, fsep, fat, flft, at_mul, cut_app, join_app, after_some, inst_fn, Args, Fn, named, a_number, Val, ◌⊑◌, fact, tables, Logic, sem, ‵, raw, ◌⊛◌, some, given, later, at_ret, ◌$◌, ◌∵◌, !, qed, by, done, move, keep, use1, use2, split, split3, join, group, learn, pick, await, fsplit, fsplit3, fjoin, fjoin3, flt_l, rewrite, suffices, frame, whole, sub, agg, enter, of_opd, bin, stop, fld, and_then, no_more, first, blocks, exec, returns, alloc_all, pass_all, free_all, look_at, get, get_in, sets, sets_last, env, take_at, give_at, cells, Array, u8, usize, follows, Elements, lends_Elements, whole_in, mem, layout, layouts, number, uint_vals, uint_Tells, Ptr, block_ptr, in_a_block, MutBor, MutRef, mut_vals, mut_Tells, plain, mut_ref_to, MutSlice, Room, slice_val, nothing, heard, opens, vals, tells, Stays, walk_of, says, stay_dropped, Goes-dropped, Goes-spent_ref, ends_at, length-first_chunks, runs_in, runs_out, proved, flat_map, first_chunks, word, word-Good, after, put, bytes_own, R}
 use Rattle.raw_block.specs.contracts.base.Base as B
 use Rattle.raw_block.proofs.base.Base.TheLaws.{the_laws}
 use Rattle.raw_block.proofs.Writing.{written, Rest, back}

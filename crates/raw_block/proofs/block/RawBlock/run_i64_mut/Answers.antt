@@ -1,4 +1,5 @@
-use Rattle.raw_block.proofs.Words.{drop, length, refl, ap, ◌∙◌, first_chunks, length-chunks, signed_numbers, with_run}
+use Rattle.std.proofs.Common.{drop, length, refl, ap, ◌∙◌}
+use Rattle.raw_block.proofs.Words.{first_chunks, length-chunks, signed_numbers, with_run}
 use Rattle.raw_block.proofs.RunWrites.{chunks-take, numbers-written, others-stay}
 use Rattle.raw_block.proofs.block.RawBlock.run_i64_mut.Goals as goal
 

@@ -1,4 +1,5 @@
-use Rattle.raw_block.proofs.Words.{◌≡◌, pos, ap, sym, ◌∙◌, rules, [], length, slice_index_or, arith, w32, to_z-of_z, get_or-map, length-map, SFits, twos_complement, signed_number, signed_numbers}
+use Rattle.std.proofs.Common.{◌≡◌, pos, ap, sym, ◌∙◌, rules, [], length, slice_index_or, arith, w32}
+use Rattle.raw_block.proofs.Words.{to_z-of_z, get_or-map, length-map, SFits, twos_complement, signed_number, signed_numbers}
 use Rattle.raw_block.proofs.NumberLaws.{signed_4}
 use Rattle.raw_block.proofs.number_runs.RunI32.get.Goals as goal
 

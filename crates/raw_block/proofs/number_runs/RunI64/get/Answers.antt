@@ -1,4 +1,5 @@
-use Rattle.raw_block.proofs.Words.{◌≡◌, pos, ap, sym, ◌∙◌, rules, [], length, slice_index_or, arith, w64, to_z-of_z, get_or-map, length-map, SFits, twos_complement, signed_number, signed_numbers}
+use Rattle.std.proofs.Common.{◌≡◌, pos, ap, sym, ◌∙◌, rules, [], length, slice_index_or, arith, w64}
+use Rattle.raw_block.proofs.Words.{to_z-of_z, get_or-map, length-map, SFits, twos_complement, signed_number, signed_numbers}
 use Rattle.raw_block.proofs.NumberLaws.{signed_8}
 use Rattle.raw_block.proofs.number_runs.RunI64.get.Goals as goal
 

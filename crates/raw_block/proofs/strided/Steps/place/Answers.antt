@@ -1,4 +1,5 @@
-use Rattle.raw_block.proofs.Words.{◌≡◌, ◌+◌, ◌*◌, ◌%◌, ◌^◌, ap, ◌∙◌, w64, rules, to_z-of_z, SFits, of_z}
+use Rattle.std.proofs.Common.{◌≡◌, ◌+◌, ◌*◌, ◌%◌, ◌^◌, ap, ◌∙◌, w64, rules}
+use Rattle.raw_block.proofs.Words.{to_z-of_z, SFits, of_z}
 use Rattle.raw_block.proofs.Places.{place_wraps}
 use Rattle.raw_block.proofs.strided.Steps.place.Goals as goal
 

@@ -1,4 +1,5 @@
-use Rattle.reductions.proofs.Words.{sym, ap, ◌∙◌, fold, nat_eq, not, fold-append, better, numbers_at}
+use Rattle.std.proofs.Common.{sym, ap, ◌∙◌, nat_eq, not}
+use Rattle.reductions.proofs.Words.{fold, fold-append, better, numbers_at}
 use Rattle.reductions.proofs.DecidedLaws.{best-stays}
 use Rattle.reductions.proofs.folds.BestFold.is_decided.Goals as goal
 

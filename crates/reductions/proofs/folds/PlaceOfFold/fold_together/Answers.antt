@@ -1,4 +1,5 @@
-use Rattle.reductions.proofs.Words.{◌≡◌, ◌-◌, min, ap, subst, ◌∙◌, arith, nat_eq, not, IsPart}
+use Rattle.std.proofs.Common.{◌≡◌, ◌-◌, min, ap, subst, ◌∙◌, arith, nat_eq, not}
+use Rattle.reductions.proofs.Words.{IsPart}
 use Rattle.reductions.proofs.SoughtLaws.{sought-next}
 use Rattle.reductions.proofs.folds.PlaceOfFold.fold_together.Goals as goal
 

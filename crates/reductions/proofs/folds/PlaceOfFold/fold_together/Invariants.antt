@@ -1,4 +1,4 @@
-use Rattle.reductions.proofs.Words.{◌-◌, ◌≤◌, nat_eq, not}
+use Rattle.std.proofs.Common.{◌-◌, ◌≤◌, nat_eq, not}
 use Rattle.reductions.proofs.SoughtLaws.{AreSought}
 use Rattle.reductions.proofs.folds.PlaceOfFold.fold_together.Given as goal
 

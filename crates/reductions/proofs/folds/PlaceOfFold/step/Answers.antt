@@ -1,4 +1,5 @@
-use Rattle.reductions.proofs.Words.{sym, ◌∙◌, nat_eq, not, better_next, better_stays}
+use Rattle.std.proofs.Common.{sym, ◌∙◌, nat_eq, not}
+use Rattle.reductions.proofs.Words.{better_next, better_stays}
 use Rattle.reductions.proofs.folds.PlaceOfFold.step.Goals as goal
 
 pub returns-then-is_better : goal.returns-then-is_better

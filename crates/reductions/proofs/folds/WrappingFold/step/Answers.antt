@@ -1,4 +1,5 @@
-use Rattle.reductions.proofs.Words.{sym, ap, ◌∙◌, nat_eq, not, ne_eqb, total_step, total_next}
+use Rattle.std.proofs.Common.{sym, ap, ◌∙◌, nat_eq, not}
+use Rattle.reductions.proofs.Words.{ne_eqb, total_step, total_next}
 use Rattle.reductions.proofs.folds.WrappingFold.step.Goals as goal
 
 pub returns-then-this-ne0 : goal.returns-then-this-ne0

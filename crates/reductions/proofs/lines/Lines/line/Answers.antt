@@ -1,4 +1,5 @@
-use Rattle.reductions.proofs.Words.{sym, ap, subst, length, ◌∙◌, EachWithin, run_along}
+use Rattle.std.proofs.Common.{sym, ap, subst, length, ◌∙◌}
+use Rattle.reductions.proofs.Words.{EachWithin, run_along}
 use Rattle.reductions.proofs.lines.Lines.line.Goals as goal
 
 pub items_along-requires-clause-within : goal.items_along-requires-clause-within

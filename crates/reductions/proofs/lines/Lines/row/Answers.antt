@@ -1,4 +1,5 @@
-use Rattle.reductions.proofs.Words.{sym, ap, subst, ◌∙◌, length, arith, EachWithin, run_along}
+use Rattle.std.proofs.Common.{sym, ap, subst, ◌∙◌, length, arith}
+use Rattle.reductions.proofs.Words.{EachWithin, run_along}
 use Rattle.reductions.proofs.RowLaws.{row_offset, row_within}
 use Rattle.reductions.proofs.lines.Lines.row.Goals as goal
 

@@ -1,5 +1,6 @@
 -- A turn counts one byte, and the brace that it opens or closes.
-use Rattle.script_lang.proofs.Words.{arith, rules, tests, drop_more, drop_all}
+use Rattle.std.proofs.Common.{arith, rules}
+use Rattle.script_lang.proofs.Words.{tests, drop_more, drop_all}
 use Rattle.script_lang.proofs.Braces.{brace_closes, brace_goes_on, no_brace}
 use Rattle.script_lang.proofs.grammar.descriptors.record_len.Goals as goal
 

@@ -1,4 +1,5 @@
-use Rattle.script_lang.proofs.Words.{◌≡◌, ◌≤◌, ◌+◌, drop, false, option_map, record_len}
+use Rattle.std.proofs.Common.{◌≡◌, ◌≤◌, ◌+◌, drop, false}
+use Rattle.script_lang.proofs.Words.{option_map, record_len}
 use Rattle.script_lang.proofs.grammar.descriptors.record_len.Given as goal
 
 -- the bytes so far are counted, and each of them opens at most one brace

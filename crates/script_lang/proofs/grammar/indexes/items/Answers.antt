@@ -1,5 +1,6 @@
 -- What a turn reads is what the rule of the list reads there.
-use Rattle.script_lang.proofs.Words.{◌≤◌, length, refl, inl, inr, err_from_is_err_and, index_item_at}
+use Rattle.std.proofs.Common.{◌≤◌, length, refl, inl, inr}
+use Rattle.script_lang.proofs.Words.{err_from_is_err_and, index_item_at}
 use Rattle.script_lang.proofs.Shorter.{index_item_shorter, comma_behind}
 use Rattle.script_lang.proofs.Lists.{full_from_failed, items_no_item, items_long, items_last, items_no_mark, items_next}
 use Rattle.script_lang.proofs.grammar.indexes.items.Goals as goal

@@ -1,4 +1,5 @@
-use Rattle.script_lang.proofs.Words.{◌≡◌, length, by_rule, one_or_more, index_item_at}
+use Rattle.std.proofs.Common.{◌≡◌, length}
+use Rattle.script_lang.proofs.Words.{by_rule, one_or_more, index_item_at}
 use Rattle.script_lang.proofs.Lists.{in_front}
 use Rattle.script_lang.proofs.grammar.indexes.items.Given as goal
 

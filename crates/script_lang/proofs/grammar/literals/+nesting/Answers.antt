@@ -1,5 +1,6 @@
 -- What a turn reads is what the rule of the list reads there.
-use Rattle.script_lang.proofs.Words.{refl, inl, sym, ◌∙◌, err_from_is_err_and, literal_within}
+use Rattle.std.proofs.Common.{refl, inl, sym, ◌∙◌}
+use Rattle.script_lang.proofs.Words.{err_from_is_err_and, literal_within}
 use Rattle.script_lang.proofs.Shorter.{literal_within_shorter, comma_behind}
 use Rattle.script_lang.proofs.Lists.{failed_entry, entries_closed, entries_no_entry, entries_last, entries_no_mark, entries_next}
 use Rattle.script_lang.proofs.Records.{record_empty, record_read}

@@ -1,4 +1,5 @@
-use Rattle.script_lang.proofs.Words.{◌≡◌, ◌+◌, ◌*◌, length, by_rule, none_or_more, literal_within, literals_of}
+use Rattle.std.proofs.Common.{◌≡◌, ◌+◌, ◌*◌, length}
+use Rattle.script_lang.proofs.Words.{by_rule, none_or_more, literal_within, literals_of}
 use Rattle.script_lang.proofs.Lists.{in_front}
 use Rattle.script_lang.proofs.grammar.literals.+nesting.Given as goal
 

@@ -1,5 +1,6 @@
 -- What a turn reads is what the rule of the row reads there.
-use Rattle.script_lang.proofs.Words.{refl, inl, byte_at, text_byte_at}
+use Rattle.std.proofs.Common.{refl, inl}
+use Rattle.script_lang.proofs.Words.{byte_at, text_byte_at}
 use Rattle.script_lang.proofs.Shorter.{text_byte_shorter, entry_behind}
 use Rattle.script_lang.proofs.Lists.{row_ends, row_no_entry, row_next}
 use Rattle.script_lang.proofs.grammar.literals.byte_row.Goals as goal

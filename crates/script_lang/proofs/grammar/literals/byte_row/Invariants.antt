@@ -1,4 +1,5 @@
-use Rattle.script_lang.proofs.Words.{◌≡◌, length, byte_at, by_rule, row, text_byte_at}
+use Rattle.std.proofs.Common.{◌≡◌, length}
+use Rattle.script_lang.proofs.Words.{byte_at, by_rule, row, text_byte_at}
 use Rattle.script_lang.proofs.Lists.{in_front}
 use Rattle.script_lang.proofs.grammar.literals.byte_row.Given as goal
 

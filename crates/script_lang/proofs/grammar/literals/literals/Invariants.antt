@@ -1,4 +1,5 @@
-use Rattle.script_lang.proofs.Words.{◌≡◌, length, by_rule, row, literal_at, line_end_at}
+use Rattle.std.proofs.Common.{◌≡◌, length}
+use Rattle.script_lang.proofs.Words.{by_rule, row, literal_at, line_end_at}
 use Rattle.script_lang.proofs.Lists.{in_front}
 use Rattle.script_lang.proofs.grammar.literals.literals.Given as goal
 

@@ -1,4 +1,5 @@
-use Rattle.script_lang.proofs.Words.{◌≡◌, length, map, beside}
+use Rattle.std.proofs.Common.{◌≡◌, length, map}
+use Rattle.script_lang.proofs.Words.{beside}
 use Rattle.script_lang.proofs.grammar.names.lookup.Given as goal
 
 -- the lookup of the word in the rest of the table gives the same as in the whole table

@@ -1,5 +1,6 @@
 -- Each table in the code has those rows of the definition whose words have the table's length.
-use Rattle.script_lang.proofs.Words.{◌==◌, nat_lt, length, sym, ◌∙◌, ap, arith, lt-ltb, beside, verbs, verb_of}
+use Rattle.std.proofs.Common.{◌==◌, nat_lt, length, sym, ◌∙◌, ap, arith}
+use Rattle.script_lang.proofs.Words.{lt-ltb, beside, verbs, verb_of}
 use Rattle.script_lang.proofs.VerbLaws.{beside-filtered}
 use Rattle.script_lang.proofs.grammar.names.verb.Goals as goal
 

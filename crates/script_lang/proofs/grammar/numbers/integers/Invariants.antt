@@ -1,4 +1,5 @@
-use Rattle.script_lang.proofs.Words.{◌≡◌, length, integer_at, by_rule, none_or_more}
+use Rattle.std.proofs.Common.{◌≡◌, length}
+use Rattle.script_lang.proofs.Words.{integer_at, by_rule, none_or_more}
 use Rattle.script_lang.proofs.Lists.{in_front}
 use Rattle.script_lang.proofs.grammar.numbers.integers.Given as goal
 

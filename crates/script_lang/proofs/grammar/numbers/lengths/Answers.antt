@@ -1,5 +1,6 @@
 -- What a turn reads is what the rule of the list reads there.
-use Rattle.script_lang.proofs.Words.{refl, inl, length_at}
+use Rattle.std.proofs.Common.{refl, inl}
+use Rattle.script_lang.proofs.Words.{length_at}
 use Rattle.script_lang.proofs.Shorter.{length_shorter, comma_behind}
 use Rattle.script_lang.proofs.Lists.{entries_closed, entries_no_entry, entries_last, entries_no_mark, entries_next}
 use Rattle.script_lang.proofs.grammar.numbers.lengths.Goals as goal

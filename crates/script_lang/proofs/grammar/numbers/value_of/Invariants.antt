@@ -1,4 +1,5 @@
-use Rattle.script_lang.proofs.Words.{◌≡◌, ◌<◌, ◌^◌, take, value_of}
+use Rattle.std.proofs.Common.{◌≡◌, ◌<◌, ◌^◌, take}
+use Rattle.script_lang.proofs.Words.{value_of}
 use Rattle.script_lang.proofs.grammar.numbers.value_of.Given as goal
 
 -- the digits so far are read

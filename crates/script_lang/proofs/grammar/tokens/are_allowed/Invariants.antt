@@ -1,4 +1,5 @@
-use Rattle.script_lang.proofs.Words.{◌≡◌, length, list_all, is_allowed}
+use Rattle.std.proofs.Common.{◌≡◌, length}
+use Rattle.script_lang.proofs.Words.{list_all, is_allowed}
 use Rattle.script_lang.proofs.grammar.tokens.are_allowed.Given as goal
 
 -- the rest is allowed if and only if the whole line is

@@ -1,4 +1,5 @@
-use Rattle.shape_strides.proofs.Words.{rules, ◌∷◌, [], w64, sym, ap, subst, ◌∙◌, arith, to_z-of_z, SFits, LieWithin, run_offsets}
+use Rattle.std.proofs.Common.{rules, ◌∷◌, [], w64, sym, ap, subst, ◌∙◌, arith}
+use Rattle.shape_strides.proofs.Words.{to_z-of_z, SFits, LieWithin, run_offsets}
 use Rattle.shape_strides.proofs.SingleLaws.{last_of, whole_run, run_is_all, run_fits}
 use Rattle.shape_strides.proofs.layout.Layout.as_one_run.Goals as goal
 

@@ -1,4 +1,5 @@
-use Rattle.shape_strides.proofs.Words.{◌≡◌, ◌+ℤ◌, pos, length, take, sym, ap, ◌∙◌, arith, add-one, take_all, ints, +ℤ_idr, dot, dot-nil, length-index, number-lt, rank-lt, length-offsets, pos-offset}
+use Rattle.std.proofs.Common.{◌≡◌, ◌+ℤ◌, pos, length, take, sym, ap, ◌∙◌, arith, add-one, take_all}
+use Rattle.shape_strides.proofs.Words.{ints, +ℤ_idr, dot, dot-nil, length-index, number-lt, rank-lt, length-offsets, pos-offset}
 use Rattle.shape_strides.proofs.StepLaws.{goes_on}
 use Rattle.shape_strides.proofs.layout.Layout.at.Goals as goal
 

@@ -1,4 +1,5 @@
-use Rattle.shape_strides.proofs.Words.{◌*◌, pos, map, length, refl, sym, ap, ◌∙◌, max_bytes, count, length-offsets}
+use Rattle.std.proofs.Common.{◌*◌, pos, map, length, refl, sym, ap, ◌∙◌}
+use Rattle.shape_strides.proofs.Words.{max_bytes, count, length-offsets}
 use Rattle.shape_strides.proofs.CountLaws.{length-c_order}
 use Rattle.shape_strides.proofs.LayoutLaws.{c_order_stands, c_order_offsets, c_order_nested, c_order_lies, LieWithin-weaker}
 use Rattle.shape_strides.proofs.layout.Layout.c_order.Goals as goal

@@ -1,4 +1,5 @@
-use Rattle.shape_strides.proofs.Words.{◌*◌, pos, map, length, refl, sym, ap, ◌∙◌, max_bytes, count, length-offsets}
+use Rattle.std.proofs.Common.{◌*◌, pos, map, length, refl, sym, ap, ◌∙◌}
+use Rattle.shape_strides.proofs.Words.{max_bytes, count, length-offsets}
 use Rattle.shape_strides.proofs.LayoutLaws.{LieWithin-weaker}
 use Rattle.shape_strides.proofs.FortranLaws.{length-f_order, f_order_stands, f_order_offsets, f_order_order, f_order_nested, f_order_lies}
 use Rattle.shape_strides.proofs.layout.Layout.f_order.Goals as goal

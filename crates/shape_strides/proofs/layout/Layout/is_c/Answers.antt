@@ -1,4 +1,5 @@
-use Rattle.shape_strides.proofs.Words.{◌≡◌, ◌+◌, ◌-◌, ◌*◌, pos, subst, drop, get_or, refl, ap, sym, ◌∙◌, arith, count}
+use Rattle.std.proofs.Common.{◌≡◌, ◌+◌, ◌-◌, ◌*◌, pos, subst, drop, get_or, refl, ap, sym, ◌∙◌, arith}
+use Rattle.shape_strides.proofs.Words.{count}
 use Rattle.shape_strides.proofs.ContiguityLaws.{StepsOver, StepsOver-more, bytes-bound, bytes-step, is_c-empty, is_c-true, is_c-false}
 use Rattle.shape_strides.proofs.layout.Layout.is_c.Goals as goal
 

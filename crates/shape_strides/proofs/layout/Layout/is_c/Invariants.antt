@@ -1,4 +1,5 @@
-use Rattle.shape_strides.proofs.Words.{◌≡◌, ◌*◌, ◌≤◌, length, drop, count}
+use Rattle.std.proofs.Common.{◌≡◌, ◌*◌, ◌≤◌, length, drop}
+use Rattle.shape_strides.proofs.Words.{count}
 use Rattle.shape_strides.proofs.ContiguityLaws.{StepsOver}
 use Rattle.shape_strides.proofs.layout.Layout.is_c.Given as goal
 

@@ -1,4 +1,5 @@
-use Rattle.shape_strides.proofs.Words.{◌≡◌, ◌*◌, take, reverse, count}
+use Rattle.std.proofs.Common.{◌≡◌, ◌*◌, take, reverse}
+use Rattle.shape_strides.proofs.Words.{count}
 use Rattle.shape_strides.proofs.ContiguityLaws.{StepsOver}
 use Rattle.shape_strides.proofs.layout.Layout.is_f.Given as goal
 

@@ -1,4 +1,5 @@
-use Rattle.shape_strides.proofs.Words.{◌<◌, length, refl, ap, arith, false≢true}
+use Rattle.std.proofs.Common.{◌<◌, length, refl, ap, arith}
+use Rattle.shape_strides.proofs.Words.{false≢true}
 use Rattle.shape_strides.proofs.StackLaws.{CanStack-from_tests, tests_from_CanStack}
 use Rattle.shape_strides.proofs.StackedLaws.{IsNested-stacked}
 use Rattle.shape_strides.proofs.layout.Layout.is_stacked.Goals as goal

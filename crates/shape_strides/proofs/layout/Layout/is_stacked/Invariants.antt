@@ -1,4 +1,5 @@
-use Rattle.shape_strides.proofs.Words.{ℕ, ◌+◌, ◌*◌, ◌<◌, ◌≤◌, pos, unsigned_abs, get_or, reach_within}
+use Rattle.std.proofs.Common.{ℕ, ◌+◌, ◌*◌, ◌<◌, ◌≤◌, pos, unsigned_abs, get_or}
+use Rattle.shape_strides.proofs.Words.{reach_within}
 use Rattle.shape_strides.proofs.layout.Layout.is_stacked.Given as goal
 
 abbrev pub invariant-loop-axis : goal.invariant-loop-axis

@@ -1,4 +1,5 @@
-use Rattle.shape_strides.proofs.Words.{◌≡◌, pos, length, refl, ap, ◌∙◌, arith, length-map, max_bytes, count}
+use Rattle.std.proofs.Common.{◌≡◌, pos, length, refl, ap, ◌∙◌, arith}
+use Rattle.shape_strides.proofs.Words.{length-map, max_bytes, count}
 use Rattle.shape_strides.proofs.ReachLaws.{LieWithin-empty}
 use Rattle.shape_strides.proofs.ZeroLaws.{zeros_for}
 use Rattle.shape_strides.proofs.layout.Layout.new.Goals as goal

@@ -1,4 +1,5 @@
-use Rattle.shape_strides.proofs.Words.{◌≡◌, ◌++◌, ◌∷◌, [], ◌<◌, length, w64, unsigned_abs, FitsSigned, pos, take, get_or, ap, sym, ◌∙◌, arith, take_all, to_z-of_z, fits_signed_from_abs, take_more, offsets, printed_strides, length-printed}
+use Rattle.std.proofs.Common.{◌≡◌, ◌++◌, ◌∷◌, [], ◌<◌, length, w64, unsigned_abs, FitsSigned, pos, take, get_or, ap, sym, ◌∙◌, arith, take_all}
+use Rattle.shape_strides.proofs.Words.{to_z-of_z, fits_signed_from_abs, take_more, offsets, printed_strides, length-printed}
 use Rattle.shape_strides.proofs.ContiguityLaws.{printed-entry, printed-small}
 use Rattle.shape_strides.proofs.layout.Layout.printed_strides.Goals as goal
 

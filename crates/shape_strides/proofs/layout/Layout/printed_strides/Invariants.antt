@@ -1,4 +1,5 @@
-use Rattle.shape_strides.proofs.Words.{◌≡◌, take, offsets, printed_strides}
+use Rattle.std.proofs.Common.{◌≡◌, take}
+use Rattle.shape_strides.proofs.Words.{offsets, printed_strides}
 use Rattle.shape_strides.proofs.layout.Layout.printed_strides.Given as goal
 
 abbrev pub invariant-loop-axis : goal.invariant-loop-axis

@@ -1,4 +1,5 @@
-use Rattle.shape_strides.proofs.Words.{◌≡◌, pos, map, length, reverse, refl, sym, ap, ◌∙◌, count}
+use Rattle.std.proofs.Common.{◌≡◌, pos, map, length, reverse, refl, sym, ap, ◌∙◌}
+use Rattle.shape_strides.proofs.Words.{count}
 use Rattle.shape_strides.proofs.FortranLaws.{reversed, offsets-reversed}
 use Rattle.shape_strides.proofs.layout.Layout.reversed.Goals as goal
 use Rattle.shape_strides.proofs.layout.Layout.reversed.Goals.{After-reversed-2}

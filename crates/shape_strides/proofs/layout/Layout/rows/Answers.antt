@@ -1,4 +1,5 @@
-use Rattle.shape_strides.proofs.Words.{◌≡◌, ◌<◌, ◌≤◌, ◌/◌, ℕ, ℤ, List, [], ◌∷◌, All, map, take, refl, sym, ap, subst, ◌∙◌, arith, flat_map, Layout, StridedAxis, Run, LieWithin, count, max_bytes, max_items, run_along, run_offsets, runs, AreAxes}
+use Rattle.std.proofs.Common.{◌≡◌, ◌<◌, ◌≤◌, ◌/◌, ℕ, ℤ, List, [], ◌∷◌, All, map, take, refl, sym, ap, subst, ◌∙◌, arith}
+use Rattle.shape_strides.proofs.Words.{flat_map, Layout, StridedAxis, Run, LieWithin, count, max_bytes, max_items, run_along, run_offsets, runs, AreAxes}
 use Rattle.shape_strides.proofs.AddressOrderLaws.{layout-offsets}
 use Rattle.shape_strides.proofs.FortranLaws.{count-take-le}
 use Rattle.shape_strides.proofs.LastRunLaws.{runs-last_of, outside-axes, starts-count}

@@ -1,4 +1,5 @@
-use Rattle.shape_strides.proofs.Words.{◌≡◌, ◌+◌, ◌-◌, ◌<◌, Contains, length, refl, sym, ap, arith, subst, max_bytes, count, offsets, reach_above, reach_below, length-offsets}
+use Rattle.std.proofs.Common.{◌≡◌, ◌+◌, ◌-◌, ◌<◌, Contains, length, refl, sym, ap, arith, subst}
+use Rattle.shape_strides.proofs.Words.{max_bytes, count, offsets, reach_above, reach_below, length-offsets}
 use Rattle.shape_strides.proofs.SpanLaws.{below_offset, end_within, none_lower, none_higher, lowest_among, highest_among}
 use Rattle.shape_strides.proofs.layout.Layout.span.Goals as goal
 

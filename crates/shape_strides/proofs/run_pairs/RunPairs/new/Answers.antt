@@ -1,4 +1,5 @@
-use Rattle.shape_strides.proofs.Words.{length, subst, sym, ap, ◌∙◌, runs, all_offsets, pairs, pairs_left, run_pairs, AreEven, IsAtPair}
+use Rattle.std.proofs.Common.{length, subst, sym, ap, ◌∙◌}
+use Rattle.shape_strides.proofs.Words.{runs, all_offsets, pairs, pairs_left, run_pairs, AreEven, IsAtPair}
 use Rattle.shape_strides.proofs.PairLaws.{run_pairs-first, run_pairs-second, run_pairs-counts, run_pairs-alone, even-runs, left-is, left-even}
 use Rattle.shape_strides.proofs.RunBounds.{run_pairs-first_lie, run_pairs-second_lie}
 use Rattle.shape_strides.proofs.run_pairs.RunPairs.new.Goals as goal

@@ -1,4 +1,5 @@
-use Rattle.shape_strides.proofs.Words.{◌≡◌, ◌∷◌, min, length, subst, sym, ap, ◌∙◌, arith, run_front, pairs_left, IsAtPair}
+use Rattle.std.proofs.Common.{◌≡◌, ◌∷◌, min, length, subst, sym, ap, ◌∙◌, arith}
+use Rattle.shape_strides.proofs.Words.{run_front, pairs_left, IsAtPair}
 use Rattle.shape_strides.proofs.PairLaws.{next_pair}
 use Rattle.shape_strides.proofs.run_pairs.RunPairsIterator.next.Goals as goal
 

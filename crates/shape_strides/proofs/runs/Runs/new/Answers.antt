@@ -1,4 +1,5 @@
-use Rattle.shape_strides.proofs.Words.{arith, offsets_within}
+use Rattle.std.proofs.Common.{arith}
+use Rattle.shape_strides.proofs.Words.{offsets_within}
 use Rattle.shape_strides.proofs.RunLaws.{runs-offsets, runs-alone}
 use Rattle.shape_strides.proofs.PairLaws.{runs-some_each}
 use Rattle.shape_strides.proofs.RunBounds.{runs-lie}

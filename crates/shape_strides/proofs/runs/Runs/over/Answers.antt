@@ -1,4 +1,5 @@
-use Rattle.shape_strides.proofs.Words.{ap, map, ◌∙◌, arith, count, run_along}
+use Rattle.std.proofs.Common.{ap, map, ◌∙◌, arith}
+use Rattle.shape_strides.proofs.Words.{count, run_along}
 use Rattle.shape_strides.proofs.LastRunLaws.{runs-last_of, runs-empty, outside-axes, starts-count}
 use Rattle.shape_strides.proofs.runs.Runs.over.Goals as goal
 

@@ -1,4 +1,5 @@
-use Rattle.shape_strides.proofs.Words.{reverse, length, sym, ap, subst, ◌∙◌, length-reverse, count, IsShape, count-reverse}
+use Rattle.std.proofs.Common.{reverse, length, sym, ap, subst, ◌∙◌}
+use Rattle.shape_strides.proofs.Words.{length-reverse, count, IsShape, count-reverse}
 use Rattle.shape_strides.proofs.ZeroLaws.{refilled}
 use Rattle.shape_strides.proofs.FortranLaws.{IsShape-reverse}
 use Rattle.shape_strides.proofs.shape.Shape.reversed.Goals as goal

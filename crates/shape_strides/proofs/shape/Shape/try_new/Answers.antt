@@ -1,4 +1,5 @@
-use Rattle.shape_strides.proofs.Words.{inr, sym, ap, ◌∙◌, arith, Ok, shape_of-many, shape_of-long, shape_of-large, shape_of-ok}
+use Rattle.std.proofs.Common.{inr, sym, ap, ◌∙◌, arith, Ok}
+use Rattle.shape_strides.proofs.Words.{shape_of-many, shape_of-long, shape_of-large, shape_of-ok}
 use Rattle.shape_strides.proofs.shape.Shape.try_new.Goals as goal
 
 pub returns-then-lengths-gt-MAX_AXES : goal.returns-then-lengths-gt-MAX_AXES

@@ -1,4 +1,5 @@
-use Rattle.shape_strides.proofs.Words.{◌++◌, codes, take, decimal, flat_map, HasWritten, IsPlainFormatter}
+use Rattle.std.proofs.Common.{◌++◌, codes, take}
+use Rattle.shape_strides.proofs.Words.{decimal, flat_map, HasWritten, IsPlainFormatter}
 use Rattle.shape_strides.proofs.shape.ShapeDisplay.fmt.Given as goal
 
 abbrev pub invariant-loop-len : goal.invariant-loop-len

@@ -1,4 +1,5 @@
-use Rattle.shape_strides.proofs.Words.{pos, length, ap, ◌∙◌, arith, zeros_are}
+use Rattle.std.proofs.Common.{pos, length, ap, ◌∙◌, arith}
+use Rattle.shape_strides.proofs.Words.{zeros_are}
 use Rattle.shape_strides.proofs.ZeroLaws.{refilled}
 use Rattle.shape_strides.proofs.strides.Strides.zeroed.Goals as goal
 

@@ -1,4 +1,5 @@
-use Rattle.shape_strides.proofs.Words.{◌++◌, codes, take, flat_map, signed_decimal, HasWritten, IsPlainFormatter}
+use Rattle.std.proofs.Common.{◌++◌, codes, take}
+use Rattle.shape_strides.proofs.Words.{flat_map, signed_decimal, HasWritten, IsPlainFormatter}
 use Rattle.shape_strides.proofs.strides.StridesDisplay.fmt.Given as goal
 
 abbrev pub invariant-loop-stride : goal.invariant-loop-stride

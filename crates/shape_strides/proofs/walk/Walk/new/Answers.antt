@@ -1,4 +1,5 @@
-use Rattle.shape_strides.proofs.Words.{sym, ◌∙◌, length-offsets, offsets_within, offsets_at}
+use Rattle.std.proofs.Common.{sym, ◌∙◌}
+use Rattle.shape_strides.proofs.Words.{length-offsets, offsets_within, offsets_at}
 use Rattle.shape_strides.proofs.AdvanceLaws.{offsets-at}
 use Rattle.shape_strides.proofs.walk.Walk.new.Goals as goal
 
