@@ -35,7 +35,7 @@ FILES = {
         unused = 7
         """,
     "crates/high/src/runner.rt": """
-        ghost use Rattle.high.specs.Meaning.{meant};
+        ghost use Rattle.high.specs.Clauses.{meant};
         ghost use Rattle.low.specs.declared.Span as Spans;
 
         pub fn run<T>(of: T) -> u8
@@ -43,6 +43,9 @@ FILES = {
         {
             0
         }
+        """,
+    "crates/high/specs/Clauses.antt": """
+        pub use Rattle.high.specs.Meaning.{meant}
         """,
     "crates/high/specs/Meaning.antt": """
         use Rattle.std.specs.Prelude.{ℕ}
