@@ -8,7 +8,7 @@ ghost use Rattle.raw_block.specs.inside.Sizes.{IsSizeFor};
 mod builder;
 
 use crate::base::{Base, Bytes, Deed, WORD, deallocate};
-use crate::item::{move_item, number_of, put_item, put_number};
+use crate::item::{move_item, number_of, put_item};
 use crate::number_runs::{RunI32, RunI64, items_at};
 use crate::strided::{self, Steps, StridedItems};
 pub use builder::BlockBuilder;
@@ -75,6 +75,11 @@ impl RawBlock {
         ensures small { result < 2 ^ 63 }
     {
         self.len
+    }
+
+    /// The allocator that the memory is from.
+    pub fn allocator(&self) -> Global {
+        self.alloc
     }
 
     /// All bytes, for reading.
@@ -161,7 +166,7 @@ impl RawBlock {
         ensures stored { self.new ≡ put at (little_bytes width bits) self.old }
         ensures len { length self.new ≡ length self.old }
     {
-        put_number(self.bytes_mut(), at, width, bits);
+        put_item(self.bytes_mut(), at, &bits.to_le_bytes()[..width]);
     }
 
     /// Writes the item at `at`.

@@ -1,6 +1,0 @@
-use Rattle.std.proofs.Common.{◌≡◌, ◌+◌, ◌-◌}
-use Rattle.raw_block.proofs.Words.{put, item_at}
-use Rattle.raw_block.proofs.item.move_up.Given as goal
-
-abbrev pub invariant-loop-i : goal.invariant-loop-i
-invariant-loop-i l = l.bytes ≡ put (l.dst + l.i) (item_at (l.src + l.i) (l.width - l.i) l.initial.bytes) l.initial.bytes
