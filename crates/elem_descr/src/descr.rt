@@ -132,15 +132,6 @@ fn copied(alloc: Global, fields: &[Field]) -> Result<Vec<Field>, AllocError>
     Ok(copies)
 }
 
-fn field_named(fields: &[Field], name: &[u8]) -> Option<usize>
-    ensures value { result ≡ position (λ field. bytes_eq field.name name.now) fields.now }
-    ensures below { IfSome result (λ k. k < length fields.now) }
-{
-    fields
-        .iter()
-        .position(|field| field.name.as_slice() == name)
-}
-
 /// The number of leaves of fields.
 fn leaf_sum(fields: &[Field]) -> usize
     requires { leaves_in fields.now ≤ 2048 }
@@ -299,7 +290,9 @@ impl Descr {
         ensures value { result ≡ field_of self.now name.now }
         ensures below { IfSome result (λ k. k < length (fields self.now)) }
     {
-        field_named(self.fields(), name)
+        self.fields()
+            .iter()
+            .position(|field| field.name.as_slice() == name)
     }
 
     /// The field at this position.

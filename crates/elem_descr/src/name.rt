@@ -59,7 +59,7 @@ impl FieldName {
 fn is_name_byte(byte: u8) -> bool
     ensures { result ≡ is_field_name_byte byte }
 {
-    byte >= b' ' && byte <= b'~' && !b"'\"\\:".contains(&byte)
+    matches!(byte, b' '..=b'~') && !b"'\"\\:".contains(&byte)
 }
 
 fn are_name_bytes(name: &[u8]) -> bool

@@ -96,16 +96,11 @@ impl Refusal {
             Refusal::OutOfMemory => "no E40 out of memory",
         }
     }
-
-    /// The code and the text, as in the reply.
-    fn text(self) -> &'static str {
-        self.reply().strip_prefix("no ").unwrap_or_default()
-    }
 }
 
 impl fmt::Display for Refusal {
     fn fmt<W: fmt::Write>(&self, f: &mut fmt::Formatter<W>) -> fmt::Result {
-        f.write_str(self.text())
+        f.write_str(self.reply().strip_prefix("no ").unwrap_or_default())
     }
 }
 

@@ -26,42 +26,23 @@ pub fn marked(text: &[u8]) -> (Order, &[u8])
 fn number_spelled(order: Order, kind: &[u8]) -> Option<Scalar>
     ensures { result ≡ number_spelled order kind.now }
 {
-    match kind {
-        b"b1" => Some(Scalar::Bool),
-        b"i1" => Some(Scalar::Byte { signed: true }),
-        b"u1" => Some(Scalar::Byte { signed: false }),
-        b"i2" => Some(Scalar::Int {
-            signed: true,
-            width: Width::Two,
-            order,
-        }),
-        b"i4" => Some(Scalar::Int {
-            signed: true,
-            width: Width::Four,
-            order,
-        }),
-        b"i8" => Some(Scalar::Int {
-            signed: true,
-            width: Width::Eight,
-            order,
-        }),
-        b"u2" => Some(Scalar::Int {
-            signed: false,
-            width: Width::Two,
-            order,
-        }),
-        b"u4" => Some(Scalar::Int {
-            signed: false,
-            width: Width::Four,
-            order,
-        }),
-        b"u8" => Some(Scalar::Int {
-            signed: false,
-            width: Width::Eight,
-            order,
-        }),
-        _ => None,
-    }
+    let (signed, width) = match kind {
+        b"b1" => return Some(Scalar::Bool),
+        b"i1" => return Some(Scalar::Byte { signed: true }),
+        b"u1" => return Some(Scalar::Byte { signed: false }),
+        b"i2" => (true, Width::Two),
+        b"i4" => (true, Width::Four),
+        b"i8" => (true, Width::Eight),
+        b"u2" => (false, Width::Two),
+        b"u4" => (false, Width::Four),
+        b"u8" => (false, Width::Eight),
+        _ => return None,
+    };
+    Some(Scalar::Int {
+        signed,
+        width,
+        order,
+    })
 }
 
 fn byte_string(digits: &[u8]) -> Result<Scalar, Refusal>
@@ -145,21 +126,15 @@ pub fn typestr_write(alloc: Global, scalar: Scalar) -> Result<Vec<u8>, AllocErro
 /// The letters of NumPy's kinds.
 const KINDS: &[u8] = b"biuSfcmMOUV";
 
-/// Whether this is a kind letter before a digit, or `S` alone.
-fn is_kind(text: &[u8]) -> bool
-    ensures { result ≡ is_kind text.now }
+/// Whether, after an optional mark, the text is a kind letter before a digit, or `S` alone.
+fn is_type_string(text: &[u8]) -> bool
+    ensures { result ≡ is_type_string text.now }
 {
-    match text {
+    match marked(text).1 {
         [letter, digit, ..] => KINDS.contains(letter) && digit.is_ascii_digit(),
         [letter] => *letter == b'S',
         [] => false,
     }
-}
-
-fn is_type_string(text: &[u8]) -> bool
-    ensures { result ≡ is_type_string text.now }
-{
-    is_kind(marked(text).1)
 }
 
 /// Reads the descriptor of a script: a type string if, after an optional mark (`<`, `>`, `|` or

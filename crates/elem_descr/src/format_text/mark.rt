@@ -32,15 +32,6 @@ impl Mark {
         }
     }
 
-    fn order(self) -> Order
-        ensures { result ≡ order_under self }
-    {
-        match self {
-            Mark::Big => Order::Big,
-            _ => Order::Little,
-        }
-    }
-
     /// The width of `l` and `L`.
     fn long(self) -> Width
         ensures { result ≡ long_under self }
@@ -54,10 +45,14 @@ impl Mark {
     fn integer(self, signed: bool, width: Width) -> Scalar
         ensures { result ≡ Scalar.Int signed width (order_under self) }
     {
+        let order = match self {
+            Mark::Big => Order::Big,
+            _ => Order::Little,
+        };
         Scalar::Int {
             signed,
             width,
-            order: self.order(),
+            order,
         }
     }
 
@@ -84,10 +79,7 @@ impl Mark {
     pub fn is_aligning(self) -> bool
         ensures { result ≡ is_aligning self }
     {
-        match self {
-            Mark::Aligned => true,
-            _ => false,
-        }
+        matches!(self, Mark::Aligned)
     }
 
     /// The alignment of a member's offset: its own if the mark aligns, and otherwise 1.
@@ -97,10 +89,7 @@ impl Mark {
         ensures not_zero { 1 ≤ result }
         ensures within { result ≤ 8 }
     {
-        if !self.is_aligning() {
-            return 1;
-        }
-        own
+        if self.is_aligning() { own } else { 1 }
     }
 }
 
@@ -111,8 +100,7 @@ pub fn own_alignment(scalar: &Scalar) -> usize
     ensures within { result ≤ 8 }
 {
     match scalar {
-        Scalar::Bytes(_) => 1,
-        Scalar::Bool | Scalar::Byte { .. } => 1,
+        Scalar::Bool | Scalar::Byte { .. } | Scalar::Bytes(_) => 1,
         Scalar::Int { width, .. } => width.bytes(),
     }
 }

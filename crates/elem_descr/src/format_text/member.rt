@@ -19,42 +19,18 @@ pub enum Member {
     Opened,
 }
 
-fn is_colon(byte: u8) -> bool
-    ensures { result ≡ is_colon byte }
-{
-    byte == b':'
-}
-
 fn name_len(text: &[u8]) -> usize
     ensures value { result ≡ prefix_len (λ b. not (is_colon b)) text.now }
     ensures within { result ≤ length text.now }
 {
-    text.iter().take_while(|b| !is_colon(**b)).count()
+    text.iter().take_while(|b| **b != b':').count()
 }
 
 /// Whether the text begins with a colon, as the name of a member does.
 pub fn is_named(text: &[u8]) -> bool
     ensures { result ≡ is_named text.now }
 {
-    match text {
-        [b, ..] => is_colon(*b),
-        [] => false,
-    }
-}
-
-fn is_opened(text: &[u8]) -> bool
-    ensures { result ≡ is_opened text.now }
-{
-    match text {
-        [b, ..] => *b == b'{',
-        [] => false,
-    }
-}
-
-fn is_left_out(letter: u8) -> bool
-    ensures { result ≡ is_left_out letter }
-{
-    b"cnNPpefdgOZuwt&X(".contains(&letter)
+    matches!(text, [b':', ..])
 }
 
 fn text_member(digits: &[u8]) -> Result<Member, Refusal>
@@ -98,7 +74,7 @@ fn other_member(digits: &[u8], letter: u8) -> Result<Member, Refusal>
     match letter {
         b's' => text_member(digits),
         b'x' => Ok(Member::Pad(count(digits))),
-        _ if is_left_out(letter) => Err(Refusal::DescriptorLeftOut),
+        _ if b"cnNPpefdgOZuwt&X(".contains(&letter) => Err(Refusal::DescriptorLeftOut),
         _ => Err(Refusal::BadDescriptor),
     }
 }
@@ -115,7 +91,7 @@ fn lettered(mark: Mark, digits: &[u8], letter: u8) -> Result<Member, Refusal>
 fn lettered_before(mark: Mark, digits: &[u8], letter: u8, rest: &[u8]) -> Result<Member, Refusal>
     ensures { result ≡ held_member (lettered_before mark digits.now letter rest.now) }
 {
-    if letter == b'T' && is_opened(rest) {
+    if letter == b'T' && matches!(rest, [b'{', ..]) {
         return opened(digits);
     }
     lettered(mark, digits, letter)

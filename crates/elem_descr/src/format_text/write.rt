@@ -26,23 +26,13 @@ fn letter(scalar: &Scalar) -> u8
         Scalar::Bool => b'?',
         Scalar::Byte { signed: true } => b'b',
         Scalar::Byte { signed: false } => b'B',
-        Scalar::Int {
-            signed: true,
-            width,
-            ..
-        } => match width {
-            Width::Two => b'h',
-            Width::Four => b'i',
-            Width::Eight => b'q',
-        },
-        Scalar::Int {
-            signed: false,
-            width,
-            ..
-        } => match width {
-            Width::Two => b'H',
-            Width::Four => b'I',
-            Width::Eight => b'Q',
+        Scalar::Int { signed, width, .. } => match (signed, width) {
+            (true, Width::Two) => b'h',
+            (true, Width::Four) => b'i',
+            (true, Width::Eight) => b'q',
+            (false, Width::Two) => b'H',
+            (false, Width::Four) => b'I',
+            (false, Width::Eight) => b'Q',
         },
         Scalar::Bytes(_) => b's',
     }
@@ -55,21 +45,13 @@ fn push_number(text: &mut Vec<u8>, n: usize) -> Result<(), AllocError>
     text.extend_from_slice(buffer.format(n).as_bytes())
 }
 
-fn push_count(text: &mut Vec<u8>, scalar: &Scalar) -> Result<(), AllocError>
-    ensures { OnOk result (text.new.items ≡ text.old.items ++ written_count scalar.now) }
-{
-    let size = scalar.size();
-    match scalar {
-        Scalar::Bytes(_) => push_number(text, size),
-        _ => Ok(()),
-    }
-}
-
 fn push_scalar(text: &mut Vec<u8>, scalar: &Scalar) -> Result<(), AllocError>
     ensures { OnOk result (text.new.items ≡ text.old.items ++ written_scalar scalar.now) }
 {
     text.push(mark(scalar))?;
-    push_count(text, scalar)?;
+    if let Scalar::Bytes(len) = scalar {
+        push_number(text, len.get())?;
+    }
     text.push(letter(scalar))?;
     Ok(())
 }
@@ -118,10 +100,7 @@ fn push_descr(text: &mut Vec<u8>, descr: &Descr) -> Result<(), AllocError>
     ensures { OnOk result (text.new.items ≡ text.old.items ++ written_format descr.now) }
 {
     match descr {
-        Descr::Scalar(scalar) => {
-            push_scalar(text, scalar)?;
-            Ok(())
-        }
+        Descr::Scalar(scalar) => push_scalar(text, scalar),
         Descr::Record(whole) => {
             text.extend_from_slice(b"T{")?;
             push_fields(text, whole)?;
