@@ -5,7 +5,6 @@ ghost use Rattle.elem_descr.specs.Fields.{Structure, no_more};
 ghost use Rattle.elem_descr.specs.Items.{AreInOrder, LeavesInOrder, field_at, field_leaves, field_of, fields, item_size, leaves_from, leaves_in, leaves_of, moved_leaf};
 ghost use Rattle.std.specs.Prelude.{IfOk, IfSome, OnOk, [], length, map, position, slice_get, take, ℕ, ◌++◌, ◌+◌, ◌<◌, ◌∷◌, ◌≡◌, ◌≤◌};
 ghost use Rattle.std.proofs.Common.{drop, get_or};
-ghost use Rattle.elem_descr.specs.Words.{bytes_eq};
 
 use crate::name::FieldName;
 use crate::scalar::Scalar;
@@ -72,26 +71,6 @@ impl Model for Record {
     ghost size_decreases = { λ r h. total_falls r.fields.items };
 }
 
-/// Appends leaves, moved by `by` bytes.
-fn push_moved(
-    leaves: &mut Vec<Leaf>,
-    by: usize,
-    more: &[Leaf],
-    size: usize,
-) -> Result<(), AllocError>
-    requires in_order { AreInOrder 0 more.now size }
-    requires small { by + size ≤ 65536 }
-    ensures { OnOk result (leaves.new.items ≡ leaves.old.items ++ map (moved_leaf by) more.now) }
-{
-    for leaf in more {
-        leaves.push(Leaf {
-            scalar: leaf.scalar,
-            at: by + leaf.at,
-        })?;
-    }
-    Ok(())
-}
-
 /// Appends the leaves of a field.
 fn push_field(leaves: &mut Vec<Leaf>, field: &Field) -> Result<(), AllocError>
     requires small { field.now.at + item_size field.now.descr ≤ 65536 }
@@ -103,7 +82,14 @@ fn push_field(leaves: &mut Vec<Leaf>, field: &Field) -> Result<(), AllocError>
             scalar: *scalar,
             at: field.at,
         })?,
-        Descr::Record(inner) => push_moved(leaves, field.at, inner.leaves(), inner.size())?,
+        Descr::Record(inner) => {
+            for leaf in inner.leaves() {
+                leaves.push(Leaf {
+                    scalar: leaf.scalar,
+                    at: field.at + leaf.at,
+                })?;
+            }
+        }
     }
     Ok(())
 }
@@ -204,18 +190,6 @@ impl Record {
         self.leaves.as_slice()
     }
 
-    /// The scalar of the k-th leaf, and its offset.
-    fn leaf_at(&self, k: usize) -> (Scalar, usize)
-        requires { k < length (leaves_from 0 self.now.fields) }
-        ensures leaf { IfSome (slice_get (leaves_from 0 self.now.fields) k)
-            (λ leaf. (result.0 ≡ leaf.scalar) × (result.1 ≡ leaf.at)) }
-        ensures within { result.1 + size result.0 ≤ self.now.size }
-        ensures small { result.1 < 65536 }
-    {
-        let leaf = self.leaves[k];
-        (leaf.scalar, leaf.at)
-    }
-
     #[cycle(copy)]
     pub fn try_copy(alloc: Global, original: &Record) -> Result<Record, AllocError>
         ensures { IfOk result (λ copy. copy ≡ original.now) }
@@ -267,7 +241,10 @@ impl Descr {
     {
         match self {
             Descr::Scalar(scalar) => (*scalar, 0),
-            Descr::Record(structure) => structure.leaf_at(k),
+            Descr::Record(structure) => {
+                let leaf = structure.leaves()[k];
+                (leaf.scalar, leaf.at)
+            }
         }
     }
 

@@ -1,6 +1,6 @@
 //! Type strings of NumPy's array interface, and descriptors as written in a script.
 ghost use Rattle.std.specs.Prelude.{IfOk, [], ◌∷◌, ◌≡◌};
-ghost use Rattle.elem_descr.specs.Clauses.{descriptor, is_kind, is_type_string, Gives, byte_string, letter_of, mark, number_spelled, spelling, typestr};
+ghost use Rattle.elem_descr.specs.Clauses.{descriptor, is_type_string, Gives, byte_string, letter_of, mark, number_spelled, spelling, typestr};
 ghost use Rattle.elem_descr.specs.TypeStrings.{marked};
 
 use crate::descr::Descr;

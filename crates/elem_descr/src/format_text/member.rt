@@ -1,6 +1,6 @@
 //! The members of a format text, and their names.
 ghost use Rattle.std.specs.Prelude.{◌≡◌, ◌≤◌, not, length, IsTrue, IfOk, if◌then◌else◌};
-ghost use Rattle.elem_descr.specs.Clauses.{prefix_len, Answers, is_legal_name, is_empty, count_of, is_left_out, number_member, text_member, other_member, lettered, is_colon, is_named, is_opened, lettered_before, member_at, held_member, held_at, name_at};
+ghost use Rattle.elem_descr.specs.Clauses.{prefix_len, Answers, is_legal_name, is_empty, count_of, text_member, is_colon, is_named, lettered_before, member_at, held_member, held_at, name_at};
 
 use crate::digits::{count, digits_len};
 use crate::format_text::mark::Mark;
@@ -46,55 +46,34 @@ fn text_member(digits: &[u8]) -> Result<Member, Refusal>
     }
 }
 
-/// A record with a count is unsupported.
-fn opened(digits: &[u8]) -> Result<Member, Refusal>
-    ensures { result
-        ≡ (if is_empty digits.now then Ok Member.Opened else Err Refusal.DescriptorLeftOut) }
+/// A member whose letter has a count only if it is unsupported.
+fn uncounted(member: Member, digits: &[u8]) -> Result<Member, Refusal>
+    ensures { result ≡ (if is_empty digits.now then Ok member else Err Refusal.DescriptorLeftOut) }
 {
     if digits.is_empty() {
-        return Ok(Member::Opened);
+        return Ok(member);
     }
     Err(Refusal::DescriptorLeftOut)
 }
 
-/// A bool or an integer with a count is unsupported.
-fn number_member(scalar: Scalar, digits: &[u8]) -> Result<Member, Refusal>
-    ensures { result ≡ held_member (number_member digits.now scalar) }
+/// The member that a count and a letter mean, if `rest` follows them. A record, a bool or an integer
+/// with a count is unsupported.
+fn lettered_before(mark: Mark, digits: &[u8], letter: u8, rest: &[u8]) -> Result<Member, Refusal>
+    ensures { result ≡ held_member (lettered_before mark digits.now letter rest.now) }
 {
-    let _size = scalar.size();
-    if digits.is_empty() {
-        return Ok(Member::Value(Some(scalar)));
+    if letter == b'T' && matches!(rest, [b'{', ..]) {
+        return uncounted(Member::Opened, digits);
     }
-    Err(Refusal::DescriptorLeftOut)
-}
-
-fn other_member(digits: &[u8], letter: u8) -> Result<Member, Refusal>
-    ensures { result ≡ held_member (other_member digits.now letter) }
-{
+    if let Some(scalar) = mark.number(letter) {
+        let _size = scalar.size();
+        return uncounted(Member::Value(Some(scalar)), digits);
+    }
     match letter {
         b's' => text_member(digits),
         b'x' => Ok(Member::Pad(count(digits))),
         _ if b"cnNPpefdgOZuwt&X(".contains(&letter) => Err(Refusal::DescriptorLeftOut),
         _ => Err(Refusal::BadDescriptor),
     }
-}
-
-fn lettered(mark: Mark, digits: &[u8], letter: u8) -> Result<Member, Refusal>
-    ensures { result ≡ held_member (lettered mark digits.now letter) }
-{
-    match mark.number(letter) {
-        Some(scalar) => number_member(scalar, digits),
-        None => other_member(digits, letter),
-    }
-}
-
-fn lettered_before(mark: Mark, digits: &[u8], letter: u8, rest: &[u8]) -> Result<Member, Refusal>
-    ensures { result ≡ held_member (lettered_before mark digits.now letter rest.now) }
-{
-    if letter == b'T' && matches!(rest, [b'{', ..]) {
-        return opened(digits);
-    }
-    lettered(mark, digits, letter)
 }
 
 /// The member at the front, and what follows it.

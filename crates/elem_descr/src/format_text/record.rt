@@ -2,7 +2,7 @@
 ghost use Rattle.elem_descr.specs.FormatTexts.{closed_body};
 ghost use Rattle.elem_descr.specs.Names.{is_legal_name};
 ghost use Rattle.elem_descr.specs.RecordBuilding.{max_depth, max_fields, max_leaves};
-ghost use Rattle.elem_descr.specs.Refusals.{Answers, Gives};
+ghost use Rattle.elem_descr.specs.Refusals.{Gives};
 ghost use Rattle.elem_descr.specs.inside.Partials.{IsBody};
 ghost use Rattle.elem_descr.specs.inside.Turns.{body_in, closing, named, next_field, pad_in, record_within, scalar_in};
 ghost use Rattle.std.specs.Prelude.{IfOk, IsTrue, length, option_copied, ◌+◌, ◌≡◌, ◌≤◌};
@@ -63,7 +63,7 @@ pub fn record_within(
 
 /// Adds the next member, and returns the current mark after it and what follows the member.
 #[cycle(record)]
-#[tactic(auto, unfolding(crate::specs::inside::Turns::next_field))]
+#[tactic(auto, unfolding(crate::specs::inside::Turns::next_field, crate::specs::inside::Turns::scalar_in, crate::specs::inside::Turns::pad_in, crate::specs::inside::Turns::body_in))]
 fn field_at<'a>(
     alloc: Global,
     mark: Mark,
@@ -75,17 +75,32 @@ fn field_at<'a>(
     ensures levels { builder.new.levels ≡ builder.old.levels }
 {
     match member_at(mark, text) {
-        Ok((Member::Value(value), rest)) => add_scalar(alloc, mark, builder, value, rest),
-        Ok((Member::Pad(count), rest)) => add_pad(mark, builder, count, rest),
+        Ok((Member::Value(value), rest)) => {
+            let (name, rest) = named(alloc, builder.len(), rest)?;
+            builder.check_name(name.as_slice())?;
+            let Some(scalar) = value else {
+                return Err(Refusal::TooLarge);
+            };
+            let alignment = mark.aligned(own_alignment(&scalar));
+            builder.add(name, alignment, Descr::Scalar(scalar))?;
+            Ok((mark, rest))
+        }
+        Ok((Member::Pad(count), rest)) => {
+            builder.pad(count)?;
+            if is_named(rest) {
+                return Err(Refusal::DescriptorLeftOut);
+            }
+            Ok((mark, rest))
+        }
         Ok((Member::Opened, rest)) => {
-            let (body, rest) = record_within(
-                alloc,
-                builder.levels(),
-                mark,
-                builder.leaves(),
-                &rest[1..],
-            )?;
-            add_body(alloc, mark, builder, body, rest)
+            let (levels, leaves) = (builder.levels(), builder.leaves());
+            let (body, rest) = record_within(alloc, levels, mark, leaves, &rest[1..])?;
+            let (name, rest) = named(alloc, builder.len(), rest)?;
+            builder.check_name(name.as_slice())?;
+            let alignment = mark.aligned(body.alignment);
+            let later = body.mark;
+            builder.add(name, alignment, Descr::Record(body.whole))?;
+            Ok((later, rest))
         }
         Err(refusal) => Err(refusal),
     }
@@ -129,68 +144,4 @@ fn named(alloc: Global, number: usize, text: &[u8]) -> Result<(FieldName, &[u8])
         Ok((name, rest)) => Ok((FieldName::from_slice(alloc, name)?, rest)),
         Err(refusal) => Err(refusal),
     }
-}
-
-/// Adds a scalar, and returns the current mark and what follows its name.
-#[tactic(auto, unfolding(crate::specs::inside::Turns::scalar_in))]
-pub fn add_scalar<'a>(
-    alloc: Global,
-    mark: Mark,
-    builder: &mut RecordBuilder,
-    value: Option<Scalar>,
-    rest: &'a [u8],
-) -> Result<(Mark, &'a [u8]), Refusal>
-    ensures gives { Gives (λ m. (builder.new, m.0, m.1.now)) result
-        (scalar_in mark builder.old value rest.now) }
-    ensures levels { builder.new.levels ≡ builder.old.levels }
-{
-    let (name, rest) = named(alloc, builder.len(), rest)?;
-    builder.check_name(name.as_slice())?;
-    let Some(scalar) = value else {
-        return Err(Refusal::TooLarge);
-    };
-    let alignment = mark.aligned(own_alignment(&scalar));
-    builder.add(name, alignment, Descr::Scalar(scalar))?;
-    Ok((mark, rest))
-}
-
-/// Adds padding, which has no name, and returns the current mark and what follows.
-#[tactic(auto, unfolding(crate::specs::inside::Turns::pad_in))]
-pub fn add_pad<'a>(
-    mark: Mark,
-    builder: &mut RecordBuilder,
-    count: usize,
-    rest: &'a [u8],
-) -> Result<(Mark, &'a [u8]), Refusal>
-    ensures gives { Answers (λ m. (builder.new, m.0, m.1.now)) result
-        (pad_in mark builder.old count rest.now) }
-    ensures levels { builder.new.levels ≡ builder.old.levels }
-{
-    builder.pad(count)?;
-    if is_named(rest) {
-        return Err(Refusal::DescriptorLeftOut);
-    }
-    Ok((mark, rest))
-}
-
-/// Adds a record that was read, and returns the current mark after it and what follows its name.
-#[tactic(auto, unfolding(crate::specs::inside::Turns::body_in))]
-pub fn add_body<'a>(
-    alloc: Global,
-    mark: Mark,
-    builder: &mut RecordBuilder,
-    body: Body,
-    rest: &'a [u8],
-) -> Result<(Mark, &'a [u8]), Refusal>
-    requires { IsBody builder.old.levels body }
-    ensures gives { Gives (λ m. (builder.new, m.0, m.1.now)) result
-        (body_in mark builder.old body rest.now) }
-    ensures levels { builder.new.levels ≡ builder.old.levels }
-{
-    let (name, rest) = named(alloc, builder.len(), rest)?;
-    builder.check_name(name.as_slice())?;
-    let alignment = mark.aligned(body.alignment);
-    let later = body.mark;
-    builder.add(name, alignment, Descr::Record(body.whole))?;
-    Ok((later, rest))
 }

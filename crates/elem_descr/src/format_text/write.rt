@@ -1,6 +1,6 @@
 //! Writes the format text of a descriptor.
 ghost use Rattle.std.specs.Prelude.{◌≡◌, ◌≤◌, ◌++◌, ◌∷◌, [], OnOk, IfOk, decimal};
-ghost use Rattle.elem_descr.specs.Clauses.{size, IsLegal, format, written_mark, written_letter, written_count, written_scalar, written_pad, written_name, written_fields, written_format};
+ghost use Rattle.elem_descr.specs.Clauses.{size, IsLegal, format, written_mark, written_letter, written_pad, written_name, written_fields, written_format};
 
 use crate::descr::{Descr, Record};
 use crate::scalar::{Order, Scalar, Width};
@@ -43,17 +43,6 @@ fn push_number(text: &mut Vec<u8>, n: usize) -> Result<(), AllocError>
 {
     let mut buffer = Buffer::new();
     text.extend_from_slice(buffer.format(n).as_bytes())
-}
-
-fn push_scalar(text: &mut Vec<u8>, scalar: &Scalar) -> Result<(), AllocError>
-    ensures { OnOk result (text.new.items ≡ text.old.items ++ written_scalar scalar.now) }
-{
-    text.push(mark(scalar))?;
-    if let Scalar::Bytes(len) = scalar {
-        push_number(text, len.get())?;
-    }
-    text.push(letter(scalar))?;
-    Ok(())
 }
 
 fn push_pad(text: &mut Vec<u8>, bytes: usize) -> Result<(), AllocError>
@@ -100,7 +89,14 @@ fn push_descr(text: &mut Vec<u8>, descr: &Descr) -> Result<(), AllocError>
     ensures { OnOk result (text.new.items ≡ text.old.items ++ written_format descr.now) }
 {
     match descr {
-        Descr::Scalar(scalar) => push_scalar(text, scalar),
+        Descr::Scalar(scalar) => {
+            text.push(mark(scalar))?;
+            if let Scalar::Bytes(len) = scalar {
+                push_number(text, len.get())?;
+            }
+            text.push(letter(scalar))?;
+            Ok(())
+        }
         Descr::Record(whole) => {
             text.extend_from_slice(b"T{")?;
             push_fields(text, whole)?;
