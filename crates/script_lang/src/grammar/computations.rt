@@ -2,89 +2,19 @@
 ghost use Rattle.std.specs.Prelude.{◌≡◌};
 ghost use Rattle.script_lang.specs.Clauses.{copy_at, cast_at, combine_at, transform_at, reduce_at, computation_at, compute_at, Reads, computation_room, value_room};
 
-use crate::command::{Computation, Operation, Value};
+use crate::command::{Computation, Value};
 use crate::grammar::descriptors::descr;
 use crate::grammar::indexes::{argument, operand};
-use crate::grammar::names::{name, order, owned_name};
+use crate::grammar::names::{order, owned_name};
 use crate::grammar::numbers::optional_integer;
 use crate::grammar::tokens::{flag, word};
 use crate::text::Text;
 use crate::verb::ComputeVerb;
-use elem_descr::{Name, Red, Refusal, UnOp};
+use elem_descr::Refusal;
 use std::alloc::Global;
 
-/// `Y C` or `Y F`, after `copy`.
-#[tactic(auto, unfolding(crate::specs::Commands::copy_at))]
-fn copy(alloc: Global, bytes: &[u8]) -> Result<(Computation, &[u8]), Refusal>
-    ensures { Reads (λ r. (r.0, r.1.now)) (λ r. computation_room r.0) result (copy_at bytes.now) }
-{
-    let (source, rest) = name(bytes).ok_or(Refusal::Syntax)?;
-    let (word, rest) = word(rest).ok_or(Refusal::Syntax)?;
-    let order = order(word).ok_or(Refusal::Syntax)?;
-    let source = Name::from_slice(alloc, source);
-    Ok((Computation::Duplicate { source, order }, rest))
-}
-
-/// `Y D`, after `cast`.
-#[tactic(auto, unfolding(crate::specs::Commands::cast_at), using(crate::proofs::Commands::cast_room))]
-fn cast(alloc: Global, bytes: &[u8]) -> Result<(Computation, &[u8]), Refusal>
-    ensures { Reads (λ r. (r.0, r.1.now)) (λ r. computation_room r.0) result (cast_at bytes.now) }
-{
-    let (source, rest) = name(bytes).ok_or(Refusal::Syntax)?;
-    let (descr, rest) = descr(rest).ok_or(Refusal::Syntax)?;
-    let descr = Text::from_slice(alloc, descr)?;
-    let source = Name::from_slice(alloc, source);
-    Ok((Computation::Cast { source, descr }, rest))
-}
-
-/// An operand and an operand or literal, after `OP`.
-#[tactic(auto, unfolding(crate::specs::Commands::combine_at), using(crate::proofs::Commands::left_room, crate::proofs::Commands::right_room))]
-fn combine(
-    alloc: Global,
-    operation: Operation,
-    bytes: &[u8],
-) -> Result<(Computation, &[u8]), Refusal>
-    ensures { Reads (λ r. (r.0, r.1.now)) (λ r. computation_room r.0) result
-        (combine_at operation bytes.now) }
-{
-    let (left, rest) = operand(alloc, bytes)?;
-    let (right, rest) = argument(alloc, rest)?;
-    let combined = Computation::Combine {
-        operation,
-        left,
-        right,
-    };
-    Ok((combined, rest))
-}
-
-/// An operand, after `neg` or `not`.
-#[tactic(auto, unfolding(crate::specs::Commands::transform_at), using(crate::proofs::Commands::transform_room))]
-fn transform(alloc: Global, operation: UnOp, bytes: &[u8]) -> Result<(Computation, &[u8]), Refusal>
-    ensures { Reads (λ r. (r.0, r.1.now)) (λ r. computation_room r.0) result
-        (transform_at operation bytes.now) }
-{
-    let (operand, rest) = operand(alloc, bytes)?;
-    Ok((Computation::Transform { operation, operand }, rest))
-}
-
-/// `Y [axis] [keep]`, after `RED`.
-#[tactic(auto, unfolding(crate::specs::Commands::reduce_at))]
-fn reduce(alloc: Global, reduction: Red, bytes: &[u8]) -> Result<(Computation, &[u8]), Refusal>
-    ensures { Reads (λ r. (r.0, r.1.now)) (λ r. computation_room r.0) result
-        (reduce_at reduction bytes.now) }
-{
-    let (source, rest) = owned_name(alloc, bytes).ok_or(Refusal::Syntax)?;
-    let (axis, rest) = optional_integer(rest);
-    let (keep, rest) = flag(b"keep", rest);
-    let reduced = Computation::Reduce {
-        reduction,
-        source,
-        axis,
-        keep,
-    };
-    Ok((reduced, rest))
-}
-
+/// What the computation is, after its verb.
+#[tactic(auto, unfolding(crate::specs::Commands::copy_at, crate::specs::Commands::cast_at, crate::specs::Commands::combine_at, crate::specs::Commands::transform_at, crate::specs::Commands::reduce_at), using(crate::proofs::Commands::cast_room, crate::proofs::Commands::left_room, crate::proofs::Commands::right_room, crate::proofs::Commands::transform_room))]
 fn computation(
     alloc: Global,
     verb: ComputeVerb,
@@ -94,11 +24,44 @@ fn computation(
         (computation_at verb bytes.now) }
 {
     match verb {
-        ComputeVerb::Duplicate => copy(alloc, bytes),
-        ComputeVerb::Cast => cast(alloc, bytes),
-        ComputeVerb::Combine(operation) => combine(alloc, operation, bytes),
-        ComputeVerb::Transform(operation) => transform(alloc, operation, bytes),
-        ComputeVerb::Reduce(reduction) => reduce(alloc, reduction, bytes),
+        ComputeVerb::Duplicate => {
+            let (source, rest) = owned_name(alloc, bytes).ok_or(Refusal::Syntax)?;
+            let (word, rest) = word(rest).ok_or(Refusal::Syntax)?;
+            let order = order(word).ok_or(Refusal::Syntax)?;
+            Ok((Computation::Duplicate { source, order }, rest))
+        }
+        ComputeVerb::Cast => {
+            let (source, rest) = owned_name(alloc, bytes).ok_or(Refusal::Syntax)?;
+            let (descr, rest) = descr(rest).ok_or(Refusal::Syntax)?;
+            let descr = Text::from_slice(alloc, descr)?;
+            Ok((Computation::Cast { source, descr }, rest))
+        }
+        ComputeVerb::Combine(operation) => {
+            let (left, rest) = operand(alloc, bytes)?;
+            let (right, rest) = argument(alloc, rest)?;
+            let combined = Computation::Combine {
+                operation,
+                left,
+                right,
+            };
+            Ok((combined, rest))
+        }
+        ComputeVerb::Transform(operation) => {
+            let (operand, rest) = operand(alloc, bytes)?;
+            Ok((Computation::Transform { operation, operand }, rest))
+        }
+        ComputeVerb::Reduce(reduction) => {
+            let (source, rest) = owned_name(alloc, bytes).ok_or(Refusal::Syntax)?;
+            let (axis, rest) = optional_integer(rest);
+            let (keep, rest) = flag(b"keep", rest);
+            let reduced = Computation::Reduce {
+                reduction,
+                source,
+                axis,
+                keep,
+            };
+            Ok((reduced, rest))
+        }
     }
 }
 

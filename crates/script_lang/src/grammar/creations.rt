@@ -1,6 +1,6 @@
 //! What follows `X =` and makes an array: `zeros`, `full`, `arange` and `array`.
 ghost use Rattle.std.specs.Prelude.{◌≡◌, true};
-ghost use Rattle.script_lang.specs.Clauses.{zeros_at, full_at, arange_at, new_array_at, new_items_at, make_at, Scans, Reads, value_room};
+ghost use Rattle.script_lang.specs.Clauses.{zeros_at, full_at, arange_at, new_array_at, new_items_at, make_at, Reads, value_room};
 
 use crate::command::{NewItems, Value};
 use crate::grammar::descriptors::descr;
@@ -11,55 +11,32 @@ use crate::verb::MakeVerb;
 use elem_descr::Refusal;
 use std::alloc::Global;
 
-/// `S`, after `zeros D`.
-#[tactic(auto, unfolding(crate::specs::Commands::zeros_at), using(crate::proofs::Lists::any_list))]
-fn zeros(alloc: Global, bytes: &[u8]) -> Result<(NewItems, &[u8]), Refusal>
-    ensures { Reads (λ r. (r.0, r.1.now)) (λ _. true) result (zeros_at bytes.now) }
-{
-    let (shape, rest) = shape(alloc, bytes)?;
-    Ok((NewItems::Zeros { shape }, rest))
-}
-
-/// `S L`, after `full D`.
-#[tactic(auto, unfolding(crate::specs::Commands::full_at), using(crate::proofs::Lists::any_list))]
-fn full(alloc: Global, bytes: &[u8]) -> Result<(NewItems, &[u8]), Refusal>
-    ensures { Reads (λ r. (r.0, r.1.now)) (λ _. true) result (full_at bytes.now) }
-{
-    let (shape, rest) = shape(alloc, bytes)?;
-    let (value, rest) = literal(alloc, rest)?;
-    Ok((NewItems::Full { shape, value }, rest))
-}
-
-/// `a b s`, after `arange D`.
-#[tactic(auto, unfolding(crate::specs::Commands::arange_at))]
-fn arange(bytes: &[u8]) -> Option<(NewItems, &[u8])>
-    ensures { Scans (λ r. (r.0, r.1.now)) result (arange_at bytes.now) }
-{
-    let (start, rest) = integer(bytes)?;
-    let (stop, rest) = integer(rest)?;
-    let (step, rest) = integer(rest)?;
-    Some((NewItems::Arange { start, stop, step }, rest))
-}
-
-/// `S L..`, after `array D`.
-#[tactic(auto, unfolding(crate::specs::Commands::new_array_at, crate::specs::Literals::literals_at), using(crate::proofs::Lists::any_list))]
-fn array(alloc: Global, bytes: &[u8]) -> Result<(NewItems, &[u8]), Refusal>
-    ensures { Reads (λ r. (r.0, r.1.now)) (λ _. true) result (new_array_at bytes.now) }
-{
-    let (shape, rest) = shape(alloc, bytes)?;
-    let (values, rest) = literals(alloc, rest)?;
-    Ok((NewItems::Array { shape, values }, rest))
-}
-
 /// What the items are, after the descriptor.
+#[tactic(auto, unfolding(crate::specs::Commands::zeros_at, crate::specs::Commands::full_at, crate::specs::Commands::arange_at, crate::specs::Commands::new_array_at, crate::specs::Literals::literals_at), using(crate::proofs::Lists::any_list))]
 fn new_items(alloc: Global, verb: MakeVerb, bytes: &[u8]) -> Result<(NewItems, &[u8]), Refusal>
     ensures { Reads (λ r. (r.0, r.1.now)) (λ _. true) result (new_items_at verb bytes.now) }
 {
     match verb {
-        MakeVerb::Zeros => zeros(alloc, bytes),
-        MakeVerb::Full => full(alloc, bytes),
-        MakeVerb::Arange => arange(bytes).ok_or(Refusal::Syntax),
-        MakeVerb::Array => array(alloc, bytes),
+        MakeVerb::Zeros => {
+            let (shape, rest) = shape(alloc, bytes)?;
+            Ok((NewItems::Zeros { shape }, rest))
+        }
+        MakeVerb::Full => {
+            let (shape, rest) = shape(alloc, bytes)?;
+            let (value, rest) = literal(alloc, rest)?;
+            Ok((NewItems::Full { shape, value }, rest))
+        }
+        MakeVerb::Arange => {
+            let (start, rest) = integer(bytes).ok_or(Refusal::Syntax)?;
+            let (stop, rest) = integer(rest).ok_or(Refusal::Syntax)?;
+            let (step, rest) = integer(rest).ok_or(Refusal::Syntax)?;
+            Ok((NewItems::Arange { start, stop, step }, rest))
+        }
+        MakeVerb::Array => {
+            let (shape, rest) = shape(alloc, bytes)?;
+            let (values, rest) = literals(alloc, rest)?;
+            Ok((NewItems::Array { shape, values }, rest))
+        }
     }
 }
 

@@ -52,29 +52,20 @@ fn record_len(bytes: &[u8]) -> Option<usize>
     None
 }
 
-/// The text up to the closing brace, and what follows it, given the bytes after `T{`.
-#[tactic(auto, unfolding(crate::specs::Descriptors::record_text_at))]
-fn record_text<'a>(bytes: &'a [u8], inside: &'a [u8]) -> Option<(&'a [u8], &'a [u8])>
-    requires { length inside.now ≤ length bytes.now }
-    ensures { Scans (λ w. (w.0.now, w.1.now)) result (record_text_at bytes.now inside.now) }
-{
-    let len = record_len(inside)?;
-    let (_, rest) = inside.split_at(len);
-    if !is_parted(rest) {
-        return None;
-    }
-    let (text, _) = bytes.split_at(bytes.len() - inside.len() + len);
-    Some((text, rest))
-}
-
 /// The next descriptor, after at least one blank, and what follows it.
-#[tactic(auto, unfolding(crate::specs::Descriptors::descriptor_at), using(crate::proofs::Spelling::record_mark_shorter))]
+#[tactic(auto, unfolding(crate::specs::Descriptors::descriptor_at, crate::specs::Descriptors::record_text_at), using(crate::proofs::Spelling::record_mark_shorter))]
 pub fn descr(bytes: &[u8]) -> Option<(&[u8], &[u8])>
     ensures { Scans (λ w. (w.0.now, w.1.now)) result (descriptor_at bytes.now) }
 {
     let (_, text) = front(Class::Blank, bytes)?;
     if let Some(inside) = record_mark(text) {
-        return record_text(text, inside);
+        let len = record_len(inside)?;
+        let (_, rest) = inside.split_at(len);
+        if !is_parted(rest) {
+            return None;
+        }
+        let (text, _) = text.split_at(text.len() - inside.len() + len);
+        return Some((text, rest));
     }
     front(Class::Filled, text)
 }

@@ -1,6 +1,6 @@
 //! Index lists, and operands with an index list.
-ghost use Rattle.std.specs.Prelude.{◌≡◌, ◌≤◌, length};
-ghost use Rattle.script_lang.specs.Clauses.{symbol_at, by_rule, one_or_more, step_at, slice_at, ellipsis_at, index_item_at, index_at, bracket_at, optional_index_at, operand_named, operand_at, argument_at, Scans, Reads, index_room, optional_index_room, operand_room, argument_room};
+ghost use Rattle.std.specs.Prelude.{◌≤◌, length};
+ghost use Rattle.script_lang.specs.Clauses.{by_rule, one_or_more, slice_at, ellipsis_at, index_item_at, index_at, bracket_at, optional_index_at, operand_named, operand_at, argument_at, Scans, Reads, index_room, optional_index_room, operand_room, argument_room};
 
 use crate::command::{Argument, Index, Operand, ellipses};
 use crate::grammar::literals::literal;
@@ -10,16 +10,6 @@ use crate::grammar::tokens::{byte, bytes_mark, keyword, symbol, unspaced};
 use elem_descr::{IndexItem, Name, Refusal};
 use std::alloc::Global;
 
-/// The step after the second colon, if there is one, and what follows it.
-fn step(bytes: &[u8]) -> (Option<i128>, &[u8])
-    ensures { (result.0, result.1.now) ≡ step_at bytes.now (symbol_at 58 bytes.now) }
-{
-    match symbol(b':', bytes) {
-        Some(rest) => optional_integer(rest),
-        None => (None, bytes),
-    }
-}
-
 #[tactic(auto, unfolding(crate::specs::Indexes::slice_at))]
 fn slice(bytes: &[u8]) -> Option<(IndexItem<Name>, &[u8])>
     ensures { Scans (λ r. (r.0, r.1.now)) result (slice_at bytes.now) }
@@ -27,7 +17,10 @@ fn slice(bytes: &[u8]) -> Option<(IndexItem<Name>, &[u8])>
     let (start, rest) = optional_integer(bytes);
     let rest = symbol(b':', rest)?;
     let (stop, rest) = optional_integer(rest);
-    let (step, rest) = step(rest);
+    let (step, rest) = match symbol(b':', rest) {
+        Some(rest) => optional_integer(rest),
+        None => (None, rest),
+    };
     Some((IndexItem::Slice { start, stop, step }, rest))
 }
 

@@ -1,6 +1,6 @@
 //! Literals.
-ghost use Rattle.std.specs.Prelude.{◌≡◌, ◌<◌, true, IfSome};
-ghost use Rattle.script_lang.specs.Clauses.{byte_at, by_rule, none_or_more, row, hex_value, hex_digit_at, escape_at, plain_byte_at, text_byte_at, byte_text_at, boolean_at, bytes_at, scalar_at, record_at, literal_within, literal_at, line_end_at, literals_of, Scans, Reads, scalar_room, literal_room};
+ghost use Rattle.std.specs.Prelude.{◌<◌, true, IfSome};
+ghost use Rattle.script_lang.specs.Clauses.{byte_at, by_rule, none_or_more, row, hex_value, hex_digit_at, escape_at, text_byte_at, byte_text_at, boolean_at, bytes_at, scalar_at, record_at, literal_within, literal_at, line_end_at, literals_of, Scans, Reads, scalar_room, literal_room};
 
 use crate::grammar::numbers::integer;
 use crate::grammar::tokens::{byte, bytes_mark, is_at_end, symbol, unspaced, word};
@@ -11,61 +11,33 @@ use std::alloc::Global;
 /// How deep the records of a literal may be nested; a record of scalars has depth 1.
 const MAX_LITERAL_DEPTH: usize = 4;
 
-/// The hexadecimal digit that the byte is.
-#[tactic(auto, unfolding(crate::specs::Literals::hex_value))]
-fn hex_value(byte: u8) -> Option<u8>
-    ensures value { result ≡ hex_value byte }
-    ensures small { IfSome result (λ d. d < 16) }
-{
-    match byte {
-        b'0'..=b'9' => Some(byte - b'0'),
-        b'a'..=b'f' => Some(byte - b'a' + 10),
-        b'A'..=b'F' => Some(byte - b'A' + 10),
-        _ => None,
-    }
-}
-
-#[tactic(auto, unfolding(crate::specs::Literals::hex_digit_at))]
+/// The hexadecimal digit at the front, and what follows it.
+#[tactic(auto, unfolding(crate::specs::Literals::hex_value, crate::specs::Literals::hex_digit_at))]
 fn hex_digit(bytes: &[u8]) -> Option<(u8, &[u8])>
     ensures found { Scans (λ d. (d.0, d.1.now)) result (hex_digit_at bytes.now) }
     ensures small { IfSome result (λ d. d.0 < 16) }
 {
-    let [first, rest @ ..] = bytes else {
-        return None;
-    };
-    let digit = hex_value(*first)?;
-    Some((digit, rest))
-}
-
-/// The byte that `x` and two digits mean, and what follows them.
-#[tactic(auto, unfolding(crate::specs::Literals::escape_at))]
-fn escape(bytes: &[u8]) -> Option<(u8, &[u8])>
-    ensures { Scans (λ b. (b.0, b.1.now)) result (escape_at bytes.now) }
-{
-    let digits = byte(b'x', bytes)?;
-    let (high, rest) = hex_digit(digits)?;
-    let (low, rest) = hex_digit(rest)?;
-    Some((high * 16 + low, rest))
-}
-
-fn plain_byte(bytes: &[u8]) -> Option<(u8, &[u8])>
-    ensures { Scans (λ b. (b.0, b.1.now)) result (plain_byte_at bytes.now) }
-{
     match bytes {
-        [first, rest @ ..] if matches!(*first, b' '..=b'~') && *first != b'\'' && *first != b'\\' =>
-            { Some((*first, rest)) }
+        [b @ b'0'..=b'9', rest @ ..] => Some((*b - b'0', rest)),
+        [b @ b'a'..=b'f', rest @ ..] => Some((*b - b'a' + 10, rest)),
+        [b @ b'A'..=b'F', rest @ ..] => Some((*b - b'A' + 10, rest)),
         _ => None,
     }
 }
 
 /// The next byte of a byte string, and what follows it.
-#[tactic(auto, unfolding(crate::specs::Literals::text_byte_at))]
+#[tactic(auto, unfolding(crate::specs::Literals::escape_at, crate::specs::Literals::text_byte_at))]
 fn text_byte(bytes: &[u8]) -> Option<(u8, &[u8])>
     ensures { Scans (λ b. (b.0, b.1.now)) result (text_byte_at bytes.now) }
 {
-    match byte(b'\\', bytes) {
-        Some(rest) => escape(rest),
-        None => plain_byte(bytes),
+    match bytes {
+        [b'\\', b'x', digits @ ..] => {
+            let (high, rest) = hex_digit(digits)?;
+            let (low, rest) = hex_digit(rest)?;
+            Some((high * 16 + low, rest))
+        }
+        [b @ b' '..=b'~', rest @ ..] if *b != b'\'' && *b != b'\\' => Some((*b, rest)),
+        _ => None,
     }
 }
 
@@ -88,41 +60,23 @@ fn byte_row(alloc: Global, bytes: &[u8]) -> Result<(ByteText, &[u8]), Refusal>
     }
 }
 
-/// The byte string after `b'`, and what follows it.
-#[tactic(auto, unfolding(crate::specs::Literals::bytes_at, crate::specs::Literals::byte_text_at), using(crate::proofs::Rooms::bytes_room))]
-fn bytes_literal(alloc: Global, bytes: &[u8]) -> Result<(ScalarLiteral, &[u8]), Refusal>
-    ensures { Reads (λ r. (r.0, r.1.now)) (λ r. scalar_room r.0) result (bytes_at bytes.now) }
-{
-    let (text, rest) = byte_row(alloc, bytes)?;
-    Ok((ScalarLiteral::Bytes(text), rest))
-}
-
-#[tactic(auto, unfolding(crate::specs::Literals::boolean_at))]
-fn boolean(bytes: &[u8]) -> Option<(ScalarLiteral, &[u8])>
-    ensures { Scans (λ r. (r.0, r.1.now)) result (boolean_at bytes.now) }
-{
-    let (word, rest) = word(bytes)?;
-    if word == b"True".as_slice() {
-        return Some((ScalarLiteral::Boolean(true), rest));
-    }
-    if word == b"False".as_slice() {
-        return Some((ScalarLiteral::Boolean(false), rest));
-    }
-    None
-}
-
 /// The scalar literal at the front, and what follows it.
-#[tactic(auto, unfolding(crate::specs::Literals::scalar_at))]
+#[tactic(auto, unfolding(crate::specs::Literals::scalar_at, crate::specs::Literals::bytes_at, crate::specs::Literals::byte_text_at, crate::specs::Literals::boolean_at), using(crate::proofs::Rooms::bytes_room))]
 fn scalar(alloc: Global, bytes: &[u8]) -> Result<(ScalarLiteral, &[u8]), Refusal>
     ensures { Reads (λ r. (r.0, r.1.now)) (λ r. scalar_room r.0) result (scalar_at bytes.now) }
 {
     if let Some(inside) = bytes_mark(bytes) {
-        return bytes_literal(alloc, inside);
+        let (text, rest) = byte_row(alloc, inside)?;
+        return Ok((ScalarLiteral::Bytes(text), rest));
     }
     if let Some((n, rest)) = integer(bytes) {
         return Ok((ScalarLiteral::Integer(n), rest));
     }
-    boolean(bytes).ok_or(Refusal::Syntax)
+    match word(bytes) {
+        Some((b"True", rest)) => Ok((ScalarLiteral::Boolean(true), rest)),
+        Some((b"False", rest)) => Ok((ScalarLiteral::Boolean(false), rest)),
+        _ => Err(Refusal::Syntax),
+    }
 }
 
 /// Literals of at most this depth, separated by commas, up to the closing parenthesis, and what

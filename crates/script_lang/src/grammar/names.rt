@@ -1,6 +1,6 @@
 //! The keywords of the language, and the names of arrays, which keywords cannot be.
 ghost use Rattle.std.specs.Prelude.{IfSome, length, map, ◌≡◌, ◌≤◌};
-ghost use Rattle.script_lang.specs.Clauses.{Scans, name_at, names_unless_verb, starts_name, beside, is_constant, operation_of, order_of, verb_of};
+ghost use Rattle.script_lang.specs.Clauses.{Scans, name_at, names_unless_verb, beside, is_constant, operation_of, order_of, verb_of};
 
 use crate::command::Operation;
 use crate::grammar::tokens::{is_name_start, word};
@@ -8,20 +8,13 @@ use crate::verb::{ComputeVerb, FOUR_LETTERS, MORE_LETTERS, THREE_LETTERS, TWO_LE
 use elem_descr::{LONGEST_NAME, MemoryOrder, Name};
 use std::alloc::Global;
 
-fn starts_name(word: &[u8]) -> bool
-    ensures { result ≡ starts_name word.now }
-{
-    match word {
-        [first, ..] => is_name_start(*first),
-        [] => false,
-    }
-}
-
 /// Whether the word could be a name, unless it is a verb.
 pub fn names_unless_verb(word: &[u8]) -> bool
     ensures { result ≡ names_unless_verb word.now }
 {
-    starts_name(word) && word.len() <= LONGEST_NAME && !is_constant(word)
+    matches!(word, [first, ..] if is_name_start(*first))
+        && word.len() <= LONGEST_NAME
+        && !is_constant(word)
 }
 
 /// The next name, with any blanks before it, and what follows it.
@@ -77,7 +70,7 @@ pub fn verb(word: &[u8]) -> Option<Verb>
 pub fn is_constant(word: &[u8]) -> bool
     ensures { result ≡ is_constant word.now }
 {
-    word == b"True".as_slice() || word == b"False".as_slice() || word == b"None".as_slice()
+    matches!(word, b"True" | b"False" | b"None")
 }
 
 /// The operation with two operands that the word names.
@@ -96,8 +89,9 @@ pub fn operation(word: &[u8]) -> Option<Operation>
 pub fn order(word: &[u8]) -> Option<MemoryOrder>
     ensures { result ≡ order_of word.now }
 {
-    if word == b"C".as_slice() {
-        return Some(MemoryOrder::C);
+    match word {
+        b"C" => Some(MemoryOrder::C),
+        b"F" => Some(MemoryOrder::Fortran),
+        _ => None,
     }
-    (word == b"F".as_slice()).then_some(MemoryOrder::Fortran)
 }

@@ -30,10 +30,7 @@ fn number(bytes: &[u8]) -> Option<(u128, &[u8])>
     ensures small { IfSome result (λ n. n.0 < 2 ^ 100) }
 {
     let (digits, rest) = digits(bytes)?;
-    if digits.len() > MAX_DIGITS {
-        return None;
-    }
-    if !is_parted(rest) {
+    if digits.len() > MAX_DIGITS || !is_parted(rest) {
         return None;
     }
     Some((value_of(digits), rest))

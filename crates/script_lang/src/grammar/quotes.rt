@@ -1,6 +1,6 @@
 //! Texts between quotation marks.
 ghost use Rattle.std.specs.Prelude.{◌≡◌, ◌≤◌, length, IfSome};
-ghost use Rattle.script_lang.specs.Clauses.{starts_file_name, is_file_name, quoted_at, file_name_at, Scans};
+ghost use Rattle.script_lang.specs.Clauses.{is_file_name, quoted_at, file_name_at, Scans};
 
 use crate::grammar::tokens::{Class, are_in, byte, front_len, is_name_byte, symbol};
 use crate::text::MAX_FILE_NAME_LEN;
@@ -16,19 +16,12 @@ pub fn quoted(bytes: &[u8]) -> Option<(&[u8], &[u8])>
     Some((text, rest))
 }
 
-fn starts_file_name(bytes: &[u8]) -> bool
-    ensures { result ≡ starts_file_name bytes.now }
-{
-    match bytes {
-        [first, ..] => is_name_byte(*first),
-        [] => false,
-    }
-}
-
 fn is_file_name(bytes: &[u8]) -> bool
     ensures { result ≡ is_file_name bytes.now }
 {
-    starts_file_name(bytes) && bytes.len() <= MAX_FILE_NAME_LEN && are_in(Class::File, bytes)
+    matches!(bytes, [first, ..] if is_name_byte(*first))
+        && bytes.len() <= MAX_FILE_NAME_LEN
+        && are_in(Class::File, bytes)
 }
 
 /// The name of a file between the next two quotation marks, and what follows them.

@@ -72,31 +72,14 @@ pub fn delete(alloc: Global, bytes: &[u8]) -> Option<(Command, &[u8])>
 pub fn save(alloc: Global, bytes: &[u8]) -> Option<(Command, &[u8])>
     ensures { Scans (λ r. (r.0, r.1.now)) result (save_at bytes.now) }
 {
-    let (name, rest) = name(bytes)?;
+    let (name, rest) = owned_name(alloc, bytes)?;
     let (file, rest) = file_name(rest)?;
-    let save = Command::Save {
-        name: Name::from_slice(alloc, name),
-        file: FileName::from_slice(alloc, file),
-    };
-    Some((save, rest))
-}
-
-/// `X Y`, after `shares`.
-#[tactic(auto, unfolding(crate::specs::Commands::shares_at))]
-fn shares(alloc: Global, bytes: &[u8]) -> Option<(Question, &[u8])>
-    ensures { Scans (λ r. (r.0, r.1.now)) result (shares_at bytes.now) }
-{
-    let (left, rest) = name(bytes)?;
-    let (right, rest) = name(rest)?;
-    let shares = Question::Shares {
-        left: Name::from_slice(alloc, left),
-        right: Name::from_slice(alloc, right),
-    };
-    Some((shares, rest))
+    let file = FileName::from_slice(alloc, file);
+    Some((Command::Save { name, file }, rest))
 }
 
 /// What the verb asks for.
-#[tactic(auto, unfolding(crate::specs::Commands::question_at, crate::specs::Commands::asked_at))]
+#[tactic(auto, unfolding(crate::specs::Commands::question_at, crate::specs::Commands::asked_at, crate::specs::Commands::shares_at))]
 pub fn question(alloc: Global, verb: AskVerb, bytes: &[u8]) -> Option<(Question, &[u8])>
     ensures { Scans (λ r. (r.0, r.1.now)) result (question_at verb bytes.now) }
 {
@@ -114,6 +97,10 @@ pub fn question(alloc: Global, verb: AskVerb, bytes: &[u8]) -> Option<(Question,
             Some((Question::Format { name }, rest))
         }
         AskVerb::Names => Some((Question::Names, bytes)),
-        AskVerb::Shares => shares(alloc, bytes),
+        AskVerb::Shares => {
+            let (left, rest) = owned_name(alloc, bytes)?;
+            let (right, rest) = owned_name(alloc, rest)?;
+            Some((Question::Shares { left, right }, rest))
+        }
     }
 }

@@ -1,6 +1,6 @@
 //! Classes of bytes; blanks, symbols and words.
 ghost use Rattle.std.specs.Prelude.{IfSome, is_some, length, true, ◌≡◌, ◌≤◌};
-ghost use Rattle.script_lang.specs.Clauses.{is_mark, is_allowed, Scans, at_end, byte_at, bytes_mark_at, flag_at, front_at, is_blank, is_digit, is_file_byte, is_name_byte, is_name_start, is_parted, is_sign, keyword_at, symbol_at, unspaced, word_at, is_in, list_all, prefix_len, bytes_eq};
+ghost use Rattle.script_lang.specs.Clauses.{is_allowed, Scans, at_end, byte_at, bytes_mark_at, flag_at, front_at, is_blank, is_digit, is_name_byte, is_name_start, is_parted, keyword_at, symbol_at, unspaced, word_at, is_in, list_all, prefix_len, bytes_eq};
 
 #[derive(Clone, Copy)]
 pub enum Class {
@@ -24,18 +24,6 @@ fn is_blank(byte: u8) -> bool
     byte == b' ' || byte == b'\t'
 }
 
-fn is_digit(byte: u8) -> bool
-    ensures { result ≡ is_digit byte }
-{
-    byte.is_ascii_digit()
-}
-
-pub fn is_sign(byte: u8) -> bool
-    ensures { result ≡ is_sign byte }
-{
-    byte == b'+' || byte == b'-'
-}
-
 /// Whether a name may start with the byte.
 pub fn is_name_start(byte: u8) -> bool
     ensures { result ≡ is_name_start byte }
@@ -46,19 +34,7 @@ pub fn is_name_start(byte: u8) -> bool
 pub fn is_name_byte(byte: u8) -> bool
     ensures { result ≡ is_name_byte byte }
 {
-    is_name_start(byte) || is_digit(byte)
-}
-
-fn is_mark(byte: u8) -> bool
-    ensures { result ≡ is_mark byte }
-{
-    matches!(byte, b'<' | b'>' | b'!' | b'=' | b'@' | b'^')
-}
-
-fn is_file_byte(byte: u8) -> bool
-    ensures { result ≡ is_file_byte byte }
-{
-    is_name_byte(byte) || byte == b'.' || byte == b'-'
+    is_name_start(byte) || byte.is_ascii_digit()
 }
 
 fn is_in(class: Class, byte: u8) -> bool
@@ -67,11 +43,11 @@ fn is_in(class: Class, byte: u8) -> bool
     match class {
         Class::Blank => is_blank(byte),
         Class::Filled => !is_blank(byte),
-        Class::Digit => is_digit(byte),
+        Class::Digit => byte.is_ascii_digit(),
         Class::Name => is_name_byte(byte),
-        Class::Mark => is_mark(byte),
+        Class::Mark => matches!(byte, b'<' | b'>' | b'!' | b'=' | b'@' | b'^'),
         Class::Unquoted => byte != b'"',
-        Class::File => is_file_byte(byte),
+        Class::File => is_name_byte(byte) || matches!(byte, b'.' | b'-'),
     }
 }
 
@@ -160,7 +136,7 @@ pub fn is_parted(bytes: &[u8]) -> bool
     let [first, ..] = bytes else {
         return true;
     };
-    if is_name_byte(*first) || is_sign(*first) {
+    if is_name_byte(*first) || matches!(first, b'+' | b'-') {
         return bytes_mark(bytes).is_some();
     }
     true

@@ -43,56 +43,31 @@ pub fn plain_view<'a>(
     Ok((view, rest))
 }
 
-/// `"f"`, after `field Y`.
-#[tactic(auto, unfolding(crate::specs::Commands::field_name_at), using(crate::proofs::Commands::field_room))]
-fn field(alloc: Global, bytes: &[u8]) -> Result<(Viewing, &[u8]), Refusal>
-    ensures { Reads (λ r. (r.0, r.1.now)) (λ r. viewing_room r.0) result (field_name_at bytes.now) }
-{
-    let (field, rest) = quoted(bytes).ok_or(Refusal::Syntax)?;
-    let field = Text::from_slice(alloc, field)?;
-    Ok((Viewing::Field(field), rest))
-}
-
-/// The axes or nothing, after `transpose Y`.
-#[tactic(auto, unfolding(crate::specs::Commands::transpose_at), using(crate::proofs::Commands::transpose_room))]
-fn transpose(alloc: Global, bytes: &[u8]) -> Result<(Viewing, &[u8]), Refusal>
-    ensures { Reads (λ r. (r.0, r.1.now)) (λ r. viewing_room r.0) result (transpose_at bytes.now) }
-{
-    if is_at_end(bytes) {
-        return Ok((Viewing::Transposed(None), bytes));
-    }
-    let (axes, rest) = signed_shape(alloc, bytes)?;
-    Ok((Viewing::Transposed(Some(axes)), rest))
-}
-
-/// `S` with signs, after `reshape Y`.
-#[tactic(auto, unfolding(crate::specs::Commands::reshape_at), using(crate::proofs::Commands::reshape_room))]
-fn reshape(alloc: Global, bytes: &[u8]) -> Result<(Viewing, &[u8]), Refusal>
-    ensures { Reads (λ r. (r.0, r.1.now)) (λ r. viewing_room r.0) result (reshape_at bytes.now) }
-{
-    let (shape, rest) = signed_shape(alloc, bytes)?;
-    Ok((Viewing::Reshaped(shape), rest))
-}
-
-/// `S`, after `broadcast Y`.
-#[tactic(auto, unfolding(crate::specs::Commands::broadcast_at), using(crate::proofs::Commands::broadcast_room))]
-fn broadcast(alloc: Global, bytes: &[u8]) -> Result<(Viewing, &[u8]), Refusal>
-    ensures { Reads (λ r. (r.0, r.1.now)) (λ r. viewing_room r.0) result (broadcast_at bytes.now) }
-{
-    let (shape, rest) = shape(alloc, bytes)?;
-    Ok((Viewing::Broadcast(shape), rest))
-}
-
 /// How the items are viewed, after the name.
+#[tactic(auto, unfolding(crate::specs::Commands::field_name_at, crate::specs::Commands::transpose_at, crate::specs::Commands::reshape_at, crate::specs::Commands::broadcast_at), using(crate::proofs::Commands::field_room, crate::proofs::Commands::transpose_room, crate::proofs::Commands::reshape_room, crate::proofs::Commands::broadcast_room))]
 fn viewing(alloc: Global, verb: ViewVerb, bytes: &[u8]) -> Result<(Viewing, &[u8]), Refusal>
     ensures { Reads (λ r. (r.0, r.1.now)) (λ r. viewing_room r.0) result
         (viewing_at verb bytes.now) }
 {
     match verb {
-        ViewVerb::Field => field(alloc, bytes),
-        ViewVerb::Transpose => transpose(alloc, bytes),
-        ViewVerb::Reshape => reshape(alloc, bytes),
-        ViewVerb::Broadcast => broadcast(alloc, bytes),
+        ViewVerb::Field => {
+            let (field, rest) = quoted(bytes).ok_or(Refusal::Syntax)?;
+            let field = Text::from_slice(alloc, field)?;
+            Ok((Viewing::Field(field), rest))
+        }
+        ViewVerb::Transpose if is_at_end(bytes) => Ok((Viewing::Transposed(None), bytes)),
+        ViewVerb::Transpose => {
+            let (axes, rest) = signed_shape(alloc, bytes)?;
+            Ok((Viewing::Transposed(Some(axes)), rest))
+        }
+        ViewVerb::Reshape => {
+            let (shape, rest) = signed_shape(alloc, bytes)?;
+            Ok((Viewing::Reshaped(shape), rest))
+        }
+        ViewVerb::Broadcast => {
+            let (shape, rest) = shape(alloc, bytes)?;
+            Ok((Viewing::Broadcast(shape), rest))
+        }
     }
 }
 
