@@ -1,6 +1,6 @@
 -- Laws of adjacent items, and of strides that make items adjacent.
-use Rattle.std.proofs.Common.{◌≡◌, ℕ, zero, suc, ◌+◌, ◌*◌, ◌^◌, ◌<◌, ◌≤◌, ◌≢◌, true, false, ◌==◌, ℤ, pos, ◌+ℤ◌, ◌*ℤ◌, List, [], ◌∷◌, length, get_or, drop, mul-le-mul, mul-le-mul_right, add-one, inl, inr, refl, sym, ◌∙◌, ap, arith, map, nat_le, unsigned_abs, negsuc, mul-zero, one-mul, mul-suc, zero-mul, mul_comm}
-use Rattle.shape_strides.proofs.Words.{cases_lt, cases_Bool, cond-true, cond-false, eqb-true, eq-eqb, and_parts, and_from, false_from_ne_true, nat_tests, ints, drop_more, get_or-map, *ℤ-zero, +ℤ_idl, Layout, count, rank, IsIndex, max_items, max_bytes, dot, natural, offsets, first_address, printed_strides, is_c_contiguous, unit, IsIndex-unit, rank-unit, dot-unit, entry-first, length-offsets, get_or-offsets, pos-offset, offsets_within, offsets-none, first_address-entry, printed-at, rank-lt, index_at, max_reach, factors_pos, count-drop, factor-pos}
+use Rattle.std.proofs.Common.{◌≡◌, ℕ, zero, suc, ◌+◌, ◌*◌, ◌^◌, ◌<◌, ◌≤◌, ◌≢◌, true, false, ◌==◌, ℤ, pos, ◌+ℤ◌, ◌*ℤ◌, List, [], ◌∷◌, length, get_or, drop, mul-le-mul, mul-le-mul_right, add-one, inl, inr, refl, sym, ◌∙◌, ap, arith, map, nat_le, mul-zero, one-mul, mul-suc, zero-mul, mul_comm}
+use Rattle.shape_strides.proofs.Words.{cases_lt, cases_Bool, cond-true, cond-false, eqb-true, eq-eqb, and_parts, and_from, false_from_ne_true, nat_tests, ints, drop_more, get_or-map, *ℤ-zero, +ℤ_idl, Layout, count, rank, IsIndex, max_items, dot, natural, offsets, first_address, printed_strides, is_c_contiguous, unit, IsIndex-unit, rank-unit, dot-unit, entry-first, length-offsets, get_or-offsets, pos-offset, offsets-none, first_address-entry, printed-at, rank-lt, index_at, max_reach, factors_pos, count-drop, factor-pos}
 
 -- ---- addresses that grow by the size of an item
 
@@ -175,25 +175,6 @@ printed-entry l axis stride below short long = elim (cases_lt (get_or l.shape ax
   | inr is ↦ elim (cases_lt 0 (count l.shape)) [
     | inl some ↦ long is ∙ sym (printed-long l axis some below is)
     | inr none ↦ long is ∙ stride-none l axis (omega arith) below ∙ sym (printed-none l axis (omega arith) below)
-  ]
-]
-
--- A printed stride is not longer than the buffer.
-gap-small : (s : ℤ) (a b n : ℕ) → pos a ≡ pos b +ℤ s → a ≤ n → b ≤ n → unsigned_abs s ≤ n
-gap-small (pos x) a b n is low low' = omega (arith, ints)
-gap-small (negsuc x) a b n is low low' = omega (arith, ints)
-
-pub printed-small : (l : Layout) (axis : ℕ) → axis < length l.shape → unsigned_abs (get_or (printed_strides l.shape (offsets l)) axis (pos 0)) ≤ max_bytes
-printed-small l axis below = elim (cases_lt (get_or l.shape axis 0) 2) [
-  | inl is ↦ rw (printed-short l.shape (offsets l) axis below is) (omega arith)
-  | inr is ↦ elim (cases_lt 0 (count l.shape)) [
-    | inl some ↦
-        let c = count (drop (suc axis) l.shape) in
-        let first = entry-first l some in
-        let near = offsets_within l max_bytes 1 l.within_limit 0 0 (omega (arith, length-offsets l)) in
-        let far = offsets_within l max_bytes 1 l.within_limit c 0 (unit-lt l axis some below is) in
-        rw (printed-long l axis some below is) (gap-small (get_or l.strides axis (pos 0)) (get_or (offsets l) c 0) l.offset max_bytes (entry-unit l axis some below is) (omega arith) (omega arith))
-    | inr none ↦ rw (printed-none l axis (omega arith) below) (omega arith)
   ]
 ]
 

@@ -19,18 +19,6 @@ fn steps_over(strides: &[isize], axis: usize, len: usize, bytes: u128) -> bool
     len == 1 || strides[axis] as i128 == bytes as i128
 }
 
-/// The stride of an axis of 2 items or more, and 0 for any other.
-fn printed_stride(strides: &[isize], axis: usize, len: usize) -> isize
-    requires axis { axis < length strides.now }
-    ensures short { len < 2 → result ≡ pos 0 }
-    ensures long { 2 ≤ len → result ≡ slice_index_or strides.now axis (pos 0) }
-{
-    if len < 2 {
-        return 0;
-    }
-    strides[axis]
-}
-
 impl Layout {
     /// The layout of items of `item` bytes one after another in Fortran order, in which the first
     /// axis changes fastest, from the start of the buffer. Without items, its strides are 0.
@@ -89,7 +77,7 @@ impl Layout {
         let strides = layout.strides.as_slice();
         let mut printed = Strides::new(alloc);
         for (axis, len) in layout.shape.as_slice().iter().enumerate() {
-            printed.push(printed_stride(strides, axis, *len))?;
+            printed.push(if *len < 2 { 0 } else { strides[axis] })?;
         }
         Ok(printed)
     }

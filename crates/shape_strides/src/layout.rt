@@ -5,7 +5,7 @@ ghost use Rattle.shape_strides.specs.Indexes.{count};
 ghost use Rattle.shape_strides.specs.Addresses.{LieWithin};
 
 use crate::shape::Shape;
-use crate::steps::{c_order_strides, forward, reach_above, reach_below};
+use crate::steps::{c_order_strides, forward, reach_of};
 use crate::strides::Strides;
 use std::alloc::{AllocError, Global};
 
@@ -37,9 +37,9 @@ fn lie_within(shape: &Shape, strides: &Strides, offset: usize, len: usize, item:
     let lengths = shape.as_slice();
     let strides = strides.as_slice();
     let offset = offset as u128;
-    let below = reach_below(lengths, strides);
-    let end = offset + reach_above(lengths, strides) + item as u128;
-    below <= offset && end <= len as u128
+    let reach = reach_of(lengths, strides);
+    let end = offset + reach.above + item as u128;
+    reach.below <= offset && end <= len as u128
 }
 
 impl Layout {

@@ -6,7 +6,7 @@ use crate::address_order::axes_of;
 use crate::layout::Layout;
 use crate::single_run::{StridedAxis, joined_axes};
 use crate::stacked::Axis;
-use crate::steps::{reach_above, reach_below};
+use crate::steps::reach_of;
 use std::alloc::{AllocError, Global};
 use std::ops::Range;
 
@@ -30,8 +30,9 @@ impl Layout {
         }
         let lengths = self.shape.as_slice();
         let strides = self.strides.as_slice();
-        let start = self.offset - reach_below(lengths, strides) as usize;
-        let end = self.offset + reach_above(lengths, strides) as usize + item;
+        let reach = reach_of(lengths, strides);
+        let start = self.offset - reach.below as usize;
+        let end = self.offset + reach.above as usize + item;
         start..end
     }
 

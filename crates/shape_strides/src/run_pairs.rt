@@ -6,7 +6,7 @@ ghost use Rattle.shape_strides.specs.Indexes.{count};
 ghost use Rattle.shape_strides.specs.Addresses.{LieWithin};
 ghost use Rattle.shape_strides.specs.Layouts.{offsets, Fits};
 ghost use Rattle.shape_strides.specs.Runs.{run_offsets, GoesBy};
-ghost use Rattle.shape_strides.specs.RunPairs.{run_front, cut, run_pairs};
+ghost use Rattle.shape_strides.specs.RunPairs.{cut, run_pairs};
 ghost use Rattle.shape_strides.specs.PairWalks.{IsWhole};
 ghost use Rattle.shape_strides.specs.inside.Heads.{IsHead, both};
 
@@ -19,17 +19,6 @@ use std::marker::Model;
 pub struct RunPair {
     pub first: Run,
     pub second: Run,
-}
-
-/// The first `n` items of a run.
-fn front(run: Run, n: usize) -> Run
-    ensures { result ≡ run_front n run }
-{
-    Run {
-        offset: run.offset,
-        count: n,
-        step: run.step,
-    }
 }
 
 /// What follows the first `n` items of a run, before the other runs: the rest of it, or the next
@@ -125,14 +114,13 @@ impl<'a> Iterator for RunPairs<'a> {
     ghost remaining = { item_count (λ left. left) };
 
     fn next(&mut self) -> Option<RunPair> {
-        let pair = self.at?;
+        let mut pair = self.at?;
         let count = pair.first.count.min(pair.second.count);
         let first = after(&mut self.first, pair.first, count);
         let second = after(&mut self.second, pair.second, count);
         self.at = both(first, second);
-        Some(RunPair {
-            first: front(pair.first, count),
-            second: front(pair.second, count),
-        })
+        pair.first.count = count;
+        pair.second.count = count;
+        Some(pair)
     }
 }

@@ -74,6 +74,8 @@ impl Layout {
         ensures lie { (len item : ℕ) → Fits self.now len item
             → IfSome result
             (λ run. LieWithin (run.count ∷ []) (run.step ∷ []) run.offset len item) }
+        ensures found { (step : ℤ) → 2 ≤ length (offsets self.now) → GoesBy step (offsets self.now)
+            → MatchOption result ⊥ (λ run. run.step ≡ step) }
     {
         if self.shape.items() == 0 {
             return None;
@@ -103,15 +105,7 @@ impl Layout {
         if self.shape.items() < 2 {
             return None;
         }
-        let run = last_run(self.shape.as_slice(), self.strides.as_slice());
-        if run.outside > 0 {
-            return None;
-        }
-        Some(Run {
-            offset: self.offset,
-            count: run.along.len,
-            step: run.along.stride,
-        })
+        self.as_one_run()
     }
 }
 

@@ -44,25 +44,6 @@ fn reach_within(lengths: &[usize], strides: &[isize], step: usize) -> u128
     reach
 }
 
-/// Whether an axis steps over an item and all that the other axes with no larger steps reach. An
-/// axis of length 1 does.
-fn steps_clear(lengths: &[usize], strides: &[isize], axis: usize, item: usize) -> bool
-    requires one_each { length strides.now ≡ length lengths.now }
-    requires axes { length lengths.now ≤ max_axes }
-    requires lengths { All (λ n. n ≤ max_items) lengths.now }
-    requires axis { axis < length lengths.now }
-    ensures { let step = unsigned_abs (slice_index_or strides.now axis (pos 0)) in
-        IsTrue result ↔ (2 ≤ slice_index lengths.now axis
-        → item + reach_within step strides.now lengths.now ≤ step * slice_index lengths.now axis) }
-{
-    if lengths[axis] < 2 {
-        return true;
-    }
-    let step = strides[axis].unsigned_abs();
-    let below = item as u128 + reach_within(lengths, strides, step);
-    below <= step as u128 * lengths[axis] as u128
-}
-
 impl Layout {
     /// Whether the axes can be put in an order in which each axis of 2 items or more steps over an
     /// item of `item` bytes and all that the axes before it reach. This holds for a layout without
@@ -78,7 +59,9 @@ impl Layout {
         let lengths = self.shape.as_slice();
         let strides = self.strides.as_slice();
         for axis in 0..lengths.len() {
-            if !steps_clear(lengths, strides, axis, item) {
+            let step = strides[axis].unsigned_abs();
+            let below = item as u128 + reach_within(lengths, strides, step);
+            if lengths[axis] >= 2 && below > step as u128 * lengths[axis] as u128 {
                 return false;
             }
         }

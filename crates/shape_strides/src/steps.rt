@@ -32,58 +32,49 @@ pub(crate) fn back(from: usize, strides: &[isize], axis: usize, steps: usize) ->
     (from as isize - strides[axis] * steps as isize) as usize
 }
 
-/// How far the last item of an axis is above its first.
-fn axis_above(strides: &[isize], axis: usize, len: usize) -> u128
-    requires axis { axis < length strides.now }
-    requires len { len ≤ max_items }
-    ensures value { result ≡ natural (slice_index_or strides.now axis (pos 0)) * (len - 1) }
-    ensures bound { result ≤ max_reach }
-{
-    if strides[axis] <= 0 {
-        return 0;
-    }
-    strides[axis].unsigned_abs() as u128 * len.saturating_sub(1) as u128
+/// How far the addresses of items lie from an offset, in bytes.
+#[derive(Clone, Copy, Drop)]
+pub(crate) struct Reach {
+    pub below: u128,
+    pub above: u128,
 }
 
-/// How far the last item of an axis is below its first.
-fn axis_below(strides: &[isize], axis: usize, len: usize) -> u128
-    requires axis { axis < length strides.now }
-    requires len { len ≤ max_items }
-    ensures value { result ≡ natural (neg_ℤ (slice_index_or strides.now axis (pos 0))) * (len - 1) }
-    ensures bound { result ≤ max_reach }
+/// How far the last item of an axis is from its first.
+fn axis_reach(stride: isize, len: usize) -> Reach
+    requires { len ≤ max_items }
+    ensures below { result.below ≡ natural (neg_ℤ stride) * (len - 1) }
+    ensures above { result.above ≡ natural stride * (len - 1) }
+    ensures low { result.below ≤ max_reach }
+    ensures high { result.above ≤ max_reach }
 {
-    if strides[axis] >= 0 {
-        return 0;
+    let bytes = stride.unsigned_abs() as u128 * len.saturating_sub(1) as u128;
+    if stride < 0 {
+        return Reach {
+            below: bytes,
+            above: 0,
+        };
     }
-    strides[axis].unsigned_abs() as u128 * len.saturating_sub(1) as u128
+    Reach {
+        below: 0,
+        above: bytes,
+    }
 }
 
-/// How far the addresses reach above the offset.
-pub(crate) fn reach_above(lengths: &[usize], strides: &[isize]) -> u128
+/// How far the addresses reach from the offset.
+pub(crate) fn reach_of(lengths: &[usize], strides: &[isize]) -> Reach
     requires one_each { length strides.now ≡ length lengths.now }
     requires axes { length lengths.now ≤ max_axes }
     requires lengths { All (λ n. n ≤ max_items) lengths.now }
-    ensures value { result ≡ reach_above strides.now lengths.now }
-    ensures bound { result ≤ max_axes * max_reach }
+    ensures below { result.below ≡ reach_below strides.now lengths.now }
+    ensures above { result.above ≡ reach_above strides.now lengths.now }
+    ensures low { result.below ≤ max_axes * max_reach }
+    ensures high { result.above ≤ max_axes * max_reach }
 {
-    let mut reach = 0;
+    let mut reach = Reach { below: 0, above: 0 };
     for (axis, len) in lengths.iter().enumerate() {
-        reach += axis_above(strides, axis, *len);
-    }
-    reach
-}
-
-/// How far the addresses reach below the offset.
-pub(crate) fn reach_below(lengths: &[usize], strides: &[isize]) -> u128
-    requires one_each { length strides.now ≡ length lengths.now }
-    requires axes { length lengths.now ≤ max_axes }
-    requires lengths { All (λ n. n ≤ max_items) lengths.now }
-    ensures value { result ≡ reach_below strides.now lengths.now }
-    ensures bound { result ≤ max_axes * max_reach }
-{
-    let mut reach = 0;
-    for (axis, len) in lengths.iter().enumerate() {
-        reach += axis_below(strides, axis, *len);
+        let own = axis_reach(strides[axis], *len);
+        reach.below += own.below;
+        reach.above += own.above;
     }
     reach
 }
@@ -99,28 +90,6 @@ pub(crate) fn zero_strides(alloc: Global, lengths: &[usize]) -> Result<Strides, 
     Ok(strides)
 }
 
-/// The strides of C order for `items` items of `item` bytes.
-fn divided_strides(
-    alloc: Global,
-    lengths: &[usize],
-    items: usize,
-    item: usize,
-) -> Result<Strides, AllocError>
-    requires items { items ≡ count lengths.now }
-    requires some { 0 < items }
-    requires item { 0 < item }
-    requires bytes { items * item ≤ max_bytes }
-    ensures { IfOk result (λ s. s ≡ c_strides item lengths.now) }
-{
-    let mut strides = Strides::new(alloc);
-    let mut bytes = items * item;
-    for len in lengths {
-        bytes /= *len;
-        strides.push(bytes as isize)?;
-    }
-    Ok(strides)
-}
-
 /// The strides of C order, or 0 for each axis if there are no items.
 pub(crate) fn c_order_strides(
     alloc: Global,
@@ -132,24 +101,15 @@ pub(crate) fn c_order_strides(
     ensures some { IfOk result (λ s. 0 < count shape.now → s ≡ c_strides item shape.now) }
     ensures none { IfOk result (λ s. count shape.now ≡ 0 → s ≡ map (λ _. pos 0) shape.now) }
 {
-    let items = shape.items();
-    if items == 0 {
-        return zero_strides(alloc, shape.as_slice());
+    let lengths = shape.as_slice();
+    if shape.items() == 0 {
+        return zero_strides(alloc, lengths);
     }
-    divided_strides(alloc, shape.as_slice(), items, item)
-}
-
-/// The strides of Fortran order for items of `item` bytes.
-fn multiplied_strides(alloc: Global, lengths: &[usize], item: usize) -> Result<Strides, AllocError>
-    requires some { 0 < count lengths.now }
-    requires bytes { count lengths.now * item ≤ max_bytes }
-    ensures { IfOk result (λ s. s ≡ f_strides item lengths.now) }
-{
     let mut strides = Strides::new(alloc);
-    let mut step = item;
+    let mut bytes = shape.items() * item;
     for len in lengths {
-        strides.push(step as isize)?;
-        step *= *len;
+        bytes /= *len;
+        strides.push(bytes as isize)?;
     }
     Ok(strides)
 }
@@ -164,8 +124,15 @@ pub(crate) fn f_order_strides(
     ensures some { IfOk result (λ s. 0 < count shape.now → s ≡ f_strides item shape.now) }
     ensures none { IfOk result (λ s. count shape.now ≡ 0 → s ≡ map (λ _. pos 0) shape.now) }
 {
+    let lengths = shape.as_slice();
     if shape.items() == 0 {
-        return zero_strides(alloc, shape.as_slice());
+        return zero_strides(alloc, lengths);
     }
-    multiplied_strides(alloc, shape.as_slice(), item)
+    let mut strides = Strides::new(alloc);
+    let mut step = item;
+    for len in lengths {
+        strides.push(step as isize)?;
+        step *= *len;
+    }
+    Ok(strides)
 }

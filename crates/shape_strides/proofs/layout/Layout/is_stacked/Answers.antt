@@ -1,4 +1,4 @@
-use Rattle.std.proofs.Common.{◌<◌, length, refl, ap, arith}
+use Rattle.std.proofs.Common.{◌≡◌, pos, unsigned_abs, get_or, rules, ◌<◌, length, refl, ap, arith}
 use Rattle.shape_strides.proofs.Words.{false≢true}
 use Rattle.shape_strides.proofs.StackLaws.{CanStack-from_tests, tests_from_CanStack}
 use Rattle.shape_strides.proofs.StackedLaws.{IsNested-stacked}
@@ -7,14 +7,17 @@ use Rattle.shape_strides.proofs.layout.Layout.is_stacked.Goals as goal
 pub returns-then-items-eq0-clause-value : goal.returns-then-items-eq0-clause-value
 returns-then-items-eq0-clause-value c = (λ _ some. absurd (omega (arith, c.items.ensures.value)), λ _. refl)
 
-pub returns-then-not-steps_clear-clause-value : goal.returns-then-not-steps_clear-clause-value
-returns-then-not-steps_clear-clause-value c =
+pub returns-then-below-step-clause-value : goal.returns-then-below-step-clause-value
+returns-then-below-step-clause-value c =
     let l = c.args.self.now in
     let k = c.loop-axis.axis in
     let below : k < length l.shape = omega (arith, ap length c.as_slice-lengths.ensures.value) in
-    let test = rw (c.as_slice-lengths.ensures.value, c.as_slice-strides.ensures) at c.if-not-steps_clear.ensures in (
+    let step : c.unsigned_abs-step.result ≡ unsigned_abs (get_or c.as_slice-strides.result.now k (pos 0)) = search rules in (
       λ t. absurd (false≢true t),
-      λ stacked. test.1 (tests_from_CanStack l.strides l.shape c.args.item k l.one_stride_an_axis c.requires (stacked (omega (arith, c.items.ensures.value))) below),
+      λ stacked.
+          let test = tests_from_CanStack l.strides l.shape c.args.item k l.one_stride_an_axis c.requires (stacked (omega (arith, c.items.ensures.value))) below in
+          let clear = rw (← c.as_slice-lengths.ensures.value, ← c.as_slice-strides.ensures, ← step) at test in
+          absurd (omega (arith, clear c.if-lengths-axis-ge2.true, c.reach_within.ensures.value)),
     )
 
 pub returns-clause-value : goal.returns-clause-value
@@ -25,8 +28,8 @@ returns-clause-value c =
 pub returns-then-items-eq0-clause-nested : goal.returns-then-items-eq0-clause-nested
 returns-then-items-eq0-clause-nested c = IsNested-stacked c.args.self.now c.args.item c.requires
 
-pub returns-then-not-steps_clear-clause-nested : goal.returns-then-not-steps_clear-clause-nested
-returns-then-not-steps_clear-clause-nested c = IsNested-stacked c.args.self.now c.args.item c.requires
+pub returns-then-below-step-clause-nested : goal.returns-then-below-step-clause-nested
+returns-then-below-step-clause-nested c = IsNested-stacked c.args.self.now c.args.item c.requires
 
 pub returns-clause-nested : goal.returns-clause-nested
 returns-clause-nested c = IsNested-stacked c.args.self.now c.args.item c.requires

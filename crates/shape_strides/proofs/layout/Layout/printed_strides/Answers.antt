@@ -1,7 +1,8 @@
-use Rattle.std.proofs.Common.{◌≡◌, ◌++◌, ◌∷◌, [], ◌<◌, length, w64, unsigned_abs, FitsSigned, pos, take, get_or, ap, sym, ◌∙◌, arith, take_all}
-use Rattle.shape_strides.proofs.Words.{to_z-of_z, fits_signed_from_abs, take_more, offsets, printed_strides, length-printed}
-use Rattle.shape_strides.proofs.ContiguityLaws.{printed-entry, printed-small}
+use Rattle.std.proofs.Common.{◌≡◌, ◌++◌, ◌∷◌, [], ◌<◌, length, w64, to_z, pos, take, get_or, ap, sym, ◌∙◌, arith, rules, take_all}
+use Rattle.shape_strides.proofs.Words.{take_more, offsets, printed_strides, length-printed}
+use Rattle.shape_strides.proofs.ContiguityLaws.{printed-entry}
 use Rattle.shape_strides.proofs.layout.Layout.printed_strides.Goals as goal
+use Rattle.shape_strides.proofs.layout.Layout.printed_strides.Goals.{then-len-lt2, else-len-lt2}
 
 pub loop-axis-preserved : goal.loop-axis-preserved
 loop-axis-preserved c =
@@ -9,14 +10,14 @@ loop-axis-preserved c =
     let all = printed_strides l.shape (offsets l) in
     let k = c.loop-axis.axis in
     let below : k < length l.shape = omega (arith, ap length c.as_slice-len-items.ensures.value) in
-    let short = rw c.as_slice-len-items.ensures.value at c.printed_stride.ensures.short in
-    let long = rw (c.as_slice-len-items.ensures.value, c.as_slice-strides.ensures) at c.printed_stride.ensures.long in
-    let entry : c.printed_stride.result ≡ get_or all k (pos 0) =
-    printed-entry l k c.printed_stride.result below short long in
-    let small = printed-small l k below in
-    let fits : FitsSigned w64 c.printed_stride.result = fits_signed_from_abs w64 c.printed_stride.result (omega (arith, small, ap unsigned_abs entry)) in
-    let pushed : c.push.new.self ≡ c.loop-axis.printed ++ c.printed_stride.result ∷ [] = c.in_ok-push.ensures.ok ∙ ap (λ z. c.loop-axis.printed ++ z ∷ []) (to_z-of_z w64 c.printed_stride.result fits) in
-    pushed ∙ ap (λ s. s ++ c.printed_stride.result ∷ []) c.loop-axis.invariant ∙ ap (λ z. take k all ++ z ∷ []) entry ∙ sym (take_more all k (pos 0) (omega (arith, length-printed l.shape (offsets l))))
+    let len = ap (λ s. get_or s k 0) c.as_slice-len-items.ensures.value in
+    let entry : to_z w64 c.if-len-lt2.push-bits ≡ get_or all k (pos 0) = elim c.if-len-lt2.branch [
+      | then-len-lt2 w ↦ printed-entry l k _ below (λ _. w.push-is) (λ long. absurd (omega (arith, w.if-len-lt2.true)))
+      | else-len-lt2 w ↦
+          let is : to_z w64 c.if-len-lt2.push-bits ≡ get_or c.as_slice-strides.result.now k (pos 0) = search rules in
+          printed-entry l k _ below (λ short. absurd (omega (arith, w.if-len-lt2.false))) (λ _. is ∙ ap (λ s. get_or s k (pos 0)) c.as_slice-strides.ensures)
+    ] in
+    c.in_ok-push.ensures.ok ∙ ap (λ s. s ++ to_z w64 c.if-len-lt2.push-bits ∷ []) c.loop-axis.invariant ∙ ap (λ z. take k all ++ z ∷ []) entry ∙ sym (take_more all k (pos 0) (omega (arith, length-printed l.shape (offsets l))))
 
 pub returns : goal.returns
 returns c =

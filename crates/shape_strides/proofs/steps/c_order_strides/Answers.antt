@@ -1,11 +1,11 @@
 use Rattle.std.proofs.Common.{◌+◌, ◌/◌, ◌++◌, ◌∷◌, [], pos, w64, drop, get_or, ap, sym, ◌∙◌, append_assoc, arith, div-le_self}
 use Rattle.shape_strides.proofs.Words.{to_z_pos, c_strides}
 use Rattle.shape_strides.proofs.CountLaws.{bytes-more, c_strides-drop}
-use Rattle.shape_strides.proofs.steps.divided_strides.Goals as goal
+use Rattle.shape_strides.proofs.steps.c_order_strides.Goals as goal
 
 pub loop-len-preserved : goal.loop-len-preserved
 loop-len-preserved c =
-    let lengths = c.args.lengths.now in
+    let lengths = c.as_slice-lengths.result.now in
     let k = c.loop-len.len-index in
     let step = c.loop-len.bytes / get_or lengths k 0 in
     let more = bytes-more lengths k c.loop-len.bytes c.args.item c.loop-len-test.true c.loop-len.invariant.some c.loop-len.invariant.is in

@@ -1,6 +1,6 @@
 use Rattle.std.proofs.Common.{◌≡◌, ◌*◌, ◌<◌, ◌≤◌, ◌++◌, drop}
 use Rattle.shape_strides.proofs.Words.{max_bytes, count, f_strides}
-use Rattle.shape_strides.proofs.steps.multiplied_strides.Given as goal
+use Rattle.shape_strides.proofs.steps.f_order_strides.Given as goal
 
 abbrev pub invariant-loop-len : goal.invariant-loop-len
 invariant-loop-len l = record {

@@ -1,6 +1,6 @@
 use Rattle.std.proofs.Common.{◌≡◌, ◌*◌, ◌<◌, ◌≤◌, ◌++◌, drop}
 use Rattle.shape_strides.proofs.Words.{max_bytes, count, c_strides}
-use Rattle.shape_strides.proofs.steps.divided_strides.Given as goal
+use Rattle.shape_strides.proofs.steps.c_order_strides.Given as goal
 
 abbrev pub invariant-loop-len : goal.invariant-loop-len
 invariant-loop-len l = record {

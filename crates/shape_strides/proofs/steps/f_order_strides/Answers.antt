@@ -1,11 +1,11 @@
 use Rattle.std.proofs.Common.{◌+◌, ◌*◌, ◌≤◌, ◌++◌, ◌∷◌, [], w64, drop, get_or, ap, sym, ◌∙◌, append_assoc, arith, mul-le-mul_right, one-mul}
 use Rattle.shape_strides.proofs.Words.{to_z_pos, count, f_strides}
 use Rattle.shape_strides.proofs.FortranLaws.{f_strides-drop, step-more, count-rest}
-use Rattle.shape_strides.proofs.steps.multiplied_strides.Goals as goal
+use Rattle.shape_strides.proofs.steps.f_order_strides.Goals as goal
 
 pub loop-len-preserved : goal.loop-len-preserved
 loop-len-preserved c =
-    let lengths = c.args.lengths.now in
+    let lengths = c.as_slice-lengths.result.now in
     let k = c.loop-len.len-index in
     let step = c.loop-len.step in
     let below = c.loop-len-test.true in
