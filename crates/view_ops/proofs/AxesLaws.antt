@@ -1,5 +1,5 @@
 -- The axes that a list of numbers names.
-use Rattle.std.proofs.Common.{◌≡◌, ◌≢◌, ℕ, zero, suc, ◌+◌, ◌-◌, ◌<◌, ◌≤◌, ◌==◌, true, false, not, ℤ, Option, Some, None, List, [], ◌∷◌, map, length, get_or, Result, Ok, Err, inl, inr, refl, sym, ap, ◌∙◌, arith}
+use Rattle.std.proofs.Common.{◌≡◌, ◌≢◌, ℕ, zero, suc, ◌+◌, ◌-◌, ◌<◌, ◌≤◌, ◌==◌, true, false, not, ℤ, Option, Some, None, List, [], ◌∷◌, map, length, take, take_all, get_or, Result, Ok, Err, inl, inr, refl, sym, ap, ◌∙◌, arith}
 use Rattle.view_ops.proofs.Words.{list_any, list_all, range_with_len, cases_Bool, cases_eq, and_parts, false≢true, not-true, is_ok, Refusal, BadAxis, axis_below, same_answer, nat_tests, length-map, length-range_with_len, natural, from_front, is_place, are_distinct, axes_of, AreAxes, AreAllAxes}
 
 pub axes_of-count : (rank : ℕ) (named : List ℤ) → length named ≢ rank → axes_of rank (Some named) ≡ Err BadAxis
@@ -26,6 +26,10 @@ axes_of-ok rank named axes size within are once =
     let test : (length named == rank) ≡ true = grind (arith, nat_tests) in
     let once' : are_distinct (map (λ axis. natural (from_front rank axis)) named) ≡ true = ap are_distinct (sym are) ∙ once in
     rw (test, within, once') (ap Ok (sym are))
+
+-- A loop over the axes has made these of all of them.
+pub all_taken : {X Y : Type 0} (f : X → Y) (axes : List X) (k : ℕ) (made : List Y) → length axes ≤ k → made ≡ map f (take k axes) → made ≡ map f axes
+all_taken f axes k made past is = is ∙ ap (map f) (take_all k axes past)
 
 -- ---- the named axes
 

@@ -36,21 +36,6 @@ fn reversed_axes(alloc: Global, rank: usize) -> Result<SmallVec<usize, 4>, Alloc
 }
 
 /// The named axes, counted from the front.
-fn counted_axes(
-    alloc: Global,
-    rank: usize,
-    named: &[i128],
-) -> Result<SmallVec<usize, 4>, AllocError>
-    requires { list_all (is_place rank) named.now ≡ true }
-    ensures { IfOk result (λ v. v.items ≡ map (λ axis. natural (from_front rank axis)) named.now) }
-{
-    let mut axes = SmallVec::new(alloc);
-    for axis in named {
-        axes.push(from_front(rank, *axis) as usize)?;
-    }
-    Ok(axes)
-}
-
 fn named_axes(alloc: Global, rank: usize, named: &[i128]) -> Result<SmallVec<usize, 4>, Refusal>
     ensures { Gives (λ v. v.items) result (axes_of rank (Some named.now)) }
 {
@@ -60,7 +45,10 @@ fn named_axes(alloc: Global, rank: usize, named: &[i128]) -> Result<SmallVec<usi
     if !are_in_range(rank, named) {
         return Err(Refusal::BadAxis);
     }
-    let axes = counted_axes(alloc, rank, named)?;
+    let mut axes = SmallVec::new(alloc);
+    for axis in named {
+        axes.push(from_front(rank, *axis) as usize)?;
+    }
     if !are_distinct(axes.as_slice()) {
         return Err(Refusal::BadAxis);
     }

@@ -8,39 +8,6 @@ use shape_strides::{Layout, Shape, Strides};
 use smallvec::SmallVec;
 use std::alloc::{AllocError, Global};
 
-fn transposed_lengths(
-    alloc: Global,
-    lengths: &[usize],
-    axes: &[usize],
-) -> Result<SmallVec<usize, 4>, AllocError>
-    requires axes { AreAxes (length lengths.now) axes.now }
-    requires few { length lengths.now ≤ max_axes }
-    ensures { IfOk result (λ v. v.items ≡ transposed_shape axes.now lengths.now) }
-{
-    let mut transposed = SmallVec::new(alloc);
-    for axis in axes {
-        transposed.push(lengths[*axis])?;
-    }
-    Ok(transposed)
-}
-
-fn transposed_strides(
-    alloc: Global,
-    strides: &[isize],
-    axes: &[usize],
-) -> Result<Strides, AllocError>
-    requires axes { AreAxes (length strides.now) axes.now }
-    requires few { length strides.now ≤ max_axes }
-    ensures { IfOk result
-        (λ s. s ≡ map (λ axis. slice_index_or strides.now axis (pos 0)) axes.now) }
-{
-    let mut transposed = Strides::new(alloc);
-    for axis in axes {
-        transposed.push(strides[*axis])?;
-    }
-    Ok(transposed)
-}
-
 /// The layout with these axes.
 fn with_axes(alloc: Global, layout: &Layout, axes: &[usize]) -> Result<Layout, AllocError>
     requires { AreAllAxes (length layout.now.shape) axes.now }
@@ -53,9 +20,15 @@ fn with_axes(alloc: Global, layout: &Layout, axes: &[usize]) -> Result<Layout, A
         })) }
     ensures nested { IfOk result (KeepsNested layout.now) }
 {
-    let lengths = transposed_lengths(alloc, layout.shape.as_slice(), axes)?;
+    let old_lengths = layout.shape.as_slice();
+    let old_strides = layout.strides.as_slice();
+    let mut lengths = SmallVec::<usize, 4>::new(alloc);
+    let mut strides = Strides::new(alloc);
+    for axis in axes {
+        lengths.push(old_lengths[*axis])?;
+        strides.push(old_strides[*axis])?;
+    }
     let shape = Shape::from_lengths(alloc, lengths.as_slice())?;
-    let strides = transposed_strides(alloc, layout.strides.as_slice(), axes)?;
     Ok(Layout {
         shape,
         strides,
