@@ -1,6 +1,6 @@
 -- What a disk with a cache finds, and what crashes leave after each event.
-use Rattle.std.proofs.Common.{◌≡◌, ◌≢◌, inl, inr, ⊎_elim, ◌-◌, ◌<◌, ◌≤◌, Bool, true, false, ℕ, suc, List, [], ◌∷◌, length, take, drop, get_or, Option, None, Vec, IsTrue, cond, MatchBool, refl, sym, ap, ◌∙◌, subst, arith}
-use Rattle.disk.proofs.Words.{Global, common_steps, get, get-empty, slice_cmp, nat_cmp, bytes_eq, cases_lt, false_from_ne_true, when_true, when_false, bytes_eq-Decides, Event, Changed, FileSynced, NamesSynced, Files, Same, SameBut, Leaves, SameButBoth, Replaces, HasNames, follows, weaker, then_but, unmoved, bytes_of_change, bound, get-bound, bound_here, bound_else, found, is_synced, MayStand, MayStay, cached_history, found_may_stand, newest}
+use Rattle.std.proofs.Common.{◌≡◌, ◌≢◌, inl, inr, ⊎_elim, ◌-◌, ◌<◌, ◌≤◌, Bool, true, false, ℕ, suc, List, [], ◌∷◌, length, take, drop, get_or, Option, None, Vec, cond, MatchBool, refl, sym, ap, ◌∙◌, subst, arith}
+use Rattle.disk.proofs.Words.{Global, common_steps, get, get-empty, slice_cmp, nat_cmp, bytes_eq, cases_lt, false_from_ne_true, when_true, when_false, bytes_eq-Decides, Event, Changed, FileSynced, NamesSynced, Files, Same, SameBut, Leaves, SameButBoth, Replaces, follows, weaker, then_but, unmoved, bytes_of_change, bound, get-bound, bound_here, bound_else, found, is_synced, MayStand, MayStay, cached_history, found_may_stand, newest}
 
 -- a list by its first event
 headed : (rest : List Event) (event : Event) → 1 ≤ length rest → event ≡ get_or rest 0 event → rest ≡ event ∷ take (length rest - 1) (drop 1 rest)
@@ -103,9 +103,6 @@ names_synced events = one_event Same events NamesSynced (λ files other. refl) (
   ] (left other),
   λ other. refl,
 ))
-
-pub has_names : (events : List Event) → HasNames (cached_history (NamesSynced ∷ events)) (λ name. IsTrue (is_synced events name)) (found events)
-has_names events left name may synced = when_true _ _ synced (subst (λ (l : List Event). MayStay l left) (sym (newest (NamesSynced ∷ events))) may name)
 
 -- a file arrives under one name, and is gone under the other
 module _ (old new : List Event) (arrived gone : Vec ℕ Global) (bytes : Option (Vec ℕ Global)) (is_whole : Bool) (from to : List ℕ) (distinct : to ≢ from)

@@ -50,26 +50,12 @@ fn latest<'a>(events: &'a [Event], name: &[u8]) -> Option<&'a Option<Vec<u8>>>
                 name: other,
                 bytes,
                 ..
-            } => {
-                if name == other.as_slice() {
-                    return Some(bytes);
-                }
-            }
-            Event::FileSynced { .. } | Event::NamesSynced | Event::Restarted => {}
+            } if name == other.as_slice() => return Some(bytes),
+            _ => {}
         }
         rest = older;
     }
     None
-}
-
-/// The bytes of the file with this name, as a read finds them.
-fn contents(alloc: Global, events: &[Event], name: &[u8]) -> Result<Option<Vec<u8>>, AllocError>
-    ensures { IfOk result (IsFound (get (found events.now) name.now)) }
-{
-    match latest(events, name) {
-        Some(Some(bytes)) => Ok(Some(bytes.to_vec(alloc)?)),
-        Some(None) | None => Ok(None),
-    }
 }
 
 /// Whether the bytes of the file with this name are on the disk.
@@ -83,18 +69,10 @@ fn are_bytes_synced(events: &[Event], name: &[u8]) -> bool
                 name: other,
                 is_whole,
                 ..
-            } => {
-                if name == other.as_slice() {
-                    return *is_whole;
-                }
-            }
-            Event::FileSynced { name: other } => {
-                if name == other.as_slice() {
-                    return true;
-                }
-            }
-            Event::NamesSynced => {}
+            } if name == other.as_slice() => return *is_whole,
+            Event::FileSynced { name: other } if name == other.as_slice() => return true,
             Event::Restarted => return true,
+            Event::Changed { .. } | Event::FileSynced { .. } | Event::NamesSynced => {}
         }
         rest = older;
     }
@@ -133,36 +111,16 @@ fn may_stand(events: &[Event], name: &[u8], left: &Option<Vec<u8>>) -> bool
                 name: other,
                 bytes,
                 is_whole,
-            } => {
-                if name == other.as_slice() {
-                    if !*is_whole {
-                        return true;
-                    }
-                    if is_same(left, bytes) {
-                        return true;
-                    }
-                }
-            }
-            Event::FileSynced { .. } => {}
-            Event::NamesSynced => {
-                if are_bytes_synced(older, name) {
-                    return is_found(older, name, left);
-                }
+            } if name == other.as_slice() && (!*is_whole || is_same(left, bytes)) => return true,
+            Event::NamesSynced if are_bytes_synced(older, name) => {
+                return is_found(older, name, left);
             }
             Event::Restarted => return is_found(older, name, left),
+            Event::Changed { .. } | Event::FileSynced { .. } | Event::NamesSynced => {}
         }
         rest = older;
     }
     left.is_none()
-}
-
-/// Adds an event.
-fn add(events: &mut Vec<Event>, event: Event) -> Result<(), AllocError>
-    ensures ok { OnOk result (events.new.items ≡ event ∷ events.old.items) }
-    ensures err { OnErr result (events.new.items ≡ events.old.items) }
-{
-    events.insert(0, event)?;
-    Ok(())
 }
 
 /// Gives a name these bytes, or none.
@@ -179,8 +137,8 @@ fn change(
         (cached_history events.old.items) (cached_history events.new.items) }
 {
     let name = Vec::from_slice(alloc, name)?;
-    add(
-        events,
+    events.insert(
+        0,
         Event::Changed {
             name,
             bytes,
@@ -282,7 +240,7 @@ impl CachedMemDisk {
         ensures failures { let failures = ⟦<CachedMemDisk as Disk>⟧.failures in
             failures self.new ≡ failures self.old }
     {
-        add(&mut self.events, Event::Restarted)?;
+        self.events.insert(0, Event::Restarted)?;
         self.failing.restart();
         Ok(())
     }
@@ -294,7 +252,10 @@ impl CachedMemDisk {
         ensures found { IfOk result (IsFound (get (found self.old.events.items) name.now)) }
     {
         self.failing.count_call()?;
-        Ok(contents(self.alloc, &self.events, name)?)
+        match latest(&self.events, name) {
+            Some(Some(bytes)) => Ok(Some(bytes.to_vec(self.alloc)?)),
+            Some(None) | None => Ok(None),
+        }
     }
 }
 
@@ -356,7 +317,8 @@ impl Disk for CachedMemDisk {
     fn sync(&mut self, file: &MemFile) -> Result<(), DiskFault> {
         self.failing.count_call()?;
         let name = Vec::from_slice(self.alloc, &file.name)?;
-        Ok(add(&mut self.events, Event::FileSynced { name })?)
+        self.events.insert(0, Event::FileSynced { name })?;
+        Ok(())
     }
 
     fn rename(&mut self, from: &[u8], to: &[u8]) -> Result<(), DiskFault> {
@@ -377,9 +339,9 @@ impl Disk for CachedMemDisk {
     // Running out of memory is reported as a failure, since this call may not report anything else.
     fn sync_names(&mut self) -> Result<(), DiskFault> {
         self.failing.count_call()?;
-        match add(&mut self.events, Event::NamesSynced) {
-            Ok(()) => Ok(()),
-            Err(_) => Err(self.failing.failed()),
+        if self.events.insert(0, Event::NamesSynced).is_err() {
+            return Err(self.failing.failed());
         }
+        Ok(())
     }
 }

@@ -29,19 +29,14 @@ fn uninterrupted<T: Drop, F: Fn() -> io::Result<T> + Drop>(call: F) -> io::Resul
     Err(io::Error::from(ErrorKind::Interrupted))
 }
 
-/// What a path leads to, through links.
-fn look_through<R: Files>(rt: &R, path: Path) -> io::Result<Option<Metadata>> {
-    found(uninterrupted(|| fs::metadata(rt, path)))
-}
-
 /// What is at a path, which may be a link.
 fn look_at<R: Files>(rt: &R, path: Path) -> io::Result<Option<Metadata>> {
     found(uninterrupted(|| fs::symlink_metadata(rt, path)))
 }
 
-/// Whether a path leads to a regular file. Anything else there is an error.
+/// Whether a path leads to a regular file, through links. Anything else there is an error.
 pub(crate) fn is_there<R: Files>(rt: &R, path: Path) -> io::Result<bool> {
-    match look_through(rt, path)? {
+    match found(uninterrupted(|| fs::metadata(rt, path)))? {
         Some(found) if found.is_file() => Ok(true),
         Some(_) => Err(io::Error::from(ErrorKind::InvalidInput)),
         None => Ok(false),
@@ -132,19 +127,16 @@ fn lock(file: &File) -> io::Result<()> {
     where_supported(uninterrupted(|| Ok(file.try_lock()?)))
 }
 
-/// Opens a file for writing, or for reading if its mode forbids writing. An NFS client gives no
-/// lock for a file that is open only for reading (flock(2)).
-fn open_for_lock<R: Files>(rt: &R, path: Path) -> io::Result<R::File> {
-    match open_to_write(rt, path) {
-        Err(error) if error.kind() == ErrorKind::PermissionDenied => open(rt, path),
-        answer => answer,
-    }
-}
-
-/// Opens a leftover file. If its mode lets its owner neither write nor read it, the owner changes
-/// the mode, but only while the file is opened, since a program may still be writing it.
+/// Opens a leftover file for writing, since an NFS client gives no lock for a file that is open
+/// only for reading (flock(2)), or for reading if its mode forbids writing. If its mode lets its
+/// owner do neither, the owner changes the mode, but only while the file is opened, since a program
+/// may still be writing it.
 fn open_leftover<R: Files<File = File>>(rt: &R, path: Path, left: &Metadata) -> io::Result<File> {
-    match open_for_lock(rt, path) {
+    match open_to_write(rt, path) {
+        Err(error) if error.kind() == ErrorKind::PermissionDenied => {}
+        answer => return answer,
+    }
+    match open(rt, path) {
         Err(error) if error.kind() == ErrorKind::PermissionDenied => {}
         answer => return answer,
     }

@@ -33,21 +33,6 @@ impl Change {
     }
 }
 
-/// The bytes of the file with this name.
-fn contents(alloc: Global, changes: &[Change], name: &[u8]) -> Result<Option<Vec<u8>>, AllocError>
-    ensures { IfOk result (IsFound (get (after changes.now) name.now)) }
-{
-    for change in changes {
-        if name == change.name.as_slice() {
-            return match &change.bytes {
-                Some(bytes) => Ok(Some(bytes.to_vec(alloc)?)),
-                None => Ok(None),
-            };
-        }
-    }
-    Ok(None)
-}
-
 /// Gives a name these bytes, or none.
 fn bind(
     alloc: Global,
@@ -128,7 +113,15 @@ impl MemDisk {
         ensures found { IfOk result (IsFound (get (after self.old.changes.items) name.now)) }
     {
         self.failing.count_call()?;
-        Ok(contents(self.alloc, &self.changes, name)?)
+        for change in &self.changes {
+            if name == change.name.as_slice() {
+                return match &change.bytes {
+                    Some(bytes) => Ok(Some(bytes.to_vec(self.alloc)?)),
+                    None => Ok(None),
+                };
+            }
+        }
+        Ok(None)
     }
 }
 
