@@ -37,26 +37,6 @@ fn shrunk_length(lengths: &[usize], strides: &[isize], others: &[isize], axis: u
     lengths[axis]
 }
 
-/// The lengths of all axes of two arrays with these strides: 1 if the items of both repeat along
-/// the axis.
-fn shrunk_lengths(
-    alloc: Global,
-    lengths: &[usize],
-    strides: &[isize],
-    others: &[isize],
-) -> Result<SmallVec<usize, 4>, AllocError>
-    requires strides { length strides.now ≡ length lengths.now }
-    requires others { length others.now ≡ length lengths.now }
-    ensures first { IfOk result (λ v. CanShrink lengths.now strides.now v.items) }
-    ensures second { IfOk result (λ v. CanShrink lengths.now others.now v.items) }
-{
-    let mut shrunk = SmallVec::new(alloc);
-    for axis in 0..lengths.len() {
-        shrunk.push(shrunk_length(lengths, strides, others, axis))?;
-    }
-    Ok(shrunk)
-}
-
 /// The shape of two layouts of one shape with length 1 on each axis along which the items of both
 /// repeat.
 pub fn shrunk_shape(alloc: Global, first: &Layout, second: &Layout) -> Result<Shape, AllocError>
@@ -66,7 +46,11 @@ pub fn shrunk_shape(alloc: Global, first: &Layout, second: &Layout) -> Result<Sh
 {
     let lengths = first.shape.as_slice();
     let strides = first.strides.as_slice();
-    let shrunk = shrunk_lengths(alloc, lengths, strides, second.strides.as_slice())?;
+    let others = second.strides.as_slice();
+    let mut shrunk = SmallVec::<usize, 4>::new(alloc);
+    for axis in 0..lengths.len() {
+        shrunk.push(shrunk_length(lengths, strides, others, axis))?;
+    }
     Shape::from_lengths(alloc, shrunk.as_slice())
 }
 

@@ -1,6 +1,6 @@
 use Rattle.std.proofs.Common.{◌≡◌, ◌<◌, ℕ, pos, length, get_or}
 use Rattle.broadcasting.proofs.Words.{ShrinksTo}
-use Rattle.broadcasting.proofs.shrinking.shrunk_lengths.Given as goal
+use Rattle.broadcasting.proofs.shrinking.shrunk_shape.Given as goal
 
 abbrev pub invariant-loop-axis : goal.invariant-loop-axis
 invariant-loop-axis l = record {
