@@ -91,8 +91,10 @@ IsShape-shrunk shape small strides same can is = record {
   items = omega (arith, count-shrunk shape small strides same can, is.items);
 }
 
-pub moved : (shape shape' : List ℕ) (strides strides' : List ℤ) (small : List ℕ) → shape ≡ shape' → strides ≡ strides' → CanShrink shape strides small → CanShrink shape' strides' small
-moved shape shape' strides strides' small is are can = subst (λ x. CanShrink x strides' small) is (subst (λ x. CanShrink shape x small) are can)
+-- A loop over the axes has shrunk all of them.
+pub all_shrunk : (lengths shape small : List ℕ) (strides own : List ℤ) (axis : ℕ) → axis ≡ length lengths → lengths ≡ shape → strides ≡ own → length small ≡ axis → ((k : ℕ) → k < axis → ShrinksTo (get_or lengths k 0) (get_or strides k (pos 0)) (get_or small k 0)) → CanShrink shape own small
+all_shrunk lengths shape small strides own axis all is are axes each =
+    subst (λ x. CanShrink x own small) is (subst (λ x. CanShrink lengths x small) are (record { axes = axes ∙ all; each = λ k below. each k (omega (arith, all)) }))
 
 -- ---- the layout
 

@@ -1,6 +1,6 @@
-use Rattle.std.proofs.Common.{◌≡◌, ◌<◌, ℕ, List, ℤ, pos, get_or, rules, sym, subst, ap, ◌∙◌, arith, length-append, length}
-use Rattle.broadcasting.proofs.Words.{IsShape, CanShrink, ShrinksTo}
-use Rattle.broadcasting.proofs.ShrinkLaws.{one-more, moved, IsShape-shrunk}
+use Rattle.std.proofs.Common.{rules, sym, subst, ap, ◌∙◌, arith, length-append, length}
+use Rattle.broadcasting.proofs.Words.{IsShape}
+use Rattle.broadcasting.proofs.ShrinkLaws.{one-more, all_shrunk, IsShape-shrunk}
 use Rattle.broadcasting.proofs.shrinking.shrunk_shape.Goals as goal
 
 pub shrunk_length-requires-clause-stride : goal.shrunk_length-requires-clause-stride
@@ -18,11 +18,6 @@ loop-axis-preserved c =
       first = one-more c.as_slice-lengths.result.now c.as_slice-strides.result.now small c.push.new.self.items c.loop-axis.axis c.shrunk_length.result so_far.axes c.in_ok-push.ensures.ok c.shrunk_length.ensures.first so_far.first;
       second = one-more c.as_slice-lengths.result.now c.as_slice-others.result.now small c.push.new.self.items c.loop-axis.axis c.shrunk_length.result so_far.axes c.in_ok-push.ensures.ok c.shrunk_length.ensures.second so_far.second;
     }
-
--- The loop has shrunk all axes.
-all_shrunk : (lengths shape small : List ℕ) (strides own : List ℤ) (axis : ℕ) → axis ≡ length lengths → lengths ≡ shape → strides ≡ own → length small ≡ axis → ((k : ℕ) → k < axis → ShrinksTo (get_or lengths k 0) (get_or strides k (pos 0)) (get_or small k 0)) → CanShrink shape own small
-all_shrunk lengths shape small strides own axis all is are axes each =
-    moved lengths shape strides own small is are (record { axes = axes ∙ all; each = λ k below. each k (omega (arith, all)) })
 
 pub from_lengths-requires : goal.from_lengths-requires
 from_lengths-requires c =
