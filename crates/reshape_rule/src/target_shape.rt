@@ -60,13 +60,6 @@ fn make_up(items: usize, opened: usize, product: usize) -> bool
     product != 0 && items % product == 0
 }
 
-/// What -1 stands for with `items` items and lengths of this product; 0 if the product is 0.
-fn left_over(items: usize, product: usize) -> usize
-    ensures { result ≡ items / product }
-{
-    if product == 0 { 0 } else { items / product }
-}
-
 /// The lengths, with the remaining length for -1.
 fn lengths(alloc: Global, numbers: &[i128], rest: usize) -> Result<SmallVec<usize, 4>, AllocError>
     requires { rest ≤ max_items }
@@ -104,7 +97,8 @@ pub fn target(alloc: Global, old: &Shape, numbers: &[i128]) -> Result<Shape, Ref
     if !make_up(items, opened, given) {
         return Err(Refusal::BadReshape);
     }
-    let rest = left_over(items, given);
+    // What -1 stands for.
+    let rest = items.checked_div(given).unwrap_or(0);
     let lengths = lengths(alloc, numbers, rest)?;
     Shape::try_new(alloc, lengths.as_slice())
 }

@@ -1,4 +1,4 @@
-use Rattle.std.proofs.Common.{◌/◌, inr, sym, ap, subst, ◌∙◌, arith}
+use Rattle.std.proofs.Common.{◌≡◌, ◌/◌, rules, inr, sym, ap, subst, ◌∙◌, arith}
 use Rattle.reshape_rule.proofs.Words.{Gives, count, make_up}
 use Rattle.reshape_rule.proofs.CountLaws.{given-count}
 use Rattle.reshape_rule.proofs.TargetLaws.{Passes, target_of-many, target_of-low, target_of-opened, target_of-unmade, target_of-ok}
@@ -38,7 +38,8 @@ returns-clause-value c =
       low = omega (arith, c.items-items.ensures.value, c.items-items.ensures.limit);
       made_is = c.make_up.ensures ∙ ap (λ n. make_up n c.left_open-opened.result c.capped_given-given.result) c.items-items.ensures.value;
     } in
-    subst (Gives (λ s. s) c.try_new.result) (sym (target_of-ok _ _ _ _ _ c.left_over-rest.result c.as_slice.result.now passes c.if-not-make_up.false (c.left_over-rest.ensures ∙ ap (λ n. n / c.capped_given-given.result) c.items-items.ensures.value) (c.as_slice.ensures ∙ c.in_ok-lengths.ensures))) c.try_new.ensures
+    let rest : c.unwrap_or-rest.result ≡ c.items-items.result / c.capped_given-given.result = search rules in
+    subst (Gives (λ s. s) c.try_new.result) (sym (target_of-ok _ _ _ _ _ c.unwrap_or-rest.result c.as_slice.result.now passes c.if-not-make_up.false (rest ∙ ap (λ n. n / c.capped_given-given.result) c.items-items.ensures.value) (c.as_slice.ensures ∙ c.in_ok-lengths.ensures))) c.try_new.ensures
 
 pub returns-clause-items : goal.returns-clause-items
 returns-clause-items c = given-count (count c.args.old.now) c.args.numbers.now c.try_new.result (returns-clause-value c)
