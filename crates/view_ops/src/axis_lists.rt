@@ -1,6 +1,6 @@
 //! Which axes a list of numbers names.
 ghost use Rattle.std.specs.Prelude.{IfOk, IsTrue, Some, length, map, option_copied, true, ℕ, ◌-◌, ◌<◌, ◌^◌, ◌≡◌, ◌≤◌};
-ghost use Rattle.view_ops.specs.Clauses.{natural, list_all, range_with_len, from_front, is_place, are_distinct, axes_of, Gives};
+ghost use Rattle.view_ops.specs.Clauses.{list_all, range_with_len, from_front, is_place, are_distinct, axes_of, Gives};
 
 use crate::slice::{from_front, is_place};
 use elem_descr::Refusal;

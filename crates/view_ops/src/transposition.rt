@@ -1,6 +1,6 @@
 //! Transposes: the axes of a layout in another order.
-ghost use Rattle.std.specs.Prelude.{◌≡◌, ℕ, ◌<◌, ◌≤◌, pos, map, length, slice_index_or, IfOk, All, option_copied};
-ghost use Rattle.view_ops.specs.Clauses.{max_axes, transposed_shape, transposed_index, transposed, AreAxes, AreAllAxes, View, IsViewOf, GivesView, KeepsNested};
+ghost use Rattle.std.specs.Prelude.{◌≡◌, ℕ, ◌<◌, ◌≤◌, length, IfOk, All, option_copied};
+ghost use Rattle.view_ops.specs.Clauses.{transposed_shape, transposed_index, transposed, AreAllAxes, View, IsViewOf, GivesView, KeepsNested};
 
 use crate::axis_lists::axes_of;
 use elem_descr::Refusal;
